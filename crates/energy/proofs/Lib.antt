@@ -1,0 +1,5 @@
+pub mod Rules
+pub mod Sizes
+pub mod Buffers
+pub mod Energy
+pub mod Lines

@@ -1,0 +1,95 @@
+-- Laws of the energies of a row of bytes, in the terms of the loops that work them out.
+use mathlib.Core.Path.{_≡_, refl, sym, ap, ap₂, _∙_}
+use mathlib.Core.Logic.{⊎-elim}
+use mathlib.Core.List.{List, [], _∷_, _++_}
+use Prim.Native.Nat.{ℕ, zero, suc, _+_, _-_, _*_, _≤_, _<_}
+use native.Mathlib.Nat.{add-zero, suc-mul, add-sub-cancel-left}
+use native.Mathlib.Numerals.{add-one}
+use native.Mathlib.Omega.{arith}
+use borrow.Author.Tests.{lt-ltb, le-ltb}
+use lib.ListN.{length, getD, take, drop, set, length-drop}
+use lib.Seq.{length-take-le}
+use Rattle.grids.specs.Table.{table}
+use Rattle.grids.proofs.Tables.{table-part, table-more, table-same}
+use Rattle.grids.proofs.Orders.{le-or-lt}
+use Rattle.grids.proofs.Rows.{rowAt-past, part-end}
+use Rattle.energy.specs.declared.pictures.Size.{Size}
+use Rattle.energy.specs.Pictures.{channelsOf, rowBytes, picture}
+use Rattle.energy.specs.Energy.{apart, difference, energy, energies}
+use Rattle.energy.specs.Kernels.{LinesNeeded, between, lowerRow}
+use Rattle.energy.proofs.Sizes.{Sized}
+use Rattle.energy.proofs.Energy.{difference-none, energy-between}
+
+-- The difference of two pixels of one sample, and of three.
+pub grey-is : (a b : List ℕ) (i j : ℕ) → i + 1 ≤ length a → j + 1 ≤ length b → difference (take 1 (drop i a)) (take 1 (drop j b)) ≡ apart (getD a i 0) (getD b j 0)
+unfolding difference
+grey-is a b i j h k = rw (table-part a i 1 0 h, table-part b j 1 0 k, add-zero i, add-zero j) (add-zero _)
+
+pub rgb-is : (a b : List ℕ) (i j : ℕ) → i + 3 ≤ length a → j + 3 ≤ length b
+    → difference (take 3 (drop i a)) (take 3 (drop j b)) ≡ apart (getD a i 0) (getD b j 0) + apart (getD a (i + 1) 0) (getD b (j + 1) 0) + apart (getD a (i + 2) 0) (getD b (j + 2) 0)
+unfolding difference
+rgb-is a b i j h k = rw (table-part a i 3 0 h, table-part b j 3 0 k, add-zero i, add-zero j) (omega arith)
+
+-- The loop over a row's pixels, for any number of channels: i is where the samples of pixel c start.
+module _ (ch : ℕ) (it lower space out : List ℕ) (c i : ℕ) (at : i ≡ c * ch) (so-far : out ≡ table (between ch it lower) c ++ drop c space) where
+  -- One turn: the difference to the right and the one below are stored.
+  pub line-turn : (right below : ℕ) → c < length space
+      → right ≡ difference (take ch (drop (i + ch) it)) (take ch (drop i it))
+      → below ≡ difference (take ch (drop i lower)) (take ch (drop i it))
+      → set out c (right + below) ≡ table (between ch it lower) (c + 1) ++ drop (c + 1) space
+  unfolding between
+  line-turn right below h p q = ap₂ (λ xs x. set xs c x) so-far is ∙ table-more (between ch it lower) space c 0 h
+    where
+      is : right + below ≡ between ch it lower c
+      is = rw (p, q, at, add-one c, suc-mul c ch)
+
+  -- The last pixel, which has no right neighbour.
+  pub line-last : (width below : ℕ) → c + 1 ≡ width → width ≤ length space → length it ≡ width * ch
+      → below ≡ difference (take ch (drop i lower)) (take ch (drop i it))
+      → set out c below ≡ table (between ch it lower) width ++ drop width space
+  unfolding between
+  line-last width below w h e q =
+      ap₂ (λ xs x. set xs c x) so-far is ∙ table-more (between ch it lower) space c 0 (omega arith) ∙ ap (λ n. table (between ch it lower) n ++ drop n space) w
+    where
+      is : below ≡ between ch it lower c
+      is = rw (rowAt-past ch width it (c + 1) (omega arith) (omega arith), difference-none, q, at) (omega arith)
+
+-- The row that stands for the row below ends within the picture.
+pub lower-end : (r height stride : ℕ) → r < height → lowerRow r height stride + stride ≤ height * stride
+lower-end r height stride h =
+    ⊎-elim
+    (λ (l : height ≤ r + 1). rw (le-ltb (r + 1) height l) (part-end r height stride h))
+    (λ (l : r + 1 < height). rw (lt-ltb (r + 1) height l) (part-end (r + 1) height stride l))
+    (le-or-lt height (r + 1))
+
+-- The two parts of the buffer that are lent to the loop, in its terms: s bytes at r * s, and s bytes at lowerRow.
+module _ (z : Size) (b : List ℕ) (r s lower : ℕ) (sure : Sized z (length b)) (inside : r < z .height) (is : s ≡ rowBytes z) (below : lower ≡ lowerRow r (z .height) s) where
+  pub record Ends : Type 0 where
+    pub short : length b ≤ 786432
+    pub it : r * s + s ≤ length b
+    pub lower-too : lower + s ≤ length b
+
+  pub ends : Ends
+  ends =
+      let long : length b ≡ z .height * s = sure .length-is ∙ ap (z .height *_) (sym is) in
+      let e : lower + s ≤ z .height * s = rw below (lower-end r (z .height) s inside) in
+      record { short = omega (arith, sure .length-is, sure .picture-most); it = omega (arith, part-end r (z .height) s inside); lower-too = omega arith }
+
+  part-length : (at : ℕ) → at + s ≤ length b → length (take (at + s - at) (drop at b)) ≡ z .width * channelsOf (z .kind)
+  part-length at h = rw (add-sub-cancel-left at s) (length-take-le s (drop at b) (omega (arith, length-drop at b)) ∙ is)
+
+  pub lines-needed : (out : List ℕ) → z .width ≤ length out
+      → LinesNeeded (channelsOf (z .kind)) (take (r * s + s - r * s) (drop (r * s) b)) (take (lower + s - lower) (drop lower b)) (z .width) out
+  lines-needed out room = record {
+    some = sure .width-some;
+    narrow = sure .width-most;
+    it-is = part-length (r * s) (ends .it);
+    lower-is = part-length lower (ends .lower-too);
+    room = room;
+  }
+
+  -- What the loop leaves is the row's energies.
+  pub lines-are : table (between (channelsOf (z .kind)) (take (r * s + s - r * s) (drop (r * s) b)) (take (lower + s - lower) (drop lower b))) (z .width) ≡ energies (z .width) (picture z b) r
+  lines-are =
+      table-same _ (energy (picture z b) r) (z .width)
+      (λ c l. rw (add-sub-cancel-left (r * s) s, add-sub-cancel-left lower s, below, is) (sym (energy-between z b (sure .length-is) r c inside)))

@@ -1,0 +1,102 @@
+-- Laws of the numbers given: the smallest counts, and rules are judged one list after the other.
+use mathlib.Core.Path.{_≡_, refl, sym, ap, _∙_}
+use mathlib.Core.Logic.{⊎-elim}
+use mathlib.Core.Bool.{Bool, true, false, cond, _&&_}
+use mathlib.Core.List.{List, [], _∷_, _++_, List·Memᴰ, List·Memᴰ·head, List·Memᴰ·tail, List·Memᴰ·not-nil, List·Memᴰ·cases-cons}
+use Prim.Native.Nat.{ℕ, zero, suc, _≤_, _<_}
+use native.Mathlib.Omega.{arith}
+use lib.Dec.{leb, ltb}
+use borrow.Author.Tests.{leb-true, ltb-true}
+use Rattle.energy.specs.declared.refusals.Refusal.{Refusal}
+use Rattle.energy.specs.declared.refusals.Refusal.the-variants.{Form, Empty, Large, Length, Mark, Range, Wanted, Space, Numbering, Broken, Other, Protected, Last}
+use Rattle.energy.specs.declared.refusals.Verdict.{Verdict}
+use Rattle.energy.specs.declared.refusals.Verdict.the-variants.{Refused}
+use Rattle.energy.specs.Refusals.{Rule, _when_, numberOf, given, refusal, served}
+
+-- A conjunction that holds, taken apart.
+pub both : (a b : Bool) → (a && b) ≡ true → (a ≡ true) × (b ≡ true)
+both true b e = (refl, e)
+both false b e = (e, cc)
+
+-- Every number is above 0, as a test that computes.
+abbrev pub positive : List Rule → Bool
+positive [] = true
+positive ((n when t) ∷ rules) = ltb 0 n && positive rules
+
+-- Every number is at least the one before it, as a test that computes.
+abbrev pub ascending : ℕ → List Rule → Bool
+ascending m [] = true
+ascending m ((n when t) ∷ rules) = leb m n && ascending n rules
+
+-- Where none of the first rules applies, the others decide.
+pub served-first : (rules more : List Rule) → positive rules ≡ true → refusal rules ≡ 0 → refusal (rules ++ more) ≡ refusal more
+served-first [] more p e = refl
+served-first ((n when true) ∷ rules) more p e = absurd (omega (arith, ltb-true 0 n (both (ltb 0 n) (positive rules) p .0)))
+served-first ((n when false) ∷ rules) more p e = served-first rules more (both (ltb 0 n) (positive rules) p .1) e
+
+-- Where one of the first rules applies, it decides.
+pub refused-first : (rules more : List Rule) → 0 < refusal rules → refusal (rules ++ more) ≡ refusal rules
+refused-first [] more h = absurd (omega arith)
+refused-first ((n when true) ∷ rules) more h = refl
+refused-first ((n when false) ∷ rules) more h = refused-first rules more h
+
+at-least : (m : ℕ) (rules : List Rule) → ascending m rules ≡ true → (n : ℕ) (t : Bool) → List·Memᴰ (n when t) rules → m ≤ n
+at-least m [] a n t mem = absurd (List·Memᴰ·not-nil mem)
+at-least m ((n′ when t′) ∷ rules) a n t mem =
+    let ab = both (leb m n′) (ascending n′ rules) a in
+    let le = leb-true m n′ (ab .0) in
+    ⊎-elim
+    (λ (e : (n when t) ≡ (n′ when t′)). let same : n ≡ n′ = cc in omega arith)
+    (λ k. omega (arith, at-least n′ rules (ab .1) n t k))
+    (List·Memᴰ·cases-cons mem)
+
+-- "Of several, the smallest number is given": none that applies is below it.
+pub smallest : (m : ℕ) (rules : List Rule) → ascending m rules ≡ true → (n : ℕ) → List·Memᴰ (n when true) rules → refusal rules ≤ n
+smallest m [] a n mem = absurd (List·Memᴰ·not-nil mem)
+smallest m ((n′ when true) ∷ rules) a n mem =
+    ⊎-elim
+    (λ (e : (n when true) ≡ (n′ when true)). let same : n ≡ n′ = cc in omega arith)
+    (λ k. at-least n′ rules (both (leb m n′) (ascending n′ rules) a .1) n true k)
+    (List·Memᴰ·cases-cons mem)
+smallest m ((n′ when false) ∷ rules) a n mem =
+    ⊎-elim
+    (λ (e : (n when true) ≡ (n′ when false)). let z : _≡_ {A = ℕ} 0 1 = cc in absurd (omega arith))
+    (λ k. smallest n′ rules (both (leb m n′) (ascending n′ rules) a .1) n k)
+    (List·Memᴰ·cases-cons mem)
+
+-- And the number given is that of a rule that applies.
+pub given-applies : (rules : List Rule) → 0 < refusal rules → List·Memᴰ (refusal rules when true) rules
+given-applies [] h = absurd (omega arith)
+given-applies ((n when true) ∷ rules) h = List·Memᴰ·head refl
+given-applies ((n when false) ∷ rules) h = List·Memᴰ·tail (given-applies rules h)
+
+-- Every refusal has a number above 0, so a number says whether the answer is served.
+pub number-some : (why : Refusal) → 0 < numberOf why
+number-some Form = omega arith
+number-some Empty = omega arith
+number-some Large = omega arith
+number-some Length = omega arith
+number-some Mark = omega arith
+number-some Range = omega arith
+number-some Wanted = omega arith
+number-some Space = omega arith
+number-some Numbering = omega arith
+number-some Broken = omega arith
+number-some Other = omega arith
+number-some Protected = omega arith
+number-some Last = omega arith
+
+pub served-not : {A : Type 0} (n : ℕ) (x y : A) → 0 < n → served n x y ≡ y
+served-not zero x y h = absurd (omega arith)
+served-not (suc n) x y h = refl
+
+-- A verdict that refuses stands, whatever other rules follow, and leaves what was lent as it was.
+module _ (v : Verdict) (why : Refusal) (is : v ≡ Refused why) where
+  refused-some : 0 < given v
+  refused-some = rw is (number-some why)
+
+  pub refused-answer : (rules more : List Rule) → given v ≡ refusal rules → given v ≡ refusal (rules ++ more)
+  refused-answer rules more e = e ∙ sym (refused-first rules more (rw e at refused-some))
+
+  pub refused-kept : {A : Type 0} (x y : A) → y ≡ served (given v) x y
+  refused-kept x y = sym (served-not (given v) x y refused-some)

@@ -1,0 +1,69 @@
+-- What it says of a size that 2, 3 and 4 don't refuse a buffer.
+use mathlib.Core.Path.{_≡_, refl, sym, ap, _∙_}
+use mathlib.Core.Bool.{Bool, true, false, cond, not, _||_}
+use mathlib.Core.List.{List, [], _∷_, _++_}
+use Prim.Native.Nat.{ℕ, zero, suc, _+_, _*_, _≤_, _<_}
+use native.Mathlib.Nat.{mul-le-mul}
+use native.Mathlib.Omega.{arith}
+use lib.Dec.{eqb, ltb}
+use borrow.Author.Tests.{ltb-false, eqb-true, eqb-false, not-false}
+use Rattle.energy.specs.declared.pictures.Kind.{Kind}
+use Rattle.energy.specs.declared.pictures.Kind.the-variants.{Grey, Rgb}
+use Rattle.energy.specs.declared.pictures.Size.{Size}
+use Rattle.energy.specs.Refusals.{refusal}
+use Rattle.energy.specs.Pictures.{largestSide, channelsOf, rowBytes, pictureBytes, sizeRules}
+
+-- A size within the limits, and a buffer as long as it says.
+pub record Sized (z : Size) (bytes : ℕ) : Type 0 where
+  pub width-some : 0 < z .width
+  pub width-most : z .width ≤ largestSide
+  pub height-some : 0 < z .height
+  pub height-most : z .height ≤ largestSide
+  pub channels-some : 0 < channelsOf (z .kind)
+  pub channels-most : channelsOf (z .kind) ≤ 3
+  pub length-is : bytes ≡ z .height * (z .width * channelsOf (z .kind))
+  pub row-most : z .width * channelsOf (z .kind) ≤ 1536
+  pub picture-most : z .height * (z .width * channelsOf (z .kind)) ≤ 786432
+
+pub channels-some : (k : Kind) → 0 < channelsOf k
+channels-some Grey = omega arith
+channels-some Rgb = omega arith
+
+pub channels-most : (k : Kind) → channelsOf k ≤ 3
+channels-most Grey = omega arith
+channels-most Rgb = omega arith
+
+-- A rule that doesn't apply.
+passed : (t : Bool) (n m : ℕ) → cond t (suc n) m ≡ 0 → (t ≡ false) × (m ≡ 0)
+passed true n m e = absurd (omega arith)
+passed false n m e = (refl, e)
+
+neither : (a b : Bool) → (a || b) ≡ false → (a ≡ false) × (b ≡ false)
+neither true b e = (e, cc)
+neither false b e = (refl, e)
+
+pos : (n : ℕ) → eqb n 0 ≡ false → 0 < n
+pos zero e = absurd (eqb-false 0 0 e refl)
+pos (suc n) e = omega arith
+
+pub sized-is : (z : Size) (bytes : ℕ) → refusal (sizeRules z bytes) ≡ 0 → Sized z bytes
+sized-is z bytes e =
+    let two = passed (eqb (z .width) 0 || eqb (z .height) 0) 1 (cond (ltb largestSide (z .width) || ltb largestSide (z .height)) 3 (cond (not (eqb bytes (pictureBytes z))) 4 0)) e in
+    let three = passed (ltb largestSide (z .width) || ltb largestSide (z .height)) 2 (cond (not (eqb bytes (pictureBytes z))) 4 0) (two .1) in
+    let four = passed (not (eqb bytes (pictureBytes z))) 3 0 (three .1) in
+    let some = neither (eqb (z .width) 0) (eqb (z .height) 0) (two .0) in
+    let most = neither (ltb largestSide (z .width)) (ltb largestSide (z .height)) (three .0) in
+    let w = ltb-false largestSide (z .width) (most .0) in
+    let h = ltb-false largestSide (z .height) (most .1) in
+    let c = channels-most (z .kind) in
+    record {
+      width-some = pos (z .width) (some .0);
+      width-most = w;
+      height-some = pos (z .height) (some .1);
+      height-most = h;
+      channels-some = channels-some (z .kind);
+      channels-most = c;
+      length-is = eqb-true bytes (pictureBytes z) (not-false (eqb bytes (pictureBytes z)) (four .0));
+      row-most = mul-le-mul w c;
+      picture-most = mul-le-mul h (mul-le-mul w c);
+    }

@@ -1,0 +1,75 @@
+-- `energy::energies` meets its contract: each return is the first rule that applies.
+use mathlib.Core.Path.{_≡_, refl, sym, ap, _∙_}
+use mathlib.Core.List.{[], _∷_, _++_}
+use borrow.Author.Needs.{needs}
+use borrow.Author.Tests.{le-leb, lt-leb, lt-ltb, le-ltb}
+use denote.Ref.{now}
+use lib.Dec.{leb, ltb}
+use lib.ListN.{length, drop}
+use Rattle.energy.specs.Refusals.{_when_, given, refusal}
+use Rattle.energy.specs.Pictures.{sizeRules, picture}
+use Rattle.energy.specs.Energy.{energies, energiesRules}
+use Rattle.energy.proofs.Rules.{served-first, refused-answer, refused-kept}
+use Rattle.energy.proofs.energies.Statement.{statement}
+use Rattle.energy.proofs.energies.Tie as tie
+
+-- where the picture is served, the row and the space decide
+none : (c : tie.After-enum-told) → let a = c .before .before .before .before .before .args in refusal (sizeRules (a .size) (length (now (a .picture)))) ≡ 0
+none c = sym (c .before .before .sized .ensures) ∙ ap given (c .enum-told .given .1)
+
+rest : (c : tie.After-enum-told) → let a = c .before .before .before .before .before .args in
+    refusal (energiesRules (a .size) (length (now (a .picture))) (a .r) (length (now (a .out)))) ≡ refusal (4 when leb (a .size .height) (a .r) ∷ 8 when ltb (length (now (a .out))) (a .size .width) ∷ [])
+rest c = let a = c .before .before .before .before .before .args in served-first (sizeRules (a .size) (length (now (a .picture)))) (4 when leb (a .size .height) (a .r) ∷ 8 when ltb (length (now (a .out))) (a .size .width) ∷ []) refl (none c)
+
+sized-requires : tie.Need-sized-requires
+sized-requires c κs = search needs
+
+enum-told : tie.Need-enum-told
+enum-told c = search needs
+
+enum-told-2 : tie.Need-enum-told-2
+enum-told-2 c = search needs
+
+returns : tie.Need-returns
+returns c =
+    let a = c .before .before .before .before .before .args in
+    let why = c .enum-told2 .given in
+    let rules = sizeRules (a .size) (length (now (a .picture))) in
+    let more = 4 when leb (a .size .height) (a .r) ∷ 8 when ltb (length (now (a .out))) (a .size .width) ∷ [] in
+    record {
+      answer = refused-answer (c .before .before .sized .result) (why .0 .0) (why .1) rules more (c .before .before .sized .ensures);
+      space = refused-kept (c .before .before .sized .result) (why .0 .0) (why .1) (energies (a .size .width) (picture (a .size) (now (a .picture))) (a .r) ++ drop (a .size .width) (now (a .out))) (now (a .out));
+    }
+
+returns-2 : tie.Need-returns-2
+returns-2 c = record { answer = sym (rest (c .before) ∙ simp (le-leb _ _ (c .if1 .taken))); space = refl }
+
+returns-3 : tie.Need-returns-3
+returns-3 c = record { answer = sym (rest (c .before .before) ∙ simp (lt-leb _ _ (c .before .if1 .left), lt-ltb _ _ (c .if2 .taken))); space = refl }
+
+row-energies-requires : tie.Need-row-energies-requires
+row-energies-requires c κs = record { sized = none (c .before .before .before); inside = c .before .before .if1 .left; room = c .before .if2 .left }
+
+same-length : tie.Need-same-length
+same-length c = search needs
+
+returns-4 : tie.Need-returns-4
+returns-4 c =
+    record {
+      answer = sym (rest (c .before .before .before .before .before .before) ∙ simp (lt-leb _ _ (c .before .before .before .before .before .if1 .left), le-ltb _ _ (c .before .before .before .before .if2 .left)));
+      space = c .before .before .row-energies .ensures;
+    }
+
+pub energies-spec : {M : Type 1} → statement M
+energies-spec =
+    tie.close
+    (tie.spec
+    sized-requires
+    enum-told
+    enum-told-2
+    returns
+    returns-2
+    returns-3
+    row-energies-requires
+    same-length
+    returns-4)

@@ -1,0 +1,107 @@
+-- `energy::kernels::grey_row` meets its contract. The loop's invariant: the energies of c pixels stand at the front of the space.
+use mathlib.Core.Path.{_≡_, refl, sym}
+use mathlib.Core.List.{_++_}
+use Prim.Native.Nat.{_+_, _-_, _*_, _≤_, _<_}
+use native.Mathlib.Nat.{mul-one}
+use native.Mathlib.Omega.{arith}
+use borrow.Author.Needs.{needs}
+use denote.Ref.{now}
+use lib.ListN.{length, drop, length-set}
+use Rattle.grids.specs.Table.{table}
+use Rattle.energy.specs.Kernels.{between}
+use Rattle.energy.proofs.Lines.{line-turn, line-last}
+use Rattle.energy.proofs.kernels.grey_row.Statement.{statement}
+use Rattle.energy.proofs.kernels.grey_row.Tie as tie
+
+abbrev Inv-loop : tie.InvT-loop
+Inv-loop it lower width out₀ last c₀ out c = (c ≤ last) × ((out ≡ table (between 1 it lower) c ++ drop c out₀) × (length out ≡ length out₀))
+
+abbrev μ-loop : tie.MeasureT-loop
+μ-loop it lower width out₀ last c₀ out c = last - c
+
+sub-last : tie.Need-sub-last Inv-loop μ-loop
+sub-last c = search needs
+
+loop-holds : tie.Need-loop-holds Inv-loop μ-loop
+loop-holds c = search needs
+
+add-grey-difference : tie.Need-add-grey-difference Inv-loop μ-loop
+add-grey-difference c = search needs
+
+grey-difference-requires : tie.Need-grey-difference-requires Inv-loop μ-loop
+grey-difference-requires c κs = search needs
+
+grey-difference-requires-2 : tie.Need-grey-difference-requires-2 Inv-loop μ-loop
+grey-difference-requires-2 c κs = search needs
+
+add-out : tie.Need-add-out Inv-loop μ-loop
+add-out c = search needs
+
+mul-out : tie.Need-mul-out Inv-loop μ-loop
+mul-out c = search needs
+
+slice-write-out : tie.Need-slice-write-out Inv-loop μ-loop
+slice-write-out c = search needs
+
+add-c : tie.Need-add-c Inv-loop μ-loop
+add-c c = search needs
+
+loop-less : tie.Need-loop-less Inv-loop μ-loop
+loop-less c = search needs
+
+loop-again : tie.Need-loop-again Inv-loop μ-loop
+loop-again c =
+    let head = c .before .before .before in
+    let a = head .before .before .before .before .args in
+    let k = head .loop .c in (
+      search needs,
+      (
+        line-turn 1 (now (a .it)) (now (a .lower)) (now (a .out)) (head .loop .out) k (k) (sym (mul-one k)) (head .loop .inv .1 .0)
+            _ _ (omega arith) (c .before .grey-difference .ensures .0) (c .grey-difference2 .ensures .0),
+        simp length-set (search needs),
+      ),
+    )
+
+grey-difference-requires-3 : tie.Need-grey-difference-requires-3 Inv-loop μ-loop
+grey-difference-requires-3 c κs = search needs
+
+mul-out-2 : tie.Need-mul-out-2 Inv-loop μ-loop
+mul-out-2 c = search needs
+
+slice-write-out-2 : tie.Need-slice-write-out-2 Inv-loop μ-loop
+slice-write-out-2 c = search needs
+
+same-length : tie.Need-same-length Inv-loop μ-loop
+same-length c = search needs
+
+returns : tie.Need-returns Inv-loop μ-loop
+returns c =
+    let head = c .before .before in
+    let a = head .before .before .before .before .args in
+    let k = a .width - 1 in
+    let e : head .loop .c ≡ k = omega arith in
+    line-last 1 (now (a .it)) (now (a .lower)) (now (a .out)) (head .loop .out) k (k) (sym (mul-one k)) (rw e at (head .loop .inv .1 .0))
+    (a .width) _ (omega arith) (omega arith) (head .before .before .before .before .pre .it-is) (c .grey-difference3 .ensures .0)
+
+pub grey-row-spec : {M : Type 1} → statement M
+grey-row-spec =
+    tie.close
+    (tie.spec
+    Inv-loop
+    μ-loop
+    sub-last
+    loop-holds
+    add-grey-difference
+    grey-difference-requires
+    grey-difference-requires-2
+    add-out
+    mul-out
+    slice-write-out
+    add-c
+    loop-less
+    loop-again
+    grey-difference-requires-3
+    mul-out-2
+    slice-write-out-2
+    same-length
+    returns)

@@ -1,0 +1,4 @@
+pub mod Refusals
+pub mod Pictures
+pub mod Energy
+pub mod Kernels

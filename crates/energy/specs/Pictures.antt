@@ -1,0 +1,57 @@
+-- "Pictures": sizes, kinds, and a lent buffer read as rows of pixels.
+use mathlib.Core.Path.{_≡_}
+use mathlib.Core.Bool.{Bool, not, _||_}
+use mathlib.Core.List.{List, [], _∷_, map}
+use Prim.Native.Nat.{ℕ, _*_}
+use lib.Dec.{eqb, ltb}
+use lib.ListN.{length, getD}
+use Rattle.grids.specs.Each.{Each, Grid}
+use Rattle.grids.specs.Rows.{rowsOf, flat}
+use Rattle.energy.specs.declared.pictures.Kind.{Kind}
+use Rattle.energy.specs.declared.pictures.Kind.the-variants.{Grey, Rgb}
+use Rattle.energy.specs.declared.pictures.Size.{Size}
+use Rattle.energy.specs.Refusals.{Rule, _when_, refusal, served}
+
+-- A picture: rows from the top, of pixels from the left. A pixel is the list of its samples, red first.
+abbrev pub Picture : Type 0
+Picture = List (List (List ℕ))
+
+-- Width and height are 1 to 512.
+abbrev pub largestSide : ℕ
+largestSide = 512
+
+-- Samples a pixel, each a byte.
+abbrev pub channelsOf : Kind → ℕ
+channelsOf Grey = 1
+channelsOf Rgb = 3
+
+-- Bytes a row, and bytes a picture: rows have no padding.
+abbrev pub rowBytes : Size → ℕ
+rowBytes z = z .width * channelsOf (z .kind)
+
+abbrev pub pictureBytes : Size → ℕ
+pictureBytes z = z .height * rowBytes z
+
+-- What 2, 3 and 4 say of a buffer of so many bytes that is brought as a picture.
+abbrev pub sizeRules : Size → ℕ → List Rule
+sizeRules z bytes =
+    2 when (eqb (z .width) 0 || eqb (z .height) 0)
+    ∷ 3 when (ltb largestSide (z .width) || ltb largestSide (z .height))
+    ∷ 4 when not (eqb bytes (pictureBytes z))
+    ∷ []
+
+-- The picture in a buffer, and the buffer of a picture.
+unfoldable pub picture : Size → List ℕ → Picture
+picture z b = map (rowsOf (channelsOf (z .kind)) (z .width)) (rowsOf (rowBytes z) (z .height) b)
+
+unfoldable pub bytes : Picture → List ℕ
+bytes p = flat (map flat p)
+
+-- A picture of this size: as many rows of as many pixels of as many samples.
+abbrev pub OfSize : Size → Picture → Type 0
+OfSize z p = Each (Grid (channelsOf (z .kind)) (z .width)) (z .height) p
+
+-- "A row of a picture is given out as that part of the lent picture": its bytes; none past the last row, and none where
+-- the size or the length is refused.
+abbrev pub rowOf : Size → List ℕ → ℕ → List ℕ
+rowOf z b r = served (refusal (sizeRules z (length b))) (getD (rowsOf (rowBytes z) (z .height) b) r []) []

@@ -1,0 +1,45 @@
+-- "When it says no": the refusals, their numbers, and which of several is given.
+use mathlib.Core.Bool.{Bool, cond}
+use mathlib.Core.List.{List, [], _∷_}
+use Prim.Native.Nat.{ℕ, zero, suc}
+use Rattle.energy.specs.declared.refusals.Refusal.{Refusal}
+use Rattle.energy.specs.declared.refusals.Refusal.the-variants.{Form, Empty, Large, Length, Mark, Range, Wanted, Space, Numbering, Broken, Other, Protected, Last}
+use Rattle.energy.specs.declared.refusals.Verdict.{Verdict}
+use Rattle.energy.specs.declared.refusals.Verdict.the-variants.{Served, Refused}
+
+-- The number of a refusal. 14 to 20 are free.
+abbrev pub numberOf : Refusal → ℕ
+numberOf Form = 1
+numberOf Empty = 2
+numberOf Large = 3
+numberOf Length = 4
+numberOf Mark = 5
+numberOf Range = 6
+numberOf Wanted = 7
+numberOf Space = 8
+numberOf Numbering = 9
+numberOf Broken = 10
+numberOf Other = 11
+numberOf Protected = 12
+numberOf Last = 13
+
+-- The number that a verdict gives; 0 where nothing is refused.
+abbrev pub given : Verdict → ℕ
+given Served = 0
+given (Refused why) = numberOf why
+
+-- A line of the table: a number, and whether it is given.
+infix 68 _when_
+pub data Rule : Type 0 where
+  _when_ : ℕ → Bool → Rule
+
+-- Of several, the smallest number is given: the lines stand in ascending order, and the first that applies counts.
+-- 0 where none applies.
+abbrev pub refusal : List Rule → ℕ
+refusal [] = 0
+refusal ((n when t) ∷ rules) = cond t n (refusal rules)
+
+-- The first where nothing is refused, else the second.
+abbrev pub served : {A : Type 0} → ℕ → A → A → A
+served zero x y = x
+served (suc n) x y = y

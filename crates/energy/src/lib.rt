@@ -1,0 +1,74 @@
+// The lowest layer: pictures in lent buffers, the numbers of what is refused, and the energy of a row's pixels.
+mod kernels;
+pub mod pictures;
+pub mod refusals;
+
+pub use pictures::Kind;
+pub use pictures::LARGEST_SIDE;
+pub use pictures::Size;
+pub use pictures::channels;
+pub use pictures::row;
+pub use pictures::sized;
+pub use refusals::Refusal;
+pub use refusals::Verdict;
+pub use refusals::number;
+ghost use Rattle.energy.specs.Energy.{EnergiesGiven, energies as Energy·energies};
+ghost use Rattle.energy.specs.Pictures.{picture as Pictures·picture};
+ghost use Rattle.energy.specs.Kernels.{RowNeeded, lowerRow};
+ghost use mathlib.Core.Path.{_≡_};
+ghost use mathlib.Core.List.{_++_};
+ghost use Prim.Native.Nat.{_≤_, _<_};
+ghost use lib.ListN.{drop};
+
+// The energies of row r, put into the first `width` places of out. Refused by 2, 3 and 4 as every picture is, by 4 where
+// there is no row r, and by 8 where out is shorter than the row.
+pub fn energies(picture: &[u8], size: Size, r: usize, out: &mut [u32]) -> Verdict
+    ensures { λ v. ⌜ EnergiesGiven (now (picture .entry)) size r (now (out .entry)) v (now (out .exit)) ⌝ }
+{
+    let fits = sized(size, picture.len());
+    let Verdict::Served = fits else {
+        return fits;
+    };
+    let height = size.height;
+    if height <= r {
+        return Verdict::Refused(Refusal::Length);
+    }
+    let width = size.width;
+    if out.len() < width {
+        return Verdict::Refused(Refusal::Space);
+    }
+    row_energies(picture, size, r, out);
+    Verdict::Served
+}
+
+// Where the row below row r starts; of the last row, the row itself, to which it has no difference.
+fn lower_row(r: usize, height: usize, stride: usize) -> usize
+    requires { ⌜ (r < height) × (height ≤ 512) × (stride ≤ 1536) ⌝ }
+    ensures { λ at. ⌜ at ≡ lowerRow r height stride ⌝ }
+{
+    if r + 1 < height {
+        (r + 1) * stride
+    } else {
+        r * stride
+    }
+}
+
+// The energies of row r of a picture that is of its size.
+fn row_energies(picture: &[u8], size: Size, r: usize, out: &mut [u32])
+    requires { ⌜ RowNeeded (now picture) size r (now out) ⌝ }
+    ensures { λ _. ⌜ now (out .exit) ≡ Energy·energies (size .width) (Pictures·picture size (now (picture .entry))) r ++ drop (size .width) (now (out .entry)) ⌝ }
+{
+    let width = size.width;
+    let height = size.height;
+    let kind = size.kind;
+    let stride = pictures::row_bytes(size);
+    let at = r * stride;
+    let below = lower_row(r, height, stride);
+    kernels::line_energies(
+        kind,
+        &picture[at..at + stride],
+        &picture[below..below + stride],
+        width,
+        out,
+    );
+}

@@ -1,0 +1,81 @@
+// Pictures in lent buffers: kind, size, and the rows as parts of the buffer.
+use crate::refusals::Refusal;
+use crate::refusals::Verdict;
+ghost use mathlib.Core.Path.{_≡_};
+ghost use Rattle.energy.specs.Refusals.{given, refusal};
+ghost use Rattle.energy.specs.Pictures.{largestSide, channelsOf, rowBytes, sizeRules, rowOf};
+ghost use Prim.Native.Nat.{_≤_};
+
+// The largest width and the largest height of a picture.
+pub const LARGEST_SIDE: usize = 512;
+
+pub enum Kind {
+    Grey,
+    Rgb,
+}
+
+pub struct Size {
+    pub width: usize,
+    pub height: usize,
+    pub kind: Kind,
+}
+
+// Samples a pixel, which are its bytes.
+pub fn channels(kind: Kind) -> usize
+    ensures { λ n. ⌜ n ≡ channelsOf kind ⌝ }
+{
+    match kind {
+        Kind::Grey => 1,
+        Kind::Rgb => 3,
+    }
+}
+
+// Bytes a row.
+pub(crate) fn row_bytes(size: Size) -> usize
+    requires { ⌜ size .width ≤ largestSide ⌝ }
+    ensures { λ n. ⌜ (n ≡ rowBytes size) × (n ≤ 1536) ⌝ }
+{
+    let width = size.width;
+    let kind = size.kind;
+    width * channels(kind)
+}
+
+// Whether a buffer of so many bytes is a picture of this size, or which of 2, 3 and 4 refuses it.
+pub fn sized(size: Size, bytes: usize) -> Verdict
+    ensures { λ v. ⌜ given v ≡ refusal (sizeRules size bytes) ⌝ }
+{
+    let width = size.width;
+    let height = size.height;
+    if width == 0 {
+        return Verdict::Refused(Refusal::Empty);
+    }
+    if height == 0 {
+        return Verdict::Refused(Refusal::Empty);
+    }
+    if LARGEST_SIDE < width {
+        return Verdict::Refused(Refusal::Large);
+    }
+    if LARGEST_SIDE < height {
+        return Verdict::Refused(Refusal::Large);
+    }
+    if bytes != height * row_bytes(size) {
+        return Verdict::Refused(Refusal::Length);
+    }
+    Verdict::Served
+}
+
+// Row r as that part of the lent picture itself; the empty part where there is no such row or 2 to 4 refuse the picture.
+pub fn row<'a>(picture: &'a [u8], size: Size, r: usize) -> &'a [u8]
+    ensures { λ s. ⌜ now s ≡ rowOf size (now (picture .entry)) r ⌝ }
+{
+    let Verdict::Served = sized(size, picture.len()) else {
+        return &picture[..0];
+    };
+    let height = size.height;
+    if height <= r {
+        return &picture[..0];
+    }
+    let stride = row_bytes(size);
+    let at = r * stride;
+    &picture[at..at + stride]
+}

@@ -1,0 +1,5 @@
+pub mod Orders
+pub mod Shapes
+pub mod Tables
+pub mod Rows
+pub mod Exchange

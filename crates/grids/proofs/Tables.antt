@@ -1,0 +1,59 @@
+-- Laws of tables, and of a slice that a loop fills from the front.
+use mathlib.Core.Path.{_≡_, refl, sym, ap, ap₂, _∙_}
+use mathlib.Core.Logic.{⊎-elim}
+use mathlib.Core.List.{List, [], _∷_, _++_, append-assoc}
+use Prim.Native.Nat.{ℕ, zero, suc, _+_, _≤_, _<_}
+use native.Mathlib.Nat.{eq-or-lt-of-le, add-zero}
+use native.Mathlib.Numerals.{add-one}
+use native.Mathlib.Omega.{arith}
+use lib.ListN.{length, take, drop, getD, set, length-append, length-drop, List·getD-append, List·getD-eq-default}
+use lib.Seq.{drop-cons, set-at, append-snoc, getD-at, take-suc, getD-drop}
+use Rattle.grids.specs.Each.{Each, none, more}
+use Rattle.grids.specs.Table.{table}
+
+module _ {A : Type 0} where
+  pub length-table : (f : ℕ → A) (n : ℕ) → length (table f n) ≡ n
+  length-table f zero = refl
+  length-table f (suc n) = length-append (table f n) (f n ∷ []) ∙ add-one _ ∙ ap suc (length-table f n)
+
+  -- Element i of a table.
+  pub table-at : (f : ℕ → A) (n i : ℕ) (d : A) → i < n → getD (table f n) i d ≡ f i
+  table-at f zero i d h = absurd (omega arith)
+  table-at f (suc n) i d h =
+      let le : i ≤ n = omega arith in
+      ⊎-elim
+      (λ (e : i ≡ n). getD-at (table f n) (f n) [] d i (length-table f n ∙ sym e) ∙ ap f (sym e))
+      (λ (l : i < n). List·getD-append (table f n) (f n ∷ []) d i (rw (length-table) l) ∙ table-at f n i d l)
+      (eq-or-lt-of-le le)
+
+  -- Past its end a table has nothing.
+  pub table-past : (f : ℕ → A) (n i : ℕ) (d : A) → n ≤ i → getD (table f n) i d ≡ d
+  table-past f n i d h = List·getD-eq-default (table f n) d (rw (length-table) h)
+
+  -- Functions with the same values have the same table.
+  pub table-same : (f g : ℕ → A) (n : ℕ) → ((i : ℕ) → i < n → f i ≡ g i) → table f n ≡ table g n
+  table-same f g zero h = refl
+  table-same f g (suc n) h = ap₂ (λ xs x. xs ++ (x ∷ [])) (table-same f g n (λ i l. h i (omega arith))) (h n (omega arith))
+
+  -- One turn of a loop that stores f c at c: one value more at the front of d.
+  pub table-more : (f : ℕ → A) (d : List A) (n : ℕ) (z : A) → n < length d → set (table f n ++ drop n d) n (f n) ≡ table f (n + 1) ++ drop (n + 1) d
+  table-more f d n z h =
+      rw (add-one) (ap (λ (r : List A). set (table f n ++ r) n (f n)) (drop-cons d n z h)
+      ∙ set-at (table f n) (getD d n z) (drop (suc n) d) (f n) n (length-table f n)
+      ∙ sym (append-snoc (table f n) (f n) (drop (suc n) d)))
+
+  -- n elements of a list from place i on.
+  pub table-part : (xs : List A) (i n : ℕ) (d : A) → i + n ≤ length xs → take n (drop i xs) ≡ table (λ k. getD xs (i + k) d) n
+  table-part xs i zero d h = refl
+  table-part xs i (suc n) d h =
+      take-suc (drop i xs) n d (omega (arith, length-drop i xs))
+      ∙ ap₂ (λ ys y. ys ++ (y ∷ [])) (table-part xs i n d (omega arith)) (getD-drop i xs n d)
+
+  each-snoc : {P : A → Type 0} {n : ℕ} {xs : List A} {x : A} → Each P n xs → P x → Each P (suc n) (xs ++ (x ∷ []))
+  each-snoc none p = more p none
+  each-snoc (more q e) p = more q (each-snoc e p)
+
+  -- A property of every value is a property of every element.
+  pub each-table : {P : A → Type 0} (f : ℕ → A) (n : ℕ) → ((i : ℕ) → i < n → P (f i)) → Each P n (table f n)
+  each-table f zero h = none
+  each-table f (suc n) h = each-snoc (each-table f n (λ i l. h i (omega arith))) (h n (omega arith))

@@ -1,0 +1,4 @@
+pub mod Each
+pub mod Table
+pub mod Rows
+pub mod Exchange
