@@ -11,6 +11,7 @@ pub use pictures::row;
 pub use pictures::sized;
 pub use refusals::Refusal;
 pub use refusals::Verdict;
+pub use refusals::given;
 pub use refusals::number;
 ghost use Rattle.energy.specs.Energy.{EnergiesGiven, energies as Energy·energies};
 ghost use Rattle.energy.specs.Pictures.{picture as Pictures·picture};

@@ -1,6 +1,6 @@
 // What can't be served, by the numbers of "When it says no".
 ghost use mathlib.Core.Path.{_≡_};
-ghost use Rattle.energy.specs.Refusals.{numberOf};
+ghost use Rattle.energy.specs.Refusals.{numberOf, given as Refusals·given};
 
 // The refusals of one number each, in the order of their numbers from 1.
 pub enum Refusal {
@@ -56,5 +56,15 @@ pub fn number(why: Refusal) -> u64
         Refusal::Other => 11,
         Refusal::Protected => 12,
         Refusal::Last => 13,
+    }
+}
+
+// The number that a verdict gives; 0 where nothing is refused.
+pub fn given(verdict: Verdict) -> u64
+    ensures { λ n. ⌜ n ≡ Refusals·given verdict ⌝ }
+{
+    match verdict {
+        Verdict::Served => 0,
+        Verdict::Refused(why) => number(why),
     }
 }

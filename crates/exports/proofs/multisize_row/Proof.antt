@@ -1,0 +1,66 @@
+-- `exports::multisize_row` meets its contract.
+use mathlib.Core.Path.{refl, sym, ap, _∙_}
+use mathlib.Core.List.{_++_}
+use borrow.Author.Needs.{needs}
+use denote.Ref.{now}
+use lib.ListN.{length, drop}
+use lib.Seq.{take-length}
+use borrow.Author.Tests.{lt-ltb, le-ltb}
+use Rattle.exports.proofs.multisize_row.Statement.{statement}
+use Rattle.exports.proofs.multisize_row.Tie as tie
+
+size-named-requires : tie.Need-size-named-requires
+size-named-requires c κs = search needs
+
+enum-known-size : tie.Need-enum-known-size
+enum-known-size c = search needs
+
+enum-told : tie.Need-enum-told
+enum-told c = search needs
+
+returns : tie.Need-returns
+returns c = rw (sym (c .before .before .size-named .ensures) ∙ c .enum-told .given .1) (record { answer = refl; value = refl; space = refl })
+
+row-requires : tie.Need-row-requires
+row-requires c κs = search needs
+
+returns-2 : tie.Need-returns-2
+returns-2 c =
+    let short = rw (c .before .row .ensures) at (c .if1 .taken) in
+    rw (sym (c .before .before .before .before .before .size-named .ensures) ∙ c .before .before .before .size .given .1)
+    (record { answer = simp (lt-ltb _ _ short); value = refl; space = refl })
+
+copy-requires : tie.Need-copy-requires
+copy-requires c κs = search needs
+
+same-length : tie.Need-same-length
+same-length c = search needs
+
+returns-3 : tie.Need-returns-3
+returns-3 c =
+    let row = c .before .before .before .before .before .row in
+    let out = now (c .before .before .before .before .before .before .before .before .before .before .before .before .args .out) in
+    let room = rw (row .ensures) at (c .before .before .before .before .if1 .left) in
+    rw (sym (c .before .before .before .before .before .before .before .before .before .size-named .ensures) ∙ c .before .before .before .before .before .before .before .size .given .1)
+    (record {
+      answer = simp (le-ltb _ _ room);
+      value = c .before .before .copy .ensures .0 ∙ ap length (row .ensures);
+      space =
+          c .before .before .copy .ensures .1
+          ∙ ap (_++ drop (length (now (row .result))) out) (take-length (now (row .result)))
+          ∙ ap (λ x. x ++ drop (length x) out) (row .ensures);
+    })
+
+pub multisize-row-spec : {M : Type 1} → statement M
+multisize-row-spec =
+    tie.close
+    (tie.spec
+    size-named-requires
+    enum-known-size
+    enum-told
+    returns
+    row-requires
+    returns-2
+    copy-requires
+    same-length
+    returns-3)

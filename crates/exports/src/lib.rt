@@ -1,0 +1,89 @@
+// What hosts in C and Rust link: every operation over numbers and slices, with no requires.
+use energy::Kind;
+use energy::Size;
+ghost use mathlib.Core.Path.{_≡_};
+ghost use Rattle.exports.specs.Hosts.{sizingOf, HostEnergies, HostRow};
+
+// An answer with a value: the number that is refused by and value 0, or number 0 and the value.
+#[repr(C)]
+pub struct Answer {
+    pub number: u64,
+    pub value: u64,
+}
+
+// The size that a host names by numbers.
+pub enum Sizing {
+    Of(Size),
+    Unknown,
+}
+
+// Kind 0 is grey, 1 is rgb.
+fn size_named(width: usize, height: usize, kind: u8) -> Sizing
+    ensures { λ s. ⌜ s ≡ sizingOf width height kind ⌝ }
+{
+    if kind == 0 {
+        return Sizing::Of(Size {
+            width,
+            height,
+            kind: Kind::Grey,
+        });
+    }
+    if kind == 1 {
+        return Sizing::Of(Size {
+            width,
+            height,
+            kind: Kind::Rgb,
+        });
+    }
+    Sizing::Unknown
+}
+
+// The energies of row r, put into the front of out; gives the number that is refused by, or 0.
+#[no_mangle]
+pub extern "C" fn multisize_energies(
+    picture: &[u8],
+    width: usize,
+    height: usize,
+    kind: u8,
+    r: usize,
+    out: &mut [u32],
+) -> u64
+    ensures { λ n. ⌜ HostEnergies (now (picture .entry)) (sizingOf width height kind) r (now (out .entry)) n (now (out .exit)) ⌝ }
+{
+    let Sizing::Of(size) = size_named(width, height, kind) else {
+        return 1;
+    };
+    energy::given(energy::energies(picture, size, r, out))
+}
+
+// Row r copied to the front of out; the value is its length.
+#[no_mangle]
+pub extern "C" fn multisize_row(
+    picture: &[u8],
+    width: usize,
+    height: usize,
+    kind: u8,
+    r: usize,
+    out: &mut [u8],
+) -> Answer
+    ensures { λ a. ⌜ HostRow (now (picture .entry)) (sizingOf width height kind) r (now (out .entry)) a (now (out .exit)) ⌝ }
+{
+    let Sizing::Of(size) = size_named(width, height, kind) else {
+        return Answer {
+            number: 1,
+            value: 0,
+        };
+    };
+    let row = energy::row(picture, size, r);
+    if out.len() < row.len() {
+        return Answer {
+            number: 8,
+            value: 0,
+        };
+    }
+    let length = bytes::copy(row, out);
+    Answer {
+        number: 0,
+        value: length as u64,
+    }
+}
