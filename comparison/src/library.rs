@@ -1,0 +1,105 @@
+//! The functions of the archive, and safe forms of them.
+//!
+//! A picture is handed on from a buffer that may be changed, so that a write
+//! to it would be seen in the comparison.
+
+#![allow(unsafe_code)]
+
+use crate::pictures::NamedSize;
+
+/// The number of a refusal and value 0, or number 0 and the value.
+#[repr(C)]
+#[derive(Clone, Copy, Debug, PartialEq, Eq)]
+pub struct Answer {
+    pub number: u64,
+    pub value: u64,
+}
+
+extern "C" {
+    fn multisize_energies(
+        picture: *const u8,
+        picture_len: usize,
+        width: usize,
+        height: usize,
+        kind: u8,
+        r: usize,
+        out: *mut u32,
+        out_len: usize,
+    ) -> u64;
+
+    fn multisize_row(
+        picture: *const u8,
+        picture_len: usize,
+        width: usize,
+        height: usize,
+        kind: u8,
+        r: usize,
+        out: *mut u8,
+        out_len: usize,
+    ) -> Answer;
+}
+
+/// The energies of a row at the front of `out`; gives 0 or a refusal's number.
+pub fn energies(picture: &mut [u8], size: NamedSize, row: usize, out: &mut [u32]) -> u64 {
+    // Both pointers come with the lengths of their slices, which don't overlap.
+    unsafe {
+        multisize_energies(
+            picture.as_mut_ptr(),
+            picture.len(),
+            size.width,
+            size.height,
+            size.kind,
+            row,
+            out.as_mut_ptr(),
+            out.len(),
+        )
+    }
+}
+
+/// A row copied to the front of `out`; the value is its length.
+pub fn row(picture: &mut [u8], size: NamedSize, row: usize, out: &mut [u8]) -> Answer {
+    // Both pointers come with the lengths of their slices, which don't overlap.
+    unsafe {
+        multisize_row(
+            picture.as_mut_ptr(),
+            picture.len(),
+            size.width,
+            size.height,
+            size.kind,
+            row,
+            out.as_mut_ptr(),
+            out.len(),
+        )
+    }
+}
+
+#[cfg(test)]
+mod tests {
+    use super::*;
+
+    const SIZE: NamedSize = NamedSize {
+        width: 3,
+        height: 2,
+        kind: 0,
+    };
+
+    #[test]
+    fn energies_of_the_worked_picture() {
+        let mut picture = [10, 10, 40, 10, 50, 40];
+        let mut out = [9; 4];
+        assert_eq!(energies(&mut picture, SIZE, 0, &mut out), 0);
+        assert_eq!(out, [0, 70, 0, 9]);
+        assert_eq!(energies(&mut picture, SIZE, 2, &mut out), 4);
+    }
+
+    #[test]
+    fn row_of_the_worked_picture() {
+        let mut picture = [10, 10, 40, 10, 50, 40];
+        let mut out = [9; 4];
+        let answer = row(&mut picture, SIZE, 1, &mut out);
+        assert_eq!((answer.number, answer.value), (0, 3));
+        assert_eq!(out, [10, 50, 40, 9]);
+        let short = row(&mut picture, SIZE, 1, &mut out[..2]);
+        assert_eq!((short.number, short.value), (8, 0));
+    }
+}

@@ -1,0 +1,48 @@
+//! The energies of a row, given into an output space.
+
+use super::one_row::Case;
+use crate::difference::Difference;
+use crate::library::{self, Answer};
+use crate::random::Random;
+
+pub fn compare(random: &mut Random, turn: u64) -> Result<u64, Difference> {
+    let case = Case::of_turn(random, turn, |size| size.width);
+    let reference = case.outcome(|picture, out| by_reference(&case, picture, out));
+    let library = case.outcome(|picture, out| by_library(&case, picture, out));
+    case.verdict(&reference, &library)
+}
+
+/// An unknown kind is refused by 1; the reference has no such kind.
+fn by_reference(case: &Case<u32>, picture: &[u8], out: &mut [u32]) -> Answer {
+    let Some(size) = case.size.known() else {
+        return without_value(1);
+    };
+    match reference::energies(picture, size, case.row, out) {
+        Ok(()) => without_value(0),
+        Err(number) => without_value(u64::from(number)),
+    }
+}
+
+fn by_library(case: &Case<u32>, picture: &mut [u8], out: &mut [u32]) -> Answer {
+    without_value(library::energies(picture, case.size, case.row, out))
+}
+
+/// This operation answers by a number alone.
+fn without_value(number: u64) -> Answer {
+    Answer { number, value: 0 }
+}
+
+#[cfg(test)]
+mod tests {
+    use super::*;
+    use crate::pictures::ROUND;
+
+    #[test]
+    fn every_number_occurs() {
+        let answer = |turn| compare(&mut Random::of_case(1, turn), turn).ok().unwrap();
+        let answers: Vec<u64> = (0..4 * ROUND).map(answer).collect();
+        for number in [0, 1, 2, 3, 4, 8] {
+            assert!(answers.contains(&number), "no answer {number}");
+        }
+    }
+}

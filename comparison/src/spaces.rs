@@ -1,0 +1,147 @@
+//! Buffers to lend: pictures, marks, output and work spaces.
+
+use crate::faults::Faults;
+use crate::random::Random;
+use std::fmt::Display;
+
+/// The most places before the lent part, and the number behind it.
+const GUARD: usize = 8;
+
+/// What stands in one place of a buffer.
+pub trait Place: Copy + PartialEq + Display {
+    fn drawn(random: &mut Random) -> Self;
+}
+
+impl Place for u8 {
+    fn drawn(random: &mut Random) -> u8 {
+        random.byte()
+    }
+}
+
+impl Place for u32 {
+    fn drawn(random: &mut Random) -> u32 {
+        random.number() as u32
+    }
+}
+
+/// A buffer of which a part is lent. The places around that part are compared
+/// too, so that a write outside of it is seen.
+#[derive(Clone, Debug, PartialEq)]
+pub struct Lent<T> {
+    places: Vec<T>,
+    start: usize,
+    length: usize,
+}
+
+impl<T: Place> Lent<T> {
+    /// The contents as the lent part, with drawn values around it.
+    pub fn holding(random: &mut Random, contents: &[T]) -> Lent<T> {
+        let start = random.between(1, GUARD);
+        let mut places = drawn_places(random, start);
+        places.extend_from_slice(contents);
+        places.extend(drawn_places::<T>(random, GUARD));
+        Lent {
+            places,
+            start,
+            length: contents.len(),
+        }
+    }
+
+    pub fn part(&self) -> &[T] {
+        &self.places[self.start..self.start + self.length]
+    }
+
+    pub fn part_mut(&mut self) -> &mut [T] {
+        &mut self.places[self.start..self.start + self.length]
+    }
+
+    /// The first place where two forms of one buffer differ, counted from the
+    /// start of the lent part (below 0: before it), and both values.
+    pub fn first_difference(&self, other: &Lent<T>) -> Option<(isize, T, T)> {
+        let mut pairs = self.places.iter().zip(&other.places);
+        let at = pairs.position(|(one, another)| one != another)?;
+        let place = at as isize - self.start as isize;
+        Some((place, self.places[at], other.places[at]))
+    }
+}
+
+/// An output or work space for an answer of `needed` places, filled with drawn
+/// values, so that a place left alone is told from one written.
+pub fn space<T: Place>(random: &mut Random, needed: usize, faults: Faults) -> Lent<T> {
+    let length = if faults.strike(random, 2) {
+        short_length(random, needed)
+    } else {
+        enough_length(random, needed)
+    };
+    let contents = drawn_places(random, length);
+    Lent::holding(random, &contents)
+}
+
+fn enough_length(random: &mut Random, needed: usize) -> usize {
+    if random.one_in(2) {
+        needed
+    } else {
+        needed + random.between(1, 9)
+    }
+}
+
+/// Empty, one short, or anything shorter; `needed` is not 0.
+fn short_length(random: &mut Random, needed: usize) -> usize {
+    match random.below(4) {
+        0 => 0,
+        1 => random.below(needed),
+        _ => needed - 1,
+    }
+}
+
+fn drawn_places<T: Place>(random: &mut Random, count: usize) -> Vec<T> {
+    (0..count).map(|_| T::drawn(random)).collect()
+}
+
+#[cfg(test)]
+mod tests {
+    use super::*;
+
+    fn lengths(needed: usize, faults: Faults) -> Vec<usize> {
+        let mut random = Random::new(1);
+        let mut length = || space::<u32>(&mut random, needed, faults).part().len();
+        (0..400).map(|_| length()).collect()
+    }
+
+    #[test]
+    fn spaces_without_fault_are_exact_or_longer() {
+        let lengths = lengths(12, Faults::Never);
+        assert!(lengths.iter().all(|length| *length >= 12));
+        assert!(lengths.contains(&12) && lengths.contains(&13));
+    }
+
+    #[test]
+    fn damaged_spaces_are_empty_or_short() {
+        let lengths = lengths(12, Faults::Maybe);
+        for length in [0, 5, 11, 12, 21] {
+            assert!(lengths.contains(&length), "no space of length {length}");
+        }
+    }
+
+    #[test]
+    fn work_spaces_of_32_bytes_a_pixel() {
+        let mut random = Random::new(2);
+        let work = space::<u8>(&mut random, 32 * 6, Faults::Never);
+        assert!(work.part().len() >= 192);
+        assert!(work.part().iter().any(|byte| *byte != 0));
+    }
+
+    #[test]
+    fn writes_around_the_lent_part_are_seen() {
+        let mut random = Random::new(4);
+        let lent = Lent::<u8>::holding(&mut random, &[1, 2, 3]);
+        assert_eq!(lent.part(), [1, 2, 3]);
+        for place in [-1, 0, 2, 3, 10] {
+            let mut written = lent.clone();
+            written.places[(lent.start as isize + place) as usize] ^= 1;
+            assert_ne!(lent, written);
+            let (at, before, after) = lent.first_difference(&written).unwrap();
+            assert_eq!((at, before ^ 1), (place, after));
+        }
+    }
+}
