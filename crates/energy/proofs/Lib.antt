@@ -3,3 +3,4 @@ pub mod Sizes
 pub mod Buffers
 pub mod Energy
 pub mod Lines
+pub mod Served

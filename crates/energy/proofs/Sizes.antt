@@ -10,8 +10,20 @@ use borrow.Author.Tests.{ltb-false, eqb-true, eqb-false, not-false}
 use Rattle.energy.specs.declared.pictures.Kind.{Kind}
 use Rattle.energy.specs.declared.pictures.Kind.the-variants.{Grey, Rgb}
 use Rattle.energy.specs.declared.pictures.Size.{Size}
-use Rattle.energy.specs.Refusals.{refusal}
-use Rattle.energy.specs.Pictures.{largestSide, channelsOf, rowBytes, pictureBytes, sizeRules}
+use Rattle.energy.specs.Refusals.{_when_, refusal}
+use Rattle.energy.specs.Pictures.{largestSide, channelsOf, rowBytes, pictureBytes, sideRules, sizeRules}
+use Rattle.energy.proofs.Rules.{served-first}
+
+-- A size within the limits.
+pub record Sides (z : Size) : Type 0 where
+  pub width-some : 0 < z .width
+  pub width-most : z .width ≤ largestSide
+  pub height-some : 0 < z .height
+  pub height-most : z .height ≤ largestSide
+  pub channels-some : 0 < channelsOf (z .kind)
+  pub channels-most : channelsOf (z .kind) ≤ 3
+  pub row-most : z .width * channelsOf (z .kind) ≤ 1536
+  pub picture-most : z .height * (z .width * channelsOf (z .kind)) ≤ 786432
 
 -- A size within the limits, and a buffer as long as it says.
 pub record Sized (z : Size) (bytes : ℕ) : Type 0 where
@@ -46,11 +58,10 @@ pos : (n : ℕ) → eqb n 0 ≡ false → 0 < n
 pos zero e = absurd (eqb-false 0 0 e refl)
 pos (suc n) e = omega arith
 
-pub sized-is : (z : Size) (bytes : ℕ) → refusal (sizeRules z bytes) ≡ 0 → Sized z bytes
-sized-is z bytes e =
-    let two = passed (eqb (z .width) 0 || eqb (z .height) 0) 1 (cond (ltb largestSide (z .width) || ltb largestSide (z .height)) 3 (cond (not (eqb bytes (pictureBytes z))) 4 0)) e in
-    let three = passed (ltb largestSide (z .width) || ltb largestSide (z .height)) 2 (cond (not (eqb bytes (pictureBytes z))) 4 0) (two .1) in
-    let four = passed (not (eqb bytes (pictureBytes z))) 3 0 (three .1) in
+pub sides-are : (z : Size) → refusal (sideRules z) ≡ 0 → Sides z
+sides-are z e =
+    let two = passed (eqb (z .width) 0 || eqb (z .height) 0) 1 (cond (ltb largestSide (z .width) || ltb largestSide (z .height)) 3 0) e in
+    let three = passed (ltb largestSide (z .width) || ltb largestSide (z .height)) 2 0 (two .1) in
     let some = neither (eqb (z .width) 0) (eqb (z .height) 0) (two .0) in
     let most = neither (ltb largestSide (z .width)) (ltb largestSide (z .height)) (three .0) in
     let w = ltb-false largestSide (z .width) (most .0) in
@@ -63,7 +74,34 @@ sized-is z bytes e =
       height-most = h;
       channels-some = channels-some (z .kind);
       channels-most = c;
-      length-is = eqb-true bytes (pictureBytes z) (not-false (eqb bytes (pictureBytes z)) (four .0));
       row-most = mul-le-mul w c;
       picture-most = mul-le-mul h (mul-le-mul w c);
     }
+
+-- A picture that is served has sides that are, and the length that they say.
+pub sides-served : (z : Size) (bytes : ℕ) → refusal (sizeRules z bytes) ≡ 0 → refusal (sideRules z) ≡ 0
+sides-served z bytes e =
+    let two = passed (eqb (z .width) 0 || eqb (z .height) 0) 1 (cond (ltb largestSide (z .width) || ltb largestSide (z .height)) 3 (cond (not (eqb bytes (pictureBytes z))) 4 0)) e in
+    let three = passed (ltb largestSide (z .width) || ltb largestSide (z .height)) 2 (cond (not (eqb bytes (pictureBytes z))) 4 0) (two .1) in
+    rw (two .0, three .0)
+
+length-served : (z : Size) (bytes : ℕ) → refusal (sizeRules z bytes) ≡ 0 → bytes ≡ pictureBytes z
+length-served z bytes e =
+    let rest : refusal (4 when not (eqb bytes (pictureBytes z)) ∷ []) ≡ 0 = sym (served-first (sideRules z) (4 when not (eqb bytes (pictureBytes z)) ∷ []) refl (sides-served z bytes e)) ∙ e in
+    eqb-true bytes (pictureBytes z) (not-false (eqb bytes (pictureBytes z)) (passed (not (eqb bytes (pictureBytes z))) 3 0 rest .0))
+
+pub sized-of : (z : Size) (bytes : ℕ) → Sides z → bytes ≡ pictureBytes z → Sized z bytes
+sized-of z bytes s e = record {
+  width-some = s .width-some;
+  width-most = s .width-most;
+  height-some = s .height-some;
+  height-most = s .height-most;
+  channels-some = s .channels-some;
+  channels-most = s .channels-most;
+  length-is = e;
+  row-most = s .row-most;
+  picture-most = s .picture-most;
+}
+
+pub sized-is : (z : Size) (bytes : ℕ) → refusal (sizeRules z bytes) ≡ 0 → Sized z bytes
+sized-is z bytes e = sized-of z bytes (sides-are z (sides-served z bytes e)) (length-served z bytes e)

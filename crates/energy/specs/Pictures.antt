@@ -1,7 +1,7 @@
 -- "Pictures": sizes, kinds, and a lent buffer read as rows of pixels.
 use mathlib.Core.Path.{_≡_}
 use mathlib.Core.Bool.{Bool, not, _||_}
-use mathlib.Core.List.{List, [], _∷_, map}
+use mathlib.Core.List.{List, [], _∷_, _++_, map}
 use Prim.Native.Nat.{ℕ, _*_}
 use lib.Dec.{eqb, ltb}
 use lib.ListN.{length, getD}
@@ -32,13 +32,16 @@ rowBytes z = z .width * channelsOf (z .kind)
 abbrev pub pictureBytes : Size → ℕ
 pictureBytes z = z .height * rowBytes z
 
--- What 2, 3 and 4 say of a buffer of so many bytes that is brought as a picture.
-abbrev pub sizeRules : Size → ℕ → List Rule
-sizeRules z bytes =
+-- What 2 and 3 say of a size.
+abbrev pub sideRules : Size → List Rule
+sideRules z =
     2 when (eqb (z .width) 0 || eqb (z .height) 0)
     ∷ 3 when (ltb largestSide (z .width) || ltb largestSide (z .height))
-    ∷ 4 when not (eqb bytes (pictureBytes z))
     ∷ []
+
+-- What 2, 3 and 4 say of a buffer of so many bytes that is brought as a picture.
+abbrev pub sizeRules : Size → ℕ → List Rule
+sizeRules z bytes = sideRules z ++ (4 when not (eqb bytes (pictureBytes z)) ∷ [])
 
 -- The picture in a buffer, and the buffer of a picture.
 unfoldable pub picture : Size → List ℕ → Picture

@@ -2,8 +2,8 @@
 use crate::refusals::Refusal;
 use crate::refusals::Verdict;
 ghost use mathlib.Core.Path.{_≡_};
-ghost use Rattle.energy.specs.Refusals.{given, refusal};
-ghost use Rattle.energy.specs.Pictures.{largestSide, channelsOf, rowBytes, sizeRules, rowOf};
+ghost use Rattle.energy.specs.Refusals.{given, refusal, served};
+ghost use Rattle.energy.specs.Pictures.{largestSide, channelsOf, rowBytes, pictureBytes, sideRules, sizeRules, rowOf};
 ghost use Prim.Native.Nat.{_≤_};
 
 // The largest width and the largest height of a picture.
@@ -40,9 +40,9 @@ pub(crate) fn row_bytes(size: Size) -> usize
     width * channels(kind)
 }
 
-// Whether a buffer of so many bytes is a picture of this size, or which of 2, 3 and 4 refuses it.
-pub fn sized(size: Size, bytes: usize) -> Verdict
-    ensures { λ v. ⌜ given v ≡ refusal (sizeRules size bytes) ⌝ }
+// Whether the sides are allowed, or which of 2 and 3 refuses them.
+pub fn sides(size: Size) -> Verdict
+    ensures { λ v. ⌜ given v ≡ refusal (sideRules size) ⌝ }
 {
     let width = size.width;
     let height = size.height;
@@ -58,7 +58,29 @@ pub fn sized(size: Size, bytes: usize) -> Verdict
     if LARGEST_SIDE < height {
         return Verdict::Refused(Refusal::Large);
     }
-    if bytes != height * row_bytes(size) {
+    Verdict::Served
+}
+
+// Bytes of a picture of this size; 0 where its sides are refused.
+pub fn picture_bytes(size: Size) -> usize
+    ensures { λ n. ⌜ n ≡ served (refusal (sideRules size)) (pictureBytes size) 0 ⌝ }
+{
+    let Verdict::Served = sides(size) else {
+        return 0;
+    };
+    let height = size.height;
+    height * row_bytes(size)
+}
+
+// Whether a buffer of so many bytes is a picture of this size, or which of 2, 3 and 4 refuses it.
+pub fn sized(size: Size, bytes: usize) -> Verdict
+    ensures { λ v. ⌜ given v ≡ refusal (sizeRules size bytes) ⌝ }
+{
+    let allowed = sides(size);
+    let Verdict::Served = allowed else {
+        return allowed;
+    };
+    if bytes != picture_bytes(size) {
         return Verdict::Refused(Refusal::Length);
     }
     Verdict::Served

@@ -1,13 +1,13 @@
 -- Laws of tables, and of a slice that a loop fills from the front.
 use mathlib.Core.Path.{_≡_, refl, sym, ap, ap₂, _∙_}
 use mathlib.Core.Logic.{⊎-elim}
-use mathlib.Core.List.{List, [], _∷_, _++_, append-assoc}
+use mathlib.Core.List.{List, [], _∷_, _++_, append-assoc, append-nil}
 use Prim.Native.Nat.{ℕ, zero, suc, _+_, _≤_, _<_}
 use native.Mathlib.Nat.{eq-or-lt-of-le, add-zero}
 use native.Mathlib.Numerals.{add-one}
 use native.Mathlib.Omega.{arith}
 use lib.ListN.{length, take, drop, getD, set, length-append, length-drop, List·getD-append, List·getD-eq-default}
-use lib.Seq.{drop-cons, set-at, append-snoc, getD-at, take-suc, getD-drop}
+use lib.Seq.{drop-cons, drop-length, set-at, append-snoc, getD-at, take-suc, getD-drop, ext-getD}
 use Rattle.grids.specs.Each.{Each, none, more}
 use Rattle.grids.specs.Table.{table}
 
@@ -41,6 +41,14 @@ module _ {A : Type 0} where
       rw (add-one) (ap (λ (r : List A). set (table f n ++ r) n (f n)) (drop-cons d n z h)
       ∙ set-at (table f n) (getD d n z) (drop (suc n) d) (f n) n (length-table f n)
       ∙ sym (append-snoc (table f n) (f n) (drop (suc n) d)))
+
+  -- A list is the table of its elements.
+  pub table-all : (xs : List A) (d : A) → table (λ i. getD xs i d) (length xs) ≡ xs
+  table-all xs d = ext-getD d (table (λ i. getD xs i d) (length xs)) xs (length-table _ _) (λ i h. table-at (λ i. getD xs i d) (length xs) i d (rw (length-table) at h))
+
+  -- The end of a loop that has filled the whole space.
+  pub table-end : (f : ℕ → A) (d out : List A) (n : ℕ) → out ≡ table f n ++ drop n d → n ≡ length d → out ≡ table f (length d)
+  table-end f d out n e l = e ∙ rw (l, drop-length d) (append-nil (table f (length d)))
 
   -- n elements of a list from place i on.
   pub table-part : (xs : List A) (i n : ℕ) (d : A) → i + n ≤ length xs → take n (drop i xs) ≡ table (λ k. getD xs (i + k) d) n

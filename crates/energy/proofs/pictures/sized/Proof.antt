@@ -1,51 +1,62 @@
--- `energy::pictures::sized` meets its contract: each return rewrites the rules by the tests that led there.
-use native.Mathlib.Nat.{mul-le-mul}
-use native.Mathlib.Omega.{arith}
+-- `energy::pictures::sized` meets its contract: the sides first, then the length.
+use mathlib.Core.Path.{_≡_, refl, sym, ap, _∙_}
+use mathlib.Core.Bool.{not}
+use mathlib.Core.List.{[], _∷_}
 use borrow.Author.Needs.{needs}
-use borrow.Author.Tests.{eq-eqb, ne-eqb, lt-ltb, le-ltb}
+use borrow.Author.Tests.{eq-eqb, ne-eqb}
+use lib.Dec.{eqb}
+use Rattle.energy.specs.Refusals.{_when_, given, refusal, served}
+use Rattle.energy.specs.Pictures.{sideRules, sizeRules, pictureBytes}
+use Rattle.energy.proofs.Rules.{served-first, refused-answer}
 use Rattle.energy.proofs.pictures.sized.Statement.{statement}
 use Rattle.energy.proofs.pictures.sized.Tie as tie
 
+-- where the sides are served, the length decides
+none : (c : tie.After-enum-told) → refusal (sideRules (c .before .before .before .args .size)) ≡ 0
+none c = sym (c .before .before .sides .ensures) ∙ ap given (c .enum-told .given .1)
+
+rest : (c : tie.After-enum-told) → let a = c .before .before .before .args in refusal (sizeRules (a .size) (a .bytes)) ≡ refusal (4 when not (eqb (a .bytes) (pictureBytes (a .size))) ∷ [])
+rest c = let a = c .before .before .before .args in served-first (sideRules (a .size)) (4 when not (eqb (a .bytes) (pictureBytes (a .size))) ∷ []) refl (none c)
+
+long : (c : tie.After-picture-bytes) → c .picture-bytes .result ≡ pictureBytes (c .before .before .before .before .args .size)
+long c = c .picture-bytes .ensures ∙ ap (λ n. served n (pictureBytes (c .before .before .before .before .args .size)) 0) (none (c .before))
+
+sides-requires : tie.Need-sides-requires
+sides-requires c κs = search needs
+
+enum-told : tie.Need-enum-told
+enum-told c = search needs
+
+enum-told-2 : tie.Need-enum-told-2
+enum-told-2 c = search needs
+
 returns : tie.Need-returns
-returns c = simp (eq-eqb _ _ (c .if1 .taken))
+returns c =
+    let a = c .before .before .before .args in
+    let why = c .enum-told2 .given in
+    refused-answer (c .before .before .sides .result) (why .0 .0) (why .1) (sideRules (a .size)) (4 when not (eqb (a .bytes) (pictureBytes (a .size))) ∷ []) (c .before .before .sides .ensures)
+
+picture-bytes-requires : tie.Need-picture-bytes-requires
+picture-bytes-requires c κs = search needs
 
 returns-2 : tie.Need-returns-2
-returns-2 c = simp (ne-eqb _ _ (c .before .if1 .left), eq-eqb _ _ (c .if2 .taken))
+returns-2 c =
+    let wrong = rw (long (c .before)) at (c .if1 .taken) in
+    sym (rest (c .before .before) ∙ simp (ne-eqb _ _ wrong))
 
 returns-3 : tie.Need-returns-3
-returns-3 c = simp (ne-eqb _ _ (c .before .before .if1 .left), ne-eqb _ _ (c .before .if2 .left), lt-ltb _ _ (c .if3 .taken))
-
-returns-4 : tie.Need-returns-4
-returns-4 c =
-    simp (ne-eqb _ _ (c .before .before .before .if1 .left), ne-eqb _ _ (c .before .before .if2 .left), le-ltb _ _ (c .before .if3 .left), lt-ltb _ _ (c .if4 .taken))
-
-row-bytes-requires : tie.Need-row-bytes-requires
-row-bytes-requires c κs = search needs
-
-mul-if5 : tie.Need-mul-if5
-mul-if5 c = omega (arith, mul-le-mul (c .before .if4 .left) (c .row-bytes .ensures .1))
-
-returns-5 : tie.Need-returns-5
-returns-5 c =
-    let u = c .before .before in
-    let wrong = rw (c .before .row-bytes .ensures .0) at (c .if5 .taken) in
-    simp (ne-eqb _ _ (u .before .before .before .if1 .left), ne-eqb _ _ (u .before .before .if2 .left), le-ltb _ _ (u .before .if3 .left), le-ltb _ _ (u .if4 .left), ne-eqb _ _ wrong)
-
-returns-6 : tie.Need-returns-6
-returns-6 c =
-    let u = c .before .before in
-    let right = rw (c .before .row-bytes .ensures .0) at (c .if5 .left) in
-    simp (ne-eqb _ _ (u .before .before .before .if1 .left), ne-eqb _ _ (u .before .before .if2 .left), le-ltb _ _ (u .before .if3 .left), le-ltb _ _ (u .if4 .left), eq-eqb _ _ right)
+returns-3 c =
+    let right = rw (long (c .before)) at (c .if1 .left) in
+    sym (rest (c .before .before) ∙ simp (eq-eqb _ _ right))
 
 pub sized-spec : {M : Type 1} → statement M
 sized-spec =
     tie.close
     (tie.spec
+    sides-requires
+    enum-told
+    enum-told-2
     returns
+    picture-bytes-requires
     returns-2
-    returns-3
-    returns-4
-    row-bytes-requires
-    mul-if5
-    returns-5
-    returns-6)
+    returns-3)
