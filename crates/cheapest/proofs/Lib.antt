@@ -1,0 +1,16 @@
+pub mod Numbers
+pub mod Best
+pub mod Ordered
+pub mod Least
+pub mod Members
+pub mod First
+pub mod Ascending
+pub mod Listed
+pub mod Nearby
+pub mod Seams
+pub mod Marks
+pub mod Along
+pub mod Weights
+pub mod Steps
+pub mod Rows
+pub mod Loops

@@ -1,0 +1,4 @@
+pub mod Best
+pub mod Paths
+pub mod Connected
+pub mod Seams
