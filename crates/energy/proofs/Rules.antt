@@ -90,6 +90,10 @@ pub served-not : {A : Type 0} (n : ℕ) (x y : A) → 0 < n → served n x y ≡
 served-not zero x y h = absurd (omega arith)
 served-not (suc n) x y h = refl
 
+-- What was lent is left as it was where a refusal's number is given.
+pub kept-by : {A : Type 0} (why : Refusal) (x y : A) → y ≡ served (numberOf why) x y
+kept-by why x y = sym (served-not (numberOf why) x y (number-some why))
+
 -- A verdict that refuses stands, whatever other rules follow, and leaves what was lent as it was.
 module _ (v : Verdict) (why : Refusal) (is : v ≡ Refused why) where
   refused-some : 0 < given v

@@ -6,7 +6,7 @@ use Prim.Native.Nat.{ℕ, zero, suc, _+_, _*_, _≤_, _<_}
 use native.Mathlib.Nat.{mul-le-mul}
 use native.Mathlib.Omega.{arith}
 use lib.Dec.{eqb, ltb}
-use borrow.Author.Tests.{ltb-false, eqb-true, eqb-false, not-false}
+use borrow.Author.Tests.{ltb-false, eqb-true, eqb-false, not-false, eq-eqb}
 use Rattle.energy.specs.declared.pictures.Kind.{Kind}
 use Rattle.energy.specs.declared.pictures.Kind.the-variants.{Grey, Rgb}
 use Rattle.energy.specs.declared.pictures.Size.{Size}
@@ -105,3 +105,8 @@ sized-of z bytes s e = record {
 
 pub sized-is : (z : Size) (bytes : ℕ) → refusal (sizeRules z bytes) ≡ 0 → Sized z bytes
 sized-is z bytes e = sized-of z bytes (sides-are z (sides-served z bytes e)) (length-served z bytes e)
+
+-- A buffer as long as its size says is served where the sides are.
+pub sized-served : (z : Size) → refusal (sideRules z) ≡ 0 → refusal (sizeRules z (pictureBytes z)) ≡ 0
+sized-served z e =
+    served-first (sideRules z) (4 when not (eqb (pictureBytes z) (pictureBytes z)) ∷ []) refl e ∙ simp (eq-eqb (pictureBytes z) (pictureBytes z) refl)

@@ -3,3 +3,5 @@ pub mod Shapes
 pub mod Tables
 pub mod Rows
 pub mod Exchange
+pub mod Cut
+pub mod Parts

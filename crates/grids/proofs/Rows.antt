@@ -30,6 +30,13 @@ module _ {A : Type 0} where
       more (length-take-le w b (omega (arith, suc-mul n w)))
       (grid-rowsOf w n (drop w b) (omega (arith, suc-mul n w, length-drop w b)))
 
+  pub flat-append : (p q : List (List A)) → flat (p ++ q) ≡ flat p ++ flat q
+  flat-append [] q = refl
+  flat-append (x ∷ p) q = ap (x ++_) (flat-append p q) ∙ sym (append-assoc x (flat p) (flat q))
+
+  pub flat-snoc : (p : List (List A)) (x : List A) → flat (p ++ (x ∷ [])) ≡ flat p ++ x
+  flat-snoc p x = flat-append p (x ∷ []) ∙ ap (flat p ++_) (append-nil x)
+
   -- Rows and back.
   pub flat-rowsOf : (w n : ℕ) (b : List A) → flat (rowsOf w n b) ≡ take (n * w) b
   flat-rowsOf w zero b = rw (zero-mul w)

@@ -1,0 +1,201 @@
+-- `finding::down32::row_down` meets its contract.
+use mathlib.Core.Path.{_≡_, refl, sym, ap, ap₂, _∙_}
+use mathlib.Core.List.{List, _++_}
+use Prim.Native.Nat.{ℕ, _+_, _-_, _*_, _≤_, _<_}
+use native.Mathlib.Nat.{mul-le-mul, add-sub-cancel-left}
+use native.Mathlib.Omega.{arith}
+use borrow.Author.Needs.{needs}
+use denote.Ref.{now}
+use lib.ListN.{length, getD, take, drop}
+use lib.Seq.{length-take-le, take-at}
+use Rattle.grids.specs.Table.{table}
+use Rattle.grids.proofs.Tables.{length-table}
+use Rattle.grids.proofs.Parts.{put-part, part-length}
+use Rattle.grids.proofs.Rows.{part-end}
+use Rattle.energy.specs.Pictures.{pictureBytes}
+use Rattle.energy.proofs.Sizes.{Sized, sized-is}
+use Rattle.energy.proofs.Served.{energies-served}
+use Rattle.finding.specs.Kernels.{wayOf3, sumOf3, costsOf, RowNeeded}
+use Rattle.finding.proofs.Costs.{front-most, cost-most}
+use Rattle.finding.proofs.down32.row_down.Statement.{statement}
+use Rattle.finding.proofs.down32.row_down.Tie as tie
+
+sure : (c : tie.Start) → Sized (c .args .size) (pictureBytes (c .args .size))
+sure c = sized-is _ _ (c .pre .sized)
+
+-- row i's ways end within the space
+record Ends (c : tie.Start) : Type 0 where
+  short : c .args .bytes ≤ 786432
+  front : c .args .bytes ≤ length (now (c .args .space))
+  few : (c .args .i - 1) * c .args .size .width ≤ 262144
+  end : c .args .bytes + (c .args .i - 1) * c .args .size .width + c .args .size .width ≤ length (now (c .args .space))
+
+ends : (c : tie.Start) → Ends c
+ends c =
+    let p = c .pre in
+    let s = sure c in
+    let h : c .args .i - 1 ≤ 512 = omega arith in
+    let l = part-end (c .args .i - 1) (c .args .size .height - 1) (c .args .size .width) (omega arith) in
+    record {
+      short = omega arith;
+      front = omega arith;
+      few = mul-le-mul h (s .width-most);
+      end = omega arith;
+    }
+
+-- the picture at the front
+front-long : (c : tie.Start) → length (take (c .args .bytes) (now (c .args .space))) ≡ pictureBytes (c .args .size)
+front-long c = length-take-le _ _ (ends c .front) ∙ c .pre .bytes-are
+
+front-sized : (c : tie.Start) → Sized (c .args .size) (length (take (c .args .bytes) (now (c .args .space))))
+front-sized c = rw (front-long c) (sure c)
+
+byte : (c : tie.After-slice-known) (i : ℕ) → getD (now (c .before .args .space)) i 0 ≤ 255
+byte c i = omega (arith, c .slice-known .given i)
+
+-- the costs of row i
+costs : (c : tie.Start) → List ℕ
+costs c = costsOf (c .args .size) (take (c .args .bytes) (now (c .args .space))) (c .args .i)
+
+costs-long : (c : tie.Start) → length (costs c) ≡ c .args .size .width
+unfolding costs
+costs-long c = length-table _ (c .args .size .width)
+
+cost-is : (c : tie.After-energies) → c .energies .last .1 .1 .1 .0 ≡ costs (c .before .before .before .before .before .before .before) ++ drop (c .before .before .before .before .before .before .before .args .size .width) (now (c .before .before .before .before .before .before .before .args .cost))
+unfolding costs
+cost-is c =
+    let a = c .before .before .before .before .before .before .before .args in
+    energies-served (take (a .bytes) (now (a .space))) (a .size) (a .i) (now (a .cost)) (c .energies .last .1 .1 .1 .0) (c .energies .result) (c .energies .ensures)
+    (rw (front-long (c .before .before .before .before .before .before .before)) (c .before .before .before .before .before .before .before .pre .sized)) (c .before .before .before .before .before .before .before .pre .inside) (c .before .before .before .before .before .before .before .pre .cost-room)
+
+cost-front : (c : tie.After-energies) → take (c .before .before .before .before .before .before .before .args .size .width) (c .energies .last .1 .1 .1 .0) ≡ costs (c .before .before .before .before .before .before .before)
+cost-front c = ap (take (c .before .before .before .before .before .before .before .args .size .width)) (cost-is c) ∙ take-at (costs (c .before .before .before .before .before .before .before)) (drop (c .before .before .before .before .before .before .before .args .size .width) (now (c .before .before .before .before .before .before .before .args .cost))) (c .before .before .before .before .before .before .before .args .size .width) (costs-long (c .before .before .before .before .before .before .before))
+
+add-side : tie.Need-add-side
+add-side c = search needs
+
+sub-a : tie.Need-sub-a
+sub-a c = search needs
+
+mul-a : tie.Need-mul-a
+mul-a c = let e = ends (c .before .before .before .before) in omega arith
+
+add-a : tie.Need-add-a
+add-a c = let e = ends (c .before .before .before .before) in omega arith
+
+add-e : tie.Need-add-e
+add-e c = let e = ends (c .before .before .before .before) in omega (arith, sure (c .before .before .before .before) .width-most)
+
+slice-reshare-prefix-energies : tie.Need-slice-reshare-prefix-energies
+slice-reshare-prefix-energies c = search needs
+
+slice-aggregate-energies : tie.Need-slice-aggregate-energies
+slice-aggregate-energies c = sym (length-take-le _ _ (ends (c .before .before .before .before .before) .front))
+
+energies-requires : tie.Need-energies-requires
+energies-requires c κs = search needs
+
+slice-reshare-prefix-next-sums : tie.Need-slice-reshare-prefix-next-sums
+slice-reshare-prefix-next-sums c = search needs
+
+slice-aggregate-next-sums : tie.Need-slice-aggregate-next-sums
+slice-aggregate-next-sums c = sym (ap length (cost-front (c .before .before .before .before)) ∙ costs-long (c .before .before .before .before .before .before .before .before .before .before .before))
+
+next-sums-requires : tie.Need-next-sums-requires
+unfolding costs
+next-sums-requires c κs =
+    let p = c .before .before .before .before .before .before .before .before .before .before .before .before .pre in
+    let a = c .before .before .before .before .before .before .before .before .before .before .before .before .args in
+    record {
+      above = omega (arith, p .long, p .next-room);
+      costs = ap length (cost-front (c .before .before .before .before .before)) ∙ costs-long (c .before .before .before .before .before .before .before .before .before .before .before .before) ∙ sym (p .next-room);
+      small = λ k l. p .small k (omega (arith, p .next-room));
+      cheap = λ k. rw (cost-front (c .before .before .before .before .before)) (omega (arith, cost-most (a .size) (take (a .bytes) (now (a .space))) (front-sized (c .before .before .before .before .before .before .before .before .before .before .before .before)) (front-most (now (a .space)) (a .bytes) 255 (byte (c .before .before .before .before .before .before .before .before .before .before .before))) (a .i) k));
+    }
+
+sub-ways-row : tie.Need-sub-ways-row
+sub-ways-row c = search needs
+
+part-ways-row-start : tie.Need-part-ways-row-start
+part-ways-row-start c = search needs
+
+part-ways-row-end : tie.Need-part-ways-row-end
+part-ways-row-end c = ends (c .before .before .before .before .before .before .before .before .before .before .before .before .before .before .before .before) .end
+
+ways-row-requires : tie.Need-ways-row-requires
+ways-row-requires c κs = search needs
+
+sub-copy : tie.Need-sub-copy
+sub-copy c = search needs
+
+part-copy-start : tie.Need-part-copy-start
+part-copy-start c = search needs
+
+part-copy-end : tie.Need-part-copy-end
+part-copy-end c = search needs
+
+copy-requires : tie.Need-copy-requires
+copy-requires c κs = search needs
+
+same-length : tie.Need-same-length
+same-length c = search needs
+
+same-length-2 : tie.Need-same-length-2
+same-length-2 c = search needs
+
+same-length-3 : tie.Need-same-length-3
+same-length-3 c = search needs
+
+same-length-4 : tie.Need-same-length-4
+same-length-4 c = search needs
+
+returns : tie.Need-returns
+unfolding costs
+returns c =
+    let a = c .before .before .before .before .before .before .before .before .before .before .before .before .before .before .before .before .before .before .before .before .before .before .before .before .before .args in
+    let p = c .before .before .before .before .before .before .before .before .before .before .before .before .before .before .before .before .before .before .before .before .before .before .before .before .before .pre in
+    let space = now (a .space) in
+    let above = now (a .above) in
+    let w = a .size .width in
+    let q = a .bytes + (a .i - 1) * w in
+    record {
+      ways =
+          put-part q (q + w) space (c .before .before .before .before .before .before .before .ways-row .last .1 .0) (omega arith)
+          ∙ ap (λ r. take q space ++ (r ++ drop (q + w) space))
+          (c .before .before .before .before .before .before .before .ways-row .ensures ∙ ap (table (wayOf3 above)) (part-length q (q + w) space (ends (c .before .before .before .before .before .before .before .before .before .before .before .before .before .before .before .before .before .before .before .before .before .before .before .before .before) .end) ∙ add-sub-cancel-left q w))
+          ∙ ap (λ b. take (b + (a .i - 1) * w) space ++ (table (wayOf3 above) w ++ drop (b + (a .i - 1) * w + w) space)) (p .bytes-are);
+      sums =
+          put-part 1 (w + 1) above (c .before .before .copy .last .1 .0) (omega arith)
+          ∙ ap (λ r. take 1 above ++ (r ++ drop (w + 1) above))
+          (c .before .before .copy .ensures ∙ c .before .before .before .before .before .before .before .before .before .before .before .before .next-sums .ensures
+          ∙ ap₂ (λ k n. table (sumOf3 above k) n) (cost-front (c .before .before .before .before .before .before .before .before .before .before .before .before .before .before .before .before .before .before) ∙ ap (λ b. costsOf (a .size) (take b space) (a .i)) (p .bytes-are)) (p .next-room));
+    }
+
+pub row-down-spec : {M : Type 1} → statement M
+row-down-spec =
+    tie.close
+    (tie.spec
+    add-side
+    sub-a
+    mul-a
+    add-a
+    add-e
+    slice-reshare-prefix-energies
+    slice-aggregate-energies
+    energies-requires
+    slice-reshare-prefix-next-sums
+    slice-aggregate-next-sums
+    next-sums-requires
+    sub-ways-row
+    part-ways-row-start
+    part-ways-row-end
+    ways-row-requires
+    sub-copy
+    part-copy-start
+    part-copy-end
+    copy-requires
+    same-length
+    same-length-2
+    same-length-3
+    same-length-4
+    returns)

@@ -1,0 +1,3 @@
+pub mod Seams
+pub mod Finding
+pub mod Kernels

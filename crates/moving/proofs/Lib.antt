@@ -1,0 +1,4 @@
+pub mod Parts
+pub mod Closing
+pub mod Exchanging
+pub mod Served

@@ -1,0 +1,90 @@
+-- A space that is filled from the front by parts of one length.
+use mathlib.Core.Path.{_≡_, refl, sym, ap, _∙_}
+use mathlib.Core.List.{List, [], _∷_, _++_, append-nil, append-assoc, map}
+use Prim.Native.Nat.{ℕ, zero, suc, _+_, _-_, _*_, _≤_, _<_}
+use native.Mathlib.Nat.{zero-mul, suc-mul}
+use native.Mathlib.Numerals.{add-one}
+use native.Mathlib.Omega.{arith}
+use borrow.Rule.Slice.PartMut.{midOf, putMid}
+use lib.ListN.{length, getD, take, drop, set, length-drop, take-append-drop, drop-of-length-le}
+use lib.Seq.{length-take-le, take-suc, drop-cons, set-at, append-snoc, take-at, drop-at, drop-drop, drop-append-le, sets, sets-eq}
+use Rattle.grids.specs.Table.{table}
+use Rattle.grids.specs.Rows.{flat}
+use Rattle.grids.proofs.Tables.{each-table}
+use Rattle.grids.proofs.Rows.{length-flat}
+
+module _ {A : Type 0} where
+  pub flat-append : (p q : List (List A)) → flat (p ++ q) ≡ flat p ++ flat q
+  flat-append [] q = refl
+  flat-append (x ∷ p) q = ap (x ++_) (flat-append p q) ∙ sym (append-assoc x (flat p) (flat q))
+
+  -- One part more, in a loop's terms.
+  flat-more : (f : ℕ → List A) (r : ℕ) → flat (table f (r + 1)) ≡ flat (table f r) ++ f r
+  flat-more f r = rw (add-one r) (flat-append (table f r) (f r ∷ []) ∙ ap (flat (table f r) ++_) (append-nil (f r)))
+
+pub map-append : {A B : Type 0} (f : A → B) (p q : List A) → map f (p ++ q) ≡ map f p ++ map f q
+map-append f [] q = refl
+map-append f (x ∷ p) q = ap (f x ∷_) (map-append f p q)
+
+pub map-table : {A B : Type 0} (g : A → B) (f : ℕ → A) (n : ℕ) → map g (table f n) ≡ table (λ i. g (f i)) n
+map-table g f zero = refl
+map-table g f (suc n) = map-append g (table f n) (f n ∷ []) ∙ ap (_++ (g (f n) ∷ [])) (map-table g f n)
+
+-- One turn of a loop that copies a list to the front of another.
+pub copy-more : (from to : List ℕ) (i : ℕ) → i < length from → i < length to → set (take i from ++ drop i to) i (getD from i 0) ≡ take (i + 1) from ++ drop (i + 1) to
+copy-more from to i h l =
+    rw (add-one i, take-suc from i 0 h) (ap (λ r. set (take i from ++ r) i (getD from i 0)) (drop-cons to i 0 l)
+    ∙ set-at (take i from) (getD to i 0) (drop (suc i) to) (getD from i 0) i (length-take-le i from (omega arith))
+    ∙ sym (append-snoc (take i from) (getD from i 0) (drop (suc i) to)))
+
+-- r parts of w elements stand at the front, and behind them what stood there.
+abbrev pub Filled : {A : Type 0} → (ℕ → List A) → ℕ → List A → ℕ → List A → Type 0
+Filled f w old r now = now ≡ flat (table f r) ++ drop (r * w) old
+
+pub filled-start : {A : Type 0} (f : ℕ → List A) (w : ℕ) (old : List A) → Filled f w old 0 old
+filled-start f w old = rw (zero-mul w)
+
+module _ {A : Type 0} (f : ℕ → List A) (n w : ℕ) (size : (i : ℕ) → i < n → length (f i) ≡ w) (old : List A) where
+  pub filled-length : (r : ℕ) → r ≤ n → length (flat (table f r)) ≡ r * w
+  filled-length r h = length-flat (each-table f r (λ i l. size i (omega arith)))
+
+  module _ (r : ℕ) (now : List A) (inside : r < n) (so-far : Filled f w old r now) where
+    -- Behind the parts stands what stood there.
+    pub filled-later : (m : ℕ) → r * w ≤ m → drop m now ≡ drop m old
+    filled-later m h =
+        let T = flat (table f r) in
+        let e : r * w + (m - r * w) ≡ m = omega arith in
+        let past : drop (r * w) now ≡ drop (r * w) old = rw so-far (drop-at T (drop (r * w) old) (r * w) (filled-length r (omega arith))) in
+        sym (drop-drop (m - r * w) (r * w) now ∙ ap (λ i. drop i now) e) ∙ ap (drop (m - r * w)) past ∙ drop-drop (m - r * w) (r * w) old ∙ ap (λ i. drop i old) e
+
+    -- Part r in its place.
+    filled-more : Filled f w old (r + 1) (take (r * w) now ++ (f r ++ drop (r * w + w) now))
+    filled-more =
+        let T = flat (table f r) in
+        let next : r * w + w ≡ (r + 1) * w = rw (add-one r) (sym (suc-mul r w)) in
+        let front : take (r * w) now ≡ T = rw so-far (take-at T (drop (r * w) old) (r * w) (filled-length r (omega arith))) in
+        let back : drop (r * w + w) now ≡ drop ((r + 1) * w) old = filled-later (r * w + w) (omega arith) ∙ ap (λ m. drop m old) next in
+        rw (front, back, flat-more f r) (sym (append-assoc T (f r) (drop ((r + 1) * w) old)))
+
+    -- The part that was lent from r * w on, as it comes back.
+    pub filled-part : (k : ℕ) (new : List A) → w ≤ length (midOf (r * w) k now) → new ≡ f r ++ drop w (midOf (r * w) k now)
+        → Filled f w old (r + 1) (putMid (r * w) k now new)
+    filled-part k new room is =
+        let D = drop (r * w) now in
+        let tail : drop w (take k D) ++ drop k D ≡ drop (r * w + w) now = sym (drop-append-le w (take k D) (drop k D) room) ∙ ap (drop w) (take-append-drop k D) ∙ drop-drop w (r * w) now in
+        rw (is, append-assoc, tail) filled-more
+
+    -- The part as stores leave it.
+    pub filled-sets : r * w + w ≤ length now → Filled f w old (r + 1) (sets now (r * w) (f r))
+    filled-sets room =
+        let l = size r inside in
+        rw (sets-eq (f r) now (r * w) (omega arith), l, append-assoc) filled-more
+
+  -- What was lent behind the last part, as it comes back.
+  pub filled-rest : (now new : List A) → Filled f w old n now → putMid (n * w) (length now - n * w) now new ≡ flat (table f n) ++ new
+  filled-rest now new so-far =
+      let T = flat (table f n) in
+      let k = length now - n * w in
+      let front : take (n * w) now ≡ T = rw so-far (take-at T (drop (n * w) old) (n * w) (filled-length n (omega arith))) in
+      let none : drop k (drop (n * w) now) ≡ [] = drop-of-length-le (drop (n * w) now) {i = k} (omega (arith, length-drop (n * w) now)) in
+      rw (front, none, append-nil)
