@@ -34,6 +34,27 @@ served-first [] more p e = refl
 served-first ((n when true) ∷ rules) more p e = absurd (omega (arith, ltb-true 0 n (both (ltb 0 n) (positive rules) p .0)))
 served-first ((n when false) ∷ rules) more p e = served-first rules more (both (ltb 0 n) (positive rules) p .1) e
 
+-- And where nothing of both is given, nothing of either is.
+pub served-both : (rules more : List Rule) → positive rules ≡ true → refusal (rules ++ more) ≡ 0 → (refusal rules ≡ 0) × (refusal more ≡ 0)
+served-both [] more p e = (refl, e)
+served-both ((n when true) ∷ rules) more p e = absurd (omega (arith, ltb-true 0 n (both (ltb 0 n) (positive rules) p .0)))
+served-both ((n when false) ∷ rules) more p e = served-both rules more (both (ltb 0 n) (positive rules) p .1) e
+
+-- A rule that doesn't apply.
+pub passed : (t : Bool) (n m : ℕ) → cond t (suc n) m ≡ 0 → (t ≡ false) × (m ≡ 0)
+passed true n m e = absurd (omega arith)
+passed false n m e = (refl, e)
+
+-- Every number is at most m, as a test that computes; then so is the one given.
+abbrev pub most : ℕ → List Rule → Bool
+most m [] = true
+most m ((n when t) ∷ rules) = leb n m && most m rules
+
+pub refusal-most : (m : ℕ) (rules : List Rule) → most m rules ≡ true → refusal rules ≤ m
+refusal-most m [] e = omega arith
+refusal-most m ((n when true) ∷ rules) e = leb-true n m (both (leb n m) (most m rules) e .0)
+refusal-most m ((n when false) ∷ rules) e = refusal-most m rules (both (leb n m) (most m rules) e .1)
+
 -- Where one of the first rules applies, it decides.
 pub refused-first : (rules more : List Rule) → 0 < refusal rules → refusal (rules ++ more) ≡ refusal rules
 refused-first [] more h = absurd (omega arith)

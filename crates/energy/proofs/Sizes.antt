@@ -12,7 +12,7 @@ use Rattle.energy.specs.declared.pictures.Kind.the-variants.{Grey, Rgb}
 use Rattle.energy.specs.declared.pictures.Size.{Size}
 use Rattle.energy.specs.Refusals.{_when_, refusal}
 use Rattle.energy.specs.Pictures.{largestSide, channelsOf, rowBytes, pictureBytes, sideRules, sizeRules}
-use Rattle.energy.proofs.Rules.{served-first}
+use Rattle.energy.proofs.Rules.{served-first, passed}
 
 -- A size within the limits.
 pub record Sides (z : Size) : Type 0 where
@@ -44,11 +44,6 @@ channels-some Rgb = omega arith
 pub channels-most : (k : Kind) → channelsOf k ≤ 3
 channels-most Grey = omega arith
 channels-most Rgb = omega arith
-
--- A rule that doesn't apply.
-passed : (t : Bool) (n m : ℕ) → cond t (suc n) m ≡ 0 → (t ≡ false) × (m ≡ 0)
-passed true n m e = absurd (omega arith)
-passed false n m e = (refl, e)
 
 neither : (a b : Bool) → (a || b) ≡ false → (a ≡ false) × (b ≡ false)
 neither true b e = (e, cc)

@@ -1,5 +1,5 @@
--- What hosts see of each operation: numbers and slices. A kind is a number, and one that names no kind is refused by 1, as
--- a word that names none is in a file.
+-- What hosts see of each operation: numbers and slices. A kind and an axis are numbers; one that names none is refused by
+-- 1, as a word that names none is in a file.
 use mathlib.Core.Path.{_≡_}
 use mathlib.Core.Bool.{cond}
 use mathlib.Core.List.{List, [], _∷_, _++_}
@@ -11,9 +11,17 @@ use Rattle.energy.specs.declared.pictures.Size.{Size}
 use Rattle.energy.specs.Refusals.{_when_, refusal, served}
 use Rattle.energy.specs.Pictures.{picture, rowOf}
 use Rattle.energy.specs.Energy.{energies, energiesRules}
+use Rattle.finding.specs.declared.Found.{Found}
+use Rattle.finding.specs.Finding.{foundNumber, foundCost}
+use Rattle.carving.specs.declared.Axis.{Axis}
+use Rattle.carving.specs.declared.Axis.the-variants.{Vertical, Horizontal}
+use Rattle.carving.specs.Axes.{turnedSize, seamAlong, costAlong}
+use Rattle.carving.specs.Carving.{findRules, cleared}
 use Rattle.exports.specs.declared.Answer.{Answer}
 use Rattle.exports.specs.declared.Sizing.{Sizing}
 use Rattle.exports.specs.declared.Sizing.the-variants.{Of, Unknown}
+use Rattle.exports.specs.declared.Turning.{Turning}
+use Rattle.exports.specs.declared.Turning.the-variants.{Along, Nowhere}
 
 -- The size that a host names: kind 0 is grey, 1 is rgb.
 unfoldable pub sizingOf : ℕ → ℕ → ℕ → Sizing
@@ -21,10 +29,23 @@ sizingOf w h k =
     cond (eqb k 0) (Of (record { width = w; height = h; kind = Grey }))
     (cond (eqb k 1) (Of (record { width = w; height = h; kind = Rgb })) Unknown)
 
--- What holds at a known size, or else.
+-- The axis that a host names: 0 is vertical, 1 horizontal.
+unfoldable pub turningOf : ℕ → Turning
+turningOf k = cond (eqb k 0) (Along Vertical) (cond (eqb k 1) (Along Horizontal) Nowhere)
+
+-- What holds at a known size, or else; and at a known size and axis.
 abbrev pub known : {A : Type 0} → Sizing → (Size → A) → A → A
 known (Of z) f x = f z
 known Unknown f x = x
+
+abbrev pub both : {A : Type 0} → Sizing → Turning → (Size → Axis → A) → A → A
+both (Of z) (Along x) f y = f z x
+both (Of z) Nowhere f y = y
+both Unknown t f y = y
+
+-- An answer as two numbers.
+abbrev pub replyOf : Found → Answer
+replyOf f = record { number = foundNumber f; value = foundCost f }
 
 -- The energies of a row.
 pub record HostEnergies (b : List ℕ) (s : Sizing) (r : ℕ) (out : List ℕ) (number : ℕ) (out′ : List ℕ) : Type 0 where
@@ -36,3 +57,10 @@ pub record HostRow (b : List ℕ) (s : Sizing) (r : ℕ) (out : List ℕ) (a : A
   pub answer : a .number ≡ known s (λ z. refusal (8 when ltb (length out) (length (rowOf z b r)) ∷ [])) 1
   pub value : a .value ≡ known s (λ z. served (a .number) (length (rowOf z b r)) 0) 0
   pub space : out′ ≡ known s (λ z. served (a .number) (rowOf z b r ++ drop (length (rowOf z b r)) out) out) out
+
+-- The seam found along an axis, and its cost.
+pub record HostSeam (b : List ℕ) (s : Sizing) (t : Turning) (seam work : List ℕ) (a : Answer) (seam′ work′ : List ℕ) : Type 0 where
+  pub answer : a .number ≡ both s t (λ z x. refusal (findRules x z (length b) (length seam) (length work))) 1
+  pub value : a .value ≡ both s t (λ z x. served (a .number) (costAlong x z (picture z b)) 0) 0
+  pub seam-given : seam′ ≡ both s t (λ z x. served (a .number) (seamAlong x z (picture z b) ++ drop (turnedSize x z .height) seam) seam) seam
+  pub work-left : work′ ≡ both s t (λ z x. cleared (a .number) work) work

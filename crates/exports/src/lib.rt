@@ -1,8 +1,10 @@
 // What hosts in C and Rust link: every operation over numbers and slices, with no requires.
+use carving::Axis;
 use energy::Kind;
 use energy::Size;
+use finding::Found;
 ghost use mathlib.Core.Path.{_≡_};
-ghost use Rattle.exports.specs.Hosts.{sizingOf, HostEnergies, HostRow};
+ghost use Rattle.exports.specs.Hosts.{sizingOf, turningOf, replyOf, HostEnergies, HostRow, HostSeam};
 
 // An answer with a value: the number that is refused by and value 0, or number 0 and the value.
 #[repr(C)]
@@ -15,6 +17,12 @@ pub struct Answer {
 pub enum Sizing {
     Of(Size),
     Unknown,
+}
+
+// The axis that a host names by a number.
+pub enum Turning {
+    Along(Axis),
+    Nowhere,
 }
 
 // Kind 0 is grey, 1 is rgb.
@@ -36,6 +44,34 @@ fn size_named(width: usize, height: usize, kind: u8) -> Sizing
         });
     }
     Sizing::Unknown
+}
+
+// Axis 0 is vertical, 1 is horizontal.
+fn axis_named(axis: u8) -> Turning
+    ensures { λ t. ⌜ t ≡ turningOf axis ⌝ }
+{
+    if axis == 0 {
+        return Turning::Along(Axis::Vertical);
+    }
+    if axis == 1 {
+        return Turning::Along(Axis::Horizontal);
+    }
+    Turning::Nowhere
+}
+
+fn reply(found: Found) -> Answer
+    ensures { λ a. ⌜ a ≡ replyOf found ⌝ }
+{
+    match found {
+        Found::Seam(cost) => Answer {
+            number: 0,
+            value: cost,
+        },
+        Found::Refused(why) => Answer {
+            number: energy::number(why),
+            value: 0,
+        },
+    }
 }
 
 // The energies of row r, put into the front of out; gives the number that is refused by, or 0.
@@ -86,4 +122,32 @@ pub extern "C" fn multisize_row(
         number: 0,
         value: length as u64,
     }
+}
+
+// The seam along the axis, put into the front of seam from the top or the left; the value is its cost.
+#[no_mangle]
+pub extern "C" fn multisize_find(
+    picture: &[u8],
+    width: usize,
+    height: usize,
+    kind: u8,
+    axis: u8,
+    seam: &mut [u16],
+    work: &mut [u8],
+) -> Answer
+    ensures { λ a. ⌜ HostSeam (now (picture .entry)) (sizingOf width height kind) (turningOf axis) (now (seam .entry)) (now (work .entry)) a (now (seam .exit)) (now (work .exit)) ⌝ }
+{
+    let Sizing::Of(size) = size_named(width, height, kind) else {
+        return Answer {
+            number: 1,
+            value: 0,
+        };
+    };
+    let Turning::Along(turned) = axis_named(axis) else {
+        return Answer {
+            number: 1,
+            value: 0,
+        };
+    };
+    reply(carving::find(picture, size, turned, seam, work))
 }

@@ -1,0 +1,36 @@
+-- What is known of the seam found at the front of a space where nothing is refused.
+use mathlib.Core.Path.{_≡_, refl, sym, ap, _∙_}
+use mathlib.Core.List.{List, [], _∷_, _++_}
+use Prim.Native.Nat.{ℕ, _+_, _≤_}
+use lib.Dec.{ltb}
+use borrow.Author.Tests.{le-ltb}
+use lib.ListN.{length, take, drop, replicate}
+use Rattle.energy.specs.declared.pictures.Size.{Size}
+use Rattle.energy.specs.Refusals.{_when_, refusal, served}
+use Rattle.energy.specs.Pictures.{sideRules, pictureBytes, picture}
+use Rattle.energy.proofs.Rules.{served-first}
+use Rattle.finding.specs.declared.Found.{Found}
+use Rattle.finding.specs.Seams.{seamOf, costOf}
+use Rattle.finding.specs.Finding.{foundNumber, foundCost, pixels, FindGiven}
+
+pub record FoundThere (space : List ℕ) (z : Size) (seam : List ℕ) (answer : Found) (space′ seam′ : List ℕ) : Type 0 where
+  pub number : foundNumber answer ≡ 0
+  pub cost : foundCost answer ≡ costOf (z .width) (z .height) (picture z (take (pictureBytes z) space))
+  pub space-left : space′ ≡ take (pictureBytes z) space ++ (replicate (pixels z) 0 ++ drop (pictureBytes z + pixels z) space)
+  pub seam-given : seam′ ≡ seamOf (z .width) (z .height) (picture z (take (pictureBytes z) space)) ++ drop (z .height) seam
+
+pub find-served : (space : List ℕ) (z : Size) (seam : List ℕ) (answer : Found) (space′ seam′ : List ℕ) → FindGiven space z seam answer space′ seam′
+    → refusal (sideRules z) ≡ 0 → z .height ≤ length seam → pictureBytes z + pixels z ≤ length space → FoundThere space z seam answer space′ seam′
+find-served space z seam answer space′ seam′ g sides room long =
+    record {
+      number = n;
+      cost = rw n at (g .cost);
+      space-left = rw n at (g .space-left);
+      seam-given = rw n at (g .seam-given);
+    }
+  where
+    none : refusal (8 when ltb (length seam) (z .height) ∷ 8 when ltb (length space) (pictureBytes z + pixels z) ∷ []) ≡ 0
+    none = simp (le-ltb _ _ room, le-ltb _ _ long)
+
+    n : foundNumber answer ≡ 0
+    n = g .number ∙ served-first (sideRules z) (8 when ltb (length seam) (z .height) ∷ 8 when ltb (length space) (pictureBytes z + pixels z) ∷ []) refl sides ∙ none

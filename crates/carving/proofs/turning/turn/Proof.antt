@@ -1,0 +1,68 @@
+-- `carving::turning::turn` meets its contract.
+use mathlib.Core.Path.{_≡_, refl, sym, ap, ap₂, _∙_}
+use mathlib.Core.List.{List, _++_}
+use native.Mathlib.Omega.{arith}
+use borrow.Author.Needs.{needs}
+use denote.Ref.{now}
+use lib.ListN.{length, take, drop}
+use lib.Seq.{take-length}
+use Rattle.energy.specs.Pictures.{pictureBytes, picture, bytes}
+use Rattle.energy.proofs.Sizes.{Sized, sized-is}
+use Rattle.energy.proofs.Buffers.{bytes-picture}
+use Rattle.moving.proofs.Served.{exchange-served}
+use Rattle.carving.specs.declared.Axis.{Axis}
+use Rattle.carving.specs.Axes.{turned}
+use Rattle.carving.specs.Kernels.{TurnNeeded}
+use Rattle.carving.proofs.turning.turn.Statement.{statement}
+use Rattle.carving.proofs.turning.turn.Tie as tie
+
+sure : (c : tie.Start) → Sized (c .args .size) (length (now (c .args .picture)))
+sure c = sized-is _ _ (c .pre .sized)
+
+enum-told : tie.Need-enum-told
+enum-told c = search needs
+
+copy-requires : tie.Need-copy-requires
+copy-requires c κs = omega (arith, sure (c .before .before .before .before .before) .length-is, c .before .before .before .before .before .pre .room)
+
+enum-told-2 : tie.Need-enum-told-2
+enum-told-2 c = search needs
+
+exchange-requires : tie.Need-exchange-requires
+exchange-requires c κs = search needs
+
+same-length : tie.Need-same-length
+same-length c = search needs
+
+returns : tie.Need-returns
+unfolding turned
+returns c =
+    let a = c .before .before .before .before .before .before .before .before .args in
+    let b = now (a .picture) in
+    let l = sure (c .before .before .before .before .before .before .before .before) .length-is in
+    rw (c .before .before .before .before .enum-told .given .1)
+    (c .before .before .copy .ensures .1
+    ∙ ap₂ (λ x n. x ++ drop n (now (a .to))) (take-length b ∙ sym (bytes-picture (a .size) b l)) l)
+
+same-length-2 : tie.Need-same-length-2
+same-length-2 c = search needs
+
+returns-2 : tie.Need-returns-2
+unfolding turned
+returns-2 c =
+    let a = c .before .before .before .before .before .before .before .before .args in
+    rw (c .before .before .before .before .enum-told2 .given .1)
+    (exchange-served (now (a .picture)) (a .size) (now (a .to)) (c .before .before .exchange .last .1 .1 .0) (c .before .before .exchange .result) (c .before .before .exchange .ensures) (c .before .before .before .before .before .before .before .before .pre .sized) (c .before .before .before .before .before .before .before .before .pre .room))
+
+pub turn-spec : {M : Type 1} → statement M
+turn-spec =
+    tie.close
+    (tie.spec
+    enum-told
+    copy-requires
+    enum-told-2
+    exchange-requires
+    same-length
+    returns
+    same-length-2
+    returns-2)

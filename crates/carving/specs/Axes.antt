@@ -1,0 +1,31 @@
+-- Seams along either axis. "A horizontal seam is the vertical seam of the picture with rows and columns exchanged."
+use mathlib.Core.List.{List}
+use Prim.Native.Nat.{ℕ, _-_}
+use Rattle.grids.specs.Exchange.{exchange}
+use Rattle.grids.specs.Cut.{cut}
+use Rattle.energy.specs.declared.pictures.Size.{Size}
+use Rattle.energy.specs.Pictures.{Picture}
+use Rattle.finding.specs.Seams.{seamOf, costOf}
+use Rattle.carving.specs.declared.Axis.{Axis}
+use Rattle.carving.specs.declared.Axis.the-variants.{Vertical, Horizontal}
+
+-- The size in which a seam along the axis is vertical.
+abbrev pub turnedSize : Axis → Size → Size
+turnedSize Vertical z = z
+turnedSize Horizontal z = record { width = z .height; height = z .width; kind = z .kind }
+
+-- The grid of width w in which it is vertical.
+unfoldable pub turned : {A : Type 0} → Axis → ℕ → List (List A) → List (List A)
+turned Vertical w p = p
+turned Horizontal w p = exchange w p
+
+-- The seam found along the axis: its columns from the top, or its rows from the left; and its cost.
+unfoldable pub seamAlong : Axis → Size → Picture → List ℕ
+seamAlong x z p = seamOf (turnedSize x z .width) (turnedSize x z .height) (turned x (z .width) p)
+
+unfoldable pub costAlong : Axis → Size → Picture → ℕ
+costAlong x z p = costOf (turnedSize x z .width) (turnedSize x z .height) (turned x (z .width) p)
+
+-- "Cutting closes each row up to the left, a horizontal cut each column upward."
+unfoldable pub cutAlong : {A : Type 0} → Axis → Size → List ℕ → List (List A) → List (List A)
+cutAlong x z s p = turned x (turnedSize x z .width - 1) (cut s (turned x (z .width) p))

@@ -1,0 +1,3 @@
+pub mod Axes
+pub mod Carving
+pub mod Kernels

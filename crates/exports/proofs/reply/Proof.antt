@@ -1,0 +1,25 @@
+-- `exports::reply` meets its contract.
+use mathlib.Core.Path.{sym, ap}
+use borrow.Author.Needs.{needs}
+use Rattle.exports.specs.Hosts.{replyOf}
+use Rattle.exports.proofs.reply.Statement.{statement}
+use Rattle.exports.proofs.reply.Tie as tie
+
+enum-known-found : tie.Need-enum-known-found
+enum-known-found c = search needs
+
+enum-known-found-2 : tie.Need-enum-known-found-2
+enum-known-found-2 c = search needs
+
+number-requires : tie.Need-number-requires
+number-requires c κs = search needs
+
+returns : tie.Need-returns
+returns c = sym (ap replyOf (c .before .found .given .1))
+
+returns-2 : tie.Need-returns-2
+returns-2 c = rw (c .number .ensures) (sym (ap replyOf (c .before .before .found2 .given .1)))
+
+pub reply-spec : {M : Type 1} → statement M
+reply-spec =
+    tie.close (tie.spec enum-known-found enum-known-found-2 number-requires returns returns-2)
