@@ -1,3 +1,5 @@
 pub mod Turns
 pub mod FindIn
 pub mod Buffers
+pub mod Inside
+pub mod Columns

@@ -1,7 +1,7 @@
 -- Laws of pictures turned for a seam along an axis, stated once over the axis.
 use mathlib.Core.Path.{_≡_, refl, sym, ap, _∙_}
 use mathlib.Core.List.{List, [], _∷_, _++_}
-use Prim.Native.Nat.{ℕ, _+_, _*_, _≤_, _<_}
+use Prim.Native.Nat.{ℕ, zero, suc, _+_, _*_, _≤_, _<_}
 use native.Mathlib.Nat.{mul-comm, mul-left-comm, mul-le-mul-left, mul-assoc}
 use native.Mathlib.Omega.{arith}
 use borrow.Author.Tests.{ne-eqb, le-ltb}
@@ -32,7 +32,7 @@ turned-kind Vertical z = refl
 turned-kind Horizontal z = refl
 
 -- Sides within the limits are served.
-sides-of : (z : Size) → 0 < z .width → z .width ≤ largestSide → 0 < z .height → z .height ≤ largestSide → refusal (sideRules z) ≡ 0
+pub sides-of : (z : Size) → 0 < z .width → z .width ≤ largestSide → 0 < z .height → z .height ≤ largestSide → refusal (sideRules z) ≡ 0
 sides-of z p q r s =
     let w : z .width ≡ 0 → ⊥ = λ e. omega arith in
     let h : z .height ≡ 0 → ⊥ = λ e. omega arith in
@@ -61,3 +61,13 @@ pub bytes-few : (z : Size) → pictureBytes z ≤ 3 * pixels z
 bytes-few z =
     let m = mul-le-mul-left (z .height) (mul-le-mul-left (z .width) (channels-most (z .kind))) in
     omega (arith, mul-assoc (z .height) (z .width) 3, mul-comm (z .height * z .width) 3)
+
+more-than-one : (n : ℕ) → 0 < n → (n ≡ 1 → ⊥) → 1 < n
+more-than-one zero h two = absurd (omega arith)
+more-than-one (suc zero) h two = absurd (two refl)
+more-than-one (suc (suc n)) h two = omega arith
+
+-- A side that isn't 1 is more.
+pub turned-some : (x : Axis) (z : Size) (n : ℕ) → Sized z n → (turnedSize x z .width ≡ 1 → ⊥) → 1 < turnedSize x z .width
+turned-some Vertical z n s two = more-than-one (z .width) (s .width-some) two
+turned-some Horizontal z n s two = more-than-one (z .height) (s .height-some) two

@@ -26,6 +26,10 @@ seamAlong x z p = seamOf (turnedSize x z .width) (turnedSize x z .height) (turne
 unfoldable pub costAlong : Axis → Size → Picture → ℕ
 costAlong x z p = costOf (turnedSize x z .width) (turnedSize x z .height) (turned x (z .width) p)
 
+-- The size with a column less.
+abbrev pub narrowed : Size → Size
+narrowed z = record { width = z .width - 1; height = z .height; kind = z .kind }
+
 -- "Cutting closes each row up to the left, a horizontal cut each column upward."
 unfoldable pub cutAlong : {A : Type 0} → Axis → Size → List ℕ → List (List A) → List (List A)
 cutAlong x z s p = turned x (turnedSize x z .width - 1) (cut s (turned x (z .width) p))

@@ -3,9 +3,10 @@ use crate::Axis;
 use energy::Size;
 ghost use mathlib.Core.Path.{_≡_};
 ghost use mathlib.Core.List.{_++_};
+ghost use Prim.Native.Nat.{_<_};
 ghost use lib.ListN.{drop};
 ghost use Rattle.energy.specs.Pictures.{picture as Pictures·picture, bytes, pictureBytes};
-ghost use Rattle.carving.specs.Axes.{turnedSize, turned};
+ghost use Rattle.carving.specs.Axes.{turnedSize, turned, narrowed};
 ghost use Rattle.carving.specs.Kernels.{TurnNeeded};
 
 // The size in which a seam along the axis is vertical.
@@ -26,6 +27,21 @@ pub(crate) fn turned_size(axis: Axis, size: Size) -> Size
             height: width,
             kind,
         },
+    }
+}
+
+// The size with a column less.
+pub(crate) fn narrower(size: Size) -> Size
+    requires { ⌜ 0 < size .width ⌝ }
+    ensures { λ z. ⌜ z ≡ narrowed size ⌝ }
+{
+    let width = size.width;
+    let height = size.height;
+    let kind = size.kind;
+    Size {
+        width: width - 1,
+        height,
+        kind,
     }
 }
 

@@ -3,20 +3,20 @@
 use mathlib.Core.Path.{_≡_}
 use mathlib.Core.Bool.{cond}
 use mathlib.Core.List.{List, [], _∷_, _++_}
-use Prim.Native.Nat.{ℕ}
+use Prim.Native.Nat.{ℕ, _*_}
 use lib.Dec.{eqb, ltb}
-use lib.ListN.{length, drop}
+use lib.ListN.{length, drop, replicate}
 use Rattle.energy.specs.declared.pictures.Kind.the-variants.{Grey, Rgb}
 use Rattle.energy.specs.declared.pictures.Size.{Size}
-use Rattle.energy.specs.Refusals.{_when_, refusal, served}
-use Rattle.energy.specs.Pictures.{picture, rowOf}
+use Rattle.energy.specs.Refusals.{Rule, _when_, refusal, served}
+use Rattle.energy.specs.Pictures.{channelsOf, picture, bytes, rowOf}
 use Rattle.energy.specs.Energy.{energies, energiesRules}
 use Rattle.finding.specs.declared.Found.{Found}
 use Rattle.finding.specs.Finding.{foundNumber, foundCost}
 use Rattle.carving.specs.declared.Axis.{Axis}
 use Rattle.carving.specs.declared.Axis.the-variants.{Vertical, Horizontal}
-use Rattle.carving.specs.Axes.{turnedSize, seamAlong, costAlong}
-use Rattle.carving.specs.Carving.{findRules, cleared}
+use Rattle.carving.specs.Axes.{turnedSize, seamAlong, costAlong, cutAlong}
+use Rattle.carving.specs.Carving.{cleared}
 use Rattle.exports.specs.declared.Answer.{Answer}
 use Rattle.exports.specs.declared.Sizing.{Sizing}
 use Rattle.exports.specs.declared.Sizing.the-variants.{Of, Unknown}
@@ -58,9 +58,16 @@ pub record HostRow (b : List ℕ) (s : Sizing) (r : ℕ) (out : List ℕ) (a : A
   pub value : a .value ≡ known s (λ z. served (a .number) (length (rowOf z b r)) 0) 0
   pub space : out′ ≡ known s (λ z. served (a .number) (rowOf z b r ++ drop (length (rowOf z b r)) out) out) out
 
--- The seam found along an axis, and its cost.
-pub record HostSeam (b : List ℕ) (s : Sizing) (t : Turning) (seam work : List ℕ) (a : Answer) (seam′ work′ : List ℕ) : Type 0 where
-  pub answer : a .number ≡ both s t (λ z x. refusal (findRules x z (length b) (length seam) (length work))) 1
+-- The seam found along an axis, and its cost; rules are those of finding or of cutting.
+pub record HostSeam (rules : Axis → Size → ℕ → ℕ → ℕ → List Rule) (b : List ℕ) (s : Sizing) (t : Turning) (seam work : List ℕ) (a : Answer) (seam′ work′ : List ℕ) : Type 0 where
+  pub answer : a .number ≡ both s t (λ z x. refusal (rules x z (length b) (length seam) (length work))) 1
   pub value : a .value ≡ both s t (λ z x. served (a .number) (costAlong x z (picture z b)) 0) 0
   pub seam-given : seam′ ≡ both s t (λ z x. served (a .number) (seamAlong x z (picture z b) ++ drop (turnedSize x z .height) seam) seam) seam
   pub work-left : work′ ≡ both s t (λ z x. cleared (a .number) work) work
+
+-- The picture after a cut along an axis.
+pub record HostCut (b : List ℕ) (s : Sizing) (t : Turning) (number : ℕ) (b′ : List ℕ) : Type 0 where
+  pub picture-left :
+      b′ ≡ both s t
+      (λ z x. served number (bytes (cutAlong x z (seamAlong x z (picture z b)) (picture z b)) ++ replicate (turnedSize x z .height * channelsOf (z .kind)) 0) b)
+      b

@@ -4,7 +4,8 @@ use energy::Kind;
 use energy::Size;
 use finding::Found;
 ghost use mathlib.Core.Path.{_≡_};
-ghost use Rattle.exports.specs.Hosts.{sizingOf, turningOf, replyOf, HostEnergies, HostRow, HostSeam};
+ghost use Rattle.exports.specs.Hosts.{sizingOf, turningOf, replyOf, HostEnergies, HostRow, HostSeam, HostCut};
+ghost use Rattle.carving.specs.Carving.{findRules, cutRules};
 
 // An answer with a value: the number that is refused by and value 0, or number 0 and the value.
 #[repr(C)]
@@ -135,7 +136,7 @@ pub extern "C" fn multisize_find(
     seam: &mut [u16],
     work: &mut [u8],
 ) -> Answer
-    ensures { λ a. ⌜ HostSeam (now (picture .entry)) (sizingOf width height kind) (turningOf axis) (now (seam .entry)) (now (work .entry)) a (now (seam .exit)) (now (work .exit)) ⌝ }
+    ensures { λ a. ⌜ HostSeam findRules (now (picture .entry)) (sizingOf width height kind) (turningOf axis) (now (seam .entry)) (now (work .entry)) a (now (seam .exit)) (now (work .exit)) ⌝ }
 {
     let Sizing::Of(size) = size_named(width, height, kind) else {
         return Answer {
@@ -150,4 +151,34 @@ pub extern "C" fn multisize_find(
         };
     };
     reply(carving::find(picture, size, turned, seam, work))
+}
+
+// Cuts the seam along the axis out of the picture and gives it as multisize_find does. The rows then lie packed at the
+// front of the picture and the freed bytes are 0.
+#[no_mangle]
+pub extern "C" fn multisize_cut(
+    picture: &mut [u8],
+    width: usize,
+    height: usize,
+    kind: u8,
+    axis: u8,
+    seam: &mut [u16],
+    work: &mut [u8],
+) -> Answer
+    ensures { λ a. ⌜ HostSeam cutRules (now (picture .entry)) (sizingOf width height kind) (turningOf axis) (now (seam .entry)) (now (work .entry)) a (now (seam .exit)) (now (work .exit)) ⌝ }
+    ensures { λ a. ⌜ HostCut (now (picture .entry)) (sizingOf width height kind) (turningOf axis) (a .number) (now (picture .exit)) ⌝ }
+{
+    let Sizing::Of(size) = size_named(width, height, kind) else {
+        return Answer {
+            number: 1,
+            value: 0,
+        };
+    };
+    let Turning::Along(turned) = axis_named(axis) else {
+        return Answer {
+            number: 1,
+            value: 0,
+        };
+    };
+    reply(carving::cut(picture, size, turned, seam, work))
 }

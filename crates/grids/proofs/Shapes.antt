@@ -1,6 +1,6 @@
 -- Laws of lists of a known length whose elements all have a property.
 use mathlib.Core.Path.{_≡_, refl, sym, ap, _∙_}
-use mathlib.Core.List.{List, [], _∷_, _++_, map}
+use mathlib.Core.List.{List, [], _∷_, _++_, map, reverse, reverse-cons, List·Memᴰ, List·Memᴰ·head, List·Memᴰ·tail}
 use Prim.Native.Nat.{ℕ, zero, suc, _+_, _≤_, _<_}
 use native.Mathlib.Nat.{le-of-suc-le-suc, suc-inj}
 use native.Mathlib.Omega.{arith}
@@ -29,6 +29,19 @@ module _ {A : Type 0} {P : A → Type 0} where
   pub each-weaken : {Q : A → Type 0} {n : ℕ} {xs : List A} → ((x : A) → P x → Q x) → Each P n xs → Each Q n xs
   each-weaken h none = none
   each-weaken h (more {x = x} p e) = more (h x p) (each-weaken h e)
+
+pub each-snoc : {A : Type 0} {P : A → Type 0} {n : ℕ} {xs : List A} {x : A} → Each P n xs → P x → Each P (suc n) (xs ++ (x ∷ []))
+each-snoc none p = more p none
+each-snoc (more q e) p = more q (each-snoc e p)
+
+pub each-reverse : {A : Type 0} {P : A → Type 0} {n : ℕ} {xs : List A} → Each P n xs → Each P n (reverse xs)
+each-reverse none = none
+each-reverse (more {x = x} {xs = xs} p e) = rw (reverse-cons x xs) (each-snoc (each-reverse e) p)
+
+-- Every member has the property.
+pub each-member : {A : Type 0} {P : A → Type 0} (xs : List A) → ((x : A) → List·Memᴰ x xs → P x) → Each P (length xs) xs
+each-member [] h = none
+each-member (x ∷ xs) h = more (h x (List·Memᴰ·head refl)) (each-member xs (λ y m. h y (List·Memᴰ·tail m)))
 
 -- A list as long as n, as n elements of which nothing is asked; and so a grid.
 abbrev pub Any : {A : Type 0} → A → Type 0

@@ -10,6 +10,7 @@ use lib.ListN.{length, take, drop, getD, set, length-append, length-drop, List·
 use lib.Seq.{drop-cons, drop-length, set-at, append-snoc, getD-at, take-suc, getD-drop, ext-getD}
 use Rattle.grids.specs.Each.{Each, none, more}
 use Rattle.grids.specs.Table.{table}
+use Rattle.grids.proofs.Shapes.{each-snoc}
 
 module _ {A : Type 0} where
   pub length-table : (f : ℕ → A) (n : ℕ) → length (table f n) ≡ n
@@ -56,10 +57,6 @@ module _ {A : Type 0} where
   table-part xs i (suc n) d h =
       take-suc (drop i xs) n d (omega (arith, length-drop i xs))
       ∙ ap₂ (λ ys y. ys ++ (y ∷ [])) (table-part xs i n d (omega arith)) (getD-drop i xs n d)
-
-  each-snoc : {P : A → Type 0} {n : ℕ} {xs : List A} {x : A} → Each P n xs → P x → Each P (suc n) (xs ++ (x ∷ []))
-  each-snoc none p = more p none
-  each-snoc (more q e) p = more q (each-snoc e p)
 
   -- A property of every value is a property of every element.
   pub each-table : {P : A → Type 0} (f : ℕ → A) (n : ℕ) → ((i : ℕ) → i < n → P (f i)) → Each P n (table f n)

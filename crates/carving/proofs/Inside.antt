@@ -1,0 +1,35 @@
+-- The seam found lies inside the picture.
+use mathlib.Core.Path.{_≡_, refl, sym, ap, _∙_}
+use mathlib.Core.Option.{Option, Option·getD, some}
+use mathlib.Core.List.{List, [], _∷_, reverse}
+use Prim.Native.Nat.{ℕ, _<_}
+use lib.ListN.{length}
+use Rattle.grids.specs.Each.{Each}
+use Rattle.grids.proofs.Shapes.{each-member, each-reverse}
+use Rattle.cheapest.specs.Connected.{IsPath}
+use Rattle.cheapest.proofs.Nearby.{nearby-paths}
+use Rattle.cheapest.proofs.Seams.{cheapest-some}
+use Rattle.energy.specs.declared.pictures.Size.{Size}
+use Rattle.energy.specs.Pictures.{Picture}
+use Rattle.energy.specs.Energy.{energy}
+use Rattle.energy.proofs.Sizes.{Sized}
+use Rattle.finding.specs.Seams.{seamUp, seamOf}
+use Rattle.carving.specs.declared.Axis.{Axis}
+use Rattle.carving.specs.declared.Axis.the-variants.{Vertical, Horizontal}
+use Rattle.carving.specs.Axes.{turnedSize, turned, seamAlong}
+
+-- A path has h columns below w.
+path-inside : (w h : ℕ) (s : List ℕ) → IsPath w h s → Each (λ c. c < w) h s
+path-inside w h s p = rw (p .size) at (each-member s (p .within))
+
+seam-inside : (w h : ℕ) (p : Picture) → 0 < w → 0 < h → Each (λ c. c < w) h (seamOf w h p)
+unfolding seamOf
+seam-inside w h p some-column some-row =
+    let found = cheapest-some (energy p 0) (λ i a c. energy p i c) w h some-column some-row in
+    rw (found .1) (each-reverse (path-inside w h (found .0) (nearby-paths w h (found .0) .0 (found .2 .member))))
+
+-- The same along either axis.
+pub along-inside : (x : Axis) (z : Size) (n : ℕ) (p : Picture) → Sized z n → Each (λ c. c < turnedSize x z .width) (turnedSize x z .height) (seamAlong x z p)
+unfolding seamAlong
+along-inside Vertical z n p s = seam-inside (z .width) (z .height) (turned Vertical (z .width) p) (s .width-some) (s .height-some)
+along-inside Horizontal z n p s = seam-inside (z .height) (z .width) (turned Horizontal (z .width) p) (s .height-some) (s .width-some)

@@ -1,0 +1,173 @@
+-- `carving::closing::close_columns` meets its contract.
+use mathlib.Core.Path.{_≡_, refl, sym, ap, ap₂, _∙_}
+use mathlib.Core.List.{List, [], _++_, append-nil}
+use Prim.Native.Nat.{ℕ, _+_, _-_, _*_, _≤_, _<_}
+use native.Mathlib.Nat.{le-of-eq}
+use native.Mathlib.Omega.{arith}
+use borrow.Author.Needs.{needs}
+use denote.Ref.{now}
+use lib.ListN.{length, take, drop, replicate, length-append, length-drop}
+use lib.Seq.{length-take-le, drop-length}
+use Rattle.moving.specs.Moving.{ExchangeGiven}
+use Rattle.grids.proofs.Parts.{put-part, part-length}
+use Rattle.energy.specs.Refusals.{served}
+use Rattle.energy.specs.Pictures.{channelsOf, pictureBytes, picture, bytes}
+use Rattle.energy.proofs.Sizes.{Sized, sized-is}
+use Rattle.carving.specs.declared.Axis.the-variants.{Horizontal}
+use Rattle.carving.specs.Axes.{turnedSize, narrowed, cutAlong}
+use Rattle.carving.specs.Kernels.{CloseNeeded, CloseGiven}
+use Rattle.carving.proofs.Columns.{restOf, left-bytes, left-sides, front-is, kept-is, back-is}
+use Rattle.carving.proofs.closing.close_columns.Statement.{statement}
+use Rattle.carving.proofs.closing.close_columns.Tie as tie
+
+sure : (c : tie.Start) → Sized (c .args .size) (length (now (c .args .picture)))
+sure c = sized-is _ _ (c .pre .sized)
+
+kept-are : (c : tie.After-picture-bytes) → c .picture-bytes .result ≡ pictureBytes (narrowed (turnedSize Horizontal (c .before .before .before .before .before .before .args .size)))
+kept-are c =
+    let a = c .before .before .before .before .before .before .args in
+    let p = c .before .before .before .before .before .before .pre in
+    let z = a .size in
+    rw (c .before .narrower .ensures ∙ ap narrowed (c .before .before .turned-size .ensures)) at (c .picture-bytes .ensures)
+    ∙ ap (λ n. served n (pictureBytes (narrowed (turnedSize Horizontal z))) 0) (left-sides z (now (a .picture)) (now (a .seam)) (sure (c .before .before .before .before .before .before)) (p .wide) (p .inside))
+
+-- the buffers' lengths on the way
+room : (c : tie.Start) → length (now (c .args .picture)) ≤ length (now (c .args .work))
+room c = omega (arith, sure c .length-is, c .pre .room)
+
+work-long : (c : tie.After-exchange) → length (c .exchange .last .1 .1 .0) ≡ length (now (c .before .before .before .before .before .before .before .before .before .args .work))
+work-long c = c .exchange .kept .1 .1 .0
+
+front-long : (c : tie.After-close-up) → length (c .close-up .last .0) ≡ length (now (c .before .before .before .before .before .before .before .before .before .before .before .before .before .args .picture))
+front-long c = c .close-up .kept .0 ∙ length-take-le (length (now (c .before .before .before .before .before .before .before .before .before .before .before .before .before .args .picture))) (c .before .before .before .before .exchange .last .1 .1 .0) (omega (arith, work-long (c .before .before .before .before), room (c .before .before .before .before .before .before .before .before .before .before .before .before .before)))
+
+kept-fits : (c : tie.After-picture-bytes) → c .picture-bytes .result + c .before .before .before .before .before .before .args .size .width * channelsOf (c .before .before .before .before .before .before .args .size .kind) ≡ length (now (c .before .before .before .before .before .before .args .picture))
+kept-fits c =
+    let a = c .before .before .before .before .before .before .args in
+    let p = c .before .before .before .before .before .before .pre in
+    ap (_+ a .size .width * channelsOf (a .size .kind)) (kept-are c) ∙ left-bytes (a .size) (now (a .picture)) (now (a .seam)) (sure (c .before .before .before .before .before .before)) (p .wide) (p .inside)
+
+-- the work space after the exchanged picture was closed up
+closed : (c : tie.After-close-up) → List ℕ
+closed c = c .close-up .last .0 ++ drop (length (now (c .before .before .before .before .before .before .before .before .before .before .before .before .before .args .picture))) (c .before .before .before .before .exchange .last .1 .1 .0)
+
+closed-long : (c : tie.After-close-up) → length (closed c) ≡ length (now (c .before .before .before .before .before .before .before .before .before .before .before .before .before .args .work))
+unfolding closed
+closed-long c =
+    let b = now (c .before .before .before .before .before .before .before .before .before .before .before .before .before .args .picture) in
+    omega (arith, length-append (c .close-up .last .0) (drop (length b) (c .before .before .before .before .exchange .last .1 .1 .0)), length-drop (length b) (c .before .before .before .before .exchange .last .1 .1 .0), front-long c, work-long (c .before .before .before .before), room (c .before .before .before .before .before .before .before .before .before .before .before .before .before))
+
+lent-is : (c : tie.After-close-up) → take (c .before .before .before .before .before .before .before .picture-bytes .result) (closed c) ≡ bytes (restOf (c .before .before .before .before .before .before .before .before .before .before .before .before .before .args .size) (now (c .before .before .before .before .before .before .before .before .before .before .before .before .before .args .picture)) (now (c .before .before .before .before .before .before .before .before .before .before .before .before .before .args .seam)))
+unfolding closed
+lent-is c =
+    let a = c .before .before .before .before .before .before .before .before .before .before .before .before .before .args in
+    let p = c .before .before .before .before .before .before .before .before .before .before .before .before .before .pre in
+    let b = now (a .picture) in
+    let work = c .before .before .before .before .exchange .last .1 .1 .0 in
+    ap (λ n. take n (c .close-up .last .0 ++ drop (length b) work)) (kept-are (c .before .before .before .before .before .before .before))
+    ∙ kept-is (a .size) b (now (a .seam)) (sure (c .before .before .before .before .before .before .before .before .before .before .before .before .before)) (p .wide) (p .inside) (now (a .work)) work (c .before .before .before .before .exchange .result) (c .before .before .before .before .exchange .ensures) (p .sized) (p .room)
+    (c .close-up .last .0) (c .close-up .result) (rw (c .before .before .before .before .before .before .before .before .before .turned-size .ensures) at (c .close-up .ensures)) (drop (length b) work)
+
+pic-long : (c : tie.After-exchange2) → length (c .exchange2 .last .1 .1 .0) ≡ length (now (c .before .before .before .before .before .before .before .before .before .before .before .before .before .before .before .before .before .before .args .picture))
+pic-long c = c .exchange2 .kept .1 .1 .0
+
+turned-size-requires : tie.Need-turned-size-requires
+turned-size-requires c κs = search needs
+
+narrower-requires : tie.Need-narrower-requires
+narrower-requires c κs = rw (c .turned-size .ensures) (sure (c .before .before .before .before) .height-some)
+
+picture-bytes-requires : tie.Need-picture-bytes-requires
+picture-bytes-requires c κs = search needs
+
+exchange-requires : tie.Need-exchange-requires
+exchange-requires c κs = search needs
+
+slice-relend-prefix-close-up : tie.Need-slice-relend-prefix-close-up
+slice-relend-prefix-close-up c = omega (arith, work-long (c .before .before), room (c .before .before .before .before .before .before .before .before .before .before .before))
+
+slice-aggregate-close-up : tie.Need-slice-aggregate-close-up
+slice-aggregate-close-up c = sym (length-take-le (length (now (c .before .before .before .before .before .before .before .before .before .before .before .before .args .picture))) (c .before .before .before .exchange .last .1 .1 .0) (omega (arith, work-long (c .before .before .before), room (c .before .before .before .before .before .before .before .before .before .before .before .before))))
+
+close-up-requires : tie.Need-close-up-requires
+close-up-requires c κs = search needs
+
+slice-reshare-prefix-exchange : tie.Need-slice-reshare-prefix-exchange
+unfolding closed
+slice-reshare-prefix-exchange c = omega (arith, closed-long (c .before .before), kept-fits (c .before .before .before .before .before .before .before .before .before), room (c .before .before .before .before .before .before .before .before .before .before .before .before .before .before .before))
+
+slice-aggregate-exchange : tie.Need-slice-aggregate-exchange
+unfolding closed
+slice-aggregate-exchange c = sym (length-take-le (c .before .before .before .before .before .before .before .before .before .before .picture-bytes .result) (closed (c .before .before .before)) (omega (arith, closed-long (c .before .before .before), kept-fits (c .before .before .before .before .before .before .before .before .before .before), room (c .before .before .before .before .before .before .before .before .before .before .before .before .before .before .before .before))))
+
+exchange-requires-2 : tie.Need-exchange-requires-2
+exchange-requires-2 c κs = search needs
+
+sub-clear : tie.Need-sub-clear
+sub-clear c = omega (arith, pic-long (c .before .before), kept-fits (c .before .before .before .before .before .before .before .before .before .before .before .before .before .before))
+
+part-clear-start : tie.Need-part-clear-start
+part-clear-start c = omega (arith, pic-long (c .before .before), kept-fits (c .before .before .before .before .before .before .before .before .before .before .before .before .before .before))
+
+part-clear-end : tie.Need-part-clear-end
+part-clear-end c = omega arith
+
+clear-requires : tie.Need-clear-requires
+clear-requires c κs = search needs
+
+clear-requires-2 : tie.Need-clear-requires-2
+clear-requires-2 c κs = search needs
+
+same-length : tie.Need-same-length
+same-length c = search needs
+
+same-length-2 : tie.Need-same-length-2
+same-length-2 c = search needs
+
+returns : tie.Need-returns
+unfolding closed
+returns c =
+    let x = c .before .before .before .before .before .before .before .before .before .before in
+    let a = c .before .before .before .before .before .before .before .before .before .before .before .before .before .before .before .before .before .before .before .before .before .before .before .before .before .before .before .before .args in
+    let p = c .before .before .before .before .before .before .before .before .before .before .before .before .before .before .before .before .before .before .before .before .before .before .before .before .before .before .before .before .pre in
+    let z = a .size in
+    let b = now (a .picture) in
+    let s = now (a .seam) in
+    let kept = c .before .before .before .before .before .before .before .before .before .before .before .before .before .before .before .before .before .before .before .before .before .before .picture-bytes .result in
+    let pic = x .exchange2 .last .1 .1 .0 in
+    let fits : kept ≤ length pic = omega (arith, pic-long x, kept-fits (c .before .before .before .before .before .before .before .before .before .before .before .before .before .before .before .before .before .before .before .before .before .before)) in
+    let freed : length pic - kept ≡ z .width * channelsOf (z .kind) = omega (arith, pic-long x, kept-fits (c .before .before .before .before .before .before .before .before .before .before .before .before .before .before .before .before .before .before .before .before .before .before)) in
+    let back : ExchangeGiven (take kept (closed (c .before .before .before .before .before .before .before .before .before .before .before .before .before .before .before))) (narrowed (turnedSize Horizontal z)) b (x .exchange2 .result) pic = rw (c .before .before .before .before .before .before .before .before .before .before .before .before .before .before .before .before .before .before .before .before .before .before .before .narrower .ensures ∙ ap narrowed (c .before .before .before .before .before .before .before .before .before .before .before .before .before .before .before .before .before .before .before .before .before .before .before .before .turned-size .ensures)) at (x .exchange2 .ensures) in
+    record {
+      picture-is =
+          put-part kept (length pic) pic (c .before .before .before .before .before .before .clear .last .0) fits
+          ∙ ap₂ (λ front end. front ++ (c .before .before .before .before .before .before .clear .last .0 ++ end))
+          (ap (λ n. take n pic) (kept-are (c .before .before .before .before .before .before .before .before .before .before .before .before .before .before .before .before .before .before .before .before .before .before)) ∙ back-is z b s (sure (c .before .before .before .before .before .before .before .before .before .before .before .before .before .before .before .before .before .before .before .before .before .before .before .before .before .before .before .before)) (p .wide) (p .inside) (take kept (closed (c .before .before .before .before .before .before .before .before .before .before .before .before .before .before .before))) b pic (x .exchange2 .result) back (lent-is (c .before .before .before .before .before .before .before .before .before .before .before .before .before .before .before)) (omega (arith, kept-are (c .before .before .before .before .before .before .before .before .before .before .before .before .before .before .before .before .before .before .before .before .before .before), kept-fits (c .before .before .before .before .before .before .before .before .before .before .before .before .before .before .before .before .before .before .before .before .before .before))))
+          (drop-length pic)
+          ∙ ap (bytes (cutAlong Horizontal z s (picture z b)) ++_)
+          (append-nil (c .before .before .before .before .before .before .clear .last .0) ∙ c .before .before .before .before .before .before .clear .ensures ∙ ap (λ n. replicate n 0) (part-length kept (length pic) pic (omega arith) ∙ freed));
+      work-is = c .before .before .clear2 .ensures ∙ ap (λ n. replicate n 0) (closed-long (c .before .before .before .before .before .before .before .before .before .before .before .before .before .before .before));
+    }
+
+pub close-columns-spec : {M : Type 1} → statement M
+close-columns-spec =
+    tie.close
+    (tie.spec
+    turned-size-requires
+    narrower-requires
+    picture-bytes-requires
+    exchange-requires
+    slice-relend-prefix-close-up
+    slice-aggregate-close-up
+    close-up-requires
+    slice-reshare-prefix-exchange
+    slice-aggregate-exchange
+    exchange-requires-2
+    sub-clear
+    part-clear-start
+    part-clear-end
+    clear-requires
+    clear-requires-2
+    same-length
+    same-length-2
+    returns)

@@ -1,0 +1,113 @@
+-- `carving::cut_along` meets its contract.
+use mathlib.Core.Path.{_≡_, refl, sym, ap, _∙_}
+use mathlib.Core.List.{List, _++_}
+use Prim.Native.Nat.{ℕ, _*_, _≤_, _<_}
+use native.Mathlib.Omega.{arith}
+use borrow.Author.Needs.{needs}
+use denote.Ref.{now}
+use lib.ListN.{length, take, drop, replicate, length-replicate}
+use lib.Seq.{take-at, length-take-le}
+use Rattle.grids.specs.Each.{Each}
+use Rattle.grids.proofs.Shapes.{each-length}
+use Rattle.energy.specs.Pictures.{channelsOf, picture, bytes}
+use Rattle.energy.proofs.Sizes.{Sized, sized-is}
+use Rattle.carving.specs.Axes.{turnedSize, seamAlong, cutAlong}
+use Rattle.carving.specs.Carving.{SeamFound, PictureCut}
+use Rattle.carving.specs.Kernels.{SeamNeeded, CutNeeded, CloseNeeded}
+use Rattle.carving.proofs.Turns.{bytes-few}
+use Rattle.carving.proofs.Inside.{along-inside}
+use Rattle.carving.proofs.cut_along.Statement.{statement}
+use Rattle.carving.proofs.cut_along.Tie as tie
+
+sure : (c : tie.Start) → Sized (c .args .size) (length (now (c .args .picture)))
+sure c = sized-is _ _ (c .pre .0 .sized)
+
+-- the seam found
+seam : (c : tie.Start) → List ℕ
+seam c = seamAlong (c .args .axis) (c .args .size) (picture (c .args .size) (now (c .args .picture)))
+
+inside : (c : tie.Start) → Each (λ k. k < turnedSize (c .args .axis) (c .args .size) .width) (turnedSize (c .args .axis) (c .args .size) .height) (seam c)
+unfolding seam
+inside c = along-inside (c .args .axis) (c .args .size) (length (now (c .args .picture))) (picture (c .args .size) (now (c .args .picture))) (sure c)
+
+-- the seam's space and the work space when it was found
+seam-room : (c : tie.After-seam-along) → turnedSize (c .before .before .before .before .before .before .before .before .args .axis) (c .before .before .before .before .before .before .before .before .args .size) .height ≤ length (c .seam-along .last .1 .1 .1 .0)
+seam-room c = omega (arith, c .before .before .before .before .before .before .before .before .pre .0 .seam-room, c .seam-along .kept .1 .1 .1 .0)
+
+lent : (c : tie.After-seam-along) → take (c .before .before .before .before .turned-size .result .height) (c .seam-along .last .1 .1 .1 .0) ≡ seam (c .before .before .before .before .before .before .before .before)
+unfolding seam
+lent c =
+    let a = c .before .before .before .before .before .before .before .before .args in
+    let h = turnedSize (a .axis) (a .size) .height in
+    ap (λ t. take (t .height) (c .seam-along .last .1 .1 .1 .0)) (c .before .before .before .before .turned-size .ensures)
+    ∙ ap (take h) (c .seam-along .ensures .seam-is) ∙ take-at (seam (c .before .before .before .before .before .before .before .before)) (drop h (now (a .seam))) h (each-length (inside (c .before .before .before .before .before .before .before .before)))
+
+work-long : (c : tie.After-seam-along) → length (c .seam-along .last .1 .1 .1 .1 .0) ≡ length (now (c .before .before .before .before .before .before .before .before .args .work))
+work-long c = c .seam-along .kept .1 .1 .1 .1 .0
+
+turned-size-requires : tie.Need-turned-size-requires
+turned-size-requires c κs = search needs
+
+seam-along-requires : tie.Need-seam-along-requires
+seam-along-requires c κs = search needs
+
+slice-reshare-prefix-close : tie.Need-slice-reshare-prefix-close
+slice-reshare-prefix-close c = rw (c .before .before .before .before .before .before .before .before .before .turned-size .ensures) (seam-room (c .before .before .before .before .before))
+
+slice-aggregate-close : tie.Need-slice-aggregate-close
+slice-aggregate-close c = sym (length-take-le (c .before .before .before .before .before .before .before .before .before .before .turned-size .result .height) (c .before .before .before .before .before .before .seam-along .last .1 .1 .1 .0) (rw (c .before .before .before .before .before .before .before .before .before .before .turned-size .ensures) (seam-room (c .before .before .before .before .before .before))))
+
+close-requires : tie.Need-close-requires
+close-requires c κs =
+    let q = c .before .before .before .before .before .before .before in
+    let p = c .before .before .before .before .before .before .before .before .before .before .before .before .before .before .before .pre in
+    record {
+      sized = p .0 .sized;
+      wide = p .1 .wide;
+      inside = rw (lent q) (inside (c .before .before .before .before .before .before .before .before .before .before .before .before .before .before .before));
+      room = omega (arith, bytes-few (c .before .before .before .before .before .before .before .before .before .before .before .before .before .before .before .args .size), p .0 .work-room, work-long q);
+      zero = q .seam-along .ensures .work-is ∙ ap (λ n. replicate n 0) (sym (work-long q));
+    }
+
+same-length : tie.Need-same-length
+same-length c = search needs
+
+same-length-2 : tie.Need-same-length-2
+same-length-2 c = search needs
+
+same-length-3 : tie.Need-same-length-3
+same-length-3 c = search needs
+
+returns : tie.Need-returns
+unfolding seam
+returns c =
+    let q = c .before .before .before .before .before .before .before .before .before .before .before .before in
+    let a = c .before .before .before .before .before .before .before .before .before .before .before .before .before .before .before .before .before .before .before .before .args in
+    let z = a .size in
+    let b = now (a .picture) in
+    let f = q .seam-along .ensures in
+    let k = c .before .before .before .before .close .ensures in (
+      record {
+        number-is = f .number-is;
+        cost-is = f .cost-is;
+        seam-is = f .seam-is;
+        work-is = k .work-is ∙ ap (λ n. replicate n 0) (work-long q);
+      },
+      record {
+        picture-is = k .picture-is ∙ ap (λ s. bytes (cutAlong (a .axis) z s (picture z b)) ++ replicate (turnedSize (a .axis) z .height * channelsOf (z .kind)) 0) (lent q);
+      },
+    )
+
+pub cut-along-spec : {M : Type 1} → statement M
+cut-along-spec =
+    tie.close
+    (tie.spec
+    turned-size-requires
+    seam-along-requires
+    slice-reshare-prefix-close
+    slice-aggregate-close
+    close-requires
+    same-length
+    same-length-2
+    same-length-3
+    returns)
