@@ -9,7 +9,7 @@ type Pixel = [u8; 3];
 
 /// The samples of a picture of this size.
 pub fn samples(random: &mut Random, size: Size) -> Vec<u8> {
-    let contents = random.pick(&[few, few, flat, across, down, noise, terrain]);
+    let contents = random.pick(&[few, few, flat, checks, across, down, noise, terrain]);
     contents(random, size)
 }
 
@@ -27,6 +27,14 @@ fn few(random: &mut Random, size: Size) -> Vec<u8> {
 fn flat(random: &mut Random, size: Size) -> Vec<u8> {
     let colour = drawn_pixel(random);
     each_pixel(size, |_, _| colour)
+}
+
+/// Two colours in turn, so that all energies are equal but those at the edges,
+/// and with black and white the largest.
+fn checks(random: &mut Random, size: Size) -> Vec<u8> {
+    let drawn = [drawn_pixel(random), drawn_pixel(random)];
+    let colours = random.pick(&[drawn, [[0; 3], [255; 3]]]);
+    each_pixel(size, |row, column| colours[(row + column) % 2])
 }
 
 /// Samples that grow or fall by a fixed step from column to column.
@@ -174,6 +182,15 @@ mod tests {
         assert!((1..4).all(|row| across[row * 5..row * 5 + 5] == across[..5]));
         let down = down(&mut random, grey);
         assert!((0..4).all(|row| down[row * 5..row * 5 + 5] == [down[row * 5]; 5]));
+    }
+
+    #[test]
+    fn energies_of_checks_are_equal_but_at_the_edges() {
+        let grey = size(5, 4, Kind::Grey);
+        let samples = checks(&mut Random::new(5), grey);
+        let mut energies = [0; 5];
+        reference::energies(&samples, grey, 2, &mut energies).unwrap();
+        assert_eq!(energies[..4], [2 * energies[4]; 4]);
     }
 
     #[test]

@@ -1,4 +1,4 @@
-//! A case in which the library and the reference differ, written out.
+//! A case in which the two sides differ, written out.
 
 use crate::spaces::{Lent, Place};
 use std::fmt::{Display, Write};
@@ -30,14 +30,20 @@ impl Difference {
     /// values.
     pub fn buffer<T: Place>(&mut self, name: &str, row: usize, forms: Forms<T>) {
         self.form(&format!("{name} as lent"), row, forms.lent);
-        if forms.reference == forms.lent && forms.library == forms.lent {
+        if forms.left.iter().all(|(_, left)| *left == forms.lent) {
             self.value(name, "left unchanged by both");
             return;
         }
-        self.form(&format!("{name} after the reference"), row, forms.reference);
-        self.form(&format!("{name} after the library"), row, forms.library);
-        let difference = forms.reference.first_difference(forms.library);
-        self.value(name, first_place(difference, forms.lent.part().len()));
+        let [(one, by_one), (other, by_other)] = forms.left;
+        let Some((place, first, second)) = by_one.first_difference(by_other) else {
+            self.form(&format!("{name} after both"), row, by_one);
+            return;
+        };
+        self.form(&format!("{name} after the {one}"), row, by_one);
+        self.form(&format!("{name} after the {other}"), row, by_other);
+        let place = place_name(place, forms.lent.part().len());
+        let values = format!("{one} {first}, {other} {second}");
+        self.value(name, format!("first difference at place {place}: {values}"));
     }
 
     fn form<T: Place>(&mut self, name: &str, row: usize, lent: &Lent<T>) {
@@ -72,24 +78,19 @@ fn cut(text: &str, most: usize) -> String {
     format!("{} ... (repeat the case alone to see all)", &text[..most])
 }
 
-/// One buffer at three times.
+/// One buffer at three times: as it was lent and as each side left it, with
+/// the names of the sides.
 pub struct Forms<'a, T> {
     pub lent: &'a Lent<T>,
-    pub reference: &'a Lent<T>,
-    pub library: &'a Lent<T>,
+    pub left: [(&'a str, &'a Lent<T>); 2],
 }
 
-/// Says where two forms of a buffer differ first.
-fn first_place<T: Place>(difference: Option<(isize, T, T)>, length: usize) -> String {
-    let Some((place, reference, library)) = difference else {
-        return String::from("left equal by both");
-    };
-    let outside = if (0..length as isize).contains(&place) {
-        ""
+fn place_name(place: isize, length: usize) -> String {
+    if (0..length as isize).contains(&place) {
+        place.to_string()
     } else {
-        " (outside of the lent part)"
-    };
-    format!("first difference at place {place}{outside}: reference {reference}, library {library}")
+        format!("{place} (outside of the lent part)")
+    }
 }
 
 #[cfg(test)]
@@ -102,8 +103,10 @@ mod tests {
         let mut difference = Difference::new();
         let forms = Forms {
             lent: &holding(&[1, 2, 3, 4]),
-            reference: &holding(reference),
-            library: &holding(library),
+            left: [
+                ("reference", &holding(reference)),
+                ("library", &holding(library)),
+            ],
         };
         difference.buffer("out", 2, forms);
         difference.text(most)
@@ -118,9 +121,11 @@ mod tests {
     }
 
     #[test]
-    fn unchanged_buffers_are_written_once() {
-        let text = text(&[1, 2, 3, 4], &[1, 2, 3, 4], 1000);
-        assert!(text.ends_with("3 4\nout: left unchanged by both"));
+    fn unchanged_and_equal_buffers_are_written_once() {
+        let unchanged = text(&[1, 2, 3, 4], &[1, 2, 3, 4], 1000);
+        assert!(unchanged.ends_with("3 4\nout: left unchanged by both"));
+        let equal = text(&[1, 2, 0, 0], &[1, 2, 0, 0], 1000);
+        assert!(equal.ends_with("3 4\nout after both, 4 places:\n  1 2\n  0 0"));
     }
 
     #[test]

@@ -5,7 +5,9 @@
 
 #![allow(unsafe_code)]
 
+use crate::axes::NamedAxis;
 use crate::pictures::NamedSize;
+use std::fmt;
 
 /// The number of a refusal and value 0, or number 0 and the value.
 #[repr(C)]
@@ -13,6 +15,22 @@ use crate::pictures::NamedSize;
 pub struct Answer {
     pub number: u64,
     pub value: u64,
+}
+
+impl Answer {
+    pub fn refused(number: u64) -> Answer {
+        Answer { number, value: 0 }
+    }
+
+    pub fn served(value: u64) -> Answer {
+        Answer { number: 0, value }
+    }
+}
+
+impl fmt::Display for Answer {
+    fn fmt(&self, f: &mut fmt::Formatter) -> fmt::Result {
+        write!(f, "number {}, value {}", self.number, self.value)
+    }
 }
 
 extern "C" {
@@ -36,6 +54,32 @@ extern "C" {
         r: usize,
         out: *mut u8,
         out_len: usize,
+    ) -> Answer;
+
+    fn multisize_find(
+        picture: *const u8,
+        picture_len: usize,
+        width: usize,
+        height: usize,
+        kind: u8,
+        axis: u8,
+        seam: *mut u16,
+        seam_len: usize,
+        work: *mut u8,
+        work_len: usize,
+    ) -> Answer;
+
+    fn multisize_cut(
+        picture: *mut u8,
+        picture_len: usize,
+        width: usize,
+        height: usize,
+        kind: u8,
+        axis: u8,
+        seam: *mut u16,
+        seam_len: usize,
+        work: *mut u8,
+        work_len: usize,
     ) -> Answer;
 }
 
@@ -73,6 +117,56 @@ pub fn row(picture: &mut [u8], size: NamedSize, row: usize, out: &mut [u8]) -> A
     }
 }
 
+/// The seam at the front of `seam`; the value is its cost.
+pub fn find(
+    picture: &mut [u8],
+    size: NamedSize,
+    axis: NamedAxis,
+    seam: &mut [u16],
+    work: &mut [u8],
+) -> Answer {
+    // Each pointer comes with the length of its slice; the slices don't overlap.
+    unsafe {
+        multisize_find(
+            picture.as_mut_ptr(),
+            picture.len(),
+            size.width,
+            size.height,
+            size.kind,
+            axis.0,
+            seam.as_mut_ptr(),
+            seam.len(),
+            work.as_mut_ptr(),
+            work.len(),
+        )
+    }
+}
+
+/// As `find`, and the picture left at the front of `picture`.
+pub fn cut(
+    picture: &mut [u8],
+    size: NamedSize,
+    axis: NamedAxis,
+    seam: &mut [u16],
+    work: &mut [u8],
+) -> Answer {
+    // Each pointer comes with the length of its slice; the slices don't overlap.
+    unsafe {
+        multisize_cut(
+            picture.as_mut_ptr(),
+            picture.len(),
+            size.width,
+            size.height,
+            size.kind,
+            axis.0,
+            seam.as_mut_ptr(),
+            seam.len(),
+            work.as_mut_ptr(),
+            work.len(),
+        )
+    }
+}
+
 #[cfg(test)]
 mod tests {
     use super::*;
@@ -101,5 +195,20 @@ mod tests {
         assert_eq!(out, [10, 50, 40, 9]);
         let short = row(&mut picture, SIZE, 1, &mut out[..2]);
         assert_eq!((short.number, short.value), (8, 0));
+    }
+
+    #[test]
+    fn seams_of_the_worked_picture() {
+        let mut picture = [10, 10, 40, 10, 50, 40];
+        let (mut seam, mut work) = ([9; 3], [9; 200]);
+        let axis = NamedAxis(0);
+        let answer = find(&mut picture, SIZE, axis, &mut seam, &mut work);
+        assert_eq!(answer, Answer::served(0));
+        assert_eq!((seam, work), ([2, 2, 9], [0; 200]));
+        let answer = cut(&mut picture, SIZE, axis, &mut seam, &mut work);
+        assert_eq!(answer, Answer::served(0));
+        assert_eq!(picture, [10, 10, 10, 50, 0, 0]);
+        let answer = cut(&mut picture, SIZE, axis, &mut seam[..1], &mut work);
+        assert_eq!(answer, Answer::refused(8));
     }
 }

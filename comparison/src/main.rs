@@ -2,6 +2,7 @@
 
 #![deny(unsafe_code)]
 
+mod axes;
 mod contents;
 mod difference;
 mod faults;
@@ -11,6 +12,7 @@ mod library;
 mod marks;
 mod operations;
 mod options;
+mod paths;
 mod pictures;
 mod random;
 mod spaces;

@@ -7,13 +7,13 @@ use crate::spaces::Lent;
 use reference::{Kind, Size};
 use std::fmt;
 
-/// Turns after which the shapes that are surely tried come again.
+/// Turns after which the small shapes come again.
 pub const ROUND: u64 = 256;
 
 /// The largest side of the small shapes, each of which is in every round.
 const SMALL: usize = 6;
 
-/// The largest shapes, each of which is in every round.
+/// The largest shapes, each of which is in some rounds.
 const LARGEST: [(usize, usize); 3] = [(512, 1), (1, 512), (512, 512)];
 
 /// The longest buffer that is made for a size that isn't allowed.
@@ -74,28 +74,37 @@ pub fn channels(kind: Kind) -> usize {
     }
 }
 
+/// Bytes of a row; any number for a size that isn't allowed.
+pub fn row_bytes(size: Size) -> usize {
+    size.width.wrapping_mul(channels(size.kind))
+}
+
 /// Bytes of a picture of an allowed size.
 pub fn byte_count(size: Size) -> usize {
     size.width * size.height * channels(size.kind)
 }
 
 /// The allowed size that a case starts from, and whether its arguments may be
-/// damaged. The shapes of each round are served, so they bring no fault.
-pub fn start(random: &mut Random, turn: u64) -> (Size, Faults) {
-    if let Some(size) = shape_of_round((turn % ROUND) as usize) {
+/// damaged. The shapes of a round are all served, so they bring no fault. The
+/// largest ones are in the first of every `rarity` rounds, and other large
+/// ones are rare likewise.
+pub fn start(random: &mut Random, turn: u64, rarity: u64) -> (Size, Faults) {
+    let (round, place) = (turn / ROUND, (turn % ROUND) as usize);
+    let largest: &[_] = if round % rarity == 0 { &LARGEST } else { &[] };
+    if let Some(size) = shape_of_round(place, largest) {
         return (size, Faults::Never);
     }
     let faults = random.pick(&[Faults::Never, Faults::Maybe]);
-    (any_size(random), faults)
+    (any_size(random, rarity), faults)
 }
 
 /// Every small shape and the largest ones, in both kinds, and then none.
-fn shape_of_round(place: usize) -> Option<Size> {
+fn shape_of_round(place: usize, largest: &[(usize, usize)]) -> Option<Size> {
     let shape = place / 2;
     let (width, height) = if shape < SMALL * SMALL {
         (1 + shape % SMALL, 1 + shape / SMALL)
     } else {
-        *LARGEST.get(shape - SMALL * SMALL)?
+        *largest.get(shape - SMALL * SMALL)?
     };
     Some(Size {
         width,
@@ -105,9 +114,13 @@ fn shape_of_round(place: usize) -> Option<Size> {
 }
 
 /// Mostly small, sometimes up to the largest side.
-fn any_size(random: &mut Random) -> Size {
+fn any_size(random: &mut Random, rarity: u64) -> Size {
     let most = random.pick(&[SMALL, SMALL, SMALL, SMALL, SMALL, 20, 20, 60]);
-    let most = if random.one_in(20) { 512 } else { most };
+    let most = if random.one_in(20 * rarity as usize) {
+        512
+    } else {
+        most
+    };
     Size {
         width: random.between(1, most),
         height: random.between(1, most),
@@ -126,9 +139,15 @@ pub fn named_size(random: &mut Random, size: Size, faults: Faults) -> NamedSize 
         named.height = damaged_side(random, size.height);
     }
     if faults.strike(random, 12) {
-        named.kind = random.between(2, 255) as u8;
+        named.kind = unknown_number(random);
     }
     named
+}
+
+/// A number that names no kind and no axis.
+pub fn unknown_number(random: &mut Random) -> u8 {
+    let any = random.between(2, 255) as u8;
+    random.pick(&[2, 255, any])
 }
 
 /// 0, just over the largest side, a number whose products wrap around, or one
@@ -210,16 +229,14 @@ mod tests {
     use super::*;
 
     /// The sizes that the cases of some rounds start from.
-    fn sizes(rounds: u64) -> Vec<Size> {
-        let turns = 0..rounds * ROUND;
-        turns
-            .map(|turn| start(&mut Random::of_case(1, turn), turn).0)
-            .collect()
+    fn sizes(rounds: u64, rarity: u64) -> Vec<Size> {
+        let size = |turn| start(&mut Random::of_case(1, turn), turn, rarity).0;
+        (0..rounds * ROUND).map(size).collect()
     }
 
     #[test]
     fn one_round_has_every_small_shape_and_the_largest() {
-        let sizes = sizes(1);
+        let sizes = sizes(1, 8);
         for kind in [Kind::Grey, Kind::Rgb] {
             let small = (1..=6).flat_map(|width| (1..=6).map(move |height| (width, height)));
             for (width, height) in small.chain([(512, 1), (1, 512), (512, 512)]) {
@@ -234,12 +251,20 @@ mod tests {
 
     #[test]
     fn shapes_are_allowed_mostly_small_and_sometimes_large() {
-        let sizes = sizes(8);
+        let sizes = sizes(8, 1);
         let side = |size: &Size| size.width.max(size.height);
         assert!(sizes.iter().all(|size| side(size) <= 512));
         assert!(sizes.iter().filter(|size| side(size) <= 6).count() > sizes.len() / 2);
         let large = |size: &&Size| size.width.min(size.height) > 100;
         assert!(sizes.iter().filter(large).count() > 30);
+    }
+
+    #[test]
+    fn large_shapes_can_be_made_rarer() {
+        let large = |size: &&Size| size.width.min(size.height) > 100;
+        let large = |rarity| sizes(16, rarity).iter().filter(large).count();
+        assert!((5..30).contains(&large(8)), "{}", large(8));
+        assert!(large(1) > 5 * large(8));
     }
 
     #[test]

@@ -9,18 +9,29 @@ const GUARD: usize = 8;
 
 /// What stands in one place of a buffer.
 pub trait Place: Copy + PartialEq + Display {
-    fn drawn(random: &mut Random) -> Self;
+    fn drawn(random: &mut Random, count: usize) -> Vec<Self>;
 }
 
 impl Place for u8 {
-    fn drawn(random: &mut Random) -> u8 {
-        random.byte()
+    /// Eight bytes from each number, as work spaces are long.
+    fn drawn(random: &mut Random, count: usize) -> Vec<u8> {
+        let mut bytes = vec![0; count];
+        for some in bytes.chunks_mut(8) {
+            some.copy_from_slice(&random.number().to_le_bytes()[..some.len()]);
+        }
+        bytes
+    }
+}
+
+impl Place for u16 {
+    fn drawn(random: &mut Random, count: usize) -> Vec<u16> {
+        (0..count).map(|_| random.number() as u16).collect()
     }
 }
 
 impl Place for u32 {
-    fn drawn(random: &mut Random) -> u32 {
-        random.number() as u32
+    fn drawn(random: &mut Random, count: usize) -> Vec<u32> {
+        (0..count).map(|_| random.number() as u32).collect()
     }
 }
 
@@ -37,9 +48,9 @@ impl<T: Place> Lent<T> {
     /// The contents as the lent part, with drawn values around it.
     pub fn holding(random: &mut Random, contents: &[T]) -> Lent<T> {
         let start = random.between(1, GUARD);
-        let mut places = drawn_places(random, start);
+        let mut places = T::drawn(random, start);
         places.extend_from_slice(contents);
-        places.extend(drawn_places::<T>(random, GUARD));
+        places.extend(T::drawn(random, GUARD));
         Lent {
             places,
             start,
@@ -73,15 +84,16 @@ pub fn space<T: Place>(random: &mut Random, needed: usize, faults: Faults) -> Le
     } else {
         enough_length(random, needed)
     };
-    let contents = drawn_places(random, length);
+    let contents = T::drawn(random, length);
     Lent::holding(random, &contents)
 }
 
+/// Exact, a little longer, or much longer than a small answer.
 fn enough_length(random: &mut Random, needed: usize) -> usize {
-    if random.one_in(2) {
-        needed
-    } else {
-        needed + random.between(1, 9)
+    match random.below(8) {
+        0..4 => needed,
+        4..7 => needed + random.between(1, 9),
+        _ => needed + random.between(10, 300),
     }
 }
 
@@ -92,10 +104,6 @@ fn short_length(random: &mut Random, needed: usize) -> usize {
         1 => random.below(needed),
         _ => needed - 1,
     }
-}
-
-fn drawn_places<T: Place>(random: &mut Random, count: usize) -> Vec<T> {
-    (0..count).map(|_| T::drawn(random)).collect()
 }
 
 #[cfg(test)]
@@ -113,6 +121,7 @@ mod tests {
         let lengths = lengths(12, Faults::Never);
         assert!(lengths.iter().all(|length| *length >= 12));
         assert!(lengths.contains(&12) && lengths.contains(&13));
+        assert!(lengths.iter().any(|length| *length > 200));
     }
 
     #[test]

@@ -15,20 +15,17 @@ pub fn compare(random: &mut Random, turn: u64) -> Result<u64, Difference> {
 /// An unknown kind is refused by 1; the reference has no such kind.
 fn by_reference(case: &Case<u32>, picture: &[u8], out: &mut [u32]) -> Answer {
     let Some(size) = case.size.known() else {
-        return without_value(1);
+        return Answer::refused(1);
     };
     match reference::energies(picture, size, case.row, out) {
-        Ok(()) => without_value(0),
-        Err(number) => without_value(u64::from(number)),
+        Ok(()) => Answer::served(0),
+        Err(number) => Answer::refused(u64::from(number)),
     }
 }
 
 fn by_library(case: &Case<u32>, picture: &mut [u8], out: &mut [u32]) -> Answer {
-    without_value(library::energies(picture, case.size, case.row, out))
-}
-
-/// This operation answers by a number alone.
-fn without_value(number: u64) -> Answer {
+    // This operation answers by a number alone.
+    let number = library::energies(picture, case.size, case.row, out);
     Answer { number, value: 0 }
 }
 

@@ -1,7 +1,11 @@
 //! The operations that are compared.
 
+mod cut;
 mod energies;
+mod every_path;
+mod find;
 mod one_row;
+mod one_seam;
 mod row;
 
 use crate::difference::Difference;
@@ -16,7 +20,7 @@ pub struct Operation {
     pub compare: Compare,
 }
 
-pub const OPERATIONS: [Operation; 2] = [
+pub const OPERATIONS: [Operation; 6] = [
     Operation {
         name: "row",
         compare: row::compare,
@@ -24,5 +28,21 @@ pub const OPERATIONS: [Operation; 2] = [
     Operation {
         name: "energies",
         compare: energies::compare,
+    },
+    Operation {
+        name: "find",
+        compare: find::compare,
+    },
+    Operation {
+        name: "cut",
+        compare: cut::compare,
+    },
+    Operation {
+        name: "find, every path",
+        compare: every_path::compare_find,
+    },
+    Operation {
+        name: "cut, every path",
+        compare: every_path::compare_cut,
     },
 ];

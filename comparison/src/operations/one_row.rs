@@ -3,10 +3,13 @@
 use crate::difference::{Difference, Forms};
 use crate::faults::Faults;
 use crate::library::Answer;
-use crate::pictures::{self, channels, NamedSize};
+use crate::pictures::{self, row_bytes, NamedSize};
 use crate::random::Random;
 use crate::spaces::{space, Lent, Place};
 use reference::Size;
+
+/// One round in so many has the largest pictures.
+const RARITY: u64 = 4;
 
 /// What an operation on one row is given.
 pub struct Case<T> {
@@ -27,7 +30,7 @@ pub struct Outcome<T> {
 impl<T: Place> Case<T> {
     /// The case of a turn; `needed` gives the length of the answer.
     pub fn of_turn(random: &mut Random, turn: u64, needed: fn(Size) -> usize) -> Case<T> {
-        let (size, faults) = pictures::start(random, turn);
+        let (size, faults) = pictures::start(random, turn, RARITY);
         Case::from_size(random, size, faults, needed(size))
     }
 
@@ -63,34 +66,26 @@ impl<T: Place> Case<T> {
     }
 
     fn difference(&self, reference: &Outcome<T>, library: &Outcome<T>) -> Difference {
+        let sides = [("reference", reference), ("library", library)];
         let mut difference = Difference::new();
         difference.value("size", self.size);
         difference.value("row number", self.row);
-        for (side, outcome) in [("reference", reference), ("library", library)] {
-            let Answer { number, value } = outcome.answer;
-            let answer = format!("number {number}, value {value}");
-            difference.value(&format!("answer of the {side}"), answer);
+        for (side, outcome) in sides {
+            difference.value(&format!("answer of the {side}"), outcome.answer);
         }
         let picture = Forms {
             lent: &self.picture,
-            reference: &reference.picture,
-            library: &library.picture,
+            left: sides.map(|(side, outcome)| (side, &outcome.picture)),
         };
         let row_bytes = self.size.known().map_or(0, row_bytes);
         difference.buffer("picture", row_bytes, picture);
         let out = Forms {
             lent: &self.out,
-            reference: &reference.out,
-            library: &library.out,
+            left: sides.map(|(side, outcome)| (side, &outcome.out)),
         };
         difference.buffer("out", 0, out);
         difference
     }
-}
-
-/// Bytes of a row; any number for a size that isn't allowed.
-pub fn row_bytes(size: Size) -> usize {
-    size.width.wrapping_mul(channels(size.kind))
 }
 
 #[cfg(test)]
@@ -124,7 +119,7 @@ mod tests {
         let mut counts = [0; 6];
         for turn in 0..count as u64 {
             let mut random = Random::of_case(1, turn);
-            let (size, strikes) = pictures::start(&mut random, turn);
+            let (size, strikes) = pictures::start(&mut random, turn, RARITY);
             let case = Case::from_size(&mut random, size, strikes, size.width);
             counts[faults(&case, size.width)] += 1;
         }
@@ -136,10 +131,7 @@ mod tests {
     /// A sound case whose library outcome is altered.
     fn noticed(alter: fn(&mut Outcome<u32>)) -> bool {
         let case = Case::of_turn(&mut Random::new(1), 70, |size| size.width);
-        let outcome = case.outcome(|_, _| Answer {
-            number: 0,
-            value: 0,
-        });
+        let outcome = case.outcome(|_, _| Answer::served(0));
         assert!(case.verdict(&outcome, &outcome).is_ok());
         let mut altered = outcome.clone();
         alter(&mut altered);

@@ -2,9 +2,10 @@
 //! the library's function for hosts copies it to the front of a space, so the
 //! part is copied in the same way here.
 
-use super::one_row::{row_bytes, Case};
+use super::one_row::Case;
 use crate::difference::Difference;
 use crate::library::{self, Answer};
+use crate::pictures::row_bytes;
 use crate::random::Random;
 
 pub fn compare(random: &mut Random, turn: u64) -> Result<u64, Difference> {
@@ -18,21 +19,14 @@ pub fn compare(random: &mut Random, turn: u64) -> Result<u64, Difference> {
 /// space shorter than the row by 8.
 fn by_reference(case: &Case<u8>, picture: &[u8], out: &mut [u8]) -> Answer {
     let Some(size) = case.size.known() else {
-        return refused(1);
+        return Answer::refused(1);
     };
     let row = reference::row(picture, size, case.row);
     if out.len() < row.len() {
-        return refused(8);
+        return Answer::refused(8);
     }
     out[..row.len()].copy_from_slice(row);
-    Answer {
-        number: 0,
-        value: row.len() as u64,
-    }
-}
-
-fn refused(number: u64) -> Answer {
-    Answer { number, value: 0 }
+    Answer::served(row.len() as u64)
 }
 
 #[cfg(test)]

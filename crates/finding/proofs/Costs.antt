@@ -1,7 +1,7 @@
 -- Bounds of costs and sums, so that no sum overflows.
-use mathlib.Core.Path.{_≡_, refl, sym, ap, _∙_}
+use mathlib.Core.Path.{_≡_}
 use mathlib.Core.Logic.{⊎-elim}
-use mathlib.Core.List.{List, [], _∷_, _++_}
+use mathlib.Core.List.{List, [], _∷_}
 use Prim.Native.Nat.{ℕ, zero, suc, _+_, _*_, _≤_, _<_, min}
 use native.Mathlib.Nat.{mul-le-mul-right, suc-mul, min-le-left, min-le-right, le-trans}
 use native.Mathlib.Numerals.{add-one}
@@ -12,8 +12,8 @@ use Rattle.grids.specs.Table.{table}
 use Rattle.grids.proofs.Orders.{le-or-lt}
 use Rattle.grids.proofs.Tables.{length-table, table-at, table-past}
 use Rattle.energy.specs.declared.pictures.Size.{Size}
-use Rattle.energy.specs.Pictures.{pictureBytes, picture, channelsOf}
-use Rattle.energy.specs.Energy.{energy, energies}
+use Rattle.energy.specs.Pictures.{picture}
+use Rattle.energy.specs.Energy.{energy}
 use Rattle.energy.proofs.Sizes.{Sized}
 use Rattle.energy.proofs.Energy.{buffer-energy-most}
 use Rattle.finding.specs.Kernels.{leastOf3, sumOf3, fenced, sumsDown, costsOf}
@@ -29,13 +29,21 @@ front-most b n m h i =
     short : n ≤ i → length (take n b) ≤ i
     short l = le-trans (rw (length-take) (min-le-left n (length b))) l
 
--- The costs of a row are at most 1530: two differences of at most 255 in at most three channels.
-pub cost-most : (z : Size) (b : List ℕ) → Sized z (length b) → ((i : ℕ) → getD b i 0 ≤ 255) → (i k : ℕ) → getD (costsOf z b i) k 0 ≤ 1530
-cost-most z b s h i k =
+-- An energy is at most 1530: two differences of at most 255 in at most three channels.
+pub pixel-most : (z : Size) (b : List ℕ) → Sized z (length b) → ((i : ℕ) → getD b i 0 ≤ 255) → (r c : ℕ) → energy (picture z b) r c ≤ 1530
+pixel-most z b s h r c = omega (arith, buffer-energy-most z b 255 (s .length-is) h r c, mul-le-mul-right 255 (s .channels-most))
+
+-- A bound of all values is one of a table.
+pub table-most : (f : ℕ → ℕ) (n m : ℕ) → ((c : ℕ) → f c ≤ m) → (k : ℕ) → getD (table f n) k 0 ≤ m
+table-most f n m h k =
     ⊎-elim
-    (λ (l : z .width ≤ k). rw (table-past (energy (picture z b) i) (z .width) k 0 l) (omega arith))
-    (λ (l : k < z .width). rw (table-at (energy (picture z b) i) (z .width) k 0 l) (omega (arith, buffer-energy-most z b 255 (s .length-is) h i k, mul-le-mul-right 255 (s .channels-most))))
-    (le-or-lt (z .width) k)
+    (λ (l : n ≤ k). rw (table-past f n k 0 l) (omega arith))
+    (λ (l : k < n). rw (table-at f n k 0 l) (h k))
+    (le-or-lt n k)
+
+-- The costs of a row.
+pub cost-most : (z : Size) (b : List ℕ) → Sized z (length b) → ((i : ℕ) → getD b i 0 ≤ 255) → (i k : ℕ) → getD (costsOf z b i) k 0 ≤ 1530
+cost-most z b s h i = table-most (energy (picture z b) i) (z .width) 1530 (pixel-most z b s h i)
 
 -- A column's sum above it, between the fences.
 pub fenced-at : (fence : ℕ) (s : List ℕ) (c : ℕ) → c < length s → getD (fenced fence s) (c + 1) 0 ≡ getD s c 0

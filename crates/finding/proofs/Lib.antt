@@ -6,3 +6,6 @@ pub mod Link
 pub mod Ways
 pub mod Traced
 pub mod Spaces
+pub mod Weighed
+pub mod Worked
+pub mod Characterised

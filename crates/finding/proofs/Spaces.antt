@@ -1,11 +1,13 @@
 -- A space in which a part behind the picture was written.
-use mathlib.Core.Path.{_≡_, refl, sym, ap, _∙_}
+use mathlib.Core.Path.{_≡_, sym, ap, ap₂, _∙_}
 use mathlib.Core.List.{List, _++_, append-assoc}
 use Prim.Native.Nat.{ℕ, _+_, _-_, _≤_}
 use native.Mathlib.Omega.{arith}
-use native.Mathlib.Nat.{add-sub-of-le}
-use lib.ListN.{length, take, drop, length-append}
+use native.Mathlib.Nat.{add-sub-of-le, add-sub-cancel-left}
+use borrow.Rule.Slice.PartMut.{putMid, midOf}
+use lib.ListN.{length, take, drop, replicate, length-append}
 use lib.Seq.{take-at, drop-at, drop-drop}
+use Rattle.grids.proofs.Parts.{put-part, part-length}
 
 module _ {A : Type 0} (start front part space : List A) (p n : ℕ) (is : space ≡ front ++ (part ++ drop (p + n) start)) (long : length front ≡ p) (wide : length part ≡ n) where
   pub space-front : take p space ≡ front
@@ -24,3 +26,18 @@ module _ {A : Type 0} (start front part space : List A) (p n : ℕ) (is : space 
   space-rest e h =
       let s : p + n + (e - (p + n)) ≡ e = add-sub-of-le h in
       rw (← s) (sym (drop-drop (e - (p + n)) (p + n) space) ∙ ap (drop (e - (p + n))) rest ∙ drop-drop (e - (p + n)) (p + n) start)
+
+  -- The part as it is lent, where q is p.
+  pub space-lent : (q : ℕ) → q ≡ p → take (q + n - q) (drop q space) ≡ part
+  space-lent q e = ap (λ k. take k (drop q space)) (add-sub-cancel-left q n) ∙ ap (λ k. take n (drop k space)) e ∙ space-part
+
+  -- At least the part filled with one value.
+  pub space-filled : (q all : ℕ) (d : A) (filled : List A) → q ≡ p → n ≤ all → q + all ≤ length space
+      → filled ≡ replicate (length (midOf q (q + all - q) space)) d
+      → putMid q (q + all - q) space filled ≡ front ++ (replicate all d ++ drop (p + all) start)
+  space-filled q all d filled e more room f =
+      put-part q (q + all) space filled (omega arith)
+      ∙ ap (λ r. take q space ++ (r ++ drop (q + all) space))
+      (f ∙ ap (λ k. replicate k d) (part-length q (q + all) space room ∙ add-sub-cancel-left q all))
+      ∙ ap (λ k. take k space ++ (replicate all d ++ drop (k + all) space)) e
+      ∙ ap₂ (λ x y. x ++ (replicate all d ++ y)) space-front (space-rest (p + all) (omega arith))

@@ -1,26 +1,23 @@
 -- The columns traced back are the seam of the picture at the front of the space.
-use mathlib.Core.Path.{_≡_, refl, sym, ap, _∙_}
-use mathlib.Core.Option.{Option·getD, some}
-use mathlib.Core.List.{List, [], _∷_, _++_, reverse}
-use Prim.Native.Nat.{ℕ, suc, _+_, _-_, _*_, _≤_, _<_}
+use mathlib.Core.Path.{_≡_, sym, ap, _∙_}
+use mathlib.Core.Option.{Option·getD}
+use mathlib.Core.List.{List, [], reverse}
+use Prim.Native.Nat.{ℕ, suc, _-_, _≤_, _<_}
 use native.Mathlib.Nat.{mul-le-mul-right}
 use native.Mathlib.Omega.{arith}
-use lib.ListN.{length, getD, take, drop}
-use lib.Seq.{length-take-le}
+use lib.ListN.{length, getD}
 use Rattle.cheapest.specs.Paths.{along}
 use Rattle.grids.specs.Table.{table}
 use Rattle.grids.specs.Rows.{flat}
-use Rattle.grids.proofs.Tables.{length-table, table-at, each-table}
-use Rattle.grids.proofs.Rows.{length-flat}
+use Rattle.grids.proofs.Tables.{length-table, table-at}
 use Rattle.energy.specs.declared.pictures.Size.{Size}
 use Rattle.energy.specs.Pictures.{picture}
 use Rattle.energy.specs.Energy.{energy}
 use Rattle.energy.proofs.Sizes.{Sized}
 use Rattle.finding.specs.Seams.{seamUp, seamOf, costOf}
-use Rattle.finding.specs.Kernels.{wayOf3, fenced, sumsDown, waysUp, columnsTo, leastTo, costsOf, TraceNeeded}
+use Rattle.finding.specs.Kernels.{sumsDown, waysUp, columnsTo, leastTo, costsOf, TraceNeeded}
 use Rattle.finding.proofs.Costs.{cost-most, sums-most}
-use Rattle.finding.proofs.Link.{costAt, way-right, way-left}
-use Rattle.finding.proofs.Ways.{ways-at, FoundFor, found-for}
+use Rattle.finding.proofs.Ways.{FoundFor, found-for, trace-needed}
 
 module _ (z : Size) (b : List ℕ) (sized : Sized z (length b)) (byte : (i : ℕ) → getD b i 0 ≤ 255) where
   wide : (i : ℕ) → length (costsOf z b i) ≡ z .width
@@ -32,26 +29,9 @@ module _ (z : Size) (b : List ℕ) (sized : Sized z (length b)) (byte : (i : ℕ
       let rows : suc i ≤ 512 = omega (arith, sized .height-most) in
       omega (arith, sums-most 4294967295 (z .width) 1530 (costsOf z b) (wide 0) (cost-most z b sized byte) i c l, mul-le-mul-right 1530 rows)
 
-  -- The ways between the rows, one row after the other.
-  abbrev ways : List ℕ
-  ways = flat (table (waysUp 4294967295 (z .width) (costsOf z b)) (z .height - 1))
-
-  pub ways-long : length (flat (table (waysUp 4294967295 (z .width) (costsOf z b)) (z .height - 1))) ≡ (z .height - 1) * z .width
-  unfolding waysUp
-  ways-long = length-flat (each-table (waysUp 4294967295 (z .width) (costsOf z b)) (z .height - 1) (λ i l. length-table (wayOf3 (fenced 4294967295 (sumsDown 4294967295 (z .width) (costsOf z b) i))) (z .width)))
-
-  pub trace-needed : (column : ℕ) (seam : List ℕ) → column < z .width → z .height ≤ length seam
+  pub plain-traced : (column : ℕ) (seam : List ℕ) → column < z .width → z .height ≤ length seam
       → TraceNeeded (flat (table (waysUp 4294967295 (z .width) (costsOf z b)) (z .height - 1))) (z .width) (z .height) column seam
-  trace-needed column seam inside room = record {
-    some = sized .height-some;
-    short = sized .height-most;
-    narrow = sized .width-most;
-    inside = inside;
-    room = room;
-    long = ways-long;
-    right = λ i c h l. rw (ways-at 4294967295 (z .width) (z .height - 1) (costsOf z b) i c h l) (way-right 4294967295 (z .width) (z .height - 1) (costsOf z b) wide low i c h l);
-    left = λ i c h l. rw (ways-at 4294967295 (z .width) (z .height - 1) (costsOf z b) i c h l) (way-left 4294967295 (z .width) (z .height - 1) (costsOf z b) wide low i c h l);
-  }
+  plain-traced = trace-needed 4294967295 (z .width) (z .height) (costsOf z b) (sized .height-some) (sized .height-most) (sized .width-most) wide low
 
   found : FoundFor 4294967295 (z .width) (z .height) (costsOf z b) (energy (picture z b))
   found = found-for 4294967295 (z .width) (z .height) (costsOf z b) (energy (picture z b)) (sized .width-some) (sized .height-some) wide low (λ i c l. table-at (energy (picture z b) i) (z .width) c 0 l)
@@ -62,7 +42,7 @@ module _ (z : Size) (b : List ℕ) (sized : Sized z (length b)) (byte : (i : ℕ
   path-is : Option·getD (seamUp (z .width) (z .height) (picture z b)) [] ≡ found .path
   path-is = ap (λ o. Option·getD o []) (found .is)
 
-  pub seam-traced : columnsTo ways (z .width) (z .height - 1) bottom ≡ seamOf (z .width) (z .height) (picture z b)
+  pub seam-traced : columnsTo (flat (table (waysUp 4294967295 (z .width) (costsOf z b)) (z .height - 1))) (z .width) (z .height - 1) bottom ≡ seamOf (z .width) (z .height) (picture z b)
   unfolding seamOf
   seam-traced = found .columns ∙ ap reverse (sym path-is)
 

@@ -14,7 +14,7 @@ use Rattle.grids.specs.Table.{table}
 use Rattle.grids.specs.Rows.{flat, rowsOf}
 use Rattle.grids.proofs.Orders.{le-or-lt}
 use Rattle.grids.proofs.Tables.{length-table, table-at, each-table}
-use Rattle.grids.proofs.Rows.{rowsOf-flat, rowsOf-at, rowAt-getD}
+use Rattle.grids.proofs.Rows.{rowsOf-flat, rowsOf-at, rowAt-getD, length-flat}
 use Rattle.cheapest.specs.Best.{least}
 use Rattle.cheapest.specs.Paths.{run, paths, along, nearby}
 use Rattle.cheapest.specs.Connected.{IsPath}
@@ -25,8 +25,8 @@ use Rattle.cheapest.proofs.Nearby.{nearby-paths}
 use Rattle.cheapest.proofs.Along.{along-same}
 use Rattle.cheapest.proofs.Rows.{from-beside, trace, bottom, cheapest-trace}
 use Rattle.cheapest.proofs.Loops.{starts-at, keeps, moves, bottom-is, bottom-within, cheapest-cost}
-use Rattle.finding.specs.Kernels.{wayOf3, leastTo, fenced, sumsDown, waysUp, columnsTo}
-use Rattle.finding.proofs.Link.{costAt, sumsOf, fromOf, sums-link, way-from}
+use Rattle.finding.specs.Kernels.{wayOf3, leastTo, fenced, sumsDown, waysUp, columnsTo, TraceNeeded}
+use Rattle.finding.proofs.Link.{costAt, sumsOf, fromOf, sums-link, way-from, way-right, way-left}
 
 -- The theory's way back, and its first column of least sum, where a step costs the same from every column above.
 abbrev pub traceOf : (ℕ → ℕ → ℕ) → ℕ → ℕ → ℕ → List ℕ
@@ -43,15 +43,18 @@ flat-at w n p g r c h l =
     sym (rowAt-getD w (flat p) r c 0 l)
     ∙ ap (λ x. getD x c 0) (sym (rowsOf-at w n (flat p) r h) ∙ ap (λ q. getD q r []) rows)
 
--- The ways of n rows, read from the flat buffer.
-pub ways-at : (fence w n : ℕ) (costs : ℕ → List ℕ) (i c : ℕ) → i < n → c < w
-    → getD (flat (table (waysUp fence w costs) n)) (i * w + c) 0 ≡ getD (waysUp fence w costs i) c 0
-unfolding waysUp
-ways-at fence w n costs i c h l =
-    flat-at w n (table (waysUp fence w costs) n) grid i c h l ∙ ap (λ x. getD x c 0) (table-at (waysUp fence w costs) n i [] h)
-  where
-    grid : Grid w n (table (waysUp fence w costs) n)
-    grid = each-table (waysUp fence w costs) n (λ k m. length-table (wayOf3 (fenced fence (sumsDown fence w costs k))) w)
+module _ (fence w n : ℕ) (costs : ℕ → List ℕ) where
+  ways-grid : Grid w n (table (waysUp fence w costs) n)
+  unfolding waysUp
+  ways-grid = each-table (waysUp fence w costs) n (λ k m. length-table (wayOf3 (fenced fence (sumsDown fence w costs k))) w)
+
+  -- The ways of n rows, read from the flat buffer.
+  pub ways-at : (i c : ℕ) → i < n → c < w → getD (flat (table (waysUp fence w costs) n)) (i * w + c) 0 ≡ getD (waysUp fence w costs i) c 0
+  ways-at i c h l =
+      flat-at w n (table (waysUp fence w costs) n) ways-grid i c h l ∙ ap (λ x. getD x c 0) (table-at (waysUp fence w costs) n i [] h)
+
+  pub ways-long : length (flat (table (waysUp fence w costs) n)) ≡ n * w
+  ways-long = length-flat ways-grid
 
 -- The first of the least sums among columns 0 to n, by the theory.
 least-to : (s : List ℕ) (n : ℕ) → least (λ c. getD s c 0) (run 0 (n + 1 - 0)) ≡ some (leastTo s n)
@@ -167,3 +170,19 @@ found-for fence w h costs v some-column some-row wide low same = record {
 
     is-path : IsPath w h (f .path)
     is-path = nearby-paths w h (f .path) .0 (best-mem (byCost (along v)) (paths (nearby w) w h) (f .path) is)
+
+-- The ways lead to a column of the row above, so that the path can be traced back.
+pub trace-needed : (fence w h : ℕ) (costs : ℕ → List ℕ) → 0 < h → h ≤ 512 → w ≤ 512 → ((i : ℕ) → length (costs i) ≡ w)
+    → ((i c : ℕ) → i < h - 1 → c < w → getD (sumsDown fence w costs i) c 0 < fence)
+    → (column : ℕ) (seam : List ℕ) → column < w → h ≤ length seam
+    → TraceNeeded (flat (table (waysUp fence w costs) (h - 1))) w h column seam
+trace-needed fence w h costs some-row short narrow wide low column seam inside room = record {
+  some = some-row;
+  short = short;
+  narrow = narrow;
+  inside = inside;
+  room = room;
+  long = ways-long fence w (h - 1) costs;
+  right = λ i c k l. rw (ways-at fence w (h - 1) costs i c k l) (way-right fence w (h - 1) costs wide low i c k l);
+  left = λ i c k l. rw (ways-at fence w (h - 1) costs i c k l) (way-left fence w (h - 1) costs wide low i c k l);
+}

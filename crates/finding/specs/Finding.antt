@@ -1,15 +1,18 @@
 -- Finding the seam of a picture that stands at the front of a space: when it is refused, and what it gives.
 use mathlib.Core.Path.{_≡_}
+use mathlib.Core.Bool.{Bool, true, false, cond, _||_}
+use mathlib.Core.Option.{Option, none, some}
 use mathlib.Core.List.{List, [], _∷_, _++_}
 use Prim.Native.Nat.{ℕ, _+_, _*_}
-use lib.Dec.{ltb}
+use lib.Dec.{eqb, ltb}
 use lib.ListN.{length, take, drop, replicate}
+use Rattle.grids.specs.Rows.{rowsOf}
 use Rattle.energy.specs.declared.pictures.Size.{Size}
 use Rattle.energy.specs.Refusals.{Rule, _when_, numberOf, refusal, served}
-use Rattle.energy.specs.Pictures.{sideRules, pictureBytes, picture}
+use Rattle.energy.specs.Pictures.{Picture, sideRules, pictureBytes, picture}
 use Rattle.finding.specs.declared.Found.{Found}
 use Rattle.finding.specs.declared.Found.the-variants.{Seam, Refused}
-use Rattle.finding.specs.Seams.{seamOf, costOf}
+use Rattle.finding.specs.Seams.{seamOf, costOf, markedUp, markedSeamOf, markedCostOf}
 
 -- The number that an answer is refused by, 0 where a seam is given; and the seam's cost.
 abbrev pub foundNumber : Found → ℕ
@@ -39,4 +42,43 @@ pub record FindGiven (space : List ℕ) (z : Size) (seam : List ℕ) (answer : F
   pub seam-given :
       seam′ ≡ served (foundNumber answer)
       (seamOf (z .width) (z .height) (picture z (take (pictureBytes z) space)) ++ drop (z .height) seam)
+      seam
+
+-- The picture at the front of a space, and the marks behind it, one byte a pixel, row by row.
+abbrev pub pictureIn : Size → List ℕ → Picture
+pictureIn z space = picture z (take (pictureBytes z) space)
+
+abbrev pub marksIn : Size → List ℕ → List (List ℕ)
+marksIn z space = rowsOf (z .width) (z .height) (take (pixels z) (drop (pictureBytes z) space))
+
+-- Whether there is none.
+abbrev pub isNone : {A : Type 0} → Option A → Bool
+isNone none = true
+isNone (some a) = false
+
+-- Refused by 2, 3 and 8 in the same way, where the space also has the marks; and by 12 where no seam is allowed.
+abbrev pub findMarkedRules : Size → ℕ → ℕ → Bool → List Rule
+findMarkedRules z space seam blocked =
+    sideRules z
+    ++ (8 when ltb seam (z .height) ∷ 8 when ltb space (pictureBytes z + (pixels z + pixels z)) ∷ 12 when blocked ∷ [])
+
+-- The first after success and after 9 and every higher number, else the second.
+abbrev pub worked : {A : Type 0} → ℕ → A → A → A
+worked n x y = cond (eqb n 0 || ltb 8 n) x y
+
+-- The seam of the picture at the front by the marks behind it, and what is left: picture and marks, zeros for its pixels
+-- behind them, the rest as it was.
+pub record FindMarkedGiven (space : List ℕ) (z : Size) (seam : List ℕ) (answer : Found) (space′ seam′ : List ℕ) : Type 0 where
+  pub number :
+      foundNumber answer ≡ refusal (findMarkedRules z (length space) (length seam)
+      (isNone (markedUp (z .width) (z .height) (pictureIn z space) (marksIn z space))))
+  pub cost : foundCost answer ≡ served (foundNumber answer) (markedCostOf (z .width) (z .height) (pictureIn z space) (marksIn z space)) 0
+  pub space-left :
+      space′ ≡ worked (foundNumber answer)
+      (take (pictureBytes z + pixels z) space
+      ++ (replicate (pixels z) 0 ++ drop (pictureBytes z + (pixels z + pixels z)) space))
+      space
+  pub seam-given :
+      seam′ ≡ served (foundNumber answer)
+      (markedSeamOf (z .width) (z .height) (pictureIn z space) (marksIn z space) ++ drop (z .height) seam)
       seam

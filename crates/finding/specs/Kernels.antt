@@ -3,15 +3,17 @@ use mathlib.Core.Path.{_≡_}
 use mathlib.Core.Bool.{cond}
 use mathlib.Core.List.{List, [], _∷_, _++_}
 use Prim.Native.Nat.{ℕ, zero, suc, _+_, _-_, _*_, _≤_, _<_, min}
-use lib.Dec.{leb, ltb}
+use lib.Dec.{leb, ltb, eqb}
 use lib.ListN.{length, getD, take, drop, replicate}
 use Rattle.grids.specs.Table.{table}
 use Rattle.grids.specs.Rows.{flat}
 use Rattle.energy.specs.declared.pictures.Size.{Size}
-use Rattle.energy.specs.Refusals.{refusal}
-use Rattle.energy.specs.Pictures.{sizeRules, pictureBytes, picture}
-use Rattle.energy.specs.Energy.{energies}
-use Rattle.finding.specs.Seams.{seamOf, costOf}
+use Rattle.energy.specs.Refusals.{refusal, served}
+use Rattle.energy.specs.Pictures.{Picture, sizeRules, pictureBytes, picture}
+use Rattle.energy.specs.Energy.{energy, energies}
+use Rattle.finding.specs.declared.Found.{Found}
+use Rattle.finding.specs.Seams.{seamOf, costOf, markAt, markedUp, markedSeamOf, markedCostOf}
+use Rattle.finding.specs.Finding.{foundNumber, foundCost, pixels, pictureIn, marksIn, isNone}
 
 -- A row of sums has a number at either side that is larger than every sum, so that each column has three above it.
 -- The least of the three above column c.
@@ -76,71 +78,106 @@ pub record SumsNeeded (limit : ℕ) (x cost next : List ℕ) : Type 0 where
 abbrev pub costsOf : Size → List ℕ → ℕ → List ℕ
 costsOf z b i = energies (z .width) (picture z b) i
 
--- A picture of its size at the front of a space, with room behind it for the ways between its rows; the fenced sums of
--- row 0, and room for a row of costs and a row of sums.
-pub record DownNeeded (fence : ℕ) (z : Size) (bytes : ℕ) (space above cost next : List ℕ) : Type 0 where
+-- The weight of a pixel: its energy, 2 ^ 32 if it is kept, that is not marked 2, and 2 ^ 48 if it is protected. The least
+-- sum of weights is then that of an allowed path, if there is one, with the most pixels marked 2, and of those the cheapest.
+abbrev pub weightOf : ℕ → ℕ → ℕ
+weightOf energy mark = energy + (cond (eqb mark 2) 0 1 * 4294967296 + cond (eqb mark 1) 1 0 * 281474976710656)
+
+-- The same at column c of a row, from its energies and marks.
+abbrev pub weightIn : List ℕ → List ℕ → ℕ → ℕ
+weightIn energies marks c = weightOf (getD energies c 0) (getD marks c 0)
+
+-- In row r and column c of a picture with marks.
+abbrev pub weightAt : Picture → List (List ℕ) → ℕ → ℕ → ℕ
+weightAt p m r c = weightOf (energy p r c) (markAt m r c)
+
+-- The costs of row i of a picture with the marks behind it: its weights.
+abbrev pub weightsOf : Size → List ℕ → ℕ → List ℕ
+weightsOf z b i = table (weightAt (pictureIn z b) (marksIn z b) i) (z .width)
+
+-- The bytes of a picture and of its marks.
+abbrev pub markedBytes : Size → ℕ
+markedBytes z = pictureBytes z + pixels z
+
+-- A row's energies and marks, and room for its weights.
+pub record WeighNeeded (energy marks cost : List ℕ) : Type 0 where
+  pub energies : length energy ≡ length cost
+  pub marked : length marks ≡ length cost
+
+-- A picture of its size with its marks behind it, and room for the energies and the weights of row i.
+pub record WeightsNeeded (z : Size) (bytes i : ℕ) (front energy cost : List ℕ) : Type 0 where
   pub bytes-are : bytes ≡ pictureBytes z
   pub sized : refusal (sizeRules z (pictureBytes z)) ≡ 0
-  pub room : pictureBytes z + (z .height - 1) * z .width ≤ length space
-  pub first : above ≡ fenced fence (costsOf z (take (pictureBytes z) space) 0)
-  pub cost-room : z .width ≤ length cost
+  pub inside : i < z .height
+  pub long : length front ≡ markedBytes z
+  pub energy-room : length energy ≡ z .width
+  pub cost-room : length cost ≡ z .width
+
+-- Below, the first `from` bytes of a space hold what the costs of each row are read from; behind them is room for the ways.
+-- A picture of its size at the front of a space, with room for the ways between its rows.
+pub record BottomNeeded (from : ℕ) (z : Size) (bytes : ℕ) (space : List ℕ) : Type 0 where
+  pub bytes-are : bytes ≡ pictureBytes z
+  pub sized : refusal (sizeRules z (pictureBytes z)) ≡ 0
+  pub room : from + (z .height - 1) * z .width ≤ length space
+
+-- The same with the fenced sums of row 0, and room for a row of costs and a row of sums.
+pub record DownNeeded (fence from : ℕ) (z : Size) (costs : List ℕ → ℕ → List ℕ) (bytes : ℕ) (space above cost next : List ℕ) : Type 0 where
+  pub bytes-are : bytes ≡ pictureBytes z
+  pub sized : refusal (sizeRules z (pictureBytes z)) ≡ 0
+  pub room : from + (z .height - 1) * z .width ≤ length space
+  pub first : above ≡ fenced fence (costs (take from space) 0)
+  pub cost-room : length cost ≡ z .width
   pub next-room : length next ≡ z .width
 
--- The ways between rows behind the picture, the rest as it was; and the fenced sums of the last row.
-pub record DownGiven (fence : ℕ) (z : Size) (space space′ above′ : List ℕ) : Type 0 where
+-- The ways between rows, the rest as it was; and the fenced sums of the last row.
+pub record DownGiven (fence from : ℕ) (z : Size) (costs : List ℕ → ℕ → List ℕ) (space space′ above′ : List ℕ) : Type 0 where
   pub ways :
-      space′ ≡ take (pictureBytes z) space
-      ++ (flat (table (waysUp fence (z .width) (costsOf z (take (pictureBytes z) space))) (z .height - 1))
-      ++ drop (pictureBytes z + (z .height - 1) * z .width) space)
-  pub sums : above′ ≡ fenced fence (sumsDown fence (z .width) (costsOf z (take (pictureBytes z) space)) (z .height - 1))
+      space′ ≡ take from space
+      ++ (flat (table (waysUp fence (z .width) (costs (take from space))) (z .height - 1))
+      ++ drop (from + (z .height - 1) * z .width) space)
+  pub sums : above′ ≡ fenced fence (sumsDown fence (z .width) (costs (take from space)) (z .height - 1))
 
 -- The same for row i alone: the fenced sums of the row above are small enough to add to.
-pub record RowNeeded (limit : ℕ) (z : Size) (bytes i : ℕ) (space above cost next : List ℕ) : Type 0 where
+pub record RowNeeded (limit from : ℕ) (z : Size) (bytes i : ℕ) (space above cost next : List ℕ) : Type 0 where
   pub bytes-are : bytes ≡ pictureBytes z
   pub sized : refusal (sizeRules z (pictureBytes z)) ≡ 0
   pub later : 0 < i
   pub inside : i < z .height
-  pub room : pictureBytes z + (z .height - 1) * z .width ≤ length space
+  pub room : from + (z .height - 1) * z .width ≤ length space
   pub long : length above ≡ z .width + 2
   pub small : (k : ℕ) → k < z .width → getD above (k + 1) 0 < limit
-  pub cost-room : z .width ≤ length cost
+  pub cost-room : length cost ≡ z .width
   pub next-room : length next ≡ z .width
 
--- Where row i's ways stand behind the picture.
-abbrev pub waysAt : Size → ℕ → ℕ
-waysAt z i = pictureBytes z + (i - 1) * z .width
+-- Where row i's ways stand.
+abbrev pub waysAt : ℕ → Size → ℕ → ℕ
+waysAt from z i = from + (i - 1) * z .width
 
-pub record RowGiven (z : Size) (i : ℕ) (space above space′ above′ : List ℕ) : Type 0 where
-  pub ways : space′ ≡ take (waysAt z i) space ++ (table (wayOf3 above) (z .width) ++ drop (waysAt z i + z .width) space)
-  pub sums :
-      above′ ≡ take 1 above ++ (table (sumOf3 above (costsOf z (take (pictureBytes z) space) i)) (z .width) ++ drop (z .width + 1) above)
+pub record RowGiven (from : ℕ) (z : Size) (costs : List ℕ → ℕ → List ℕ) (i : ℕ) (space above space′ above′ : List ℕ) : Type 0 where
+  pub ways : space′ ≡ take (waysAt from z i) space ++ (table (wayOf3 above) (z .width) ++ drop (waysAt from z i + z .width) space)
+  pub sums : above′ ≡ take 1 above ++ (table (sumOf3 above (costs (take from space) i)) (z .width) ++ drop (z .width + 1) above)
 
--- A picture of its size at the front of a space, with room behind it for the ways between its rows.
-pub record BottomNeeded (z : Size) (bytes : ℕ) (space : List ℕ) : Type 0 where
-  pub bytes-are : bytes ≡ pictureBytes z
-  pub sized : refusal (sizeRules z (pictureBytes z)) ≡ 0
-  pub room : pictureBytes z + (z .height - 1) * z .width ≤ length space
-
--- The ways behind the picture, and the first of the least sums of the last row.
-pub record BottomGiven (fence : ℕ) (z : Size) (space space′ : List ℕ) (column sum : ℕ) : Type 0 where
+-- The ways, and the first of the least sums of the last row.
+pub record BottomGiven (fence from : ℕ) (z : Size) (costs : List ℕ → ℕ → List ℕ) (space space′ : List ℕ) (column sum : ℕ) : Type 0 where
   pub ways :
-      space′ ≡ take (pictureBytes z) space
-      ++ (flat (table (waysUp fence (z .width) (costsOf z (take (pictureBytes z) space))) (z .height - 1))
-      ++ drop (pictureBytes z + (z .height - 1) * z .width) space)
-  pub column-is : column ≡ leastTo (sumsDown fence (z .width) (costsOf z (take (pictureBytes z) space)) (z .height - 1)) (z .width - 1)
+      space′ ≡ take from space
+      ++ (flat (table (waysUp fence (z .width) (costs (take from space))) (z .height - 1))
+      ++ drop (from + (z .height - 1) * z .width) space)
+  pub column-is : column ≡ leastTo (sumsDown fence (z .width) (costs (take from space)) (z .height - 1)) (z .width - 1)
   pub inside : column < z .width
-  pub sum-is : sum ≡ getD (sumsDown fence (z .width) (costsOf z (take (pictureBytes z) space)) (z .height - 1)) column 0
+  pub sum-is : sum ≡ getD (sumsDown fence (z .width) (costs (take from space)) (z .height - 1)) column 0
 
 pub record RowsNeeded (fence : ℕ) (z : Size) (above cost next : List ℕ) : Type 0 where
   pub fences : above ≡ replicate (z .width + 2) fence
   pub cost-room : length cost ≡ z .width
   pub next-room : length next ≡ z .width
 
--- A picture of its size at the front of a space, with a byte for each pixel behind it, and room for the seam.
-pub record SeamNeeded (z : Size) (bytes : ℕ) (space seam : List ℕ) : Type 0 where
+-- A picture of its size at the front of a space, with a byte for each pixel behind the first `from` bytes, and room for the
+-- seam.
+pub record SeamNeeded (from : ℕ) (z : Size) (bytes : ℕ) (space seam : List ℕ) : Type 0 where
   pub bytes-are : bytes ≡ pictureBytes z
   pub sized : refusal (sizeRules z (pictureBytes z)) ≡ 0
-  pub room : pictureBytes z + z .height * z .width ≤ length space
+  pub room : from + z .height * z .width ≤ length space
   pub seam-room : z .height ≤ length seam
 
 -- The seam of the picture at the front, its cost, and the places behind the picture cleared.
@@ -150,3 +187,15 @@ pub record SeamGiven (z : Size) (space seam : List ℕ) (cost : ℕ) (space′ s
       space′ ≡ take (pictureBytes z) space
       ++ (replicate (z .height * z .width) 0 ++ drop (pictureBytes z + z .height * z .width) space)
   pub seam-is : seam′ ≡ seamOf (z .width) (z .height) (picture z (take (pictureBytes z) space)) ++ drop (z .height) seam
+
+-- The same with marks, or 12.
+pub record MarkedGiven (z : Size) (space seam : List ℕ) (answer : Found) (space′ seam′ : List ℕ) : Type 0 where
+  pub number : foundNumber answer ≡ cond (isNone (markedUp (z .width) (z .height) (pictureIn z space) (marksIn z space))) 12 0
+  pub cost : foundCost answer ≡ served (foundNumber answer) (markedCostOf (z .width) (z .height) (pictureIn z space) (marksIn z space)) 0
+  pub space-is :
+      space′ ≡ take (markedBytes z) space
+      ++ (replicate (z .height * z .width) 0 ++ drop (markedBytes z + z .height * z .width) space)
+  pub seam-given :
+      seam′ ≡ served (foundNumber answer)
+      (markedSeamOf (z .width) (z .height) (pictureIn z space) (marksIn z space) ++ drop (z .height) seam)
+      seam

@@ -2,7 +2,8 @@
 use crate::down32;
 use crate::sums32;
 use energy::Size;
-ghost use Rattle.finding.specs.Kernels.{BottomNeeded, BottomGiven, RowsNeeded};
+ghost use Rattle.energy.specs.Pictures.{pictureBytes};
+ghost use Rattle.finding.specs.Kernels.{costsOf, BottomNeeded, BottomGiven, RowsNeeded};
 
 // The column where the path ends, in the last row, and what the path costs.
 pub(crate) struct Bottom {
@@ -12,8 +13,8 @@ pub(crate) struct Bottom {
 
 // Works out all sums of the picture at the front of the space. Behind it is written where each column of a row comes from.
 pub(crate) fn find_bottom(space: &mut [u8], size: Size, bytes: usize) -> Bottom
-    requires { ⌜ BottomNeeded size bytes (now space) ⌝ }
-    ensures { λ r. ⌜ BottomGiven 4294967295 size (now (space .entry)) (now (space .exit)) (r .column) (r .sum) ⌝ }
+    requires { ⌜ BottomNeeded (pictureBytes size) size bytes (now space) ⌝ }
+    ensures { λ r. ⌜ BottomGiven 4294967295 (pictureBytes size) size (costsOf size) (now (space .entry)) (now (space .exit)) (r .column) (r .sum) ⌝ }
 {
     let width = size.width;
     let both = width + 2;
@@ -39,9 +40,9 @@ fn bottom_with(
     cost: &mut [u32],
     next: &mut [u32],
 ) -> Bottom
-    requires { ⌜ BottomNeeded size bytes (now space) ⌝ }
+    requires { ⌜ BottomNeeded (pictureBytes size) size bytes (now space) ⌝ }
     requires { ⌜ RowsNeeded 4294967295 size (now above) (now cost) (now next) ⌝ }
-    ensures { λ r. ⌜ BottomGiven 4294967295 size (now (space .entry)) (now (space .exit)) (r .column) (r .sum) ⌝ }
+    ensures { λ r. ⌜ BottomGiven 4294967295 (pictureBytes size) size (costsOf size) (now (space .entry)) (now (space .exit)) (r .column) (r .sum) ⌝ }
 {
     let width = size.width;
     let side = width + 1;

@@ -1,7 +1,8 @@
 // All rows of sums of a picture without marks, from the top.
 use crate::sums32;
 use energy::Size;
-ghost use Rattle.finding.specs.Kernels.{DownNeeded, DownGiven, RowNeeded, RowGiven};
+ghost use Rattle.energy.specs.Pictures.{pictureBytes};
+ghost use Rattle.finding.specs.Kernels.{costsOf, DownNeeded, DownGiven, RowNeeded, RowGiven};
 
 // A number larger than every sum.
 pub(crate) const FENCE: u32 = 4294967295;
@@ -16,8 +17,8 @@ pub(crate) fn down(
     cost: &mut [u32],
     next: &mut [u32],
 )
-    requires { ⌜ DownNeeded 4294967295 size bytes (now space) (now above) (now cost) (now next) ⌝ }
-    ensures { λ _. ⌜ DownGiven 4294967295 size (now (space .entry)) (now (space .exit)) (now (above .exit)) ⌝ }
+    requires { ⌜ DownNeeded 4294967295 (pictureBytes size) size (costsOf size) bytes (now space) (now above) (now cost) (now next) ⌝ }
+    ensures { λ _. ⌜ DownGiven 4294967295 (pictureBytes size) size (costsOf size) (now (space .entry)) (now (space .exit)) (now (above .exit)) ⌝ }
 {
     let height = size.height;
     for i in 1..height {
@@ -35,8 +36,8 @@ fn row_down(
     cost: &mut [u32],
     next: &mut [u32],
 )
-    requires { ⌜ RowNeeded (2147483648) size bytes i (now space) (now above) (now cost) (now next) ⌝ }
-    ensures { λ _. ⌜ RowGiven size i (now (space .entry)) (now (above .entry)) (now (space .exit)) (now (above .exit)) ⌝ }
+    requires { ⌜ RowNeeded 2147483648 (pictureBytes size) size bytes i (now space) (now above) (now cost) (now next) ⌝ }
+    ensures { λ _. ⌜ RowGiven (pictureBytes size) size (costsOf size) i (now (space .entry)) (now (above .entry)) (now (space .exit)) (now (above .exit)) ⌝ }
 {
     let width = size.width;
     let side = width + 1;

@@ -1,13 +1,20 @@
 // Finding the seam of a picture that stands at the front of a lent space.
 mod bottom32;
+mod bottom64;
 mod down32;
+mod down64;
+pub mod marked;
 mod sums32;
+mod sums64;
 mod trace;
+mod weights;
 
 use energy::Refusal;
 use energy::Size;
 use energy::Verdict;
+pub use marked::find_marked_in;
 ghost use mathlib.Core.Path.{_≡_};
+ghost use Rattle.energy.specs.Pictures.{pictureBytes};
 ghost use Rattle.finding.specs.Finding.{FindGiven};
 ghost use Rattle.finding.specs.Kernels.{SeamNeeded, SeamGiven};
 
@@ -41,7 +48,7 @@ pub fn find_in(space: &mut [u8], size: Size, seam: &mut [u16]) -> Found
 
 // The same where nothing is refused; gives the cost.
 fn seam_in(space: &mut [u8], size: Size, bytes: usize, seam: &mut [u16]) -> u64
-    requires { ⌜ SeamNeeded size bytes (now space) (now seam) ⌝ }
+    requires { ⌜ SeamNeeded (pictureBytes size) size bytes (now space) (now seam) ⌝ }
     ensures { λ n. ⌜ SeamGiven size (now (space .entry)) (now (seam .entry)) n (now (space .exit)) (now (seam .exit)) ⌝ }
 {
     let width = size.width;

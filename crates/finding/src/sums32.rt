@@ -3,8 +3,7 @@ ghost use mathlib.Core.Path.{_≡_};
 ghost use mathlib.Core.Bool.{cond};
 ghost use lib.Dec.{leb};
 ghost use Prim.Native.Nat.{_+_, _-_, _<_, _^_, min};
-ghost use mathlib.Core.List.{_++_};
-ghost use lib.ListN.{length, drop};
+ghost use lib.ListN.{length};
 ghost use Rattle.grids.specs.Table.{table};
 ghost use Rattle.finding.specs.Kernels.{wayOf3, sumOf3, leastTo, SumsNeeded};
 

@@ -1,7 +1,7 @@
 -- `finding::find_in` meets its contract: each return is the first rule that applies.
 use mathlib.Core.Path.{_≡_, refl, sym, ap, _∙_}
 use mathlib.Core.List.{List, [], _∷_, _++_}
-use Prim.Native.Nat.{ℕ, _+_, _*_, _≤_}
+use Prim.Native.Nat.{_+_, _≤_}
 use native.Mathlib.Nat.{mul-le-mul}
 use native.Mathlib.Omega.{arith}
 use borrow.Author.Needs.{needs}
@@ -10,11 +10,11 @@ use denote.Ref.{now}
 use lib.Dec.{ltb}
 use lib.ListN.{length, take, drop, replicate}
 use Rattle.energy.specs.Refusals.{Rule, _when_, given, refusal, served}
-use Rattle.energy.specs.Pictures.{sideRules, sizeRules, pictureBytes, picture}
+use Rattle.energy.specs.Pictures.{sideRules, pictureBytes, picture}
 use Rattle.energy.proofs.Rules.{served-first, refused-answer, kept-by}
 use Rattle.energy.proofs.Sizes.{Sides, sides-are, sized-served}
 use Rattle.finding.specs.Seams.{seamOf, costOf}
-use Rattle.finding.specs.Finding.{findRules, pixels, FindGiven}
+use Rattle.finding.specs.Finding.{findRules, pixels}
 use Rattle.finding.proofs.find_in.Statement.{statement}
 use Rattle.finding.proofs.find_in.Tie as tie
 

@@ -1,23 +1,23 @@
 -- `finding::seam_in` meets its contract.
-use mathlib.Core.Path.{_≡_, refl, sym, ap, ap₂, _∙_}
+use mathlib.Core.Path.{_≡_, ap, ap₂, _∙_}
 use mathlib.Core.List.{List, _++_}
-use Prim.Native.Nat.{ℕ, _+_, _-_, _*_, _≤_, _<_}
-use native.Mathlib.Nat.{mul-le-mul, add-sub-cancel-left}
+use Prim.Native.Nat.{ℕ, _+_, _-_, _*_, _≤_}
+use native.Mathlib.Nat.{mul-le-mul}
 use native.Mathlib.Omega.{arith}
 use borrow.Author.Needs.{needs}
 use denote.Ref.{now}
-use lib.ListN.{length, getD, take, drop, replicate}
+use lib.ListN.{length, getD, take, drop}
 use lib.Seq.{length-take-le}
 use Rattle.grids.specs.Table.{table}
 use Rattle.grids.specs.Rows.{flat}
-use Rattle.grids.proofs.Parts.{put-part, part-length}
 use Rattle.grids.proofs.Rows.{part-end}
 use Rattle.energy.specs.Pictures.{pictureBytes}
 use Rattle.energy.proofs.Sizes.{Sized, sized-is}
-use Rattle.finding.specs.Kernels.{costsOf, sumsDown, waysUp, columnsTo, SeamNeeded, SeamGiven, TraceNeeded}
+use Rattle.finding.specs.Kernels.{costsOf, sumsDown, waysUp, columnsTo}
 use Rattle.finding.proofs.Costs.{front-most}
-use Rattle.finding.proofs.Traced.{ways-long, trace-needed, seam-traced, cost-summed}
-use Rattle.finding.proofs.Spaces.{space-front, space-part, space-rest}
+use Rattle.finding.proofs.Ways.{ways-long}
+use Rattle.finding.proofs.Traced.{plain-traced, seam-traced, cost-summed}
+use Rattle.finding.proofs.Spaces.{space-lent, space-filled}
 use Rattle.finding.proofs.seam_in.Statement.{statement}
 use Rattle.finding.proofs.seam_in.Tie as tie
 
@@ -67,15 +67,12 @@ ways-are c = c .find-bottom .ensures .ways
 
 ways-wide : (c : tie.After-find-bottom) → length (ways (c .before .before .before .before)) ≡ (c .before .before .before .before .args .size .height - 1) * c .before .before .before .before .args .size .width
 unfolding ways
-ways-wide c = ways-long (c .before .before .before .before .args .size) (front (c .before .before .before .before)) (front-sized (c .before .before .before .before)) (byte (c .before .before .before))
+ways-wide c = let z = c .before .before .before .before .args .size in ways-long 4294967295 (z .width) (z .height - 1) (costsOf z (front (c .before .before .before .before)))
 
 ways-lent : (c : tie.After-find-bottom) → let a = c .before .before .before .before .args in take (a .bytes + (a .size .height - 1) * a .size .width - a .bytes) (drop (a .bytes) (c .find-bottom .last .0)) ≡ ways (c .before .before .before .before)
 ways-lent c =
     let a = c .before .before .before .before .args in
-    let n = (a .size .height - 1) * a .size .width in
-    ap (λ k. take k (drop (a .bytes) (c .find-bottom .last .0))) (add-sub-cancel-left (a .bytes) n)
-    ∙ ap (λ b. take n (drop b (c .find-bottom .last .0))) (c .before .before .before .before .pre .bytes-are)
-    ∙ space-part (now (a .space)) (front (c .before .before .before .before)) (ways (c .before .before .before .before)) (c .find-bottom .last .0) (pictureBytes (a .size)) n (ways-are c) (front-long (c .before .before .before .before)) (ways-wide c)
+    space-lent (now (a .space)) (front (c .before .before .before .before)) (ways (c .before .before .before .before)) (c .find-bottom .last .0) (pictureBytes (a .size)) ((a .size .height - 1) * a .size .width) (ways-are c) (front-long (c .before .before .before .before)) (ways-wide c) (a .bytes) (c .before .before .before .before .pre .bytes-are)
 
 kept-long : (c : tie.After-find-bottom) → length (c .find-bottom .last .0) ≡ length (now (c .before .before .before .before .args .space))
 kept-long c = c .find-bottom .kept .0
@@ -114,7 +111,7 @@ trace-requires : tie.Need-trace-requires
 unfolding ways
 trace-requires c κs =
     let f = c .before .before .before .before .before in
-    rw (ways-lent f) (trace-needed (f .before .before .before .before .args .size) (front (f .before .before .before .before)) (front-sized (f .before .before .before .before)) (byte (f .before .before .before)) (f .find-bottom .result .column) (now (f .before .before .before .before .args .seam)) (f .find-bottom .ensures .inside) (f .before .before .before .before .pre .seam-room))
+    rw (ways-lent f) (plain-traced (f .before .before .before .before .args .size) (front (f .before .before .before .before)) (front-sized (f .before .before .before .before)) (byte (f .before .before .before)) (f .find-bottom .result .column) (now (f .before .before .before .before .args .seam)) (f .find-bottom .ensures .inside) (f .before .before .before .before .pre .seam-room))
 
 sub-clear : tie.Need-sub-clear
 sub-clear c = search needs
@@ -152,14 +149,7 @@ returns c =
     let given = f .find-bottom .ensures in
     record {
       cost-is = c .wide .ensures ∙ given .sum-is ∙ ap (λ k. getD (sumsDown 4294967295 (z .width) (costsOf z (front (f .before .before .before .before))) (z .height - 1)) k 0) (given .column-is) ∙ cost-summed z (front (f .before .before .before .before)) (front-sized (f .before .before .before .before)) (byte (f .before .before .before));
-      space-is =
-          put-part (a .bytes) (a .bytes + all) last (c .before .before .before .clear .last .0) (omega arith)
-          ∙ ap (λ r. take (a .bytes) last ++ (r ++ drop (a .bytes + all) last))
-          (c .before .before .before .clear .ensures ∙ ap (λ k. replicate k 0) (part-length (a .bytes) (a .bytes + all) last (omega (arith, kept-long f)) ∙ add-sub-cancel-left (a .bytes) all))
-          ∙ ap (λ b. take b last ++ (replicate all 0 ++ drop (b + all) last)) (p .bytes-are)
-          ∙ ap₂ (λ x y. x ++ (replicate all 0 ++ y))
-          (space-front start (front (f .before .before .before .before)) (ways (f .before .before .before .before)) last (pictureBytes z) n (ways-are f) (front-long (f .before .before .before .before)) (ways-wide f))
-          (space-rest start (front (f .before .before .before .before)) (ways (f .before .before .before .before)) last (pictureBytes z) n (ways-are f) (front-long (f .before .before .before .before)) (ways-wide f) (pictureBytes z + all) (omega arith));
+      space-is = space-filled start (front (f .before .before .before .before)) (ways (f .before .before .before .before)) last (pictureBytes z) n (ways-are f) (front-long (f .before .before .before .before)) (ways-wide f) (a .bytes) all 0 (c .before .before .before .clear .last .0) (p .bytes-are) (omega arith) (omega (arith, kept-long f, p .room, p .bytes-are)) (c .before .before .before .clear .ensures);
       seam-is =
           c .before .before .before .before .before .before .before .trace .ensures
           ∙ ap₂ (λ x k. columnsTo x (z .width) (z .height - 1) k ++ drop (z .height) (now (a .seam))) (ways-lent f) (given .column-is)

@@ -1,22 +1,21 @@
 -- `finding::bottom32::bottom_with` meets its contract.
-use mathlib.Core.Path.{_≡_, refl, sym, ap, ap₂, _∙_}
-use mathlib.Core.List.{List, [], _∷_, _++_, append-nil}
-use Prim.Native.Nat.{ℕ, _+_, _-_, _*_, _≤_, _<_}
+use mathlib.Core.Path.{_≡_, sym, ap, _∙_}
+use mathlib.Core.List.{List, _++_, append-nil}
+use Prim.Native.Nat.{ℕ, _+_, _-_, _≤_}
 use native.Mathlib.Nat.{add-sub-cancel, le-of-eq}
 use native.Mathlib.Omega.{arith}
 use borrow.Author.Needs.{needs}
-use borrow.Rule.Slice.PartMut.{midOf, putMid}
+use borrow.Rule.Slice.PartMut.{midOf}
 use denote.Ref.{now}
-use lib.ListN.{length, getD, take, drop, replicate, length-append, length-replicate, drop-of-length-le}
+use lib.ListN.{length, take, drop, length-replicate, drop-of-length-le}
 use lib.Seq.{length-take-le}
-use Rattle.grids.proofs.Parts.{put-part, part-length}
+use Rattle.grids.proofs.Tables.{length-table}
+use Rattle.grids.proofs.Parts.{part-length}
 use Rattle.energy.specs.Pictures.{pictureBytes}
 use Rattle.energy.proofs.Sizes.{Sized, sized-is}
 use Rattle.energy.proofs.Served.{energies-served}
-use Rattle.finding.specs.Kernels.{costsOf, sumsDown, fenced, leastTo, BottomNeeded, RowsNeeded, DownGiven}
-use Rattle.finding.proofs.Costs.{fenced-at, length-sums}
-use Rattle.finding.proofs.Downs.{length-costs}
-use Rattle.finding.proofs.Fences.{fence-in, between-fences}
+use Rattle.finding.specs.Kernels.{costsOf}
+use Rattle.finding.proofs.Fences.{first-row, last-long, row-long, bottom-given}
 use Rattle.finding.proofs.bottom32.bottom_with.Statement.{statement}
 use Rattle.finding.proofs.bottom32.bottom_with.Tie as tie
 
@@ -39,6 +38,9 @@ mid-long c = part-length 1 (c .args .size .width + 1) (now (c .args .above)) (om
 costs : (c : tie.Start) → List ℕ
 costs c = costsOf (c .args .size) (take (pictureBytes (c .args .size)) (now (c .args .space))) 0
 
+wide : (c : tie.Start) → length (costsOf (c .args .size) (take (pictureBytes (c .args .size)) (now (c .args .space))) 0) ≡ c .args .size .width
+wide c = length-table _ (c .args .size .width)
+
 row-0 : (c : tie.After-energies) → c .energies .last .1 .1 .1 .0 ≡ costs (c .before .before .before .before .before .before .before)
 unfolding costs
 row-0 c =
@@ -50,34 +52,12 @@ row-0 c =
     ∙ append-nil (costsOf (a .size) (take (a .bytes) (now (a .space))) 0)
     ∙ ap (λ b. costsOf (a .size) (take b (now (a .space))) 0) (c .before .before .before .before .before .before .before .pre .0 .bytes-are)
 
--- the fenced sums of row 0
-first-row : (c : tie.After-energies) → putMid 1 (c .before .before .before .before .before .before .before .args .size .width + 1 - 1) (now (c .before .before .before .before .before .before .before .args .above)) (c .energies .last .1 .1 .1 .0) ≡ fenced 4294967295 (costs (c .before .before .before .before .before .before .before))
-first-row c =
-    let a = c .before .before .before .before .before .before .before .args in
-    let w = a .size .width in
-    put-part 1 (w + 1) (now (a .above)) (c .energies .last .1 .1 .1 .0) (omega arith)
-    ∙ ap₂ (λ x y. take 1 x ++ (y ++ drop (w + 1) x)) (c .before .before .before .before .before .before .before .pre .1 .fences) (row-0 c)
-    ∙ fence-in 4294967295 w (costs (c .before .before .before .before .before .before .before))
+-- the last row of sums
+row-is-long : (c : tie.After-down) → length (take (c .before .before .before .before .before .before .before .before .before .before .before .before .before .before .args .size .width + 1 - 1) (drop 1 (c .down .last .1 .1 .1 .0))) ≡ c .before .before .before .before .before .before .before .before .before .before .before .before .before .before .args .size .width
+row-is-long c = let a = c .before .before .before .before .before .before .before .before .before .before .before .before .before .before .args in row-long 4294967295 (pictureBytes (a .size)) (a .size) (costsOf (a .size)) (now (a .space)) (c .down .last .0) (c .down .last .1 .1 .1 .0) (wide (c .before .before .before .before .before .before .before .before .before .before .before .before .before .before)) (c .down .ensures)
 
--- the sums of the last row
-sums : (c : tie.Start) → List ℕ
-sums c = sumsDown 4294967295 (c .args .size .width) (costsOf (c .args .size) (take (pictureBytes (c .args .size)) (now (c .args .space)))) (c .args .size .height - 1)
-
-sums-long : (c : tie.Start) → length (sums c) ≡ c .args .size .width
-unfolding sums
-sums-long c = let z = c .args .size in length-sums 4294967295 (z .width) (costsOf z (take (pictureBytes z) (now (c .args .space)))) (length-costs 4294967295 z (now (c .args .space)) 0) (z .height - 1)
-
-last-sums : (c : tie.After-down) → c .down .last .1 .1 .1 .0 ≡ fenced 4294967295 (sums (c .before .before .before .before .before .before .before .before .before .before .before .before .before .before))
-unfolding sums
-last-sums c = c .down .ensures .sums
-
-last-long : (c : tie.After-down) → length (c .down .last .1 .1 .1 .0) ≡ c .before .before .before .before .before .before .before .before .before .before .before .before .before .before .args .size .width + 2
-last-long c = omega (arith, ap length (last-sums c), length-append (sums (c .before .before .before .before .before .before .before .before .before .before .before .before .before .before)) (4294967295 ∷ []), sums-long (c .before .before .before .before .before .before .before .before .before .before .before .before .before .before))
-
-last-row : (c : tie.After-down) → take (c .before .before .before .before .before .before .before .before .before .before .before .before .before .before .args .size .width + 1 - 1) (drop 1 (c .down .last .1 .1 .1 .0)) ≡ sums (c .before .before .before .before .before .before .before .before .before .before .before .before .before .before)
-last-row c =
-    ap (λ x. take (c .before .before .before .before .before .before .before .before .before .before .before .before .before .before .args .size .width + 1 - 1) (drop 1 x)) (last-sums c)
-    ∙ between-fences 4294967295 (c .before .before .before .before .before .before .before .before .before .before .before .before .before .before .args .size .width) (sums (c .before .before .before .before .before .before .before .before .before .before .before .before .before .before)) (sums-long (c .before .before .before .before .before .before .before .before .before .before .before .before .before .before))
+all-long : (c : tie.After-down) → length (c .down .last .1 .1 .1 .0) ≡ c .before .before .before .before .before .before .before .before .before .before .before .before .before .before .args .size .width + 2
+all-long c = let a = c .before .before .before .before .before .before .before .before .before .before .before .before .before .before .args in last-long 4294967295 (pictureBytes (a .size)) (a .size) (costsOf (a .size)) (now (a .space)) (c .down .last .0) (c .down .last .1 .1 .1 .0) (wide (c .before .before .before .before .before .before .before .before .before .before .before .before .before .before)) (c .down .ensures)
 
 add-side : tie.Need-add-side
 add-side c = search needs
@@ -103,13 +83,14 @@ energies-requires c κs = search needs
 down-requires : tie.Need-down-requires
 unfolding costs
 down-requires c κs =
+    let a = c .before .before .before .before .before .before .before .before .before .before .before .before .before .args in
     let p = c .before .before .before .before .before .before .before .before .before .before .before .before .before .pre in
     record {
       bytes-are = p .0 .bytes-are;
       sized = p .0 .sized;
       room = p .0 .room;
-      first = first-row (c .before .before .before .before .before .before);
-      cost-room = le-of-eq (sym (p .1 .cost-room));
+      first = first-row 4294967295 (a .size .width) (now (a .above)) _ (costsOf (a .size) (take (pictureBytes (a .size)) (now (a .space))) 0) (p .1 .fences) (row-0 (c .before .before .before .before .before .before));
+      cost-room = p .1 .cost-room;
       next-room = p .1 .next-room;
     }
 
@@ -120,10 +101,10 @@ part-first-least-start : tie.Need-part-first-least-start
 part-first-least-start c = search needs
 
 part-first-least-end : tie.Need-part-first-least-end
-part-first-least-end c = omega (arith, last-long (c .before .before .before .before .before .before .before .before .before))
+part-first-least-end c = omega (arith, all-long (c .before .before .before .before .before .before .before .before .before))
 
 first-least-requires : tie.Need-first-least-requires
-first-least-requires c κs = rw (last-row (c .before .before .before .before .before .before .before .before .before .before), sums-long (c .before .before .before .before .before .before .before .before .before .before .before .before .before .before .before .before .before .before .before .before .before .before .before .before)) (sure (c .before .before .before .before .before .before .before .before .before .before .before .before .before .before .before .before .before .before .before .before .before .before .before .before) .width-some)
+first-least-requires c κs = rw (row-is-long (c .before .before .before .before .before .before .before .before .before .before)) (sure (c .before .before .before .before .before .before .before .before .before .before .before .before .before .before .before .before .before .before .before .before .before .before .before .before) .width-some)
 
 add-at : tie.Need-add-at
 add-at c = search needs
@@ -133,8 +114,9 @@ mul-t15 c = search needs
 
 slice-read-t31 : tie.Need-slice-read-t31
 slice-read-t31 c =
+    let d = c .before .before .before .before .before .before .before .before .before .before .before .before in
     let l = c .before .first-least .ensures .1 in
-    omega (arith, last-long (c .before .before .before .before .before .before .before .before .before .before .before .before), ap length (last-row (c .before .before .before .before .before .before .before .before .before .before .before .before)), sums-long (c .before .before .before .before .before .before .before .before .before .before .before .before .before .before .before .before .before .before .before .before .before .before .before .before .before .before))
+    omega (arith, all-long d, row-is-long d)
 
 same-length : tie.Need-same-length
 same-length c = search needs
@@ -149,19 +131,11 @@ same-length-4 : tie.Need-same-length-4
 same-length-4 c = search needs
 
 returns : tie.Need-returns
-unfolding sums
 returns c =
-    let z = c .before .before .before .before .before .before .before .before .before .before .before .before .before .before .before .before .before .before .before .before .before .before .before .before .before .before .args .size in
     let d = c .before .before .before .before .before .before .before .before .before .before .before .before in
-    let r = c .before .first-least .result in
-    let l = c .before .first-least .ensures .1 in
-    let inside : r < z .width = omega (arith, ap length (last-row d), sums-long (c .before .before .before .before .before .before .before .before .before .before .before .before .before .before .before .before .before .before .before .before .before .before .before .before .before .before)) in
-    record {
-      ways = d .down .ensures .ways;
-      column-is = c .before .first-least .ensures .0 ∙ ap (λ x. leastTo x (length x - 1)) (last-row d) ∙ ap (λ n. leastTo (sums (c .before .before .before .before .before .before .before .before .before .before .before .before .before .before .before .before .before .before .before .before .before .before .before .before .before .before)) (n - 1)) (sums-long (c .before .before .before .before .before .before .before .before .before .before .before .before .before .before .before .before .before .before .before .before .before .before .before .before .before .before));
-      inside = inside;
-      sum-is = ap (λ x. getD x (r + 1) 0) (last-sums d) ∙ fenced-at 4294967295 (sums (c .before .before .before .before .before .before .before .before .before .before .before .before .before .before .before .before .before .before .before .before .before .before .before .before .before .before)) r (omega (arith, sums-long (c .before .before .before .before .before .before .before .before .before .before .before .before .before .before .before .before .before .before .before .before .before .before .before .before .before .before)));
-    }
+    let a = d .before .before .before .before .before .before .before .before .before .before .before .before .before .before .args in
+    let f = c .before .first-least in
+    bottom-given 4294967295 (pictureBytes (a .size)) (a .size) (costsOf (a .size)) (now (a .space)) (d .down .last .0) (d .down .last .1 .1 .1 .0) (wide (d .before .before .before .before .before .before .before .before .before .before .before .before .before .before)) (d .down .ensures) (f .result) (f .ensures .0) (f .ensures .1)
 
 pub bottom-with-spec : {M : Type 1} → statement M
 bottom-with-spec =

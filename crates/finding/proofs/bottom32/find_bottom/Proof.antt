@@ -1,14 +1,10 @@
 -- `finding::bottom32::find_bottom` meets its contract: the rows are local arrays.
-use mathlib.Core.Path.{_≡_, refl, sym, ap, _∙_}
-use Prim.Native.Nat.{ℕ, _+_, _≤_}
+use mathlib.Core.Path.{sym}
+use Prim.Native.Nat.{ℕ, _+_}
 use native.Mathlib.Omega.{arith}
 use borrow.Author.Needs.{needs}
-use denote.Ref.{now}
-use lib.ListN.{length, take, replicate, length-replicate}
-use lib.Seq.{length-take-le}
 use Rattle.energy.specs.Pictures.{pictureBytes}
 use Rattle.energy.proofs.Sizes.{Sized, sized-is}
-use Rattle.finding.specs.Kernels.{BottomNeeded, RowsNeeded}
 use Rattle.finding.proofs.Fences.{take-replicate, length-take-replicate}
 use Rattle.finding.proofs.bottom32.find_bottom.Statement.{statement}
 use Rattle.finding.proofs.bottom32.find_bottom.Tie as tie

@@ -1,30 +1,36 @@
 -- `finding::down32::down` meets its contract. The loop's invariant: all that holds before row i.
-use mathlib.Core.Path.{_≡_, refl, sym, ap, _∙_}
-use Prim.Native.Nat.{ℕ, suc, _+_, _-_, _*_, _≤_, _<_}
+use mathlib.Core.Path.{_≡_, refl, _∙_}
+use mathlib.Core.List.{List}
+use Prim.Native.Nat.{ℕ, _+_, _-_, _≤_, _<_}
 use native.Mathlib.Omega.{arith}
 use borrow.Author.Needs.{needs}
 use denote.Ref.{now}
 use lib.ListN.{length, getD, take}
 use lib.Seq.{length-take-le}
+use Rattle.grids.proofs.Tables.{length-table}
+use Rattle.energy.specs.declared.pictures.Size.{Size}
 use Rattle.energy.specs.Pictures.{pictureBytes}
 use Rattle.energy.proofs.Sizes.{Sized, sized-is}
-use Rattle.finding.specs.Kernels.{costsOf, sumsDown, fenced, DownNeeded, RowNeeded}
-use Rattle.finding.proofs.Costs.{front-most, cost-most, fenced-at, length-sums, sums-most}
-use Rattle.finding.proofs.Downs.{Downs, down-start, down-turn, down-end, above-long, length-costs}
+use Rattle.finding.specs.Kernels.{costsOf}
+use Rattle.finding.proofs.Costs.{front-most, cost-most}
+use Rattle.finding.proofs.Downs.{Downs, down-start, down-turn, down-end, above-long, above-most}
 use Rattle.finding.proofs.down32.down.Statement.{statement}
 use Rattle.finding.proofs.down32.down.Tie as tie
 
 abbrev Inv-loop : tie.InvT-loop
-Inv-loop space₀ size bytes above₀ cost₀ next₀ height i₀ space above cost next i = (0 < i) × ((i ≤ size .height) × (Downs 4294967295 size space₀ i space above × ((length above ≡ length above₀) × ((length cost ≡ length cost₀) × (length next ≡ length next₀)))))
+Inv-loop space₀ size bytes above₀ cost₀ next₀ height i₀ space above cost next i = (0 < i) × ((i ≤ size .height) × (Downs 4294967295 (pictureBytes size) size (costsOf size) space₀ i space above × ((length above ≡ length above₀) × ((length cost ≡ length cost₀) × (length next ≡ length next₀)))))
 
 abbrev μ-loop : tie.MeasureT-loop
 μ-loop space₀ size bytes above₀ cost₀ next₀ height i₀ space above cost next i = height - i
+
+wide : (z : Size) (start : List ℕ) (i : ℕ) → length (costsOf z (take (pictureBytes z) start) i) ≡ z .width
+wide z start i = length-table _ (z .width)
 
 loop-holds : tie.Need-loop-holds Inv-loop μ-loop
 loop-holds c =
     let a = c .before .before .before .before .args in
     let p = c .before .before .before .before .pre in
-    (omega arith, (omega (arith, sized-is (a .size) (pictureBytes (a .size)) (p .sized) .height-some), (down-start 4294967295 (a .size) (now (a .space)) (p .room) (now (a .above)) (p .first), (refl, (refl, refl)))))
+    (omega arith, (omega (arith, sized-is (a .size) (pictureBytes (a .size)) (p .sized) .height-some), (down-start 4294967295 (pictureBytes (a .size)) (a .size) (costsOf (a .size)) (now (a .space)) (wide (a .size) (now (a .space))) (p .room) (now (a .above)) (p .first), (refl, (refl, refl)))))
 
 front-sized : (c : tie.Start Inv-loop μ-loop) → Sized (c .args .size) (length (take (pictureBytes (c .args .size)) (now (c .args .space))))
 front-sized c = rw (length-take-le (pictureBytes (c .args .size)) (now (c .args .space)) (omega (arith, c .pre .room))) (sized-is _ _ (c .pre .sized))
@@ -38,12 +44,10 @@ small c k l h =
     let a = c .before .before .before .before .before .args in
     let z = a .size in
     let b = take (pictureBytes z) (now (a .space)) in
-    let i = c .loop .i in
-    let s = sumsDown 4294967295 (z .width) (costsOf z b) (i - 1) in
-    let e : getD (c .loop .above) (k + 1) 0 ≡ getD s k 0 =
-    ap (λ x. getD x (k + 1) 0) (c .loop .inv .1 .1 .0 .above-is) ∙ fenced-at 4294967295 s k (omega (arith, length-sums 4294967295 (z .width) (costsOf z b) (length-costs 4294967295 z (now (a .space)) 0) (i - 1))) in
-    let m = sums-most 4294967295 (z .width) 1530 (costsOf z b) (length-costs 4294967295 z (now (a .space)) 0) (cost-most z b (front-sized (c .before .before .before .before .before)) (front-most (now (a .space)) (pictureBytes z) 255 (byte (c .before .before .before .before)))) (i - 1) k h in
-    omega (arith, front-sized (c .before .before .before .before .before) .height-most)
+    let s = front-sized (c .before .before .before .before .before) in
+    let most = cost-most z b s (front-most (now (a .space)) (pictureBytes z) 255 (byte (c .before .before .before .before))) in
+    let m = above-most 4294967295 (pictureBytes z) z (costsOf z) (now (a .space)) (wide z (now (a .space))) 1530 (c .loop .i) (c .loop .space) (c .loop .above) most (c .loop .inv .1 .1 .0) k h in
+    omega (arith, s .height-most)
 
 row-down-requires : tie.Need-row-down-requires Inv-loop μ-loop
 row-down-requires c κs =
@@ -58,7 +62,7 @@ row-down-requires c κs =
       later = inv .0;
       inside = l;
       room = rw (inv .1 .1 .0 .long) (p .room);
-      long = above-long 4294967295 (a .size) (now (a .space)) (u .loop .i) (u .loop .space) (u .loop .above) (inv .1 .1 .0);
+      long = above-long 4294967295 (pictureBytes (a .size)) (a .size) (costsOf (a .size)) (now (a .space)) (wide (a .size) (now (a .space))) (u .loop .i) (u .loop .space) (u .loop .above) (inv .1 .1 .0);
       small = λ k h. small u k l h;
       cost-room = omega (arith, p .cost-room, inv .1 .1 .1 .1 .0);
       next-room = inv .1 .1 .1 .1 .1 ∙ p .next-room;
@@ -80,7 +84,7 @@ loop-again c =
       (
         omega (arith, c .before .before .before .before .before .before .before .before .before .before .before .before .before .loop-test .taken),
         (
-          down-turn 4294967295 (a .size) (now (a .space)) (c .before .before .before .before .before .before .before .before .before .before .before .before .before .before .before .before .before .before .before .pre .room) (u .loop .i) (u .loop .space) (u .loop .above) _ _ (inv .0) (c .before .before .before .before .before .before .before .before .before .before .before .before .before .loop-test .taken) (inv .1 .1 .0) (c .before .before .before .before .before .before .before .before .row-down .ensures),
+          down-turn 4294967295 (pictureBytes (a .size)) (a .size) (costsOf (a .size)) (now (a .space)) (wide (a .size) (now (a .space))) (c .before .before .before .before .before .before .before .before .before .before .before .before .before .before .before .before .before .before .before .pre .room) (u .loop .i) (u .loop .space) (u .loop .above) _ _ (inv .0) (c .before .before .before .before .before .before .before .before .before .before .before .before .before .loop-test .taken) (inv .1 .1 .0) (c .before .before .before .before .before .before .before .before .row-down .ensures),
           (kept .1 .1 .1 .1 .0 ∙ inv .1 .1 .1 .0, (kept .1 .1 .1 .1 .1 .0 ∙ inv .1 .1 .1 .1 .0, kept .1 .1 .1 .1 .1 .1 .0 ∙ inv .1 .1 .1 .1 .1)),
         ),
       ),
@@ -102,7 +106,7 @@ returns : tie.Need-returns Inv-loop μ-loop
 returns c =
     let a = c .before .before .before .before .before .before .args in
     let l = c .before .loop in
-    down-end 4294967295 (a .size) (now (a .space)) (c .before .before .before .before .before .before .pre .room) (l .i) (l .space) (l .above) (omega arith) (l .inv .1 .1 .0)
+    down-end 4294967295 (pictureBytes (a .size)) (a .size) (costsOf (a .size)) (now (a .space)) (wide (a .size) (now (a .space))) (c .before .before .before .before .before .before .pre .room) (l .i) (l .space) (l .above) (omega arith) (l .inv .1 .1 .0)
 
 pub down-spec : {M : Type 1} → statement M
 down-spec =

@@ -1,22 +1,21 @@
 -- `finding::down32::row_down` meets its contract.
-use mathlib.Core.Path.{_≡_, refl, sym, ap, ap₂, _∙_}
+use mathlib.Core.Path.{_≡_, sym, ap, _∙_}
 use mathlib.Core.List.{List, _++_}
-use Prim.Native.Nat.{ℕ, _+_, _-_, _*_, _≤_, _<_}
-use native.Mathlib.Nat.{mul-le-mul, add-sub-cancel-left}
+use Prim.Native.Nat.{ℕ, _+_, _-_, _*_, _≤_}
+use native.Mathlib.Nat.{le-of-eq, mul-le-mul}
 use native.Mathlib.Omega.{arith}
 use borrow.Author.Needs.{needs}
 use denote.Ref.{now}
 use lib.ListN.{length, getD, take, drop}
 use lib.Seq.{length-take-le, take-at}
-use Rattle.grids.specs.Table.{table}
 use Rattle.grids.proofs.Tables.{length-table}
-use Rattle.grids.proofs.Parts.{put-part, part-length}
 use Rattle.grids.proofs.Rows.{part-end}
 use Rattle.energy.specs.Pictures.{pictureBytes}
 use Rattle.energy.proofs.Sizes.{Sized, sized-is}
 use Rattle.energy.proofs.Served.{energies-served}
-use Rattle.finding.specs.Kernels.{wayOf3, sumOf3, costsOf, RowNeeded}
+use Rattle.finding.specs.Kernels.{costsOf}
 use Rattle.finding.proofs.Costs.{front-most, cost-most}
+use Rattle.finding.proofs.Downs.{row-given}
 use Rattle.finding.proofs.down32.row_down.Statement.{statement}
 use Rattle.finding.proofs.down32.row_down.Tie as tie
 
@@ -66,7 +65,7 @@ unfolding costs
 cost-is c =
     let a = c .before .before .before .before .before .before .before .args in
     energies-served (take (a .bytes) (now (a .space))) (a .size) (a .i) (now (a .cost)) (c .energies .last .1 .1 .1 .0) (c .energies .result) (c .energies .ensures)
-    (rw (front-long (c .before .before .before .before .before .before .before)) (c .before .before .before .before .before .before .before .pre .sized)) (c .before .before .before .before .before .before .before .pre .inside) (c .before .before .before .before .before .before .before .pre .cost-room)
+    (rw (front-long (c .before .before .before .before .before .before .before)) (c .before .before .before .before .before .before .before .pre .sized)) (c .before .before .before .before .before .before .before .pre .inside) (le-of-eq (sym (c .before .before .before .before .before .before .before .pre .cost-room)))
 
 cost-front : (c : tie.After-energies) → take (c .before .before .before .before .before .before .before .args .size .width) (c .energies .last .1 .1 .1 .0) ≡ costs (c .before .before .before .before .before .before .before)
 cost-front c = ap (take (c .before .before .before .before .before .before .before .args .size .width)) (cost-is c) ∙ take-at (costs (c .before .before .before .before .before .before .before)) (drop (c .before .before .before .before .before .before .before .args .size .width) (now (c .before .before .before .before .before .before .before .args .cost))) (c .before .before .before .before .before .before .before .args .size .width) (costs-long (c .before .before .before .before .before .before .before))
@@ -152,24 +151,12 @@ same-length-4 c = search needs
 returns : tie.Need-returns
 unfolding costs
 returns c =
-    let a = c .before .before .before .before .before .before .before .before .before .before .before .before .before .before .before .before .before .before .before .before .before .before .before .before .before .args in
-    let p = c .before .before .before .before .before .before .before .before .before .before .before .before .before .before .before .before .before .before .before .before .before .before .before .before .before .pre in
-    let space = now (a .space) in
-    let above = now (a .above) in
-    let w = a .size .width in
-    let q = a .bytes + (a .i - 1) * w in
-    record {
-      ways =
-          put-part q (q + w) space (c .before .before .before .before .before .before .before .ways-row .last .1 .0) (omega arith)
-          ∙ ap (λ r. take q space ++ (r ++ drop (q + w) space))
-          (c .before .before .before .before .before .before .before .ways-row .ensures ∙ ap (table (wayOf3 above)) (part-length q (q + w) space (ends (c .before .before .before .before .before .before .before .before .before .before .before .before .before .before .before .before .before .before .before .before .before .before .before .before .before) .end) ∙ add-sub-cancel-left q w))
-          ∙ ap (λ b. take (b + (a .i - 1) * w) space ++ (table (wayOf3 above) w ++ drop (b + (a .i - 1) * w + w) space)) (p .bytes-are);
-      sums =
-          put-part 1 (w + 1) above (c .before .before .copy .last .1 .0) (omega arith)
-          ∙ ap (λ r. take 1 above ++ (r ++ drop (w + 1) above))
-          (c .before .before .copy .ensures ∙ c .before .before .before .before .before .before .before .before .before .before .before .before .next-sums .ensures
-          ∙ ap₂ (λ k n. table (sumOf3 above k) n) (cost-front (c .before .before .before .before .before .before .before .before .before .before .before .before .before .before .before .before .before .before) ∙ ap (λ b. costsOf (a .size) (take b space) (a .i)) (p .bytes-are)) (p .next-room));
-    }
+    let s = c .before .before .before .before .before .before .before .before .before .before .before .before .before .before .before .before .before .before .before .before .before .before .before .before .before in
+    let a = s .args in
+    row-given (pictureBytes (a .size)) (a .size) (costsOf (a .size)) (a .i) (a .bytes) (length (now (a .next))) (now (a .space)) (now (a .above)) (c .before .before .before .before .before .before .before .ways-row .last .1 .0) (take (a .size .width) (c .before .before .before .before .before .before .before .before .before .before .before .before .before .before .before .before .before .before .energies .last .1 .1 .1 .0)) (c .before .before .copy .last .1 .0)
+    (s .pre .bytes-are) (ends s .end) (c .before .before .before .before .before .before .before .ways-row .ensures)
+    (cost-front (c .before .before .before .before .before .before .before .before .before .before .before .before .before .before .before .before .before .before) ∙ ap (λ b. costsOf (a .size) (take b (now (a .space))) (a .i)) (s .pre .bytes-are)) (s .pre .next-room)
+    (c .before .before .copy .ensures ∙ c .before .before .before .before .before .before .before .before .before .before .before .before .next-sums .ensures)
 
 pub row-down-spec : {M : Type 1} → statement M
 row-down-spec =

@@ -1,11 +1,11 @@
 -- `finding::sums32::first_least` meets its contract. The loop's invariant: best is the first of the least before k.
-use mathlib.Core.Path.{_≡_, refl, sym, ap, _∙_}
+use mathlib.Core.Path.{_≡_, refl, sym, _∙_}
 use mathlib.Core.Logic.{⊎-elim}
-use Prim.Native.Nat.{_+_, _-_, _≤_, _<_}
+use Prim.Native.Nat.{_-_, _≤_, _<_}
 use native.Mathlib.Omega.{arith}
 use borrow.Author.Needs.{needs}
 use denote.Ref.{now}
-use lib.ListN.{length, getD}
+use lib.ListN.{length}
 use Rattle.finding.specs.Kernels.{leastTo}
 use Rattle.finding.proofs.Loops.{least-moves, least-stays}
 use Rattle.finding.proofs.sums32.first_least.Statement.{statement}

@@ -1,12 +1,11 @@
 -- `finding::sums32::ways_row` meets its contract. The loop's invariant: the values of c columns stand at the front.
-use mathlib.Core.Path.{_≡_, refl, sym, ap, ap₂, _∙_}
+use mathlib.Core.Path.{_≡_}
 use mathlib.Core.List.{_++_}
-use Prim.Native.Nat.{ℕ, _+_, _-_, _≤_, _<_, _^_, min}
+use Prim.Native.Nat.{_+_, _-_, _≤_}
 use native.Mathlib.Omega.{arith}
 use borrow.Author.Needs.{needs}
 use denote.Ref.{now}
-use lib.ListN.{length, getD, drop, length-set}
-use lib.Seq.{drop-length}
+use lib.ListN.{length, drop, length-set}
 use Rattle.grids.specs.Table.{table}
 use Rattle.grids.proofs.Tables.{table-more, table-end}
 use Rattle.finding.specs.Kernels.{wayOf3}

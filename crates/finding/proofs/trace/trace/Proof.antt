@@ -1,13 +1,13 @@
 -- `finding::trace::trace` meets its contract. The loop's invariant: the columns of the rows below i are stored.
-use mathlib.Core.Path.{_≡_, refl, sym, ap, _∙_}
+use mathlib.Core.Path.{_≡_, refl}
 use Prim.Native.Nat.{_+_, _-_, _*_, _≤_, _<_}
 use native.Mathlib.Nat.{mul-le-mul}
 use native.Mathlib.Omega.{arith}
 use borrow.Author.Needs.{needs}
 use denote.Ref.{now}
-use lib.ListN.{length, getD, length-set}
+use lib.ListN.{length, length-set}
 use Rattle.grids.proofs.Rows.{part-end}
-use Rattle.finding.specs.Kernels.{columnsTo, TraceNeeded}
+use Rattle.finding.specs.Kernels.{columnsTo}
 use Rattle.finding.proofs.Loops.{Back, back-start, back-turn, back-end, length-columns}
 use Rattle.finding.proofs.trace.trace.Statement.{statement}
 use Rattle.finding.proofs.trace.trace.Tie as tie

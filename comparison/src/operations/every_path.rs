@@ -1,0 +1,130 @@
+//! Seams of small pictures, found and cut, held against every connected path,
+//! so that they don't rest on the reference alone.
+
+use super::one_seam::{Case, Parts};
+use super::{cut, find};
+use crate::difference::Difference;
+use crate::faults::Faults;
+use crate::library::Answer;
+use crate::paths::Small;
+use crate::random::Random;
+use reference::{Axis, Kind, Size};
+
+/// The largest side. Every shape up to it comes in turn.
+const SIDE: usize = 5;
+
+pub fn compare_find(random: &mut Random, turn: u64) -> Result<u64, Difference> {
+    let (size, axis) = shape(turn);
+    let case = Case::from_size(random, size, axis, Faults::Never);
+    let enumeration = case.outcome(|parts| find_among_paths(size, axis, parts));
+    let library = case.outcome(|parts| find::by_library(&case, parts));
+    case.verdict("enumeration", &enumeration, &library)
+}
+
+pub fn compare_cut(random: &mut Random, turn: u64) -> Result<u64, Difference> {
+    let (size, axis) = shape(turn);
+    let case = Case::from_size(random, size, axis, Faults::Never);
+    let enumeration = case.outcome(|parts| cut_among_paths(size, axis, parts));
+    let library = case.outcome(|parts| cut::by_library(&case, parts));
+    case.verdict("enumeration", &enumeration, &library)
+}
+
+/// Every shape in both kinds and along both axes, by turns.
+fn shape(turn: u64) -> (Size, Axis) {
+    let (shape, form) = (turn as usize / 4 % (SIDE * SIDE), turn as usize % 4);
+    let size = Size {
+        width: 1 + shape % SIDE,
+        height: 1 + shape / SIDE,
+        kind: [Kind::Grey, Kind::Rgb][form / 2],
+    };
+    (size, [Axis::Vertical, Axis::Horizontal][form % 2])
+}
+
+fn find_among_paths(size: Size, axis: Axis, parts: Parts) -> Answer {
+    let bytes = &*parts.picture;
+    let (seam, cost) = Small { bytes, size, axis }.seam();
+    give_seam(&seam, parts.seam);
+    parts.work.fill(0);
+    Answer::served(cost)
+}
+
+fn cut_among_paths(size: Size, axis: Axis, parts: Parts) -> Answer {
+    parts.work.fill(0);
+    let bytes = &*parts.picture;
+    let small = Small { bytes, size, axis };
+    if small.places() == 1 {
+        return Answer::refused(13);
+    }
+    let (seam, cost) = small.seam();
+    let left = small.without(&seam);
+    parts.picture.copy_from_slice(&left);
+    give_seam(&seam, parts.seam);
+    Answer::served(cost)
+}
+
+/// Puts the seam to the front of the space; the rest keeps its values.
+fn give_seam(seam: &[usize], space: &mut [u16]) {
+    for (entry, place) in space.iter_mut().zip(seam) {
+        *entry = *place as u16;
+    }
+}
+
+#[cfg(test)]
+mod tests {
+    use super::*;
+
+    const TURNS: u64 = 10 * 4 * (SIDE * SIDE) as u64;
+
+    #[test]
+    fn every_shape_comes_in_both_kinds_and_along_both_axes() {
+        let shapes: Vec<_> = (0..TURNS / 10).map(shape).collect();
+        for (place, shape) in shapes.iter().enumerate() {
+            assert!(!shapes[..place].contains(shape));
+            let (size, _) = shape;
+            assert!((1..=5).contains(&size.width) && (1..=5).contains(&size.height));
+        }
+    }
+
+    #[test]
+    fn cuts_are_served_or_refused_by_13() {
+        let answer = |turn| {
+            compare_cut(&mut Random::of_case(1, turn), turn)
+                .ok()
+                .unwrap()
+        };
+        let answers: Vec<u64> = (0..TURNS).map(answer).collect();
+        assert!(answers.iter().all(|number| [0, 13].contains(number)));
+        let refused = answers.iter().filter(|number| **number == 13).count();
+        assert_eq!(refused as u64, TURNS / 5);
+    }
+
+    /// The other paths that are as cheap as the seam, and the seam.
+    fn equals(turn: u64) -> (Vec<Vec<usize>>, Vec<usize>) {
+        let (size, axis) = shape(turn);
+        let case = Case::from_size(&mut Random::of_case(1, turn), size, axis, Faults::Never);
+        let bytes = case.buffers.picture.part();
+        let small = Small { bytes, size, axis };
+        let (seam, cost) = small.seam();
+        let mut equals = small.paths();
+        equals.retain(|path| small.cost(path) == cost && *path != seam);
+        (equals, seam)
+    }
+
+    /// Ties in the last line, and ties on the way from there.
+    #[test]
+    fn ties_abound_along_both_axes() {
+        for axis in 0..2 {
+            let turns = (0..TURNS).filter(|turn| turn % 2 == axis);
+            let (mut in_last, mut before) = (0, 0);
+            for (equals, seam) in turns.map(equals) {
+                let same_end = |path: &Vec<usize>| path.last() == seam.last();
+                before += equals.iter().any(same_end) as u64;
+                in_last += !equals.iter().all(same_end) as u64;
+            }
+            assert!(
+                in_last > TURNS / 10 && before > TURNS / 10,
+                "{in_last} {before}"
+            );
+        }
+    }
+}
