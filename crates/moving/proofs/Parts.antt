@@ -11,16 +11,11 @@ use lib.Seq.{length-take-le, take-suc, drop-cons, set-at, append-snoc, take-at, 
 use Rattle.grids.specs.Table.{table}
 use Rattle.grids.specs.Rows.{flat}
 use Rattle.grids.proofs.Tables.{each-table}
-use Rattle.grids.proofs.Rows.{length-flat}
+use Rattle.grids.proofs.Rows.{length-flat, flat-snoc}
 
-module _ {A : Type 0} where
-  pub flat-append : (p q : List (List A)) → flat (p ++ q) ≡ flat p ++ flat q
-  flat-append [] q = refl
-  flat-append (x ∷ p) q = ap (x ++_) (flat-append p q) ∙ sym (append-assoc x (flat p) (flat q))
-
-  -- One part more, in a loop's terms.
-  flat-more : (f : ℕ → List A) (r : ℕ) → flat (table f (r + 1)) ≡ flat (table f r) ++ f r
-  flat-more f r = rw (add-one r) (flat-append (table f r) (f r ∷ []) ∙ ap (flat (table f r) ++_) (append-nil (f r)))
+-- One part more, in a loop's terms.
+flat-more : {A : Type 0} (f : ℕ → List A) (r : ℕ) → flat (table f (r + 1)) ≡ flat (table f r) ++ f r
+flat-more f r = rw (add-one r) (flat-snoc (table f r) (f r))
 
 pub map-append : {A B : Type 0} (f : A → B) (p q : List A) → map f (p ++ q) ≡ map f p ++ map f q
 map-append f [] q = refl
