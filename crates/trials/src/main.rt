@@ -1,7 +1,9 @@
 // Runs the operations on generated pictures and prints what they give. The expected output is that of the second
 // implementation on the same pictures.
+use carving::Axis;
 use energy::Kind;
 use energy::Size;
+use finding::Found;
 use libc::STDOUT_FILENO;
 ghost use Prim.Native.Nat.{_<_, _≤_};
 ghost use lib.ListN.{length};
@@ -17,7 +19,7 @@ fn main() {
     }
 }
 
-// One picture: what is given of each of its rows and of the row below the last.
+// One picture: its seams and cuts along both axes, and what is given of each of its rows and of the row below the last.
 fn trial(width: usize, height: usize, kind: Kind, seed: u64) -> u64
     requires { ⌜ (width ≤ 6) × (height ≤ 4) × (seed < 65536) ⌝ }
     ensures { λ next. ⌜ next < 65536 ⌝ }
@@ -30,6 +32,7 @@ fn trial(width: usize, height: usize, kind: Kind, seed: u64) -> u64
         kind,
     };
     let bytes = count(height, width, energy::channels(kind));
+    print_seams(space, bytes, size);
     for r in 0..height + 1 {
         print_row(&space[..bytes], size, r);
     }
@@ -58,6 +61,61 @@ fn fill(space: &mut [u8], seed: u64) -> u64
         space[i] = (s / 256 % 4 * 60) as u8;
     }
     s
+}
+
+fn print_seams(space: [u8; 72], bytes: usize, size: Size)
+    requires { ⌜ bytes ≤ 72 ⌝ }
+{
+    print_find(&space[..bytes], size, Axis::Vertical);
+    print_find(&space[..bytes], size, Axis::Horizontal);
+    print_cut(space, bytes, size, Axis::Vertical);
+    print_cut(space, bytes, size, Axis::Horizontal);
+}
+
+// The number given, the cost, the seam's space and an end of the work space, in a line.
+fn print_find(picture: &[u8], size: Size, axis: Axis) {
+    let mut seam = [9u16; 8];
+    let mut work = [1u8; 768];
+    let found = carving::find(picture, size, axis, &mut seam, &mut work);
+    print_found(found);
+    print_seam(&seam);
+    print_number(wide_byte(work[767]));
+    io::write_all(STDOUT_FILENO, b"\n");
+}
+
+// The number given, the cost, and the picture's bytes, in a line.
+fn print_cut(space: [u8; 72], bytes: usize, size: Size, axis: Axis)
+    requires { ⌜ bytes ≤ 72 ⌝ }
+{
+    let mut copy = space;
+    let mut seam = [9u16; 8];
+    let mut work = [1u8; 768];
+    let found = carving::cut(&mut copy[..bytes], size, axis, &mut seam, &mut work);
+    print_found(found);
+    print_bytes(&copy[..bytes]);
+    io::write_all(STDOUT_FILENO, b"\n");
+}
+
+fn print_found(found: Found) {
+    match found {
+        Found::Seam(cost) => {
+            io::print_decimal(STDOUT_FILENO, 0);
+            print_number(cost);
+        }
+        Found::Refused(why) => {
+            io::print_decimal(STDOUT_FILENO, energy::number(why));
+        }
+    }
+}
+
+fn print_seam(seam: &[u16]) {
+    for i in 0..seam.len() {
+        print_number(wide_column(seam[i]));
+    }
+}
+
+fn wide_column(n: u16) -> u64 {
+    n as u64
 }
 
 // The number given, the energies' space and the row, in a line.

@@ -1,7 +1,7 @@
 //! Writes what the test program `trials` is expected to write: the operations
 //! on the same generated pictures, by this implementation.
 
-use reference::{energies, row, Kind, Size};
+use reference::{cut, energies, find, row, Axis, Kind, Size};
 
 /// Samples of few values, so that many are equal.
 struct Samples {
@@ -33,14 +33,52 @@ fn main() {
     }
 }
 
-/// One picture: a line for each of its rows and for the row below the last.
+/// One picture: lines for its seams and cuts along both axes, for each of its
+/// rows and for the row below the last.
 fn trial(size: Size, samples: &mut Samples) {
     let mut space = [0; 72];
     samples.fill(&mut space);
     let picture = &space[..size.height * size.width * size.kind.channels()];
+    for axis in [Axis::Vertical, Axis::Horizontal] {
+        println!("{}", find_line(picture, size, axis));
+    }
+    for axis in [Axis::Vertical, Axis::Horizontal] {
+        println!("{}", cut_line(picture, size, axis));
+    }
     for r in 0..=size.height {
         println!("{}", row_line(picture, size, r));
     }
+}
+
+/// The number given and the cost.
+fn answer(found: Result<u64, u8>) -> String {
+    match found {
+        Ok(cost) => format!("0 {cost}"),
+        Err(number) => number.to_string(),
+    }
+}
+
+/// The number given, the cost, the seam's space and an end of the work space.
+fn find_line(picture: &[u8], size: Size, axis: Axis) -> String {
+    let mut seam = [9; 8];
+    let mut work = [1; 768];
+    let mut line = answer(find(picture, size, axis, &mut seam, &mut work));
+    for place in seam {
+        line += &format!(" {place}");
+    }
+    line + &format!(" {}", work[767])
+}
+
+/// The number given, the cost, and the picture's bytes.
+fn cut_line(picture: &[u8], size: Size, axis: Axis) -> String {
+    let mut copy = picture.to_vec();
+    let mut seam = [9; 8];
+    let mut work = [1; 768];
+    let mut line = answer(cut(&mut copy, size, axis, &mut seam, &mut work));
+    for sample in copy {
+        line += &format!(" {sample}");
+    }
+    line
 }
 
 /// The number given, the energies' space and the row.

@@ -26,6 +26,9 @@ channels-requires c κs = search needs
 count-requires : tie.Need-count-requires Inv-loop μ-loop
 count-requires c κs = search needs
 
+print-seams-requires : tie.Need-print-seams-requires Inv-loop μ-loop
+print-seams-requires c κs = search needs
+
 add-r-end : tie.Need-add-r-end Inv-loop μ-loop
 add-r-end c = search needs
 
@@ -37,7 +40,7 @@ array-share-prefix-space c = search needs
 
 slice-aggregate-print-row : tie.Need-slice-aggregate-print-row Inv-loop μ-loop
 slice-aggregate-print-row c =
-    let fits : c .before .before .before .count .result ≤ length (c .before .before .before .before .before .before .fill .last .0) = omega (arith, c .before .before .loop .inv) in
+    let fits : c .before .before .before .before .count .result ≤ length (c .before .before .before .before .before .before .before .fill .last .0) = omega (arith, c .before .before .loop .inv) in
     sym (length-take-le _ _ fits)
 
 print-row-requires : tie.Need-print-row-requires Inv-loop μ-loop
@@ -65,6 +68,7 @@ trial-spec =
     fill-requires
     channels-requires
     count-requires
+    print-seams-requires
     add-r-end
     loop-holds
     array-share-prefix-space
