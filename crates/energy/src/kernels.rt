@@ -38,7 +38,7 @@ fn rgb_difference(a: &[u8], i: usize, b: &[u8], j: usize) -> u32
 }
 
 // The energies of a row of pixels of this kind, put into the first `width` places of out.
-pub fn line_energies(kind: Kind, it: &[u8], lower: &[u8], width: usize, out: &mut [u32])
+pub(crate) fn line_energies(kind: Kind, it: &[u8], lower: &[u8], width: usize, out: &mut [u32])
     requires { ⌜ LinesNeeded (channelsOf kind) (now it) (now lower) width (now out) ⌝ }
     ensures { λ _. ⌜ now (out .exit) ≡ table (between (channelsOf kind) (now (it .entry)) (now (lower .entry))) width ++ drop width (now (out .entry)) ⌝ }
 {

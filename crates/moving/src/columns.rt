@@ -14,7 +14,7 @@ ghost use Rattle.energy.specs.Pictures.{picture, bytes, channelsOf, pictureByte
 ghost use Rattle.moving.specs.Kernels.{samples, ColumnNeeded, ExchangeNeeded};
 
 // Each column of the picture, put into `to` as a row.
-pub fn exchange_columns(from: &[u8], size: Size, to: &mut [u8])
+pub(crate) fn exchange_columns(from: &[u8], size: Size, to: &mut [u8])
     requires { ⌜ ExchangeNeeded (now from) size (now to) ⌝ }
     ensures { λ _. ⌜ now (to .exit) ≡ bytes (exchange (size .width) (picture size (now (from .entry)))) ++ drop (pictureBytes size) (now (to .entry)) ⌝ }
 {

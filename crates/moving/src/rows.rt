@@ -20,7 +20,7 @@ fn wide(column: u16) -> usize
 }
 
 // Whether some column of the seam isn't below the width.
-pub fn outside(seam: &[u16], width: usize) -> bool
+pub(crate) fn outside(seam: &[u16], width: usize) -> bool
     ensures { λ t. ⌜ t ≡ Moving·outside width (now (seam .entry)) ⌝ }
 {
     for r in 0..seam.len() {
@@ -42,7 +42,7 @@ fn close_row(line: &[u8], gap: usize, n: usize, out: &mut [u8])
 }
 
 // Takes the seam's pixel out of each row. A row's bytes pass through `line`, since where they go overlaps where they are.
-pub fn close_rows(picture: &mut [u8], size: Size, seam: &[u16])
+pub(crate) fn close_rows(picture: &mut [u8], size: Size, seam: &[u16])
     requires { ⌜ CloseNeeded (now picture) size (now seam) ⌝ }
     ensures { λ _. ⌜ now (picture .exit) ≡ bytes (cut (now (seam .entry)) (Pictures·picture size (now (picture .entry)))) ++ replicate (size .height * channelsOf (size .kind)) 0 ⌝ }
 {
