@@ -114,6 +114,7 @@ pub record WeightsNeeded (z : Size) (bytes i : ℕ) (front energy cost : List �
   pub cost-room : length cost ≡ z .width
 
 -- Below, the first `from` bytes of a space hold what the costs of each row are read from; behind them is room for the ways.
+
 -- A picture of its size at the front of a space, with room for the ways between its rows.
 pub record BottomNeeded (from : ℕ) (z : Size) (bytes : ℕ) (space : List ℕ) : Type 0 where
   pub bytes-are : bytes ≡ pictureBytes z

@@ -1,4 +1,4 @@
-// Rows of sums of 64 bits, with marks. Each loop is written so that it can be vectorized: no edge, no branch.
+// Rows of sums of 64 bits, with marks: the functions of sums32 at the width of weights.
 ghost use mathlib.Core.Path.{_≡_};
 ghost use mathlib.Core.Bool.{cond};
 ghost use lib.Dec.{leb};
