@@ -28,18 +28,3 @@ fn by_library(case: &Case<u32>, picture: &mut [u8], out: &mut [u32]) -> Answer {
     let number = library::energies(picture, case.size, case.row, out);
     Answer { number, value: 0 }
 }
-
-#[cfg(test)]
-mod tests {
-    use super::*;
-    use crate::pictures::ROUND;
-
-    #[test]
-    fn every_number_occurs() {
-        let answer = |turn| compare(&mut Random::of_case(1, turn), turn).ok().unwrap();
-        let answers: Vec<u64> = (0..4 * ROUND).map(answer).collect();
-        for number in [0, 1, 2, 3, 4, 8] {
-            assert!(answers.contains(&number), "no answer {number}");
-        }
-    }
-}

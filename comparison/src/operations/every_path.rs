@@ -16,17 +16,15 @@ const SIDE: usize = 5;
 pub fn compare_find(random: &mut Random, turn: u64) -> Result<u64, Difference> {
     let (size, axis) = shape(turn);
     let case = Case::from_size(random, size, axis, Faults::Never);
-    let enumeration = case.outcome(|parts| find_among_paths(size, axis, parts));
-    let library = case.outcome(|parts| find::by_library(&case, parts));
-    case.verdict("enumeration", &enumeration, &library)
+    let enumeration = |_: &Case, parts: Parts| find_among_paths(size, axis, parts);
+    case.compare("enumeration", enumeration, find::by_library)
 }
 
 pub fn compare_cut(random: &mut Random, turn: u64) -> Result<u64, Difference> {
     let (size, axis) = shape(turn);
     let case = Case::from_size(random, size, axis, Faults::Never);
-    let enumeration = case.outcome(|parts| cut_among_paths(size, axis, parts));
-    let library = case.outcome(|parts| cut::by_library(&case, parts));
-    case.verdict("enumeration", &enumeration, &library)
+    let enumeration = |_: &Case, parts: Parts| cut_among_paths(size, axis, parts);
+    case.compare("enumeration", enumeration, cut::by_library)
 }
 
 /// Every shape in both kinds and along both axes, by turns.

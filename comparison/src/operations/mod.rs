@@ -46,3 +46,27 @@ pub const OPERATIONS: [Operation; 6] = [
         compare: every_path::compare_cut,
     },
 ];
+
+#[cfg(test)]
+mod tests {
+    use super::*;
+    use crate::pictures::ROUND;
+
+    /// Every number that an operation may answer comes in some of its turns.
+    #[test]
+    fn every_number_occurs() {
+        for (name, turns, numbers) in [
+            ("row", 0..4 * ROUND, &[0, 1, 8][..]),
+            ("energies", 0..4 * ROUND, &[0, 1, 2, 3, 4, 8]),
+            ("find", 2 * ROUND..8 * ROUND, &[0, 1, 2, 3, 4, 8]),
+            ("cut", 2 * ROUND..8 * ROUND, &[0, 1, 2, 3, 4, 8, 13]),
+        ] {
+            let operation = OPERATIONS.iter().find(|o| o.name == name).unwrap();
+            let compare = |turn| (operation.compare)(&mut Random::of_case(1, turn), turn);
+            let answers: Vec<u64> = turns.map(|turn| compare(turn).ok().unwrap()).collect();
+            for number in numbers {
+                assert!(answers.contains(number), "{name}: no answer {number}");
+            }
+        }
+    }
+}

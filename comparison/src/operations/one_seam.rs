@@ -66,8 +66,21 @@ impl Case {
         }
     }
 
+    /// Runs both sides and gives the number that both answered, or the
+    /// difference. The other side is named in the report.
+    pub fn compare(
+        &self,
+        name: &str,
+        other: impl FnOnce(&Case, Parts) -> Answer,
+        library: impl FnOnce(&Case, Parts) -> Answer,
+    ) -> Result<u64, Difference> {
+        let other = self.outcome(|parts| other(self, parts));
+        let library = self.outcome(|parts| library(self, parts));
+        self.verdict(name, &other, &library)
+    }
+
     /// The outcome of a call that is given copies of the lent buffers.
-    pub fn outcome(&self, call: impl FnOnce(Parts) -> Answer) -> Outcome {
+    fn outcome(&self, call: impl FnOnce(Parts) -> Answer) -> Outcome {
         let mut buffers = self.buffers.clone();
         let answer = call(Parts {
             picture: buffers.picture.part_mut(),
@@ -89,14 +102,8 @@ impl Case {
         }
     }
 
-    /// The number that both sides answered, or the difference. The other side
-    /// is named in the report.
-    pub fn verdict(
-        &self,
-        name: &str,
-        other: &Outcome,
-        library: &Outcome,
-    ) -> Result<u64, Difference> {
+    /// The number that both sides answered, or the difference.
+    fn verdict(&self, name: &str, other: &Outcome, library: &Outcome) -> Result<u64, Difference> {
         if other == library {
             Ok(library.answer.number)
         } else {

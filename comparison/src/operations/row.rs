@@ -28,18 +28,3 @@ fn by_reference(case: &Case<u8>, picture: &[u8], out: &mut [u8]) -> Answer {
     out[..row.len()].copy_from_slice(row);
     Answer::served(row.len() as u64)
 }
-
-#[cfg(test)]
-mod tests {
-    use super::*;
-    use crate::pictures::ROUND;
-
-    #[test]
-    fn every_number_occurs() {
-        let answer = |turn| compare(&mut Random::of_case(1, turn), turn).ok().unwrap();
-        let answers: Vec<u64> = (0..4 * ROUND).map(answer).collect();
-        for number in [0, 1, 8] {
-            assert!(answers.contains(&number), "no answer {number}");
-        }
-    }
-}
