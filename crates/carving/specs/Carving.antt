@@ -1,6 +1,5 @@
 -- The operations on one seam of a lent picture: when they are refused, and what they give.
 use mathlib.Core.Path.{_≡_}
-use mathlib.Core.Bool.{_||_, cond}
 use mathlib.Core.List.{List, [], _∷_, _++_}
 use Prim.Native.Nat.{ℕ, _*_}
 use lib.Dec.{eqb, ltb}
@@ -9,13 +8,13 @@ use Rattle.energy.specs.declared.pictures.Size.{Size}
 use Rattle.energy.specs.Refusals.{Rule, _when_, refusal, served}
 use Rattle.energy.specs.Pictures.{channelsOf, sizeRules, picture, bytes}
 use Rattle.finding.specs.declared.Found.{Found}
-use Rattle.finding.specs.Finding.{foundNumber, foundCost, pixels}
+use Rattle.finding.specs.Finding.{foundNumber, foundCost, pixels, worked}
 use Rattle.carving.specs.declared.Axis.{Axis}
 use Rattle.carving.specs.Axes.{turnedSize, seamAlong, costAlong, cutAlong}
 
 -- "After 1 to 8 all buffers are unchanged. After 9 and every higher number .. work space is zero, as after success."
 abbrev pub cleared : ℕ → List ℕ → List ℕ
-cleared n work = cond (eqb n 0 || ltb 8 n) (replicate (length work) 0) work
+cleared n work = worked n (replicate (length work) 0) work
 
 -- Finding is refused as the picture is, and by 8 where the seam's space is shorter than the seam, or the work space than
 -- 32 bytes a pixel.

@@ -16,11 +16,11 @@ pub use refusals::Verdict;
 pub use refusals::given;
 pub use refusals::number;
 ghost use Rattle.energy.specs.Energy.{EnergiesGiven, energies as Energy·energies};
-ghost use Rattle.energy.specs.Pictures.{picture as Pictures·picture};
+ghost use Rattle.energy.specs.Pictures.{largestSide, picture as Pictures·picture};
 ghost use Rattle.energy.specs.Kernels.{RowNeeded, lowerRow};
 ghost use mathlib.Core.Path.{_≡_};
 ghost use mathlib.Core.List.{_++_};
-ghost use Prim.Native.Nat.{_≤_, _<_};
+ghost use Prim.Native.Nat.{_*_, _≤_, _<_};
 ghost use lib.ListN.{drop};
 
 // The energies of row r, put into the first `width` places of out. Refused by 2, 3 and 4 as every picture is, by 4 where
@@ -46,7 +46,7 @@ pub fn energies(picture: &[u8], size: Size, r: usize, out: &mut [u32]) -> Verdic
 
 // Where the row below row r starts; of the last row, the row itself, to which it has no difference.
 fn lower_row(r: usize, height: usize, stride: usize) -> usize
-    requires { ⌜ (r < height) × (height ≤ 512) × (stride ≤ 1536) ⌝ }
+    requires { ⌜ (r < height) × (height ≤ largestSide) × (stride ≤ 3 * largestSide) ⌝ }
     ensures { λ at. ⌜ at ≡ lowerRow r height stride ⌝ }
 {
     if r + 1 < height {

@@ -4,7 +4,7 @@ use crate::refusals::Verdict;
 ghost use mathlib.Core.Path.{_≡_};
 ghost use Rattle.energy.specs.Refusals.{given, refusal, served};
 ghost use Rattle.energy.specs.Pictures.{largestSide, channelsOf, rowBytes, pictureBytes, sideRules, sizeRules, rowOf};
-ghost use Prim.Native.Nat.{_≤_};
+ghost use Prim.Native.Nat.{_*_, _≤_};
 
 // The largest width and the largest height of a picture.
 pub const LARGEST_SIDE: usize = 512;
@@ -33,7 +33,7 @@ pub fn channels(kind: Kind) -> usize
 // Bytes a row.
 pub(crate) fn row_bytes(size: Size) -> usize
     requires { ⌜ size .width ≤ largestSide ⌝ }
-    ensures { λ n. ⌜ (n ≡ rowBytes size) × (n ≤ 1536) ⌝ }
+    ensures { λ n. ⌜ (n ≡ rowBytes size) × (n ≤ 3 * largestSide) ⌝ }
 {
     let width = size.width;
     let kind = size.kind;

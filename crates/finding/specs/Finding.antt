@@ -26,6 +26,13 @@ foundCost (Refused why) = 0
 abbrev pub pixels : Size → ℕ
 pixels z = z .height * z .width
 
+-- The picture at the front of a space, and the marks behind it, one byte a pixel, row by row.
+abbrev pub pictureIn : Size → List ℕ → Picture
+pictureIn z space = picture z (take (pictureBytes z) space)
+
+abbrev pub marksIn : Size → List ℕ → List (List ℕ)
+marksIn z space = rowsOf (z .width) (z .height) (take (pixels z) (drop (pictureBytes z) space))
+
 -- Refused by 2 and 3, and by 8 where the seam's space is shorter than the seam, or the space than the picture and a byte
 -- for each of its pixels.
 abbrev pub findRules : Size → ℕ → ℕ → List Rule
@@ -34,22 +41,15 @@ findRules z space seam = sideRules z ++ (8 when ltb seam (z .height) ∷ 8 when 
 -- The seam of the picture at the front, and what is left: the picture, zeros for its pixels behind it, the rest as it was.
 pub record FindGiven (space : List ℕ) (z : Size) (seam : List ℕ) (answer : Found) (space′ seam′ : List ℕ) : Type 0 where
   pub number : foundNumber answer ≡ refusal (findRules z (length space) (length seam))
-  pub cost : foundCost answer ≡ served (foundNumber answer) (costOf (z .width) (z .height) (picture z (take (pictureBytes z) space))) 0
+  pub cost : foundCost answer ≡ served (foundNumber answer) (costOf (z .width) (z .height) (pictureIn z space)) 0
   pub space-left :
       space′ ≡ served (foundNumber answer)
       (take (pictureBytes z) space ++ (replicate (pixels z) 0 ++ drop (pictureBytes z + pixels z) space))
       space
   pub seam-given :
       seam′ ≡ served (foundNumber answer)
-      (seamOf (z .width) (z .height) (picture z (take (pictureBytes z) space)) ++ drop (z .height) seam)
+      (seamOf (z .width) (z .height) (pictureIn z space) ++ drop (z .height) seam)
       seam
-
--- The picture at the front of a space, and the marks behind it, one byte a pixel, row by row.
-abbrev pub pictureIn : Size → List ℕ → Picture
-pictureIn z space = picture z (take (pictureBytes z) space)
-
-abbrev pub marksIn : Size → List ℕ → List (List ℕ)
-marksIn z space = rowsOf (z .width) (z .height) (take (pixels z) (drop (pictureBytes z) space))
 
 -- Whether there is none.
 abbrev pub isNone : {A : Type 0} → Option A → Bool
@@ -62,7 +62,8 @@ findMarkedRules z space seam blocked =
     sideRules z
     ++ (8 when ltb seam (z .height) ∷ 8 when ltb space (pictureBytes z + (pixels z + pixels z)) ∷ 12 when blocked ∷ [])
 
--- The first after success and after 9 and every higher number, else the second.
+-- "After 1 to 8 all buffers are unchanged. After 9 and every higher number .. as after success": the first after success and
+-- after 9 and more, else the second.
 abbrev pub worked : {A : Type 0} → ℕ → A → A → A
 worked n x y = cond (eqb n 0 || ltb 8 n) x y
 

@@ -9,7 +9,7 @@ use Rattle.grids.specs.Table.{table}
 use Rattle.grids.specs.Rows.{flat}
 use Rattle.energy.specs.declared.pictures.Size.{Size}
 use Rattle.energy.specs.Refusals.{refusal, served}
-use Rattle.energy.specs.Pictures.{Picture, sizeRules, pictureBytes, picture}
+use Rattle.energy.specs.Pictures.{Picture, largestSide, sizeRules, pictureBytes, picture}
 use Rattle.energy.specs.Energy.{energy, energies}
 use Rattle.finding.specs.declared.Found.{Found}
 use Rattle.finding.specs.Seams.{seamOf, costOf, markAt, markedUp, markedSeamOf, markedCostOf}
@@ -56,11 +56,11 @@ unfoldable pub columnsTo : List ℕ → ℕ → ℕ → ℕ → List ℕ
 columnsTo ways w zero c = c ∷ []
 columnsTo ways w (suc i) c = columnsTo ways w i (c + getD ways (i * w + c) 0 - 1) ++ (c ∷ [])
 
--- Ways that stay inside w columns for the rows above row n, and room for a seam of n + 1 rows.
+-- The ways of every row but the first, which stay inside w columns, a column of the last row, and room for the seam.
 pub record TraceNeeded (ways : List ℕ) (w height column : ℕ) (seam : List ℕ) : Type 0 where
   pub some : 0 < height
-  pub short : height ≤ 512
-  pub narrow : w ≤ 512
+  pub short : height ≤ largestSide
+  pub narrow : w ≤ largestSide
   pub inside : column < w
   pub room : height ≤ length seam
   pub long : length ways ≡ (height - 1) * w

@@ -7,7 +7,7 @@ use lib.ListN.{length, take, drop}
 use Rattle.grids.specs.Rows.{rowAt}
 use Rattle.energy.specs.declared.pictures.Size.{Size}
 use Rattle.energy.specs.Refusals.{refusal}
-use Rattle.energy.specs.Pictures.{pictureBytes, sizeRules}
+use Rattle.energy.specs.Pictures.{largestSide, pictureBytes, sizeRules}
 use Rattle.moving.specs.Moving.{outside}
 
 -- A line of bytes without the n bytes from `gap` on.
@@ -31,7 +31,7 @@ samples ch w b c r = rowAt ch c (rowAt (w * ch) r b)
 
 -- A picture's bytes, a column of it, and room for the column's samples.
 pub record ColumnNeeded (ch : ℕ) (b : List ℕ) (width height c : ℕ) (out : List ℕ) : Type 0 where
-  pub narrow : width ≤ 512
+  pub narrow : width ≤ largestSide
   pub inside : c < width
   pub length-is : length b ≡ height * (width * ch)
   pub room : height * ch ≤ length out
