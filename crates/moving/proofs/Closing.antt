@@ -10,7 +10,7 @@ use borrow.Author.Tests.{leb-false, le-leb, lt-leb}
 use borrow.Rule.Slice.PartMut.{midOf, putMid, mid-len}
 use lib.Dec.{leb}
 use lib.ListN.{length, getD, take, drop, replicate, length-append, length-drop, drop-of-length-le}
-use lib.Seq.{drop-cons, drop-drop, take-at, drop-at, take-all, length-take-le}
+use lib.Seq.{drop-cons, drop-drop, take-at, drop-at, take-all, take-length, length-take-le}
 use Rattle.grids.specs.Each.{Each, Grid, none, more}
 use Rattle.grids.specs.Table.{table}
 use Rattle.grids.specs.Rows.{rowsOf, flat, rowAt}
@@ -50,10 +50,17 @@ pub length-without : (gap n : ℕ) (line : List ℕ) → gap + n ≤ length line
 length-without gap n line h =
     omega (arith, length-append (take gap line) (drop (gap + n) line), length-take-le gap line (omega arith), length-drop (gap + n) line)
 
+-- A list copied to the front of another, as `bytes::copy` says it.
+abbrev copied : List ℕ → List ℕ → List ℕ
+copied from to = take (length from) from ++ drop (length from) to
+
+copied-is : (from to : List ℕ) → copied from to ≡ from ++ drop (length from) to
+copied-is from to = ap (_++ drop (length from) to) (take-length from)
+
 -- Two copies close a line: what stands before the gap, and behind it what stands after the gap.
 module _ (line out one two : List ℕ) (gap n : ℕ) (needed : RowNeeded line gap n out) where
-  pub two-copies : one ≡ take gap line ++ drop (length (take gap line)) out
-      → two ≡ midOf (gap + n) (length line - (gap + n)) line ++ drop (length (midOf (gap + n) (length line - (gap + n)) line)) (midOf gap (length one - gap) one)
+  pub two-copies : one ≡ copied (take gap line) out
+      → two ≡ copied (midOf (gap + n) (length line - (gap + n)) line) (midOf gap (length one - gap) one)
       → putMid gap (length one - gap) one two ≡ without gap n line ++ drop (length line - n) out
   two-copies first second =
       let inside = needed .inside in
@@ -62,7 +69,7 @@ module _ (line out one two : List ℕ) (gap n : ℕ) (needed : RowNeeded line ga
       let B = drop (gap + n) line in
       let lf : length F ≡ gap = length-take-le gap line (omega arith) in
       let lb : length B ≡ length line - (gap + n) = length-drop (gap + n) line in
-      let one-is : one ≡ F ++ drop gap out = rw lf at first in
+      let one-is : one ≡ F ++ drop gap out = rw lf at (first ∙ copied-is F out) in
       let past : drop gap one ≡ drop gap out = rw one-is (drop-at F (drop gap out) gap lf) in
       let front : take gap one ≡ F = rw one-is (take-at F (drop gap out) gap lf) in
       let lo : length (drop gap out) ≡ length out - gap = length-drop gap out in
@@ -72,7 +79,8 @@ module _ (line out one two : List ℕ) (gap n : ℕ) (needed : RowNeeded line ga
       let none : drop k (drop gap one) ≡ [] = ap (drop k) past ∙ drop-of-length-le (drop gap out) {i = k} (omega arith) in
       let part : take (length line - (gap + n)) B ≡ B = take-all (length line - (gap + n)) B (omega arith) in
       let end : gap + (length line - (gap + n)) ≡ length line - n = omega arith in
-      let two-is : two ≡ B ++ drop (length line - n) out = rw (part, mid, lb, drop-drop, end) at second in
+      let whole = copied-is (midOf (gap + n) (length line - (gap + n)) line) (midOf gap k one) in
+      let two-is : two ≡ B ++ drop (length line - n) out = rw (part, mid, lb, drop-drop, end) at (second ∙ whole) in
       rw (front, none, two-is, append-nil, append-assoc)
 
 -- Row r of a picture, and its bytes.
@@ -161,7 +169,7 @@ module _ (z : Size) (b s : List ℕ) (n : ℕ) (needed : CloseNeeded b z s) (is 
   -- comes back.
   module _ (r k c : ℕ) (now row line behind new : List ℕ) (inside : r < h) (long : length now ≡ length b) (so-far : Filled (closedRow n (w * n) b s) (w * n - n) b r now) where
     pub row-turn : row ≡ midOf (r * (w * n)) (r * (w * n) + w * n - r * (w * n)) now
-        → line ≡ row ++ drop (length row) behind
+        → line ≡ copied row behind
         → c ≡ getD s r 0
         → k ≡ length now - r * (w * n - n)
         → new ≡ without (c * n) n (take (w * n) line) ++ drop (length (take (w * n) line) - n) (midOf (r * (w * n - n)) k now)
@@ -173,7 +181,7 @@ module _ (z : Size) (b s : List ℕ) (n : ℕ) (needed : CloseNeeded b z s) (is 
         let later : drop (r * (w * n)) now ≡ drop (r * (w * n)) b = filled-later f h (w * n - n) size b r now inside so-far (r * (w * n)) (q .dest) in
         let same : row ≡ rowAt (w * n) r b = row-is ∙ rw (add-sub-cancel-left (r * (w * n)) (w * n), later) in
         let size-row : length row ≡ w * n = rw same (length-rowAt (w * n) h b r (omega (arith, sure .length-is)) inside) in
-        let front : take (w * n) line ≡ rowAt (w * n) r b = rw line-is (take-at row (drop (length row) behind) (w * n) size-row ∙ same) in
+        let front : take (w * n) line ≡ rowAt (w * n) r b = rw (line-is ∙ copied-is row behind) (take-at row (drop (length row) behind) (w * n) size-row ∙ same) in
         let D = drop (r * (w * n - n)) now in
         let room : w * n - n ≤ length (take k D) = rw (length-take-le k D (omega (arith, length-drop (r * (w * n - n)) now))) (omega (arith, sure .some)) in
         filled-part f h (w * n - n) size b r now inside so-far k new room (rw (front, column, length-rowAt (w * n) h b r (omega (arith, sure .length-is)) inside) at new-is)

@@ -6,8 +6,8 @@ use native.Mathlib.Nat.{zero-mul, suc-mul}
 use native.Mathlib.Numerals.{add-one}
 use native.Mathlib.Omega.{arith}
 use borrow.Rule.Slice.PartMut.{midOf, putMid}
-use lib.ListN.{length, getD, take, drop, set, length-drop, take-append-drop, drop-of-length-le}
-use lib.Seq.{length-take-le, take-suc, drop-cons, set-at, append-snoc, take-at, drop-at, drop-drop, drop-append-le, sets, sets-eq}
+use lib.ListN.{length, take, drop, length-drop, take-append-drop, drop-of-length-le}
+use lib.Seq.{take-at, drop-at, drop-drop, drop-append-le, sets, sets-eq}
 use Rattle.grids.specs.Table.{table}
 use Rattle.grids.specs.Rows.{flat}
 use Rattle.grids.proofs.Tables.{each-table}
@@ -24,13 +24,6 @@ map-append f (x ∷ p) q = ap (f x ∷_) (map-append f p q)
 pub map-table : {A B : Type 0} (g : A → B) (f : ℕ → A) (n : ℕ) → map g (table f n) ≡ table (λ i. g (f i)) n
 map-table g f zero = refl
 map-table g f (suc n) = map-append g (table f n) (f n ∷ []) ∙ ap (_++ (g (f n) ∷ [])) (map-table g f n)
-
--- One turn of a loop that copies a list to the front of another.
-pub copy-more : (from to : List ℕ) (i : ℕ) → i < length from → i < length to → set (take i from ++ drop i to) i (getD from i 0) ≡ take (i + 1) from ++ drop (i + 1) to
-copy-more from to i h l =
-    rw (add-one i, take-suc from i 0 h) (ap (λ r. set (take i from ++ r) i (getD from i 0)) (drop-cons to i 0 l)
-    ∙ set-at (take i from) (getD to i 0) (drop (suc i) to) (getD from i 0) i (length-take-le i from (omega arith))
-    ∙ sym (append-snoc (take i from) (getD from i 0) (drop (suc i) to)))
 
 -- r parts of w elements stand at the front, and behind them what stood there.
 abbrev pub Filled : {A : Type 0} → (ℕ → List A) → ℕ → List A → ℕ → List A → Type 0

@@ -1,6 +1,5 @@
 // A seam closed up, row by row.
 use crate::spaces::clear;
-use crate::spaces::copy;
 use energy::Size;
 use energy::channels;
 ghost use mathlib.Core.Path.{_≡_};
@@ -37,8 +36,8 @@ fn close_row(line: &[u8], gap: usize, n: usize, out: &mut [u8])
     ensures { λ _. ⌜ now (out .exit) ≡ without gap n (now (line .entry)) ++ drop (length (now (line .entry)) - n) (now (out .entry)) ⌝ }
 {
     let past = gap + n;
-    copy(&line[..gap], out);
-    copy(&line[past..], &mut out[gap..]);
+    bytes::copy(&line[..gap], out);
+    bytes::copy(&line[past..], &mut out[gap..]);
 }
 
 // Takes the seam's pixel out of each row. A row's bytes pass through `line`, since where they go overlaps where they are.
@@ -55,7 +54,7 @@ pub(crate) fn close_rows(picture: &mut [u8], size: Size, seam: &[u16])
     let mut line = [0u8; 1536];
     for r in 0..height {
         let at = r * stride;
-        copy(&picture[at..at + stride], &mut line);
+        bytes::copy(&picture[at..at + stride], &mut line);
         let gap = wide(seam[r]) * n;
         let dest = r * kept;
         close_row(&line[..stride], gap, n, &mut picture[dest..]);

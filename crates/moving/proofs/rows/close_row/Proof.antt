@@ -49,7 +49,7 @@ returns : tie.Need-returns
 returns c =
     let st = c .before .before .before .before .before .before .before .before .before .before .before .before in
     let a = st .args in
-    two-copies (now (a .line)) (now (a .out)) _ _ (a .gap) (a .n) (st .pre) (c .before .before .before .before .before .before .before .copy .ensures) (c .before .before .copy2 .ensures)
+    two-copies (now (a .line)) (now (a .out)) _ _ (a .gap) (a .n) (st .pre) (c .before .before .before .before .before .before .before .copy .ensures .1) (c .before .before .copy2 .ensures .1)
 
 pub close-row-spec : {M : Type 1} → statement M
 close-row-spec =

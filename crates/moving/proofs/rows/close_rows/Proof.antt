@@ -162,7 +162,7 @@ loop-again c =
         (
           copied .kept .1 .0 ∙ head .inv .1 .1 .0,
           row-turn (a .size) (now (a .picture)) (now (a .seam)) n (st .pre) (u .channels .ensures) (head .r) _ _
-              (head .picture) _ (copied .last .1 .0) (head .line) (closed .last .1 .1 .1 .0) (z .loop-test .taken) (head .inv .1 .0) (head .inv .1 .1 .1) refl (copied .ensures) (c .before .before .before .before .before .wide .ensures) refl (closed .ensures),
+              (head .picture) _ (copied .last .1 .0) (head .line) (closed .last .1 .1 .1 .0) (z .loop-test .taken) (head .inv .1 .0) (head .inv .1 .1 .1) refl (copied .ensures .1) (c .before .before .before .before .before .wide .ensures) refl (closed .ensures),
         ),
       ),
     )
