@@ -1,8 +1,10 @@
 -- The seam found lies inside the picture.
 use mathlib.Core.Path.{_≡_, refl, sym, ap, _∙_}
-use mathlib.Core.Option.{Option, Option·getD, some}
+use mathlib.Core.Bool.{true, false, cond}
+use mathlib.Core.Option.{Option, Option·getD, none, some}
 use mathlib.Core.List.{List, [], _∷_, reverse}
 use Prim.Native.Nat.{ℕ, _<_}
+use native.Mathlib.Omega.{arith}
 use lib.ListN.{length}
 use Rattle.grids.specs.Each.{Each}
 use Rattle.grids.proofs.Shapes.{each-member, each-reverse}
@@ -13,10 +15,12 @@ use Rattle.energy.specs.declared.pictures.Size.{Size}
 use Rattle.energy.specs.Pictures.{Picture}
 use Rattle.energy.specs.Energy.{energy}
 use Rattle.energy.proofs.Sizes.{Sized}
-use Rattle.finding.specs.Seams.{seamUp, seamOf}
+use Rattle.finding.specs.Seams.{seamUp, seamOf, markedUp, markedSeamOf}
+use Rattle.finding.specs.Finding.{isNone}
+use Rattle.finding.proofs.Characterised.{marked-is}
 use Rattle.carving.specs.declared.Axis.{Axis}
 use Rattle.carving.specs.declared.Axis.the-variants.{Vertical, Horizontal}
-use Rattle.carving.specs.Axes.{turnedSize, turned, seamAlong}
+use Rattle.carving.specs.Axes.{turnedSize, turned, seamAlong, markedSeamAlong, blockedAlong}
 
 -- A path has h columns below w.
 path-inside : (w h : ℕ) (s : List ℕ) → IsPath w h s → Each (λ c. c < w) h s
@@ -33,3 +37,15 @@ pub along-inside : (x : Axis) (z : Size) (n : ℕ) (p : Picture) → Sized z n �
 unfolding seamAlong
 along-inside Vertical z n p s = seam-inside (z .width) (z .height) (turned Vertical (z .width) p) (s .width-some) (s .height-some)
 along-inside Horizontal z n p s = seam-inside (z .height) (z .width) (turned Horizontal (z .width) p) (s .height-some) (s .width-some)
+
+-- And the seam found by marks, where one is allowed.
+marked-up-inside : (w h : ℕ) (p : Picture) (m : List (List ℕ)) (o : Option (List ℕ)) → markedUp w h p m ≡ o → isNone o ≡ false → Each (λ c. c < w) h (reverse (Option·getD o []))
+marked-up-inside w h p m none e t = absurd (omega (arith, ap (λ k. cond {A = ℕ} k 0 1) t))
+marked-up-inside w h p m (some s) e t = each-reverse (path-inside w h s (marked-is w h p m s .0 e .path))
+
+pub marked-inside : (x : Axis) (z : Size) (p : Picture) (m : List (List ℕ)) → blockedAlong x z p m ≡ false → Each (λ c. c < turnedSize x z .width) (turnedSize x z .height) (markedSeamAlong x z p m)
+unfolding blockedAlong markedSeamAlong markedSeamOf
+marked-inside x z p m e =
+    let q = turned x (z .width) p in
+    let n = turned x (z .width) m in
+    marked-up-inside (turnedSize x z .width) (turnedSize x z .height) q n (markedUp (turnedSize x z .width) (turnedSize x z .height) q n) refl e

@@ -3,3 +3,4 @@ pub mod FindIn
 pub mod Buffers
 pub mod Inside
 pub mod Columns
+pub mod Marks

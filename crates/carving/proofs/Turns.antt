@@ -71,3 +71,7 @@ more-than-one (suc (suc n)) h two = omega arith
 pub turned-some : (x : Axis) (z : Size) (n : ℕ) → Sized z n → (turnedSize x z .width ≡ 1 → ⊥) → 1 < turnedSize x z .width
 turned-some Vertical z n s two = more-than-one (z .width) (s .width-some) two
 turned-some Horizontal z n s two = more-than-one (z .height) (s .height-some) two
+
+pub turned-tall : (x : Axis) (z : Size) (n : ℕ) → Sized z n → turnedSize x z .height ≤ largestSide
+turned-tall Vertical z n s = s .height-most
+turned-tall Horizontal z n s = s .width-most

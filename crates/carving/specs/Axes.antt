@@ -1,11 +1,13 @@
 -- Seams along either axis. "A horizontal seam is the vertical seam of the picture with rows and columns exchanged."
+use mathlib.Core.Bool.{Bool}
 use mathlib.Core.List.{List}
 use Prim.Native.Nat.{ℕ, _-_}
 use Rattle.grids.specs.Exchange.{exchange}
 use Rattle.grids.specs.Cut.{cut}
 use Rattle.energy.specs.declared.pictures.Size.{Size}
 use Rattle.energy.specs.Pictures.{Picture}
-use Rattle.finding.specs.Seams.{seamOf, costOf}
+use Rattle.finding.specs.Seams.{seamOf, costOf, markedUp, markedSeamOf, markedCostOf}
+use Rattle.finding.specs.Finding.{isNone}
 use Rattle.carving.specs.declared.Axis.{Axis}
 use Rattle.carving.specs.declared.Axis.the-variants.{Vertical, Horizontal}
 
@@ -25,6 +27,16 @@ seamAlong x z p = seamOf (turnedSize x z .width) (turnedSize x z .height) (turne
 
 unfoldable pub costAlong : Axis → Size → Picture → ℕ
 costAlong x z p = costOf (turnedSize x z .width) (turnedSize x z .height) (turned x (z .width) p)
+
+-- The same by marks, which are turned with the picture; and whether every seam along the axis meets a protected pixel.
+unfoldable pub markedSeamAlong : Axis → Size → Picture → List (List ℕ) → List ℕ
+markedSeamAlong x z p m = markedSeamOf (turnedSize x z .width) (turnedSize x z .height) (turned x (z .width) p) (turned x (z .width) m)
+
+unfoldable pub markedCostAlong : Axis → Size → Picture → List (List ℕ) → ℕ
+markedCostAlong x z p m = markedCostOf (turnedSize x z .width) (turnedSize x z .height) (turned x (z .width) p) (turned x (z .width) m)
+
+unfoldable pub blockedAlong : Axis → Size → Picture → List (List ℕ) → Bool
+blockedAlong x z p m = isNone (markedUp (turnedSize x z .width) (turnedSize x z .height) (turned x (z .width) p) (turned x (z .width) m))
 
 -- The size with a column less.
 abbrev pub narrowed : Size → Size

@@ -1,15 +1,18 @@
 -- What the private functions of this crate ask and promise. No public promise cites it.
 use mathlib.Core.Path.{_≡_}
+use mathlib.Core.Bool.{cond}
 use mathlib.Core.List.{List, _++_}
-use Prim.Native.Nat.{ℕ, _*_, _≤_, _<_}
+use Prim.Native.Nat.{ℕ, _+_, _*_, _≤_, _<_}
 use lib.ListN.{length, replicate}
 use Rattle.grids.specs.Each.{Each}
+use Rattle.energy.specs.declared.pictures.Kind.the-variants.{Grey}
 use Rattle.energy.specs.declared.pictures.Size.{Size}
 use Rattle.energy.specs.Refusals.{refusal}
 use Rattle.energy.specs.Pictures.{channelsOf, sizeRules, pictureBytes, picture, bytes}
-use Rattle.finding.specs.Finding.{pixels}
+use Rattle.finding.specs.declared.Found.{Found}
+use Rattle.finding.specs.Finding.{foundNumber, foundCost, pixels, marksOf}
 use Rattle.carving.specs.declared.Axis.{Axis}
-use Rattle.carving.specs.Axes.{turnedSize, cutAlong}
+use Rattle.carving.specs.Axes.{turnedSize, blockedAlong, cutAlong}
 
 -- A picture of its size, and room for it turned.
 pub record TurnNeeded (b : List ℕ) (z : Size) (to : List ℕ) : Type 0 where
@@ -21,6 +24,26 @@ pub record SeamNeeded (b : List ℕ) (z : Size) (x : Axis) (seam work : List ℕ
   pub sized : refusal (sizeRules z (length b)) ≡ 0
   pub seam-room : turnedSize x z .height ≤ length seam
   pub work-room : 32 * pixels z ≤ length work
+
+-- Marks are moved as a grey picture of the same sides.
+abbrev pub greyOf : Size → Size
+greyOf z = record { width = z .width; height = z .height; kind = Grey }
+
+-- A picture and marks of its size, with room for the seam and for finding it.
+pub record MarkedNeeded (b m : List ℕ) (z : Size) (x : Axis) (seam work : List ℕ) : Type 0 where
+  pub sized : refusal (sizeRules z (length b)) ≡ 0
+  pub marked : length m ≡ pixels z
+  pub seam-room : turnedSize x z .height ≤ length seam
+  pub work-room : pictureBytes z + (pixels z + pixels z) ≤ length work
+
+-- 12 where every seam meets a protected pixel; at the last column or row else 13, and no seam is given.
+abbrev pub blockedNumber : Axis → Size → List ℕ → List ℕ → ℕ
+blockedNumber x z b m = cond (blockedAlong x z (picture z b) (marksOf z m)) 12 0
+
+pub record LastGiven (b m : List ℕ) (z : Size) (x : Axis) (work : List ℕ) (answer : Found) (work′ : List ℕ) : Type 0 where
+  pub number-is : foundNumber answer ≡ cond (blockedAlong x z (picture z b) (marksOf z m)) 12 13
+  pub cost-is : foundCost answer ≡ 0
+  pub work-is : work′ ≡ replicate (length work) 0
 
 -- More than one column, or row, for the seam to leave.
 pub record CutNeeded (z : Size) (x : Axis) : Type 0 where

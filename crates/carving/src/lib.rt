@@ -1,11 +1,14 @@
 // Seams of lent pictures: finding and cutting, along either axis.
 mod closing;
+pub mod marked;
 mod turning;
 
 use energy::Refusal;
 use energy::Size;
 use energy::Verdict;
 use finding::Found;
+pub use marked::cut_marked;
+pub use marked::find_marked;
 ghost use mathlib.Core.Path.{_≡_};
 ghost use lib.ListN.{length};
 ghost use Rattle.energy.specs.Refusals.{given, refusal};
@@ -49,7 +52,7 @@ pub fn cut(picture: &mut [u8], size: Size, axis: Axis, seam: &mut [u16], work: &
 }
 
 // Which of 2, 3, 4 and 8 refuses buffers of these lengths, or none.
-fn rooms(size: Size, axis: Axis, bytes: usize, seam: usize, work: usize) -> Verdict
+pub(crate) fn rooms(size: Size, axis: Axis, bytes: usize, seam: usize, work: usize) -> Verdict
     ensures { λ v. ⌜ given v ≡ refusal (findRules axis size bytes seam work) ⌝ }
 {
     let fits = energy::sized(size, bytes);

@@ -1,5 +1,6 @@
 // Pictures turned so that a seam along an axis is vertical.
 use crate::Axis;
+use energy::Kind;
 use energy::Size;
 ghost use mathlib.Core.Path.{_≡_};
 ghost use mathlib.Core.List.{_++_};
@@ -7,7 +8,7 @@ ghost use Prim.Native.Nat.{_<_};
 ghost use lib.ListN.{drop};
 ghost use Rattle.energy.specs.Pictures.{picture as Pictures·picture, bytes, pictureBytes};
 ghost use Rattle.carving.specs.Axes.{turnedSize, turned, narrowed};
-ghost use Rattle.carving.specs.Kernels.{TurnNeeded};
+ghost use Rattle.carving.specs.Kernels.{greyOf, TurnNeeded};
 
 // The size in which a seam along the axis is vertical.
 pub(crate) fn turned_size(axis: Axis, size: Size) -> Size
@@ -42,6 +43,19 @@ pub(crate) fn narrower(size: Size) -> Size
         width: width - 1,
         height,
         kind,
+    }
+}
+
+// The size of a grey picture that has a pixel for each pixel.
+pub(crate) fn grey(size: Size) -> Size
+    ensures { λ z. ⌜ z ≡ greyOf size ⌝ }
+{
+    let width = size.width;
+    let height = size.height;
+    Size {
+        width,
+        height,
+        kind: Kind::Grey,
     }
 }
 

@@ -26,12 +26,16 @@ foundCost (Refused why) = 0
 abbrev pub pixels : Size → ℕ
 pixels z = z .height * z .width
 
--- The picture at the front of a space, and the marks behind it, one byte a pixel, row by row.
+-- The marks in a buffer: rows from the top, one byte a pixel.
+abbrev pub marksOf : Size → List ℕ → List (List ℕ)
+marksOf z b = rowsOf (z .width) (z .height) b
+
+-- The picture at the front of a space, and the marks behind it.
 abbrev pub pictureIn : Size → List ℕ → Picture
 pictureIn z space = picture z (take (pictureBytes z) space)
 
 abbrev pub marksIn : Size → List ℕ → List (List ℕ)
-marksIn z space = rowsOf (z .width) (z .height) (take (pixels z) (drop (pictureBytes z) space))
+marksIn z space = marksOf z (take (pixels z) (drop (pictureBytes z) space))
 
 -- Refused by 2 and 3, and by 8 where the seam's space is shorter than the seam, or the space than the picture and a byte
 -- for each of its pixels.

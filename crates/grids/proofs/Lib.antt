@@ -5,3 +5,4 @@ pub mod Rows
 pub mod Exchange
 pub mod Cut
 pub mod Parts
+pub mod Maps

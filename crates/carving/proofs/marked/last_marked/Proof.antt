@@ -1,0 +1,80 @@
+-- `carving::marked::last_marked` meets its contract.
+use mathlib.Core.Path.{_≡_, refl, sym, ap, _∙_}
+use mathlib.Core.Bool.{Bool, true, false, cond}
+use mathlib.Core.List.{List}
+use native.Mathlib.Omega.{arith}
+use borrow.Author.Needs.{needs}
+use denote.Ref.{now}
+use lib.ListN.{length, replicate}
+use Rattle.energy.specs.Pictures.{picture}
+use Rattle.finding.specs.Finding.{foundNumber, foundCost, marksOf}
+use Rattle.finding.proofs.Worked.{worked-or}
+use Rattle.carving.specs.Axes.{blockedAlong}
+use Rattle.carving.proofs.Buffers.{seam-free, refused-blocked}
+use Rattle.carving.proofs.marked.last_marked.Statement.{statement}
+use Rattle.carving.proofs.marked.last_marked.Tie as tie
+
+-- whether every seam meets a protected pixel
+blocked : tie.Start → Bool
+blocked c = let a = c .args in blockedAlong (a .axis) (a .size) (picture (a .size) (now (a .picture))) (marksOf (a .size) (now (a .marks)))
+
+zero : (c : tie.After-marked-along) → c .marked-along .last .1 .1 .1 .1 .1 .0 ≡ replicate (length (now (c .before .before .before .before .before .before .args .work))) 0
+unfolding blocked
+zero c =
+    let work = now (c .before .before .before .before .before .before .args .work) in
+    c .marked-along .ensures .work-is ∙ worked-or (cond (blocked (c .before .before .before .before .before .before)) 12 0) (replicate (length work) 0) work (blocked (c .before .before .before .before .before .before)) refl
+
+slice-aggregate-marked-along : tie.Need-slice-aggregate-marked-along
+slice-aggregate-marked-along c = search needs
+
+marked-along-requires : tie.Need-marked-along-requires
+marked-along-requires c κs = search needs
+
+enum-told : tie.Need-enum-told
+enum-told c = search needs
+
+enum-told-2 : tie.Need-enum-told-2
+enum-told-2 c = search needs
+
+same-length : tie.Need-same-length
+same-length c = search needs
+
+returns : tie.Need-returns
+unfolding blocked
+returns c =
+    let f = c .before .before .before .before .before .marked-along in
+    let why = c .enum-told2 .given in
+    let t : blocked (c .before .before .before .before .before .before .before .before .before .before .before) ≡ true = refused-blocked (blocked (c .before .before .before .before .before .before .before .before .before .before .before)) (f .result) (f .ensures .number-is) (why .0 .0) (why .1) in
+    record {
+      number-is = f .ensures .number-is ∙ ap (λ k. cond k 12 0) t ∙ sym (ap (λ k. cond k 12 13) t);
+      cost-is = ap foundCost (why .1);
+      work-is = zero (c .before .before .before .before .before);
+    }
+
+same-length-2 : tie.Need-same-length-2
+same-length-2 c = search needs
+
+returns-2 : tie.Need-returns-2
+unfolding blocked
+returns-2 c =
+    let f = c .before .before .before .before .before .marked-along in
+    let seam = c .enum-told .given in
+    let t : blocked (c .before .before .before .before .before .before .before .before .before .before .before) ≡ false = seam-free (blocked (c .before .before .before .before .before .before .before .before .before .before .before)) (f .result) (f .ensures .number-is) (seam .0 .0) (seam .1) in
+    record {
+      number-is = sym (ap (λ k. cond k 12 13) t);
+      cost-is = refl;
+      work-is = zero (c .before .before .before .before .before);
+    }
+
+pub last-marked-spec : {M : Type 1} → statement M
+last-marked-spec =
+    tie.close
+    (tie.spec
+    slice-aggregate-marked-along
+    marked-along-requires
+    enum-told
+    enum-told-2
+    same-length
+    returns
+    same-length-2
+    returns-2)

@@ -1,0 +1,148 @@
+-- `carving::marked::marked_along` meets its contract.
+use mathlib.Core.Path.{_≡_, refl, sym, ap, ap₂, _∙_}
+use mathlib.Core.Bool.{cond}
+use mathlib.Core.List.{List, _++_}
+use Prim.Native.Nat.{ℕ, _+_, _-_, _*_, _≤_}
+use native.Mathlib.Omega.{arith}
+use borrow.Author.Needs.{needs}
+use borrow.Rule.Slice.PartMut.{putMid, midOf, same-len-mid}
+use denote.Ref.{now}
+use lib.ListN.{length, take, drop, replicate}
+use Rattle.grids.specs.Rows.{flat}
+use Rattle.grids.proofs.Parts.{part-length}
+use Rattle.energy.specs.Refusals.{served}
+use Rattle.energy.specs.Pictures.{pictureBytes, picture, bytes}
+use Rattle.energy.proofs.Sizes.{Sized, sized-is}
+use Rattle.finding.specs.Seams.{markedUp, markedSeamOf, markedCostOf}
+use Rattle.finding.specs.Finding.{foundNumber, pixels, marksOf, isNone, FindMarkedGiven}
+use Rattle.finding.proofs.Worked.{worked-or}
+use Rattle.carving.specs.Axes.{turnedSize, turned, markedSeamAlong, markedCostAlong, blockedAlong}
+use Rattle.carving.specs.Carving.{SeamGiven}
+use Rattle.carving.specs.Kernels.{greyOf, MarkedNeeded}
+use Rattle.carving.proofs.Turns.{turned-bytes, turned-pixels, turned-sides}
+use Rattle.carving.proofs.FindIn.{MarkedThere, marked-served}
+use Rattle.carving.proofs.Marks.{grey-bytes, grey-sized, put-behind, picture-there, marks-there}
+use Rattle.carving.proofs.marked.marked_along.Statement.{statement}
+use Rattle.carving.proofs.marked.marked_along.Tie as tie
+
+sure : (c : tie.Start) → Sized (c .args .size) (length (now (c .args .picture)))
+sure c = sized-is _ _ (c .pre .sized)
+
+-- the picture turned stands at the front of the work space, with room for the marks
+fits : (c : tie.After-turn) → length (now (c .before .before .before .before .before .before .before .before .args .picture)) + (pixels (c .before .before .before .before .before .before .before .before .args .size) + pixels (c .before .before .before .before .before .before .before .before .args .size)) ≤ length (c .turn .last .1 .1 .1 .0)
+fits c = omega (arith, sure (c .before .before .before .before .before .before .before .before) .length-is, c .before .before .before .before .before .before .before .before .pre .work-room, c .turn .kept .1 .1 .1 .0)
+
+-- and then the marks turned behind it
+space : (c : tie.After-turn2) → List ℕ
+space c = let w = c .before .before .before .before .turn .last .1 .1 .1 .0 in putMid (length (now (c .before .before .before .before .before .before .before .before .before .before .before .before .args .picture))) (length w - length (now (c .before .before .before .before .before .before .before .before .before .before .before .before .args .picture))) w (c .turn2 .last .1 .1 .1 .0)
+
+after : (c : tie.After-turn2) → List ℕ
+after c =
+    let n = length (now (c .before .before .before .before .before .before .before .before .before .before .before .before .args .picture)) in
+    let w = c .before .before .before .before .turn .last .1 .1 .1 .0 in
+    drop (pictureBytes (greyOf (c .before .before .before .before .before .before .before .before .before .before .before .before .args .size))) (midOf n (length w - n) w) ++ drop (length w) w
+
+stands : (c : tie.After-turn2) → let a = c .before .before .before .before .before .before .before .before .before .before .before .before .args in
+    space c ≡ bytes (turned (a .axis) (a .size .width) (picture (a .size) (now (a .picture)))) ++ (flat (turned (a .axis) (a .size .width) (marksOf (a .size) (now (a .marks)))) ++ after c)
+unfolding space after
+stands c =
+    let a = c .before .before .before .before .before .before .before .before .before .before .before .before .args in
+    let n = length (now (a .picture)) in
+    let w = c .before .before .before .before .turn .last .1 .1 .1 .0 in
+    let mid = midOf n (length w - n) w in
+    let back : c .turn2 .last .1 .1 .1 .0 ≡ bytes (turned (a .axis) (a .size .width) (picture (greyOf (a .size)) (now (a .marks)))) ++ drop (pictureBytes (greyOf (a .size))) mid = rw (c .before .before .before .before .before .before .grey .ensures) at (c .turn2 .ensures) in
+    put-behind (a .axis) (a .size) (now (a .picture)) (now (a .marks)) (now (a .work)) w mid (c .turn2 .last .1 .1 .1 .0)
+    (sure (c .before .before .before .before .before .before .before .before .before .before .before .before) .length-is) (c .before .before .before .before .before .before .before .before .before .before .before .before .pre .marked) (omega (arith, fits (c .before .before .before .before))) (c .before .before .before .before .turn .ensures) back
+
+space-long : (c : tie.After-turn2) → length (space c) ≡ length (now (c .before .before .before .before .before .before .before .before .before .before .before .before .args .work))
+unfolding space
+space-long c = let w = c .before .before .before .before .turn .last .1 .1 .1 .0 in let n = length (now (c .before .before .before .before .before .before .before .before .before .before .before .before .args .picture)) in same-len-mid n (length w - n) w (c .turn2 .last .1 .1 .1 .0) (c .turn2 .kept .1 .1 .1 .0) ∙ c .before .before .before .before .turn .kept .1 .1 .1 .0
+
+there : (c : tie.After-find-marked-in) → let a = c .before .before .before .before .before .before .before .before .before .before .before .before .before .before .before .before .before .args in
+    MarkedThere (space (c .before .before .before .before .before)) (turnedSize (a .axis) (a .size)) (now (a .seam)) (c .find-marked-in .result) (c .find-marked-in .last .0) (c .find-marked-in .last .1 .1 .0)
+unfolding space
+there c =
+    let a = c .before .before .before .before .before .before .before .before .before .before .before .before .before .before .before .before .before .args in
+    let s = sure (c .before .before .before .before .before .before .before .before .before .before .before .before .before .before .before .before .before) in
+    marked-served (space (c .before .before .before .before .before)) (turnedSize (a .axis) (a .size)) (now (a .seam)) (c .find-marked-in .result) (c .find-marked-in .last .0) (c .find-marked-in .last .1 .1 .0)
+    (rw (c .before .before .before .before .before .before .before .before .before .before .before .before .turned-size .ensures) at (c .find-marked-in .ensures))
+    (turned-sides (a .axis) (a .size) (length (now (a .picture))) s) (c .before .before .before .before .before .before .before .before .before .before .before .before .before .before .before .before .before .pre .seam-room)
+    (omega (arith, turned-bytes (a .axis) (a .size), turned-pixels (a .axis) (a .size), c .before .before .before .before .before .before .before .before .before .before .before .before .before .before .before .before .before .pre .work-room, space-long (c .before .before .before .before .before)))
+
+turned-size-requires : tie.Need-turned-size-requires
+turned-size-requires c κs = search needs
+
+grey-requires : tie.Need-grey-requires
+grey-requires c κs = search needs
+
+turn-requires : tie.Need-turn-requires
+turn-requires c κs = search needs
+
+sub-turn : tie.Need-sub-turn
+sub-turn c = omega (arith, fits (c .before .before))
+
+part-turn-start : tie.Need-part-turn-start
+part-turn-start c = omega (arith, fits (c .before .before))
+
+part-turn-end : tie.Need-part-turn-end
+part-turn-end c = search needs
+
+turn-requires-2 : tie.Need-turn-requires-2
+turn-requires-2 c κs =
+    let a = c .before .before .before .before .before .before .before .before .before .before .before .args in
+    let space = c .before .before .before .turn .last .1 .1 .1 .0 in
+    rw (c .before .before .before .before .before .grey .ensures)
+    (record {
+      sized = grey-sized (a .size) (length (now (a .picture))) (now (a .marks)) (sure (c .before .before .before .before .before .before .before .before .before .before .before)) (c .before .before .before .before .before .before .before .before .before .before .before .pre .marked);
+      room = omega (arith, grey-bytes (a .size), part-length (length (now (a .picture))) (length space) space (omega arith), fits (c .before .before .before));
+    })
+
+find-marked-in-requires : tie.Need-find-marked-in-requires
+find-marked-in-requires c κs = search needs
+
+clear-requires : tie.Need-clear-requires
+clear-requires c κs = search needs
+
+same-length : tie.Need-same-length
+same-length c = search needs
+
+same-length-2 : tie.Need-same-length-2
+same-length-2 c = search needs
+
+returns : tie.Need-returns
+unfolding markedSeamAlong markedCostAlong blockedAlong space
+returns c =
+    let f = c .before .before .before .before .before .before .before .before in
+    let a = c .before .before .before .before .before .before .before .before .before .before .before .before .before .before .before .before .before .before .before .before .before .before .before .before .before .args in
+    let t = turnedSize (a .axis) (a .size) in
+    let g = there f in
+    let p = picture-there (a .axis) (a .size) (now (a .picture)) (now (a .marks)) (space (c .before .before .before .before .before .before .before .before .before .before .before .before .before)) (after (c .before .before .before .before .before .before .before .before .before .before .before .before .before)) (sure (c .before .before .before .before .before .before .before .before .before .before .before .before .before .before .before .before .before .before .before .before .before .before .before .before .before) .length-is) (c .before .before .before .before .before .before .before .before .before .before .before .before .before .before .before .before .before .before .before .before .before .before .before .before .before .pre .marked) (stands (c .before .before .before .before .before .before .before .before .before .before .before .before .before)) in
+    let m = marks-there (a .axis) (a .size) (now (a .picture)) (now (a .marks)) (space (c .before .before .before .before .before .before .before .before .before .before .before .before .before)) (after (c .before .before .before .before .before .before .before .before .before .before .before .before .before)) (sure (c .before .before .before .before .before .before .before .before .before .before .before .before .before .before .before .before .before .before .before .before .before .before .before .before .before) .length-is) (c .before .before .before .before .before .before .before .before .before .before .before .before .before .before .before .before .before .before .before .before .before .before .before .before .before .pre .marked) (stands (c .before .before .before .before .before .before .before .before .before .before .before .before .before)) in
+    let blocked = blockedAlong (a .axis) (a .size) (picture (a .size) (now (a .picture))) (marksOf (a .size) (now (a .marks))) in
+    let n : foundNumber (f .find-marked-in .result) ≡ cond (blockedAlong (a .axis) (a .size) (picture (a .size) (now (a .picture))) (marksOf (a .size) (now (a .marks)))) 12 0 = g .number ∙ ap₂ (λ q r. cond (isNone (markedUp (t .width) (t .height) q r)) 12 0) p m in
+    record {
+      number-is = n;
+      cost-is = g .cost ∙ ap₂ (λ q r. served (foundNumber (f .find-marked-in .result)) (markedCostOf (t .width) (t .height) q r) 0) p m ∙ ap (λ k. served k (markedCostAlong (a .axis) (a .size) (picture (a .size) (now (a .picture))) (marksOf (a .size) (now (a .marks)))) 0) n;
+      seam-is =
+          g .seam-given
+          ∙ ap₂ (λ q r. served (foundNumber (f .find-marked-in .result)) (markedSeamOf (t .width) (t .height) q r ++ drop (t .height) (now (a .seam))) (now (a .seam))) p m
+          ∙ ap (λ k. served k (markedSeamAlong (a .axis) (a .size) (picture (a .size) (now (a .picture))) (marksOf (a .size) (now (a .marks))) ++ drop (t .height) (now (a .seam))) (now (a .seam))) n;
+      work-is = c .before .before .clear .ensures ∙ ap (λ k. replicate k 0) (f .find-marked-in .kept .0 ∙ space-long (c .before .before .before .before .before .before .before .before .before .before .before .before .before)) ∙ sym (worked-or (cond blocked 12 0) (replicate (length (now (a .work))) 0) (now (a .work)) blocked refl);
+    }
+
+pub marked-along-spec : {M : Type 1} → statement M
+marked-along-spec =
+    tie.close
+    (tie.spec
+    turned-size-requires
+    grey-requires
+    turn-requires
+    sub-turn
+    part-turn-start
+    part-turn-end
+    turn-requires-2
+    find-marked-in-requires
+    clear-requires
+    same-length
+    same-length-2
+    returns)
