@@ -26,7 +26,7 @@ use Rattle.carving.specs.Axes.{turnedSize, turned, seamAlong, markedSeam
 path-inside : (w h : ℕ) (s : List ℕ) → IsPath w h s → Each (λ c. c < w) h s
 path-inside w h s p = rw (p .size) at (each-member s (p .within))
 
-seam-inside : (w h : ℕ) (p : Picture) → 0 < w → 0 < h → Each (λ c. c < w) h (seamOf w h p)
+pub seam-inside : (w h : ℕ) (p : Picture) → 0 < w → 0 < h → Each (λ c. c < w) h (seamOf w h p)
 unfolding seamOf
 seam-inside w h p some-column some-row =
     let found = cheapest-some (energy p 0) (λ i a c. energy p i c) w h some-column some-row in

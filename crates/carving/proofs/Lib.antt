@@ -4,3 +4,4 @@ pub mod Buffers
 pub mod Inside
 pub mod Columns
 pub mod Marks
+pub mod Fronts

@@ -62,7 +62,7 @@ bytes-few z =
     let m = mul-le-mul-left (z .height) (mul-le-mul-left (z .width) (channels-most (z .kind))) in
     omega (arith, mul-assoc (z .height) (z .width) 3, mul-comm (z .height * z .width) 3)
 
-more-than-one : (n : ℕ) → 0 < n → (n ≡ 1 → ⊥) → 1 < n
+pub more-than-one : (n : ℕ) → 0 < n → (n ≡ 1 → ⊥) → 1 < n
 more-than-one zero h two = absurd (omega arith)
 more-than-one (suc zero) h two = absurd (two refl)
 more-than-one (suc (suc n)) h two = omega arith

@@ -2,17 +2,20 @@
 use mathlib.Core.Path.{_≡_}
 use mathlib.Core.Bool.{not}
 use mathlib.Core.List.{List, [], _∷_, _++_}
-use Prim.Native.Nat.{ℕ, _*_}
+use Prim.Native.Nat.{ℕ, _+_, _*_}
 use lib.Dec.{eqb, ltb}
-use lib.ListN.{length, drop, replicate}
+use lib.ListN.{length, take, drop, replicate}
 use Rattle.grids.specs.Rows.{flat}
+use Rattle.grids.specs.Cut.{cut}
 use Rattle.energy.specs.declared.pictures.Size.{Size}
 use Rattle.energy.specs.Refusals.{Rule, _when_, refusal, served}
-use Rattle.energy.specs.Pictures.{channelsOf, sizeRules, picture, bytes}
+use Rattle.energy.specs.Pictures.{channelsOf, pictureBytes, sizeRules, picture, bytes}
 use Rattle.moving.specs.Moving.{outside}
 use Rattle.finding.specs.declared.Found.{Found}
-use Rattle.finding.specs.Finding.{foundNumber, foundCost, pixels, marksOf, worked}
+use Rattle.finding.specs.Seams.{seamOf, costOf}
+use Rattle.finding.specs.Finding.{foundNumber, foundCost, pixels, pictureIn, marksOf, worked, findRules as Finding·findRules}
 use Rattle.carving.specs.declared.Axis.{Axis}
+use Rattle.carving.specs.declared.Axis.the-variants.{Vertical}
 use Rattle.carving.specs.Axes.{turnedSize, seamAlong, costAlong, markedSeamAlong, markedCostAlong, blockedAlong, cutAlong}
 
 -- "After 1 to 8 all buffers are unchanged. After 9 and every higher number .. work space is zero, as after success."
@@ -81,3 +84,21 @@ MarkedPictureCut b m z x = SeamCut b z x (markedSeamAlong x z (picture z b) (mar
 
 abbrev pub MarkedMarksCut : List ℕ → List ℕ → Size → Axis → ℕ → List ℕ → Type 0
 MarkedMarksCut b m z x = MarksCut m z x (markedSeamAlong x z (picture z b) (marksOf z m))
+
+-- A cut of the picture at the front of a space is refused as finding its seam there is, and by 13 at the last column.
+abbrev pub cutInRules : Size → ℕ → ℕ → List Rule
+cutInRules z space seam = Finding·findRules z space seam ++ lastRules Vertical z
+
+-- The number, the seam and its cost, and what is left: the picture without the seam and its freed bytes 0, zeros for its
+-- pixels behind it, the rest as it was. After 13 only the zeros are new.
+pub record CutInGiven (space : List ℕ) (z : Size) (seam : List ℕ) (number : ℕ) (answer : Found) (space′ seam′ : List ℕ) : Type 0 where
+  pub number-is : foundNumber answer ≡ number
+  pub cost-is : foundCost answer ≡ served number (costOf (z .width) (z .height) (pictureIn z space)) 0
+  pub space-is :
+      space′ ≡ worked number
+      (served number
+      (bytes (cut (seamOf (z .width) (z .height) (pictureIn z space)) (pictureIn z space)) ++ replicate (z .height * channelsOf (z .kind)) 0)
+      (take (pictureBytes z) space)
+      ++ (replicate (pixels z) 0 ++ drop (pictureBytes z + pixels z) space))
+      space
+  pub seam-is : seam′ ≡ served number (seamOf (z .width) (z .height) (pictureIn z space) ++ drop (z .height) seam) seam

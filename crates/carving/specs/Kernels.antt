@@ -1,16 +1,16 @@
 -- What the private functions of this crate ask and promise. No public promise cites it.
 use mathlib.Core.Path.{_≡_}
-use mathlib.Core.Bool.{cond}
-use mathlib.Core.List.{List, _++_}
+use mathlib.Core.Bool.{true, cond}
+use mathlib.Core.List.{List, [], _∷_, _++_}
 use Prim.Native.Nat.{ℕ, _+_, _*_, _≤_, _<_}
-use lib.ListN.{length, replicate}
+use lib.ListN.{length, take, drop, replicate}
 use Rattle.grids.specs.Each.{Each}
 use Rattle.energy.specs.declared.pictures.Kind.the-variants.{Grey}
 use Rattle.energy.specs.declared.pictures.Size.{Size}
-use Rattle.energy.specs.Refusals.{refusal}
+use Rattle.energy.specs.Refusals.{_when_, refusal}
 use Rattle.energy.specs.Pictures.{channelsOf, sizeRules, pictureBytes, picture, bytes}
 use Rattle.finding.specs.declared.Found.{Found}
-use Rattle.finding.specs.Finding.{foundNumber, foundCost, pixels, marksOf}
+use Rattle.finding.specs.Finding.{foundNumber, foundCost, pixels, marksOf, worked, findRules}
 use Rattle.carving.specs.declared.Axis.{Axis}
 use Rattle.carving.specs.Axes.{turnedSize, blockedAlong, cutAlong}
 
@@ -61,3 +61,12 @@ pub record CloseNeeded (b : List ℕ) (z : Size) (x : Axis) (seam work : List �
 pub record CloseGiven (b : List ℕ) (z : Size) (x : Axis) (seam work b′ work′ : List ℕ) : Type 0 where
   pub picture-is : b′ ≡ bytes (cutAlong x z seam (picture z b)) ++ replicate (turnedSize x z .height * channelsOf (z .kind)) 0
   pub work-is : work′ ≡ replicate (length work) 0
+
+-- What refuses finding with so much room for the seam, else 13; the places behind the picture cleared unless 1 to 8 refuse.
+pub record LastInGiven (space : List ℕ) (z : Size) (room : ℕ) (answer : Found) (space′ : List ℕ) : Type 0 where
+  pub number-is : foundNumber answer ≡ refusal (findRules z (length space) room ++ (13 when true ∷ []))
+  pub cost-is : foundCost answer ≡ 0
+  pub space-is :
+      space′ ≡ worked (foundNumber answer)
+      (take (pictureBytes z) space ++ (replicate (pixels z) 0 ++ drop (pictureBytes z + pixels z) space))
+      space

@@ -1,5 +1,6 @@
 // Seams of lent pictures: finding and cutting, along either axis.
 mod closing;
+pub mod front;
 pub mod marked;
 mod turning;
 
@@ -7,6 +8,7 @@ use energy::Refusal;
 use energy::Size;
 use energy::Verdict;
 use finding::Found;
+pub use front::cut_in;
 pub use marked::cut_marked;
 pub use marked::find_marked;
 ghost use mathlib.Core.Path.{_≡_};
