@@ -1,7 +1,7 @@
 //! The functions of the archive, and safe forms of them.
 //!
-//! A picture is handed on from a buffer that may be changed, so that a write
-//! to it would be seen in the comparison.
+//! A picture and its marks are handed on from buffers that may be changed, so
+//! that a write to them would be seen in the comparison.
 
 #![allow(unsafe_code)]
 
@@ -72,6 +72,36 @@ extern "C" {
     fn multisize_cut(
         picture: *mut u8,
         picture_len: usize,
+        width: usize,
+        height: usize,
+        kind: u8,
+        axis: u8,
+        seam: *mut u16,
+        seam_len: usize,
+        work: *mut u8,
+        work_len: usize,
+    ) -> Answer;
+
+    fn multisize_find_marked(
+        picture: *const u8,
+        picture_len: usize,
+        marks: *const u8,
+        marks_len: usize,
+        width: usize,
+        height: usize,
+        kind: u8,
+        axis: u8,
+        seam: *mut u16,
+        seam_len: usize,
+        work: *mut u8,
+        work_len: usize,
+    ) -> Answer;
+
+    fn multisize_cut_marked(
+        picture: *mut u8,
+        picture_len: usize,
+        marks: *mut u8,
+        marks_len: usize,
         width: usize,
         height: usize,
         kind: u8,
@@ -167,6 +197,62 @@ pub fn cut(
     }
 }
 
+/// The seam by the marks at the front of `seam`; the value is its cost.
+pub fn find_marked(
+    picture: &mut [u8],
+    marks: &mut [u8],
+    size: NamedSize,
+    axis: NamedAxis,
+    seam: &mut [u16],
+    work: &mut [u8],
+) -> Answer {
+    // Each pointer comes with the length of its slice; the slices don't overlap.
+    unsafe {
+        multisize_find_marked(
+            picture.as_mut_ptr(),
+            picture.len(),
+            marks.as_mut_ptr(),
+            marks.len(),
+            size.width,
+            size.height,
+            size.kind,
+            axis.0,
+            seam.as_mut_ptr(),
+            seam.len(),
+            work.as_mut_ptr(),
+            work.len(),
+        )
+    }
+}
+
+/// As `find_marked`, and what is left at the front of `picture` and `marks`.
+pub fn cut_marked(
+    picture: &mut [u8],
+    marks: &mut [u8],
+    size: NamedSize,
+    axis: NamedAxis,
+    seam: &mut [u16],
+    work: &mut [u8],
+) -> Answer {
+    // Each pointer comes with the length of its slice; the slices don't overlap.
+    unsafe {
+        multisize_cut_marked(
+            picture.as_mut_ptr(),
+            picture.len(),
+            marks.as_mut_ptr(),
+            marks.len(),
+            size.width,
+            size.height,
+            size.kind,
+            axis.0,
+            seam.as_mut_ptr(),
+            seam.len(),
+            work.as_mut_ptr(),
+            work.len(),
+        )
+    }
+}
+
 #[cfg(test)]
 mod tests {
     use super::*;
@@ -210,5 +296,29 @@ mod tests {
         assert_eq!(picture, [10, 10, 10, 50, 0, 0]);
         let answer = cut(&mut picture, SIZE, axis, &mut seam[..1], &mut work);
         assert_eq!(answer, Answer::refused(8));
+    }
+
+    #[test]
+    fn seams_of_the_worked_picture_by_marks() {
+        let mut picture = [10, 10, 40, 10, 50, 40];
+        let mut marks = [0, 2, 1, 0, 0, 0];
+        let (mut seam, mut work) = ([9; 3], [9; 200]);
+        let axis = NamedAxis(0);
+        let answer = find_marked(&mut picture, &mut marks, SIZE, axis, &mut seam, &mut work);
+        assert_eq!(answer, Answer::served(70));
+        assert_eq!((seam, work), ([1, 2, 9], [0; 200]));
+        let answer = cut_marked(&mut picture, &mut marks, SIZE, axis, &mut seam, &mut work);
+        assert_eq!(answer, Answer::served(70));
+        assert_eq!(picture, [10, 40, 10, 50, 0, 0]);
+        assert_eq!(marks, [0, 1, 0, 0, 0, 0]);
+        let answer = cut_marked(
+            &mut picture,
+            &mut marks[..5],
+            SIZE,
+            axis,
+            &mut seam,
+            &mut work,
+        );
+        assert_eq!(answer, Answer::refused(4));
     }
 }

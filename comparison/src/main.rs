@@ -7,8 +7,6 @@ mod contents;
 mod difference;
 mod faults;
 mod library;
-// No operation takes marks yet.
-#[cfg(test)]
 mod marks;
 mod operations;
 mod options;

@@ -3,25 +3,35 @@
 
 use crate::pictures::channels;
 use reference::{Axis, Size};
+use std::cmp::Reverse;
 
 /// A picture, so small that all its paths can be listed. Its lines are the
 /// rows for vertical seams and the columns for horizontal ones; a path has a
 /// place in each line, listed from the first line.
 pub struct Small<'a> {
     pub bytes: &'a [u8],
+    /// A mark for each pixel, or no marks at all: every pixel is plain then.
+    pub marks: &'a [u8],
     pub size: Size,
     pub axis: Axis,
 }
 
 impl Small<'_> {
-    /// The path of least cost, and that cost. Of equals it is the one whose
-    /// places, read from the last line back, come first in dictionary order.
-    pub fn seam(&self) -> (Vec<usize>, u64) {
-        let order = |path: &Vec<usize>| (self.cost(path), backward(path));
-        let seam = self.paths().into_iter().min_by_key(order);
-        let seam = seam.expect("every picture has a path");
+    /// Of the paths that meet no protected pixel the one with the most pixels
+    /// marked 2, then the least cost; and that cost. Of equals it is the one
+    /// whose places, read from the last line back, come first in dictionary
+    /// order.
+    pub fn seam(&self) -> Option<(Vec<usize>, u64)> {
+        let order = |path: &Vec<usize>| (self.rank(path), backward(path));
+        let allowed = |path: &Vec<usize>| self.count(path, 1) == 0;
+        let seam = self.paths().into_iter().filter(allowed).min_by_key(order)?;
         let cost = self.cost(&seam);
-        (seam, cost)
+        Some((seam, cost))
+    }
+
+    /// What is compared of two allowed paths ahead of their places.
+    pub fn rank(&self, path: &[usize]) -> (Reverse<usize>, u64) {
+        (Reverse(self.count(path, 2)), self.cost(path))
     }
 
     pub fn paths(&self) -> Vec<Vec<usize>> {
@@ -35,32 +45,61 @@ impl Small<'_> {
 
     /// The sum of the energies on a path.
     pub fn cost(&self, path: &[usize]) -> u64 {
-        let pixels = path.iter().enumerate();
-        let energy = |(line, place): (usize, &usize)| match self.axis {
-            Axis::Vertical => self.energy(line, *place),
-            Axis::Horizontal => self.energy(*place, line),
-        };
-        pixels.map(energy).sum()
+        let pixels = self.pixels(path);
+        pixels.map(|(row, column)| self.energy(row, column)).sum()
     }
 
-    /// The bytes after a path is cut: the rows that are left, packed, and 0
-    /// for each byte that is free.
+    /// How many pixels on a path have this mark, 1 or 2.
+    pub fn count(&self, path: &[usize], mark: u8) -> usize {
+        let marked = |(row, column): &(usize, usize)| {
+            let place = row * self.size.width + column;
+            self.marks.get(place) == Some(&mark)
+        };
+        self.pixels(path).filter(marked).count()
+    }
+
+    /// The row and column of each pixel on a path.
+    fn pixels<'a>(&self, path: &'a [usize]) -> impl Iterator<Item = (usize, usize)> + 'a {
+        let axis = self.axis;
+        let pixels = path.iter().enumerate();
+        pixels.map(move |(line, place)| match axis {
+            Axis::Vertical => (line, *place),
+            Axis::Horizontal => (*place, line),
+        })
+    }
+
+    /// The picture's bytes after a path is cut.
     pub fn without(&self, path: &[usize]) -> Vec<u8> {
+        self.closed_up(self.bytes, channels(self.size.kind), path)
+    }
+
+    /// The marks after a path is cut.
+    pub fn marks_without(&self, path: &[usize]) -> Vec<u8> {
+        if self.marks.is_empty() {
+            return Vec::new();
+        }
+        self.closed_up(self.marks, 1, path)
+    }
+
+    /// A buffer with so many bytes a pixel after a path is cut: the rows that
+    /// are left, packed, and 0 for each byte that is free.
+    fn closed_up(&self, buffer: &[u8], channels: usize, path: &[usize]) -> Vec<u8> {
         let Size { width, height, .. } = self.size;
-        let (width, height) = match self.axis {
+        let pixel = |row, column| pixel(buffer, row * width + column, channels);
+        let (columns, rows) = match self.axis {
             Axis::Vertical => (width - 1, height),
             Axis::Horizontal => (width, height - 1),
         };
         let mut bytes = Vec::new();
-        for row in 0..height {
-            for column in 0..width {
+        for row in 0..rows {
+            for column in 0..columns {
                 bytes.extend_from_slice(match self.axis {
-                    Axis::Vertical => self.pixel(row, stood(column, path[row])),
-                    Axis::Horizontal => self.pixel(stood(row, path[column]), column),
+                    Axis::Vertical => pixel(row, stood(column, path[row])),
+                    Axis::Horizontal => pixel(stood(row, path[column]), column),
                 });
             }
         }
-        bytes.resize(self.bytes.len(), 0);
+        bytes.resize(buffer.len(), 0);
         bytes
     }
 
@@ -93,10 +132,14 @@ impl Small<'_> {
     }
 
     fn pixel(&self, row: usize, column: usize) -> &[u8] {
-        let channels = channels(self.size.kind);
-        let start = (row * self.size.width + column) * channels;
-        &self.bytes[start..start + channels]
+        let place = row * self.size.width + column;
+        pixel(self.bytes, place, channels(self.size.kind))
     }
+}
+
+/// The bytes of the pixel at a place of a buffer with so many bytes a pixel.
+fn pixel(buffer: &[u8], place: usize, channels: usize) -> &[u8] {
+    &buffer[place * channels..(place + 1) * channels]
 }
 
 /// The path and one place more: each that is connected with the last.
@@ -136,7 +179,18 @@ mod tests {
             height: bytes.len() / width,
             kind: Kind::Grey,
         };
-        Small { bytes, size, axis }
+        Small {
+            bytes,
+            marks: &[],
+            size,
+            axis,
+        }
+    }
+
+    /// The seam of the worked picture, 10 10 40 and 10 50 40, by these marks.
+    fn marked(marks: &[u8; 6], axis: Axis) -> Option<(Vec<usize>, u64)> {
+        let picture = grey(&[10, 10, 40, 10, 50, 40], 3, axis);
+        Small { marks, ..picture }.seam()
     }
 
     #[test]
@@ -152,17 +206,17 @@ mod tests {
     #[test]
     fn seams_of_the_worked_picture() {
         let picture = grey(&[10, 10, 40, 10, 50, 40], 3, Axis::Vertical);
-        assert_eq!(picture.seam(), (vec![2, 2], 0));
+        assert_eq!(picture.seam(), Some((vec![2, 2], 0)));
         assert_eq!(picture.without(&[2, 2]), [10, 10, 10, 50, 0, 0]);
         let left = grey(&[10, 10, 10, 50], 2, Axis::Vertical);
-        assert_eq!(left.seam(), (vec![0, 1], 0));
+        assert_eq!(left.seam(), Some((vec![0, 1], 0)));
         assert_eq!(left.without(&[0, 1]), [10, 10, 0, 0]);
     }
 
     #[test]
     fn horizontal_seams_are_vertical_ones_of_the_exchanged_picture() {
         let turned = grey(&[10, 10, 10, 50, 40, 40], 2, Axis::Horizontal);
-        assert_eq!(turned.seam(), (vec![2, 2], 0));
+        assert_eq!(turned.seam(), Some((vec![2, 2], 0)));
         assert_eq!(turned.without(&[2, 2]), [10, 10, 10, 50, 0, 0]);
         assert_eq!(turned.without(&[0, 1]), [10, 10, 40, 40, 0, 0]);
     }
@@ -170,12 +224,15 @@ mod tests {
     #[test]
     fn equals_are_ordered_from_the_last_line() {
         // All energies are 0, so every path is as cheap.
-        assert_eq!(grey(&[7; 9], 3, Axis::Vertical).seam().0, [0, 0, 0]);
+        assert_eq!(
+            grey(&[7; 9], 3, Axis::Vertical).seam(),
+            Some((vec![0, 0, 0], 0))
+        );
         // All energies are 0 but the first, so five paths are as cheap.
         let picture = grey(&[9, 5, 5, 5, 5, 5], 3, Axis::Vertical);
         let cheapest = |path: &&Vec<usize>| picture.cost(path) == 0;
         assert_eq!(picture.paths().iter().filter(cheapest).count(), 5);
-        assert_eq!(picture.seam(), (vec![1, 0], 0));
+        assert_eq!(picture.seam(), Some((vec![1, 0], 0)));
     }
 
     #[test]
@@ -185,8 +242,66 @@ mod tests {
             height: 1,
             kind: Kind::Rgb,
         };
-        let bytes = &[1, 2, 3, 5, 0, 9];
+        let picture = Small {
+            bytes: &[1, 2, 3, 5, 0, 9],
+            marks: &[],
+            size,
+            axis: Axis::Horizontal,
+        };
+        assert_eq!(picture.seam(), Some((vec![0, 0], 4 + 2 + 6)));
+    }
+
+    /// The energies are 0 70 0 and 40 10 0.
+    #[test]
+    fn marks_come_ahead_of_the_cost() {
+        let marked = |marks| marked(marks, Axis::Vertical);
+        assert_eq!(marked(&[0; 6]), Some((vec![2, 2], 0)));
+        // A protected pixel is not touched.
+        assert_eq!(marked(&[0, 0, 1, 0, 0, 0]), Some((vec![0, 1], 10)));
+        assert_eq!(marked(&[0, 0, 0, 1, 1, 1]), None);
+        assert_eq!(marked(&[0, 1, 1, 1, 0, 0]), Some((vec![0, 1], 10)));
+        assert_eq!(marked(&[0, 1, 1, 1, 1, 0]), None);
+        // The most pixels to be removed, whatever they cost.
+        assert_eq!(marked(&[0, 2, 0, 2, 0, 0]), Some((vec![1, 0], 110)));
+        // Of as many the least cost, and of equals the first from below.
+        assert_eq!(marked(&[0, 0, 0, 2, 0, 0]), Some((vec![0, 0], 40)));
+        assert_eq!(marked(&[2, 0, 2, 0, 2, 0]), Some((vec![0, 1], 10)));
+    }
+
+    #[test]
+    fn marks_turn_and_are_cut_with_the_picture() {
         let axis = Axis::Horizontal;
-        assert_eq!(Small { bytes, size, axis }.seam(), (vec![0, 0], 4 + 2 + 6));
+        assert_eq!(marked(&[0, 1, 0, 0, 1, 0], axis), None);
+        assert_eq!(marked(&[0, 0, 2, 2, 2, 0], axis), Some((vec![1, 1, 0], 50)));
+        let picture = Small {
+            marks: &[0, 1, 2, 2, 1, 0],
+            ..grey(&[10, 10, 40, 10, 50, 40], 3, axis)
+        };
+        assert_eq!(picture.marks_without(&[1, 1, 0]), [0, 1, 0, 0, 0, 0]);
+        let vertical = Axis::Vertical;
+        let picture = Small {
+            axis: vertical,
+            ..picture
+        };
+        assert_eq!(picture.marks_without(&[0, 1]), [1, 2, 2, 0, 0, 0]);
+        let plain = grey(&[1, 2, 3, 4], 2, vertical);
+        assert!(plain.marks_without(&[0, 0]).is_empty());
+    }
+
+    #[test]
+    fn rgb_marks_have_a_byte_a_pixel() {
+        let picture = Small {
+            bytes: &[1, 2, 3, 5, 0, 9],
+            marks: &[0, 2],
+            size: Size {
+                width: 2,
+                height: 1,
+                kind: Kind::Rgb,
+            },
+            axis: Axis::Vertical,
+        };
+        assert_eq!(picture.seam(), Some((vec![1], 0)));
+        assert_eq!(picture.without(&[1]), [1, 2, 3, 0, 0, 0]);
+        assert_eq!(picture.marks_without(&[1]), [0, 0]);
     }
 }

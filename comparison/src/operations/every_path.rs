@@ -2,10 +2,11 @@
 //! so that they don't rest on the reference alone.
 
 use super::one_seam::{Case, Parts};
-use super::{cut, find};
+use super::{cut, cut_marked, find, find_marked};
 use crate::difference::Difference;
 use crate::faults::Faults;
 use crate::library::Answer;
+use crate::marks;
 use crate::paths::Small;
 use crate::random::Random;
 use reference::{Axis, Kind, Size};
@@ -14,17 +15,40 @@ use reference::{Axis, Kind, Size};
 const SIDE: usize = 5;
 
 pub fn compare_find(random: &mut Random, turn: u64) -> Result<u64, Difference> {
-    let (size, axis) = shape(turn);
-    let case = Case::from_size(random, size, axis, Faults::Never);
-    let enumeration = |_: &Case, parts: Parts| find_among_paths(size, axis, parts);
-    case.compare("enumeration", enumeration, find::by_library)
+    compare(
+        random,
+        turn,
+        marks::none,
+        find_among_paths,
+        find::by_library,
+    )
 }
 
 pub fn compare_cut(random: &mut Random, turn: u64) -> Result<u64, Difference> {
+    compare(random, turn, marks::none, cut_among_paths, cut::by_library)
+}
+
+pub fn compare_find_marked(random: &mut Random, turn: u64) -> Result<u64, Difference> {
+    let library = find_marked::by_library;
+    compare(random, turn, marks::each, find_among_paths, library)
+}
+
+pub fn compare_cut_marked(random: &mut Random, turn: u64) -> Result<u64, Difference> {
+    let library = cut_marked::by_library;
+    compare(random, turn, marks::each, cut_among_paths, library)
+}
+
+fn compare(
+    random: &mut Random,
+    turn: u64,
+    marks: marks::Draw,
+    enumeration: fn(Size, Axis, Parts) -> Answer,
+    library: fn(&Case, Parts) -> Answer,
+) -> Result<u64, Difference> {
     let (size, axis) = shape(turn);
-    let case = Case::from_size(random, size, axis, Faults::Never);
-    let enumeration = |_: &Case, parts: Parts| cut_among_paths(size, axis, parts);
-    case.compare("enumeration", enumeration, cut::by_library)
+    let case = Case::from_size(random, size, axis, marks, Faults::Never);
+    let enumeration = |_: &Case, parts: Parts| enumeration(size, axis, parts);
+    case.compare("enumeration", enumeration, library)
 }
 
 /// Every shape in both kinds and along both axes, by turns.
@@ -39,25 +63,37 @@ fn shape(turn: u64) -> (Size, Axis) {
 }
 
 fn find_among_paths(size: Size, axis: Axis, parts: Parts) -> Answer {
-    let bytes = &*parts.picture;
-    let (seam, cost) = Small { bytes, size, axis }.seam();
-    give_seam(&seam, parts.seam);
     parts.work.fill(0);
+    let Some((seam, cost)) = small(size, axis, &parts).seam() else {
+        return Answer::refused(12);
+    };
+    give_seam(&seam, parts.seam);
     Answer::served(cost)
 }
 
 fn cut_among_paths(size: Size, axis: Axis, parts: Parts) -> Answer {
     parts.work.fill(0);
-    let bytes = &*parts.picture;
-    let small = Small { bytes, size, axis };
+    let small = small(size, axis, &parts);
+    let Some((seam, cost)) = small.seam() else {
+        return Answer::refused(12);
+    };
     if small.places() == 1 {
         return Answer::refused(13);
     }
-    let (seam, cost) = small.seam();
-    let left = small.without(&seam);
-    parts.picture.copy_from_slice(&left);
+    let (picture, marks) = (small.without(&seam), small.marks_without(&seam));
+    parts.picture.copy_from_slice(&picture);
+    parts.marks.copy_from_slice(&marks);
     give_seam(&seam, parts.seam);
     Answer::served(cost)
+}
+
+fn small<'a>(size: Size, axis: Axis, parts: &'a Parts) -> Small<'a> {
+    Small {
+        bytes: parts.picture,
+        marks: parts.marks,
+        size,
+        axis,
+    }
 }
 
 /// Puts the seam to the front of the space; the rest keeps its values.
@@ -96,31 +132,48 @@ mod tests {
         assert_eq!(refused as u64, TURNS / 5);
     }
 
-    /// The other paths that are as cheap as the seam, and the seam.
-    fn equals(turn: u64) -> (Vec<Vec<usize>>, Vec<usize>) {
+    /// The other allowed paths that rank with the seam, and the seam.
+    fn equals(turn: u64, marks: marks::Draw) -> Option<(Vec<Vec<usize>>, Vec<usize>)> {
         let (size, axis) = shape(turn);
-        let case = Case::from_size(&mut Random::of_case(1, turn), size, axis, Faults::Never);
-        let bytes = case.buffers.picture.part();
-        let small = Small { bytes, size, axis };
-        let (seam, cost) = small.seam();
+        let mut random = Random::of_case(1, turn);
+        let case = Case::from_size(&mut random, size, axis, marks, Faults::Never);
+        let small = Small {
+            bytes: case.buffers.picture.part(),
+            marks: case.buffers.marks.part(),
+            size,
+            axis,
+        };
+        let (seam, _) = small.seam()?;
         let mut equals = small.paths();
-        equals.retain(|path| small.cost(path) == cost && *path != seam);
-        (equals, seam)
+        equals.retain(|path| small.count(path, 1) == 0 && *path != seam);
+        equals.retain(|path| small.rank(path) == small.rank(&seam));
+        Some((equals, seam))
     }
 
-    /// Ties in the last line, and ties on the way from there.
+    /// How many cases along an axis have ties in the last line, and how many
+    /// have ties on the way from there.
+    fn ties(axis: u64, marks: marks::Draw) -> (u64, u64) {
+        let turns = (0..TURNS).filter(|turn| turn % 2 == axis);
+        let (mut in_last, mut before) = (0, 0);
+        for (equals, seam) in turns.filter_map(|turn| equals(turn, marks)) {
+            let same_end = |path: &Vec<usize>| path.last() == seam.last();
+            before += equals.iter().any(same_end) as u64;
+            in_last += !equals.iter().all(same_end) as u64;
+        }
+        (in_last, before)
+    }
+
     #[test]
     fn ties_abound_along_both_axes() {
         for axis in 0..2 {
-            let turns = (0..TURNS).filter(|turn| turn % 2 == axis);
-            let (mut in_last, mut before) = (0, 0);
-            for (equals, seam) in turns.map(equals) {
-                let same_end = |path: &Vec<usize>| path.last() == seam.last();
-                before += equals.iter().any(same_end) as u64;
-                in_last += !equals.iter().all(same_end) as u64;
-            }
+            let (in_last, before) = ties(axis, marks::none);
             assert!(
                 in_last > TURNS / 10 && before > TURNS / 10,
+                "{in_last} {before}"
+            );
+            let (in_last, before) = ties(axis, marks::each);
+            assert!(
+                in_last > TURNS / 20 && before > TURNS / 20,
                 "{in_last} {before}"
             );
         }

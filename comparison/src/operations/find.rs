@@ -3,10 +3,11 @@
 use super::one_seam::{Case, Parts};
 use crate::difference::Difference;
 use crate::library::{self, Answer};
+use crate::marks;
 use crate::random::Random;
 
 pub fn compare(random: &mut Random, turn: u64) -> Result<u64, Difference> {
-    let case = Case::of_turn(random, turn);
+    let case = Case::of_turn(random, turn, marks::none);
     case.compare("reference", by_reference, by_library)
 }
 
@@ -15,6 +16,7 @@ fn by_reference(case: &Case, parts: Parts) -> Answer {
         picture,
         seam,
         work,
+        ..
     } = parts;
     case.known_answer(|size, axis| reference::find(picture, size, axis, seam, work))
 }

@@ -1,9 +1,11 @@
 //! The operations that are compared.
 
 mod cut;
+mod cut_marked;
 mod energies;
 mod every_path;
 mod find;
+mod find_marked;
 mod one_row;
 mod one_seam;
 mod row;
@@ -20,7 +22,7 @@ pub struct Operation {
     pub compare: Compare,
 }
 
-pub const OPERATIONS: [Operation; 6] = [
+pub const OPERATIONS: [Operation; 10] = [
     Operation {
         name: "row",
         compare: row::compare,
@@ -38,12 +40,28 @@ pub const OPERATIONS: [Operation; 6] = [
         compare: cut::compare,
     },
     Operation {
+        name: "find_marked",
+        compare: find_marked::compare,
+    },
+    Operation {
+        name: "cut_marked",
+        compare: cut_marked::compare,
+    },
+    Operation {
         name: "find, every path",
         compare: every_path::compare_find,
     },
     Operation {
         name: "cut, every path",
         compare: every_path::compare_cut,
+    },
+    Operation {
+        name: "find_marked, every path",
+        compare: every_path::compare_find_marked,
+    },
+    Operation {
+        name: "cut_marked, every path",
+        compare: every_path::compare_cut_marked,
     },
 ];
 
@@ -60,6 +78,20 @@ mod tests {
             ("energies", 0..4 * ROUND, &[0, 1, 2, 3, 4, 8]),
             ("find", 2 * ROUND..8 * ROUND, &[0, 1, 2, 3, 4, 8]),
             ("cut", 2 * ROUND..8 * ROUND, &[0, 1, 2, 3, 4, 8, 13]),
+            (
+                "find_marked",
+                2 * ROUND..8 * ROUND,
+                &[0, 1, 2, 3, 4, 5, 8, 12],
+            ),
+            (
+                "cut_marked",
+                2 * ROUND..8 * ROUND,
+                &[0, 1, 2, 3, 4, 5, 8, 12, 13],
+            ),
+            ("find, every path", 0..200, &[0]),
+            ("cut, every path", 0..200, &[0, 13]),
+            ("find_marked, every path", 0..200, &[0, 12]),
+            ("cut_marked, every path", 0..200, &[0, 12, 13]),
         ] {
             let operation = OPERATIONS.iter().find(|o| o.name == name).unwrap();
             let compare = |turn| (operation.compare)(&mut Random::of_case(1, turn), turn);

@@ -4,6 +4,7 @@ use crate::axes::{named_axis, seam_length, NamedAxis};
 use crate::difference::{Difference, Forms};
 use crate::faults::Faults;
 use crate::library::Answer;
+use crate::marks;
 use crate::pictures::{self, row_bytes, NamedSize};
 use crate::random::Random;
 use crate::spaces::{space, Lent};
@@ -26,6 +27,7 @@ pub struct Case {
 #[derive(Clone, PartialEq)]
 pub struct Buffers {
     pub picture: Lent<u8>,
+    pub marks: Lent<u8>,
     pub seam: Lent<u16>,
     pub work: Lent<u8>,
 }
@@ -33,6 +35,7 @@ pub struct Buffers {
 /// The lent parts of the buffers.
 pub struct Parts<'a> {
     pub picture: &'a mut [u8],
+    pub marks: &'a mut [u8],
     pub seam: &'a mut [u16],
     pub work: &'a mut [u8],
 }
@@ -46,13 +49,19 @@ pub struct Outcome {
 
 impl Case {
     /// The case of a turn. Two turns together have each shape along both axes.
-    pub fn of_turn(random: &mut Random, turn: u64) -> Case {
+    pub fn of_turn(random: &mut Random, turn: u64, marks: marks::Draw) -> Case {
         let axis = [Axis::Vertical, Axis::Horizontal][(turn % 2) as usize];
         let (size, faults) = pictures::start(random, turn / 2, RARITY);
-        Case::from_size(random, size, axis, faults)
+        Case::from_size(random, size, axis, marks, faults)
     }
 
-    pub fn from_size(random: &mut Random, size: Size, axis: Axis, faults: Faults) -> Case {
+    pub fn from_size(
+        random: &mut Random,
+        size: Size,
+        axis: Axis,
+        marks: marks::Draw,
+        faults: Faults,
+    ) -> Case {
         let named = pictures::named_size(random, size, faults);
         let work_bytes = WORK_BYTES * size.width * size.height;
         Case {
@@ -60,6 +69,7 @@ impl Case {
             axis: named_axis(random, axis, faults),
             buffers: Buffers {
                 picture: pictures::picture(random, size, named, faults),
+                marks: marks(random, size, faults),
                 seam: space(random, seam_length(size, axis), faults),
                 work: space(random, work_bytes, faults),
             },
@@ -84,6 +94,7 @@ impl Case {
         let mut buffers = self.buffers.clone();
         let answer = call(Parts {
             picture: buffers.picture.part_mut(),
+            marks: buffers.marks.part_mut(),
             seam: buffers.seam.part_mut(),
             work: buffers.work.part_mut(),
         });
@@ -121,6 +132,8 @@ impl Case {
         let row_bytes = self.size.known().map_or(0, row_bytes);
         let picture = self.forms(sides, |buffers| &buffers.picture);
         difference.buffer("picture", row_bytes, picture);
+        let marks = self.forms(sides, |buffers| &buffers.marks);
+        difference.buffer("marks", self.size.width, marks);
         difference.buffer("seam", 0, self.forms(sides, |buffers| &buffers.seam));
         difference.buffer("work", 0, self.forms(sides, |buffers| &buffers.work));
         difference
@@ -150,7 +163,7 @@ mod tests {
 
     #[test]
     fn one_round_has_every_small_shape_and_the_largest_along_both_axes() {
-        let case = |turn| Case::of_turn(&mut Random::of_case(1, turn), turn);
+        let case = |turn| Case::of_turn(&mut Random::of_case(1, turn), turn, marks::each);
         let small = (1..=6).flat_map(|width| (1..=6).map(move |height| (width, height)));
         let shapes: Vec<_> = small.chain([(512, 1), (1, 512), (512, 512)]).collect();
         let cases: Vec<Case> = (0..2 * 2 * shapes.len() as u64).map(case).collect();
@@ -169,42 +182,51 @@ mod tests {
         }
     }
 
-    /// Which of 1, 2, 3, 4 and 8 would refuse the case if each was judged
-    /// alone; `start` is the size that the case started from.
-    fn faults(case: &Case, start: Size, axis: Axis) -> [bool; 5] {
+    /// Which of 1, 2, 3, 4, 5 and 8 would refuse the case if each was judged
+    /// alone; `start` is the size that the case started from, with so many
+    /// marks a pixel.
+    fn faults(case: &Case, start: Size, axis: Axis, density: usize) -> [bool; 6] {
         let (m, n) = (case.size.width, case.size.height);
         let allowed = (1..=512).contains(&m) && (1..=512).contains(&n);
         let length = |size| byte_count(size) == case.buffers.picture.part().len();
+        let marks = case.buffers.marks.part();
+        let pixels = start.width * start.height;
+        let every_mark = marks.len() == density * pixels;
         let short_seam = case.buffers.seam.part().len() < seam_length(start, axis);
-        let short_work = case.buffers.work.part().len() < 32 * start.width * start.height;
+        let short_work = case.buffers.work.part().len() < 32 * pixels;
         [
             case.size.known().is_none() || case.axis.known().is_none(),
             m == 0 || n == 0,
             m > 512 || n > 512,
-            !(allowed && case.size.known().is_some_and(length)),
+            !(allowed && every_mark && case.size.known().is_some_and(length)),
+            marks.iter().any(|mark| *mark > 2),
             short_seam || short_work,
         ]
     }
 
     #[test]
     fn most_cases_are_sound_and_several_faults_are_frequent() {
-        let mut counts = [0; 6];
-        for turn in 0..TURNS {
-            let mut random = Random::of_case(2, turn);
-            let (size, strikes) = pictures::start(&mut random, TURNS - 1, RARITY);
-            let case = Case::from_size(&mut random, size, Axis::Horizontal, strikes);
-            let faults = faults(&case, size, Axis::Horizontal);
-            counts[faults.iter().filter(|fault| **fault).count()] += 1;
+        let draws: [marks::Draw; 2] = [marks::none, marks::each];
+        for (density, draw) in draws.into_iter().enumerate() {
+            let mut counts = [0; 7];
+            for turn in 0..4 * TURNS {
+                let mut random = Random::of_case(2, turn);
+                let (size, strikes) = pictures::start(&mut random, TURNS - 1, RARITY);
+                let axis = Axis::Horizontal;
+                let case = Case::from_size(&mut random, size, axis, draw, strikes);
+                let faults = faults(&case, size, axis, density);
+                counts[faults.iter().filter(|fault| **fault).count()] += 1;
+            }
+            let count = 4 * TURNS as usize;
+            assert!(counts[0] > count / 2, "{counts:?}");
+            assert!(counts[1] > count / 20, "{counts:?}");
+            assert!(counts[2..].iter().sum::<usize>() > count / 10, "{counts:?}");
         }
-        let count = TURNS as usize;
-        assert!(counts[0] > count / 2, "{counts:?}");
-        assert!(counts[1] > count / 20, "{counts:?}");
-        assert!(counts[2..].iter().sum::<usize>() > count / 10, "{counts:?}");
     }
 
     /// A case with all buffers longer than nothing whose outcome is altered.
     fn noticed(alter: fn(&mut Outcome)) -> bool {
-        let case = Case::of_turn(&mut Random::new(1), 70);
+        let case = Case::of_turn(&mut Random::new(1), 70, marks::each);
         let outcome = case.outcome(|_| Answer::served(0));
         assert!(case.verdict("reference", &outcome, &outcome).is_ok());
         let mut altered = outcome.clone();
@@ -221,13 +243,14 @@ mod tests {
         assert!(noticed(|outcome| outcome.answer.number = 8));
         assert!(noticed(|outcome| outcome.answer.value = 1));
         assert!(noticed(|outcome| *last(&mut outcome.buffers.picture) ^= 1));
+        assert!(noticed(|outcome| *last(&mut outcome.buffers.marks) ^= 1));
         assert!(noticed(|outcome| *last(&mut outcome.buffers.seam) ^= 1));
         assert!(noticed(|outcome| *last(&mut outcome.buffers.work) ^= 1));
     }
 
     #[test]
     fn the_report_names_both_sides() {
-        let case = Case::of_turn(&mut Random::new(1), 70);
+        let case = Case::of_turn(&mut Random::new(1), 70, marks::each);
         let other = case.outcome(|_| Answer::served(4));
         let library = case.outcome(|parts| {
             parts.seam[0] ^= 1;
@@ -237,6 +260,7 @@ mod tests {
         let text = difference.text(4000);
         assert!(text.contains("answer of the enumeration: number 0, value 4"));
         assert!(text.contains("answer of the library: number 0, value 5"));
+        assert!(text.contains("marks: left unchanged by both"));
         assert!(text.contains("seam: first difference at place 0: enumeration"));
         assert!(text.contains("work: left unchanged by both"));
     }
