@@ -1,5 +1,7 @@
-// Times the library's find and cut against plain C that does the same work with no promise: energies, sums, the way back.
-// Each figure is the best of the rounds; the buffers are not cleared between them, but the library clears its work space.
+// Times the library's find and cut against the reference, and against plain C that does the same work with no promise:
+// energies, sums, the way back. Each figure is the best of the rounds; the buffers are not cleared between them, but
+// the library clears its work space. With an argument, 0 or 1, find runs once at the first or the second size, by the
+// library, by plain C and by the library with marks, so that the instructions of each can be counted.
 #include <stdint.h>
 #include <stdio.h>
 #include <stdlib.h>
@@ -13,15 +15,27 @@ Answer multisize_find(const uint8_t *picture, size_t bytes, size_t width, size_t
                       uint16_t *seam, size_t places, uint8_t *work, size_t room);
 Answer multisize_cut(uint8_t *picture, size_t bytes, size_t width, size_t height, uint8_t kind, uint8_t axis,
                      uint16_t *seam, size_t places, uint8_t *work, size_t room);
+Answer multisize_find_marked(const uint8_t *picture, size_t bytes, const uint8_t *marks, size_t pixels, size_t width,
+                             size_t height, uint8_t kind, uint8_t axis, uint16_t *seam, size_t places, uint8_t *work,
+                             size_t room);
 
-enum { SIDE = 512, ROUNDS = 40 };
+enum { SIDE = 512, ROUNDS = 40, VERTICAL = 0, HORIZONTAL = 1 };
+typedef struct {
+    size_t width, height, channels;
+} Size;
+static const Size sizes[] = {{480, 480, 3}, {512, 512, 1}};
+
+// A picture and the spaces for its seam, as the reference takes them.
+typedef struct {
+    uint8_t *picture, *marks;
+    uint16_t *seam;
+    uint8_t *work;
+    Size size;
+} Lent;
+uint64_t reference_find(Lent *lent);
+uint64_t reference_find_marked(Lent *lent);
+
 static uint32_t energies[SIDE * SIDE], sums[SIDE * SIDE];
-
-static double seconds(void) {
-    struct timespec t;
-    clock_gettime(CLOCK_MONOTONIC, &t);
-    return t.tv_sec + t.tv_nsec * 1e-9;
-}
 
 static void plain_energies(const uint8_t *p, int w, int h, int channels) {
     for (int r = 0; r < h; r++)
@@ -69,47 +83,113 @@ static uint64_t plain_find(const uint8_t *p, int w, int h, int channels, uint16_
     return cost;
 }
 
-static void picture(uint8_t *p, int w, int h, int channels) {
+// The ways of finding: each puts the seam into the lent space and gives its cost.
+static uint64_t by_library(Lent *lent) {
+    Size z = lent->size;
+    size_t pixels = z.width * z.height;
+    return multisize_find(lent->picture, pixels * z.channels, z.width, z.height, z.channels == 3, VERTICAL, lent->seam,
+                          z.height, lent->work, 32 * pixels)
+        .value;
+}
+
+static uint64_t by_library_marked(Lent *lent) {
+    Size z = lent->size;
+    size_t pixels = z.width * z.height;
+    return multisize_find_marked(lent->picture, pixels * z.channels, lent->marks, pixels, z.width, z.height,
+                                 z.channels == 3, VERTICAL, lent->seam, z.height, lent->work, 32 * pixels)
+        .value;
+}
+
+__attribute__((noinline)) static uint64_t by_plain_c(Lent *lent) {
+    Size z = lent->size;
+    return plain_find(lent->picture, z.width, z.height, z.channels, lent->seam);
+}
+
+static void fill(Lent *lent) {
+    int w = lent->size.width, h = lent->size.height, channels = lent->size.channels;
     srand(1);
     for (int i = 0; i < w * h * channels; i++)
-        p[i] = (i / channels % w / 7 * 13 + i / channels / w / 5 * 7 + rand() % 16) & 255;
+        lent->picture[i] = (i / channels % w / 7 * 13 + i / channels / w / 5 * 7 + rand() % 16) & 255;
+    // An area to be removed, one that is protected, and the rest plain.
+    for (int r = 0; r < h; r++)
+        for (int c = 0; c < w; c++) {
+            int removed = r > h / 4 && r < h / 2 && c > w / 4 && c < w / 2;
+            int guarded = r > h / 3 && r < h * 3 / 4 && c > w * 2 / 3;
+            lent->marks[r * w + c] = removed ? 2 : guarded ? 1 : 0;
+        }
 }
 
-static void compare(int w, int h, int channels) {
-    size_t bytes = (size_t)w * h * channels, room = (size_t)32 * w * h;
-    uint8_t *p = malloc(bytes), *copy = malloc(bytes), *work = malloc(room);
-    uint16_t seam[SIDE], plain[SIDE];
-    double find = 1e9, c = 1e9, cut = 1e9, across = 1e9, t;
-    picture(p, w, h, channels);
-    uint64_t cost = 0, plain_cost = 0;
-    for (int i = 0; i < ROUNDS; i++) {
-        t = seconds();
-        cost = multisize_find(p, bytes, w, h, channels == 3, 0, seam, SIDE, work, room).value;
-        if ((t = seconds() - t) < find) find = t;
-        t = seconds();
-        plain_cost = plain_find(p, w, h, channels, plain);
-        if ((t = seconds() - t) < c) c = t;
-    }
-    if (cost != plain_cost || memcmp(seam, plain, h * sizeof *seam)) {
-        printf("%d by %d: the seams differ\n", w, h);
-        exit(1);
-    }
-    for (int i = 0; i < ROUNDS; i++) {
-        memcpy(copy, p, bytes);
-        t = seconds();
-        multisize_cut(copy, bytes, w, h, channels == 3, 0, seam, SIDE, work, room);
-        if ((t = seconds() - t) < cut) cut = t;
-        memcpy(copy, p, bytes);
-        t = seconds();
-        multisize_cut(copy, bytes, w, h, channels == 3, 1, seam, SIDE, work, room);
-        if ((t = seconds() - t) < across) across = t;
-    }
-    printf("%d by %d, %d channels: find %.3f ms, plain C %.3f ms, ratio %.2f; cut %.3f ms, horizontal cut %.3f ms\n", w, h,
-           channels, find * 1e3, c * 1e3, find / c, cut * 1e3, across * 1e3);
-    free(p), free(copy), free(work);
+static double seconds(void) {
+    struct timespec t;
+    clock_gettime(CLOCK_MONOTONIC, &t);
+    return t.tv_sec + t.tv_nsec * 1e-9;
 }
 
-int main(void) {
-    compare(480, 480, 3);
-    compare(512, 512, 1);
+static void keep_least(double *best, double since) {
+    double t = seconds() - since;
+    if (t < *best) *best = t;
+}
+
+typedef uint64_t Find(Lent *);
+
+// The best times of two ways of finding, which take turns and must agree.
+static void compare(Lent *lent, const char *name, Find *one, const char *other_name, Find *other) {
+    size_t bytes = lent->size.height * sizeof *lent->seam;
+    uint16_t seam[SIDE];
+    double best = 1e9, other_best = 1e9;
+    for (int i = 0; i < ROUNDS; i++) {
+        double t = seconds();
+        uint64_t cost = one(lent);
+        keep_least(&best, t);
+        memcpy(seam, lent->seam, bytes);
+        t = seconds();
+        uint64_t other_cost = other(lent);
+        keep_least(&other_best, t);
+        if (cost != other_cost || memcmp(seam, lent->seam, bytes)) puts("the seams differ"), exit(1);
+    }
+    printf("  %s %.3f ms, %s %.3f ms, ratio %.2f\n", name, best * 1e3, other_name, other_best * 1e3, best / other_best);
+}
+
+static double cut_time(Lent *lent, int axis) {
+    Size z = lent->size;
+    size_t pixels = z.width * z.height, bytes = pixels * z.channels;
+    static uint8_t copy[SIDE * SIDE * 3];
+    double best = 1e9;
+    for (int i = 0; i < ROUNDS; i++) {
+        memcpy(copy, lent->picture, bytes);
+        double t = seconds();
+        multisize_cut(copy, bytes, z.width, z.height, z.channels == 3, axis, lent->seam, SIDE, lent->work, 32 * pixels);
+        keep_least(&best, t);
+    }
+    return best;
+}
+
+static Lent lend(Size size) {
+    size_t pixels = size.width * size.height;
+    Lent lent = {malloc(pixels * size.channels), malloc(pixels), malloc(SIDE * sizeof(uint16_t)), malloc(32 * pixels), size};
+    fill(&lent);
+    return lent;
+}
+
+static void times(Size size) {
+    Lent lent = lend(size);
+    printf("%zu by %zu, %zu channels\n", size.width, size.height, size.channels);
+    compare(&lent, "find", by_library, "plain C", by_plain_c);
+    compare(&lent, "find", by_library, "reference", reference_find);
+    compare(&lent, "find_marked", by_library_marked, "reference", reference_find_marked);
+    printf("  cut %.3f ms, horizontal cut %.3f ms\n", cut_time(&lent, VERTICAL) * 1e3, cut_time(&lent, HORIZONTAL) * 1e3);
+}
+
+static void once(Size size) {
+    Lent lent = lend(size);
+    by_library(&lent);
+    by_plain_c(&lent);
+    by_library_marked(&lent);
+}
+
+int main(int count, char **words) {
+    if (count > 1)
+        once(sizes[atoi(words[1]) == 1]);
+    else
+        times(sizes[0]), times(sizes[1]);
 }
