@@ -4,8 +4,8 @@ use energy::Kind;
 use energy::Size;
 use finding::Found;
 ghost use mathlib.Core.Path.{_≡_};
-ghost use Rattle.exports.specs.Hosts.{sizingOf, turningOf, replyOf, HostEnergies, HostRow, HostSeam, HostCut};
-ghost use Rattle.carving.specs.Carving.{findRules, cutRules};
+ghost use Rattle.carving.specs.Carving.{findRules, cutRules, markedFindRules, markedCutRules};
+ghost use Rattle.exports.specs.Hosts.{sizingOf, turningOf, refusedBy, replyOf, HostEnergies, HostRow, HostFound, HostPictureCut, HostMarkedFound, HostMarkedPictureCut, HostMarkedMarksCut};
 
 // An answer with a value: the number that is refused by and value 0, or number 0 and the value.
 #[repr(C)]
@@ -60,6 +60,12 @@ fn axis_named(axis: u8) -> Turning
     Turning::Nowhere
 }
 
+fn refused(number: u64) -> Answer
+    ensures { λ a. ⌜ a ≡ refusedBy number ⌝ }
+{
+    Answer { number, value: 0 }
+}
+
 fn reply(found: Found) -> Answer
     ensures { λ a. ⌜ a ≡ replyOf found ⌝ }
 {
@@ -68,10 +74,7 @@ fn reply(found: Found) -> Answer
             number: 0,
             value: cost,
         },
-        Found::Refused(why) => Answer {
-            number: energy::number(why),
-            value: 0,
-        },
+        Found::Refused(why) => refused(energy::number(why)),
     }
 }
 
@@ -106,17 +109,11 @@ pub extern "C" fn multisize_row(
     ensures { λ a. ⌜ HostRow (now (picture .entry)) (sizingOf width height kind) r (now (out .entry)) a (now (out .exit)) ⌝ }
 {
     let Sizing::Of(size) = size_named(width, height, kind) else {
-        return Answer {
-            number: 1,
-            value: 0,
-        };
+        return refused(1);
     };
     let row = energy::row(picture, size, r);
     if out.len() < row.len() {
-        return Answer {
-            number: 8,
-            value: 0,
-        };
+        return refused(8);
     }
     let length = bytes::copy(row, out);
     Answer {
@@ -136,19 +133,13 @@ pub extern "C" fn multisize_find(
     seam: &mut [u16],
     work: &mut [u8],
 ) -> Answer
-    ensures { λ a. ⌜ HostSeam findRules (now (picture .entry)) (sizingOf width height kind) (turningOf axis) (now (seam .entry)) (now (work .entry)) a (now (seam .exit)) (now (work .exit)) ⌝ }
+    ensures { λ a. ⌜ HostFound findRules (now (picture .entry)) (sizingOf width height kind) (turningOf axis) (now (seam .entry)) (now (work .entry)) a (now (seam .exit)) (now (work .exit)) ⌝ }
 {
     let Sizing::Of(size) = size_named(width, height, kind) else {
-        return Answer {
-            number: 1,
-            value: 0,
-        };
+        return refused(1);
     };
     let Turning::Along(turned) = axis_named(axis) else {
-        return Answer {
-            number: 1,
-            value: 0,
-        };
+        return refused(1);
     };
     reply(carving::find(picture, size, turned, seam, work))
 }
@@ -165,20 +156,62 @@ pub extern "C" fn multisize_cut(
     seam: &mut [u16],
     work: &mut [u8],
 ) -> Answer
-    ensures { λ a. ⌜ HostSeam cutRules (now (picture .entry)) (sizingOf width height kind) (turningOf axis) (now (seam .entry)) (now (work .entry)) a (now (seam .exit)) (now (work .exit)) ⌝ }
-    ensures { λ a. ⌜ HostCut (now (picture .entry)) (sizingOf width height kind) (turningOf axis) (a .number) (now (picture .exit)) ⌝ }
+    ensures { λ a. ⌜ HostFound cutRules (now (picture .entry)) (sizingOf width height kind) (turningOf axis) (now (seam .entry)) (now (work .entry)) a (now (seam .exit)) (now (work .exit)) ⌝ }
+    ensures { λ a. ⌜ HostPictureCut (now (picture .entry)) (sizingOf width height kind) (turningOf axis) (a .number) (now (picture .exit)) ⌝ }
 {
     let Sizing::Of(size) = size_named(width, height, kind) else {
-        return Answer {
-            number: 1,
-            value: 0,
-        };
+        return refused(1);
     };
     let Turning::Along(turned) = axis_named(axis) else {
-        return Answer {
-            number: 1,
-            value: 0,
-        };
+        return refused(1);
     };
     reply(carving::cut(picture, size, turned, seam, work))
+}
+
+// The seam along the axis by the marks, one byte a pixel: 0 plain, 1 protected, 2 to be removed.
+#[no_mangle]
+pub extern "C" fn multisize_find_marked(
+    picture: &[u8],
+    marks: &[u8],
+    width: usize,
+    height: usize,
+    kind: u8,
+    axis: u8,
+    seam: &mut [u16],
+    work: &mut [u8],
+) -> Answer
+    ensures { λ a. ⌜ HostMarkedFound markedFindRules (now (picture .entry)) (now (marks .entry)) (sizingOf width height kind) (turningOf axis) (now (seam .entry)) (now (work .entry)) a (now (seam .exit)) (now (work .exit)) ⌝ }
+{
+    let Sizing::Of(size) = size_named(width, height, kind) else {
+        return refused(1);
+    };
+    let Turning::Along(turned) = axis_named(axis) else {
+        return refused(1);
+    };
+    reply(carving::find_marked(picture, marks, size, turned, seam, work))
+}
+
+// Cuts that seam out of the picture and the marks and gives it as multisize_find_marked does.
+#[no_mangle]
+pub extern "C" fn multisize_cut_marked(
+    picture: &mut [u8],
+    marks: &mut [u8],
+    width: usize,
+    height: usize,
+    kind: u8,
+    axis: u8,
+    seam: &mut [u16],
+    work: &mut [u8],
+) -> Answer
+    ensures { λ a. ⌜ HostMarkedFound markedCutRules (now (picture .entry)) (now (marks .entry)) (sizingOf width height kind) (turningOf axis) (now (seam .entry)) (now (work .entry)) a (now (seam .exit)) (now (work .exit)) ⌝ }
+    ensures { λ a. ⌜ HostMarkedPictureCut (now (picture .entry)) (now (marks .entry)) (sizingOf width height kind) (turningOf axis) (a .number) (now (picture .exit)) ⌝ }
+    ensures { λ a. ⌜ HostMarkedMarksCut (now (picture .entry)) (now (marks .entry)) (sizingOf width height kind) (turningOf axis) (a .number) (now (marks .exit)) ⌝ }
+{
+    let Sizing::Of(size) = size_named(width, height, kind) else {
+        return refused(1);
+    };
+    let Turning::Along(turned) = axis_named(axis) else {
+        return refused(1);
+    };
+    reply(carving::cut_marked(picture, marks, size, turned, seam, work))
 }

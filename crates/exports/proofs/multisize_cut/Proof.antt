@@ -1,8 +1,7 @@
 -- `exports::multisize_cut` meets its contract.
-use mathlib.Core.Path.{_≡_, refl, sym, ap, _∙_}
+use mathlib.Core.Path.{sym, _∙_}
 use borrow.Author.Needs.{needs}
-use Rattle.carving.specs.Carving.{SeamFound, PictureCut}
-use Rattle.exports.specs.Hosts.{HostSeam, HostCut}
+use Rattle.exports.proofs.Answers.{no-size, no-axis, unnamed-seam, named-seam, unnamed-cut, named-cut}
 use Rattle.exports.proofs.multisize_cut.Statement.{statement}
 use Rattle.exports.proofs.multisize_cut.Tie as tie
 
@@ -15,8 +14,11 @@ enum-known-size c = search needs
 enum-told : tie.Need-enum-told
 enum-told c = search needs
 
+refused-requires : tie.Need-refused-requires
+refused-requires c κs = search needs
+
 returns : tie.Need-returns
-returns c = rw (sym (c .before .before .size-named .ensures) ∙ c .enum-told .given .1) (record { answer = refl; value = refl; seam-given = refl; work-left = refl }, record { picture-left = refl })
+returns c = rw (sym (c .before .before .before .size-named .ensures) ∙ c .before .enum-told .given .1, c .refused .ensures) (unnamed-seam no-size, unnamed-cut no-size)
 
 axis-named-requires : tie.Need-axis-named-requires
 axis-named-requires c κs = search needs
@@ -27,8 +29,17 @@ enum-known-turned c = search needs
 enum-told-2 : tie.Need-enum-told-2
 enum-told-2 c = search needs
 
+refused-requires-2 : tie.Need-refused-requires-2
+refused-requires-2 c κs = search needs
+
 returns-2 : tie.Need-returns-2
-returns-2 c = rw (sym (c .before .before .before .before .before .before .size-named .ensures) ∙ c .before .before .before .before .size .given .1, sym (c .before .before .axis-named .ensures) ∙ c .enum-told2 .given .1) (record { answer = refl; value = refl; seam-given = refl; work-left = refl }, record { picture-left = refl })
+returns-2 c =
+    rw (
+      sym (c .before .before .before .before .before .before .before .size-named .ensures) ∙ c .before .before .before .before .before .size .given .1,
+      sym (c .before .before .before .axis-named .ensures) ∙ c .before .enum-told2 .given .1,
+      c .refused2 .ensures,
+    )
+    (unnamed-seam no-axis, unnamed-cut no-axis)
 
 cut-requires : tie.Need-cut-requires
 cut-requires c κs = search needs
@@ -47,17 +58,13 @@ same-length-3 c = search needs
 
 returns-3 : tie.Need-returns-3
 returns-3 c =
-    let f = c .before .before .before .before .before .before .before .cut .ensures .0 in
-    let p = c .before .before .before .before .before .before .before .cut .ensures .1 in
-    rw (sym (c .before .before .before .before .before .before .before .before .before .before .before .before .before .before .before .before .before .before .size-named .ensures) ∙ c .before .before .before .before .before .before .before .before .before .before .before .before .before .before .before .before .size .given .1, sym (c .before .before .before .before .before .before .before .before .before .before .before .before .before .before .axis-named .ensures) ∙ c .before .before .before .before .before .before .before .before .before .before .before .before .turned .given .1, c .reply .ensures) (
-      record {
-        answer = f .number-is;
-        value = rw (f .number-is) (f .cost-is);
-        seam-given = rw (f .number-is) (f .seam-is);
-        work-left = rw (f .number-is) (f .work-is);
-      },
-      record { picture-left = rw (f .number-is) (p .picture-is) },
+    let g = c .before .before .before .before .before .before .before .cut .ensures in
+    rw (
+      sym (c .before .before .before .before .before .before .before .before .before .before .before .before .before .before .before .before .before .before .size-named .ensures) ∙ c .before .before .before .before .before .before .before .before .before .before .before .before .before .before .before .before .size .given .1,
+      sym (c .before .before .before .before .before .before .before .before .before .before .before .before .before .before .axis-named .ensures) ∙ c .before .before .before .before .before .before .before .before .before .before .before .before .turned .given .1,
+      c .reply .ensures,
     )
+    (named-seam (g .0), rw (g .0 .number-is) (named-cut (g .1)))
 
 pub multisize-cut-spec : {M : Type 1} → statement M
 multisize-cut-spec =
@@ -66,10 +73,12 @@ multisize-cut-spec =
     size-named-requires
     enum-known-size
     enum-told
+    refused-requires
     returns
     axis-named-requires
     enum-known-turned
     enum-told-2
+    refused-requires-2
     returns-2
     cut-requires
     reply-requires

@@ -1,9 +1,7 @@
 -- `exports::multisize_find` meets its contract.
-use mathlib.Core.Path.{_≡_, refl, sym, ap, _∙_}
+use mathlib.Core.Path.{sym, _∙_}
 use borrow.Author.Needs.{needs}
-use Rattle.finding.specs.Finding.{foundNumber}
-use Rattle.carving.specs.Carving.{SeamFound}
-use Rattle.exports.specs.Hosts.{replyOf, HostSeam}
+use Rattle.exports.proofs.Answers.{no-size, no-axis, unnamed-seam, named-seam}
 use Rattle.exports.proofs.multisize_find.Statement.{statement}
 use Rattle.exports.proofs.multisize_find.Tie as tie
 
@@ -16,8 +14,11 @@ enum-known-size c = search needs
 enum-told : tie.Need-enum-told
 enum-told c = search needs
 
+refused-requires : tie.Need-refused-requires
+refused-requires c κs = search needs
+
 returns : tie.Need-returns
-returns c = rw (sym (c .before .before .size-named .ensures) ∙ c .enum-told .given .1) (record { answer = refl; value = refl; seam-given = refl; work-left = refl })
+returns c = rw (sym (c .before .before .before .size-named .ensures) ∙ c .before .enum-told .given .1, c .refused .ensures) (unnamed-seam no-size)
 
 axis-named-requires : tie.Need-axis-named-requires
 axis-named-requires c κs = search needs
@@ -28,8 +29,17 @@ enum-known-turned c = search needs
 enum-told-2 : tie.Need-enum-told-2
 enum-told-2 c = search needs
 
+refused-requires-2 : tie.Need-refused-requires-2
+refused-requires-2 c κs = search needs
+
 returns-2 : tie.Need-returns-2
-returns-2 c = rw (sym (c .before .before .before .before .before .before .size-named .ensures) ∙ c .before .before .before .before .size .given .1, sym (c .before .before .axis-named .ensures) ∙ c .enum-told2 .given .1) (record { answer = refl; value = refl; seam-given = refl; work-left = refl })
+returns-2 c =
+    rw (
+      sym (c .before .before .before .before .before .before .before .size-named .ensures) ∙ c .before .before .before .before .before .size .given .1,
+      sym (c .before .before .before .axis-named .ensures) ∙ c .before .enum-told2 .given .1,
+      c .refused2 .ensures,
+    )
+    (unnamed-seam no-axis)
 
 find-requires : tie.Need-find-requires
 find-requires c κs = search needs
@@ -45,14 +55,12 @@ same-length-2 c = search needs
 
 returns-3 : tie.Need-returns-3
 returns-3 c =
-    let f = c .before .before .before .before .before .find .ensures in
-    rw (sym (c .before .before .before .before .before .before .before .before .before .before .before .before .before .before .before .size-named .ensures) ∙ c .before .before .before .before .before .before .before .before .before .before .before .before .before .size .given .1, sym (c .before .before .before .before .before .before .before .before .before .before .before .axis-named .ensures) ∙ c .before .before .before .before .before .before .before .before .before .turned .given .1, c .reply .ensures)
-    (record {
-      answer = f .number-is;
-      value = rw (f .number-is) (f .cost-is);
-      seam-given = rw (f .number-is) (f .seam-is);
-      work-left = rw (f .number-is) (f .work-is);
-    })
+    rw (
+      sym (c .before .before .before .before .before .before .before .before .before .before .before .before .before .before .before .size-named .ensures) ∙ c .before .before .before .before .before .before .before .before .before .before .before .before .before .size .given .1,
+      sym (c .before .before .before .before .before .before .before .before .before .before .before .axis-named .ensures) ∙ c .before .before .before .before .before .before .before .before .before .turned .given .1,
+      c .reply .ensures,
+    )
+    (named-seam (c .before .before .before .before .before .find .ensures))
 
 pub multisize-find-spec : {M : Type 1} → statement M
 multisize-find-spec =
@@ -61,10 +69,12 @@ multisize-find-spec =
     size-named-requires
     enum-known-size
     enum-told
+    refused-requires
     returns
     axis-named-requires
     enum-known-turned
     enum-told-2
+    refused-requires-2
     returns-2
     find-requires
     reply-requires

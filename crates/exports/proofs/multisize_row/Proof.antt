@@ -18,16 +18,22 @@ enum-known-size c = search needs
 enum-told : tie.Need-enum-told
 enum-told c = search needs
 
+refused-requires : tie.Need-refused-requires
+refused-requires c κs = search needs
+
 returns : tie.Need-returns
-returns c = rw (sym (c .before .before .size-named .ensures) ∙ c .enum-told .given .1) (record { answer = refl; value = refl; space = refl })
+returns c = rw (sym (c .before .before .before .size-named .ensures) ∙ c .before .enum-told .given .1, c .refused .ensures) (record { answer = refl; value = refl; space = refl })
 
 row-requires : tie.Need-row-requires
 row-requires c κs = search needs
 
+refused-requires-2 : tie.Need-refused-requires-2
+refused-requires-2 c κs = search needs
+
 returns-2 : tie.Need-returns-2
 returns-2 c =
-    let short = rw (c .before .row .ensures) at (c .if1 .taken) in
-    rw (sym (c .before .before .before .before .before .size-named .ensures) ∙ c .before .before .before .size .given .1)
+    let short = rw (c .before .before .row .ensures) at (c .before .if1 .taken) in
+    rw (sym (c .before .before .before .before .before .before .size-named .ensures) ∙ c .before .before .before .before .size .given .1, c .refused2 .ensures)
     (record { answer = simp (lt-ltb _ _ short); value = refl; space = refl })
 
 copy-requires : tie.Need-copy-requires
@@ -58,8 +64,10 @@ multisize-row-spec =
     size-named-requires
     enum-known-size
     enum-told
+    refused-requires
     returns
     row-requires
+    refused-requires-2
     returns-2
     copy-requires
     same-length

@@ -14,12 +14,15 @@ enum-known-found-2 c = search needs
 number-requires : tie.Need-number-requires
 number-requires c κs = search needs
 
+refused-requires : tie.Need-refused-requires
+refused-requires c κs = search needs
+
 returns : tie.Need-returns
 returns c = sym (ap replyOf (c .before .found .given .1))
 
 returns-2 : tie.Need-returns-2
-returns-2 c = rw (c .number .ensures) (sym (ap replyOf (c .before .before .found2 .given .1)))
+returns-2 c = rw (c .refused .ensures, c .before .number .ensures) (sym (ap replyOf (c .before .before .before .found2 .given .1)))
 
 pub reply-spec : {M : Type 1} → statement M
 reply-spec =
-    tie.close (tie.spec enum-known-found enum-known-found-2 number-requires returns returns-2)
+    tie.close (tie.spec enum-known-found enum-known-found-2 number-requires refused-requires returns returns-2)

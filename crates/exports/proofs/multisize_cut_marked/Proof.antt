@@ -1,0 +1,92 @@
+-- `exports::multisize_cut_marked` meets its contract.
+use mathlib.Core.Path.{sym, _∙_}
+use borrow.Author.Needs.{needs}
+use Rattle.exports.proofs.Answers.{no-size, no-axis, unnamed-seam, named-seam, unnamed-cut, named-cut, unnamed-marks, named-marks}
+use Rattle.exports.proofs.multisize_cut_marked.Statement.{statement}
+use Rattle.exports.proofs.multisize_cut_marked.Tie as tie
+
+size-named-requires : tie.Need-size-named-requires
+size-named-requires c κs = search needs
+
+enum-known-size : tie.Need-enum-known-size
+enum-known-size c = search needs
+
+enum-told : tie.Need-enum-told
+enum-told c = search needs
+
+refused-requires : tie.Need-refused-requires
+refused-requires c κs = search needs
+
+returns : tie.Need-returns
+returns c = rw (sym (c .before .before .before .size-named .ensures) ∙ c .before .enum-told .given .1, c .refused .ensures) (unnamed-seam no-size, (unnamed-cut no-size, unnamed-marks no-size))
+
+axis-named-requires : tie.Need-axis-named-requires
+axis-named-requires c κs = search needs
+
+enum-known-turned : tie.Need-enum-known-turned
+enum-known-turned c = search needs
+
+enum-told-2 : tie.Need-enum-told-2
+enum-told-2 c = search needs
+
+refused-requires-2 : tie.Need-refused-requires-2
+refused-requires-2 c κs = search needs
+
+returns-2 : tie.Need-returns-2
+returns-2 c =
+    rw (
+      sym (c .before .before .before .before .before .before .before .size-named .ensures) ∙ c .before .before .before .before .before .size .given .1,
+      sym (c .before .before .before .axis-named .ensures) ∙ c .before .enum-told2 .given .1,
+      c .refused2 .ensures,
+    )
+    (unnamed-seam no-axis, (unnamed-cut no-axis, unnamed-marks no-axis))
+
+cut-marked-requires : tie.Need-cut-marked-requires
+cut-marked-requires c κs = search needs
+
+reply-requires : tie.Need-reply-requires
+reply-requires c κs = search needs
+
+same-length : tie.Need-same-length
+same-length c = search needs
+
+same-length-2 : tie.Need-same-length-2
+same-length-2 c = search needs
+
+same-length-3 : tie.Need-same-length-3
+same-length-3 c = search needs
+
+same-length-4 : tie.Need-same-length-4
+same-length-4 c = search needs
+
+returns-3 : tie.Need-returns-3
+returns-3 c =
+    let g = c .before .before .before .before .before .before .before .before .before .cut-marked .ensures in
+    rw (
+      sym (c .before .before .before .before .before .before .before .before .before .before .before .before .before .before .before .before .before .before .before .before .before .size-named .ensures) ∙ c .before .before .before .before .before .before .before .before .before .before .before .before .before .before .before .before .before .before .before .size .given .1,
+      sym (c .before .before .before .before .before .before .before .before .before .before .before .before .before .before .before .before .before .axis-named .ensures) ∙ c .before .before .before .before .before .before .before .before .before .before .before .before .before .before .before .turned .given .1,
+      c .reply .ensures,
+    )
+    (named-seam (g .0), (rw (g .0 .number-is) (named-cut (g .1 .0)), rw (g .0 .number-is) (named-marks (g .1 .1))))
+
+pub multisize-cut-marked-spec : {M : Type 1} → statement M
+multisize-cut-marked-spec =
+    tie.close
+    (tie.spec
+    size-named-requires
+    enum-known-size
+    enum-told
+    refused-requires
+    returns
+    axis-named-requires
+    enum-known-turned
+    enum-told-2
+    refused-requires-2
+    returns-2
+    cut-marked-requires
+    reply-requires
+    same-length
+    same-length-2
+    same-length-3
+    same-length-4
+    returns-3)
