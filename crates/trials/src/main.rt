@@ -19,13 +19,16 @@ fn main() {
     }
 }
 
-// One picture: its seams and cuts along both axes, and what is given of each of its rows and of the row below the last.
+// One picture: its seams and cuts along both axes, without marks and with them, and what is given of each of its rows and of
+// the row below the last.
 fn trial(width: usize, height: usize, kind: Kind, seed: u64) -> u64
     requires { ⌜ (width ≤ 6) × (height ≤ 4) × (seed < 65536) ⌝ }
     ensures { λ next. ⌜ next < 65536 ⌝ }
 {
     let mut space = [0u8; 72];
-    let next = fill(&mut space, seed);
+    let mut marks = [0u8; 72];
+    let filled = fill(&mut space, seed);
+    let next = fill_marks(&mut marks, filled);
     let size = Size {
         width,
         height,
@@ -33,13 +36,16 @@ fn trial(width: usize, height: usize, kind: Kind, seed: u64) -> u64
     };
     let bytes = count(height, width, energy::channels(kind));
     print_seams(space, bytes, size);
+    let pixels = count(height, width, 1);
+    print_marked(space, bytes, marks, pixels, size, Axis::Vertical);
+    print_marked(space, bytes, marks, pixels, size, Axis::Horizontal);
     for r in 0..height + 1 {
         print_row(&space[..bytes], size, r);
     }
     next
 }
 
-// The bytes of a small picture.
+// The bytes of a small picture, or of its marks.
 fn count(height: usize, width: usize, channels: usize) -> usize
     requires { ⌜ (width ≤ 6) × (height ≤ 4) ⌝ }
     ensures { λ n. ⌜ n ≤ 72 ⌝ }
@@ -57,10 +63,41 @@ fn fill(space: &mut [u8], seed: u64) -> u64
 {
     let mut s = seed;
     for i in 0..space.len() {
-        s = (s * 25173 + 13849) % 65536;
+        s = drawn(s);
         space[i] = (s / 256 % 4 * 60) as u8;
     }
     s
+}
+
+// Fills the space with pseudo-random marks: half are plain, and a few are over 2.
+fn fill_marks(space: &mut [u8], seed: u64) -> u64
+    requires { ⌜ seed < 65536 ⌝ }
+    ensures { λ next. ⌜ next < 65536 ⌝ }
+{
+    let mut s = seed;
+    for i in 0..space.len() {
+        s = drawn(s);
+        space[i] = mark(s / 1024);
+    }
+    s
+}
+
+// The next of the pseudo-random numbers.
+fn drawn(seed: u64) -> u64
+    requires { ⌜ seed < 65536 ⌝ }
+    ensures { λ next. ⌜ next < 65536 ⌝ }
+{
+    (seed * 25173 + 13849) % 65536
+}
+
+// A mark from a number below 64.
+fn mark(n: u64) -> u8 {
+    match n {
+        0..=31 => 0,
+        32..=47 => 1,
+        48..=62 => 2,
+        _ => 3,
+    }
 }
 
 fn print_seams(space: [u8; 72], bytes: usize, size: Size)
@@ -81,6 +118,61 @@ fn print_find(picture: &[u8], size: Size, axis: Axis) {
     print_seam(&seam);
     print_number(wide_byte(work[767]));
     io::write_all(STDOUT_FILENO, b"\n");
+}
+
+// The same by marks, and what a cut by marks gives, in a line.
+fn print_marked(
+    space: [u8; 72],
+    bytes: usize,
+    marks: [u8; 72],
+    pixels: usize,
+    size: Size,
+    axis: Axis,
+)
+    requires { ⌜ (bytes ≤ 72) × (pixels ≤ 72) ⌝ }
+{
+    print_find_marked(&space[..bytes], &marks[..pixels], size, axis);
+    io::write_all(STDOUT_FILENO, b" | ");
+    print_cut_marked(space, bytes, marks, pixels, size, axis);
+    io::write_all(STDOUT_FILENO, b"\n");
+}
+
+fn print_find_marked(picture: &[u8], marks: &[u8], size: Size, axis: Axis) {
+    let mut seam = [9u16; 8];
+    let mut work = [1u8; 768];
+    let found = carving::find_marked(picture, marks, size, axis, &mut seam, &mut work);
+    print_found(found);
+    print_seam(&seam);
+    print_number(wide_byte(work[767]));
+}
+
+// The number given, the cost, the picture's bytes and the marks.
+fn print_cut_marked(
+    space: [u8; 72],
+    bytes: usize,
+    marks: [u8; 72],
+    pixels: usize,
+    size: Size,
+    axis: Axis,
+)
+    requires { ⌜ (bytes ≤ 72) × (pixels ≤ 72) ⌝ }
+{
+    let mut copy = space;
+    let mut left = marks;
+    let mut seam = [9u16; 8];
+    let mut work = [1u8; 768];
+    let found = carving::cut_marked(
+        &mut copy[..bytes],
+        &mut left[..pixels],
+        size,
+        axis,
+        &mut seam,
+        &mut work,
+    );
+    print_found(found);
+    print_bytes(&copy[..bytes]);
+    io::write_all(STDOUT_FILENO, b" |");
+    print_bytes(&left[..pixels]);
 }
 
 // The number given, the cost, and the picture's bytes, in a line.

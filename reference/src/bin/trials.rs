@@ -1,24 +1,38 @@
 //! Writes what the test program `trials` is expected to write: the operations
 //! on the same generated pictures, by this implementation.
 
-use reference::{cut, energies, find, row, Axis, Kind, Size};
+use reference::{cut, cut_marked, energies, find, find_marked, row, Axis, Kind, Size};
+use std::fmt::Display;
 
-/// Samples of few values, so that many are equal.
-struct Samples {
+/// Pseudo-random numbers below 65536.
+struct Numbers {
     seed: u64,
 }
 
-impl Samples {
-    fn fill(&mut self, space: &mut [u8]) {
-        for place in space {
-            self.seed = (self.seed * 25173 + 13849) % 65536;
-            *place = (self.seed / 256 % 4 * 60) as u8;
+impl Numbers {
+    fn next(&mut self) -> u64 {
+        self.seed = (self.seed * 25173 + 13849) % 65536;
+        self.seed
+    }
+
+    /// A sample of few values, so that many are equal.
+    fn sample(&mut self) -> u8 {
+        (self.next() / 256 % 4 * 60) as u8
+    }
+
+    /// A mark: half are plain, and a few are over 2.
+    fn mark(&mut self) -> u8 {
+        match self.next() / 1024 {
+            0..32 => 0,
+            32..48 => 1,
+            48..63 => 2,
+            _ => 3,
         }
     }
 }
 
 fn main() {
-    let mut samples = Samples { seed: 1 };
+    let mut numbers = Numbers { seed: 1 };
     for height in 1..=4 {
         for width in 1..=6 {
             for kind in [Kind::Grey, Kind::Rgb] {
@@ -27,23 +41,27 @@ fn main() {
                     height,
                     kind,
                 };
-                trial(size, &mut samples);
+                trial(size, &mut numbers);
             }
         }
     }
 }
 
-/// One picture: lines for its seams and cuts along both axes, for each of its
-/// rows and for the row below the last.
-fn trial(size: Size, samples: &mut Samples) {
-    let mut space = [0; 72];
-    samples.fill(&mut space);
-    let picture = &space[..size.height * size.width * size.kind.channels()];
+/// One picture: lines for its seams and cuts along both axes, without marks
+/// and with them, for each of its rows and for the row below the last.
+fn trial(size: Size, numbers: &mut Numbers) {
+    let space = [0; 72].map(|_| numbers.sample());
+    let marks = [0; 72].map(|_| numbers.mark());
+    let pixels = size.height * size.width;
+    let (picture, marks) = (&space[..pixels * size.kind.channels()], &marks[..pixels]);
     for axis in [Axis::Vertical, Axis::Horizontal] {
         println!("{}", find_line(picture, size, axis));
     }
     for axis in [Axis::Vertical, Axis::Horizontal] {
         println!("{}", cut_line(picture, size, axis));
+    }
+    for axis in [Axis::Vertical, Axis::Horizontal] {
+        println!("{}", marked_line(picture, marks, size, axis));
     }
     for r in 0..=size.height {
         println!("{}", row_line(picture, size, r));
@@ -58,15 +76,18 @@ fn answer(found: Result<u64, u8>) -> String {
     }
 }
 
+/// Each number after a blank.
+fn listed<T: Display>(numbers: &[T]) -> String {
+    let words: Vec<String> = numbers.iter().map(|n| format!(" {n}")).collect();
+    words.concat()
+}
+
 /// The number given, the cost, the seam's space and an end of the work space.
 fn find_line(picture: &[u8], size: Size, axis: Axis) -> String {
     let mut seam = [9; 8];
     let mut work = [1; 768];
-    let mut line = answer(find(picture, size, axis, &mut seam, &mut work));
-    for place in seam {
-        line += &format!(" {place}");
-    }
-    line + &format!(" {}", work[767])
+    let found = find(picture, size, axis, &mut seam, &mut work);
+    answer(found) + &listed(&seam) + &listed(&work[767..])
 }
 
 /// The number given, the cost, and the picture's bytes.
@@ -74,24 +95,34 @@ fn cut_line(picture: &[u8], size: Size, axis: Axis) -> String {
     let mut copy = picture.to_vec();
     let mut seam = [9; 8];
     let mut work = [1; 768];
-    let mut line = answer(cut(&mut copy, size, axis, &mut seam, &mut work));
-    for sample in copy {
-        line += &format!(" {sample}");
-    }
-    line
+    let found = cut(&mut copy, size, axis, &mut seam, &mut work);
+    answer(found) + &listed(&copy)
+}
+
+/// What finding by marks gives, and what a cut by marks gives: the number, the
+/// cost, the picture's bytes and the marks.
+fn marked_line(picture: &[u8], marks: &[u8], size: Size, axis: Axis) -> String {
+    let mut seam = [9; 8];
+    let mut work = [1; 768];
+    let found = find_marked(picture, marks, size, axis, &mut seam, &mut work);
+    let line = answer(found) + &listed(&seam) + &listed(&work[767..]);
+    let (mut copy, mut left) = (picture.to_vec(), marks.to_vec());
+    let cut = cut_marked(&mut copy, &mut left, size, axis, &mut seam, &mut work);
+    format!(
+        "{line} | {}{} |{}",
+        answer(cut),
+        listed(&copy),
+        listed(&left)
+    )
 }
 
 /// The number given, the energies' space and the row.
 fn row_line(picture: &[u8], size: Size, r: usize) -> String {
     let mut out = [7; 8];
     let number = energies(picture, size, r, &mut out).err().unwrap_or(0);
-    let mut line = number.to_string();
-    for energy in out {
-        line += &format!(" {energy}");
-    }
-    line += " |";
-    for sample in row(picture, size, r) {
-        line += &format!(" {sample}");
-    }
-    line
+    format!(
+        "{number}{} |{}",
+        listed(&out),
+        listed(row(picture, size, r))
+    )
 }

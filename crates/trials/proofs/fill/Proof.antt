@@ -16,11 +16,8 @@ abbrev μ-loop : tie.MeasureT-loop
 loop-holds : tie.Need-loop-holds Inv-loop μ-loop
 loop-holds c = search needs
 
-mul-s : tie.Need-mul-s Inv-loop μ-loop
-mul-s c = search needs
-
-add-s : tie.Need-add-s Inv-loop μ-loop
-add-s c = search needs
+drawn-requires : tie.Need-drawn-requires Inv-loop μ-loop
+drawn-requires c κs = search needs
 
 mul-space : tie.Need-mul-space Inv-loop μ-loop
 mul-space c = search needs
@@ -53,8 +50,7 @@ fill-spec =
     Inv-loop
     μ-loop
     loop-holds
-    mul-s
-    add-s
+    drawn-requires
     mul-space
     cast-space
     slice-write-space

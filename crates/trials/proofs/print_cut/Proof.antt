@@ -4,8 +4,9 @@ use mathlib.Core.List.{_++_}
 use Prim.Native.Nat.{_≤_}
 use native.Mathlib.Omega.{arith}
 use borrow.Author.Needs.{needs}
-use lib.ListN.{length, take, drop, length-append}
+use lib.ListN.{length, drop}
 use lib.Seq.{length-take-le}
+use Rattle.trials.proofs.Prefix.{front-kept}
 use Rattle.trials.proofs.print_cut.Statement.{statement}
 use Rattle.trials.proofs.print_cut.Tie as tie
 
@@ -15,11 +16,10 @@ long c = search needs
 fits : (c : tie.Start) → c .args .bytes ≤ length (c .args .space)
 fits c = omega (arith, long c)
 
--- the part that was cut is as long as it was
 kept : (c : tie.After-cut) → c .before .before .before .before .args .bytes ≤ length (c .cut .last .0 ++ drop (c .before .before .before .before .args .bytes) (c .before .before .before .before .args .space))
 kept c =
     let a = c .before .before .before .before .args in
-    omega (arith, length-append (c .cut .last .0) (drop (a .bytes) (a .space)), c .cut .kept .0, length-take-le (a .bytes) (a .space) (fits (c .before .before .before .before)))
+    front-kept (a .bytes) (a .space) (c .cut .last .0) (fits (c .before .before .before .before)) (c .cut .kept .0)
 
 array-borrow-prefix-copy : tie.Need-array-borrow-prefix-copy
 array-borrow-prefix-copy c = search needs

@@ -9,16 +9,22 @@ use Rattle.trials.proofs.trial.Statement.{statement}
 use Rattle.trials.proofs.trial.Tie as tie
 
 abbrev Inv-loop : tie.InvT-loop
-Inv-loop width height seed space next size bytes r₀ r-end r = (length space ≡ 72) × ((bytes ≤ 72) × (r-end ≤ 5))
+Inv-loop width height seed space filled next size bytes pixels r₀ r-end r = (length space ≡ 72) × ((bytes ≤ 72) × (r-end ≤ 5))
 
 abbrev μ-loop : tie.MeasureT-loop
-μ-loop width height seed space next size bytes r₀ r-end r = r-end - r
+μ-loop width height seed space filled next size bytes pixels r₀ r-end r = r-end - r
 
 slice-aggregate-fill : tie.Need-slice-aggregate-fill Inv-loop μ-loop
 slice-aggregate-fill c = search needs
 
 fill-requires : tie.Need-fill-requires Inv-loop μ-loop
 fill-requires c κs = search needs
+
+slice-aggregate-fill-marks : tie.Need-slice-aggregate-fill-marks Inv-loop μ-loop
+slice-aggregate-fill-marks c = search needs
+
+fill-marks-requires : tie.Need-fill-marks-requires Inv-loop μ-loop
+fill-marks-requires c κs = search needs
 
 channels-requires : tie.Need-channels-requires Inv-loop μ-loop
 channels-requires c κs = search needs
@@ -28,6 +34,15 @@ count-requires c κs = search needs
 
 print-seams-requires : tie.Need-print-seams-requires Inv-loop μ-loop
 print-seams-requires c κs = search needs
+
+count-requires-2 : tie.Need-count-requires-2 Inv-loop μ-loop
+count-requires-2 c κs = search needs
+
+print-marked-requires : tie.Need-print-marked-requires Inv-loop μ-loop
+print-marked-requires c κs = search needs
+
+print-marked-requires-2 : tie.Need-print-marked-requires-2 Inv-loop μ-loop
+print-marked-requires-2 c κs = search needs
 
 add-r-end : tie.Need-add-r-end Inv-loop μ-loop
 add-r-end c = search needs
@@ -40,7 +55,7 @@ array-share-prefix-space c = search needs
 
 slice-aggregate-print-row : tie.Need-slice-aggregate-print-row Inv-loop μ-loop
 slice-aggregate-print-row c =
-    let fits : c .before .before .before .before .count .result ≤ length (c .before .before .before .before .before .before .before .fill .last .0) = omega (arith, c .before .before .loop .inv) in
+    let fits : c .before .before .before .before .before .before .before .count .result ≤ length (c .before .before .before .before .before .before .before .before .before .before .before .before .before .fill .last .0) = omega (arith, c .before .before .loop .inv) in
     sym (length-take-le _ _ fits)
 
 print-row-requires : tie.Need-print-row-requires Inv-loop μ-loop
@@ -66,9 +81,14 @@ trial-spec =
     μ-loop
     slice-aggregate-fill
     fill-requires
+    slice-aggregate-fill-marks
+    fill-marks-requires
     channels-requires
     count-requires
     print-seams-requires
+    count-requires-2
+    print-marked-requires
+    print-marked-requires-2
     add-r-end
     loop-holds
     array-share-prefix-space
