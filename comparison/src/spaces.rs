@@ -58,6 +58,16 @@ impl<T: Place> Lent<T> {
         }
     }
 
+    /// Drawn values as the lent part and around it.
+    fn drawn(random: &mut Random, length: usize) -> Lent<T> {
+        let start = random.between(1, GUARD);
+        Lent {
+            places: T::drawn(random, start + length + GUARD),
+            start,
+            length,
+        }
+    }
+
     pub fn part(&self) -> &[T] {
         &self.places[self.start..self.start + self.length]
     }
@@ -84,8 +94,7 @@ pub fn space<T: Place>(random: &mut Random, needed: usize, faults: Faults) -> Le
     } else {
         enough_length(random, needed)
     };
-    let contents = T::drawn(random, length);
-    Lent::holding(random, &contents)
+    Lent::drawn(random, length)
 }
 
 /// Exact, a little longer, or much longer than a small answer.
