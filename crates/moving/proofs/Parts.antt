@@ -14,7 +14,7 @@ use Rattle.grids.proofs.Tables.{each-table}
 use Rattle.grids.proofs.Rows.{length-flat, flat-snoc}
 
 -- One part more, in a loop's terms.
-flat-more : {A : Type 0} (f : ℕ → List A) (r : ℕ) → flat (table f (r + 1)) ≡ flat (table f r) ++ f r
+pub flat-more : {A : Type 0} (f : ℕ → List A) (r : ℕ) → flat (table f (r + 1)) ≡ flat (table f r) ++ f r
 flat-more f r = rw (add-one r) (flat-snoc (table f r) (f r))
 
 pub map-append : {A B : Type 0} (f : A → B) (p q : List A) → map f (p ++ q) ≡ map f p ++ map f q

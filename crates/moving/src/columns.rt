@@ -30,7 +30,14 @@ pub(crate) fn exchange_columns(from: &[u8], size: Size, to: &mut [u8])
 }
 
 // The pixels of column c from the top, put into the front of out.
-fn put_column(kind: Kind, from: &[u8], width: usize, height: usize, c: usize, out: &mut [u8])
+pub(crate) fn put_column(
+    kind: Kind,
+    from: &[u8],
+    width: usize,
+    height: usize,
+    c: usize,
+    out: &mut [u8],
+)
     requires { ⌜ ColumnNeeded (channelsOf kind) (now from) width height c (now out) ⌝ }
     ensures { λ _. ⌜ now (out .exit) ≡ flat (table (samples (channelsOf kind) width (now (from .entry)) c) height) ++ drop (height * channelsOf kind) (now (out .entry)) ⌝ }
 {

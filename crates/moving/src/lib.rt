@@ -1,8 +1,11 @@
 // Pictures moved in lent buffers: rows and columns exchanged, a seam closed up, a space cleared.
+pub mod between;
 mod columns;
 mod rows;
 pub mod spaces;
 
+pub use between::copy_between;
+pub use between::exchange_between;
 use energy::Refusal;
 use energy::Size;
 use energy::Verdict;

@@ -1,0 +1,53 @@
+-- `moving::between::apart_in` meets its contract.
+use mathlib.Core.Path.{_≡_, sym, _∙_}
+use borrow.Author.Needs.{needs}
+use Rattle.moving.proofs.between.apart_in.Statement.{statement}
+use Rattle.moving.proofs.between.apart_in.Tie as tie
+
+within-requires : tie.Need-within-requires
+within-requires c κs = search needs
+
+within-requires-2 : tie.Need-within-requires-2
+within-requires-2 c κs = search needs
+
+within-requires-3 : tie.Need-within-requires-3
+within-requires-3 c κs = search needs
+
+returns : tie.Need-returns
+returns c =
+    let one = sym (c .before .before .before .before .before .within .ensures) ∙ c .before .before .before .before .if1 .taken in
+    let two = sym (c .before .before .before .within2 .ensures) ∙ c .before .before .if2 .taken in
+    let three = sym (c .before .within3 .ensures) ∙ c .if3 .taken in
+    sym (simp (one, two, three))
+
+within-requires-4 : tie.Need-within-requires-4
+within-requires-4 c κs = search needs
+
+returns-2 : tie.Need-returns-2
+returns-2 c =
+    let one = sym (c .before .before .before .before .before .before .within .ensures) ∙ c .before .before .before .before .before .if1 .taken in
+    let two = sym (c .before .before .before .before .within2 .ensures) ∙ c .before .before .before .if2 .taken in
+    let three = sym (c .before .before .within3 .ensures) ∙ c .before .if3 .left in
+    c .within4 .ensures ∙ sym (simp (one, two, three))
+
+returns-3 : tie.Need-returns-3
+returns-3 c =
+    let one = sym (c .before .before .before .within .ensures) ∙ c .before .before .if1 .taken in
+    let two = sym (c .before .within2 .ensures) ∙ c .if2 .left in
+    sym (simp (one, two))
+
+returns-4 : tie.Need-returns-4
+returns-4 c = let one = sym (c .before .within .ensures) ∙ c .if1 .left in sym (simp one)
+
+pub apart-in-spec : {M : Type 1} → statement M
+apart-in-spec =
+    tie.close
+    (tie.spec
+    within-requires
+    within-requires-2
+    within-requires-3
+    returns
+    within-requires-4
+    returns-2
+    returns-3
+    returns-4)
