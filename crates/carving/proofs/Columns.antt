@@ -25,7 +25,7 @@ use Rattle.carving.specs.Axes.{turnedSize, turned, narrowed, cutAlong}
 use Rattle.carving.proofs.Turns.{turned-bytes, turned-sides, turned-ofSize, sides-of}
 
 -- A picture without a seam is a column narrower.
-cut-narrow : (ch h w : ℕ) (s : List ℕ) (q : Picture) → 1 < h → Each (λ c. c < h) w s → Each (Grid ch h) w q → Each (Grid ch (h - 1)) w (cut s q)
+pub cut-narrow : (ch h w : ℕ) (s : List ℕ) (q : Picture) → 1 < h → Each (λ c. c < h) w s → Each (Grid ch h) w q → Each (Grid ch (h - 1)) w (cut s q)
 cut-narrow ch zero w s q l i o = absurd (omega arith)
 cut-narrow ch (suc m) w s q l i o = let one : suc m - 1 ≡ m = omega arith in rw one (cut-each i o)
 

@@ -2,7 +2,7 @@
 mod closing;
 pub mod front;
 pub mod marked;
-mod turning;
+pub mod turning;
 
 use energy::Refusal;
 use energy::Size;
@@ -11,6 +11,7 @@ use finding::Found;
 pub use front::cut_in;
 pub use marked::cut_marked;
 pub use marked::find_marked;
+pub use turning::turned_size;
 ghost use mathlib.Core.Path.{_≡_};
 ghost use lib.ListN.{length};
 ghost use Rattle.energy.specs.Refusals.{given, refusal};

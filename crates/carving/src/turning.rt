@@ -11,7 +11,7 @@ ghost use Rattle.carving.specs.Axes.{turnedSize, turned, narrowed};
 ghost use Rattle.carving.specs.Kernels.{greyOf, TurnNeeded};
 
 // The size in which a seam along the axis is vertical.
-pub(crate) fn turned_size(axis: Axis, size: Size) -> Size
+pub fn turned_size(axis: Axis, size: Size) -> Size
     ensures { λ z. ⌜ z ≡ turnedSize axis size ⌝ }
 {
     let width = size.width;

@@ -1,12 +1,12 @@
 -- Places of a space: what a write at one of them leaves elsewhere.
 use mathlib.Core.Path.{_≡_, refl, sym, ap, ap₂, _∙_}
-use mathlib.Core.Logic.{_⊎_, inl, inr, ⊎-elim}
+use mathlib.Core.Logic.{_⊎_, inl, inr}
 use mathlib.Core.List.{List, [], _∷_, _++_, append-assoc}
-use Prim.Native.Nat.{ℕ, zero, suc, _+_, _-_, _≤_, _<_}
-use native.Mathlib.Nat.{zero-add, suc-add, add-sub-of-le}
+use Prim.Native.Nat.{ℕ, zero, suc, _+_, _-_, _≤_}
+use native.Mathlib.Nat.{add-sub-of-le}
 use native.Mathlib.Omega.{arith}
 use lib.ListN.{length, take, drop, length-append, length-drop}
-use lib.Seq.{take-nil, drop-nil, take-take, drop-drop, take-at, drop-at, length-take-le}
+use lib.Seq.{take-take, drop-drop, take-at, drop-at, length-take-le}
 use Rattle.moving.specs.Between.{partAt, putAt}
 
 -- A part that lies in the front is a part of the front.

@@ -1,5 +1,5 @@
 -- `moving::between::apart_in` meets its contract.
-use mathlib.Core.Path.{_≡_, sym, _∙_}
+use mathlib.Core.Path.{sym, _∙_}
 use borrow.Author.Needs.{needs}
 use Rattle.moving.proofs.between.apart_in.Statement.{statement}
 use Rattle.moving.proofs.between.apart_in.Tie as tie

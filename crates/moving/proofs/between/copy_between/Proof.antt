@@ -1,5 +1,5 @@
 -- `moving::between::copy_between` meets its contract.
-use mathlib.Core.Path.{_≡_, refl, sym, ap, _∙_}
+use mathlib.Core.Path.{refl, sym, _∙_}
 use borrow.Author.Needs.{needs}
 use Rattle.moving.proofs.Relocating.{places-are}
 use Rattle.moving.proofs.between.copy_between.Statement.{statement}

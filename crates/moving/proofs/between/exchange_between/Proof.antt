@@ -1,16 +1,13 @@
 -- `moving::between::exchange_between` meets its contract: each return is the first rule that applies.
 use mathlib.Core.Path.{_≡_, refl, sym, ap, _∙_}
-use mathlib.Core.Bool.{true, false}
-use mathlib.Core.List.{List, [], _∷_, _++_}
-use Prim.Native.Nat.{ℕ}
 use borrow.Author.Needs.{needs}
 use denote.Ref.{now}
 use lib.ListN.{length}
 use Rattle.grids.specs.Exchange.{exchange}
-use Rattle.energy.specs.Refusals.{Rule, _when_, given, refusal, served}
+use Rattle.energy.specs.Refusals.{given, refusal, served}
 use Rattle.energy.specs.Pictures.{sideRules, pictureBytes, picture, bytes}
 use Rattle.energy.proofs.Rules.{served-first, refused-answer, refused-kept}
-use Rattle.moving.specs.Between.{apartIn, partAt, putAt, copyBetweenRules, exchangeBetweenRules}
+use Rattle.moving.specs.Between.{partAt, putAt, copyBetweenRules, exchangeBetweenRules}
 use Rattle.moving.proofs.Relocating.{places-are}
 use Rattle.moving.proofs.between.exchange_between.Statement.{statement}
 use Rattle.moving.proofs.between.exchange_between.Tie as tie

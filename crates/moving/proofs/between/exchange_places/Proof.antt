@@ -9,7 +9,7 @@ use denote.Ref.{now}
 use lib.ListN.{length}
 use lib.Seq.{length-take-le}
 use Rattle.energy.specs.Pictures.{channelsOf}
-use Rattle.energy.proofs.Sizes.{Sides, sides-are}
+use Rattle.energy.proofs.Sizes.{sides-are}
 use Rattle.moving.proofs.Relocating.{Exchanged, exchanged-start, ColumnAt, column-at, lent-needed, column-turn, exchanged-all}
 use Rattle.moving.proofs.between.exchange_places.Statement.{statement}
 use Rattle.moving.proofs.between.exchange_places.Tie as tie
