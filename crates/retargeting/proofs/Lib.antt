@@ -6,3 +6,4 @@ pub mod Choosing
 pub mod Sweep
 pub mod Below
 pub mod Answers
+pub mod Shapes
