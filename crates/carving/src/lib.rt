@@ -11,6 +11,7 @@ use finding::Found;
 pub use front::cut_in;
 pub use marked::cut_marked;
 pub use marked::find_marked;
+pub use marked::marked_rooms;
 pub use turning::turned_size;
 ghost use mathlib.Core.Path.{_≡_};
 ghost use lib.ListN.{length};

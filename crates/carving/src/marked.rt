@@ -62,7 +62,7 @@ pub fn cut_marked(
 }
 
 // Which of 2, 3, 4, 5 and 8 refuses these marks and buffers of these lengths, or none.
-fn marked_rooms(
+pub fn marked_rooms(
     bytes: usize,
     marks: &[u8],
     size: Size,
