@@ -1,7 +1,7 @@
 // Times the library's find and cut against the reference, and against plain C that does the same work with no promise:
 // energies, sums, the way back. Each figure is the best of the rounds; the buffers are not cleared between them, but
 // the library clears its work space. With an argument, 0 or 1, find runs once at the first or the second size, by the
-// library, by plain C and by the library with marks, so that the instructions of each can be counted.
+// library, by both ways in C and by the library with marks, so that the instructions of each can be counted.
 #include <stdint.h>
 #include <stdio.h>
 #include <stdlib.h>
@@ -105,6 +105,13 @@ __attribute__((noinline)) static uint64_t by_plain_c(Lent *lent) {
     return plain_find(lent->picture, z.width, z.height, z.channels, lent->seam);
 }
 
+// The same, compiled for each number of channels: the loop over them is unrolled, and the rest becomes vectors.
+__attribute__((noinline)) static uint64_t by_unrolled_c(Lent *lent) {
+    Size z = lent->size;
+    return z.channels == 3 ? plain_find(lent->picture, z.width, z.height, 3, lent->seam)
+                           : plain_find(lent->picture, z.width, z.height, 1, lent->seam);
+}
+
 static void fill(Lent *lent) {
     int w = lent->size.width, h = lent->size.height, channels = lent->size.channels;
     srand(1);
@@ -175,6 +182,7 @@ static void times(Size size) {
     Lent lent = lend(size);
     printf("%zu by %zu, %zu channels\n", size.width, size.height, size.channels);
     compare(&lent, "find", by_library, "plain C", by_plain_c);
+    compare(&lent, "find", by_library, "unrolled C", by_unrolled_c);
     compare(&lent, "find", by_library, "reference", reference_find);
     compare(&lent, "find_marked", by_library_marked, "reference", reference_find_marked);
     printf("  cut %.3f ms, horizontal cut %.3f ms\n", cut_time(&lent, VERTICAL) * 1e3, cut_time(&lent, HORIZONTAL) * 1e3);
@@ -184,6 +192,7 @@ static void once(Size size) {
     Lent lent = lend(size);
     by_library(&lent);
     by_plain_c(&lent);
+    by_unrolled_c(&lent);
     by_library_marked(&lent);
 }
 
