@@ -1,14 +1,10 @@
 -- What each ending says, and what a removal leaves. The definition computes by the budget, so it ends for every input.
-use mathlib.Core.Path.{_≡_, refl, sym, ap, _∙_}
-use mathlib.Core.Bool.{Bool, true, false, not, cond}
-use mathlib.Core.List.{List}
-use Prim.Native.Nat.{ℕ, zero, suc, _+_, _-_, _≤_, _<_}
-use native.Mathlib.Nat.{add-suc}
-use native.Mathlib.Omega.{arith}
+use mathlib.Core.Path.{_≡_, refl}
+use mathlib.Core.Bool.{Bool, true, false}
+use Prim.Native.Nat.{ℕ, zero, suc, _-_}
 use lib.Dec.{eqb}
-use borrow.Author.Tests.{eq-eqb, ne-eqb, eqb-true, eqb-false, not-true, not-false}
-use Rattle.removal.specs.Objects.{MarkedPicture, toRemove, noSeam, cutOnce, carved, Ending, done, narrow, spent, blocked, Removed, ends, removal}
-use Rattle.removal.proofs.Shapes.{Shaped, shaped-cut}
+use borrow.Author.Tests.{eq-eqb, ne-eqb, eqb-true, eqb-false}
+use Rattle.removal.specs.Objects.{MarkedPicture, toRemove, noSeam, cutOnce, done, narrow, spent, blocked, Removed, ends, removal}
 
 -- The steps, one law each.
 module _ (n : ℕ) (s : MarkedPicture) where

@@ -1,8 +1,8 @@
 -- A cut of the picture and marks that stand at the front of their buffers: which number it is refused by, and what it leaves.
-use mathlib.Core.Path.{_≡_, refl, sym, ap, _∙_}
+use mathlib.Core.Path.{_≡_, sym, ap, _∙_}
 use mathlib.Core.Bool.{Bool, true, false, not, cond}
 use mathlib.Core.List.{List, _++_, append-assoc}
-use Prim.Native.Nat.{ℕ, zero, suc, _+_, _*_, _≤_, _<_}
+use Prim.Native.Nat.{ℕ, _+_, _*_, _≤_}
 use native.Mathlib.Omega.{arith}
 use borrow.Author.Tests.{eq-eqb, ne-eqb, le-ltb}
 use lib.ListN.{length, take, drop, replicate, take-append-drop}
@@ -11,16 +11,16 @@ use Rattle.grids.specs.Rows.{flat}
 use Rattle.energy.specs.declared.pictures.Size.{Size}
 use Rattle.energy.specs.declared.refusals.Refusal.{Refusal}
 use Rattle.energy.specs.Refusals.{refusal, served}
-use Rattle.energy.specs.Pictures.{channelsOf, pictureBytes, picture, bytes}
-use Rattle.energy.proofs.Sizes.{Sides, sides-are}
+use Rattle.energy.specs.Pictures.{channelsOf, pictureBytes, bytes}
+use Rattle.energy.proofs.Sizes.{sides-are}
 use Rattle.finding.specs.declared.Found.{Found}
 use Rattle.finding.specs.declared.Found.the-variants.{Seam, Refused}
-use Rattle.finding.specs.Finding.{foundNumber, pixels, marksOf}
+use Rattle.finding.specs.Finding.{foundNumber, pixels}
 use Rattle.carving.specs.declared.Axis.the-variants.{Vertical}
 use Rattle.carving.specs.Axes.{turned, markedSeamAlong, blockedAlong, cutAlong}
 use Rattle.carving.specs.Carving.{markedCutRules, MarkedPictureCut, MarkedMarksCut}
 use Rattle.carving.proofs.Buffers.{seam-free, refused-blocked}
-use Rattle.removal.specs.Objects.{MarkedPicture, noSeam, cutOnce}
+use Rattle.removal.specs.Objects.{noSeam, cutOnce}
 use Rattle.removal.specs.Kernels.{FrontNeeded, front, FrontCut}
 
 -- A part at the front as it comes back, with what stood behind it.

@@ -1,12 +1,13 @@
 -- What a removal leaves, after how many cuts, and why it ended.
-use mathlib.Core.Path.{_≡_, refl, sym, ap, _∙_}
+use mathlib.Core.Path.{_≡_, refl, ap, _∙_}
 use mathlib.Core.Logic.{⊎-elim}
 use mathlib.Core.Bool.{true, false}
 use Prim.Native.Nat.{ℕ, zero, suc, _+_, _-_, _≤_, _<_}
 use native.Mathlib.Nat.{eq-or-lt-of-le}
 use native.Mathlib.Omega.{arith}
-use Rattle.removal.specs.Objects.{MarkedPicture, toRemove, noSeam, cutOnce, carved, Ending, done, narrow, spent, blocked, Removed, ends, removal}
-use Rattle.removal.proofs.Shapes.{Shaped, wider, shaped-cut}
+use Rattle.carving.proofs.Turns.{more-than-one}
+use Rattle.removal.specs.Objects.{MarkedPicture, toRemove, noSeam, cutOnce, carved, Ending, done, narrow, spent, blocked, Removed, removal}
+use Rattle.removal.proofs.Shapes.{Shaped, shaped-cut}
 use Rattle.removal.proofs.Endings.{by-steps}
 
 -- "The buffers hold the picture and marks after that many."
@@ -49,7 +50,7 @@ count-budget b s =
 pub count-width : (b : ℕ) (s : MarkedPicture) → 0 < s .width → removal b 0 s .count ≤ s .width - 1
 unfolding cutOnce
 count-width b s h =
-    let most = by-steps (λ b n t r. 0 < t .width → r .count < n + t .width) (λ b n t _ h. omega arith) (λ b n t _ _ h. omega arith) (λ n t _ _ h. omega arith) (λ b n t _ _ _ h. omega arith) (λ b n t r _ wide _ next h. let two = wider (t .width) h wide in omega (arith, two, next (omega (arith, two)))) b 0 s h in
+    let most = by-steps (λ b n t r. 0 < t .width → r .count < n + t .width) (λ b n t _ h. omega arith) (λ b n t _ _ h. omega arith) (λ n t _ _ h. omega arith) (λ b n t _ _ _ h. omega arith) (λ b n t r _ wide _ next h. let two = more-than-one (t .width) h wide in omega (arith, two, next (omega (arith, two)))) b 0 s h in
     omega (arith, most)
 
 -- Why a removal with b seams allowed ended.
@@ -115,7 +116,7 @@ left-shaped ch b s =
     (λ b n t _ _ h k. k)
     (λ n t _ _ h k. k)
     (λ b n t _ _ _ h k. k)
-    (λ b n t r _ w g next h k. let two = wider (t .width) h w in next (omega (arith, two)) (shaped-cut ch t k two g))
+    (λ b n t r _ w g next h k. let two = more-than-one (t .width) h w in next (omega (arith, two)) (shaped-cut ch t k two g))
     b
     0
     s

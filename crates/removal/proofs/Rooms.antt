@@ -1,9 +1,9 @@
 -- What the rules of object removal say of the buffers, and what a refusal leaves.
-use mathlib.Core.Path.{_≡_, refl, sym, ap, _∙_}
-use mathlib.Core.Bool.{Bool, true, false, not, cond, _||_}
+use mathlib.Core.Path.{_≡_, refl}
+use mathlib.Core.Bool.{Bool, true, false, not, cond}
 use mathlib.Core.Option.{none, some}
 use mathlib.Core.List.{List, [], _∷_, _++_}
-use Prim.Native.Nat.{ℕ, _*_, _≤_, _<_}
+use Prim.Native.Nat.{ℕ, _*_}
 use lib.Dec.{eqb, ltb}
 use borrow.Author.Tests.{eqb-true, ltb-false, not-false}
 use lib.ListN.{length, replicate}
@@ -19,7 +19,7 @@ use Rattle.carving.specs.declared.Axis.the-variants.{Vertical}
 use Rattle.carving.specs.Carving.{roomRules, markRules}
 use Rattle.carving.proofs.Buffers.{left-as-was}
 use Rattle.removal.specs.declared.Removal.the-variants.{Refused}
-use Rattle.removal.specs.Objects.{MarkedPicture, Ending, Removed, removal}
+use Rattle.removal.specs.Objects.{removal}
 use Rattle.removal.specs.Removing.{removalRules, markedPicture, ObjectRemoved}
 use Rattle.removal.specs.Kernels.{SeamsNeeded}
 use Rattle.removal.proofs.Twos.{or-true}

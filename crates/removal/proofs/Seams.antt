@@ -1,36 +1,33 @@
 -- The loop of object removal: what stands in the buffers after so many cuts, and what is still to be done.
 use mathlib.Core.Path.{_≡_, refl, sym, ap, ap₂, _∙_}
 use mathlib.Core.Logic.{⊎-elim}
-use mathlib.Core.Bool.{Bool, true, false, not, cond}
-use mathlib.Core.Option.{Option, some}
-use mathlib.Core.List.{List, [], _∷_, _++_, append-nil}
-use Prim.Native.Nat.{ℕ, zero, suc, _+_, _-_, _*_, _≤_, _<_}
+use mathlib.Core.Bool.{true, false, not}
+use mathlib.Core.Option.{some}
+use mathlib.Core.List.{List, _++_, append-nil}
+use Prim.Native.Nat.{ℕ, suc, _+_, _-_, _*_, _≤_, _<_}
 use native.Mathlib.Nat.{suc-mul, zero-mul, le-of-eq, mul-le-mul-left, eq-or-lt-of-le}
 use native.Mathlib.Numerals.{add-one}
 use native.Mathlib.Omega.{arith}
 use borrow.Author.Tests.{not-true, not-false}
-use lib.ListN.{length, take, drop, replicate, length-append, replicate-append-replicate}
-use lib.Seq.{take-at, drop-at, take-all}
-use Rattle.grids.specs.Rows.{rowsOf, flat}
-use Rattle.grids.proofs.Shapes.{grid-of}
-use Rattle.grids.proofs.Rows.{rowsOf-flat, length-flat, flat-rowsOf}
+use lib.ListN.{length, take, replicate, replicate-append-replicate}
+use lib.Seq.{take-all}
+use Rattle.grids.specs.Rows.{flat}
+use Rattle.grids.proofs.Rows.{flat-rowsOf}
 use Rattle.energy.specs.declared.pictures.Size.{Size}
-use Rattle.energy.specs.Refusals.{refusal}
-use Rattle.energy.specs.Pictures.{channelsOf, pictureBytes, sideRules, picture, bytes, OfSize}
-use Rattle.energy.proofs.Sizes.{Sides, Sized, sides-are, sides-served, sized-is}
-use Rattle.energy.proofs.Buffers.{picture-bytes, bytes-picture, length-bytes}
+use Rattle.energy.specs.Pictures.{channelsOf, picture, bytes}
+use Rattle.energy.proofs.Sizes.{Sides, sides-are, sides-served, sized-is}
+use Rattle.energy.proofs.Buffers.{bytes-picture}
 use Rattle.moving.specs.Moving.{outside}
 use Rattle.finding.specs.Finding.{pixels, marksOf}
-use Rattle.carving.proofs.Turns.{sides-of}
+use Rattle.carving.proofs.Turns.{sides-of, more-than-one}
 use Rattle.removal.specs.declared.Removal.{Removal}
 use Rattle.removal.specs.declared.Removal.the-variants.{Done, Narrow, Spent, Blocked}
 use Rattle.removal.specs.Objects.{MarkedPicture, someTwo, toRemove, noSeam, cutOnce, carved, Ending, done, narrow, spent, blocked, ends, removal}
-use Rattle.removal.specs.Removing.{removalNumber, removalEnding, removalCount, markedPicture, RemovedAs, ObjectRemoved}
+use Rattle.removal.specs.Removing.{removalNumber, removalEnding, removalCount, markedPicture, ObjectRemoved}
 use Rattle.removal.specs.Kernels.{SeamsNeeded, FrontNeeded, front, FrontCut}
-use Rattle.removal.proofs.Shapes.{Shaped, wider, flat-inside, shaped-start, shaped-cut}
+use Rattle.removal.proofs.Shapes.{flat-inside, shaped-start, shaped-cut}
 use Rattle.removal.proofs.Standing.{Standing, front-marks, front-is, behind-bytes, behind-marks, bytes-there, marks-there}
 use Rattle.removal.proofs.Endings.{removal-done, removal-narrow, removal-spent, removal-blocked, removal-cut}
-use Rattle.removal.proofs.Removals.{carved-width, carved-height}
 
 -- The size with this width.
 abbrev pub sizeAt : Size → ℕ → Size
@@ -96,7 +93,7 @@ module _ {z : Size} {b m : List ℕ} {budget width count : ℕ} {b′ m′ : Lis
   pub going-needed : (work : List ℕ) → (width ≡ 1 → ⊥) → 32 * pixels z ≤ length work → FrontNeeded (sizeAt z width) b′ m′ work
   going-needed work two room = record {
     sides = sides-of (sizeAt z width) (g .some) (omega (arith, g .sum, g .sides .width-most)) (g .sides .height-some) (g .sides .height-most);
-    wide = wider width (g .some) two;
+    wide = more-than-one width (g .some) two;
     picture-there = bytes-there (g .stands);
     marks-there = going-room;
     few = ap (outside 3) (front-marks (g .stands)) ∙ flat-inside (g .stands .shaped .marks-of);
@@ -146,7 +143,7 @@ module _ {z : Size} {b m : List ℕ} {budget width count : ℕ} {b′ m′ : Lis
         unfolding carved cutOnce
         next f =
             let seam : noSeam left ≡ false = not-true (noSeam left) (ap (λ t. not (noSeam t)) (sym same-front) ∙ sym (f .cut-is)) in
-            let some-left = wider width (g .some) more in
+            let some-left = more-than-one width (g .some) more in
             record {
               same = g .same ∙ rw rest (removal-cut count left (sym two) not-one (budget - suc count) seam);
               sides = g .sides;

@@ -9,8 +9,8 @@ use lib.Dec.{leb}
 use lib.ListN.{length, take, drop, length-drop, take-append-drop}
 use lib.Seq.{length-take-le}
 use Rattle.grids.specs.Each.{Each, Grid, none, more}
-use Rattle.grids.specs.Rows.{rowsOf, flat}
 use Rattle.grids.specs.Cut.{cut}
+use Rattle.grids.specs.Rows.{rowsOf, flat}
 use Rattle.grids.proofs.Cut.{cut-each}
 use Rattle.energy.specs.declared.pictures.Kind.the-variants.{Grey}
 use Rattle.energy.specs.declared.pictures.Size.{Size}
@@ -74,12 +74,6 @@ shaped-start z b m work s = record {
 seam-inside : (s : MarkedPicture) → noSeam s ≡ false → Each (λ c. c < s .width) (s .height) (seamIn s)
 unfolding blockedAlong markedSeamAlong turned
 seam-inside s e = marked-inside Vertical (record { width = s .width; height = s .height; kind = Grey }) (s .picture) (s .marks) e
-
--- A width that isn't 1 is more.
-pub wider : (w : ℕ) → 0 < w → (w ≡ 1 → ⊥) → 1 < w
-wider zero h two = absurd (omega arith)
-wider (suc zero) h two = absurd (two refl)
-wider (suc (suc w)) h two = omega arith
 
 -- A grid with a column less.
 narrower : {A : Type 0} {P : A → Type 0} (w : ℕ) {n : ℕ} {s : List ℕ} {p : List (List A)} → 1 < w → Each (λ c. c < w) n s → Each (Each P w) n p → Each (Each P (w - 1)) n (cut s p)

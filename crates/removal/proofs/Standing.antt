@@ -1,11 +1,11 @@
 -- A picture and its marks at the front of their buffers: where they stand, and how they are read back.
-use mathlib.Core.Path.{_≡_, refl, sym, ap, _∙_}
-use mathlib.Core.List.{List, [], _∷_, _++_, append-nil}
-use Prim.Native.Nat.{ℕ, _+_, _*_, _≤_}
+use mathlib.Core.Path.{_≡_, sym, ap, _∙_}
+use mathlib.Core.List.{List, [], _++_, append-nil}
+use Prim.Native.Nat.{ℕ, _+_, _≤_}
 use native.Mathlib.Omega.{arith}
 use lib.ListN.{length, take, drop, length-append}
 use lib.Seq.{take-at, drop-at}
-use Rattle.grids.specs.Rows.{rowsOf, flat}
+use Rattle.grids.specs.Rows.{flat}
 use Rattle.grids.proofs.Shapes.{grid-of}
 use Rattle.grids.proofs.Rows.{rowsOf-flat, length-flat}
 use Rattle.energy.specs.declared.pictures.Size.{Size}

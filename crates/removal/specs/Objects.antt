@@ -45,6 +45,7 @@ unfoldable pub carved : ℕ → MarkedPicture → MarkedPicture
 carved zero s = s
 carved (suc n) s = cutOnce (carved n s)
 
+-- The four endings.
 pub data Ending : Type 0 where
   done : Ending
   narrow : Ending
@@ -60,8 +61,9 @@ pub record Removed : Type 0 where
 abbrev pub ends : Ending → ℕ → MarkedPicture → Removed
 ends e n s = record { ending = e; count = n; left = s }
 
--- With n seams cut and b still allowed. "Before each cut, in this order: no pixel marked 2 gives "done"; width 1 gives
--- "narrow"; b seams cut gives "spent"; no allowed seam gives "blocked"."
+-- The steps, with n seams cut and so many still allowed by the budget. "Before each cut, in this order: no pixel marked 2
+-- gives "done"; width 1 gives "narrow"; b seams cut gives "spent"; no allowed seam gives "blocked"." So "spent" stands where
+-- none is allowed any more. Otherwise the seam is cut, and so on.
 unfoldable pub removal : ℕ → ℕ → MarkedPicture → Removed
 removal zero n s =
     cond (not (toRemove s)) (ends done n s)

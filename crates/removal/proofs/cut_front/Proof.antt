@@ -1,18 +1,14 @@
 -- `removal::cut_front` meets its contract.
-use mathlib.Core.Path.{_≡_, refl, sym, ap, _∙_}
+use mathlib.Core.Path.{_≡_, sym, ap, _∙_}
 use mathlib.Core.Bool.{true, false}
-use mathlib.Core.List.{List, _++_}
-use Prim.Native.Nat.{ℕ, _*_, _≤_, _<_}
+use Prim.Native.Nat.{_*_, _≤_}
 use native.Mathlib.Omega.{arith}
 use borrow.Author.Needs.{needs}
-use denote.Ref.{now}
-use lib.ListN.{length, take, drop, replicate, length-replicate}
 use lib.Seq.{length-take-le}
-use Rattle.energy.specs.Refusals.{refusal, served}
+use Rattle.energy.specs.Refusals.{served}
 use Rattle.energy.specs.Pictures.{pictureBytes}
-use Rattle.energy.proofs.Sizes.{Sides, sides-are}
+use Rattle.energy.proofs.Sizes.{sides-are}
 use Rattle.finding.specs.Finding.{pixels}
-use Rattle.removal.specs.Kernels.{FrontNeeded, FrontCut}
 use Rattle.removal.proofs.Front.{front-found, front-refused, front-cut}
 use Rattle.removal.proofs.cut_front.Statement.{statement}
 use Rattle.removal.proofs.cut_front.Tie as tie

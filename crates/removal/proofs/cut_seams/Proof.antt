@@ -1,22 +1,17 @@
 -- `removal::cut_seams` meets its contract. The loop's invariant: what stands in the buffers after `count` cuts.
-use mathlib.Core.Path.{_≡_, refl, sym, ap, _∙_}
-use mathlib.Core.Bool.{Bool, true, false, not}
-use mathlib.Core.List.{List}
-use Prim.Native.Nat.{ℕ, _*_, _≤_, _<_}
+use mathlib.Core.Path.{_≡_, refl, sym, _∙_}
+use mathlib.Core.Bool.{true}
+use Prim.Native.Nat.{_*_, _≤_}
 use native.Mathlib.Nat.{mul-le-mul}
 use native.Mathlib.Omega.{arith}
 use borrow.Author.Needs.{needs}
 use borrow.Author.Tests.{not-true, not-false}
 use denote.Ref.{now}
-use lib.ListN.{length, take}
+use lib.ListN.{length}
 use lib.Seq.{length-take-le}
-use Rattle.energy.specs.declared.pictures.Size.{Size}
-use Rattle.energy.specs.Refusals.{refusal}
-use Rattle.energy.proofs.Sizes.{Sides}
 use Rattle.removal.specs.Objects.{toRemove, carved}
-use Rattle.removal.specs.Removing.{markedPicture, ObjectRemoved}
-use Rattle.removal.specs.Kernels.{SeamsNeeded, FrontNeeded, FrontCut}
-use Rattle.removal.proofs.Seams.{sizeAt, Going, going-start, going-marks, going-room, going-few, going-less, going-needed, going-done, going-narrow, going-spent, going-blocked, going-on}
+use Rattle.removal.specs.Removing.{markedPicture}
+use Rattle.removal.proofs.Seams.{Going, going-start, going-marks, going-room, going-less, going-needed, going-done, going-narrow, going-spent, going-blocked, going-on}
 use Rattle.removal.proofs.cut_seams.Statement.{statement}
 use Rattle.removal.proofs.cut_seams.Tie as tie
 

@@ -1,13 +1,11 @@
 -- `removal::remove` meets its contract.
-use mathlib.Core.Path.{_≡_, refl, sym, ap, _∙_}
-use mathlib.Core.List.{List}
+use mathlib.Core.Path.{_≡_, sym, ap, _∙_}
 use Prim.Native.Nat.{ℕ}
 use borrow.Author.Needs.{needs}
 use denote.Ref.{now}
 use lib.ListN.{length, replicate}
-use Rattle.energy.specs.Refusals.{given, numberOf, refusal, served}
-use Rattle.removal.specs.Removing.{removalRules, ObjectRemoved}
-use Rattle.removal.specs.Kernels.{SeamsNeeded}
+use Rattle.energy.specs.Refusals.{given, refusal}
+use Rattle.removal.specs.Removing.{removalRules}
 use Rattle.removal.proofs.Rooms.{rooms-rules, rooms-are, refused-all}
 use Rattle.removal.proofs.remove.Statement.{statement}
 use Rattle.removal.proofs.remove.Tie as tie

@@ -1,13 +1,13 @@
 -- `removal::some_two` meets its contract. The loop's invariant: what was found and the marks still to come decide.
-use mathlib.Core.Path.{_≡_, refl, sym, ap, _∙_}
+use mathlib.Core.Path.{_≡_, ap, _∙_}
 use mathlib.Core.Logic.{⊎-elim}
-use mathlib.Core.Bool.{Bool, true, false, _||_}
-use mathlib.Core.List.{List, []}
-use Prim.Native.Nat.{ℕ, _+_, _-_, _≤_, _<_}
+use mathlib.Core.Bool.{_||_}
+use mathlib.Core.List.{[]}
+use Prim.Native.Nat.{_+_, _-_, _≤_}
 use native.Mathlib.Omega.{arith}
 use borrow.Author.Needs.{needs}
 use denote.Ref.{now}
-use lib.ListN.{length, drop, getD}
+use lib.ListN.{length, drop}
 use lib.Seq.{drop-length}
 use Rattle.removal.specs.Objects.{someTwo}
 use Rattle.removal.proofs.Twos.{two-found, two-next, or-none}
