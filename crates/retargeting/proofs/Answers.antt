@@ -24,7 +24,7 @@ use Rattle.retargeting.specs.declared.Rows.{Rows}
 use Rattle.retargeting.specs.declared.Columns.{Columns}
 use Rattle.retargeting.specs.Cells.{smaller, cell}
 use Rattle.retargeting.specs.Retargeting.{leftSize, cellOf, workBytes, retargetRules}
-use Rattle.retargeting.specs.Kernels.{pictureAt, SpaceNeeded, held, firstRow, tableRow, RowNeeded, RowGiven, RetargetNeeded, Served}
+use Rattle.retargeting.specs.Kernels.{pictureAt, SpaceNeeded, held, firstRow, tableRow, RowNeeded, RowGiven, RetargetNeeded, LastGiven}
 use Rattle.retargeting.proofs.Slots.{smaller-few}
 use Rattle.retargeting.proofs.Sweep.{first-cells, table-cells}
 
@@ -156,7 +156,7 @@ module _ (b : List ℕ) (z : Size) (rows : Rows) (columns : Columns) (out work :
               ∙ length-part (columns .0 * length b) (pictureBytes (leftSize z rows columns)) three (omega (arith, three-long, last-sure count count-is .inside)) ∙ sym count-is
 
           pub served : (out′ four : List ℕ) → out′ ≡ take (length part) part ++ drop (length part) out → four ≡ replicate (length three) 0
-              → Served b z rows columns out work (getD totals₃ (columns .0) 0) out′ four
+              → LastGiven b z rows columns out work (getD totals₃ (columns .0) 0) out′ four
           served out′ four out-is four-is =
               let left = leftSize z rows columns in
               let shown : part ≡ bytes (cellOf z b rows columns .picture) =

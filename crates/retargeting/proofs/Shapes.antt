@@ -11,15 +11,12 @@ use Rattle.grids.specs.Each.{Each, none, more}
 use Rattle.grids.specs.Cut.{cut}
 use Rattle.grids.proofs.Exchange.{exchange-each}
 use Rattle.grids.proofs.Cut.{cut-each}
-use Rattle.cheapest.proofs.Along.{along-most}
 use Rattle.energy.specs.declared.pictures.Size.{Size}
 use Rattle.energy.specs.Refusals.{refusal}
 use Rattle.energy.specs.Pictures.{Picture, channelsOf, pictureBytes, sideRules, OfSize}
-use Rattle.energy.specs.Energy.{energy, pixel}
+use Rattle.energy.specs.Energy.{pixel}
 use Rattle.energy.proofs.Sizes.{Sides, sides-are}
 use Rattle.energy.proofs.Energy.{energy-most}
-use Rattle.finding.specs.Seams.{costOf}
-use Rattle.finding.proofs.Characterised.{seam-some}
 use Rattle.carving.specs.declared.Axis.{Axis}
 use Rattle.carving.specs.declared.Axis.the-variants.{Vertical, Horizontal}
 use Rattle.carving.specs.Axes.{turnedSize, turned, narrowed, seamAlong, costAlong, cutAlong}
@@ -27,6 +24,7 @@ use Rattle.carving.proofs.Turns.{turned-sides}
 use Rattle.carving.proofs.Inside.{along-inside}
 use Rattle.retargeting.specs.Cells.{Cell, smaller, bySeam, chosen, cell}
 use Rattle.retargeting.specs.Kernels.{leftAlong}
+use Rattle.retargeting.proofs.Costs.{cost-bound}
 use Rattle.retargeting.proofs.Steps.{sized-at}
 use Rattle.retargeting.proofs.Slots.{smaller-sides}
 
@@ -112,19 +110,14 @@ pixel-bytes ch z p o r c =
 
 -- The cost of a seam along either axis.
 cost-most : (ch : ℕ) → ch ≤ 3 → (x : Axis) (z : Size) (p : Picture) → refusal (sideRules z) ≡ 0 → Of (Bytes ch) z p → costAlong x z p ≤ 783360
-unfolding costAlong costOf
+unfolding costAlong
 cost-most ch few x z p s o =
     let t = turnedSize x z in
     let q = turned x (z .width) p in
     let sides : Sides (turnedSize x z) = sides-are t (turned-sides x z (pictureBytes z) (sized-at z s)) in
     let b = pixel-bytes ch t q (turned-of (Bytes ch) x z p o) in
-    let found = seam-some (t .width) (t .height) q (sides .width-some) (sides .height-some) in
-    let each : (r c : ℕ) → energy (turned x (z .width) p) r c ≤ 1530 = λ r c. omega (arith, energy-most ch 255 q (λ r c. b r c .many) (λ r c. b r c .small) r c, mul-le-mul-right 255 few) in
-    let most = along-most (energy q) 1530 (found .0) each in
-    let long : length (found .0) ≡ t .height = found .2 .path .size in
-    let tall : length (found .0) ≤ 512 = rw long (sides .height-most) in
-    let all : length (found .0) * 1530 ≤ 512 * 1530 = mul-le-mul-right 1530 tall in
-    rw (found .1) (omega arith)
+    cost-bound (t .width) (t .height) q (sides .width-some) (sides .height-some) (sides .height-most)
+    (λ r c. omega (arith, energy-most ch 255 q (λ r c. b r c .many) (λ r c. b r c .small) r c, mul-le-mul-right 255 few))
 
 -- The total of r + c seams: at most 128 of them, it fits 64 bits.
 module _ (z : Size) (p : Picture) (s : refusal (sideRules z) ≡ 0) (ch : ℕ) (few : ch ≤ 3) (o : Of (Bytes ch) z p) where

@@ -91,16 +91,10 @@ pub record StepGiven (work : List ℕ) (from : ℕ) (z : Size) (x : Axis) (at to
   pub long : length work′ ≡ length work
   pub others : (a n : ℕ) → Apart a n at (pictureBytes z + pixels z) → Apart a n to (pictureBytes z) → partAt a n work′ ≡ partAt a n work
 
--- The work space has 65 slots of one picture each, slot j at j pictures; behind them stand two places for work, of two
--- pictures each.
+-- The work space has 65 slots of one picture each, slot j at j pictures; behind them stand two places for work of two
+-- pictures each, for a vertical seam at 65 pictures and for a horizontal one at 67.
 abbrev pub slots : ℕ
 slots = 65
-
-abbrev pub verticalPlace : ℕ
-verticalPlace = 65
-
-abbrev pub horizontalPlace : ℕ
-horizontalPlace = 67
 
 abbrev pub places : ℕ
 places = 69
@@ -197,7 +191,7 @@ pub record RetargetNeeded (b : List ℕ) (z : Size) (rows : Rows) (columns : Col
   pub work-room : workBytes z ≤ length work
 
 -- The total of the cell, its picture at the front of out, and the work space zero.
-pub record Served (b : List ℕ) (z : Size) (rows : Rows) (columns : Columns) (out work : List ℕ) (total : ℕ) (out′ work′ : List ℕ) : Type 0 where
+pub record LastGiven (b : List ℕ) (z : Size) (rows : Rows) (columns : Columns) (out work : List ℕ) (total : ℕ) (out′ work′ : List ℕ) : Type 0 where
   pub total-is : total ≡ cellOf z b rows columns .total
   pub out-is : out′ ≡ bytes (cellOf z b rows columns .picture) ++ drop (pictureBytes (leftSize z rows columns)) out
   pub work-is : work′ ≡ replicate (length work) 0

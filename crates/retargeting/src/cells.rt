@@ -11,6 +11,11 @@ ghost use lib.ListN.{length};
 ghost use Rattle.retargeting.specs.Cells.{smaller as Cells·smaller};
 ghost use Rattle.retargeting.specs.Kernels.{CellNeeded, CellGiven};
 
+// Where the places for work stand, counted in pictures: behind the 65 slots, each of two pictures.
+pub(crate) const VERTICAL: usize = 65;
+
+pub(crate) const HORIZONTAL: usize = 67;
+
 // The size with so many rows and so many columns less.
 pub(crate) fn smaller(size: Size, rows: Rows, columns: Columns) -> Size
     requires { ⌜ (rows .0 ≤ size .height) × (columns .0 ≤ size .width) ⌝ }
@@ -45,8 +50,8 @@ pub(crate) fn next_cell(
     let upper = smaller(size, rows, Columns(c + 1));
     let beside = smaller(size, Rows(r + 1), columns);
     let slot = (c + 1) * whole;
-    let vertical = 65 * whole;
-    let horizontal = 67 * whole;
+    let vertical = VERTICAL * whole;
+    let horizontal = HORIZONTAL * whole;
     let mut across = [0u16; 512];
     let mut down = [0u16; 512];
     let by_row = above + seam_at(work, slot, upper, Axis::Horizontal, horizontal, &mut across);

@@ -7,11 +7,9 @@ use energy::Refusal;
 use energy::Size;
 use energy::Verdict;
 ghost use mathlib.Core.Path.{_≡_};
-ghost use mathlib.Core.List.{_++_};
-ghost use lib.ListN.{length, drop, replicate};
 ghost use Rattle.energy.specs.Refusals.{given, refusal};
 ghost use Rattle.retargeting.specs.Retargeting.{retargetRules, RetargetGiven};
-ghost use Rattle.retargeting.specs.Kernels.{RetargetNeeded, Served};
+ghost use Rattle.retargeting.specs.Kernels.{RetargetNeeded, LastGiven};
 
 // A count of rows, and a count of columns: never one for the other.
 pub struct Rows(pub usize);
@@ -87,7 +85,7 @@ fn last_cell(
     work: &mut [u8],
 ) -> u64
     requires { ⌜ RetargetNeeded (now picture) size rows columns (now out) (now work) ⌝ }
-    ensures { λ n. ⌜ Served (now (picture .entry)) size rows columns (now (out .entry)) (now (work .entry)) n (now (out .exit)) (now (work .exit)) ⌝ }
+    ensures { λ n. ⌜ LastGiven (now (picture .entry)) size rows columns (now (out .entry)) (now (work .entry)) n (now (out .exit)) (now (work .exit)) ⌝ }
 {
     let whole = picture.len();
     let last = columns.0;

@@ -60,6 +60,7 @@ pub(crate) fn seam_at(
     let found = finding::find_in(&mut work[at..], over, seam);
     match found {
         Found::Seam(cost) => cost,
+        // never here: the size is allowed and there is room
         Found::Refused(_) => 0,
     }
 }

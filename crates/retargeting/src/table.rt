@@ -2,6 +2,8 @@
 // its total. `whole` is the bytes of a slot.
 use crate::Columns;
 use crate::Rows;
+use crate::cells::HORIZONTAL;
+use crate::cells::VERTICAL;
 use crate::cells::next_cell;
 use crate::cells::smaller;
 use crate::seams::step;
@@ -30,7 +32,7 @@ pub(crate) fn first_row(
             j * whole,
             before,
             Axis::Vertical,
-            65 * whole,
+            VERTICAL * whole,
             (j + 1) * whole,
         );
         totals[j + 1] = totals[j] + cost;
@@ -78,7 +80,7 @@ fn next_row(
     ensures { λ _. ⌜ RowGiven size whole (rows .0 + 1) (columns .0) (nextRow size (rows .0) (held size whole (rows .0) (now (work .entry)) (now (totals .entry)))) (now (work .entry)) (now (work .exit)) (now (totals .exit)) ⌝ }
 {
     let above = smaller(size, rows, Columns(0));
-    let cost = step(work, 0, above, Axis::Horizontal, 67 * whole, 0);
+    let cost = step(work, 0, above, Axis::Horizontal, HORIZONTAL * whole, 0);
     totals[0] = totals[0] + cost;
     rest_of_row(work, size, whole, rows, columns, totals);
 }
