@@ -21,18 +21,18 @@ use Rattle.grids.proofs.Tables.{each-table}
 use Rattle.energy.specs.declared.pictures.Size.{Size}
 use Rattle.energy.specs.Pictures.{channelsOf, pictureBytes, picture, bytes}
 use Rattle.energy.proofs.Sizes.{Sides, sides-are}
-use Rattle.moving.specs.Between.{partAt, putAt, apartIn}
-use Rattle.moving.specs.Kernels.{samples, ColumnNeeded, PlacesNeeded, PictureNeeded}
+use Rattle.moving.specs.Between.{partAt, putAt, apartIn, PlacesApart}
+use Rattle.moving.specs.Kernels.{samples, ColumnNeeded, PictureNeeded}
 use Rattle.moving.proofs.Parts.{flat-more, filled-length}
 use Rattle.moving.proofs.Places.{Kept, kept-part, kept-wider, put-kept, length-part, append-part}
 use Rattle.moving.proofs.Exchanging.{column, exchanged-is, length-samples}
 
 -- What the test of two places says.
-pub places-are : (space from to n : ℕ) → apartIn space from to n ≡ true → PlacesNeeded space from to n
+pub places-are : (space from to n : ℕ) → apartIn space from to n ≡ true → PlacesApart space from to n
 places-are space from to n e = go (leb (from + n) space) (leb (to + n) space) (leb (from + n) to) (leb (to + n) from) refl refl refl refl e
   where
     go : (a b c d : Bool) → leb (from + n) space ≡ a → leb (to + n) space ≡ b → leb (from + n) to ≡ c → leb (to + n) from ≡ d
-        → (a && (b && (c || d))) ≡ true → PlacesNeeded space from to n
+        → (a && (b && (c || d))) ≡ true → PlacesApart space from to n
     go true true true d p q r s t = record { from-inside = leb-true _ _ p; to-inside = leb-true _ _ q; apart = inl (leb-true _ _ r) }
     go true true false true p q r s t = record { from-inside = leb-true _ _ p; to-inside = leb-true _ _ q; apart = inr (leb-true _ _ s) }
     go true true false false p q r s t = absurd (let z : _≡_ {A = ℕ} 0 1 = cc in omega arith)
@@ -40,7 +40,7 @@ places-are space from to n e = go (leb (from + n) space) (leb (to + n) space) (l
     go false b c d p q r s t = absurd (let z : _≡_ {A = ℕ} 0 1 = cc in omega arith)
 
 -- And the other way round.
-pub are-places : (space from to n : ℕ) → PlacesNeeded space from to n → apartIn space from to n ≡ true
+pub are-places : (space from to n : ℕ) → PlacesApart space from to n → apartIn space from to n ≡ true
 are-places space from to n p = go (p .apart)
   where
     go : (from + n ≤ to) ⊎ (to + n ≤ from) → apartIn space from to n ≡ true
@@ -63,7 +63,7 @@ within-is space at n h = go (leb n (space - at)) refl
 abbrev pub Copied : ℕ → ℕ → List ℕ → ℕ → List ℕ → Type 0
 Copied from to old i now = now ≡ paste old to (drop from old) i
 
-module _ (old : List ℕ) (from to n : ℕ) (needed : PlacesNeeded (length old) from to n) where
+module _ (old : List ℕ) (from to n : ℕ) (needed : PlacesApart (length old) from to n) where
   rest : length (drop from old) ≡ length old - from
   rest = length-drop from old
 

@@ -17,8 +17,7 @@ use Rattle.energy.specs.Refusals.{_when_, refusal, served}
 use Rattle.energy.specs.Pictures.{channelsOf, pictureBytes, sideRules, sizeRules, picture, bytes}
 use Rattle.energy.proofs.Rules.{served-first}
 use Rattle.moving.specs.Moving.{outside, ExchangeGiven, CloseGiven}
-use Rattle.moving.specs.Between.{partAt, putAt, copyBetweenRules, CopyBetweenGiven, ExchangeBetweenGiven}
-use Rattle.moving.specs.Kernels.{PlacesNeeded}
+use Rattle.moving.specs.Between.{partAt, putAt, PlacesApart, copyBetweenRules, CopyBetweenGiven, ExchangeBetweenGiven}
 use Rattle.moving.proofs.Relocating.{are-places}
 
 -- A picture of its size, and room for it: the exchanged picture stands at the front of the space.
@@ -52,13 +51,13 @@ close-served b z s b′ v g e columns wide =
 
 -- Two places inside the space that don't overlap: what stands at one is put at the other.
 pub copy-between-served : (space : List ℕ) (from n to : ℕ) (v : Verdict) (space′ : List ℕ) → CopyBetweenGiven space from n to v space′
-    → PlacesNeeded (length space) from to n → space′ ≡ putAt to n (partAt from n space) space
+    → PlacesApart (length space) from to n → space′ ≡ putAt to n (partAt from n space) space
 copy-between-served space from n to v space′ g p =
     let none : refusal (copyBetweenRules (length space) from n to) ≡ 0 = simp (are-places (length space) from to n p) in
     g .space-left ∙ ap (λ k. served k (putAt to n (partAt from n space) space) space) (g .answer ∙ none)
 
 pub exchange-between-served : (space : List ℕ) (from : ℕ) (z : Size) (to : ℕ) (v : Verdict) (space′ : List ℕ) → ExchangeBetweenGiven space from z to v space′
-    → refusal (sideRules z) ≡ 0 → PlacesNeeded (length space) from to (pictureBytes z)
+    → refusal (sideRules z) ≡ 0 → PlacesApart (length space) from to (pictureBytes z)
     → space′ ≡ putAt to (pictureBytes z) (bytes (exchange (z .width) (picture z (partAt from (pictureBytes z) space)))) space
 exchange-between-served space from z to v space′ g s p =
     let none : refusal (copyBetweenRules (length space) from (pictureBytes z) to) ≡ 0 = simp (are-places (length space) from to (pictureBytes z) p) in

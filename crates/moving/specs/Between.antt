@@ -1,8 +1,9 @@
 -- Moving inside one space: some bytes copied, or a picture exchanged, from one place to another.
 use mathlib.Core.Path.{_≡_}
+use mathlib.Core.Logic.{_⊎_}
 use mathlib.Core.Bool.{Bool, not, _&&_, _||_}
 use mathlib.Core.List.{List, [], _∷_, _++_}
-use Prim.Native.Nat.{ℕ, _+_}
+use Prim.Native.Nat.{ℕ, _+_, _≤_}
 use lib.Dec.{leb}
 use lib.ListN.{length, take, drop}
 use Rattle.grids.specs.Exchange.{exchange}
@@ -22,6 +23,12 @@ putAt at n new space = take at space ++ (new ++ drop (at + n) space)
 -- Whether n bytes at `from` and n bytes at `to` lie inside a space of so many bytes and don't overlap.
 abbrev pub apartIn : ℕ → ℕ → ℕ → ℕ → Bool
 apartIn space from to n = leb (from + n) space && (leb (to + n) space && (leb (from + n) to || leb (to + n) from))
+
+-- The same, said of the numbers.
+pub record PlacesApart (space from to n : ℕ) : Type 0 where
+  pub from-inside : from + n ≤ space
+  pub to-inside : to + n ≤ space
+  pub apart : (from + n ≤ to) ⊎ (to + n ≤ from)
 
 -- Copying is refused where one of the two places reaches past the end of the space, or where they overlap.
 abbrev pub copyBetweenRules : ℕ → ℕ → ℕ → ℕ → List Rule

@@ -1,6 +1,5 @@
 -- What the private functions of this crate ask and promise, in terms of rows of bytes. No public promise cites it.
 use mathlib.Core.Path.{_≡_}
-use mathlib.Core.Logic.{_⊎_}
 use mathlib.Core.Bool.{false}
 use mathlib.Core.List.{List, _++_}
 use Prim.Native.Nat.{ℕ, _+_, _*_, _≤_, _<_}
@@ -10,6 +9,7 @@ use Rattle.energy.specs.declared.pictures.Size.{Size}
 use Rattle.energy.specs.Refusals.{refusal}
 use Rattle.energy.specs.Pictures.{largestSide, pictureBytes, sideRules, sizeRules}
 use Rattle.moving.specs.Moving.{outside}
+use Rattle.moving.specs.Between.{PlacesApart}
 
 -- A line of bytes without the n bytes from `gap` on.
 abbrev pub without : ℕ → ℕ → List ℕ → List ℕ
@@ -42,14 +42,8 @@ pub record ExchangeNeeded (b : List ℕ) (z : Size) (to : List ℕ) : Type 0 whe
   pub sized : refusal (sizeRules z (length b)) ≡ 0
   pub room : pictureBytes z ≤ length to
 
--- Two places of n bytes inside a space, which don't overlap.
-pub record PlacesNeeded (space from to n : ℕ) : Type 0 where
-  pub from-inside : from + n ≤ space
-  pub to-inside : to + n ≤ space
-  pub apart : (from + n ≤ to) ⊎ (to + n ≤ from)
-
 -- A size that is allowed, its bytes, and two such places of them.
 pub record PictureNeeded (space from : ℕ) (z : Size) (all to : ℕ) : Type 0 where
   pub sides : refusal (sideRules z) ≡ 0
   pub all-is : all ≡ pictureBytes z
-  pub places : PlacesNeeded space from to (pictureBytes z)
+  pub places : PlacesApart space from to (pictureBytes z)

@@ -10,8 +10,8 @@ ghost use lib.Dec.{leb};
 ghost use lib.ListN.{length};
 ghost use Rattle.grids.specs.Exchange.{exchange};
 ghost use Rattle.energy.specs.Pictures.{picture, bytes as Pictures·bytes, pictureBytes};
-ghost use Rattle.moving.specs.Between.{apartIn, partAt, putAt, CopyBetweenGiven, ExchangeBetweenGiven};
-ghost use Rattle.moving.specs.Kernels.{PlacesNeeded, PictureNeeded};
+ghost use Rattle.moving.specs.Between.{apartIn, partAt, putAt, PlacesApart, CopyBetweenGiven, ExchangeBetweenGiven};
+ghost use Rattle.moving.specs.Kernels.{PictureNeeded};
 
 // The picture that stands at `from`, put with rows and columns exchanged at `to`. The rest of the space is left as it was.
 // Refused by 2 and 3 as every size is, and by 8 where one of the two places reaches past the end of the space, or where
@@ -69,8 +69,9 @@ fn apart_in(space: usize, from: usize, to: usize, count: usize) -> bool
     false
 }
 
+// Byte by byte.
 fn copy_places(space: &mut [u8], from: usize, count: usize, to: usize)
-    requires { ⌜ PlacesNeeded (length (now space)) from to count ⌝ }
+    requires { ⌜ PlacesApart (length (now space)) from to count ⌝ }
     ensures { λ _. ⌜ now (space .exit) ≡ putAt to count (partAt from count (now (space .entry))) (now (space .entry)) ⌝ }
 {
     for i in 0..count {

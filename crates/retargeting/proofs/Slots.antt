@@ -13,8 +13,7 @@ use Rattle.energy.specs.declared.pictures.Size.{Size}
 use Rattle.energy.specs.Refusals.{refusal}
 use Rattle.energy.specs.Pictures.{channelsOf, pictureBytes, sideRules, picture}
 use Rattle.energy.proofs.Sizes.{sides-are, channels-some}
-use Rattle.moving.specs.Between.{partAt}
-use Rattle.moving.specs.Kernels.{PlacesNeeded}
+use Rattle.moving.specs.Between.{partAt, PlacesApart}
 use Rattle.finding.specs.Finding.{pixels}
 use Rattle.carving.specs.declared.Axis.the-variants.{Vertical, Horizontal}
 use Rattle.carving.proofs.Turns.{sides-of}
@@ -72,8 +71,8 @@ double-few z whole r c is = omega (arith, smaller-few z r c, pixels-few (smaller
 
 -- A slot, and a place for work behind the slots.
 pub record Placed (z′ : Size) (whole k p work : ℕ) : Type 0 where
-  pub here : PlacesNeeded work (k * whole) (p * whole) (pictureBytes z′)
-  pub there : PlacesNeeded work (p * whole) (k * whole) (pictureBytes z′)
+  pub here : PlacesApart work (k * whole) (p * whole) (pictureBytes z′)
+  pub there : PlacesApart work (p * whole) (k * whole) (pictureBytes z′)
   pub room : p * whole + (pictureBytes z′ + pixels z′) ≤ work
 
 module _ (z : Size) (whole work : ℕ) (needed : SpaceNeeded z whole work) (k r c : ℕ) (slot : k < 65) where

@@ -10,8 +10,7 @@ use Rattle.grids.specs.Cut.{cut}
 use Rattle.energy.specs.declared.pictures.Size.{Size}
 use Rattle.energy.specs.Refusals.{refusal}
 use Rattle.energy.specs.Pictures.{Picture, sideRules, sizeRules, pictureBytes, picture, bytes}
-use Rattle.moving.specs.Between.{partAt}
-use Rattle.moving.specs.Kernels.{PlacesNeeded}
+use Rattle.moving.specs.Between.{partAt, PlacesApart}
 use Rattle.finding.specs.Finding.{pixels}
 use Rattle.carving.specs.declared.Axis.{Axis}
 use Rattle.carving.specs.declared.Axis.the-variants.{Vertical, Horizontal}
@@ -32,12 +31,12 @@ pictureAt z at work = picture z (partAt at (pictureBytes z) work)
 -- A size that is allowed, and two places for its picture.
 pub record TurnNeeded (work : ℕ) (from : ℕ) (z : Size) (to : ℕ) : Type 0 where
   pub sides : refusal (sideRules z) ≡ 0
-  pub places : PlacesNeeded work from to (pictureBytes z)
+  pub places : PlacesApart work from to (pictureBytes z)
 
 -- The same, with a byte for each pixel behind the second, and room for the seam.
 pub record SeamNeeded (work : ℕ) (from : ℕ) (z : Size) (x : Axis) (at seam : ℕ) : Type 0 where
   pub sides : refusal (sideRules z) ≡ 0
-  pub places : PlacesNeeded work from at (pictureBytes z)
+  pub places : PlacesApart work from at (pictureBytes z)
   pub room : at + (pictureBytes z + pixels z) ≤ work
   pub seam-room : turnedSize x z .height ≤ seam
 
@@ -61,7 +60,7 @@ pub record CutNeeded (work : ℕ) (at : ℕ) (z : Size) (x : Axis) (seam : List 
   pub wide : 1 < turnedSize x z .width
   pub seam-room : turnedSize x z .height ≤ length seam
   pub inside : Each (λ c. c < turnedSize x z .width) (turnedSize x z .height) (take (turnedSize x z .height) seam)
-  pub places : PlacesNeeded work at to (pictureBytes z)
+  pub places : PlacesApart work at to (pictureBytes z)
 
 -- The size that a cut along the axis leaves.
 abbrev pub leftAlong : Axis → Size → Size
@@ -79,9 +78,9 @@ pub record CutGiven (work : List ℕ) (at : ℕ) (z : Size) (x : Axis) (seam : L
 pub record StepNeeded (work : ℕ) (from : ℕ) (z : Size) (x : Axis) (at to : ℕ) : Type 0 where
   pub sides : refusal (sideRules z) ≡ 0
   pub wide : 1 < turnedSize x z .width
-  pub source : PlacesNeeded work from at (pictureBytes z)
+  pub source : PlacesApart work from at (pictureBytes z)
   pub room : at + (pictureBytes z + pixels z) ≤ work
-  pub target : PlacesNeeded work at to (pictureBytes z)
+  pub target : PlacesApart work at to (pictureBytes z)
 
 -- The picture without its seam, and the seam's cost; every other place as it was.
 pub record StepGiven (work : List ℕ) (from : ℕ) (z : Size) (x : Axis) (at to cost : ℕ) (work′ : List ℕ) : Type 0 where
