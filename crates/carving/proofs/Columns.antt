@@ -11,7 +11,7 @@ use Rattle.grids.specs.Each.{Each, Grid}
 use Rattle.grids.specs.Exchange.{exchange}
 use Rattle.grids.specs.Cut.{cut}
 use Rattle.grids.proofs.Exchange.{exchange-each}
-use Rattle.grids.proofs.Cut.{cut-each}
+use Rattle.grids.proofs.Cut.{cut-narrower}
 use Rattle.energy.specs.declared.pictures.Size.{Size}
 use Rattle.energy.specs.declared.refusals.Verdict.{Verdict}
 use Rattle.energy.specs.Refusals.{refusal}
@@ -23,11 +23,6 @@ use Rattle.moving.proofs.Served.{exchange-served, close-served}
 use Rattle.carving.specs.declared.Axis.the-variants.{Horizontal}
 use Rattle.carving.specs.Axes.{turnedSize, turned, narrowed, cutAlong}
 use Rattle.carving.proofs.Turns.{turned-bytes, turned-sides, turned-ofSize, sides-of}
-
--- A picture without a seam is a column narrower.
-pub cut-narrow : (ch h w : ℕ) (s : List ℕ) (q : Picture) → 1 < h → Each (λ c. c < h) w s → Each (Grid ch h) w q → Each (Grid ch (h - 1)) w (cut s q)
-cut-narrow ch zero w s q l i o = absurd (omega arith)
-cut-narrow ch (suc m) w s q l i o = let one : suc m - 1 ≡ m = omega arith in rw one (cut-each i o)
 
 -- The exchanged picture, and what the cut leaves of it.
 abbrev pub overOf : Size → List ℕ → Picture
@@ -51,7 +46,7 @@ module _ (z : Size) (b s : List ℕ) (sized : Sized z (length b)) (wide : 1 < z 
   over-long = length-bytes t (overOf z b) over-of ∙ turned-bytes Horizontal z ∙ sym (sized .length-is)
 
   rest-of : OfSize left (restOf z b s)
-  rest-of = cut-narrow (channelsOf (z .kind)) (z .height) (z .width) s (overOf z b) wide inside over-of
+  rest-of = cut-narrower (z .height) wide inside over-of
 
   pub left-bytes : pictureBytes left + z .width * channelsOf (z .kind) ≡ length b
   left-bytes =

@@ -8,6 +8,7 @@ use borrow.Author.Tests.{ne-eqb, le-ltb}
 use lib.ListN.{length, take}
 use lib.Seq.{take-at}
 use Rattle.grids.specs.Each.{Each, Grid}
+use Rattle.grids.proofs.Orders.{more-than-one}
 use Rattle.grids.proofs.Exchange.{exchange-each}
 use Rattle.energy.specs.declared.pictures.Size.{Size}
 use Rattle.energy.specs.Refusals.{refusal}
@@ -61,11 +62,6 @@ pub bytes-few : (z : Size) → pictureBytes z ≤ 3 * pixels z
 bytes-few z =
     let m = mul-le-mul-left (z .height) (mul-le-mul-left (z .width) (channels-most (z .kind))) in
     omega (arith, mul-assoc (z .height) (z .width) 3, mul-comm (z .height * z .width) 3)
-
-pub more-than-one : (n : ℕ) → 0 < n → (n ≡ 1 → ⊥) → 1 < n
-more-than-one zero h two = absurd (omega arith)
-more-than-one (suc zero) h two = absurd (two refl)
-more-than-one (suc (suc n)) h two = omega arith
 
 -- A side that isn't 1 is more.
 pub turned-some : (x : Axis) (z : Size) (n : ℕ) → Sized z n → (turnedSize x z .width ≡ 1 → ⊥) → 1 < turnedSize x z .width

@@ -1,7 +1,7 @@
 -- Laws of a seam's elements taken out of the rows of a grid.
 use mathlib.Core.Path.{_≡_, refl, sym, ap, ap₂, _∙_}
 use mathlib.Core.List.{List, [], _∷_, _++_, append-assoc, zipWith}
-use Prim.Native.Nat.{ℕ, zero, suc, _+_, _*_, _≤_, _<_}
+use Prim.Native.Nat.{ℕ, zero, suc, _+_, _-_, _*_, _≤_, _<_}
 use native.Mathlib.Nat.{zero-mul, suc-mul, zero-add, suc-inj, le-of-suc-le-suc}
 use native.Mathlib.Omega.{arith}
 use lib.ListN.{length, getD, take, drop}
@@ -60,6 +60,11 @@ module _ {A : Type 0} where
   unfolding cut zipWith
   cut-each none none = none
   cut-each (more {x = c} h s) (more x g) = more (removeAt-each c h x) (cut-each s g)
+
+  -- The same of a width that isn't written as one more.
+  pub cut-narrower : {P : A → Type 0} (w : ℕ) {n : ℕ} {s : List ℕ} {p : List (List A)} → 1 < w → Each (λ c. c < w) n s → Each (Each P w) n p → Each (Each P (w - 1)) n (cut s p)
+  cut-narrower zero h s p = absurd (omega arith)
+  cut-narrower (suc w) h s p = let e : suc w - 1 ≡ w = omega arith in rw e (cut-each s p)
 
   -- Row r of the grid left.
   pub cut-at : (s : List ℕ) (p : List (List A)) (r : ℕ) → length s ≡ length p → getD (cut s p) r [] ≡ removeAt (getD s r 0) (getD p r [])

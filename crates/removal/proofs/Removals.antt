@@ -5,7 +5,7 @@ use mathlib.Core.Bool.{true, false}
 use Prim.Native.Nat.{ℕ, zero, suc, _+_, _-_, _≤_, _<_}
 use native.Mathlib.Nat.{eq-or-lt-of-le}
 use native.Mathlib.Omega.{arith}
-use Rattle.carving.proofs.Turns.{more-than-one}
+use Rattle.grids.proofs.Orders.{more-than-one}
 use Rattle.removal.specs.Objects.{MarkedPicture, toRemove, noSeam, cutOnce, carved, Ending, done, narrow, spent, blocked, Removed, removal}
 use Rattle.removal.proofs.Shapes.{Shaped, shaped-cut}
 use Rattle.removal.proofs.Endings.{by-steps}

@@ -19,7 +19,8 @@ use Rattle.energy.proofs.Sizes.{Sides, sides-are, sides-served, sized-is}
 use Rattle.energy.proofs.Buffers.{bytes-picture}
 use Rattle.moving.specs.Moving.{outside}
 use Rattle.finding.specs.Finding.{pixels, marksOf}
-use Rattle.carving.proofs.Turns.{sides-of, more-than-one}
+use Rattle.carving.proofs.Turns.{sides-of}
+use Rattle.grids.proofs.Orders.{more-than-one}
 use Rattle.removal.specs.declared.Removal.{Removal}
 use Rattle.removal.specs.declared.Removal.the-variants.{Done, Narrow, Spent, Blocked}
 use Rattle.removal.specs.Objects.{MarkedPicture, someTwo, toRemove, noSeam, cutOnce, carved, Ending, done, narrow, spent, blocked, ends, removal}

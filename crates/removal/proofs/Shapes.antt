@@ -11,7 +11,7 @@ use lib.Seq.{length-take-le}
 use Rattle.grids.specs.Each.{Each, Grid, none, more}
 use Rattle.grids.specs.Cut.{cut}
 use Rattle.grids.specs.Rows.{rowsOf, flat}
-use Rattle.grids.proofs.Cut.{cut-each}
+use Rattle.grids.proofs.Cut.{cut-narrower}
 use Rattle.energy.specs.declared.pictures.Kind.the-variants.{Grey}
 use Rattle.energy.specs.declared.pictures.Size.{Size}
 use Rattle.energy.specs.Pictures.{channelsOf}
@@ -75,15 +75,10 @@ seam-inside : (s : MarkedPicture) → noSeam s ≡ false → Each (λ c. c < s .
 unfolding blockedAlong markedSeamAlong turned
 seam-inside s e = marked-inside Vertical (record { width = s .width; height = s .height; kind = Grey }) (s .picture) (s .marks) e
 
--- A grid with a column less.
-narrower : {A : Type 0} {P : A → Type 0} (w : ℕ) {n : ℕ} {s : List ℕ} {p : List (List A)} → 1 < w → Each (λ c. c < w) n s → Each (Each P w) n p → Each (Each P (w - 1)) n (cut s p)
-narrower zero h s p = absurd (omega arith)
-narrower (suc w) h s p = let e : suc w - 1 ≡ w = omega arith in rw e (cut-each s p)
-
 -- What a cut leaves has its shape, so its marks are marks.
 pub shaped-cut : (ch : ℕ) (s : MarkedPicture) → Shaped ch s → 1 < s .width → noSeam s ≡ false → Shaped ch (cutOnce s)
 unfolding cutOnce
 shaped-cut ch s k h e = record {
-  picture-of = narrower (s .width) h (seam-inside s e) (k .picture-of);
-  marks-of = narrower (s .width) h (seam-inside s e) (k .marks-of);
+  picture-of = cut-narrower (s .width) h (seam-inside s e) (k .picture-of);
+  marks-of = cut-narrower (s .width) h (seam-inside s e) (k .marks-of);
 }

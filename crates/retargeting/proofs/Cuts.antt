@@ -10,6 +10,7 @@ use lib.ListN.{length, take, drop, replicate}
 use lib.Seq.{take-at, drop-at, length-take-le}
 use Rattle.grids.specs.Each.{Each}
 use Rattle.grids.specs.Cut.{cut}
+use Rattle.grids.proofs.Cut.{cut-narrower}
 use Rattle.grids.proofs.Parts.{put-part}
 use Rattle.energy.specs.declared.pictures.Size.{Size}
 use Rattle.energy.specs.declared.refusals.Verdict.{Verdict}
@@ -26,7 +27,6 @@ use Rattle.carving.specs.declared.Axis.{Axis}
 use Rattle.carving.specs.Axes.{turnedSize, turned, narrowed, seamAlong, cutAlong}
 use Rattle.carving.proofs.Turns.{turned-bytes, turned-sides, turned-ofSize, sides-of}
 use Rattle.carving.proofs.Inside.{along-inside}
-use Rattle.carving.proofs.Columns.{cut-narrow}
 use Rattle.retargeting.specs.Kernels.{pictureAt, leftAlong, TurnNeeded, SeamNeeded, SeamGiven, CutNeeded, CutGiven, StepNeeded, StepGiven}
 use Rattle.retargeting.proofs.Steps.{sized-at, at-ofSize}
 
@@ -38,7 +38,7 @@ left-sides : (t : Size) → Sides t → 1 < t .width → refusal (sideRules (nar
 left-sides t s wide = sides-of (narrowed t) (omega arith) (omega (arith, s .width-most)) (s .height-some) (s .height-most)
 
 left-ofSize : (t : Size) (s : List ℕ) (q : Picture) → 1 < t .width → Each (λ c. c < t .width) (t .height) s → OfSize t q → OfSize (narrowed t) (cut s q)
-left-ofSize t s q wide inside o = cut-narrow (channelsOf (t .kind)) (t .width) (t .height) s q wide inside o
+left-ofSize t s q wide inside o = cut-narrower (t .width) wide inside o
 
 -- A seam has at most 512 columns or rows.
 pub turned-tall : (x : Axis) (z : Size) → refusal (sideRules z) ≡ 0 → turnedSize x z .height ≤ 512

@@ -10,7 +10,7 @@ use lib.ListN.{length, getD}
 use Rattle.grids.specs.Each.{Each, none, more}
 use Rattle.grids.specs.Cut.{cut}
 use Rattle.grids.proofs.Exchange.{exchange-each}
-use Rattle.grids.proofs.Cut.{cut-each}
+use Rattle.grids.proofs.Cut.{cut-narrower}
 use Rattle.energy.specs.declared.pictures.Size.{Size}
 use Rattle.energy.specs.Refusals.{refusal}
 use Rattle.energy.specs.Pictures.{Picture, channelsOf, pictureBytes, sideRules, OfSize}
@@ -38,10 +38,6 @@ module _ (P : List ℕ → Type 0) where
   turned-of Vertical z p o = o
   turned-of Horizontal z p o = exchange-each o
 
-  cut-of : (w n : ℕ) (s : List ℕ) (q : Picture) → 1 < w → Each (λ c. c < w) n s → Each (Each P w) n q → Each (Each P (w - 1)) n (cut s q)
-  cut-of zero n s q l i o = absurd (omega arith)
-  cut-of (suc m) n s q l i o = let one : suc m - 1 ≡ m = omega arith in rw one (cut-each i o)
-
   -- By a seam, a row or a column less.
   by-of : (x : Axis) (z : Size) (k : Cell) → refusal (sideRules z) ≡ 0 → 1 < turnedSize x z .width → Of P z (k .picture) → Of P (leftAlong x z) (bySeam x z k .picture)
   unfolding bySeam cutAlong
@@ -49,7 +45,7 @@ module _ (P : List ℕ → Type 0) where
       let t = turnedSize x z in
       let p = k .picture in
       turned-of x (narrowed (turnedSize x z)) (cut (seamAlong x z p) (turned x (z .width) p))
-      (cut-of (t .width) (t .height) (seamAlong x z p) (turned x (z .width) p) wide (along-inside x z (pictureBytes z) p (sized-at z s)) (turned-of x z p o))
+      (cut-narrower (t .width) wide (along-inside x z (pictureBytes z) p (sized-at z s)) (turned-of x z p o))
 
   chosen-of : (z : Size) (v h : Cell) → Of P z (v .picture) → Of P z (h .picture) → Of P z (chosen v h .picture)
   unfolding chosen

@@ -12,6 +12,7 @@ use lib.ListN.{length, take, drop, replicate}
 use lib.Seq.{take-at, drop-at, length-take-le}
 use Rattle.grids.specs.Each.{Each}
 use Rattle.grids.specs.Cut.{cut}
+use Rattle.grids.proofs.Orders.{more-than-one}
 use Rattle.grids.proofs.Shapes.{each-length}
 use Rattle.energy.specs.Refusals.{_when_, numberOf, refusal, served}
 use Rattle.energy.specs.Pictures.{channelsOf, pictureBytes, picture, bytes}
@@ -24,7 +25,6 @@ use Rattle.moving.specs.Moving.{CloseGiven}
 use Rattle.moving.proofs.Served.{close-served}
 use Rattle.carving.proofs.FindIn.{FoundThere, find-served}
 use Rattle.carving.proofs.Inside.{seam-inside}
-use Rattle.carving.proofs.Turns.{more-than-one}
 use Rattle.carving.proofs.Fronts.{InRoom, in-room, last-some}
 use Rattle.carving.proofs.front.cut_in.Statement.{statement}
 use Rattle.carving.proofs.front.cut_in.Tie as tie
