@@ -1,0 +1,4 @@
+pub mod Choices
+pub mod Maps
+pub mod Widths
+pub mod Judged
