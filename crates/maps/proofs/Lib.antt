@@ -1,3 +1,5 @@
 pub mod Tests
 pub mod Numbers
 pub mod Rows
+pub mod Lowered
+pub mod Numberings
