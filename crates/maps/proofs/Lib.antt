@@ -3,3 +3,5 @@ pub mod Numbers
 pub mod Rows
 pub mod Lowered
 pub mod Numberings
+pub mod Levels
+pub mod Maps
