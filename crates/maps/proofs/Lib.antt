@@ -5,3 +5,4 @@ pub mod Lowered
 pub mod Numberings
 pub mod Levels
 pub mod Maps
+pub mod Judged

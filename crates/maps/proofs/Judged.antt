@@ -1,0 +1,128 @@
+-- A recorded map is accepted just where it is the map of the picture.
+use mathlib.Core.Path.{_≡_, refl, sym, ap, ap₂, subst, _∙_}
+use mathlib.Core.Logic.{_↔_}
+use mathlib.Core.Bool.{Bool, true, false, not}
+use mathlib.Core.List.{List, [], _∷_}
+use Prim.Native.Nat.{ℕ, zero, suc, _+_, _-_, _≤_, _<_}
+use native.Mathlib.Omega.{arith}
+use Rattle.grids.specs.Each.{Each, Grid}
+use Rattle.grids.specs.Cut.{cut}
+use Rattle.cheapest.specs.Paths.{run}
+use Rattle.energy.specs.Refusals.{Rule, _when_, refusal}
+use Rattle.maps.specs.Choices.{Choice, Chooses, linked}
+use Rattle.maps.specs.Maps.{number, carve, mapOf}
+use Rattle.maps.specs.Judged.{every, same, numbers, before, recorded, connected, found, mapRules, Numbering, Recorded}
+use Rattle.maps.proofs.Tests.{every-each, each-every, every-run, same-is}
+use Rattle.maps.proofs.Numberings.{numbers-is}
+use Rattle.maps.proofs.Levels.{lower, before-number, before-all, grid-cut, grid-lower, recorded-number, recorded-inside, numbered-none, numbered-lower, number-lower}
+use Rattle.maps.proofs.Maps.{carve-grid, map-grid, map-numbered, before-map, recorded-map}
+
+-- Three tests of which none fails.
+pub three-pass : (a b c : Bool) → (refusal (9 when not a ∷ 10 when not b ∷ 11 when not c ∷ []) ≡ 0) ↔ ((a ≡ true) × (b ≡ true) × (c ≡ true))
+three-pass a b c = (there a b c, λ k. rw (k .0, k .1, k .2))
+  where
+    there : (a b c : Bool) → refusal (9 when not a ∷ 10 when not b ∷ 11 when not c ∷ []) ≡ 0 → (a ≡ true) × (b ≡ true) × (c ≡ true)
+    there true true true e = (refl, refl, refl)
+    there true true false e = absurd (omega arith)
+    there true false c e = absurd (omega arith)
+    there false b c e = absurd (omega arith)
+
+module _ {A : Type 0} (near : ℕ → ℕ → ℕ → Bool) (choose : Choice A) (w h k : ℕ) (p : List (List A)) (m : List (List ℕ)) where
+  -- Nothing is refused just where each row is a numbering and, for every t from 1 to k, the recorded seam t is connected and
+  -- is the one chosen in the picture that the map leaves before it.
+  pub judged-recorded : Grid w h m → (refusal (mapRules near choose w h k p m) ≡ 0) ↔ Recorded near choose w h k p m
+  unfolding connected found
+  judged-recorded g = (there, back)
+    where
+      f : ℕ → Bool
+      f t = linked (near (w + 1 - t)) (recorded t m)
+
+      c : ℕ → Bool
+      c t = same (recorded t m) (choose (w + 1 - t) h (before t p m))
+
+      tests : (refusal (mapRules near choose w h k p m) ≡ 0) ↔ ((every (numbers k) m ≡ true) × (every f (run 1 k) ≡ true) × (every c (run 1 k) ≡ true))
+      tests = three-pass (every (numbers k) m) (every f (run 1 k)) (every c (run 1 k))
+
+      there : refusal (mapRules near choose w h k p m) ≡ 0 → Recorded near choose w h k p m
+      there e =
+          let b = tests .0 e in
+          record {
+            numbered = every-each (numbers k) (λ y. numbers-is k y .0) g (b .0);
+            joined = every-run f k .0 (b .1);
+            chosen = λ t l u. same-is (recorded t m) (choose (w + 1 - t) h (before t p m)) .0 (every-run c k .0 (b .2) t l u);
+          }
+
+      back : Recorded near choose w h k p m → refusal (mapRules near choose w h k p m) ≡ 0
+      back r =
+          tests .1 (
+            each-every (numbers k) (λ y. numbers-is k y .1) (r .numbered),
+            every-run f k .1 (r .joined),
+            every-run c k .1 (λ t l u. same-is (recorded t m) (choose (w + 1 - t) h (before t p m)) .1 (r .chosen t l u)),
+          )
+
+module _ {A : Type 0} (choose : Choice A) {near : ℕ → ℕ → ℕ → Bool} (good : Chooses near choose) where
+  -- The map of a picture is so,
+  pub map-recorded : (w h k : ℕ) (p : List (List A)) → Grid w h p → k ≤ w → Recorded near choose w h k p (mapOf choose k w h p)
+  map-recorded w h k p g l = record { numbered = map-numbered choose good k w h p g l; joined = joined; chosen = chosen }
+    where
+      joined : (t : ℕ) → 1 ≤ t → t ≤ k → linked (near (w + 1 - t)) (recorded t (mapOf choose k w h p)) ≡ true
+      joined zero a b = absurd (omega arith)
+      joined (suc t) a b =
+          let z : w + 1 - suc t ≡ w - t = omega arith in
+          rw (z, recorded-map choose good t k w h p g b l)
+          (good .joined (w - t) h (carve choose t w h p) (omega arith) (carve-grid choose good t w h p g (omega arith)))
+
+      chosen : (t : ℕ) → 1 ≤ t → t ≤ k → recorded t (mapOf choose k w h p) ≡ choose (w + 1 - t) h (before t p (mapOf choose k w h p))
+      chosen zero a b = absurd (omega arith)
+      chosen (suc t) a b =
+          let z : w + 1 - suc t ≡ w - t = omega arith in
+          rw (z, recorded-map choose good t k w h p g b l, before-map choose good t k w h p g (omega arith) l)
+
+  -- and no other map is.
+  chosen-map : (k w h : ℕ) (p : List (List A)) (m : List (List ℕ)) → Grid w h p → Grid w h m → k ≤ w → Each (Numbering k) h m
+      → ((t : ℕ) → t < k → recorded (suc t) m ≡ choose (w - t) h (before (suc t) p m)) → m ≡ mapOf choose k w h p
+  chosen-map zero w h p m g q l u c = numbered-none g q u
+  chosen-map (suc k) w h p m g q l u c =
+      sym whole
+      ∙ ap₂ number first (chosen-map k (w - 1) h (cut (choose w h p) p) (lower 1 m) (grid-cut (good .inside w h p (omega arith) g) g) low (omega arith) (numbered-lower u) next)
+    where
+      whole : number (recorded 1 m) (lower 1 m) ≡ m
+      whole = number-lower u
+
+      first : recorded 1 m ≡ choose w h p
+      first = let z : w - 0 ≡ w = omega arith in (rw z at (c 0 (omega arith))) ∙ ap (choose w h) (before-all g q)
+
+      low : Grid (w - 1) h (lower 1 m)
+      low = grid-lower q u
+
+      next : (t : ℕ) → t < k → recorded (suc t) (lower 1 m) ≡ choose (w - 1 - t) h (before (suc t) (cut (choose w h p) p) (lower 1 m))
+      next t d =
+          let z : w - suc t ≡ w - 1 - t = omega arith in
+          sym (recorded-number t (recorded-inside q u) low) ∙ ap (recorded (suc (suc t))) whole ∙ (rw z at (c (suc t) (omega arith)))
+          ∙ ap (choose (w - 1 - t) h)
+          (ap (before (suc (suc t)) p) (sym whole) ∙ before-number t (recorded 1 m) p (lower 1 m) ∙ ap (λ s. before (suc t) (cut s p) (lower 1 m)) first)
+
+  pub recorded-only : (w h k : ℕ) (p : List (List A)) (m : List (List ℕ)) → Grid w h p → Grid w h m → k ≤ w → Recorded near choose w h k p m → m ≡ mapOf choose k w h p
+  recorded-only w h k p m g q l r =
+      chosen-map k w h p m g q l (r .numbered)
+      (λ t d. let z : w + 1 - suc t ≡ w - t = omega arith in rw z at (r .chosen (suc t) (omega arith) d))
+
+  -- A recorded map is accepted exactly when it is the map of the picture.
+  pub judged-map : (w h k : ℕ) (p : List (List A)) (m : List (List ℕ)) → Grid w h p → Grid w h m → k ≤ w
+      → (refusal (mapRules near choose w h k p m) ≡ 0) ↔ (m ≡ mapOf choose k w h p)
+  judged-map w h k p m g q l = (
+    λ e. recorded-only w h k p m g q l (judged-recorded near choose w h k p m q .0 e),
+    λ e. judged-recorded near choose w h k p m q .1 (subst (Recorded near choose w h k p) (sym e) (map-recorded w h k p g l)),
+  )
+
+  -- Two maps accepted for the same picture and depth are equal.
+  pub accepted-same : (w h k : ℕ) (p : List (List A)) (m n : List (List ℕ)) → Grid w h p → Grid w h m → Grid w h n → k ≤ w
+      → refusal (mapRules near choose w h k p m) ≡ 0 → refusal (mapRules near choose w h k p n) ≡ 0 → m ≡ n
+  accepted-same w h k p m n g q r l a b = judged-map w h k p m g q l .0 a ∙ sym (judged-map w h k p n g r l .0 b)
+
+  -- Every picture has an accepted map at each depth below its width.
+  pub accepted-some : (w h k : ℕ) (p : List (List A)) → Grid w h p → k < w → (m : List (List ℕ)) × Grid w h m × (refusal (mapRules near choose w h k p m) ≡ 0)
+  accepted-some w h k p g l =
+      let m : List (List ℕ) = mapOf choose k w h p in
+      let q : Grid w h m = map-grid choose good k w h p g (omega arith) in
+      (m, q, judged-map w h k p m g q (omega arith) .1 refl)
