@@ -6,3 +6,4 @@ pub mod Numberings
 pub mod Levels
 pub mod Maps
 pub mod Judged
+pub mod Widths
