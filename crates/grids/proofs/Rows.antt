@@ -61,6 +61,15 @@ module _ {A : Type 0} where
       rowsOf-at w n (drop w b) r (le-of-suc-le-suc h)
       ∙ ap (take w) (drop-drop (r * w) w b ∙ rw (suc-mul r w, add-comm (r * w) w))
 
+  pub flat-at : {w n : ℕ} {p : List (List A)} → Grid w n p → (r : ℕ) → r < n → rowAt w r (flat p) ≡ getD p r []
+  flat-at {w} {n} {p} g r h =
+      let e : rowsOf w n (flat p) ≡ p = ap (rowsOf w n) (sym (append-nil (flat p))) ∙ rowsOf-flat [] g in
+      sym (rowsOf-at w n (flat p) r h) ∙ ap (λ q. getD q r []) e
+
+  -- One row more at the front of a list that is filled row by row.
+  pub row-more : (w r : ℕ) (b d : List A) → take (r * w) b ++ (rowAt w r b ++ drop (r * w + w) d) ≡ take (r * w + w) b ++ drop (r * w + w) d
+  row-more w r b d = sym (append-assoc (take (r * w) b) (rowAt w r b) (drop (r * w + w) d)) ∙ ap (_++ drop (r * w + w) d) (sym (take-add (r * w) w b))
+
   -- Past the last row there is nothing.
   pub rowsOf-past : (w n : ℕ) (b : List A) (r : ℕ) → n ≤ r → getD (rowsOf w n b) r [] ≡ []
   rowsOf-past w n b r h = List·getD-eq-default (rowsOf w n b) [] (rw (length-rowsOf) h)

@@ -1,6 +1,6 @@
 -- Laws of lists of a known length whose elements all have a property.
 use mathlib.Core.Path.{_≡_, refl, sym, ap, _∙_}
-use mathlib.Core.List.{List, [], _∷_, _++_, map, reverse, reverse-cons, List·Memᴰ, List·Memᴰ·head, List·Memᴰ·tail}
+use mathlib.Core.List.{List, [], _∷_, _++_, map, zipWith, reverse, reverse-cons, List·Memᴰ, List·Memᴰ·head, List·Memᴰ·tail}
 use Prim.Native.Nat.{ℕ, zero, suc, _+_, _≤_, _<_}
 use native.Mathlib.Nat.{le-of-suc-le-suc, suc-inj}
 use native.Mathlib.Omega.{arith}
@@ -11,6 +11,13 @@ pub map-at : {A B : Type 0} (f : A → B) (xs : List A) (i : ℕ) (d : A) (z : B
 map-at f [] i d z h = absurd (omega arith)
 map-at f (x ∷ xs) zero d z h = refl
 map-at f (x ∷ xs) (suc i) d z h = map-at f xs i d z (le-of-suc-le-suc h)
+
+pub zipWith-at : {A B C : Type 0} (f : A → B → C) (xs : List A) (ys : List B) (i : ℕ) (d : A) (e : B) (z : C) → i < length xs → i < length ys → getD (zipWith f xs ys) i z ≡ f (getD xs i d) (getD ys i e)
+unfolding zipWith
+zipWith-at f [] ys i d e z h k = absurd (omega arith)
+zipWith-at f (x ∷ xs) [] i d e z h k = absurd (omega arith)
+zipWith-at f (x ∷ xs) (y ∷ ys) zero d e z h k = refl
+zipWith-at f (x ∷ xs) (y ∷ ys) (suc i) d e z h k = zipWith-at f xs ys i d e z (le-of-suc-le-suc h) (le-of-suc-le-suc k)
 
 module _ {A : Type 0} {P : A → Type 0} where
   pub each-length : {n : ℕ} {xs : List A} → Each P n xs → length xs ≡ n

@@ -7,3 +7,4 @@ pub mod Levels
 pub mod Maps
 pub mod Judged
 pub mod Widths
+pub mod Shown

@@ -17,6 +17,14 @@ module _ {A : Type 0} (choose : Choice A) where
   carve-next zero w h p = let z : w - 0 ≡ w = omega arith in rw z
   carve-next (suc t) w h p = let z : w - 1 - t ≡ w - suc t = omega arith in rw (carve-next t (w - 1) h (cut (choose w h p) p), z)
 
+  -- Seams cut in two goes.
+  pub carve-add : (a b w h : ℕ) (p : List (List A)) → carve choose b (w - a) h (carve choose a w h p) ≡ carve choose (a + b) w h p
+  carve-add zero b w h p = let z : w - 0 ≡ w = omega arith in let y : 0 + b ≡ b = omega arith in rw (z, y)
+  carve-add (suc a) b w h p =
+      let z : w - suc a ≡ w - 1 - a = omega arith in
+      let y : suc a + b ≡ suc (a + b) = omega arith in
+      rw (z, y) (carve-add a b (w - 1) h (cut (choose w h p) p))
+
   module _ {near : ℕ → ℕ → ℕ → Bool} (good : Chooses near choose) where
     columns : {w h : ℕ} {p : List (List A)} → 0 < w → Grid w h p → Columns w h (choose w h p)
     columns {w} {h} {p} l g = good .inside w h p l g
