@@ -7,7 +7,6 @@ use Prim.Native.Nat.{ℕ, zero, suc, _+_, _-_, _≤_, _<_}
 use native.Mathlib.Omega.{arith}
 use Rattle.grids.specs.Each.{Each, Grid}
 use Rattle.grids.specs.Cut.{cut}
-use Rattle.cheapest.specs.Paths.{run}
 use Rattle.energy.specs.Refusals.{Rule, _when_, refusal}
 use Rattle.maps.specs.Choices.{Choice, Chooses, linked}
 use Rattle.maps.specs.Maps.{number, carve, mapOf}
@@ -18,7 +17,7 @@ use Rattle.maps.proofs.Levels.{lower, before-number, before-all, grid-c
 use Rattle.maps.proofs.Maps.{carve-grid, map-grid, map-numbered, before-map, recorded-map}
 
 -- Three tests of which none fails.
-pub three-pass : (a b c : Bool) → (refusal (9 when not a ∷ 10 when not b ∷ 11 when not c ∷ []) ≡ 0) ↔ ((a ≡ true) × (b ≡ true) × (c ≡ true))
+three-pass : (a b c : Bool) → (refusal (9 when not a ∷ 10 when not b ∷ 11 when not c ∷ []) ≡ 0) ↔ ((a ≡ true) × (b ≡ true) × (c ≡ true))
 three-pass a b c = (there a b c, λ k. rw (k .0, k .1, k .2))
   where
     there : (a b c : Bool) → refusal (9 when not a ∷ 10 when not b ∷ 11 when not c ∷ []) ≡ 0 → (a ≡ true) × (b ≡ true) × (c ≡ true)
@@ -28,37 +27,33 @@ three-pass a b c = (there a b c, λ k. rw (k .0, k .1, k .2))
     there false b c e = absurd (omega arith)
 
 module _ {A : Type 0} (near : ℕ → ℕ → ℕ → Bool) (choose : Choice A) (w h k : ℕ) (p : List (List A)) (m : List (List ℕ)) where
+  -- The tests of 10 and of 11, seam by seam.
+  pub connected-is : (connected near w k m ≡ true) ↔ ((t : ℕ) → 1 ≤ t → t ≤ k → linked (near (w + 1 - t)) (recorded t m) ≡ true)
+  unfolding connected
+  connected-is = every-run (λ t. linked (near (w + 1 - t)) (recorded t m)) k
+
+  pub found-is : (found choose w h k p m ≡ true) ↔ ((t : ℕ) → 1 ≤ t → t ≤ k → recorded t m ≡ choose (w + 1 - t) h (before t p m))
+  unfolding found
+  found-is = (
+    λ e t a b. same-is (recorded t m) (choose (w + 1 - t) h (before t p m)) .0 (every-run f k .0 e t a b),
+    λ c. every-run f k .1 (λ t a b. same-is (recorded t m) (choose (w + 1 - t) h (before t p m)) .1 (c t a b)),
+  )
+    where
+      f : ℕ → Bool
+      f t = same (recorded t m) (choose (w + 1 - t) h (before t p m))
+
   -- Nothing is refused just where each row is a numbering and, for every t from 1 to k, the recorded seam t is connected and
   -- is the one chosen in the picture that the map leaves before it.
   pub judged-recorded : Grid w h m → (refusal (mapRules near choose w h k p m) ≡ 0) ↔ Recorded near choose w h k p m
-  unfolding connected found
-  judged-recorded g = (there, back)
+  judged-recorded g = (
+    λ e.
+        let b = tests .0 e in
+        record { numbered = every-each (numbers k) (λ y. numbers-is k y .0) g (b .0); joined = connected-is .0 (b .1); chosen = found-is .0 (b .2) },
+    λ r. tests .1 (each-every (numbers k) (λ y. numbers-is k y .1) (r .numbered), connected-is .1 (r .joined), found-is .1 (r .chosen)),
+  )
     where
-      f : ℕ → Bool
-      f t = linked (near (w + 1 - t)) (recorded t m)
-
-      c : ℕ → Bool
-      c t = same (recorded t m) (choose (w + 1 - t) h (before t p m))
-
-      tests : (refusal (mapRules near choose w h k p m) ≡ 0) ↔ ((every (numbers k) m ≡ true) × (every f (run 1 k) ≡ true) × (every c (run 1 k) ≡ true))
-      tests = three-pass (every (numbers k) m) (every f (run 1 k)) (every c (run 1 k))
-
-      there : refusal (mapRules near choose w h k p m) ≡ 0 → Recorded near choose w h k p m
-      there e =
-          let b = tests .0 e in
-          record {
-            numbered = every-each (numbers k) (λ y. numbers-is k y .0) g (b .0);
-            joined = every-run f k .0 (b .1);
-            chosen = λ t l u. same-is (recorded t m) (choose (w + 1 - t) h (before t p m)) .0 (every-run c k .0 (b .2) t l u);
-          }
-
-      back : Recorded near choose w h k p m → refusal (mapRules near choose w h k p m) ≡ 0
-      back r =
-          tests .1 (
-            each-every (numbers k) (λ y. numbers-is k y .1) (r .numbered),
-            every-run f k .1 (r .joined),
-            every-run c k .1 (λ t l u. same-is (recorded t m) (choose (w + 1 - t) h (before t p m)) .1 (r .chosen t l u)),
-          )
+      tests : (refusal (mapRules near choose w h k p m) ≡ 0) ↔ ((every (numbers k) m ≡ true) × (connected near w k m ≡ true) × (found choose w h k p m ≡ true))
+      tests = three-pass (every (numbers k) m) (connected near w k m) (found choose w h k p m)
 
 module _ {A : Type 0} (choose : Choice A) {near : ℕ → ℕ → ℕ → Bool} (good : Chooses near choose) where
   -- The map of a picture is so,
@@ -102,10 +97,14 @@ module _ {A : Type 0} (choose : Choice A) {near : ℕ → ℕ → ℕ → Bool} 
           ∙ ap (choose (w - 1 - t) h)
           (ap (before (suc (suc t)) p) (sym whole) ∙ before-number t (recorded 1 m) p (lower 1 m) ∙ ap (λ s. before (suc t) (cut s p) (lower 1 m)) first)
 
+  -- A numbered map is the picture's map where each recorded seam is the one chosen in the picture left before it.
+  pub chosen-only : (w h k : ℕ) (p : List (List A)) (m : List (List ℕ)) → Grid w h p → Grid w h m → k ≤ w → Each (Numbering k) h m
+      → ((t : ℕ) → 1 ≤ t → t ≤ k → recorded t m ≡ choose (w + 1 - t) h (before t p m)) → m ≡ mapOf choose k w h p
+  chosen-only w h k p m g q l u c =
+      chosen-map k w h p m g q l u (λ t d. let z : w + 1 - suc t ≡ w - t = omega arith in rw z at (c (suc t) (omega arith) d))
+
   pub recorded-only : (w h k : ℕ) (p : List (List A)) (m : List (List ℕ)) → Grid w h p → Grid w h m → k ≤ w → Recorded near choose w h k p m → m ≡ mapOf choose k w h p
-  recorded-only w h k p m g q l r =
-      chosen-map k w h p m g q l (r .numbered)
-      (λ t d. let z : w + 1 - suc t ≡ w - t = omega arith in rw z at (r .chosen (suc t) (omega arith) d))
+  recorded-only w h k p m g q l r = chosen-only w h k p m g q l (r .numbered) (r .chosen)
 
   -- A recorded map is accepted exactly when it is the map of the picture.
   pub judged-map : (w h k : ℕ) (p : List (List A)) (m : List (List ℕ)) → Grid w h p → Grid w h m → k ≤ w

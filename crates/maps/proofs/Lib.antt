@@ -8,3 +8,6 @@ pub mod Maps
 pub mod Judged
 pub mod Widths
 pub mod Shown
+pub mod Building
+pub mod Connected
+pub mod Points

@@ -53,19 +53,18 @@ columnOf t (v ∷ ys) = cond (eqb v t) 0 (tick (there t v) (columnOf t ys))
 abbrev pub recorded : ℕ → List (List ℕ) → List ℕ
 recorded t m = map (columnOf t) m
 
-module _ {A : Type 0} (near : ℕ → ℕ → ℕ → Bool) (choose : Choice A) where
-  -- 10: "a recorded seam isn't connected in the picture left before it", whose width is w + 1 - t.
-  unfoldable pub connected : ℕ → ℕ → List (List ℕ) → Bool
-  connected w k m = every (λ t. linked (near (w + 1 - t)) (recorded t m)) (run 1 k)
+-- 10: "a recorded seam isn't connected in the picture left before it", whose width is w + 1 - t.
+unfoldable pub connected : (ℕ → ℕ → ℕ → Bool) → ℕ → ℕ → List (List ℕ) → Bool
+connected near w k m = every (λ t. linked (near (w + 1 - t)) (recorded t m)) (run 1 k)
 
-  -- 11: "a recorded seam isn't the one found" there.
-  unfoldable pub found : ℕ → ℕ → ℕ → List (List A) → List (List ℕ) → Bool
-  found w h k p m = every (λ t. same (recorded t m) (choose (w + 1 - t) h (before t p m))) (run 1 k)
+-- 11: "a recorded seam isn't the one found" in the picture left before it.
+unfoldable pub found : {A : Type 0} → Choice A → ℕ → ℕ → ℕ → List (List A) → List (List ℕ) → Bool
+found choose w h k p m = every (λ t. same (recorded t m) (choose (w + 1 - t) h (before t p m))) (run 1 k)
 
-  -- What is refused of a recorded map of depth k to a picture of width w and height h.
-  abbrev pub mapRules : ℕ → ℕ → ℕ → List (List A) → List (List ℕ) → List Rule
-  mapRules w h k p m =
-      9 when not (every (numbers k) m) ∷ 10 when not (connected w k m) ∷ 11 when not (found w h k p m) ∷ []
+-- What is refused of a recorded map of depth k, the picture having width w and height h.
+abbrev pub mapRules : {A : Type 0} → (ℕ → ℕ → ℕ → Bool) → Choice A → ℕ → ℕ → ℕ → List (List A) → List (List ℕ) → List Rule
+mapRules near choose w h k p m =
+    9 when not (every (numbers k) m) ∷ 10 when not (connected near w k m) ∷ 11 when not (found choose w h k p m) ∷ []
 
 -- A row that is a numbering: each of 1 to k stands in it once, and nothing above k.
 pub record Numbering (k : ℕ) (ys : List ℕ) : Type 0 where
