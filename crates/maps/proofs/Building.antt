@@ -2,14 +2,14 @@
 use mathlib.Core.Path.{_≡_, refl, sym, ap, subst, _∙_}
 use mathlib.Core.Bool.{Bool, true, false, not}
 use mathlib.Core.List.{List, [], _∷_, _++_, append-nil}
-use Prim.Native.Nat.{ℕ, zero, suc, _+_, _-_, _*_, _≤_, _<_}
+use Prim.Native.Nat.{ℕ, suc, _+_, _-_, _*_, _≤_, _<_}
 use native.Mathlib.Omega.{arith}
 use lib.ListN.{length, getD, take, drop}
-use Rattle.grids.specs.Each.{Each, Grid}
+use Rattle.grids.specs.Each.{Grid}
 use Rattle.grids.specs.Rows.{rowsOf, flat, rowAt}
 use Rattle.grids.proofs.Shapes.{each-length, zipWith-at}
 use Rattle.grids.proofs.Rows.{rowsOf-flat, flat-at, row-more}
-use Rattle.energy.specs.Refusals.{Rule, _when_, refusal}
+use Rattle.energy.specs.Refusals.{_when_, refusal}
 use Rattle.maps.specs.Choices.{Choice, Chooses}
 use Rattle.maps.specs.Maps.{carve, mapOf}
 use Rattle.maps.specs.Judged.{every, same, numbers, connected, found, mapRules, Recorded}

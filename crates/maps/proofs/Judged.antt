@@ -7,7 +7,7 @@ use Prim.Native.Nat.{ℕ, zero, suc, _+_, _-_, _≤_, _<_}
 use native.Mathlib.Omega.{arith}
 use Rattle.grids.specs.Each.{Each, Grid}
 use Rattle.grids.specs.Cut.{cut}
-use Rattle.energy.specs.Refusals.{Rule, _when_, refusal}
+use Rattle.energy.specs.Refusals.{_when_, refusal}
 use Rattle.maps.specs.Choices.{Choice, Chooses, linked}
 use Rattle.maps.specs.Maps.{number, carve, mapOf}
 use Rattle.maps.specs.Judged.{every, same, numbers, before, recorded, connected, found, mapRules, Numbering, Recorded}

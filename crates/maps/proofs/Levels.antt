@@ -1,14 +1,14 @@
 -- The laws of rows, of whole pictures and maps: one more seam cut first, and the map after the first seam.
-use mathlib.Core.Path.{_≡_, refl, sym, ap, ap₂, _∙_}
+use mathlib.Core.Path.{_≡_, refl, sym, ap₂, _∙_}
 use mathlib.Core.List.{List, [], _∷_, map, zipWith}
-use Prim.Native.Nat.{ℕ, zero, suc, _+_, _-_, _≤_, _<_}
+use Prim.Native.Nat.{ℕ, suc, _-_, _<_}
 use native.Mathlib.Omega.{arith}
-use lib.ListN.{length, length-map}
+use lib.ListN.{length-map}
 use Rattle.grids.specs.Each.{Each, Grid, none, more}
 use Rattle.grids.specs.Cut.{removeAt, cut}
 use Rattle.grids.proofs.Cut.{length-removeAt}
 use Rattle.maps.specs.Maps.{numberRow, number, zeros}
-use Rattle.maps.specs.Judged.{there, before, columnOf, recorded, Numbering}
+use Rattle.maps.specs.Judged.{before, columnOf, recorded, Numbering}
 use Rattle.maps.proofs.Rows.{length-numberRow, keep-all, keep-number-row, column-first-row, column-number-row, write, write-number-row, write-first-row}
 use Rattle.maps.proofs.Lowered.{lowerRow, lower-zero-row, lower-number-row, number-lower-row, length-lower-row, column-inside}
 use Rattle.maps.proofs.Numberings.{numbering-number, numbering-zeros, numbering-none, numbering-lower}
@@ -67,7 +67,7 @@ pub grid-lower : {k w h : ℕ} {m : List (List ℕ)} → Grid w h m → Each (Nu
 grid-lower none none = none
 grid-lower (more {x = y} e g) (more n u) = more {x = lowerRow 1 y} (omega (arith, length-lower-row y (n .once 1 (omega arith) (omega arith)))) (grid-lower g u)
 
--- Before the first seam all is there.
+-- Before the first seam all is left.
 pub before-all : {A : Type 0} {w h : ℕ} {p : List (List A)} {m : List (List ℕ)} → Grid w h p → Grid w h m → before 1 p m ≡ p
 unfolding before zipWith
 before-all none none = refl

@@ -6,6 +6,7 @@ pub mod Numberings
 pub mod Levels
 pub mod Maps
 pub mod Judged
+pub mod Doubled
 pub mod Widths
 pub mod Shown
 pub mod Building

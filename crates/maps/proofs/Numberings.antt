@@ -1,9 +1,9 @@
 -- Rows that hold each of 1 to k once and nothing above k.
 use mathlib.Core.Path.{_≡_, refl, sym, ap, _∙_}
 use mathlib.Core.Logic.{_↔_}
-use mathlib.Core.Bool.{Bool, true, false, _&&_, and-eq-true-iff}
+use mathlib.Core.Bool.{Bool, true, false, and-eq-true-iff}
 use mathlib.Core.List.{List, [], _∷_, map}
-use Prim.Native.Nat.{ℕ, zero, suc, _+_, _-_, _≤_, _<_}
+use Prim.Native.Nat.{ℕ, zero, suc, _-_, _≤_, _<_}
 use native.Mathlib.Omega.{arith}
 use lib.Dec.{leb, eqb, eqb·zero-suc}
 use borrow.Author.Tests.{leb-true, leb-false, eqb-true, eq-eqb, ne-eqb}
@@ -54,6 +54,10 @@ numbers-is k ys = (
 
     g : ℕ → Bool
     g v = leb v k
+
+-- So nothing in a numbering is above k.
+pub numbering-most : (k : ℕ) (ys : List ℕ) → Numbering k ys → every (λ v. leb v k) ys ≡ true
+numbering-most k ys n = none-most k ys (n .none-above)
 
 count-insert : (v c a : ℕ) (ys : List ℕ) → count v (insertAt c a ys) ≡ count v (a ∷ ys)
 count-insert v zero a ys = refl

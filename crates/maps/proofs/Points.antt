@@ -1,7 +1,7 @@
 -- The specification's 3 by 2 picture and others, with their seams given: what the definitions give, beside what is expected.
 -- One proof serves the table.
 use mathlib.Core.Path.{_≡_, refl}
-use mathlib.Core.Bool.{Bool, cond, _||_}
+use mathlib.Core.Bool.{Bool, cond}
 use mathlib.Core.List.{List, [], _∷_, map, zipWith}
 use Prim.Native.Nat.{ℕ, _+_, _/_}
 use lib.Dec.{eqb}
@@ -9,9 +9,9 @@ use Rattle.grids.specs.Cut.{removeAt, cut}
 use Rattle.cheapest.specs.Paths.{run, beside}
 use Rattle.energy.specs.Refusals.{refusal}
 use Rattle.maps.specs.Choices.{Choice}
-use Rattle.maps.specs.Maps.{numberRow, number, carve, mapOf}
+use Rattle.maps.specs.Maps.{numberRow, number, mapOf}
 use Rattle.maps.specs.Widths.{allowed, offered, stays, doubled, rowAtWidth, shown}
-use Rattle.maps.specs.Judged.{tick, numbers, there, before, recorded, connected, found, mapRules}
+use Rattle.maps.specs.Judged.{tick, numbers, remains, before, recorded, connected, found, mapRules}
 
 -- A row of the table: what a definition gives, and what it should.
 pub record Point : Type 0 where
@@ -80,5 +80,5 @@ table =
     ∷ []
 
 pub points : map (λ p. p .got) table ≡ map (λ p. p .expected) table
-unfolding removeAt cut zipWith run beside numberRow number allowed offered stays doubled rowAtWidth shown numbers there before connected found
+unfolding removeAt cut zipWith run beside numberRow number allowed offered stays doubled rowAtWidth shown numbers remains before connected found
 points = refl

@@ -1,13 +1,13 @@
 -- A picture at each width that its map offers.
-use mathlib.Core.Path.{_≡_, refl, sym, ap, ap₂, _∙_}
+use mathlib.Core.Path.{_≡_, refl, ap₂, _∙_}
 use mathlib.Core.Logic.{_↔_}
 use mathlib.Core.Bool.{Bool, true, _&&_, and-eq-true-iff}
 use mathlib.Core.List.{List, [], _∷_, zipWith}
-use Prim.Native.Nat.{ℕ, zero, suc, _+_, _-_, _*_, _/_, _≤_, _<_}
+use Prim.Native.Nat.{ℕ, zero, suc, _+_, _-_, _/_, _≤_, _<_}
 use native.Mathlib.Nat.{le-div-iff-mul-le}
 use native.Mathlib.Omega.{arith}
 use lib.Dec.{leb, ltb}
-use lib.ListN.{length, getD}
+use lib.ListN.{getD}
 use borrow.Author.Tests.{leb-true, le-leb, ltb-true, lt-ltb}
 use Rattle.grids.specs.Each.{Each, Grid, none, more}
 use Rattle.grids.proofs.Shapes.{each-length, zipWith-at}
@@ -16,7 +16,7 @@ use Rattle.maps.specs.Maps.{carve, mapOf}
 use Rattle.maps.specs.Widths.{allowed, offered, rowAtWidth, shown, LeftOut}
 use Rattle.maps.specs.Judged.{before, Numbering}
 use Rattle.maps.proofs.Tests.{and-both}
-use Rattle.maps.proofs.Maps.{map-grid, map-numbered, before-map}
+use Rattle.maps.proofs.Maps.{map-grid, before-map}
 use Rattle.maps.proofs.Widths.{at-narrow, at-original, length-at, row-left-out}
 
 -- Which depths and growths are allowed, and which widths are offered.

@@ -1,48 +1,19 @@
 -- A row at each width: how long it is, and what is left out from one width to another.
-use mathlib.Core.Path.{_≡_, refl, sym, ap, subst, _∙_}
+use mathlib.Core.Path.{_≡_, refl, ap, subst, _∙_}
 use mathlib.Core.Logic.{_⊎_, inl, inr, ⊎-elim}
-use mathlib.Core.Bool.{Bool, true, false, cond, not}
+use mathlib.Core.Bool.{Bool, true, false, not}
 use mathlib.Core.List.{List, [], _∷_, Sublistᴰ, Sublistᴰ·slnil, Sublistᴰ·cons, Sublistᴰ·cons-cons, Sublistᴰ·refl, Sublistᴰ·trans}
-use Prim.Native.Nat.{ℕ, zero, suc, _+_, _-_, _≤_, _<_}
+use Prim.Native.Nat.{ℕ, suc, _+_, _-_, _≤_, _<_}
 use native.Mathlib.Omega.{arith}
-use lib.Dec.{leb, eqb}
-use borrow.Author.Tests.{le-leb, lt-leb, eqb-true}
+use borrow.Author.Tests.{le-leb, lt-leb}
 use lib.ListN.{length}
 use Rattle.grids.proofs.Orders.{le-or-lt}
 use Rattle.cheapest.specs.Paths.{consIf}
 use Rattle.maps.specs.Widths.{keepRow, doubled, growFrom, growRow, rowAtWidth, LeftOut}
-use Rattle.maps.specs.Judged.{tick, count, there, Numbering}
-use Rattle.maps.proofs.Numbers.{stays-there, there-all, there-le, there-lt, there-next, there-earlier, doubled-not, doubled-more}
+use Rattle.maps.specs.Judged.{tick, remains, Numbering}
+use Rattle.maps.proofs.Numbers.{stays-remains, remains-earlier, doubled-not, doubled-more}
 use Rattle.maps.proofs.Rows.{keep-all}
-
--- How many entries are numbered 1 to u.
-abbrev pub doubledIn : ℕ → List ℕ → ℕ
-doubledIn u [] = 0
-doubledIn u (v ∷ ys) = tick (doubled u v) (doubledIn u ys)
-
-doubled-none : (ys : List ℕ) → doubledIn 0 ys ≡ 0
-doubled-none [] = refl
-doubled-none (v ∷ ys) = rw (doubled-not 0 v, there-all v) (doubled-none ys)
-
--- One number more.
-doubled-next : (u : ℕ) (ys : List ℕ) → doubledIn (suc u) ys ≡ doubledIn u ys + count (suc u) ys
-doubled-next u [] = refl
-doubled-next u (v ∷ ys) = rw (doubled-not (suc u) v, doubled-not u v) (go (eqb v (suc u)) refl (doubled-next u ys))
-  where
-    others : (b : Bool) → doubledIn (suc u) ys ≡ doubledIn u ys + count (suc u) ys → tick b (doubledIn (suc u) ys) ≡ tick b (doubledIn u ys) + count (suc u) ys
-    others true ih = omega arith
-    others false ih = ih
-
-    go : (b : Bool) → eqb v (suc u) ≡ b → doubledIn (suc u) ys ≡ doubledIn u ys + count (suc u) ys
-        → tick (not (there (suc (suc u)) v)) (doubledIn (suc u) ys) ≡ tick (not (there (suc u) v)) (doubledIn u ys) + tick b (count (suc u) ys)
-    go true q ih = rw (eqb-true v (suc u) q, there-lt (suc (suc u)) u (omega arith), there-le (suc u) u (omega arith)) (omega arith)
-    go false q ih = rw (there-next (suc u) v q) (others (not (there (suc u) v)) ih)
-
--- In a numbering they are u.
-pub doubled-numbering : (k u : ℕ) (ys : List ℕ) → Numbering k ys → u ≤ k → doubledIn u ys ≡ u
-doubled-numbering k zero ys n h = doubled-none ys
-doubled-numbering k (suc u) ys n h =
-    doubled-next u ys ∙ omega (arith, doubled-numbering k u ys n (omega arith), n .once (suc u) (omega arith) h)
+use Rattle.maps.proofs.Doubled.{doubledIn, doubled-numbering}
 
 module _ {A : Type 0} where
   consIf-sub : (a b : Bool) (x : A) (xs ys : List A) → (a ≡ true → b ≡ true) → Sublistᴰ xs ys → Sublistᴰ (consIf a x xs) (consIf b x ys)
@@ -59,21 +30,21 @@ module _ {A : Type 0} where
   length-consIf true x xs = refl
   length-consIf false x xs = refl
 
-  -- Before a later seam less is there.
-  keep-sub : (t u : ℕ) (xs : List A) (ys : List ℕ) → t ≤ u → Sublistᴰ (keepRow (there u) xs ys) (keepRow (there t) xs ys)
+  -- Before a later seam less is left.
+  keep-sub : (t u : ℕ) (xs : List A) (ys : List ℕ) → t ≤ u → Sublistᴰ (keepRow (remains u) xs ys) (keepRow (remains t) xs ys)
   keep-sub t u [] ys h = Sublistᴰ·slnil
   keep-sub t u (x ∷ xs) [] h = Sublistᴰ·slnil
   keep-sub t u (x ∷ xs) (v ∷ ys) h =
-      consIf-sub (there u v) (there t v) x (keepRow (there u) xs ys) (keepRow (there t) xs ys) (there-earlier t u v h) (keep-sub t u xs ys h)
+      consIf-sub (remains u v) (remains t v) x (keepRow (remains u) xs ys) (keepRow (remains t) xs ys) (remains-earlier t u v h) (keep-sub t u xs ys h)
 
-  length-keep : (t : ℕ) (xs : List A) (ys : List ℕ) → length xs ≡ length ys → length (keepRow (there (suc t)) xs ys) + doubledIn t ys ≡ length xs
+  length-keep : (t : ℕ) (xs : List A) (ys : List ℕ) → length xs ≡ length ys → length (keepRow (remains (suc t)) xs ys) + doubledIn t ys ≡ length xs
   length-keep t [] [] e = refl
   length-keep t [] (v ∷ ys) e = absurd (omega arith)
   length-keep t (x ∷ xs) [] e = absurd (omega arith)
-  length-keep t (x ∷ xs) (v ∷ ys) e = rw (doubled-not t v) (go (there (suc t) v) (length-keep t xs ys (omega arith)))
+  length-keep t (x ∷ xs) (v ∷ ys) e = rw (doubled-not t v) (go (remains (suc t) v) (length-keep t xs ys (omega arith)))
     where
-      go : (b : Bool) → length (keepRow (there (suc t)) xs ys) + doubledIn t ys ≡ length xs
-          → length (consIf b x (keepRow (there (suc t)) xs ys)) + tick (not b) (doubledIn t ys) ≡ suc (length xs)
+      go : (b : Bool) → length (keepRow (remains (suc t)) xs ys) + doubledIn t ys ≡ length xs
+          → length (consIf b x (keepRow (remains (suc t)) xs ys)) + tick (not b) (doubledIn t ys) ≡ suc (length xs)
       go true ih = omega arith
       go false ih = omega arith
 
@@ -126,9 +97,9 @@ module _ {A : Type 0} (mean : A → A → A) where
   length-grow u (x ∷ xs) ys e = length-from u x (x ∷ xs) ys e
 
   -- At most as wide as the row, and wider.
-  pub at-narrow : (m v : ℕ) (xs : List A) (ys : List ℕ) → v ≤ m → rowAtWidth mean m v xs ys ≡ keepRow (there (suc (m - v))) xs ys
+  pub at-narrow : (m v : ℕ) (xs : List A) (ys : List ℕ) → v ≤ m → rowAtWidth mean m v xs ys ≡ keepRow (remains (suc (m - v))) xs ys
   unfolding rowAtWidth
-  at-narrow m v xs ys h = rw (le-leb v m h) (ap (λ f. keepRow f xs ys) (stays-there (m - v)))
+  at-narrow m v xs ys h = rw (le-leb v m h) (ap (λ f. keepRow f xs ys) (stays-remains (m - v)))
 
   pub at-wide : (m v : ℕ) (xs : List A) (ys : List ℕ) → m < v → rowAtWidth mean m v xs ys ≡ growRow mean (v - m) xs ys
   unfolding rowAtWidth
@@ -148,7 +119,7 @@ module _ {A : Type 0} (mean : A → A → A) where
         go (inl p) (inr q) =
             rw (at-narrow m v xs ys p, at-wide m z xs ys q)
             (Sublistᴰ·trans
-            (subst (Sublistᴰ (keepRow (there (suc (m - v))) xs ys)) (keep-all xs ys (omega arith)) (keep-sub 1 (suc (m - v)) xs ys (omega arith)))
+            (subst (Sublistᴰ (keepRow (remains (suc (m - v))) xs ys)) (keep-all xs ys (omega arith)) (keep-sub 1 (suc (m - v)) xs ys (omega arith)))
             (grow-sub (z - m) xs ys))
         go (inr p) (inl q) = absurd (omega arith)
         go (inr p) (inr q) = rw (at-wide m v xs ys p, at-wide m z xs ys q) (grow-more (v - m) (z - m) xs ys (omega arith))

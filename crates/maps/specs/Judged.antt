@@ -6,7 +6,7 @@ use Prim.Native.Nat.{ℕ, suc, _+_, _-_, _≤_, _<_}
 use lib.Dec.{leb, eqb}
 use Rattle.grids.specs.Each.{Each}
 use Rattle.cheapest.specs.Paths.{run}
-use Rattle.energy.specs.Refusals.{Rule, _when_, refusal}
+use Rattle.energy.specs.Refusals.{Rule, _when_}
 use Rattle.maps.specs.Choices.{Choice, linked}
 use Rattle.maps.specs.Widths.{keepRow}
 
@@ -36,18 +36,18 @@ count v (a ∷ ys) = tick (eqb a v) (count v ys)
 unfoldable pub numbers : ℕ → List ℕ → Bool
 numbers k ys = every (λ t. eqb (count t ys) 1) (run 1 k) && every (λ v. leb v k) ys
 
--- Still there when seam t is cut: numbered 0 or at least t.
-unfoldable pub there : ℕ → ℕ → Bool
-there t v = eqb v 0 || leb t v
+-- A pixel numbered v is left before seam t: its number is 0 or at least t.
+unfoldable pub remains : ℕ → ℕ → Bool
+remains t v = eqb v 0 || leb t v
 
 -- The picture that the map leaves before seam t.
 unfoldable pub before : {A : Type 0} → ℕ → List (List A) → List (List ℕ) → List (List A)
-before t p m = zipWith (keepRow (there t)) p m
+before t p m = zipWith (keepRow (remains t)) p m
 
--- The column of number t in what is left of a row before seam t: how many that are still there stand ahead of it.
+-- The column of number t in what is left of a row before seam t: how many pixels that are left stand ahead of it.
 abbrev pub columnOf : ℕ → List ℕ → ℕ
 columnOf t [] = 0
-columnOf t (v ∷ ys) = cond (eqb v t) 0 (tick (there t v) (columnOf t ys))
+columnOf t (v ∷ ys) = cond (eqb v t) 0 (tick (remains t v) (columnOf t ys))
 
 -- The recorded seam t, its columns from the top row.
 abbrev pub recorded : ℕ → List (List ℕ) → List ℕ

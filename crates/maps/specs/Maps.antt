@@ -15,7 +15,7 @@ abbrev pub later : ℕ → ℕ
 later zero = zero
 later (suc t) = suc (suc t)
 
--- A row of the map where a seam is cut first that goes through column c: 1 there, each other number but 0 one more.
+-- A row of the map where a seam through column c is cut first: 1 at the seam, each other number but 0 one more.
 unfoldable pub numberRow : ℕ → List ℕ → List ℕ
 numberRow c ys = insertAt c 1 (map later ys)
 
