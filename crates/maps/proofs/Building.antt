@@ -12,13 +12,13 @@ use Rattle.grids.proofs.Rows.{rowsOf-flat, flat-at, row-more}
 use Rattle.energy.specs.Refusals.{_when_, refusal}
 use Rattle.maps.specs.Choices.{Choice, Chooses}
 use Rattle.maps.specs.Maps.{carve, mapOf}
-use Rattle.maps.specs.Judged.{every, same, numbers, connected, found, mapRules, Recorded}
+use Rattle.maps.specs.Judged.{every, same, numbers, connected, found, mapRules, IsMap}
 use Rattle.maps.proofs.Tests.{same-test, same-is, every-each}
 use Rattle.maps.proofs.Numberings.{numbers-is}
 use Rattle.maps.proofs.Rows.{write}
 use Rattle.maps.proofs.Levels.{writeAll}
 use Rattle.maps.proofs.Maps.{carve-grid, map-grid, map-next}
-use Rattle.maps.proofs.Judged.{found-is, map-recorded, chosen-only}
+use Rattle.maps.proofs.Judged.{found-is, map-is, chosen-only}
 
 -- Grids whose flat lists are the same are the same.
 pub flat-same : {A : Type 0} {w h : ℕ} {p q : List (List A)} → Grid w h p → Grid w h q → flat p ≡ flat q → p ≡ q
@@ -73,13 +73,13 @@ module _ {A : Type 0} (choose : Choice A) {near : ℕ → ℕ → ℕ → Bool} 
           there : found choose w h k p m ≡ true → same (flat m) (flat new) ≡ true
           there e =
               same-is (flat m) (flat new) .1
-              (ap flat (chosen-only choose good w h k p m g q l (every-each (numbers k) (λ y. numbers-is k y .0) q n) (found-is near choose w h k p m .0 e)))
+              (ap flat (chosen-only choose good w h k p m g q l (every-each (numbers k) (λ y. numbers-is k y .0) q n) (found-is choose w h k p m .0 e)))
 
           back : same (flat m) (flat new) ≡ true → found choose w h k p m ≡ true
           back e =
               let is : m ≡ new = flat-same q (map-grid choose good k w h p g l) (same-is (flat m) (flat new) .0 e) in
-              let r : Recorded near choose w h k p m = subst (Recorded near choose w h k p) (sym is) (map-recorded choose good w h k p g l) in
-              found-is near choose w h k p m .1 (r .chosen)
+              let r : IsMap near choose w h k p m = subst (IsMap near choose w h k p) (sym is) (map-is choose good w h k p g l) in
+              found-is choose w h k p m .1 (r .chosen)
 
       go : (a b : Bool) → every (numbers k) m ≡ a
           → refusal (9 when not a ∷ 10 when not b ∷ 11 when not (found choose w h k p m) ∷ []) ≡ refusal (9 when not a ∷ 10 when not b ∷ 11 when not (same (flat m) (flat new)) ∷ [])

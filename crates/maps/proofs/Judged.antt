@@ -10,7 +10,7 @@ use Rattle.grids.specs.Cut.{cut}
 use Rattle.energy.specs.Refusals.{_when_, refusal}
 use Rattle.maps.specs.Choices.{Choice, Chooses, linked}
 use Rattle.maps.specs.Maps.{number, carve, mapOf}
-use Rattle.maps.specs.Judged.{every, same, numbers, before, recorded, connected, found, mapRules, Numbering, Recorded}
+use Rattle.maps.specs.Judged.{every, same, numbers, before, recorded, connected, found, mapRules, Numbering, IsMap}
 use Rattle.maps.proofs.Tests.{every-each, each-every, every-run, same-is}
 use Rattle.maps.proofs.Numberings.{numbers-is}
 use Rattle.maps.proofs.Levels.{lower, before-number, before-all, grid-cut, grid-lower, recorded-number, recorded-inside, numbered-none, numbered-lower, number-lower}
@@ -26,30 +26,33 @@ three-pass a b c = (there a b c, λ k. rw (k .0, k .1, k .2))
     there true false c e = absurd (omega arith)
     there false b c e = absurd (omega arith)
 
+-- The test of 10, seam by seam,
+pub connected-is : (near : ℕ → ℕ → ℕ → Bool) (w k : ℕ) (m : List (List ℕ))
+    → (connected near w k m ≡ true) ↔ ((t : ℕ) → 1 ≤ t → t ≤ k → linked (near (w + 1 - t)) (recorded t m) ≡ true)
+unfolding connected
+connected-is near w k m = every-run (λ t. linked (near (w + 1 - t)) (recorded t m)) k
+
+-- and that of 11.
+pub found-is : {A : Type 0} (choose : Choice A) (w h k : ℕ) (p : List (List A)) (m : List (List ℕ))
+    → (found choose w h k p m ≡ true) ↔ ((t : ℕ) → 1 ≤ t → t ≤ k → recorded t m ≡ choose (w + 1 - t) h (before t p m))
+unfolding found
+found-is choose w h k p m = (
+  λ e t a b. same-is (recorded t m) (choose (w + 1 - t) h (before t p m)) .0 (every-run f k .0 e t a b),
+  λ c. every-run f k .1 (λ t a b. same-is (recorded t m) (choose (w + 1 - t) h (before t p m)) .1 (c t a b)),
+)
+  where
+    f : ℕ → Bool
+    f t = same (recorded t m) (choose (w + 1 - t) h (before t p m))
+
 module _ {A : Type 0} (near : ℕ → ℕ → ℕ → Bool) (choose : Choice A) (w h k : ℕ) (p : List (List A)) (m : List (List ℕ)) where
-  -- The tests of 10 and of 11, seam by seam.
-  pub connected-is : (connected near w k m ≡ true) ↔ ((t : ℕ) → 1 ≤ t → t ≤ k → linked (near (w + 1 - t)) (recorded t m) ≡ true)
-  unfolding connected
-  connected-is = every-run (λ t. linked (near (w + 1 - t)) (recorded t m)) k
-
-  pub found-is : (found choose w h k p m ≡ true) ↔ ((t : ℕ) → 1 ≤ t → t ≤ k → recorded t m ≡ choose (w + 1 - t) h (before t p m))
-  unfolding found
-  found-is = (
-    λ e t a b. same-is (recorded t m) (choose (w + 1 - t) h (before t p m)) .0 (every-run f k .0 e t a b),
-    λ c. every-run f k .1 (λ t a b. same-is (recorded t m) (choose (w + 1 - t) h (before t p m)) .1 (c t a b)),
-  )
-    where
-      f : ℕ → Bool
-      f t = same (recorded t m) (choose (w + 1 - t) h (before t p m))
-
   -- Nothing is refused just where each row is a numbering and, for every t from 1 to k, the recorded seam t is connected and
   -- is the one chosen in the picture that the map leaves before it.
-  pub judged-recorded : Grid w h m → (refusal (mapRules near choose w h k p m) ≡ 0) ↔ Recorded near choose w h k p m
-  judged-recorded g = (
+  pub judged-is : Grid w h m → (refusal (mapRules near choose w h k p m) ≡ 0) ↔ IsMap near choose w h k p m
+  judged-is g = (
     λ e.
         let b = tests .0 e in
-        record { numbered = every-each (numbers k) (λ y. numbers-is k y .0) g (b .0); joined = connected-is .0 (b .1); chosen = found-is .0 (b .2) },
-    λ r. tests .1 (each-every (numbers k) (λ y. numbers-is k y .1) (r .numbered), connected-is .1 (r .joined), found-is .1 (r .chosen)),
+        record { numbered = every-each (numbers k) (λ y. numbers-is k y .0) g (b .0); joined = connected-is near w k m .0 (b .1); chosen = found-is choose w h k p m .0 (b .2) },
+    λ r. tests .1 (each-every (numbers k) (λ y. numbers-is k y .1) (r .numbered), connected-is near w k m .1 (r .joined), found-is choose w h k p m .1 (r .chosen)),
   )
     where
       tests : (refusal (mapRules near choose w h k p m) ≡ 0) ↔ ((every (numbers k) m ≡ true) × (connected near w k m ≡ true) × (found choose w h k p m ≡ true))
@@ -57,8 +60,8 @@ module _ {A : Type 0} (near : ℕ → ℕ → ℕ → Bool) (choose : Choice A) 
 
 module _ {A : Type 0} (choose : Choice A) {near : ℕ → ℕ → ℕ → Bool} (good : Chooses near choose) where
   -- The map of a picture is so,
-  pub map-recorded : (w h k : ℕ) (p : List (List A)) → Grid w h p → k ≤ w → Recorded near choose w h k p (mapOf choose k w h p)
-  map-recorded w h k p g l = record { numbered = map-numbered choose good k w h p g l; joined = joined; chosen = chosen }
+  pub map-is : (w h k : ℕ) (p : List (List A)) → Grid w h p → k ≤ w → IsMap near choose w h k p (mapOf choose k w h p)
+  map-is w h k p g l = record { numbered = map-numbered choose good k w h p g l; joined = joined; chosen = chosen }
     where
       joined : (t : ℕ) → 1 ≤ t → t ≤ k → linked (near (w + 1 - t)) (recorded t (mapOf choose k w h p)) ≡ true
       joined zero a b = absurd (omega arith)
@@ -103,15 +106,15 @@ module _ {A : Type 0} (choose : Choice A) {near : ℕ → ℕ → ℕ → Bool} 
   chosen-only w h k p m g q l u c =
       chosen-map k w h p m g q l u (λ t d. let z : w + 1 - suc t ≡ w - t = omega arith in rw z at (c (suc t) (omega arith) d))
 
-  pub recorded-only : (w h k : ℕ) (p : List (List A)) (m : List (List ℕ)) → Grid w h p → Grid w h m → k ≤ w → Recorded near choose w h k p m → m ≡ mapOf choose k w h p
-  recorded-only w h k p m g q l r = chosen-only w h k p m g q l (r .numbered) (r .chosen)
+  pub is-map : (w h k : ℕ) (p : List (List A)) (m : List (List ℕ)) → Grid w h p → Grid w h m → k ≤ w → IsMap near choose w h k p m → m ≡ mapOf choose k w h p
+  is-map w h k p m g q l r = chosen-only w h k p m g q l (r .numbered) (r .chosen)
 
   -- A recorded map is accepted exactly when it is the map of the picture.
   pub judged-map : (w h k : ℕ) (p : List (List A)) (m : List (List ℕ)) → Grid w h p → Grid w h m → k ≤ w
       → (refusal (mapRules near choose w h k p m) ≡ 0) ↔ (m ≡ mapOf choose k w h p)
   judged-map w h k p m g q l = (
-    λ e. recorded-only w h k p m g q l (judged-recorded near choose w h k p m q .0 e),
-    λ e. judged-recorded near choose w h k p m q .1 (subst (Recorded near choose w h k p) (sym e) (map-recorded w h k p g l)),
+    λ e. is-map w h k p m g q l (judged-is near choose w h k p m q .0 e),
+    λ e. judged-is near choose w h k p m q .1 (subst (IsMap near choose w h k p) (sym e) (map-is w h k p g l)),
   )
 
   -- Two maps accepted for the same picture and depth are equal.

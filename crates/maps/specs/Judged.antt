@@ -72,7 +72,7 @@ pub record Numbering (k : ℕ) (ys : List ℕ) : Type 0 where
   pub none-above : (t : ℕ) → k < t → count t ys ≡ 0
 
 -- What a map is judged for, said of each seam: it is connected, and it is the one found in the picture left before it.
-pub record Recorded {A : Type 0} (near : ℕ → ℕ → ℕ → Bool) (choose : Choice A) (w h k : ℕ) (p : List (List A)) (m : List (List ℕ)) : Type 0 where
+pub record IsMap {A : Type 0} (near : ℕ → ℕ → ℕ → Bool) (choose : Choice A) (w h k : ℕ) (p : List (List A)) (m : List (List ℕ)) : Type 0 where
   pub numbered : Each (Numbering k) h m
   pub joined : (t : ℕ) → 1 ≤ t → t ≤ k → linked (near (w + 1 - t)) (recorded t m) ≡ true
   pub chosen : (t : ℕ) → 1 ≤ t → t ≤ k → recorded t m ≡ choose (w + 1 - t) h (before t p m)
