@@ -12,7 +12,8 @@ use Rattle.exports.specs.declared.Sizing.{Sizing}
 use Rattle.exports.specs.declared.Sizing.the-variants.{Of, Unknown}
 use Rattle.exports.specs.declared.Turning.{Turning}
 use Rattle.exports.specs.declared.Turning.the-variants.{Along, Nowhere}
-use Rattle.exports.specs.Hosts.{refusedBy, replyOf, HostSeam, HostCut, HostMarksCut}
+use Rattle.exports.specs.Hosts.{refusedBy}
+use Rattle.exports.specs.Seams.{replyOf, HostSeam, HostCut, HostMarksCut}
 
 -- A size or an axis that no number names.
 pub data Unnamed : Sizing → Turning → Type 0 where

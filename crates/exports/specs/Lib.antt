@@ -1,1 +1,4 @@
 pub mod Hosts
+pub mod Seams
+pub mod Objects
+pub mod Retargets

@@ -1,9 +1,9 @@
--- `exports::multisize_cut` meets its contract.
+-- `exports::seams::multisize_find` meets its contract.
 use mathlib.Core.Path.{sym, _∙_}
 use borrow.Author.Needs.{needs}
-use Rattle.exports.proofs.Answers.{no-size, no-axis, unnamed-seam, named-seam, unnamed-cut, named-cut}
-use Rattle.exports.proofs.multisize_cut.Statement.{statement}
-use Rattle.exports.proofs.multisize_cut.Tie as tie
+use Rattle.exports.proofs.Answers.{no-size, no-axis, unnamed-seam, named-seam}
+use Rattle.exports.proofs.seams.multisize_find.Statement.{statement}
+use Rattle.exports.proofs.seams.multisize_find.Tie as tie
 
 size-named-requires : tie.Need-size-named-requires
 size-named-requires c κs = search needs
@@ -18,7 +18,7 @@ refused-requires : tie.Need-refused-requires
 refused-requires c κs = search needs
 
 returns : tie.Need-returns
-returns c = rw (sym (c .before .before .before .size-named .ensures) ∙ c .before .enum-told .given .1, c .refused .ensures) (unnamed-seam no-size, unnamed-cut no-size)
+returns c = rw (sym (c .before .before .before .size-named .ensures) ∙ c .before .enum-told .given .1, c .refused .ensures) (unnamed-seam no-size)
 
 axis-named-requires : tie.Need-axis-named-requires
 axis-named-requires c κs = search needs
@@ -39,10 +39,10 @@ returns-2 c =
       sym (c .before .before .before .axis-named .ensures) ∙ c .before .enum-told2 .given .1,
       c .refused2 .ensures,
     )
-    (unnamed-seam no-axis, unnamed-cut no-axis)
+    (unnamed-seam no-axis)
 
-cut-requires : tie.Need-cut-requires
-cut-requires c κs = search needs
+find-requires : tie.Need-find-requires
+find-requires c κs = search needs
 
 reply-requires : tie.Need-reply-requires
 reply-requires c κs = search needs
@@ -53,21 +53,17 @@ same-length c = search needs
 same-length-2 : tie.Need-same-length-2
 same-length-2 c = search needs
 
-same-length-3 : tie.Need-same-length-3
-same-length-3 c = search needs
-
 returns-3 : tie.Need-returns-3
 returns-3 c =
-    let g = c .before .before .before .before .before .before .before .cut .ensures in
     rw (
-      sym (c .before .before .before .before .before .before .before .before .before .before .before .before .before .before .before .before .before .before .size-named .ensures) ∙ c .before .before .before .before .before .before .before .before .before .before .before .before .before .before .before .before .size .given .1,
-      sym (c .before .before .before .before .before .before .before .before .before .before .before .before .before .before .axis-named .ensures) ∙ c .before .before .before .before .before .before .before .before .before .before .before .before .turned .given .1,
+      sym (c .before .before .before .before .before .before .before .before .before .before .before .before .before .before .before .size-named .ensures) ∙ c .before .before .before .before .before .before .before .before .before .before .before .before .before .size .given .1,
+      sym (c .before .before .before .before .before .before .before .before .before .before .before .axis-named .ensures) ∙ c .before .before .before .before .before .before .before .before .before .turned .given .1,
       c .reply .ensures,
     )
-    (named-seam (g .0), rw (g .0 .number-is) (named-cut (g .1)))
+    (named-seam (c .before .before .before .before .before .find .ensures))
 
-pub multisize-cut-spec : {M : Type 1} → statement M
-multisize-cut-spec =
+pub multisize-find-spec : {M : Type 1} → statement M
+multisize-find-spec =
     tie.close
     (tie.spec
     size-named-requires
@@ -80,9 +76,8 @@ multisize-cut-spec =
     enum-told-2
     refused-requires-2
     returns-2
-    cut-requires
+    find-requires
     reply-requires
     same-length
     same-length-2
-    same-length-3
     returns-3)

@@ -1,9 +1,9 @@
--- `exports::reply` meets its contract.
+-- `exports::seams::reply` meets its contract.
 use mathlib.Core.Path.{sym, ap}
 use borrow.Author.Needs.{needs}
-use Rattle.exports.specs.Hosts.{replyOf}
-use Rattle.exports.proofs.reply.Statement.{statement}
-use Rattle.exports.proofs.reply.Tie as tie
+use Rattle.exports.specs.Seams.{replyOf}
+use Rattle.exports.proofs.seams.reply.Statement.{statement}
+use Rattle.exports.proofs.seams.reply.Tie as tie
 
 enum-known-found : tie.Need-enum-known-found
 enum-known-found c = search needs

@@ -1,9 +1,9 @@
--- `exports::multisize_find_marked` meets its contract.
+-- `exports::seams::multisize_find_marked` meets its contract.
 use mathlib.Core.Path.{sym, _∙_}
 use borrow.Author.Needs.{needs}
 use Rattle.exports.proofs.Answers.{no-size, no-axis, unnamed-seam, named-seam}
-use Rattle.exports.proofs.multisize_find_marked.Statement.{statement}
-use Rattle.exports.proofs.multisize_find_marked.Tie as tie
+use Rattle.exports.proofs.seams.multisize_find_marked.Statement.{statement}
+use Rattle.exports.proofs.seams.multisize_find_marked.Tie as tie
 
 size-named-requires : tie.Need-size-named-requires
 size-named-requires c κs = search needs

@@ -1,0 +1,56 @@
+-- What hosts see of an object removed: the number, the ending as a number, the count of seams cut, and the buffers.
+use mathlib.Core.Path.{_≡_}
+use mathlib.Core.Option.{Option, none, some}
+use mathlib.Core.List.{List, _++_}
+use Prim.Native.Nat.{ℕ, _*_}
+use lib.ListN.{length, replicate}
+use Rattle.grids.specs.Rows.{flat}
+use Rattle.energy.specs.declared.pictures.Size.{Size}
+use Rattle.energy.specs.Refusals.{refusal, served}
+use Rattle.energy.specs.Pictures.{channelsOf, bytes}
+use Rattle.removal.specs.declared.Removal.{Removal}
+use Rattle.removal.specs.Objects.{Ending, done, narrow, spent, blocked, Removed, removal}
+use Rattle.removal.specs.Removing.{removalNumber, removalEnding, removalCount, removalRules, markedPicture}
+use Rattle.exports.specs.declared.Sizing.{Sizing}
+use Rattle.exports.specs.declared.objects.Ended.{Ended}
+use Rattle.exports.specs.Hosts.{known}
+
+-- The number of an ending; 0 where there is none.
+abbrev pub endingNumber : Ending → ℕ
+endingNumber done = 1
+endingNumber narrow = 2
+endingNumber spent = 3
+endingNumber blocked = 4
+
+abbrev pub someNumber : Option Ending → ℕ
+someNumber none = 0
+someNumber (some e) = endingNumber e
+
+-- The answer as three numbers, refused by one of them or not.
+abbrev pub stoppedBy : ℕ → Ended
+stoppedBy n = record { number = n; ending = 0; count = 0 }
+
+abbrev pub endedAs : ℕ → ℕ → Ended
+endedAs e n = record { number = 0; ending = e; count = n }
+
+abbrev pub endedOf : Removal → Ended
+endedOf r = record { number = removalNumber r; ending = someNumber (removalEnding r); count = removalCount r }
+
+-- The removal of what is marked 2 in lent buffers, by at most so many cuts.
+abbrev pub removed : List ℕ → List ℕ → ℕ → Size → Removed
+removed b m budget z = removal budget 0 (markedPicture z b m)
+
+-- What is left lies packed at the front of each buffer, the freed bytes 0.
+pub record HostRemoved (b m : List ℕ) (s : Sizing) (budget : ℕ) (work : List ℕ) (a : Ended) (b′ m′ work′ : List ℕ) : Type 0 where
+  pub answer : a .number ≡ known s (λ z. refusal (removalRules z b m (length work))) 1
+  pub ending-given : a .ending ≡ known s (λ z. served (a .number) (endingNumber (removed b m budget z .ending)) 0) 0
+  pub count-given : a .count ≡ known s (λ z. served (a .number) (removed b m budget z .count) 0) 0
+  pub picture-left :
+      b′ ≡ known s
+      (λ z. served (a .number) (bytes (removed b m budget z .left .picture) ++ replicate (removed b m budget z .count * (z .height * channelsOf (z .kind))) 0) b)
+      b
+  pub marks-left :
+      m′ ≡ known s
+      (λ z. served (a .number) (flat (removed b m budget z .left .marks) ++ replicate (removed b m budget z .count * z .height) 0) m)
+      m
+  pub work-left : work′ ≡ known s (λ z. served (a .number) (replicate (length work) 0) work) work

@@ -1,0 +1,37 @@
+-- What hosts see of rows and columns removed together.
+use mathlib.Core.Path.{_≡_}
+use mathlib.Core.List.{List, _++_}
+use Prim.Native.Nat.{ℕ}
+use lib.ListN.{length, drop, replicate}
+use Rattle.energy.specs.Refusals.{refusal, served}
+use Rattle.energy.specs.Pictures.{pictureBytes, bytes}
+use Rattle.retargeting.specs.declared.Rows.{Rows}
+use Rattle.retargeting.specs.declared.Columns.{Columns}
+use Rattle.retargeting.specs.declared.Retargeted.{Retargeted}
+use Rattle.retargeting.specs.Retargeting.{retargetedNumber, retargetedTotal, leftSize, cellOf, retargetRules}
+use Rattle.exports.specs.declared.Answer.{Answer}
+use Rattle.exports.specs.declared.Sizing.{Sizing}
+use Rattle.exports.specs.Hosts.{known}
+
+-- The answer as two numbers.
+abbrev pub totalOf : Retargeted → Answer
+totalOf t = record { number = retargetedNumber t; value = retargetedTotal t }
+
+-- The counts that a host names by numbers.
+abbrev pub rowCount : ℕ → Rows
+rowCount n = record { 0 = n }
+
+abbrev pub columnCount : ℕ → Columns
+columnCount n = record { 0 = n }
+
+-- The total, the picture of the cell at the front of the output space, and the work space.
+pub record HostRetargeted (b : List ℕ) (s : Sizing) (rows columns : ℕ) (out work : List ℕ) (a : Answer) (out′ work′ : List ℕ) : Type 0 where
+  pub answer : a .number ≡ known s (λ z. refusal (retargetRules z (rowCount rows) (columnCount columns) (length b) (length out) (length work))) 1
+  pub value : a .value ≡ known s (λ z. served (a .number) (cellOf z b (rowCount rows) (columnCount columns) .total) 0) 0
+  pub out-given :
+      out′ ≡ known s
+      (λ z. served (a .number)
+      (bytes (cellOf z b (rowCount rows) (columnCount columns) .picture) ++ drop (pictureBytes (leftSize z (rowCount rows) (columnCount columns))) out)
+      out)
+      out
+  pub work-left : work′ ≡ known s (λ z. served (a .number) (replicate (length work) 0) work) work
