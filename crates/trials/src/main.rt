@@ -1,5 +1,8 @@
 // Runs the operations on generated pictures and prints what they give. The expected output is that of the second
 // implementation on the same pictures.
+mod objects;
+mod retargets;
+
 use carving::Axis;
 use energy::Kind;
 use energy::Size;
@@ -8,7 +11,7 @@ use libc::STDOUT_FILENO;
 ghost use Prim.Native.Nat.{_<_, _≤_};
 ghost use lib.ListN.{length};
 
-// Pictures of every width to 6 and height to 4, of both kinds.
+// Pictures of every width to 6 and height to 4, of both kinds; then objects removed, and rows and columns together.
 fn main() {
     let mut seed: u64 = 1;
     for height in 1..5 {
@@ -17,6 +20,9 @@ fn main() {
             seed = trial(width, height, Kind::Rgb, seed);
         }
     }
+    seed = objects::trials(seed);
+    seed = retargets::trial(4, 2, Kind::Grey, seed);
+    retargets::trial(3, 3, Kind::Rgb, seed);
 }
 
 // One picture: its seams and cuts along both axes, without marks and with them, and what is given of each of its rows and of
@@ -46,7 +52,7 @@ fn trial(width: usize, height: usize, kind: Kind, seed: u64) -> u64
 }
 
 // The bytes of a small picture, or of its marks.
-fn count(height: usize, width: usize, channels: usize) -> usize
+pub(crate) fn count(height: usize, width: usize, channels: usize) -> usize
     requires { ⌜ (width ≤ 6) × (height ≤ 4) ⌝ }
     ensures { λ n. ⌜ n ≤ 72 ⌝ }
 {
@@ -57,7 +63,7 @@ fn count(height: usize, width: usize, channels: usize) -> usize
 }
 
 // Fills the space with pseudo-random samples of few values, so that many are equal.
-fn fill(space: &mut [u8], seed: u64) -> u64
+pub(crate) fn fill(space: &mut [u8], seed: u64) -> u64
     requires { ⌜ seed < 65536 ⌝ }
     ensures { λ next. ⌜ next < 65536 ⌝ }
 {
@@ -70,7 +76,7 @@ fn fill(space: &mut [u8], seed: u64) -> u64
 }
 
 // Fills the space with pseudo-random marks: half are plain, and a few are over 2.
-fn fill_marks(space: &mut [u8], seed: u64) -> u64
+pub(crate) fn fill_marks(space: &mut [u8], seed: u64) -> u64
     requires { ⌜ seed < 65536 ⌝ }
     ensures { λ next. ⌜ next < 65536 ⌝ }
 {
@@ -206,7 +212,7 @@ fn print_seam(seam: &[u16]) {
     }
 }
 
-fn wide_column(n: u16) -> u64 {
+pub(crate) fn wide_column(n: u16) -> u64 {
     n as u64
 }
 
@@ -227,14 +233,14 @@ fn print_numbers(numbers: &[u32]) {
     }
 }
 
-fn print_bytes(row: &[u8]) {
+pub(crate) fn print_bytes(row: &[u8]) {
     for i in 0..row.len() {
         print_number(wide_byte(row[i]));
     }
 }
 
 // A blank and a number.
-fn print_number(n: u64) {
+pub(crate) fn print_number(n: u64) {
     io::write_all(STDOUT_FILENO, b" ");
     io::print_decimal(STDOUT_FILENO, n);
 }
@@ -243,6 +249,6 @@ fn wide(n: u32) -> u64 {
     n as u64
 }
 
-fn wide_byte(n: u8) -> u64 {
+pub(crate) fn wide_byte(n: u8) -> u64 {
     n as u64
 }

@@ -1,7 +1,8 @@
 //! Writes what the test program `trials` is expected to write: the operations
 //! on the same generated pictures, by this implementation.
 
-use reference::{cut, cut_marked, energies, find, find_marked, row, Axis, Kind, Size};
+use reference::{cut, cut_marked, energies, find, find_marked, remove_object, retarget, row};
+use reference::{Axis, Columns, Ending, Kind, Rows, Size};
 use std::fmt::Display;
 
 /// Pseudo-random numbers below 65536.
@@ -43,6 +44,62 @@ fn main() {
                 };
                 trial(size, &mut numbers);
             }
+        }
+    }
+    for budget in 0..4 {
+        for width in 1..=4 {
+            for kind in [Kind::Grey, Kind::Rgb] {
+                let size = Size {
+                    width,
+                    height: 2,
+                    kind,
+                };
+                println!("{}", removal_line(size, budget, &mut numbers));
+            }
+        }
+    }
+    for (width, height, kind) in [(4, 2, Kind::Grey), (3, 3, Kind::Rgb)] {
+        let size = Size {
+            width,
+            height,
+            kind,
+        };
+        retarget_lines(size, &mut numbers);
+    }
+}
+
+/// How the removal of an object ends with its count, or the number given; the
+/// picture's bytes, the marks and an end of the work space.
+fn removal_line(size: Size, budget: u16, numbers: &mut Numbers) -> String {
+    let mut space = [0; 72].map(|_| numbers.sample());
+    let mut marks = [0; 72].map(|_| numbers.mark());
+    let pixels = size.height * size.width;
+    let picture = &mut space[..pixels * size.kind.channels()];
+    let marks = &mut marks[..pixels];
+    let mut work = [1; 768];
+    let ended = match remove_object(picture, marks, size, budget, &mut work) {
+        Ok((Ending::Done, count)) => format!("done {count}"),
+        Ok((Ending::Narrow, count)) => format!("narrow {count}"),
+        Ok((Ending::Spent, count)) => format!("spent {count}"),
+        Ok((Ending::Blocked, count)) => format!("blocked {count}"),
+        Err(number) => number.to_string(),
+    };
+    let (picture, marks, work) = (listed(picture), listed(marks), listed(&work[767..]));
+    format!("{ended}{picture} |{marks} |{work}")
+}
+
+/// A line for each count of rows and of columns up to 2: the number given, the
+/// total, the output space and an end of the work space.
+fn retarget_lines(size: Size, numbers: &mut Numbers) {
+    let space = [0; 72].map(|_| numbers.sample());
+    let picture = &space[..size.height * size.width * size.kind.channels()];
+    for rows in 0..3 {
+        for columns in 0..3 {
+            let mut out = [7; 20];
+            let mut work = [1; 2100];
+            let (rows, columns) = (Rows(rows), Columns(columns));
+            let given = retarget(picture, size, rows, columns, &mut out, &mut work);
+            println!("{}{}{}", answer(given), listed(&out), listed(&work[2099..]));
         }
     }
 }

@@ -46,6 +46,15 @@ loop-less c = search needs
 loop-again : tie.Need-loop-again Inv-loop2 μ-loop2 Inv-loop μ-loop
 loop-again c = search needs
 
+trials-requires : tie.Need-trials-requires Inv-loop2 μ-loop2 Inv-loop μ-loop
+trials-requires c κs = search needs
+
+trial-requires-3 : tie.Need-trial-requires-3 Inv-loop2 μ-loop2 Inv-loop μ-loop
+trial-requires-3 c κs = search needs
+
+trial-requires-4 : tie.Need-trial-requires-4 Inv-loop2 μ-loop2 Inv-loop μ-loop
+trial-requires-4 c κs = search needs
+
 returns : tie.Need-returns Inv-loop2 μ-loop2 Inv-loop μ-loop
 returns c = search needs
 
@@ -67,4 +76,7 @@ main-spec =
     add-height
     loop-less
     loop-again
+    trials-requires
+    trial-requires-3
+    trial-requires-4
     returns)
