@@ -5,6 +5,12 @@
 
 #![allow(unsafe_code)]
 
+mod removal;
+mod retarget;
+
+pub use removal::{remove, Ended};
+pub use retarget::retarget;
+
 use crate::axes::NamedAxis;
 use crate::pictures::NamedSize;
 use std::fmt;

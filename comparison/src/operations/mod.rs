@@ -8,10 +8,13 @@ mod find;
 mod find_marked;
 mod one_row;
 mod one_seam;
+mod remove;
+mod retarget;
 mod row;
 
 use crate::difference::Difference;
 use crate::random::Random;
+use reference::Size;
 
 /// Makes one case, runs both sides and gives the number that both answered.
 /// The turn is the case's number among the cases of its operation.
@@ -22,7 +25,12 @@ pub struct Operation {
     pub compare: Compare,
 }
 
-pub const OPERATIONS: [Operation; 10] = [
+/// Bytes of work space: 32 for each pixel.
+fn work_bytes(size: Size) -> usize {
+    32 * size.width * size.height
+}
+
+pub const OPERATIONS: [Operation; 12] = [
     Operation {
         name: "row",
         compare: row::compare,
@@ -46,6 +54,14 @@ pub const OPERATIONS: [Operation; 10] = [
     Operation {
         name: "cut_marked",
         compare: cut_marked::compare,
+    },
+    Operation {
+        name: "remove",
+        compare: remove::compare,
+    },
+    Operation {
+        name: "retarget",
+        compare: retarget::compare,
     },
     Operation {
         name: "find, every path",
@@ -88,6 +104,8 @@ mod tests {
                 2 * ROUND..8 * ROUND,
                 &[0, 1, 2, 3, 4, 5, 8, 12, 13],
             ),
+            ("remove", ROUND..5 * ROUND, &[0, 1, 2, 3, 4, 5, 8]),
+            ("retarget", ROUND..5 * ROUND, &[0, 1, 2, 3, 4, 7, 8]),
             ("find, every path", 0..200, &[0]),
             ("cut, every path", 0..200, &[0, 13]),
             ("find_marked, every path", 0..200, &[0, 12]),

@@ -1,5 +1,6 @@
 //! What finding and cutting one seam share: the case and the verdict.
 
+use super::work_bytes;
 use crate::axes::{named_axis, seam_length, NamedAxis};
 use crate::difference::{Difference, Forms};
 use crate::faults::Faults;
@@ -12,9 +13,6 @@ use reference::{Axis, Refusal, Size};
 
 /// One round in so many has the largest pictures.
 const RARITY: u64 = 4;
-
-/// Bytes of work space for each pixel.
-const WORK_BYTES: usize = 32;
 
 /// What finding or cutting one seam is given.
 pub struct Case {
@@ -63,7 +61,6 @@ impl Case {
         faults: Faults,
     ) -> Case {
         let named = pictures::named_size(random, size, faults);
-        let work_bytes = WORK_BYTES * size.width * size.height;
         Case {
             size: named,
             axis: named_axis(random, axis, faults),
@@ -71,7 +68,7 @@ impl Case {
                 picture: pictures::picture(random, size, named, faults),
                 marks: marks(random, size, faults),
                 seam: space(random, seam_length(size, axis), faults),
-                work: space(random, work_bytes, faults),
+                work: space(random, work_bytes(size), faults),
             },
         }
     }
