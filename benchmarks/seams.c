@@ -2,15 +2,8 @@
 // energies, sums, the way back. Each figure is the best of the rounds; the buffers are not cleared between them, but
 // the library clears its work space. With an argument, 0 or 1, find runs once at the first or the second size, by the
 // library, by both ways in C and by the library with marks, so that the instructions of each can be counted.
-#include <stdint.h>
-#include <stdio.h>
-#include <stdlib.h>
-#include <string.h>
-#include <time.h>
+#include "shared.h"
 
-typedef struct {
-    uint64_t number, value;
-} Answer;
 Answer multisize_find(const uint8_t *picture, size_t bytes, size_t width, size_t height, uint8_t kind, uint8_t axis,
                       uint16_t *seam, size_t places, uint8_t *work, size_t room);
 Answer multisize_cut(uint8_t *picture, size_t bytes, size_t width, size_t height, uint8_t kind, uint8_t axis,
@@ -20,18 +13,8 @@ Answer multisize_find_marked(const uint8_t *picture, size_t bytes, const uint8_t
                              size_t room);
 
 enum { SIDE = 512, ROUNDS = 40, VERTICAL = 0, HORIZONTAL = 1 };
-typedef struct {
-    size_t width, height, channels;
-} Size;
 static const Size sizes[] = {{480, 480, 3}, {512, 512, 1}};
 
-// A picture and the spaces for its seam, as the reference takes them.
-typedef struct {
-    uint8_t *picture, *marks;
-    uint16_t *seam;
-    uint8_t *work;
-    Size size;
-} Lent;
 uint64_t reference_find(Lent *lent);
 uint64_t reference_find_marked(Lent *lent);
 
@@ -113,10 +96,8 @@ __attribute__((noinline)) static uint64_t by_unrolled_c(Lent *lent) {
 }
 
 static void fill(Lent *lent) {
-    int w = lent->size.width, h = lent->size.height, channels = lent->size.channels;
-    srand(1);
-    for (int i = 0; i < w * h * channels; i++)
-        lent->picture[i] = (i / channels % w / 7 * 13 + i / channels / w / 5 * 7 + rand() % 16) & 255;
+    int w = lent->size.width, h = lent->size.height;
+    fill_picture(lent->picture, lent->size);
     // An area to be removed, one that is protected, and the rest plain.
     for (int r = 0; r < h; r++)
         for (int c = 0; c < w; c++) {
@@ -124,17 +105,6 @@ static void fill(Lent *lent) {
             int guarded = r > h / 3 && r < h * 3 / 4 && c > w * 2 / 3;
             lent->marks[r * w + c] = removed ? 2 : guarded ? 1 : 0;
         }
-}
-
-static double seconds(void) {
-    struct timespec t;
-    clock_gettime(CLOCK_MONOTONIC, &t);
-    return t.tv_sec + t.tv_nsec * 1e-9;
-}
-
-static void keep_least(double *best, double since) {
-    double t = seconds() - since;
-    if (t < *best) *best = t;
 }
 
 typedef uint64_t Find(Lent *);

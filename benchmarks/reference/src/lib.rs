@@ -1,14 +1,14 @@
-//! The reference's finding of seams, as functions that C calls: vertical seams
-//! alone, and the cost alone as the answer.
+//! The reference's operations as functions that C calls: vertical seams found,
+//! with the cost alone as the answer, objects removed and retargets.
 
-use reference::{Axis, Kind, Size};
+use reference::{Axis, Columns, Kind, Rows, Size};
 use std::slice::{from_raw_parts, from_raw_parts_mut};
 
 /// A picture and the spaces for its seam, as C hands them over.
 #[repr(C)]
 pub struct Lent {
-    picture: *const u8,
-    marks: *const u8,
+    picture: *mut u8,
+    marks: *mut u8,
     seam: *mut u16,
     work: *mut u8,
     width: usize,
@@ -65,4 +65,41 @@ pub unsafe extern "C" fn reference_find_marked(lent: &mut Lent) -> u64 {
     let (picture, seam, work) = lent.parts();
     let found = reference::find_marked(picture, marks, size, Axis::Vertical, seam, work);
     found.expect("a seam is found")
+}
+
+/// The count of seams cut, with no limit to it.
+///
+/// # Safety
+/// The picture, a mark for each pixel and the work space have the lengths that
+/// the size says, and nothing else uses them.
+#[no_mangle]
+pub unsafe extern "C" fn reference_remove(lent: &mut Lent) -> u64 {
+    let (size, pixels) = (lent.size(), lent.pixels());
+    let picture = from_raw_parts_mut(lent.picture, lent.channels * pixels);
+    let marks = from_raw_parts_mut(lent.marks, pixels);
+    let work = from_raw_parts_mut(lent.work, 32 * pixels);
+    let ended = reference::remove_object(picture, marks, size, u16::MAX, work);
+    let (_, count) = ended.expect("objects are removed");
+    u64::from(count)
+}
+
+/// The total.
+///
+/// # Safety
+/// The picture and the work space of a retarget have the lengths that the size
+/// says, `out` that of the picture left, and nothing else uses them.
+#[no_mangle]
+pub unsafe extern "C" fn reference_retarget(
+    lent: &mut Lent,
+    rows: usize,
+    columns: usize,
+    out: *mut u8,
+) -> u64 {
+    let (size, pixels) = (lent.size(), lent.pixels());
+    let left = (size.width - columns) * (size.height - rows);
+    let picture = from_raw_parts(lent.picture, lent.channels * pixels);
+    let out = from_raw_parts_mut(out, lent.channels * left);
+    let work = from_raw_parts_mut(lent.work, (32 + 66 * lent.channels) * pixels);
+    let total = reference::retarget(picture, size, Rows(rows), Columns(columns), out, work);
+    total.expect("the picture is retargeted")
 }
