@@ -3,6 +3,7 @@
 mod cut;
 mod cut_marked;
 mod energies;
+mod every_cut;
 mod every_path;
 mod find;
 mod find_marked;
@@ -30,7 +31,7 @@ fn work_bytes(size: Size) -> usize {
     32 * size.width * size.height
 }
 
-pub const OPERATIONS: [Operation; 12] = [
+pub const OPERATIONS: [Operation; 14] = [
     Operation {
         name: "row",
         compare: row::compare,
@@ -79,6 +80,14 @@ pub const OPERATIONS: [Operation; 12] = [
         name: "cut_marked, every path",
         compare: every_path::compare_cut_marked,
     },
+    Operation {
+        name: "remove, every path",
+        compare: every_cut::compare_remove,
+    },
+    Operation {
+        name: "retarget, every path",
+        compare: every_cut::compare_retarget,
+    },
 ];
 
 #[cfg(test)]
@@ -110,6 +119,8 @@ mod tests {
             ("cut, every path", 0..200, &[0, 13]),
             ("find_marked, every path", 0..200, &[0, 12]),
             ("cut_marked, every path", 0..200, &[0, 12, 13]),
+            ("remove, every path", 0..200, &[0]),
+            ("retarget, every path", 0..200, &[0]),
         ] {
             let operation = OPERATIONS.iter().find(|o| o.name == name).unwrap();
             let compare = |turn| (operation.compare)(&mut Random::of_case(1, turn), turn);

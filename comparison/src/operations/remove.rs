@@ -19,16 +19,16 @@ const MOST: usize = 400_000;
 /// What object removal is given.
 pub struct Case {
     size: NamedSize,
-    budget: u16,
+    pub budget: u16,
     buffers: Buffers,
 }
 
 /// All lent buffers.
 #[derive(Clone, PartialEq)]
-struct Buffers {
-    picture: Lent<u8>,
-    marks: Lent<u8>,
-    work: Lent<u8>,
+pub struct Buffers {
+    pub picture: Lent<u8>,
+    pub marks: Lent<u8>,
+    pub work: Lent<u8>,
 }
 
 /// What one side answered, and the buffers after it.
@@ -39,8 +39,8 @@ struct Outcome {
 }
 
 pub fn compare(random: &mut Random, turn: u64) -> Result<u64, Difference> {
-    let ended = Case::of_turn(random, turn).compare(by_library)?;
-    Ok(ended.number)
+    let case = Case::of_turn(random, turn);
+    case.compare("reference", by_reference, by_library)
 }
 
 fn by_reference(case: &Case, buffers: &mut Buffers) -> Ended {
@@ -60,7 +60,7 @@ fn by_reference(case: &Case, buffers: &mut Buffers) -> Ended {
     }
 }
 
-fn by_library(case: &Case, buffers: &mut Buffers) -> Ended {
+pub fn by_library(case: &Case, buffers: &mut Buffers) -> Ended {
     library::remove(
         buffers.picture.part_mut(),
         buffers.marks.part_mut(),
@@ -97,7 +97,7 @@ impl Case {
         Case::from_size(random, size, faults)
     }
 
-    fn from_size(random: &mut Random, size: Size, faults: Faults) -> Case {
+    pub fn from_size(random: &mut Random, size: Size, faults: Faults) -> Case {
         let named = pictures::named_size(random, size, faults);
         Case {
             size: named,
@@ -110,14 +110,15 @@ impl Case {
         }
     }
 
-    /// Runs both sides and gives what both answered, or the difference.
-    fn compare(
+    /// Runs both sides and gives the number that both answered, or the
+    /// difference. The other side is named in the report.
+    pub fn compare(
         &self,
+        name: &str,
+        other: impl FnOnce(&Case, &mut Buffers) -> Ended,
         library: impl FnOnce(&Case, &mut Buffers) -> Ended,
-    ) -> Result<Ended, Difference> {
-        let reference = self.outcome(by_reference);
-        let library = self.outcome(library);
-        self.verdict(&reference, &library)
+    ) -> Result<u64, Difference> {
+        self.verdict(name, &self.outcome(other), &self.outcome(library))
     }
 
     /// The outcome of a call that is given copies of the lent buffers.
@@ -127,11 +128,11 @@ impl Case {
         Outcome { answer, buffers }
     }
 
-    fn verdict(&self, reference: &Outcome, library: &Outcome) -> Result<Ended, Difference> {
-        if reference == library {
-            Ok(library.answer)
+    fn verdict(&self, name: &str, other: &Outcome, library: &Outcome) -> Result<u64, Difference> {
+        if other == library {
+            Ok(library.answer.number)
         } else {
-            Err(self.difference([("reference", reference), ("library", library)]))
+            Err(self.difference([(name, other), ("library", library)]))
         }
     }
 
@@ -272,10 +273,10 @@ mod tests {
     fn noticed(alter: fn(&mut Outcome)) -> bool {
         let case = Case::of_turn(&mut Random::new(1), ROUND + 70);
         let outcome = case.outcome(by_reference);
-        assert!(case.verdict(&outcome, &outcome).is_ok());
+        assert!(case.verdict("reference", &outcome, &outcome).is_ok());
         let mut altered = outcome.clone();
         alter(&mut altered);
-        case.verdict(&outcome, &altered).is_err()
+        case.verdict("reference", &outcome, &altered).is_err()
     }
 
     fn last(lent: &mut Lent<u8>) -> &mut u8 {

@@ -44,17 +44,17 @@ const WHOLE: (usize, usize, usize, usize) = (65, 65, 64, 64);
 /// What retargeting is given.
 pub struct Case {
     size: NamedSize,
-    rows: Rows,
-    columns: Columns,
+    pub rows: Rows,
+    pub columns: Columns,
     buffers: Buffers,
 }
 
 /// All lent buffers.
 #[derive(Clone, PartialEq)]
-struct Buffers {
-    picture: Lent<u8>,
-    out: Lent<u8>,
-    work: Lent<u8>,
+pub struct Buffers {
+    pub picture: Lent<u8>,
+    pub out: Lent<u8>,
+    pub work: Lent<u8>,
 }
 
 /// What one side answered, and the buffers after it.
@@ -65,7 +65,8 @@ struct Outcome {
 }
 
 pub fn compare(random: &mut Random, turn: u64) -> Result<u64, Difference> {
-    Case::of_turn(random, turn).compare(by_library)
+    let case = Case::of_turn(random, turn);
+    case.compare("reference", by_reference, by_library)
 }
 
 fn by_reference(case: &Case, buffers: &mut Buffers) -> Answer {
@@ -81,7 +82,7 @@ fn by_reference(case: &Case, buffers: &mut Buffers) -> Answer {
     }
 }
 
-fn by_library(case: &Case, buffers: &mut Buffers) -> Answer {
+pub fn by_library(case: &Case, buffers: &mut Buffers) -> Answer {
     library::retarget(
         buffers.picture.part_mut(),
         case.size,
@@ -162,7 +163,7 @@ impl Case {
         Case::from_size(random, size, faults)
     }
 
-    fn from_size(random: &mut Random, size: Size, faults: Faults) -> Case {
+    pub fn from_size(random: &mut Random, size: Size, faults: Faults) -> Case {
         let (rows, columns) = drawn_counts(random, size);
         let room = byte_count(Size {
             width: size.width - columns,
@@ -198,14 +199,14 @@ impl Case {
     }
 
     /// Runs both sides and gives the number that both answered, or the
-    /// difference.
-    fn compare(
+    /// difference. The other side is named in the report.
+    pub fn compare(
         &self,
+        name: &str,
+        other: impl FnOnce(&Case, &mut Buffers) -> Answer,
         library: impl FnOnce(&Case, &mut Buffers) -> Answer,
     ) -> Result<u64, Difference> {
-        let reference = self.outcome(by_reference);
-        let library = self.outcome(library);
-        self.verdict(&reference, &library)
+        self.verdict(name, &self.outcome(other), &self.outcome(library))
     }
 
     /// The outcome of a call that is given copies of the lent buffers.
@@ -215,11 +216,11 @@ impl Case {
         Outcome { answer, buffers }
     }
 
-    fn verdict(&self, reference: &Outcome, library: &Outcome) -> Result<u64, Difference> {
-        if reference == library {
+    fn verdict(&self, name: &str, other: &Outcome, library: &Outcome) -> Result<u64, Difference> {
+        if other == library {
             Ok(library.answer.number)
         } else {
-            Err(self.difference([("reference", reference), ("library", library)]))
+            Err(self.difference([(name, other), ("library", library)]))
         }
     }
 
@@ -400,10 +401,10 @@ mod tests {
     fn noticed(alter: fn(&mut Outcome)) -> bool {
         let case = Case::of_turn(&mut Random::new(1), ROUND + 70);
         let outcome = case.outcome(by_reference);
-        assert!(case.verdict(&outcome, &outcome).is_ok());
+        assert!(case.verdict("reference", &outcome, &outcome).is_ok());
         let mut altered = outcome.clone();
         alter(&mut altered);
-        case.verdict(&outcome, &altered).is_err()
+        case.verdict("reference", &outcome, &altered).is_err()
     }
 
     fn last(lent: &mut Lent<u8>) -> &mut u8 {
