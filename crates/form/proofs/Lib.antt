@@ -1,0 +1,6 @@
+pub mod Pairs
+pub mod Many
+pub mod Decimals
+pub mod Files
+pub mod Lengths
+pub mod Points

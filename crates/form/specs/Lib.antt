@@ -1,0 +1,4 @@
+pub mod Readers
+pub mod Decimal
+pub mod Files
+pub mod Lengths
