@@ -1,0 +1,77 @@
+use Prim.Native.Nat.{ℕ, _-_}
+use native.Mathlib.Omega.{arith}
+use lib.ListN.{length}
+use Rattle.text.proofs.Onward.{Lining, lining-first, lining-stop, lining-torn, lining-next}
+use borrow.Author.Needs.{needs}
+use Rattle.text.proofs.cursor.Cursor.lines.Statement.{statement}
+use Rattle.text.proofs.cursor.Cursor.lines.Tie as tie
+use Rattle.text.proofs.cursor.Cursor.lines.Reads as reads
+use Rattle.text.proofs.cursor.Cursor.lines.Lts as lts
+use Rattle.text.proofs.cursor.Cursor.past.Reads as past-reads
+use Rattle.text.proofs.cursor.Cursor.rest.Reads as rest-reads
+use Rattle.text.proofs.scanning.still.Reads as still-reads
+
+abbrev Inv-loop : tie.InvT-loop
+Inv-loop text word what width at₀ n₀ even₀ at n even = Lining word what width text at₀ n even at
+
+abbrev μ-loop : tie.MeasureT-loop
+μ-loop text word what width at₀ n₀ even₀ at n even = length text - at
+
+loop-holds : tie.Need-loop-holds Inv-loop μ-loop
+loop-holds c = lining-first (search needs)
+
+past-requires : tie.Need-past-requires Inv-loop μ-loop
+past-requires c κs = search needs
+
+enum-known-c : tie.Need-enum-known-c Inv-loop μ-loop
+enum-known-c c = search needs
+
+enum-told : tie.Need-enum-told Inv-loop μ-loop
+enum-told c = search needs
+
+returns : tie.Need-returns Inv-loop μ-loop
+returns c = lining-stop (search needs) (c .before .before .before .loop .inv) (rw (c .enum-told .given .1) at (c .before .before .past .ensures))
+
+rest-requires : tie.Need-rest-requires Inv-loop μ-loop
+rest-requires c κs = search needs
+
+enum-known-m : tie.Need-enum-known-m Inv-loop μ-loop
+enum-known-m c = search needs
+
+enum-told-2 : tie.Need-enum-told-2 Inv-loop μ-loop
+enum-told-2 c = search needs
+
+returns-2 : tie.Need-returns-2 Inv-loop μ-loop
+returns-2 c = lining-torn (search needs) (c .before .before .before .before .before .before .before .loop .inv) (rw (c .before .before .before .before .c .given .1) at (c .before .before .before .before .before .before .past .ensures)) (rw (c .enum-told2 .given .1) at (c .before .before .rest .ensures))
+
+add-n : tie.Need-add-n Inv-loop μ-loop
+add-n c = search needs
+
+still-requires : tie.Need-still-requires Inv-loop μ-loop
+still-requires c κs = search needs
+
+loop-less : tie.Need-loop-less Inv-loop μ-loop
+loop-less c = let a = (rw (c .before .before .before .before .before .before .c .given .1) at (c .before .before .before .before .before .before .before .before .past .ensures)) in let b = (rw (c .before .before .m .given .1) at (c .before .before .before .before .rest .ensures)) in omega (arith, a .moved .0, b .moved .0, b .moved .1)
+
+loop-again : tie.Need-loop-again Inv-loop μ-loop
+loop-again c = lining-next (search needs) (c .before .before .before .before .before .before .before .before .before .loop .inv) (rw (c .before .before .before .before .before .before .c .given .1) at (c .before .before .before .before .before .before .before .before .past .ensures)) (rw (c .before .before .m .given .1) at (c .before .before .before .before .rest .ensures)) (c .still .ensures)
+
+pub lines-spec : {M : Type 1} → statement M
+lines-spec =
+    tie.close
+    (tie.spec
+    Inv-loop
+    μ-loop
+    loop-holds
+    past-requires
+    enum-known-c
+    enum-told
+    returns
+    rest-requires
+    enum-known-m
+    enum-told-2
+    returns-2
+    add-n
+    still-requires
+    loop-less
+    loop-again)

@@ -1,0 +1,44 @@
+use Rattle.text.proofs.WordSteps.{told-number, told-number-over, told-number-name, told-number-none}
+use borrow.Author.Needs.{needs}
+use Rattle.text.proofs.cursor.Cursor.number.Statement.{statement}
+use Rattle.text.proofs.cursor.Cursor.number.Tie as tie
+use Rattle.text.proofs.cursor.Cursor.number.Reads as reads
+use Rattle.text.proofs.cursor.Cursor.number.Lts as lts
+use Rattle.text.proofs.cursor.Cursor.word.Reads as word-reads
+
+word-requires : tie.Need-word-requires
+word-requires c κs = search needs
+
+enum-known-n : tie.Need-enum-known-n
+enum-known-n c = search needs
+
+enum-told : tie.Need-enum-told
+enum-told c = search needs
+
+enum-told-2 : tie.Need-enum-told-2
+enum-told-2 c = search needs
+
+returns : tie.Need-returns
+returns c = told-number-over _ (search needs) (rw ((c .before .before .n) .given .1) at ((c .before .before .before .before .word) .ensures)) ((c .if1) .taken)
+
+returns-2 : tie.Need-returns-2
+returns-2 c = told-number _ (search needs) (rw ((c .before .before .n) .given .1) at ((c .before .before .before .before .word) .ensures)) ((c .if1) .left)
+
+returns-3 : tie.Need-returns-3
+returns-3 c = told-number-name _ (search needs) (rw ((c .enum-told) .given .1) at ((c .before .before .word) .ensures))
+
+returns-4 : tie.Need-returns-4
+returns-4 c = told-number-none _ (search needs) (rw ((c .enum-told2) .given .1) at ((c .before .before .word) .ensures))
+
+pub number-spec : {M : Type 1} → statement M
+number-spec =
+    tie.close
+    (tie.spec
+    word-requires
+    enum-known-n
+    enum-told
+    enum-told-2
+    returns
+    returns-2
+    returns-3
+    returns-4)

@@ -1,0 +1,57 @@
+use native.Mathlib.Omega.{arith}
+use Rattle.form.specs.Files.{lineEnd}
+use Rattle.text.specs.Kernels.{lineRest, numberedOf}
+use Rattle.text.proofs.Onward.{left-start, left-past, left-no-past, left-then, left-no-then, left-give}
+use borrow.Author.Needs.{needs}
+use Rattle.text.proofs.cursor.Cursor.numbered.Statement.{statement}
+use Rattle.text.proofs.cursor.Cursor.numbered.Tie as tie
+use Rattle.text.proofs.cursor.Cursor.numbered.Reads as reads
+use Rattle.text.proofs.cursor.Cursor.numbered.Lts as lts
+use Rattle.text.proofs.cursor.Cursor.number.Reads as number-reads
+use Rattle.text.proofs.cursor.Cursor.past.Reads as past-reads
+
+number-requires : tie.Need-number-requires
+number-requires c κs = search needs
+
+enum-known-n : tie.Need-enum-known-n
+enum-known-n c = search needs
+
+enum-told : tie.Need-enum-told
+enum-told c = search needs
+
+returns : tie.Need-returns
+unfolding numberedOf
+returns c = left-no-then _ left-start (rw (c .enum-told .given .1) at (c .before .before .number .ensures))
+
+past-requires : tie.Need-past-requires
+past-requires c κs = search needs
+
+enum-known-d : tie.Need-enum-known-d
+enum-known-d c = search needs
+
+enum-told-2 : tie.Need-enum-told-2
+enum-told-2 c = search needs
+
+returns-2 : tie.Need-returns-2
+unfolding numberedOf
+returns-2 c = left-no-past (c .before .before .before .before .before .before .before .before .before .args .w .now) _ (left-then _ left-start (rw (c .before .before .before .before .n .given .1) at (c .before .before .before .before .before .before .number .ensures))) (rw (c .enum-told2 .given .1) at (c .before .before .past .ensures))
+
+returns-3 : tie.Need-returns-3
+unfolding numberedOf
+returns-3 c = let a = rw (c .before .before .before .before .before .n .given .1) at (c .before .before .before .before .before .before .before .number .ensures) in
+    let b = rw (c .before .d .given .1) at (c .before .before .before .past .ensures) in
+    left-give (omega (arith, a .moved .0, b .moved .0)) (b .moved .1) (left-past (c .before .before .before .before .before .before .before .before .before .before .args .w .now) (left-then _ left-start (rw (c .before .before .before .before .before .n .given .1) at (c .before .before .before .before .before .before .before .number .ensures))) (rw (c .before .d .given .1) at (c .before .before .before .past .ensures)))
+
+pub numbered-spec : {M : Type 1} → statement M
+numbered-spec =
+    tie.close
+    (tie.spec
+    number-requires
+    enum-known-n
+    enum-told
+    returns
+    past-requires
+    enum-known-d
+    enum-told-2
+    returns-2
+    returns-3)

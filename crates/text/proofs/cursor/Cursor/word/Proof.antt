@@ -1,0 +1,80 @@
+use lib.ListN.{getD}
+use Rattle.text.proofs.ByteClasses.{digit-found, letter-found, arm-no-word}
+use Rattle.text.proofs.WordSteps.{told-word-end, told-word-number, told-word-no-number, told-word-name, told-word-no-name, told-word-other}
+use borrow.Author.Needs.{needs}
+use Rattle.text.proofs.cursor.Cursor.word.Statement.{statement}
+use Rattle.text.proofs.cursor.Cursor.word.Tie as tie
+use Rattle.text.proofs.cursor.Cursor.word.Reads as reads
+use Rattle.text.proofs.cursor.Cursor.word.Lts as lts
+use Rattle.text.proofs.cursor.Cursor.digits.Reads as digits-reads
+use Rattle.text.proofs.cursor.Cursor.name.Reads as name-reads
+use Rattle.text.proofs.cursor.class_of.Reads as class-of-reads
+
+returns : tie.Need-returns
+returns c = told-word-end ((c .if1) .taken)
+
+shared-slice-read-class-of : tie.Need-shared-slice-read-class-of
+shared-slice-read-class-of c = search needs
+
+class-of-requires : tie.Need-class-of-requires
+class-of-requires c κs = search needs
+
+enum-told : tie.Need-enum-told
+enum-told c = search needs
+
+digits-requires : tie.Need-digits-requires
+digits-requires c κs = search needs
+
+enum-known-n : tie.Need-enum-known-n
+enum-known-n c = search needs
+
+enum-told-2 : tie.Need-enum-told-2
+enum-told-2 c = search needs
+
+returns-2 : tie.Need-returns-2
+returns-2 c = told-word-no-number ((c .before .before .before .before .before .before .before .if1) .left) (digit-found (getD ((c .before .before .before .before .before .before .before .before .before .args) .text .now) ((c .before .before .before .before .before .before .before .before .before .args) .self .at) 0) ((c .before .before .before .enum-told) .given .1) ((c .before .before .before .before .before .class-of) .ensures)) (rw ((c .enum-told2) .given .1) at ((c .before .before .digits) .ensures))
+
+enum-told-3 : tie.Need-enum-told-3
+enum-told-3 c = search needs
+
+name-requires : tie.Need-name-requires
+name-requires c κs = search needs
+
+enum-known-kind : tie.Need-enum-known-kind
+enum-known-kind c = search needs
+
+enum-told-4 : tie.Need-enum-told-4
+enum-told-4 c = search needs
+
+returns-3 : tie.Need-returns-3
+returns-3 c = told-word-no-name ((c .before .before .before .before .before .before .before .if1) .left) (letter-found (getD ((c .before .before .before .before .before .before .before .before .before .args) .text .now) ((c .before .before .before .before .before .before .before .before .before .args) .self .at) 0) ((c .before .before .before .enum-told3) .given .1) ((c .before .before .before .before .before .class-of) .ensures)) (rw ((c .enum-told4) .given .1) at ((c .before .before .name) .ensures))
+
+returns-4 : tie.Need-returns-4
+returns-4 c = told-word-number (rw ((c .before .n) .given .1) at ((c .before .before .before .digits) .ensures))
+
+returns-5 : tie.Need-returns-5
+returns-5 c = told-word-name ((c .before .before .before .before .before .before .before .before .if1) .left) (letter-found (getD ((c .before .before .before .before .before .before .before .before .before .before .args) .text .now) ((c .before .before .before .before .before .before .before .before .before .before .args) .self .at) 0) ((c .before .before .before .before .enum-told3) .given .1) ((c .before .before .before .before .before .before .class-of) .ensures)) (rw ((c .before .kind) .given .1) at ((c .before .before .before .name) .ensures))
+
+returns-6 : tie.Need-returns-6
+returns-6 c = let a = arm-no-word (getD ((c .before .before .before .before .before .args) .text .now) ((c .before .before .before .before .before .args) .self .at) 0) ((c .before .class-of) .ensures) ((c .match) .keys3) in told-word-other ((c .before .before .before .if1) .left) (a .0) (a .1 .0) (a .1 .1)
+
+pub word-spec : {M : Type 1} → statement M
+word-spec =
+    tie.close
+    (tie.spec
+    returns
+    shared-slice-read-class-of
+    class-of-requires
+    enum-told
+    digits-requires
+    enum-known-n
+    enum-told-2
+    returns-2
+    enum-told-3
+    name-requires
+    enum-known-kind
+    enum-told-4
+    returns-3
+    returns-4
+    returns-5
+    returns-6)

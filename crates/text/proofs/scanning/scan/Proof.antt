@@ -1,0 +1,118 @@
+use mathlib.Core.Path.{sym}
+use Rattle.form.specs.Files.{rowWord, mapWord, closed}
+use Rattle.text.specs.Kernels.{scanOf}
+use Rattle.text.proofs.Onward.{left-start, left-past, left-no-past, left-then, left-no-then}
+use Rattle.text.proofs.WholeText.{left-reach, left-no-reach, scan-none, scan-more, scan-end}
+use borrow.Author.Needs.{needs}
+use Rattle.text.proofs.scanning.scan.Statement.{statement}
+use Rattle.text.proofs.scanning.scan.Tie as tie
+use Rattle.text.proofs.scanning.scan.Reads as reads
+use Rattle.text.proofs.scanning.scan.Lts as lts
+use Rattle.text.proofs.cursor.Cursor.header.Reads as header-reads
+use Rattle.text.proofs.cursor.Cursor.lines.Reads as lines-reads
+use Rattle.text.proofs.cursor.Cursor.past.Reads as past-reads
+use Rattle.text.proofs.scanning.both.Reads as both-reads
+use Rattle.text.proofs.scanning.items_of.Reads as items-of-reads
+
+header-requires : tie.Need-header-requires
+header-requires c κs = search needs
+
+enum-known-head : tie.Need-enum-known-head
+enum-known-head c = search needs
+
+enum-told : tie.Need-enum-told
+enum-told c = search needs
+
+returns : tie.Need-returns
+unfolding scanOf rowWord mapWord closed
+returns c = sym (scan-none (left-no-then _ left-start (rw ((c .enum-told) .given .1) at ((c .before .before .header) .ensures))))
+
+slice-aggregate-lines : tie.Need-slice-aggregate-lines
+slice-aggregate-lines c = search needs
+
+items-of-requires : tie.Need-items-of-requires
+items-of-requires c κs = search needs
+
+lines-requires : tie.Need-lines-requires
+lines-requires c κs = let a = rw ((c .before .before .before .before .head) .given .1) at ((c .before .before .before .before .before .before .header) .ensures) in let m = a .moved in search needs
+
+enum-known-rows : tie.Need-enum-known-rows
+enum-known-rows c = search needs
+
+enum-told-2 : tie.Need-enum-told-2
+enum-told-2 c = search needs
+
+returns-2 : tie.Need-returns-2
+unfolding scanOf rowWord mapWord closed
+returns-2 c = sym (scan-none (left-no-reach _ (left-then _ left-start (rw ((c .before .before .before .before .before .before .before .head) .given .1) at ((c .before .before .before .before .before .before .before .before .before .header) .ensures))) (rw ((c .enum-told2) .given .1, (c .before .before .before .items-of) .ensures) at ((c .before .before .lines) .ensures))))
+
+slice-aggregate-lines-2 : tie.Need-slice-aggregate-lines-2
+slice-aggregate-lines-2 c = search needs
+
+lines-requires-2 : tie.Need-lines-requires-2
+lines-requires-2 c κs = let a = rw ((c .before .before .rows) .given .1) at ((c .before .before .before .before .lines) .ensures) in let m = a .moved in search needs
+
+enum-known-maps : tie.Need-enum-known-maps
+enum-known-maps c = search needs
+
+enum-told-3 : tie.Need-enum-told-3
+enum-told-3 c = search needs
+
+returns-3 : tie.Need-returns-3
+unfolding scanOf rowWord mapWord closed
+returns-3 c = sym (scan-none (left-no-reach _ (left-reach _ (left-then _ left-start (rw ((c .before .before .before .before .before .before .before .before .before .before .before .before .head) .given .1) at ((c .before .before .before .before .before .before .before .before .before .before .before .before .before .before .header) .ensures))) (rw ((c .before .before .before .before .before .rows) .given .1, (c .before .before .before .before .before .before .before .before .items-of) .ensures) at ((c .before .before .before .before .before .before .before .lines) .ensures))) (rw ((c .enum-told3) .given .1) at ((c .before .before .lines2) .ensures))))
+
+slice-aggregate-past : tie.Need-slice-aggregate-past
+slice-aggregate-past c = search needs
+
+past-requires : tie.Need-past-requires
+past-requires c κs = search needs
+
+enum-known-f : tie.Need-enum-known-f
+enum-known-f c = search needs
+
+enum-told-4 : tie.Need-enum-told-4
+enum-told-4 c = search needs
+
+returns-4 : tie.Need-returns-4
+unfolding scanOf rowWord mapWord closed
+returns-4 c = sym (scan-none (left-no-past closed _ (left-reach _ (left-reach _ (left-then _ left-start (rw ((c .before .before .before .before .before .before .before .before .before .before .before .before .before .before .before .before .before .head) .given .1) at ((c .before .before .before .before .before .before .before .before .before .before .before .before .before .before .before .before .before .before .before .header) .ensures))) (rw ((c .before .before .before .before .before .before .before .before .before .before .rows) .given .1, (c .before .before .before .before .before .before .before .before .before .before .before .before .before .items-of) .ensures) at ((c .before .before .before .before .before .before .before .before .before .before .before .before .lines) .ensures))) (rw ((c .before .before .before .before .before .maps) .given .1) at ((c .before .before .before .before .before .before .before .lines2) .ensures))) (rw ((c .enum-told4) .given .1) at ((c .before .before .past) .ensures))))
+
+returns-5 : tie.Need-returns-5
+unfolding scanOf rowWord mapWord closed
+returns-5 c = sym (scan-more (left-past closed (left-reach _ (left-reach _ (left-then _ left-start (rw ((c .before .before .before .before .before .before .before .before .before .before .before .before .before .before .before .before .before .before .before .head) .given .1) at ((c .before .before .before .before .before .before .before .before .before .before .before .before .before .before .before .before .before .before .before .before .before .header) .ensures))) (rw ((c .before .before .before .before .before .before .before .before .before .before .before .before .rows) .given .1, (c .before .before .before .before .before .before .before .before .before .before .before .before .before .before .before .items-of) .ensures) at ((c .before .before .before .before .before .before .before .before .before .before .before .before .before .before .lines) .ensures))) (rw ((c .before .before .before .before .before .before .before .maps) .given .1) at ((c .before .before .before .before .before .before .before .before .before .lines2) .ensures))) (rw ((c .before .before .f) .given .1) at ((c .before .before .before .before .past) .ensures))) ((c .if1) .taken))
+
+both-requires : tie.Need-both-requires
+both-requires c κs = search needs
+
+returns-6 : tie.Need-returns-6
+unfolding scanOf rowWord mapWord closed
+returns-6 c = rw ((c .both) .ensures) (sym (scan-end (left-past closed (left-reach _ (left-reach _ (left-then _ left-start (rw ((c .before .before .before .before .before .before .before .before .before .before .before .before .before .before .before .before .before .before .before .before .head) .given .1) at ((c .before .before .before .before .before .before .before .before .before .before .before .before .before .before .before .before .before .before .before .before .before .before .header) .ensures))) (rw ((c .before .before .before .before .before .before .before .before .before .before .before .before .before .rows) .given .1, (c .before .before .before .before .before .before .before .before .before .before .before .before .before .before .before .before .items-of) .ensures) at ((c .before .before .before .before .before .before .before .before .before .before .before .before .before .before .before .lines) .ensures))) (rw ((c .before .before .before .before .before .before .before .before .maps) .given .1) at ((c .before .before .before .before .before .before .before .before .before .before .lines2) .ensures))) (rw ((c .before .before .before .f) .given .1) at ((c .before .before .before .before .before .past) .ensures))) ((c .before .if1) .left)))
+
+pub scan-spec : {M : Type 1} → statement M
+scan-spec =
+    tie.close
+    (tie.spec
+    header-requires
+    enum-known-head
+    enum-told
+    returns
+    slice-aggregate-lines
+    items-of-requires
+    lines-requires
+    enum-known-rows
+    enum-told-2
+    returns-2
+    slice-aggregate-lines-2
+    lines-requires-2
+    enum-known-maps
+    enum-told-3
+    returns-3
+    slice-aggregate-past
+    past-requires
+    enum-known-f
+    enum-told-4
+    returns-4
+    returns-5
+    both-requires
+    returns-6)

@@ -1,0 +1,62 @@
+-- What the functions inside this crate promise each other.
+use mathlib.Core.Path.{_≡_}
+use mathlib.Core.Bool.{Bool, true, false, _&&_}
+use mathlib.Core.Option.{Option, none, some}
+use mathlib.Core.List.{List, [], _∷_, map}
+use Prim.Native.Nat.{ℕ, _+_, _≤_, _<_}
+use lib.Dec.{ltb}
+use lib.ListN.{length, drop}
+use Rattle.energy.specs.declared.pictures.Kind.{Kind}
+use Rattle.energy.specs.declared.pictures.Kind.the-variants.{Grey, Rgb}
+use Rattle.form.specs.Readers.{Get, pick, give, on, _▷_, after, many}
+use Rattle.form.specs.Decimal.{number}
+use Rattle.form.specs.Files.{lineEnd, closed, rowWord, mapWord, headGet}
+use Rattle.text.specs.declared.forms.Items.{Items}
+use Rattle.text.specs.declared.forms.Items.the-variants.{Samples, Pixels, Numbers}
+use Rattle.text.specs.declared.scanning.Facts.{Facts}
+use Rattle.text.specs.declared.scanning.Lines.{Lines}
+use Rattle.text.specs.declared.scanning.Lines.the-variants.{Counted, Torn}
+use Rattle.text.specs.Answers.{given, formOf, evenly}
+
+-- n at the place, if the limit admits it.
+abbrev pub within : ℕ → ℕ → ℕ → Option (ℕ × ℕ)
+within limit n at = pick (ltb limit n) none (some (n, at))
+
+-- The bytes w.
+abbrev pub passing : List ℕ → Get ℕ
+passing w = after w (give 0)
+
+-- A number and the bytes behind it.
+unfoldable pub numberedOf : List ℕ → Get ℕ
+numberedOf w = number 65535 ▷ λ n. after w (give n)
+
+-- The items of a line, the closing bracket, the line end.
+unfoldable pub lineRest : Items → Get ℕ
+lineRest w = formOf w ▷ λ n. after lineEnd (give n)
+
+-- Told, where the place may stay.
+abbrev pub stays : {A : Type 0} → ℕ → ℕ → Option (A × ℕ) → Type 0
+stays len at none = Unit
+stays len at (some r) = (at ≤ r .1) × (r .1 ≤ len)
+
+pub record Reached {A : Type 0} (get : Get A) (text : List ℕ) (at : ℕ) (found : Option (A × ℕ)) : Type 0 where
+  pub same : get (drop at text) ≡ given text found
+  pub moved : stays (length text) at found
+
+-- How many lines begin with the word, and whether all have as many items as the width says.
+unfoldable pub linesOf : List ℕ → Items → ℕ → Get (ℕ × Bool)
+linesOf word w width = many word (lineRest w) ▷ λ ns. give (length ns, evenly width ns)
+
+abbrev pub linesRead : Lines → Option ((ℕ × Bool) × ℕ)
+linesRead (Counted n full c) = some ((n, full), c .at)
+linesRead Torn = none
+
+unfoldable pub itemsOf : Kind → Items
+itemsOf Grey = Samples
+itemsOf Rgb = Pixels
+
+-- A whole text, its lines counted.
+unfoldable pub scanOf : Get Facts
+scanOf =
+    headGet ▷ λ h. linesOf rowWord (itemsOf (h .size .kind)) (h .size .width) ▷ λ r. linesOf mapWord Numbers (h .size .width) ▷ λ m.
+    after closed (give (record { head = h; rows = r .0; maps = m .0; full = r .1 && m .1 }))
