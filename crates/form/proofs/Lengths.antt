@@ -45,7 +45,7 @@ pub map-length : (row : List ℕ) → length (mapText row) ≡ mapLength row
 unfolding mapText lineText mapLength mapWord closed
 map-length row = simp length-append (omega (arith, numbers-length row))
 
-kind-length : (k : Kind) → length (kindText k) ≡ kindLength k
+pub kind-length : (k : Kind) → length (kindText k) ≡ kindLength k
 unfolding kindText greyWord rgbWord
 kind-length Grey = refl
 kind-length Rgb = refl

@@ -5,3 +5,5 @@ pub mod WordSteps
 pub mod FormSteps
 pub mod Onward
 pub mod WholeText
+pub mod Rooms
+pub mod Written

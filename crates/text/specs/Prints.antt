@@ -1,0 +1,30 @@
+-- What printing leaves, and what is left of a room.
+use mathlib.Core.Path.{_≡_}
+use mathlib.Core.Option.{Option, none, some}
+use mathlib.Core.List.{List, _++_}
+use Prim.Native.Nat.{ℕ, _+_, _-_}
+use lib.Dec.{leb}
+use lib.ListN.{length, take, drop}
+use Rattle.form.specs.Readers.{pick}
+use Rattle.text.specs.declared.lengths.Left.{Left}
+use Rattle.text.specs.declared.lengths.Left.the-variants as lefts
+use Rattle.text.specs.declared.printing.Place.{Place}
+use Rattle.text.specs.declared.printing.Place.the-variants as places
+
+abbrev pub leftRead : Left → Option ℕ
+leftRead (lefts.Room n) = some n
+leftRead lefts.Short = none
+
+-- The room less n; none where it is shorter.
+unfoldable pub less : ℕ → ℕ → Option ℕ
+less room n = pick (leb n room) (some (room - n)) none
+
+abbrev pub placeRead : Place → Option ℕ
+placeRead (places.Next n) = some n
+placeRead places.Short = none
+
+-- The bytes printed at a place of a space, if it has room for them: "output space beyond the answer keeps its bytes". 8 is
+-- "output space shorter than the answer", and leaves the space as it was.
+pub record Put (out : List ℕ) (at : ℕ) (bytes : List ℕ) (place : Place) (out′ : List ℕ) : Type 0 where
+  pub answer : placeRead place ≡ pick (leb (at + length bytes) (length out)) (some (at + length bytes)) none
+  pub space : out′ ≡ pick (leb (at + length bytes) (length out)) (take at out ++ (bytes ++ drop (at + length bytes) out)) out

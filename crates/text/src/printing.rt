@@ -1,0 +1,147 @@
+// Lines printed into a lent space, at a place of it.
+use crate::lengths;
+use crate::lengths::Left;
+use energy::Kind;
+use form::Head;
+ghost use mathlib.Core.List.{_++_};
+ghost use Prim.Native.Nat.{_+_, _≤_};
+ghost use lib.ListN.{length};
+ghost use Rattle.form.specs.Decimal.{digits};
+ghost use Rattle.form.specs.Files.{blank, closed, each, kindText, headText, mapText};
+ghost use Rattle.text.specs.Prints.{Put};
+ghost use Rattle.text.specs.Kernels.{Printed, pairText};
+
+// The place behind what was printed; or the space is too short, and nothing was printed.
+pub enum Place {
+    Next(usize),
+    Short,
+}
+
+// Writes n's digits at the place, and gives the place behind them.
+fn put_number(out: &mut [u8], at: usize, n: usize) -> usize
+    requires { ⌜ at + length (digits n) ≤ length (now out) ⌝ }
+    ensures { λ r. ⌜ Printed (now (out .entry)) at (digits n) (now (out .exit)) r ⌝ }
+{
+    if n < 10 {
+        out[at] = 48 + (n as u8);
+        at + 1
+    } else {
+        let end = put_number(out, at, n / 10);
+        out[end] = 48 + ((n % 10) as u8);
+        end + 1
+    }
+}
+
+// Writes the bytes w at the place.
+fn put_bytes(out: &mut [u8], at: usize, w: &[u8]) -> usize
+    requires { ⌜ at + length (now w) ≤ length (now out) ⌝ }
+    ensures { λ r. ⌜ Printed (now (out .entry)) at (now (w .entry)) (now (out .exit)) r ⌝ }
+{
+    let mut i: usize = 0;
+    while i < w.len() {
+        out[at + i] = w[i];
+        i += 1;
+    }
+    at + i
+}
+
+// Writes the numbers, each behind a blank.
+fn put_numbers(out: &mut [u8], at: usize, row: &[u16]) -> usize
+    requires { ⌜ at + length (each blank digits (now row)) ≤ length (now out) ⌝ }
+    ensures { λ r. ⌜ Printed (now (out .entry)) at (each blank digits (now (row .entry))) (now (out .exit)) r ⌝ }
+{
+    let mut i: usize = 0;
+    let mut end = at;
+    while i < row.len() {
+        let n = lengths::wide(row[i]);
+        let next = put_bytes(out, end, b" ");
+        end = put_number(out, next, n);
+        i += 1;
+    }
+    end
+}
+
+fn put_map(out: &mut [u8], at: usize, row: &[u16]) -> usize
+    requires { ⌜ at + length (mapText (now row)) ≤ length (now out) ⌝ }
+    ensures { λ r. ⌜ Printed (now (out .entry)) at (mapText (now (row .entry))) (now (out .exit)) r ⌝ }
+{
+    let a = put_bytes(out, at, b"(map");
+    let b = put_numbers(out, a, row);
+    put_bytes(out, b, b")\n")
+}
+
+// Prints a map line.
+pub fn print_map(out: &mut [u8], at: usize, row: &[u16]) -> Place
+    ensures { λ p. ⌜ Put (now (out .entry)) at (mapText (now (row .entry))) p (now (out .exit)) ⌝ }
+{
+    let len = out.len();
+    if len < at {
+        return Place::Short;
+    }
+    let Left::Room(_) = lengths::map_left(len - at, row) else {
+        return Place::Short;
+    };
+    Place::Next(put_map(out, at, row))
+}
+
+// Writes the bytes w, and two numbers with a blank between them.
+fn put_pair(out: &mut [u8], at: usize, w: &[u8], m: usize, n: usize) -> usize
+    requires { ⌜ at + length (pairText (now w) m n) ≤ length (now out) ⌝ }
+    ensures { λ r. ⌜ Printed (now (out .entry)) at (pairText (now (w .entry)) m n) (now (out .exit)) r ⌝ }
+{
+    let a = put_bytes(out, at, w);
+    let b = put_number(out, a, m);
+    let c = put_bytes(out, b, b" ");
+    put_number(out, c, n)
+}
+
+fn put_kind(out: &mut [u8], at: usize, kind: Kind) -> usize
+    requires { ⌜ at + length (kindText kind) ≤ length (now out) ⌝ }
+    ensures { λ r. ⌜ Printed (now (out .entry)) at (kindText kind) (now (out .exit)) r ⌝ }
+{
+    match kind {
+        Kind::Grey => put_bytes(out, at, b"grey"),
+        Kind::Rgb => put_bytes(out, at, b"rgb"),
+    }
+}
+
+fn put_head(out: &mut [u8], at: usize, head: Head) -> usize
+    requires { ⌜ at + length (headText head) ≤ length (now out) ⌝ }
+    ensures { λ r. ⌜ Printed (now (out .entry)) at (headText head) (now (out .exit)) r ⌝ }
+{
+    let size = head.size;
+    let kind = size.kind;
+    let a = put_pair(out, at, b"(multi\n(size ", size.width, size.height);
+    let b = put_bytes(out, a, b" ");
+    let c = put_kind(out, b, kind);
+    let d = put_pair(out, c, b")\n(range ", head.depth, head.growth);
+    put_bytes(out, d, b")\n")
+}
+
+// Prints the lines up to the range.
+pub fn print_head(out: &mut [u8], at: usize, head: Head) -> Place
+    ensures { λ p. ⌜ Put (now (out .entry)) at (headText head) p (now (out .exit)) ⌝ }
+{
+    let len = out.len();
+    if len < at {
+        return Place::Short;
+    }
+    let Left::Room(_) = lengths::head_left(len - at, head) else {
+        return Place::Short;
+    };
+    Place::Next(put_head(out, at, head))
+}
+
+// Prints the last line.
+pub fn print_end(out: &mut [u8], at: usize) -> Place
+    ensures { λ p. ⌜ Put (now (out .entry)) at closed p (now (out .exit)) ⌝ }
+{
+    let len = out.len();
+    if len < at {
+        return Place::Short;
+    }
+    if len - at < 2 {
+        return Place::Short;
+    }
+    Place::Next(put_bytes(out, at, b")\n"))
+}
