@@ -30,16 +30,25 @@ pub joined-length : (a : ℕ) (px : List ℕ) → suc (length (joined (a ∷ px)
 unfolding joined total spaced
 joined-length a px = simp length-append (omega (arith, numbers-length px))
 
-pub pixel-length : (k : Kind) (px : List ℕ) → Pixel k px → length blank + length (pixelText k px) ≡ pixelLength k px
+pub pixel-length : (k : Kind) (px : List ℕ) → length px ≡ channelsOf k → length blank + length (pixelText k px) ≡ pixelLength k px
 unfolding pixelText pixelLength blank opening closing
-pixel-length Grey [] h = let z = h .count in absurd (omega arith)
+pixel-length Grey [] h = absurd (omega arith)
 pixel-length Grey (a ∷ px) h = omega (arith, joined-length a px)
-pixel-length Rgb [] h = let z = h .count in absurd (omega arith)
+pixel-length Rgb [] h = absurd (omega arith)
 pixel-length Rgb (a ∷ px) h = simp length-append (omega (arith, joined-length a px))
 
-pub row-length : (k : Kind) (row : List (List ℕ)) → All (Pixel k) row → length (rowText k row) ≡ rowLength k row
+-- A row whose pixels have as many samples as their kind says.
+abbrev pub Counted : Kind → List (List ℕ) → Type 0
+Counted k row = All (λ (px : List ℕ). length px ≡ channelsOf k) row
+
+counts : (k : Kind) (row : List (List ℕ)) → All (Pixel k) row → Counted k row
+counts k [] a = tt
+counts k (px ∷ row) a = (a .0 .count, counts k row (a .1))
+
+pub row-length : (k : Kind) (row : List (List ℕ)) → Counted k row → length (rowText k row) ≡ rowLength k row
 unfolding rowText lineText rowLength rowWord closed
-row-length k row h = simp length-append (omega (arith, each-length blank (pixelText k) (pixelLength k) (Pixel k) (pixel-length k) row h))
+row-length k row h =
+    simp length-append (omega (arith, each-length blank (pixelText k) (pixelLength k) (λ (px : List ℕ). length px ≡ channelsOf k) (pixel-length k) row h))
 
 pub map-length : (row : List ℕ) → length (mapText row) ≡ mapLength row
 unfolding mapText lineText mapLength mapWord closed
@@ -56,7 +65,7 @@ head-length h = simp length-append (omega (arith, kind-length (h .size .kind)))
 
 row-line : (k : Kind) (row : List (List ℕ)) → All (Pixel k) row → length rowWord + length (lineText (pixelText k) row) ≡ rowLength k row
 unfolding rowText
-row-line k row a = sym (length-append rowWord (lineText (pixelText k) row)) ∙ row-length k row a
+row-line k row a = sym (length-append rowWord (lineText (pixelText k) row)) ∙ row-length k row (counts k row a)
 
 map-line : (row : List ℕ) → length mapWord + length (lineText digits row) ≡ mapLength row
 unfolding mapText

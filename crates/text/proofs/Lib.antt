@@ -7,3 +7,4 @@ pub mod Onward
 pub mod WholeText
 pub mod Rooms
 pub mod Written
+pub mod PixelRows

@@ -65,26 +65,26 @@ pub spaced-none : (room n : ℕ) → room ≡ 0 → none ≡ less room (spaced n
 unfolding spaced
 spaced-none room n h = sym (less-none room (suc (length (digits n))) (omega arith))
 
--- The loop over a row's numbers.
-pub record Leaving (room : ℕ) (xs : List ℕ) (i left : ℕ) : Type 0 where
-  pub same : less room (total spaced xs) ≡ less left (total spaced (drop i xs))
+-- The loop over a row's values, each of length f.
+pub record Leaving {A : Type 0} (f : A → ℕ) (room : ℕ) (xs : List A) (i left : ℕ) : Type 0 where
+  pub same : less room (total f xs) ≡ less left (total f (drop i xs))
 
-total-front : (xs : List ℕ) (i : ℕ) → i < length xs → total spaced (drop i xs) ≡ spaced (getD xs i 0) + total spaced (drop (i + 1) xs)
+total-front : {A : Type 0} (f : A → ℕ) (d : A) (xs : List A) (i : ℕ) → i < length xs → total f (drop i xs) ≡ f (getD xs i d) + total f (drop (i + 1) xs)
 unfolding total
-total-front xs i h = rw (add-one, drop-cons xs i 0 h)
+total-front f d xs i h = rw (add-one, drop-cons xs i d h)
 
-module _ {room : ℕ} {xs : List ℕ} where
-  pub leaving-first : Leaving room xs 0 room
+module _ {A : Type 0} {f : A → ℕ} {room : ℕ} {xs : List A} where
+  pub leaving-first : Leaving f room xs 0 room
   leaving-first = record { same = refl }
 
-  module _ {i left : ℕ} (L : Leaving room xs i left) where
-    pub leaving-next : {n next : ℕ} → i < length xs → n ≡ getD xs i 0 → some next ≡ less left (spaced n) → Leaving room xs (i + 1) next
-    leaving-next {n} {next} h e s = record { same = L .same ∙ rw (total-front xs i h, ← e) (less-then left (spaced n) (total spaced (drop (i + 1) xs)) next s) }
+  module _ {i left : ℕ} (L : Leaving f room xs i left) where
+    pub leaving-next : (d : A) {x : A} {next : ℕ} → i < length xs → x ≡ getD xs i d → some next ≡ less left (f x) → Leaving f room xs (i + 1) next
+    leaving-next d {x} {next} h e s = record { same = L .same ∙ rw (total-front f d xs i h, ← e) (less-then left (f x) (total f (drop (i + 1) xs)) next s) }
 
-    pub leaving-short : {n : ℕ} → i < length xs → n ≡ getD xs i 0 → none ≡ less left (spaced n) → none ≡ less room (total spaced xs)
-    leaving-short {n} h e s = less-none-then left (spaced n) (total spaced (drop (i + 1) xs)) s ∙ sym (L .same ∙ rw (total-front xs i h, ← e))
+    pub leaving-short : (d : A) {x : A} → i < length xs → x ≡ getD xs i d → none ≡ less left (f x) → none ≡ less room (total f xs)
+    leaving-short d {x} h e s = less-none-then left (f x) (total f (drop (i + 1) xs)) s ∙ sym (L .same ∙ rw (total-front f d xs i h, ← e))
 
-    pub leaving-end : length xs ≤ i → some left ≡ less room (total spaced xs)
+    pub leaving-end : length xs ≤ i → some left ≡ less room (total f xs)
     unfolding total
     leaving-end h = let z : left - 0 ≡ left = omega arith in sym (L .same ∙ rw (drop-of-length-le xs h) (less-some left 0 (omega arith) ∙ rw z))
 

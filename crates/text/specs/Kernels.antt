@@ -3,15 +3,17 @@ use mathlib.Core.Path.{_≡_}
 use mathlib.Core.Bool.{Bool, true, false, _&&_}
 use mathlib.Core.Option.{Option, none, some}
 use mathlib.Core.List.{List, [], _∷_, _++_, map}
-use Prim.Native.Nat.{ℕ, _+_, _≤_, _<_}
+use Prim.Native.Nat.{ℕ, _+_, _*_, _≤_, _<_}
 use lib.Dec.{ltb}
 use lib.ListN.{length, drop}
 use lib.Seq.{sets}
 use Rattle.energy.specs.declared.pictures.Kind.{Kind}
 use Rattle.energy.specs.declared.pictures.Kind.the-variants.{Grey, Rgb}
+use Rattle.energy.specs.Pictures.{channelsOf}
+use Rattle.grids.specs.Rows.{rowsOf, rowAt}
 use Rattle.form.specs.Readers.{Get, pick, give, on, _▷_, after, many}
 use Rattle.form.specs.Decimal.{number, digits}
-use Rattle.form.specs.Files.{lineEnd, blank, closed, rowWord, mapWord, headGet}
+use Rattle.form.specs.Files.{lineEnd, blank, closed, each, pixelText, rowWord, mapWord, headGet}
 use Rattle.text.specs.declared.forms.Items.{Items}
 use Rattle.text.specs.declared.forms.Items.the-variants.{Samples, Pixels, Numbers}
 use Rattle.text.specs.declared.scanning.Facts.{Facts}
@@ -70,3 +72,12 @@ pub record Printed (first : List ℕ) (at : ℕ) (done now : List ℕ) (end : �
 -- The bytes w, and two numbers with a blank between them.
 unfoldable pub pairText : List ℕ → ℕ → ℕ → List ℕ
 pairText w m n = w ++ (digits m ++ (blank ++ digits n))
+
+-- A pixel of a row's bytes, or n of them, with room for their text.
+pub record PixelNeeded (out : List ℕ) (at : ℕ) (k : Kind) (b : List ℕ) (i : ℕ) : Type 0 where
+  pub inside : i * channelsOf k + channelsOf k ≤ length b
+  pub room : at + (1 + length (pixelText k (rowAt (channelsOf k) i b))) ≤ length out
+
+pub record PixelsNeeded (out : List ℕ) (at : ℕ) (k : Kind) (b : List ℕ) (n : ℕ) : Type 0 where
+  pub inside : n * channelsOf k ≤ length b
+  pub room : at + length (each blank (pixelText k) (rowsOf (channelsOf k) n b)) ≤ length out

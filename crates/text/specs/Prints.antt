@@ -2,9 +2,12 @@
 use mathlib.Core.Path.{_≡_}
 use mathlib.Core.Option.{Option, none, some}
 use mathlib.Core.List.{List, _++_}
-use Prim.Native.Nat.{ℕ, _+_, _-_}
+use Prim.Native.Nat.{ℕ, _+_, _-_, _/_}
 use lib.Dec.{leb}
 use lib.ListN.{length, take, drop}
+use Rattle.grids.specs.Rows.{rowsOf}
+use Rattle.energy.specs.declared.pictures.Kind.{Kind}
+use Rattle.energy.specs.Pictures.{channelsOf}
 use Rattle.form.specs.Readers.{pick}
 use Rattle.text.specs.declared.lengths.Left.{Left}
 use Rattle.text.specs.declared.lengths.Left.the-variants as lefts
@@ -28,3 +31,7 @@ placeRead places.Short = none
 pub record Put (out : List ℕ) (at : ℕ) (bytes : List ℕ) (place : Place) (out′ : List ℕ) : Type 0 where
   pub answer : placeRead place ≡ pick (leb (at + length bytes) (length out)) (some (at + length bytes)) none
   pub space : out′ ≡ pick (leb (at + length bytes) (length out)) (take at out ++ (bytes ++ drop (at + length bytes) out)) out
+
+-- The pixels of a row's bytes.
+abbrev pub pixelsOf : Kind → List ℕ → List (List ℕ)
+pixelsOf k b = rowsOf (channelsOf k) (length b / channelsOf k) b

@@ -2,12 +2,14 @@
 use energy::Kind;
 use form::Head;
 ghost use mathlib.Core.Path.{_≡_};
-ghost use Prim.Native.Nat.{_+_, _≤_};
+ghost use Prim.Native.Nat.{_+_, _*_, _≤_};
 ghost use lib.ListN.{length};
 ghost use Rattle.form.specs.Decimal.{digits};
-ghost use Rattle.form.specs.Files.{headText, mapText, kindText};
-ghost use Rattle.form.specs.Lengths.{total, spaced};
-ghost use Rattle.text.specs.Prints.{leftRead, less};
+ghost use Rattle.energy.specs.Pictures.{channelsOf};
+ghost use Rattle.grids.specs.Rows.{rowsOf, rowAt};
+ghost use Rattle.form.specs.Files.{headText, rowText, mapText, kindText};
+ghost use Rattle.form.specs.Lengths.{total, spaced, pixelLength};
+ghost use Rattle.text.specs.Prints.{leftRead, less, pixelsOf};
 
 // What is left of a room; or it is too short.
 pub enum Left {
@@ -107,4 +109,59 @@ pub fn head_left(room: usize, head: Head) -> Left
         return Left::Short;
     };
     take(ranged, kind_length(kind) + 23)
+}
+
+pub(crate) fn sample(b: u8) -> usize
+    ensures { λ r. ⌜ r ≡ b ⌝ }
+{
+    b as usize
+}
+
+// The room less pixel i with the blank before it.
+fn take_pixel(room: usize, kind: Kind, samples: &[u8], i: usize) -> Left
+    requires { ⌜ i * channelsOf kind + channelsOf kind ≤ length (now samples) ⌝ }
+    ensures { λ l. ⌜ leftRead l ≡ less room (pixelLength kind (rowAt (channelsOf kind) i (now (samples .entry)))) ⌝ }
+{
+    match kind {
+        Kind::Grey => take_number(room, sample(samples[i])),
+        Kind::Rgb => {
+            let j = i * 3;
+            let Left::Room(left) = take_pair(room, sample(samples[j]), sample(samples[j + 1]))
+            else {
+                return Left::Short;
+            };
+            let Left::Room(last) = take_number(left, sample(samples[j + 2])) else {
+                return Left::Short;
+            };
+            take(last, 2)
+        }
+    }
+}
+
+// The room less n pixels, each with the blank before it.
+fn take_pixels(room: usize, kind: Kind, samples: &[u8], n: usize) -> Left
+    requires { ⌜ n * channelsOf kind ≤ length (now samples) ⌝ }
+    ensures { λ l. ⌜ leftRead l ≡ less room (total (pixelLength kind) (rowsOf (channelsOf kind) n (now (samples .entry)))) ⌝ }
+{
+    let mut left = room;
+    let mut i: usize = 0;
+    while i < n {
+        let Left::Room(next) = take_pixel(left, kind, samples, i) else {
+            return Left::Short;
+        };
+        left = next;
+        i += 1;
+    }
+    Left::Room(left)
+}
+
+// What is left of a room behind a row line.
+pub fn row_left(room: usize, kind: Kind, samples: &[u8]) -> Left
+    ensures { λ l. ⌜ leftRead l ≡ less room (length (rowText kind (pixelsOf kind (now (samples .entry))))) ⌝ }
+{
+    let n = samples.len() / energy::channels(kind);
+    let Left::Room(left) = take_pixels(room, kind, samples, n) else {
+        return Left::Short;
+    };
+    take(left, 6)
 }

@@ -4,12 +4,14 @@ use crate::lengths::Left;
 use energy::Kind;
 use form::Head;
 ghost use mathlib.Core.List.{_++_};
-ghost use Prim.Native.Nat.{_+_, _≤_};
+ghost use Prim.Native.Nat.{_+_, _*_, _≤_};
 ghost use lib.ListN.{length};
 ghost use Rattle.form.specs.Decimal.{digits};
-ghost use Rattle.form.specs.Files.{blank, closed, each, kindText, headText, mapText};
-ghost use Rattle.text.specs.Prints.{Put};
-ghost use Rattle.text.specs.Kernels.{Printed, pairText};
+ghost use Rattle.form.specs.Files.{blank, closed, each, pixelText, kindText, headText, rowText, mapText};
+ghost use Rattle.energy.specs.Pictures.{channelsOf};
+ghost use Rattle.grids.specs.Rows.{rowsOf, rowAt};
+ghost use Rattle.text.specs.Prints.{Put, pixelsOf};
+ghost use Rattle.text.specs.Kernels.{Printed, pairText, PixelNeeded, PixelsNeeded};
 
 // The place behind what was printed; or the space is too short, and nothing was printed.
 pub enum Place {
@@ -144,4 +146,66 @@ pub fn print_end(out: &mut [u8], at: usize) -> Place
         return Place::Short;
     }
     Place::Next(put_bytes(out, at, b")\n"))
+}
+
+// Writes pixel i behind a blank.
+fn put_pixel(out: &mut [u8], at: usize, kind: Kind, samples: &[u8], i: usize) -> usize
+    requires { ⌜ PixelNeeded (now out) at kind (now samples) i ⌝ }
+    ensures { λ r. ⌜ Printed (now (out .entry)) at (blank ++ pixelText kind (rowAt (channelsOf kind) i (now (samples .entry)))) (now (out .exit)) r ⌝ }
+{
+    match kind {
+        Kind::Grey => {
+            let n = lengths::sample(samples[i]);
+            let a = put_bytes(out, at, b" ");
+            put_number(out, a, n)
+        }
+        Kind::Rgb => {
+            let j = i * 3;
+            let red = lengths::sample(samples[j]);
+            let green = lengths::sample(samples[j + 1]);
+            let blue = lengths::sample(samples[j + 2]);
+            let a = put_pair(out, at, b" (", red, green);
+            let b = put_bytes(out, a, b" ");
+            let c = put_number(out, b, blue);
+            put_bytes(out, c, b")")
+        }
+    }
+}
+
+// Writes n pixels, each behind a blank.
+fn put_pixels(out: &mut [u8], at: usize, kind: Kind, samples: &[u8], n: usize) -> usize
+    requires { ⌜ PixelsNeeded (now out) at kind (now samples) n ⌝ }
+    ensures { λ r. ⌜ Printed (now (out .entry)) at (each blank (pixelText kind) (rowsOf (channelsOf kind) n (now (samples .entry)))) (now (out .exit)) r ⌝ }
+{
+    let mut i: usize = 0;
+    let mut end = at;
+    while i < n {
+        end = put_pixel(out, end, kind, samples, i);
+        i += 1;
+    }
+    end
+}
+
+fn put_row(out: &mut [u8], at: usize, kind: Kind, samples: &[u8]) -> usize
+    requires { ⌜ at + length (rowText kind (pixelsOf kind (now samples))) ≤ length (now out) ⌝ }
+    ensures { λ r. ⌜ Printed (now (out .entry)) at (rowText kind (pixelsOf kind (now (samples .entry)))) (now (out .exit)) r ⌝ }
+{
+    let n = samples.len() / energy::channels(kind);
+    let a = put_bytes(out, at, b"(row");
+    let b = put_pixels(out, a, kind, samples, n);
+    put_bytes(out, b, b")\n")
+}
+
+// Prints the row line of these samples; samples that make no whole pixel are left out.
+pub fn print_row(out: &mut [u8], at: usize, kind: Kind, samples: &[u8]) -> Place
+    ensures { λ p. ⌜ Put (now (out .entry)) at (rowText kind (pixelsOf kind (now (samples .entry)))) p (now (out .exit)) ⌝ }
+{
+    let len = out.len();
+    if len < at {
+        return Place::Short;
+    }
+    let Left::Room(_) = lengths::row_left(len - at, kind, samples) else {
+        return Place::Short;
+    };
+    Place::Next(put_row(out, at, kind, samples))
 }

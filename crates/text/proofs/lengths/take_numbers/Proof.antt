@@ -1,5 +1,6 @@
 use Prim.Native.Nat.{_-_}
 use lib.ListN.{length}
+use Rattle.form.specs.Lengths.{spaced}
 use Rattle.text.proofs.Rooms.{Leaving, leaving-first, leaving-next, leaving-short, leaving-end}
 use borrow.Author.Needs.{needs}
 use Rattle.text.proofs.lengths.take_numbers.Statement.{statement}
@@ -10,7 +11,7 @@ use Rattle.text.proofs.lengths.take_number.Reads as take-number-reads
 use Rattle.text.proofs.lengths.wide.Reads as wide-reads
 
 abbrev Inv-loop : tie.InvT-loop
-Inv-loop room row left₀ i₀ left i = Leaving room row i left
+Inv-loop room row left₀ i₀ left i = Leaving spaced room row i left
 
 abbrev μ-loop : tie.MeasureT-loop
 μ-loop room row left₀ i₀ left i = length row - i
@@ -37,7 +38,7 @@ enum-told : tie.Need-enum-told Inv-loop μ-loop
 enum-told c = search needs
 
 returns : tie.Need-returns Inv-loop μ-loop
-returns c = leaving-short ((c .before .before .before .before .before .before .loop) .inv) ((c .before .before .before .before .before .loop-test) .taken) ((c .before .before .before .wide) .ensures) (rw ((c .enum-told) .given .1) at ((c .before .before .take-number) .ensures))
+returns c = leaving-short ((c .before .before .before .before .before .before .loop) .inv) 0 ((c .before .before .before .before .before .loop-test) .taken) ((c .before .before .before .wide) .ensures) (rw ((c .enum-told) .given .1) at ((c .before .before .take-number) .ensures))
 
 add-i : tie.Need-add-i Inv-loop μ-loop
 add-i c = search needs
@@ -46,7 +47,7 @@ loop-less : tie.Need-loop-less Inv-loop μ-loop
 loop-less c = search needs
 
 loop-again : tie.Need-loop-again Inv-loop μ-loop
-loop-again c = leaving-next ((c .before .before .before .before .before .before .before .loop) .inv) ((c .before .before .before .before .before .before .loop-test) .taken) ((c .before .before .before .before .wide) .ensures) (rw ((c .before .next) .given .1) at ((c .before .before .before .take-number) .ensures))
+loop-again c = leaving-next ((c .before .before .before .before .before .before .before .loop) .inv) 0 ((c .before .before .before .before .before .before .loop-test) .taken) ((c .before .before .before .before .wide) .ensures) (rw ((c .before .next) .given .1) at ((c .before .before .before .take-number) .ensures))
 
 returns-2 : tie.Need-returns-2 Inv-loop μ-loop
 returns-2 c = leaving-end ((c .before .loop) .inv) ((c .loop-test) .left)
