@@ -74,7 +74,7 @@ impl Cursor {
     }
 
     // The items of a line, the closing bracket, the line end: how many items there are.
-    pub fn rest(self, text: &[u8], what: Items) -> Read
+    pub(crate) fn rest(self, text: &[u8], what: Items) -> Read
         ensures { λ r. ⌜ Told (lineRest what) (now (text .entry)) (self .at) (read r) ⌝ }
     {
         let Read::Good(n, c) = self.form(text, what) else {

@@ -1,3 +1,4 @@
+-- `text::cursor::class_of` meets its contract.
 use mathlib.Core.Logic.{inl, inr}
 use Rattle.form.specs.Decimal.{isDigit}
 use Rattle.text.specs.Answers.{isLetter, classOf}

@@ -1,3 +1,4 @@
+-- `text::cursor::judged` meets its contract.
 use borrow.Author.Tests.{lt-ltb, le-ltb}
 use Rattle.text.proofs.cursor.judged.Statement.{statement}
 use Rattle.text.proofs.cursor.judged.Tie as tie

@@ -1,3 +1,4 @@
+-- `text::lengths::digit_count` meets its contract.
 use native.Mathlib.Omega.{arith}
 use mathlib.Core.Path.{_≡_, sym, _∙_}
 use Rattle.form.proofs.Decimals.{tenth}

@@ -1,3 +1,4 @@
+-- `text::lengths::head_left` meets its contract.
 use mathlib.Core.Path.{sym, _∙_}
 use Rattle.text.proofs.Rooms.{head-no-size, head-no-range, head-room, kind-most}
 use borrow.Author.Needs.{needs}

@@ -1,3 +1,4 @@
+-- `text::lengths::kind_length` meets its contract.
 use Rattle.form.specs.Files.{kindText, greyWord, rgbWord}
 use borrow.Author.Needs.{needs}
 use Rattle.text.proofs.lengths.kind_length.Statement.{statement}

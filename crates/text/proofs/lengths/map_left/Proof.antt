@@ -1,3 +1,4 @@
+-- `text::lengths::map_left` meets its contract.
 use mathlib.Core.Path.{_∙_}
 use Rattle.text.proofs.Rooms.{map-room, map-no-room}
 use borrow.Author.Needs.{needs}

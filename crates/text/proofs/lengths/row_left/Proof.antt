@@ -1,3 +1,4 @@
+-- `text::lengths::row_left` meets its contract.
 use mathlib.Core.Path.{_∙_}
 use lib.ListN.{length}
 use Rattle.text.proofs.PixelRows.{channels-some, whole-by, row-room, row-no-room}

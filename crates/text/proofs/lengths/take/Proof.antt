@@ -1,3 +1,4 @@
+-- `text::lengths::take` meets its contract.
 use mathlib.Core.Path.{sym}
 use Rattle.text.proofs.Rooms.{less-some, less-none}
 use borrow.Author.Needs.{needs}

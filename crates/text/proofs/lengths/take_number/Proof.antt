@@ -1,3 +1,4 @@
+-- `text::lengths::take_number` meets its contract.
 use mathlib.Core.Path.{sym, _∙_}
 use native.Mathlib.Omega.{arith}
 use Rattle.text.proofs.Rooms.{spaced-first, spaced-none}

@@ -1,3 +1,4 @@
+-- `text::lengths::take_numbers` meets its contract.
 use Prim.Native.Nat.{_-_}
 use lib.ListN.{length}
 use Rattle.form.specs.Lengths.{spaced}

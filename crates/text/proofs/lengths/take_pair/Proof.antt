@@ -1,3 +1,4 @@
+-- `text::lengths::take_pair` meets its contract.
 use mathlib.Core.Path.{sym, _∙_}
 use Rattle.text.proofs.Rooms.{less-then, less-none-then}
 use borrow.Author.Needs.{needs}

@@ -1,3 +1,4 @@
+-- `text::lengths::take_pixel` meets its contract.
 use mathlib.Core.Path.{_∙_}
 use lib.ListN.{length}
 use Rattle.text.proofs.PixelRows.{grey-inside, rgb-inside, grey-length, rgb-length, three-none, three-second, three-last}

@@ -1,3 +1,4 @@
+-- `text::lengths::take_pixels` meets its contract.
 use mathlib.Core.List.{[]}
 use Prim.Native.Nat.{_-_}
 use lib.ListN.{length}

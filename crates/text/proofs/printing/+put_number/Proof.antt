@@ -1,3 +1,4 @@
+-- `text::printing::put_number` meets its contract.
 use native.Mathlib.Omega.{arith}
 use mathlib.Core.Path.{_≡_, sym, ap, _∙_}
 use Rattle.form.proofs.Decimals.{tenth}

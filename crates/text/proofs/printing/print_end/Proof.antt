@@ -1,3 +1,4 @@
+-- `text::printing::print_end` meets its contract.
 use native.Mathlib.Omega.{arith}
 use Rattle.form.specs.Files.{closed}
 use Rattle.text.proofs.Written.{put-short, put-done}

@@ -1,3 +1,4 @@
+-- `text::printing::print_head` meets its contract.
 use native.Mathlib.Omega.{arith}
 use Rattle.text.proofs.Rooms.{less-room, less-short}
 use Rattle.text.proofs.Written.{put-short, put-done}

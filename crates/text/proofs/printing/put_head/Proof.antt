@@ -1,3 +1,4 @@
+-- `text::printing::put_head` meets its contract.
 use Rattle.form.specs.Files.{start, range}
 use Rattle.text.proofs.Written.{printed-length, head-parts, head-all}
 use borrow.Author.Needs.{needs}

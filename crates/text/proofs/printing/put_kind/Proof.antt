@@ -1,3 +1,4 @@
+-- `text::printing::put_kind` meets its contract.
 use Rattle.form.specs.Files.{kindText, greyWord, rgbWord}
 use Rattle.text.proofs.Rooms.{kind-grey, kind-rgb}
 use borrow.Author.Needs.{needs}

@@ -1,3 +1,4 @@
+-- `text::printing::put_map` meets its contract.
 use Rattle.text.proofs.Written.{printed-length, map-parts, map-all}
 use borrow.Author.Needs.{needs}
 use Rattle.text.proofs.printing.put_map.Statement.{statement}

@@ -1,3 +1,4 @@
+-- `text::printing::put_pair` meets its contract.
 use Rattle.text.proofs.Written.{printed-length, pair-length, pair-all}
 use borrow.Author.Needs.{needs}
 use Rattle.text.proofs.printing.put_pair.Statement.{statement}

@@ -1,3 +1,4 @@
+-- `text::printing::put_pixel` meets its contract.
 use mathlib.Core.Path.{ap}
 use mathlib.Core.List.{[], _∷_}
 use Prim.Native.Nat.{ℕ}

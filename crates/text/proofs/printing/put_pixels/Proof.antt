@@ -1,3 +1,4 @@
+-- `text::printing::put_pixels` meets its contract.
 use Prim.Native.Nat.{_-_, _≤_}
 use native.Mathlib.Omega.{arith}
 use lib.ListN.{length, take}

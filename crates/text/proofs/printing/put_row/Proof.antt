@@ -1,3 +1,4 @@
+-- `text::printing::put_row` meets its contract.
 use mathlib.Core.Path.{ap}
 use Prim.Native.Nat.{ℕ, _/_}
 use lib.ListN.{length}

@@ -1,3 +1,4 @@
+-- `text::scanning::items_of` meets its contract.
 use Rattle.text.specs.Kernels.{itemsOf}
 use borrow.Author.Needs.{needs}
 use Rattle.text.proofs.scanning.items_of.Statement.{statement}

@@ -1,3 +1,4 @@
+-- `text::scanning::scan` meets its contract.
 use mathlib.Core.Path.{sym}
 use Rattle.form.specs.Files.{rowWord, mapWord, closed}
 use Rattle.text.specs.Kernels.{scanOf}

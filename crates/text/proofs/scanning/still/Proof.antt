@@ -1,3 +1,4 @@
+-- `text::scanning::still` meets its contract.
 use mathlib.Core.Path.{sym}
 use borrow.Author.Tests.{eq-eqb, ne-eqb}
 use Rattle.text.proofs.Onward.{and-true, and-false}

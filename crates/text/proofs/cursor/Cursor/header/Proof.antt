@@ -1,3 +1,4 @@
+-- `text::cursor::Cursor::header` meets its contract.
 use native.Mathlib.Omega.{arith}
 use Rattle.form.specs.Files.{start, blank, range, closed, headGet}
 use Rattle.text.proofs.Onward.{left-start, left-past, left-no-past, left-then, left-no-then, left-numbered, left-no-numbered, left-give}

@@ -1,3 +1,4 @@
+-- `text::cursor::Cursor::kind` meets its contract.
 use Rattle.text.proofs.WordSteps.{told-kind, told-kind-number, told-kind-none}
 use borrow.Author.Needs.{needs}
 use Rattle.text.proofs.cursor.Cursor.kind.Statement.{statement}

@@ -1,3 +1,4 @@
+-- `text::cursor::Cursor::lines` meets its contract.
 use Prim.Native.Nat.{ℕ, _-_}
 use native.Mathlib.Omega.{arith}
 use lib.ListN.{length}

@@ -1,3 +1,4 @@
+-- `text::cursor::Cursor::name` meets its contract.
 use Rattle.form.specs.Files.{greyWord, rgbWord}
 use Rattle.text.proofs.Onward.{kind-grey, kind-rgb, kind-none}
 use borrow.Author.Needs.{needs}

@@ -1,3 +1,4 @@
+-- `text::cursor::Cursor::number` meets its contract.
 use Rattle.text.proofs.WordSteps.{told-number, told-number-over, told-number-name, told-number-none}
 use borrow.Author.Needs.{needs}
 use Rattle.text.proofs.cursor.Cursor.number.Statement.{statement}

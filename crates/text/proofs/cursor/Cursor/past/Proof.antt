@@ -1,3 +1,4 @@
+-- `text::cursor::Cursor::past` meets its contract.
 use Prim.Native.Nat.{ℕ, _-_}
 use lib.ListN.{length}
 use Rattle.text.proofs.FixedBytes.{Matching, matching-first, matching-next, matching-short, matching-other, matching-end}

@@ -1,3 +1,4 @@
+-- `text::cursor::Cursor::rest` meets its contract.
 use native.Mathlib.Omega.{arith}
 use Rattle.form.specs.Files.{lineEnd}
 use Rattle.text.specs.Kernels.{lineRest, numberedOf}

@@ -1,3 +1,4 @@
+-- `text::cursor::Cursor::word` meets its contract.
 use lib.ListN.{getD}
 use Rattle.text.proofs.ByteClasses.{digit-found, letter-found, arm-no-word}
 use Rattle.text.proofs.WordSteps.{told-word-end, told-word-number, told-word-no-number, told-word-name, told-word-no-name, told-word-other}
