@@ -1,0 +1,55 @@
+-- `mapping::map_in` meets its contract.
+use mathlib.Core.Path.{_≡_, refl, sym, ap, ap₂, _∙_}
+use mathlib.Core.List.{_++_}
+use Prim.Native.Nat.{_+_}
+use borrow.Author.Needs.{needs}
+use denote.Ref.{now}
+use lib.ListN.{length, drop}
+use Rattle.energy.specs.Refusals.{given, refusal, served}
+use Rattle.energy.proofs.Rules.{refused-kept}
+use Rattle.finding.specs.Finding.{pictureIn}
+use Rattle.mapping.specs.Mapping.{mapBytes, mapAt, mapped}
+use Rattle.mapping.proofs.map_in.Statement.{statement}
+use Rattle.mapping.proofs.map_in.Tie as tie
+
+rooms-requires : tie.Need-rooms-requires
+rooms-requires c κs = search needs
+
+enum-told : tie.Need-enum-told
+enum-told c = search needs
+
+enum-told-2 : tie.Need-enum-told-2
+enum-told-2 c = search needs
+
+returns : tie.Need-returns
+returns c =
+    let a = c .before .before .before .before .args in
+    let r = c .before .before .rooms in
+    let why = c .enum-told2 .given in
+    record { number-is = r .ensures; space-is = refused-kept (r .result) (why .0 .0) (why .1) _ (now (a .space)) }
+
+cut-seams-requires : tie.Need-cut-seams-requires
+cut-seams-requires c κs = record { served = sym (c .before .before .before .rooms .ensures) ∙ ap given (c .before .enum-told .given .1) }
+
+same-length : tie.Need-same-length
+same-length c = search needs
+
+returns-2 : tie.Need-returns-2
+returns-2 c =
+    let a = c .before .before .before .before .before .before .before .before .args in
+    let r = c .before .before .before .before .before .before .rooms in
+    let none : given (r .result) ≡ 0 = ap given (c .before .before .before .before .enum-told .given .1) in
+    let new = mapped (a .size) (a .depth) (pictureIn (a .size) (now (a .space))) ++ drop (mapAt (a .size) + mapBytes (a .size)) (now (a .space)) in
+    record { number-is = r .ensures; space-is = c .before .before .cut-seams .ensures .space-is ∙ sym (ap (λ n. served n new (now (a .space))) none) }
+
+pub map-in-spec : {M : Type 1} → statement M
+map-in-spec =
+    tie.close
+    (tie.spec
+    rooms-requires
+    enum-told
+    enum-told-2
+    returns
+    cut-seams-requires
+    same-length
+    returns-2)

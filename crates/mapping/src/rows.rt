@@ -1,0 +1,60 @@
+// A number written into the rows of a map.
+ghost use mathlib.Core.Path.{_≡_};
+ghost use Prim.Native.Nat.{_+_, _*_};
+ghost use Rattle.mapping.specs.Kernels.{writePair, writeRows, RowsNeeded};
+
+// The number of two bytes.
+fn number(low: u8, high: u8) -> usize
+    ensures { λ n. ⌜ n ≡ low + 256 * high ⌝ }
+{
+    wide(low) + 256 * wide(high)
+}
+
+fn wide(b: u8) -> usize
+    ensures { λ n. ⌜ n ≡ b ⌝ }
+{
+    b as usize
+}
+
+// Writes the two bytes over the s-th number that is 0.
+fn mark_row(row: &mut [u8], s: usize, low: u8, high: u8)
+    ensures { λ _. ⌜ now (row .exit) ≡ writePair low high s (now (row .entry)) ⌝ }
+{
+    let mut zeros = s;
+    let mut c = 0;
+    while c + 1 < row.len() {
+        if number(row[c], row[c + 1]) == 0 {
+            if zeros == 0 {
+                row[c] = low;
+                row[c + 1] = high;
+                return;
+            }
+            zeros -= 1;
+        }
+        c += 2;
+    }
+}
+
+fn column(c: u16) -> usize
+    ensures { λ n. ⌜ n ≡ c ⌝ }
+{
+    c as usize
+}
+
+// Writes the number, in each row of a map of so many columns, over the 0 that the seam counts out.
+pub(crate) fn mark_rows(map: &mut [u8], width: usize, seam: &[u16], number: usize)
+    requires { ⌜ RowsNeeded (now map) width (now seam) number ⌝ }
+    ensures { λ _. ⌜ now (map .exit) ≡ writeRows number width (now (seam .entry)) (now (map .entry)) ⌝ }
+{
+    let height = seam.len();
+    let low = (number % 256) as u8;
+    let high = (number / 256) as u8;
+    let mut r = 0;
+    while r < height {
+        let a = r * (2 * width);
+        let e = a + 2 * width;
+        let s = column(seam[r]);
+        mark_row(&mut map[a..e], s, low, high);
+        r += 1;
+    }
+}
