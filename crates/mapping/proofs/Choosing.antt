@@ -1,20 +1,18 @@
 -- The seam found as a way of choosing seams, and the picture left after some of them.
-use mathlib.Core.Path.{_≡_, refl, sym, ap, _∙_}
+use mathlib.Core.Path.{_≡_, refl}
 use mathlib.Core.Option.{Option·getD}
-use mathlib.Core.List.{List, [], _∷_, _++_}
-use Prim.Native.Nat.{ℕ, zero, suc, _+_, _-_, _≤_, _<_}
+use mathlib.Core.List.{List, []}
+use Prim.Native.Nat.{ℕ, zero, suc, _-_, _<_}
 use native.Mathlib.Omega.{arith}
-use lib.ListN.{length}
 use Rattle.grids.specs.Each.{Each, Grid}
 use Rattle.grids.specs.Cut.{cut}
 use Rattle.grids.proofs.Cut.{cut-narrower}
 use Rattle.grids.proofs.Shapes.{grid-of}
 use Rattle.cheapest.specs.Paths.{beside, paths}
 use Rattle.cheapest.specs.Best.{firstBest}
-use Rattle.cheapest.specs.Seams.{cheapest}
 use Rattle.cheapest.specs.Connected.{IsPath}
 use Rattle.energy.specs.Pictures.{Picture}
-use Rattle.maps.specs.Choices.{Choice, Chooses}
+use Rattle.maps.specs.Choices.{Chooses}
 use Rattle.maps.specs.Maps.{carve}
 use Rattle.maps.proofs.Connected.{paths-choose}
 use Rattle.finding.specs.Seams.{seamUp, seamOf}

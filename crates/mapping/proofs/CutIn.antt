@@ -11,12 +11,12 @@ use borrow.Rule.Slice.PartMut.{putMid, midOf}
 use Rattle.grids.specs.Cut.{cut}
 use Rattle.grids.proofs.Parts.{put-part}
 use Rattle.energy.specs.declared.pictures.Size.{Size}
-use Rattle.energy.specs.Refusals.{_when_, refusal, served}
+use Rattle.energy.specs.Refusals.{_when_, refusal}
 use Rattle.energy.specs.Pictures.{channelsOf, sideRules, pictureBytes, bytes}
 use Rattle.energy.proofs.Rules.{served-first}
 use Rattle.finding.specs.declared.Found.{Found}
 use Rattle.finding.specs.Seams.{seamOf}
-use Rattle.finding.specs.Finding.{pixels, pictureIn, worked, findRules}
+use Rattle.finding.specs.Finding.{pixels, pictureIn, findRules}
 use Rattle.carving.specs.Carving.{cutInRules, CutInGiven}
 use Rattle.mapping.specs.Kernels.{writeRows, NextGiven}
 

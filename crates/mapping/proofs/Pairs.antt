@@ -1,10 +1,10 @@
 -- Laws of numbers in bytes: rows of them, and a number written over the s-th 0.
-use mathlib.Core.Path.{_≡_, refl, sym, ap, ap₂, _∙_}
+use mathlib.Core.Path.{_≡_, refl, ap, ap₂, _∙_}
 use mathlib.Core.List.{List, [], _∷_, _++_, map, zipWith}
 use Prim.Native.Nat.{ℕ, zero, suc, _+_, _*_, _/_, _%_}
 use native.Mathlib.Nat.{zero-mul, suc-mul}
 use native.Mathlib.Omega.{arith}
-use lib.ListN.{length, replicate, replicate-append-replicate}
+use lib.ListN.{length, getD, replicate, replicate-append-replicate}
 use Rattle.grids.specs.Each.{Grid, none, more}
 use Rattle.grids.specs.Rows.{flat}
 use Rattle.maps.specs.Maps.{zeros}
@@ -16,6 +16,15 @@ use Rattle.mapping.specs.Kernels.{writePair}
 pub length-pairs : (ys : List ℕ) → length (pairs ys) ≡ 2 * length ys
 length-pairs [] = refl
 length-pairs (v ∷ ys) = omega (arith, length-pairs ys)
+
+-- The i-th number; past the end 0.
+pub pairs-at : (ys : List ℕ) (i : ℕ) → getD (pairs ys) (2 * i) 0 + 256 * getD (pairs ys) (2 * i + 1) 0 ≡ getD ys i 0
+pairs-at [] i = refl
+pairs-at (v ∷ ys) zero = let parts : v % 256 + 256 * (v / 256) ≡ v = omega arith in parts
+pairs-at (v ∷ ys) (suc i) =
+    let e : 2 * suc i ≡ suc (suc (2 * i)) = omega arith in
+    let f : 2 * suc i + 1 ≡ suc (suc (2 * i + 1)) = omega arith in
+    rw (f, e) (pairs-at ys i)
 
 pub pairs-append : (xs ys : List ℕ) → pairs (xs ++ ys) ≡ pairs xs ++ pairs ys
 pairs-append [] ys = refl

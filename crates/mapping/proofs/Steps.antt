@@ -1,13 +1,13 @@
 -- The space after t seams, and after one more.
 use mathlib.Core.Path.{_≡_, refl, sym, ap, ap₂, _∙_}
-use mathlib.Core.List.{List, [], _∷_, _++_, map, append-assoc, append-nil, zipWith}
-use Prim.Native.Nat.{ℕ, zero, suc, _+_, _-_, _*_, _≤_, _<_, _%_, _/_}
-use native.Mathlib.Nat.{suc-mul, zero-mul, mul-add, add-mul, mul-comm, mul-assoc, mul-le-mul-left, mul-le-mul-right}
+use mathlib.Core.List.{List, [], _++_, map, append-assoc, append-nil, zipWith}
+use Prim.Native.Nat.{ℕ, suc, _+_, _-_, _*_, _≤_, _<_, _%_, _/_}
+use native.Mathlib.Nat.{suc-mul, zero-mul, mul-add, add-mul, mul-comm, mul-assoc, mul-le-mul-left}
 use native.Mathlib.Numerals.{add-one}
 use native.Mathlib.Omega.{arith}
 use lib.ListN.{length, take, drop, replicate, length-append, length-replicate, replicate-append-replicate}
 use lib.Seq.{take-at, drop-at, drop-append-add, drop-drop}
-use Rattle.grids.specs.Each.{Each, Grid}
+use Rattle.grids.specs.Each.{Grid}
 use Rattle.grids.specs.Rows.{rowsOf, flat}
 use Rattle.grids.specs.Cut.{cut}
 use Rattle.grids.proofs.Shapes.{each-length, grid-of}
@@ -16,7 +16,6 @@ use Rattle.energy.specs.declared.pictures.Size.{Size}
 use Rattle.energy.specs.Pictures.{Picture, channelsOf, pictureBytes, picture, bytes, OfSize}
 use Rattle.energy.proofs.Buffers.{picture-ofSize, picture-bytes, bytes-picture, length-bytes}
 use Rattle.maps.specs.Maps.{carve, mapOf}
-use Rattle.maps.proofs.Levels.{writeAll}
 use Rattle.maps.proofs.Maps.{carve-next, map-grid, map-next}
 use Rattle.finding.specs.Seams.{seamOf}
 use Rattle.finding.specs.Finding.{pixels, pictureIn}

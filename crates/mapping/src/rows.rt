@@ -10,6 +10,7 @@ fn number(low: u8, high: u8) -> usize
     wide(low) + 256 * wide(high)
 }
 
+// A byte as a number to count with.
 fn wide(b: u8) -> usize
     ensures { λ n. ⌜ n ≡ b ⌝ }
 {
@@ -35,6 +36,7 @@ fn mark_row(row: &mut [u8], s: usize, low: u8, high: u8)
     }
 }
 
+// A seam's column as a number to count with.
 fn column(c: u16) -> usize
     ensures { λ n. ⌜ n ≡ c ⌝ }
 {

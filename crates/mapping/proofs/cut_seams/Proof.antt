@@ -1,18 +1,18 @@
 -- `mapping::cut_seams` meets its contract. The invariant: what stands in the space after t seams.
 use mathlib.Core.Path.{_≡_, refl, sym, ap, ap₂, _∙_}
-use mathlib.Core.List.{List, [], _∷_, _++_}
-use Prim.Native.Nat.{ℕ, _+_, _-_, _*_, _≤_, _<_}
+use mathlib.Core.List.{_++_}
+use Prim.Native.Nat.{_+_, _-_, _*_, _≤_}
 use native.Mathlib.Omega.{arith}
 use borrow.Author.Needs.{needs}
 use borrow.Rule.Slice.PartMut.{putMid}
 use denote.Ref.{now}
-use lib.ListN.{length, take, drop}
+use lib.ListN.{length, drop}
 use Rattle.energy.specs.declared.pictures.Size.{Size}
 use Rattle.energy.specs.Refusals.{served}
 use Rattle.energy.specs.Pictures.{pictureBytes}
-use Rattle.finding.specs.Finding.{pixels, pictureIn}
+use Rattle.finding.specs.Finding.{pictureIn}
 use Rattle.mapping.specs.Mapping.{mapBytes, mapAt, mapped}
-use Rattle.mapping.proofs.Steps.{leftSize, next-mapped}
+use Rattle.mapping.proofs.Steps.{next-mapped}
 use Rattle.mapping.proofs.Spaces.{Room, room-is, there-ofSize, next-needed, First, first-is}
 use Rattle.mapping.proofs.cut_seams.Statement.{statement}
 use Rattle.mapping.proofs.cut_seams.Tie as tie

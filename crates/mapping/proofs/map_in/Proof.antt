@@ -1,11 +1,11 @@
 -- `mapping::map_in` meets its contract.
-use mathlib.Core.Path.{_≡_, refl, sym, ap, ap₂, _∙_}
+use mathlib.Core.Path.{_≡_, sym, ap, _∙_}
 use mathlib.Core.List.{_++_}
 use Prim.Native.Nat.{_+_}
 use borrow.Author.Needs.{needs}
 use denote.Ref.{now}
-use lib.ListN.{length, drop}
-use Rattle.energy.specs.Refusals.{given, refusal, served}
+use lib.ListN.{drop}
+use Rattle.energy.specs.Refusals.{given, served}
 use Rattle.energy.proofs.Rules.{refused-kept}
 use Rattle.finding.specs.Finding.{pictureIn}
 use Rattle.mapping.specs.Mapping.{mapBytes, mapAt, mapped}

@@ -3,7 +3,7 @@
 use mathlib.Core.Path.{_≡_, refl, sym, _∙_}
 use mathlib.Core.Logic.{⊎-elim}
 use mathlib.Core.List.{_++_}
-use Prim.Native.Nat.{ℕ, _+_, _-_, _*_, _<_, _≤_}
+use Prim.Native.Nat.{_-_, _≤_}
 use native.Mathlib.Omega.{arith}
 use lib.ListN.{length, drop, take}
 use borrow.Author.Needs.{needs}
