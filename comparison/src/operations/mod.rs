@@ -12,6 +12,7 @@ mod one_seam;
 mod remove;
 mod retarget;
 mod row;
+mod sides;
 
 use crate::difference::Difference;
 use crate::random::Random;

@@ -1,8 +1,9 @@
 //! What finding and cutting one seam share: the case and the verdict.
 
+use super::sides::{self, Sides};
 use super::work_bytes;
 use crate::axes::{named_axis, seam_length, NamedAxis};
-use crate::difference::{Difference, Forms};
+use crate::difference::Difference;
 use crate::faults::Faults;
 use crate::library::Answer;
 use crate::marks;
@@ -38,12 +39,7 @@ pub struct Parts<'a> {
     pub work: &'a mut [u8],
 }
 
-/// What one side answered, and the buffers after it.
-#[derive(Clone, PartialEq)]
-pub struct Outcome {
-    pub answer: Answer,
-    pub buffers: Buffers,
-}
+pub type Outcome = sides::Outcome<Answer, Buffers>;
 
 impl Case {
     /// The case of a turn. Two turns together have each shape along both axes.
@@ -88,14 +84,14 @@ impl Case {
 
     /// The outcome of a call that is given copies of the lent buffers.
     fn outcome(&self, call: impl FnOnce(Parts) -> Answer) -> Outcome {
-        let mut buffers = self.buffers.clone();
-        let answer = call(Parts {
-            picture: buffers.picture.part_mut(),
-            marks: buffers.marks.part_mut(),
-            seam: buffers.seam.part_mut(),
-            work: buffers.work.part_mut(),
-        });
-        Outcome { answer, buffers }
+        Outcome::of(&self.buffers, |buffers| {
+            call(Parts {
+                picture: buffers.picture.part_mut(),
+                marks: buffers.marks.part_mut(),
+                seam: buffers.seam.part_mut(),
+                work: buffers.work.part_mut(),
+            })
+        })
     }
 
     /// What the reference answers by this call. An unknown kind or axis is
@@ -112,40 +108,30 @@ impl Case {
 
     /// The number that both sides answered, or the difference.
     fn verdict(&self, name: &str, other: &Outcome, library: &Outcome) -> Result<u64, Difference> {
-        if other == library {
+        let sides = Sides {
+            lent: &self.buffers,
+            sides: [(name, other), ("library", library)],
+        };
+        if sides.agree() {
             Ok(library.answer.number)
         } else {
-            Err(self.difference([(name, other), ("library", library)]))
+            Err(self.difference(sides))
         }
     }
 
-    fn difference(&self, sides: [(&str, &Outcome); 2]) -> Difference {
+    fn difference(&self, sides: Sides<Answer, Buffers>) -> Difference {
         let mut difference = Difference::new();
         difference.value("size", self.size);
         difference.value("axis", self.axis);
-        for (side, outcome) in sides {
-            difference.value(&format!("answer of the {side}"), outcome.answer);
-        }
+        sides.answers(&mut difference);
         let row_bytes = self.size.known().map_or(0, row_bytes);
-        let picture = self.forms(sides, |buffers| &buffers.picture);
+        let picture = sides.forms(|buffers| &buffers.picture);
         difference.buffer("picture", row_bytes, picture);
-        let marks = self.forms(sides, |buffers| &buffers.marks);
+        let marks = sides.forms(|buffers| &buffers.marks);
         difference.buffer("marks", self.size.width, marks);
-        difference.buffer("seam", 0, self.forms(sides, |buffers| &buffers.seam));
-        difference.buffer("work", 0, self.forms(sides, |buffers| &buffers.work));
+        difference.buffer("seam", 0, sides.forms(|buffers| &buffers.seam));
+        difference.buffer("work", 0, sides.forms(|buffers| &buffers.work));
         difference
-    }
-
-    /// One of the buffers as it was lent and as each side left it.
-    fn forms<'a, T>(
-        &'a self,
-        sides: [(&'a str, &'a Outcome); 2],
-        buffer: fn(&Buffers) -> &Lent<T>,
-    ) -> Forms<'a, T> {
-        Forms {
-            lent: buffer(&self.buffers),
-            left: sides.map(|(side, outcome)| (side, buffer(&outcome.buffers))),
-        }
     }
 }
 

@@ -1,7 +1,8 @@
 //! Retargeting.
 
+use super::sides::{self, Sides};
 use super::work_bytes;
-use crate::difference::{Difference, Forms};
+use crate::difference::Difference;
 use crate::faults::Faults;
 use crate::library::{self, Answer};
 use crate::pictures::{self, byte_count, row_bytes, NamedSize, ROUND};
@@ -57,12 +58,7 @@ pub struct Buffers {
     pub work: Lent<u8>,
 }
 
-/// What one side answered, and the buffers after it.
-#[derive(Clone, PartialEq)]
-struct Outcome {
-    answer: Answer,
-    buffers: Buffers,
-}
+type Outcome = sides::Outcome<Answer, Buffers>;
 
 pub fn compare(random: &mut Random, turn: u64) -> Result<u64, Difference> {
     let case = Case::of_turn(random, turn);
@@ -211,45 +207,33 @@ impl Case {
 
     /// The outcome of a call that is given copies of the lent buffers.
     fn outcome(&self, call: impl FnOnce(&Case, &mut Buffers) -> Answer) -> Outcome {
-        let mut buffers = self.buffers.clone();
-        let answer = call(self, &mut buffers);
-        Outcome { answer, buffers }
+        Outcome::of(&self.buffers, |buffers| call(self, buffers))
     }
 
     fn verdict(&self, name: &str, other: &Outcome, library: &Outcome) -> Result<u64, Difference> {
-        if other == library {
+        let sides = Sides {
+            lent: &self.buffers,
+            sides: [(name, other), ("library", library)],
+        };
+        if sides.agree() {
             Ok(library.answer.number)
         } else {
-            Err(self.difference([(name, other), ("library", library)]))
+            Err(self.difference(sides))
         }
     }
 
-    fn difference(&self, sides: [(&str, &Outcome); 2]) -> Difference {
+    fn difference(&self, sides: Sides<Answer, Buffers>) -> Difference {
         let mut difference = Difference::new();
         difference.value("size", self.size);
         difference.value("rows to remove", self.rows.0);
         difference.value("columns to remove", self.columns.0);
-        for (side, outcome) in sides {
-            difference.value(&format!("answer of the {side}"), outcome.answer);
-        }
+        sides.answers(&mut difference);
         let row_bytes = self.size.known().map_or(0, row_bytes);
-        let picture = self.forms(sides, |buffers| &buffers.picture);
+        let picture = sides.forms(|buffers| &buffers.picture);
         difference.buffer("picture", row_bytes, picture);
-        difference.buffer("out", 0, self.forms(sides, |buffers| &buffers.out));
-        difference.buffer("work", 0, self.forms(sides, |buffers| &buffers.work));
+        difference.buffer("out", 0, sides.forms(|buffers| &buffers.out));
+        difference.buffer("work", 0, sides.forms(|buffers| &buffers.work));
         difference
-    }
-
-    /// One of the buffers as it was lent and as each side left it.
-    fn forms<'a>(
-        &'a self,
-        sides: [(&'a str, &'a Outcome); 2],
-        buffer: fn(&Buffers) -> &Lent<u8>,
-    ) -> Forms<'a, u8> {
-        Forms {
-            lent: buffer(&self.buffers),
-            left: sides.map(|(side, outcome)| (side, buffer(&outcome.buffers))),
-        }
     }
 }
 
