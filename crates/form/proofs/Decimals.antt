@@ -1,6 +1,6 @@
 -- Decimal numbers: `number` reads what `digits` prints.
 use mathlib.Core.Path.{_≡_, refl, sym, ap, _∙_}
-use mathlib.Core.Bool.{Bool, true, false, _&&_}
+use mathlib.Core.Bool.{Bool, true, false, _&&_, cond}
 use mathlib.Core.Option.{Option, none, some, Option·none-ne-some}
 use mathlib.Core.List.{List, [], _∷_, _++_, append-assoc}
 use Prim.Native.Nat.{ℕ, zero, suc, _+_, _-_, _*_, _/_, _%_, _≤_, _<_}
@@ -9,7 +9,7 @@ use native.Mathlib.Omega.{arith}
 use lib.Arith.{digits-div, digits-mod}
 use lib.Dec.{leb, ltb, eqb}
 use borrow.Author.Tests.{ltb-true, ltb-false, lt-ltb, le-ltb, leb-true, leb-false, le-leb, lt-leb, eqb-true, eqb-false, eq-eqb, ne-eqb}
-use Rattle.form.specs.Readers.{Get, pick}
+use Rattle.form.specs.Readers.{Get}
 use Rattle.form.specs.Decimal.{digitsUpTo, digits, isDigit, further, upTo, number}
 use Rattle.form.proofs.Pairs.{Reads}
 
@@ -31,7 +31,7 @@ digits-same (suc k) zero n p q = absurd (omega arith)
 digits-same (suc k) (suc m) n p q = go (ltb n 10) refl (digits-same k m (n / 10))
   where
     go : (x : Bool) → ltb n 10 ≡ x → (n / 10 < k → n / 10 < m → digitsUpTo k (n / 10) ≡ digitsUpTo m (n / 10))
-        → pick x ((48 + n) ∷ []) (digitsUpTo k (n / 10) ++ (48 + n % 10) ∷ []) ≡ pick x ((48 + n) ∷ []) (digitsUpTo m (n / 10) ++ (48 + n % 10) ∷ [])
+        → cond x ((48 + n) ∷ []) (digitsUpTo k (n / 10) ++ (48 + n % 10) ∷ []) ≡ cond x ((48 + n) ∷ []) (digitsUpTo m (n / 10) ++ (48 + n % 10) ∷ [])
     go true e f = refl
     go false e f = let l = tenth n (ltb-false n 10 e) in rw (f (omega arith) (omega arith))
 
@@ -74,7 +74,7 @@ further-sound [] n p = refl
 further-sound (b ∷ s) n p = go (isDigit b) refl (further-sound s (n * 10 + (b - 48)))
   where
     go : (x : Bool) → isDigit b ≡ x → (0 < n * 10 + (b - 48) → digits (n * 10 + (b - 48)) ++ s ≡ digits (further (n * 10 + (b - 48)) s .0) ++ further (n * 10 + (b - 48)) s .1)
-        → digits n ++ b ∷ s ≡ digits (pick x (further (n * 10 + (b - 48)) s) (n, b ∷ s) .0) ++ pick x (further (n * 10 + (b - 48)) s) (n, b ∷ s) .1
+        → digits n ++ b ∷ s ≡ digits (cond x (further (n * 10 + (b - 48)) s) (n, b ∷ s) .0) ++ cond x (further (n * 10 + (b - 48)) s) (n, b ∷ s) .1
     go true e f =
         let d = digit-true b e in
         let c : 48 + (b - 48) ≡ b = omega arith in
@@ -91,7 +91,7 @@ read-digits limit zero n t p q = absurd (omega arith)
 read-digits limit (suc k) n t p q = go (ltb n 10) refl (read-digits limit k (n / 10) ((48 + n % 10) ∷ t))
   where
     go : (x : Bool) → ltb n 10 ≡ x → (n / 10 < k → 0 < n / 10 → number limit (digitsUpTo k (n / 10) ++ (48 + n % 10) ∷ t) ≡ upTo limit (further (n / 10) ((48 + n % 10) ∷ t)))
-        → number limit (pick x ((48 + n) ∷ []) (digitsUpTo k (n / 10) ++ (48 + n % 10) ∷ []) ++ t) ≡ upTo limit (further n t)
+        → number limit (cond x ((48 + n) ∷ []) (digitsUpTo k (n / 10) ++ (48 + n % 10) ∷ []) ++ t) ≡ upTo limit (further n t)
     go true e f =
         let l = ltb-true n 10 e in
         let c : 48 + n - 48 ≡ n = omega arith in
@@ -114,7 +114,7 @@ module _ (limit : ℕ) where
   number-sound [] r h = absurd (Option·none-ne-some _ h)
   number-sound (b ∷ s) r h = go (isDigit b) (eqb b 48) refl refl h
     where
-      last : (x : Bool) → isDigit b ≡ true → (b ≡ 48 → ⊥) → leb (further (b - 48) s .0) limit ≡ x → pick x (some (further (b - 48) s)) none ≡ some r → (b ∷ s ≡ digits (r .0) ++ (r .1)) × (r .0 ≤ limit)
+      last : (x : Bool) → isDigit b ≡ true → (b ≡ 48 → ⊥) → leb (further (b - 48) s .0) limit ≡ x → cond x (some (further (b - 48) s)) none ≡ some r → (b ∷ s ≡ digits (r .0) ++ (r .1)) × (r .0 ≤ limit)
       last true e n l h =
           let d = digit-true b e in
           let z : r ≡ further (b - 48) s = cc in
@@ -123,7 +123,7 @@ module _ (limit : ℕ) where
           rw z (rw (← further-sound s (b - 48) p, digits-small (b - 48) (omega arith), c), leb-true _ _ l)
       last false e n l h = absurd (Option·none-ne-some _ h)
 
-      go : (x y : Bool) → isDigit b ≡ x → eqb b 48 ≡ y → pick x (pick y (some (0, s)) (upTo limit (further (b - 48) s))) none ≡ some r → (b ∷ s ≡ digits (r .0) ++ (r .1)) × (r .0 ≤ limit)
+      go : (x y : Bool) → isDigit b ≡ x → eqb b 48 ≡ y → cond x (cond y (some (0, s)) (upTo limit (further (b - 48) s))) none ≡ some r → (b ∷ s ≡ digits (r .0) ++ (r .1)) × (r .0 ≤ limit)
       go true true e f h = let z : r ≡ (0, s) = cc in rw z (rw (digits-small 0 (omega arith), eqb-true b 48 f), omega arith)
       go true false e f h = last _ e (eqb-false b 48 f) refl h
       go false y e f h = absurd (Option·none-ne-some _ h)

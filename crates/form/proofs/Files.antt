@@ -1,6 +1,6 @@
 -- `parse` gives back the parts of which a text is made, and reads no other text.
 use mathlib.Core.Path.{_≡_, refl, sym, ap, _∙_}
-use mathlib.Core.Bool.{Bool, true, false}
+use mathlib.Core.Bool.{Bool, true, false, cond}
 use mathlib.Core.Option.{Option, none, some, Option·none-ne-some}
 use mathlib.Core.List.{List, [], _∷_, _++_, append-assoc, append-nil}
 use Prim.Native.Nat.{ℕ, zero, suc, _+_, _≤_, _<_}
@@ -8,7 +8,7 @@ use native.Mathlib.Omega.{arith}
 use lib.Dec.{eqb}
 use lib.ListN.{length}
 use borrow.Author.Tests.{eqb-true, eq-eqb}
-use Rattle.form.specs.Readers.{Get, pick, give, on, _▷_, strip, behind, after, many}
+use Rattle.form.specs.Readers.{Get, give, on, _▷_, strip, behind, after, many}
 use Rattle.form.specs.Decimal.{digits, isDigit, number}
 use Rattle.energy.specs.declared.pictures.Kind.{Kind}
 use Rattle.energy.specs.declared.pictures.Kind.the-variants.{Grey, Rgb}
@@ -64,7 +64,7 @@ three-inv : (a : ℕ) (xs s : List ℕ) (r : List ℕ × List ℕ) → three a x
 unfolding three
 three-inv a xs s r h = go (eqb (length xs) 2) refl h
   where
-    go : (x : Bool) → eqb (length xs) 2 ≡ x → pick x (give (a ∷ xs)) (λ s. none) s ≡ some r → (length xs ≡ 2) × (r ≡ (a ∷ xs, s))
+    go : (x : Bool) → eqb (length xs) 2 ≡ x → cond x (give (a ∷ xs)) (λ s. none) s ≡ some r → (length xs ≡ 2) × (r ≡ (a ∷ xs, s))
     go true e h = (eqb-true _ 2 e, cc)
     go false e h = absurd (Option·none-ne-some _ h)
 

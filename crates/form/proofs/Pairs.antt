@@ -1,6 +1,6 @@
 -- A reader and a printer that belong together, and laws of single steps.
 use mathlib.Core.Path.{_≡_, refl, sym, ap, _∙_}
-use mathlib.Core.Bool.{Bool, true, false}
+use mathlib.Core.Bool.{Bool, true, false, cond}
 use mathlib.Core.Option.{Option, none, some, Option·none-ne-some}
 use mathlib.Core.List.{List, [], _∷_, _++_, append-assoc}
 use Prim.Native.Nat.{ℕ, zero, suc, _+_, _≤_, _<_}
@@ -8,7 +8,7 @@ use native.Mathlib.Omega.{arith}
 use lib.Dec.{eqb}
 use lib.ListN.{length, length-append}
 use borrow.Author.Tests.{eqb-true, eq-eqb}
-use Rattle.form.specs.Readers.{Get, pick, give, on, _▷_, strip, behind, after}
+use Rattle.form.specs.Readers.{Get, give, on, _▷_, strip, behind, after}
 
 -- `get` reads what `put` prints, where `stop` holds of what stands behind; and it reads nothing else.
 pub record Reads {A : Type 0} (ok : A → Type 0) (put : A → List ℕ) (stop : List ℕ → Type 0) (get : Get A) : Type 0 where
@@ -26,7 +26,7 @@ strip-sound [] s t h = cc
 strip-sound (b ∷ w) [] t h = absurd (Option·none-ne-some _ h)
 strip-sound (b ∷ w) (c ∷ s) t h = go (eqb b c) refl h (strip-sound w s t)
   where
-    go : (x : Bool) → eqb b c ≡ x → pick x (strip w s) none ≡ some t → (strip w s ≡ some t → s ≡ w ++ t) → c ∷ s ≡ b ∷ (w ++ t)
+    go : (x : Bool) → eqb b c ≡ x → cond x (strip w s) none ≡ some t → (strip w s ≡ some t → s ≡ w ++ t) → c ∷ s ≡ b ∷ (w ++ t)
     go true e f k = let p = eqb-true b c e in let q = k f in cc
     go false e f k = absurd (Option·none-ne-some _ f)
 

@@ -1,6 +1,6 @@
 -- "The multi-size file": its parts, the text of the parts, and the reader of a text.
 use mathlib.Core.Path.{_≡_}
-use mathlib.Core.Bool.{Bool, true, false}
+use mathlib.Core.Bool.{cond}
 use mathlib.Core.Option.{Option, none, some}
 use mathlib.Core.List.{List, [], _∷_, _++_}
 use Prim.Native.Nat.{ℕ, zero, suc, _+_, _≤_}
@@ -10,7 +10,7 @@ use Rattle.energy.specs.declared.pictures.Kind.{Kind}
 use Rattle.energy.specs.declared.pictures.Kind.the-variants.{Grey, Rgb}
 use Rattle.energy.specs.Pictures.{Picture, channelsOf}
 use Rattle.form.specs.declared.Head.{Head}
-use Rattle.form.specs.Readers.{Get, pick, give, on, _▷_, behind, after, many}
+use Rattle.form.specs.Readers.{Get, give, on, _▷_, behind, after, many}
 use Rattle.form.specs.Decimal.{digits, number}
 
 -- What a file holds: "size: width, height, kind. Range: depth, growth. Then n rows of samples and n rows of map." The
@@ -111,7 +111,7 @@ items g = many blank g ▷ λ xs. after closing (give xs)
 
 -- "an `rgb` pixel without exactly three samples is 1"
 unfoldable pub three : ℕ → List ℕ → Get (List ℕ)
-three a xs = pick (eqb (length xs) 2) (give (a ∷ xs)) (λ s. none)
+three a xs = cond (eqb (length xs) 2) (give (a ∷ xs)) (λ s. none)
 
 -- A pixel: a sample, or three samples in brackets.
 unfoldable pub pixel : Kind → Get (List ℕ)

@@ -1,14 +1,10 @@
 -- Readers: a reader takes a value off the front of a list of bytes and gives it with the bytes that are left, or refuses.
-use mathlib.Core.Bool.{Bool, true, false}
+use mathlib.Core.Bool.{cond}
 use mathlib.Core.Option.{Option, none, some}
 use mathlib.Core.List.{List, [], _∷_, _++_}
 use Prim.Native.Nat.{ℕ, zero, suc}
 use lib.Dec.{eqb}
 use lib.ListN.{length}
-
-abbrev pub pick : {A : Type 0} → Bool → A → A → A
-pick true a b = a
-pick false a b = b
 
 abbrev pub Get : Type 0 → Type 0
 Get A = List ℕ → Option (A × List ℕ)
@@ -31,7 +27,7 @@ _▷_ g f s = on (g s) f
 unfoldable pub strip : List ℕ → List ℕ → Option (List ℕ)
 strip [] s = some s
 strip (b ∷ w) [] = none
-strip (b ∷ w) (c ∷ s) = pick (eqb b c) (strip w s) none
+strip (b ∷ w) (c ∷ s) = cond (eqb b c) (strip w s) none
 
 abbrev pub behind : {A : Type 0} → Option (List ℕ) → Get A → Option (A × List ℕ)
 behind none g = none

@@ -1,6 +1,6 @@
 -- The class of a byte, and the bytes of a class.
 use mathlib.Core.Path.{_≡_, refl, sym, ap, _∙_}
-use mathlib.Core.Bool.{Bool, true, false, _&&_}
+use mathlib.Core.Bool.{Bool, true, false, _&&_, cond}
 use mathlib.Core.Logic.{_⊎_, inl, inr}
 use mathlib.Core.List.{List, [], _∷_}
 use Prim.Native.Nat.{ℕ, _≤_, _<_}
@@ -13,7 +13,6 @@ use Rattle.text.proofs.cursor.Class as class
 use Rattle.form.specs.Decimal.{isDigit}
 use Rattle.text.specs.declared.cursor.Class.{Class}
 use Rattle.text.specs.declared.cursor.Class.the-variants.{Digit, Letter, Opening, Closing, Blank, LineEnd, Other}
-use Rattle.form.specs.Readers.{pick}
 use Rattle.text.specs.Answers.{isLetter, classOf}
 use Rattle.form.proofs.Decimals.{is-digit, digit-true}
 use Rattle.text.proofs.DigitSteps.{no-digit}
@@ -57,7 +56,7 @@ unfolding classOf
 class-says b = go (isDigit b) (isLetter b) (eqb b 40) (eqb b 41) (eqb b 32) (eqb b 10) refl refl refl refl refl refl
   where
     go : (d l o c s e : Bool) → isDigit b ≡ d → isLetter b ≡ l → eqb b 40 ≡ o → eqb b 41 ≡ c → eqb b 32 ≡ s → eqb b 10 ≡ e
-        → says b (pick d Digit (pick l Letter (pick o Opening (pick c Closing (pick s Blank (pick e LineEnd Other))))))
+        → says b (cond d Digit (cond l Letter (cond o Opening (cond c Closing (cond s Blank (cond e LineEnd Other))))))
     go true l o c s e p q r t u v = p
     go false true o c s e p q r t u v = q
     go false false true c s e p q r t u v = eqb-true b 40 r

@@ -1,6 +1,6 @@
 -- The readers at a place of a text, one step at a time, in the code's terms.
 use mathlib.Core.Path.{_≡_, refl, sym, ap, _∙_}
-use mathlib.Core.Bool.{Bool, true, false}
+use mathlib.Core.Bool.{Bool, true, false, cond}
 use mathlib.Core.Logic.{_⊎_, inl, inr, ⊎-elim}
 use mathlib.Core.Option.{Option, none, some}
 use mathlib.Core.List.{List, [], _∷_, _++_}
@@ -11,7 +11,7 @@ use lib.Dec.{leb, ltb, eqb}
 use lib.ListN.{length, getD, drop, drop-of-length-le}
 use lib.Seq.{drop-cons}
 use borrow.Author.Tests.{le-leb, lt-leb, eq-eqb, ne-eqb, ltb-true, ltb-false}
-use Rattle.form.specs.Readers.{Get, pick, give, on, _▷_}
+use Rattle.form.specs.Readers.{Get, give, on, _▷_}
 use Rattle.form.specs.Decimal.{isDigit, further, upTo, number}
 use Rattle.text.specs.Answers.{given, ahead, Told}
 use Rattle.text.specs.Kernels.{within}
@@ -35,7 +35,7 @@ unfolding further
 further-more [] n = omega arith
 further-more (b ∷ s) n = go (isDigit b) (further-more s (n * 10 + (b - 48)))
   where
-    go : (x : Bool) → n * 10 + (b - 48) ≤ further (n * 10 + (b - 48)) s .0 → n ≤ pick x (further (n * 10 + (b - 48)) s) (n, b ∷ s) .0
+    go : (x : Bool) → n * 10 + (b - 48) ≤ further (n * 10 + (b - 48)) s .0 → n ≤ cond x (further (n * 10 + (b - 48)) s) (n, b ∷ s) .0
     go true h = omega arith
     go false h = omega arith
 
@@ -86,7 +86,7 @@ module _ {limit : ℕ} {text : List ℕ} {start : ℕ} where
     unfolding upTo
     stopped e = go (ltb limit n) refl
       where
-        go : (x : Bool) → ltb limit n ≡ x → Told (number limit) text start (pick x none (some (n, at)))
+        go : (x : Bool) → ltb limit n ≡ x → Told (number limit) text start (cond x none (some (n, at)))
         go true f = record { same = R .same ∙ rw (e, lt-leb n limit (ltb-true limit n f)); moved = tt }
         go false f = record { same = R .same ∙ rw (e, le-leb n limit (ltb-false limit n f)); moved = (R .there, R .inside) }
 

@@ -1,6 +1,5 @@
 -- Fixed bytes at a place of a text.
 use mathlib.Core.Path.{_≡_, refl, sym, ap, _∙_}
-use mathlib.Core.Bool.{Bool, true, false}
 use mathlib.Core.Option.{Option, none, some}
 use mathlib.Core.List.{List, [], _∷_, _++_, map}
 use Prim.Native.Nat.{ℕ, zero, suc, _+_, _-_, _*_, _≤_, _<_}
@@ -8,7 +7,7 @@ use native.Mathlib.Omega.{arith}
 use lib.Dec.{eqb}
 use lib.ListN.{length, getD, drop, drop-of-length-le, length-map}
 use borrow.Author.Tests.{eq-eqb, ne-eqb}
-use Rattle.form.specs.Readers.{Get, pick, give, on, _▷_, strip, behind, after, next, manyUpTo, many}
+use Rattle.form.specs.Readers.{Get, give, on, _▷_, strip, behind, after, next, manyUpTo, many}
 use Rattle.text.specs.Answers.{given, ahead, Told}
 use Rattle.text.specs.Kernels.{passing}
 use Rattle.text.proofs.DigitSteps.{front}

@@ -1,6 +1,6 @@
 -- Forms and items at a place of a text, one step at a time, in the code's terms.
 use mathlib.Core.Path.{_≡_, refl, sym, ap, _∙_}
-use mathlib.Core.Bool.{Bool, true, false}
+use mathlib.Core.Bool.{Bool, true, false, cond}
 use mathlib.Core.Option.{Option, none, some}
 use mathlib.Core.List.{List, [], _∷_, _++_}
 use Prim.Native.Nat.{ℕ, zero, suc, _+_, _-_, _*_, _≤_, _<_}
@@ -9,7 +9,7 @@ use native.Mathlib.Omega.{arith}
 use lib.Dec.{eqb}
 use lib.ListN.{length, getD, drop, drop-of-length-le}
 use borrow.Author.Tests.{eqb-true, eq-eqb, ne-eqb}
-use Rattle.form.specs.Readers.{Get, pick, give, on, _▷_, strip, behind, after, next, many}
+use Rattle.form.specs.Readers.{Get, give, on, _▷_, strip, behind, after, next, many}
 use Rattle.form.specs.Decimal.{digits, number}
 use Rattle.energy.specs.declared.pictures.Kind.{Kind}
 use Rattle.energy.specs.declared.pictures.Kind.the-variants.{Grey, Rgb}
@@ -119,19 +119,19 @@ module _ {w : Items} {text : List ℕ} {from : ℕ} where
     counting-end h = record { same = C .same ∙ rw (drop-of-length-le text h, form-nil); moved = tt }
 
 -- A pixel in brackets: a sample, and a form of two more.
-pixel-step : (t : List ℕ) → itemOf Pixels (40 ∷ t) ≡ (number 255 ▷ λ a. formOf Samples ▷ λ n. pick (eqb n 2) (give 3) (λ s. none)) t
+pixel-step : (t : List ℕ) → itemOf Pixels (40 ∷ t) ≡ (number 255 ▷ λ a. formOf Samples ▷ λ n. cond (eqb n 2) (give 3) (λ s. none)) t
 unfolding itemOf formOf counted pixel opening strip three
 pixel-step t = go (number 255 t)
   where
-    last : (a : ℕ) (xs s : List ℕ) (x : Bool) → eqb (length xs) 2 ≡ x → on (pick x (give (a ∷ xs)) (λ s. none) s) (λ xs. give (length xs)) ≡ pick x (give 3) (λ s. none) s
+    last : (a : ℕ) (xs s : List ℕ) (x : Bool) → eqb (length xs) 2 ≡ x → on (cond x (give (a ∷ xs)) (λ s. none) s) (λ xs. give (length xs)) ≡ cond x (give 3) (λ s. none) s
     last a xs s true e = let z = eqb-true (length xs) 2 e in rw z
     last a xs s false e = refl
 
-    more : (a : ℕ) (o : Option (List ℕ × List ℕ)) → on (on o (λ xs. pick (eqb (length xs) 2) (give (a ∷ xs)) (λ s. none))) (λ xs. give (length xs)) ≡ on (on o (λ xs. give (length xs))) (λ n. pick (eqb n 2) (give 3) (λ s. none))
+    more : (a : ℕ) (o : Option (List ℕ × List ℕ)) → on (on o (λ xs. cond (eqb (length xs) 2) (give (a ∷ xs)) (λ s. none))) (λ xs. give (length xs)) ≡ on (on o (λ xs. give (length xs))) (λ n. cond (eqb n 2) (give 3) (λ s. none))
     more a none = refl
     more a (some r) = last a (r .0) (r .1) (eqb (length (r .0)) 2) refl
 
-    go : (o : Option (ℕ × List ℕ)) → on (on o (λ a. items (number 255) ▷ λ xs. pick (eqb (length xs) 2) (give (a ∷ xs)) (λ s. none))) (λ xs. give (length xs)) ≡ on o (λ a. (items (number 255) ▷ λ xs. give (length xs)) ▷ λ n. pick (eqb n 2) (give 3) (λ s. none))
+    go : (o : Option (ℕ × List ℕ)) → on (on o (λ a. items (number 255) ▷ λ xs. cond (eqb (length xs) 2) (give (a ∷ xs)) (λ s. none))) (λ xs. give (length xs)) ≡ on o (λ a. (items (number 255) ▷ λ xs. give (length xs)) ▷ λ n. cond (eqb n 2) (give 3) (λ s. none))
     go none = refl
     go (some r) = more (r .0) (items (number 255) (r .1))
 

@@ -1,6 +1,6 @@
 -- What is left of a room.
 use mathlib.Core.Path.{_≡_, refl, sym, ap, _∙_}
-use mathlib.Core.Bool.{Bool, true, false}
+use mathlib.Core.Bool.{Bool, true, false, cond}
 use mathlib.Core.Option.{Option, none, some, Option·none-ne-some, Option·some-injective}
 use mathlib.Core.List.{List, [], _∷_}
 use Prim.Native.Nat.{ℕ, zero, suc, _+_, _-_, _≤_, _<_}
@@ -12,7 +12,6 @@ use lib.Seq.{drop-cons}
 use borrow.Author.Tests.{leb-true, leb-false, le-leb, lt-leb}
 use Rattle.energy.specs.declared.pictures.Kind.{Kind}
 use Rattle.energy.specs.declared.pictures.Kind.the-variants.{Grey, Rgb}
-use Rattle.form.specs.Readers.{pick}
 use Rattle.form.specs.declared.Head.{Head}
 use Rattle.form.specs.Decimal.{digits}
 use Rattle.form.specs.Files.{kindText, headText, mapText}
@@ -33,7 +32,7 @@ pub less-room : (room n l : ℕ) → some l ≡ less room n → (n ≤ room) × 
 unfolding less
 less-room room n l h = go (leb n room) refl h
   where
-    go : (x : Bool) → leb n room ≡ x → some l ≡ pick x (some (room - n)) none → (n ≤ room) × (l ≡ room - n)
+    go : (x : Bool) → leb n room ≡ x → some l ≡ cond x (some (room - n)) none → (n ≤ room) × (l ≡ room - n)
     go true e h = (leb-true n room e, Option·some-injective l (room - n) h)
     go false e h = absurd (Option·none-ne-some l (sym h))
 
@@ -41,7 +40,7 @@ pub less-short : (room n : ℕ) → none ≡ less room n → room < n
 unfolding less
 less-short room n h = go (leb n room) refl h
   where
-    go : (x : Bool) → leb n room ≡ x → none ≡ pick x (some (room - n)) none → room < n
+    go : (x : Bool) → leb n room ≡ x → none ≡ cond x (some (room - n)) none → room < n
     go true e h = absurd (Option·none-ne-some (room - n) h)
     go false e h = leb-false n room e
 
@@ -50,7 +49,7 @@ pub less-then : (room a b l : ℕ) → some l ≡ less room a → less room (a +
 unfolding less
 less-then room a b l h = let r = less-room room a l h in go (leb b l) refl (r .0) (r .1)
   where
-    go : (x : Bool) → leb b l ≡ x → a ≤ room → l ≡ room - a → pick (leb (a + b) room) (some (room - (a + b))) none ≡ pick x (some (l - b)) none
+    go : (x : Bool) → leb b l ≡ x → a ≤ room → l ≡ room - a → cond (leb (a + b) room) (some (room - (a + b))) none ≡ cond x (some (l - b)) none
     go true e r q = let z : room - (a + b) ≡ l - b = omega (arith, r, q, leb-true b l e) in rw (le-leb (a + b) room (omega (arith, r, q, leb-true b l e)), z)
     go false e r q = rw (lt-leb (a + b) room (omega (arith, r, q, leb-false b l e)))
 

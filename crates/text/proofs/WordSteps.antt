@@ -1,6 +1,6 @@
 -- Words at a place of a text: which byte they begin with, and what they are.
 use mathlib.Core.Path.{_≡_, refl, sym, ap, _∙_}
-use mathlib.Core.Bool.{Bool, true, false}
+use mathlib.Core.Bool.{Bool, true, false, cond}
 use mathlib.Core.Option.{Option, none, some, Option·none-ne-some, Option·some-injective}
 use mathlib.Core.List.{List, [], _∷_, _++_}
 use Prim.Native.Nat.{ℕ, zero, suc, _+_, _-_, _≤_, _<_}
@@ -10,7 +10,7 @@ use lib.ListN.{length, getD, drop, drop-of-length-le}
 use borrow.Author.Tests.{ne-eqb, leb-true, leb-false, le-leb, lt-leb, le-ltb, lt-ltb}
 use Rattle.energy.specs.declared.pictures.Kind.{Kind}
 use Rattle.energy.specs.declared.pictures.Kind.the-variants.{Grey, Rgb}
-use Rattle.form.specs.Readers.{Get, pick, give, on, _▷_, strip, behind, after}
+use Rattle.form.specs.Readers.{Get, give, on, _▷_, strip, behind, after}
 use Rattle.form.specs.Decimal.{isDigit, further, upTo, number}
 use Rattle.form.specs.Files.{greyWord, rgbWord, either, kindGet}
 use Rattle.form.proofs.Decimals.{digit-true}
@@ -47,20 +47,20 @@ number-kind (b ∷ s) r h = go (isDigit b) refl
     go false e = absurd (Option·none-ne-some _ (sym (number-other 65535 b s e) ∙ h))
 
 -- A smaller limit.
-number-limit : (limit : ℕ) → limit ≤ 65535 → (s : List ℕ) → number limit s ≡ on (number 65535 s) (λ n. pick (ltb limit n) (λ t. none) (give n))
+number-limit : (limit : ℕ) → limit ≤ 65535 → (s : List ℕ) → number limit s ≡ on (number 65535 s) (λ n. cond (ltb limit n) (λ t. none) (give n))
 unfolding number upTo
 number-limit limit l [] = refl
 number-limit limit l (b ∷ s) = go (isDigit b) (eqb b 48)
   where
     last : (r : ℕ × List ℕ) (x y : Bool) → leb (r .0) limit ≡ x → leb (r .0) 65535 ≡ y
-        → pick x (some r) none ≡ on (pick y (some r) none) (λ n. pick (ltb limit n) (λ t. none) (give n))
+        → cond x (some r) none ≡ on (cond y (some r) none) (λ n. cond (ltb limit n) (λ t. none) (give n))
     last r true true e f = rw (le-ltb limit (r .0) (leb-true (r .0) limit e))
     last r true false e f = absurd (omega (arith, l, leb-true (r .0) limit e, leb-false (r .0) 65535 f))
     last r false true e f = rw (lt-ltb limit (r .0) (leb-false (r .0) limit e))
     last r false false e f = refl
 
-    go : (x y : Bool) → pick x (pick y (some (0, s)) (pick (leb (further (b - 48) s .0) limit) (some (further (b - 48) s)) none)) none
-        ≡ on (pick x (pick y (some (0, s)) (pick (leb (further (b - 48) s .0) 65535) (some (further (b - 48) s)) none)) none) (λ n. pick (ltb limit n) (λ t. none) (give n))
+    go : (x y : Bool) → cond x (cond y (some (0, s)) (cond (leb (further (b - 48) s .0) limit) (some (further (b - 48) s)) none)) none
+        ≡ on (cond x (cond y (some (0, s)) (cond (leb (further (b - 48) s .0) 65535) (some (further (b - 48) s)) none)) none) (λ n. cond (ltb limit n) (λ t. none) (give n))
     go true true = rw (le-ltb limit 0 (omega arith))
     go true false = last (further (b - 48) s) _ _ refl refl
     go false y = refl

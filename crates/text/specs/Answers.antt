@@ -1,6 +1,6 @@
 -- What reading a text answers, in terms of its definition.
 use mathlib.Core.Path.{_≡_}
-use mathlib.Core.Bool.{Bool, true, false, _&&_}
+use mathlib.Core.Bool.{Bool, true, _&&_, cond}
 use mathlib.Core.Option.{Option, none, some}
 use mathlib.Core.List.{List, [], _∷_, map}
 use Prim.Native.Nat.{ℕ, _+_, _≤_, _<_}
@@ -9,7 +9,7 @@ use lib.ListN.{length, drop}
 use Rattle.energy.specs.declared.pictures.Kind.{Kind}
 use Rattle.energy.specs.declared.pictures.Kind.the-variants.{Grey, Rgb}
 use Rattle.form.specs.declared.Head.{Head}
-use Rattle.form.specs.Readers.{Get, pick, give, on, _▷_, after}
+use Rattle.form.specs.Readers.{Get, give, on, _▷_, after}
 use Rattle.form.specs.Decimal.{number, isDigit}
 use Rattle.form.specs.Files.{Parts, either, kindGet, items, pixel}
 use Rattle.text.specs.declared.cursor.Class.{Class}
@@ -34,8 +34,8 @@ isLetter b = leb 97 b && leb b 122
 
 unfoldable pub classOf : ℕ → Class
 classOf b =
-    pick (isDigit b) Digit (pick (isLetter b) Letter (pick (eqb b 40) Opening (pick (eqb b 41) Closing
-    (pick (eqb b 32) Blank (pick (eqb b 10) LineEnd Other)))))
+    cond (isDigit b) Digit (cond (isLetter b) Letter (cond (eqb b 40) Opening (cond (eqb b 41) Closing
+    (cond (eqb b 32) Blank (cond (eqb b 10) LineEnd Other)))))
 
 -- A value and the place behind it, read as a value and the bytes from that place on.
 abbrev pub given : {A : Type 0} → List ℕ → Option (A × ℕ) → Option (A × List ℕ)

@@ -1,6 +1,6 @@
 -- What the functions inside this crate promise each other.
 use mathlib.Core.Path.{_≡_}
-use mathlib.Core.Bool.{Bool, true, false, _&&_}
+use mathlib.Core.Bool.{Bool, _&&_, cond}
 use mathlib.Core.Option.{Option, none, some}
 use mathlib.Core.List.{List, [], _∷_, _++_, map}
 use Prim.Native.Nat.{ℕ, _+_, _*_, _≤_, _<_}
@@ -11,7 +11,7 @@ use Rattle.energy.specs.declared.pictures.Kind.{Kind}
 use Rattle.energy.specs.declared.pictures.Kind.the-variants.{Grey, Rgb}
 use Rattle.energy.specs.Pictures.{channelsOf}
 use Rattle.grids.specs.Rows.{rowsOf, rowAt}
-use Rattle.form.specs.Readers.{Get, pick, give, on, _▷_, after, many}
+use Rattle.form.specs.Readers.{Get, give, on, _▷_, after, many}
 use Rattle.form.specs.Decimal.{number, digits}
 use Rattle.form.specs.Files.{lineEnd, blank, closed, each, pixelText, rowWord, mapWord, headGet}
 use Rattle.text.specs.declared.forms.Items.{Items}
@@ -23,7 +23,7 @@ use Rattle.text.specs.Answers.{given, formOf, evenly}
 
 -- n at the place, if the limit admits it.
 abbrev pub within : ℕ → ℕ → ℕ → Option (ℕ × ℕ)
-within limit n at = pick (ltb limit n) none (some (n, at))
+within limit n at = cond (ltb limit n) none (some (n, at))
 
 -- The bytes w.
 abbrev pub passing : List ℕ → Get ℕ
