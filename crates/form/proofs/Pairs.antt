@@ -4,11 +4,17 @@ use mathlib.Core.Bool.{Bool, true, false, cond}
 use mathlib.Core.Option.{Option, none, some, Option·none-ne-some}
 use mathlib.Core.List.{List, [], _∷_, _++_, append-assoc}
 use Prim.Native.Nat.{ℕ, zero, suc, _+_, _≤_, _<_}
+use native.Mathlib.Numerals.{add-one}
 use native.Mathlib.Omega.{arith}
 use lib.Dec.{eqb}
-use lib.ListN.{length, length-append}
+use lib.ListN.{length, getD, drop, length-append}
+use lib.Seq.{drop-cons}
 use borrow.Author.Tests.{eqb-true, eq-eqb}
 use Rattle.form.specs.Readers.{Get, give, on, _▷_, strip, behind, after}
+
+-- The byte at a place, and the bytes behind it.
+pub front : (text : List ℕ) (at : ℕ) → at < length text → drop at text ≡ getD text at 0 ∷ drop (at + 1) text
+front text at h = rw add-one (drop-cons text at 0 h)
 
 -- `get` reads what `put` prints, where `stop` holds of what stands behind; and it reads nothing else.
 pub record Reads {A : Type 0} (ok : A → Type 0) (put : A → List ℕ) (stop : List ℕ → Type 0) (get : Get A) : Type 0 where

@@ -1,5 +1,5 @@
-// The text of a multi-size file: its definitions (specs/) and their laws (proofs/). The code that reads and prints it is in
-// `text`.
+// The text of a multi-size file: its definitions (specs/) and their laws (proofs/). The code that reads it is in `text`, the
+// code that prints it in `printing`.
 use energy::Size;
 
 // What the lines of size and range say.

@@ -5,21 +5,16 @@ use mathlib.Core.Logic.{_⊎_, inl, inr, ⊎-elim}
 use mathlib.Core.Option.{Option, none, some}
 use mathlib.Core.List.{List, [], _∷_, _++_}
 use Prim.Native.Nat.{ℕ, zero, suc, _+_, _-_, _*_, _≤_, _<_}
-use native.Mathlib.Numerals.{add-one}
 use native.Mathlib.Omega.{arith}
 use lib.Dec.{leb, ltb, eqb}
 use lib.ListN.{length, getD, drop, drop-of-length-le}
-use lib.Seq.{drop-cons}
 use borrow.Author.Tests.{le-leb, lt-leb, eq-eqb, ne-eqb, ltb-true, ltb-false}
 use Rattle.form.specs.Readers.{Get, give, on, _▷_}
 use Rattle.form.specs.Decimal.{isDigit, further, upTo, number}
 use Rattle.text.specs.Answers.{given, ahead, Told}
 use Rattle.text.specs.Kernels.{within}
+use Rattle.form.proofs.Pairs.{front}
 use Rattle.form.proofs.Decimals.{is-digit, number-digit}
-
--- The byte at a place, and the bytes behind it.
-pub front : (text : List ℕ) (at : ℕ) → at < length text → drop at text ≡ getD text at 0 ∷ drop (at + 1) text
-front text at h = rw add-one (drop-cons text at 0 h)
 
 pub no-digit : (b : ℕ) → (b < 48) ⊎ (58 ≤ b) → isDigit b ≡ false
 unfolding isDigit

@@ -8,9 +8,9 @@ use lib.Dec.{eqb}
 use lib.ListN.{length, getD, drop, drop-of-length-le, length-map}
 use borrow.Author.Tests.{eq-eqb, ne-eqb}
 use Rattle.form.specs.Readers.{Get, give, on, _▷_, strip, behind, after, next, manyUpTo, many}
+use Rattle.form.proofs.Pairs.{front}
 use Rattle.text.specs.Answers.{given, ahead, Told}
 use Rattle.text.specs.Kernels.{passing}
-use Rattle.text.proofs.DigitSteps.{front}
 
 -- The state of the loop that compares: i bytes of w were found.
 pub record Matching (w text : List ℕ) (start i at : ℕ) : Type 0 where

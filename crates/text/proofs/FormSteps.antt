@@ -17,11 +17,10 @@ use Rattle.form.specs.Files.{blank, opening, closing, items, three, pixel}
 use Rattle.text.specs.declared.forms.Items.{Items}
 use Rattle.text.specs.declared.forms.Items.the-variants.{Samples, Pixels, Numbers}
 use Rattle.text.specs.Answers.{given, ahead, Told, counted, itemOf, formOf}
-use Rattle.form.proofs.Pairs.{Reads, short}
+use Rattle.form.proofs.Pairs.{front, Reads, short}
 use Rattle.form.proofs.Many.{many-next}
 use Rattle.form.proofs.Decimals.{clear, number-reads}
 use Rattle.form.proofs.Files.{pixel-reads}
-use Rattle.text.proofs.DigitSteps.{front}
 
 module _ {A : Type 0} {ok : A → Type 0} {put : A → List ℕ} {stop : List ℕ → Type 0} {g : Get A} (R : Reads ok put stop g) where
   step : (s : List ℕ) → many blank g s ≡ next (strip blank s) s g (many blank g)

@@ -5,6 +5,3 @@ pub mod WordSteps
 pub mod FormSteps
 pub mod Onward
 pub mod WholeText
-pub mod Rooms
-pub mod Written
-pub mod PixelRows

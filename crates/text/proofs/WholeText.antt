@@ -17,8 +17,7 @@ use Rattle.form.specs.Files.{Parts, lineEnd, blank, closing, closed, rowWord, m
 use Rattle.text.specs.declared.scanning.Facts.{Facts}
 use Rattle.text.specs.Answers.{given, Told, counted, formOf, evenly, factsOf, factsIn}
 use Rattle.text.specs.Kernels.{lineRest, Reached, stays, linesOf, itemsOf, scanOf}
-use Rattle.form.proofs.Pairs.{on-same}
-use Rattle.text.proofs.DigitSteps.{front}
+use Rattle.form.proofs.Pairs.{front, on-same}
 use Rattle.text.proofs.Onward.{Left, tally}
 
 -- A reader of changed values reads the values and changes them.

@@ -14,8 +14,8 @@ use Rattle.form.specs.Readers.{Get, give, on, _▷_, strip, behind, after}
 use Rattle.form.specs.Decimal.{isDigit, further, upTo, number}
 use Rattle.form.specs.Files.{greyWord, rgbWord, either, kindGet}
 use Rattle.form.proofs.Decimals.{digit-true}
+use Rattle.form.proofs.Pairs.{front}
 use Rattle.text.specs.Answers.{given, ahead, Told, Written, numeral, name, word}
-use Rattle.text.proofs.DigitSteps.{front}
 
 kind-nil : kindGet [] ≡ none
 unfolding kindGet greyWord rgbWord strip

@@ -2,18 +2,15 @@
 use mathlib.Core.Path.{_≡_}
 use mathlib.Core.Bool.{Bool, _&&_, cond}
 use mathlib.Core.Option.{Option, none, some}
-use mathlib.Core.List.{List, [], _∷_, _++_, map}
-use Prim.Native.Nat.{ℕ, _+_, _*_, _≤_, _<_}
+use mathlib.Core.List.{List}
+use Prim.Native.Nat.{ℕ, _≤_}
 use lib.Dec.{ltb}
 use lib.ListN.{length, drop}
-use lib.Seq.{sets}
 use Rattle.energy.specs.declared.pictures.Kind.{Kind}
 use Rattle.energy.specs.declared.pictures.Kind.the-variants.{Grey, Rgb}
-use Rattle.energy.specs.Pictures.{channelsOf}
-use Rattle.grids.specs.Rows.{rowsOf, rowAt}
 use Rattle.form.specs.Readers.{Get, give, on, _▷_, after, many}
-use Rattle.form.specs.Decimal.{number, digits}
-use Rattle.form.specs.Files.{lineEnd, blank, closed, each, pixelText, rowWord, mapWord, headGet}
+use Rattle.form.specs.Decimal.{number}
+use Rattle.form.specs.Files.{lineEnd, closed, rowWord, mapWord, headGet}
 use Rattle.text.specs.declared.forms.Items.{Items}
 use Rattle.text.specs.declared.forms.Items.the-variants.{Samples, Pixels, Numbers}
 use Rattle.text.specs.declared.scanning.Facts.{Facts}
@@ -63,21 +60,3 @@ unfoldable pub scanOf : Get Facts
 scanOf =
     headGet ▷ λ h. linesOf rowWord (itemsOf (h .size .kind)) (h .size .width) ▷ λ r. linesOf mapWord Numbers (h .size .width) ▷ λ m.
     after closed (give (record { head = h; rows = r .0; maps = m .0; full = r .1 && m .1 }))
-
--- What was written at a place: the bytes `done`, and the place behind them.
-pub record Printed (first : List ℕ) (at : ℕ) (done now : List ℕ) (end : ℕ) : Type 0 where
-  pub same : now ≡ sets first at done
-  pub behind : end ≡ at + length done
-
--- The bytes w, and two numbers with a blank between them.
-unfoldable pub pairText : List ℕ → ℕ → ℕ → List ℕ
-pairText w m n = w ++ (digits m ++ (blank ++ digits n))
-
--- A pixel of a row's bytes, or n of them, with room for their text.
-pub record PixelNeeded (out : List ℕ) (at : ℕ) (k : Kind) (b : List ℕ) (i : ℕ) : Type 0 where
-  pub inside : i * channelsOf k + channelsOf k ≤ length b
-  pub room : at + (1 + length (pixelText k (rowAt (channelsOf k) i b))) ≤ length out
-
-pub record PixelsNeeded (out : List ℕ) (at : ℕ) (k : Kind) (b : List ℕ) (n : ℕ) : Type 0 where
-  pub inside : n * channelsOf k ≤ length b
-  pub room : at + length (each blank (pixelText k) (rowsOf (channelsOf k) n b)) ≤ length out

@@ -1,8 +1,6 @@
-// The text of a multi-size file, read and printed.
+// The text of a multi-size file, read.
 pub mod cursor;
 pub mod forms;
-pub mod lengths;
-pub mod printing;
 pub mod scanning;
 pub mod words;
 
@@ -11,15 +9,6 @@ pub use cursor::Cursor;
 pub use cursor::Read;
 pub use cursor::class_of;
 pub use forms::Items;
-pub use lengths::Left;
-pub use lengths::head_left;
-pub use lengths::map_left;
-pub use lengths::row_left;
-pub use printing::Place;
-pub use printing::print_end;
-pub use printing::print_head;
-pub use printing::print_map;
-pub use printing::print_row;
 pub use scanning::Facts;
 pub use scanning::HeadRead;
 pub use scanning::Scanned;

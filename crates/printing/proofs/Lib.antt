@@ -1,0 +1,3 @@
+pub mod Rooms
+pub mod Written
+pub mod PixelRows

@@ -1,0 +1,24 @@
+-- `printing::lengths::kind_length` meets its contract.
+use Rattle.form.specs.Files.{kindText, greyWord, rgbWord}
+use borrow.Author.Needs.{needs}
+use Rattle.printing.proofs.lengths.kind_length.Statement.{statement}
+use Rattle.printing.proofs.lengths.kind_length.Tie as tie
+use Rattle.printing.proofs.lengths.kind_length.Reads as reads
+use Rattle.printing.proofs.lengths.kind_length.Lts as lts
+
+enum-told : tie.Need-enum-told
+enum-told c = search needs
+
+enum-told-2 : tie.Need-enum-told-2
+enum-told-2 c = search needs
+
+returns : tie.Need-returns
+unfolding kindText greyWord
+returns c = rw (c .enum-told .given .1)
+
+returns-2 : tie.Need-returns-2
+unfolding kindText rgbWord
+returns-2 c = rw (c .enum-told2 .given .1)
+
+pub kind-length-spec : {M : Type 1} → statement M
+kind-length-spec = tie.close (tie.spec enum-told enum-told-2 returns returns-2)

@@ -1,0 +1,33 @@
+-- `printing::lengths::map_left` meets its contract.
+use mathlib.Core.Path.{_∙_}
+use Rattle.printing.proofs.Rooms.{map-room, map-no-room}
+use borrow.Author.Needs.{needs}
+use Rattle.printing.proofs.lengths.map_left.Statement.{statement}
+use Rattle.printing.proofs.lengths.map_left.Tie as tie
+use Rattle.printing.proofs.lengths.map_left.Reads as reads
+use Rattle.printing.proofs.lengths.map_left.Lts as lts
+use Rattle.printing.proofs.lengths.take.Reads as take-reads
+use Rattle.printing.proofs.lengths.take_numbers.Reads as take-numbers-reads
+
+take-numbers-requires : tie.Need-take-numbers-requires
+take-numbers-requires c κs = search needs
+
+enum-known-left : tie.Need-enum-known-left
+enum-known-left c = search needs
+
+enum-told : tie.Need-enum-told
+enum-told c = search needs
+
+returns : tie.Need-returns
+returns c = map-no-room ((c .before .before .before .before .args) .room) ((c .before .before .before .before .args) .row .now) (rw ((c .enum-told) .given .1) at ((c .before .before .take-numbers) .ensures))
+
+take-requires : tie.Need-take-requires
+take-requires c κs = search needs
+
+returns-2 : tie.Need-returns-2
+returns-2 c = (c .take) .ensures ∙ map-room ((c .before .before .before .before .before .before .args) .room) ((c .before .before .before .before .before .before .args) .row .now) (rw ((c .before .before .left) .given .1) at ((c .before .before .before .before .take-numbers) .ensures))
+
+pub map-left-spec : {M : Type 1} → statement M
+map-left-spec =
+    tie.close
+    (tie.spec take-numbers-requires enum-known-left enum-told returns take-requires returns-2)

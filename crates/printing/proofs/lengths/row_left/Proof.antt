@@ -1,0 +1,49 @@
+-- `printing::lengths::row_left` meets its contract.
+use mathlib.Core.Path.{_∙_}
+use lib.ListN.{length}
+use Rattle.printing.proofs.PixelRows.{channels-some, whole-by, row-room, row-no-room}
+use borrow.Author.Needs.{needs}
+use Rattle.printing.proofs.lengths.row_left.Statement.{statement}
+use Rattle.printing.proofs.lengths.row_left.Tie as tie
+use Rattle.printing.proofs.lengths.row_left.Reads as reads
+use Rattle.printing.proofs.lengths.row_left.Lts as lts
+use Rattle.energy.proofs.channels.Reads as channels-reads
+use Rattle.printing.proofs.lengths.take.Reads as take-reads
+use Rattle.printing.proofs.lengths.take_pixels.Reads as take-pixels-reads
+
+channels-requires : tie.Need-channels-requires
+channels-requires c κs = search needs
+
+div-n : tie.Need-div-n
+div-n c = let s = channels-some ((c .before .before .args) .kind) in search needs
+
+take-pixels-requires : tie.Need-take-pixels-requires
+take-pixels-requires c κs = let w = whole-by ((c .before .before .args) .kind) (length ((c .before .before .args) .samples .now)) _ ((c .channels) .ensures) in search needs
+
+enum-known-left : tie.Need-enum-known-left
+enum-known-left c = search needs
+
+enum-told : tie.Need-enum-told
+enum-told c = search needs
+
+returns : tie.Need-returns
+returns c = row-no-room ((c .before .before .before .before .before .args) .room) ((c .before .before .before .before .before .args) .kind) ((c .before .before .before .before .before .args) .samples .now) (rw ((c .enum-told) .given .1, (c .before .before .before .channels) .ensures) at ((c .before .before .take-pixels) .ensures))
+
+take-requires : tie.Need-take-requires
+take-requires c κs = search needs
+
+returns-2 : tie.Need-returns-2
+returns-2 c = (c .take) .ensures ∙ row-room ((c .before .before .before .before .before .before .before .args) .room) ((c .before .before .before .before .before .before .before .args) .kind) ((c .before .before .before .before .before .before .before .args) .samples .now) (rw ((c .before .before .left) .given .1, (c .before .before .before .before .before .channels) .ensures) at ((c .before .before .before .before .take-pixels) .ensures))
+
+pub row-left-spec : {M : Type 1} → statement M
+row-left-spec =
+    tie.close
+    (tie.spec
+    channels-requires
+    div-n
+    take-pixels-requires
+    enum-known-left
+    enum-told
+    returns
+    take-requires
+    returns-2)

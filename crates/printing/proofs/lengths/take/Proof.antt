@@ -1,0 +1,17 @@
+-- `printing::lengths::take` meets its contract.
+use mathlib.Core.Path.{sym}
+use Rattle.printing.proofs.Rooms.{less-some, less-none}
+use borrow.Author.Needs.{needs}
+use Rattle.printing.proofs.lengths.take.Statement.{statement}
+use Rattle.printing.proofs.lengths.take.Tie as tie
+use Rattle.printing.proofs.lengths.take.Reads as reads
+use Rattle.printing.proofs.lengths.take.Lts as lts
+
+returns : tie.Need-returns
+returns c = sym (less-none _ _ ((c .if1) .taken))
+
+returns-2 : tie.Need-returns-2
+returns-2 c = sym (less-some _ _ ((c .if1) .left))
+
+pub take-spec : {M : Type 1} → statement M
+take-spec = tie.close (tie.spec returns returns-2)

@@ -1,0 +1,30 @@
+-- `printing::lengths::take_number` meets its contract.
+use mathlib.Core.Path.{sym, _∙_}
+use native.Mathlib.Omega.{arith}
+use Rattle.printing.proofs.Rooms.{spaced-first, spaced-none}
+use borrow.Author.Needs.{needs}
+use Rattle.printing.proofs.lengths.take_number.Statement.{statement}
+use Rattle.printing.proofs.lengths.take_number.Tie as tie
+use Rattle.printing.proofs.lengths.take_number.Reads as reads
+use Rattle.printing.proofs.lengths.take_number.Lts as lts
+use Rattle.printing.proofs.lengths.digit_count.Reads as digit-count-reads
+use Rattle.printing.proofs.lengths.take.Reads as take-reads
+
+returns : tie.Need-returns
+returns c = spaced-none ((c .before .args) .room) ((c .before .args) .n) ((c .if1) .taken)
+
+sub-take : tie.Need-sub-take
+sub-take c = search needs
+
+digit-count-requires : tie.Need-digit-count-requires
+digit-count-requires c κs = search needs
+
+take-requires : tie.Need-take-requires
+take-requires c κs = search needs
+
+returns-2 : tie.Need-returns-2
+returns-2 c = (c .take) .ensures ∙ rw ((c .before .digit-count) .ensures .0) (spaced-first ((c .before .before .before .args) .room) ((c .before .before .before .args) .n) (omega (arith, (c .before .before .if1) .left)))
+
+pub take-number-spec : {M : Type 1} → statement M
+take-number-spec =
+    tie.close (tie.spec returns sub-take digit-count-requires take-requires returns-2)

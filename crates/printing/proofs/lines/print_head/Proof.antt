@@ -1,0 +1,48 @@
+-- `printing::lines::print_head` meets its contract.
+use native.Mathlib.Omega.{arith}
+use Rattle.printing.proofs.Rooms.{less-room, less-short}
+use Rattle.printing.proofs.Written.{put-short, put-done}
+use borrow.Author.Needs.{needs}
+use Rattle.printing.proofs.lines.print_head.Statement.{statement}
+use Rattle.printing.proofs.lines.print_head.Tie as tie
+use Rattle.printing.proofs.lines.print_head.Reads as reads
+use Rattle.printing.proofs.lines.print_head.Lts as lts
+use Rattle.printing.proofs.lengths.head_left.Reads as head-left-reads
+use Rattle.printing.proofs.lines.put_head.Reads as put-head-reads
+
+returns : tie.Need-returns
+returns c = put-short (omega (arith, (c .if1) .taken))
+
+head-left-requires : tie.Need-head-left-requires
+head-left-requires c κs = search needs
+
+enum-told : tie.Need-enum-told
+enum-told c = search needs
+
+enum-told-2 : tie.Need-enum-told-2
+enum-told-2 c = search needs
+
+returns-2 : tie.Need-returns-2
+returns-2 c = let s = less-short _ _ (rw ((c .enum-told2) .given .1) at ((c .before .before .head-left) .ensures)) in put-short (omega (arith, s, (c .before .before .before .if1) .left))
+
+put-head-requires : tie.Need-put-head-requires
+put-head-requires c κs = let s = less-room _ _ _ (rw ((c .before .enum-told) .given .1) at ((c .before .before .before .head-left) .ensures)) in search needs
+
+same-length : tie.Need-same-length
+same-length c = search needs
+
+returns-3 : tie.Need-returns-3
+returns-3 c = let s = less-room _ _ _ (rw ((c .before .before .before .before .enum-told) .given .1) at ((c .before .before .before .before .before .before .head-left) .ensures)) in put-done (omega (arith, s .0, (c .before .before .before .before .before .before .before .if1) .left)) ((c .before .before .put-head) .ensures)
+
+pub print-head-spec : {M : Type 1} → statement M
+print-head-spec =
+    tie.close
+    (tie.spec
+    returns
+    head-left-requires
+    enum-told
+    enum-told-2
+    returns-2
+    put-head-requires
+    same-length
+    returns-3)

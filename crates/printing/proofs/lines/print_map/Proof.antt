@@ -1,0 +1,48 @@
+-- `printing::lines::print_map` meets its contract.
+use native.Mathlib.Omega.{arith}
+use Rattle.printing.proofs.Rooms.{less-room, less-short}
+use Rattle.printing.proofs.Written.{put-short, put-done}
+use borrow.Author.Needs.{needs}
+use Rattle.printing.proofs.lines.print_map.Statement.{statement}
+use Rattle.printing.proofs.lines.print_map.Tie as tie
+use Rattle.printing.proofs.lines.print_map.Reads as reads
+use Rattle.printing.proofs.lines.print_map.Lts as lts
+use Rattle.printing.proofs.lengths.map_left.Reads as map-left-reads
+use Rattle.printing.proofs.lines.put_map.Reads as put-map-reads
+
+returns : tie.Need-returns
+returns c = put-short (omega (arith, (c .if1) .taken))
+
+map-left-requires : tie.Need-map-left-requires
+map-left-requires c κs = search needs
+
+enum-told : tie.Need-enum-told
+enum-told c = search needs
+
+enum-told-2 : tie.Need-enum-told-2
+enum-told-2 c = search needs
+
+returns-2 : tie.Need-returns-2
+returns-2 c = let s = less-short _ _ (rw ((c .enum-told2) .given .1) at ((c .before .before .map-left) .ensures)) in put-short (omega (arith, s, (c .before .before .before .if1) .left))
+
+put-map-requires : tie.Need-put-map-requires
+put-map-requires c κs = let s = less-room _ _ _ (rw ((c .before .enum-told) .given .1) at ((c .before .before .before .map-left) .ensures)) in search needs
+
+same-length : tie.Need-same-length
+same-length c = search needs
+
+returns-3 : tie.Need-returns-3
+returns-3 c = let s = less-room _ _ _ (rw ((c .before .before .before .before .enum-told) .given .1) at ((c .before .before .before .before .before .before .map-left) .ensures)) in put-done (omega (arith, s .0, (c .before .before .before .before .before .before .before .if1) .left)) ((c .before .before .put-map) .ensures)
+
+pub print-map-spec : {M : Type 1} → statement M
+print-map-spec =
+    tie.close
+    (tie.spec
+    returns
+    map-left-requires
+    enum-told
+    enum-told-2
+    returns-2
+    put-map-requires
+    same-length
+    returns-3)

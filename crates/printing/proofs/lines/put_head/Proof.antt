@@ -1,0 +1,66 @@
+-- `printing::lines::put_head` meets its contract.
+use Rattle.form.specs.Files.{start, range}
+use Rattle.printing.proofs.Written.{printed-length, head-parts, head-all}
+use borrow.Author.Needs.{needs}
+use Rattle.printing.proofs.lines.put_head.Statement.{statement}
+use Rattle.printing.proofs.lines.put_head.Tie as tie
+use Rattle.printing.proofs.lines.put_head.Reads as reads
+use Rattle.printing.proofs.lines.put_head.Lts as lts
+use Rattle.printing.proofs.lines.put_bytes.Reads as put-bytes-reads
+use Rattle.printing.proofs.lines.put_kind.Reads as put-kind-reads
+use Rattle.printing.proofs.lines.put_pair.Reads as put-pair-reads
+
+slice-aggregate-put-pair : tie.Need-slice-aggregate-put-pair
+slice-aggregate-put-pair c = search needs
+
+put-pair-requires : tie.Need-put-pair-requires
+unfolding start range
+put-pair-requires c κs = let l = head-parts ((c .before .before .before .before .args) .head) in search needs
+
+slice-aggregate-put-bytes : tie.Need-slice-aggregate-put-bytes
+slice-aggregate-put-bytes c = search needs
+
+put-bytes-requires : tie.Need-put-bytes-requires
+unfolding start range
+put-bytes-requires c κs = let l = head-parts ((c .before .before .before .before .before .before .before .before .before .args) .head) in let p = printed-length ((c .before .before .before .before .put-pair) .ensures) in search needs
+
+put-kind-requires : tie.Need-put-kind-requires
+unfolding start range
+put-kind-requires c κs = let l = head-parts ((c .before .before .before .before .before .before .before .before .before .before .before .before .before .args) .head) in let p = printed-length ((c .before .before .before .before .before .before .before .before .put-pair) .ensures) in let q = printed-length ((c .before .before .before .put-bytes) .ensures) in search needs
+
+slice-aggregate-put-pair-2 : tie.Need-slice-aggregate-put-pair-2
+slice-aggregate-put-pair-2 c = search needs
+
+put-pair-requires-2 : tie.Need-put-pair-requires-2
+unfolding start range
+put-pair-requires-2 c κs = let l = head-parts ((c .before .before .before .before .before .before .before .before .before .before .before .before .before .before .before .before .before .before .args) .head) in let p = printed-length ((c .before .before .before .before .before .before .before .before .before .before .before .before .before .put-pair) .ensures) in let q = printed-length ((c .before .before .before .before .before .before .before .before .put-bytes) .ensures) in let r = printed-length ((c .before .before .before .before .put-kind) .ensures) in search needs
+
+slice-aggregate-put-bytes-2 : tie.Need-slice-aggregate-put-bytes-2
+slice-aggregate-put-bytes-2 c = search needs
+
+put-bytes-requires-2 : tie.Need-put-bytes-requires-2
+unfolding start range
+put-bytes-requires-2 c κs = let l = head-parts ((c .before .before .before .before .before .before .before .before .before .before .before .before .before .before .before .before .before .before .before .before .before .before .before .args) .head) in let p = printed-length ((c .before .before .before .before .before .before .before .before .before .before .before .before .before .before .before .before .before .before .put-pair) .ensures) in let q = printed-length ((c .before .before .before .before .before .before .before .before .before .before .before .before .before .put-bytes) .ensures) in let r = printed-length ((c .before .before .before .before .before .before .before .before .before .put-kind) .ensures) in let s = printed-length ((c .before .before .before .before .put-pair2) .ensures) in search needs
+
+same-length : tie.Need-same-length
+same-length c = search needs
+
+returns : tie.Need-returns
+unfolding start range
+returns c = head-all ((c .before .before .before .before .before .before .before .before .before .before .before .before .before .before .before .before .before .before .before .before .before .before .before .before .before .before .args) .head) ((c .before .before .before .before .before .before .before .before .before .before .before .before .before .before .before .before .before .before .before .before .before .put-pair) .ensures) ((c .before .before .before .before .before .before .before .before .before .before .before .before .before .before .before .before .put-bytes) .ensures) ((c .before .before .before .before .before .before .before .before .before .before .before .before .put-kind) .ensures) ((c .before .before .before .before .before .before .before .put-pair2) .ensures) ((c .before .before .put-bytes2) .ensures)
+
+pub put-head-spec : {M : Type 1} → statement M
+put-head-spec =
+    tie.close
+    (tie.spec
+    slice-aggregate-put-pair
+    put-pair-requires
+    slice-aggregate-put-bytes
+    put-bytes-requires
+    put-kind-requires
+    slice-aggregate-put-pair-2
+    put-pair-requires-2
+    slice-aggregate-put-bytes-2
+    put-bytes-requires-2
+    same-length
+    returns)

@@ -1,0 +1,56 @@
+-- `printing::lines::put_kind` meets its contract.
+use Rattle.form.specs.Files.{kindText, greyWord, rgbWord}
+use Rattle.printing.proofs.Rooms.{kind-grey, kind-rgb}
+use borrow.Author.Needs.{needs}
+use Rattle.printing.proofs.lines.put_kind.Statement.{statement}
+use Rattle.printing.proofs.lines.put_kind.Tie as tie
+use Rattle.printing.proofs.lines.put_kind.Reads as reads
+use Rattle.printing.proofs.lines.put_kind.Lts as lts
+use Rattle.printing.proofs.lines.put_bytes.Reads as put-bytes-reads
+
+enum-told : tie.Need-enum-told
+enum-told c = search needs
+
+slice-aggregate-put-bytes : tie.Need-slice-aggregate-put-bytes
+slice-aggregate-put-bytes c = search needs
+
+put-bytes-requires : tie.Need-put-bytes-requires
+put-bytes-requires c κs = let k = kind-grey ((c .before .before .before .before .before .args) .kind) ((c .before .before .enum-told) .given .1) in search needs
+
+enum-told-2 : tie.Need-enum-told-2
+enum-told-2 c = search needs
+
+slice-aggregate-put-bytes-2 : tie.Need-slice-aggregate-put-bytes-2
+slice-aggregate-put-bytes-2 c = search needs
+
+put-bytes-requires-2 : tie.Need-put-bytes-requires-2
+put-bytes-requires-2 c κs = let k = kind-rgb ((c .before .before .before .before .before .args) .kind) ((c .before .before .enum-told2) .given .1) in search needs
+
+same-length : tie.Need-same-length
+same-length c = search needs
+
+returns : tie.Need-returns
+unfolding kindText greyWord rgbWord
+returns c = rw ((c .before .before .before .before .before .enum-told) .given .1) ((c .before .before .put-bytes) .ensures)
+
+same-length-2 : tie.Need-same-length-2
+same-length-2 c = search needs
+
+returns-2 : tie.Need-returns-2
+unfolding kindText greyWord rgbWord
+returns-2 c = rw ((c .before .before .before .before .before .enum-told2) .given .1) ((c .before .before .put-bytes2) .ensures)
+
+pub put-kind-spec : {M : Type 1} → statement M
+put-kind-spec =
+    tie.close
+    (tie.spec
+    enum-told
+    slice-aggregate-put-bytes
+    put-bytes-requires
+    enum-told-2
+    slice-aggregate-put-bytes-2
+    put-bytes-requires-2
+    same-length
+    returns
+    same-length-2
+    returns-2)

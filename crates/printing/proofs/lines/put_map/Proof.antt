@@ -1,0 +1,42 @@
+-- `printing::lines::put_map` meets its contract.
+use Rattle.printing.proofs.Written.{printed-length, map-parts, map-all}
+use borrow.Author.Needs.{needs}
+use Rattle.printing.proofs.lines.put_map.Statement.{statement}
+use Rattle.printing.proofs.lines.put_map.Tie as tie
+use Rattle.printing.proofs.lines.put_map.Reads as reads
+use Rattle.printing.proofs.lines.put_map.Lts as lts
+use Rattle.printing.proofs.lines.put_bytes.Reads as put-bytes-reads
+use Rattle.printing.proofs.lines.put_numbers.Reads as put-numbers-reads
+
+slice-aggregate-put-bytes : tie.Need-slice-aggregate-put-bytes
+slice-aggregate-put-bytes c = search needs
+
+put-bytes-requires : tie.Need-put-bytes-requires
+put-bytes-requires c κs = let l = map-parts (c .before .before .before .before .args .row .now) in search needs
+
+put-numbers-requires : tie.Need-put-numbers-requires
+put-numbers-requires c κs = let l = map-parts (c .before .before .before .before .before .before .before .before .args .row .now) in let m = printed-length (c .before .before .before .put-bytes .ensures) in search needs
+
+slice-aggregate-put-bytes-2 : tie.Need-slice-aggregate-put-bytes-2
+slice-aggregate-put-bytes-2 c = search needs
+
+put-bytes-requires-2 : tie.Need-put-bytes-requires-2
+put-bytes-requires-2 c κs = let l = map-parts (c .before .before .before .before .before .before .before .before .before .before .before .before .before .args .row .now) in let m = printed-length (c .before .before .before .before .before .before .before .before .put-bytes .ensures) in let k = printed-length (c .before .before .before .before .put-numbers .ensures) in search needs
+
+same-length : tie.Need-same-length
+same-length c = search needs
+
+returns : tie.Need-returns
+returns c = map-all (c .before .before .before .before .before .before .before .before .before .before .before .before .before .before .before .before .args .row .now) (c .before .before .before .before .before .before .before .before .before .before .before .put-bytes .ensures) (c .before .before .before .before .before .before .before .put-numbers .ensures) (c .before .before .put-bytes2 .ensures)
+
+pub put-map-spec : {M : Type 1} → statement M
+put-map-spec =
+    tie.close
+    (tie.spec
+    slice-aggregate-put-bytes
+    put-bytes-requires
+    put-numbers-requires
+    slice-aggregate-put-bytes-2
+    put-bytes-requires-2
+    same-length
+    returns)

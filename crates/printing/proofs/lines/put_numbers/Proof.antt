@@ -1,0 +1,78 @@
+-- `printing::lines::put_numbers` meets its contract.
+use mathlib.Core.Path.{ap}
+use Prim.Native.Nat.{ℕ, _-_, _≤_}
+use native.Mathlib.Omega.{arith}
+use lib.ListN.{length, take}
+use Rattle.form.specs.Decimal.{digits}
+use Rattle.form.specs.Files.{blank, each}
+use Rattle.printing.specs.Kernels.{Printed}
+use Rattle.printing.proofs.Written.{printed-length, numbers-none, each-room, numbers-next, numbers-all}
+use borrow.Author.Needs.{needs}
+use Rattle.printing.proofs.lines.put_numbers.Statement.{statement}
+use Rattle.printing.proofs.lines.put_numbers.Tie as tie
+use Rattle.printing.proofs.lines.put_numbers.Reads as reads
+use Rattle.printing.proofs.lines.put_numbers.Lts as lts
+use Rattle.printing.proofs.lengths.wide.Reads as wide-reads
+use Rattle.printing.proofs.lines.put_bytes.Reads as put-bytes-reads
+use Rattle.printing.proofs.lines.put_number.Reads as put-number-reads
+
+abbrev Inv-loop : tie.InvT-loop
+Inv-loop out₀ at row i₀ end₀ t8 out i end = Printed out₀ at (each blank digits (take i row)) out end × (i ≤ length row)
+
+abbrev μ-loop : tie.MeasureT-loop
+μ-loop out₀ at row i₀ end₀ t8 out i end = length row - i
+
+loop-holds : tie.Need-loop-holds Inv-loop μ-loop
+loop-holds c = (numbers-none ((c .before .before .args) .row .now), omega arith)
+
+mul-wide : tie.Need-mul-wide Inv-loop μ-loop
+mul-wide c = search needs
+
+shared-slice-read-wide : tie.Need-shared-slice-read-wide Inv-loop μ-loop
+shared-slice-read-wide c = search needs
+
+wide-requires : tie.Need-wide-requires Inv-loop μ-loop
+wide-requires c κs = search needs
+
+slice-aggregate-put-bytes : tie.Need-slice-aggregate-put-bytes Inv-loop μ-loop
+slice-aggregate-put-bytes c = search needs
+
+put-bytes-requires : tie.Need-put-bytes-requires Inv-loop μ-loop
+put-bytes-requires c κs = let l = each-room digits 0 ((c .before .before .before .before .before .before .before .before .args) .row .now) ((c .before .before .before .before .before .loop) .i) ((c .before .before .before .before .loop-test) .taken) in let m = printed-length ((c .before .before .before .before .before .loop) .inv .0) in search needs
+
+put-number-requires : tie.Need-put-number-requires Inv-loop μ-loop
+put-number-requires c κs = let l = each-room digits 0 ((c .before .before .before .before .before .before .before .before .before .before .before .before .args) .row .now) ((c .before .before .before .before .before .before .before .before .before .loop) .i) ((c .before .before .before .before .before .before .before .before .loop-test) .taken) in let m = printed-length ((c .before .before .before .before .before .before .before .before .before .loop) .inv .0) in let k = printed-length ((c .before .before .before .put-bytes) .ensures) in let e = ap (λ (n : ℕ). length (digits n)) ((c .before .before .before .before .before .before .wide) .ensures) in search needs
+
+add-i : tie.Need-add-i Inv-loop μ-loop
+add-i c = search needs
+
+loop-less : tie.Need-loop-less Inv-loop μ-loop
+loop-less c = search needs
+
+loop-again : tie.Need-loop-again Inv-loop μ-loop
+loop-again c = (numbers-next _ _ ((c .before .before .before .before .before .before .before .before .before .before .before .loop-test) .taken) ((c .before .before .before .before .before .before .before .before .before .before .before .before .loop) .inv .0) ((c .before .before .before .before .before .before .put-bytes) .ensures) ((c .before .before .put-number) .ensures) ((c .before .before .before .before .before .before .before .before .before .wide) .ensures), omega arith)
+
+same-length : tie.Need-same-length Inv-loop μ-loop
+same-length c = printed-length ((c .before .loop) .inv .0)
+
+returns : tie.Need-returns Inv-loop μ-loop
+returns c = numbers-all _ _ ((c .loop-test) .left) ((c .before .loop) .inv .0)
+
+pub put-numbers-spec : {M : Type 1} → statement M
+put-numbers-spec =
+    tie.close
+    (tie.spec
+    Inv-loop
+    μ-loop
+    loop-holds
+    mul-wide
+    shared-slice-read-wide
+    wide-requires
+    slice-aggregate-put-bytes
+    put-bytes-requires
+    put-number-requires
+    add-i
+    loop-less
+    loop-again
+    same-length
+    returns)

@@ -1,0 +1,42 @@
+-- `printing::lines::put_pair` meets its contract.
+use Rattle.printing.proofs.Written.{printed-length, pair-length, pair-all}
+use borrow.Author.Needs.{needs}
+use Rattle.printing.proofs.lines.put_pair.Statement.{statement}
+use Rattle.printing.proofs.lines.put_pair.Tie as tie
+use Rattle.printing.proofs.lines.put_pair.Reads as reads
+use Rattle.printing.proofs.lines.put_pair.Lts as lts
+use Rattle.printing.proofs.lines.put_bytes.Reads as put-bytes-reads
+use Rattle.printing.proofs.lines.put_number.Reads as put-number-reads
+
+put-bytes-requires : tie.Need-put-bytes-requires
+put-bytes-requires c κs = let l = pair-length ((c .before .before .before .args) .w .now) ((c .before .before .before .args) .m) ((c .before .before .before .args) .n) in search needs
+
+put-number-requires : tie.Need-put-number-requires
+put-number-requires c κs = let l = pair-length ((c .before .before .before .before .before .before .before .args) .w .now) ((c .before .before .before .before .before .before .before .args) .m) ((c .before .before .before .before .before .before .before .args) .n) in let p = printed-length ((c .before .before .before .put-bytes) .ensures) in search needs
+
+slice-aggregate-put-bytes : tie.Need-slice-aggregate-put-bytes
+slice-aggregate-put-bytes c = search needs
+
+put-bytes-requires-2 : tie.Need-put-bytes-requires-2
+put-bytes-requires-2 c κs = let l = pair-length ((c .before .before .before .before .before .before .before .before .before .before .before .before .args) .w .now) ((c .before .before .before .before .before .before .before .before .before .before .before .before .args) .m) ((c .before .before .before .before .before .before .before .before .before .before .before .before .args) .n) in let p = printed-length ((c .before .before .before .before .before .before .before .before .put-bytes) .ensures) in let q = printed-length ((c .before .before .before .before .put-number) .ensures) in search needs
+
+put-number-requires-2 : tie.Need-put-number-requires-2
+put-number-requires-2 c κs = let l = pair-length ((c .before .before .before .before .before .before .before .before .before .before .before .before .before .before .before .before .args) .w .now) ((c .before .before .before .before .before .before .before .before .before .before .before .before .before .before .before .before .args) .m) ((c .before .before .before .before .before .before .before .before .before .before .before .before .before .before .before .before .args) .n) in let p = printed-length ((c .before .before .before .before .before .before .before .before .before .before .before .before .put-bytes) .ensures) in let q = printed-length ((c .before .before .before .before .before .before .before .before .put-number) .ensures) in let r = printed-length ((c .before .before .before .put-bytes2) .ensures) in search needs
+
+same-length : tie.Need-same-length
+same-length c = search needs
+
+returns : tie.Need-returns
+returns c = pair-all ((c .before .before .before .before .before .before .before .before .before .before .before .before .before .before .before .before .before .before .before .args) .w .now) ((c .before .before .before .before .before .before .before .before .before .before .before .before .before .before .before .before .before .before .before .args) .m) ((c .before .before .before .before .before .before .before .before .before .before .before .before .before .before .before .before .before .before .before .args) .n) ((c .before .before .before .before .before .before .before .before .before .before .before .before .before .before .before .put-bytes) .ensures) ((c .before .before .before .before .before .before .before .before .before .before .before .put-number) .ensures) ((c .before .before .before .before .before .before .put-bytes2) .ensures) ((c .before .before .put-number2) .ensures)
+
+pub put-pair-spec : {M : Type 1} → statement M
+put-pair-spec =
+    tie.close
+    (tie.spec
+    put-bytes-requires
+    put-number-requires
+    slice-aggregate-put-bytes
+    put-bytes-requires-2
+    put-number-requires-2
+    same-length
+    returns)

@@ -1,0 +1,57 @@
+-- `printing::lines::put_pixels` meets its contract.
+use Prim.Native.Nat.{_-_, _≤_}
+use native.Mathlib.Omega.{arith}
+use lib.ListN.{length, take}
+use Rattle.grids.specs.Rows.{rowsOf}
+use Rattle.energy.specs.Pictures.{channelsOf}
+use Rattle.form.specs.Files.{blank, each, pixelText}
+use Rattle.printing.specs.Kernels.{Printed}
+use Rattle.printing.proofs.Written.{printed-length}
+use Rattle.printing.proofs.PixelRows.{pixel-inside, pixels-none, pixels-next, pixels-room, pixels-all}
+use borrow.Author.Needs.{needs}
+use Rattle.printing.proofs.lines.put_pixels.Statement.{statement}
+use Rattle.printing.proofs.lines.put_pixels.Tie as tie
+use Rattle.printing.proofs.lines.put_pixels.Reads as reads
+use Rattle.printing.proofs.lines.put_pixels.Lts as lts
+use Rattle.printing.proofs.lines.put_pixel.Reads as put-pixel-reads
+
+abbrev Inv-loop : tie.InvT-loop
+Inv-loop out₀ at kind samples n i₀ end₀ out i end = Printed out₀ at (each blank (pixelText kind) (take i (rowsOf (channelsOf kind) n samples))) out end × (i ≤ n)
+
+abbrev μ-loop : tie.MeasureT-loop
+μ-loop out₀ at kind samples n i₀ end₀ out i end = n - i
+
+loop-holds : tie.Need-loop-holds Inv-loop μ-loop
+loop-holds c = (pixels-none ((c .before .before .args) .kind) (rowsOf (channelsOf ((c .before .before .args) .kind)) ((c .before .before .args) .n) ((c .before .before .args) .samples .now)), omega arith)
+
+put-pixel-requires : tie.Need-put-pixel-requires Inv-loop μ-loop
+put-pixel-requires c κs = let p = pixel-inside ((c .before .before .before .before .before .args) .kind) ((c .before .before .before .before .before .args) .n) ((c .before .before .loop) .i) (length ((c .before .before .before .before .before .args) .samples .now)) (search needs) ((c .before .loop-test) .taken) in let l = pixels-room ((c .before .before .before .before .before .args) .kind) ((c .before .before .before .before .before .args) .samples .now) ((c .before .before .before .before .before .args) .n) ((c .before .before .loop) .i) ((c .before .loop-test) .taken) in let m = printed-length ((c .before .before .loop) .inv .0) in search needs
+
+add-i : tie.Need-add-i Inv-loop μ-loop
+add-i c = search needs
+
+loop-less : tie.Need-loop-less Inv-loop μ-loop
+loop-less c = search needs
+
+loop-again : tie.Need-loop-again Inv-loop μ-loop
+loop-again c = (pixels-next ((c .before .before .before .before .before .before .before .before .args) .kind) ((c .before .before .before .before .before .before .before .before .args) .samples .now) ((c .before .before .before .before .before .before .before .before .args) .n) ((c .before .before .before .before .before .loop) .i) ((c .before .before .before .before .loop-test) .taken) ((c .before .before .before .before .before .loop) .inv .0) ((c .before .before .put-pixel) .ensures), omega arith)
+
+same-length : tie.Need-same-length Inv-loop μ-loop
+same-length c = printed-length ((c .before .loop) .inv .0)
+
+returns : tie.Need-returns Inv-loop μ-loop
+returns c = pixels-all ((c .before .before .before .before .args) .kind) ((c .before .before .before .before .args) .samples .now) ((c .before .before .before .before .args) .n) ((c .before .loop) .i) ((c .loop-test) .left) ((c .before .loop) .inv .0)
+
+pub put-pixels-spec : {M : Type 1} → statement M
+put-pixels-spec =
+    tie.close
+    (tie.spec
+    Inv-loop
+    μ-loop
+    loop-holds
+    put-pixel-requires
+    add-i
+    loop-less
+    loop-again
+    same-length
+    returns)

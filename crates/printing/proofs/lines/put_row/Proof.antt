@@ -1,0 +1,59 @@
+-- `printing::lines::put_row` meets its contract.
+use mathlib.Core.Path.{ap}
+use Prim.Native.Nat.{ℕ, _/_}
+use lib.ListN.{length}
+use Rattle.grids.specs.Rows.{rowsOf}
+use Rattle.energy.specs.Pictures.{channelsOf}
+use Rattle.form.specs.Files.{blank, each, pixelText}
+use Rattle.printing.specs.Prints.{pixelsOf}
+use Rattle.printing.proofs.Written.{printed-length}
+use Rattle.printing.proofs.PixelRows.{channels-some, whole-by, row-parts, row-all}
+use borrow.Author.Needs.{needs}
+use Rattle.printing.proofs.lines.put_row.Statement.{statement}
+use Rattle.printing.proofs.lines.put_row.Tie as tie
+use Rattle.printing.proofs.lines.put_row.Reads as reads
+use Rattle.printing.proofs.lines.put_row.Lts as lts
+use Rattle.energy.proofs.channels.Reads as channels-reads
+use Rattle.printing.proofs.lines.put_bytes.Reads as put-bytes-reads
+use Rattle.printing.proofs.lines.put_pixels.Reads as put-pixels-reads
+
+channels-requires : tie.Need-channels-requires
+channels-requires c κs = search needs
+
+div-n : tie.Need-div-n
+div-n c = let s = channels-some ((c .before .before .before .args) .kind) in search needs
+
+slice-aggregate-put-bytes : tie.Need-slice-aggregate-put-bytes
+slice-aggregate-put-bytes c = search needs
+
+put-bytes-requires : tie.Need-put-bytes-requires
+put-bytes-requires c κs = let l = row-parts ((c .before .before .before .before .before .args) .kind) (pixelsOf ((c .before .before .before .before .before .args) .kind) ((c .before .before .before .before .before .args) .samples .now)) in search needs
+
+put-pixels-requires : tie.Need-put-pixels-requires
+put-pixels-requires c κs = let l = row-parts ((c .before .before .before .before .before .before .before .before .before .args) .kind) (pixelsOf ((c .before .before .before .before .before .before .before .before .before .args) .kind) ((c .before .before .before .before .before .before .before .before .before .args) .samples .now)) in let e = ap (λ (d : ℕ). length (each blank (pixelText ((c .before .before .before .before .before .before .before .before .before .args) .kind)) (rowsOf (channelsOf ((c .before .before .before .before .before .before .before .before .before .args) .kind)) ((length ((c .before .before .before .before .before .before .before .before .before .args) .samples .now)) / d) ((c .before .before .before .before .before .before .before .before .before .args) .samples .now)))) ((c .before .before .before .before .before .before .channels) .ensures) in let w = whole-by ((c .before .before .before .before .before .before .before .before .before .args) .kind) (length ((c .before .before .before .before .before .before .before .before .before .args) .samples .now)) _ ((c .before .before .before .before .before .before .channels) .ensures) in let p = printed-length ((c .before .before .before .put-bytes) .ensures) in search needs
+
+slice-aggregate-put-bytes-2 : tie.Need-slice-aggregate-put-bytes-2
+slice-aggregate-put-bytes-2 c = search needs
+
+put-bytes-requires-2 : tie.Need-put-bytes-requires-2
+put-bytes-requires-2 c κs = let l = row-parts ((c .before .before .before .before .before .before .before .before .before .before .before .before .before .before .args) .kind) (pixelsOf ((c .before .before .before .before .before .before .before .before .before .before .before .before .before .before .args) .kind) ((c .before .before .before .before .before .before .before .before .before .before .before .before .before .before .args) .samples .now)) in let e = ap (λ (d : ℕ). length (each blank (pixelText ((c .before .before .before .before .before .before .before .before .before .before .before .before .before .before .args) .kind)) (rowsOf (channelsOf ((c .before .before .before .before .before .before .before .before .before .before .before .before .before .before .args) .kind)) ((length ((c .before .before .before .before .before .before .before .before .before .before .before .before .before .before .args) .samples .now)) / d) ((c .before .before .before .before .before .before .before .before .before .before .before .before .before .before .args) .samples .now)))) ((c .before .before .before .before .before .before .before .before .before .before .before .channels) .ensures) in let p = printed-length ((c .before .before .before .before .before .before .before .before .put-bytes) .ensures) in let q = printed-length ((c .before .before .before .before .put-pixels) .ensures) in search needs
+
+same-length : tie.Need-same-length
+same-length c = search needs
+
+returns : tie.Need-returns
+returns c = row-all ((c .before .before .before .before .before .before .before .before .before .before .before .before .before .before .before .before .before .args) .kind) (pixelsOf ((c .before .before .before .before .before .before .before .before .before .before .before .before .before .before .before .before .before .args) .kind) ((c .before .before .before .before .before .before .before .before .before .before .before .before .before .before .before .before .before .args) .samples .now)) ((c .before .before .before .before .before .before .before .before .before .before .before .put-bytes) .ensures) (rw ((c .before .before .before .before .before .before .before .before .before .before .before .before .before .before .channels) .ensures) at ((c .before .before .before .before .before .before .before .put-pixels) .ensures)) ((c .before .before .put-bytes2) .ensures)
+
+pub put-row-spec : {M : Type 1} → statement M
+put-row-spec =
+    tie.close
+    (tie.spec
+    channels-requires
+    div-n
+    slice-aggregate-put-bytes
+    put-bytes-requires
+    put-pixels-requires
+    slice-aggregate-put-bytes-2
+    put-bytes-requires-2
+    same-length
+    returns)
