@@ -149,7 +149,7 @@ clear-range : (t : List ℕ) → clear (range ++ t)
 unfolding range isDigit
 clear-range t = refl
 
-clear-closed : (t : List ℕ) → clear (closed ++ t)
+pub clear-closed : (t : List ℕ) → clear (closed ++ t)
 unfolding closed isDigit
 clear-closed t = refl
 

@@ -25,10 +25,6 @@ use Rattle.form.proofs.Pairs.{front}
 use Rattle.printing.proofs.Rooms.{less-then, less-none-then}
 use Rattle.printing.proofs.Written.{printed-none, printed-more, each-more, each-room, pair-length}
 
-pub channels-some : (k : Kind) → 0 < channelsOf k
-channels-some Grey = omega arith
-channels-some Rgb = omega arith
-
 pub whole-pixels : (k : Kind) (n : ℕ) → n / channelsOf k * channelsOf k ≤ n
 whole-pixels Grey n = omega (arith, div-add-mod' n 1)
 whole-pixels Rgb n = omega (arith, div-add-mod' n 3)

@@ -5,3 +5,7 @@ pub mod WordSteps
 pub mod FormSteps
 pub mod Onward
 pub mod WholeText
+pub mod Figures
+pub mod LineSteps
+pub mod LinesTaken
+pub mod Callers

@@ -64,11 +64,11 @@ count-line {A} g s = go (items g s)
     go none = refl
     go (some r) = last (r .0) (strip lineEnd (r .1))
 
-rest-map : (s : List ℕ) → lineRest Numbers s ≡ on (line (number 65535) s) (λ xs. give (length xs))
+pub rest-map : (s : List ℕ) → lineRest Numbers s ≡ on (line (number 65535) s) (λ xs. give (length xs))
 unfolding lineRest formOf counted
 rest-map s = sym (count-line (number 65535) s)
 
-rest-row : (k : Kind) (s : List ℕ) → lineRest (itemsOf k) s ≡ on (line (pixel k) s) (λ xs. give (length xs))
+pub rest-row : (k : Kind) (s : List ℕ) → lineRest (itemsOf k) s ≡ on (line (pixel k) s) (λ xs. give (length xs))
 unfolding lineRest formOf counted itemsOf pixel
 rest-row Grey s = rw (← count-map (λ a. a ∷ []) (number 255) s) (sym (count-line _ s))
 rest-row Rgb s = sym (count-line _ s)

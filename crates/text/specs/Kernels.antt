@@ -2,14 +2,14 @@
 use mathlib.Core.Path.{_≡_}
 use mathlib.Core.Bool.{Bool, _&&_, cond}
 use mathlib.Core.Option.{Option, none, some}
-use mathlib.Core.List.{List}
-use Prim.Native.Nat.{ℕ, _≤_}
+use mathlib.Core.List.{List, [], _∷_}
+use Prim.Native.Nat.{ℕ, zero, suc, _≤_}
 use lib.Dec.{ltb}
 use lib.ListN.{length, drop}
 use Rattle.energy.specs.declared.pictures.Kind.{Kind}
 use Rattle.energy.specs.declared.pictures.Kind.the-variants.{Grey, Rgb}
 use Rattle.form.specs.Readers.{Get, give, on, _▷_, after, many}
-use Rattle.form.specs.Decimal.{number}
+use Rattle.form.specs.Decimal.{number, isDigit}
 use Rattle.form.specs.Files.{lineEnd, closed, rowWord, mapWord, headGet}
 use Rattle.text.specs.declared.forms.Items.{Items}
 use Rattle.text.specs.declared.forms.Items.the-variants.{Samples, Pixels, Numbers}
@@ -60,3 +60,30 @@ unfoldable pub scanOf : Get Facts
 scanOf =
     headGet ▷ λ h. linesOf rowWord (itemsOf (h .size .kind)) (h .size .width) ▷ λ r. linesOf mapWord Numbers (h .size .width) ▷ λ m.
     after closed (give (record { head = h; rows = r .0; maps = m .0; full = r .1 && m .1 }))
+
+-- The bytes from the first digit on.
+unfoldable pub skipped : List ℕ → List ℕ
+skipped [] = []
+skipped (b ∷ s) = cond (isDigit b) (b ∷ s) (skipped s)
+
+-- The next number, whatever stands before it; and the next n numbers.
+unfoldable pub figure : Get ℕ
+figure s = number 65535 (skipped s)
+
+abbrev pub also : Option (ℕ × List ℕ) → (List ℕ → List ℕ) → List ℕ
+also none f = []
+also (some r) f = r .0 ∷ f (r .1)
+
+unfoldable pub figures : ℕ → List ℕ → List ℕ
+figures zero s = []
+figures (suc n) s = also (figure s) (figures n)
+
+-- n numbers come next, none over the limit.
+abbrev pub Coming : ℕ → ℕ → List ℕ → Type 0
+Coming limit zero s = Unit
+Coming limit (suc n) s = (r : ℕ × List ℕ) × (figure s ≡ some r) × (r .0 ≤ limit) × Coming limit n (r .1)
+
+-- n numbers come next at a place of a text, and the space has room for them.
+pub record Fitting (limit n : ℕ) (text : List ℕ) (at : ℕ) (out : List ℕ) : Type 0 where
+  pub coming : Coming limit n (drop at text)
+  pub room : n ≤ length out

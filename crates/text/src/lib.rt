@@ -1,6 +1,7 @@
 // The text of a multi-size file, read.
 pub mod cursor;
 pub mod forms;
+pub mod lines;
 pub mod scanning;
 pub mod words;
 

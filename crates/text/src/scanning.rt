@@ -40,7 +40,7 @@ pub enum Scanned {
     Broken,
 }
 
-fn items_of(kind: Kind) -> Items
+pub(crate) fn items_of(kind: Kind) -> Items
     ensures { λ r. ⌜ r ≡ itemsOf kind ⌝ }
 {
     match kind {

@@ -1,7 +1,8 @@
 -- `printing::lengths::row_left` meets its contract.
 use mathlib.Core.Path.{_∙_}
 use lib.ListN.{length}
-use Rattle.printing.proofs.PixelRows.{channels-some, whole-by, row-room, row-no-room}
+use Rattle.energy.proofs.Sizes.{channels-some}
+use Rattle.printing.proofs.PixelRows.{whole-by, row-room, row-no-room}
 use borrow.Author.Needs.{needs}
 use Rattle.printing.proofs.lengths.row_left.Statement.{statement}
 use Rattle.printing.proofs.lengths.row_left.Tie as tie

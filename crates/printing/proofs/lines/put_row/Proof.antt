@@ -7,7 +7,8 @@ use Rattle.energy.specs.Pictures.{channelsOf}
 use Rattle.form.specs.Files.{blank, each, pixelText}
 use Rattle.printing.specs.Prints.{pixelsOf}
 use Rattle.printing.proofs.Written.{printed-length}
-use Rattle.printing.proofs.PixelRows.{channels-some, whole-by, row-parts, row-all}
+use Rattle.energy.proofs.Sizes.{channels-some}
+use Rattle.printing.proofs.PixelRows.{whole-by, row-parts, row-all}
 use borrow.Author.Needs.{needs}
 use Rattle.printing.proofs.lines.put_row.Statement.{statement}
 use Rattle.printing.proofs.lines.put_row.Tie as tie

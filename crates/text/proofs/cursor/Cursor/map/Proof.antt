@@ -1,0 +1,83 @@
+-- `text::cursor::Cursor::map` meets its contract.
+use mathlib.Core.Option.{some}
+use native.Mathlib.Omega.{arith}
+use Rattle.form.specs.Files.{mapWord}
+use Rattle.text.specs.Answers.{Told}
+use Rattle.text.specs.Lines.{mapLine}
+use Rattle.text.specs.Kernels.{passing}
+use Rattle.text.proofs.LinesTaken.{Found, map-no-word, map-torn, map-found, found-coming, found-long, found-fits}
+use borrow.Author.Needs.{needs}
+use Rattle.text.proofs.cursor.Cursor.map.Statement.{statement}
+use Rattle.text.proofs.cursor.Cursor.map.Tie as tie
+use Rattle.text.proofs.cursor.Cursor.map.Reads as reads
+use Rattle.text.proofs.cursor.Cursor.map.Lts as lts
+use Rattle.text.proofs.cursor.Cursor.numbers.Reads as numbers-reads
+use Rattle.text.proofs.cursor.Cursor.past.Reads as past-reads
+use Rattle.text.proofs.cursor.Cursor.rest.Reads as rest-reads
+
+-- The word stands there.
+begun : (c : tie.After-c) → let a = c .before .before .before .before .before .before .args in Told (passing mapWord) (a .text .now) (a .self .at) (some (c .c .given .0 .0, c .c .given .0 .1 .0 .at))
+unfolding mapWord
+begun c = rw (c .c .given .1) at (c .before .before .past .ensures)
+
+-- The line has its form.
+found : (c : tie.After-n) → let a = c .before .before .before .before .before .before .before .before .before .before .args in Found mapLine 65535 (a .text .now) (a .self .at) (c .before .before .before .before .c .given .0 .1 .0 .at) (c .n .given .0 .0) (c .n .given .0 .1 .0 .at)
+found c = map-found (begun (c .before .before .before .before)) (rw (c .n .given .1) at (c .before .before .rest .ensures))
+
+slice-aggregate-past : tie.Need-slice-aggregate-past
+slice-aggregate-past c = search needs
+
+past-requires : tie.Need-past-requires
+past-requires c κs = search needs
+
+enum-known-c : tie.Need-enum-known-c
+enum-known-c c = search needs
+
+enum-told : tie.Need-enum-told
+enum-told c = search needs
+
+returns : tie.Need-returns
+unfolding mapWord
+returns c = map-no-word (rw (c .enum-told .given .1) at (c .before .before .past .ensures))
+
+rest-requires : tie.Need-rest-requires
+rest-requires c κs = search needs
+
+enum-known-n : tie.Need-enum-known-n
+enum-known-n c = search needs
+
+enum-told-2 : tie.Need-enum-told-2
+enum-told-2 c = search needs
+
+returns-2 : tie.Need-returns-2
+returns-2 c = map-torn (begun (c .before .before .before .before)) (rw (c .enum-told2 .given .1) at (c .before .before .rest .ensures))
+
+returns-3 : tie.Need-returns-3
+returns-3 c = found-long (found (c .before .before)) (c .if1 .taken)
+
+numbers-requires : tie.Need-numbers-requires
+numbers-requires c κs = record { coming = found-coming (found (c .before .before .before)) (omega arith); room = c .before .if1 .left }
+
+same-length : tie.Need-same-length
+same-length c = search needs
+
+returns-4 : tie.Need-returns-4
+returns-4 c = found-fits (found (c .before .before .before .before .before .before)) (omega arith) (c .before .before .before .before .if1 .left) (c .before .before .numbers .ensures)
+
+pub map-spec : {M : Type 1} → statement M
+map-spec =
+    tie.close
+    (tie.spec
+    slice-aggregate-past
+    past-requires
+    enum-known-c
+    enum-told
+    returns
+    rest-requires
+    enum-known-n
+    enum-told-2
+    returns-2
+    returns-3
+    numbers-requires
+    same-length
+    returns-4)

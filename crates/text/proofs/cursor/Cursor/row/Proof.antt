@@ -1,0 +1,104 @@
+-- `text::cursor::Cursor::row` meets its contract.
+use mathlib.Core.Option.{some}
+use Prim.Native.Nat.{_*_}
+use native.Mathlib.Omega.{arith}
+use Rattle.energy.proofs.Sizes.{channels-some}
+use Rattle.form.specs.Files.{rowWord}
+use Rattle.text.specs.Answers.{Told}
+use Rattle.text.specs.Lines.{rowLine}
+use Rattle.text.specs.Kernels.{passing}
+use Rattle.text.proofs.LinesTaken.{Found, row-no-word, row-torn, row-found, found-coming, found-long, found-fits, pixels-fit, pixels-over}
+use borrow.Author.Needs.{needs}
+use Rattle.text.proofs.cursor.Cursor.row.Statement.{statement}
+use Rattle.text.proofs.cursor.Cursor.row.Tie as tie
+use Rattle.text.proofs.cursor.Cursor.row.Reads as reads
+use Rattle.text.proofs.cursor.Cursor.row.Lts as lts
+use Rattle.energy.proofs.channels.Reads as channels-reads
+use Rattle.text.proofs.cursor.Cursor.past.Reads as past-reads
+use Rattle.text.proofs.cursor.Cursor.rest.Reads as rest-reads
+use Rattle.text.proofs.cursor.Cursor.samples.Reads as samples-reads
+use Rattle.text.proofs.scanning.items_of.Reads as items-of-reads
+
+-- The word stands there.
+begun : (c : tie.After-c) → let a = c .before .before .before .before .before .before .args in Told (passing rowWord) (a .text .now) (a .self .at) (some (c .c .given .0 .0, c .c .given .0 .1 .0 .at))
+unfolding rowWord
+begun c = rw (c .c .given .1) at (c .before .before .past .ensures)
+
+-- The line has its form.
+found : (c : tie.After-channels) → let a = c .before .before .before .before .before .before .before .before .before .before .before .before .before .args in
+    Found (rowLine (a .kind)) 255 (a .text .now) (a .self .at) (c .before .before .before .before .before .before .before .c .given .0 .1 .0 .at) (c .before .before .n .given .0 .0 * c .channels .result) (c .before .before .n .given .0 .1 .0 .at)
+found c = row-found (c .before .before .before .before .before .before .before .before .before .before .before .before .before .args .kind) (begun (c .before .before .before .before .before .before .before)) (rw (c .before .before .before .before .before .items-of .ensures, c .before .before .n .given .1) at (c .before .before .before .before .rest .ensures)) (c .channels .ensures)
+
+slice-aggregate-past : tie.Need-slice-aggregate-past
+slice-aggregate-past c = search needs
+
+past-requires : tie.Need-past-requires
+past-requires c κs = search needs
+
+enum-known-c : tie.Need-enum-known-c
+enum-known-c c = search needs
+
+enum-told : tie.Need-enum-told
+enum-told c = search needs
+
+returns : tie.Need-returns
+unfolding rowWord
+returns c = row-no-word (c .before .before .before .before .before .before .args .kind) (rw (c .enum-told .given .1) at (c .before .before .past .ensures))
+
+items-of-requires : tie.Need-items-of-requires
+items-of-requires c κs = search needs
+
+rest-requires : tie.Need-rest-requires
+rest-requires c κs = search needs
+
+enum-known-n : tie.Need-enum-known-n
+enum-known-n c = search needs
+
+enum-told-2 : tie.Need-enum-told-2
+enum-told-2 c = search needs
+
+returns-2 : tie.Need-returns-2
+returns-2 c = row-torn (c .before .before .before .before .before .before .before .before .before .before .before .args .kind) (begun (c .before .before .before .before .before)) (rw (c .before .before .before .items-of .ensures, c .enum-told2 .given .1) at (c .before .before .rest .ensures))
+
+channels-requires : tie.Need-channels-requires
+channels-requires c κs = search needs
+
+div-if1 : tie.Need-div-if1
+div-if1 c = let s = channels-some (c .before .before .before .before .before .before .before .before .before .before .before .before .before .args .kind) in search needs
+
+returns-3 : tie.Need-returns-3
+returns-3 c = found-long (found (c .before)) (pixels-over (c .before .before .before .before .before .before .before .before .before .before .before .before .before .before .args .kind) (c .before .channels .result) _ _ (c .before .channels .ensures) (c .if1 .taken))
+
+mul-count : tie.Need-mul-count
+mul-count c = let f = pixels-fit (c .before .before .before .before .before .before .before .before .before .before .before .before .before .before .args .kind) (c .before .channels .result) _ _ (c .before .channels .ensures) (c .if1 .left) in search needs
+
+samples-requires : tie.Need-samples-requires
+samples-requires c κs = record { coming = found-coming (found (c .before .before)) (omega arith); room = pixels-fit (c .before .before .before .before .before .before .before .before .before .before .before .before .before .before .before .args .kind) (c .before .before .channels .result) _ _ (c .before .before .channels .ensures) (c .before .if1 .left) }
+
+same-length : tie.Need-same-length
+same-length c = search needs
+
+returns-4 : tie.Need-returns-4
+returns-4 c = found-fits (found (c .before .before .before .before .before)) (omega arith) (pixels-fit (c .before .before .before .before .before .before .before .before .before .before .before .before .before .before .before .before .before .before .args .kind) (c .before .before .before .before .before .channels .result) _ _ (c .before .before .before .before .before .channels .ensures) (c .before .before .before .before .if1 .left)) (c .before .before .samples .ensures)
+
+pub row-spec : {M : Type 1} → statement M
+row-spec =
+    tie.close
+    (tie.spec
+    slice-aggregate-past
+    past-requires
+    enum-known-c
+    enum-told
+    returns
+    items-of-requires
+    rest-requires
+    enum-known-n
+    enum-told-2
+    returns-2
+    channels-requires
+    div-if1
+    returns-3
+    mul-count
+    samples-requires
+    same-length
+    returns-4)
