@@ -26,7 +26,7 @@ module _ {A : Type 0} where
   consIf-more true x xs ys s = Sublistᴰ·cons s
   consIf-more false x xs ys s = s
 
-  length-consIf : (b : Bool) (x : A) (xs : List A) → length (consIf b x xs) ≡ tick b (length xs)
+  pub length-consIf : (b : Bool) (x : A) (xs : List A) → length (consIf b x xs) ≡ tick b (length xs)
   length-consIf true x xs = refl
   length-consIf false x xs = refl
 
@@ -37,7 +37,7 @@ module _ {A : Type 0} where
   keep-sub t u (x ∷ xs) (v ∷ ys) h =
       consIf-sub (remains u v) (remains t v) x (keepRow (remains u) xs ys) (keepRow (remains t) xs ys) (remains-earlier t u v h) (keep-sub t u xs ys h)
 
-  length-keep : (t : ℕ) (xs : List A) (ys : List ℕ) → length xs ≡ length ys → length (keepRow (remains (suc t)) xs ys) + doubledIn t ys ≡ length xs
+  pub length-keep : (t : ℕ) (xs : List A) (ys : List ℕ) → length xs ≡ length ys → length (keepRow (remains (suc t)) xs ys) + doubledIn t ys ≡ length xs
   length-keep t [] [] e = refl
   length-keep t [] (v ∷ ys) e = absurd (omega arith)
   length-keep t (x ∷ xs) [] e = absurd (omega arith)
@@ -91,7 +91,7 @@ module _ {A : Type 0} (mean : A → A → A) where
   grow-more t u [] ys h = Sublistᴰ·slnil
   grow-more t u (x ∷ xs) ys h = from-more t u x (x ∷ xs) ys h
 
-  length-grow : (u : ℕ) (xs : List A) (ys : List ℕ) → length xs ≡ length ys → length (growRow mean u xs ys) ≡ length xs + doubledIn u ys
+  pub length-grow : (u : ℕ) (xs : List A) (ys : List ℕ) → length xs ≡ length ys → length (growRow mean u xs ys) ≡ length xs + doubledIn u ys
   length-grow u [] [] e = refl
   length-grow u [] (v ∷ ys) e = absurd (omega arith)
   length-grow u (x ∷ xs) ys e = length-from u x (x ∷ xs) ys e

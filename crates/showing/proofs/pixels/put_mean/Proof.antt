@@ -1,0 +1,43 @@
+-- `showing::pixels::put_mean` meets its contract: each kind's channels are those of the function called.
+use mathlib.Core.Path.{ap}
+use Rattle.energy.specs.Pictures.{channelsOf}
+use borrow.Author.Needs.{needs}
+use Rattle.showing.proofs.pixels.put_mean.Statement.{statement}
+use Rattle.showing.proofs.pixels.put_mean.Tie as tie
+
+enum-told : tie.Need-enum-told
+enum-told c = search needs
+
+grey-mean-requires : tie.Need-grey-mean-requires
+grey-mean-requires c κs = rw (ap channelsOf (c .before .enum-told .given .1)) at (c .before .before .before .before .before .pre)
+
+enum-told-2 : tie.Need-enum-told-2
+enum-told-2 c = search needs
+
+rgb-mean-requires : tie.Need-rgb-mean-requires
+rgb-mean-requires c κs = rw (ap channelsOf (c .before .enum-told2 .given .1)) at (c .before .before .before .before .before .pre)
+
+same-length : tie.Need-same-length
+same-length c = search needs
+
+returns : tie.Need-returns
+returns c = rw (ap channelsOf (c .before .before .before .before .enum-told .given .1)) (c .before .before .grey-mean .ensures)
+
+same-length-2 : tie.Need-same-length-2
+same-length-2 c = search needs
+
+returns-2 : tie.Need-returns-2
+returns-2 c = rw (ap channelsOf (c .before .before .before .before .enum-told2 .given .1)) (c .before .before .rgb-mean .ensures)
+
+pub put-mean-spec : {M : Type 1} → statement M
+put-mean-spec =
+    tie.close
+    (tie.spec
+    enum-told
+    grey-mean-requires
+    enum-told-2
+    rgb-mean-requires
+    same-length
+    returns
+    same-length-2
+    returns-2)

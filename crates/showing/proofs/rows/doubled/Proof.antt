@@ -1,0 +1,14 @@
+-- `showing::rows::doubled` meets its contract.
+use Rattle.showing.proofs.Lengths.{doubled-none, doubled-some}
+use borrow.Author.Needs.{needs}
+use Rattle.showing.proofs.rows.doubled.Statement.{statement}
+use Rattle.showing.proofs.rows.doubled.Tie as tie
+
+returns : tie.Need-returns
+returns c = doubled-none _ _ (c .if1 .taken)
+
+returns-2 : tie.Need-returns-2
+returns-2 c = doubled-some _ _ (c .if1 .left)
+
+pub doubled-spec : {M : Type 1} → statement M
+doubled-spec = tie.close (tie.spec returns returns-2)

@@ -1,0 +1,14 @@
+-- `showing::rows::stays` meets its contract.
+use Rattle.showing.proofs.Lengths.{stays-none, stays-some}
+use borrow.Author.Needs.{needs}
+use Rattle.showing.proofs.rows.stays.Statement.{statement}
+use Rattle.showing.proofs.rows.stays.Tie as tie
+
+returns : tie.Need-returns
+returns c = stays-none _ _ (c .if1 .taken)
+
+returns-2 : tie.Need-returns-2
+returns-2 c = stays-some _ _ (c .if1 .left)
+
+pub stays-spec : {M : Type 1} → statement M
+stays-spec = tie.close (tie.spec returns returns-2)
