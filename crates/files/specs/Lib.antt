@@ -1,3 +1,4 @@
 pub mod Contents
 pub mod Rules
 pub mod Shows
+pub mod Demands
