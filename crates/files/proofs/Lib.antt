@@ -3,4 +3,8 @@ pub mod Lengths
 pub mod Shaped
 pub mod Checked
 pub mod Accepting
+pub mod WellFormed
 pub mod Refused
+pub mod Pixels
+pub mod Built
+pub mod Demands

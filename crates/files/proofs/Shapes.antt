@@ -2,7 +2,7 @@
 use mathlib.Core.Path.{_≡_}
 use mathlib.Core.Logic.{_↔_}
 use mathlib.Core.Bool.{Bool, true, and-eq-true-iff}
-use mathlib.Core.List.{List}
+use mathlib.Core.List.{List, [], _∷_}
 use Prim.Native.Nat.{ℕ}
 use lib.Dec.{eqb}
 use lib.ListN.{length}
@@ -15,6 +15,10 @@ use Rattle.form.specs.Files.{All}
 use Rattle.files.specs.Rules.{filled}
 
 module _ {A : Type 0} where
+  pub all-all : {P Q : A → Type 0} → ((x : A) → P x → Q x) → (xs : List A) → All P xs → All Q xs
+  all-all h [] a = tt
+  all-all h (x ∷ xs) a = (h x (a .0), all-all h xs (a .1))
+
   pub all-each : {P Q : A → Type 0} {n : ℕ} {xs : List A} → ((x : A) → P x → Q x) → Each P n xs → All Q xs
   all-each h none = tt
   all-each h (more {x = x} p e) = (h x p, all-each h e)

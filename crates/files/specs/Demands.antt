@@ -1,6 +1,7 @@
--- What the demands on files speak of besides: allowed pictures, and well-formed files.
+-- What the demands on files speak of besides.
 use mathlib.Core.Path.{_≡_}
 use mathlib.Core.Logic.{_⊎_}
+use mathlib.Core.Option.{some}
 use mathlib.Core.List.{List}
 use Prim.Native.Nat.{ℕ, _<_}
 use lib.ListN.{length}
@@ -8,8 +9,10 @@ use Rattle.grids.specs.Each.{Each}
 use Rattle.energy.specs.declared.pictures.Size.{Size}
 use Rattle.energy.specs.Refusals.{refusal}
 use Rattle.energy.specs.Pictures.{Picture, sideRules}
-use Rattle.form.specs.Files.{Pixel}
+use Rattle.maps.specs.Widths.{offered}
+use Rattle.form.specs.Files.{All, Pixel}
 use Rattle.files.specs.Rules.{checkRules}
+use Rattle.files.specs.Shows.{Accepted, offers, Drawn, shows, original}
 
 -- "A picture is allowed when 'Pictures' admits its size and kind": sides of 1 to 512, and as many rows of as many pixels as
 -- they say, each with as many samples as its kind says, each sample a byte.
@@ -22,3 +25,19 @@ abbrev pub WellFormed : List ℕ → Type 0
 WellFormed file =
     (work : List ℕ) → (refusal (checkRules file (length work)) ≡ 8 → ⊥)
     → (refusal (checkRules file (length work)) ≡ 0) ⊎ (9 < refusal (checkRules file (length work)))
+
+-- A list of bytes that is accepted, shows the picture p of size z at its original width, and offers the widths of depth k and
+-- growth g.
+pub record FileFor (z : Size) (p : Picture) (k g : ℕ) (file : List ℕ) : Type 0 where
+  pub bytes-are : All (λ (b : ℕ). b < 256) file
+  pub is-accepted : Accepted file
+  pub width-is : original file ≡ z .width
+  pub picture-is : shows file (z .width) ≡ some (record { size = z; rows = p })
+  pub widths-are : (v : ℕ) → offers file v ≡ offered (z .width) k g v
+
+-- What a file shows at width v: a picture of this width, each pixel with as many samples as its kind says, each a byte.
+pub record ShownAt (file : List ℕ) (v : ℕ) : Type 0 where
+  pub drawn : Drawn
+  pub shown : shows file v ≡ some drawn
+  pub width : drawn .size .width ≡ v
+  pub pixels : Each (Each (Pixel (drawn .size .kind)) v) (drawn .size .height) (drawn .rows)

@@ -3,4 +3,5 @@ pub mod Many
 pub mod Decimals
 pub mod Files
 pub mod Lengths
+pub mod Ascii
 pub mod Points
