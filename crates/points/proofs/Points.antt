@@ -2,16 +2,30 @@
 use mathlib.Core.Path.{_≡_, refl}
 use mathlib.Core.List.{List, [], _∷_, map, zipWith, flatMap}
 use Prim.Native.Nat.{ℕ}
+use Rattle.grids.specs.Rows.{flat}
 use Rattle.grids.specs.Cut.{removeAt, cut}
 use Rattle.cheapest.specs.Best.{better, firstBest}
 use Rattle.cheapest.specs.Paths.{run, select, pathsUp, paths, cost, beside, nearby}
 use Rattle.energy.specs.declared.pictures.Kind.the-variants.{Grey}
 use Rattle.energy.specs.declared.pictures.Size.{Size}
-use Rattle.energy.specs.Pictures.{Picture, picture}
+use Rattle.energy.specs.Refusals.{refusal}
+use Rattle.energy.specs.Pictures.{Picture, picture, bytes}
 use Rattle.energy.specs.Energy.{difference, energy, energies}
+use Rattle.maps.specs.Maps.{numberRow, number}
+use Rattle.maps.specs.Widths.{allowed, offered, stays, doubled, rowAtWidth, shown}
+use Rattle.maps.specs.Judged.{numbers, remains, before, connected, found}
+use Rattle.form.specs.declared.Head.{Head}
+use Rattle.form.specs.Readers.{strip, next, manyUpTo, many}
+use Rattle.form.specs.Decimal.{digitsUpTo, digits, isDigit, further, upTo}
+use Rattle.form.specs.Files.{lineEnd, blank, opening, closing, start, range, closed, rowWord, mapWord, greyWord, rgbWord, each, joined, kindText, pixelText, lineText, headText, text, kindGet, items, three, pixel, line, headGet, file, whole, parse}
+use Rattle.form.proofs.Points.{shownText}
 use Rattle.finding.specs.Seams.{seamOf, costOf}
 use Rattle.removal.specs.Objects.{MarkedPicture, Ending, done, narrow, spent, blocked, Removed, someTwo, removal}
 use Rattle.removal.specs.Removing.{markedPicture}
+use Rattle.showing.specs.Showing.{average}
+use Rattle.files.specs.Contents.{partsOf, fileOf}
+use Rattle.files.specs.Rules.{filled, checkRules, showRules}
+use Rattle.files.specs.Shows.{shows, drawnBytes}
 
 -- A row of the table: what a definition gives, and what it should.
 pub record Point : Type 0 where
@@ -27,6 +41,17 @@ example = picture (grey 3 2) (10 ∷ 10 ∷ 40 ∷ 10 ∷ 50 ∷ 40 ∷ [])
 
 abbrev afterOne : Picture
 afterOne = cut (2 ∷ 2 ∷ []) example
+
+-- The file of a grey picture of so many columns and rows, of depth k and growth g.
+abbrev greyHead : ℕ → ℕ → ℕ → ℕ → Head
+greyHead w h k g = record { size = grey w h; depth = k; growth = g }
+
+abbrev greyFile : ℕ → ℕ → ℕ → ℕ → List ℕ → List ℕ
+greyFile w h k g b = fileOf (greyHead w h k g) (picture (grey w h) b)
+
+-- The example's, of depth 2 and growth 1.
+abbrev exampleFile : List ℕ
+exampleFile = greyFile 3 2 2 1 (10 ∷ 10 ∷ 40 ∷ 10 ∷ 50 ∷ 40 ∷ [])
 
 -- An ending by its place among the four, and its count.
 abbrev placeOf : Ending → ℕ
@@ -48,10 +73,26 @@ table =
     -- its second, in the picture left: columns 0, 1, cost 0
     ∷ record { got = seamOf 2 2 afterOne; expected = 0 ∷ 1 ∷ [] }
     ∷ record { got = costOf 2 2 afterOne ∷ []; expected = 0 ∷ [] }
+    -- its file in full
+    ∷ record { got = exampleFile; expected = shownText }
+    -- width 2 is 10 10 / 10 50, width 1 is 10 / 10, width 4 is 10 10 25 40 / 10 50 45 40
+    ∷ record { got = drawnBytes (shows exampleFile 2); expected = 10 ∷ 10 ∷ 10 ∷ 50 ∷ [] }
+    ∷ record { got = drawnBytes (shows exampleFile 1); expected = 10 ∷ 10 ∷ [] }
+    ∷ record { got = drawnBytes (shows exampleFile 4); expected = 10 ∷ 10 ∷ 25 ∷ 40 ∷ 10 ∷ 50 ∷ 45 ∷ 40 ∷ [] }
+    -- widths 0 and 5 give 7
+    ∷ record { got = refusal (showRules exampleFile 0 10 192) ∷ []; expected = 7 ∷ [] }
+    ∷ record { got = refusal (showRules exampleFile 5 10 192) ∷ []; expected = 7 ∷ [] }
+    -- 1 by 1: range 0 0 accepted
+    ∷ record { got = refusal (checkRules (greyFile 1 1 0 0 (7 ∷ [])) 32) ∷ []; expected = 0 ∷ [] }
+    -- range 1 1 at width 2 accepted, range 1 2 refused by 6
+    ∷ record { got = refusal (checkRules (greyFile 2 1 1 1 (10 ∷ 40 ∷ [])) 64) ∷ []; expected = 0 ∷ [] }
+    ∷ record { got = refusal (checkRules (greyFile 2 1 1 2 (10 ∷ 40 ∷ [])) 64) ∷ []; expected = 6 ∷ [] }
+    -- all samples equal, 3 by 1: map 1 2 0 at depth 2
+    ∷ record { got = flat (partsOf (greyHead 3 1 2 0) (picture (grey 3 1) (7 ∷ 7 ∷ 7 ∷ [])) .maps); expected = 1 ∷ 2 ∷ 0 ∷ [] }
     -- budget 0 with a mark 2 at width 2: spent, 0
     ∷ record { got = ended (removal 0 0 (markedPicture (grey 2 1) (10 ∷ 40 ∷ []) (0 ∷ 2 ∷ []))); expected = placeOf spent ∷ 0 ∷ [] }
     ∷ []
 
 pub points : map (λ p. p .got) table ≡ map (λ p. p .expected) table
-unfolding picture energy difference seamOf costOf paths pathsUp cost nearby beside select run better firstBest removeAt cut zipWith flatMap someTwo removal
+unfolding picture bytes energy difference seamOf costOf paths pathsUp cost nearby beside select run better firstBest removeAt cut zipWith flatMap someTwo removal numberRow number allowed offered stays doubled rowAtWidth shown numbers remains before connected found strip next manyUpTo many digitsUpTo digits isDigit further upTo Rattle.form.specs.Decimal.number lineEnd blank opening closing start range closed rowWord mapWord greyWord rgbWord each joined kindText pixelText lineText headText text kindGet items three pixel line headGet file whole parse average fileOf filled shows
 points = refl
