@@ -1,7 +1,6 @@
 -- Which files are accepted: those that are built from an allowed picture and range, and no others.
 use mathlib.Core.Path.{_≡_, refl, sym, ap, _∙_}
 use mathlib.Core.Logic.{_↔_}
-use mathlib.Core.Bool.{true}
 use mathlib.Core.Option.{Option, none, some, Option·some-injective}
 use mathlib.Core.List.{List, [], _∷_}
 use Prim.Native.Nat.{ℕ, _*_}
@@ -9,12 +8,9 @@ use native.Mathlib.Omega.{arith}
 use lib.Dec.{ltb}
 use lib.ListN.{length}
 use Rattle.energy.specs.Refusals.{refusal}
-use Rattle.energy.specs.Pictures.{Picture}
 use Rattle.energy.proofs.Rules.{served-both, passed}
-use Rattle.maps.specs.Widths.{allowed}
 use Rattle.maps.proofs.Judged.{judged-map}
 use Rattle.maps.proofs.Shown.{allowed-is}
-use Rattle.form.specs.declared.Head.{Head}
 use Rattle.form.specs.Files.{Parts, text, parse}
 use Rattle.form.proofs.Files.{parse-text, parse-sound}
 use Rattle.finding.specs.Seams.{seamOf}
@@ -23,16 +19,9 @@ use Rattle.mapping.proofs.Choosing.{seam-chooses}
 use Rattle.files.specs.Contents.{partsOf, fileOf}
 use Rattle.files.specs.Rules.{partRules, judgedRules, workRule}
 use Rattle.files.specs.Shows.{Accepted}
-use Rattle.files.specs.Demands.{AllowedPicture}
+use Rattle.files.specs.Demands.{AcceptedParts, Built}
 use Rattle.files.proofs.Checked.{checked, check-some, check-none, checked-work, room, room-not}
 use Rattle.files.proofs.Shaped.{Shaped, shaped-is, shaped-picture, built-shaped, built-within}
-
--- An accepted file's parts: 2 to 6 don't refuse them, nor 9 to 11 their map.
-pub record AcceptedParts (f : List ℕ) : Type 0 where
-  pub parts : Parts
-  pub parsed : parse f ≡ some parts
-  pub shaped : refusal (partRules parts) ≡ 0
-  pub judged : refusal (judgedRules parts) ≡ 0
 
 -- Accepted is: the text has its form, and neither the parts nor the map are refused.
 pub accepted-parts : (f : List ℕ) → Accepted f ↔ AcceptedParts f
@@ -66,14 +55,6 @@ accepted-judged f p e a =
     let r = accepted-parts f .0 a in
     let q : r .parts ≡ p = Option·some-injective (r .parts) p (sym (r .parsed) ∙ e) in
     rw q at (r .judged)
-
--- A file built from a picture.
-pub record Built (f : List ℕ) : Type 0 where
-  pub head : Head
-  pub rows : Picture
-  pub picture : AllowedPicture (head .size) rows
-  pub range : allowed (head .size .width) (head .depth) (head .growth) ≡ true
-  pub is : f ≡ fileOf head rows
 
 -- The map of parts that are shaped is not refused just where it is the picture's map.
 pub judged-built : (p : Parts) → Shaped p → (refusal (judgedRules p) ≡ 0) ↔ (p .maps ≡ partsOf (p .head) (p .rows) .maps)

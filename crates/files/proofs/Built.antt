@@ -14,11 +14,11 @@ use Rattle.form.specs.Files.{parse, Pixel}
 use Rattle.form.proofs.Files.{parse-text}
 use Rattle.showing.specs.Showing.{average}
 use Rattle.files.specs.Contents.{partsOf, fileOf}
+use Rattle.files.specs.Demands.{Built}
 use Rattle.files.specs.Shows.{offers, sized, shows, original}
 use Rattle.files.proofs.Shapes.{all-each, each-all}
 use Rattle.files.proofs.Shaped.{built-rows, built-maps, built-numbered, built-within}
 use Rattle.files.proofs.Pixels.{average-pixel, all-shown}
-use Rattle.files.proofs.Accepting.{Built}
 
 -- What is read back from a file that is built.
 module _ {f : List ℕ} (b : Built f) where

@@ -20,10 +20,10 @@ use Rattle.mapping.proofs.Choosing.{seam-chooses}
 use Rattle.showing.specs.Showing.{average}
 use Rattle.files.specs.Contents.{partsOf, fileOf}
 use Rattle.files.specs.Shows.{Accepted, offers, Drawn, sized, showsIn, shows, original}
-use Rattle.files.specs.Demands.{AllowedPicture, FileFor, ShownAt}
+use Rattle.files.specs.Demands.{AllowedPicture, Built, FileFor, ShownAt}
 use Rattle.files.proofs.Shapes.{all-all}
 use Rattle.files.proofs.Shaped.{shaped-is}
-use Rattle.files.proofs.Accepting.{accepted-shaped, accepted-judged, Built, judged-built, accepted-built}
+use Rattle.files.proofs.Accepting.{accepted-shaped, accepted-judged, judged-built, accepted-built}
 use Rattle.files.proofs.Built.{built-original, built-offers, built-shows, built-picture, built-pixels, built-left-out}
 
 -- Widths that are offered alike are those of the same depth and growth.

@@ -7,4 +7,5 @@ pub mod WellFormed
 pub mod Refused
 pub mod Pixels
 pub mod Built
+pub mod Lent
 pub mod Demands

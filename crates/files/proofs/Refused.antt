@@ -16,8 +16,9 @@ use Rattle.form.specs.Files.{Parts, parse}
 use Rattle.finding.specs.Finding.{pixels}
 use Rattle.files.specs.Rules.{partRules, judgedRules, workRule, checkRules, readRules, showRules}
 use Rattle.files.specs.Shows.{Accepted, offers}
+use Rattle.files.specs.Demands.{AcceptedParts}
 use Rattle.files.proofs.Checked.{checked, check-some, zero-or}
-use Rattle.files.proofs.Accepting.{AcceptedParts, accepted-parts}
+use Rattle.files.proofs.Accepting.{accepted-parts}
 
 -- An operation on parts, whose own rules stand behind those of the parts and ahead of the others.
 abbrev operated : Parts → List Rule → ℕ → ℕ

@@ -70,8 +70,8 @@ shaped-picture p i s = record {
   pixels = each-all (λ row e a. each-all (λ px u q. q) (each-any (p .head .size .width) row e) a) (s .rows) (i .rows);
 }
 
-pub picture-ofSize : (z : Size) (p : Picture) → AllowedPicture z p → OfSize z p
-picture-ofSize z p a = each-weaken (λ row e. each-weaken (λ px q. q .count) e) (a .pixels)
+pub allowed-ofSize : (z : Size) (p : Picture) → AllowedPicture z p → OfSize z p
+allowed-ofSize z p a = each-weaken (λ row e. each-weaken (λ px q. q .count) e) (a .pixels)
 
 numbers-small : (k : ℕ) (ys : List ℕ) → k ≤ 65535 → every (λ v. leb v k) ys ≡ true → All (λ (v : ℕ). v ≤ 65535) ys
 numbers-small k [] l e = tt

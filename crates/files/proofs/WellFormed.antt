@@ -1,6 +1,6 @@
 -- A well-formed file is accepted just where its recorded seams are those found.
 use mathlib.Core.Path.{_≡_, refl, sym, _∙_}
-use mathlib.Core.Logic.{_↔_, _⊎_, ⊎-elim}
+use mathlib.Core.Logic.{_↔_, _⊎_, inl, ⊎-elim}
 use mathlib.Core.Bool.{true}
 use mathlib.Core.Option.{Option, none, some, Option·some-injective}
 use mathlib.Core.List.{List, []}
@@ -19,17 +19,10 @@ use Rattle.finding.specs.Seams.{seamOf}
 use Rattle.mapping.proofs.Choosing.{seam-chooses}
 use Rattle.files.specs.Rules.{partRules, judgedRules, checkRules}
 use Rattle.files.specs.Shows.{Accepted}
-use Rattle.files.specs.Demands.{WellFormed}
+use Rattle.files.specs.Demands.{WellFormed, WellFormedParts}
 use Rattle.files.proofs.Checked.{checked, check-some, check-none, checked-refused, checked-work, room, judged-numbered, zero-or, room-not}
 use Rattle.files.proofs.Shaped.{Shaped, shaped-is}
 use Rattle.files.proofs.Accepting.{accepted-parts, accepted-judged, judged-built}
-
--- A well-formed file's parts: 2 to 6 don't refuse them, nor 9 their map.
-pub record WellFormedParts (f : List ℕ) : Type 0 where
-  pub parts : Parts
-  pub parsed : parse f ≡ some parts
-  pub shaped : refusal (partRules parts) ≡ 0
-  pub numbered : every (numbers (parts .head .depth)) (parts .maps) ≡ true
 
 -- Well-formed is the same without 10 and 11.
 pub well-formed-parts : (f : List ℕ) → WellFormed f ↔ WellFormedParts f
@@ -63,7 +56,11 @@ well-formed-parts f = (there, back)
         let c = check-some f (r .parts) (length work) (r .parsed) in
         rw (c ∙ checked-work (r .parts) (length work) (r .shaped) (λ q. n (c ∙ q))) (judged-numbered (r .parts) .1 (r .numbered))
 
--- A well-formed file is accepted just where each seam that its map records is the one found in the picture then left.
+-- An accepted file is well-formed,
+pub accepted-well-formed : (f : List ℕ) → Accepted f → WellFormed f
+accepted-well-formed f a work n = inl (a work n)
+
+-- and a well-formed file is accepted just where each seam that its map records is the one found in the picture then left.
 pub accepted-seams : (f : List ℕ) (p : Parts) → parse f ≡ some p → WellFormed f
     → Accepted f ↔ ((t : ℕ) → 1 ≤ t → t ≤ p .head .depth
     → recorded t (p .maps) ≡ seamOf (p .head .size .width + 1 - t) (p .head .size .height) (before t (p .rows) (p .maps)))

@@ -1,6 +1,7 @@
 -- What the demands on files speak of besides.
 use mathlib.Core.Path.{_≡_}
 use mathlib.Core.Logic.{_⊎_}
+use mathlib.Core.Bool.{true}
 use mathlib.Core.Option.{some}
 use mathlib.Core.List.{List}
 use Prim.Native.Nat.{ℕ, _<_}
@@ -9,9 +10,12 @@ use Rattle.grids.specs.Each.{Each}
 use Rattle.energy.specs.declared.pictures.Size.{Size}
 use Rattle.energy.specs.Refusals.{refusal}
 use Rattle.energy.specs.Pictures.{Picture, sideRules}
-use Rattle.maps.specs.Widths.{offered}
-use Rattle.form.specs.Files.{All, Pixel}
-use Rattle.files.specs.Rules.{checkRules}
+use Rattle.maps.specs.Widths.{allowed, offered}
+use Rattle.maps.specs.Judged.{every, numbers}
+use Rattle.form.specs.declared.Head.{Head}
+use Rattle.form.specs.Files.{Parts, parse, All, Pixel}
+use Rattle.files.specs.Contents.{fileOf}
+use Rattle.files.specs.Rules.{partRules, judgedRules, checkRules}
 use Rattle.files.specs.Shows.{Accepted, offers, Drawn, shows, original}
 
 -- "A picture is allowed when 'Pictures' admits its size and kind": sides of 1 to 512, and as many rows of as many pixels as
@@ -25,6 +29,28 @@ abbrev pub WellFormed : List ℕ → Type 0
 WellFormed file =
     (work : List ℕ) → (refusal (checkRules file (length work)) ≡ 8 → ⊥)
     → (refusal (checkRules file (length work)) ≡ 0) ⊎ (9 < refusal (checkRules file (length work)))
+
+-- An accepted file's parts: 2 to 6 don't refuse them, nor 9 to 11 their map.
+pub record AcceptedParts (f : List ℕ) : Type 0 where
+  pub parts : Parts
+  pub parsed : parse f ≡ some parts
+  pub shaped : refusal (partRules parts) ≡ 0
+  pub judged : refusal (judgedRules parts) ≡ 0
+
+-- A well-formed file's parts: 2 to 6 don't refuse them, nor 9 their map.
+pub record WellFormedParts (f : List ℕ) : Type 0 where
+  pub parts : Parts
+  pub parsed : parse f ≡ some parts
+  pub shaped : refusal (partRules parts) ≡ 0
+  pub numbered : every (numbers (parts .head .depth)) (parts .maps) ≡ true
+
+-- A file that is built from an allowed picture and an allowed range of widths.
+pub record Built (f : List ℕ) : Type 0 where
+  pub head : Head
+  pub rows : Picture
+  pub picture : AllowedPicture (head .size) rows
+  pub range : allowed (head .size .width) (head .depth) (head .growth) ≡ true
+  pub is : f ≡ fileOf head rows
 
 -- A list of bytes that is accepted, shows the picture p of size z at its original width, and offers the widths of depth k and
 -- growth g.
