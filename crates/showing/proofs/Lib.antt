@@ -1,6 +1,9 @@
-pub mod Filling
+pub mod Zips
 pub mod Samples
+pub mod Filling
+pub mod Counts
 pub mod Lengths
 pub mod Turns
 pub mod Lasts
 pub mod Judging
+pub mod Pictures

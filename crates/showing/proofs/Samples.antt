@@ -1,37 +1,30 @@
 -- A pixel's samples as the code stores them, and those of the mean of two: proved once for any number of channels.
-use mathlib.Core.Path.{_≡_, refl, sym, ap, ap₂, _∙_}
-use mathlib.Core.List.{List, [], _∷_, zipWith}
-use Prim.Native.Nat.{ℕ, zero, suc, _+_, _*_, _/_, _≤_, _<_}
+use mathlib.Core.Path.{_≡_, ap, ap₂, _∙_}
+use mathlib.Core.List.{List}
+use Prim.Native.Nat.{ℕ, suc, _+_, _*_, _/_}
 use native.Mathlib.Nat.{mul-one, add-zero}
 use native.Mathlib.Numerals.{add-one}
 use native.Mathlib.Omega.{arith}
 use lib.ListN.{length, getD, set}
-use lib.Seq.{ext-getD, sets}
+use lib.Seq.{sets}
 use Rattle.grids.specs.Table.{table}
 use Rattle.grids.specs.Rows.{rowAt}
-use Rattle.grids.proofs.Shapes.{zipWith-at}
-use Rattle.grids.proofs.Tables.{length-table, table-at, table-part}
+use Rattle.grids.proofs.Tables.{length-table, table-at, table-same, table-part}
 use Rattle.showing.specs.Showing.{average}
 use Rattle.showing.specs.Kernels.{PixelNeeded, MeanNeeded}
+use Rattle.showing.proofs.Zips.{length-zipWith, zipWith-table}
 
 -- The mean of two pixels has as many samples as they.
 pub length-average : (n : ℕ) (p q : List ℕ) → length p ≡ n → length q ≡ n → length (average p q) ≡ n
-unfolding average zipWith
-length-average n [] q e f = e
-length-average n (a ∷ p) [] e f = absurd (omega arith)
-length-average zero (a ∷ p) (b ∷ q) e f = absurd (omega arith)
-length-average (suc n) (a ∷ p) (b ∷ q) e f = ap suc (length-average n p q (omega arith) (omega arith))
+unfolding average
+length-average n p q e f = length-zipWith (λ a b. (a + b) / 2) n p q e f
 
 average-table : (f g : ℕ → ℕ) (n : ℕ) → average (table f n) (table g n) ≡ table (λ k. (f k + g k) / 2) n
 unfolding average
 average-table f g n =
-    let h : ℕ → ℕ = λ k. (f k + g k) / 2 in
-    let long : length (average (table f n) (table g n)) ≡ n = length-average n (table f n) (table g n) (length-table f n) (length-table g n) in
-    ext-getD 0 (average (table f n) (table g n)) (table h n) (long ∙ sym (length-table h n))
-    (λ i l.
-    let below : i < n = rw long at l in
-    zipWith-at (λ a b. (a + b) / 2) (table f n) (table g n) i 0 0 0 (rw (length-table f n) below) (rw (length-table g n) below)
-    ∙ ap₂ (λ a b. (a + b) / 2) (table-at f n i 0 below) (table-at g n i 0 below) ∙ sym (table-at h n i 0 below))
+    zipWith-table (λ a b. (a + b) / 2) n (table f n) (table g n) 0 0 0 (length-table f n) (length-table g n)
+    ∙ table-same (λ k. (getD (table f n) k 0 + getD (table g n) k 0) / 2) (λ k. (f k + g k) / 2) n
+    (λ k l. ap₂ (λ a b. (a + b) / 2) (table-at f n k 0 l) (table-at g n k 0 l))
 
 -- Sample k of pixel c, and of the mean of pixels c and d.
 abbrev sample : ℕ → List ℕ → ℕ → ℕ → ℕ

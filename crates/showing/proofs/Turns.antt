@@ -2,12 +2,12 @@
 use mathlib.Core.Path.{_≡_, refl, sym, ap, _∙_}
 use mathlib.Core.Bool.{true, false}
 use mathlib.Core.List.{List, [], _∷_, _++_, append-nil}
-use Prim.Native.Nat.{ℕ, zero, suc, _+_, _-_, _*_, _≤_, _<_}
+use Prim.Native.Nat.{ℕ, suc, _+_, _-_, _*_, _≤_, _<_}
 use native.Mathlib.Numerals.{add-one}
 use native.Mathlib.Omega.{arith}
 use lib.ListN.{length, getD, drop, drop-of-length-le}
 use lib.Seq.{drop-cons, sets}
-use Rattle.grids.specs.Rows.{rowsOf, rowAt, flat}
+use Rattle.grids.specs.Rows.{rowAt, flat}
 use Rattle.grids.proofs.Rows.{part-end, length-rowsOf, rowsOf-at, length-rowAt}
 use Rattle.cheapest.specs.Paths.{consIf}
 use Rattle.energy.specs.declared.pictures.Kind.{Kind}
@@ -15,7 +15,7 @@ use Rattle.energy.specs.Pictures.{channelsOf}
 use Rattle.maps.specs.Widths.{stays, doubled, keepRow, growFrom, growRow}
 use Rattle.showing.specs.Showing.{average}
 use Rattle.showing.specs.Kernels.{pixels, kept, grown, lastPixels, PixelNeeded, MeanNeeded, LastNeeded}
-use Rattle.showing.proofs.Filling.{Filling, fill-start, fill-as, fill-size, fill-room, fill-more, fill-end}
+use Rattle.showing.proofs.Filling.{Filling, fill-start, fill-as, fill-room, fill-more, fill-end}
 use Rattle.showing.proofs.Samples.{length-average}
 
 -- A row with t columns less goes into the space `before`; from pixel c on it is still to come.

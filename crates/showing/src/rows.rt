@@ -114,8 +114,9 @@ fn put_last(kind: Kind, samples: &[u8], last: usize, new: bool, out: &mut [u8], 
     ensures { λ _. ⌜ now (out .exit) ≡ sets (now (out .entry)) at (lastPixels kind (now (samples .entry)) last new) ⌝ }
 {
     if new {
+        let next = at + channels(kind);
         put_mean(kind, samples, last, left_of(last), out, at);
-        put_pixel(kind, samples, last, out, at + channels(kind));
+        put_pixel(kind, samples, last, out, next);
     } else {
         put_pixel(kind, samples, last, out, at);
     }

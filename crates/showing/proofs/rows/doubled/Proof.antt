@@ -1,6 +1,5 @@
 -- `showing::rows::doubled` meets its contract.
-use Rattle.showing.proofs.Lengths.{doubled-none, doubled-some}
-use borrow.Author.Needs.{needs}
+use Rattle.showing.proofs.Counts.{doubled-none, doubled-some}
 use Rattle.showing.proofs.rows.doubled.Statement.{statement}
 use Rattle.showing.proofs.rows.doubled.Tie as tie
 

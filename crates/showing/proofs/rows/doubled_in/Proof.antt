@@ -1,13 +1,13 @@
 -- `showing::rows::doubled_in` meets its contract. The loop's invariant: what was counted and what is to come make the count.
 use mathlib.Core.Path.{_≡_, refl, sym, ap, _∙_}
 use mathlib.Core.Logic.{⊎-elim}
-use Prim.Native.Nat.{_+_, _-_, _≤_, _<_}
+use Prim.Native.Nat.{_+_, _-_, _≤_}
 use native.Mathlib.Omega.{arith}
 use denote.Ref.{now}
 use lib.ListN.{length, getD, drop}
 use Rattle.maps.specs.Widths.{doubled}
 use Rattle.showing.specs.Kernels.{doubledIn}
-use Rattle.showing.proofs.Lengths.{count-yes, count-no, count-end}
+use Rattle.showing.proofs.Counts.{count-yes, count-no, count-end}
 use borrow.Author.Needs.{needs}
 use Rattle.showing.proofs.rows.doubled_in.Statement.{statement}
 use Rattle.showing.proofs.rows.doubled_in.Tie as tie

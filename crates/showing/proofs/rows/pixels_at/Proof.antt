@@ -5,7 +5,7 @@ use borrow.Author.Tests.{le-leb, lt-leb}
 use denote.Ref.{now}
 use lib.ListN.{length}
 use Rattle.showing.specs.Kernels.{pixelsAt}
-use Rattle.showing.proofs.Lengths.{doubled-most}
+use Rattle.showing.proofs.Counts.{doubled-most}
 use borrow.Author.Needs.{needs}
 use Rattle.showing.proofs.rows.pixels_at.Statement.{statement}
 use Rattle.showing.proofs.rows.pixels_at.Tie as tie

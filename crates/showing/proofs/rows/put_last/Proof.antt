@@ -1,4 +1,5 @@
 -- `showing::rows::put_last` meets its contract.
+use mathlib.Core.Path.{refl}
 use native.Mathlib.Omega.{arith}
 use denote.Ref.{now}
 use Rattle.showing.proofs.Lasts.{alone-needed, alone-put, mean-needed, pixel-needed, both-put}
@@ -6,27 +7,27 @@ use borrow.Author.Needs.{needs}
 use Rattle.showing.proofs.rows.put_last.Statement.{statement}
 use Rattle.showing.proofs.rows.put_last.Tie as tie
 
+channels-requires : tie.Need-channels-requires
+channels-requires c κs = search needs
+
+add-next : tie.Need-add-next
+add-next c =
+    let st = c .before .before .before .before in
+    let a = st .args in
+    let q = mean-needed (a .kind) (now (a .samples)) (a .last) (a .new) (now (a .out)) (a .at) (st .pre) (c .before .if1 .taken) refl in
+    omega (arith, q .room, c .channels .ensures)
+
 left-of-requires : tie.Need-left-of-requires
 left-of-requires c κs = search needs
 
 put-mean-requires : tie.Need-put-mean-requires
-put-mean-requires c κs = let st = c .before .before .before .before .before in let a = st .args in mean-needed (a .kind) (now (a .samples)) (a .last) (a .new) (now (a .out)) (a .at) (st .pre) (c .before .before .if1 .taken) (c .before .left-of .ensures)
-
-channels-requires : tie.Need-channels-requires
-channels-requires c κs = search needs
-
-add-put-pixel : tie.Need-add-put-pixel
-add-put-pixel c =
-    let st = c .before .before .before .before .before .before .before .before .before .before in
-    let a = st .args in
-    let q = pixel-needed (a .kind) (now (a .samples)) (a .last) (a .new) (now (a .out)) (a .at) (st .pre) (c .before .before .before .before .before .before .before .if1 .taken) (c .before .before .before .before .before .before .left-of .ensures) (c .channels .ensures) (c .before .before .before .before .put-mean .ensures) in
-    omega (arith, q .room, c .before .before .before .before .put-mean .kept .1 .1 .1 .1 .0)
+put-mean-requires c κs = let st = c .before .before .before .before .before .before in let a = st .args in mean-needed (a .kind) (now (a .samples)) (a .last) (a .new) (now (a .out)) (a .at) (st .pre) (c .before .before .before .if1 .taken) (c .before .left-of .ensures)
 
 put-pixel-requires : tie.Need-put-pixel-requires
 put-pixel-requires c κs =
     let st = c .before .before .before .before .before .before .before .before .before .before in
     let a = st .args in
-    pixel-needed (a .kind) (now (a .samples)) (a .last) (a .new) (now (a .out)) (a .at) (st .pre) (c .before .before .before .before .before .before .before .if1 .taken) (c .before .before .before .before .before .before .left-of .ensures) (c .channels .ensures) (c .before .before .before .before .put-mean .ensures)
+    pixel-needed (a .kind) (now (a .samples)) (a .last) (a .new) (now (a .out)) (a .at) (st .pre) (c .before .before .before .before .before .before .before .if1 .taken) (c .before .before .before .before .before .left-of .ensures) (c .before .before .before .before .before .before .channels .ensures) (c .before .before .before .put-mean .ensures)
 
 put-pixel-requires-2 : tie.Need-put-pixel-requires-2
 put-pixel-requires-2 c κs = let st = c .before .before .before .before in let a = st .args in alone-needed (a .kind) (now (a .samples)) (a .last) (a .new) (now (a .out)) (a .at) (st .pre) (c .before .if1 .left)
@@ -38,7 +39,7 @@ returns : tie.Need-returns
 returns c =
     let st = c .before .before .before .before .before .before .before .before .before .before .before .before .before in
     let a = st .args in
-    both-put (a .kind) (now (a .samples)) (a .last) (a .new) (now (a .out)) (a .at) (st .pre) (c .before .before .before .before .before .before .before .before .before .before .if1 .taken) (c .before .before .before .before .before .before .before .before .before .left-of .ensures) (c .before .before .before .channels .ensures) (c .before .before .before .before .before .before .before .put-mean .ensures) (c .before .before .put-pixel .ensures)
+    both-put (a .kind) (now (a .samples)) (a .last) (a .new) (now (a .out)) (a .at) (st .pre) (c .before .before .before .before .before .before .before .before .before .before .if1 .taken) (c .before .before .before .before .before .before .before .before .left-of .ensures) (c .before .before .before .before .before .before .before .before .before .channels .ensures) (c .before .before .before .before .before .before .put-mean .ensures) (c .before .before .put-pixel .ensures)
 
 same-length-2 : tie.Need-same-length-2
 same-length-2 c = search needs
@@ -50,10 +51,10 @@ pub put-last-spec : {M : Type 1} → statement M
 put-last-spec =
     tie.close
     (tie.spec
+    channels-requires
+    add-next
     left-of-requires
     put-mean-requires
-    channels-requires
-    add-put-pixel
     put-pixel-requires
     put-pixel-requires-2
     same-length

@@ -1,6 +1,5 @@
 -- `showing::rows::stays` meets its contract.
-use Rattle.showing.proofs.Lengths.{stays-none, stays-some}
-use borrow.Author.Needs.{needs}
+use Rattle.showing.proofs.Counts.{stays-none, stays-some}
 use Rattle.showing.proofs.rows.stays.Statement.{statement}
 use Rattle.showing.proofs.rows.stays.Tie as tie
 
