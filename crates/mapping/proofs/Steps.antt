@@ -75,7 +75,7 @@ module _ (z : Size) (p : Picture) (o : OfSize z p) (t : ℕ) (deep : t < z .widt
         freed (z .height) (z .width) (channelsOf (z .kind)) t (omega arith),
       )
 
-  map-long : length (pairs (flat (mapOf seamOf t (z .width) (z .height) p))) ≡ mapBytes z
+  pub map-long : length (pairs (flat (mapOf seamOf t (z .width) (z .height) p))) ≡ mapBytes z
   map-long = ap length (pairs-flat (mapOf seamOf t (z .width) (z .height) p)) ∙ length-flat (grid-pairs (map-grid seamOf seam-chooses t (z .width) (z .height) p grid (omega arith)))
 
   -- The front and the map, with what follows.
@@ -92,7 +92,7 @@ module _ (z : Size) (p : Picture) (o : OfSize z p) (t : ℕ) (deep : t < z .widt
     pub take-front : take (mapAt z) whole ≡ front
     take-front = ap (take (mapAt z)) parts ∙ take-at front (pairs (flat m) ++ rest) (mapAt z) front-long
 
-    drop-front : drop (mapAt z) whole ≡ pairs (flat m) ++ rest
+    pub drop-front : drop (mapAt z) whole ≡ pairs (flat m) ++ rest
     drop-front = ap (drop (mapAt z)) parts ∙ drop-at front (pairs (flat m) ++ rest) (mapAt z) front-long
 
     take-map : take (mapBytes z) (drop (mapAt z) whole) ≡ pairs (flat m)

@@ -1,0 +1,3 @@
+pub mod Recorded
+pub mod Turns
+pub mod Answers
