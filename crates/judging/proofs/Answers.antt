@@ -1,11 +1,11 @@
--- The number given: in a space that nothing up to 8 refuses, with the map built in front of the recorded one.
+-- The number given where nothing up to 8 is, with the map built in front of the recorded one.
 use mathlib.Core.Path.{_≡_, refl, sym, ap, ap₂, _∙_}
 use mathlib.Core.Bool.{Bool, true, false, cond, not}
 use mathlib.Core.List.{List, [], _∷_, _++_, append-nil}
-use Prim.Native.Nat.{ℕ, _+_, _-_, _*_, _≤_, _<_}
-use native.Mathlib.Nat.{mul-le-mul, mul-assoc, mul-comm}
+use Prim.Native.Nat.{ℕ, _+_, _-_, _*_}
+use native.Mathlib.Nat.{mul-assoc, mul-comm}
 use native.Mathlib.Omega.{arith}
-use borrow.Author.Tests.{leb-false, ltb-false, le-ltb, lt-leb}
+use borrow.Author.Tests.{le-ltb, lt-leb}
 use lib.Dec.{leb, ltb}
 use lib.ListN.{length, take, drop, length-drop, drop-of-length-le}
 use lib.Seq.{take-all, take-at, drop-at, take-take, take-append-add, length-take-le}
@@ -18,8 +18,7 @@ use Rattle.energy.specs.declared.pictures.Size.{Size}
 use Rattle.energy.specs.declared.refusals.Verdict.{Verdict}
 use Rattle.energy.specs.Refusals.{_when_, given, refusal, served}
 use Rattle.energy.specs.Pictures.{Picture, sideRules, pictureBytes, picture}
-use Rattle.energy.proofs.Rules.{served-first, served-both, passed}
-use Rattle.energy.proofs.Sizes.{sides-are}
+use Rattle.energy.proofs.Rules.{served-first}
 use Rattle.maps.specs.Maps.{mapOf}
 use Rattle.maps.specs.Judged.{every, same, numbers, connected, found}
 use Rattle.maps.proofs.Tests.{same-is}
@@ -31,35 +30,12 @@ use Rattle.finding.specs.Finding.{pixels, pictureIn, worked}
 use Rattle.mapping.specs.Numbers.{pairs}
 use Rattle.mapping.specs.Mapping.{mapBytes, mapAt, mapInRules, mapped, MapGiven}
 use Rattle.mapping.proofs.Choosing.{seam-chooses}
-use Rattle.mapping.proofs.Spaces.{Room, there-ofSize}
+use Rattle.mapping.proofs.Spaces.{there-ofSize}
 use Rattle.mapping.proofs.Steps.{map-long, drop-front}
-use Rattle.judging.specs.Judging.{numbersIn, recordedAt, recordedIn, judgeInRules, recordedRules}
+use Rattle.judging.specs.Judging.{numbersIn, recordedAt, recordedIn, recordedRules}
 use Rattle.judging.specs.Kernels.{besideBuilt}
 use Rattle.judging.proofs.Recorded.{numbers-pairs, length-numbers}
-
--- What it says of a space that nothing up to 8 refuses: there is room for the map, and behind it for the recorded one.
-pub record Fits (z : Size) (depth space : ℕ) : Type 0 where
-  pub room : Room z depth (recordedAt z)
-  pub long : recordedAt z + mapBytes z ≤ space
-
-pub fits-is : (z : Size) (depth space : ℕ) → refusal (judgeInRules z depth space) ≡ 0 → Fits z depth space
-fits-is z depth space e =
-    let parts = served-both (sideRules z) (6 when leb (z .width) depth ∷ 8 when ltb space (recordedAt z + mapBytes z) ∷ []) refl e in
-    let first = passed (leb (z .width) depth) 5 (cond (ltb space (recordedAt z + mapBytes z)) 8 0) (parts .1) in
-    let second = passed (ltb space (recordedAt z + mapBytes z)) 7 0 (first .1) in
-    let sides = sides-are z (parts .0) in
-    let two : 2 * z .width ≤ 1024 = omega (arith, sides .width-most) in
-    record {
-      room = record {
-        served = parts .0;
-        sides = sides;
-        deep = leb-false _ _ (first .0);
-        long = omega arith;
-        pixels-most = mul-le-mul (sides .height-most) (sides .width-most);
-        map-most = mul-le-mul (sides .height-most) two;
-      };
-      long = ltb-false _ _ (second .0);
-    }
+use Rattle.judging.proofs.Spaces.{Fits}
 
 module _ (z : Size) (depth : ℕ) (space : List ℕ) (fits : Fits z depth (length space)) where
   abbrev w : ℕ

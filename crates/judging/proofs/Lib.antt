@@ -1,3 +1,6 @@
 pub mod Recorded
 pub mod Turns
+pub mod Counting
+pub mod Columns
+pub mod Spaces
 pub mod Answers

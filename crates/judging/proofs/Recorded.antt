@@ -1,14 +1,17 @@
 -- Laws of numbers in bytes: where each stands, parts and rows of them, and the bytes of numbers.
 use mathlib.Core.Path.{_≡_, refl, sym, ap, ap₂, _∙_}
-use mathlib.Core.List.{List, [], _∷_}
+use mathlib.Core.List.{List, [], _∷_, append-nil}
 use Prim.Native.Nat.{ℕ, zero, suc, _+_, _-_, _*_, _/_, _%_, _<_}
 use native.Mathlib.Nat.{mul-assoc, mul-comm}
 use native.Mathlib.Omega.{arith}
 use lib.ListN.{length, getD, take, drop}
-use Rattle.grids.specs.Each.{Each, none, more}
-use Rattle.grids.specs.Rows.{rowAt}
+use Rattle.grids.specs.Each.{Each, Grid, none, more}
+use Rattle.grids.specs.Rows.{rowsOf, flat, rowAt}
+use Rattle.grids.proofs.Rows.{rowsOf-flat}
+use Rattle.energy.specs.declared.pictures.Size.{Size}
 use Rattle.mapping.specs.Numbers.{pairs}
-use Rattle.judging.specs.Judging.{numbersIn}
+use Rattle.mapping.specs.Mapping.{mapBytes}
+use Rattle.judging.specs.Judging.{numbersIn, recordedAt, recordedIn}
 
 -- The numbers of their bytes, and the bytes of their numbers.
 pub numbers-pairs : (ys : List ℕ) → numbersIn (pairs ys) ≡ ys
@@ -60,3 +63,10 @@ pub numbers-row : (w r : ℕ) (b : List ℕ) → numbersIn (rowAt (2 * w) r b) �
 numbers-row w r b =
     let e : r * (2 * w) ≡ 2 * (r * w) = sym (mul-assoc r 2 w) ∙ ap (_* w) (mul-comm r 2) ∙ mul-assoc 2 r w in
     numbers-take w (drop (r * (2 * w)) b) ∙ ap (λ n. take w (numbersIn (drop n b))) e ∙ ap (take w) (numbers-drop (r * w) b)
+
+-- The map whose bytes stand there is the recorded one.
+pub recorded-is : (z : Size) (space : List ℕ) (m : List (List ℕ)) → Grid (z .width) (z .height) m → take (mapBytes z) (drop (recordedAt z) space) ≡ pairs (flat m)
+    → recordedIn z space ≡ m
+recorded-is z space m g e =
+    ap (λ b. rowsOf (z .width) (z .height) (numbersIn b)) e
+    ∙ ap (rowsOf (z .width) (z .height)) (numbers-pairs (flat m) ∙ sym (append-nil (flat m))) ∙ rowsOf-flat [] g

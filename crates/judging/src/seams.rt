@@ -2,7 +2,6 @@
 use crate::numbers;
 ghost use mathlib.Core.Path.{_≡_};
 ghost use Prim.Native.Nat.{_≤_};
-ghost use lib.ListN.{length};
 ghost use Rattle.grids.specs.Rows.{rowsOf};
 ghost use Rattle.cheapest.specs.Paths.{beside};
 ghost use Rattle.maps.specs.Judged.{remains, columnOf, connected};

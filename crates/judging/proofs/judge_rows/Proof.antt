@@ -16,9 +16,10 @@ use Rattle.maps.specs.Judged.{every, numbers}
 use Rattle.finding.specs.Seams.{seamOf}
 use Rattle.finding.specs.Finding.{pictureIn}
 use Rattle.mapping.specs.Numbers.{pairs}
-use Rattle.mapping.specs.Mapping.{mapBytes, mapAt}
+use Rattle.mapping.specs.Mapping.{mapBytes}
 use Rattle.judging.specs.Judging.{recordedAt, recordedIn}
-use Rattle.judging.proofs.Answers.{Fits, fits-is, nine, compared-is, maps-at}
+use Rattle.judging.proofs.Spaces.{Fits, fits-is}
+use Rattle.judging.proofs.Answers.{nine, compared-is, maps-at}
 use Rattle.judging.proofs.judge_rows.Statement.{statement}
 use Rattle.judging.proofs.judge_rows.Tie as tie
 

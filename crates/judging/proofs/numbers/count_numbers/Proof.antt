@@ -1,15 +1,15 @@
 use mathlib.Core.Path.{_≡_, refl, sym, ap, _∙_}
-use mathlib.Core.Bool.{true, false}
 use Prim.Native.Nat.{ℕ, _+_, _-_, _/_, _<_, _≤_}
 use native.Mathlib.Omega.{arith}
 use borrow.Author.Needs.{needs}
 use borrow.Author.Tests.{le-leb, lt-leb}
 use lib.Dec.{leb}
-use lib.ListN.{length, getD, take, drop, set, length-set, length-take, length-replicate, getD-replicate}
+use lib.ListN.{length, getD, take, drop, length-set, length-take, length-replicate, getD-replicate}
 use Rattle.maps.specs.Judged.{every}
 use Rattle.judging.specs.Judging.{numbersIn}
 use Rattle.judging.proofs.Recorded.{length-numbers}
-use Rattle.judging.proofs.Turns.{every-ok, every-bad, every-end, count-most, Counted, counted-more, counted-all}
+use Rattle.judging.proofs.Turns.{every-ok, every-bad, every-end}
+use Rattle.judging.proofs.Counting.{count-most, Counted, counted-more, counted-all}
 use Rattle.judging.proofs.numbers.count_numbers.Statement.{statement}
 use Rattle.judging.proofs.numbers.count_numbers.Tie as tie
 

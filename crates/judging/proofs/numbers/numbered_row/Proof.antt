@@ -6,7 +6,7 @@ use borrow.Author.Needs.{needs}
 use borrow.Author.Tests.{not-true, not-false}
 use lib.ListN.{length, length-replicate}
 use Rattle.judging.specs.Judging.{numbersIn}
-use Rattle.judging.proofs.Turns.{counts-judge, numbers-over}
+use Rattle.judging.proofs.Counting.{counts-judge, numbers-over}
 use Rattle.judging.proofs.numbers.numbered_row.Statement.{statement}
 use Rattle.judging.proofs.numbers.numbered_row.Tie as tie
 

@@ -1,5 +1,4 @@
 -- `judging::seams::beside` meets its contract.
-use mathlib.Core.Path.{sym}
 use Prim.Native.Nat.{_+_}
 use borrow.Author.Needs.{needs}
 use borrow.Author.Tests.{le-leb, lt-leb}

@@ -1,16 +1,14 @@
 -- `judging::seams::column_at` meets its contract.
-use mathlib.Core.Path.{_≡_, sym, ap, _∙_}
-use Prim.Native.Nat.{_+_, _-_, _*_, _/_, _≤_}
+use mathlib.Core.Path.{_≡_, ap, _∙_}
+use Prim.Native.Nat.{_+_, _-_, _*_}
 use native.Mathlib.Omega.{arith}
 use borrow.Author.Needs.{needs}
-use lib.ListN.{length, length-take}
-use lib.Seq.{length-take-le}
 use Rattle.grids.specs.Rows.{rowAt}
 use Rattle.grids.proofs.Rows.{rowAt-short}
 use Rattle.maps.specs.Judged.{columnOf}
 use Rattle.judging.specs.Judging.{numbersIn}
 use Rattle.judging.proofs.Recorded.{numbers-row}
-use Rattle.judging.proofs.Turns.{column-most}
+use Rattle.judging.proofs.Columns.{column-most}
 use Rattle.judging.proofs.seams.column_at.Statement.{statement}
 use Rattle.judging.proofs.seams.column_at.Tie as tie
 

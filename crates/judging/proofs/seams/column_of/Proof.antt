@@ -1,5 +1,5 @@
 -- `judging::seams::column_of` meets its contract. The invariant: what was counted and what is to come make the column.
-use mathlib.Core.Path.{_≡_, refl, sym, _∙_}
+use mathlib.Core.Path.{_≡_, sym, _∙_}
 use mathlib.Core.Logic.{⊎-elim}
 use Prim.Native.Nat.{_+_, _-_, _/_, _<_, _≤_}
 use native.Mathlib.Omega.{arith}
@@ -8,7 +8,7 @@ use lib.ListN.{length, getD, drop}
 use Rattle.maps.specs.Judged.{columnOf}
 use Rattle.judging.specs.Judging.{numbersIn}
 use Rattle.judging.proofs.Recorded.{length-numbers}
-use Rattle.judging.proofs.Turns.{column-here, column-left, column-gone, column-end}
+use Rattle.judging.proofs.Columns.{column-here, column-left, column-gone, column-end}
 use Rattle.judging.proofs.seams.column_of.Statement.{statement}
 use Rattle.judging.proofs.seams.column_of.Tie as tie
 

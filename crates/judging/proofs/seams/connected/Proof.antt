@@ -13,7 +13,8 @@ use Rattle.maps.specs.Choices.{linked}
 use Rattle.maps.specs.Judged.{columnOf, recorded}
 use Rattle.maps.proofs.Judged.{connected-is}
 use Rattle.judging.specs.Judging.{numbersIn}
-use Rattle.judging.proofs.Turns.{Passed, passed-more, connected-bad, linked-ok, linked-bad, linked-end, recorded-at, length-recorded}
+use Rattle.judging.proofs.Turns.{Passed, passed-more}
+use Rattle.judging.proofs.Columns.{connected-bad, linked-ok, linked-bad, linked-end, recorded-at, length-recorded}
 use Rattle.judging.proofs.seams.connected.Statement.{statement}
 use Rattle.judging.proofs.seams.connected.Tie as tie
 

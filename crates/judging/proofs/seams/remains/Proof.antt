@@ -1,5 +1,4 @@
 -- `judging::seams::remains` meets its contract.
-use borrow.Author.Needs.{needs}
 use borrow.Author.Tests.{eq-eqb, ne-eqb}
 use Rattle.maps.specs.Judged.{remains}
 use Rattle.judging.proofs.seams.remains.Statement.{statement}
