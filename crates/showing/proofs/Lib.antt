@@ -3,7 +3,9 @@ pub mod Samples
 pub mod Filling
 pub mod Counts
 pub mod Lengths
-pub mod Turns
+pub mod Places
+pub mod Keeps
+pub mod Grows
 pub mod Lasts
 pub mod Judging
 pub mod Pictures

@@ -10,7 +10,7 @@ use Rattle.energy.specs.Pictures.{channelsOf}
 use Rattle.maps.specs.Widths.{doubled}
 use Rattle.showing.specs.Kernels.{PixelNeeded, MeanNeeded}
 use Rattle.showing.proofs.Filling.{fill-size}
-use Rattle.showing.proofs.Turns.{Growing, Behind, grow-start, grow-needed, grow-put, new-needed, new-put, new-pass, last-needed, last-put, grow-none}
+use Rattle.showing.proofs.Grows.{Growing, Behind, grow-start, grow-needed, grow-put, new-needed, new-put, new-pass, last-needed, last-put, grow-none}
 use borrow.Author.Needs.{needs}
 use Rattle.showing.proofs.rows.grow_row.Statement.{statement}
 use Rattle.showing.proofs.rows.grow_row.Tie as tie

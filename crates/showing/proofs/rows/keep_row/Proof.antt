@@ -10,7 +10,7 @@ use Rattle.energy.specs.Pictures.{channelsOf}
 use Rattle.maps.specs.Widths.{stays}
 use Rattle.showing.specs.Kernels.{PixelNeeded}
 use Rattle.showing.proofs.Filling.{fill-size}
-use Rattle.showing.proofs.Turns.{Keeping, keep-start, keep-needed, keep-put, keep-pass, keep-end}
+use Rattle.showing.proofs.Keeps.{Keeping, keep-start, keep-needed, keep-put, keep-pass, keep-end}
 use borrow.Author.Needs.{needs}
 use Rattle.showing.proofs.rows.keep_row.Statement.{statement}
 use Rattle.showing.proofs.rows.keep_row.Tie as tie

@@ -1,4 +1,4 @@
--- One turn of the loops that keep and grow a row: what stands in the space, and which bytes are still to come.
+-- One turn of the loop that grows a row: what stands in the space, and which bytes are still to come.
 use mathlib.Core.Path.{_≡_, refl, sym, ap, _∙_}
 use mathlib.Core.Bool.{true, false}
 use mathlib.Core.List.{List, [], _∷_, _++_, append-nil}
@@ -8,20 +8,16 @@ use native.Mathlib.Omega.{arith}
 use lib.ListN.{length, getD, drop, drop-of-length-le}
 use lib.Seq.{drop-cons, sets}
 use Rattle.grids.specs.Rows.{rowAt, flat}
-use Rattle.grids.proofs.Rows.{part-end, length-rowsOf, rowsOf-at, length-rowAt}
+use Rattle.grids.proofs.Rows.{length-rowsOf}
 use Rattle.cheapest.specs.Paths.{consIf}
 use Rattle.energy.specs.declared.pictures.Kind.{Kind}
 use Rattle.energy.specs.Pictures.{channelsOf}
-use Rattle.maps.specs.Widths.{stays, doubled, keepRow, growFrom, growRow}
+use Rattle.maps.specs.Widths.{doubled, growFrom, growRow}
 use Rattle.showing.specs.Showing.{average}
-use Rattle.showing.specs.Kernels.{pixels, kept, grown, lastPixels, PixelNeeded, MeanNeeded, LastNeeded}
+use Rattle.showing.specs.Kernels.{pixels, grown, lastPixels, PixelNeeded, MeanNeeded, LastNeeded}
 use Rattle.showing.proofs.Filling.{Filling, fill-start, fill-as, fill-room, fill-more, fill-end}
 use Rattle.showing.proofs.Samples.{length-average}
-
--- A row with t columns less goes into the space `before`; from pixel c on it is still to come.
-abbrev pub Keeping : Kind → List ℕ → List ℕ → ℕ → List ℕ → ℕ → List ℕ → ℕ → Type 0
-Keeping k samples ys t before c out at =
-    Filling before (kept k samples ys t) out at (flat (keepRow (stays t) (drop c (pixels k samples ys)) (drop c ys)))
+use Rattle.showing.proofs.Places.{pixel-at, below, pixel-end, length-pixel}
 
 -- A row with u columns more: from pixel c on it is still to come, or from the place behind pixel c on.
 abbrev pub Growing : Kind → List ℕ → List ℕ → ℕ → List ℕ → ℕ → List ℕ → ℕ → Type 0
@@ -36,64 +32,16 @@ Behind k samples ys u before c out at =
     (growFrom average u (rowAt (channelsOf k) c samples) (drop (c + 1) (pixels k samples ys)) (drop (c + 1) ys))))
 
 module _ (k : Kind) (samples ys : List ℕ) (whole : length samples ≡ length ys * channelsOf k) where
-  abbrev ch : ℕ
-  ch = channelsOf k
-
-  -- Pixel c.
   abbrev pixel : ℕ → List ℕ
   pixel c = rowAt (channelsOf k) c samples
 
-  module _ (c : ℕ) (inside : c < length ys) where
-    pixel-at : getD (pixels k samples ys) c [] ≡ pixel c
-    pixel-at = rowsOf-at ch (length ys) samples c inside
-
-    below : c < length (pixels k samples ys)
-    below = rw (length-rowsOf ch (length ys) samples) inside
-
-    pub pixel-end : c * channelsOf k + channelsOf k ≤ length samples
-    pixel-end = omega (arith, part-end c (length ys) ch inside)
-
-    pub length-pixel : length (pixel c) ≡ channelsOf k
-    length-pixel = length-rowAt ch (length ys) samples c (omega arith) inside
-
-  -- The loop that keeps.
-  module _ (t : ℕ) (before : List ℕ) where
-    pub keep-start : length (kept k samples ys t) ≤ length before → Keeping k samples ys t before 0 before 0
-    unfolding kept
-    keep-start h = fill-start h
-
-    module _ (c : ℕ) (out : List ℕ) (at : ℕ) (inside : c < length ys) where
-      keep-turn : keepRow (stays t) (drop c (pixels k samples ys)) (drop c ys)
-          ≡ consIf (stays t (getD ys c 0)) (pixel c) (keepRow (stays t) (drop (c + 1) (pixels k samples ys)) (drop (c + 1) ys))
-      keep-turn = rw (add-one c, drop-cons (pixels k samples ys) c [] (below c inside), drop-cons ys c 0 inside, pixel-at c inside)
-
-      pub keep-pass : stays t (getD ys c 0) ≡ false → Keeping k samples ys t before c out at → Keeping k samples ys t before (c + 1) out at
-      keep-pass s f = fill-as (ap flat (rw s at keep-turn)) f
-
-      keep-next : stays t (getD ys c 0) ≡ true → Keeping k samples ys t before c out at
-          → Filling before (kept k samples ys t) out at (pixel c ++ flat (keepRow (stays t) (drop (c + 1) (pixels k samples ys)) (drop (c + 1) ys)))
-      keep-next s f = fill-as (ap flat (rw s at keep-turn)) f
-
-      pub keep-needed : stays t (getD ys c 0) ≡ true → Keeping k samples ys t before c out at → PixelNeeded (channelsOf k) samples c out at
-      keep-needed s f = record { inside = pixel-end c inside; room = fill-room (pixel c) _ (length-pixel c inside) (keep-next s f) }
-
-      pub keep-put : {n : ℕ} → n ≡ channelsOf k → stays t (getD ys c 0) ≡ true → Keeping k samples ys t before c out at → Keeping k samples ys t before (c + 1) (sets out at (pixel c)) (at + n)
-      keep-put e s f = fill-more (pixel c) _ (length-pixel c inside ∙ sym e) (keep-next s f)
-
-    pub keep-end : (c : ℕ) (out : List ℕ) (at : ℕ) → length ys ≤ c → Keeping k samples ys t before c out at
-        → out ≡ kept k samples ys t ++ drop (length (kept k samples ys t)) before
-    keep-end c out at h f =
-        let none : drop c (pixels k samples ys) ≡ [] = drop-of-length-le (pixels k samples ys) {i = c} (rw (length-rowsOf ch (length ys) samples) h) in
-        fill-end (fill-as (ap (λ xs. flat (keepRow (stays t) xs (drop c ys))) none) f)
-
-  -- The loop that grows.
   module _ (u : ℕ) (before : List ℕ) where
     pub grow-start : 0 < length ys → length (grown k samples ys u) ≤ length before → Growing k samples ys u before 0 before 0
     unfolding grown
     grow-start h room =
         let z : 0 - 1 ≡ 0 = omega arith in
         let first : (xs : List (List ℕ)) → 0 < length xs → growRow average u xs ys ≡ growFrom average u (getD xs 0 []) xs ys = started in
-        rw z (fill-as (ap flat (first (pixels k samples ys) (below 0 h) ∙ ap (λ l. growFrom average u l (pixels k samples ys) ys) (pixel-at 0 h))) (fill-start room))
+        rw z (fill-as (ap flat (first (pixels k samples ys) (below k samples ys whole 0 h) ∙ ap (λ l. growFrom average u l (pixels k samples ys) ys) (pixel-at k samples ys whole 0 h))) (fill-start room))
       where
         started : (xs : List (List ℕ)) → 0 < length xs → growRow average u xs ys ≡ growFrom average u (getD xs 0 []) xs ys
         started [] h = absurd (omega arith)
@@ -108,17 +56,17 @@ module _ (k : Kind) (samples ys : List ℕ) (whole : length samples ≡ length y
       grow-turn =
           let xs = pixels k samples ys in
           let i : suc c < length ys = omega arith in
-          rw (add-one c, drop-cons xs c [] (below c here), drop-cons xs (suc c) [] (below (suc c) i), drop-cons ys c 0 here, pixel-at c here, pixel-at (suc c) i)
+          rw (add-one c, drop-cons xs c [] (below k samples ys whole c here), drop-cons xs (suc c) [] (below k samples ys whole (suc c) i), drop-cons ys c 0 here, pixel-at k samples ys whole c here, pixel-at k samples ys whole (suc c) i)
 
       grow-next : Growing k samples ys u before c out at → Filling before (grown k samples ys u) out at
           (pixel c ++ flat (consIf (doubled u (getD ys c 0)) (average (pixel c) (pixel (c + 1))) (growFrom average u (pixel c) (drop (c + 1) (pixels k samples ys)) (drop (c + 1) ys))))
       grow-next f = fill-as (ap flat grow-turn) f
 
       pub grow-needed : Growing k samples ys u before c out at → PixelNeeded (channelsOf k) samples c out at
-      grow-needed f = record { inside = pixel-end c here; room = fill-room (pixel c) _ (length-pixel c here) (grow-next f) }
+      grow-needed f = record { inside = pixel-end k samples ys whole c here; room = fill-room (pixel c) _ (length-pixel k samples ys whole c here) (grow-next f) }
 
       pub grow-put : {n : ℕ} → n ≡ channelsOf k → Growing k samples ys u before c out at → Behind k samples ys u before c (sets out at (pixel c)) (at + n)
-      grow-put e f = fill-more (pixel c) _ (length-pixel c here ∙ sym e) (grow-next f)
+      grow-put e f = fill-more (pixel c) _ (length-pixel k samples ys whole c here ∙ sym e) (grow-next f)
 
       next : c + 1 - 1 ≡ c
       next = omega arith
@@ -131,12 +79,12 @@ module _ (k : Kind) (samples ys : List ℕ) (whole : length samples ≡ length y
       new-next s f = rw s at f
 
       length-new : length (average (pixel c) (pixel (c + 1))) ≡ channelsOf k
-      length-new = length-average ch (pixel c) (pixel (c + 1)) (length-pixel c here) (length-pixel (c + 1) inside)
+      length-new = length-average (channelsOf k) (pixel c) (pixel (c + 1)) (length-pixel k samples ys whole c here) (length-pixel k samples ys whole (c + 1) inside)
 
       pub new-needed : doubled u (getD ys c 0) ≡ true → Behind k samples ys u before c out at → MeanNeeded (channelsOf k) samples c (c + 1) out at
       new-needed s f = record {
-        inside = pixel-end c here;
-        beside = pixel-end (c + 1) inside;
+        inside = pixel-end k samples ys whole c here;
+        beside = pixel-end k samples ys whole (c + 1) inside;
         room = fill-room (average (pixel c) (pixel (c + 1))) _ length-new (new-next s f);
       }
 
@@ -150,14 +98,14 @@ module _ (k : Kind) (samples ys : List ℕ) (whole : length samples ≡ length y
       last-turn =
           let xs = pixels k samples ys in
           let i : c < length ys = omega arith in
-          let none : drop (suc c) xs ≡ [] = drop-of-length-le xs {i = suc c} (rw (length-rowsOf ch (length ys) samples) (omega arith)) in
-          rw (drop-cons xs c [] (below c i), none, drop-cons ys c 0 i, pixel-at c i)
+          let none : drop (suc c) xs ≡ [] = drop-of-length-le xs {i = suc c} (rw (length-rowsOf (channelsOf k) (length ys) samples) (omega arith)) in
+          rw (drop-cons xs c [] (below k samples ys whole c i), none, drop-cons ys c 0 i, pixel-at k samples ys whole c i)
 
       last-next : Growing k samples ys u before c out at → Filling before (grown k samples ys u) out at (lastPixels k samples c (doubled u (getD ys c 0)) ++ [])
       last-next f = fill-as (ap flat last-turn ∙ sym (append-nil (lastPixels k samples c (doubled u (getD ys c 0))))) f
 
       pub last-needed : Growing k samples ys u before c out at → LastNeeded k samples c (doubled u (getD ys c 0)) out at
-      last-needed f = record { inside = pixel-end c (omega arith); room = fill-room (lastPixels k samples c (doubled u (getD ys c 0))) [] refl (last-next f) }
+      last-needed f = record { inside = pixel-end k samples ys whole c (omega arith); room = fill-room (lastPixels k samples c (doubled u (getD ys c 0))) [] refl (last-next f) }
 
       pub last-put : Growing k samples ys u before c out at
           → sets out at (lastPixels k samples c (doubled u (getD ys c 0))) ≡ grown k samples ys u ++ drop (length (grown k samples ys u)) before
