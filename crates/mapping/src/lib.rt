@@ -7,6 +7,7 @@ use energy::Verdict;
 ghost use mathlib.Core.Path.{_≡_};
 ghost use lib.ListN.{length};
 ghost use Rattle.energy.specs.Refusals.{given, refusal};
+ghost use Rattle.maps.specs.Widths.{allowed as Widths·allowed};
 ghost use Rattle.mapping.specs.Mapping.{mapInRules, MapGiven};
 ghost use Rattle.mapping.specs.Kernels.{NextNeeded, NextGiven, SeamsNeeded, SeamsGiven};
 
@@ -22,6 +23,19 @@ pub fn map_in(space: &mut [u8], size: Size, depth: usize) -> Verdict
     };
     cut_seams(space, size, depth);
     fits
+}
+
+// Whether a depth and a growth are allowed at this width.
+pub fn allowed(width: usize, depth: usize, growth: usize) -> bool
+    ensures { λ t. ⌜ t ≡ Widths·allowed width depth growth ⌝ }
+{
+    if width <= depth {
+        return false;
+    }
+    if depth < growth {
+        return false;
+    }
+    growth <= width / 2
 }
 
 // Which of 2, 3, 6 and 8 refuses a map of this depth in a space of this length, or none.

@@ -1,0 +1,76 @@
+-- `multisize::opening::open` meets its contract.
+use mathlib.Core.Path.{sym, ap, _∙_}
+use borrow.Author.Tests.{not-true, not-false}
+use Rattle.energy.specs.Refusals.{given}
+use Rattle.multisize.proofs.Opened.{open-broken, open-sides, open-counts, open-range, open-served}
+use borrow.Author.Needs.{needs}
+use Rattle.multisize.proofs.opening.open.Statement.{statement}
+use Rattle.multisize.proofs.opening.open.Tie as tie
+
+scan-requires : tie.Need-scan-requires
+scan-requires c κs = search needs
+
+enum-known-facts : tie.Need-enum-known-facts
+enum-known-facts c = search needs
+
+enum-told : tie.Need-enum-told
+enum-told c = search needs
+
+returns : tie.Need-returns
+returns c = open-broken _ (rw (c .enum-told .given .1) at (c .before .before .scan .ensures))
+
+sides-requires : tie.Need-sides-requires
+sides-requires c κs = search needs
+
+enum-known-why : tie.Need-enum-known-why
+enum-known-why c = search needs
+
+returns-2 : tie.Need-returns-2
+returns-2 c =
+    let told = rw (c .before .before .before .before .before .before .before .facts .given .1) at (c .before .before .before .before .before .before .before .before .before .scan .ensures) in
+    open-sides _ _ told (c .before .before .before .sides .result) _ (c .before .why .given .1) (c .before .before .before .sides .ensures)
+
+enum-told-2 : tie.Need-enum-told-2
+enum-told-2 c = search needs
+
+counted-requires : tie.Need-counted-requires
+counted-requires c κs = search needs
+
+returns-3 : tie.Need-returns-3
+returns-3 c =
+    let told = rw (c .before .before .before .before .before .before .before .before .facts .given .1) at (c .before .before .before .before .before .before .before .before .before .before .scan .ensures) in
+    let sides = sym (c .before .before .before .before .sides .ensures) ∙ ap given (c .before .before .enum-told2 .given .1) in
+    open-counts _ _ told sides (sym (c .before .counted .ensures) ∙ not-true _ (c .if1 .taken))
+
+allowed-requires : tie.Need-allowed-requires
+allowed-requires c κs = search needs
+
+returns-4 : tie.Need-returns-4
+returns-4 c =
+    let told = rw (c .before .before .before .before .before .before .before .before .before .before .facts .given .1) at (c .before .before .before .before .before .before .before .before .before .before .before .before .scan .ensures) in
+    let sides = sym (c .before .before .before .before .before .before .sides .ensures) ∙ ap given (c .before .before .before .before .enum-told2 .given .1) in
+    open-range _ _ told sides (sym (c .before .before .before .counted .ensures) ∙ not-false _ (c .before .before .if1 .left)) (sym (c .before .allowed .ensures) ∙ not-true _ (c .if2 .taken))
+
+returns-5 : tie.Need-returns-5
+returns-5 c =
+    let told = rw (c .before .before .before .before .before .before .before .before .before .before .facts .given .1) at (c .before .before .before .before .before .before .before .before .before .before .before .before .scan .ensures) in
+    let sides = sym (c .before .before .before .before .before .before .sides .ensures) ∙ ap given (c .before .before .before .before .enum-told2 .given .1) in
+    open-served _ _ told sides (sym (c .before .before .before .counted .ensures) ∙ not-false _ (c .before .before .if1 .left)) (sym (c .before .allowed .ensures) ∙ not-false _ (c .if2 .left))
+
+pub open-spec : {M : Type 1} → statement M
+open-spec =
+    tie.close
+    (tie.spec
+    scan-requires
+    enum-known-facts
+    enum-told
+    returns
+    sides-requires
+    enum-known-why
+    returns-2
+    enum-told-2
+    counted-requires
+    returns-3
+    allowed-requires
+    returns-4
+    returns-5)

@@ -1,0 +1,2 @@
+pub mod Multisize
+pub mod Kernels
