@@ -95,7 +95,7 @@ module _ (z : Size) (p : Picture) (o : OfSize z p) (t : ℕ) (deep : t < z .widt
     pub drop-front : drop (mapAt z) whole ≡ pairs (flat m) ++ rest
     drop-front = ap (drop (mapAt z)) parts ∙ drop-at front (pairs (flat m) ++ rest) (mapAt z) front-long
 
-    take-map : take (mapBytes z) (drop (mapAt z) whole) ≡ pairs (flat m)
+    pub take-map : take (mapBytes z) (drop (mapAt z) whole) ≡ pairs (flat m)
     take-map = ap (take (mapBytes z)) drop-front ∙ take-at (pairs (flat m)) rest (mapBytes z) map-long
 
     drop-map : drop (mapAt z + mapBytes z) whole ≡ rest

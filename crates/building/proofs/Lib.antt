@@ -1,0 +1,6 @@
+pub mod Lined
+pub mod PictureRows
+pub mod MapRows
+pub mod Printing
+pub mod Fits
+pub mod Answers
