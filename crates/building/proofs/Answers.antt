@@ -1,11 +1,11 @@
 -- The whole operation: what the rules say of range and buffers, and the file that stands in the output space.
 use mathlib.Core.Path.{_≡_, refl, sym, ap, _∙_}
-use mathlib.Core.Bool.{Bool, true, false, not, cond, _&&_}
+use mathlib.Core.Bool.{true, not, cond, _&&_}
 use mathlib.Core.List.{List, [], _∷_, _++_}
 use Prim.Native.Nat.{ℕ, _+_, _-_, _*_, _/_, _≤_, _<_}
 use native.Mathlib.Nat.{mul-comm, mul-assoc, mul-le-mul}
 use native.Mathlib.Omega.{arith}
-use borrow.Author.Tests.{ltb-true, ltb-false, le-ltb, lt-leb}
+use borrow.Author.Tests.{ltb-true, ltb-false, le-ltb, lt-leb, not-false}
 use lib.Dec.{leb, ltb}
 use lib.ListN.{length, take, drop, replicate}
 use lib.Seq.{sets-eq, take-at, take-length}
@@ -14,7 +14,7 @@ use Rattle.grids.proofs.Shapes.{grid-of}
 use Rattle.grids.proofs.Parts.{part-length}
 use Rattle.energy.specs.declared.pictures.Size.{Size}
 use Rattle.energy.specs.declared.refusals.Verdict.{Verdict}
-use Rattle.energy.specs.Refusals.{Rule, _when_, given, refusal, served}
+use Rattle.energy.specs.Refusals.{_when_, refusal, served}
 use Rattle.energy.specs.Pictures.{pictureBytes, sideRules, sizeRules, picture}
 use Rattle.energy.proofs.Rules.{both, served-first, served-both, passed}
 use Rattle.energy.proofs.Sizes.{Sized, sized-is, sides-served}
@@ -32,7 +32,7 @@ use Rattle.mapping.proofs.Choosing.{seam-chooses}
 use Rattle.mapping.proofs.Steps.{take-map}
 use Rattle.text.specs.Kernels.{Printed}
 use Rattle.files.specs.Contents.{fileOf}
-use Rattle.files.specs.Rules.{workRule, buildRules}
+use Rattle.files.specs.Rules.{workRule}
 use Rattle.building.specs.Building.{fileIn}
 use Rattle.building.specs.Kernels.{mapIn, partsIn, PrintNeeded, BuildNeeded, FileGiven}
 use Rattle.building.proofs.PictureRows.{of-size}
@@ -42,10 +42,6 @@ use Rattle.building.proofs.MapRows.{map-back}
 pub allowed-deep : (m k g : ℕ) → allowed m k g ≡ true → k < m
 unfolding allowed
 allowed-deep m k g e = ltb-true k m (both (ltb k m) (leb g k && leb g (m / 2)) e .0)
-
-not-not : (t : Bool) → not t ≡ false → t ≡ true
-not-not true e = refl
-not-not false e = sym e
 
 module _ (b : List ℕ) (h : Head) (out work : List ℕ) (needed : BuildNeeded b h out work) where
   abbrev z : Size
@@ -59,7 +55,6 @@ module _ (b : List ℕ) (h : Head) (out work : List ℕ) (needed : BuildNeeded b
     pub sure : Sized z (length b)
     pub deep : h .depth < h .size .width
     pub out-room : length (fileIn h b) ≤ length out
-    pub work-room : 32 * pixels (h .size) ≤ length work
     pub few : pixels (h .size) ≤ 262144
     pub map-is : mapBytes (h .size) ≡ 2 * pixels (h .size)
     pub front : mapAt (h .size) + mapBytes (h .size) ≤ length work
@@ -80,9 +75,8 @@ module _ (b : List ℕ) (h : Head) (out work : List ℕ) (needed : BuildNeeded b
       record {
         sized = parts .0;
         sure = s;
-        deep = allowed-deep _ _ _ (not-not (allowed (h .size .width) (h .depth) (h .growth)) (p1 .0));
+        deep = allowed-deep _ _ _ (not-false (allowed (h .size .width) (h .depth) (h .growth)) (p1 .0));
         out-room = ltb-false _ _ (p2 .0);
-        work-room = room;
         few = mul-le-mul (s .height-most) (s .width-most);
         map-is = two;
         front = omega (arith, two, room, bytes-few (h .size));

@@ -1,9 +1,8 @@
 -- Whether a file fits a room.
-use mathlib.Core.Path.{_≡_, refl, sym, ap, _∙_}
+use mathlib.Core.Path.{_≡_, refl, sym, ap}
 use mathlib.Core.Bool.{Bool, true, false}
-use mathlib.Core.Option.{Option, none, some}
+use mathlib.Core.Option.{none, some}
 use mathlib.Core.List.{List}
-use mathlib.Core.Logic.{_↔_}
 use Prim.Native.Nat.{ℕ, _+_, _-_, _*_, _/_, _≤_, _<_}
 use native.Mathlib.Nat.{div-lt-iff-lt-mul, le-div-iff-mul-le}
 use native.Mathlib.Omega.{arith}
@@ -15,7 +14,7 @@ use Rattle.cheapest.specs.Paths.{run}
 use Rattle.energy.specs.Pictures.{picture}
 use Rattle.form.specs.declared.Head.{Head}
 use Rattle.form.specs.Files.{headText}
-use Rattle.form.specs.Lengths.{total, spaced, rowLength, headLength}
+use Rattle.form.specs.Lengths.{total, spaced, rowLength}
 use Rattle.form.proofs.Lengths.{head-length}
 use Rattle.text.specs.Prints.{less}
 use Rattle.text.proofs.Rooms.{less-some, less-none, less-room, less-short}
