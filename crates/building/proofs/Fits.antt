@@ -16,8 +16,8 @@ use Rattle.form.specs.declared.Head.{Head}
 use Rattle.form.specs.Files.{headText}
 use Rattle.form.specs.Lengths.{total, spaced, rowLength}
 use Rattle.form.proofs.Lengths.{head-length}
-use Rattle.text.specs.Prints.{less}
-use Rattle.text.proofs.Rooms.{less-some, less-none, less-room, less-short}
+use Rattle.printing.specs.Prints.{less}
+use Rattle.printing.proofs.Rooms.{less-some, less-none, less-room, less-short}
 use Rattle.files.specs.Contents.{fileOf}
 use Rattle.files.proofs.Lengths.{file-length}
 use Rattle.building.specs.Kernels.{FitNeeded}

@@ -9,11 +9,11 @@ use borrow.Author.Tests.{le-leb}
 use lib.ListN.{length, getD, take, drop, length-append, take-append-drop}
 use lib.Seq.{sets, take-suc, take-all, sets-eq}
 use Rattle.form.specs.Files.{each}
-use Rattle.text.specs.declared.printing.Place.{Place}
-use Rattle.text.specs.declared.printing.Place.the-variants as places
-use Rattle.text.specs.Prints.{Put, placeRead}
-use Rattle.text.specs.Kernels.{Printed}
-use Rattle.text.proofs.Written.{printed-more, printed-length}
+use Rattle.printing.specs.declared.lines.Place.{Place}
+use Rattle.printing.specs.declared.lines.Place.the-variants as places
+use Rattle.printing.specs.Prints.{Put, placeRead}
+use Rattle.printing.specs.Kernels.{Printed}
+use Rattle.printing.proofs.Written.{printed-more, printed-length, each-append}
 
 -- What a printer gives where there is room.
 module _ {out : List ℕ} {at : ℕ} {bytes : List ℕ} {place : Place} {out′ : List ℕ} (put : Put out at bytes place out′) (room : at + length bytes ≤ length out) where
@@ -33,11 +33,6 @@ module _ {out : List ℕ} {at : ℕ} {bytes : List ℕ} {place : Place} {out′ 
     same = space-is;
     behind = Option·some-injective n (at + length bytes) (sym (ap placeRead e) ∙ answer-is);
   }
-
-each-append : {A : Type 0} (w : List ℕ) (put : A → List ℕ) (xs ys : List A) → each w put (xs ++ ys) ≡ each w put xs ++ each w put ys
-unfolding each
-each-append w put [] ys = refl
-each-append w put (x ∷ xs) ys = rw (each-append w put xs ys) (simp append-assoc)
 
 module _ {A : Type 0} (w : List ℕ) (put : A → List ℕ) (d : A) (xs : List A) (i : ℕ) where
   -- One line more.

@@ -16,7 +16,7 @@ use Rattle.energy.proofs.Buffers.{picture-ofSize, row-is}
 use Rattle.form.specs.Files.{rowWord, pixelText, lineText, rowText}
 use Rattle.form.specs.Lengths.{rowLength}
 use Rattle.form.proofs.Lengths.{row-length}
-use Rattle.text.specs.Prints.{pixelsOf}
+use Rattle.printing.specs.Prints.{pixelsOf}
 use Rattle.files.proofs.Shapes.{all-each}
 
 module _ (z : Size) (b : List ℕ) (sized : refusal (sizeRules z (length b)) ≡ 0) where

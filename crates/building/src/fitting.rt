@@ -1,8 +1,7 @@
-// Whether the depth and growth are allowed, and whether the file fits a room: decided from sizes and samples, without the
-// map.
+// Whether the file fits a room: decided from sizes and samples, without the map.
 use energy::Size;
 use form::Head;
-use text::Left;
+use printing::Left;
 ghost use mathlib.Core.Path.{_≡_};
 ghost use mathlib.Core.List.{_++_};
 ghost use Prim.Native.Nat.{_*_, _<_};
@@ -11,25 +10,11 @@ ghost use lib.ListN.{length, drop};
 ghost use Rattle.cheapest.specs.Paths.{run};
 ghost use Rattle.energy.specs.Refusals.{refusal};
 ghost use Rattle.energy.specs.Pictures.{sizeRules, picture as Pictures·picture};
-ghost use Rattle.maps.specs.Widths.{allowed as Widths·allowed};
 ghost use Rattle.form.specs.Files.{mapText};
 ghost use Rattle.form.specs.Lengths.{total, rowLength};
-ghost use Rattle.text.specs.Prints.{leftRead, less};
+ghost use Rattle.printing.specs.Prints.{leftRead, less};
 ghost use Rattle.files.specs.Contents.{fileOf};
 ghost use Rattle.building.specs.Kernels.{OrderNeeded, FitNeeded};
-
-// Whether depth and growth are allowed at this width.
-pub(crate) fn allowed(width: usize, depth: usize, growth: usize) -> bool
-    ensures { λ t. ⌜ t ≡ Widths·allowed width depth growth ⌝ }
-{
-    if depth < width {
-        if growth <= depth {
-            return growth <= width / 2;
-        }
-        return false;
-    }
-    false
-}
 
 // What is left of a room behind the row lines of a picture.
 fn rows_left(room: usize, picture: &[u8], size: Size) -> Left
@@ -41,7 +26,7 @@ fn rows_left(room: usize, picture: &[u8], size: Size) -> Left
     let mut left = room;
     let mut r: usize = 0;
     while r < height {
-        let Left::Room(next) = text::row_left(left, kind, energy::row(picture, size, r)) else {
+        let Left::Room(next) = printing::row_left(left, kind, energy::row(picture, size, r)) else {
             return Left::Short;
         };
         left = next;
@@ -65,7 +50,7 @@ fn maps_left(room: usize, count: usize, row: &[u16]) -> Left
     requires { ⌜ 0 < count ⌝ }
     ensures { λ l. ⌜ leftRead l ≡ less room (count * length (mapText (now (row .entry)))) ⌝ }
 {
-    let Left::Room(after) = text::map_left(room, row) else {
+    let Left::Room(after) = printing::map_left(room, row) else {
         return Left::Short;
     };
     let line = room - after;
@@ -83,7 +68,7 @@ pub(crate) fn file_fits(picture: &[u8], head: Head, room: usize) -> bool
 {
     let size = head.size;
     let width = size.width;
-    let Left::Room(lines) = text::head_left(room, head) else {
+    let Left::Room(lines) = printing::head_left(room, head) else {
         return false;
     };
     let Left::Room(maps) = rows_left(lines, picture, size) else {

@@ -1,14 +1,14 @@
 // The lines of a file, printed one behind the other into a space that has room for them.
 use energy::Size;
 use form::Head;
-use text::Place;
+use printing::Place;
 ghost use mathlib.Core.Path.{_≡_};
 ghost use mathlib.Core.List.{_++_};
 ghost use Prim.Native.Nat.{_+_, _*_};
 ghost use lib.ListN.{drop};
 ghost use Rattle.energy.specs.Pictures.{picture as Pictures·picture};
 ghost use Rattle.form.specs.Files.{text as Files·text};
-ghost use Rattle.text.specs.Kernels.{Printed};
+ghost use Rattle.printing.specs.Kernels.{Printed};
 ghost use Rattle.building.specs.Kernels.{rowLines, mapLines, numbersIn, mapIn, partsIn, NumbersNeeded, RowsNeeded, MapsNeeded, PrintNeeded};
 
 // Prints the row lines of a picture, and gives the place behind them.
@@ -22,7 +22,7 @@ fn print_rows(out: &mut [u8], at: usize, picture: &[u8], size: Size) -> usize
     let mut r: usize = 0;
     while r < height {
         let row = energy::row(picture, size, r);
-        let Place::Next(next) = text::print_row(out, end, kind, row) else {
+        let Place::Next(next) = printing::print_row(out, end, kind, row) else {
             // never here: there is room
             return end;
         };
@@ -69,7 +69,7 @@ fn print_maps(out: &mut [u8], at: usize, map: &[u8], width: usize, height: usize
         let a = r * (2 * width);
         let e = a + 2 * width;
         read_numbers(&map[a..e], width, &mut row);
-        let Place::Next(next) = text::print_map(out, end, &row[..width]) else {
+        let Place::Next(next) = printing::print_map(out, end, &row[..width]) else {
             // never here: there is room
             return end;
         };
@@ -85,13 +85,13 @@ pub(crate) fn print_file(picture: &[u8], head: Head, map: &[u8], out: &mut [u8])
     ensures { λ n. ⌜ Printed (now (out .entry)) 0 (Files·text (partsIn head (now (picture .entry)) (now (map .entry)))) (now (out .exit)) n ⌝ }
 {
     let size = head.size;
-    let Place::Next(rows) = text::print_head(out, 0, head) else {
+    let Place::Next(rows) = printing::print_head(out, 0, head) else {
         // never here: there is room
         return 0;
     };
     let maps = print_rows(out, rows, picture, size);
     let last = print_maps(out, maps, map, size.width, size.height);
-    let Place::Next(end) = text::print_end(out, last) else {
+    let Place::Next(end) = printing::print_end(out, last) else {
         // never here: there is room
         return last;
     };

@@ -33,7 +33,7 @@ sets-digit l at n h = rw (digits-large n h, sets-append)
 pub sets-small : (l : List ℕ) (at n : ℕ) → n < 10 → sets l at (digits n) ≡ set l at (48 + n)
 sets-small l at n h = rw (digits-small n h)
 
-each-append : {A : Type 0} (w : List ℕ) (put : A → List ℕ) (xs ys : List A) → each w put (xs ++ ys) ≡ each w put xs ++ each w put ys
+pub each-append : {A : Type 0} (w : List ℕ) (put : A → List ℕ) (xs ys : List A) → each w put (xs ++ ys) ≡ each w put xs ++ each w put ys
 unfolding each
 each-append w put [] ys = refl
 each-append w put (x ∷ xs) ys = rw (each-append w put xs ys) (simp append-assoc)

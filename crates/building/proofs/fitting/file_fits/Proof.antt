@@ -11,7 +11,7 @@ use Rattle.energy.specs.Pictures.{picture}
 use Rattle.energy.proofs.Sizes.{Sized, sized-is}
 use Rattle.form.specs.Files.{headText, mapText}
 use Rattle.form.specs.Lengths.{total, spaced, rowLength}
-use Rattle.text.specs.Prints.{less}
+use Rattle.printing.specs.Prints.{less}
 use Rattle.building.proofs.MapRows.{order-long}
 use Rattle.building.proofs.Fits.{no-head, no-rows, no-maps, whole-fits}
 use borrow.Author.Needs.{needs}

@@ -8,8 +8,8 @@ use lib.ListN.{length}
 use Rattle.form.specs.Files.{mapText}
 use Rattle.form.specs.Lengths.{mapLength}
 use Rattle.form.proofs.Lengths.{map-length}
-use Rattle.text.specs.Prints.{less}
-use Rattle.text.proofs.Rooms.{less-room}
+use Rattle.printing.specs.Prints.{less}
+use Rattle.printing.proofs.Rooms.{less-room}
 use Rattle.building.proofs.Fits.{lines-none, line-is, lines-short, lines-room, lines-left}
 use borrow.Author.Needs.{needs}
 use Rattle.building.proofs.fitting.maps_left.Statement.{statement}

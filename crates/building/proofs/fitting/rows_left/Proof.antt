@@ -8,8 +8,8 @@ use lib.ListN.{length, getD}
 use Rattle.energy.specs.Pictures.{picture as Pictures·picture}
 use Rattle.form.specs.Files.{rowText}
 use Rattle.form.specs.Lengths.{rowLength}
-use Rattle.text.specs.Prints.{pixelsOf}
-use Rattle.text.proofs.Rooms.{Leaving, leaving-first, leaving-next, leaving-short, leaving-end}
+use Rattle.printing.specs.Prints.{pixelsOf}
+use Rattle.printing.proofs.Rooms.{Leaving, leaving-first, leaving-next, leaving-short, leaving-end}
 use Rattle.building.proofs.PictureRows.{rows-many, row-long}
 use borrow.Author.Needs.{needs}
 use Rattle.building.proofs.fitting.rows_left.Statement.{statement}

@@ -7,10 +7,10 @@ use denote.Ref.{now}
 use lib.ListN.{length, getD, take}
 use Rattle.energy.specs.Pictures.{picture as Pictures·picture}
 use Rattle.form.specs.Files.{rowWord, each, pixelText, lineText, rowText}
-use Rattle.text.specs.declared.printing.Place.the-variants as places
-use Rattle.text.specs.Prints.{pixelsOf}
-use Rattle.text.specs.Kernels.{Printed}
-use Rattle.text.proofs.Written.{printed-length}
+use Rattle.printing.specs.declared.lines.Place.the-variants as places
+use Rattle.printing.specs.Prints.{pixelsOf}
+use Rattle.printing.specs.Kernels.{Printed}
+use Rattle.printing.proofs.Written.{printed-length}
 use Rattle.building.proofs.Lined.{lines-none, line-never, line-next, lines-all}
 use Rattle.building.proofs.PictureRows.{rows-many, row-line}
 use borrow.Author.Needs.{needs}
