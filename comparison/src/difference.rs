@@ -26,6 +26,15 @@ impl Difference {
         self.sections.push(format!("{name}: {value}"));
     }
 
+    /// A text by its lines; bytes that aren't printed are escaped.
+    pub fn lines(&mut self, name: &str, text: &[u8]) {
+        let mut section = format!("{name} as text:");
+        for line in text.split_inclusive(|byte| *byte == b'\n') {
+            write!(section, "\n  {}", line.escape_ascii()).expect("a string takes all text");
+        }
+        self.sections.push(section);
+    }
+
     /// A buffer as it was lent and as each side left it, in rows of `row`
     /// values.
     pub fn buffer<T: Place>(&mut self, name: &str, row: usize, forms: Forms<T>) {
@@ -126,6 +135,16 @@ mod tests {
         assert!(unchanged.ends_with("3 4\nout: left unchanged by both"));
         let equal = text(&[1, 2, 0, 0], &[1, 2, 0, 0], 1000);
         assert!(equal.ends_with("3 4\nout after both, 4 places:\n  1 2\n  0 0"));
+    }
+
+    #[test]
+    fn texts_are_written_by_lines() {
+        let mut difference = Difference::new();
+        difference.lines("file", b"(a\n)\r\n\xff");
+        assert_eq!(
+            difference.text(1000),
+            "file as text:\n  (a\\n\n  )\\r\\n\n  \\xff"
+        );
     }
 
     #[test]

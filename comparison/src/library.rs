@@ -5,9 +5,11 @@
 
 #![allow(unsafe_code)]
 
+mod files;
 mod removal;
 mod retarget;
 
+pub use files::{build, check, read, show, FileAnswer, SizeAnswer};
 pub use removal::{remove, Ended};
 pub use retarget::retarget;
 

@@ -4,6 +4,7 @@
 
 mod axes;
 mod contents;
+mod damage;
 mod difference;
 mod faults;
 mod library;
@@ -13,7 +14,9 @@ mod options;
 mod paths;
 mod pictures;
 mod random;
+mod ranges;
 mod spaces;
+mod texts;
 
 use difference::Difference;
 use operations::{Operation, OPERATIONS};

@@ -32,7 +32,7 @@ pub fn compare_retarget(random: &mut Random, turn: u64) -> Result<u64, Differenc
 }
 
 /// Every shape in both kinds, by turns.
-fn shape(turn: u64) -> Size {
+pub fn shape(turn: u64) -> Size {
     let shape = turn as usize / 2 % (SIDE * SIDE);
     Size {
         width: 1 + shape % SIDE,

@@ -1,17 +1,23 @@
 //! The operations that are compared.
 
+mod build;
+mod check;
 mod cut;
 mod cut_marked;
 mod energies;
 mod every_cut;
+mod every_map;
 mod every_path;
 mod find;
 mod find_marked;
+mod one_file;
 mod one_row;
 mod one_seam;
+mod read;
 mod remove;
 mod retarget;
 mod row;
+mod show;
 mod sides;
 
 use crate::difference::Difference;
@@ -32,7 +38,7 @@ fn work_bytes(size: Size) -> usize {
     32 * size.width * size.height
 }
 
-pub const OPERATIONS: [Operation; 14] = [
+pub const OPERATIONS: [Operation; 20] = [
     Operation {
         name: "row",
         compare: row::compare,
@@ -66,6 +72,22 @@ pub const OPERATIONS: [Operation; 14] = [
         compare: retarget::compare,
     },
     Operation {
+        name: "build",
+        compare: build::compare,
+    },
+    Operation {
+        name: "check",
+        compare: check::compare,
+    },
+    Operation {
+        name: "read",
+        compare: read::compare,
+    },
+    Operation {
+        name: "show",
+        compare: show::compare,
+    },
+    Operation {
         name: "find, every path",
         compare: every_path::compare_find,
     },
@@ -88,6 +110,14 @@ pub const OPERATIONS: [Operation; 14] = [
     Operation {
         name: "retarget, every path",
         compare: every_cut::compare_retarget,
+    },
+    Operation {
+        name: "build, every path",
+        compare: every_map::compare_build,
+    },
+    Operation {
+        name: "show, every path",
+        compare: every_map::compare_show,
     },
 ];
 
@@ -116,12 +146,22 @@ mod tests {
             ),
             ("remove", ROUND..5 * ROUND, &[0, 1, 2, 3, 4, 5, 8]),
             ("retarget", ROUND..5 * ROUND, &[0, 1, 2, 3, 4, 7, 8]),
+            ("build", ROUND..5 * ROUND, &[0, 1, 2, 3, 4, 6, 8]),
+            ("check", ROUND..9 * ROUND, &[0, 1, 2, 3, 4, 6, 8, 9, 10, 11]),
+            ("read", ROUND..9 * ROUND, &[0, 1, 2, 3, 4, 6, 8, 9, 10, 11]),
+            (
+                "show",
+                ROUND..9 * ROUND,
+                &[0, 1, 2, 3, 4, 6, 7, 8, 9, 10, 11],
+            ),
             ("find, every path", 0..200, &[0]),
             ("cut, every path", 0..200, &[0, 13]),
             ("find_marked, every path", 0..200, &[0, 12]),
             ("cut_marked, every path", 0..200, &[0, 12, 13]),
             ("remove, every path", 0..200, &[0]),
             ("retarget, every path", 0..200, &[0]),
+            ("build, every path", 0..200, &[0]),
+            ("show, every path", 0..200, &[0]),
         ] {
             let operation = OPERATIONS.iter().find(|o| o.name == name).unwrap();
             let compare = |turn| (operation.compare)(&mut Random::of_case(1, turn), turn);

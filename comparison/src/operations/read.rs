@@ -1,0 +1,26 @@
+//! Reading a file's picture and map.
+
+use super::one_file::{file_answer, Buffers, Case, Gives};
+use crate::difference::Difference;
+use crate::library::{self, FileAnswer};
+use crate::random::Random;
+
+pub fn compare(random: &mut Random, turn: u64) -> Result<u64, Difference> {
+    let case = Case::of_turn(random, turn, Gives::PictureAndMap);
+    case.compare("reference", by_reference, by_library)
+}
+
+fn by_reference(_: &Case, buffers: &mut Buffers) -> FileAnswer {
+    let (picture, map) = (buffers.out.part_mut(), buffers.map.part_mut());
+    let (file, work) = (buffers.file.part(), buffers.work.part_mut());
+    file_answer(reference::read(file, picture, map, work))
+}
+
+fn by_library(_: &Case, buffers: &mut Buffers) -> FileAnswer {
+    library::read(
+        buffers.file.part_mut(),
+        buffers.out.part_mut(),
+        buffers.map.part_mut(),
+        buffers.work.part_mut(),
+    )
+}
