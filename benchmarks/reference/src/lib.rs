@@ -1,5 +1,5 @@
 //! The reference's operations as functions that C calls: vertical seams found,
-//! with the cost alone as the answer, objects removed and retargets.
+//! with the cost alone as the answer, objects removed, retargets, and files.
 
 use reference::{Axis, Columns, Kind, Rows, Size};
 use std::slice::{from_raw_parts, from_raw_parts_mut};
@@ -102,4 +102,52 @@ pub unsafe extern "C" fn reference_retarget(
     let work = from_raw_parts_mut(lent.work, (32 + 66 * lent.channels) * pixels);
     let total = reference::retarget(picture, size, Rows(rows), Columns(columns), out, work);
     total.expect("the picture is retargeted")
+}
+
+/// The length of the file with the full map and the largest growth.
+///
+/// # Safety
+/// The picture and the work space have the lengths that the size says, `out`
+/// has `room` bytes, and nothing else uses them.
+#[no_mangle]
+pub unsafe extern "C" fn reference_build(lent: &mut Lent, out: *mut u8, room: usize) -> u64 {
+    let (size, pixels) = (lent.size(), lent.pixels());
+    let picture = from_raw_parts(lent.picture, lent.channels * pixels);
+    let out = from_raw_parts_mut(out, room);
+    let work = from_raw_parts_mut(lent.work, 32 * pixels);
+    let (depth, growth) = (size.width - 1, size.width / 2);
+    let length = reference::build(picture, size, depth, growth, out, work);
+    length.expect("a file is built") as u64
+}
+
+/// The depth of a file.
+///
+/// # Safety
+/// The file has `bytes` bytes and the picture's size, the work space the length
+/// that the size says, and nothing else uses them.
+#[no_mangle]
+pub unsafe extern "C" fn reference_check(lent: &mut Lent, file: *const u8, bytes: usize) -> u64 {
+    let file = from_raw_parts(file, bytes);
+    let work = from_raw_parts_mut(lent.work, 32 * lent.pixels());
+    let info = reference::check(file, work).expect("the file is accepted");
+    info.depth as u64
+}
+
+/// The width shown.
+///
+/// # Safety
+/// As for `reference_check`, and `out` has the length of the picture shown.
+#[no_mangle]
+pub unsafe extern "C" fn reference_show(
+    lent: &mut Lent,
+    file: *const u8,
+    bytes: usize,
+    wanted: usize,
+    out: *mut u8,
+) -> u64 {
+    let file = from_raw_parts(file, bytes);
+    let out = from_raw_parts_mut(out, wanted * lent.height * lent.channels);
+    let work = from_raw_parts_mut(lent.work, 32 * lent.pixels());
+    let size = reference::show(file, wanted, out, work).expect("the width is offered");
+    size.width as u64
 }
