@@ -1,7 +1,7 @@
 //! The functions of the archive, and safe forms of them.
 //!
-//! A picture and its marks are handed on from buffers that may be changed, so
-//! that a write to them would be seen in the comparison.
+//! A picture, its marks and a file are handed on from buffers that may be
+//! changed, so that a write to them would be seen in the comparison.
 
 #![allow(unsafe_code)]
 

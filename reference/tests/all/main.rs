@@ -14,6 +14,7 @@ mod random;
 mod refusals;
 mod retargets;
 mod seams;
+mod tables;
 mod verdict;
 mod worked;
 mod wrong;
