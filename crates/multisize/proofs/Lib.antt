@@ -1,6 +1,14 @@
 pub mod Opened
 pub mod Parsed
 pub mod Filled
+pub mod Recorded
 pub mod Places
 pub mod Turns
-pub mod Recorded
+pub mod Answered
+pub mod CheckAnswers
+pub mod ReadAnswers
+pub mod Standing
+pub mod Offered
+pub mod Drawing
+pub mod DrawTurns
+pub mod Answering

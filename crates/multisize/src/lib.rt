@@ -2,7 +2,11 @@
 pub mod checking;
 mod lines;
 mod opening;
+pub mod reading;
 pub mod widths;
 
 pub use checking::Checked;
+pub use checking::check;
+pub use reading::read;
 pub use widths::Shown;
+pub use widths::show;

@@ -1,0 +1,50 @@
+-- `multisize::widths::draw` meets its contract.
+use mathlib.Core.Path.{ap, _∙_}
+use lib.ListN.{replicate}
+use denote.Ref.{now}
+use Rattle.multisize.proofs.Drawing.{room, same-long, lines-needed}
+use borrow.Author.Needs.{needs}
+use Rattle.multisize.proofs.widths.draw.Statement.{statement}
+use Rattle.multisize.proofs.widths.draw.Tie as tie
+use Rattle.multisize.proofs.widths.draw.Reads as reads
+use Rattle.multisize.proofs.widths.draw.Lts as lts
+use Rattle.moving.proofs.clear.Reads as clear-reads
+use Rattle.multisize.proofs.lines.read_rows.Reads as read-rows-reads
+use Rattle.multisize.proofs.opening.first_row.Reads as first-row-reads
+use Rattle.multisize.proofs.widths.draw_rows.Reads as draw-rows-reads
+
+first-row-requires : tie.Need-first-row-requires
+first-row-requires c κs = c .before .before .before .pre .opened
+
+read-rows-requires : tie.Need-read-rows-requires
+read-rows-requires c κs = let st = c .before .before .before .before .before in record { opened = st .pre .opened; place = c .before .first-row .ensures; room = room _ _ _ _ (now (st .args .work)) (st .pre) }
+
+draw-rows-requires : tie.Need-draw-rows-requires
+draw-rows-requires c κs = let st = c .before .before .before .before .before .before .before .before .before .before in lines-needed _ _ _ _ _ (st .pre) (c .before .before .before .before .read-rows .ensures)
+
+clear-requires : tie.Need-clear-requires
+clear-requires c κs = search needs
+
+same-length : tie.Need-same-length
+same-length c = search needs
+
+same-length-2 : tie.Need-same-length-2
+same-length-2 c = search needs
+
+returns : tie.Need-returns
+returns c =
+    let st = c .before .before .before .before .before .before .before .before .before .before .before .before .before .before .before .before .before in
+    let same = same-long _ _ _ _ _ (st .pre) (c .before .before .before .before .before .before .before .before .before .before .before .read-rows .ensures) in
+    (c .before .before .before .before .before .before .draw-rows .ensures, c .before .before .clear .ensures ∙ ap (λ n. replicate n 0) same)
+
+pub draw-spec : {M : Type 1} → statement M
+draw-spec =
+    tie.close
+    (tie.spec
+    first-row-requires
+    read-rows-requires
+    draw-rows-requires
+    clear-requires
+    same-length
+    same-length-2
+    returns)

@@ -1,0 +1,109 @@
+-- `multisize::widths::show` meets its contract.
+use mathlib.Core.Path.{_≡_, sym, ap, _∙_}
+use denote.Ref.{now}
+use lib.ListN.{length, length-replicate, replicate}
+use Rattle.energy.specs.Refusals.{given, refusal}
+use Rattle.form.specs.Files.{parse}
+use Rattle.multisize.specs.Kernels.{Open, wantedRules, judgedIn}
+use Rattle.multisize.proofs.Parsed.{opened}
+use Rattle.multisize.proofs.Offered.{sound, roomy}
+use Rattle.multisize.proofs.Answering.{open-is, show-closed, show-wanted, show-judged, show-served}
+use borrow.Author.Needs.{needs}
+use Rattle.multisize.proofs.widths.show.Statement.{statement}
+use Rattle.multisize.proofs.widths.show.Tie as tie
+use Rattle.multisize.proofs.widths.show.Reads as reads
+use Rattle.multisize.proofs.widths.show.Lts as lts
+use Rattle.multisize.proofs.checking.judge.Reads as judge-reads
+use Rattle.multisize.proofs.opening.open.Reads as open-reads
+use Rattle.multisize.proofs.widths.draw.Reads as draw-reads
+use Rattle.multisize.proofs.widths.rooms.Reads as rooms-reads
+
+-- a file that was opened
+is-open : (c : tie.After-known-told) → let a = c .before .before .before .before .before .before .before .args in Open (now (a .file)) (c .before .head .given .0 .0)
+is-open c = open-is _ _ (rw (c .before .head .given .1) at (c .before .before .before .«open» .ensures))
+
+-- neither 7 nor 8 is given
+fits : (c : tie.After-enum-told) → let a = c .before .before .before .before .before .before .before .before .before .before .args in refusal (wantedRules (c .before .before .before .before .head .given .0 .0) (a .wanted) (length (now (a .out))) (length (now (a .work)))) ≡ 0
+fits c = sym (c .before .before .rooms .ensures) ∙ ap given (c .enum-told .given .1)
+
+-- nor is the map refused, and the work space is as long as it was
+accepted : (c : tie.After-enum-told2) → let a = c .before .before .before .before .before .before .before .before .before .before .before .before .before .before .before .before .args in (refusal (judgedIn (parse (now (a .file)))) ≡ 0) × (length (c .before .before .before .before .judge .last .1 .1 .0) ≡ length (now (a .work)))
+accepted c =
+    let j = c .before .before .before .before .judge .ensures in
+    (sym (j .number) ∙ ap given (c .enum-told2 .given .1), ap length (j .work-left) ∙ length-replicate _ _)
+
+open-requires : tie.Need-open-requires
+open-requires c κs = search needs
+
+enum-known-head : tie.Need-enum-known-head
+enum-known-head c = search needs
+
+enum-known-why : tie.Need-enum-known-why
+enum-known-why c = search needs
+
+returns : tie.Need-returns
+returns c = show-closed _ _ _ _ _ (rw (c .before .why .given .1) at (c .before .before .before .«open» .ensures))
+
+rooms-requires : tie.Need-rooms-requires
+rooms-requires c κs = sound (opened _ _ (is-open c))
+
+enum-known-why-2 : tie.Need-enum-known-why-2
+enum-known-why-2 c = search needs
+
+returns-2 : tie.Need-returns-2
+returns-2 c = show-wanted _ _ _ _ _ (is-open (c .before .before .before .before)) _ _ (c .before .why2 .given .1) (c .before .before .before .rooms .ensures)
+
+enum-told : tie.Need-enum-told
+enum-told c = search needs
+
+judge-requires : tie.Need-judge-requires
+judge-requires c κs = let o = is-open (c .before .before .before .before) in record { opened = o; room = roomy _ _ _ _ (sound (opened _ _ o)) (fits (c .before)) .work-room }
+
+enum-known-why-3 : tie.Need-enum-known-why-3
+enum-known-why-3 c = search needs
+
+same-length : tie.Need-same-length
+same-length c = search needs
+
+returns-3 : tie.Need-returns-3
+returns-3 c = show-judged _ _ _ _ _ (is-open (c .before .before .before .before .before .before .before .before .before .before)) (fits (c .before .before .before .before .before .before .before)) _ _ _ (c .before .why3 .given .1) (c .before .before .before .before .before .judge .ensures)
+
+enum-told-2 : tie.Need-enum-told-2
+enum-told-2 c = search needs
+
+draw-requires : tie.Need-draw-requires
+draw-requires c κs = let j = accepted (c .before .before) in record { opened = is-open (c .before .before .before .before .before .before .before .before .before .before .before); accepted = j .0; room = rw (j .1) (fits (c .before .before .before .before .before .before .before .before)) }
+
+same-length-2 : tie.Need-same-length-2
+same-length-2 c = search needs
+
+same-length-3 : tie.Need-same-length-3
+same-length-3 c = search needs
+
+returns-4 : tie.Need-returns-4
+returns-4 c =
+    let j = accepted (c .before .before .before .before .before .before .before .before) in
+    let d = c .before .before .before .before .before .draw .ensures in
+    show-served _ _ _ _ _ (is-open (c .before .before .before .before .before .before .before .before .before .before .before .before .before .before .before .before .before)) (fits (c .before .before .before .before .before .before .before .before .before .before .before .before .before .before)) _ _ (j .0) (d .0) (d .1 ∙ ap (λ n. replicate n 0) (j .1))
+
+pub show-spec : {M : Type 1} → statement M
+show-spec =
+    tie.close
+    (tie.spec
+    open-requires
+    enum-known-head
+    enum-known-why
+    returns
+    rooms-requires
+    enum-known-why-2
+    returns-2
+    enum-told
+    judge-requires
+    enum-known-why-3
+    same-length
+    returns-3
+    enum-told-2
+    draw-requires
+    same-length-2
+    same-length-3
+    returns-4)
