@@ -72,7 +72,6 @@ module _ (before : List ℕ) {file : List ℕ} {h : Head} {first v : ℕ} {space
 
       samples-are : midOf (r * (h .size .width * n)) (r * (h .size .width * n) + h .size .width * n - r * (h .size .width * n)) space ≡ flat (getD (rowsIn (parse file)) r [])
       samples-are =
-          let s = h .size .width * n in
           let e : r * (h .size .width * n) + h .size .width * n - r * (h .size .width * n) ≡ h .size .width * n = omega arith in
           rw e
           (rw is

@@ -63,7 +63,6 @@ module _ {file : List ℕ} {h : Head} (k : Parsed file h) (v : ℕ) where
     unfolding rowShown bytes
     drawn-row r l =
         let row = getD (rowsIn (parse file)) r [] in
-        let numbers = getD (mapsIn (parse file)) r [] in
         let ch = channelsOf (h .size .kind) in
         let long : length (getD (mapsIn (parse file)) r []) ≡ h .size .width = each-at r [] l (k .maps-grid) in
         let pixels : rowsOf (channelsOf (h .size .kind)) (h .size .width) (flat (getD (rowsIn (parse file)) r [])) ≡ getD (rowsIn (parse file)) r [] =

@@ -11,4 +11,4 @@ pub mod Standing
 pub mod Offered
 pub mod Drawing
 pub mod DrawTurns
-pub mod Answering
+pub mod ShowAnswers

@@ -3,7 +3,7 @@ use mathlib.Core.Path.{_≡_}
 use mathlib.Core.Bool.{true, cond, not}
 use mathlib.Core.List.{List}
 use Prim.Native.Nat.{ℕ, _+_, _*_, _≤_}
-use native.Mathlib.Nat.{mul-le-mul, mul-le-mul-left, mul-assoc, mul-comm}
+use native.Mathlib.Nat.{mul-le-mul}
 use native.Mathlib.Omega.{arith}
 use lib.Dec.{ltb}
 use borrow.Author.Tests.{ltb-false, not-false}
@@ -11,8 +11,9 @@ use Rattle.energy.specs.declared.pictures.Size.{Size}
 use Rattle.energy.specs.Refusals.{refusal}
 use Rattle.energy.specs.Pictures.{channelsOf, pictureBytes}
 use Rattle.energy.proofs.Rules.{passed}
-use Rattle.energy.proofs.Sizes.{channels-most, sides-are}
+use Rattle.energy.proofs.Sizes.{sides-are}
 use Rattle.finding.specs.Finding.{pixels}
+use Rattle.carving.proofs.Turns.{bytes-few}
 use Rattle.maps.specs.Widths.{offered}
 use Rattle.maps.proofs.Shown.{allowed-is, offered-is}
 use Rattle.form.specs.declared.Head.{Head}
@@ -68,6 +69,4 @@ roomy h v out work s e =
 
 -- A picture takes at most three bytes a pixel, so the work space has room for it.
 pub picture-fits : (z : Size) (work : ℕ) → 32 * pixels z ≤ work → pictureBytes z ≤ work
-picture-fits z work l =
-    let m = mul-le-mul-left (z .height) (mul-le-mul-left (z .width) (channels-most (z .kind))) in
-    omega (arith, mul-assoc (z .height) (z .width) 3, mul-comm (z .height * z .width) 3)
+picture-fits z work l = omega (arith, bytes-few z)

@@ -6,12 +6,6 @@ use Rattle.multisize.proofs.Drawing.{room, same-long, lines-needed}
 use borrow.Author.Needs.{needs}
 use Rattle.multisize.proofs.widths.draw.Statement.{statement}
 use Rattle.multisize.proofs.widths.draw.Tie as tie
-use Rattle.multisize.proofs.widths.draw.Reads as reads
-use Rattle.multisize.proofs.widths.draw.Lts as lts
-use Rattle.moving.proofs.clear.Reads as clear-reads
-use Rattle.multisize.proofs.lines.read_rows.Reads as read-rows-reads
-use Rattle.multisize.proofs.opening.first_row.Reads as first-row-reads
-use Rattle.multisize.proofs.widths.draw_rows.Reads as draw-rows-reads
 
 first-row-requires : tie.Need-first-row-requires
 first-row-requires c κs = c .before .before .before .pre .opened

@@ -14,11 +14,6 @@ use Rattle.multisize.proofs.DrawTurns.{known, fits, drawn-all, samples-
 use borrow.Author.Needs.{needs}
 use Rattle.multisize.proofs.widths.draw_rows.Statement.{statement}
 use Rattle.multisize.proofs.widths.draw_rows.Tie as tie
-use Rattle.multisize.proofs.widths.draw_rows.Reads as reads
-use Rattle.multisize.proofs.widths.draw_rows.Lts as lts
-use Rattle.energy.proofs.channels.Reads as channels-reads
-use Rattle.showing.proofs.row_at.Reads as row-at-reads
-use Rattle.text.proofs.cursor.Cursor.map.Reads as map-reads
 
 abbrev Inv-loop : tie.InvT-loop
 Inv-loop file wanted space out₀ width height kind stride shown numbers₀ at₀ r₀ out numbers at r =
@@ -44,10 +39,14 @@ loop-holds c = let st = c .before .before .before .before .before .before in
     (omega arith, refl, refl, maps-first (known (now (st .args .out)) (st .pre)) (st .args .maps .at) (st .pre .place), filled-start (drawnBytes (shows (now (st .args .file)) (st .args .wanted))) (now (st .args .out)) (st .args .wanted * c .channels2 .result))
 
 array-borrow-prefix-numbers : tie.Need-array-borrow-prefix-numbers Inv-loop μ-loop
-array-borrow-prefix-numbers c = let st = c .before .before .before .before .before .before .before .before in omega (arith, known (now (st .args .out)) (st .pre) .sides .width-most, c .before .loop .inv .2)
+array-borrow-prefix-numbers c =
+    let st = c .before .before .before .before .before .before .before .before in
+    omega (arith, known (now (st .args .out)) (st .pre) .sides .width-most, c .before .loop .inv .2)
 
 slice-aggregate-map : tie.Need-slice-aggregate-map Inv-loop μ-loop
-slice-aggregate-map c = let st = c .before .before .before .before .before .before .before .before .before in sym (length-take-le (st .args .head .size .width) (c .before .before .loop .numbers) (omega (arith, known (now (st .args .out)) (st .pre) .sides .width-most, c .before .before .loop .inv .2)))
+slice-aggregate-map c =
+    let st = c .before .before .before .before .before .before .before .before .before in
+    sym (length-take-le (st .args .head .size .width) (c .before .before .loop .numbers) (omega (arith, known (now (st .args .out)) (st .pre) .sides .width-most, c .before .before .loop .inv .2)))
 
 map-requires : tie.Need-map-requires Inv-loop μ-loop
 map-requires c κs = search needs
@@ -110,13 +109,19 @@ part-row-at-start : tie.Need-part-row-at-start Inv-loop μ-loop
 part-row-at-start c = search needs
 
 part-row-at-end : tie.Need-part-row-at-end Inv-loop μ-loop
-part-row-at-end c = let st = c .before .before .before .before .before .before .before .before .before .before .before .before .before .before in samples-end (now (st .args .out)) (st .pre) (c .before .before .before .before .before .before .before .loop .r) (c .before .before .before .before .before .before .loop-test .taken) _ (c .before .before .before .before .before .before .before .before .before .channels .ensures)
+part-row-at-end c =
+    let st = c .before .before .before .before .before .before .before .before .before .before .before .before .before .before in
+    samples-end (now (st .args .out)) (st .pre) (c .before .before .before .before .before .before .before .loop .r) (c .before .before .before .before .before .before .loop-test .taken) _ (c .before .before .before .before .before .before .before .before .before .channels .ensures)
 
 array-share-prefix-numbers : tie.Need-array-share-prefix-numbers Inv-loop μ-loop
-array-share-prefix-numbers c = let st = c .before .before .before .before .before .before .before .before .before .before .before .before .before .before .before in omega (arith, numbers-long (c .before), known (now (st .args .out)) (st .pre) .sides .width-most)
+array-share-prefix-numbers c =
+    let st = c .before .before .before .before .before .before .before .before .before .before .before .before .before .before .before in
+    omega (arith, numbers-long (c .before), known (now (st .args .out)) (st .pre) .sides .width-most)
 
 slice-aggregate-row-at : tie.Need-slice-aggregate-row-at Inv-loop μ-loop
-slice-aggregate-row-at c = let st = c .before .before .before .before .before .before .before .before .before .before .before .before .before .before .before .before in sym (length-take-le (st .args .head .size .width) _ (omega (arith, numbers-long (c .before .before), known (now (st .args .out)) (st .pre) .sides .width-most)))
+slice-aggregate-row-at c =
+    let st = c .before .before .before .before .before .before .before .before .before .before .before .before .before .before .before .before in
+    sym (length-take-le (st .args .head .size .width) _ (omega (arith, numbers-long (c .before .before), known (now (st .args .out)) (st .pre) .sides .width-most)))
 
 add-row-at-2 : tie.Need-add-row-at-2 Inv-loop μ-loop
 add-row-at-2 c = omega (arith, row-fits (c .before .before) .1)
@@ -128,13 +133,17 @@ part-row-at-start-2 : tie.Need-part-row-at-start-2 Inv-loop μ-loop
 part-row-at-start-2 c = search needs
 
 part-row-at-end-2 : tie.Need-part-row-at-end-2 Inv-loop μ-loop
-part-row-at-end-2 c = let st = c .before .before .before .before .before .before .before .before .before .before .before .before .before .before .before .before in omega (arith, c .before .before .before .before .before .before .before .before .before .loop .inv .1, shown-end (now (st .args .out)) (st .pre) (c .before .before .before .before .before .before .before .before .before .loop .r) (c .before .before .before .before .before .before .before .before .loop-test .taken) _ (c .before .before .before .before .before .before .before .before .before .before .channels2 .ensures))
+part-row-at-end-2 c =
+    let st = c .before .before .before .before .before .before .before .before .before .before .before .before .before .before .before .before in
+    omega (arith, c .before .before .before .before .before .before .before .before .before .loop .inv .1, shown-end (now (st .args .out)) (st .pre) (c .before .before .before .before .before .before .before .before .before .loop .r) (c .before .before .before .before .before .before .before .before .loop-test .taken) _ (c .before .before .before .before .before .before .before .before .before .before .channels2 .ensures))
 
 row-at-requires : tie.Need-row-at-requires Inv-loop μ-loop
 row-at-requires c κs = search needs
 
 add-r : tie.Need-add-r Inv-loop μ-loop
-add-r c = let st = c .before .before .before .before .before .before .before .before .before .before .before .before .before .before .before .before .before .before .before .before in omega (arith, c .before .before .before .before .before .before .before .before .before .before .before .before .loop-test .taken, known (now (st .args .out)) (st .pre) .sides .height-most)
+add-r c =
+    let st = c .before .before .before .before .before .before .before .before .before .before .before .before .before .before .before .before .before .before .before .before in
+    omega (arith, c .before .before .before .before .before .before .before .before .before .before .before .before .loop-test .taken, known (now (st .args .out)) (st .pre) .sides .height-most)
 
 loop-less : tie.Need-loop-less Inv-loop μ-loop
 loop-less c = search needs

@@ -10,9 +10,6 @@ use Rattle.energy.proofs.Sizes.{sides-are}
 use borrow.Author.Needs.{needs}
 use Rattle.multisize.proofs.widths.rooms.Statement.{statement}
 use Rattle.multisize.proofs.widths.rooms.Tie as tie
-use Rattle.multisize.proofs.widths.rooms.Reads as reads
-use Rattle.multisize.proofs.widths.rooms.Lts as lts
-use Rattle.energy.proofs.channels.Reads as channels-reads
 
 -- past the second test the width is offered, so what is shown is bounded
 bounds : (c : tie.Else2) → let a = c .before .before .before .before .before .args in Bounded (a .head) (a .wanted)

@@ -7,20 +7,15 @@ use Rattle.form.specs.Files.{parse}
 use Rattle.multisize.specs.Kernels.{Open, wantedRules, judgedIn}
 use Rattle.multisize.proofs.Parsed.{opened}
 use Rattle.multisize.proofs.Offered.{sound, roomy}
-use Rattle.multisize.proofs.Answering.{open-is, show-closed, show-wanted, show-judged, show-served}
+use Rattle.multisize.proofs.Answered.{is-open}
+use Rattle.multisize.proofs.ShowAnswers.{show-early, show-short, show-refused, show-served}
 use borrow.Author.Needs.{needs}
 use Rattle.multisize.proofs.widths.show.Statement.{statement}
 use Rattle.multisize.proofs.widths.show.Tie as tie
-use Rattle.multisize.proofs.widths.show.Reads as reads
-use Rattle.multisize.proofs.widths.show.Lts as lts
-use Rattle.multisize.proofs.checking.judge.Reads as judge-reads
-use Rattle.multisize.proofs.opening.open.Reads as open-reads
-use Rattle.multisize.proofs.widths.draw.Reads as draw-reads
-use Rattle.multisize.proofs.widths.rooms.Reads as rooms-reads
 
 -- a file that was opened
-is-open : (c : tie.After-known-told) → let a = c .before .before .before .before .before .before .before .args in Open (now (a .file)) (c .before .head .given .0 .0)
-is-open c = open-is _ _ (rw (c .before .head .given .1) at (c .before .before .before .«open» .ensures))
+is-opened : (c : tie.After-known-told) → let a = c .before .before .before .before .before .before .before .args in Open (now (a .file)) (c .before .head .given .0 .0)
+is-opened c = let o = c .before .before .before .«open» in is-open _ (o .result) (o .ensures) (c .before .head .given .0 .0) (c .before .head .given .1)
 
 -- neither 7 nor 8 is given
 fits : (c : tie.After-enum-told) → let a = c .before .before .before .before .before .before .before .before .before .before .args in refusal (wantedRules (c .before .before .before .before .head .given .0 .0) (a .wanted) (length (now (a .out))) (length (now (a .work)))) ≡ 0
@@ -42,22 +37,22 @@ enum-known-why : tie.Need-enum-known-why
 enum-known-why c = search needs
 
 returns : tie.Need-returns
-returns c = show-closed _ _ _ _ _ (rw (c .before .why .given .1) at (c .before .before .before .«open» .ensures))
+returns c = show-early _ _ _ _ _ (rw (c .before .why .given .1) at (c .before .before .before .«open» .ensures))
 
 rooms-requires : tie.Need-rooms-requires
-rooms-requires c κs = sound (opened _ _ (is-open c))
+rooms-requires c κs = sound (opened _ _ (is-opened c))
 
 enum-known-why-2 : tie.Need-enum-known-why-2
 enum-known-why-2 c = search needs
 
 returns-2 : tie.Need-returns-2
-returns-2 c = show-wanted _ _ _ _ _ (is-open (c .before .before .before .before)) _ _ (c .before .why2 .given .1) (c .before .before .before .rooms .ensures)
+returns-2 c = show-short _ _ _ _ _ (is-opened (c .before .before .before .before)) _ (c .before .before .before .rooms .ensures) _ (c .before .why2 .given .1)
 
 enum-told : tie.Need-enum-told
 enum-told c = search needs
 
 judge-requires : tie.Need-judge-requires
-judge-requires c κs = let o = is-open (c .before .before .before .before) in record { opened = o; room = roomy _ _ _ _ (sound (opened _ _ o)) (fits (c .before)) .work-room }
+judge-requires c κs = let o = is-opened (c .before .before .before .before) in record { opened = o; room = roomy _ _ _ _ (sound (opened _ _ o)) (fits (c .before)) .work-room }
 
 enum-known-why-3 : tie.Need-enum-known-why-3
 enum-known-why-3 c = search needs
@@ -66,13 +61,15 @@ same-length : tie.Need-same-length
 same-length c = search needs
 
 returns-3 : tie.Need-returns-3
-returns-3 c = show-judged _ _ _ _ _ (is-open (c .before .before .before .before .before .before .before .before .before .before)) (fits (c .before .before .before .before .before .before .before)) _ _ _ (c .before .why3 .given .1) (c .before .before .before .before .before .judge .ensures)
+returns-3 c = show-refused _ _ _ _ _ (is-opened (c .before .before .before .before .before .before .before .before .before .before)) (fits (c .before .before .before .before .before .before .before)) _ _ _ (c .before .why3 .given .1) (c .before .before .before .before .before .judge .ensures)
 
 enum-told-2 : tie.Need-enum-told-2
 enum-told-2 c = search needs
 
 draw-requires : tie.Need-draw-requires
-draw-requires c κs = let j = accepted (c .before .before) in record { opened = is-open (c .before .before .before .before .before .before .before .before .before .before .before); accepted = j .0; room = rw (j .1) (fits (c .before .before .before .before .before .before .before .before)) }
+draw-requires c κs =
+    let j = accepted (c .before .before) in
+    record { opened = is-opened (c .before .before .before .before .before .before .before .before .before .before .before); accepted = j .0; room = rw (j .1) (fits (c .before .before .before .before .before .before .before .before)) }
 
 same-length-2 : tie.Need-same-length-2
 same-length-2 c = search needs
@@ -84,7 +81,7 @@ returns-4 : tie.Need-returns-4
 returns-4 c =
     let j = accepted (c .before .before .before .before .before .before .before .before) in
     let d = c .before .before .before .before .before .draw .ensures in
-    show-served _ _ _ _ _ (is-open (c .before .before .before .before .before .before .before .before .before .before .before .before .before .before .before .before .before)) (fits (c .before .before .before .before .before .before .before .before .before .before .before .before .before .before)) _ _ (j .0) (d .0) (d .1 ∙ ap (λ n. replicate n 0) (j .1))
+    show-served _ _ _ _ _ (is-opened (c .before .before .before .before .before .before .before .before .before .before .before .before .before .before .before .before .before)) (fits (c .before .before .before .before .before .before .before .before .before .before .before .before .before .before)) _ _ (j .0) (d .0) (d .1 ∙ ap (λ n. replicate n 0) (j .1))
 
 pub show-spec : {M : Type 1} → statement M
 show-spec =
