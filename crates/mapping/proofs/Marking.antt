@@ -10,7 +10,7 @@ use Rattle.mapping.specs.Kernels.{writePair}
 
 -- The two bytes at c, and what follows them.
 module _ (ys : List ℕ) (c : ℕ) (inside : c + 1 < length ys) where
-  drop-two : drop c ys ≡ getD ys c 0 ∷ getD ys (c + 1) 0 ∷ drop (c + 2) ys
+  pub drop-two : drop c ys ≡ getD ys c 0 ∷ getD ys (c + 1) 0 ∷ drop (c + 2) ys
   drop-two =
       let e : suc c ≡ c + 1 = omega arith in
       let f : suc (c + 1) ≡ c + 2 = omega arith in

@@ -21,6 +21,19 @@ writePair low high s (zero ∷ suc b ∷ r) = zero ∷ suc b ∷ writePair low h
 writePair low high zero (zero ∷ zero ∷ r) = low ∷ high ∷ r
 writePair low high (suc s) (zero ∷ zero ∷ r) = zero ∷ zero ∷ writePair low high s r
 
+-- How many numbers of two bytes are 0.
+abbrev pub zeroPairs : List ℕ → ℕ
+zeroPairs [] = 0
+zeroPairs (a ∷ []) = 0
+zeroPairs (suc a ∷ b ∷ r) = zeroPairs r
+zeroPairs (zero ∷ suc b ∷ r) = zeroPairs r
+zeroPairs (zero ∷ zero ∷ r) = suc (zeroPairs r)
+
+-- A place in a row before which nothing is written: over the s-th 0 of the row is over that 0 of the rest.
+pub record SkipGiven (row : List ℕ) (s at zeros : ℕ) : Type 0 where
+  pub within : at ≤ length row
+  pub written : (low high : ℕ) → take at row ++ writePair low high zeros (drop at row) ≡ writePair low high s row
+
 -- The number written in each row of a map of w columns, where the seam counts out.
 abbrev pub writeRows : ℕ → ℕ → List ℕ → List ℕ → List ℕ
 writeRows v w s map = flat (zipWith (writePair (v % 256) (v / 256)) s (rowsOf (2 * w) (length s) map))

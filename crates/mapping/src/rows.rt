@@ -1,7 +1,8 @@
 // A number written into the rows of a map.
 ghost use mathlib.Core.Path.{_≡_};
 ghost use Prim.Native.Nat.{_+_, _*_};
-ghost use Rattle.mapping.specs.Kernels.{writePair, writeRows, RowsNeeded};
+ghost use lib.ListN.{length};
+ghost use Rattle.mapping.specs.Kernels.{zeroPairs, writePair, SkipGiven, writeRows, RowsNeeded};
 
 // The number of two bytes.
 fn number(low: u8, high: u8) -> usize
@@ -17,8 +18,60 @@ fn wide(b: u8) -> usize
     b as usize
 }
 
+// How many of the 16 numbers in these bytes are 0. Both bytes of a number are read before either is tested, and the count is
+// a byte, so that the loop compiles to operations on all 16 at once.
+fn zeros_in(block: &[u8]) -> usize
+    requires { ⌜ length (now block) ≡ 32 ⌝ }
+    ensures { λ n. ⌜ n ≡ zeroPairs (now (block .entry)) ⌝ }
+{
+    let mut n = 0u8;
+    for i in 0..16 {
+        let low = block[2 * i];
+        let high = block[2 * i + 1];
+        if low == 0 {
+            if high == 0 {
+                n += 1;
+            }
+        }
+    }
+    wide(n)
+}
+
+// A place in a row, and how many zeros are to be passed from there on.
+struct Skipped {
+    at: usize,
+    zeros: usize,
+}
+
+// Passes blocks of 16 numbers as long as the s-th number that is 0 stands behind them.
+fn skip(row: &[u8], s: usize) -> Skipped
+    ensures { λ k. ⌜ SkipGiven (now (row .entry)) s (k .at) (k .zeros) ⌝ }
+{
+    let mut zeros = s;
+    let mut at = 0;
+    while at + 32 <= row.len() {
+        let end = at + 32;
+        let n = zeros_in(&row[at..end]);
+        if zeros < n {
+            return Skipped { at, zeros };
+        }
+        zeros -= n;
+        at += 32;
+    }
+    Skipped { at, zeros }
+}
+
 // Writes the two bytes over the s-th number that is 0.
 fn mark_row(row: &mut [u8], s: usize, low: u8, high: u8)
+    ensures { λ _. ⌜ now (row .exit) ≡ writePair low high s (now (row .entry)) ⌝ }
+{
+    let skipped = skip(row, s);
+    let at = skipped.at;
+    mark_rest(&mut row[at..], skipped.zeros, low, high);
+}
+
+// The same, number by number.
+fn mark_rest(row: &mut [u8], s: usize, low: u8, high: u8)
     ensures { λ _. ⌜ now (row .exit) ≡ writePair low high s (now (row .entry)) ⌝ }
 {
     let mut zeros = s;
