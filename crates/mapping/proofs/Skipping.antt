@@ -1,5 +1,5 @@
 -- Zeros counted, and blocks of numbers passed whole.
-use mathlib.Core.Path.{_≡_, refl, sym, ap, ap₂, _∙_}
+use mathlib.Core.Path.{_≡_, refl, sym, ap, _∙_}
 use mathlib.Core.List.{List, [], _∷_, _++_, append-assoc, append-nil}
 use Prim.Native.Nat.{ℕ, zero, suc, _+_, _-_, _*_, _≤_, _<_}
 use native.Mathlib.Omega.{arith}
@@ -16,19 +16,21 @@ module _ (ys : List ℕ) (i n t : ℕ) (inside : 2 * i + 1 < length ys) (so-far 
   next : 2 * (i + 1) ≡ 2 * i + 2
   next = omega arith
 
-  pub count-zero : getD ys (2 * i) 0 ≡ 0 → getD ys (2 * i + 1) 0 ≡ 0 → n + 1 + zeroPairs (drop (2 * (i + 1)) ys) ≡ t
-  count-zero a b =
-      let pair : drop (2 * i) ys ≡ 0 ∷ 0 ∷ drop (2 * i + 2) ys = drop-two ys (2 * i) inside ∙ ap₂ (λ x y. x ∷ y ∷ drop (2 * i + 2) ys) a b in
-      let one : zeroPairs (drop (2 * i) ys) ≡ suc (zeroPairs (drop (2 * i + 2) ys)) = ap zeroPairs pair in
-      rw next (omega (arith, one, so-far))
+  pub count-zero : getD ys (2 * i) 0 + 256 * getD ys (2 * i + 1) 0 ≡ 0 → n + 1 + zeroPairs (drop (2 * (i + 1)) ys) ≡ t
+  count-zero d = rw next (go (getD ys (2 * i) 0) (getD ys (2 * i + 1) 0) d (drop-two ys (2 * i) inside))
+    where
+      go : (a b : ℕ) → a + 256 * b ≡ 0 → drop (2 * i) ys ≡ a ∷ b ∷ drop (2 * i + 2) ys → n + 1 + zeroPairs (drop (2 * i + 2) ys) ≡ t
+      go zero zero d q = let one : zeroPairs (drop (2 * i) ys) ≡ suc (zeroPairs (drop (2 * i + 2) ys)) = ap zeroPairs q in omega (arith, one, so-far)
+      go zero (suc b) d q = absurd (omega arith)
+      go (suc a) b d q = absurd (omega arith)
 
-  pub count-number : (getD ys (2 * i) 0 ≡ 0 → getD ys (2 * i + 1) 0 ≡ 0 → ⊥) → n + zeroPairs (drop (2 * (i + 1)) ys) ≡ t
+  pub count-number : (getD ys (2 * i) 0 + 256 * getD ys (2 * i + 1) 0 ≡ 0 → ⊥) → n + zeroPairs (drop (2 * (i + 1)) ys) ≡ t
   count-number d = rw next (go (getD ys (2 * i) 0) (getD ys (2 * i + 1) 0) d (drop-two ys (2 * i) inside))
     where
-      go : (a b : ℕ) → (a ≡ 0 → b ≡ 0 → ⊥) → drop (2 * i) ys ≡ a ∷ b ∷ drop (2 * i + 2) ys → n + zeroPairs (drop (2 * i + 2) ys) ≡ t
-      go zero zero n q = absurd (n refl refl)
-      go zero (suc b) n q = rw q at so-far
-      go (suc a) b n q = rw q at so-far
+      go : (a b : ℕ) → (a + 256 * b ≡ 0 → ⊥) → drop (2 * i) ys ≡ a ∷ b ∷ drop (2 * i + 2) ys → n + zeroPairs (drop (2 * i + 2) ys) ≡ t
+      go zero zero d q = absurd (d refl)
+      go zero (suc b) d q = rw q at so-far
+      go (suc a) b d q = rw q at so-far
 
 -- A block of whole numbers that holds at most s zeros is passed.
 past : (low high s : ℕ) (b r : List ℕ) (n : ℕ) → length b ≡ 2 * n → zeroPairs b ≤ s → writePair low high s (b ++ r) ≡ b ++ writePair low high (s - zeroPairs b) r

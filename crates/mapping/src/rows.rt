@@ -18,20 +18,16 @@ fn wide(b: u8) -> usize
     b as usize
 }
 
-// How many of the 16 numbers in these bytes are 0. Both bytes of a number are read before either is tested, and the count is
-// a byte, so that the loop compiles to operations on all 16 at once.
+// How many of the 16 numbers in these bytes are 0. One test for both bytes of a number, not one for each, so that the loop
+// compiles to operations on all 16 at once.
 fn zeros_in(block: &[u8]) -> usize
     requires { ⌜ length (now block) ≡ 32 ⌝ }
     ensures { λ n. ⌜ n ≡ zeroPairs (now (block .entry)) ⌝ }
 {
     let mut n = 0u8;
     for i in 0..16 {
-        let low = block[2 * i];
-        let high = block[2 * i + 1];
-        if low == 0 {
-            if high == 0 {
-                n += 1;
-            }
+        if number(block[2 * i], block[2 * i + 1]) == 0 {
+            n += 1;
         }
     }
     wide(n)
@@ -70,7 +66,7 @@ fn mark_row(row: &mut [u8], s: usize, low: u8, high: u8)
     mark_rest(&mut row[at..], skipped.zeros, low, high);
 }
 
-// The same, number by number.
+// The same, number by number: for the block in which that 0 stands, or the end of the row.
 fn mark_rest(row: &mut [u8], s: usize, low: u8, high: u8)
     ensures { λ _. ⌜ now (row .exit) ≡ writePair low high s (now (row .entry)) ⌝ }
 {

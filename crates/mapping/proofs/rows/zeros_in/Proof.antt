@@ -1,5 +1,5 @@
 -- `mapping::rows::zeros_in` meets its contract. The invariant: the zeros counted and those to come make the answer.
-use mathlib.Core.Path.{_≡_, ap, _∙_}
+use mathlib.Core.Path.{_≡_, sym, ap, _∙_}
 use mathlib.Core.Logic.{⊎-elim}
 use Prim.Native.Nat.{_+_, _-_, _*_, _≤_, _<_}
 use native.Mathlib.Omega.{arith}
@@ -19,20 +19,23 @@ abbrev μ-loop : tie.MeasureT-loop
 loop-holds : tie.Need-loop-holds Inv-loop μ-loop
 loop-holds c = (omega arith, omega arith, omega arith)
 
-mul-low : tie.Need-mul-low Inv-loop μ-loop
-mul-low c = search needs
+mul-number : tie.Need-mul-number Inv-loop μ-loop
+mul-number c = search needs
 
-shared-slice-read-low : tie.Need-shared-slice-read-low Inv-loop μ-loop
-shared-slice-read-low c = search needs
+shared-slice-read-number : tie.Need-shared-slice-read-number Inv-loop μ-loop
+shared-slice-read-number c = search needs
 
-mul-high : tie.Need-mul-high Inv-loop μ-loop
-mul-high c = search needs
+mul-number-2 : tie.Need-mul-number-2 Inv-loop μ-loop
+mul-number-2 c = search needs
 
-add-high : tie.Need-add-high Inv-loop μ-loop
-add-high c = search needs
+add-number : tie.Need-add-number Inv-loop μ-loop
+add-number c = search needs
 
-shared-slice-read-high : tie.Need-shared-slice-read-high Inv-loop μ-loop
-shared-slice-read-high c = search needs
+shared-slice-read-number-2 : tie.Need-shared-slice-read-number-2 Inv-loop μ-loop
+shared-slice-read-number-2 c = search needs
+
+number-requires : tie.Need-number-requires Inv-loop μ-loop
+number-requires c κs = search needs
 
 add-n : tie.Need-add-n Inv-loop μ-loop
 add-n c = search needs
@@ -45,16 +48,14 @@ loop-less c = search needs
 
 loop-again : tie.Need-loop-again Inv-loop μ-loop
 loop-again c =
-    let at = c .before .before .before .before .loop in
-    let s = c .before .before .before .before .before .before in
+    let at = c .before .before .before .before .before .loop in
+    let s = c .before .before .before .before .before .before .before in
     let ys = s .args .block .now in
+    let told = c .before .number .ensures in
     let inside : 2 * at .i + 1 < length ys = omega (arith, s .pre) in
-    let passed = count-number ys (at .i) (at .n) _ inside (at .inv .2) in
     ⊎-elim
-    (λ w. (omega arith, omega (arith, w .2), rw (w .2) (count-zero ys (at .i) (at .n) _ inside (at .inv .2) (w .0 .taken) (w .1 .taken))))
-    (⊎-elim
-    (λ w. (omega arith, omega (arith, w .2), rw (w .2) (passed (λ a b. w .1 .left b))))
-    (λ w. (omega arith, omega (arith, w .1), rw (w .1) (passed (λ a b. w .0 .left a)))))
+    (λ w. (omega arith, omega (arith, w .1), rw (w .1) (count-zero ys (at .i) (at .n) _ inside (at .inv .2) (sym told ∙ w .0 .taken))))
+    (λ w. (omega arith, omega (arith, w .1), rw (w .1) (count-number ys (at .i) (at .n) _ inside (at .inv .2) (λ e. w .0 .left (told ∙ e)))))
     (c .if1 .came)
 
 wide-requires : tie.Need-wide-requires Inv-loop μ-loop
@@ -74,11 +75,12 @@ zeros-in-spec =
     Inv-loop
     μ-loop
     loop-holds
-    mul-low
-    shared-slice-read-low
-    mul-high
-    add-high
-    shared-slice-read-high
+    mul-number
+    shared-slice-read-number
+    mul-number-2
+    add-number
+    shared-slice-read-number-2
+    number-requires
     add-n
     add-i
     loop-less
