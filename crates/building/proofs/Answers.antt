@@ -30,7 +30,7 @@ use Rattle.mapping.specs.Numbers.{pairs}
 use Rattle.mapping.specs.Mapping.{mapBytes, mapAt, mapInRules, mapped, MapGiven}
 use Rattle.mapping.proofs.Choosing.{seam-chooses}
 use Rattle.mapping.proofs.Steps.{take-map}
-use Rattle.printing.specs.Kernels.{Printed}
+use Rattle.printing.specs.Prints.{Printed}
 use Rattle.files.specs.Contents.{fileOf}
 use Rattle.files.specs.Rules.{workRule}
 use Rattle.building.specs.Building.{fileIn}

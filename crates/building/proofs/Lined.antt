@@ -11,8 +11,7 @@ use lib.Seq.{sets, take-suc, take-all, sets-eq}
 use Rattle.form.specs.Files.{each}
 use Rattle.printing.specs.declared.lines.Place.{Place}
 use Rattle.printing.specs.declared.lines.Place.the-variants as places
-use Rattle.printing.specs.Prints.{Put, placeRead}
-use Rattle.printing.specs.Kernels.{Printed}
+use Rattle.printing.specs.Prints.{Put, placeRead, Printed}
 use Rattle.printing.proofs.Written.{printed-more, printed-length, each-append}
 
 -- What a printer gives where there is room.

@@ -10,8 +10,7 @@ use Rattle.form.specs.declared.Head.{Head}
 use Rattle.form.specs.Files.{closed, headText, text}
 use Rattle.printing.specs.declared.lines.Place.{Place}
 use Rattle.printing.specs.declared.lines.Place.the-variants as places
-use Rattle.printing.specs.Prints.{Put}
-use Rattle.printing.specs.Kernels.{Printed}
+use Rattle.printing.specs.Prints.{Put, Printed}
 use Rattle.printing.proofs.Written.{printed-more, printed-length}
 use Rattle.building.specs.Kernels.{rowLines, mapLines, mapIn, partsIn, RowsNeeded, MapsNeeded, PrintNeeded}
 use Rattle.building.proofs.Lined.{never-short, printed-next}

@@ -8,7 +8,7 @@ ghost use Prim.Native.Nat.{_+_, _*_};
 ghost use lib.ListN.{drop};
 ghost use Rattle.energy.specs.Pictures.{picture as Pictures·picture};
 ghost use Rattle.form.specs.Files.{text as Files·text};
-ghost use Rattle.printing.specs.Kernels.{Printed};
+ghost use Rattle.printing.specs.Prints.{Printed};
 ghost use Rattle.building.specs.Kernels.{rowLines, mapLines, numbersIn, mapIn, partsIn, NumbersNeeded, RowsNeeded, MapsNeeded, PrintNeeded};
 
 // Prints the row lines of a picture, and gives the place behind them.

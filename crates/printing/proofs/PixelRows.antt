@@ -19,8 +19,8 @@ use Rattle.form.specs.Decimal.{digits}
 use Rattle.form.specs.Files.{blank, opening, closing, closed, rowWord, each, joined, pixelText, lineText, rowText, All}
 use Rattle.form.specs.Lengths.{total, spaced, pixelLength, rowLength}
 use Rattle.form.proofs.Lengths.{Counted, row-length}
-use Rattle.printing.specs.Prints.{less, pixelsOf}
-use Rattle.printing.specs.Kernels.{Printed, pairText}
+use Rattle.printing.specs.Prints.{less, pixelsOf, Printed}
+use Rattle.printing.specs.Kernels.{pairText}
 use Rattle.form.proofs.Pairs.{front}
 use Rattle.printing.proofs.Rooms.{less-then, less-none-then}
 use Rattle.printing.proofs.Written.{printed-none, printed-more, each-more, each-room, pair-length}

@@ -13,8 +13,8 @@ use Rattle.form.specs.Decimal.{digits}
 use Rattle.form.specs.Files.{blank, start, range, closed, mapWord, each, kindText, lineText, headText, mapText}
 use Rattle.form.proofs.Decimals.{digits-small, digits-large}
 use Rattle.printing.specs.declared.lines.Place.the-variants as places
-use Rattle.printing.specs.Prints.{Put}
-use Rattle.printing.specs.Kernels.{Printed, pairText}
+use Rattle.printing.specs.Prints.{Put, Printed}
+use Rattle.printing.specs.Kernels.{pairText}
 
 sets-append : (vs ws l : List ℕ) (i : ℕ) → sets l i (vs ++ ws) ≡ sets (sets l i vs) (i + length vs) ws
 sets-append [] ws l i = rw add-zero

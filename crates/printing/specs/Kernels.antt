@@ -3,17 +3,11 @@ use mathlib.Core.Path.{_≡_}
 use mathlib.Core.List.{List, _++_}
 use Prim.Native.Nat.{ℕ, _+_, _*_, _≤_}
 use lib.ListN.{length}
-use lib.Seq.{sets}
 use Rattle.energy.specs.declared.pictures.Kind.{Kind}
 use Rattle.energy.specs.Pictures.{channelsOf}
 use Rattle.grids.specs.Rows.{rowsOf, rowAt}
 use Rattle.form.specs.Decimal.{digits}
 use Rattle.form.specs.Files.{blank, each, pixelText}
-
--- What was written at a place: the bytes `done`, and the place behind them.
-pub record Printed (first : List ℕ) (at : ℕ) (done now : List ℕ) (end : ℕ) : Type 0 where
-  pub same : now ≡ sets first at done
-  pub behind : end ≡ at + length done
 
 -- The bytes w, and two numbers with a blank between them.
 unfoldable pub pairText : List ℕ → ℕ → ℕ → List ℕ

@@ -6,6 +6,7 @@ use mathlib.Core.List.{List, _++_}
 use Prim.Native.Nat.{ℕ, _+_, _-_, _/_}
 use lib.Dec.{leb}
 use lib.ListN.{length, take, drop}
+use lib.Seq.{sets}
 use Rattle.grids.specs.Rows.{rowsOf}
 use Rattle.energy.specs.declared.pictures.Kind.{Kind}
 use Rattle.energy.specs.Pictures.{channelsOf}
@@ -35,3 +36,8 @@ pub record Put (out : List ℕ) (at : ℕ) (bytes : List ℕ) (place : Place) (o
 -- The pixels of a row's bytes.
 abbrev pub pixelsOf : Kind → List ℕ → List (List ℕ)
 pixelsOf k b = rowsOf (channelsOf k) (length b / channelsOf k) b
+
+-- What was written at a place: the bytes `done`, and the place behind them.
+pub record Printed (first : List ℕ) (at : ℕ) (done now : List ℕ) (end : ℕ) : Type 0 where
+  pub same : now ≡ sets first at done
+  pub behind : end ≡ at + length done

@@ -10,8 +10,8 @@ ghost use Rattle.form.specs.Decimal.{digits};
 ghost use Rattle.form.specs.Files.{blank, closed, each, pixelText, kindText, headText, rowText, mapText};
 ghost use Rattle.energy.specs.Pictures.{channelsOf};
 ghost use Rattle.grids.specs.Rows.{rowsOf, rowAt};
-ghost use Rattle.printing.specs.Prints.{Put, pixelsOf};
-ghost use Rattle.printing.specs.Kernels.{Printed, pairText, PixelNeeded, PixelsNeeded};
+ghost use Rattle.printing.specs.Prints.{Put, pixelsOf, Printed};
+ghost use Rattle.printing.specs.Kernels.{pairText, PixelNeeded, PixelsNeeded};
 
 // The place behind what was printed; or the space is too short, and nothing was printed.
 pub enum Place {

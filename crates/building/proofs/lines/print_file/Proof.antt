@@ -1,7 +1,7 @@
 -- `building::lines::print_file` meets its contract.
 use denote.Ref.{now}
 use Rattle.form.specs.Files.{headText}
-use Rattle.printing.specs.Kernels.{Printed}
+use Rattle.printing.specs.Prints.{Printed}
 use Rattle.building.proofs.Printing.{head-never, head-next, rows-needed, maps-needed, end-never, all-printed}
 use borrow.Author.Needs.{needs}
 use Rattle.building.proofs.lines.print_file.Statement.{statement}

@@ -11,7 +11,7 @@ use Rattle.grids.proofs.Rows.{part-end}
 use Rattle.form.specs.Decimal.{digits}
 use Rattle.form.specs.Files.{mapWord, each, lineText, mapText}
 use Rattle.printing.specs.declared.lines.Place.the-variants as places
-use Rattle.printing.specs.Kernels.{Printed}
+use Rattle.printing.specs.Prints.{Printed}
 use Rattle.printing.proofs.Written.{printed-length}
 use Rattle.building.specs.Kernels.{mapIn}
 use Rattle.building.proofs.Lined.{lines-none, line-never, line-next, lines-all}

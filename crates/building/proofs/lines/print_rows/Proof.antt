@@ -8,8 +8,7 @@ use lib.ListN.{length, getD, take}
 use Rattle.energy.specs.Pictures.{picture as Pictures·picture}
 use Rattle.form.specs.Files.{rowWord, each, pixelText, lineText, rowText}
 use Rattle.printing.specs.declared.lines.Place.the-variants as places
-use Rattle.printing.specs.Prints.{pixelsOf}
-use Rattle.printing.specs.Kernels.{Printed}
+use Rattle.printing.specs.Prints.{pixelsOf, Printed}
 use Rattle.printing.proofs.Written.{printed-length}
 use Rattle.building.proofs.Lined.{lines-none, line-never, line-next, lines-all}
 use Rattle.building.proofs.PictureRows.{rows-many, row-line}

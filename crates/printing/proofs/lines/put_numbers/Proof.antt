@@ -5,7 +5,7 @@ use native.Mathlib.Omega.{arith}
 use lib.ListN.{length, take}
 use Rattle.form.specs.Decimal.{digits}
 use Rattle.form.specs.Files.{blank, each}
-use Rattle.printing.specs.Kernels.{Printed}
+use Rattle.printing.specs.Prints.{Printed}
 use Rattle.printing.proofs.Written.{printed-length, numbers-none, each-room, numbers-next, numbers-all}
 use borrow.Author.Needs.{needs}
 use Rattle.printing.proofs.lines.put_numbers.Statement.{statement}

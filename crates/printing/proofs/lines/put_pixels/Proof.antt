@@ -5,7 +5,7 @@ use lib.ListN.{length, take}
 use Rattle.grids.specs.Rows.{rowsOf}
 use Rattle.energy.specs.Pictures.{channelsOf}
 use Rattle.form.specs.Files.{blank, each, pixelText}
-use Rattle.printing.specs.Kernels.{Printed}
+use Rattle.printing.specs.Prints.{Printed}
 use Rattle.printing.proofs.Written.{printed-length}
 use Rattle.printing.proofs.PixelRows.{pixel-inside, pixels-none, pixels-next, pixels-room, pixels-all}
 use borrow.Author.Needs.{needs}
