@@ -29,7 +29,7 @@ pub fn map_in(space: &mut [u8], size: Size, depth: usize) -> Verdict
 pub fn allowed(width: usize, depth: usize, growth: usize) -> bool
     ensures { λ t. ⌜ t ≡ Widths·allowed width depth growth ⌝ }
 {
-    if width <= depth {
+    if depth >= width {
         return false;
     }
     if depth < growth {
