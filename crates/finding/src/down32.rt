@@ -44,7 +44,6 @@ fn row_down(
     let a = bytes + (i - 1) * width;
     let e = a + width;
     energy::energies(&space[..bytes], size, i, cost);
-    sums32::next_sums(above, &cost[..width], next);
-    sums32::ways_row(above, &mut space[a..e]);
+    sums32::next_row(above, &cost[..width], next, &mut space[a..e]);
     sums32::copy(next, &mut above[1..side]);
 }

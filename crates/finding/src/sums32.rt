@@ -13,16 +13,6 @@ fn lesser(a: u32, b: u32) -> u32
     if b < a { b } else { a }
 }
 
-// The sums of a row, from the row of sums above it and the row's costs.
-pub(crate) fn next_sums(above: &[u32], cost: &[u32], next: &mut [u32])
-    requires { ⌜ SumsNeeded (2 ^ 31) (now above) (now cost) (now next) ⌝ }
-    ensures { λ _. ⌜ now (next .exit) ≡ table (sumOf3 (now (above .entry)) (now (cost .entry))) (length (now (next .entry))) ⌝ }
-{
-    for c in 0..next.len() {
-        next[c] = lesser(above[c], lesser(above[c + 1], above[c + 2])) + cost[c];
-    }
-}
-
 // Which of three is the least, the leftmost of equals.
 fn way(left: u32, middle: u32, right: u32) -> u8
     ensures { λ n. ⌜ n ≡ cond (leb left (min middle right)) 0 (cond (leb middle right) 1 2) ⌝ }
@@ -36,13 +26,19 @@ fn way(left: u32, middle: u32, right: u32) -> u8
     }
 }
 
-// For each column of a row, where its sum comes from.
-pub(crate) fn ways_row(above: &[u32], ways: &mut [u8])
-    requires { ⌜ length (now above) ≡ length (now ways) + 2 ⌝ }
+// The sums of a row and where each comes from, from the row of sums above it and the row's costs.
+pub(crate) fn next_row(above: &[u32], cost: &[u32], next: &mut [u32], ways: &mut [u8])
+    requires { ⌜ SumsNeeded (2 ^ 31) (now above) (now cost) (now next) ⌝ }
+    requires { ⌜ length (now ways) ≡ length (now next) ⌝ }
+    ensures { λ _. ⌜ now (next .exit) ≡ table (sumOf3 (now (above .entry)) (now (cost .entry))) (length (now (next .entry))) ⌝ }
     ensures { λ _. ⌜ now (ways .exit) ≡ table (wayOf3 (now (above .entry))) (length (now (ways .entry))) ⌝ }
 {
-    for c in 0..ways.len() {
-        ways[c] = way(above[c], above[c + 1], above[c + 2]);
+    for c in 0..next.len() {
+        let left = above[c];
+        let middle = above[c + 1];
+        let right = above[c + 2];
+        next[c] = lesser(left, lesser(middle, right)) + cost[c];
+        ways[c] = way(left, middle, right);
     }
 }
 

@@ -2,7 +2,7 @@
 use mathlib.Core.Path.{_≡_, sym, ap, _∙_}
 use mathlib.Core.List.{List, _++_}
 use Prim.Native.Nat.{ℕ, _+_, _-_, _*_, _≤_}
-use native.Mathlib.Nat.{le-of-eq, mul-le-mul}
+use native.Mathlib.Nat.{le-of-eq, mul-le-mul, add-sub-cancel-left}
 use native.Mathlib.Omega.{arith}
 use borrow.Author.Needs.{needs}
 use denote.Ref.{now}
@@ -10,6 +10,7 @@ use lib.ListN.{length, getD, take, drop}
 use lib.Seq.{length-take-le, take-at}
 use Rattle.grids.proofs.Tables.{length-table}
 use Rattle.grids.proofs.Rows.{part-end}
+use Rattle.grids.proofs.Parts.{part-length}
 use Rattle.energy.specs.Pictures.{pictureBytes}
 use Rattle.energy.proofs.Sizes.{Sized, sized-is}
 use Rattle.energy.proofs.Served.{energies-served}
@@ -94,35 +95,37 @@ slice-aggregate-energies c = sym (length-take-le _ _ (ends (c .before .before .b
 energies-requires : tie.Need-energies-requires
 energies-requires c κs = search needs
 
-slice-reshare-prefix-next-sums : tie.Need-slice-reshare-prefix-next-sums
-slice-reshare-prefix-next-sums c = search needs
+slice-reshare-prefix-next-row : tie.Need-slice-reshare-prefix-next-row
+slice-reshare-prefix-next-row c = search needs
 
-slice-aggregate-next-sums : tie.Need-slice-aggregate-next-sums
-slice-aggregate-next-sums c = sym (ap length (cost-front (c .before .before .before .before)) ∙ costs-long (c .before .before .before .before .before .before .before .before .before .before .before))
+slice-aggregate-next-row : tie.Need-slice-aggregate-next-row
+slice-aggregate-next-row c = sym (ap length (cost-front (c .before .before .before .before)) ∙ costs-long (c .before .before .before .before .before .before .before .before .before .before .before))
 
-next-sums-requires : tie.Need-next-sums-requires
+sub-next-row : tie.Need-sub-next-row
+sub-next-row c = search needs
+
+part-next-row-start : tie.Need-part-next-row-start
+part-next-row-start c = search needs
+
+part-next-row-end : tie.Need-part-next-row-end
+part-next-row-end c = ends (c .before .before .before .before .before .before .before .before .before .before .before .before) .end
+
+next-row-requires : tie.Need-next-row-requires
 unfolding costs
-next-sums-requires c κs =
-    let p = c .before .before .before .before .before .before .before .before .before .before .before .before .pre in
-    let a = c .before .before .before .before .before .before .before .before .before .before .before .before .args in
-    record {
-      above = omega (arith, p .long, p .next-room);
-      costs = ap length (cost-front (c .before .before .before .before .before)) ∙ costs-long (c .before .before .before .before .before .before .before .before .before .before .before .before) ∙ sym (p .next-room);
-      small = λ k l. p .small k (omega (arith, p .next-room));
-      cheap = λ k. rw (cost-front (c .before .before .before .before .before)) (omega (arith, cost-most (a .size) (take (a .bytes) (now (a .space))) (front-sized (c .before .before .before .before .before .before .before .before .before .before .before .before)) (front-most (now (a .space)) (a .bytes) 255 (byte (c .before .before .before .before .before .before .before .before .before .before .before))) (a .i) k));
-    }
-
-sub-ways-row : tie.Need-sub-ways-row
-sub-ways-row c = search needs
-
-part-ways-row-start : tie.Need-part-ways-row-start
-part-ways-row-start c = search needs
-
-part-ways-row-end : tie.Need-part-ways-row-end
-part-ways-row-end c = ends (c .before .before .before .before .before .before .before .before .before .before .before .before .before .before .before .before) .end
-
-ways-row-requires : tie.Need-ways-row-requires
-ways-row-requires c κs = search needs
+next-row-requires c κs =
+    let s = c .before .before .before .before .before .before .before .before .before .before .before .before .before in
+    let p = s .pre in
+    let a = s .args in
+    let from = a .bytes + (a .i - 1) * a .size .width in
+    let front = cost-front (c .before .before .before .before .before .before) in (
+      record {
+        above = omega (arith, p .long, p .next-room);
+        costs = ap length front ∙ costs-long s ∙ sym (p .next-room);
+        small = λ k l. p .small k (omega (arith, p .next-room));
+        cheap = λ k. rw front (omega (arith, cost-most (a .size) (take (a .bytes) (now (a .space))) (front-sized s) (front-most (now (a .space)) (a .bytes) 255 (byte (c .before .before .before .before .before .before .before .before .before .before .before .before))) (a .i) k));
+      },
+      part-length from (from + a .size .width) (now (a .space)) (ends s .end) ∙ add-sub-cancel-left from (a .size .width) ∙ sym (p .next-room),
+    )
 
 sub-copy : tie.Need-sub-copy
 sub-copy c = search needs
@@ -151,12 +154,14 @@ same-length-4 c = search needs
 returns : tie.Need-returns
 unfolding costs
 returns c =
-    let s = c .before .before .before .before .before .before .before .before .before .before .before .before .before .before .before .before .before .before .before .before .before .before .before .before .before in
+    let s = c .before .before .before .before .before .before .before .before .before .before .before .before .before .before .before .before .before .before .before .before .before .before .before in
     let a = s .args in
-    row-given (pictureBytes (a .size)) (a .size) (costsOf (a .size)) (a .i) (a .bytes) (length (now (a .next))) (now (a .space)) (now (a .above)) (c .before .before .before .before .before .before .before .ways-row .last .1 .0) (take (a .size .width) (c .before .before .before .before .before .before .before .before .before .before .before .before .before .before .before .before .before .before .energies .last .1 .1 .1 .0)) (c .before .before .copy .last .1 .0)
-    (s .pre .bytes-are) (ends s .end) (c .before .before .before .before .before .before .before .ways-row .ensures)
-    (cost-front (c .before .before .before .before .before .before .before .before .before .before .before .before .before .before .before .before .before .before) ∙ ap (λ b. costsOf (a .size) (take b (now (a .space))) (a .i)) (s .pre .bytes-are)) (s .pre .next-room)
-    (c .before .before .copy .ensures ∙ c .before .before .before .before .before .before .before .before .before .before .before .before .next-sums .ensures)
+    let row = c .before .before .before .before .before .before .before .before .before .next-row in
+    let after = c .before .before .before .before .before .before .before .before .before .before .before .before .before .before .before .before in
+    row-given (pictureBytes (a .size)) (a .size) (costsOf (a .size)) (a .i) (a .bytes) (length (now (a .next))) (now (a .space)) (now (a .above)) (row .last .1 .1 .1 .0) (take (a .size .width) (after .energies .last .1 .1 .1 .0)) (c .before .before .copy .last .1 .0)
+    (s .pre .bytes-are) (ends s .end) (row .ensures .1)
+    (cost-front after ∙ ap (λ b. costsOf (a .size) (take b (now (a .space))) (a .i)) (s .pre .bytes-are)) (s .pre .next-room)
+    (c .before .before .copy .ensures ∙ row .ensures .0)
 
 pub row-down-spec : {M : Type 1} → statement M
 row-down-spec =
@@ -170,13 +175,12 @@ row-down-spec =
     slice-reshare-prefix-energies
     slice-aggregate-energies
     energies-requires
-    slice-reshare-prefix-next-sums
-    slice-aggregate-next-sums
-    next-sums-requires
-    sub-ways-row
-    part-ways-row-start
-    part-ways-row-end
-    ways-row-requires
+    slice-reshare-prefix-next-row
+    slice-aggregate-next-row
+    sub-next-row
+    part-next-row-start
+    part-next-row-end
+    next-row-requires
     sub-copy
     part-copy-start
     part-copy-end
