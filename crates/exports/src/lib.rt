@@ -1,4 +1,5 @@
 // What hosts in C and Rust link: every operation over numbers and slices, with no requires.
+mod multifiles;
 mod objects;
 mod retargets;
 mod seams;
