@@ -3,12 +3,12 @@ use mathlib.Core.Path.{_≡_}
 use mathlib.Core.Logic.{_⊎_}
 use mathlib.Core.Bool.{true}
 use mathlib.Core.Option.{some}
-use mathlib.Core.List.{List}
-use Prim.Native.Nat.{ℕ, _<_}
+use mathlib.Core.List.{List, List·Memᴰ}
+use Prim.Native.Nat.{ℕ, _≤_, _<_}
 use lib.ListN.{length}
 use Rattle.grids.specs.Each.{Each}
 use Rattle.energy.specs.declared.pictures.Size.{Size}
-use Rattle.energy.specs.Refusals.{refusal}
+use Rattle.energy.specs.Refusals.{Rule, _when_, refusal}
 use Rattle.energy.specs.Pictures.{Picture, sideRules}
 use Rattle.maps.specs.Widths.{allowed, offered}
 use Rattle.maps.specs.Judged.{every, numbers}
@@ -17,6 +17,12 @@ use Rattle.form.specs.Files.{Parts, parse, All, Pixel}
 use Rattle.files.specs.Contents.{fileOf}
 use Rattle.files.specs.Rules.{partRules, judgedRules, checkRules}
 use Rattle.files.specs.Shows.{Accepted, offers, Drawn, shows, original}
+
+-- "Of several, the smallest number is given": where one is given, it is that of a rule that applies, and no rule that applies
+-- has a smaller one.
+pub record SmallestGiven (rules : List Rule) : Type 0 where
+  pub applies : 0 < refusal rules → List·Memᴰ (refusal rules when true) rules
+  pub least : (n : ℕ) → List·Memᴰ (n when true) rules → refusal rules ≤ n
 
 -- "A picture is allowed when 'Pictures' admits its size and kind": sides of 1 to 512, and as many rows of as many pixels as
 -- they say, each with as many samples as its kind says, each sample a byte.
