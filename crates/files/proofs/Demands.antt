@@ -3,15 +3,16 @@ use mathlib.Core.Path.{_≡_, refl, sym, ap, ap₂, _∙_}
 use mathlib.Core.Logic.{_↔_}
 use mathlib.Core.Bool.{true}
 use mathlib.Core.Option.{Option, none, some, Option·none-ne-some, Option·some-injective}
-use mathlib.Core.List.{List, []}
+use mathlib.Core.List.{List, [], zipWith}
 use Prim.Native.Nat.{ℕ, _+_, _-_, _≤_, _<_}
 use native.Mathlib.Omega.{arith}
 use lib.ListN.{getD}
 use Rattle.energy.specs.declared.pictures.Size.{Size}
 use Rattle.energy.specs.Pictures.{Picture}
-use Rattle.maps.specs.Maps.{carve}
-use Rattle.maps.specs.Widths.{allowed, offered, shown, LeftOut}
+use Rattle.maps.specs.Maps.{carve, mapOf}
+use Rattle.maps.specs.Widths.{allowed, offered, growRow, shown, LeftOut}
 use Rattle.maps.proofs.Shown.{allowed-is, offered-is, shown-carve}
+use Rattle.maps.proofs.Grown.{shown-grown}
 use Rattle.form.specs.declared.Head.{Head}
 use Rattle.form.specs.Files.{Parts, parse, text}
 use Rattle.form.proofs.Ascii.{text-ascii}
@@ -110,7 +111,7 @@ shows-alike f v u a b s t = go (parse f) s t
         let y = Option·some-injective _ _ t in
         (sym (ap (λ (d : Drawn). d .size .height) x) ∙ ap (λ (d : Drawn). d .size .height) y, sym (ap (λ (d : Drawn). d .size .kind) x) ∙ ap (λ (d : Drawn). d .size .kind) y)
 
--- and at width m - t the picture after t cuts of the seam found in what is then left.
+-- at width m - t the picture after t cuts of the seam found in what is then left;
 pub shows-cut : (f : List ℕ) (p : Parts) → Accepted f → parse f ≡ some p → (t : ℕ) → t ≤ p .head .depth
     → shows f (p .head .size .width - t)
     ≡ some (record { size = sized (p .head .size .width - t) (p .head .size); rows = carve seamOf t (p .head .size .width) (p .head .size .height) (p .rows) })
@@ -119,4 +120,19 @@ shows-cut f p a e t l =
     let s = shaped-is p .0 (accepted-shaped f p e a) in
     let d = allowed-is (p .head .size .width) (p .head .depth) (p .head .growth) .0 (s .range) .0 in
     let c = shown-carve average seamOf seam-chooses t (p .head .depth) (p .head .size .width) (p .head .size .height) (p .rows) (s .rows) l (omega arith) in
+    rw (e, judged-built p s .0 (accepted-judged f p e a), c)
+
+-- and at width m + u the original with the first u of these seams doubled.
+pub shows-grown : (f : List ℕ) (p : Parts) → Accepted f → parse f ≡ some p → (u : ℕ) → 1 ≤ u → u ≤ p .head .growth
+    → shows f (p .head .size .width + u)
+    ≡ some
+    (record {
+      size = sized (p .head .size .width + u) (p .head .size);
+      rows = zipWith (growRow average u) (p .rows) (mapOf seamOf u (p .head .size .width) (p .head .size .height) (p .rows));
+    })
+unfolding shows
+shows-grown f p a e u l g =
+    let s = shaped-is p .0 (accepted-shaped f p e a) in
+    let d = allowed-is (p .head .size .width) (p .head .depth) (p .head .growth) .0 (s .range) in
+    let c = shown-grown average seamOf seam-chooses u (p .head .depth) (p .head .size .width) (p .head .size .height) (p .rows) (s .rows) l (omega (arith, d .1)) (omega (arith, d .0)) in
     rw (e, judged-built p s .0 (accepted-judged f p e a), c)

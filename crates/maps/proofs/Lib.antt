@@ -9,6 +9,7 @@ pub mod Judged
 pub mod Doubled
 pub mod Widths
 pub mod Shown
+pub mod Grown
 pub mod Building
 pub mod Connected
 pub mod Points
