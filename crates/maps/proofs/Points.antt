@@ -1,5 +1,5 @@
--- The specification's 3 by 2 picture and others, with their seams given: what the definitions give, beside what is expected.
--- One proof serves the table.
+-- Points besides those of crate `points`, of the specification's 3 by 2 picture with its seams given: what the definitions
+-- give, beside what is expected. One proof serves the table.
 use mathlib.Core.Path.{_≡_, refl}
 use mathlib.Core.Bool.{Bool, cond}
 use mathlib.Core.List.{List, [], _∷_, map, zipWith}
@@ -10,7 +10,7 @@ use Rattle.cheapest.specs.Paths.{run, beside}
 use Rattle.energy.specs.Refusals.{refusal}
 use Rattle.maps.specs.Choices.{Choice}
 use Rattle.maps.specs.Maps.{numberRow, number, mapOf}
-use Rattle.maps.specs.Widths.{allowed, offered, stays, doubled, rowAtWidth, shown}
+use Rattle.maps.specs.Widths.{offered, stays, doubled, rowAtWidth, shown}
 use Rattle.maps.specs.Judged.{tick, numbers, remains, before, recorded, connected, found, mapRules}
 
 -- A row of the table: what a definition gives, and what it should.
@@ -25,13 +25,6 @@ example = (10 ∷ 10 ∷ 40 ∷ []) ∷ (10 ∷ 50 ∷ 40 ∷ []) ∷ []
 abbrev seams : Choice ℕ
 seams w h p = cond (eqb w 3) (2 ∷ 2 ∷ []) (0 ∷ 1 ∷ [])
 
--- One row, all samples equal: the leftmost column.
-abbrev level : List (List ℕ)
-level = (7 ∷ 7 ∷ 7 ∷ []) ∷ []
-
-abbrev leftmost : Choice ℕ
-leftmost w h p = 0 ∷ []
-
 -- "(pixel + right neighbour)/2 rounded down".
 abbrev mean : ℕ → ℕ → ℕ
 mean a b = (a + b) / 2
@@ -43,36 +36,15 @@ bit t = (tick t 0 ∷ []) ∷ []
 abbrev judged : List ℕ → List ℕ → List (List ℕ)
 judged x y = (refusal (mapRules (λ w. beside) seams 3 2 2 example (x ∷ y ∷ [])) ∷ []) ∷ []
 
-abbrev at : ℕ → List (List ℕ)
-at v = shown mean 3 v example (mapOf seams 2 3 2 example)
-
 abbrev table : List Point
 table =
-    -- the map of depth 2
-    record { got = mapOf seams 2 3 2 example; expected = (2 ∷ 0 ∷ 1 ∷ []) ∷ (0 ∷ 2 ∷ 1 ∷ []) ∷ [] }
-    -- widths 3, 2, 1 and 4
-    ∷ record { got = at 3; expected = example }
-    ∷ record { got = at 2; expected = (10 ∷ 10 ∷ []) ∷ (10 ∷ 50 ∷ []) ∷ [] }
-    ∷ record { got = at 1; expected = (10 ∷ []) ∷ (10 ∷ []) ∷ [] }
-    ∷ record { got = at 4; expected = (10 ∷ 10 ∷ 25 ∷ 40 ∷ []) ∷ (10 ∷ 50 ∷ 45 ∷ 40 ∷ []) ∷ [] }
-    -- widths 1 and 4 are offered, 0 and 5 are not
+    -- at its own width the picture itself
+    record { got = shown mean 3 3 example (mapOf seams 2 3 2 example); expected = example }
+    -- widths 1 and 4 are offered
     ∷ record { got = bit (offered 3 2 1 1); expected = (1 ∷ []) ∷ [] }
     ∷ record { got = bit (offered 3 2 1 4); expected = (1 ∷ []) ∷ [] }
-    ∷ record { got = bit (offered 3 2 1 0); expected = (0 ∷ []) ∷ [] }
-    ∷ record { got = bit (offered 3 2 1 5); expected = (0 ∷ []) ∷ [] }
-    -- ranges: 0 0 at width 1, 1 1 and 1 2 at width 2, 3 1 at width 3
-    ∷ record { got = bit (allowed 1 0 0); expected = (1 ∷ []) ∷ [] }
-    ∷ record { got = bit (allowed 2 1 1); expected = (1 ∷ []) ∷ [] }
-    ∷ record { got = bit (allowed 2 1 2); expected = (0 ∷ []) ∷ [] }
-    ∷ record { got = bit (allowed 3 3 1); expected = (0 ∷ []) ∷ [] }
-    -- all samples equal, 3 by 1
-    ∷ record { got = mapOf leftmost 2 3 1 level; expected = (1 ∷ 2 ∷ 0 ∷ []) ∷ [] }
-    -- maps judged: the picture's own, one number twice, one above the depth, seam 1 at columns 0 and 2, other seams
-    ∷ record { got = judged (2 ∷ 0 ∷ 1 ∷ []) (0 ∷ 2 ∷ 1 ∷ []); expected = (0 ∷ []) ∷ [] }
-    ∷ record { got = judged (2 ∷ 2 ∷ 1 ∷ []) (0 ∷ 2 ∷ 1 ∷ []); expected = (9 ∷ []) ∷ [] }
+    -- a map with a number above the depth
     ∷ record { got = judged (2 ∷ 3 ∷ 1 ∷ []) (0 ∷ 2 ∷ 1 ∷ []); expected = (9 ∷ []) ∷ [] }
-    ∷ record { got = judged (1 ∷ 0 ∷ 2 ∷ []) (0 ∷ 2 ∷ 1 ∷ []); expected = (10 ∷ []) ∷ [] }
-    ∷ record { got = judged (1 ∷ 0 ∷ 2 ∷ []) (1 ∷ 2 ∷ 0 ∷ []); expected = (11 ∷ []) ∷ [] }
     -- the recorded seam 2 stands at the columns of the picture then left
     ∷ record { got = recorded 2 ((2 ∷ 0 ∷ 1 ∷ []) ∷ (1 ∷ 0 ∷ 2 ∷ []) ∷ []) ∷ []; expected = (0 ∷ 1 ∷ []) ∷ [] }
     -- neighbours of new pixels are those of the original, also where these are doubled: 10 50 40 grown by 1, 2 and 3
@@ -80,5 +52,5 @@ table =
     ∷ []
 
 pub points : map (λ p. p .got) table ≡ map (λ p. p .expected) table
-unfolding removeAt cut zipWith run beside numberRow number allowed offered stays doubled rowAtWidth shown numbers remains before connected found
+unfolding removeAt cut zipWith run beside numberRow number offered stays doubled rowAtWidth shown numbers remains before connected found
 points = refl
