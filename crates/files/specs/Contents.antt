@@ -2,7 +2,7 @@
 use mathlib.Core.List.{List}
 use Prim.Native.Nat.{ℕ}
 use Rattle.energy.specs.declared.pictures.Size.{Size}
-use Rattle.energy.specs.Pictures.{Picture, picture}
+use Rattle.energy.specs.Pictures.{Picture}
 use Rattle.maps.specs.Maps.{mapOf}
 use Rattle.form.specs.declared.Head.{Head}
 use Rattle.form.specs.Files.{Parts, text}

@@ -1,4 +1,4 @@
--- What the demands on files speak of besides.
+-- The other words of the demands on files: an allowed picture, a well-formed file, a file for a picture and a range.
 use mathlib.Core.Path.{_≡_}
 use mathlib.Core.Logic.{_⊎_}
 use mathlib.Core.Bool.{true}

@@ -14,7 +14,7 @@ ghost use Rattle.judging.specs.Kernels.{JudgeNeeded, MapsNeeded, besideB
 
 // Judges the map recorded in the space for the picture at its front. In the space stand, one behind the other: the picture, a
 // byte for each pixel and two bytes for each pixel for work, and the recorded map, two bytes a number, the low byte first.
-// Refused by 2, 3, 6 and 8; then by 9, 10 and 11. The space is then all 0.
+// Refused by 2, 3, 6 and 8; then by 9, 10 and 11. The space is all 0 after success and after 9, 10 and 11, else as it was.
 pub fn judge_in(space: &mut [u8], size: Size, depth: usize) -> Verdict
     ensures { λ v. ⌜ JudgeGiven (now (space .entry)) size depth v (now (space .exit)) ⌝ }
 {

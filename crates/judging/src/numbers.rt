@@ -78,7 +78,7 @@ fn numbered_row(row: &[u8], depth: usize) -> bool
     each_once(&seen, depth)
 }
 
-// Whether each row of a map does.
+// Whether each row of a map holds each of 1 to the depth once and nothing above it.
 pub(crate) fn numbered(map: &[u8], width: usize, height: usize, depth: usize) -> bool
     requires { ⌜ MapNeeded (now map) width height depth ⌝ }
     ensures { λ t. ⌜ t ≡ every (numbers depth) (rowsOf width height (numbersIn (now (map .entry)))) ⌝ }

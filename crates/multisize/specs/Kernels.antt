@@ -16,7 +16,7 @@ use Rattle.form.specs.declared.Head.{Head}
 use Rattle.form.specs.Decimal.{digits}
 use Rattle.form.specs.Files.{Parts, parse, each, rowWord, mapWord, lineText, pixelText, closed}
 use Rattle.files.specs.Rules.{partRules, judgedRules, formRules, workRule}
-use Rattle.files.specs.Shows.{headIn, rowsIn, mapsIn, shows, drawnBytes}
+use Rattle.files.specs.Shows.{headIn, rowsIn, shows, drawnBytes}
 use Rattle.multisize.specs.declared.checking.Checked.{Checked}
 use Rattle.multisize.specs.Multisize.{checkedNumber, checkedHead}
 
@@ -55,7 +55,7 @@ pub record MapsNeeded (file : List ℕ) (h : Head) (at values space : ℕ) : Typ
   pub place : drop at file ≡ mapLines (parse file)
   pub room : values * pixels (h .size) ≤ space
 
--- Room for the judging of a map; its number, and the work space.
+-- Room for the judging of a map.
 pub record JudgeNeeded (file : List ℕ) (h : Head) (work : ℕ) : Type 0 where
   pub opened : Open file h
   pub room : 32 * pixels (h .size) ≤ work
@@ -65,6 +65,7 @@ abbrev pub judgedIn : Option Parts → List Rule
 judgedIn none = []
 judgedIn (some p) = judgedRules p
 
+-- Which of 9, 10 and 11 is given, and the work space.
 pub record MapJudged (file work : List ℕ) (answer : Verdict) (work′ : List ℕ) : Type 0 where
   pub number : given answer ≡ refusal (judgedIn (parse file))
   pub work-left : work′ ≡ replicate (length work) 0

@@ -29,6 +29,7 @@ pub(crate) fn read_rows(file: &[u8], head: Head, rows: Cursor, space: &mut [u8])
         let a = r * stride;
         let e = a + stride;
         let Read::Good(_, next) = at.row(file, kind, &mut space[a..e]) else {
+            // never here: the line has its form
             return at;
         };
         at = next;
@@ -51,6 +52,7 @@ pub(crate) fn read_maps(file: &[u8], head: Head, maps: Cursor, space: &mut [u16]
         let a = r * width;
         let e = a + width;
         let Read::Good(_, next) = at.map(file, &mut space[a..e]) else {
+            // never here: the line has its form
             return;
         };
         at = next;
@@ -85,6 +87,7 @@ pub(crate) fn record_maps(file: &[u8], head: Head, maps: Cursor, space: &mut [u8
     let mut r: usize = 0;
     while r < height {
         let Read::Good(_, next) = at.map(file, &mut numbers[..width]) else {
+            // never here: the line has its form
             return;
         };
         let a = r * (2 * width);

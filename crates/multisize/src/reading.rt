@@ -13,7 +13,7 @@ ghost use Rattle.multisize.specs.Multisize.{ReadGiven};
 ghost use Rattle.multisize.specs.Kernels.{spaceRules};
 
 // The picture of a file into the front of one space, its map into the front of another, and its size and range. Refused by
-// what checking refuses.
+// what checking refuses, and by 8 where a space is shorter than what it takes.
 pub fn read(file: &[u8], picture: &mut [u8], map: &mut [u16], work: &mut [u8]) -> Checked
     ensures { λ c. ⌜ ReadGiven (now (file .entry)) (now (picture .entry)) (now (map .entry)) (now (work .entry)) c (now (picture .exit)) (now (map .exit)) (now (work .exit)) ⌝ }
 {
