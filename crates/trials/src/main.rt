@@ -1,7 +1,11 @@
 // Runs the operations on generated pictures and prints what they give. The expected output is that of the second
 // implementation on the same pictures.
+mod answers;
+mod damaged;
+mod files;
 mod objects;
 mod retargets;
+mod rooms;
 
 use carving::Axis;
 use energy::Kind;
@@ -11,7 +15,7 @@ use libc::STDOUT_FILENO;
 ghost use Prim.Native.Nat.{_<_, _≤_};
 ghost use lib.ListN.{length};
 
-// Pictures of every width to 6 and height to 4, of both kinds; then objects removed, and rows and columns together.
+// Pictures of every width to 6 and height to 4, of both kinds; then objects removed, rows and columns together, and files.
 fn main() {
     let mut seed: u64 = 1;
     for height in 1..5 {
@@ -22,7 +26,9 @@ fn main() {
     }
     seed = objects::trials(seed);
     seed = retargets::trial(4, 2, Kind::Grey, seed);
-    retargets::trial(3, 3, Kind::Rgb, seed);
+    seed = retargets::trial(3, 3, Kind::Rgb, seed);
+    seed = files::trials(seed);
+    rooms::trials(seed);
 }
 
 // One picture: its seams and cuts along both axes, without marks and with them, and what is given of each of its rows and of
@@ -51,15 +57,19 @@ fn trial(width: usize, height: usize, kind: Kind, seed: u64) -> u64
     next
 }
 
-// The bytes of a small picture, or of its marks.
+// The bytes of a small picture, or of its marks; 0 where they are over 72.
 pub(crate) fn count(height: usize, width: usize, channels: usize) -> usize
-    requires { ⌜ (width ≤ 6) × (height ≤ 4) ⌝ }
+    requires { ⌜ (width ≤ 8) × (height ≤ 4) ⌝ }
     ensures { λ n. ⌜ n ≤ 72 ⌝ }
 {
     if 3 < channels {
         return 0;
     }
-    height * (width * channels)
+    let bytes = height * (width * channels);
+    if 72 < bytes {
+        return 0;
+    }
+    bytes
 }
 
 // Fills the space with pseudo-random samples of few values, so that many are equal.

@@ -9,20 +9,23 @@ use Rattle.trials.proofs.count.Tie as tie
 returns : tie.Need-returns
 returns c = search needs
 
-row : (c : tie.Else1) → c .before .args .width * c .before .args .channels ≤ 18
+row : (c : tie.Else1) → c .before .args .width * c .before .args .channels ≤ 24
 row c = mul-le-mul (c .before .pre .0) (c .if1 .left)
 
-all : (c : tie.Else1) → c .before .args .height * (c .before .args .width * c .before .args .channels) ≤ 72
+all : (c : tie.Else1) → c .before .args .height * (c .before .args .width * c .before .args .channels) ≤ 96
 all c = mul-le-mul (c .before .pre .1) (row c)
 
-mul-result : tie.Need-mul-result
-mul-result c = omega (arith, row c)
+mul-bytes : tie.Need-mul-bytes
+mul-bytes c = omega (arith, row c)
 
-mul-result-2 : tie.Need-mul-result-2
-mul-result-2 c = omega (arith, all c)
+mul-bytes-2 : tie.Need-mul-bytes-2
+mul-bytes-2 c = omega (arith, all c)
 
 returns-2 : tie.Need-returns-2
-returns-2 c = all c
+returns-2 c = search needs
+
+returns-3 : tie.Need-returns-3
+returns-3 c = search needs
 
 pub count-spec : {M : Type 1} → statement M
-count-spec = tie.close (tie.spec returns mul-result mul-result-2 returns-2)
+count-spec = tie.close (tie.spec returns mul-bytes mul-bytes-2 returns-2 returns-3)

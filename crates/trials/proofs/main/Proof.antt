@@ -55,6 +55,12 @@ trial-requires-3 c κs = search needs
 trial-requires-4 : tie.Need-trial-requires-4 Inv-loop2 μ-loop2 Inv-loop μ-loop
 trial-requires-4 c κs = search needs
 
+trials-requires-2 : tie.Need-trials-requires-2 Inv-loop2 μ-loop2 Inv-loop μ-loop
+trials-requires-2 c κs = search needs
+
+trials-requires-3 : tie.Need-trials-requires-3 Inv-loop2 μ-loop2 Inv-loop μ-loop
+trials-requires-3 c κs = search needs
+
 returns : tie.Need-returns Inv-loop2 μ-loop2 Inv-loop μ-loop
 returns c = search needs
 
@@ -79,4 +85,6 @@ main-spec =
     trials-requires
     trial-requires-3
     trial-requires-4
+    trials-requires-2
+    trials-requires-3
     returns)

@@ -1,6 +1,9 @@
 //! Writes what the test program `trials` is expected to write: the operations
 //! on the same generated pictures, by this implementation.
 
+mod files;
+mod rooms;
+
 use reference::{cut, cut_marked, energies, find, find_marked, remove_object, retarget, row};
 use reference::{Axis, Columns, Ending, Kind, Rows, Size};
 use std::fmt::Display;
@@ -66,6 +69,8 @@ fn main() {
         };
         retarget_lines(size, &mut numbers);
     }
+    files::trials(&mut numbers);
+    rooms::trials(&mut numbers);
 }
 
 /// How the removal of an object ends with its count, or the number given; the
