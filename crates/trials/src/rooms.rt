@@ -14,7 +14,8 @@ ghost use lib.ListN.{length};
 pub(crate) fn trials(seed: u64)
     requires { ⌜ seed < 65536 ⌝ }
 {
-    trial(b"\x0a\x0a\x28\x0a\x32\x28", 3, 2, Kind::Grey);
+    let example = [10u8, 10, 40, 10, 50, 40];
+    trial(&example, 3, 2, Kind::Grey);
     let next = generated(4, 2, Kind::Grey, seed);
     generated(3, 2, Kind::Rgb, next);
 }
