@@ -21,15 +21,15 @@ use Rattle.form.proofs.Lengths.{map-length}
 use Rattle.mapping.specs.Numbers.{pairs}
 use Rattle.mapping.proofs.Lists.{drop-replicate}
 use Rattle.mapping.proofs.Pairs.{pairs-at, pairs-flat, grid-pairs}
-use Rattle.building.specs.Kernels.{numberAt, numbersIn, mapIn}
+use Rattle.building.specs.Kernels.{numberAt, firstNumbers, mapIn}
 
 -- A row's numbers from its bytes.
-row-back : (w : ℕ) (ys : List ℕ) → length ys ≡ w → numbersIn w (pairs ys) ≡ ys
+row-back : (w : ℕ) (ys : List ℕ) → length ys ≡ w → firstNumbers w (pairs ys) ≡ ys
 unfolding numberAt
 row-back w ys e =
     table-same (numberAt (pairs ys)) (λ i. getD ys i 0) w (λ i l. pairs-at ys i) ∙ ap (table (λ i. getD ys i 0)) (sym e) ∙ table-all ys 0
 
-rows-back : {w h : ℕ} {m : List (List ℕ)} → Grid w h m → map (numbersIn w) (map pairs m) ≡ m
+rows-back : {w h : ℕ} {m : List (List ℕ)} → Grid w h m → map (firstNumbers w) (map pairs m) ≡ m
 rows-back none = refl
 rows-back {w} (more {x = y} e g) = ap₂ _∷_ (row-back w y e) (rows-back g)
 
@@ -37,22 +37,22 @@ rows-back {w} (more {x = y} e g) = ap₂ _∷_ (row-back w y e) (rows-back g)
 pub map-back : {w h : ℕ} {m : List (List ℕ)} → Grid w h m → mapIn w h (pairs (flat m)) ≡ m
 map-back {w} {h} {m} g =
     ap (λ b. mapIn w h b) (pairs-flat m ∙ sym (append-nil (flat (map pairs m))))
-    ∙ ap (map (numbersIn w)) (rowsOf-flat [] (grid-pairs g)) ∙ rows-back g
+    ∙ ap (map (firstNumbers w)) (rowsOf-flat [] (grid-pairs g)) ∙ rows-back g
 
 pub maps-many : (w h : ℕ) (b : List ℕ) → length (mapIn w h b) ≡ h
-maps-many w h b = length-map (rowsOf (2 * w) h b) (numbersIn w) ∙ length-rowsOf (2 * w) h b
+maps-many w h b = length-map (rowsOf (2 * w) h b) (firstNumbers w) ∙ length-rowsOf (2 * w) h b
 
 -- The line of row r, its numbers read from the part of the bytes where it stands.
-pub map-line : (w h r : ℕ) (b row rest : List ℕ) → r < h → row ≡ numbersIn w (take (r * (2 * w) + 2 * w - r * (2 * w)) (drop (r * (2 * w)) b)) ++ rest
+pub map-line : (w h r : ℕ) (b row rest : List ℕ) → r < h → row ≡ firstNumbers w (take (r * (2 * w) + 2 * w - r * (2 * w)) (drop (r * (2 * w)) b)) ++ rest
     → mapText (take w row) ≡ mapWord ++ lineText digits (getD (mapIn w h b) r [])
 unfolding mapText
 map-line w h r b row rest l e =
     let n : r * (2 * w) + 2 * w - r * (2 * w) ≡ 2 * w = omega arith in
     let below : r < length (rowsOf (2 * w) h b) = rw (length-rowsOf (2 * w) h b) l in
-    let numbers : take w row ≡ numbersIn w (rowAt (2 * w) r b) =
-    ap (take w) (e ∙ ap (λ k. numbersIn w (take k (drop (r * (2 * w)) b)) ++ rest) n) ∙ take-at (numbersIn w (rowAt (2 * w) r b)) rest w (length-table (numberAt (rowAt (2 * w) r b)) w) in
+    let numbers : take w row ≡ firstNumbers w (rowAt (2 * w) r b) =
+    ap (take w) (e ∙ ap (λ k. firstNumbers w (take k (drop (r * (2 * w)) b)) ++ rest) n) ∙ take-at (firstNumbers w (rowAt (2 * w) r b)) rest w (length-table (numberAt (rowAt (2 * w) r b)) w) in
     ap mapText
-    (numbers ∙ ap (numbersIn w) (sym (rowsOf-at (2 * w) h b r l)) ∙ sym (map-at (numbersIn w) (rowsOf (2 * w) h b) r [] [] below))
+    (numbers ∙ ap (firstNumbers w) (sym (rowsOf-at (2 * w) h b r l)) ∙ sym (map-at (firstNumbers w) (rowsOf (2 * w) h b) r [] [] below))
 
 -- The numbers in their order.
 pub run-table : (k : ℕ) → table (λ t. t + 1) k ≡ run 1 k

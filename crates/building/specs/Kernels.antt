@@ -26,11 +26,11 @@ mapLines m = each mapWord (lineText digits) m
 unfoldable pub numberAt : List ℕ → ℕ → ℕ
 numberAt b i = getD b (2 * i) 0 + 256 * getD b (2 * i + 1) 0
 
-abbrev pub numbersIn : ℕ → List ℕ → List ℕ
-numbersIn w b = table (numberAt b) w
+abbrev pub firstNumbers : ℕ → List ℕ → List ℕ
+firstNumbers w b = table (numberAt b) w
 
 abbrev pub mapIn : ℕ → ℕ → List ℕ → List (List ℕ)
-mapIn w h b = map (numbersIn w) (rowsOf (2 * w) h b)
+mapIn w h b = map (firstNumbers w) (rowsOf (2 * w) h b)
 
 -- A file's parts from bytes: its picture and its map.
 abbrev pub partsIn : Head → List ℕ → List ℕ → Parts

@@ -9,7 +9,7 @@ ghost use lib.ListN.{drop};
 ghost use Rattle.energy.specs.Pictures.{picture as Pictures·picture};
 ghost use Rattle.form.specs.Files.{text as Files·text};
 ghost use Rattle.printing.specs.Prints.{Printed};
-ghost use Rattle.building.specs.Kernels.{rowLines, mapLines, numbersIn, mapIn, partsIn, NumbersNeeded, RowsNeeded, MapsNeeded, PrintNeeded};
+ghost use Rattle.building.specs.Kernels.{rowLines, mapLines, firstNumbers, mapIn, partsIn, NumbersNeeded, RowsNeeded, MapsNeeded, PrintNeeded};
 
 // Prints the row lines of a picture, and gives the place behind them.
 fn print_rows(out: &mut [u8], at: usize, picture: &[u8], size: Size) -> usize
@@ -49,7 +49,7 @@ fn wide(b: u8) -> u16
 // The first `width` numbers that stand in these bytes, put into the front of a row.
 fn read_numbers(map: &[u8], width: usize, row: &mut [u16])
     requires { ⌜ NumbersNeeded (now map) width (now row) ⌝ }
-    ensures { λ _. ⌜ now (row .exit) ≡ numbersIn width (now (map .entry)) ++ drop width (now (row .entry)) ⌝ }
+    ensures { λ _. ⌜ now (row .exit) ≡ firstNumbers width (now (map .entry)) ++ drop width (now (row .entry)) ⌝ }
 {
     for c in 0..width {
         let i = 2 * c;
