@@ -90,7 +90,7 @@ fn go_on(random: &mut Random, text: &mut Vec<u8>) {
 
 /// Something ahead of a line end, a blank that is a tab, or an empty line.
 fn spoil_line_end(random: &mut Random, text: &mut Vec<u8>) {
-    let sought = random.pick(&[b'\n', b'\n', b' ']);
+    let sought = random.pick(b"\n\n ");
     let Some(place) = any_place_of(random, text, |byte| byte == sought) else {
         return;
     };

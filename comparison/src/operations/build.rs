@@ -1,6 +1,6 @@
 //! Building a file.
 
-use super::sides::{self, Sides};
+use super::sides::{Compared, Sides};
 use super::work_bytes;
 use crate::difference::Difference;
 use crate::faults::Faults;
@@ -32,8 +32,6 @@ pub struct Buffers {
     pub out: Lent<u8>,
     pub work: Lent<u8>,
 }
-
-type Outcome = sides::Outcome<Answer, Buffers>;
 
 pub fn compare(random: &mut Random, turn: u64) -> Result<u64, Difference> {
     let case = Case::of_turn(random, turn);
@@ -107,33 +105,13 @@ impl Case {
             },
         }
     }
+}
 
-    /// Runs both sides and gives the number that both answered, or the
-    /// difference. The other side is named in the report.
-    pub fn compare(
-        &self,
-        name: &str,
-        other: impl FnOnce(&Case, &mut Buffers) -> Answer,
-        library: impl FnOnce(&Case, &mut Buffers) -> Answer,
-    ) -> Result<u64, Difference> {
-        self.verdict(name, &self.outcome(other), &self.outcome(library))
-    }
+impl Compared<Answer> for Case {
+    type Buffers = Buffers;
 
-    /// The outcome of a call that is given copies of the lent buffers.
-    fn outcome(&self, call: impl FnOnce(&Case, &mut Buffers) -> Answer) -> Outcome {
-        Outcome::of(&self.buffers, |buffers| call(self, buffers))
-    }
-
-    fn verdict(&self, name: &str, other: &Outcome, library: &Outcome) -> Result<u64, Difference> {
-        let sides = Sides {
-            lent: &self.buffers,
-            sides: [(name, other), ("library", library)],
-        };
-        if sides.agree() {
-            Ok(library.answer.number)
-        } else {
-            Err(self.difference(sides))
-        }
+    fn lent(&self) -> &Buffers {
+        &self.buffers
     }
 
     fn difference(&self, sides: Sides<Answer, Buffers>) -> Difference {
@@ -152,6 +130,7 @@ impl Case {
 
 #[cfg(test)]
 mod tests {
+    use super::super::sides::Outcome;
     use super::*;
     use crate::pictures::ROUND;
 
@@ -190,7 +169,7 @@ mod tests {
     }
 
     /// Whether an outcome altered so is told from what the reference gives.
-    fn noticed(alter: fn(&mut Outcome)) -> bool {
+    fn noticed(alter: fn(&mut Outcome<Answer, Buffers>)) -> bool {
         let case = Case::of_turn(&mut Random::new(1), ROUND + 70);
         let outcome = case.outcome(by_reference);
         assert!(case.verdict("reference", &outcome, &outcome).is_ok());

@@ -1,6 +1,7 @@
 //! Checking a file.
 
 use super::one_file::{file_answer, Buffers, Case, Gives};
+use super::sides::Compared;
 use crate::difference::Difference;
 use crate::library::{self, FileAnswer};
 use crate::random::Random;

@@ -2,6 +2,7 @@
 //! held against every connected path, so that they don't rest on the reference
 //! alone.
 
+use super::sides::Compared;
 use super::{remove, retarget};
 use crate::difference::Difference;
 use crate::faults::Faults;

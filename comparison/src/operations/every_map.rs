@@ -3,6 +3,7 @@
 
 use super::every_cut::shape;
 use super::one_file::{self, Gives};
+use super::sides::Compared;
 use super::{build, show};
 use crate::contents::samples;
 use crate::difference::Difference;

@@ -1,18 +1,17 @@
 //! What checking, reading and showing a file share: the case and the verdict.
 
-use super::sides::{self, Sides};
+use super::sides::{Compared, Numbered, Sides};
 use super::work_bytes;
 use crate::damage::damaged;
 use crate::difference::Difference;
 use crate::faults::Faults;
-use crate::library::{FileAnswer, SizeAnswer};
+use crate::library::FileAnswer;
 use crate::pictures::{self, byte_count, NamedSize, ROUND};
 use crate::random::Random;
 use crate::ranges::{self, Range};
 use crate::spaces::{space, Lent, Place};
 use crate::texts::Parts;
 use reference::{FileInfo, Kind, Refusal, Size};
-use std::fmt::Display;
 
 /// One round in so many has the largest pictures.
 const RARITY: u64 = 16;
@@ -43,25 +42,6 @@ pub struct Buffers {
     pub work: Lent<u8>,
 }
 
-/// An answer with the number of a refusal in it, or 0.
-pub trait Numbered: Clone + PartialEq + Display {
-    fn number(&self) -> u64;
-}
-
-impl Numbered for FileAnswer {
-    fn number(&self) -> u64 {
-        self.number
-    }
-}
-
-impl Numbered for SizeAnswer {
-    fn number(&self) -> u64 {
-        self.number
-    }
-}
-
-type Outcome<A> = sides::Outcome<A, Buffers>;
-
 /// What the reference says of a file.
 pub fn file_answer(answer: Result<FileInfo, Refusal>) -> FileAnswer {
     match answer {
@@ -88,7 +68,7 @@ impl Case {
             return Case::of_file(random, &parts, 176, gives);
         }
         let (size, faults) = pictures::start(random, turn, RARITY);
-        let faults = if turn / ROUND % 2 == 0 {
+        let faults = if (turn / ROUND).is_multiple_of(2) {
             faults
         } else {
             Faults::Maybe
@@ -151,41 +131,16 @@ impl Case {
             },
         }
     }
+}
 
-    /// Runs both sides and gives the number that both answered, or the
-    /// difference. The other side is named in the report.
-    pub fn compare<A: Numbered>(
-        &self,
-        name: &str,
-        other: impl FnOnce(&Case, &mut Buffers) -> A,
-        library: impl FnOnce(&Case, &mut Buffers) -> A,
-    ) -> Result<u64, Difference> {
-        self.verdict(name, &self.outcome(other), &self.outcome(library))
+impl<A: Numbered> Compared<A> for Case {
+    type Buffers = Buffers;
+
+    fn lent(&self) -> &Buffers {
+        &self.buffers
     }
 
-    /// The outcome of a call that is given copies of the lent buffers.
-    pub fn outcome<A>(&self, call: impl FnOnce(&Case, &mut Buffers) -> A) -> Outcome<A> {
-        Outcome::of(&self.buffers, |buffers| call(self, buffers))
-    }
-
-    pub fn verdict<A: Numbered>(
-        &self,
-        name: &str,
-        other: &Outcome<A>,
-        library: &Outcome<A>,
-    ) -> Result<u64, Difference> {
-        let sides = Sides {
-            lent: &self.buffers,
-            sides: [(name, other), ("library", library)],
-        };
-        if sides.agree() {
-            Ok(library.answer.number())
-        } else {
-            Err(self.difference(sides))
-        }
-    }
-
-    fn difference<A: Numbered>(&self, sides: Sides<A, Buffers>) -> Difference {
+    fn difference(&self, sides: Sides<A, Buffers>) -> Difference {
         let mut difference = Difference::new();
         difference.value("wanted width", self.wanted);
         sides.answers(&mut difference);
@@ -209,6 +164,7 @@ fn space_or_none<T: Place>(random: &mut Random, needed: usize, faults: Faults) -
 
 #[cfg(test)]
 mod tests {
+    use super::super::sides::Outcome;
     use super::*;
 
     fn case(turn: u64, gives: Gives) -> Case {
@@ -268,7 +224,7 @@ mod tests {
     }
 
     /// Whether an outcome altered so is told from the other.
-    fn noticed(alter: fn(&mut Outcome<FileAnswer>)) -> bool {
+    fn noticed(alter: fn(&mut Outcome<FileAnswer, Buffers>)) -> bool {
         let case = case(2 * ROUND + 70, Gives::PictureAndMap);
         let outcome = case.outcome(|_, _| FileAnswer::refused(0));
         assert!(case.verdict("reference", &outcome, &outcome).is_ok());

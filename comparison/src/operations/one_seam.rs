@@ -1,6 +1,6 @@
 //! What finding and cutting one seam share: the case and the verdict.
 
-use super::sides::{self, Sides};
+use super::sides::{self, Compared, Sides};
 use super::work_bytes;
 use crate::axes::{named_axis, seam_length, NamedAxis};
 use crate::difference::Difference;
@@ -105,18 +105,13 @@ impl Case {
             Err(number) => Answer::refused(u64::from(number)),
         }
     }
+}
 
-    /// The number that both sides answered, or the difference.
-    fn verdict(&self, name: &str, other: &Outcome, library: &Outcome) -> Result<u64, Difference> {
-        let sides = Sides {
-            lent: &self.buffers,
-            sides: [(name, other), ("library", library)],
-        };
-        if sides.agree() {
-            Ok(library.answer.number)
-        } else {
-            Err(self.difference(sides))
-        }
+impl Compared<Answer> for Case {
+    type Buffers = Buffers;
+
+    fn lent(&self) -> &Buffers {
+        &self.buffers
     }
 
     fn difference(&self, sides: Sides<Answer, Buffers>) -> Difference {

@@ -1,6 +1,7 @@
 //! The picture of a file at a wanted width.
 
 use super::one_file::{Buffers, Case, Gives};
+use super::sides::Compared;
 use crate::difference::Difference;
 use crate::library::{self, SizeAnswer};
 use crate::pictures::NamedSize;
