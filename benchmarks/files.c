@@ -2,20 +2,8 @@
 // reference, checking against building, and one width shown. All texts must agree. Each figure is the best of the
 // rounds. With an argument, 1 or 3 channels, the files of 128 by 128 are built and checked once, so that the
 // instructions can be counted.
+#include "../pictures/terrain.h"
 #include "shared.h"
-#include "terrain.h"
-
-typedef struct {
-    uint64_t number, width, height, kind, depth, growth;
-} FileAnswer;
-typedef struct {
-    uint64_t number, width, height, kind;
-} SizeAnswer;
-Answer multisize_build(const uint8_t *picture, size_t bytes, size_t width, size_t height, uint8_t kind, size_t depth,
-                       size_t growth, uint8_t *out, size_t out_room, uint8_t *work, size_t room);
-FileAnswer multisize_check(const uint8_t *file, size_t bytes, uint8_t *work, size_t room);
-SizeAnswer multisize_show(const uint8_t *file, size_t bytes, size_t wanted, uint8_t *out, size_t out_room, uint8_t *work,
-                          size_t room);
 
 uint64_t reference_build(Lent *lent, uint8_t *out, size_t room);
 uint64_t reference_check(Lent *lent, const uint8_t *file, size_t bytes);
@@ -25,7 +13,7 @@ size_t build_in_c(const uint8_t *picture, Size size, uint8_t *out);
 enum { WANTED = 176 };
 
 // The room that every text of a picture fits in.
-static size_t text_room(Size z) { return 4096 + 32 * z.width * z.height; }
+static size_t text_room(Size z) { return multisize_file_bytes(z.width, z.height, kind_of(z)); }
 
 static void differ(const char *name, Size z) {
     printf("%s differs at %zu by %zu, %zu channels\n", name, z.width, z.height, z.channels), exit(1);
@@ -34,8 +22,8 @@ static void differ(const char *name, Size z) {
 static size_t build_by_library(Lent *lent, uint8_t *out) {
     Size z = lent->size;
     size_t pixels = z.width * z.height;
-    Answer answer = multisize_build(lent->picture, pixels * z.channels, z.width, z.height, z.channels == 3, z.width - 1,
-                                    z.width / 2, out, text_room(z), lent->work, 32 * pixels);
+    multisize_answer answer = multisize_build(lent->picture, pixels * z.channels, z.width, z.height, kind_of(z),
+                                              z.width - 1, z.width / 2, out, text_room(z), lent->work, 32 * pixels);
     if (answer.number) differ("build", z);
     return answer.value;
 }
@@ -48,7 +36,7 @@ static void check_by_library(Lent *lent, const uint8_t *file, size_t length) {
 static Lent lend(Size size) {
     size_t pixels = size.width * size.height;
     Lent lent = {malloc(pixels * size.channels), NULL, NULL, malloc(32 * pixels), size};
-    fill_terrain(lent.picture, size);
+    fill_terrain(lent.picture, size.width, size.height, size.channels);
     return lent;
 }
 
@@ -61,7 +49,7 @@ static void show(Lent *lent, const uint8_t *file, size_t length, int rounds) {
     double best = 1e9, other_best = 1e9;
     for (int i = 0; i < rounds; i++) {
         double t = seconds();
-        SizeAnswer answer = multisize_show(file, length, WANTED, out, bytes, lent->work, 32 * z.width * z.height);
+        multisize_size_answer answer = multisize_show(file, length, WANTED, out, bytes, lent->work, 32 * z.width * z.height);
         keep_least(&best, t);
         t = seconds();
         if (i == 0) reference_show(lent, file, length, WANTED, other), keep_least(&other_best, t);

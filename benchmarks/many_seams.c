@@ -2,17 +2,10 @@
 // the two take turns and must agree.
 #include "shared.h"
 
-typedef struct {
-    uint64_t number, ending, count;
-} Ended;
-Ended multisize_remove(uint8_t *picture, size_t bytes, uint8_t *marks, size_t pixels, size_t width, size_t height,
-                       uint8_t kind, uint16_t budget, uint8_t *work, size_t room);
-Answer multisize_retarget(const uint8_t *picture, size_t bytes, size_t width, size_t height, uint8_t kind, size_t rows,
-                          size_t columns, uint8_t *out, size_t out_room, uint8_t *work, size_t room);
 uint64_t reference_remove(Lent *lent);
 uint64_t reference_retarget(Lent *lent, size_t rows, size_t columns, uint8_t *out);
 
-enum { ROUNDS = 5, ALL = 65535, RGB = 1, ROWS = 16, COLUMNS = 16 };
+enum { ROUNDS = 5, ALL = 65535, ROWS = 16, COLUMNS = 16 };
 static const Size whole = {256, 256, 3}, retargeted = {128, 128, 3};
 
 static void differ(const char *name) { printf("the answers of %s differ\n", name), exit(1); }
@@ -30,12 +23,13 @@ static void removal(void) {
     Lent lent = lend(whole, room), one = lend(whole, room), other = lend(whole, room);
     for (int r = 90; r < 150; r++) memset(lent.marks + r * whole.width + 100, 2, 40);
     double best = 1e9, other_best = 1e9;
-    Ended ended = {0};
+    multisize_ended ended = {0};
     for (int i = 0; i < ROUNDS; i++) {
         memcpy(one.picture, lent.picture, bytes), memcpy(other.picture, lent.picture, bytes);
         memcpy(one.marks, lent.marks, pixels), memcpy(other.marks, lent.marks, pixels);
         double t = seconds();
-        ended = multisize_remove(one.picture, bytes, one.marks, pixels, whole.width, whole.height, RGB, ALL, one.work, room);
+        ended = multisize_remove(one.picture, bytes, one.marks, pixels, whole.width, whole.height, MULTISIZE_RGB, ALL,
+                                 one.work, room);
         keep_least(&best, t);
         t = seconds();
         uint64_t count = reference_remove(&other);
@@ -50,14 +44,15 @@ static void removal(void) {
 
 static void retarget(void) {
     Size z = retargeted;
-    size_t pixels = z.width * z.height, bytes = pixels * z.channels, room = 32 * pixels + 66 * bytes;
+    size_t bytes = z.width * z.height * z.channels, room = multisize_retarget_work_bytes(z.width, z.height, MULTISIZE_RGB);
     size_t left = (z.width - COLUMNS) * (z.height - ROWS) * z.channels;
     Lent lent = lend(z, room);
     uint8_t *out = malloc(left), *other_out = malloc(left);
     double best = 1e9, other_best = 1e9;
     for (int i = 0; i < ROUNDS; i++) {
         double t = seconds();
-        Answer answer = multisize_retarget(lent.picture, bytes, z.width, z.height, RGB, ROWS, COLUMNS, out, left, lent.work, room);
+        multisize_answer answer = multisize_retarget(lent.picture, bytes, z.width, z.height, MULTISIZE_RGB, ROWS, COLUMNS,
+                                                     out, left, lent.work, room);
         keep_least(&best, t);
         t = seconds();
         uint64_t total = reference_retarget(&lent, ROWS, COLUMNS, other_out);

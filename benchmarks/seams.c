@@ -4,15 +4,7 @@
 // library, by both ways in C and by the library with marks, so that the instructions of each can be counted.
 #include "shared.h"
 
-Answer multisize_find(const uint8_t *picture, size_t bytes, size_t width, size_t height, uint8_t kind, uint8_t axis,
-                      uint16_t *seam, size_t places, uint8_t *work, size_t room);
-Answer multisize_cut(uint8_t *picture, size_t bytes, size_t width, size_t height, uint8_t kind, uint8_t axis,
-                     uint16_t *seam, size_t places, uint8_t *work, size_t room);
-Answer multisize_find_marked(const uint8_t *picture, size_t bytes, const uint8_t *marks, size_t pixels, size_t width,
-                             size_t height, uint8_t kind, uint8_t axis, uint16_t *seam, size_t places, uint8_t *work,
-                             size_t room);
-
-enum { SIDE = 512, ROUNDS = 40, VERTICAL = 0, HORIZONTAL = 1 };
+enum { SIDE = 512, ROUNDS = 40 };
 static const Size sizes[] = {{480, 480, 3}, {512, 512, 1}};
 
 uint64_t reference_find(Lent *lent);
@@ -70,8 +62,8 @@ static uint64_t plain_find(const uint8_t *p, int w, int h, int channels, uint16_
 static uint64_t by_library(Lent *lent) {
     Size z = lent->size;
     size_t pixels = z.width * z.height;
-    return multisize_find(lent->picture, pixels * z.channels, z.width, z.height, z.channels == 3, VERTICAL, lent->seam,
-                          z.height, lent->work, 32 * pixels)
+    return multisize_find(lent->picture, pixels * z.channels, z.width, z.height, kind_of(z), MULTISIZE_VERTICAL,
+                          lent->seam, z.height, lent->work, 32 * pixels)
         .value;
 }
 
@@ -79,7 +71,7 @@ static uint64_t by_library_marked(Lent *lent) {
     Size z = lent->size;
     size_t pixels = z.width * z.height;
     return multisize_find_marked(lent->picture, pixels * z.channels, lent->marks, pixels, z.width, z.height,
-                                 z.channels == 3, VERTICAL, lent->seam, z.height, lent->work, 32 * pixels)
+                                 kind_of(z), MULTISIZE_VERTICAL, lent->seam, z.height, lent->work, 32 * pixels)
         .value;
 }
 
@@ -135,7 +127,7 @@ static double cut_time(Lent *lent, int axis) {
     for (int i = 0; i < ROUNDS; i++) {
         memcpy(copy, lent->picture, bytes);
         double t = seconds();
-        multisize_cut(copy, bytes, z.width, z.height, z.channels == 3, axis, lent->seam, SIDE, lent->work, 32 * pixels);
+        multisize_cut(copy, bytes, z.width, z.height, kind_of(z), axis, lent->seam, SIDE, lent->work, 32 * pixels);
         keep_least(&best, t);
     }
     return best;
@@ -155,7 +147,8 @@ static void times(Size size) {
     compare(&lent, "find", by_library, "unrolled C", by_unrolled_c);
     compare(&lent, "find", by_library, "reference", reference_find);
     compare(&lent, "find_marked", by_library_marked, "reference", reference_find_marked);
-    printf("  cut %.3f ms, horizontal cut %.3f ms\n", cut_time(&lent, VERTICAL) * 1e3, cut_time(&lent, HORIZONTAL) * 1e3);
+    printf("  cut %.3f ms, horizontal cut %.3f ms\n", cut_time(&lent, MULTISIZE_VERTICAL) * 1e3,
+           cut_time(&lent, MULTISIZE_HORIZONTAL) * 1e3);
 }
 
 static void once(Size size) {

@@ -1,17 +1,15 @@
 // What the benchmarks share: sizes, lent buffers, a picture, and times.
-#include <stdint.h>
+#include <multisize.h>
 #include <stdio.h>
 #include <stdlib.h>
 #include <string.h>
 #include <time.h>
 
 typedef struct {
-    uint64_t number, value;
-} Answer;
-
-typedef struct {
     size_t width, height, channels;
 } Size;
+
+static inline uint8_t kind_of(Size z) { return z.channels == 3 ? MULTISIZE_RGB : MULTISIZE_GREY; }
 
 // A picture and the spaces for its seam, as the reference takes them.
 typedef struct {
@@ -21,20 +19,20 @@ typedef struct {
     Size size;
 } Lent;
 
-static void fill_picture(uint8_t *picture, Size size) {
+static inline void fill_picture(uint8_t *picture, Size size) {
     int w = size.width, h = size.height, channels = size.channels;
     srand(1);
     for (int i = 0; i < w * h * channels; i++)
         picture[i] = (i / channels % w / 7 * 13 + i / channels / w / 5 * 7 + rand() % 16) & 255;
 }
 
-static double seconds(void) {
+static inline double seconds(void) {
     struct timespec t;
     clock_gettime(CLOCK_MONOTONIC, &t);
     return t.tv_sec + t.tv_nsec * 1e-9;
 }
 
-static void keep_least(double *best, double since) {
+static inline void keep_least(double *best, double since) {
     double t = seconds() - since;
     if (t < *best) *best = t;
 }

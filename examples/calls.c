@@ -8,7 +8,8 @@
 enum { WIDTH = 3, HEIGHT = 2, PIXELS = 6, WORK = 32 * PIXELS, LARGE = 512 };
 
 static const uint8_t brought[PIXELS] = {10, 10, 40, 10, 50, 40};
-static const char text[] = "(multi\n(size 3 2 grey)\n(range 2 1)\n(row 10 10 40)\n(row 10 50 40)\n(map 2 0 1)\n(map 0 2 1)\n)\n";
+static const char text[] = "(multi\n(size 3 2 grey)\n(range 2 1)\n"
+                           "(row 10 10 40)\n(row 10 50 40)\n(map 2 0 1)\n(map 0 2 1)\n)\n";
 static uint8_t picture[PIXELS], marks[PIXELS], out[200], work[WORK + 66 * PIXELS];
 static uint16_t seam[WIDTH], map[PIXELS];
 
@@ -32,7 +33,8 @@ static void rows(void) {
 }
 
 static void seams(void) {
-    multisize_answer a = multisize_find(brought, PIXELS, WIDTH, HEIGHT, MULTISIZE_GREY, MULTISIZE_VERTICAL, seam, HEIGHT, work, WORK);
+    multisize_answer a = multisize_find(brought, PIXELS, WIDTH, HEIGHT, MULTISIZE_GREY, MULTISIZE_VERTICAL, seam, HEIGHT,
+                                        work, WORK);
     NEED(a.number == 0 && a.value == 0 && seam[0] == 2 && seam[1] == 2);
     memcpy(picture, brought, PIXELS);
     a = multisize_cut(picture, PIXELS, WIDTH, HEIGHT, MULTISIZE_GREY, MULTISIZE_HORIZONTAL, seam, WIDTH, work, WORK);
@@ -79,7 +81,8 @@ static void files(void) {
     memset(picture, 0, PIXELS);
     f = multisize_read(file, length, picture, PIXELS, map, PIXELS, work, WORK);
     NEED(f.number == 0 && !memcmp(picture, brought, PIXELS) && map[0] == 2 && map[2] == 1 && map[4] == 2);
-    multisize_size_answer z = multisize_show(file, length, 2, out, multisize_shown_bytes(2, HEIGHT, MULTISIZE_GREY), work, WORK);
+    size_t shown = multisize_shown_bytes(2, HEIGHT, MULTISIZE_GREY);
+    multisize_size_answer z = multisize_show(file, length, 2, out, shown, work, WORK);
     NEED(z.number == 0 && z.width == 2 && z.height == 2 && z.kind == MULTISIZE_GREY && bytes_are(out, 10, 10, 10, 50));
 }
 
