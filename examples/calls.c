@@ -55,7 +55,9 @@ static void marked(void) {
     NEED(a.number == 0 && a.value == 70);
     NEED(bytes_are(picture, 10, 40, 10, 50) && bytes_are(marks, 0, 1, 0, 0));
     memcpy(picture, brought, PIXELS), memcpy(marks, brought_marks, PIXELS);
-    multisize_ended e = multisize_remove(picture, PIXELS, marks, PIXELS, WIDTH, HEIGHT, MULTISIZE_GREY, 9, work, WORK);
+    multisize_ended e = multisize_remove(picture, PIXELS, marks, PIXELS, WIDTH, HEIGHT, MULTISIZE_GREY, 0, work, WORK);
+    NEED(e.number == 0 && e.ending == MULTISIZE_SPENT && e.count == 0 && !memcmp(picture, brought, PIXELS));
+    e = multisize_remove(picture, PIXELS, marks, PIXELS, WIDTH, HEIGHT, MULTISIZE_GREY, 9, work, WORK);
     NEED(e.number == 0 && e.ending == MULTISIZE_DONE && e.count == 1 && bytes_are(picture, 10, 40, 10, 50));
 }
 
@@ -81,9 +83,10 @@ static void files(void) {
     memset(picture, 0, PIXELS);
     f = multisize_read(file, length, picture, PIXELS, map, PIXELS, work, WORK);
     NEED(f.number == 0 && !memcmp(picture, brought, PIXELS) && map[0] == 2 && map[2] == 1 && map[4] == 2);
-    size_t shown = multisize_shown_bytes(2, HEIGHT, MULTISIZE_GREY);
-    multisize_size_answer z = multisize_show(file, length, 2, out, shown, work, WORK);
-    NEED(z.number == 0 && z.width == 2 && z.height == 2 && z.kind == MULTISIZE_GREY && bytes_are(out, 10, 10, 10, 50));
+    size_t shown = multisize_shown_bytes(4, HEIGHT, MULTISIZE_GREY);
+    multisize_size_answer z = multisize_show(file, length, 4, out, shown, work, WORK);
+    NEED(z.number == 0 && z.width == 4 && z.height == 2 && z.kind == MULTISIZE_GREY);
+    NEED(bytes_are(out, 10, 10, 25, 40) && bytes_are(out + 4, 10, 50, 45, 40));
 }
 
 // The longest file of a kind: the largest size, all samples 255, the greatest range. It is as long as the header says, but

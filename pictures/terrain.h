@@ -54,7 +54,7 @@ static inline uint8_t terrain_sample(int x, int y, size_t channel, int grain) {
     static const uint8_t stream[3] = {70, 125, 160};
     static const uint8_t grounds[4][3] = {{124, 158, 84}, {86, 122, 70}, {150, 138, 124}, {222, 228, 238}};
     int height = terrain_height(x, y);
-    int light = (height - terrain_height(x + 40, y + 40)) * 9 / 4;
+    int light = (terrain_height(x + 40, y + 40) - height) * 9 / 4;
     int ground = height < TERRAIN_WOODS ? 0 : height < TERRAIN_ROCK ? 1 : height < TERRAIN_SNOW ? 2 : 3;
     int wet = terrain_off_stream(x, y) < 64;
     int sample = wet ? stream[channel] : grounds[ground][channel] * (256 + light) / 256;
