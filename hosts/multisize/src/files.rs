@@ -1,0 +1,173 @@
+//! Multi-size files: built, checked, read, shown at a width.
+
+use crate::archive;
+use crate::carver::Carver;
+use crate::picture::{Kind, Picture, Size};
+use crate::refusal::Refusal;
+use std::ops::RangeInclusive;
+
+/// The most pixels of a picture in a file.
+const MOST_PIXELS: usize = 512 * 512;
+
+/// How much narrower and wider than its picture a file can be shown.
+#[derive(Clone, Copy, Debug, PartialEq, Eq)]
+pub struct Range {
+    /// The number of seams that the map holds.
+    pub depth: usize,
+    /// How many columns wider the widest is.
+    pub growth: usize,
+}
+
+impl Range {
+    /// All widths from 1 to half as much again.
+    ///
+    /// ```
+    /// use multisize::Range;
+    ///
+    /// assert_eq!(Range::full(3), Range { depth: 2, growth: 1 });
+    /// ```
+    pub fn full(width: usize) -> Range {
+        Range::deep(width, width.saturating_sub(1))
+    }
+
+    /// This depth, and the most growth allowed with it.
+    pub fn deep(width: usize, depth: usize) -> Range {
+        let growth = depth.min(width / 2);
+        Range { depth, growth }
+    }
+}
+
+/// What a file says of its picture.
+#[derive(Clone, Copy, Debug, PartialEq, Eq)]
+pub struct Head {
+    /// The size of its picture.
+    pub size: Size,
+    /// Its depth and growth.
+    pub range: Range,
+}
+
+impl Head {
+    /// The widths that the file offers.
+    pub fn widths(self) -> RangeInclusive<usize> {
+        let width = self.size.width;
+        width - self.range.depth..=width + self.range.growth
+    }
+}
+
+/// What is read from a file.
+#[derive(Clone, Debug, PartialEq, Eq)]
+pub struct Contents {
+    /// The picture.
+    pub picture: Picture,
+    /// For each pixel the number of the seam that took it, or 0.
+    pub map: Vec<u16>,
+    /// Depth and growth.
+    pub range: Range,
+}
+
+/// No file of a picture of this size is longer: a number with its blank takes 4
+/// bytes at most, a pixel two brackets more.
+fn longest_file(size: Size) -> usize {
+    let pixel = match size.kind {
+        Kind::Grey => 4,
+        Kind::Rgb => 14,
+    };
+    64 + size.pixels() * (pixel + 4) + size.height * 12
+}
+
+/// No file of this length that has its form and counts needs more work space: a
+/// pixel takes at least 4 bytes of text, so 8 bytes for each byte of the file
+/// are 32 bytes a pixel.
+fn work_of(file: &[u8]) -> usize {
+    (8 * file.len()).min(32 * MOST_PIXELS)
+}
+
+/// No file of this length shows more bytes: a grey pixel takes at least 4 bytes
+/// of text, an rgb pixel 10, and the widest shown is half as wide again.
+fn most_shown(file: &[u8]) -> usize {
+    (file.len() / 2).min(3 * MOST_PIXELS * 3 / 2)
+}
+
+impl Carver {
+    /// The file of a picture. Refused by 6 where depth or growth isn't allowed:
+    /// depth at most the width less 1, growth at most the depth and half the
+    /// width.
+    ///
+    /// ```
+    /// use multisize::{Carver, Picture, Range, Size};
+    ///
+    /// let picture = Picture::new(Size::grey(3, 1), vec![7, 7, 7])?;
+    /// let file = Carver::new().build(&picture, Range::full(3))?;
+    /// let text = "(multi\n(size 3 1 grey)\n(range 2 1)\n(row 7 7 7)\n(map 1 2 0)\n)\n";
+    /// assert_eq!(file, text.as_bytes());
+    /// # Ok::<(), multisize::Refusal>(())
+    /// ```
+    pub fn build(&mut self, picture: &Picture, range: Range) -> Result<Vec<u8>, Refusal> {
+        let size = picture.size();
+        let mut out = vec![0; longest_file(size)];
+        let work = self.space_of(size);
+        let length = archive::build(picture.samples(), size, range, &mut out, work)?;
+        out.truncate(length);
+        out.shrink_to_fit();
+        Ok(out)
+    }
+
+    /// Checks a file and gives what it says of its picture. Refused by 1 to 4,
+    /// 6, and 9 to 11.
+    ///
+    /// ```
+    /// use multisize::{Carver, Refusal, Size};
+    ///
+    /// let file = b"(multi\n(size 3 1 grey)\n(range 1 0)\n(row 7 7 7)\n(map 1 0 0)\n)\n";
+    /// let head = Carver::new().check(file)?;
+    /// assert_eq!((head.size, head.widths()), (Size::grey(3, 1), 2..=3));
+    /// assert_eq!(Carver::new().check(b"(multi"), Err(Refusal::Form));
+    /// # Ok::<(), multisize::Refusal>(())
+    /// ```
+    pub fn check(&mut self, file: &[u8]) -> Result<Head, Refusal> {
+        archive::check(file, self.space(work_of(file)))
+    }
+
+    /// Checks a file and gives its picture and map. Refused as checking is.
+    ///
+    /// ```
+    /// use multisize::Carver;
+    ///
+    /// let file = b"(multi\n(size 3 1 grey)\n(range 1 0)\n(row 7 7 7)\n(map 1 0 0)\n)\n";
+    /// let contents = Carver::new().read(file)?;
+    /// assert_eq!(contents.picture.samples(), [7, 7, 7]);
+    /// assert_eq!(contents.map, [1, 0, 0]);
+    /// # Ok::<(), multisize::Refusal>(())
+    /// ```
+    pub fn read(&mut self, file: &[u8]) -> Result<Contents, Refusal> {
+        let mut samples = vec![0; most_shown(file)];
+        let mut map = vec![0; (file.len() / 4).min(MOST_PIXELS)];
+        let work = self.space(work_of(file));
+        let Head { size, range } = archive::read(file, &mut samples, &mut map, work)?;
+        map.truncate(size.pixels());
+        map.shrink_to_fit();
+        let picture = Picture::front(size, samples);
+        Ok(Contents {
+            picture,
+            map,
+            range,
+        })
+    }
+
+    /// What a file shows at a width. Refused as checking is, and by 7 where the
+    /// width isn't offered.
+    ///
+    /// ```
+    /// use multisize::{Carver, Refusal};
+    ///
+    /// let file = b"(multi\n(size 3 1 grey)\n(range 1 0)\n(row 7 8 9)\n(map 0 0 1)\n)\n";
+    /// assert_eq!(Carver::new().show(file, 2)?.samples(), [7, 8]);
+    /// assert_eq!(Carver::new().show(file, 4), Err(Refusal::Wanted));
+    /// # Ok::<(), multisize::Refusal>(())
+    /// ```
+    pub fn show(&mut self, file: &[u8], width: usize) -> Result<Picture, Refusal> {
+        let mut out = vec![0; most_shown(file)];
+        let size = archive::show(file, width, &mut out, self.space(work_of(file)))?;
+        Ok(Picture::front(size, out))
+    }
+}

@@ -1,0 +1,136 @@
+//! The worked example of the specification, and pictures at its limits.
+
+use multisize::{Axis, Carver, Columns, Ending, Picture, Range, Refusal, Rows, Size};
+
+const FILE: &str = "(multi\n(size 3 2 grey)\n(range 2 1)\n\
+    (row 10 10 40)\n(row 10 50 40)\n(map 2 0 1)\n(map 0 2 1)\n)\n";
+
+fn worked() -> Picture {
+    Picture::new(Size::grey(3, 2), vec![10, 10, 40, 10, 50, 40]).unwrap()
+}
+
+fn flat(size: Size) -> Picture {
+    let samples = vec![255; size.width * size.height * size.kind.channels()];
+    Picture::new(size, samples).unwrap()
+}
+
+#[test]
+fn rows_and_energies() {
+    let picture = worked();
+    assert_eq!(picture.row(0), [10, 10, 40]);
+    assert_eq!(picture.row(1), [10, 50, 40]);
+    assert!(picture.row(usize::MAX).is_empty());
+    assert_eq!(picture.energies(0), Ok(vec![0, 70, 0]));
+    assert_eq!(picture.energies(1), Ok(vec![40, 10, 0]));
+    assert_eq!(flat(Size::grey(1, 1)).energies(0), Ok(vec![0]));
+}
+
+#[test]
+fn seams_found_and_cut() {
+    let (mut picture, mut carver) = (worked(), Carver::new());
+    let found = carver.find(&picture, Axis::Vertical).unwrap();
+    let first = carver.cut(&mut picture, Axis::Vertical).unwrap();
+    assert_eq!(found, first);
+    assert_eq!((first.places, first.cost), (vec![2, 2], 0));
+    assert_eq!(picture.samples(), [10, 10, 10, 50]);
+    let second = carver.cut(&mut picture, Axis::Vertical).unwrap();
+    assert_eq!((second.places, second.cost), (vec![0, 1], 0));
+    assert_eq!(picture.samples(), [10, 10]);
+}
+
+#[test]
+fn a_horizontal_seam_is_cut() {
+    let (mut picture, mut carver) = (worked(), Carver::new());
+    let seam = carver.cut(&mut picture, Axis::Horizontal).unwrap();
+    assert_eq!(seam.places, [0, 1, 0]);
+    assert_eq!(seam.cost, 10);
+    assert_eq!(picture.size(), Size::grey(3, 1));
+    assert_eq!(picture.samples(), [10, 10, 40]);
+}
+
+#[test]
+fn removals_end_in_four_ways() {
+    let mut carver = Carver::new();
+    let mut ends = |mut picture: Picture, mut marks: Vec<u8>, budget| {
+        let ending = carver.remove(&mut picture, &mut marks, budget).unwrap();
+        assert_eq!(marks.len(), picture.size().width * picture.size().height);
+        (ending, picture.size().width)
+    };
+    let marks = vec![0, 2, 1, 0, 0, 0];
+    assert_eq!(ends(worked(), marks.clone(), 65535), (Ending::Done(1), 2));
+    assert_eq!(ends(worked(), marks, 0), (Ending::Spent(0), 3));
+    let column = flat(Size::grey(1, 2));
+    assert_eq!(ends(column, vec![0, 2], 0), (Ending::Narrow(0), 1));
+    let walled = vec![2, 0, 2, 1, 1, 1];
+    assert_eq!(ends(worked(), walled, 7), (Ending::Blocked(0), 3));
+}
+
+#[test]
+fn a_retarget_in_both_directions() {
+    let given = Carver::new()
+        .retarget(&worked(), Rows(1), Columns(1))
+        .unwrap();
+    assert_eq!(given.picture.size(), Size::grey(2, 1));
+    let whole = Carver::new().retarget(&worked(), Rows(0), Columns(0));
+    assert_eq!(whole.unwrap().picture, worked());
+}
+
+#[test]
+fn the_file_is_built_checked_and_read() {
+    let mut carver = Carver::new();
+    let file = carver.build(&worked(), Range::full(3)).unwrap();
+    assert_eq!(file, FILE.as_bytes());
+    let head = carver.check(&file).unwrap();
+    assert_eq!((head.size, head.range), (Size::grey(3, 2), Range::full(3)));
+    let contents = carver.read(&file).unwrap();
+    assert_eq!(contents.picture, worked());
+    assert_eq!(contents.map, [2, 0, 1, 0, 2, 1]);
+}
+
+#[test]
+fn the_file_is_shown_at_each_width() {
+    let mut carver = Carver::new();
+    let mut shown = |width| carver.show(FILE.as_bytes(), width);
+    assert_eq!(shown(1).unwrap().samples(), [10, 10]);
+    assert_eq!(shown(2).unwrap().samples(), [10, 10, 10, 50]);
+    assert_eq!(shown(3), Ok(worked()));
+    let wide = shown(4).unwrap();
+    assert_eq!(wide.samples(), [10, 10, 25, 40, 10, 50, 45, 40]);
+    for width in [0, 5, usize::MAX] {
+        assert_eq!(shown(width), Err(Refusal::Wanted));
+    }
+}
+
+/// Spaces made from the length of a text are long enough where a pixel takes
+/// the fewest bytes and where it takes the most.
+#[test]
+fn spaces_are_never_too_short() {
+    let mut carver = Carver::new();
+    for side in [1, 2, 3, 9, 10, 11, 100, 512] {
+        for size in [Size::grey(side, 1), Size::rgb(side, 1), Size::rgb(1, side)] {
+            let channels = size.kind.channels();
+            for sample in [0, 255] {
+                let samples = vec![sample; side * channels];
+                let picture = Picture::new(size, samples).unwrap();
+                let file = carver.build(&picture, Range::full(size.width)).unwrap();
+                assert_eq!(carver.read(&file).unwrap().picture, picture);
+                let widest = *carver.check(&file).unwrap().widths().end();
+                let shown = carver.show(&file, widest).unwrap();
+                assert_eq!(shown.samples().len(), widest * size.height * channels);
+            }
+        }
+    }
+}
+
+#[test]
+fn a_picture_shown_may_be_wider_than_operations_take() {
+    let mut carver = Carver::new();
+    let file = carver.build(&flat(Size::rgb(512, 1)), Range::full(512));
+    let wide = carver.show(&file.unwrap(), 768).unwrap();
+    assert_eq!(wide.size(), Size::rgb(768, 1));
+    assert_eq!(wide.energies(0), Err(Refusal::Large));
+    let found = carver.find(&wide, Axis::Vertical);
+    assert_eq!(found, Err(Refusal::Large));
+    let built = carver.build(&wide, Range::full(768));
+    assert_eq!(built, Err(Refusal::Large));
+}
