@@ -4,7 +4,8 @@
 //! space and has the operations: it finds and cuts seams, removes marked
 //! objects, retargets in both directions, and builds, checks, reads and shows
 //! multi-size files. Each gives its answer or a [`Refusal`] with its number;
-//! after a refusal everything lent is as it was.
+//! after a refusal everything lent is as it was. [`netpbm`] reads and writes
+//! pictures as P5 and P6.
 //!
 //! ```
 //! use multisize::{Carver, Picture, Range, Size};
@@ -21,6 +22,7 @@
 mod archive;
 mod carver;
 mod files;
+pub mod netpbm;
 mod objects;
 mod picture;
 mod refusal;
