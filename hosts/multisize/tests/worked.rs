@@ -1,6 +1,7 @@
 //! The worked example of the specification, and pictures at its limits.
 
 use multisize::{Axis, Carver, Columns, Ending, Picture, Range, Refusal, Rows, Size};
+use multisize::{PLAIN, PROTECTED, REMOVE};
 
 const FILE: &str = "(multi\n(size 3 2 grey)\n(range 2 1)\n\
     (row 10 10 40)\n(row 10 50 40)\n(map 2 0 1)\n(map 0 2 1)\n)\n";
@@ -46,6 +47,18 @@ fn a_horizontal_seam_is_cut() {
     assert_eq!(seam.cost, 10);
     assert_eq!(picture.size(), Size::grey(3, 1));
     assert_eq!(picture.samples(), [10, 10, 40]);
+}
+
+#[test]
+fn seams_found_and_cut_by_marks() {
+    let (mut picture, mut carver) = (worked(), Carver::new());
+    let mut marks = vec![PLAIN, REMOVE, PROTECTED, PLAIN, PLAIN, PLAIN];
+    let found = carver.find_marked(&picture, &marks, Axis::Vertical);
+    let cut = carver.cut_marked(&mut picture, &mut marks, Axis::Vertical);
+    assert_eq!(found, cut);
+    assert_eq!(cut.unwrap().places, [1, 2]);
+    assert_eq!(picture.samples(), [10, 40, 10, 50]);
+    assert_eq!(marks, [PLAIN, PROTECTED, PLAIN, PLAIN]);
 }
 
 #[test]
@@ -101,25 +114,32 @@ fn the_file_is_shown_at_each_width() {
     }
 }
 
+/// Builds the file of a flat picture and reads and shows it.
+fn round(carver: &mut Carver, size: Size, sample: u8) {
+    let channels = size.kind.channels();
+    let samples = vec![sample; size.width * size.height * channels];
+    let picture = Picture::new(size, samples).unwrap();
+    let file = carver.build(&picture, Range::full(size.width)).unwrap();
+    assert_eq!(carver.read(&file).unwrap().picture, picture);
+    let widest = *carver.check(&file).unwrap().widths().end();
+    let shown = carver.show(&file, widest).unwrap();
+    assert_eq!(shown.samples().len(), widest * size.height * channels);
+}
+
 /// Spaces made from the length of a text are long enough where a pixel takes
-/// the fewest bytes and where it takes the most.
+/// the fewest bytes and where it takes the most. A width of 10 has the most
+/// pixels for its text, since its seam numbers have one digit.
 #[test]
 fn spaces_are_never_too_short() {
     let mut carver = Carver::new();
     for side in [1, 2, 3, 9, 10, 11, 100, 512] {
         for size in [Size::grey(side, 1), Size::rgb(side, 1), Size::rgb(1, side)] {
-            let channels = size.kind.channels();
-            for sample in [0, 255] {
-                let samples = vec![sample; side * channels];
-                let picture = Picture::new(size, samples).unwrap();
-                let file = carver.build(&picture, Range::full(size.width)).unwrap();
-                assert_eq!(carver.read(&file).unwrap().picture, picture);
-                let widest = *carver.check(&file).unwrap().widths().end();
-                let shown = carver.show(&file, widest).unwrap();
-                assert_eq!(shown.samples().len(), widest * size.height * channels);
-            }
+            round(&mut carver, size, 0);
+            round(&mut carver, size, 255);
         }
     }
+    round(&mut carver, Size::grey(10, 512), 0);
+    round(&mut carver, Size::rgb(10, 512), 0);
 }
 
 #[test]
