@@ -1,0 +1,106 @@
+//! Where bytes come from and go to: files, standard input, standard output.
+
+use crate::failure::Failure;
+use multisize::{netpbm, Picture, Refusal};
+use std::ffi::OsString;
+use std::fs::{self, File};
+use std::io::{self, Read, Write};
+use std::path::{Path, PathBuf};
+use std::process;
+
+/// A file to read, or `-` for standard input.
+pub struct Input(pub OsString);
+
+impl Input {
+    fn name(&self) -> String {
+        if self.0 == "-" {
+            return "standard input".to_string();
+        }
+        self.0.to_string_lossy().into_owned()
+    }
+
+    /// All its bytes.
+    pub fn read(&self) -> Result<Vec<u8>, Failure> {
+        let mut bytes = Vec::new();
+        let read = if self.0 == "-" {
+            io::stdin().read_to_end(&mut bytes).map(|_| bytes)
+        } else {
+            fs::read(&self.0)
+        };
+        let name = self.name();
+        read.map_err(|error| Failure::File { name, error })
+    }
+
+    /// Its picture, from Netpbm.
+    pub fn picture(&self) -> Result<Picture, Failure> {
+        netpbm::read(&self.read()?).map_err(|refusal| self.refused(refusal))
+    }
+
+    /// The failure of an operation on what stands there.
+    pub fn refused(&self, refusal: Refusal) -> Failure {
+        let name = self.name();
+        Failure::Refused { name, refusal }
+    }
+}
+
+/// A file to write, or `-` for standard output.
+pub struct Output(pub OsString);
+
+impl Output {
+    pub fn is_standard(&self) -> bool {
+        self.0 == "-"
+    }
+
+    /// Writes the bytes, to a file whole or not at all.
+    pub fn write(&self, bytes: &[u8]) -> Result<(), Failure> {
+        if self.is_standard() {
+            return print(bytes);
+        }
+        let name = self.0.to_string_lossy().into_owned();
+        write_whole(Path::new(&self.0), bytes).map_err(|error| Failure::File { name, error })
+    }
+
+    pub fn picture(&self, picture: &Picture) -> Result<(), Failure> {
+        self.write(&netpbm::write(picture))
+    }
+}
+
+/// Writes to standard output.
+pub fn print(bytes: &[u8]) -> Result<(), Failure> {
+    let mut out = io::stdout().lock();
+    let written = out.write_all(bytes).and_then(|()| out.flush());
+    let name = "standard output".to_string();
+    written.map_err(|error| Failure::File { name, error })
+}
+
+/// Writes a temporary file beside the file and renames it. A link is followed,
+/// so that it stays one; a device or a pipe is written as it is.
+fn write_whole(path: &Path, bytes: &[u8]) -> io::Result<()> {
+    let path = fs::canonicalize(path).unwrap_or(path.to_path_buf());
+    let before = fs::metadata(&path).ok();
+    if before.as_ref().is_some_and(|before| !before.is_file()) {
+        return fs::write(path, bytes);
+    }
+    let temporary = beside(&path);
+    let file = File::create_new(&temporary)?;
+    let written = fill(file, bytes, before).and_then(|()| fs::rename(&temporary, &path));
+    if written.is_err() {
+        // The first error is the one to tell.
+        let _ = fs::remove_file(&temporary);
+    }
+    written
+}
+
+/// Fills the new file, with the permissions of the file that it replaces.
+fn fill(mut file: File, bytes: &[u8], before: Option<fs::Metadata>) -> io::Result<()> {
+    file.write_all(bytes)?;
+    if let Some(before) = before {
+        file.set_permissions(before.permissions())?;
+    }
+    file.sync_all()
+}
+
+/// The name of a temporary file in the same folder.
+fn beside(path: &Path) -> PathBuf {
+    path.with_file_name(format!(".multisize-{}.tmp", process::id()))
+}

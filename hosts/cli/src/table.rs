@@ -1,0 +1,46 @@
+//! The seams of a file as a table.
+
+use multisize::{Axis, Carver, Contents, Refusal, Seam};
+use std::fmt::{Display, Write};
+
+/// CSV with a line for each seam, the first cut first.
+pub fn csv(contents: &Contents, carver: &mut Carver) -> Result<String, Refusal> {
+    let height = contents.picture.size().height;
+    let left = (0..height).map(|row| format!("row_{row}_left"));
+    let original = (0..height).map(|row| format!("row_{row}_original"));
+    let mut text = line(&"seam", &"cost", left.chain(original));
+    let mut picture = contents.picture.clone();
+    for (at, original) in originals(contents).chunks(height).enumerate() {
+        // An accepted file records just the seams that cutting finds.
+        let Seam { places, cost } = carver.cut(&mut picture, Axis::Vertical)?;
+        text += &line(&(at + 1), &cost, places.iter().chain(original));
+    }
+    Ok(text)
+}
+
+/// For each seam its column in each row of the original.
+fn originals(contents: &Contents) -> Vec<u16> {
+    let size = contents.picture.size();
+    let mut columns = vec![0; contents.range.depth * size.height];
+    for (at, number) in contents.map.iter().enumerate() {
+        let (row, column) = (at / size.width, at % size.width);
+        if *number > 0 {
+            // A side is at most 512.
+            columns[(usize::from(*number) - 1) * size.height + row] = column as u16;
+        }
+    }
+    columns
+}
+
+/// A line of the table.
+fn line<T: Display>(
+    number: &dyn Display,
+    cost: &dyn Display,
+    rest: impl Iterator<Item = T>,
+) -> String {
+    let mut text = format!("{number},{cost}");
+    for item in rest {
+        write!(text, ",{item}").expect("a string takes any text");
+    }
+    text + "\n"
+}

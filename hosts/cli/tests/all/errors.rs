@@ -1,0 +1,150 @@
+//! Refusals, wrong use, and files that can't be read or written.
+
+use crate::helpers::{Folder, FILE};
+
+#[test]
+fn a_refusal_names_file_number_and_meaning() {
+    let folder = Folder::new("refusal");
+    let text = String::from_utf8(FILE.to_vec()).unwrap();
+    folder.put(
+        "broken.multi",
+        text.replace("map 2 0 1", "map 1 0 2").as_bytes(),
+    );
+    let line = "multisize: broken.multi: refused (10): \
+        a recorded seam isn't connected in the picture left before it\n";
+    for command in ["check", "info", "table"] {
+        let ran = folder.run(&format!("{command} broken.multi"));
+        assert_eq!((ran.status, ran.error.as_str()), (1, line));
+        assert!(ran.out.is_empty());
+    }
+    for command in ["show broken.multi 2", "seams broken.multi"] {
+        let ran = folder.run(&format!("{command} -o out.pgm"));
+        assert_eq!((ran.status, ran.error.as_str()), (1, line));
+    }
+    assert_eq!(folder.names(), ["broken.multi"]);
+}
+
+#[test]
+fn refusals_by_number() {
+    let folder = Folder::worked("numbers");
+    folder.put("wide.pgm", b"P5\n513 1\n255\n");
+    folder.put("none.pgm", b"P5\n0 1\n255\n");
+    folder.put("short.pgm", b"P5\n3 2\n255\n.....");
+    for (line, number) in [
+        ("check picture.pgm", 1),
+        ("build picture.multi -o out", 1),
+        ("build none.pgm -o out", 2),
+        ("build wide.pgm -o out", 3),
+        ("build short.pgm -o out", 4),
+        ("build picture.pgm -o out --depth 3", 6),
+        ("build picture.pgm -o out --growth 2", 6),
+        ("show picture.multi 5 -o out", 7),
+        ("show picture.multi 0 -o out", 7),
+    ] {
+        let ran = folder.run(line);
+        assert_eq!(ran.status, 1, "{line}");
+        assert!(
+            ran.error.contains(&format!("refused ({number}): ")),
+            "{line}"
+        );
+    }
+}
+
+#[test]
+fn standard_input_has_a_name() {
+    let ran = Folder::new("named").run_with("check -", b"(multi\n");
+    assert_eq!(ran.status, 1);
+    assert!(ran
+        .error
+        .starts_with("multisize: standard input: refused (1): "));
+}
+
+#[test]
+fn what_stood_there_stays_after_a_refusal() {
+    let folder = Folder::worked("stays");
+    folder.put("out.pgm", b"before");
+    folder.run("show picture.multi 9 -o out.pgm");
+    assert_eq!(folder.get("out.pgm"), b"before");
+    folder.served("show picture.multi 1 -o out.pgm");
+    assert_eq!(folder.get("out.pgm"), b"P5\n1 2\n255\n\x0a\x0a");
+    assert_eq!(folder.names(), ["out.pgm", "picture.multi", "picture.pgm"]);
+}
+
+#[test]
+fn files_that_cannot_be_read_or_written() {
+    let folder = Folder::worked("unreadable");
+    std::fs::create_dir(folder.path("inside")).unwrap();
+    for (line, name) in [
+        ("check missing.multi", "missing.multi"),
+        ("check inside", "inside"),
+        ("show picture.multi 2 -o missing/out.pgm", "missing/out.pgm"),
+        ("show picture.multi 2 -o inside", "inside"),
+        ("show picture.multi 2 -o new/", "new/"),
+    ] {
+        let ran = folder.run(line);
+        assert_eq!(ran.status, 2, "{line}");
+        assert!(
+            ran.error.starts_with(&format!("multisize: {name}: ")),
+            "{line}"
+        );
+    }
+    assert_eq!(folder.names(), ["inside", "picture.multi", "picture.pgm"]);
+}
+
+#[cfg(target_os = "linux")]
+#[test]
+fn links_and_devices_stay_what_they_are() {
+    let folder = Folder::worked("links");
+    std::os::unix::fs::symlink("real.pgm", folder.path("link.pgm")).unwrap();
+    folder.put("real.pgm", b"before");
+    folder.served("show picture.multi 1 -o link.pgm");
+    assert!(folder.path("link.pgm").is_symlink());
+    assert_eq!(folder.get("real.pgm"), b"P5\n1 2\n255\n\x0a\x0a");
+    let full = folder.run("show picture.multi 1 -o /dev/full");
+    assert_eq!(full.status, 2);
+    assert!(full.error.starts_with("multisize: /dev/full: "));
+}
+
+#[test]
+fn wrong_use_is_told() {
+    let folder = Folder::worked("usage");
+    for (line, text) in [
+        ("", "no command is given"),
+        ("carve picture.pgm", "there is no command carve"),
+        ("check", "the file is missing"),
+        (
+            "check picture.multi picture.multi",
+            "picture.multi is too much",
+        ),
+        ("check picture.multi -o out", "there is no option -o here"),
+        ("build picture.pgm", "-o with the file to write is missing"),
+        ("build picture.pgm -o", "-o needs a value"),
+        ("build picture.pgm -o a -o b", "-o is given twice"),
+        ("build picture.pgm -o a --depth two", "--depth can't be two"),
+        ("show picture.multi -o a", "the width is missing"),
+        ("show picture.multi +2 -o a", "the width can't be +2"),
+        ("remove a b -o c --budget 65536", "--budget can't be 65536"),
+        (
+            "remove - - -o c",
+            "picture and marks can't both come from standard input",
+        ),
+    ] {
+        let ran = folder.run(line);
+        let told = format!("multisize: {text} (multisize --help says more)\n");
+        assert_eq!((ran.status, ran.error), (2, told), "{line}");
+    }
+    assert_eq!(folder.names(), ["picture.multi", "picture.pgm"]);
+}
+
+#[test]
+fn help_and_version() {
+    let folder = Folder::new("help");
+    let help = folder.served("--help");
+    for command in [
+        "build", "check", "info", "show", "seams", "table", "remove", "retarget",
+    ] {
+        assert!(help.contains(&format!("multisize {command} ")));
+    }
+    assert_eq!(folder.served("build --help"), help);
+    assert_eq!(folder.served("--version"), "multisize 0.1.0\n");
+}
