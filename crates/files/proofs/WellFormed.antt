@@ -18,7 +18,8 @@ use Rattle.maps.proofs.Judged.{judged-is, chosen-only}
 use Rattle.maps.proofs.Shown.{allowed-is}
 use Rattle.form.specs.Files.{Parts, parse}
 use Rattle.finding.specs.Seams.{seamUp, seamOf}
-use Rattle.finding.proofs.Characterised.{IsSeam, seam-is, seam-some}
+use Rattle.finding.specs.Chosen.{IsSeam}
+use Rattle.finding.proofs.Characterised.{seam-is, seam-some}
 use Rattle.mapping.proofs.Choosing.{seam-chooses}
 use Rattle.files.specs.Rules.{partRules, judgedRules, checkRules}
 use Rattle.files.specs.Shows.{Accepted}

@@ -1,4 +1,4 @@
--- What the seams found are, said of lists of columns alone, without an order of listing.
+-- The seams found are those that `Chosen` describes, and no others.
 use mathlib.Core.Path.{_≡_, refl, sym, ap, _∙_}
 use mathlib.Core.Logic.{_⊎_, inl, inr, ⊎-elim, _↔_}
 use mathlib.Core.Bool.{Bool, true, false, cond}
@@ -20,26 +20,7 @@ use Rattle.cheapest.proofs.Marks.{allowed-is, allowed-none, unmarked}
 use Rattle.energy.specs.Pictures.{Picture}
 use Rattle.energy.specs.Energy.{energy}
 use Rattle.finding.specs.Seams.{seamUp, seamOf, costOf, markAt, isMark, markedUp, markedSeamOf, markedCostOf}
-
--- A connected path, none is cheaper, and each other that costs the same comes after it, read from the bottom row upward.
-pub record IsSeam (w h : ℕ) (p : Picture) (s : List ℕ) : Type 0 where
-  pub path : IsPath w h s
-  pub cheap : (t : List ℕ) → IsPath w h t → along (energy p) s ≤ along (energy p) t
-  pub early : (t : List ℕ) → IsPath w h t → along (energy p) t ≡ along (energy p) s → (t ≡ s) ⊎ Before s t
-
--- A path, from the bottom row upward, that touches a protected pixel.
-abbrev pub Touches : List (List ℕ) → List ℕ → Type 0
-Touches m [] = ⊥
-Touches m (c ∷ q) = (markAt m (length q) c ≡ 1) ⊎ Touches m q
-
--- A connected path that touches no protected pixel; none of these has more pixels marked 2; none of those with as many is
--- cheaper; and each other of those that costs the same comes after it.
-pub record IsMarkedSeam (w h : ℕ) (p : Picture) (m : List (List ℕ)) (s : List ℕ) : Type 0 where
-  pub path : IsPath w h s
-  pub free : Touches m s → ⊥
-  pub most : (t : List ℕ) → IsPath w h t → (Touches m t → ⊥) → along (isMark 2 m) t ≤ along (isMark 2 m) s
-  pub cheap : (t : List ℕ) → IsPath w h t → (Touches m t → ⊥) → along (isMark 2 m) t ≡ along (isMark 2 m) s → along (energy p) s ≤ along (energy p) t
-  pub early : (t : List ℕ) → IsPath w h t → (Touches m t → ⊥) → along (isMark 2 m) t ≡ along (isMark 2 m) s → along (energy p) t ≡ along (energy p) s → (t ≡ s) ⊎ Before s t
+use Rattle.finding.specs.Chosen.{IsSeam, Touches, IsMarkedSeam}
 
 -- A path touches a protected pixel just where it has one.
 touched : (m : List (List ℕ)) (q : List ℕ) → Touches m q → 0 < along (isMark 1 m) q

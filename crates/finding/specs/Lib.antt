@@ -1,3 +1,4 @@
 pub mod Seams
+pub mod Chosen
 pub mod Finding
 pub mod Kernels
