@@ -1,7 +1,6 @@
 -- "The multi-size file": what stands in the file of a picture.
 use mathlib.Core.List.{List}
 use Prim.Native.Nat.{ℕ}
-use Rattle.energy.specs.declared.pictures.Size.{Size}
 use Rattle.energy.specs.Pictures.{Picture}
 use Rattle.maps.specs.Maps.{mapOf}
 use Rattle.form.specs.declared.Head.{Head}

@@ -3,14 +3,14 @@ use mathlib.Core.Path.{_≡_}
 use mathlib.Core.Bool.{cond}
 use mathlib.Core.Option.{Option, none, some}
 use mathlib.Core.List.{List, [], _∷_, _++_}
-use Prim.Native.Nat.{ℕ, zero, suc, _+_, _≤_}
+use Prim.Native.Nat.{ℕ, _+_, _≤_}
 use lib.Dec.{eqb}
 use lib.ListN.{length}
 use Rattle.energy.specs.declared.pictures.Kind.{Kind}
 use Rattle.energy.specs.declared.pictures.Kind.the-variants.{Grey, Rgb}
 use Rattle.energy.specs.Pictures.{Picture, channelsOf}
 use Rattle.form.specs.declared.Head.{Head}
-use Rattle.form.specs.Readers.{Get, give, on, _▷_, behind, after, many}
+use Rattle.form.specs.Readers.{Get, give, _▷_, after, many}
 use Rattle.form.specs.Decimal.{digits, number}
 
 -- What a file holds: "size: width, height, kind. Range: depth, growth. Then n rows of samples and n rows of map." The

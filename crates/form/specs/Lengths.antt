@@ -1,6 +1,6 @@
 -- The length of a text, from its sizes, samples and numbers.
 use mathlib.Core.List.{List, [], _∷_}
-use Prim.Native.Nat.{ℕ, zero, suc, _+_}
+use Prim.Native.Nat.{ℕ, suc, _+_}
 use lib.ListN.{length}
 use Rattle.energy.specs.declared.pictures.Kind.{Kind}
 use Rattle.energy.specs.declared.pictures.Kind.the-variants.{Grey, Rgb}

@@ -1,7 +1,7 @@
 -- Readers: a reader takes a value off the front of a list of bytes and gives it with the bytes that are left, or refuses.
 use mathlib.Core.Bool.{cond}
 use mathlib.Core.Option.{Option, none, some}
-use mathlib.Core.List.{List, [], _∷_, _++_}
+use mathlib.Core.List.{List, [], _∷_}
 use Prim.Native.Nat.{ℕ, zero, suc}
 use lib.Dec.{eqb}
 use lib.ListN.{length}

@@ -3,13 +3,13 @@ use mathlib.Core.Path.{_≡_}
 use mathlib.Core.Bool.{Bool, true, _&&_, cond}
 use mathlib.Core.Option.{Option, none, some}
 use mathlib.Core.List.{List, [], _∷_, map}
-use Prim.Native.Nat.{ℕ, _+_, _≤_, _<_}
+use Prim.Native.Nat.{ℕ, _≤_, _<_}
 use lib.Dec.{leb, eqb}
 use lib.ListN.{length, drop}
 use Rattle.energy.specs.declared.pictures.Kind.{Kind}
-use Rattle.energy.specs.declared.pictures.Kind.the-variants.{Grey, Rgb}
+use Rattle.energy.specs.declared.pictures.Kind.the-variants.{Rgb}
 use Rattle.form.specs.declared.Head.{Head}
-use Rattle.form.specs.Readers.{Get, give, on, _▷_, after}
+use Rattle.form.specs.Readers.{Get, give, _▷_}
 use Rattle.form.specs.Decimal.{number, isDigit}
 use Rattle.form.specs.Files.{Parts, either, kindGet, items, pixel}
 use Rattle.text.specs.declared.cursor.Class.{Class}

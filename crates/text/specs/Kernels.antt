@@ -8,7 +8,7 @@ use lib.Dec.{ltb}
 use lib.ListN.{length, drop}
 use Rattle.energy.specs.declared.pictures.Kind.{Kind}
 use Rattle.energy.specs.declared.pictures.Kind.the-variants.{Grey, Rgb}
-use Rattle.form.specs.Readers.{Get, give, on, _▷_, after, many}
+use Rattle.form.specs.Readers.{Get, give, _▷_, after, many}
 use Rattle.form.specs.Decimal.{number, isDigit}
 use Rattle.form.specs.Files.{lineEnd, closed, rowWord, mapWord, headGet}
 use Rattle.text.specs.declared.forms.Items.{Items}

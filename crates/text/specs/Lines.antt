@@ -8,7 +8,7 @@ use lib.Dec.{leb}
 use lib.ListN.{length, drop}
 use Rattle.grids.specs.Rows.{flat}
 use Rattle.energy.specs.declared.pictures.Kind.{Kind}
-use Rattle.form.specs.Readers.{Get, give, on, _▷_, after}
+use Rattle.form.specs.Readers.{Get, give, _▷_, after}
 use Rattle.form.specs.Decimal.{number}
 use Rattle.form.specs.Files.{rowWord, mapWord, pixel, line}
 use Rattle.text.specs.Answers.{Told, counted}
