@@ -1,15 +1,15 @@
 -- Decimal numbers: `number` reads what `digits` prints.
-use mathlib.Core.Path.{_≡_, refl, sym, ap, _∙_}
+use mathlib.Core.Path.{_≡_, refl, ap, _∙_}
 use mathlib.Core.Bool.{Bool, true, false, _&&_, cond}
-use mathlib.Core.Option.{Option, none, some, Option·none-ne-some}
+use mathlib.Core.Option.{none, some, Option·none-ne-some}
 use mathlib.Core.List.{List, [], _∷_, _++_, append-assoc}
 use Prim.Native.Nat.{ℕ, zero, suc, _+_, _-_, _*_, _/_, _%_, _≤_, _<_}
 use native.Mathlib.Nat.{div-lt-self, div-add-mod', mod-lt}
 use native.Mathlib.Omega.{arith}
 use lib.Arith.{digits-div, digits-mod}
 use lib.Dec.{leb, ltb, eqb}
-use borrow.Author.Tests.{ltb-true, ltb-false, lt-ltb, le-ltb, leb-true, leb-false, le-leb, lt-leb, eqb-true, eqb-false, eq-eqb, ne-eqb}
-use Rattle.form.specs.Readers.{Get}
+use lib.ListN.{length, length-append}
+use borrow.Author.Tests.{ltb-true, ltb-false, lt-ltb, le-ltb, leb-true, le-leb, eqb-true, eqb-false, ne-eqb}
 use Rattle.form.specs.Decimal.{digitsUpTo, digits, isDigit, further, upTo, number}
 use Rattle.form.proofs.Pairs.{Reads}
 
@@ -42,6 +42,13 @@ digits-small n h = rw (lt-ltb n 10 h)
 pub digits-large : (n : ℕ) → 10 ≤ n → digits n ≡ digits (n / 10) ++ (48 + n % 10) ∷ []
 unfolding digits digitsUpTo
 digits-large n h = let l = tenth n h in rw (le-ltb n 10 h, digits-same n (suc (n / 10)) (n / 10) l (omega arith))
+
+-- How many there are.
+pub length-small : (n : ℕ) → n < 10 → length (digits n) ≡ 1
+length-small n h = rw (digits-small n h)
+
+pub length-large : (n : ℕ) → 10 ≤ n → length (digits n) ≡ length (digits (n / 10)) + 1
+length-large n h = rw (digits-large n h, length-append)
 
 pub digits-step : (q d : ℕ) → 0 < q → d < 10 → digits (q * 10 + d) ≡ digits q ++ (48 + d) ∷ []
 digits-step q d p h = digits-large (q * 10 + d) (omega arith) ∙ rw (digits-div q h, digits-mod q h)

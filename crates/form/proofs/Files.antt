@@ -3,28 +3,25 @@ use mathlib.Core.Path.{_≡_, refl, sym, ap, _∙_}
 use mathlib.Core.Bool.{Bool, true, false, cond}
 use mathlib.Core.Option.{Option, none, some, Option·none-ne-some}
 use mathlib.Core.List.{List, [], _∷_, _++_, append-assoc, append-nil}
-use Prim.Native.Nat.{ℕ, zero, suc, _+_, _≤_, _<_}
+use Prim.Native.Nat.{ℕ, suc, _+_, _≤_}
 use native.Mathlib.Omega.{arith}
 use lib.Dec.{eqb}
 use lib.ListN.{length}
 use borrow.Author.Tests.{eqb-true, eq-eqb}
-use Rattle.form.specs.Readers.{Get, give, on, _▷_, strip, behind, after, many}
+use Rattle.form.specs.Readers.{Get, give, _▷_, strip, after, many}
 use Rattle.form.specs.Decimal.{digits, isDigit, number}
+use Rattle.grids.proofs.Shapes.{Any}
 use Rattle.energy.specs.declared.pictures.Kind.{Kind}
 use Rattle.energy.specs.declared.pictures.Kind.the-variants.{Grey, Rgb}
-use Rattle.energy.specs.Pictures.{channelsOf}
 use Rattle.form.specs.declared.Head.{Head}
 use Rattle.form.specs.Files.{Parts, lineEnd, blank, opening, closing, start, range, closed, rowWord, mapWord, greyWord, rgbWord, each, joined, kindText, pixelText, lineText, headText, text, either, kindGet, items, three, pixel, line, headGet, file, ended, whole, parse, All, Pixel, Numbers, Within}
-use Rattle.form.proofs.Pairs.{Reads, strip-back, on-inv, after-back, after-inv, Sounds, give-sounds, after-sounds, then-sounds, soundly}
+use Rattle.form.proofs.Pairs.{Reads, strip-back, on-inv, after-inv, Sounds, give-sounds, after-sounds, then-sounds, soundly}
 use Rattle.form.proofs.Many.{many-reads}
 use Rattle.form.proofs.Decimals.{clear, number-reads}
 
 line-end : closed ≡ closing ++ lineEnd
 unfolding closed closing lineEnd
 line-end = refl
-
-abbrev Any : List ℕ → Type 0
-Any t = Unit
 
 module _ {A : Type 0} {ok : A → Type 0} {put : A → List ℕ} {stop : List ℕ → Type 0} {g : Get A} (R : Reads ok put stop g) (again : (t : List ℕ) → stop (blank ++ t)) (last : (t : List ℕ) → stop (closing ++ t)) where
   M : Reads (All ok) (each blank put) (λ t. (strip blank t ≡ none) × stop t) (many blank g)
@@ -117,13 +114,18 @@ unfolding kindGet kindText greyWord rgbWord strip
 kind-back Grey t = refl
 kind-back Rgb t = refl
 
+-- One of two values, each by its text.
+pub either-sound : {A : Type 0} (put : A → List ℕ) (a b : A) (s : List ℕ) (r : A × List ℕ)
+    → either (after (put a) (give a) s) (after (put b) (give b) s) ≡ some r → s ≡ put (r .0) ++ (r .1)
+either-sound {A} put a b s r h = go (after (put a) (give a) s) refl h
+  where
+    go : (o : Option (A × List ℕ)) → after (put a) (give a) s ≡ o → either o (after (put b) (give b) s) ≡ some r → s ≡ put (r .0) ++ (r .1)
+    go (some q) e h = let p = after-inv (put a) (give a) s r (e ∙ h) in let z : r ≡ (a, p .0) = cc (p .2) in rw z (p .1)
+    go none e h = let p = after-inv (put b) (give b) s r h in let z : r ≡ (b, p .0) = cc (p .2) in rw z (p .1)
+
 kind-sound : (s : List ℕ) (r : Kind × List ℕ) → kindGet s ≡ some r → s ≡ kindText (r .0) ++ (r .1)
 unfolding kindGet kindText
-kind-sound s r h = go (after greyWord (give Grey) s) refl h
-  where
-    go : (o : Option (Kind × List ℕ)) → after greyWord (give Grey) s ≡ o → either o (after rgbWord (give Rgb) s) ≡ some r → s ≡ kindText (r .0) ++ (r .1)
-    go (some q) e h = let p = after-inv greyWord (give Grey) s r (e ∙ h) in let z : r ≡ (Grey, p .0) = cc (p .2) in rw z (p .1)
-    go none e h = let p = after-inv rgbWord (give Rgb) s r h in let z : r ≡ (Rgb, p .0) = cc (p .2) in rw z (p .1)
+kind-sound = either-sound kindText Grey Rgb
 
 pub kind-reads : Reads (λ k. Unit) kindText Any kindGet
 kind-reads = record { back = λ k u t v. kind-back k t; sound = λ s r h. (kind-sound s r h, tt) }
@@ -218,6 +220,14 @@ parse-sound s p h = go (file s) refl h
     go : (o : Option (Parts × List ℕ)) → file s ≡ o → whole o ≡ some p → (text p ≡ s) × Within p
     go none e h = absurd (Option·none-ne-some _ h)
     go (some r) e h = last r (r .1) refl e h
+
+-- What is read begins with the lines of its size and range.
+pub parse-head : (s : List ℕ) (p : Parts) → parse s ≡ some p → (t : List ℕ) × (headGet s ≡ some (p .head, t))
+unfolding text
+parse-head s p h =
+    let r = parse-sound s p h in
+    let t : List ℕ = each rowWord (lineText (pixelText (p .head .size .kind))) (p .rows) ++ (each mapWord (lineText digits) (p .maps) ++ closed) in
+    (t, ap headGet (sym (r .0)) ∙ head-reads .back (p .head) (r .1 .head) t tt)
 
 -- So no text belongs to two parts.
 pub text-injective : (p q : Parts) → Within p → Within q → text p ≡ text q → p ≡ q

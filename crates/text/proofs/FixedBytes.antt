@@ -1,15 +1,14 @@
 -- Fixed bytes at a place of a text.
-use mathlib.Core.Path.{_≡_, refl, sym, ap, _∙_}
+use mathlib.Core.Path.{_≡_, refl, sym, _∙_}
 use mathlib.Core.Option.{Option, none, some}
-use mathlib.Core.List.{List, [], _∷_, _++_, map}
-use Prim.Native.Nat.{ℕ, zero, suc, _+_, _-_, _*_, _≤_, _<_}
+use mathlib.Core.List.{List, [], _∷_}
+use Prim.Native.Nat.{ℕ, _+_, _≤_, _<_}
 use native.Mathlib.Omega.{arith}
-use lib.Dec.{eqb}
-use lib.ListN.{length, getD, drop, drop-of-length-le, length-map}
+use lib.ListN.{length, getD, drop, drop-of-length-le}
 use borrow.Author.Tests.{eq-eqb, ne-eqb}
-use Rattle.form.specs.Readers.{Get, give, on, _▷_, strip, behind, after, next, manyUpTo, many}
+use Rattle.form.specs.Readers.{strip}
 use Rattle.form.proofs.Pairs.{front}
-use Rattle.text.specs.Answers.{given, ahead, Told}
+use Rattle.text.specs.Answers.{Told, skipping}
 use Rattle.text.specs.Kernels.{passing}
 
 -- The state of the loop that compares: i bytes of w were found.
@@ -42,3 +41,17 @@ module _ {w text : List ℕ} {start : ℕ} where
     pub matching-end : length w ≤ i → 0 < length w → Told (passing w) text start (some (0, at))
     unfolding strip
     matching-end h p = record { same = rw (M .same, drop-of-length-le w h); moved = (omega (arith, M .sum), M .inside (omega arith)) }
+
+-- Where there is a byte, they are the bytes; where there is none, nothing is found.
+pub skipping-some : (w : List ℕ) → 0 < length w → skipping w ≡ passing w
+unfolding skipping
+skipping-some [] h = absurd (omega arith)
+skipping-some (b ∷ w) h = refl
+
+pub skipped : (w : List ℕ) {text : List ℕ} {at : ℕ} {found : Option (ℕ × ℕ)} → 0 < length w → Told (skipping w) text at found → Told (passing w) text at found
+skipped w h t = rw (skipping-some w h) at t
+
+pub skipping-none : (w text : List ℕ) (at : ℕ) → length w ≡ 0 → Told (skipping w) text at none
+unfolding skipping
+skipping-none [] text at h = record { same = refl; moved = tt }
+skipping-none (b ∷ w) text at h = absurd (omega arith)

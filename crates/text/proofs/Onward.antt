@@ -2,8 +2,8 @@
 use mathlib.Core.Path.{_≡_, refl, sym, ap, _∙_}
 use mathlib.Core.Bool.{Bool, true, false, _&&_}
 use mathlib.Core.Option.{Option, none, some, Option·none-ne-some, Option·some-injective}
-use mathlib.Core.List.{List, [], _∷_, _++_, map}
-use Prim.Native.Nat.{ℕ, zero, suc, _+_, _-_, _≤_, _<_}
+use mathlib.Core.List.{List, _∷_}
+use Prim.Native.Nat.{ℕ, suc, _+_, _≤_, _<_}
 use native.Mathlib.Nat.{add-zero, zero-add}
 use native.Mathlib.Omega.{arith}
 use lib.Dec.{eqb}
@@ -14,10 +14,10 @@ use Rattle.form.specs.Readers.{Get, give, on, _▷_, strip, behind, after, next
 use Rattle.form.specs.Decimal.{number}
 use Rattle.energy.specs.declared.pictures.Kind.{Kind}
 use Rattle.energy.specs.declared.pictures.Kind.the-variants.{Grey, Rgb}
-use Rattle.form.specs.Files.{greyWord, rgbWord, lineEnd, items, either, kindGet, pixel}
+use Rattle.form.specs.Files.{greyWord, rgbWord, lineEnd, either, kindGet}
 use Rattle.text.specs.Answers.{given, Told, counted, formOf, evenly}
-use Rattle.text.specs.Kernels.{passing, lineRest, numberedOf, Reached, stays, linesOf}
-use Rattle.form.proofs.Pairs.{Reads, short, strip-shorter, on-inv, after-inv}
+use Rattle.text.specs.Kernels.{passing, lineRest, numberedOf, Reached, linesOf}
+use Rattle.form.proofs.Pairs.{short, on-inv, after-inv}
 use Rattle.form.proofs.Many.{many-next}
 use Rattle.form.proofs.Decimals.{number-reads}
 use Rattle.form.proofs.Files.{items-reads, pixel-reads, clear-blank, clear-closing}
@@ -78,19 +78,31 @@ module _ {B : Type 0} {whole : Get B} {text : List ℕ} {from : ℕ} where
   pub left-give : {b : B} {at : ℕ} → from < at → at ≤ length text → Left whole text from (give b) at → Told whole text from (some (b, at))
   left-give h k L = record { same = L .same; moved = (h, k) }
 
+-- One of two words, each for a value.
+module _ {A : Type 0} (v w : List ℕ) (a b : A) {text : List ℕ} {at : ℕ} where
+  pub word-first : {n c : ℕ} → Told (passing v) text at (some (n, c)) → Told (λ s. either (after v (give a) s) (after w (give b) s)) text at (some (a, c))
+  word-first {n} {c} t = record { same = rw (passing-some v (drop at text) n (drop c text) (t .same)); moved = t .moved }
+
+  module _ (none-first : Told (passing v) text at none) where
+    pub word-second : {n c : ℕ} → Told (passing w) text at (some (n, c)) → Told (λ s. either (after v (give a) s) (after w (give b) s)) text at (some (b, c))
+    word-second {n} {c} t = record { same = rw (passing-none v (drop at text) (none-first .same), passing-some w (drop at text) n (drop c text) (t .same)); moved = t .moved }
+
+    pub word-neither : Told (passing w) text at none → Told (λ s. either (after v (give a) s) (after w (give b) s)) text at none
+    word-neither t = record { same = rw (passing-none v (drop at text) (none-first .same), passing-none w (drop at text) (t .same)); moved = tt }
+
 -- The word of a kind.
 module _ {text : List ℕ} {at : ℕ} where
   pub kind-grey : {v c : ℕ} → Told (passing greyWord) text at (some (v, c)) → Told kindGet text at (some (Grey, c))
   unfolding kindGet
-  kind-grey {v} {c} t = record { same = rw (passing-some greyWord (drop at text) v (drop c text) (t .same)); moved = t .moved }
+  kind-grey t = word-first greyWord rgbWord Grey Rgb t
 
   pub kind-rgb : {v c : ℕ} → Told (passing greyWord) text at none → Told (passing rgbWord) text at (some (v, c)) → Told kindGet text at (some (Rgb, c))
   unfolding kindGet
-  kind-rgb {v} {c} n t = record { same = rw (passing-none greyWord (drop at text) (n .same), passing-some rgbWord (drop at text) v (drop c text) (t .same)); moved = t .moved }
+  kind-rgb n t = word-second greyWord rgbWord Grey Rgb n t
 
   pub kind-none : Told (passing greyWord) text at none → Told (passing rgbWord) text at none → Told kindGet text at none
   unfolding kindGet
-  kind-none n t = record { same = rw (passing-none greyWord (drop at text) (n .same), passing-none rgbWord (drop at text) (t .same)); moved = tt }
+  kind-none n t = word-neither greyWord rgbWord Grey Rgb n t
 
 -- The rest of a line leaves no more than it was given.
 count-short : {A : Type 0} (g : Get (List A)) → ((s : List ℕ) (r : List A × List ℕ) → g s ≡ some r → length (r .1) ≤ length s) → (s : List ℕ) (r : ℕ × List ℕ) → counted g s ≡ some r → length (r .1) ≤ length s

@@ -9,7 +9,7 @@ use lib.ListN.{length, drop}
 use Rattle.energy.specs.declared.pictures.Kind.{Kind}
 use Rattle.energy.specs.declared.pictures.Kind.the-variants.{Rgb}
 use Rattle.form.specs.declared.Head.{Head}
-use Rattle.form.specs.Readers.{Get, give, _▷_}
+use Rattle.form.specs.Readers.{Get, give, _▷_, after}
 use Rattle.form.specs.Decimal.{number, isDigit}
 use Rattle.form.specs.Files.{Parts, either, kindGet, items, pixel}
 use Rattle.text.specs.declared.cursor.Class.{Class}
@@ -74,6 +74,11 @@ abbrev pub wordRead : Word → Option (Written × ℕ)
 wordRead (words.Number n c) = some (numeral n, c .at)
 wordRead (words.Name k c) = some (name k, c .at)
 wordRead words.Broken = none
+
+-- The bytes w; where there is none, nothing is found.
+unfoldable pub skipping : List ℕ → Get ℕ
+skipping [] = λ s. none
+skipping (b ∷ w) = after (b ∷ w) (give 0)
 
 -- How many values a reader reads.
 unfoldable pub counted : {A : Type 0} → Get (List A) → Get ℕ

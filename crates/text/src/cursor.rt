@@ -3,7 +3,7 @@ ghost use mathlib.Core.Path.{_≡_};
 ghost use Prim.Native.Nat.{_-_, _≤_, _<_};
 ghost use lib.ListN.{length};
 ghost use Rattle.form.specs.Decimal.{number};
-ghost use Rattle.text.specs.Answers.{Told, read, classOf};
+ghost use Rattle.text.specs.Answers.{Told, read, classOf, skipping};
 ghost use Rattle.text.specs.Kernels.{passing, within};
 
 pub struct Cursor {
@@ -91,7 +91,17 @@ impl Cursor {
         judged(n, at)
     }
 
-    // Past the bytes w, if they stand here.
+    // Past the bytes w, if they stand here. Where w has no byte, nothing is found.
+    pub fn skip(self, text: &[u8], w: &[u8]) -> Read
+        ensures { λ r. ⌜ Told (skipping (now (w .entry))) (now (text .entry)) (self .at) (read r) ⌝ }
+    {
+        if w.len() == 0 {
+            return Read::Broken;
+        }
+        self.past(text, w)
+    }
+
+    // The same where w is known to have a byte.
     pub(crate) fn past(self, text: &[u8], w: &[u8]) -> Read
         requires { ⌜ 0 < length (now w) ⌝ }
         ensures { λ r. ⌜ Told (passing (now (w .entry))) (now (text .entry)) (self .at) (read r) ⌝ }
