@@ -1,7 +1,8 @@
 -- Printing: bytes written one behind the other are one text.
 use mathlib.Core.Path.{_≡_, refl, sym, ap, _∙_}
+use mathlib.Core.Option.{some, Option·none-ne-some, Option·some-injective}
 use mathlib.Core.List.{List, [], _∷_, _++_, append-assoc, append-nil}
-use Prim.Native.Nat.{ℕ, zero, suc, _+_, _-_, _*_, _/_, _%_, _≤_, _<_}
+use Prim.Native.Nat.{ℕ, suc, _+_, _/_, _%_, _≤_, _<_}
 use native.Mathlib.Nat.{add-zero}
 use native.Mathlib.Numerals.{add-one}
 use native.Mathlib.Omega.{arith}
@@ -12,19 +13,14 @@ use Rattle.form.specs.declared.Head.{Head}
 use Rattle.form.specs.Decimal.{digits}
 use Rattle.form.specs.Files.{blank, start, range, closed, mapWord, each, kindText, lineText, headText, mapText}
 use Rattle.form.proofs.Decimals.{digits-small, digits-large}
+use Rattle.printing.specs.declared.lines.Place.{Place}
 use Rattle.printing.specs.declared.lines.Place.the-variants as places
-use Rattle.printing.specs.Prints.{Put, Printed}
+use Rattle.printing.specs.Prints.{placeRead, Put, Printed}
 use Rattle.printing.specs.Kernels.{pairText}
 
 sets-append : (vs ws l : List ℕ) (i : ℕ) → sets l i (vs ++ ws) ≡ sets (sets l i vs) (i + length vs) ws
 sets-append [] ws l i = rw add-zero
 sets-append (a ∷ vs) ws l i = let z : i + suc (length vs) ≡ suc i + length vs = omega arith in sets-append vs ws (set l i a) (suc i) ∙ rw z
-
-pub length-small : (n : ℕ) → n < 10 → length (digits n) ≡ 1
-length-small n h = rw (digits-small n h)
-
-pub length-large : (n : ℕ) → 10 ≤ n → length (digits n) ≡ length (digits (n / 10)) + 1
-length-large n h = rw (digits-large n h, length-append)
 
 -- The last digit behind the others.
 pub sets-digit : (l : List ℕ) (at n : ℕ) → 10 ≤ n → sets l at (digits n) ≡ set (sets l at (digits (n / 10))) (at + length (digits (n / 10))) (48 + n % 10)
@@ -126,3 +122,28 @@ put-done {out} {at} {bytes} {out′} {end} h P = record {
   answer = rw (le-leb (at + length bytes) (length out) h, P .behind);
   space = rw (le-leb (at + length bytes) (length out) h) (P .same ∙ sets-eq bytes out at h ∙ append-assoc (take at out) bytes (drop (at + length bytes) out));
 }
+
+-- What a printer gives where there is room.
+module _ {out : List ℕ} {at : ℕ} {bytes : List ℕ} {place : Place} {out′ : List ℕ} (put : Put out at bytes place out′) (room : at + length bytes ≤ length out) where
+  answer-is : placeRead place ≡ some (at + length bytes)
+  answer-is = put .answer ∙ rw (le-leb (at + length bytes) (length out) room)
+
+  space-is : out′ ≡ sets out at bytes
+  space-is =
+      put .space ∙ (rw (le-leb (at + length bytes) (length out) room) (refl))
+      ∙ sym (sets-eq bytes out at room ∙ append-assoc (take at out) bytes (drop (at + length bytes) out))
+
+  pub never-short : place ≡ places.Short → ⊥
+  never-short e = Option·none-ne-some (at + length bytes) (sym (ap placeRead e) ∙ answer-is)
+
+  pub printed-next : {n : ℕ} → place ≡ places.Next n → Printed out at bytes out′ n
+  printed-next {n} e = record {
+    same = space-is;
+    behind = Option·some-injective n (at + length bytes) (sym (ap placeRead e) ∙ answer-is);
+  }
+
+-- What is printed at the front of a space.
+pub printed-front : {out out′ : List ℕ} (done : List ℕ) {n : ℕ} → Printed out 0 done out′ n → length done ≤ length out → out′ ≡ done ++ drop (length done) out
+printed-front {out} done P h =
+    let e : 0 + length done ≡ length done = omega arith in
+    P .same ∙ sets-eq done out 0 (omega (arith, h)) ∙ rw e

@@ -138,14 +138,35 @@ pub fn print_head(out: &mut [u8], at: usize, head: Head) -> Place
 pub fn print_end(out: &mut [u8], at: usize) -> Place
     ensures { λ p. ⌜ Put (now (out .entry)) at closed p (now (out .exit)) ⌝ }
 {
+    print_bytes(out, at, b")\n")
+}
+
+// Prints the bytes w.
+pub fn print_bytes(out: &mut [u8], at: usize, w: &[u8]) -> Place
+    ensures { λ p. ⌜ Put (now (out .entry)) at (now (w .entry)) p (now (out .exit)) ⌝ }
+{
     let len = out.len();
     if len < at {
         return Place::Short;
     }
-    if len - at < 2 {
+    if len - at < w.len() {
         return Place::Short;
     }
-    Place::Next(put_bytes(out, at, b")\n"))
+    Place::Next(put_bytes(out, at, w))
+}
+
+// Prints the digits of a number.
+pub fn print_number(out: &mut [u8], at: usize, n: usize) -> Place
+    ensures { λ p. ⌜ Put (now (out .entry)) at (digits n) p (now (out .exit)) ⌝ }
+{
+    let len = out.len();
+    if len < at {
+        return Place::Short;
+    }
+    if len - at < lengths::digit_count(n) {
+        return Place::Short;
+    }
+    Place::Next(put_number(out, at, n))
 }
 
 // Writes pixel i behind a blank.

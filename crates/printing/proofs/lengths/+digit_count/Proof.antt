@@ -1,8 +1,7 @@
 -- `printing::lengths::digit_count` meets its contract.
 use native.Mathlib.Omega.{arith}
-use mathlib.Core.Path.{_≡_, sym, _∙_}
-use Rattle.form.proofs.Decimals.{tenth}
-use Rattle.printing.proofs.Written.{length-small, length-large}
+use mathlib.Core.Path.{sym}
+use Rattle.form.proofs.Decimals.{tenth, length-small, length-large}
 use borrow.Author.Needs.{needs}
 use Prim.Native.Nat.{ℕ, _<_}
 use borrow.Fn.Kinds.{In}

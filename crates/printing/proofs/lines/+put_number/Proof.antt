@@ -1,8 +1,8 @@
 -- `printing::lines::put_number` meets its contract.
 use native.Mathlib.Omega.{arith}
-use mathlib.Core.Path.{_≡_, sym, ap, _∙_}
-use Rattle.form.proofs.Decimals.{tenth}
-use Rattle.printing.proofs.Written.{length-small, length-large, sets-small, sets-digit}
+use mathlib.Core.Path.{sym}
+use Rattle.form.proofs.Decimals.{tenth, length-small, length-large}
+use Rattle.printing.proofs.Written.{sets-small, sets-digit}
 use borrow.Author.Needs.{needs}
 use Prim.Native.Nat.{ℕ, _<_}
 use borrow.Fn.Kinds.{In}

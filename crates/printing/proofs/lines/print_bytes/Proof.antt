@@ -1,0 +1,24 @@
+-- `printing::lines::print_bytes` meets its contract.
+use native.Mathlib.Omega.{arith}
+use Rattle.printing.proofs.Written.{put-short, put-done}
+use borrow.Author.Needs.{needs}
+use Rattle.printing.proofs.lines.print_bytes.Statement.{statement}
+use Rattle.printing.proofs.lines.print_bytes.Tie as tie
+
+returns : tie.Need-returns
+returns c = put-short (omega (arith, c .if1 .taken))
+
+returns-2 : tie.Need-returns-2
+returns-2 c = put-short (omega (arith, c .before .if1 .left, c .if2 .taken))
+
+put-bytes-requires : tie.Need-put-bytes-requires
+put-bytes-requires c κs = search needs
+
+same-length : tie.Need-same-length
+same-length c = search needs
+
+returns-3 : tie.Need-returns-3
+returns-3 c = put-done (omega (arith, c .before .before .before .before .before .if1 .left, c .before .before .before .before .if2 .left)) (c .before .before .put-bytes .ensures)
+
+pub print-bytes-spec : {M : Type 1} → statement M
+print-bytes-spec = tie.close (tie.spec returns returns-2 put-bytes-requires same-length returns-3)
