@@ -8,7 +8,7 @@ use native.Mathlib.Omega.{arith}
 use borrow.Author.Tests.{ltb-true, ltb-false, le-ltb, lt-leb, not-false}
 use lib.Dec.{leb, ltb}
 use lib.ListN.{length, take, drop, replicate}
-use lib.Seq.{sets-eq, take-at, take-length}
+use lib.Seq.{take-at, take-length}
 use Rattle.grids.specs.Rows.{flat}
 use Rattle.grids.proofs.Shapes.{grid-of}
 use Rattle.grids.proofs.Parts.{part-length}
@@ -31,6 +31,7 @@ use Rattle.mapping.specs.Mapping.{mapBytes, mapAt, mapInRules, mapped, MapGiven
 use Rattle.mapping.proofs.Choosing.{seam-chooses}
 use Rattle.mapping.proofs.Steps.{take-map}
 use Rattle.printing.specs.Prints.{Printed}
+use Rattle.printing.proofs.Written.{printed-front}
 use Rattle.files.specs.Contents.{fileOf}
 use Rattle.files.specs.Rules.{workRule}
 use Rattle.building.specs.Building.{fileIn}
@@ -137,9 +138,8 @@ module _ (b : List ℕ) (h : Head) (out work : List ℕ) (needed : BuildNeeded b
           pub file-given : (n : ℕ) (out′ work′ : List ℕ) → Printed out 0 (text (partsIn h b (take (end - at) (drop at two)))) out′ n → work′ ≡ replicate (length two) 0 → FileGiven b h out work n out′ work′
           file-given n out′ work′ p cleared =
               let q : Printed out 0 (fileIn h b) out′ n = rw text-is at p in
-              let e : 0 + length (fileIn h b) ≡ length (fileIn h b) = omega arith in
               record {
                 length-is = omega (arith, q .behind);
-                out-is = q .same ∙ sets-eq (fileIn h b) out 0 (omega (arith, rooms-are .out-room)) ∙ rw e;
+                out-is = printed-front (fileIn h b) q (rooms-are .out-room);
                 work-is = cleared ∙ ap (λ k. replicate k 0) (two-long ∙ one-long);
               }

@@ -1,37 +1,16 @@
 -- Lines printed one behind the other into a space that has room for all of them.
 use mathlib.Core.Path.{_≡_, refl, sym, ap, _∙_}
-use mathlib.Core.Option.{some, Option·none-ne-some, Option·some-injective}
-use mathlib.Core.List.{List, [], _∷_, _++_, append-assoc, append-nil}
+use mathlib.Core.List.{List, _++_, append-nil}
 use Prim.Native.Nat.{ℕ, _+_, _≤_, _<_}
 use native.Mathlib.Numerals.{add-one}
 use native.Mathlib.Omega.{arith}
-use borrow.Author.Tests.{le-leb}
 use lib.ListN.{length, getD, take, drop, length-append, take-append-drop}
-use lib.Seq.{sets, take-suc, take-all, sets-eq}
+use lib.Seq.{take-suc, take-all}
 use Rattle.form.specs.Files.{each}
 use Rattle.printing.specs.declared.lines.Place.{Place}
 use Rattle.printing.specs.declared.lines.Place.the-variants as places
-use Rattle.printing.specs.Prints.{Put, placeRead, Printed}
-use Rattle.printing.proofs.Written.{printed-more, printed-length, each-append}
-
--- What a printer gives where there is room.
-module _ {out : List ℕ} {at : ℕ} {bytes : List ℕ} {place : Place} {out′ : List ℕ} (put : Put out at bytes place out′) (room : at + length bytes ≤ length out) where
-  answer-is : placeRead place ≡ some (at + length bytes)
-  answer-is = put .answer ∙ rw (le-leb (at + length bytes) (length out) room)
-
-  space-is : out′ ≡ sets out at bytes
-  space-is =
-      put .space ∙ (rw (le-leb (at + length bytes) (length out) room) (refl))
-      ∙ sym (sets-eq bytes out at room ∙ append-assoc (take at out) bytes (drop (at + length bytes) out))
-
-  pub never-short : place ≡ places.Short → ⊥
-  never-short e = Option·none-ne-some (at + length bytes) (sym (ap placeRead e) ∙ answer-is)
-
-  pub printed-next : {n : ℕ} → place ≡ places.Next n → Printed out at bytes out′ n
-  printed-next {n} e = record {
-    same = space-is;
-    behind = Option·some-injective n (at + length bytes) (sym (ap placeRead e) ∙ answer-is);
-  }
+use Rattle.printing.specs.Prints.{Put, Printed}
+use Rattle.printing.proofs.Written.{printed-more, printed-length, never-short, printed-next, each-append}
 
 module _ {A : Type 0} (w : List ℕ) (put : A → List ℕ) (d : A) (xs : List A) (i : ℕ) where
   -- One line more.

@@ -11,9 +11,8 @@ use Rattle.form.specs.Files.{closed, headText, text}
 use Rattle.printing.specs.declared.lines.Place.{Place}
 use Rattle.printing.specs.declared.lines.Place.the-variants as places
 use Rattle.printing.specs.Prints.{Put, Printed}
-use Rattle.printing.proofs.Written.{printed-more, printed-length}
+use Rattle.printing.proofs.Written.{printed-more, printed-length, never-short, printed-next}
 use Rattle.building.specs.Kernels.{rowLines, mapLines, mapIn, partsIn, RowsNeeded, MapsNeeded, PrintNeeded}
-use Rattle.building.proofs.Lined.{never-short, printed-next}
 
 module _ (b : List ℕ) (h : Head) (map out : List ℕ) (needed : PrintNeeded b h map out) where
   abbrev rows : List ℕ

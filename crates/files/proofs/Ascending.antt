@@ -12,7 +12,7 @@ use Rattle.files.specs.Rules.{formRules, checkRules, readRules, showRule
 use Rattle.files.specs.Demands.{SmallestGiven}
 
 -- Where the rules of all parts ascend, so do those of a text.
-form-ascending : (rules : Parts → List Rule) → ((p : Parts) → ascending 1 (rules p) ≡ true) → (o : Option Parts) → ascending 1 (formRules rules o) ≡ true
+pub form-ascending : (rules : Parts → List Rule) → ((p : Parts) → ascending 1 (rules p) ≡ true) → (o : Option Parts) → ascending 1 (formRules rules o) ≡ true
 form-ascending rules h none = refl
 form-ascending rules h (some p) = h p
 
@@ -29,7 +29,7 @@ pub build-ascending : (b : List ℕ) (h : Head) (out work : ℕ) → ascending 1
 build-ascending b h out work = refl
 
 -- "Of several, the smallest number is given."
-given-smallest : (rules : List Rule) → ascending 1 rules ≡ true → SmallestGiven rules
+pub given-smallest : (rules : List Rule) → ascending 1 rules ≡ true → SmallestGiven rules
 given-smallest rules a = record { applies = given-applies rules; least = smallest 1 rules a }
 
 pub check-smallest : (f : List ℕ) (work : ℕ) → SmallestGiven (checkRules f work)
