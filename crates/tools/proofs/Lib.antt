@@ -1,0 +1,4 @@
+pub mod Headers
+pub mod Outputs
+pub mod FileAnswers
+pub mod PictureAnswers

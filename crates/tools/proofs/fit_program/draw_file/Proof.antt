@@ -1,0 +1,71 @@
+-- `tools::fit_program::draw_file` meets its contract.
+use mathlib.Core.Path.{sym, ap, _∙_}
+use Prim.Native.Nat.{_*_, _≤_}
+use native.Mathlib.Omega.{arith}
+use denote.Ref.{now}
+use lib.Seq.{length-take-le}
+use Rattle.energy.specs.Pictures.{channelsOf}
+use Rattle.energy.proofs.Sizes.{channels-most}
+use Rattle.form.specs.declared.Head.{Head}
+use Rattle.tools.proofs.PictureAnswers.{no-head, same-head}
+use borrow.Author.Needs.{needs}
+use Rattle.tools.proofs.fit_program.draw_file.Statement.{statement}
+use Rattle.tools.proofs.fit_program.draw_file.Tie as tie
+
+-- the most pixels fit the space
+room-most : (c : tie.After-channels) → 1024 * c .channels .result ≤ 3072
+room-most c = rw (c .channels .ensures) (omega (arith, channels-most (c .before .before .before .head .given .0 .0 .size .kind)))
+
+header-requires : tie.Need-header-requires
+header-requires c κs = search needs
+
+enum-known-head : tie.Need-enum-known-head
+enum-known-head c = search needs
+
+enum-told : tie.Need-enum-told
+enum-told c = search needs
+
+returns : tie.Need-returns
+returns c = let a = c .before .before .before .before .before .args in no-head (a .width) (now (a .out)) (rw (c .enum-told .given .1) at (c .before .before .header .ensures))
+
+channels-requires : tie.Need-channels-requires
+channels-requires c κs = search needs
+
+mul-room : tie.Need-mul-room
+mul-room c = omega (arith, room-most c)
+
+array-borrow-prefix-picture : tie.Need-array-borrow-prefix-picture
+array-borrow-prefix-picture c = room-most c
+
+slice-aggregate-draw-in : tie.Need-slice-aggregate-draw-in
+slice-aggregate-draw-in c = sym (length-take-le _ _ (room-most (c .before)))
+
+draw-in-requires : tie.Need-draw-in-requires
+draw-in-requires c κs = record {
+  held = λ p e.
+      length-take-le _ _ (room-most (c .before .before))
+      ∙ ap (λ n. 1024 * n) (c .before .before .channels .ensures ∙ sym (ap (λ (h : Head). channelsOf (h .size .kind)) (same-head (rw (c .before .before .before .before .before .head .given .1) at (c .before .before .before .before .before .before .before .header .ensures)) p e)));
+  room = c .before .before .before .before .before .before .before .before .before .before .pre;
+}
+
+same-length : tie.Need-same-length
+same-length c = search needs
+
+returns-2 : tie.Need-returns-2
+returns-2 c = search needs
+
+pub draw-file-spec : {M : Type 1} → statement M
+draw-file-spec =
+    tie.close
+    (tie.spec
+    header-requires
+    enum-known-head
+    enum-told
+    returns
+    channels-requires
+    mul-room
+    array-borrow-prefix-picture
+    slice-aggregate-draw-in
+    draw-in-requires
+    same-length
+    returns-2)

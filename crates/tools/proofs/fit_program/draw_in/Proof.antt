@@ -1,0 +1,91 @@
+-- `tools::fit_program::draw_in` meets its contract.
+use mathlib.Core.Path.{refl, sym}
+use Prim.Native.Nat.{_*_, _≤_}
+use native.Mathlib.Omega.{arith}
+use denote.Ref.{now}
+use lib.ListN.{length}
+use lib.Seq.{length-take-le}
+use Rattle.tools.proofs.PictureAnswers.{Drawing, draw-served, draw-refused, drawing}
+use borrow.Author.Needs.{needs}
+use Rattle.tools.proofs.fit_program.draw_in.Statement.{statement}
+use Rattle.tools.proofs.fit_program.draw_in.Tie as tie
+
+-- the picture is shown
+shown : (c : tie.After-size) → let a = c .before .before .before .before .before .before .before .before .before .before .before .args in Drawing (now (a .file)) (a .width) (c .size .given .0 .0) (c .before .before .before .before .before .show .last .1 .1 .0)
+shown c =
+    let st = c .before .before .before .before .before .before .before .before .before .before .before in
+    let a = st .args in
+    drawing (now (a .file)) (a .width) (now (a .picture)) (now (a .out)) _ (st .pre) refl (c .size .given .0 .0) (rw (c .size .given .1) at (c .before .before .before .before .before .show .ensures))
+
+-- its bytes are inside the space
+inside : (c : tie.After-put-picture-arg) → let z = c .before .before .before .before .before .size .given .0 .0 in z .height * (z .width * c .before .before .before .channels .result) ≤ length (c .before .before .before .before .before .before .before .before .before .before .show .last .1 .1 .0)
+inside c = rw (c .before .before .before .channels .ensures) (shown (c .before .before .before .before .before) .inside)
+
+slice-aggregate-show : tie.Need-slice-aggregate-show
+slice-aggregate-show c = search needs
+
+show-requires : tie.Need-show-requires
+show-requires c κs = search needs
+
+enum-known-size : tie.Need-enum-known-size
+enum-known-size c = search needs
+
+channels-requires : tie.Need-channels-requires
+channels-requires c κs = search needs
+
+mul-bytes : tie.Need-mul-bytes
+mul-bytes c = rw (c .before .channels .ensures) (omega (arith, shown (c .before .before .before) .row-most))
+
+mul-bytes-2 : tie.Need-mul-bytes-2
+mul-bytes-2 c = rw (c .before .before .channels .ensures) (omega (arith, shown (c .before .before .before .before) .few))
+
+slice-reshare-prefix-put-picture : tie.Need-slice-reshare-prefix-put-picture
+slice-reshare-prefix-put-picture c = inside c
+
+slice-aggregate-put-picture : tie.Need-slice-aggregate-put-picture
+slice-aggregate-put-picture c = sym (length-take-le _ _ (inside (c .before)))
+
+put-picture-requires : tie.Need-put-picture-requires
+put-picture-requires c κs = record { room = rw (c .before .before .before .before .channels .ensures) (omega (arith, c .before .before .before .before .before .before .before .before .before .before .before .before .before .before .before .before .before .pre .room, shown (c .before .before .before .before .before .before) .text-most)) }
+
+enum-known-why : tie.Need-enum-known-why
+enum-known-why c = search needs
+
+same-length : tie.Need-same-length
+same-length c = search needs
+
+same-length-2 : tie.Need-same-length-2
+same-length-2 c = search needs
+
+returns : tie.Need-returns
+returns c = draw-served (shown (c .before .before .before .before .before .before .before .before .before)) (c .before .before .before .before .before .before .before .before .before .before .before .before .before .before .before .before .before .before .before .before .pre .room) (rw (c .before .before .before .before .before .before .before .channels .ensures) at (c .before .before .put-picture .ensures))
+
+same-length-3 : tie.Need-same-length-3
+same-length-3 c = search needs
+
+returns-2 : tie.Need-returns-2
+returns-2 c =
+    let st = c .before .before .before .before .before .before .before .before .before .before .before .before in
+    let a = st .args in
+    draw-refused (now (a .file)) (a .width) (now (a .picture)) (now (a .out)) _ (st .pre) refl (c .before .why .given .0 .0)
+    (rw (c .before .why .given .1) at (c .before .before .before .before .before .before .show .ensures))
+
+pub draw-in-spec : {M : Type 1} → statement M
+draw-in-spec =
+    tie.close
+    (tie.spec
+    slice-aggregate-show
+    show-requires
+    enum-known-size
+    channels-requires
+    mul-bytes
+    mul-bytes-2
+    slice-reshare-prefix-put-picture
+    slice-aggregate-put-picture
+    put-picture-requires
+    enum-known-why
+    same-length
+    same-length-2
+    returns
+    same-length-3
+    returns-2)

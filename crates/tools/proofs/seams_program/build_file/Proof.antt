@@ -1,0 +1,84 @@
+-- `tools::seams_program::build_file` meets its contract.
+use mathlib.Core.Path.{_≡_, refl, sym, ap, _∙_}
+use mathlib.Core.Option.{some}
+use mathlib.Core.List.{[], _∷_, _++_}
+use Prim.Native.Nat.{ℕ, _<_}
+use native.Mathlib.Omega.{arith}
+use denote.Ref.{now}
+use lib.ListN.{length}
+use Rattle.energy.specs.Refusals.{given, refusal}
+use Rattle.energy.specs.Pictures.{sizeRules}
+use Rattle.form.specs.Files.{All}
+use Rattle.programs.specs.Programs.{pixelsRule, fileAnswer}
+use Rattle.tools.proofs.Outputs.{refused-so}
+use Rattle.tools.proofs.FileAnswers.{all-bytes, held-sized, file-answered, never-refused}
+use borrow.Author.Needs.{needs}
+use Rattle.tools.proofs.seams_program.build_file.Statement.{statement}
+use Rattle.tools.proofs.seams_program.build_file.Tie as tie
+
+-- nothing of the picture is refused, and its samples are bytes
+none : (c : tie.After-enum-told) → let a = c .before .before .before .before .before .args in refusal (sizeRules (a .size) (length (now (a .samples))) ++ (pixelsRule (a .size) ∷ [])) ≡ 0
+none c = sym (c .before .before .held .ensures) ∙ ap given (c .enum-told .given .1)
+
+bytes : (c : tie.After-enum-told) → All (λ (b : ℕ). b < 256) (now (c .before .before .before .before .before .args .samples))
+bytes c = all-bytes (now (c .before .before .before .before .before .args .samples)) (λ i. omega (arith, c .before .before .before .before .shared-slice-known .given i))
+
+held-requires : tie.Need-held-requires
+held-requires c κs = search needs
+
+enum-known-why : tie.Need-enum-known-why
+enum-known-why c = search needs
+
+returns : tie.Need-returns
+returns c = let a = c .before .before .before .before .before .before .args in let why = c .before .why .given in
+    refused-so (why .0 .0) (fileAnswer (some (a .size, now (a .samples)))) (now (a .out)) (sym (ap given (why .1)) ∙ c .before .before .before .held .ensures)
+
+enum-told : tie.Need-enum-told
+enum-told c = search needs
+
+sub-t11 : tie.Need-sub-t11
+sub-t11 c = let a = c .before .before .before .before .before .args in omega (arith, held-sized (a .size) (now (a .samples)) (none c) .width-some)
+
+slice-aggregate-build : tie.Need-slice-aggregate-build
+slice-aggregate-build c = search needs
+
+build-requires : tie.Need-build-requires
+build-requires c κs = search needs
+
+enum-known-n : tie.Need-enum-known-n
+enum-known-n c = search needs
+
+enum-known-why-2 : tie.Need-enum-known-why-2
+enum-known-why-2 c = search needs
+
+same-length : tie.Need-same-length
+same-length c = search needs
+
+returns-2 : tie.Need-returns-2
+returns-2 c = let st = c .before .before .before .before .before .before .before .before .before .before .before .before .before .before in let a = st .args in
+    file-answered (a .size) (now (a .samples)) (none (c .before .before .before .before .before .before .before .before .before)) (bytes (c .before .before .before .before .before .before .before .before .before)) (now (a .out)) _ (st .pre) refl (rw (c .before .n .given .1) at (c .before .before .before .before .before .before .build .ensures))
+
+same-length-2 : tie.Need-same-length-2
+same-length-2 c = search needs
+
+returns-3 : tie.Need-returns-3
+returns-3 c = let st = c .before .before .before .before .before .before .before .before .before .before .before .before .before .before in let a = st .args in
+    absurd (never-refused (a .size) (now (a .samples)) (none (c .before .before .before .before .before .before .before .before .before)) (bytes (c .before .before .before .before .before .before .before .before .before)) (now (a .out)) _ (st .pre) refl (c .before .why2 .given .0 .0) (rw (c .before .why2 .given .1) at (c .before .before .before .before .before .before .build .ensures)))
+
+pub build-file-spec : {M : Type 1} → statement M
+build-file-spec =
+    tie.close
+    (tie.spec
+    held-requires
+    enum-known-why
+    returns
+    enum-told
+    sub-t11
+    slice-aggregate-build
+    build-requires
+    enum-known-n
+    enum-known-why-2
+    same-length
+    returns-2
+    same-length-2
+    returns-3)

@@ -1,0 +1,2 @@
+pub mod Tools
+pub mod Kernels
