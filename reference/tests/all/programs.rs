@@ -6,6 +6,8 @@ use crate::helpers::*;
 use crate::random::Random;
 use crate::verdict::{before_the_map, contents, map_verdict, Cursor};
 use reference::{fit_program, seams_program, Kind, Size};
+use std::io::Write;
+use std::process::{Command, Stdio};
 
 fn netpbm(size: Size, samples: &[u8]) -> Vec<u8> {
     let magic = if size.kind == Kind::Grey { 5 } else { 6 };
@@ -327,5 +329,90 @@ fn fit_on_edited_texts() {
             Ok(()) => assert!(answer.starts_with(b"P5\n")),
             Err(number) => assert_eq!(answer, refused(number)),
         }
+    }
+}
+
+/// Numbers of 100 digits, in a header and in a width line.
+#[test]
+fn numbers_of_many_digits() {
+    for digit in ["0", "1", "9"] {
+        let number = digit.repeat(100);
+        for header in [
+            format!("P5\n{number} 2\n255\n"),
+            format!("P5\n3 {number}\n255\n"),
+            format!("P5\n3 2\n{number}\n"),
+        ] {
+            let input = [header.as_bytes(), &EXAMPLE].concat();
+            assert_eq!(seams_program(&input), refused(1), "{header}");
+        }
+        let input = format!("{number}\n{EXAMPLE_FILE}");
+        assert_eq!(fit_program(input.as_bytes()), refused(1), "{number}");
+    }
+}
+
+/// Pixels written over the limit: 7 ahead of 8, and 8 ahead of 9, 10 and 11.
+#[test]
+fn pixels_written_with_a_bad_map() {
+    let samples: Vec<u8> = (0..1_024).map(|place| (place % 32 * 7) as u8).collect();
+    let file = built(&samples, grey(32, 32), 2, 2).unwrap();
+    let file = String::from_utf8(file).unwrap();
+    let row = file.lines().find(|line| line.starts_with("(map")).unwrap();
+    let zeros = " 0".repeat(30);
+    for (number, map) in [
+        (9, format!("(map 1 1{zeros})")),
+        (10, format!("(map 2{zeros} 1)")),
+    ] {
+        let bad = file.replacen(row, &map, 1);
+        assert_eq!(fit(32, bad.as_bytes()), refused(number));
+        assert_eq!(fit(33, bad.as_bytes()), refused(8));
+        assert_eq!(fit(35, bad.as_bytes()), refused(7));
+    }
+    let bad = file.replace(row, &format!("(map 1 2{zeros})"));
+    assert_eq!(fit(32, bad.as_bytes()), refused(11));
+    assert_eq!(fit(33, bad.as_bytes()), refused(8));
+    assert_eq!(fit(29, bad.as_bytes()), refused(7));
+}
+
+/// A file that checking accepts, as long as an input may be: it has too many
+/// pixels, which comes after 7. With one more byte 8 comes first.
+#[test]
+fn accepted_files_on_both_sides_of_the_input_limit() {
+    for (length, offered, other) in [(65_536, 8, 7), (65_537, 8, 8)] {
+        let size = grey(120, 90);
+        let mut samples = vec![200; byte_count(size)];
+        let longest = built(&samples, size, 0, 0).unwrap().len() + "120\n".len();
+        let over = longest - length;
+        samples[..over / 2].fill(2);
+        samples[over / 2..over / 2 + over % 2].fill(20);
+        let file = built(&samples, size, 0, 0).unwrap();
+        assert_eq!(file.len() + "120\n".len(), length);
+        assert_eq!(fit(120, &file), refused(offered));
+        assert_eq!(fit(121, &file), refused(other));
+        assert_eq!(fit(119, &file), refused(other));
+    }
+}
+
+/// What a program of `src/bin` writes for an input.
+fn run(path: &str, input: &[u8]) -> Vec<u8> {
+    let mut command = Command::new(path);
+    let command = command.stdin(Stdio::piped()).stdout(Stdio::piped());
+    let mut child = command.spawn().unwrap();
+    // The programs read all input before they write.
+    child.stdin.take().unwrap().write_all(input).unwrap();
+    child.wait_with_output().unwrap().stdout
+}
+
+#[test]
+fn programs_read_standard_input() {
+    let picture = netpbm(grey(3, 2), &EXAMPLE);
+    let input = format!("4\n{EXAMPLE_FILE}").into_bytes();
+    let long = vec![b' '; 200_000];
+    for input in [b"".as_slice(), &picture, &long] {
+        let written = run(env!("CARGO_BIN_EXE_seams"), input);
+        assert_eq!(written, seams_program(input));
+    }
+    for input in [b"".as_slice(), &input, &long] {
+        let written = run(env!("CARGO_BIN_EXE_fit"), input);
+        assert_eq!(written, fit_program(input));
     }
 }
