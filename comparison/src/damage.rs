@@ -1,10 +1,15 @@
 //! Files that are damaged: in what they say, in the words of their lines, or
-//! in their bytes.
+//! in their bytes; and Netpbm pictures, in their headers, samples and bytes.
 
 mod bytes;
+mod headers;
 mod maps;
 mod words;
 
+pub use headers::change_count;
+pub use words::broken;
+
+use crate::netpbm::Netpbm;
 use crate::random::Random;
 use crate::texts::{Parts, Words};
 
@@ -40,6 +45,43 @@ pub fn damaged(random: &mut Random, parts: Parts) -> Vec<u8> {
         bytes::change(random, &mut text);
     }
     text
+}
+
+/// The text of a file after a change to its map or samples alone.
+pub fn damaged_map(random: &mut Random, parts: Parts) -> Vec<u8> {
+    let mut parts = parts;
+    maps::change(random, &mut parts);
+    parts.text()
+}
+
+/// How many changes are made to the header, to the number of samples and to the
+/// bytes of a Netpbm picture.
+const PICTURE_CHANGES: [[usize; 3]; 8] = [
+    [1, 0, 0],
+    [1, 0, 0],
+    [2, 0, 0],
+    [0, 1, 0],
+    [1, 1, 0],
+    [0, 0, 1],
+    [1, 0, 1],
+    [0, 1, 1],
+];
+
+/// A Netpbm picture after some changes; few of them leave it good.
+pub fn damaged_picture(random: &mut Random, picture: Netpbm) -> Vec<u8> {
+    let [headers, counts, bytes] = random.pick(&PICTURE_CHANGES);
+    let mut picture = picture;
+    for _ in 0..headers {
+        headers::change_header(random, &mut picture);
+    }
+    for _ in 0..counts {
+        headers::change_count(random, &mut picture);
+    }
+    let mut input = picture.bytes();
+    for _ in 0..bytes {
+        bytes::change(random, &mut input);
+    }
+    input
 }
 
 #[cfg(test)]

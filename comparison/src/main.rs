@@ -1,22 +1,30 @@
-//! Compares the verified library with the reference on inputs made from a seed.
+//! Compares the verified library and programs with the reference on inputs made
+//! from a seed.
 
 #![deny(unsafe_code)]
 
 mod axes;
+mod carved;
 mod contents;
 mod damage;
 mod difference;
 mod faults;
+mod full_files;
+mod lengths;
 mod library;
+mod limits;
 mod marks;
+mod netpbm;
 mod operations;
 mod options;
 mod paths;
 mod pictures;
+mod programs;
 mod random;
 mod ranges;
 mod spaces;
 mod texts;
+mod width_lines;
 
 use difference::Difference;
 use operations::{Operation, OPERATIONS};
@@ -34,13 +42,18 @@ const SECTION: usize = 4000;
 type Tally = BTreeMap<u64, u64>;
 
 fn main() -> ExitCode {
-    match Options::read(std::env::args().skip(1)) {
-        Ok(options) => run(&options),
+    let options = match Options::read(std::env::args().skip(1)) {
+        Ok(options) => options,
         Err(message) => {
             eprintln!("{message}\n{}", options::USAGE);
-            ExitCode::from(2)
+            return ExitCode::from(2);
         }
+    };
+    if let Some(message) = programs::missing() {
+        eprintln!("{message}");
+        return ExitCode::from(2);
     }
+    run(&options)
 }
 
 fn run(options: &Options) -> ExitCode {

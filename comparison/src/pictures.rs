@@ -101,16 +101,25 @@ pub fn start(random: &mut Random, turn: u64, rarity: u64) -> (Size, Faults) {
 /// Every small shape and the largest ones, in both kinds, and then none.
 fn shape_of_round(place: usize, largest: &[(usize, usize)]) -> Option<Size> {
     let shape = place / 2;
-    let (width, height) = if shape < SMALL * SMALL {
-        (1 + shape % SMALL, 1 + shape / SMALL)
-    } else {
-        *largest.get(shape - SMALL * SMALL)?
-    };
+    if shape < SMALL * SMALL {
+        return Some(small_shape(place));
+    }
+    let (width, height) = *largest.get(shape - SMALL * SMALL)?;
     Some(Size {
         width,
         height,
         kind: [Kind::Grey, Kind::Rgb][place % 2],
     })
+}
+
+/// The small shapes one after another, each in both kinds, again and again.
+pub fn small_shape(place: usize) -> Size {
+    let shape = place / 2;
+    Size {
+        width: 1 + shape % SMALL,
+        height: 1 + shape / SMALL % SMALL,
+        kind: [Kind::Grey, Kind::Rgb][place % 2],
+    }
 }
 
 /// Mostly small, sometimes up to the largest side.

@@ -72,8 +72,10 @@ fn far(random: &mut Random, number: usize) -> usize {
 pub fn wanted(random: &mut Random, width: usize, range: Range, faults: Faults) -> usize {
     let (least, most) = (width - range.depth, width + range.growth);
     if faults.strike(random, 3) {
-        let beyond = far(random, width);
-        return random.pick(&[0, least - 1, most + 1, most + 1, beyond]);
+        // In a line of `fit` these have a good form, and the far ones don't.
+        let beyond = random.pick(&[most + 2, most + 256, 65_535]);
+        let far = far(random, width);
+        return random.pick(&[0, least - 1, most + 1, most + 1, beyond, far]);
     }
     let any = random.between(least, most);
     random.pick(&[least, most, any, any])
@@ -154,7 +156,10 @@ mod tests {
         assert!((2..=7).all(|width| sound.contains(&width)));
         assert!(sound.iter().all(|width| (2..=7).contains(width)));
         let struck: Vec<usize> = (0..1000).map(|_| draw(Faults::Maybe)).collect();
-        for width in [0, 1, 2, 7, 8, 5 + (1 << 16), 5 + (1 << 32), usize::MAX] {
+        for width in [0, 1, 2, 7, 8, 9, 7 + 256, 65_535] {
+            assert!(struck.contains(&width), "{width}");
+        }
+        for width in [5 + (1 << 16), 5 + (1 << 32), usize::MAX] {
             assert!(struck.contains(&width), "{width}");
         }
     }

@@ -59,7 +59,7 @@ fn replace_range(random: &mut Random, words: &mut Words) {
 
 /// The first or second number of a line becomes a neighbour of it, one of those
 /// named, or one that breaks the form.
-fn replace_number(random: &mut Random, line: &mut [String], named: &[usize]) {
+pub fn replace_number(random: &mut Random, line: &mut [String], named: &[usize]) {
     let place = random.below(2);
     let Some(given) = line.get_mut(place) else {
         return;
@@ -75,7 +75,7 @@ fn replace_number(random: &mut Random, line: &mut [String], named: &[usize]) {
 
 /// A number that breaks its form; the given one with a zero ahead, or one of
 /// 100 digits, too.
-fn broken(random: &mut Random, given: &str) -> String {
+pub fn broken(random: &mut Random, given: &str) -> String {
     match random.below(4) {
         0 => format!("0{given}"),
         1 => random.pick(&["1", "9", "0"]).repeat(100),

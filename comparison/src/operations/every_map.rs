@@ -5,12 +5,13 @@ use super::every_cut::shape;
 use super::one_file::{self, Gives};
 use super::sides::Compared;
 use super::{build, show};
+use crate::carved::carved;
 use crate::contents::samples;
 use crate::difference::Difference;
 use crate::faults::Faults;
 use crate::library::{Answer, SizeAnswer};
 use crate::paths::Small;
-use crate::pictures::{byte_count, NamedSize};
+use crate::pictures::NamedSize;
 use crate::random::Random;
 use crate::ranges::{self, Range};
 use crate::texts::Parts;
@@ -31,7 +32,7 @@ pub fn compare_show(random: &mut Random, turn: u64) -> Result<u64, Difference> {
     let range = ranges::allowed(random, size, usize::MAX);
     let count = random.between(0, range.depth);
     let samples = samples(random, size);
-    let map = carved(&samples, size, range.depth).0;
+    let map = map(&samples, size, range.depth);
     let parts = Parts {
         size,
         range,
@@ -47,7 +48,7 @@ pub fn compare_show(random: &mut Random, turn: u64) -> Result<u64, Difference> {
 fn build_by_paths(size: Size, range: Range, buffers: &mut build::Buffers) -> Answer {
     buffers.work.part_mut().fill(0);
     let samples = buffers.picture.part().to_vec();
-    let map = carved(&samples, size, range.depth).0;
+    let map = map(&samples, size, range.depth);
     let parts = Parts {
         size,
         range,
@@ -62,7 +63,7 @@ fn build_by_paths(size: Size, range: Range, buffers: &mut build::Buffers) -> Ans
 /// What so many cuts leave of the picture.
 fn show_by_paths(parts: &Parts, count: usize, buffers: &mut one_file::Buffers) -> SizeAnswer {
     buffers.work.part_mut().fill(0);
-    let left = carved(&parts.samples, parts.size, count).1;
+    let left = carved(&parts.samples, parts.size, count, by_paths).0;
     buffers.out.part_mut()[..left.len()].copy_from_slice(&left);
     let width = parts.size.width - count;
     let size = Size {
@@ -72,31 +73,30 @@ fn show_by_paths(parts: &Parts, count: usize, buffers: &mut one_file::Buffers) -
     SizeAnswer::served(NamedSize::of(size))
 }
 
-/// The map of so many seams, each the first of the cheapest paths of the
-/// picture left, with its number at the columns where its pixels stood; and the
-/// picture left after the last.
-fn carved(samples: &[u8], size: Size, count: usize) -> (Vec<Vec<u16>>, Vec<u8>) {
+/// The map of so many seams, each with its number at the columns where its
+/// pixels stood.
+fn map(samples: &[u8], size: Size, count: usize) -> Vec<Vec<u16>> {
+    let taken = carved(samples, size, count, by_paths).1;
     let mut map = vec![vec![0; size.width]; size.height];
-    // For each pixel left, its column in the original picture.
-    let mut origins = vec![Vec::from_iter(0..size.width); size.height];
-    let (mut bytes, mut left) = (samples.to_vec(), size);
-    for number in 1..=count {
-        let small = Small {
-            bytes: &bytes,
-            marks: &[],
-            size: left,
-            axis: Axis::Vertical,
-        };
-        let (seam, _) = small.seam().expect("without marks there is a seam");
-        for row in 0..size.height {
-            let column = origins[row].remove(seam[row]);
-            map[row][column] = number as u16;
+    for (row, columns) in map.iter_mut().zip(taken) {
+        for (number, column) in (1..).zip(columns) {
+            row[column] = number;
         }
-        bytes = small.without(&seam);
-        left.width -= 1;
-        bytes.truncate(byte_count(left));
     }
-    (map, bytes)
+    map
+}
+
+/// The seam is the first of the cheapest of all paths.
+fn by_paths(bytes: &[u8], size: Size) -> (Vec<usize>, Vec<u8>) {
+    let small = Small {
+        bytes,
+        marks: &[],
+        size,
+        axis: Axis::Vertical,
+    };
+    let (seam, _) = small.seam().expect("without marks there is a seam");
+    let left = small.without(&seam);
+    (seam, left)
 }
 
 #[cfg(test)]
@@ -112,11 +112,11 @@ mod tests {
             kind: Kind::Grey,
         };
         let picture = [10, 10, 40, 10, 50, 40];
-        let (map, left) = carved(&picture, size, 2);
-        assert_eq!(map, [[2, 0, 1], [0, 2, 1]]);
-        assert_eq!(left, [10, 10]);
-        assert_eq!(carved(&picture, size, 1).1, [10, 10, 10, 50]);
+        assert_eq!(map(&picture, size, 2), [[2, 0, 1], [0, 2, 1]]);
+        let left = |count| carved(&picture, size, count, by_paths).0;
+        assert_eq!(left(1), [10, 10, 10, 50]);
+        assert_eq!(left(2), [10, 10]);
         let wide = Size { height: 1, ..size };
-        assert_eq!(carved(&[9; 3], wide, 2).0, [[1, 2, 0]]);
+        assert_eq!(map(&[9; 3], wide, 2), [[1, 2, 0]]);
     }
 }

@@ -1,6 +1,7 @@
 //! The operations that are compared.
 
 mod build;
+mod chain;
 mod check;
 mod cut;
 mod cut_marked;
@@ -10,13 +11,16 @@ mod every_map;
 mod every_path;
 mod find;
 mod find_marked;
+mod fit;
 mod one_file;
+mod one_input;
 mod one_row;
 mod one_seam;
 mod read;
 mod remove;
 mod retarget;
 mod row;
+mod seams;
 mod show;
 mod sides;
 
@@ -38,7 +42,7 @@ fn work_bytes(size: Size) -> usize {
     32 * size.width * size.height
 }
 
-pub const OPERATIONS: [Operation; 20] = [
+pub const OPERATIONS: [Operation; 22] = [
     Operation {
         name: "row",
         compare: row::compare,
@@ -119,50 +123,70 @@ pub const OPERATIONS: [Operation; 20] = [
         name: "show, every path",
         compare: every_map::compare_show,
     },
+    Operation {
+        name: "seams",
+        compare: seams::compare,
+    },
+    Operation {
+        name: "fit",
+        compare: fit::compare,
+    },
 ];
 
 #[cfg(test)]
 mod tests {
     use super::*;
     use crate::pictures::ROUND;
+    use std::ops::Range;
 
-    /// Every number that an operation may answer comes in some of its turns.
+    /// Turns of an operation, and the numbers that are answered in them.
+    type Answered = (&'static str, Range<u64>, &'static [u64]);
+
+    /// Every number that an operation may answer.
+    const ANSWERED: [Answered; OPERATIONS.len()] = [
+        ("row", 0..4 * ROUND, &[0, 1, 8]),
+        ("energies", 0..4 * ROUND, &[0, 1, 2, 3, 4, 8]),
+        ("find", 2 * ROUND..8 * ROUND, &[0, 1, 2, 3, 4, 8]),
+        ("cut", 2 * ROUND..8 * ROUND, &[0, 1, 2, 3, 4, 8, 13]),
+        (
+            "find_marked",
+            2 * ROUND..8 * ROUND,
+            &[0, 1, 2, 3, 4, 5, 8, 12],
+        ),
+        (
+            "cut_marked",
+            2 * ROUND..8 * ROUND,
+            &[0, 1, 2, 3, 4, 5, 8, 12, 13],
+        ),
+        ("remove", ROUND..5 * ROUND, &[0, 1, 2, 3, 4, 5, 8]),
+        ("retarget", ROUND..5 * ROUND, &[0, 1, 2, 3, 4, 7, 8]),
+        ("build", ROUND..5 * ROUND, &[0, 1, 2, 3, 4, 6, 8]),
+        ("check", ROUND..9 * ROUND, &[0, 1, 2, 3, 4, 6, 8, 9, 10, 11]),
+        ("read", ROUND..9 * ROUND, &[0, 1, 2, 3, 4, 6, 8, 9, 10, 11]),
+        (
+            "show",
+            ROUND..9 * ROUND,
+            &[0, 1, 2, 3, 4, 6, 7, 8, 9, 10, 11],
+        ),
+        ("find, every path", 0..200, &[0]),
+        ("cut, every path", 0..200, &[0, 13]),
+        ("find_marked, every path", 0..200, &[0, 12]),
+        ("cut_marked, every path", 0..200, &[0, 12, 13]),
+        ("remove, every path", 0..200, &[0]),
+        ("retarget, every path", 0..200, &[0]),
+        ("build, every path", 0..200, &[0]),
+        ("show, every path", 0..200, &[0]),
+        ("seams", ROUND..5 * ROUND, &[0, 1, 2, 3, 4, 8]),
+        (
+            "fit",
+            ROUND..5 * ROUND,
+            &[0, 1, 2, 3, 4, 6, 7, 8, 9, 10, 11],
+        ),
+    ];
+
     #[test]
     fn every_number_occurs() {
-        for (name, turns, numbers) in [
-            ("row", 0..4 * ROUND, &[0, 1, 8][..]),
-            ("energies", 0..4 * ROUND, &[0, 1, 2, 3, 4, 8]),
-            ("find", 2 * ROUND..8 * ROUND, &[0, 1, 2, 3, 4, 8]),
-            ("cut", 2 * ROUND..8 * ROUND, &[0, 1, 2, 3, 4, 8, 13]),
-            (
-                "find_marked",
-                2 * ROUND..8 * ROUND,
-                &[0, 1, 2, 3, 4, 5, 8, 12],
-            ),
-            (
-                "cut_marked",
-                2 * ROUND..8 * ROUND,
-                &[0, 1, 2, 3, 4, 5, 8, 12, 13],
-            ),
-            ("remove", ROUND..5 * ROUND, &[0, 1, 2, 3, 4, 5, 8]),
-            ("retarget", ROUND..5 * ROUND, &[0, 1, 2, 3, 4, 7, 8]),
-            ("build", ROUND..5 * ROUND, &[0, 1, 2, 3, 4, 6, 8]),
-            ("check", ROUND..9 * ROUND, &[0, 1, 2, 3, 4, 6, 8, 9, 10, 11]),
-            ("read", ROUND..9 * ROUND, &[0, 1, 2, 3, 4, 6, 8, 9, 10, 11]),
-            (
-                "show",
-                ROUND..9 * ROUND,
-                &[0, 1, 2, 3, 4, 6, 7, 8, 9, 10, 11],
-            ),
-            ("find, every path", 0..200, &[0]),
-            ("cut, every path", 0..200, &[0, 13]),
-            ("find_marked, every path", 0..200, &[0, 12]),
-            ("cut_marked, every path", 0..200, &[0, 12, 13]),
-            ("remove, every path", 0..200, &[0]),
-            ("retarget, every path", 0..200, &[0]),
-            ("build, every path", 0..200, &[0]),
-            ("show, every path", 0..200, &[0]),
-        ] {
+        for (name, turns, numbers) in ANSWERED {
             let operation = OPERATIONS.iter().find(|o| o.name == name).unwrap();
             let compare = |turn| (operation.compare)(&mut Random::of_case(1, turn), turn);
             let answers: Vec<u64> = turns.map(|turn| compare(turn).ok().unwrap()).collect();

@@ -54,32 +54,30 @@ pub fn file_answer(answer: Result<FileInfo, Refusal>) -> FileAnswer {
     }
 }
 
-impl Case {
-    /// The first turn has full depth at 480 by 320. In every second round all
-    /// cases may be damaged.
-    pub fn of_turn(random: &mut Random, turn: u64, gives: Gives) -> Case {
-        if turn == 0 {
-            let size = Size {
-                width: 480,
-                height: 320,
-                kind: random.pick(&[Kind::Grey, Kind::Rgb]),
-            };
-            let parts = Parts::drawn(random, size, ranges::whole(480));
-            return Case::of_file(random, &parts, 176, gives);
-        }
-        let (size, faults) = pictures::start(random, turn, RARITY);
-        let faults = if (turn / ROUND).is_multiple_of(2) {
-            faults
-        } else {
-            Faults::Maybe
-        };
-        Case::from_size(random, size, gives, faults)
+/// The size that a case starts from, and whether it may be damaged. In every
+/// second round all cases may.
+pub fn start(random: &mut Random, turn: u64) -> (Size, Faults) {
+    let (size, faults) = pictures::start(random, turn, RARITY);
+    if (turn / ROUND).is_multiple_of(2) {
+        (size, faults)
+    } else {
+        (size, Faults::Maybe)
     }
+}
 
-    /// Of the damaged cases some have a sound file, and half enough space and
-    /// an offered width.
-    fn from_size(random: &mut Random, size: Size, gives: Gives, faults: Faults) -> Case {
-        let range = ranges::allowed(random, size, MOST);
+/// A file and a wanted width, and whether what else a case needs may be damaged.
+pub struct Drawn {
+    pub text: Vec<u8>,
+    pub wanted: usize,
+    pub around: Faults,
+}
+
+impl Drawn {
+    /// A file whose seams look at no more than so many pixels together. Of the
+    /// damaged cases some have a sound file, and half an offered width and
+    /// nothing else damaged.
+    pub fn of(random: &mut Random, size: Size, most: usize, faults: Faults) -> Drawn {
+        let range = ranges::allowed(random, size, most);
         let parts = Parts::drawn(random, size, range);
         let never = Faults::Never;
         let (in_file, around) = random.pick(&[
@@ -93,6 +91,36 @@ impl Case {
             Faults::Never => parts.text(),
             Faults::Maybe => damaged(random, parts),
         };
+        Drawn {
+            text,
+            wanted,
+            around,
+        }
+    }
+}
+
+impl Case {
+    /// The first turn has full depth at 480 by 320.
+    pub fn of_turn(random: &mut Random, turn: u64, gives: Gives) -> Case {
+        if turn == 0 {
+            let size = Size {
+                width: 480,
+                height: 320,
+                kind: random.pick(&[Kind::Grey, Kind::Rgb]),
+            };
+            let parts = Parts::drawn(random, size, ranges::whole(480));
+            return Case::of_file(random, &parts, 176, gives);
+        }
+        let (size, faults) = start(random, turn);
+        Case::from_size(random, size, gives, faults)
+    }
+
+    fn from_size(random: &mut Random, size: Size, gives: Gives, faults: Faults) -> Case {
+        let Drawn {
+            text,
+            wanted,
+            around,
+        } = Drawn::of(random, size, MOST, faults);
         Case::from_text(random, &text, size, wanted, gives, around)
     }
 
