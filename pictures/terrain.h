@@ -1,5 +1,6 @@
-// A course picture: land seen from above, lit from the upper left. A flat valley with a stream, a ridge with steep sides
-// beside it, rock on the slopes and snow on the heights. Whole numbers alone, so that every machine makes the same bytes.
+// A course picture: land seen from above, lit from the upper left. A valley with a stream and woods on its sides, two ridges
+// of rock, and fields of snow between them. The snow is almost flat, so that the seams take it first and the ridges stay.
+// Whole numbers alone, so that every machine makes the same bytes.
 #ifndef TERRAIN_H
 #define TERRAIN_H
 
@@ -7,8 +8,9 @@
 #include <stdint.h>
 #include <stdlib.h>
 
-// The land has this side, whatever the size of the picture. From these heights upward it is woods, rock and snow.
-enum { TERRAIN_SIDE = 4096, TERRAIN_WOODS = 60, TERRAIN_ROCK = 300, TERRAIN_SNOW = 560 };
+// The land has this side, whatever the size of the picture. So far from its middle reach the stream, the meadow and the
+// woods.
+enum { TERRAIN_SIDE = 4096, TERRAIN_BANK = 52, TERRAIN_MEADOW = 260, TERRAIN_WOODS = 520 };
 
 // A number from 0 to 255 for each corner of a grid.
 static inline int terrain_corner(int x, int y) {
@@ -33,32 +35,46 @@ static inline int terrain_waves(int x, int y, int side) {
 
 // How far a place is from the stream.
 static inline int terrain_off_stream(int x, int y) {
-    return abs(x - 1350 - (y - 2048) / 6 - 3 * terrain_waves(0, y, 1100) - terrain_waves(0, y, 400) / 2);
+    return abs(x - 760 - (y - 2048) / 8 - 2 * terrain_waves(0, y, 1100) - terrain_waves(0, y, 400) / 2);
 }
 
-// The height of the land at a place: slopes on both sides of the valley, the ridge, and hills, which are the higher the
-// higher the land is.
+// How far a place is inside the ridge nearest to it: 0 where there is none. The edges of a ridge are ragged.
+static inline int terrain_ridge(int x, int y) {
+    int first = 330 - abs(x - 2250 - (y - 2048) / 6 - 2 * terrain_waves(900, y, 700) - terrain_waves(900, y, 210) / 2);
+    int second = 260 - abs(x - 3500 - (y - 2048) / 9 - 2 * terrain_waves(2700, y, 800) - terrain_waves(2700, y, 230) / 2);
+    int over = (first > second ? first : second) + terrain_waves(x, y, 260) / 2 + terrain_waves(x, y, 90) / 3;
+    return over > 0 ? over : 0;
+}
+
+// The height of the land at a place: the sides of the valley, the ridges, cut by gullies from their crests downward, and
+// drifts of snow.
 static inline int terrain_height(int x, int y) {
-    int off = terrain_off_stream(x, y);
-    int slope = off < 420 ? off / 40 : 10 + (off - 420) * 2 / 9;
-    int crest = abs(x - 3000 - (y - 2048) / 4 - 2 * terrain_waves(900, y, 700));
-    int ridge = crest < 800 ? (800 - crest) * 3 / 5 : 0;
-    int height = slope + ridge;
-    int rough = 2 * terrain_waves(x, y, 640) + terrain_waves(x, y, 250) + terrain_waves(x, y, 90) / 2;
-    return height + rough * (height < 400 ? height : 400) / 500;
+    int off = terrain_off_stream(x, y), ridge = terrain_ridge(x, y);
+    int slope = off < TERRAIN_MEADOW ? 0 : off < TERRAIN_WOODS ? (off - TERRAIN_MEADOW) * 2 / 5 : 104;
+    int woods = off > TERRAIN_MEADOW && off < TERRAIN_WOODS ? terrain_waves(x, y, 120) / 4 : 0;
+    int gullies = abs(terrain_waves(x / 2, y, 300)) + abs(terrain_waves(x / 2, y, 110)) / 2;
+    return slope + woods + ridge * 3 / 2 - gullies * (ridge < 200 ? ridge : 200) / 200 + terrain_waves(x, y, 900) / 4;
+}
+
+// The ground at a place.
+enum terrain_ground { TERRAIN_STREAM, TERRAIN_GRASS, TERRAIN_TREES, TERRAIN_ROCK, TERRAIN_SNOW };
+
+static inline enum terrain_ground terrain_ground_at(int x, int y) {
+    int off = terrain_off_stream(x, y), ragged = off + terrain_waves(x, y, 300) / 2;
+    if (off < TERRAIN_BANK) return TERRAIN_STREAM;
+    if (terrain_ridge(x, y) > 0) return TERRAIN_ROCK;
+    return ragged < TERRAIN_MEADOW ? TERRAIN_GRASS : ragged < TERRAIN_WOODS ? TERRAIN_TREES : TERRAIN_SNOW;
 }
 
 // One sample: the ground's colour, lit by the slope, with some grain.
 static inline uint8_t terrain_sample(int x, int y, size_t channel, int grain) {
-    // Meadow, woods, rock and snow. Rock has the most grain.
-    static const uint8_t stream[3] = {70, 125, 160};
-    static const uint8_t grounds[4][3] = {{124, 158, 84}, {86, 122, 70}, {150, 138, 124}, {222, 228, 238}};
-    int height = terrain_height(x, y);
-    int light = (terrain_height(x + 40, y + 40) - height) * 9 / 4;
-    int ground = height < TERRAIN_WOODS ? 0 : height < TERRAIN_ROCK ? 1 : height < TERRAIN_SNOW ? 2 : 3;
-    int wet = terrain_off_stream(x, y) < 64;
-    int sample = wet ? stream[channel] : grounds[ground][channel] * (256 + light) / 256;
-    sample += ground == 2 ? grain % 24 - 12 : grain % 5 - 2;
+    static const struct {
+        uint8_t colour[3], grain;
+    } grounds[] = {{{58, 112, 158}, 7}, {{132, 164, 88}, 3}, {{58, 98, 62}, 9}, {{140, 130, 122}, 9}, {{222, 229, 240}, 3}};
+    enum terrain_ground ground = terrain_ground_at(x, y);
+    int light = ground == TERRAIN_STREAM ? 0 : (terrain_height(x + 40, y + 40) - terrain_height(x, y)) * 5 / 2;
+    int sample = grounds[ground].colour[channel] * (256 + light) / 256;
+    sample += grain % grounds[ground].grain - grounds[ground].grain / 2;
     return sample < 0 ? 0 : sample > 255 ? 255 : sample;
 }
 

@@ -80,6 +80,16 @@ fn out(words: &mut Words) -> Result<Output, Failure> {
     Ok(Output(place))
 }
 
+/// What a command writes as text, under a name that doesn't promise a picture.
+fn text(what: &str, out: Output) -> Result<Output, Failure> {
+    if out.is_png() {
+        let name = out.0.to_string_lossy();
+        let text = format!("{what} isn't a picture and can't be named {name}");
+        return Err(Failure::Usage(text));
+    }
+    Ok(out)
+}
+
 fn one_file(words: Vec<OsString>) -> Result<Input, Failure> {
     let [file] = Words::of(words, &[])?.plain(["the file"])?;
     Ok(Input(file))
@@ -90,7 +100,7 @@ fn build(words: Vec<OsString>) -> Result<Command, Failure> {
     let [picture] = words.plain(["the picture"])?;
     Ok(Command::Build {
         picture: Input(picture),
-        out: out(&mut words)?,
+        out: text("a multi-size file", out(&mut words)?)?,
         depth: words.number("--depth")?,
         growth: words.number("--growth")?,
     })
@@ -121,7 +131,7 @@ fn table(words: Vec<OsString>) -> Result<Command, Failure> {
     let [file] = words.plain(["the file"])?;
     Ok(Command::Table {
         file: Input(file),
-        out: Output(words.option("-o").unwrap_or("-".into())),
+        out: text("a table", Output(words.option("-o").unwrap_or("-".into())))?,
     })
 }
 

@@ -82,8 +82,17 @@ fn info(file: &Input) -> Result<(), Failure> {
 
 fn show(file: &Input, width: usize, out: &Output) -> Result<(), Failure> {
     let text = file.read()?;
-    let shown = during("checking", || Carver::new().show(&text, width));
-    out.picture(&shown.map_err(|refusal| file.refused(refusal))?)
+    let mut carver = Carver::new();
+    let shown = during("checking", || carver.show(&text, width));
+    let shown = shown.map_err(|refusal| match refusal {
+        // 7 comes ahead of the check, which is done for the widths offered.
+        Refusal::Wanted => match during("checking", || carver.check(&text)) {
+            Ok(head) => file.unoffered(head),
+            Err(_) => file.refused(refusal),
+        },
+        _ => file.refused(refusal),
+    });
+    out.picture(&shown?)
 }
 
 fn read(file: &Input, carver: &mut Carver) -> Result<Contents, Failure> {

@@ -11,8 +11,12 @@ pub enum Failure {
     Usage(String),
     /// A file can't be read or written.
     File { name: String, error: io::Error },
-    /// An operation refused what stands in a file.
-    Refused { name: String, refusal: Refusal },
+    /// An operation refused what stands in a file. A hint says what is served.
+    Refused {
+        name: String,
+        refusal: Refusal,
+        hint: Option<String>,
+    },
 }
 
 impl Failure {
@@ -34,7 +38,14 @@ impl fmt::Display for Failure {
         match self {
             Failure::Usage(text) => write!(f, "{text} (multisize --help says more)"),
             Failure::File { name, error } => write!(f, "{name}: {error}"),
-            Failure::Refused { name, refusal } => write!(f, "{name}: {refusal}"),
+            Failure::Refused {
+                name,
+                refusal,
+                hint,
+            } => {
+                write!(f, "{name}: {refusal}")?;
+                hint.iter().try_for_each(|hint| write!(f, "; {hint}"))
+            }
         }
     }
 }

@@ -5,6 +5,7 @@ mod colours;
 mod commands;
 mod failure;
 mod places;
+mod png;
 mod progress;
 mod table;
 mod words;

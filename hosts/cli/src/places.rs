@@ -1,7 +1,8 @@
 //! Where bytes come from and go to: files, standard input, standard output.
 
 use crate::failure::Failure;
-use multisize::{netpbm, Picture, Refusal};
+use crate::png;
+use multisize::{netpbm, Head, Picture, Refusal};
 use std::ffi::OsString;
 use std::fs::{self, File};
 use std::io::{self, Read, Write};
@@ -33,13 +34,47 @@ impl Input {
 
     /// Its picture, from Netpbm.
     pub fn picture(&self) -> Result<Picture, Failure> {
-        netpbm::read(&self.read()?).map_err(|refusal| self.refused(refusal))
+        let bytes = self.read()?;
+        let hint = || Some(format!("it is {}; Netpbm P5 or P6 is read", other(&bytes)?));
+        netpbm::read(&bytes).map_err(|refusal| self.hinted(refusal, hint()))
     }
 
     /// The failure of an operation on what stands there.
     pub fn refused(&self, refusal: Refusal) -> Failure {
+        self.hinted(refusal, None)
+    }
+
+    /// The failure of a width that the file there doesn't offer.
+    pub fn unoffered(&self, head: Head) -> Failure {
+        let (least, most) = head.widths().into_inner();
+        let hint = if least == most {
+            format!("the file offers the width {least} alone")
+        } else {
+            format!("the file offers the widths {least} to {most}")
+        };
+        self.hinted(Refusal::Wanted, Some(hint))
+    }
+
+    fn hinted(&self, refusal: Refusal, hint: Option<String>) -> Failure {
         let name = self.name();
-        Failure::Refused { name, refusal }
+        Failure::Refused {
+            name,
+            refusal,
+            hint,
+        }
+    }
+}
+
+/// What bytes are instead of Netpbm, where their start tells it.
+fn other(bytes: &[u8]) -> Option<&'static str> {
+    if bytes.is_empty() {
+        Some("empty")
+    } else if bytes.starts_with(&png::SIGNATURE) {
+        Some("PNG")
+    } else if bytes.starts_with(b"\xff\xd8\xff") {
+        Some("JPEG")
+    } else {
+        None
     }
 }
 
@@ -51,6 +86,12 @@ impl Output {
         self.0 == "-"
     }
 
+    /// Whether the name ends in `.png`.
+    pub fn is_png(&self) -> bool {
+        let name = self.0.to_ascii_lowercase();
+        name.as_encoded_bytes().ends_with(b".png")
+    }
+
     /// Writes the bytes, to a file whole or not at all.
     pub fn write(&self, bytes: &[u8]) -> Result<(), Failure> {
         if self.is_standard() {
@@ -60,7 +101,11 @@ impl Output {
         write_whole(Path::new(&self.0), bytes).map_err(|error| Failure::File { name, error })
     }
 
+    /// Writes a picture: PNG where the name ends in `.png`, otherwise Netpbm.
     pub fn picture(&self, picture: &Picture) -> Result<(), Failure> {
+        if self.is_png() {
+            return self.write(&png::write(picture));
+        }
         self.write(&netpbm::write(picture))
     }
 }

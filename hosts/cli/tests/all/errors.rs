@@ -1,6 +1,7 @@
 //! Refusals, wrong use, and files that can't be read or written.
 
 use crate::helpers::{Folder, FILE};
+use multisize::Refusal;
 
 #[test]
 fn a_refusal_names_file_number_and_meaning() {
@@ -48,6 +49,58 @@ fn refusals_by_number() {
             "{line}"
         );
     }
+}
+
+#[test]
+fn a_width_not_offered_tells_those_that_are() {
+    let folder = Folder::worked("offered");
+    let ran = folder.run("show picture.multi 5 -o out.pgm");
+    let line = |file: &str, offered: &str| {
+        let meaning = Refusal::Wanted;
+        format!("multisize: {file}: {meaning}; the file offers the {offered}\n")
+    };
+    let told = line("picture.multi", "widths 1 to 4");
+    assert_eq!((ran.status, ran.error), (1, told));
+    folder.served("build picture.pgm --depth 0 -o single.multi");
+    let ran = folder.run("show single.multi 2 -o out.pgm");
+    let told = line("single.multi", "width 3 alone");
+    assert_eq!((ran.status, ran.error), (1, told));
+    // Where the map is wrong too, 7 is still the smallest number.
+    let text = String::from_utf8(FILE.to_vec()).unwrap();
+    let wrong = text.replace("map 2 0 1", "map 1 0 2");
+    folder.put("wrong.multi", wrong.as_bytes());
+    let ran = folder.run("show wrong.multi 5 -o out.pgm");
+    assert_eq!(ran.status, 1);
+    assert!(ran
+        .error
+        .starts_with("multisize: wrong.multi: refused (7): "));
+}
+
+#[test]
+fn a_picture_of_another_form_is_told() {
+    let folder = Folder::worked("forms");
+    folder.served("show picture.multi 3 -o picture.png");
+    folder.put("picture.jpg", b"\xff\xd8\xff\xe0\0\x10JFIF");
+    folder.put("empty.ppm", b"");
+    for (name, form) in [
+        ("picture.png", "PNG"),
+        ("picture.jpg", "JPEG"),
+        ("empty.ppm", "empty"),
+    ] {
+        let hint = format!("it is {form}; Netpbm P5 or P6 is read");
+        let told = format!("multisize: {name}: {}; {hint}\n", Refusal::Form);
+        for line in [
+            format!("build {name} -o out"),
+            format!("retarget {name} -o out"),
+            format!("remove picture.pgm {name} -o out"),
+        ] {
+            let ran = folder.run(&line);
+            assert_eq!((ran.status, &ran.error), (1, &told), "{line}");
+        }
+    }
+    folder.put("other", b"P4\n8 1\n.");
+    let told = format!("multisize: other: {}\n", Refusal::Form);
+    assert_eq!(folder.run("build other -o out").error, told);
 }
 
 #[test]
@@ -121,6 +174,14 @@ fn wrong_use_is_told() {
         ("build picture.pgm -o", "-o needs a value"),
         ("build picture.pgm -o a -o b", "-o is given twice"),
         ("build picture.pgm -o a --depth two", "--depth can't be two"),
+        (
+            "build picture.pgm -o a.png",
+            "a multi-size file isn't a picture and can't be named a.png",
+        ),
+        (
+            "table picture.multi -o .PNG",
+            "a table isn't a picture and can't be named .PNG",
+        ),
         ("show picture.multi -o a", "the width is missing"),
         ("show picture.multi +2 -o a", "the width can't be +2"),
         ("remove a b -o c --budget 65536", "--budget can't be 65536"),
