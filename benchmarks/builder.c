@@ -1,4 +1,4 @@
-// A builder of multi-size files in plain C, with no promise: it works out every energy anew for each seam, as the
+// A builder of multi-size files in C, with no promise: it works out every energy anew for each seam, as the
 // library does, and writes the same text. Rows keep their distance in the buffers while the picture narrows.
 #include "shared.h"
 

@@ -1,4 +1,4 @@
-// Times the library's operations on multi-size files: building the full map against a plain builder in C and against the
+// Times the library's operations on multi-size files: building the full map against a builder in C and against the
 // reference, checking against building, and one width shown. All texts must agree. Each figure is the best of the
 // rounds. With an argument, 1 or 3 channels, the files of 128 by 128 are built and checked once, so that the
 // instructions can be counted.
@@ -86,7 +86,7 @@ static void times(Size size, int rounds) {
         keep_least(&checked_by_reference, t);
     }
     printf("%zu by %zu, %zu channels, %zu bytes\n", size.width, size.height, size.channels, length);
-    printf("  build %.1f ms, plain C %.1f ms, ratio %.2f\n", built * 1e3, in_c * 1e3, built / in_c);
+    printf("  build %.1f ms, unrolled C %.1f ms, ratio %.2f\n", built * 1e3, in_c * 1e3, built / in_c);
     printf("  build %.1f ms, reference %.1f ms, ratio %.3f\n", built * 1e3, by_reference * 1e3, built / by_reference);
     printf("  check %.1f ms, build %.1f ms, ratio %.2f\n", checked * 1e3, built * 1e3, checked / built);
     printf("  check %.1f ms, reference %.1f ms, ratio %.3f\n", checked * 1e3, checked_by_reference * 1e3,
