@@ -9,6 +9,8 @@ mod forms;
 mod helpers;
 mod large;
 mod objects;
+mod program_limits;
+mod program_lines;
 mod programs;
 mod random;
 mod refusals;
