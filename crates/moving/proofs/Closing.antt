@@ -17,6 +17,7 @@ use Rattle.grids.specs.Rows.{rowsOf, flat, rowAt}
 use Rattle.grids.specs.Cut.{removeAt, cut}
 use Rattle.grids.proofs.Shapes.{each-length, each-at, map-at}
 use Rattle.grids.proofs.Tables.{table-same}
+use Rattle.grids.proofs.Parts.{last-part}
 use Rattle.grids.proofs.Rows.{flat-rowsOf, length-rowAt, rowsOf-at, length-rowsOf, part-end}
 use Rattle.grids.proofs.Cut.{cut-each, cut-table, flat-removeAt}
 use Rattle.energy.specs.declared.pictures.Size.{Size}
@@ -75,9 +76,9 @@ module _ (line out one two : List ℕ) (gap n : ℕ) (needed : RowNeeded line ga
       let lo : length (drop gap out) ≡ length out - gap = length-drop gap out in
       let long : length one ≡ length out = ap length one-is ∙ length-append F (drop gap out) ∙ omega arith in
       let k : ℕ = length one - gap in
-      let mid : take k (drop gap one) ≡ drop gap out = ap (take k) past ∙ take-all k (drop gap out) (omega arith) in
+      let mid : take k (drop gap one) ≡ drop gap out = last-part gap one ∙ past in
       let none : drop k (drop gap one) ≡ [] = ap (drop k) past ∙ drop-of-length-le (drop gap out) {i = k} (omega arith) in
-      let part : take (length line - (gap + n)) B ≡ B = take-all (length line - (gap + n)) B (omega arith) in
+      let part : take (length line - (gap + n)) B ≡ B = last-part (gap + n) line in
       let end : gap + (length line - (gap + n)) ≡ length line - n = omega arith in
       let whole = copied-is (midOf (gap + n) (length line - (gap + n)) line) (midOf gap k one) in
       let two-is : two ≡ B ++ drop (length line - n) out = rw (part, mid, lb, drop-drop, end) at (second ∙ whole) in

@@ -6,9 +6,9 @@ use native.Mathlib.Nat.{le-of-eq, add-assoc}
 use native.Mathlib.Omega.{arith}
 use borrow.Rule.Slice.PartMut.{midOf, putMid}
 use lib.ListN.{length, getD, take, drop, replicate, length-append, length-drop, length-replicate, drop-of-length-le}
-use lib.Seq.{take-at, drop-at, drop-drop, take-all, length-take-le, getD-drop}
+use lib.Seq.{take-at, drop-at, drop-drop, length-take-le, getD-drop}
 use Rattle.grids.proofs.Shapes.{each-length}
-use Rattle.grids.proofs.Parts.{put-part, part-length}
+use Rattle.grids.proofs.Parts.{put-part, part-length, last-part}
 use Rattle.energy.specs.declared.pictures.Size.{Size}
 use Rattle.energy.specs.declared.refusals.Verdict.{Verdict}
 use Rattle.energy.specs.Refusals.{refusal}
@@ -87,7 +87,7 @@ module _ (work : List ℕ) (from : ℕ) (z : Size) (x : Axis) (at : ℕ) (seam :
     lent-is : lent ≡ Q ++ drop (at + pictureBytes z) work
     lent-is =
         let room = needed .room in
-        take-all (length one - at) (drop at one) (le-of-eq (length-drop at one))
+        last-part at one
         ∙ ap (drop at) is
         ∙ drop-at (take at work) (Q ++ drop (at + pictureBytes z) work) at (length-take-le at work (omega arith))
 

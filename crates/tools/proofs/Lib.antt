@@ -1,4 +1,5 @@
 pub mod Headers
 pub mod Outputs
 pub mod FileAnswers
+pub mod Fitted
 pub mod PictureAnswers

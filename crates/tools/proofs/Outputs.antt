@@ -5,9 +5,9 @@ use mathlib.Core.Option.{Option, none, some}
 use mathlib.Core.List.{List, [], _∷_, _++_}
 use Prim.Native.Nat.{ℕ, zero, suc, _+_, _-_, _≤_, _<_}
 use native.Mathlib.Omega.{arith}
-use lib.ListN.{length, take, drop, length-append, length-drop}
-use lib.Seq.{take-all}
+use lib.ListN.{length, take, drop, length-append}
 use borrow.Author.Tests.{lt-ltb, le-ltb}
+use Rattle.grids.proofs.Parts.{last-part}
 use Rattle.energy.specs.declared.refusals.Refusal.{Refusal}
 use Rattle.energy.specs.declared.refusals.Refusal.the-variants as refusals
 use Rattle.energy.specs.Refusals.{Rule, _when_, numberOf, refusal, served}
@@ -73,10 +73,6 @@ refused-so why answer out e = record {
   out-given = kept-by why (answer ++ drop (length answer) out) out;
 }
 
--- What stands from a place on.
-behind : (at : ℕ) (xs : List ℕ) → take (length xs - at) (drop at xs) ≡ drop at xs
-behind at xs = take-all (length xs - at) (drop at xs) (omega (arith, length-drop at xs))
-
 -- A program that reads a value off the front of its input and then goes by that value and what is left.
 module _ {A : Type 0} (get : Get A) (rules : Option (A × List ℕ) → List Rule) (answer : Option (A × List ℕ) → List ℕ) (input out : List ℕ) where
   pub too-long : mostInput < length input → Answered (inputRule input ∷ rules (get input)) (answer (get input)) out (outputs.Refused refusals.Space) out
@@ -90,7 +86,7 @@ module _ {A : Type 0} (get : Get A) (rules : Option (A × List ℕ) → List Rul
         → Answered (rules (some (a, take (length input - at) (drop at input)))) (answer (some (a, take (length input - at) (drop at input)))) out o out′
         → Answered (inputRule input ∷ rules (get input)) (answer (get input)) out o out′
     by-front {a} {at} {o} {out′} t taken =
-        let g : Answered (rules (some (a, drop at input))) (answer (some (a, drop at input))) out o out′ = rw (behind at input) at taken in
+        let g : Answered (rules (some (a, drop at input))) (answer (some (a, drop at input))) out o out′ = rw (last-part at input) at taken in
         let e : get input ≡ some (a, drop at input) = t .same in
         let more : ℕ = refusal (rules (some (a, drop at input))) in
         rw e (record { number = g .number ∙ sym (ap (λ x. cond x 8 more) (le-ltb mostInput (length input) h)); length-is = g .length-is; out-given = g .out-given })

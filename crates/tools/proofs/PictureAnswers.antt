@@ -1,38 +1,30 @@
 -- The picture that a file shows, in the spaces of the programs.
 use mathlib.Core.Path.{_≡_, refl, sym, ap, ap₂, _∙_}
-use mathlib.Core.Bool.{Bool, true, false, not, cond}
+use mathlib.Core.Bool.{true}
 use mathlib.Core.Option.{Option, none, some, Option·none-ne-some, Option·some-injective}
-use mathlib.Core.List.{List, _∷_, _++_}
-use Prim.Native.Nat.{ℕ, _+_, _*_, _≤_}
+use mathlib.Core.List.{List, _++_}
+use Prim.Native.Nat.{ℕ, _*_, _≤_}
 use native.Mathlib.Nat.{mul-assoc, mul-le-mul}
 use native.Mathlib.Omega.{arith}
-use lib.Dec.{ltb}
 use lib.ListN.{length, take, drop, length-append}
 use lib.Seq.{take-at}
-use borrow.Author.Tests.{ltb-true, ltb-false, lt-ltb, le-ltb, not-false}
 use Rattle.grids.specs.Each.{Each}
 use Rattle.grids.proofs.Shapes.{each-weaken}
-use Rattle.energy.specs.declared.pictures.Kind.{Kind}
-use Rattle.energy.specs.declared.pictures.Kind.the-variants.{Grey, Rgb}
 use Rattle.energy.specs.declared.pictures.Size.{Size}
 use Rattle.energy.specs.declared.refusals.Refusal.{Refusal}
 use Rattle.energy.specs.declared.refusals.Refusal.the-variants as refusals
-use Rattle.energy.specs.Refusals.{Rule, _when_, refusal}
+use Rattle.energy.specs.Refusals.{refusal}
 use Rattle.energy.specs.Pictures.{channelsOf, pictureBytes, bytes}
-use Rattle.energy.proofs.Rules.{served-both, passed}
 use Rattle.energy.proofs.Sizes.{channels-most, sides-are}
 use Rattle.energy.proofs.Buffers.{length-bytes}
-use Rattle.maps.specs.Widths.{offered}
 use Rattle.maps.proofs.Shown.{allowed-is, offered-is}
 use Rattle.form.specs.declared.Head.{Head}
 use Rattle.form.specs.Files.{Parts, parse, Pixel, headGet}
 use Rattle.form.proofs.Files.{parse-head}
 use Rattle.text.specs.Answers.{Told}
-use Rattle.finding.specs.Finding.{pixels}
-use Rattle.files.specs.Rules.{partRules, judgedRules, formRules, showRules}
 use Rattle.files.specs.Shows.{sized, Drawn, showsIn, shows, drawnSize, drawnBytes, offersIn, offers}
 use Rattle.files.specs.Demands.{ShownAt}
-use Rattle.files.proofs.Shaped.{Shaped, shaped-is}
+use Rattle.files.proofs.Shaped.{Shaped}
 use Rattle.files.proofs.Refused.{show-checked, checked-accepted}
 use Rattle.files.proofs.Demands.{shows-some}
 use Rattle.multisize.specs.declared.widths.Shown.the-variants as showings
@@ -40,11 +32,12 @@ use Rattle.multisize.specs.Multisize.{ShowGiven}
 use Rattle.printing.specs.Prints.{Printed}
 use Rattle.printing.proofs.Written.{printed-front}
 use Rattle.programs.specs.Netpbm.{headerText, netpbm}
-use Rattle.programs.specs.Programs.{mostPixels, pixelsRule, fittedRules, drawnText}
+use Rattle.programs.specs.Programs.{fittedRules, drawnText}
 use Rattle.programs.proofs.Lengths.{header-most}
 use Rattle.tools.specs.declared.output.Output.the-variants as outputs
 use Rattle.tools.specs.Kernels.{outputSpace, DrawNeeded, PictureAnswered}
 use Rattle.tools.proofs.Outputs.{refused-so}
+use Rattle.tools.proofs.Fitted.{Fitted, fitted, same-number}
 
 -- A text without the lines of a head has no parts, and those of its parts are its head's.
 module _ {file : List ℕ} where
@@ -57,59 +50,6 @@ module _ {file : List ℕ} where
 
   pub same-head : {h : Head} {c : ℕ} → Told headGet file 0 (some (h, c)) → (p : Parts) → parse file ≡ some p → p .head ≡ h
   same-head t p e = sym (ap (λ (r : Head × List ℕ). r .0) (Option·some-injective _ _ (sym (t .same) ∙ parse-head file p e .1)))
-
--- The spaces are just long enough for the most pixels.
-bytes-over : (k : Kind) (n : ℕ) → ltb (mostPixels * channelsOf k) (n * channelsOf k) ≡ ltb mostPixels n
-bytes-over k n = go k (ltb mostPixels n) refl
-  where
-    go : (k : Kind) (t : Bool) → ltb mostPixels n ≡ t → ltb (mostPixels * channelsOf k) (n * channelsOf k) ≡ t
-    go Grey true e = lt-ltb 1024 (n * 1) (omega (arith, ltb-true mostPixels n e))
-    go Grey false e = le-ltb 1024 (n * 1) (omega (arith, ltb-false mostPixels n e))
-    go Rgb true e = lt-ltb 3072 (n * 3) (omega (arith, ltb-true mostPixels n e))
-    go Rgb false e = le-ltb 3072 (n * 3) (omega (arith, ltb-false mostPixels n e))
-
-work-over : (n : ℕ) → ltb 32768 (32 * n) ≡ ltb mostPixels n
-work-over n = go (ltb mostPixels n) refl
-  where
-    go : (t : Bool) → ltb mostPixels n ≡ t → ltb 32768 (32 * n) ≡ t
-    go true e = lt-ltb 32768 (32 * n) (omega (arith, ltb-true mostPixels n e))
-    go false e = le-ltb 32768 (32 * n) (omega (arith, ltb-false mostPixels n e))
-
--- Two rules of one number.
-either-order : (a b : Bool) (n m : ℕ) → cond a n (cond b n m) ≡ cond b n (cond a n m)
-either-order true true n m = refl
-either-order true false n m = refl
-either-order false true n m = refl
-either-order false false n m = refl
-
--- A file that is shown: its parts, and what 7 and 8 then don't say.
-record Fitted (file : List ℕ) (v : ℕ) : Type 0 where
-  pub parts : Parts
-  pub parsed : parse file ≡ some parts
-  pub shaped : Shaped parts
-  pub offers-it : offered (parts .head .size .width) (parts .head .depth) (parts .head .growth) v ≡ true
-  pub few : parts .head .size .height * v ≤ mostPixels
-
-fitted : (file : List ℕ) (v : ℕ) → refusal (fittedRules v file) ≡ 0 → Fitted file v
-fitted file v z = go (parse file) refl z
-  where
-    go : (o : Option Parts) → parse file ≡ o
-        → refusal
-        (formRules
-        (λ p. partRules p
-        ++ (7 when not (offered (p .head .size .width) (p .head .depth) (p .head .growth) v) ∷ pixelsRule (p .head .size) ∷ pixelsRule (sized v (p .head .size)) ∷ judgedRules p))
-        o)
-        ≡ 0
-        → Fitted file v
-    go none e z = absurd (omega arith)
-    go (some p) e z =
-        let o : Bool = offered (p .head .size .width) (p .head .depth) (p .head .growth) v in
-        let last : List Rule = pixelsRule (sized v (p .head .size)) ∷ judgedRules p in
-        let b = served-both (partRules p) (7 when not o ∷ pixelsRule (p .head .size) ∷ last) refl z in
-        let c = passed (not o) 6 (refusal (pixelsRule (p .head .size) ∷ last)) (b .1) in
-        let d = passed (ltb mostPixels (pixels (p .head .size))) 7 (refusal last) (c .1) in
-        let w = passed (ltb mostPixels (p .head .size .height * v)) 7 (refusal (judgedRules p)) (d .1) in
-        record { parts = p; parsed = e; shaped = shaped-is p .0 (b .0); offers-it = not-false o (c .0); few = ltb-false _ _ (w .0) }
 
 -- The bytes of a picture that is shown.
 drawn-length : (d : Drawn) (v : ℕ) → d .size .width ≡ v → Each (Each (Pixel (d .size .kind)) v) (d .size .height) (d .rows) → length (bytes (d .rows)) ≡ pictureBytes (d .size)
@@ -136,25 +76,12 @@ draw-served {file} {v} D {out} {out′} {n} r P =
     }
 
 module _ (file : List ℕ) (v : ℕ) (picture out work : List ℕ) (needed : DrawNeeded file picture out) (work-is : length work ≡ 32768) where
-  -- Showing in these spaces refuses what the program refuses.
-  same-number : refusal (showRules file v (length picture) (length work)) ≡ refusal (fittedRules v file)
-  same-number = go (parse file) refl
-    where
-      go : (o : Option Parts) → parse file ≡ o → refusal (showRules file v (length picture) (length work)) ≡ refusal (fittedRules v file)
-      go none e = rw e
-      go (some p) e =
-          let k : Kind = p .head .size .kind in
-          let n : ℕ = p .head .size .height in
-          let written : ltb (length picture) (n * (v * channelsOf k)) ≡ ltb mostPixels (n * v) = rw (needed .held p e, ← mul-assoc n v (channelsOf k)) (bytes-over k (n * v)) in
-          let read : ltb (length work) (32 * pixels (p .head .size)) ≡ ltb mostPixels (pixels (p .head .size)) = rw work-is (work-over (pixels (p .head .size))) in
-          rw (e, written, read, either-order (ltb mostPixels (n * v)) (ltb mostPixels (pixels (p .head .size))) 8 (refusal (judgedRules p)))
-
   pub draw-refused : (why : Refusal) {picture′ work′ : List ℕ} → ShowGiven file v picture work (showings.Refused why) picture′ work′ → PictureAnswered file v out (outputs.Refused why) out
-  draw-refused why g = refused-so why (drawnText (shows file v)) out (g .number ∙ same-number)
+  draw-refused why g = refused-so why (drawnText (shows file v)) out (g .number ∙ same-number file v picture out work needed work-is)
 
   module _ (z : Size) {picture′ work′ : List ℕ} (g : ShowGiven file v picture work (showings.Size z) picture′ work′) where
     nothing : refusal (fittedRules v file) ≡ 0
-    nothing = sym (g .number ∙ same-number)
+    nothing = sym (g .number ∙ same-number file v picture out work needed work-is)
 
     fit : Fitted file v
     fit = fitted file v nothing

@@ -4,7 +4,8 @@ use Prim.Native.Nat.{ℕ, _-_, _*_}
 use native.Mathlib.Omega.{arith}
 use borrow.Author.Needs.{needs}
 use lib.ListN.{length, take, drop, length-drop}
-use lib.Seq.{take-all, length-take-le}
+use lib.Seq.{length-take-le}
+use Rattle.grids.proofs.Parts.{last-part}
 use Rattle.judging.proofs.judge_seams.Statement.{statement}
 use Rattle.judging.proofs.judge_seams.Tie as tie
 
@@ -13,7 +14,7 @@ map s = s .args .height * (2 * s .args .width)
 
 -- the second map
 second : (s : tie.Start) → take (length (s .args .maps .now) - map s) (drop (map s) (s .args .maps .now)) ≡ drop (map s) (s .args .maps .now)
-second s = take-all (length (s .args .maps .now) - map s) (drop (map s) (s .args .maps .now)) (omega (arith, length-drop (map s) (s .args .maps .now)))
+second s = last-part (map s) (s .args .maps .now)
 
 second-long : (s : tie.Start) → length (take (length (s .args .maps .now) - map s) (drop (map s) (s .args .maps .now))) ≡ map s
 second-long s = ap length (second s) ∙ omega (arith, length-drop (map s) (s .args .maps .now), s .pre .long)
