@@ -83,14 +83,14 @@ letter-found b e f = go (isDigit b) refl
     go true h = let d : classOf b ≡ Digit = rw h in let q : Letter ≡ Digit = sym e ∙ f ∙ d in let z : tagOf Letter ≡ tagOf Digit = ap tagOf q in absurd (omega arith)
     go false h = h
 
-pub opening-byte : {x : Class} (b : ℕ) → x ≡ Opening → x ≡ classOf b → b ≡ 40
-opening-byte b e f = rw (found b e f) at (class-says b)
+pub opening-byte : {x : Class} {b : ℕ} → x ≡ Opening → x ≡ classOf b → b ≡ 40
+opening-byte {b = b} e f = rw (found b e f) at (class-says b)
 
-pub closing-byte : {x : Class} (b : ℕ) → x ≡ Closing → x ≡ classOf b → b ≡ 41
-closing-byte b e f = rw (found b e f) at (class-says b)
+pub closing-byte : {x : Class} {b : ℕ} → x ≡ Closing → x ≡ classOf b → b ≡ 41
+closing-byte {b = b} e f = rw (found b e f) at (class-says b)
 
-pub blank-byte : {x : Class} (b : ℕ) → x ≡ Blank → x ≡ classOf b → b ≡ 32
-blank-byte b e f = rw (found b e f) at (class-says b)
+pub blank-byte : {x : Class} {b : ℕ} → x ≡ Blank → x ≡ classOf b → b ≡ 32
+blank-byte {b = b} e f = rw (found b e f) at (class-says b)
 
 -- An arm that doesn't have the class y: it isn't y.
 other-class : (ks : List ℕ) (x y : Class) → OneOf ks (tagOf x) → (OneOf ks (tagOf y) → ⊥) → x ≡ y → ⊥

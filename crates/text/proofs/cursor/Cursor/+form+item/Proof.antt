@@ -13,459 +13,198 @@ use Rattle.text.proofs.cursor.Cursor.+form+item.Lts-form as form-lts
 use Rattle.text.proofs.cursor.Cursor.item.Reads as item
 use Rattle.text.proofs.cursor.Cursor.item.Kinds as item-kinds
 use Rattle.text.proofs.cursor.Cursor.+form+item.Lts-item as item-lts
-use Rattle.text.proofs.cursor.Cursor.number.Reads as number-reads
-use Rattle.text.proofs.cursor.class_of.Reads as class-of-reads
+use Rattle.text.proofs.cursor.Cursor.number.Reads as number
+use Rattle.text.proofs.cursor.class_of.Reads as class-of
 use Rattle.text.proofs.cursor.Cursor.+form+item.{statement}
 use Rattle.text.proofs.cursor.Cursor.+form+item.Tie.{close}
 
-abbrev μ-form : Measures 1 form-kinds.ps ℕ
-μ-form κs a = length (a .1 .0 .now) - a .0 .at
+-- The bytes left.
+abbrev form-left : Measures 1 form-kinds.ps ℕ
+form-left κs a = length (a .1 .0 .now) - a .0 .at
 
-abbrev μ-item : Measures 1 item-kinds.ps ℕ
-μ-item κs a = length (a .1 .0 .now) - a .0 .at
+abbrev item-left : Measures 1 item-kinds.ps ℕ
+item-left κs a = length (a .1 .0 .now) - a .0 .at
 
+-- Where t bytes are left: what a reader may take for granted, and what its calls ask and promise.
 abbrev form-at : ℕ → In 1 form-kinds.ps
-form-at t = and 1 form-kinds.ps (is 1 form-kinds.ps μ-form t) form.Pre
+form-at t = and 1 form-kinds.ps (is 1 form-kinds.ps form-left t) form.Pre
 
-abbrev form-below : ℕ → In 1 form-kinds.ps
-form-below t = and 1 form-kinds.ps (falls 1 form-kinds.ps _<_ μ-form t) form.Pre
+abbrev form-calls : ℕ → form-lts.Claims
+form-calls t = (class-of.Asked, class-of.Learnt, and 1 item-kinds.ps (falls 1 item-kinds.ps _<_ item-left t) item.Pre, item.Post)
 
 abbrev item-at : ℕ → In 1 item-kinds.ps
-item-at t = and 1 item-kinds.ps (is 1 item-kinds.ps μ-item t) item.Pre
+item-at t = and 1 item-kinds.ps (is 1 item-kinds.ps item-left t) item.Pre
 
-abbrev item-below : ℕ → In 1 item-kinds.ps
-item-below t = and 1 item-kinds.ps (falls 1 item-kinds.ps _<_ μ-item t) item.Pre
+abbrev item-calls : ℕ → item-lts.Claims
+item-calls t = (number.Asked, number.Learnt, class-of.Asked, class-of.Learnt, and 1 form-kinds.ps (falls 1 form-kinds.ps _<_ form-left t) form.Pre, form.Post)
 
-abbrev form-Inv-loop : form-lts.InvT-loop
-form-Inv-loop text what n₀ at₀ n at = Counting what text at₀ n at
+abbrev counting : form-lts.InvT-loop
+counting text what n₀ at₀ n at = Counting what text at₀ n at
 
-abbrev form-μ-loop : form-lts.MeasureT-loop
-form-μ-loop text what n₀ at₀ n at = length text - at
+abbrev loop-left : form-lts.MeasureT-loop
+loop-left text what n₀ at₀ n at = length text - at
 
-form-loop-holds : (t : ℕ) → form-lts.Need-loop-holds (
-  class-of-reads.Asked,
-  class-of-reads.Learnt,
-  item-below t,
-  item.Post,
-) (form-at t) form.Post form-Inv-loop form-μ-loop
-form-loop-holds t c = counting-first
+module _ (t : ℕ) where
+  form-loop-holds : form-lts.Need-loop-holds (form-calls t) (form-at t) form.Post counting loop-left
+  form-loop-holds c = counting-first
 
-form-shared-slice-read-class-of : (t : ℕ) → form-lts.Need-shared-slice-read-class-of (
-  class-of-reads.Asked,
-  class-of-reads.Learnt,
-  item-below t,
-  item.Post,
-) (form-at t) form.Post form-Inv-loop form-μ-loop
-form-shared-slice-read-class-of t c = search needs
+  form-shared-slice-read-class-of : form-lts.Need-shared-slice-read-class-of (form-calls t) (form-at t) form.Post counting loop-left
+  form-shared-slice-read-class-of c = search needs
 
-form-class-of-requires : (t : ℕ) → form-lts.Need-class-of-requires (
-  class-of-reads.Asked,
-  class-of-reads.Learnt,
-  item-below t,
-  item.Post,
-) (form-at t) form.Post form-Inv-loop form-μ-loop
-form-class-of-requires t c κs = search needs
+  form-class-of-requires : form-lts.Need-class-of-requires (form-calls t) (form-at t) form.Post counting loop-left
+  form-class-of-requires c κs = search needs
 
-form-enum-told : (t : ℕ) → form-lts.Need-enum-told (
-  class-of-reads.Asked,
-  class-of-reads.Learnt,
-  item-below t,
-  item.Post,
-) (form-at t) form.Post form-Inv-loop form-μ-loop
-form-enum-told t c = search needs
+  form-enum-told : form-lts.Need-enum-told (form-calls t) (form-at t) form.Post counting loop-left
+  form-enum-told c = search needs
 
-form-add-t13 : (t : ℕ) → form-lts.Need-add-t13 (
-  class-of-reads.Asked,
-  class-of-reads.Learnt,
-  item-below t,
-  item.Post,
-) (form-at t) form.Post form-Inv-loop form-μ-loop
-form-add-t13 t c = search needs
+  form-add-t13 : form-lts.Need-add-t13 (form-calls t) (form-at t) form.Post counting loop-left
+  form-add-t13 c = search needs
 
-form-returns : (t : ℕ) → form-lts.Need-returns (
-  class-of-reads.Asked,
-  class-of-reads.Learnt,
-  item-below t,
-  item.Post,
-) (form-at t) form.Post form-Inv-loop form-μ-loop
-form-returns t c = counting-close ((c .before .before .before .before .before .loop) .inv) ((c .before .before .before .before .loop-test) .taken) (closing-byte (getD ((c .before .before .before .before .before .before .before .args) .text .now) ((c .before .before .before .before .before .loop) .at) 0) ((c .enum-told) .given .1) ((c .before .before .class-of) .ensures))
+  form-returns : form-lts.Need-returns (form-calls t) (form-at t) form.Post counting loop-left
+  form-returns c =
+      let k = c .before .before in
+      counting-close (k .before .before .before .loop .inv) (k .before .before .loop-test .taken) (closing-byte (c .enum-told .given .1) (k .class-of .ensures))
 
-form-enum-told-2 : (t : ℕ) → form-lts.Need-enum-told-2 (
-  class-of-reads.Asked,
-  class-of-reads.Learnt,
-  item-below t,
-  item.Post,
-) (form-at t) form.Post form-Inv-loop form-μ-loop
-form-enum-told-2 t c = search needs
+  form-enum-told-2 : form-lts.Need-enum-told-2 (form-calls t) (form-at t) form.Post counting loop-left
+  form-enum-told-2 c = search needs
 
-form-returns-2 : (t : ℕ) → form-lts.Need-returns-2 (
-  class-of-reads.Asked,
-  class-of-reads.Learnt,
-  item-below t,
-  item.Post,
-) (form-at t) form.Post form-Inv-loop form-μ-loop
-form-returns-2 t c = let a = arm-no-item (getD ((c .before .before .before .before .before .before .args) .text .now) ((c .before .before .before .before .loop) .at) 0) ((c .before .class-of) .ensures) ((c .match) .keys3) in counting-other ((c .before .before .before .before .loop) .inv) ((c .before .before .before .loop-test) .taken) (a .0) (a .1)
+  form-returns-2 : form-lts.Need-returns-2 (form-calls t) (form-at t) form.Post counting loop-left
+  form-returns-2 c =
+      let k = c .before in
+      let a = arm-no-item _ (k .class-of .ensures) (c .match .keys3) in
+      counting-other (k .before .before .before .loop .inv) (k .before .before .loop-test .taken) (a .0) (a .1)
 
-form-add-t9 : (t : ℕ) → form-lts.Need-add-t9 (
-  class-of-reads.Asked,
-  class-of-reads.Learnt,
-  item-below t,
-  item.Post,
-) (form-at t) form.Post form-Inv-loop form-μ-loop
-form-add-t9 t c = search needs
+  form-add-t9 : form-lts.Need-add-t9 (form-calls t) (form-at t) form.Post counting loop-left
+  form-add-t9 c = search needs
 
-form-item-requires : (t : ℕ) → form-lts.Need-item-requires (
-  class-of-reads.Asked,
-  class-of-reads.Learnt,
-  item-below t,
-  item.Post,
-) (form-at t) form.Post form-Inv-loop form-μ-loop
-form-item-requires t c κs = search needs
+  form-item-requires : form-lts.Need-item-requires (form-calls t) (form-at t) form.Post counting loop-left
+  form-item-requires c κs = search needs
 
-form-enum-known-c : (t : ℕ) → form-lts.Need-enum-known-c (
-  class-of-reads.Asked,
-  class-of-reads.Learnt,
-  item-below t,
-  item.Post,
-) (form-at t) form.Post form-Inv-loop form-μ-loop
-form-enum-known-c t c = search needs
+  form-enum-known-c : form-lts.Need-enum-known-c (form-calls t) (form-at t) form.Post counting loop-left
+  form-enum-known-c c = search needs
 
-form-add-n : (t : ℕ) → form-lts.Need-add-n (
-  class-of-reads.Asked,
-  class-of-reads.Learnt,
-  item-below t,
-  item.Post,
-) (form-at t) form.Post form-Inv-loop form-μ-loop
-form-add-n t c = search needs
+  form-add-n : form-lts.Need-add-n (form-calls t) (form-at t) form.Post counting loop-left
+  form-add-n c = search needs
 
-form-loop-less : (t : ℕ) → form-lts.Need-loop-less (
-  class-of-reads.Asked,
-  class-of-reads.Learnt,
-  item-below t,
-  item.Post,
-) (form-at t) form.Post form-Inv-loop form-μ-loop
-form-loop-less t c = let r = rw ((c .before .c) .given .1) at ((c .before .before .before .item) .ensures) in omega (arith, r .moved .0)
+  form-loop-less : form-lts.Need-loop-less (form-calls t) (form-at t) form.Post counting loop-left
+  form-loop-less c =
+      let r = rw (c .before .c .given .1) at (c .before .before .before .item .ensures) in
+      omega (arith, r .moved .0)
 
-form-loop-again : (t : ℕ) → form-lts.Need-loop-again (
-  class-of-reads.Asked,
-  class-of-reads.Learnt,
-  item-below t,
-  item.Post,
-) (form-at t) form.Post form-Inv-loop form-μ-loop
-form-loop-again t c = let r = rw ((c .before .c) .given .1) at ((c .before .before .before .item) .ensures) in counting-next ((c .before .before .before .before .before .before .before .before .before .loop) .inv) ((c .before .before .before .before .before .before .before .before .loop-test) .taken) (blank-byte (getD ((c .before .before .before .before .before .before .before .before .before .before .before .args) .text .now) ((c .before .before .before .before .before .before .before .before .before .loop) .at) 0) ((c .before .before .before .before .enum-told2) .given .1) ((c .before .before .before .before .before .before .class-of) .ensures)) r
+  form-loop-again : form-lts.Need-loop-again (form-calls t) (form-at t) form.Post counting loop-left
+  form-loop-again c =
+      let b = c .before .before .before .before in
+      let k = b .before .before in
+      counting-next (k .before .before .before .loop .inv) (k .before .before .loop-test .taken) (blank-byte (b .enum-told2 .given .1) (k .class-of .ensures))
+      (rw (c .before .c .given .1) at (c .before .before .before .item .ensures))
 
-form-enum-told-3 : (t : ℕ) → form-lts.Need-enum-told-3 (
-  class-of-reads.Asked,
-  class-of-reads.Learnt,
-  item-below t,
-  item.Post,
-) (form-at t) form.Post form-Inv-loop form-μ-loop
-form-enum-told-3 t c = search needs
+  form-enum-told-3 : form-lts.Need-enum-told-3 (form-calls t) (form-at t) form.Post counting loop-left
+  form-enum-told-3 c = search needs
 
-form-returns-3 : (t : ℕ) → form-lts.Need-returns-3 (
-  class-of-reads.Asked,
-  class-of-reads.Learnt,
-  item-below t,
-  item.Post,
-) (form-at t) form.Post form-Inv-loop form-μ-loop
-form-returns-3 t c = let r = rw ((c .enum-told3) .given .1) at ((c .before .before .item) .ensures) in counting-broken ((c .before .before .before .before .before .before .before .before .loop) .inv) ((c .before .before .before .before .before .before .before .loop-test) .taken) (blank-byte (getD ((c .before .before .before .before .before .before .before .before .before .before .args) .text .now) ((c .before .before .before .before .before .before .before .before .loop) .at) 0) ((c .before .before .before .enum-told2) .given .1) ((c .before .before .before .before .before .class-of) .ensures)) r
+  form-returns-3 : form-lts.Need-returns-3 (form-calls t) (form-at t) form.Post counting loop-left
+  form-returns-3 c =
+      let b = c .before .before .before in
+      let k = b .before .before in
+      counting-broken (k .before .before .before .loop .inv) (k .before .before .loop-test .taken) (blank-byte (b .enum-told2 .given .1) (k .class-of .ensures))
+      (rw (c .enum-told3 .given .1) at (c .before .before .item .ensures))
 
-form-returns-4 : (t : ℕ) → form-lts.Need-returns-4 (
-  class-of-reads.Asked,
-  class-of-reads.Learnt,
-  item-below t,
-  item.Post,
-) (form-at t) form.Post form-Inv-loop form-μ-loop
-form-returns-4 t c = counting-end ((c .before .loop) .inv) ((c .loop-test) .left)
+  form-returns-4 : form-lts.Need-returns-4 (form-calls t) (form-at t) form.Post counting loop-left
+  form-returns-4 c = counting-end (c .before .loop .inv) (c .loop-test .left)
 
-item-enum-told : (t : ℕ) → item-lts.Need-enum-told (
-  number-reads.Asked,
-  number-reads.Learnt,
-  class-of-reads.Asked,
-  class-of-reads.Learnt,
-  form-below t,
-  form.Post,
-) (item-at t) item.Post
-item-enum-told t c = search needs
+  item-enum-told : item-lts.Need-enum-told (item-calls t) (item-at t) item.Post
+  item-enum-told c = search needs
 
-item-number-requires : (t : ℕ) → item-lts.Need-number-requires (
-  number-reads.Asked,
-  number-reads.Learnt,
-  class-of-reads.Asked,
-  class-of-reads.Learnt,
-  form-below t,
-  form.Post,
-) (item-at t) item.Post
-item-number-requires t c κs = search needs
+  item-number-requires : item-lts.Need-number-requires (item-calls t) (item-at t) item.Post
+  item-number-requires c κs = search needs
 
-item-enum-told-2 : (t : ℕ) → item-lts.Need-enum-told-2 (
-  number-reads.Asked,
-  number-reads.Learnt,
-  class-of-reads.Asked,
-  class-of-reads.Learnt,
-  form-below t,
-  form.Post,
-) (item-at t) item.Post
-item-enum-told-2 t c = search needs
+  item-enum-told-2 : item-lts.Need-enum-told-2 (item-calls t) (item-at t) item.Post
+  item-enum-told-2 c = search needs
 
-item-number-requires-2 : (t : ℕ) → item-lts.Need-number-requires-2 (
-  number-reads.Asked,
-  number-reads.Learnt,
-  class-of-reads.Asked,
-  class-of-reads.Learnt,
-  form-below t,
-  form.Post,
-) (item-at t) item.Post
-item-number-requires-2 t c κs = search needs
+  item-number-requires-2 : item-lts.Need-number-requires-2 (item-calls t) (item-at t) item.Post
+  item-number-requires-2 c κs = search needs
 
-item-enum-told-3 : (t : ℕ) → item-lts.Need-enum-told-3 (
-  number-reads.Asked,
-  number-reads.Learnt,
-  class-of-reads.Asked,
-  class-of-reads.Learnt,
-  form-below t,
-  form.Post,
-) (item-at t) item.Post
-item-enum-told-3 t c = search needs
+  item-enum-told-3 : item-lts.Need-enum-told-3 (item-calls t) (item-at t) item.Post
+  item-enum-told-3 c = search needs
 
-item-returns : (t : ℕ) → item-lts.Need-returns (
-  number-reads.Asked,
-  number-reads.Learnt,
-  class-of-reads.Asked,
-  class-of-reads.Learnt,
-  form-below t,
-  form.Post,
-) (item-at t) item.Post
-item-returns t c = rw ((c .before .enum-told3) .given .1) (item-end ((c .if1) .taken))
+  item-returns : item-lts.Need-returns (item-calls t) (item-at t) item.Post
+  item-returns c = rw (c .before .enum-told3 .given .1) (item-end (c .if1 .taken))
 
-item-shared-slice-read-class-of : (t : ℕ) → item-lts.Need-shared-slice-read-class-of (
-  number-reads.Asked,
-  number-reads.Learnt,
-  class-of-reads.Asked,
-  class-of-reads.Learnt,
-  form-below t,
-  form.Post,
-) (item-at t) item.Post
-item-shared-slice-read-class-of t c = search needs
+  item-shared-slice-read-class-of : item-lts.Need-shared-slice-read-class-of (item-calls t) (item-at t) item.Post
+  item-shared-slice-read-class-of c = search needs
 
-item-class-of-requires : (t : ℕ) → item-lts.Need-class-of-requires (
-  number-reads.Asked,
-  number-reads.Learnt,
-  class-of-reads.Asked,
-  class-of-reads.Learnt,
-  form-below t,
-  form.Post,
-) (item-at t) item.Post
-item-class-of-requires t c κs = search needs
+  item-class-of-requires : item-lts.Need-class-of-requires (item-calls t) (item-at t) item.Post
+  item-class-of-requires c κs = search needs
 
-item-enum-told-4 : (t : ℕ) → item-lts.Need-enum-told-4 (
-  number-reads.Asked,
-  number-reads.Learnt,
-  class-of-reads.Asked,
-  class-of-reads.Learnt,
-  form-below t,
-  form.Post,
-) (item-at t) item.Post
-item-enum-told-4 t c = search needs
+  item-enum-told-4 : item-lts.Need-enum-told-4 (item-calls t) (item-at t) item.Post
+  item-enum-told-4 c = search needs
 
-item-returns-2 : (t : ℕ) → item-lts.Need-returns-2 (
-  number-reads.Asked,
-  number-reads.Learnt,
-  class-of-reads.Asked,
-  class-of-reads.Learnt,
-  form-below t,
-  form.Post,
-) (item-at t) item.Post
-item-returns-2 t c = rw ((c .before .before .before .before .enum-told3) .given .1) (item-other ((c .before .before .before .if1) .left) (arm-no-opening (getD ((c .before .before .before .before .before .before .before .args) .text .now) ((c .before .before .before .before .before .before .before .args) .self .at) 0) ((c .before .class-of) .ensures) ((c .match2) .keys2)))
+  item-returns-2 : item-lts.Need-returns-2 (item-calls t) (item-at t) item.Post
+  item-returns-2 c =
+      let k = c .before in
+      rw (k .before .before .before .enum-told3 .given .1) (item-other (k .before .before .if1 .left) (arm-no-opening _ (k .class-of .ensures) (c .match2 .keys2)))
 
-item-add-t10 : (t : ℕ) → item-lts.Need-add-t10 (
-  number-reads.Asked,
-  number-reads.Learnt,
-  class-of-reads.Asked,
-  class-of-reads.Learnt,
-  form-below t,
-  form.Post,
-) (item-at t) item.Post
-item-add-t10 t c = search needs
+  item-add-t10 : item-lts.Need-add-t10 (item-calls t) (item-at t) item.Post
+  item-add-t10 c = search needs
 
-item-number-requires-3 : (t : ℕ) → item-lts.Need-number-requires-3 (
-  number-reads.Asked,
-  number-reads.Learnt,
-  class-of-reads.Asked,
-  class-of-reads.Learnt,
-  form-below t,
-  form.Post,
-) (item-at t) item.Post
-item-number-requires-3 t c κs = search needs
+  item-number-requires-3 : item-lts.Need-number-requires-3 (item-calls t) (item-at t) item.Post
+  item-number-requires-3 c κs = search needs
 
-item-enum-known-c : (t : ℕ) → item-lts.Need-enum-known-c (
-  number-reads.Asked,
-  number-reads.Learnt,
-  class-of-reads.Asked,
-  class-of-reads.Learnt,
-  form-below t,
-  form.Post,
-) (item-at t) item.Post
-item-enum-known-c t c = search needs
+  item-enum-known-c : item-lts.Need-enum-known-c (item-calls t) (item-at t) item.Post
+  item-enum-known-c c = search needs
 
-item-form-requires : (t : ℕ) → item-lts.Need-form-requires (
-  number-reads.Asked,
-  number-reads.Learnt,
-  class-of-reads.Asked,
-  class-of-reads.Learnt,
-  form-below t,
-  form.Post,
-) (item-at t) item.Post
-item-form-requires t c κs = let r = rw ((c .before .c) .given .1) at ((c .before .before .before .number3) .ensures) in let m = r .moved in search needs
+  item-form-requires : item-lts.Need-form-requires (item-calls t) (item-at t) item.Post
+  item-form-requires c κs =
+      let r = rw (c .before .c .given .1) at (c .before .before .before .number3 .ensures) in
+      let m = r .moved in
+      search needs
 
-item-enum-known-n : (t : ℕ) → item-lts.Need-enum-known-n (
-  number-reads.Asked,
-  number-reads.Learnt,
-  class-of-reads.Asked,
-  class-of-reads.Learnt,
-  form-below t,
-  form.Post,
-) (item-at t) item.Post
-item-enum-known-n t c = search needs
+  item-enum-known-n : item-lts.Need-enum-known-n (item-calls t) (item-at t) item.Post
+  item-enum-known-n c = search needs
 
-item-enum-told-5 : (t : ℕ) → item-lts.Need-enum-told-5 (
-  number-reads.Asked,
-  number-reads.Learnt,
-  class-of-reads.Asked,
-  class-of-reads.Learnt,
-  form-below t,
-  form.Post,
-) (item-at t) item.Post
-item-enum-told-5 t c = search needs
+  item-enum-told-5 : item-lts.Need-enum-told-5 (item-calls t) (item-at t) item.Post
+  item-enum-told-5 c = search needs
 
-item-enum-told-6 : (t : ℕ) → item-lts.Need-enum-told-6 (
-  number-reads.Asked,
-  number-reads.Learnt,
-  class-of-reads.Asked,
-  class-of-reads.Learnt,
-  form-below t,
-  form.Post,
-) (item-at t) item.Post
-item-enum-told-6 t c = search needs
+  item-enum-told-6 : item-lts.Need-enum-told-6 (item-calls t) (item-at t) item.Post
+  item-enum-told-6 c = search needs
 
-item-returns-3 : (t : ℕ) → item-lts.Need-returns-3 (
-  number-reads.Asked,
-  number-reads.Learnt,
-  class-of-reads.Asked,
-  class-of-reads.Learnt,
-  form-below t,
-  form.Post,
-) (item-at t) item.Post
-item-returns-3 t c = rw ((c .before .enum-told) .given .1) (item-samples ((c .number) .ensures))
+  item-returns-3 : item-lts.Need-returns-3 (item-calls t) (item-at t) item.Post
+  item-returns-3 c = rw (c .before .enum-told .given .1) (item-samples (c .number .ensures))
 
-item-returns-4 : (t : ℕ) → item-lts.Need-returns-4 (
-  number-reads.Asked,
-  number-reads.Learnt,
-  class-of-reads.Asked,
-  class-of-reads.Learnt,
-  form-below t,
-  form.Post,
-) (item-at t) item.Post
-item-returns-4 t c = rw ((c .before .enum-told2) .given .1) (item-numbers ((c .number2) .ensures))
+  item-returns-4 : item-lts.Need-returns-4 (item-calls t) (item-at t) item.Post
+  item-returns-4 c = rw (c .before .enum-told2 .given .1) (item-numbers (c .number2 .ensures))
 
-item-returns-5 : (t : ℕ) → item-lts.Need-returns-5 (
-  number-reads.Asked,
-  number-reads.Learnt,
-  class-of-reads.Asked,
-  class-of-reads.Learnt,
-  form-below t,
-  form.Post,
-) (item-at t) item.Post
-item-returns-5 t c = let o = opening-byte (getD ((c .before .before .before .before .before .before .before .before .before .before .before .before .before .before .before .before .before .args) .text .now) ((c .before .before .before .before .before .before .before .before .before .before .before .before .before .before .before .before .before .args) .self .at) 0) ((c .before .before .before .before .before .before .before .before .before .enum-told4) .given .1) ((c .before .before .before .before .before .before .before .before .before .before .before .class-of) .ensures) in let r = rw ((c .before .before .before .before .before .before .c) .given .1) at ((c .before .before .before .before .before .before .before .before .number3) .ensures) in let f = rw ((c .before .before .n) .given .1) at ((c .before .before .before .before .form) .ensures) in rw ((c .before .before .before .before .before .before .before .before .before .before .before .before .before .before .enum-told3) .given .1) (item-three ((c .before .before .before .before .before .before .before .before .before .before .before .before .before .if1) .left) o r f ((c .if2) .taken))
+  item-returns-5 : item-lts.Need-returns-5 (item-calls t) (item-at t) item.Post
+  item-returns-5 c =
+      let called = c .before .before .before .before in
+      let first = called .before .before .before .before in
+      let o = first .before in
+      rw (o .before .before .before .before .before .enum-told3 .given .1)
+      (item-three (o .before .before .before .before .if1 .left) (opening-byte (o .enum-told4 .given .1) (o .before .before .class-of .ensures)) (rw (called .before .before .c .given .1) at (first .number3 .ensures)) (rw (c .before .before .n .given .1) at (called .form .ensures)) (c .if2 .taken))
 
-item-returns-6 : (t : ℕ) → item-lts.Need-returns-6 (
-  number-reads.Asked,
-  number-reads.Learnt,
-  class-of-reads.Asked,
-  class-of-reads.Learnt,
-  form-below t,
-  form.Post,
-) (item-at t) item.Post
-item-returns-6 t c = let o = opening-byte (getD ((c .before .before .before .before .before .before .before .before .before .before .before .before .before .before .before .before .before .args) .text .now) ((c .before .before .before .before .before .before .before .before .before .before .before .before .before .before .before .before .before .args) .self .at) 0) ((c .before .before .before .before .before .before .before .before .before .enum-told4) .given .1) ((c .before .before .before .before .before .before .before .before .before .before .before .class-of) .ensures) in let r = rw ((c .before .before .before .before .before .before .c) .given .1) at ((c .before .before .before .before .before .before .before .before .number3) .ensures) in let f = rw ((c .before .before .n) .given .1) at ((c .before .before .before .before .form) .ensures) in rw ((c .before .before .before .before .before .before .before .before .before .before .before .before .before .before .enum-told3) .given .1) (item-count ((c .before .before .before .before .before .before .before .before .before .before .before .before .before .if1) .left) o r f ((c .if2) .left))
+  item-returns-6 : item-lts.Need-returns-6 (item-calls t) (item-at t) item.Post
+  item-returns-6 c =
+      let called = c .before .before .before .before in
+      let first = called .before .before .before .before in
+      let o = first .before in
+      rw (o .before .before .before .before .before .enum-told3 .given .1)
+      (item-count (o .before .before .before .before .if1 .left) (opening-byte (o .enum-told4 .given .1) (o .before .before .class-of .ensures)) (rw (called .before .before .c .given .1) at (first .number3 .ensures)) (rw (c .before .before .n .given .1) at (called .form .ensures)) (c .if2 .left))
 
-item-returns-7 : (t : ℕ) → item-lts.Need-returns-7 (
-  number-reads.Asked,
-  number-reads.Learnt,
-  class-of-reads.Asked,
-  class-of-reads.Learnt,
-  form-below t,
-  form.Post,
-) (item-at t) item.Post
-item-returns-7 t c = let o = opening-byte (getD ((c .before .before .before .before .before .before .before .before .before .before .before .before .before .before .before .args) .text .now) ((c .before .before .before .before .before .before .before .before .before .before .before .before .before .before .before .args) .self .at) 0) ((c .before .before .before .before .before .before .before .enum-told4) .given .1) ((c .before .before .before .before .before .before .before .before .before .class-of) .ensures) in let r = rw ((c .before .before .before .before .c) .given .1) at ((c .before .before .before .before .before .before .number3) .ensures) in let f = rw ((c .enum-told5) .given .1) at ((c .before .before .form) .ensures) in rw ((c .before .before .before .before .before .before .before .before .before .before .before .before .enum-told3) .given .1) (item-rest ((c .before .before .before .before .before .before .before .before .before .before .before .if1) .left) o r f)
+  item-returns-7 : item-lts.Need-returns-7 (item-calls t) (item-at t) item.Post
+  item-returns-7 c =
+      let called = c .before .before in
+      let first = called .before .before .before .before in
+      let o = first .before in
+      rw (o .before .before .before .before .before .enum-told3 .given .1)
+      (item-rest (o .before .before .before .before .if1 .left) (opening-byte (o .enum-told4 .given .1) (o .before .before .class-of .ensures)) (rw (called .before .before .c .given .1) at (first .number3 .ensures)) (rw (c .enum-told5 .given .1) at (called .form .ensures)))
 
-item-returns-8 : (t : ℕ) → item-lts.Need-returns-8 (
-  number-reads.Asked,
-  number-reads.Learnt,
-  class-of-reads.Asked,
-  class-of-reads.Learnt,
-  form-below t,
-  form.Post,
-) (item-at t) item.Post
-item-returns-8 t c = let o = opening-byte (getD ((c .before .before .before .before .before .before .before .before .before .before .before .args) .text .now) ((c .before .before .before .before .before .before .before .before .before .before .before .args) .self .at) 0) ((c .before .before .before .enum-told4) .given .1) ((c .before .before .before .before .before .class-of) .ensures) in let r = rw ((c .enum-told6) .given .1) at ((c .before .before .number3) .ensures) in rw ((c .before .before .before .before .before .before .before .before .enum-told3) .given .1) (item-first ((c .before .before .before .before .before .before .before .if1) .left) o r)
+  item-returns-8 : item-lts.Need-returns-8 (item-calls t) (item-at t) item.Post
+  item-returns-8 c =
+      let first = c .before .before in
+      let o = first .before in
+      rw (o .before .before .before .before .before .enum-told3 .given .1)
+      (item-first (o .before .before .before .before .if1 .left) (opening-byte (o .enum-told4 .given .1) (o .before .before .class-of .ensures)) (rw (c .enum-told6 .given .1) at (first .number3 .ensures)))
 
 pub +form+item-spec : {M : Type 1} → statement M
-+form+item-spec = close μ-form μ-item (λ t. form-lts.spec (
-  class-of-reads.Asked,
-  class-of-reads.Learnt,
-  item-below t,
-  item.Post,
-)
-    (form-at t)
-    form.Post
-    form-Inv-loop
-    form-μ-loop
-    (form-loop-holds t)
-    (form-shared-slice-read-class-of t)
-    (form-class-of-requires t)
-    (form-enum-told t)
-    (form-add-t13 t)
-    (form-returns t)
-    (form-enum-told-2 t)
-    (form-returns-2 t)
-    (form-add-t9 t)
-    (form-item-requires t)
-    (form-enum-known-c t)
-    (form-add-n t)
-    (form-loop-less t)
-    (form-loop-again t)
-    (form-enum-told-3 t)
-    (form-returns-3 t)
-    (form-returns-4 t))
-    λ t. item-lts.spec (
-      number-reads.Asked,
-      number-reads.Learnt,
-      class-of-reads.Asked,
-      class-of-reads.Learnt,
-      form-below t,
-      form.Post,
-    )
-    (item-at t)
-    item.Post
-    (item-enum-told t)
-    (item-number-requires t)
-    (item-enum-told-2 t)
-    (item-number-requires-2 t)
-    (item-enum-told-3 t)
-    (item-returns t)
-    (item-shared-slice-read-class-of t)
-    (item-class-of-requires t)
-    (item-enum-told-4 t)
-    (item-returns-2 t)
-    (item-add-t10 t)
-    (item-number-requires-3 t)
-    (item-enum-known-c t)
-    (item-form-requires t)
-    (item-enum-known-n t)
-    (item-enum-told-5 t)
-    (item-enum-told-6 t)
-    (item-returns-3 t)
-    (item-returns-4 t)
-    (item-returns-5 t)
-    (item-returns-6 t)
-    (item-returns-7 t)
-    (item-returns-8 t)
++form+item-spec = close form-left item-left
+    (λ t. form-lts.spec (form-calls t) (form-at t) form.Post counting loop-left (form-loop-holds t) (form-shared-slice-read-class-of t) (form-class-of-requires t) (form-enum-told t) (form-add-t13 t) (form-returns t) (form-enum-told-2 t) (form-returns-2 t) (form-add-t9 t) (form-item-requires t) (form-enum-known-c t) (form-add-n t) (form-loop-less t) (form-loop-again t) (form-enum-told-3 t) (form-returns-3 t) (form-returns-4 t))
+    (λ t. item-lts.spec (item-calls t) (item-at t) item.Post (item-enum-told t) (item-number-requires t) (item-enum-told-2 t) (item-number-requires-2 t) (item-enum-told-3 t) (item-returns t) (item-shared-slice-read-class-of t) (item-class-of-requires t) (item-enum-told-4 t) (item-returns-2 t) (item-add-t10 t) (item-number-requires-3 t) (item-enum-known-c t) (item-form-requires t) (item-enum-known-n t) (item-enum-told-5 t) (item-enum-told-6 t) (item-returns-3 t) (item-returns-4 t) (item-returns-5 t) (item-returns-6 t) (item-returns-7 t) (item-returns-8 t))
