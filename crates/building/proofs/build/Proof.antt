@@ -23,11 +23,13 @@ enum-known-fits c = search needs
 
 returns : tie.Need-returns
 returns c =
-    let a = c .before .before .before .before .before .before .before .args in
+    let at-rooms = c .before .before .before in
+    let s = at-rooms .before .before .before .before in
+    let a = s .args in
     let why = c .before .fits2 .given in
     let file = fileIn (a .head) (now (a .picture)) in
     record {
-      number = sym (ap given (why .1)) ∙ c .before .before .before .rooms .ensures;
+      number = sym (ap given (why .1)) ∙ at-rooms .rooms .ensures;
       length-is = kept-by (why .0 .0) (length file) 0;
       out-given = kept-by (why .0 .0) (file ++ drop (length file) (now (a .out))) (now (a .out));
       work-left = kept-by (why .0 .0) (replicate (length (now (a .work))) 0) (now (a .work));
@@ -47,8 +49,10 @@ same-length-2 c = search needs
 
 returns-2 : tie.Need-returns-2
 returns-2 c =
-    let g = c .before .before .before .before .put-file .ensures in
-    record { number = sym (none (c .before .before .before .before .before .before .before)); length-is = g .length-is; out-given = g .out-is; work-left = g .work-is }
+    let at-put-file = c .before .before .before .before in
+    let at-enum-told = at-put-file .before .before .before in
+    let g = at-put-file .put-file .ensures in
+    record { number = sym (none at-enum-told); length-is = g .length-is; out-given = g .out-is; work-left = g .work-is }
 
 pub build-spec : {M : Type 1} → statement M
 build-spec =

@@ -48,13 +48,15 @@ yes c e = sym (c .allowed .ensures) ∙ e
 -- what the room of the file says
 long : (c : tie.After-file-fits) → c .file-fits .result ≡ true → let a = c .before .before .before .before .before .before .before .before .args in ltb (a .out) (length (fileIn (a .head) (now (a .picture)))) ≡ false
 long c e =
-    let a = c .before .before .before .before .before .before .before .before .args in
+    let s = c .before .before .before .before .before .before .before .before in
+    let a = s .args in
     let n : ℕ = length (fileIn (a .head) (now (a .picture))) in
     le-ltb (a .out) n (leb-true n (a .out) (sym (c .file-fits .ensures) ∙ e))
 
 short : (c : tie.After-file-fits) → c .file-fits .result ≡ false → let a = c .before .before .before .before .before .before .before .before .args in ltb (a .out) (length (fileIn (a .head) (now (a .picture)))) ≡ true
 short c e =
-    let a = c .before .before .before .before .before .before .before .before .args in
+    let s = c .before .before .before .before .before .before .before .before in
+    let a = s .args in
     let n : ℕ = length (fileIn (a .head) (now (a .picture))) in
     lt-ltb (a .out) n (leb-false n (a .out) (sym (c .file-fits .ensures) ∙ e))
 
@@ -70,9 +72,11 @@ enum-told-2 c = search needs
 returns : tie.Need-returns
 unfolding more
 returns c =
-    let a = c .before .before .before .before .before .args in
+    let at-sized = c .before .before in
+    let s = at-sized .before .before .before in
+    let a = s .args in
     let why = c .enum-told2 .given in
-    refused-answer (c .before .before .sized .result) (why .0 .0) (why .1) (sizeRules (a .head .size) (length (now (a .picture)))) (more (c .before .before .before .before .before)) (c .before .before .sized .ensures)
+    refused-answer (at-sized .sized .result) (why .0 .0) (why .1) (sizeRules (a .head .size) (length (now (a .picture)))) (more s) (at-sized .sized .ensures)
 
 allowed-requires : tie.Need-allowed-requires
 allowed-requires c κs = search needs
@@ -89,20 +93,28 @@ mul-if3-2 c = omega (arith, all-most (c .before .before .before .before))
 returns-2 : tie.Need-returns-2
 unfolding more
 returns-2 c =
-    let n = c .before .before .before .before .before in
-    sym (rest n ∙ simp (yes (c .before .before .before .before) (c .before .before .before .if1 .taken), long (c .before .before) (c .before .if2 .taken), lt-ltb _ _ (c .if3 .taken)))
+    let at-file-fits = c .before .before in
+    let at-if1 = at-file-fits .before in
+    let at-allowed = at-if1 .before in
+    let n = at-allowed .before in
+    sym (rest n ∙ simp (yes at-allowed (at-if1 .if1 .taken), long at-file-fits (c .before .if2 .taken), lt-ltb _ _ (c .if3 .taken)))
 
 returns-3 : tie.Need-returns-3
 unfolding more
 returns-3 c =
-    let n = c .before .before .before .before .before in
-    sym (rest n ∙ simp (yes (c .before .before .before .before) (c .before .before .before .if1 .taken), long (c .before .before) (c .before .if2 .taken), le-ltb _ _ (c .if3 .left)))
+    let at-file-fits = c .before .before in
+    let at-if1 = at-file-fits .before in
+    let at-allowed = at-if1 .before in
+    let n = at-allowed .before in
+    sym (rest n ∙ simp (yes at-allowed (at-if1 .if1 .taken), long at-file-fits (c .before .if2 .taken), le-ltb _ _ (c .if3 .left)))
 
 returns-4 : tie.Need-returns-4
 unfolding more
 returns-4 c =
-    let n = c .before .before .before .before in
-    sym (rest n ∙ simp (yes (c .before .before .before) (c .before .before .if1 .taken), short (c .before) (c .if2 .left)))
+    let at-if1 = c .before .before in
+    let at-allowed = at-if1 .before in
+    let n = at-allowed .before in
+    sym (rest n ∙ simp (yes at-allowed (at-if1 .if1 .taken), short (c .before) (c .if2 .left)))
 
 returns-5 : tie.Need-returns-5
 unfolding more

@@ -37,7 +37,9 @@ none c = sym (c .before .before .rooms .ensures) ∙ ap given (c .enum-told .giv
 
 rest : (c : tie.After-enum-told) → number (c .before .before .before .before .before .before) ≡ refusal (last (c .before .before .before .before .before .before))
 unfolding first last number
-rest c = served-first (first (c .before .before .before .before .before .before)) (last (c .before .before .before .before .before .before)) refl (none c)
+rest c =
+    let s = c .before .before .before .before .before .before in
+    served-first (first s) (last s) refl (none c)
 
 needed : (c : tie.After-enum-told) → let a = c .before .before .before .before .before .before .args in SeamNeeded (now (a .picture)) (a .size) (a .axis) (now (a .seam)) (now (a .work))
 unfolding first
@@ -52,19 +54,21 @@ enum-known-fits c = search needs
 returns : tie.Need-returns
 unfolding first last number
 returns c =
-    let a = c .before .before .before .before .before .before .before .args in
+    let at-rooms = c .before .before .before in
+    let s = at-rooms .before .before .before .before in
+    let a = s .args in
     let z = a .size in
     let x = a .axis in
     let p = picture z (now (a .picture)) in
     let why = c .before .fits2 .given in
-    let n = number (c .before .before .before .before .before .before .before) in
-    let e = sym (ap given (why .1)) ∙ refused-answer (c .before .before .before .rooms .result) (why .0 .0) (why .1) (first (c .before .before .before .before .before .before .before)) (last (c .before .before .before .before .before .before .before)) (c .before .before .before .rooms .ensures) in
-    let few = refusal-most 8 (first (c .before .before .before .before .before .before .before)) refl in (
+    let n = number s in
+    let e = sym (ap given (why .1)) ∙ refused-answer (at-rooms .rooms .result) (why .0 .0) (why .1) (first s) (last s) (at-rooms .rooms .ensures) in
+    let few = refusal-most 8 (first s) refl in (
       record {
         number-is = e;
         cost-is = left-as-was (why .0 .0) n e (costAlong x z p) 0;
         seam-is = left-as-was (why .0 .0) n e (seamAlong x z p ++ drop (turnedSize x z .height) (now (a .seam))) (now (a .seam));
-        work-is = work-as-was (why .0 .0) n e (omega (arith, few, sym (ap given (why .1)) ∙ c .before .before .before .rooms .ensures)) (now (a .work));
+        work-is = work-as-was (why .0 .0) n e (omega (arith, few, sym (ap given (why .1)) ∙ at-rooms .rooms .ensures)) (now (a .work));
       },
       record {
         picture-is = left-as-was (why .0 .0) n e (bytes (cutAlong x z (seamAlong x z p) p) ++ replicate (turnedSize x z .height * channelsOf (z .kind)) 0) (now (a .picture));
@@ -86,18 +90,23 @@ same-length c = search needs
 returns-2 : tie.Need-returns-2
 unfolding first last number
 returns-2 c =
-    let a = c .before .before .before .before .before .before .before .before .before .before .before .before .args in
+    let at-clear = c .before .before in
+    let at-if1 = at-clear .before .before in
+    let at-turned-size = at-if1 .before in
+    let at-enum-told = at-turned-size .before in
+    let s = at-enum-told .before .before .before .before .before .before in
+    let a = s .args in
     let z = a .size in
     let x = a .axis in
     let p = picture z (now (a .picture)) in
-    let narrow = rw (c .before .before .before .before .before .turned-size .ensures) at (c .before .before .before .before .if1 .taken) in
-    let n = number (c .before .before .before .before .before .before .before .before .before .before .before .before) in
-    let e : 13 ≡ number (c .before .before .before .before .before .before .before .before .before .before .before .before) = sym (rest (c .before .before .before .before .before .before) ∙ simp (eq-eqb _ _ narrow)) in (
+    let narrow = rw (at-turned-size .turned-size .ensures) at (at-if1 .if1 .taken) in
+    let n = number s in
+    let e : 13 ≡ number s = sym (rest at-enum-told ∙ simp (eq-eqb _ _ narrow)) in (
       record {
         number-is = e;
         cost-is = left-as-was Last n e (costAlong x z p) 0;
         seam-is = left-as-was Last n e (seamAlong x z p ++ drop (turnedSize x z .height) (now (a .seam))) (now (a .seam));
-        work-is = c .before .before .clear .ensures ∙ ap (λ k. cleared k (now (a .work))) e;
+        work-is = at-clear .clear .ensures ∙ ap (λ k. cleared k (now (a .work))) e;
       },
       record {
         picture-is = left-as-was Last n e (bytes (cutAlong x z (seamAlong x z p) p) ++ replicate (turnedSize x z .height * channelsOf (z .kind)) 0) (now (a .picture));
@@ -106,9 +115,13 @@ returns-2 c =
 
 cut-along-requires : tie.Need-cut-along-requires
 cut-along-requires c κs =
-    let a = c .before .before .before .before .before .before .before .before .before .before .before .args in
-    let p = needed (c .before .before .before .before .before) in
-    let two : turnedSize (a .axis) (a .size) .width ≡ 1 → ⊥ = rw (c .before .before .before .before .turned-size .ensures) at (c .before .before .before .if1 .left) in
+    let at-if1 = c .before .before .before in
+    let at-turned-size = at-if1 .before in
+    let at-enum-told = at-turned-size .before in
+    let s = at-enum-told .before .before .before .before .before .before in
+    let a = s .args in
+    let p = needed at-enum-told in
+    let two : turnedSize (a .axis) (a .size) .width ≡ 1 → ⊥ = rw (at-turned-size .turned-size .ensures) at (at-if1 .if1 .left) in
     (p, record { wide = turned-some (a .axis) (a .size) (length (now (a .picture))) (sized-is _ _ (p .sized)) two })
 
 same-length-2 : tie.Need-same-length-2
@@ -123,10 +136,15 @@ same-length-4 c = search needs
 returns-3 : tie.Need-returns-3
 unfolding first last number
 returns-3 c =
-    let a = c .before .before .before .before .before .before .before .before .before .before .before .before .before .before .before .before .before .before .args in
-    let two : turnedSize (a .axis) (a .size) .width ≡ 1 → ⊥ = rw (c .before .before .before .before .before .before .before .before .before .before .before .turned-size .ensures) at (c .before .before .before .before .before .before .before .before .before .before .if1 .left) in
-    let e : number (c .before .before .before .before .before .before .before .before .before .before .before .before .before .before .before .before .before .before) ≡ 0 = rest (c .before .before .before .before .before .before .before .before .before .before .before .before) ∙ simp (ne-eqb _ _ two) in
-    rw e (c .before .before .before .before .before .before .cut-along .ensures)
+    let at-cut-along = c .before .before .before .before .before .before in
+    let at-if1 = at-cut-along .before .before .before .before in
+    let at-turned-size = at-if1 .before in
+    let at-enum-told = at-turned-size .before in
+    let s = at-enum-told .before .before .before .before .before .before in
+    let a = s .args in
+    let two : turnedSize (a .axis) (a .size) .width ≡ 1 → ⊥ = rw (at-turned-size .turned-size .ensures) at (at-if1 .if1 .left) in
+    let e : number s ≡ 0 = rest at-enum-told ∙ simp (ne-eqb _ _ two) in
+    rw e (at-cut-along .cut-along .ensures)
 
 pub cut-spec : {M : Type 1} → statement M
 cut-spec =

@@ -32,15 +32,19 @@ inside c = along-inside (c .args .axis) (c .args .size) (length (now (c .args .p
 
 -- the seam's space and the work space when it was found
 seam-room : (c : tie.After-seam-along) → turnedSize (c .before .before .before .before .before .before .before .before .args .axis) (c .before .before .before .before .before .before .before .before .args .size) .height ≤ length (c .seam-along .last .1 .1 .1 .0)
-seam-room c = omega (arith, c .before .before .before .before .before .before .before .before .pre .0 .seam-room, c .seam-along .kept .1 .1 .1 .0)
+seam-room c =
+    let s = c .before .before .before .before .before .before .before .before in
+    omega (arith, s .pre .0 .seam-room, c .seam-along .kept .1 .1 .1 .0)
 
 lent : (c : tie.After-seam-along) → take (c .before .before .before .before .turned-size .result .height) (c .seam-along .last .1 .1 .1 .0) ≡ seam (c .before .before .before .before .before .before .before .before)
 unfolding seam
 lent c =
-    let a = c .before .before .before .before .before .before .before .before .args in
+    let at-turned-size = c .before .before .before .before in
+    let s = at-turned-size .before .before .before .before in
+    let a = s .args in
     let h = turnedSize (a .axis) (a .size) .height in
-    ap (λ t. take (t .height) (c .seam-along .last .1 .1 .1 .0)) (c .before .before .before .before .turned-size .ensures)
-    ∙ ap (take h) (c .seam-along .ensures .seam-is) ∙ take-at (seam (c .before .before .before .before .before .before .before .before)) (drop h (now (a .seam))) h (each-length (inside (c .before .before .before .before .before .before .before .before)))
+    ap (λ t. take (t .height) (c .seam-along .last .1 .1 .1 .0)) (at-turned-size .turned-size .ensures)
+    ∙ ap (take h) (c .seam-along .ensures .seam-is) ∙ take-at (seam s) (drop h (now (a .seam))) h (each-length (inside s))
 
 work-long : (c : tie.After-seam-along) → length (c .seam-along .last .1 .1 .1 .1 .0) ≡ length (now (c .before .before .before .before .before .before .before .before .args .work))
 work-long c = c .seam-along .kept .1 .1 .1 .1 .0
@@ -52,20 +56,27 @@ seam-along-requires : tie.Need-seam-along-requires
 seam-along-requires c κs = search needs
 
 slice-reshare-prefix-close : tie.Need-slice-reshare-prefix-close
-slice-reshare-prefix-close c = rw (c .before .before .before .before .before .before .before .before .before .turned-size .ensures) (seam-room (c .before .before .before .before .before))
+slice-reshare-prefix-close c =
+    let at-seam-along = c .before .before .before .before .before in
+    let at-turned-size = at-seam-along .before .before .before .before in
+    rw (at-turned-size .turned-size .ensures) (seam-room at-seam-along)
 
 slice-aggregate-close : tie.Need-slice-aggregate-close
-slice-aggregate-close c = sym (length-take-le (c .before .before .before .before .before .before .before .before .before .before .turned-size .result .height) (c .before .before .before .before .before .before .seam-along .last .1 .1 .1 .0) (rw (c .before .before .before .before .before .before .before .before .before .before .turned-size .ensures) (seam-room (c .before .before .before .before .before .before))))
+slice-aggregate-close c =
+    let at-seam-along = c .before .before .before .before .before .before in
+    let at-turned-size = at-seam-along .before .before .before .before in
+    sym (length-take-le (at-turned-size .turned-size .result .height) (at-seam-along .seam-along .last .1 .1 .1 .0) (rw (at-turned-size .turned-size .ensures) (seam-room at-seam-along)))
 
 close-requires : tie.Need-close-requires
 close-requires c κs =
     let q = c .before .before .before .before .before .before .before in
-    let p = c .before .before .before .before .before .before .before .before .before .before .before .before .before .before .before .pre in
+    let s = q .before .before .before .before .before .before .before .before in
+    let p = s .pre in
     record {
       sized = p .0 .sized;
       wide = p .1 .wide;
-      inside = rw (lent q) (inside (c .before .before .before .before .before .before .before .before .before .before .before .before .before .before .before));
-      room = omega (arith, bytes-few (c .before .before .before .before .before .before .before .before .before .before .before .before .before .before .before .args .size), p .0 .work-room, work-long q);
+      inside = rw (lent q) (inside s);
+      room = omega (arith, bytes-few (s .args .size), p .0 .work-room, work-long q);
       zero = q .seam-along .ensures .work-is ∙ ap (λ n. replicate n 0) (sym (work-long q));
     }
 
@@ -81,12 +92,14 @@ same-length-3 c = search needs
 returns : tie.Need-returns
 unfolding seam
 returns c =
-    let q = c .before .before .before .before .before .before .before .before .before .before .before .before in
-    let a = c .before .before .before .before .before .before .before .before .before .before .before .before .before .before .before .before .before .before .before .before .args in
+    let at-close = c .before .before .before .before in
+    let q = at-close .before .before .before .before .before .before .before .before in
+    let start = q .before .before .before .before .before .before .before .before in
+    let a = start .args in
     let z = a .size in
     let b = now (a .picture) in
     let f = q .seam-along .ensures in
-    let k = c .before .before .before .before .close .ensures in (
+    let k = at-close .close .ensures in (
       record {
         number-is = f .number-is;
         cost-is = f .cost-is;

@@ -24,11 +24,13 @@ enum-known-fits c = search needs
 
 returns : tie.Need-returns
 returns c =
-    let a = c .before .before .before .before .before .before .before .args in
+    let at-rooms = c .before .before .before in
+    let s = at-rooms .before .before .before .before in
+    let a = s .args in
     let b = now (a .picture) in
     let why = c .before .fits2 .given in
     let n = refusal (findRules (a .axis) (a .size) (length b) (length (now (a .seam))) (length (now (a .work)))) in
-    let e = sym (ap given (why .1)) ∙ c .before .before .before .rooms .ensures in
+    let e = sym (ap given (why .1)) ∙ at-rooms .rooms .ensures in
     record {
       number-is = e;
       cost-is = left-as-was (why .0 .0) n e (costAlong (a .axis) (a .size) (picture (a .size) b)) 0;
@@ -40,7 +42,11 @@ enum-told : tie.Need-enum-told
 enum-told c = search needs
 
 seam-along-requires : tie.Need-seam-along-requires
-seam-along-requires c κs = let a = c .before .before .before .before .before .before .before .before .args in rooms-are (a .axis) (a .size) (now (a .picture)) (now (a .seam)) (now (a .work)) (none (c .before .before))
+seam-along-requires c κs =
+    let at-enum-told = c .before .before in
+    let s = at-enum-told .before .before .before .before .before .before in
+    let a = s .args in
+    rooms-are (a .axis) (a .size) (now (a .picture)) (now (a .seam)) (now (a .work)) (none at-enum-told)
 
 same-length : tie.Need-same-length
 same-length c = search needs
@@ -49,7 +55,10 @@ same-length-2 : tie.Need-same-length-2
 same-length-2 c = search needs
 
 returns-2 : tie.Need-returns-2
-returns-2 c = rw (none (c .before .before .before .before .before .before .before)) (c .before .before .before .before .seam-along .ensures)
+returns-2 c =
+    let at-seam-along = c .before .before .before .before in
+    let at-enum-told = at-seam-along .before .before .before in
+    rw (none at-enum-told) (at-seam-along .seam-along .ensures)
 
 pub find-spec : {M : Type 1} → statement M
 find-spec =

@@ -26,10 +26,15 @@ none c = sym (c .before .before .sized .ensures) ∙ ap given (c .enum-told .giv
 
 rest : (c : tie.After-enum-told) → let a = c .before .before .before .args in refusal (findRules (a .axis) (a .size) (a .bytes) (a .seam) (a .work)) ≡ refusal (more (c .before .before .before))
 unfolding more
-rest c = served-first (sizeRules (c .before .before .before .args .size) (c .before .before .before .args .bytes)) (more (c .before .before .before)) refl (none c)
+rest c =
+    let s = c .before .before .before in
+    served-first (sizeRules (s .args .size) (s .args .bytes)) (more s) refl (none c)
 
 all-most : (c : tie.After-enum-told) → pixels (c .before .before .before .args .size) ≤ 262144
-all-most c = let s = sized-is (c .before .before .before .args .size) (c .before .before .before .args .bytes) (none c) in mul-le-mul (s .height-most) (s .width-most)
+all-most c =
+    let start = c .before .before .before in
+    let s = sized-is (start .args .size) (start .args .bytes) (none c) in
+    mul-le-mul (s .height-most) (s .width-most)
 
 sized-requires : tie.Need-sized-requires
 sized-requires c κs = search needs
@@ -43,9 +48,11 @@ enum-told-2 c = search needs
 returns : tie.Need-returns
 unfolding more
 returns c =
-    let a = c .before .before .before .args in
+    let at-sized = c .before .before in
+    let s = at-sized .before in
+    let a = s .args in
     let why = c .enum-told2 .given in
-    refused-answer (c .before .before .sized .result) (why .0 .0) (why .1) (sizeRules (a .size) (a .bytes)) (more (c .before .before .before)) (c .before .before .sized .ensures)
+    refused-answer (at-sized .sized .result) (why .0 .0) (why .1) (sizeRules (a .size) (a .bytes)) (more s) (at-sized .sized .ensures)
 
 turned-size-requires : tie.Need-turned-size-requires
 turned-size-requires c κs = search needs
@@ -65,14 +72,18 @@ mul-if2-2 c = omega (arith, all-most (c .before .before))
 returns-3 : tie.Need-returns-3
 unfolding more
 returns-3 c =
-    let long = rw (c .before .before .turned-size .ensures) at (c .before .if1 .left) in
-    sym (rest (c .before .before .before) ∙ simp (le-ltb _ _ long, lt-ltb _ _ (c .if2 .taken)))
+    let at-turned-size = c .before .before in
+    let at-enum-told = at-turned-size .before in
+    let long = rw (at-turned-size .turned-size .ensures) at (c .before .if1 .left) in
+    sym (rest at-enum-told ∙ simp (le-ltb _ _ long, lt-ltb _ _ (c .if2 .taken)))
 
 returns-4 : tie.Need-returns-4
 unfolding more
 returns-4 c =
-    let long = rw (c .before .before .turned-size .ensures) at (c .before .if1 .left) in
-    sym (rest (c .before .before .before) ∙ simp (le-ltb _ _ long, le-ltb _ _ (c .if2 .left)))
+    let at-turned-size = c .before .before in
+    let at-enum-told = at-turned-size .before in
+    let long = rw (at-turned-size .turned-size .ensures) at (c .before .if1 .left) in
+    sym (rest at-enum-told ∙ simp (le-ltb _ _ long, le-ltb _ _ (c .if2 .left)))
 
 pub rooms-spec : {M : Type 1} → statement M
 rooms-spec =

@@ -25,25 +25,32 @@ sure c = sized-is _ _ (c .pre .sized)
 there : (c : tie.After-find-in) → let a = c .before .before .before .before .before .before .before .before .before .before .before .args in
     FoundThere (c .before .before .before .before .before .turn .last .1 .1 .1 .0) (turnedSize (a .axis) (a .size)) (now (a .seam)) (c .find-in .result) (c .find-in .last .0) (c .find-in .last .1 .1 .0)
 there c =
-    let a = c .before .before .before .before .before .before .before .before .before .before .before .args in
-    let s = sure (c .before .before .before .before .before .before .before .before .before .before .before) in
-    let p = c .before .before .before .before .before .before .before .before .before .before .before .pre in
-    find-served (c .before .before .before .before .before .turn .last .1 .1 .1 .0) (turnedSize (a .axis) (a .size)) (now (a .seam)) (c .find-in .result) (c .find-in .last .0) (c .find-in .last .1 .1 .0)
-    (rw (c .before .before .before .before .before .before .before .turned-size .ensures) at (c .find-in .ensures))
+    let at-turn = c .before .before .before .before .before in
+    let at-turned-size = at-turn .before .before in
+    let start = at-turned-size .before .before .before .before in
+    let a = start .args in
+    let s = sure start in
+    let p = start .pre in
+    find-served (at-turn .turn .last .1 .1 .1 .0) (turnedSize (a .axis) (a .size)) (now (a .seam)) (c .find-in .result) (c .find-in .last .0) (c .find-in .last .1 .1 .0)
+    (rw (at-turned-size .turned-size .ensures) at (c .find-in .ensures))
     (turned-sides (a .axis) (a .size) (length (now (a .picture))) s) (p .seam-room)
-    (omega (arith, turned-bytes (a .axis) (a .size), turned-pixels (a .axis) (a .size), bytes-few (a .size), p .work-room, c .before .before .before .before .before .turn .kept .1 .1 .1 .0))
+    (omega (arith, turned-bytes (a .axis) (a .size), turned-pixels (a .axis) (a .size), bytes-few (a .size), p .work-room, at-turn .turn .kept .1 .1 .1 .0))
 
 seen : (c : tie.After-find-in) → let a = c .before .before .before .before .before .before .before .before .before .before .before .args in let t = turnedSize (a .axis) (a .size) in
     picture t (take (pictureBytes t) (c .before .before .before .before .before .turn .last .1 .1 .1 .0)) ≡ turned (a .axis) (a .size .width) (picture (a .size) (now (a .picture)))
 seen c =
-    let a = c .before .before .before .before .before .before .before .before .before .before .before .args in
-    turned-picture (a .axis) (a .size) (now (a .picture)) (c .before .before .before .before .before .turn .last .1 .1 .1 .0) (drop (pictureBytes (a .size)) (now (a .work))) (sure (c .before .before .before .before .before .before .before .before .before .before .before) .length-is) (c .before .before .before .before .before .turn .ensures)
+    let at-turn = c .before .before .before .before .before in
+    let s = at-turn .before .before .before .before .before .before in
+    let a = s .args in
+    turned-picture (a .axis) (a .size) (now (a .picture)) (at-turn .turn .last .1 .1 .1 .0) (drop (pictureBytes (a .size)) (now (a .work))) (sure s .length-is) (at-turn .turn .ensures)
 
 turned-size-requires : tie.Need-turned-size-requires
 turned-size-requires c κs = search needs
 
 turn-requires : tie.Need-turn-requires
-turn-requires c κs = record { sized = c .before .before .before .before .before .pre .sized; room = omega (arith, bytes-few (c .before .before .before .before .before .args .size), c .before .before .before .before .before .pre .work-room) }
+turn-requires c κs =
+    let s = c .before .before .before .before .before in
+    record { sized = s .pre .sized; room = omega (arith, bytes-few (s .args .size), s .pre .work-room) }
 
 find-in-requires : tie.Need-find-in-requires
 find-in-requires c κs = search needs
@@ -60,15 +67,17 @@ same-length-2 c = search needs
 returns : tie.Need-returns
 unfolding seamAlong costAlong
 returns c =
-    let f = c .before .before .before .before .before .before .before .before in
-    let a = c .before .before .before .before .before .before .before .before .before .before .before .before .before .before .before .before .before .before .before .args in
+    let at-clear = c .before .before in
+    let f = at-clear .before .before .before .before .before .before in
+    let s = f .before .before .before .before .before .before .before .before .before .before .before in
+    let a = s .args in
     let t = turnedSize (a .axis) (a .size) in
     let g = there f in
     record {
       number-is = g .number;
       cost-is = g .cost ∙ ap (costOf (t .width) (t .height)) (seen f);
       seam-is = g .seam-given ∙ ap (λ p. seamOf (t .width) (t .height) p ++ drop (t .height) (now (a .seam))) (seen f);
-      work-is = c .before .before .clear .ensures ∙ ap (λ n. replicate n 0) (f .find-in .kept .0 ∙ f .before .before .before .before .before .turn .kept .1 .1 .1 .0);
+      work-is = at-clear .clear .ensures ∙ ap (λ n. replicate n 0) (f .find-in .kept .0 ∙ f .before .before .before .before .before .turn .kept .1 .1 .1 .0);
     }
 
 pub seam-along-spec : {M : Type 1} → statement M

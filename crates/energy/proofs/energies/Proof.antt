@@ -32,13 +32,15 @@ enum-told-2 c = search needs
 
 returns : tie.Need-returns
 returns c =
-    let a = c .before .before .before .before .before .args in
+    let at-sized = c .before .before in
+    let s = at-sized .before .before .before in
+    let a = s .args in
     let why = c .enum-told2 .given in
     let rules = sizeRules (a .size) (length (now (a .picture))) in
     let more = 4 when leb (a .size .height) (a .r) ∷ 8 when ltb (length (now (a .out))) (a .size .width) ∷ [] in
     record {
-      answer = refused-answer (c .before .before .sized .result) (why .0 .0) (why .1) rules more (c .before .before .sized .ensures);
-      space = refused-kept (c .before .before .sized .result) (why .0 .0) (why .1) (energies (a .size .width) (picture (a .size) (now (a .picture))) (a .r) ++ drop (a .size .width) (now (a .out))) (now (a .out));
+      answer = refused-answer (at-sized .sized .result) (why .0 .0) (why .1) rules more (at-sized .sized .ensures);
+      space = refused-kept (at-sized .sized .result) (why .0 .0) (why .1) (energies (a .size .width) (picture (a .size) (now (a .picture))) (a .r) ++ drop (a .size .width) (now (a .out))) (now (a .out));
     }
 
 returns-2 : tie.Need-returns-2
@@ -48,16 +50,23 @@ returns-3 : tie.Need-returns-3
 returns-3 c = record { answer = sym (rest (c .before .before) ∙ simp (lt-leb _ _ (c .before .if1 .left), lt-ltb _ _ (c .if2 .taken))); space = refl }
 
 row-energies-requires : tie.Need-row-energies-requires
-row-energies-requires c κs = record { sized = none (c .before .before .before); inside = c .before .before .if1 .left; room = c .before .if2 .left }
+row-energies-requires c κs =
+    let at-if1 = c .before .before in
+    let at-enum-told = at-if1 .before in
+    record { sized = none at-enum-told; inside = at-if1 .if1 .left; room = c .before .if2 .left }
 
 same-length : tie.Need-same-length
 same-length c = search needs
 
 returns-4 : tie.Need-returns-4
 returns-4 c =
+    let at-row-energies = c .before .before in
+    let at-if2 = at-row-energies .before .before in
+    let at-if1 = at-if2 .before in
+    let at-enum-told = at-if1 .before in
     record {
-      answer = sym (rest (c .before .before .before .before .before .before) ∙ simp (lt-leb _ _ (c .before .before .before .before .before .if1 .left), le-ltb _ _ (c .before .before .before .before .if2 .left)));
-      space = c .before .before .row-energies .ensures;
+      answer = sym (rest at-enum-told ∙ simp (lt-leb _ _ (at-if1 .if1 .left), le-ltb _ _ (at-if2 .if2 .left)));
+      space = at-row-energies .row-energies .ensures;
     }
 
 pub energies-spec : {M : Type 1} → statement M

@@ -17,19 +17,26 @@ sure c = sized-is _ _ (c .pre .sized)
 
 -- both rows end within the picture
 within : (c : tie.After-lower-row) → let a = c .before .before .before .before .args in Ends (a .size) (now (a .picture)) (a .r) (c .before .row-bytes .result) (c .lower-row .result) (sure (c .before .before .before .before)) (c .before .before .before .before .pre .inside) (c .before .row-bytes .ensures .0) (c .lower-row .ensures)
-within c = let a = c .before .before .before .before .args in ends (a .size) (now (a .picture)) (a .r) (c .before .row-bytes .result) (c .lower-row .result) (sure (c .before .before .before .before)) (c .before .before .before .before .pre .inside) (c .before .row-bytes .ensures .0) (c .lower-row .ensures)
+within c =
+    let at-row-bytes = c .before in
+    let s = at-row-bytes .before .before .before in
+    let a = s .args in
+    ends (a .size) (now (a .picture)) (a .r) (at-row-bytes .row-bytes .result) (c .lower-row .result) (sure s) (s .pre .inside) (at-row-bytes .row-bytes .ensures .0) (c .lower-row .ensures)
 
 row-bytes-requires : tie.Need-row-bytes-requires
 row-bytes-requires c κs = sure (c .before .before) .width-most
 
 mul-at : tie.Need-mul-at
 mul-at c =
-    let a = c .before .before .before .args in
-    let most : a .r ≤ 512 = omega (arith, sure (c .before .before .before) .height-most, c .before .before .before .pre .inside) in
+    let s = c .before .before .before in
+    let a = s .args in
+    let most : a .r ≤ 512 = omega (arith, sure s .height-most, s .pre .inside) in
     omega (arith, mul-le-mul most (c .row-bytes .ensures .1))
 
 lower-row-requires : tie.Need-lower-row-requires
-lower-row-requires c κs = (c .before .before .before .pre .inside, sure (c .before .before .before) .height-most, c .row-bytes .ensures .1)
+lower-row-requires c κs =
+    let s = c .before .before .before in
+    (s .pre .inside, sure s .height-most, c .row-bytes .ensures .1)
 
 add-line-energies : tie.Need-add-line-energies
 add-line-energies c = let e = within c in omega arith
@@ -66,9 +73,10 @@ same-length c = search needs
 
 returns : tie.Need-returns
 returns c =
-    let u = c .before .before .before .before .before .before in
+    let at-line-energies = c .before .before in
+    let u = at-line-energies .before .before .before .before in
     let a = u .before .before .before .before .args in
-    c .before .before .line-energies .ensures
+    at-line-energies .line-energies .ensures
     ∙ ap (_++ drop (a .size .width) (now (a .out)))
     (lines-are (a .size) (now (a .picture)) (a .r) (u .before .row-bytes .result) (u .lower-row .result) (sure (u .before .before .before .before)) (u .before .before .before .before .pre .inside) (u .before .row-bytes .ensures .0) (u .lower-row .ensures))
 

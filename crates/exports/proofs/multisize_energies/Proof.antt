@@ -27,10 +27,13 @@ same-length c = search needs
 
 returns-2 : tie.Need-returns-2
 returns-2 c =
-    rw (sym (c .before .before .before .before .before .before .before .before .size-named .ensures) ∙ c .before .before .before .before .before .before .size .given .1)
+    let at-energies = c .before .before .before in
+    let at-size = at-energies .before .before .before in
+    let at-size-named = at-size .before .before in
+    rw (sym (at-size-named .size-named .ensures) ∙ at-size .size .given .1)
     (record {
-      answer = c .given .ensures ∙ c .before .before .before .energies .ensures .answer;
-      space = rw (c .given .ensures) (c .before .before .before .energies .ensures .space);
+      answer = c .given .ensures ∙ at-energies .energies .ensures .answer;
+      space = rw (c .given .ensures) (at-energies .energies .ensures .space);
     })
 
 pub multisize-energies-spec : {M : Type 1} → statement M

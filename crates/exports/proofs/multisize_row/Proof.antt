@@ -32,8 +32,11 @@ refused-requires-2 c κs = search needs
 
 returns-2 : tie.Need-returns-2
 returns-2 c =
-    let short = rw (c .before .before .row .ensures) at (c .before .if1 .taken) in
-    rw (sym (c .before .before .before .before .before .before .size-named .ensures) ∙ c .before .before .before .before .size .given .1, c .refused2 .ensures)
+    let at-row = c .before .before in
+    let at-size = at-row .before .before in
+    let at-size-named = at-size .before .before in
+    let short = rw (at-row .row .ensures) at (c .before .if1 .taken) in
+    rw (sym (at-size-named .size-named .ensures) ∙ at-size .size .given .1, c .refused2 .ensures)
     (record { answer = simp (lt-ltb _ _ short); value = refl; space = refl })
 
 copy-requires : tie.Need-copy-requires
@@ -44,15 +47,21 @@ same-length c = search needs
 
 returns-3 : tie.Need-returns-3
 returns-3 c =
-    let row = c .before .before .before .before .before .row in
-    let out = now (c .before .before .before .before .before .before .before .before .before .before .before .before .args .out) in
-    let room = rw (row .ensures) at (c .before .before .before .before .if1 .left) in
-    rw (sym (c .before .before .before .before .before .before .before .before .before .size-named .ensures) ∙ c .before .before .before .before .before .before .before .size .given .1)
+    let at-copy = c .before .before in
+    let at-if1 = at-copy .before .before in
+    let at-row = at-if1 .before in
+    let at-size = at-row .before .before in
+    let at-size-named = at-size .before .before in
+    let s = at-size-named .before .before .before in
+    let row = at-row .row in
+    let out = now (s .args .out) in
+    let room = rw (row .ensures) at (at-if1 .if1 .left) in
+    rw (sym (at-size-named .size-named .ensures) ∙ at-size .size .given .1)
     (record {
       answer = simp (le-ltb _ _ room);
-      value = c .before .before .copy .ensures .0 ∙ ap length (row .ensures);
+      value = at-copy .copy .ensures .0 ∙ ap length (row .ensures);
       space =
-          c .before .before .copy .ensures .1
+          at-copy .copy .ensures .1
           ∙ ap (_++ drop (length (now (row .result))) out) (take-length (now (row .result)))
           ∙ ap (λ x. x ++ drop (length x) out) (row .ensures);
     })

@@ -27,13 +27,18 @@ none c = sym (c .before .before .sides .ensures) ∙ ap given (c .enum-told .giv
 
 rest : (c : tie.After-enum-told) → let a = c .before .before .before .before .before .args in refusal (findRules (a .size) (length (now (a .space))) (length (now (a .seam)))) ≡ refusal (more (c .before .before .before .before .before))
 unfolding more
-rest c = served-first (sideRules (c .before .before .before .before .before .args .size)) (more (c .before .before .before .before .before)) refl (none c)
+rest c =
+    let s = c .before .before .before .before .before in
+    served-first (sideRules (s .args .size)) (more s) refl (none c)
 
 sure : (c : tie.After-enum-told) → Sides (c .before .before .before .before .before .args .size)
 sure c = sides-are _ (none c)
 
 bytes-are : (c : tie.After-picture-bytes) → c .picture-bytes .result ≡ pictureBytes (c .before .before .before .before .before .before .before .args .size)
-bytes-are c = c .picture-bytes .ensures ∙ ap (λ n. served n (pictureBytes (c .before .before .before .before .before .before .before .args .size)) 0) (none (c .before .before))
+bytes-are c =
+    let at-enum-told = c .before .before in
+    let s = at-enum-told .before .before .before .before .before in
+    c .picture-bytes .ensures ∙ ap (λ n. served n (pictureBytes (s .args .size)) 0) (none at-enum-told)
 
 all-most : (c : tie.After-enum-told) → pixels (c .before .before .before .before .before .args .size) ≤ 262144
 all-most c = mul-le-mul (sure c .height-most) (sure c .width-most)
@@ -47,12 +52,14 @@ enum-known-allowed c = search needs
 returns : tie.Need-returns
 unfolding more
 returns c =
-    let a = c .before .before .before .before .before .before .args in
+    let at-sides = c .before .before .before in
+    let s = at-sides .before .before .before in
+    let a = s .args in
     let z = a .size in
     let why = c .before .allowed .given in
-    let v = c .before .before .before .sides .result in
+    let v = at-sides .sides .result in
     let space = now (a .space) in
-    let n = refused-answer v (why .0 .0) (why .1) (sideRules z) (more (c .before .before .before .before .before .before)) (c .before .before .before .sides .ensures) in
+    let n = refused-answer v (why .0 .0) (why .1) (sideRules z) (more s) (at-sides .sides .ensures) in
     record {
       number = sym (ap given (why .1)) ∙ n;
       cost = kept-by (why .0 .0) (costOf (z .width) (z .height) (picture z (take (pictureBytes z) space))) 0;
@@ -84,9 +91,11 @@ add-needed c = omega (arith, all-most (c .before .before), bytes-are c, sure (c 
 returns-3 : tie.Need-returns-3
 unfolding more
 returns-3 c =
+    let at-if1 = c .before .before in
+    let at-enum-told = at-if1 .before in
     let short = rw (bytes-are (c .before)) at (c .if2 .taken) in
     record {
-      number = sym (rest (c .before .before .before) ∙ simp (le-ltb _ _ (c .before .before .if1 .left), lt-ltb _ _ short));
+      number = sym (rest at-enum-told ∙ simp (le-ltb _ _ (at-if1 .if1 .left), lt-ltb _ _ short));
       cost = refl;
       space-left = refl;
       seam-given = refl;
@@ -94,12 +103,17 @@ returns-3 c =
 
 seam-in-requires : tie.Need-seam-in-requires
 seam-in-requires c κs =
-    let b = bytes-are (c .before .before .before) in
+    let at-if2 = c .before .before in
+    let at-picture-bytes = at-if2 .before in
+    let at-if1 = at-picture-bytes .before in
+    let at-enum-told = at-if1 .before in
+    let s = at-enum-told .before .before .before .before .before in
+    let b = bytes-are at-picture-bytes in
     record {
       bytes-are = b;
-      sized = sized-served (c .before .before .before .before .before .before .before .before .before .before .args .size) (none (c .before .before .before .before .before));
-      room = rw b at (c .before .before .if2 .left);
-      seam-room = c .before .before .before .before .if1 .left;
+      sized = sized-served (s .args .size) (none at-enum-told);
+      room = rw b at (at-if2 .if2 .left);
+      seam-room = at-if1 .if1 .left;
     }
 
 same-length : tie.Need-same-length
@@ -111,10 +125,15 @@ same-length-2 c = search needs
 returns-4 : tie.Need-returns-4
 unfolding more
 returns-4 c =
-    let g = c .before .before .before .before .seam-in .ensures in
-    let long = rw (bytes-are (c .before .before .before .before .before .before .before .before)) at (c .before .before .before .before .before .before .before .if2 .left) in
+    let at-seam-in = c .before .before .before .before in
+    let at-if2 = at-seam-in .before .before .before in
+    let at-picture-bytes = at-if2 .before in
+    let at-if1 = at-picture-bytes .before in
+    let at-enum-told = at-if1 .before in
+    let g = at-seam-in .seam-in .ensures in
+    let long = rw (bytes-are at-picture-bytes) at (at-if2 .if2 .left) in
     record {
-      number = sym (rest (c .before .before .before .before .before .before .before .before .before .before) ∙ simp (le-ltb _ _ (c .before .before .before .before .before .before .before .before .before .if1 .left), le-ltb _ _ long));
+      number = sym (rest at-enum-told ∙ simp (le-ltb _ _ (at-if1 .if1 .left), le-ltb _ _ long));
       cost = g .cost-is;
       space-left = g .space-is;
       seam-given = g .seam-is;

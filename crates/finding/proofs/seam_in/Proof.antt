@@ -67,12 +67,16 @@ ways-are c = c .find-bottom .ensures .ways
 
 ways-wide : (c : tie.After-find-bottom) → length (ways (c .before .before .before .before)) ≡ (c .before .before .before .before .args .size .height - 1) * c .before .before .before .before .args .size .width
 unfolding ways
-ways-wide c = let z = c .before .before .before .before .args .size in ways-long 4294967295 (z .width) (z .height - 1) (costsOf z (front (c .before .before .before .before)))
+ways-wide c =
+    let s = c .before .before .before .before in
+    let z = s .args .size in
+    ways-long 4294967295 (z .width) (z .height - 1) (costsOf z (front s))
 
 ways-lent : (c : tie.After-find-bottom) → let a = c .before .before .before .before .args in take (a .bytes + (a .size .height - 1) * a .size .width - a .bytes) (drop (a .bytes) (c .find-bottom .last .0)) ≡ ways (c .before .before .before .before)
 ways-lent c =
-    let a = c .before .before .before .before .args in
-    space-lent (now (a .space)) (front (c .before .before .before .before)) (ways (c .before .before .before .before)) (c .find-bottom .last .0) (pictureBytes (a .size)) ((a .size .height - 1) * a .size .width) (ways-are c) (front-long (c .before .before .before .before)) (ways-wide c) (a .bytes) (c .before .before .before .before .pre .bytes-are)
+    let s = c .before .before .before .before in
+    let a = s .args in
+    space-lent (now (a .space)) (front s) (ways s) (c .find-bottom .last .0) (pictureBytes (a .size)) ((a .size .height - 1) * a .size .width) (ways-are c) (front-long s) (ways-wide c) (a .bytes) (s .pre .bytes-are)
 
 kept-long : (c : tie.After-find-bottom) → length (c .find-bottom .last .0) ≡ length (now (c .before .before .before .before .args .space))
 kept-long c = c .find-bottom .kept .0
@@ -94,8 +98,9 @@ add-end c = let e = ends (c .before .before) in omega arith
 
 find-bottom-requires : tie.Need-find-bottom-requires
 find-bottom-requires c κs =
-    let p = c .before .before .before .pre in
-    let e = ends (c .before .before .before) in
+    let s = c .before .before .before in
+    let p = s .pre in
+    let e = ends s in
     record { bytes-are = p .bytes-are; sized = p .sized; room = omega (arith, p .room) }
 
 sub-trace : tie.Need-sub-trace
@@ -105,7 +110,11 @@ part-trace-start : tie.Need-part-trace-start
 part-trace-start c = search needs
 
 part-trace-end : tie.Need-part-trace-end
-part-trace-end c = let e = ends (c .before .before .before .before .before .before .before) in omega (arith, kept-long (c .before .before .before), c .before .before .before .before .before .before .before .pre .room, c .before .before .before .before .before .before .before .pre .bytes-are)
+part-trace-end c =
+    let at-find-bottom = c .before .before .before in
+    let s = at-find-bottom .before .before .before .before in
+    let e = ends s in
+    omega (arith, kept-long at-find-bottom, s .pre .room, s .pre .bytes-are)
 
 trace-requires : tie.Need-trace-requires
 unfolding ways
@@ -120,7 +129,10 @@ part-clear-start : tie.Need-part-clear-start
 part-clear-start c = search needs
 
 part-clear-end : tie.Need-part-clear-end
-part-clear-end c = omega (arith, kept-long (c .before .before .before .before .before .before .before .before), c .before .before .before .before .before .before .before .before .before .before .before .before .pre .room, c .before .before .before .before .before .before .before .before .before .before .before .before .pre .bytes-are)
+part-clear-end c =
+    let at-find-bottom = c .before .before .before .before .before .before .before .before in
+    let s = at-find-bottom .before .before .before .before in
+    omega (arith, kept-long at-find-bottom, s .pre .room, s .pre .bytes-are)
 
 clear-requires : tie.Need-clear-requires
 clear-requires c κs = search needs
@@ -137,7 +149,9 @@ same-length-2 c = search needs
 returns : tie.Need-returns
 unfolding front ways
 returns c =
-    let f = c .before .before .before .before .before .before .before .before .before .before .before .before .before in
+    let at-clear = c .before .before .before in
+    let at-trace = at-clear .before .before .before .before in
+    let f = at-trace .before .before .before .before .before .before in
     let a = f .before .before .before .before .args in
     let z = a .size in
     let p = f .before .before .before .before .pre in
@@ -149,9 +163,9 @@ returns c =
     let given = f .find-bottom .ensures in
     record {
       cost-is = c .wide .ensures ∙ given .sum-is ∙ ap (λ k. getD (sumsDown 4294967295 (z .width) (costsOf z (front (f .before .before .before .before))) (z .height - 1)) k 0) (given .column-is) ∙ cost-summed z (front (f .before .before .before .before)) (front-sized (f .before .before .before .before)) (byte (f .before .before .before));
-      space-is = space-filled start (front (f .before .before .before .before)) (ways (f .before .before .before .before)) last (pictureBytes z) n (ways-are f) (front-long (f .before .before .before .before)) (ways-wide f) (a .bytes) all 0 (c .before .before .before .clear .last .0) (p .bytes-are) (omega arith) (omega (arith, kept-long f, p .room, p .bytes-are)) (c .before .before .before .clear .ensures);
+      space-is = space-filled start (front (f .before .before .before .before)) (ways (f .before .before .before .before)) last (pictureBytes z) n (ways-are f) (front-long (f .before .before .before .before)) (ways-wide f) (a .bytes) all 0 (at-clear .clear .last .0) (p .bytes-are) (omega arith) (omega (arith, kept-long f, p .room, p .bytes-are)) (at-clear .clear .ensures);
       seam-is =
-          c .before .before .before .before .before .before .before .trace .ensures
+          at-trace .trace .ensures
           ∙ ap₂ (λ x k. columnsTo x (z .width) (z .height - 1) k ++ drop (z .height) (now (a .seam))) (ways-lent f) (given .column-is)
           ∙ ap (_++ drop (z .height) (now (a .seam))) (seam-traced z (front (f .before .before .before .before)) (front-sized (f .before .before .before .before)) (byte (f .before .before .before)));
     }

@@ -24,8 +24,10 @@ enum-told-2 c = search needs
 
 returns : tie.Need-returns
 returns c =
-    let a = c .before .before .before .before .args in
-    let r = c .before .before .rooms in
+    let at-rooms = c .before .before in
+    let s = at-rooms .before .before in
+    let a = s .args in
+    let r = at-rooms .rooms in
     let why = c .enum-told2 .given in
     let rules = judgeInRules (a .size) (a .depth) (length (now (a .space))) in
     let most : given (r .result) ≤ 8 = omega (arith, r .ensures, refusal-most 8 rules refl) in
@@ -46,7 +48,8 @@ same-length c = search needs
 
 returns-2 : tie.Need-returns-2
 returns-2 c =
-    let k = c .before .before .before .before .before .before in
+    let at-clear = c .before .before in
+    let k = at-clear .before .before .before .before in
     let a = k .before .before .before .before .before .before .args in
     let r = k .before .before .before .before .rooms in
     let none : refusal (judgeInRules (a .size) (a .depth) (length (now (a .space)))) ≡ 0 = sym (r .ensures) ∙ ap given (k .before .before .enum-told .given .1) in
@@ -54,7 +57,7 @@ returns-2 c =
     record {
       number-is = k .judge-rows .ensures ∙ sym (served-first (judgeInRules (a .size) (a .depth) (length (now (a .space)))) more refl none);
       space-is =
-          c .before .before .clear .ensures ∙ ap (λ n. replicate n 0) (k .judge-rows .kept .0)
+          at-clear .clear .ensures ∙ ap (λ n. replicate n 0) (k .judge-rows .kept .0)
           ∙ sym (ap (λ n. worked n (replicate (length (now (a .space))) 0) (now (a .space))) (k .judge-rows .ensures) ∙ worked-judged (a .size) (a .depth) (pictureIn (a .size) (now (a .space))) (recordedIn (a .size) (now (a .space))) (replicate (length (now (a .space))) 0) (now (a .space)));
     }
 

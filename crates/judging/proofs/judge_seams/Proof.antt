@@ -65,17 +65,21 @@ connected-requires c κs =
 
 returns-2 : tie.Need-returns-2
 returns-2 c =
-    let s = c .before .before .before .before .before .before .before .before in
-    let told = rw (second s) at (c .before .before .before .before .same-numbers .ensures) in
+    let at-if1 = c .before .before .before in
+    let at-same-numbers = at-if1 .before in
+    let s = at-same-numbers .before .before .before .before in
+    let told = rw (second s) at (at-same-numbers .same-numbers .ensures) in
     let joined = rw (second s) at (c .before .connected .ensures) in
-    rw (sym told ∙ c .before .before .before .if1 .left, sym joined ∙ c .if2 .taken)
+    rw (sym told ∙ at-if1 .if1 .left, sym joined ∙ c .if2 .taken)
 
 returns-3 : tie.Need-returns-3
 returns-3 c =
-    let s = c .before .before .before .before .before .before .before .before in
-    let told = rw (second s) at (c .before .before .before .before .same-numbers .ensures) in
+    let at-if1 = c .before .before .before in
+    let at-same-numbers = at-if1 .before in
+    let s = at-same-numbers .before .before .before .before in
+    let told = rw (second s) at (at-same-numbers .same-numbers .ensures) in
     let joined = rw (second s) at (c .before .connected .ensures) in
-    rw (sym told ∙ c .before .before .before .if1 .left, sym joined ∙ c .if2 .left)
+    rw (sym told ∙ at-if1 .if1 .left, sym joined ∙ c .if2 .left)
 
 pub judge-seams-spec : {M : Type 1} → statement M
 judge-seams-spec =

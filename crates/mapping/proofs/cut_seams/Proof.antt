@@ -42,28 +42,42 @@ picture-bytes-requires : tie.Need-picture-bytes-requires Inv-loop μ-loop
 picture-bytes-requires c κs = search needs
 
 mul-at : tie.Need-mul-at Inv-loop μ-loop
-mul-at c = omega (arith, bytes-are c, room (c .before .before) .sides .picture-most, room (c .before .before) .sides .width-most, room (c .before .before) .pixels-most, room (c .before .before) .map-most, room (c .before .before) .long)
+mul-at c =
+    let s = c .before .before in
+    omega (arith, bytes-are c, room s .sides .picture-most, room s .sides .width-most, room s .pixels-most, room s .map-most, room s .long)
 
 add-at : tie.Need-add-at Inv-loop μ-loop
-add-at c = omega (arith, bytes-are c, room (c .before .before) .sides .picture-most, room (c .before .before) .sides .width-most, room (c .before .before) .pixels-most, room (c .before .before) .map-most, room (c .before .before) .long)
+add-at c =
+    let s = c .before .before in
+    omega (arith, bytes-are c, room s .sides .picture-most, room s .sides .width-most, room s .pixels-most, room s .map-most, room s .long)
 
 mul-end : tie.Need-mul-end Inv-loop μ-loop
-mul-end c = omega (arith, bytes-are c, room (c .before .before) .sides .picture-most, room (c .before .before) .sides .width-most, room (c .before .before) .pixels-most, room (c .before .before) .map-most, room (c .before .before) .long)
+mul-end c =
+    let s = c .before .before in
+    omega (arith, bytes-are c, room s .sides .picture-most, room s .sides .width-most, room s .pixels-most, room s .map-most, room s .long)
 
 mul-end-2 : tie.Need-mul-end-2 Inv-loop μ-loop
-mul-end-2 c = omega (arith, bytes-are c, room (c .before .before) .sides .picture-most, room (c .before .before) .sides .width-most, room (c .before .before) .pixels-most, room (c .before .before) .map-most, room (c .before .before) .long)
+mul-end-2 c =
+    let s = c .before .before in
+    omega (arith, bytes-are c, room s .sides .picture-most, room s .sides .width-most, room s .pixels-most, room s .map-most, room s .long)
 
 add-end : tie.Need-add-end Inv-loop μ-loop
-add-end c = omega (arith, bytes-are c, room (c .before .before) .sides .picture-most, room (c .before .before) .sides .width-most, room (c .before .before) .pixels-most, room (c .before .before) .map-most, room (c .before .before) .long)
+add-end c =
+    let s = c .before .before in
+    omega (arith, bytes-are c, room s .sides .picture-most, room s .sides .width-most, room s .pixels-most, room s .map-most, room s .long)
 
 sub-clear : tie.Need-sub-clear Inv-loop μ-loop
-sub-clear c = omega (arith, bytes-are c, room (c .before .before) .sides .picture-most, room (c .before .before) .sides .width-most, room (c .before .before) .pixels-most, room (c .before .before) .map-most, room (c .before .before) .long)
+sub-clear c =
+    let s = c .before .before in
+    omega (arith, bytes-are c, room s .sides .picture-most, room s .sides .width-most, room s .pixels-most, room s .map-most, room s .long)
 
 part-clear-start : tie.Need-part-clear-start Inv-loop μ-loop
 part-clear-start c = search needs
 
 part-clear-end : tie.Need-part-clear-end Inv-loop μ-loop
-part-clear-end c = omega (arith, bytes-are c, room (c .before .before) .sides .picture-most, room (c .before .before) .sides .width-most, room (c .before .before) .pixels-most, room (c .before .before) .map-most, room (c .before .before) .long)
+part-clear-end c =
+    let s = c .before .before in
+    omega (arith, bytes-are c, room s .sides .picture-most, room s .sides .width-most, room s .pixels-most, room s .map-most, room s .long)
 
 clear-requires : tie.Need-clear-requires Inv-loop μ-loop
 clear-requires c κs = search needs
@@ -76,10 +90,14 @@ loop-holds c =
     (omega arith, refl, f .now-is ∙ sym (ap₂ (λ p r. mapped z 0 p ++ r) (f .same-picture) (f .same-rest)))
 
 sub-next-seam : tie.Need-sub-next-seam Inv-loop μ-loop
-sub-next-seam c = omega (arith, room (c .before .before .before .before .before .before .before .before) .deep)
+sub-next-seam c =
+    let s = c .before .before .before .before .before .before .before .before in
+    omega (arith, room s .deep)
 
 add-next-seam : tie.Need-add-next-seam Inv-loop μ-loop
-add-next-seam c = omega (arith, room (c .before .before .before .before .before .before .before .before .before) .deep, room (c .before .before .before .before .before .before .before .before .before) .sides .width-most)
+add-next-seam c =
+    let s = c .before .before .before .before .before .before .before .before .before in
+    omega (arith, room s .deep, room s .sides .width-most)
 
 next-seam-requires : tie.Need-next-seam-requires Inv-loop μ-loop
 next-seam-requires c κs =
@@ -97,13 +115,14 @@ loop-less c = search needs
 
 loop-again : tie.Need-loop-again Inv-loop μ-loop
 loop-again c =
-    let h = c .before .before .before .before .before in
+    let at-next-seam = c .before .before in
+    let h = at-next-seam .before .before .before in
     let k = h .before .before .before in
     let s = k .before .before .before .before in
     let z = s .args .size in
     let b = k .before .before .picture-bytes .result in
     let space = putMid b (b + z .height * z .width + z .height * (2 * z .width) - b) (now (s .args .space)) (k .clear .last .0) in
-    let n = c .before .before .next-seam in
+    let n = at-next-seam .next-seam in
     let f = first k in
     let r = room s in (
       omega arith,

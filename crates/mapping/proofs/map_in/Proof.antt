@@ -23,8 +23,10 @@ enum-told-2 c = search needs
 
 returns : tie.Need-returns
 returns c =
-    let a = c .before .before .before .before .args in
-    let r = c .before .before .rooms in
+    let at-rooms = c .before .before in
+    let s = at-rooms .before .before in
+    let a = s .args in
+    let r = at-rooms .rooms in
     let why = c .enum-told2 .given in
     record { number-is = r .ensures; space-is = refused-kept (r .result) (why .0 .0) (why .1) _ (now (a .space)) }
 
@@ -36,11 +38,15 @@ same-length c = search needs
 
 returns-2 : tie.Need-returns-2
 returns-2 c =
-    let a = c .before .before .before .before .before .before .before .before .args in
-    let r = c .before .before .before .before .before .before .rooms in
-    let none : given (r .result) ≡ 0 = ap given (c .before .before .before .before .enum-told .given .1) in
+    let at-cut-seams = c .before .before in
+    let at-enum-told = at-cut-seams .before .before in
+    let at-rooms = at-enum-told .before .before in
+    let s = at-rooms .before .before in
+    let a = s .args in
+    let r = at-rooms .rooms in
+    let none : given (r .result) ≡ 0 = ap given (at-enum-told .enum-told .given .1) in
     let new = mapped (a .size) (a .depth) (pictureIn (a .size) (now (a .space))) ++ drop (mapAt (a .size) + mapBytes (a .size)) (now (a .space)) in
-    record { number-is = r .ensures; space-is = c .before .before .cut-seams .ensures .space-is ∙ sym (ap (λ n. served n new (now (a .space))) none) }
+    record { number-is = r .ensures; space-is = at-cut-seams .cut-seams .ensures .space-is ∙ sym (ap (λ n. served n new (now (a .space))) none) }
 
 pub map-in-spec : {M : Type 1} → statement M
 map-in-spec =

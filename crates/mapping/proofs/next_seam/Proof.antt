@@ -73,7 +73,9 @@ cut-in-requires : tie.Need-cut-in-requires
 cut-in-requires c κs = search needs
 
 mul-end : tie.Need-mul-end
-mul-end c = omega (arith, row-some (c .before .before .before .before .before .before .before), c .before .before .before .before .before .before .before .pre .map-room)
+mul-end c =
+    let s = c .before .before .before .before .before .before .before in
+    omega (arith, row-some s, s .pre .map-room)
 
 mul-end-2 : tie.Need-mul-end-2
 mul-end-2 c = search needs
@@ -91,10 +93,16 @@ part-mark-rows-end : tie.Need-part-mark-rows-end
 part-mark-rows-end c = search needs
 
 array-share-prefix-seam : tie.Need-array-share-prefix-seam
-array-share-prefix-seam c = omega (arith, tall (c .before .before .before .before .before .before .before .before), seam-long (c .before .before .before .before))
+array-share-prefix-seam c =
+    let at-cut-in = c .before .before .before .before in
+    let s = at-cut-in .before .before .before .before in
+    omega (arith, tall s, seam-long at-cut-in)
 
 slice-aggregate-mark-rows : tie.Need-slice-aggregate-mark-rows
-slice-aggregate-mark-rows c = sym (length-take-le (c .before .before .before .before .before .before .before .before .before .args .size .height) (c .before .before .before .before .before .cut-in .last .1 .1 .0) (omega (arith, tall (c .before .before .before .before .before .before .before .before .before), seam-long (c .before .before .before .before .before))))
+slice-aggregate-mark-rows c =
+    let at-cut-in = c .before .before .before .before .before in
+    let s = at-cut-in .before .before .before .before in
+    sym (length-take-le (s .args .size .height) (at-cut-in .cut-in .last .1 .1 .0) (omega (arith, tall s, seam-long at-cut-in)))
 
 mark-rows-requires : tie.Need-mark-rows-requires
 mark-rows-requires c κs =
@@ -114,10 +122,11 @@ same-length c = search needs
 
 returns : tie.Need-returns
 returns c =
-    let k = c .before .before .before .before .before .before .before .before in
+    let at-mark-rows = c .before .before in
+    let k = at-mark-rows .before .before .before .before .before .before in
     let a = start k .args in
-    next-put (a .size) (a .width) (a .at) (a .number) (now (a .space)) (k .cut-in .last .0) (take (a .size .height) (k .cut-in .last .1 .1 .0)) (c .before .before .mark-rows .last .0)
-    (left-long k) (found-space k) (found-seam k) (c .before .before .mark-rows .ensures)
+    next-put (a .size) (a .width) (a .at) (a .number) (now (a .space)) (k .cut-in .last .0) (take (a .size .height) (k .cut-in .last .1 .1 .0)) (at-mark-rows .mark-rows .last .0)
+    (left-long k) (found-space k) (found-seam k) (at-mark-rows .mark-rows .ensures)
 
 pub next-seam-spec : {M : Type 1} → statement M
 next-seam-spec =

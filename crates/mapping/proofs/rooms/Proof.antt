@@ -26,7 +26,10 @@ none c = sym (c .before .before .sides .ensures) ∙ ap given (c .enum-told .giv
 rest : (c : tie.After-enum-told) → let a = c .before .before .before .args in
     refusal (mapInRules (a .size) (a .depth) (a .space)) ≡ refusal (more (c .before .before .before))
 unfolding more
-rest c = let a = c .before .before .before .args in served-first (sideRules (a .size)) (more (c .before .before .before)) refl (none c)
+rest c =
+    let s = c .before .before .before in
+    let a = s .args in
+    served-first (sideRules (a .size)) (more s) refl (none c)
 
 sure : (c : tie.After-enum-told) → Sides (c .before .before .before .args .size)
 sure c = sides-are (c .before .before .before .args .size) (none c)
@@ -41,8 +44,10 @@ map-most c =
 
 bytes-are : (c : tie.After-picture-bytes) → let z = c .before .before .before .before .before .args .size in c .picture-bytes .result ≡ pictureBytes z
 bytes-are c =
-    let z = c .before .before .before .before .before .args .size in
-    c .picture-bytes .ensures ∙ ap (λ n. served n (pictureBytes z) 0) (none (c .before .before))
+    let at-enum-told = c .before .before in
+    let s = at-enum-told .before .before .before in
+    let z = s .args .size in
+    c .picture-bytes .ensures ∙ ap (λ n. served n (pictureBytes z) 0) (none at-enum-told)
 
 sides-requires : tie.Need-sides-requires
 sides-requires c κs = search needs
@@ -56,9 +61,11 @@ enum-told-2 c = search needs
 returns : tie.Need-returns
 unfolding more
 returns c =
-    let a = c .before .before .before .args in
+    let at-sides = c .before .before in
+    let s = at-sides .before in
+    let a = s .args in
     let why = c .enum-told2 .given in
-    refused-answer (c .before .before .sides .result) (why .0 .0) (why .1) (sideRules (a .size)) (more (c .before .before .before)) (c .before .before .sides .ensures)
+    refused-answer (at-sides .sides .result) (why .0 .0) (why .1) (sideRules (a .size)) (more s) (at-sides .sides .ensures)
 
 returns-2 : tie.Need-returns-2
 unfolding more
@@ -80,19 +87,25 @@ mul-if2-3 : tie.Need-mul-if2-3
 mul-if2-3 c = omega (arith, map-most (c .before .before))
 
 add-if2-2 : tie.Need-add-if2-2
-add-if2-2 c = omega (arith, all-most (c .before .before), bytes-are c, sure (c .before .before) .picture-most, map-most (c .before .before))
+add-if2-2 c =
+    let at-enum-told = c .before .before in
+    omega (arith, all-most at-enum-told, bytes-are c, sure at-enum-told .picture-most, map-most at-enum-told)
 
 returns-3 : tie.Need-returns-3
 unfolding more
 returns-3 c =
+    let at-if1 = c .before .before in
+    let at-enum-told = at-if1 .before in
     let short = rw (bytes-are (c .before)) at (c .if2 .taken) in
-    sym (rest (c .before .before .before) ∙ simp (lt-leb _ _ (c .before .before .if1 .left), lt-ltb _ _ short))
+    sym (rest at-enum-told ∙ simp (lt-leb _ _ (at-if1 .if1 .left), lt-ltb _ _ short))
 
 returns-4 : tie.Need-returns-4
 unfolding more
 returns-4 c =
+    let at-if1 = c .before .before in
+    let at-enum-told = at-if1 .before in
     let wide = rw (bytes-are (c .before)) at (c .if2 .left) in
-    sym (rest (c .before .before .before) ∙ simp (lt-leb _ _ (c .before .before .if1 .left), le-ltb _ _ wide))
+    sym (rest at-enum-told ∙ simp (lt-leb _ _ (at-if1 .if1 .left), le-ltb _ _ wide))
 
 pub rooms-spec : {M : Type 1} → statement M
 rooms-spec =

@@ -40,13 +40,15 @@ enum-told-2 c = search needs
 
 returns : tie.Need-returns
 returns c =
-    let a = c .before .before .before .before .before .args in
+    let at-sized = c .before .before in
+    let start = at-sized .before .before .before in
+    let a = start .args in
     let b = now (a .picture) in
     let s = now (a .seam) in
     let why = c .enum-told2 .given in
     record {
-      answer = refused-answer (c .before .before .sized .result) (why .0 .0) (why .1) (sizeRules (a .size) (length b)) (more (a .size) s) (c .before .before .sized .ensures);
-      picture = refused-kept (c .before .before .sized .result) (why .0 .0) (why .1) (bytes (cut s (picture (a .size) b)) ++ replicate (a .size .height * channelsOf (a .size .kind)) 0) b;
+      answer = refused-answer (at-sized .sized .result) (why .0 .0) (why .1) (sizeRules (a .size) (length b)) (more (a .size) s) (at-sized .sized .ensures);
+      picture = refused-kept (at-sized .sized .result) (why .0 .0) (why .1) (bytes (cut s (picture (a .size) b)) ++ replicate (a .size .height * channelsOf (a .size .kind)) 0) b;
     }
 
 returns-2 : tie.Need-returns-2
@@ -63,26 +65,30 @@ returns-3 c =
 
 returns-4 : tie.Need-returns-4
 returns-4 c =
-    let u = c .before .before .before in
-    let out = sym (c .before .before .outside .ensures) ∙ c .before .if2 .left in
+    let at-outside = c .before .before in
+    let u = at-outside .before in
+    let out = sym (at-outside .outside .ensures) ∙ c .before .if2 .left in
     record { answer = sym (rest (u .before) ∙ simp (eq-eqb _ _ (u .if1 .left), out, eq-eqb _ _ (c .if3 .taken))); picture = refl }
 
 close-rows-requires : tie.Need-close-rows-requires
 close-rows-requires c κs =
-    let u = c .before .before .before .before in
-    record { sized = none (u .before); columns = u .if1 .left; inside = sym (c .before .before .before .outside .ensures) ∙ c .before .before .if2 .left }
+    let at-if2 = c .before .before in
+    let at-outside = at-if2 .before in
+    let u = at-outside .before in
+    record { sized = none (u .before); columns = u .if1 .left; inside = sym (at-outside .outside .ensures) ∙ at-if2 .if2 .left }
 
 same-length : tie.Need-same-length
 same-length c = search needs
 
 returns-5 : tie.Need-returns-5
 returns-5 c =
-    let v = c .before .before .before .before in
+    let at-close-rows = c .before .before in
+    let v = at-close-rows .before .before in
     let u = v .before .before .before in
     let out = sym (v .before .before .outside .ensures) ∙ v .before .if2 .left in
     record {
       answer = sym (rest (u .before) ∙ simp (eq-eqb _ _ (u .if1 .left), out, ne-eqb _ _ (v .if3 .left)));
-      picture = c .before .before .close-rows .ensures;
+      picture = at-close-rows .close-rows .ensures;
     }
 
 pub close-up-spec : {M : Type 1} → statement M

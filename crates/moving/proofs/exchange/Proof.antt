@@ -43,13 +43,15 @@ enum-told-2 c = search needs
 
 returns : tie.Need-returns
 returns c =
-    let a = c .before .before .before .before .before .args in
+    let at-sized = c .before .before in
+    let s = at-sized .before .before .before in
+    let a = s .args in
     let b = now (a .from) in
     let to = now (a .to) in
     let why = c .enum-told2 .given in
     record {
-      answer = refused-answer (c .before .before .sized .result) (why .0 .0) (why .1) (sizeRules (a .size) (length b)) (more (a .size) to) (c .before .before .sized .ensures);
-      space = refused-kept (c .before .before .sized .result) (why .0 .0) (why .1) (bytes (exchange (a .size .width) (picture (a .size) b)) ++ drop (pictureBytes (a .size)) to) to;
+      answer = refused-answer (at-sized .sized .result) (why .0 .0) (why .1) (sizeRules (a .size) (length b)) (more (a .size) to) (at-sized .sized .ensures);
+      space = refused-kept (at-sized .sized .result) (why .0 .0) (why .1) (bytes (exchange (a .size .width) (picture (a .size) b)) ++ drop (pictureBytes (a .size)) to) to;
     }
 
 returns-2 : tie.Need-returns-2
@@ -60,17 +62,21 @@ returns-2 c =
     record { answer = sym (rest u ∙ simp (lt-ltb _ _ short)); space = refl }
 
 exchange-columns-requires : tie.Need-exchange-columns-requires
-exchange-columns-requires c κs = record { sized = none (c .before .before); room = rw (long (c .before .before)) at (c .before .if1 .left) }
+exchange-columns-requires c κs =
+    let at-enum-told = c .before .before in
+    record { sized = none at-enum-told; room = rw (long at-enum-told) at (c .before .if1 .left) }
 
 same-length : tie.Need-same-length
 same-length c = search needs
 
 returns-3 : tie.Need-returns-3
 returns-3 c =
-    let u = c .before .before .before .before .before in
+    let at-exchange-columns = c .before .before in
+    let at-if1 = at-exchange-columns .before .before in
+    let u = at-if1 .before in
     let a = u .before .before .before .before .before .args in
-    let room : pictureBytes (a .size) ≤ length (now (a .to)) = rw (long u) at (c .before .before .before .before .if1 .left) in
-    record { answer = sym (rest u ∙ simp (le-ltb _ _ room)); space = c .before .before .exchange-columns .ensures }
+    let room : pictureBytes (a .size) ≤ length (now (a .to)) = rw (long u) at (at-if1 .if1 .left) in
+    record { answer = sym (rest u ∙ simp (le-ltb _ _ room)); space = at-exchange-columns .exchange-columns .ensures }
 
 pub exchange-spec : {M : Type 1} → statement M
 exchange-spec =

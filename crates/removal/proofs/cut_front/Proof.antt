@@ -15,8 +15,9 @@ use Rattle.removal.proofs.cut_front.Tie as tie
 
 bytes-are : (c : tie.After-picture-bytes) → c .picture-bytes .result ≡ pictureBytes (c .before .before .before .before .args .size)
 bytes-are c =
-    let z = c .before .before .before .before .args .size in
-    c .picture-bytes .ensures ∙ ap (λ n. served n (pictureBytes z) 0) (c .before .before .before .before .pre .sides)
+    let s = c .before .before .before .before in
+    let z = s .args .size in
+    c .picture-bytes .ensures ∙ ap (λ n. served n (pictureBytes z) 0) (s .pre .sides)
 
 tall : (c : tie.Start) → c .args .size .height ≤ 512
 tall c = sides-are (c .args .size) (c .pre .sides) .height-most
@@ -34,13 +35,18 @@ slice-relend-prefix-cut-marked : tie.Need-slice-relend-prefix-cut-marked
 slice-relend-prefix-cut-marked c = omega (arith, bytes-are c, c .before .before .before .before .pre .picture-there)
 
 slice-aggregate-cut-marked : tie.Need-slice-aggregate-cut-marked
-slice-aggregate-cut-marked c = sym (length-take-le (c .before .picture-bytes .result) _ (omega (arith, bytes-are (c .before), c .before .before .before .before .before .pre .picture-there)))
+slice-aggregate-cut-marked c =
+    let at-picture-bytes = c .before in
+    let s = at-picture-bytes .before .before .before .before in
+    sym (length-take-le (at-picture-bytes .picture-bytes .result) _ (omega (arith, bytes-are at-picture-bytes, s .pre .picture-there)))
 
 slice-relend-prefix-cut-marked-2 : tie.Need-slice-relend-prefix-cut-marked-2
 slice-relend-prefix-cut-marked-2 c = search needs
 
 slice-aggregate-cut-marked-2 : tie.Need-slice-aggregate-cut-marked-2
-slice-aggregate-cut-marked-2 c = sym (length-take-le (pixels (c .before .before .before .before .before .before .args .size)) _ (c .before .before .before .before .before .before .pre .marks-there))
+slice-aggregate-cut-marked-2 c =
+    let s = c .before .before .before .before .before .before in
+    sym (length-take-le (pixels (s .args .size)) _ (s .pre .marks-there))
 
 slice-aggregate-cut-marked-3 : tie.Need-slice-aggregate-cut-marked-3
 slice-aggregate-cut-marked-3 c = search needs
@@ -49,7 +55,9 @@ slice-relend-prefix-cut-marked-3 : tie.Need-slice-relend-prefix-cut-marked-3
 slice-relend-prefix-cut-marked-3 c = search needs
 
 slice-aggregate-cut-marked-4 : tie.Need-slice-aggregate-cut-marked-4
-slice-aggregate-cut-marked-4 c = sym (length-take-le (32 * pixels (c .before .before .before .before .before .before .before .before .args .size)) _ (c .before .before .before .before .before .before .before .before .pre .room))
+slice-aggregate-cut-marked-4 c =
+    let s = c .before .before .before .before .before .before .before .before in
+    sym (length-take-le (32 * pixels (s .args .size)) _ (s .pre .room))
 
 cut-marked-requires : tie.Need-cut-marked-requires
 cut-marked-requires c κs = search needs

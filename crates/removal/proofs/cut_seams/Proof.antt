@@ -75,9 +75,10 @@ same-length-3 c = search needs
 
 returns : tie.Need-returns Inv-loop μ-loop
 returns c =
-    let h = c .before .before .before in
+    let at-some-two = c .before in
+    let h = at-some-two .before .before in
     let a = start h .args in
-    going-done (going h) (sym (not-true (c .before .some-two .result) (c .if1 .taken)) ∙ found (c .before))
+    going-done (going h) (sym (not-true (at-some-two .some-two .result) (c .if1 .taken)) ∙ found at-some-two)
 
 same-length-4 : tie.Need-same-length-4 Inv-loop μ-loop
 same-length-4 c = search needs
@@ -105,15 +106,17 @@ same-length-9 c = search needs
 
 returns-3 : tie.Need-returns-3 Inv-loop μ-loop
 returns-3 c =
-    let h = c .before .before .before .before .before in
+    let at-if1 = c .before .before in
+    let h = at-if1 .before .before .before in
     let a = start h .args in
-    going-spent (going h) (two (c .before .before)) (c .before .if2 .left) (c .if3 .taken)
+    going-spent (going h) (two at-if1) (c .before .if2 .left) (c .if3 .taken)
 
 cut-front-requires : tie.Need-cut-front-requires Inv-loop μ-loop
 cut-front-requires c κs =
-    let h = c .before .before .before .before .before .before .before .before in
+    let at-if2 = c .before .before .before .before in
+    let h = at-if2 .before .before .before .before in
     let a = start h .args in
-    going-needed (going h) (h .loop .work) (c .before .before .before .before .if2 .left) (omega (arith, start h .pre .room, h .loop .inv .1 .1 .1))
+    going-needed (going h) (h .loop .work) (at-if2 .if2 .left) (omega (arith, start h .pre .room, h .loop .inv .1 .1 .1))
 
 same-length-10 : tie.Need-same-length-10 Inv-loop μ-loop
 same-length-10 c = search needs
@@ -133,7 +136,10 @@ returns-4 c =
     going-blocked (going h) (two (q .before .before .before .before .before .before)) (q .before .before .before .before .before .if2 .left) (q .before .before .before .before .if3 .left) (q .cut-front .last .0) (q .cut-front .last .1 .0) (rw no at (q .cut-front .ensures))
 
 sub-width : tie.Need-sub-width Inv-loop μ-loop
-sub-width c = let g = going (c .before .before .before .before .before .before .before .before .before .before .before .before .before .before .before .before) in g .some
+sub-width c =
+    let at-loop = c .before .before .before .before .before .before .before .before .before .before .before .before .before .before .before .before in
+    let g = going at-loop in
+    g .some
 
 add-count : tie.Need-add-count Inv-loop μ-loop
 add-count c =
@@ -144,7 +150,10 @@ add-count c =
     search needs
 
 loop-less : tie.Need-loop-less Inv-loop μ-loop
-loop-less c = let g = going (c .before .before .before .before .before .before .before .before .before .before .before .before .before .before .before .before) in omega (arith, g .some)
+loop-less c =
+    let at-loop = c .before .before .before .before .before .before .before .before .before .before .before .before .before .before .before .before in
+    let g = going at-loop in
+    omega (arith, g .some)
 
 loop-again : tie.Need-loop-again Inv-loop μ-loop
 loop-again c =

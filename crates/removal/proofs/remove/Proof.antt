@@ -65,10 +65,11 @@ same-length-4 c = search needs
 returns-2 : tie.Need-returns-2
 unfolding number
 returns-2 c =
-    let k = c .before .before .before .before .before .before .before .before .before .before in
+    let at-clear = c .before .before in
+    let k = at-clear .before .before .before .before .before .before .before .before in
     let q = k .before .before .before .before in
     let a = q .before .before .before .before .before .before .before .args in
-    rw (nothing q) (k .cut-seams .ensures, c .before .before .clear .ensures ∙ ap (λ n. replicate n 0) (k .cut-seams .kept .1 .1 .1 .1 .0))
+    rw (nothing q) (k .cut-seams .ensures, at-clear .clear .ensures ∙ ap (λ n. replicate n 0) (k .cut-seams .kept .1 .1 .1 .1 .0))
 
 pub remove-spec : {M : Type 1} → statement M
 remove-spec =

@@ -30,7 +30,10 @@ count-is c =
     (smaller-sides (a .size) (a .rows .0) (a .columns .0) (sides-served (a .size) (length (now (a .picture))) (p .sized)) (p .rows-left) (p .columns-left))
 
 sure : (c : tie.After-picture-bytes) → let st = c .before .before .before .before .before .before .before .before .before .before .before .before .before .before .before .before .before .before .before .before .before in let a = st .args in LastSure (now (a .picture)) (a .size) (a .rows) (a .columns) (now (a .out)) (now (a .work)) (st .pre) (c .picture-bytes .result)
-sure c = let st = c .before .before .before .before .before .before .before .before .before .before .before .before .before .before .before .before .before .before .before .before .before in let a = st .args in last-sure (now (a .picture)) (a .size) (a .rows) (a .columns) (now (a .out)) (now (a .work)) (st .pre) (c .picture-bytes .result) (count-is c)
+sure c =
+    let st = c .before .before .before .before .before .before .before .before .before .before .before .before .before .before .before .before .before .before .before .before .before in
+    let a = st .args in
+    last-sure (now (a .picture)) (a .size) (a .rows) (a .columns) (now (a .out)) (now (a .work)) (st .pre) (c .picture-bytes .result) (count-is c)
 
 copy-requires : tie.Need-copy-requires
 copy-requires c κs = let st = c .before .before .before .before in let a = st .args in last-sure (now (a .picture)) (a .size) (a .rows) (a .columns) (now (a .out)) (now (a .work)) (st .pre) _ refl .fits
@@ -40,9 +43,10 @@ slice-aggregate-first-row c = search needs
 
 first-row-requires : tie.Need-first-row-requires
 first-row-requires c κs =
-    let st = c .before .before .before .before .before .before .before .before .before in
+    let at-copy = c .before .before .before .before in
+    let st = at-copy .before .before .before .before .before in
     let a = st .args in
-    let copy = c .before .before .before .before .copy in
+    let copy = at-copy .copy in
     (first-needed (now (a .picture)) (a .size) (a .rows) (a .columns) (now (a .out)) (now (a .work)) (st .pre) (copy .last .1 .0) (copy .ensures .1) (copy .kept .1 .0) _ refl, no-totals 65)
 
 slice-aggregate-rows-below : tie.Need-slice-aggregate-rows-below
@@ -50,14 +54,19 @@ slice-aggregate-rows-below c = sym (c .before .before .before .before .before .f
 
 rows-below-requires : tie.Need-rows-below-requires
 rows-below-requires c κs =
-    let st = c .before .before .before .before .before .before .before .before .before .before .before .before .before .before .before in
+    let at-first-row = c .before .before .before .before .before in
+    let at-copy = at-first-row .before .before .before .before .before in
+    let st = at-copy .before .before .before .before .before in
     let a = st .args in
-    let copy = c .before .before .before .before .before .before .before .before .before .before .copy in
-    let one = c .before .before .before .before .before .first-row in
+    let copy = at-copy .copy in
+    let one = at-first-row .first-row in
     (below-needed (now (a .picture)) (a .size) (a .rows) (a .columns) (now (a .out)) (now (a .work)) (st .pre) (copy .last .1 .0) (copy .ensures .1) (copy .kept .1 .0) blank (one .last .0) (one .last .1 .1 .1 .1 .0) (no-totals 65) (one .ensures), one .ensures .small)
 
 smaller-requires : tie.Need-smaller-requires
-smaller-requires c κs = let p = c .before .before .before .before .before .before .before .before .before .before .before .before .before .before .before .before .before .before .before .pre in (omega (arith, p .rows-left), omega (arith, p .columns-left))
+smaller-requires c κs =
+    let s = c .before .before .before .before .before .before .before .before .before .before .before .before .before .before .before .before .before .before .before in
+    let p = s .pre in
+    (omega (arith, p .rows-left), omega (arith, p .columns-left))
 
 picture-bytes-requires : tie.Need-picture-bytes-requires
 picture-bytes-requires c κs = search needs
@@ -76,31 +85,42 @@ part-copy-start c = search needs
 
 part-copy-end : tie.Need-part-copy-end
 part-copy-end c =
-    let st = c .before .before .before .before .before .before .before .before .before .before .before .before .before .before .before .before .before .before .before .before .before .before in
+    let at-rows-below = c .before .before .before .before .before .before in
+    let at-first-row = at-rows-below .before .before .before .before .before .before in
+    let at-copy = at-first-row .before .before .before .before .before in
+    let st = at-copy .before .before .before .before .before in
     let a = st .args in
-    let copy = c .before .before .before .before .before .before .before .before .before .before .before .before .before .before .before .before .before .copy in
-    let one = c .before .before .before .before .before .before .before .before .before .before .before .before .first-row in
-    let two = c .before .before .before .before .before .before .rows-below in
+    let copy = at-copy .copy in
+    let one = at-first-row .first-row in
+    let two = at-rows-below .rows-below in
     omega (arith, sure (c .before) .inside, three-long (now (a .picture)) (a .size) (a .rows) (a .columns) (now (a .out)) (now (a .work)) (st .pre) (copy .last .1 .0) (copy .ensures .1) (copy .kept .1 .0) blank (one .last .0) (one .last .1 .1 .1 .1 .0) (no-totals 65) (one .ensures) (two .last .0) (two .last .1 .1 .1 .1 .1 .0) (two .ensures))
 
 copy-requires-2 : tie.Need-copy-requires-2
 copy-requires-2 c κs =
-    let st = c .before .before .before .before .before .before .before .before .before .before .before .before .before .before .before .before .before .before .before .before .before .before .before .before in
-    let a = st .args in
-    let copy = c .before .before .before .before .before .before .before .before .before .before .before .before .before .before .before .before .before .before .before .copy in
-    let one = c .before .before .before .before .before .before .before .before .before .before .before .before .before .before .first-row in
-    let two = c .before .before .before .before .before .before .before .before .rows-below in
     let q = c .before .before .before in
+    let at-rows-below = q .before .before .before .before .before in
+    let at-first-row = at-rows-below .before .before .before .before .before .before in
+    let at-copy = at-first-row .before .before .before .before .before in
+    let st = at-copy .before .before .before .before .before in
+    let a = st .args in
+    let copy = at-copy .copy in
+    let one = at-first-row .first-row in
+    let two = at-rows-below .rows-below in
     omega (arith, part-long (now (a .picture)) (a .size) (a .rows) (a .columns) (now (a .out)) (now (a .work)) (st .pre) (copy .last .1 .0) (copy .ensures .1) (copy .kept .1 .0) blank (one .last .0) (one .last .1 .1 .1 .1 .0) (no-totals 65) (one .ensures) (two .last .0) (two .last .1 .1 .1 .1 .1 .0) (two .ensures) (q .picture-bytes .result) (count-is q), count-is q, st .pre .out-room)
 
 clear-requires : tie.Need-clear-requires
 clear-requires c κs = search needs
 
 mul-result : tie.Need-mul-result
-mul-result c = omega (arith, c .before .before .before .before .before .before .before .before .before .before .before .before .before .before .before .before .before .before .before .before .before .before .before .before .before .before .before .before .before .before .before .pre .columns-few)
+mul-result c =
+    let s = c .before .before .before .before .before .before .before .before .before .before .before .before .before .before .before .before .before .before .before .before .before .before .before .before .before .before .before .before .before .before .before in
+    omega (arith, s .pre .columns-few)
 
 array-read-result : tie.Need-array-read-result
-array-read-result c = omega (arith, c .before .before .before .before .before .before .before .before .before .before .before .before .before .before .before .before .before .before .before .before .before .before .before .before .before .before .before .before .before .before .before .pre .columns-few, c .before .before .before .before .before .before .before .before .before .before .before .before .before .before .before .rows-below .ensures .totals-long)
+array-read-result c =
+    let at-rows-below = c .before .before .before .before .before .before .before .before .before .before .before .before .before .before .before in
+    let s = at-rows-below .before .before .before .before .before .before .before .before .before .before .before .before .before .before .before .before in
+    omega (arith, s .pre .columns-few, at-rows-below .rows-below .ensures .totals-long)
 
 same-length : tie.Need-same-length
 same-length c = search needs
@@ -110,14 +130,19 @@ same-length-2 c = search needs
 
 returns : tie.Need-returns
 returns c =
-    let st = c .before .before .before .before .before .before .before .before .before .before .before .before .before .before .before .before .before .before .before .before .before .before .before .before .before .before .before .before .before .before .before in
+    let at-clear = c .before .before in
+    let at-copy2 = at-clear .before .before .before .before in
+    let q = at-copy2 .before .before .before .before in
+    let at-rows-below = q .before .before .before .before .before in
+    let at-first-row = at-rows-below .before .before .before .before .before .before in
+    let at-copy = at-first-row .before .before .before .before .before in
+    let st = at-copy .before .before .before .before .before in
     let a = st .args in
-    let copy = c .before .before .before .before .before .before .before .before .before .before .before .before .before .before .before .before .before .before .before .before .before .before .before .before .before .before .copy in
-    let one = c .before .before .before .before .before .before .before .before .before .before .before .before .before .before .before .before .before .before .before .before .before .first-row in
-    let two = c .before .before .before .before .before .before .before .before .before .before .before .before .before .before .before .rows-below in
-    let q = c .before .before .before .before .before .before .before .before .before .before in
+    let copy = at-copy .copy in
+    let one = at-first-row .first-row in
+    let two = at-rows-below .rows-below in
     answer (now (a .picture)) (a .size) (a .rows) (a .columns) (now (a .out)) (now (a .work)) (st .pre) (copy .last .1 .0) (copy .ensures .1) (copy .kept .1 .0) blank (one .last .0) (one .last .1 .1 .1 .1 .0) (no-totals 65) (one .ensures) (two .last .0) (two .last .1 .1 .1 .1 .1 .0) (two .ensures) (q .picture-bytes .result) (count-is q)
-    (c .before .before .before .before .before .before .copy2 .last .1 .0) (c .before .before .clear .last .0) (c .before .before .before .before .before .before .copy2 .ensures .1) (c .before .before .clear .ensures)
+    (at-copy2 .copy2 .last .1 .0) (at-clear .clear .last .0) (at-copy2 .copy2 .ensures .1) (at-clear .clear .ensures)
 
 pub last-cell-spec : {M : Type 1} → statement M
 last-cell-spec =

@@ -25,12 +25,14 @@ enum-known-fits c = search needs
 
 returns : tie.Need-returns
 returns c =
-    let a = c .before .before .before .before .before .before .before .args in
+    let at-rooms = c .before .before .before in
+    let s = at-rooms .before .before .before .before in
+    let a = s .args in
     let why = c .before .fits2 .given in
     let z = a .size in
     let k = cellOf z (now (a .picture)) (a .rows) (a .columns) in
     record {
-      number = sym (ap given (why .1)) ∙ c .before .before .before .rooms .ensures;
+      number = sym (ap given (why .1)) ∙ at-rooms .rooms .ensures;
       total = kept-by (why .0 .0) (k .total) 0;
       out-given = kept-by (why .0 .0) (bytes (k .picture) ++ drop (pictureBytes (leftSize z (a .rows) (a .columns))) (now (a .out))) (now (a .out));
       work-left = kept-by (why .0 .0) (replicate (length (now (a .work))) 0) (now (a .work));
@@ -53,8 +55,10 @@ same-length-2 c = search needs
 
 returns-2 : tie.Need-returns-2
 returns-2 c =
-    let g = c .before .before .before .before .last-cell .ensures in
-    record { number = sym (none (c .before .before .before .before .before .before .before)); total = g .total-is; out-given = g .out-is; work-left = g .work-is }
+    let at-last-cell = c .before .before .before .before in
+    let at-enum-told = at-last-cell .before .before .before in
+    let g = at-last-cell .last-cell .ensures in
+    record { number = sym (none at-enum-told); total = g .total-is; out-given = g .out-is; work-left = g .work-is }
 
 pub retarget-spec : {M : Type 1} → statement M
 retarget-spec =

@@ -49,7 +49,10 @@ enum-told : tie.Need-enum-told
 enum-told c = search needs
 
 returns : tie.Need-returns
-returns c = let s = c .before .before .before .before .before in no-head (now (s .args .picture)) (s .args .head) (s .pre) (s .args .room) (rw (c .enum-told .given .1) at (c .before .before .head-left .ensures))
+returns c =
+    let at-head-left = c .before .before in
+    let s = at-head-left .before .before .before in
+    no-head (now (s .args .picture)) (s .args .head) (s .pre) (s .args .room) (rw (c .enum-told .given .1) at (at-head-left .head-left .ensures))
 
 rows-left-requires : tie.Need-rows-left-requires
 rows-left-requires c κs = c .before .before .before .before .before .before .pre .sized
@@ -62,8 +65,10 @@ enum-told-2 c = search needs
 
 returns-2 : tie.Need-returns-2
 returns-2 c =
-    let s = c .before .before .before .before .before .before .before .before .before in
-    no-rows (now (s .args .picture)) (s .args .head) (s .pre) (s .args .room) (c .before .before .before .before .lines .given .0 .0) (first (c .before .before .before .before)) (rw (c .enum-told2 .given .1) at (c .before .before .rows-left .ensures))
+    let at-rows-left = c .before .before in
+    let at-lines = at-rows-left .before .before in
+    let s = at-lines .before .before .before .before .before in
+    no-rows (now (s .args .picture)) (s .args .head) (s .pre) (s .args .room) (at-lines .lines .given .0 .0) (first at-lines) (rw (c .enum-told2 .given .1) at (at-rows-left .rows-left .ensures))
 
 slice-aggregate-put-order : tie.Need-slice-aggregate-put-order
 slice-aggregate-put-order c = search needs
@@ -72,13 +77,20 @@ put-order-requires : tie.Need-put-order-requires
 put-order-requires c κs = let s = c .before .before .before .before .before .before .before .before .before .before .before in record { room = omega (arith, sure s .width-most, s .pre .deep, length-replicate {A = ℕ} 512 0); small = omega (arith, sure s .width-most, s .pre .deep) }
 
 array-share-prefix-row : tie.Need-array-share-prefix-row
-array-share-prefix-row c = omega (arith, sure (c .before .before .before .before .before .before .before .before .before .before .before .before .before) .width-most, row-whole (c .before))
+array-share-prefix-row c =
+    let s = c .before .before .before .before .before .before .before .before .before .before .before .before .before in
+    omega (arith, sure s .width-most, row-whole (c .before))
 
 slice-aggregate-maps-left : tie.Need-slice-aggregate-maps-left
-slice-aggregate-maps-left c = sym (length-take-le (c .before .before .before .before .before .before .before .before .before .before .before .before .before .before .args .head .size .width) (c .before .before .put-order .last .0) (omega (arith, sure (c .before .before .before .before .before .before .before .before .before .before .before .before .before .before) .width-most, row-whole (c .before .before))))
+slice-aggregate-maps-left c =
+    let at-put-order = c .before .before in
+    let s = at-put-order .before .before .before .before .before .before .before .before .before .before .before .before in
+    sym (length-take-le (s .args .head .size .width) (at-put-order .put-order .last .0) (omega (arith, sure s .width-most, row-whole at-put-order)))
 
 maps-left-requires : tie.Need-maps-left-requires
-maps-left-requires c κs = sure (c .before .before .before .before .before .before .before .before .before .before .before .before .before .before) .height-some
+maps-left-requires c κs =
+    let s = c .before .before .before .before .before .before .before .before .before .before .before .before .before .before in
+    sure s .height-some
 
 enum-known-end : tie.Need-enum-known-end
 enum-known-end c = search needs
@@ -88,19 +100,24 @@ enum-told-3 c = search needs
 
 returns-3 : tie.Need-returns-3
 returns-3 c =
-    let s = c .before .before .before .before .before .before .before .before .before .before .before .before .before .before .before .before .before in
-    let m = c .before .before .before .before .before .before .before .before in
-    let l = c .before .before .before .before .before .before .before .before .before .before .before .before in
-    no-maps (now (s .args .picture)) (s .args .head) (s .pre) (s .args .room) (l .lines .given .0 .0) (first l) (m .maps .given .0 .0) (second m) _ (line-long (c .before .before .before .before .before))
-    (rw (c .enum-told3 .given .1) at (c .before .before .maps-left .ensures))
+    let at-maps-left = c .before .before in
+    let at-put-order = at-maps-left .before .before .before in
+    let m = at-put-order .before .before .before in
+    let l = m .before .before .before .before in
+    let s = l .before .before .before .before .before in
+    no-maps (now (s .args .picture)) (s .args .head) (s .pre) (s .args .room) (l .lines .given .0 .0) (first l) (m .maps .given .0 .0) (second m) _ (line-long at-put-order)
+    (rw (c .enum-told3 .given .1) at (at-maps-left .maps-left .ensures))
 
 returns-4 : tie.Need-returns-4
 returns-4 c =
-    let s = c .before .before .before .before .before .before .before .before .before .before .before .before .before .before .before .before .before .before in
-    let m = c .before .before .before .before .before .before .before .before .before in
-    let l = c .before .before .before .before .before .before .before .before .before .before .before .before .before in
-    whole-fits (now (s .args .picture)) (s .args .head) (s .pre) (s .args .room) (l .lines .given .0 .0) (first l) (m .maps .given .0 .0) (second m) _ (line-long (c .before .before .before .before .before .before)) (c .before .end .given .0 .0)
-    (rw (c .before .end .given .1) at (c .before .before .before .maps-left .ensures))
+    let at-end = c .before in
+    let at-maps-left = at-end .before .before in
+    let at-put-order = at-maps-left .before .before .before in
+    let m = at-put-order .before .before .before in
+    let l = m .before .before .before .before in
+    let s = l .before .before .before .before .before in
+    whole-fits (now (s .args .picture)) (s .args .head) (s .pre) (s .args .room) (l .lines .given .0 .0) (first l) (m .maps .given .0 .0) (second m) _ (line-long at-put-order) (at-end .end .given .0 .0)
+    (rw (at-end .end .given .1) at (at-maps-left .maps-left .ensures))
 
 pub file-fits-spec : {M : Type 1} → statement M
 file-fits-spec =

@@ -33,25 +33,46 @@ enum-told : tie.Need-enum-told
 enum-told c = search needs
 
 returns : tie.Need-returns
-returns c = lines-none (c .before .before .before .before .args .room) (length (mapText (now (c .before .before .before .before .args .row)))) (c .before .before .before .before .args .count) (c .before .before .before .before .pre) (rw (c .enum-told .given .1) at (c .before .before .map-left .ensures))
+returns c =
+    let at-map-left = c .before .before in
+    let s = at-map-left .before .before in
+    lines-none (s .args .room) (length (mapText (now (s .args .row)))) (s .args .count) (s .pre) (rw (c .enum-told .given .1) at (at-map-left .map-left .ensures))
 
 sub-line : tie.Need-sub-line
-sub-line c = let s = c .before .before .before .before .before in omega (arith, less-room (s .args .room) (length (mapText (now (s .args .row)))) (c .before .after .given .0 .0) (there (c .before)) .1)
+sub-line c =
+    let at-after = c .before in
+    let s = at-after .before .before .before .before in
+    omega (arith, less-room (s .args .room) (length (mapText (now (s .args .row)))) (at-after .after .given .0 .0) (there at-after) .1)
 
 div-if1 : tie.Need-div-if1
-div-if1 c = let s = c .before .before .before .before .before in omega (arith, line-is (s .args .room) (length (mapText (now (s .args .row)))) (s .args .count) (c .before .after .given .0 .0) (there (c .before)) (long s), long s)
+div-if1 c =
+    let at-after = c .before in
+    let s = at-after .before .before .before .before in
+    omega (arith, line-is (s .args .room) (length (mapText (now (s .args .row)))) (s .args .count) (at-after .after .given .0 .0) (there at-after) (long s), long s)
 
 returns-2 : tie.Need-returns-2
-returns-2 c = let s = c .before .before .before .before .before .before in lines-short (s .args .room) (length (mapText (now (s .args .row)))) (s .args .count) (c .before .before .after .given .0 .0) (there (c .before .before)) (long s) (c .if1 .taken)
+returns-2 c =
+    let at-after = c .before .before in
+    let s = at-after .before .before .before .before in
+    lines-short (s .args .room) (length (mapText (now (s .args .row)))) (s .args .count) (at-after .after .given .0 .0) (there at-after) (long s) (c .if1 .taken)
 
 mul-t7 : tie.Need-mul-t7
-mul-t7 c = let s = c .before .before .before .before .before .before in omega (arith, lines-room (s .args .room) (length (mapText (now (s .args .row)))) (s .args .count) (c .before .before .after .given .0 .0) (there (c .before .before)) (long s) (c .if1 .left))
+mul-t7 c =
+    let at-after = c .before .before in
+    let s = at-after .before .before .before .before in
+    omega (arith, lines-room (s .args .room) (length (mapText (now (s .args .row)))) (s .args .count) (at-after .after .given .0 .0) (there at-after) (long s) (c .if1 .left))
 
 sub-t9 : tie.Need-sub-t9
-sub-t9 c = let s = c .before .before .before .before .before .before in omega (arith, lines-room (s .args .room) (length (mapText (now (s .args .row)))) (s .args .count) (c .before .before .after .given .0 .0) (there (c .before .before)) (long s) (c .if1 .left))
+sub-t9 c =
+    let at-after = c .before .before in
+    let s = at-after .before .before .before .before in
+    omega (arith, lines-room (s .args .room) (length (mapText (now (s .args .row)))) (s .args .count) (at-after .after .given .0 .0) (there at-after) (long s) (c .if1 .left))
 
 returns-3 : tie.Need-returns-3
-returns-3 c = let s = c .before .before .before .before .before .before in lines-left (s .args .room) (length (mapText (now (s .args .row)))) (s .args .count) (c .before .before .after .given .0 .0) (there (c .before .before)) (long s) (c .if1 .left)
+returns-3 c =
+    let at-after = c .before .before in
+    let s = at-after .before .before .before .before in
+    lines-left (s .args .room) (length (mapText (now (s .args .row)))) (s .args .count) (at-after .after .given .0 .0) (there at-after) (long s) (c .if1 .left)
 
 pub maps-left-spec : {M : Type 1} → statement M
 maps-left-spec =

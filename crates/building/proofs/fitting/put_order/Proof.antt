@@ -41,8 +41,8 @@ loop-less c = search needs
 
 loop-again : tie.Need-loop-again Inv-loop μ-loop
 loop-again c =
-    let at = c .before .loop in
-    let s = c .before .before in (
+    let s = c .before .before in
+    let at = c .before .loop in (
       omega arith,
       length-set (at .row) (at .t) (at .t + 1) ∙ at .inv .1,
       ap (λ l. set l (at .t) (at .t + 1)) (at .inv .2) ∙ table-more (λ i. i + 1) (now (s .args .row)) (at .t) 0 (omega (arith, s .pre .room)),

@@ -28,8 +28,9 @@ below s r l = omega (arith, rows-many (s .args .size) (now (s .args .picture)) (
 long : (c : tie.After-row Inv-loop μ-loop) → let a = c .before .before .before .before .args in let k = a .size .kind in
     length (rowText k (pixelsOf k (now (c .row .result)))) ≡ rowLength k (getD (Pictures·picture (a .size) (now (a .picture))) (c .before .before .loop .r) [])
 long c =
-    let s = c .before .before .before .before in
-    row-long (s .args .size) (now (s .args .picture)) (s .pre) (c .before .before .loop .r) (c .before .loop-test .taken) (now (c .row .result)) (c .row .ensures)
+    let at-loop = c .before .before in
+    let s = at-loop .before .before in
+    row-long (s .args .size) (now (s .args .picture)) (s .pre) (at-loop .loop .r) (c .before .loop-test .taken) (now (c .row .result)) (c .row .ensures)
 
 loop-holds : tie.Need-loop-holds Inv-loop μ-loop
 loop-holds c = leaving-first
@@ -48,10 +49,13 @@ enum-told c = search needs
 
 returns : tie.Need-returns Inv-loop μ-loop
 returns c =
-    let s = c .before .before .before .before .before .before .before in
-    let h = c .before .before .before .before .before in
-    let inside = c .before .before .before .before .loop-test .taken in
-    leaving-short (h .loop .inv) [] (below s (h .loop .r) inside) refl (rw (c .enum-told .given .1, long (c .before .before .before)) at (c .before .before .row-left .ensures))
+    let at-row-left = c .before .before in
+    let at-row = at-row-left .before in
+    let at-loop-test = at-row .before in
+    let h = at-loop-test .before in
+    let s = h .before .before in
+    let inside = at-loop-test .loop-test .taken in
+    leaving-short (h .loop .inv) [] (below s (h .loop .r) inside) refl (rw (c .enum-told .given .1, long at-row) at (at-row-left .row-left .ensures))
 
 add-r : tie.Need-add-r Inv-loop μ-loop
 add-r c = search needs
@@ -61,10 +65,13 @@ loop-less c = search needs
 
 loop-again : tie.Need-loop-again Inv-loop μ-loop
 loop-again c =
-    let s = c .before .before .before .before .before .before .before .before in
-    let h = c .before .before .before .before .before .before in
-    let inside = c .before .before .before .before .before .loop-test .taken in
-    leaving-next (h .loop .inv) [] (below s (h .loop .r) inside) refl (rw (c .before .next .given .1, long (c .before .before .before .before)) at (c .before .before .before .row-left .ensures))
+    let at-row-left = c .before .before .before in
+    let at-row = at-row-left .before in
+    let at-loop-test = at-row .before in
+    let h = at-loop-test .before in
+    let s = h .before .before in
+    let inside = at-loop-test .loop-test .taken in
+    leaving-next (h .loop .inv) [] (below s (h .loop .r) inside) refl (rw (c .before .next .given .1, long at-row) at (at-row-left .row-left .ensures))
 
 returns-2 : tie.Need-returns-2 Inv-loop μ-loop
 returns-2 c =

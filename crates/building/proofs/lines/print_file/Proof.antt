@@ -9,7 +9,11 @@ use Rattle.building.proofs.lines.print_file.Tie as tie
 
 -- the head is printed
 first : (c : tie.After-rows) → let a = c .before .before .before .before .before .before .before .before .before .before .args in Printed (now (a .out)) 0 (headText (a .head)) (c .before .before .before .before .print-head .last .0) (c .rows .given .0 .0)
-first c = let s = c .before .before .before .before .before .before .before .before .before .before in let a = s .args in head-next (now (a .picture)) (a .head) (now (a .map)) (now (a .out)) (s .pre) (c .before .before .before .before .print-head .ensures) (c .rows .given .1)
+first c =
+    let at-print-head = c .before .before .before .before in
+    let s = at-print-head .before .before .before .before .before .before in
+    let a = s .args in
+    head-next (now (a .picture)) (a .head) (now (a .map)) (now (a .out)) (s .pre) (at-print-head .print-head .ensures) (c .rows .given .1)
 
 print-head-requires : tie.Need-print-head-requires
 print-head-requires c κs = search needs
@@ -21,16 +25,33 @@ enum-told : tie.Need-enum-told
 enum-told c = search needs
 
 same-length : tie.Need-same-length
-same-length c = let s = c .before .before .before .before .before .before .before .before .before .before in let a = s .args in absurd (head-never (now (a .picture)) (a .head) (now (a .map)) (now (a .out)) (s .pre) (c .before .before .before .before .print-head .ensures) (c .enum-told .given .1))
+same-length c =
+    let at-print-head = c .before .before .before .before in
+    let s = at-print-head .before .before .before .before .before .before in
+    let a = s .args in
+    absurd (head-never (now (a .picture)) (a .head) (now (a .map)) (now (a .out)) (s .pre) (at-print-head .print-head .ensures) (c .enum-told .given .1))
 
 returns : tie.Need-returns
-returns c = let s = c .before .before .before .before .before .before .before .before .before .before in let a = s .args in absurd (head-never (now (a .picture)) (a .head) (now (a .map)) (now (a .out)) (s .pre) (c .before .before .before .before .print-head .ensures) (c .enum-told .given .1))
+returns c =
+    let at-print-head = c .before .before .before .before in
+    let s = at-print-head .before .before .before .before .before .before in
+    let a = s .args in
+    absurd (head-never (now (a .picture)) (a .head) (now (a .map)) (now (a .out)) (s .pre) (at-print-head .print-head .ensures) (c .enum-told .given .1))
 
 print-rows-requires : tie.Need-print-rows-requires
-print-rows-requires c κs = let s = c .before .before .before .before .before .before .before .before .before .before .before .before in let a = s .args in rows-needed (now (a .picture)) (a .head) (now (a .map)) (now (a .out)) (s .pre) (first (c .before .before))
+print-rows-requires c κs =
+    let at-rows = c .before .before in
+    let s = at-rows .before .before .before .before .before .before .before .before .before .before in
+    let a = s .args in
+    rows-needed (now (a .picture)) (a .head) (now (a .map)) (now (a .out)) (s .pre) (first at-rows)
 
 print-maps-requires : tie.Need-print-maps-requires
-print-maps-requires c κs = let s = c .before .before .before .before .before .before .before .before .before .before .before .before .before .before .before .before in let a = s .args in maps-needed (now (a .picture)) (a .head) (now (a .map)) (now (a .out)) (s .pre) (first (c .before .before .before .before .before .before)) (c .before .before .before .print-rows .ensures)
+print-maps-requires c κs =
+    let at-print-rows = c .before .before .before in
+    let at-rows = at-print-rows .before .before .before in
+    let s = at-rows .before .before .before .before .before .before .before .before .before .before in
+    let a = s .args in
+    maps-needed (now (a .picture)) (a .head) (now (a .map)) (now (a .out)) (s .pre) (first at-rows) (at-print-rows .print-rows .ensures)
 
 print-end-requires : tie.Need-print-end-requires
 print-end-requires c κs = search needs
@@ -42,16 +63,37 @@ enum-told-2 : tie.Need-enum-told-2
 enum-told-2 c = search needs
 
 same-length-2 : tie.Need-same-length-2
-same-length-2 c = let s = c .before .before .before .before .before .before .before .before .before .before .before .before .before .before .before .before .before .before .before .before .before .before .before .before .before in let a = s .args in absurd (end-never (now (a .picture)) (a .head) (now (a .map)) (now (a .out)) (s .pre) (first (c .before .before .before .before .before .before .before .before .before .before .before .before .before .before .before)) (c .before .before .before .before .before .before .before .before .before .before .before .before .print-rows .ensures) (c .before .before .before .before .before .before .before .before .print-maps .ensures) (c .before .before .before .before .print-end .ensures) (c .enum-told2 .given .1))
+same-length-2 c =
+    let at-print-end = c .before .before .before .before in
+    let at-print-maps = at-print-end .before .before .before .before in
+    let at-print-rows = at-print-maps .before .before .before .before in
+    let at-rows = at-print-rows .before .before .before in
+    let s = at-rows .before .before .before .before .before .before .before .before .before .before in
+    let a = s .args in
+    absurd (end-never (now (a .picture)) (a .head) (now (a .map)) (now (a .out)) (s .pre) (first at-rows) (at-print-rows .print-rows .ensures) (at-print-maps .print-maps .ensures) (at-print-end .print-end .ensures) (c .enum-told2 .given .1))
 
 returns-2 : tie.Need-returns-2
-returns-2 c = let s = c .before .before .before .before .before .before .before .before .before .before .before .before .before .before .before .before .before .before .before .before .before .before .before .before .before in let a = s .args in absurd (end-never (now (a .picture)) (a .head) (now (a .map)) (now (a .out)) (s .pre) (first (c .before .before .before .before .before .before .before .before .before .before .before .before .before .before .before)) (c .before .before .before .before .before .before .before .before .before .before .before .before .print-rows .ensures) (c .before .before .before .before .before .before .before .before .print-maps .ensures) (c .before .before .before .before .print-end .ensures) (c .enum-told2 .given .1))
+returns-2 c =
+    let at-print-end = c .before .before .before .before in
+    let at-print-maps = at-print-end .before .before .before .before in
+    let at-print-rows = at-print-maps .before .before .before .before in
+    let at-rows = at-print-rows .before .before .before in
+    let s = at-rows .before .before .before .before .before .before .before .before .before .before in
+    let a = s .args in
+    absurd (end-never (now (a .picture)) (a .head) (now (a .map)) (now (a .out)) (s .pre) (first at-rows) (at-print-rows .print-rows .ensures) (at-print-maps .print-maps .ensures) (at-print-end .print-end .ensures) (c .enum-told2 .given .1))
 
 same-length-3 : tie.Need-same-length-3
 same-length-3 c = search needs
 
 returns-3 : tie.Need-returns-3
-returns-3 c = let s = c .before .before .before .before .before .before .before .before .before .before .before .before .before .before .before .before .before .before .before .before .before .before .before .before .before .before in let a = s .args in all-printed (now (a .picture)) (a .head) (now (a .map)) (now (a .out)) (s .pre) (first (c .before .before .before .before .before .before .before .before .before .before .before .before .before .before .before .before)) (c .before .before .before .before .before .before .before .before .before .before .before .before .before .print-rows .ensures) (c .before .before .before .before .before .before .before .before .before .print-maps .ensures) (c .before .before .before .before .before .print-end .ensures) (c .before .end .given .1)
+returns-3 c =
+    let at-print-end = c .before .before .before .before .before in
+    let at-print-maps = at-print-end .before .before .before .before in
+    let at-print-rows = at-print-maps .before .before .before .before in
+    let at-rows = at-print-rows .before .before .before in
+    let s = at-rows .before .before .before .before .before .before .before .before .before .before in
+    let a = s .args in
+    all-printed (now (a .picture)) (a .head) (now (a .map)) (now (a .out)) (s .pre) (first at-rows) (at-print-rows .print-rows .ensures) (at-print-maps .print-maps .ensures) (at-print-end .print-end .ensures) (c .before .end .given .1)
 
 pub print-file-spec : {M : Type 1} → statement M
 print-file-spec =

@@ -40,23 +40,32 @@ row-whole c = c .read-numbers .kept .1 .1 .0 ∙ c .before .before .before .befo
 line : (c : tie.After-read-numbers Inv-loop μ-loop) → let a = c .before .before .before .before .before .before .before .args in
     mapText (take (a .width) (c .read-numbers .last .1 .1 .0)) ≡ mapWord ++ lineText digits (getD (mapIn (a .width) (a .height) (now (a .map))) (c .before .before .before .before .loop .r) [])
 line c =
-    let a = c .before .before .before .before .before .before .before .args in
-    let at = c .before .before .before .before .loop in
-    map-line (a .width) (a .height) (at .r) (now (a .map)) (c .read-numbers .last .1 .1 .0) (drop (a .width) (at .row)) (c .before .before .before .loop-test .taken) (c .read-numbers .ensures)
+    let at-loop-test = c .before .before .before in
+    let at-loop = at-loop-test .before in
+    let s = at-loop .before .before .before in
+    let a = s .args in
+    let at = at-loop .loop in
+    map-line (a .width) (a .height) (at .r) (now (a .map)) (c .read-numbers .last .1 .1 .0) (drop (a .width) (at .row)) (at-loop-test .loop-test .taken) (c .read-numbers .ensures)
 
 -- it is printed
 never : (c : tie.After-print-map Inv-loop μ-loop) → c .print-map .result ≡ places.Short → ⊥
 never c e =
-    let s = c .before .before .before .before .before .before .before .before .before .before .before in
-    let at = c .before .before .before .before .before .before .before .before .loop in
-    line-never mapWord (lineText digits) [] (mapIn (s .args .width) (s .args .height) (now (s .args .map))) (at .r) (at .inv .2) (below s (at .r) (c .before .before .before .before .before .before .before .loop-test .taken)) (s .pre .room) (line (c .before .before .before .before)) (c .print-map .ensures) e
+    let at-read-numbers = c .before .before .before .before in
+    let at-loop-test = at-read-numbers .before .before .before in
+    let at-loop = at-loop-test .before in
+    let s = at-loop .before .before .before in
+    let at = at-loop .loop in
+    line-never mapWord (lineText digits) [] (mapIn (s .args .width) (s .args .height) (now (s .args .map))) (at .r) (at .inv .2) (below s (at .r) (at-loop-test .loop-test .taken)) (s .pre .room) (line at-read-numbers) (c .print-map .ensures) e
 
 next : (c : tie.After-print-map Inv-loop μ-loop) (n : ℕ) → c .print-map .result ≡ places.Next n → let a = c .before .before .before .before .before .before .before .before .before .before .before .args in
     Printed (now (a .out)) (a .at) (each mapWord (lineText digits) (take (c .before .before .before .before .before .before .before .before .loop .r + 1) (mapIn (a .width) (a .height) (now (a .map))))) (c .print-map .last .0) n
 next c n e =
-    let s = c .before .before .before .before .before .before .before .before .before .before .before in
-    let at = c .before .before .before .before .before .before .before .before .loop in
-    line-next mapWord (lineText digits) [] (mapIn (s .args .width) (s .args .height) (now (s .args .map))) (at .r) (at .inv .2) (below s (at .r) (c .before .before .before .before .before .before .before .loop-test .taken)) (s .pre .room) (line (c .before .before .before .before)) (c .print-map .ensures) e
+    let at-read-numbers = c .before .before .before .before in
+    let at-loop-test = at-read-numbers .before .before .before in
+    let at-loop = at-loop-test .before in
+    let s = at-loop .before .before .before in
+    let at = at-loop .loop in
+    line-next mapWord (lineText digits) [] (mapIn (s .args .width) (s .args .height) (now (s .args .map))) (at .r) (at .inv .2) (below s (at .r) (at-loop-test .loop-test .taken)) (s .pre .room) (line at-read-numbers) (c .print-map .ensures) e
 
 loop-holds : tie.Need-loop-holds Inv-loop μ-loop
 loop-holds c = let a = c .before .before .args in (omega arith, length-replicate {A = ℕ} 512 0, lines-none mapWord (lineText digits) (mapIn (a .width) (a .height) (now (a .map))) (now (a .out)) (a .at))
@@ -87,17 +96,24 @@ slice-aggregate-read-numbers c = sym (c .before .before .before .loop .inv .1)
 
 read-numbers-requires : tie.Need-read-numbers-requires Inv-loop μ-loop
 read-numbers-requires c κs =
-    let at = c .before .before .before in
-    let s = c .before .before .before .before .before .before in
+    let at-loop-test = c .before .before in
+    let at = at-loop-test .before in
+    let s = at .before .before .before in
     let a = at .loop .r * (2 * s .args .width) in
-    let part : length (take (at .loop .r * (2 * s .args .width) + 2 * s .args .width - at .loop .r * (2 * s .args .width)) (drop (at .loop .r * (2 * s .args .width)) (now (s .args .map)))) ≡ at .loop .r * (2 * s .args .width) + 2 * s .args .width - at .loop .r * (2 * s .args .width) = part-length a (a + 2 * s .args .width) (now (s .args .map)) (inside at (c .before .before .loop-test .taken)) in
+    let part : length (take (at .loop .r * (2 * s .args .width) + 2 * s .args .width - at .loop .r * (2 * s .args .width)) (drop (at .loop .r * (2 * s .args .width)) (now (s .args .map)))) ≡ at .loop .r * (2 * s .args .width) + 2 * s .args .width - at .loop .r * (2 * s .args .width) = part-length a (a + 2 * s .args .width) (now (s .args .map)) (inside at (at-loop-test .loop-test .taken)) in
     record { inside = omega (arith, part); room = omega (arith, s .pre .narrow, at .loop .inv .1); narrow = s .pre .narrow }
 
 array-share-prefix-row : tie.Need-array-share-prefix-row Inv-loop μ-loop
-array-share-prefix-row c = omega (arith, c .before .before .before .before .before .before .before .before .before .pre .narrow, row-whole (c .before .before))
+array-share-prefix-row c =
+    let at-read-numbers = c .before .before in
+    let s = at-read-numbers .before .before .before .before .before .before .before in
+    omega (arith, s .pre .narrow, row-whole at-read-numbers)
 
 slice-aggregate-print-map : tie.Need-slice-aggregate-print-map Inv-loop μ-loop
-slice-aggregate-print-map c = sym (length-take-le (c .before .before .before .before .before .before .before .before .before .before .args .width) (c .before .before .before .read-numbers .last .1 .1 .0) (omega (arith, c .before .before .before .before .before .before .before .before .before .before .pre .narrow, row-whole (c .before .before .before))))
+slice-aggregate-print-map c =
+    let at-read-numbers = c .before .before .before in
+    let s = at-read-numbers .before .before .before .before .before .before .before in
+    sym (length-take-le (s .args .width) (at-read-numbers .read-numbers .last .1 .1 .0) (omega (arith, s .pre .narrow, row-whole at-read-numbers)))
 
 print-map-requires : tie.Need-print-map-requires Inv-loop μ-loop
 print-map-requires c κs = search needs
@@ -121,15 +137,21 @@ loop-less : tie.Need-loop-less Inv-loop μ-loop
 loop-less c = search needs
 
 loop-again : tie.Need-loop-again Inv-loop μ-loop
-loop-again c = (omega arith, row-whole (c .before .before .before .before .before .before .before .before .before), next (c .before .before .before .before .before) (c .before .next .given .0 .0) (c .before .next .given .1))
+loop-again c =
+    let at-next = c .before in
+    let at-print-map = at-next .before .before .before .before in
+    let at-read-numbers = at-print-map .before .before .before .before in
+    (omega arith, row-whole at-read-numbers, next at-print-map (at-next .next .given .0 .0) (at-next .next .given .1))
 
 same-length-2 : tie.Need-same-length-2 Inv-loop μ-loop
 same-length-2 c = printed-length (c .before .loop .inv .2)
 
 returns-2 : tie.Need-returns-2 Inv-loop μ-loop
 returns-2 c =
-    let a = c .before .before .before .before .args in
-    lines-all mapWord (lineText digits) (mapIn (a .width) (a .height) (now (a .map))) (c .before .loop .r) (omega (arith, maps-many (a .width) (a .height) (now (a .map)))) (c .before .loop .inv .2)
+    let at-loop = c .before in
+    let s = at-loop .before .before .before in
+    let a = s .args in
+    lines-all mapWord (lineText digits) (mapIn (a .width) (a .height) (now (a .map))) (at-loop .loop .r) (omega (arith, maps-many (a .width) (a .height) (now (a .map)))) (at-loop .loop .inv .2)
 
 pub print-maps-spec : {M : Type 1} → statement M
 print-maps-spec =

@@ -29,24 +29,31 @@ below s r l = omega (arith, rows-many (s .args .size) (now (s .args .picture)) (
 line : (c : tie.After-row Inv-loop μ-loop) → let a = c .before .before .before .before .before .args in let k = a .size .kind in
     rowText k (pixelsOf k (now (c .row .result))) ≡ rowWord ++ lineText (pixelText k) (getD (Pictures·picture (a .size) (now (a .picture))) (c .before .before .loop .r) [])
 line c =
-    let s = c .before .before .before .before .before in
-    row-line (s .args .size) (now (s .args .picture)) (s .pre .sized) (c .before .before .loop .r) (c .before .loop-test .taken) (now (c .row .result)) (c .row .ensures)
+    let at-loop = c .before .before in
+    let s = at-loop .before .before .before in
+    row-line (s .args .size) (now (s .args .picture)) (s .pre .sized) (at-loop .loop .r) (c .before .loop-test .taken) (now (c .row .result)) (c .row .ensures)
 
 -- it is printed
 never : (c : tie.After-print-row Inv-loop μ-loop) → c .print-row .result ≡ places.Short → ⊥
 never c e =
-    let s = c .before .before .before .before .before .before .before in
-    let at = c .before .before .before .before .loop in
+    let at-row = c .before .before in
+    let at-loop-test = at-row .before in
+    let at-loop = at-loop-test .before in
+    let s = at-loop .before .before .before in
+    let at = at-loop .loop in
     let k = s .args .size .kind in
-    line-never rowWord (lineText (pixelText k)) [] (Pictures·picture (s .args .size) (now (s .args .picture))) (at .r) (at .inv .1) (below s (at .r) (c .before .before .before .loop-test .taken)) (s .pre .room) (line (c .before .before)) (c .print-row .ensures) e
+    line-never rowWord (lineText (pixelText k)) [] (Pictures·picture (s .args .size) (now (s .args .picture))) (at .r) (at .inv .1) (below s (at .r) (at-loop-test .loop-test .taken)) (s .pre .room) (line at-row) (c .print-row .ensures) e
 
 next : (c : tie.After-print-row Inv-loop μ-loop) (n : ℕ) → c .print-row .result ≡ places.Next n → let a = c .before .before .before .before .before .before .before .args in
     Printed (now (a .out)) (a .at) (each rowWord (lineText (pixelText (a .size .kind))) (take (c .before .before .before .before .loop .r + 1) (Pictures·picture (a .size) (now (a .picture))))) (c .print-row .last .0) n
 next c n e =
-    let s = c .before .before .before .before .before .before .before in
-    let at = c .before .before .before .before .loop in
+    let at-row = c .before .before in
+    let at-loop-test = at-row .before in
+    let at-loop = at-loop-test .before in
+    let s = at-loop .before .before .before in
+    let at = at-loop .loop in
     let k = s .args .size .kind in
-    line-next rowWord (lineText (pixelText k)) [] (Pictures·picture (s .args .size) (now (s .args .picture))) (at .r) (at .inv .1) (below s (at .r) (c .before .before .before .loop-test .taken)) (s .pre .room) (line (c .before .before)) (c .print-row .ensures) e
+    line-next rowWord (lineText (pixelText k)) [] (Pictures·picture (s .args .size) (now (s .args .picture))) (at .r) (at .inv .1) (below s (at .r) (at-loop-test .loop-test .taken)) (s .pre .room) (line at-row) (c .print-row .ensures) e
 
 loop-holds : tie.Need-loop-holds Inv-loop μ-loop
 loop-holds c = let a = c .before .before .args in (omega arith, lines-none rowWord (lineText (pixelText (a .size .kind))) (Pictures·picture (a .size) (now (a .picture))) (now (a .out)) (a .at))
@@ -76,17 +83,21 @@ loop-less : tie.Need-loop-less Inv-loop μ-loop
 loop-less c = search needs
 
 loop-again : tie.Need-loop-again Inv-loop μ-loop
-loop-again c = (omega arith, next (c .before .before .before .before .before) (c .before .next .given .0 .0) (c .before .next .given .1))
+loop-again c =
+    let at-next = c .before in
+    let at-print-row = at-next .before .before .before .before in
+    (omega arith, next at-print-row (at-next .next .given .0 .0) (at-next .next .given .1))
 
 same-length-2 : tie.Need-same-length-2 Inv-loop μ-loop
 same-length-2 c = printed-length (c .before .loop .inv .1)
 
 returns-2 : tie.Need-returns-2 Inv-loop μ-loop
 returns-2 c =
-    let s = c .before .before .before .before in
+    let at-loop = c .before in
+    let s = at-loop .before .before .before in
     let z = s .args .size in
     let b = now (s .args .picture) in
-    lines-all rowWord (lineText (pixelText (z .kind))) (Pictures·picture z b) (c .before .loop .r) (omega (arith, rows-many (s .args .size) (now (s .args .picture)) (s .pre .sized))) (c .before .loop .inv .1)
+    lines-all rowWord (lineText (pixelText (z .kind))) (Pictures·picture z b) (at-loop .loop .r) (omega (arith, rows-many (s .args .size) (now (s .args .picture)) (s .pre .sized))) (at-loop .loop .inv .1)
 
 pub print-rows-spec : {M : Type 1} → statement M
 print-rows-spec =

@@ -22,7 +22,9 @@ loop-holds : tie.Need-loop-holds Inv-loop μ-loop
 loop-holds c = (omega arith, refl, refl)
 
 mul-i : tie.Need-mul-i Inv-loop μ-loop
-mul-i c = omega (arith, c .before .before .before .before .pre .inside, c .loop-test .taken, c .before .before .before .before .pre .narrow)
+mul-i c =
+    let s = c .before .before .before .before in
+    omega (arith, s .pre .inside, c .loop-test .taken, s .pre .narrow)
 
 shared-slice-read-number : tie.Need-shared-slice-read-number Inv-loop μ-loop
 shared-slice-read-number c = search needs
@@ -40,7 +42,11 @@ mul-row : tie.Need-mul-row Inv-loop μ-loop
 mul-row c = search needs
 
 slice-write-row : tie.Need-slice-write-row Inv-loop μ-loop
-slice-write-row c = omega (arith, c .before .before .before .before .loop .inv .1, c .before .before .before .loop-test .taken, c .before .before .before .before .before .before .before .pre .room)
+slice-write-row c =
+    let at-loop-test = c .before .before .before in
+    let at-loop = at-loop-test .before in
+    let s = at-loop .before .before .before in
+    omega (arith, at-loop .loop .inv .1, at-loop-test .loop-test .taken, s .pre .room)
 
 add-c : tie.Need-add-c Inv-loop μ-loop
 add-c c = search needs
@@ -51,8 +57,9 @@ loop-less c = search needs
 loop-again : tie.Need-loop-again Inv-loop μ-loop
 unfolding numberAt
 loop-again c =
-    let at = c .before .before .before .before .loop in
-    let s = c .before .before .before .before .before .before .before in
+    let at-loop = c .before .before .before .before in
+    let s = at-loop .before .before .before in
+    let at = at-loop .loop in
     let map = now (s .args .map) in (
       omega arith,
       length-set (at .row) (at .c) _ ∙ at .inv .1,
@@ -64,8 +71,9 @@ same-length c = c .before .loop .inv .1
 
 returns : tie.Need-returns Inv-loop μ-loop
 returns c =
+    let s = c .before .before .before .before in
     let at = c .before .loop in
-    let a = c .before .before .before .before .args in
+    let a = s .args in
     let last : at .c ≡ a .width = omega arith in
     at .inv .2 ∙ rw last
 

@@ -19,7 +19,10 @@ enum-told-2 : tie.Need-enum-told-2
 enum-told-2 c = search needs
 
 close-columns-requires : tie.Need-close-columns-requires
-close-columns-requires c κs = rw (c .before .before .enum-told2 .given .1) at (c .before .before .before .before .before .before .before .pre)
+close-columns-requires c κs =
+    let at-enum-told2 = c .before .before in
+    let s = at-enum-told2 .before .before .before .before .before in
+    rw (at-enum-told2 .enum-told2 .given .1) at (s .pre)
 
 same-length : tie.Need-same-length
 same-length c = search needs
@@ -27,12 +30,15 @@ same-length c = search needs
 returns : tie.Need-returns
 unfolding cutAlong turned
 returns c =
-    let a = c .before .before .before .before .before .before .before .before .before .args in
-    let e = c .before .before .before .before .enum-told .given .1 in
-    let p : CloseNeeded (now (a .picture)) (a .size) Vertical (now (a .seam)) (now (a .work)) = rw e at (c .before .before .before .before .before .before .before .before .before .pre) in
+    let at-close-up = c .before .before in
+    let at-enum-told = at-close-up .before .before in
+    let s = at-enum-told .before .before .before .before .before in
+    let a = s .args in
+    let e = at-enum-told .enum-told .given .1 in
+    let p : CloseNeeded (now (a .picture)) (a .size) Vertical (now (a .seam)) (now (a .work)) = rw e at (s .pre) in
     rw e
     (record {
-      picture-is = close-served (now (a .picture)) (a .size) (now (a .seam)) (c .before .before .close-up .last .0) (c .before .before .close-up .result) (c .before .before .close-up .ensures) (p .sized) (p .inside) (p .wide);
+      picture-is = close-served (now (a .picture)) (a .size) (now (a .seam)) (at-close-up .close-up .last .0) (at-close-up .close-up .result) (at-close-up .close-up .ensures) (p .sized) (p .inside) (p .wide);
       work-is = p .zero;
     })
 
@@ -43,7 +49,10 @@ same-length-3 : tie.Need-same-length-3
 same-length-3 c = search needs
 
 returns-2 : tie.Need-returns-2
-returns-2 c = rw (c .before .before .before .before .before .before .before .enum-told2 .given .1) (c .before .before .before .before .close-columns .ensures)
+returns-2 c =
+    let at-close-columns = c .before .before .before .before in
+    let at-enum-told2 = at-close-columns .before .before .before in
+    rw (at-enum-told2 .enum-told2 .given .1) (at-close-columns .close-columns .ensures)
 
 pub close-spec : {M : Type 1} → statement M
 close-spec =

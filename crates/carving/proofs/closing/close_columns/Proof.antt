@@ -25,11 +25,13 @@ sure c = sized-is _ _ (c .pre .sized)
 
 kept-are : (c : tie.After-picture-bytes) → c .picture-bytes .result ≡ pictureBytes (narrowed (turnedSize Horizontal (c .before .before .before .before .before .before .args .size)))
 kept-are c =
-    let a = c .before .before .before .before .before .before .args in
-    let p = c .before .before .before .before .before .before .pre in
+    let at-turned-size = c .before .before in
+    let s = at-turned-size .before .before .before .before in
+    let a = s .args in
+    let p = s .pre in
     let z = a .size in
-    rw (c .before .narrower .ensures ∙ ap narrowed (c .before .before .turned-size .ensures)) at (c .picture-bytes .ensures)
-    ∙ ap (λ n. served n (pictureBytes (narrowed (turnedSize Horizontal z))) 0) (left-sides z (now (a .picture)) (now (a .seam)) (sure (c .before .before .before .before .before .before)) (p .wide) (p .inside))
+    rw (c .before .narrower .ensures ∙ ap narrowed (at-turned-size .turned-size .ensures)) at (c .picture-bytes .ensures)
+    ∙ ap (λ n. served n (pictureBytes (narrowed (turnedSize Horizontal z))) 0) (left-sides z (now (a .picture)) (now (a .seam)) (sure s) (p .wide) (p .inside))
 
 -- the buffers' lengths on the way
 room : (c : tie.Start) → length (now (c .args .picture)) ≤ length (now (c .args .work))
@@ -39,34 +41,47 @@ work-long : (c : tie.After-exchange) → length (c .exchange .last .1 .1 .0) ≡
 work-long c = c .exchange .kept .1 .1 .0
 
 front-long : (c : tie.After-close-up) → length (c .close-up .last .0) ≡ length (now (c .before .before .before .before .before .before .before .before .before .before .before .before .before .args .picture))
-front-long c = c .close-up .kept .0 ∙ length-take-le (length (now (c .before .before .before .before .before .before .before .before .before .before .before .before .before .args .picture))) (c .before .before .before .before .exchange .last .1 .1 .0) (omega (arith, work-long (c .before .before .before .before), room (c .before .before .before .before .before .before .before .before .before .before .before .before .before)))
+front-long c =
+    let at-exchange = c .before .before .before .before in
+    let s = at-exchange .before .before .before .before .before .before .before .before .before in
+    c .close-up .kept .0 ∙ length-take-le (length (now (s .args .picture))) (at-exchange .exchange .last .1 .1 .0) (omega (arith, work-long at-exchange, room s))
 
 kept-fits : (c : tie.After-picture-bytes) → c .picture-bytes .result + c .before .before .before .before .before .before .args .size .width * channelsOf (c .before .before .before .before .before .before .args .size .kind) ≡ length (now (c .before .before .before .before .before .before .args .picture))
 kept-fits c =
-    let a = c .before .before .before .before .before .before .args in
-    let p = c .before .before .before .before .before .before .pre in
-    ap (_+ a .size .width * channelsOf (a .size .kind)) (kept-are c) ∙ left-bytes (a .size) (now (a .picture)) (now (a .seam)) (sure (c .before .before .before .before .before .before)) (p .wide) (p .inside)
+    let s = c .before .before .before .before .before .before in
+    let a = s .args in
+    let p = s .pre in
+    ap (_+ a .size .width * channelsOf (a .size .kind)) (kept-are c) ∙ left-bytes (a .size) (now (a .picture)) (now (a .seam)) (sure s) (p .wide) (p .inside)
 
 -- the work space after the exchanged picture was closed up
 closed : (c : tie.After-close-up) → List ℕ
-closed c = c .close-up .last .0 ++ drop (length (now (c .before .before .before .before .before .before .before .before .before .before .before .before .before .args .picture))) (c .before .before .before .before .exchange .last .1 .1 .0)
+closed c =
+    let at-exchange = c .before .before .before .before in
+    let s = at-exchange .before .before .before .before .before .before .before .before .before in
+    c .close-up .last .0 ++ drop (length (now (s .args .picture))) (at-exchange .exchange .last .1 .1 .0)
 
 closed-long : (c : tie.After-close-up) → length (closed c) ≡ length (now (c .before .before .before .before .before .before .before .before .before .before .before .before .before .args .work))
 unfolding closed
 closed-long c =
-    let b = now (c .before .before .before .before .before .before .before .before .before .before .before .before .before .args .picture) in
-    omega (arith, length-append (c .close-up .last .0) (drop (length b) (c .before .before .before .before .exchange .last .1 .1 .0)), length-drop (length b) (c .before .before .before .before .exchange .last .1 .1 .0), front-long c, work-long (c .before .before .before .before), room (c .before .before .before .before .before .before .before .before .before .before .before .before .before))
+    let at-exchange = c .before .before .before .before in
+    let s = at-exchange .before .before .before .before .before .before .before .before .before in
+    let b = now (s .args .picture) in
+    omega (arith, length-append (c .close-up .last .0) (drop (length b) (at-exchange .exchange .last .1 .1 .0)), length-drop (length b) (at-exchange .exchange .last .1 .1 .0), front-long c, work-long at-exchange, room s)
 
 lent-is : (c : tie.After-close-up) → take (c .before .before .before .before .before .before .before .picture-bytes .result) (closed c) ≡ bytes (restOf (c .before .before .before .before .before .before .before .before .before .before .before .before .before .args .size) (now (c .before .before .before .before .before .before .before .before .before .before .before .before .before .args .picture)) (now (c .before .before .before .before .before .before .before .before .before .before .before .before .before .args .seam)))
 unfolding closed
 lent-is c =
-    let a = c .before .before .before .before .before .before .before .before .before .before .before .before .before .args in
-    let p = c .before .before .before .before .before .before .before .before .before .before .before .before .before .pre in
+    let at-exchange = c .before .before .before .before in
+    let at-picture-bytes = at-exchange .before .before .before in
+    let at-turned-size = at-picture-bytes .before .before in
+    let s = at-turned-size .before .before .before .before in
+    let a = s .args in
+    let p = s .pre in
     let b = now (a .picture) in
-    let work = c .before .before .before .before .exchange .last .1 .1 .0 in
-    ap (λ n. take n (c .close-up .last .0 ++ drop (length b) work)) (kept-are (c .before .before .before .before .before .before .before))
-    ∙ kept-is (a .size) b (now (a .seam)) (sure (c .before .before .before .before .before .before .before .before .before .before .before .before .before)) (p .wide) (p .inside) (now (a .work)) work (c .before .before .before .before .exchange .result) (c .before .before .before .before .exchange .ensures) (p .sized) (p .room)
-    (c .close-up .last .0) (c .close-up .result) (rw (c .before .before .before .before .before .before .before .before .before .turned-size .ensures) at (c .close-up .ensures)) (drop (length b) work)
+    let work = at-exchange .exchange .last .1 .1 .0 in
+    ap (λ n. take n (c .close-up .last .0 ++ drop (length b) work)) (kept-are at-picture-bytes)
+    ∙ kept-is (a .size) b (now (a .seam)) (sure s) (p .wide) (p .inside) (now (a .work)) work (at-exchange .exchange .result) (at-exchange .exchange .ensures) (p .sized) (p .room)
+    (c .close-up .last .0) (c .close-up .result) (rw (at-turned-size .turned-size .ensures) at (c .close-up .ensures)) (drop (length b) work)
 
 pic-long : (c : tie.After-exchange2) → length (c .exchange2 .last .1 .1 .0) ≡ length (now (c .before .before .before .before .before .before .before .before .before .before .before .before .before .before .before .before .before .before .args .picture))
 pic-long c = c .exchange2 .kept .1 .1 .0
@@ -84,30 +99,50 @@ exchange-requires : tie.Need-exchange-requires
 exchange-requires c κs = search needs
 
 slice-relend-prefix-close-up : tie.Need-slice-relend-prefix-close-up
-slice-relend-prefix-close-up c = omega (arith, work-long (c .before .before), room (c .before .before .before .before .before .before .before .before .before .before .before))
+slice-relend-prefix-close-up c =
+    let at-exchange = c .before .before in
+    let s = at-exchange .before .before .before .before .before .before .before .before .before in
+    omega (arith, work-long at-exchange, room s)
 
 slice-aggregate-close-up : tie.Need-slice-aggregate-close-up
-slice-aggregate-close-up c = sym (length-take-le (length (now (c .before .before .before .before .before .before .before .before .before .before .before .before .args .picture))) (c .before .before .before .exchange .last .1 .1 .0) (omega (arith, work-long (c .before .before .before), room (c .before .before .before .before .before .before .before .before .before .before .before .before))))
+slice-aggregate-close-up c =
+    let at-exchange = c .before .before .before in
+    let s = at-exchange .before .before .before .before .before .before .before .before .before in
+    sym (length-take-le (length (now (s .args .picture))) (at-exchange .exchange .last .1 .1 .0) (omega (arith, work-long at-exchange, room s)))
 
 close-up-requires : tie.Need-close-up-requires
 close-up-requires c κs = search needs
 
 slice-reshare-prefix-exchange : tie.Need-slice-reshare-prefix-exchange
 unfolding closed
-slice-reshare-prefix-exchange c = omega (arith, closed-long (c .before .before), kept-fits (c .before .before .before .before .before .before .before .before .before), room (c .before .before .before .before .before .before .before .before .before .before .before .before .before .before .before))
+slice-reshare-prefix-exchange c =
+    let at-close-up = c .before .before in
+    let at-picture-bytes = at-close-up .before .before .before .before .before .before .before in
+    let s = at-picture-bytes .before .before .before .before .before .before in
+    omega (arith, closed-long at-close-up, kept-fits at-picture-bytes, room s)
 
 slice-aggregate-exchange : tie.Need-slice-aggregate-exchange
 unfolding closed
-slice-aggregate-exchange c = sym (length-take-le (c .before .before .before .before .before .before .before .before .before .before .picture-bytes .result) (closed (c .before .before .before)) (omega (arith, closed-long (c .before .before .before), kept-fits (c .before .before .before .before .before .before .before .before .before .before), room (c .before .before .before .before .before .before .before .before .before .before .before .before .before .before .before .before))))
+slice-aggregate-exchange c =
+    let at-close-up = c .before .before .before in
+    let at-picture-bytes = at-close-up .before .before .before .before .before .before .before in
+    let s = at-picture-bytes .before .before .before .before .before .before in
+    sym (length-take-le (at-picture-bytes .picture-bytes .result) (closed at-close-up) (omega (arith, closed-long at-close-up, kept-fits at-picture-bytes, room s)))
 
 exchange-requires-2 : tie.Need-exchange-requires-2
 exchange-requires-2 c κs = search needs
 
 sub-clear : tie.Need-sub-clear
-sub-clear c = omega (arith, pic-long (c .before .before), kept-fits (c .before .before .before .before .before .before .before .before .before .before .before .before .before .before))
+sub-clear c =
+    let at-exchange2 = c .before .before in
+    let at-picture-bytes = at-exchange2 .before .before .before .before .before .before .before .before .before .before .before .before in
+    omega (arith, pic-long at-exchange2, kept-fits at-picture-bytes)
 
 part-clear-start : tie.Need-part-clear-start
-part-clear-start c = omega (arith, pic-long (c .before .before), kept-fits (c .before .before .before .before .before .before .before .before .before .before .before .before .before .before))
+part-clear-start c =
+    let at-exchange2 = c .before .before in
+    let at-picture-bytes = at-exchange2 .before .before .before .before .before .before .before .before .before .before .before .before in
+    omega (arith, pic-long at-exchange2, kept-fits at-picture-bytes)
 
 part-clear-end : tie.Need-part-clear-end
 part-clear-end c = omega arith
@@ -127,26 +162,33 @@ same-length-2 c = search needs
 returns : tie.Need-returns
 unfolding closed
 returns c =
-    let x = c .before .before .before .before .before .before .before .before .before .before in
-    let a = c .before .before .before .before .before .before .before .before .before .before .before .before .before .before .before .before .before .before .before .before .before .before .before .before .before .before .before .before .args in
-    let p = c .before .before .before .before .before .before .before .before .before .before .before .before .before .before .before .before .before .before .before .before .before .before .before .before .before .before .before .before .pre in
+    let at-clear2 = c .before .before in
+    let at-clear = at-clear2 .before .before .before .before in
+    let x = at-clear .before .before .before .before in
+    let at-close-up = x .before .before .before .before .before in
+    let at-picture-bytes = at-close-up .before .before .before .before .before .before .before in
+    let at-narrower = at-picture-bytes .before in
+    let at-turned-size = at-narrower .before in
+    let start = at-turned-size .before .before .before .before in
+    let a = start .args in
+    let p = start .pre in
     let z = a .size in
     let b = now (a .picture) in
     let s = now (a .seam) in
-    let kept = c .before .before .before .before .before .before .before .before .before .before .before .before .before .before .before .before .before .before .before .before .before .before .picture-bytes .result in
+    let kept = at-picture-bytes .picture-bytes .result in
     let pic = x .exchange2 .last .1 .1 .0 in
-    let fits : kept ≤ length pic = omega (arith, pic-long x, kept-fits (c .before .before .before .before .before .before .before .before .before .before .before .before .before .before .before .before .before .before .before .before .before .before)) in
-    let freed : length pic - kept ≡ z .width * channelsOf (z .kind) = omega (arith, pic-long x, kept-fits (c .before .before .before .before .before .before .before .before .before .before .before .before .before .before .before .before .before .before .before .before .before .before)) in
-    let back : ExchangeGiven (take kept (closed (c .before .before .before .before .before .before .before .before .before .before .before .before .before .before .before))) (narrowed (turnedSize Horizontal z)) b (x .exchange2 .result) pic = rw (c .before .before .before .before .before .before .before .before .before .before .before .before .before .before .before .before .before .before .before .before .before .before .before .narrower .ensures ∙ ap narrowed (c .before .before .before .before .before .before .before .before .before .before .before .before .before .before .before .before .before .before .before .before .before .before .before .before .turned-size .ensures)) at (x .exchange2 .ensures) in
+    let fits : kept ≤ length pic = omega (arith, pic-long x, kept-fits at-picture-bytes) in
+    let freed : length pic - kept ≡ z .width * channelsOf (z .kind) = omega (arith, pic-long x, kept-fits at-picture-bytes) in
+    let back : ExchangeGiven (take kept (closed at-close-up)) (narrowed (turnedSize Horizontal z)) b (x .exchange2 .result) pic = rw (at-narrower .narrower .ensures ∙ ap narrowed (at-turned-size .turned-size .ensures)) at (x .exchange2 .ensures) in
     record {
       picture-is =
-          put-part kept (length pic) pic (c .before .before .before .before .before .before .clear .last .0) fits
-          ∙ ap₂ (λ front end. front ++ (c .before .before .before .before .before .before .clear .last .0 ++ end))
-          (ap (λ n. take n pic) (kept-are (c .before .before .before .before .before .before .before .before .before .before .before .before .before .before .before .before .before .before .before .before .before .before)) ∙ back-is z b s (sure (c .before .before .before .before .before .before .before .before .before .before .before .before .before .before .before .before .before .before .before .before .before .before .before .before .before .before .before .before)) (p .wide) (p .inside) (take kept (closed (c .before .before .before .before .before .before .before .before .before .before .before .before .before .before .before))) b pic (x .exchange2 .result) back (lent-is (c .before .before .before .before .before .before .before .before .before .before .before .before .before .before .before)) (omega (arith, kept-are (c .before .before .before .before .before .before .before .before .before .before .before .before .before .before .before .before .before .before .before .before .before .before), kept-fits (c .before .before .before .before .before .before .before .before .before .before .before .before .before .before .before .before .before .before .before .before .before .before))))
+          put-part kept (length pic) pic (at-clear .clear .last .0) fits
+          ∙ ap₂ (λ front end. front ++ (at-clear .clear .last .0 ++ end))
+          (ap (λ n. take n pic) (kept-are at-picture-bytes) ∙ back-is z b s (sure start) (p .wide) (p .inside) (take kept (closed at-close-up)) b pic (x .exchange2 .result) back (lent-is at-close-up) (omega (arith, kept-are at-picture-bytes, kept-fits at-picture-bytes)))
           (drop-length pic)
           ∙ ap (bytes (cutAlong Horizontal z s (picture z b)) ++_)
-          (append-nil (c .before .before .before .before .before .before .clear .last .0) ∙ c .before .before .before .before .before .before .clear .ensures ∙ ap (λ n. replicate n 0) (part-length kept (length pic) pic (omega arith) ∙ freed));
-      work-is = c .before .before .clear2 .ensures ∙ ap (λ n. replicate n 0) (closed-long (c .before .before .before .before .before .before .before .before .before .before .before .before .before .before .before));
+          (append-nil (at-clear .clear .last .0) ∙ at-clear .clear .ensures ∙ ap (λ n. replicate n 0) (part-length kept (length pic) pic (omega arith) ∙ freed));
+      work-is = at-clear2 .clear2 .ensures ∙ ap (λ n. replicate n 0) (closed-long at-close-up);
     }
 
 pub close-columns-spec : {M : Type 1} → statement M

@@ -31,23 +31,33 @@ use Rattle.carving.proofs.front.cut_in.Tie as tie
 
 -- where a seam was found nothing is refused
 rooms : (c : tie.After-enum-told) → let a = c .before .before .before .before .before .before .before .before .before .before .before .before .args in InRoom (a .size) (length (now (a .space))) (length (now (a .seam)))
-rooms c = let a = c .before .before .before .before .before .before .before .before .before .before .before .before .args in in-room (a .size) (length (now (a .space))) (length (now (a .seam))) (sym (c .before .before .before .before .before .before .find-in .ensures .number) ∙ ap foundNumber (c .enum-told .given .1))
+rooms c =
+    let at-find-in = c .before .before .before .before .before .before in
+    let s = at-find-in .before .before .before .before .before .before in
+    let a = s .args in
+    in-room (a .size) (length (now (a .space))) (length (now (a .seam))) (sym (at-find-in .find-in .ensures .number) ∙ ap foundNumber (c .enum-told .given .1))
 
 there : (c : tie.After-enum-told) → let a = c .before .before .before .before .before .before .before .before .before .before .before .before .args in FoundThere (now (a .space)) (a .size) (now (a .seam)) (c .before .before .before .before .before .before .find-in .result) (c .before .before .before .before .before .before .find-in .last .0) (c .before .before .before .before .before .before .find-in .last .1 .1 .0)
 there c =
-    let a = c .before .before .before .before .before .before .before .before .before .before .before .before .args in
-    find-served (now (a .space)) (a .size) (now (a .seam)) (c .before .before .before .before .before .before .find-in .result) (c .before .before .before .before .before .before .find-in .last .0) (c .before .before .before .before .before .before .find-in .last .1 .1 .0) (c .before .before .before .before .before .before .find-in .ensures) (rooms c .sides) (rooms c .seam-room) (rooms c .space-room)
+    let at-find-in = c .before .before .before .before .before .before in
+    let s = at-find-in .before .before .before .before .before .before in
+    let a = s .args in
+    find-served (now (a .space)) (a .size) (now (a .seam)) (at-find-in .find-in .result) (at-find-in .find-in .last .0) (at-find-in .find-in .last .1 .1 .0) (at-find-in .find-in .ensures) (rooms c .sides) (rooms c .seam-room) (rooms c .space-room)
 
 -- the seam found, and that it lies inside the picture
 seam : (c : tie.After-enum-told) → List ℕ
-seam c = let z = c .before .before .before .before .before .before .before .before .before .before .before .before .args .size in seamOf (z .width) (z .height) (pictureIn z (now (c .before .before .before .before .before .before .before .before .before .before .before .before .args .space)))
+seam c =
+    let s = c .before .before .before .before .before .before .before .before .before .before .before .before in
+    let z = s .args .size in
+    seamOf (z .width) (z .height) (pictureIn z (now (s .args .space)))
 
 inside : (c : tie.After-enum-told) → let z = c .before .before .before .before .before .before .before .before .before .before .before .before .args .size in Each (λ k. k < z .width) (z .height) (seam c)
 unfolding seam
 inside c =
-    let z = c .before .before .before .before .before .before .before .before .before .before .before .before .args .size in
+    let start = c .before .before .before .before .before .before .before .before .before .before .before .before in
+    let z = start .args .size in
     let s = sides-are z (rooms c .sides) in
-    seam-inside (z .width) (z .height) (pictureIn z (now (c .before .before .before .before .before .before .before .before .before .before .before .before .args .space))) (s .width-some) (s .height-some)
+    seam-inside (z .width) (z .height) (pictureIn z (now (start .args .space))) (s .width-some) (s .height-some)
 
 seam-long : (c : tie.After-enum-told) → c .before .before .before .before .before .before .before .before .before .before .before .before .args .size .height ≤ length (c .before .before .before .before .before .before .find-in .last .1 .1 .0)
 seam-long c = omega (arith, rooms c .seam-room, c .before .before .before .before .before .before .find-in .kept .1 .1 .0)
@@ -55,30 +65,39 @@ seam-long c = omega (arith, rooms c .seam-room, c .before .before .before .befor
 lent-seam : (c : tie.After-enum-told) → take (c .before .before .before .before .before .before .before .before .before .before .before .before .args .size .height) (c .before .before .before .before .before .before .find-in .last .1 .1 .0) ≡ seam c
 unfolding seam
 lent-seam c =
-    let h = c .before .before .before .before .before .before .before .before .before .before .before .before .args .size .height in
-    ap (take h) (there c .seam-given) ∙ take-at (seam c) (drop h (now (c .before .before .before .before .before .before .before .before .before .before .before .before .args .seam))) h (each-length (inside c))
+    let s = c .before .before .before .before .before .before .before .before .before .before .before .before in
+    let h = s .args .size .height in
+    ap (take h) (there c .seam-given) ∙ take-at (seam c) (drop h (now (s .args .seam))) h (each-length (inside c))
 
 -- the picture's bytes, and the space in front of them and behind
 bytes-are : (c : tie.After-picture-bytes) → c .picture-bytes .result ≡ pictureBytes (c .before .before .before .before .before .before .before .before .before .before .before .before .before .args .size)
-bytes-are c = c .picture-bytes .ensures ∙ ap (λ n. served n (pictureBytes (c .before .before .before .before .before .before .before .before .before .before .before .before .before .args .size)) 0) (rooms (c .before) .sides)
+bytes-are c =
+    let s = c .before .before .before .before .before .before .before .before .before .before .before .before .before in
+    c .picture-bytes .ensures ∙ ap (λ n. served n (pictureBytes (s .args .size)) 0) (rooms (c .before) .sides)
 
 front-long : (c : tie.After-picture-bytes) → length (take (pictureBytes (c .before .before .before .before .before .before .before .before .before .before .before .before .before .args .size)) (now (c .before .before .before .before .before .before .before .before .before .before .before .before .before .args .space))) ≡ pictureBytes (c .before .before .before .before .before .before .before .before .before .before .before .before .before .args .size)
-front-long c = length-take-le (pictureBytes (c .before .before .before .before .before .before .before .before .before .before .before .before .before .args .size)) (now (c .before .before .before .before .before .before .before .before .before .before .before .before .before .args .space)) (omega (arith, rooms (c .before) .space-room))
+front-long c =
+    let s = c .before .before .before .before .before .before .before .before .before .before .before .before .before in
+    length-take-le (pictureBytes (s .args .size)) (now (s .args .space)) (omega (arith, rooms (c .before) .space-room))
 
 fits : (c : tie.After-picture-bytes) → c .picture-bytes .result ≤ length (c .before .before .before .before .before .before .before .find-in .last .0)
-fits c = omega (arith, bytes-are c, rooms (c .before) .space-room, c .before .before .before .before .before .before .before .find-in .kept .0)
+fits c =
+    let at-find-in = c .before .before .before .before .before .before .before in
+    omega (arith, bytes-are c, rooms (c .before) .space-room, at-find-in .find-in .kept .0)
 
 lent-front : (c : tie.After-picture-bytes) → take (c .picture-bytes .result) (c .before .before .before .before .before .before .before .find-in .last .0) ≡ take (pictureBytes (c .before .before .before .before .before .before .before .before .before .before .before .before .before .args .size)) (now (c .before .before .before .before .before .before .before .before .before .before .before .before .before .args .space))
 lent-front c =
-    let z = c .before .before .before .before .before .before .before .before .before .before .before .before .before .args .size in
-    let space = now (c .before .before .before .before .before .before .before .before .before .before .before .before .before .args .space) in
+    let s = c .before .before .before .before .before .before .before .before .before .before .before .before .before in
+    let z = s .args .size in
+    let space = now (s .args .space) in
     ap₂ take (bytes-are c) (there (c .before) .space-left)
     ∙ take-at (take (pictureBytes z) space) (replicate (pixels z) 0 ++ drop (pictureBytes z + pixels z) space) (pictureBytes z) (front-long c)
 
 left-behind : (c : tie.After-picture-bytes) → let z = c .before .before .before .before .before .before .before .before .before .before .before .before .before .args .size in drop (c .picture-bytes .result) (c .before .before .before .before .before .before .before .find-in .last .0) ≡ replicate (pixels z) 0 ++ drop (pictureBytes z + pixels z) (now (c .before .before .before .before .before .before .before .before .before .before .before .before .before .args .space))
 left-behind c =
-    let z = c .before .before .before .before .before .before .before .before .before .before .before .before .before .args .size in
-    let space = now (c .before .before .before .before .before .before .before .before .before .before .before .before .before .args .space) in
+    let s = c .before .before .before .before .before .before .before .before .before .before .before .before .before in
+    let z = s .args .size in
+    let space = now (s .args .space) in
     ap₂ drop (bytes-are c) (there (c .before) .space-left)
     ∙ drop-at (take (pictureBytes z) space) (replicate (pixels z) 0 ++ drop (pictureBytes z + pixels z) space) (pictureBytes z) (front-long c)
 
@@ -90,14 +109,17 @@ same-length c = search needs
 
 returns : tie.Need-returns
 returns c =
-    let a = c .before .before .before .before .before .before .before .args in
+    let at-last-in = c .before .before in
+    let at-if1 = at-last-in .before .before in
+    let s = at-if1 .before .before .before in
+    let a = s .args in
     let z = a .size in
     let space = now (a .space) in
     let seam = now (a .seam) in
     let p = pictureIn z space in
     let rules = findRules z (length space) (length seam) in
-    let g = c .before .before .last-in .ensures in
-    let narrow : eqb (a .size .width) 1 ≡ true = eq-eqb _ _ (c .before .before .before .before .if1 .taken) in
+    let g = at-last-in .last-in .ensures in
+    let narrow : eqb (a .size .width) 1 ≡ true = eq-eqb _ _ (at-if1 .if1 .taken) in
     let n = refusal (findRules z (length space) (length seam) ++ (13 when true ∷ [])) in
     let some = last-some z (length space) (length seam) in
     let rest = replicate (pixels z) 0 ++ drop (pictureBytes z + pixels z) space in
@@ -127,13 +149,15 @@ same-length-3 c = search needs
 
 returns-2 : tie.Need-returns-2
 returns-2 c =
-    let a = c .before .before .before .before .before .before .before .before .before .before .before .before .args in
+    let at-find-in = c .before .before .before .before .before .before in
+    let s = at-find-in .before .before .before .before .before .before in
+    let a = s .args in
     let z = a .size in
     let space = now (a .space) in
     let room = now (a .seam) in
     let p = pictureIn z space in
     let rules = findRules z (length space) (length room) in
-    let f = c .before .before .before .before .before .before .find-in in
+    let f = at-find-in .find-in in
     let why = c .enum-told2 .given in
     let m = refusal (findRules z (length space) (length room)) in
     let n = refusal (findRules z (length space) (length room) ++ (13 when eqb (z .width) 1 ∷ [])) in
@@ -160,13 +184,20 @@ slice-relend-prefix-close-up : tie.Need-slice-relend-prefix-close-up
 slice-relend-prefix-close-up c = fits c
 
 slice-aggregate-close-up : tie.Need-slice-aggregate-close-up
-slice-aggregate-close-up c = sym (length-take-le (c .before .picture-bytes .result) (c .before .before .before .before .before .before .before .before .find-in .last .0) (fits (c .before)))
+slice-aggregate-close-up c =
+    let at-picture-bytes = c .before in
+    let at-find-in = at-picture-bytes .before .before .before .before .before .before .before in
+    sym (length-take-le (at-picture-bytes .picture-bytes .result) (at-find-in .find-in .last .0) (fits at-picture-bytes))
 
 slice-reshare-prefix-close-up : tie.Need-slice-reshare-prefix-close-up
 slice-reshare-prefix-close-up c = seam-long (c .before .before)
 
 slice-aggregate-close-up-2 : tie.Need-slice-aggregate-close-up-2
-slice-aggregate-close-up-2 c = sym (length-take-le (c .before .before .before .before .before .before .before .before .before .before .before .before .before .before .before .args .size .height) (c .before .before .before .before .before .before .before .before .before .find-in .last .1 .1 .0) (seam-long (c .before .before .before)))
+slice-aggregate-close-up-2 c =
+    let at-enum-told = c .before .before .before in
+    let at-find-in = at-enum-told .before .before .before .before .before .before in
+    let s = at-find-in .before .before .before .before .before .before in
+    sym (length-take-le (s .args .size .height) (at-find-in .find-in .last .1 .1 .0) (seam-long at-enum-told))
 
 close-up-requires : tie.Need-close-up-requires
 close-up-requires c κs = search needs
@@ -180,18 +211,22 @@ same-length-5 c = search needs
 returns-3 : tie.Need-returns-3
 unfolding seam
 returns-3 c =
-    let a = c .before .before .before .before .before .before .before .before .before .before .before .before .before .before .before .before .before .before .args in
+    let at-close-up = c .before .before in
+    let at = at-close-up .before .before .before in
+    let told = at .before in
+    let at-find-in = told .before .before .before .before .before .before in
+    let at-if1 = at-find-in .before .before .before in
+    let s = at-if1 .before .before .before in
+    let a = s .args in
     let z = a .size in
-    let told = c .before .before .before .before .before .before in
-    let at = c .before .before .before .before .before in
-    let f = c .before .before .before .before .before .before .before .before .before .before .before .before .find-in in
+    let f = at-find-in .find-in in
     let space = now (a .space) in
     let room = now (a .seam) in
     let p = pictureIn z space in
-    let two : z .width ≡ 1 → ⊥ = c .before .before .before .before .before .before .before .before .before .before .before .before .before .before .before .if1 .left in
+    let two : z .width ≡ 1 → ⊥ = at-if1 .if1 .left in
     let wide : 1 < a .size .width = more-than-one (a .size .width) (sides-are (a .size) (rooms told .sides) .width-some) two in
     let none = served-first (findRules z (length space) (length room)) (13 when eqb (z .width) 1 ∷ []) refl (sym (f .ensures .number) ∙ there told .number) ∙ ap (λ t. refusal (13 when t ∷ [])) (ne-eqb (z .width) 1 two) in
-    let k = c .before .before .close-up in
+    let k = at-close-up .close-up in
     let back : CloseGiven (take (pictureBytes z) space) z (seam told) (k .result) (k .last .0) = rw (lent-front at, lent-seam told) at (k .ensures) in
     let closed = close-served (take (pictureBytes z) space) z (seam told) (k .last .0) (k .result) back (rw (front-long at) (sized-served z (rooms told .sides))) (inside told) wide in
     rw none

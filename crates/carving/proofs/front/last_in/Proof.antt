@@ -31,10 +31,13 @@ lent c = length-take-le (c .before .if1 .long) (replicate {A = ℕ} 512 0) (most
 -- so finding is refused by the same number
 number-is : (c : tie.After-find-in) → let a = c .before .before .before .before .before .args in foundNumber (c .find-in .result) ≡ refusal (findRules (a .size) (length (now (a .space))) (a .room))
 number-is c =
-    let a = c .before .before .before .before .before .args in
+    let at-find-in-arg = c .before .before in
+    let at-if1 = at-find-in-arg .before in
+    let s = at-if1 .before .before in
+    let a = s .args in
     c .find-in .ensures .number
-    ∙ ap (λ k. refusal (findRules (a .size) (length (now (a .space))) k)) (lent (c .before .before))
-    ∙ room-same (a .size) (length (now (a .space))) (c .before .before .before .if1 .long) (a .room) (long (c .before .before))
+    ∙ ap (λ k. refusal (findRules (a .size) (length (now (a .space))) k)) (lent at-find-in-arg)
+    ∙ room-same (a .size) (length (now (a .space))) (at-if1 .if1 .long) (a .room) (long at-find-in-arg)
 
 array-borrow-prefix-spare : tie.Need-array-borrow-prefix-spare
 array-borrow-prefix-spare c = most c
@@ -57,7 +60,8 @@ same-length c = search needs
 returns : tie.Need-returns
 returns c =
     let f = c .before .before .before .before .before in
-    let a = c .before .before .before .before .before .before .before .before .before .before .args in
+    let s = f .before .before .before .before .before in
+    let a = s .args in
     let z = a .size in
     let space = now (a .space) in
     let why = c .enum-told2 .given in
@@ -80,7 +84,8 @@ same-length-2 c = search needs
 returns-2 : tie.Need-returns-2
 returns-2 c =
     let f = c .before .before .before .before .before in
-    let a = c .before .before .before .before .before .before .before .before .before .before .args in
+    let s = f .before .before .before .before .before in
+    let a = s .args in
     let seam = c .enum-told .given in
     let none : foundNumber (f .find-in .result) ≡ 0 = ap foundNumber (seam .1) in
     record {

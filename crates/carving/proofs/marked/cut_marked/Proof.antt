@@ -38,11 +38,16 @@ none c = sym (c .before .before .marked-rooms .ensures) ∙ ap given (c .enum-to
 
 rest : (c : tie.After-enum-told) → refusal (first (c .before .before .before .before .before .before .before .before) ++ last (c .before .before .before .before .before .before .before .before)) ≡ refusal (last (c .before .before .before .before .before .before .before .before))
 unfolding first
-rest c = served-first (first (c .before .before .before .before .before .before .before .before)) (last (c .before .before .before .before .before .before .before .before)) refl (none c)
+rest c =
+    let s = c .before .before .before .before .before .before .before .before in
+    served-first (first s) (last s) refl (none c)
 
 needed : (c : tie.After-enum-told) → let a = c .before .before .before .before .before .before .before .before .args in MarkedNeeded (now (a .picture)) (now (a .marks)) (a .size) (a .axis) (now (a .seam)) (now (a .work))
 unfolding first
-needed c = let a = c .before .before .before .before .before .before .before .before .args in marked-rooms-are (a .axis) (a .size) (now (a .picture)) (now (a .marks)) (now (a .seam)) (now (a .work)) (none c)
+needed c =
+    let s = c .before .before .before .before .before .before .before .before in
+    let a = s .args in
+    marked-rooms-are (a .axis) (a .size) (now (a .picture)) (now (a .marks)) (now (a .seam)) (now (a .work)) (none c)
 
 marked-rooms-requires : tie.Need-marked-rooms-requires
 marked-rooms-requires c κs = search needs
@@ -56,17 +61,19 @@ same-length c = search needs
 returns : tie.Need-returns
 unfolding first last blocked
 returns c =
-    let a = c .before .before .before .before .before .before .before .before .before .args in
+    let at-marked-rooms = c .before .before .before in
+    let s = at-marked-rooms .before .before .before .before .before .before in
+    let a = s .args in
     let x = a .axis in
     let z = a .size in
     let p = picture z (now (a .picture)) in
     let m = marksOf z (now (a .marks)) in
     let h = turnedSize x z .height in
     let why = c .before .fits2 .given in
-    let told = c .before .before .before .marked-rooms in
-    let n = refusal (first (c .before .before .before .before .before .before .before .before .before) ++ last (c .before .before .before .before .before .before .before .before .before)) in
-    let e = sym (ap given (why .1)) ∙ refused-answer (told .result) (why .0 .0) (why .1) (first (c .before .before .before .before .before .before .before .before .before)) (last (c .before .before .before .before .before .before .before .before .before)) (told .ensures) in
-    let few = refusal-most 8 (first (c .before .before .before .before .before .before .before .before .before)) refl in (
+    let told = at-marked-rooms .marked-rooms in
+    let n = refusal (first s ++ last s) in
+    let e = sym (ap given (why .1)) ∙ refused-answer (told .result) (why .0 .0) (why .1) (first s) (last s) (told .ensures) in
+    let few = refusal-most 8 (first s) refl in (
       record {
         number-is = e;
         cost-is = left-as-was (why .0 .0) n e (markedCostAlong x z p m) 0;
@@ -91,8 +98,10 @@ turned-size-requires c κs = search needs
 
 last-marked-requires : tie.Need-last-marked-requires
 last-marked-requires c κs =
-    let a = c .before .before .before .before .before .before .before .before .before .before .before .before .before .args in
-    let p = needed (c .before .before .before .before .before) in
+    let at-enum-told = c .before .before .before .before .before in
+    let s = at-enum-told .before .before .before .before .before .before .before .before in
+    let a = s .args in
+    let p = needed at-enum-told in
     record {
       sized = p .sized;
       marked = p .marked;
@@ -112,16 +121,21 @@ same-length-4 c = search needs
 returns-2 : tie.Need-returns-2
 unfolding first last blocked
 returns-2 c =
-    let a = c .before .before .before .before .before .before .before .before .before .before .before .before .before .before .before .before .args in
+    let at-last-marked = c .before .before in
+    let at-if1 = at-last-marked .before .before .before .before in
+    let at-turned-size = at-if1 .before in
+    let at-enum-told = at-turned-size .before in
+    let s = at-enum-told .before .before .before .before .before .before .before .before in
+    let a = s .args in
     let x = a .axis in
     let z = a .size in
     let p = picture z (now (a .picture)) in
     let m = marksOf z (now (a .marks)) in
     let h = turnedSize x z .height in
-    let t = blocked (c .before .before .before .before .before .before .before .before .before .before .before .before .before .before .before .before) in
-    let g = c .before .before .last-marked .ensures in
-    let narrow = rw (c .before .before .before .before .before .before .before .turned-size .ensures) at (c .before .before .before .before .before .before .if1 .taken) in
-    let e : refusal (first (c .before .before .before .before .before .before .before .before .before .before .before .before .before .before .before .before) ++ last (c .before .before .before .before .before .before .before .before .before .before .before .before .before .before .before .before)) ≡ cond (blocked (c .before .before .before .before .before .before .before .before .before .before .before .before .before .before .before .before)) 12 13 = rest (c .before .before .before .before .before .before .before .before) ∙ simp (eq-eqb _ _ narrow) in
+    let t = blocked s in
+    let g = at-last-marked .last-marked .ensures in
+    let narrow = rw (at-turned-size .turned-size .ensures) at (at-if1 .if1 .taken) in
+    let e : refusal (first s ++ last s) ≡ cond (blocked s) 12 13 = rest at-enum-told ∙ simp (eq-eqb _ _ narrow) in
     rw e (
       record {
         number-is = g .number-is;
@@ -137,9 +151,13 @@ returns-2 c =
 
 cut-marked-along-requires : tie.Need-cut-marked-along-requires
 cut-marked-along-requires c κs =
-    let a = c .before .before .before .before .before .before .before .before .before .before .before .before .before .before .args in
-    let p = needed (c .before .before .before .before .before .before) in
-    let two : turnedSize (a .axis) (a .size) .width ≡ 1 → ⊥ = rw (c .before .before .before .before .before .turned-size .ensures) at (c .before .before .before .before .if1 .left) in
+    let at-if1 = c .before .before .before .before in
+    let at-turned-size = at-if1 .before in
+    let at-enum-told = at-turned-size .before in
+    let s = at-enum-told .before .before .before .before .before .before .before .before in
+    let a = s .args in
+    let p = needed at-enum-told in
+    let two : turnedSize (a .axis) (a .size) .width ≡ 1 → ⊥ = rw (at-turned-size .turned-size .ensures) at (at-if1 .if1 .left) in
     (p, record { wide = turned-some (a .axis) (a .size) (length (now (a .picture))) (sized-is _ _ (p .sized)) two })
 
 same-length-5 : tie.Need-same-length-5
@@ -157,10 +175,15 @@ same-length-8 c = search needs
 returns-3 : tie.Need-returns-3
 unfolding first last blocked
 returns-3 c =
-    let a = c .before .before .before .before .before .before .before .before .before .before .before .before .before .before .before .before .before .before .before .before .before .before .before .args in
-    let two : turnedSize (a .axis) (a .size) .width ≡ 1 → ⊥ = rw (c .before .before .before .before .before .before .before .before .before .before .before .before .before .before .turned-size .ensures) at (c .before .before .before .before .before .before .before .before .before .before .before .before .before .if1 .left) in
-    let e : refusal (first (c .before .before .before .before .before .before .before .before .before .before .before .before .before .before .before .before .before .before .before .before .before .before .before) ++ last (c .before .before .before .before .before .before .before .before .before .before .before .before .before .before .before .before .before .before .before .before .before .before .before)) ≡ cond (blocked (c .before .before .before .before .before .before .before .before .before .before .before .before .before .before .before .before .before .before .before .before .before .before .before)) 12 0 = rest (c .before .before .before .before .before .before .before .before .before .before .before .before .before .before .before) ∙ simp (ne-eqb _ _ two) in
-    rw e (c .before .before .before .before .before .before .before .before .cut-marked-along .ensures)
+    let at-cut-marked-along = c .before .before .before .before .before .before .before .before in
+    let at-if1 = at-cut-marked-along .before .before .before .before .before in
+    let at-turned-size = at-if1 .before in
+    let at-enum-told = at-turned-size .before in
+    let s = at-enum-told .before .before .before .before .before .before .before .before in
+    let a = s .args in
+    let two : turnedSize (a .axis) (a .size) .width ≡ 1 → ⊥ = rw (at-turned-size .turned-size .ensures) at (at-if1 .if1 .left) in
+    let e : refusal (first s ++ last s) ≡ cond (blocked s) 12 0 = rest at-enum-told ∙ simp (ne-eqb _ _ two) in
+    rw e (at-cut-marked-along .cut-marked-along .ensures)
 
 pub cut-marked-spec : {M : Type 1} → statement M
 cut-marked-spec =

@@ -38,21 +38,32 @@ seam c = let a = c .args in markedSeamAlong (a .axis) (a .size) (picture (a .siz
 
 free : (c : tie.After-enum-told) → blocked (c .before .before .before .before .before .before .before .before .before .before .before .before .before .before .before .before .before) ≡ false
 unfolding blocked
-free c = let f = c .before .before .before .before .before .before .marked-along in let told = c .enum-told .given in seam-free (blocked (c .before .before .before .before .before .before .before .before .before .before .before .before .before .before .before .before .before)) (f .result) (f .ensures .number-is) (told .0 .0) (told .1)
+free c =
+    let at-marked-along = c .before .before .before .before .before .before in
+    let s = at-marked-along .before .before .before .before .before .before .before .before .before .before .before in
+    let f = at-marked-along .marked-along in
+    let told = c .enum-told .given in
+    seam-free (blocked s) (f .result) (f .ensures .number-is) (told .0 .0) (told .1)
 
 inside : (c : tie.After-enum-told) → let a = c .before .before .before .before .before .before .before .before .before .before .before .before .before .before .before .before .before .args in Each (λ k. k < turnedSize (a .axis) (a .size) .width) (turnedSize (a .axis) (a .size) .height) (seam (c .before .before .before .before .before .before .before .before .before .before .before .before .before .before .before .before .before))
 unfolding seam blocked
-inside c = let a = c .before .before .before .before .before .before .before .before .before .before .before .before .before .before .before .before .before .args in marked-inside (a .axis) (a .size) (picture (a .size) (now (a .picture))) (marksOf (a .size) (now (a .marks))) (free c)
+inside c =
+    let s = c .before .before .before .before .before .before .before .before .before .before .before .before .before .before .before .before .before in
+    let a = s .args in
+    marked-inside (a .axis) (a .size) (picture (a .size) (now (a .picture))) (marksOf (a .size) (now (a .marks))) (free c)
 
 -- the seam's space and the work space when it was found
 seam-room : (c : tie.After-marked-along) → turnedSize (c .before .before .before .before .before .before .before .before .before .before .before .args .axis) (c .before .before .before .before .before .before .before .before .before .before .before .args .size) .height ≤ length (c .marked-along .last .1 .1 .1 .1 .0)
-seam-room c = omega (arith, c .before .before .before .before .before .before .before .before .before .before .before .pre .0 .seam-room, c .marked-along .kept .1 .1 .1 .1 .0)
+seam-room c =
+    let s = c .before .before .before .before .before .before .before .before .before .before .before in
+    omega (arith, s .pre .0 .seam-room, c .marked-along .kept .1 .1 .1 .1 .0)
 
 zero : (c : tie.After-marked-along) → c .marked-along .last .1 .1 .1 .1 .1 .0 ≡ replicate (length (now (c .before .before .before .before .before .before .before .before .before .before .before .args .work))) 0
 unfolding blocked
 zero c =
-    let work = now (c .before .before .before .before .before .before .before .before .before .before .before .args .work) in
-    c .marked-along .ensures .work-is ∙ worked-or (cond (blocked (c .before .before .before .before .before .before .before .before .before .before .before)) 12 0) (replicate (length work) 0) work (blocked (c .before .before .before .before .before .before .before .before .before .before .before)) refl
+    let s = c .before .before .before .before .before .before .before .before .before .before .before in
+    let work = now (s .args .work) in
+    c .marked-along .ensures .work-is ∙ worked-or (cond (blocked s) 12 0) (replicate (length work) 0) work (blocked s) refl
 
 work-long : (c : tie.After-marked-along) → length (c .marked-along .last .1 .1 .1 .1 .1 .0) ≡ length (now (c .before .before .before .before .before .before .before .before .before .before .before .args .work))
 work-long c = c .marked-along .kept .1 .1 .1 .1 .1 .0
@@ -61,16 +72,21 @@ work-long c = c .marked-along .kept .1 .1 .1 .1 .1 .0
 lent : (c : tie.After-enum-told) → take (c .before .before .before .before .before .before .before .before .before .before .before .before .turned-size .result .height) (c .before .before .before .before .before .before .marked-along .last .1 .1 .1 .1 .0) ≡ seam (c .before .before .before .before .before .before .before .before .before .before .before .before .before .before .before .before .before)
 unfolding seam blocked
 lent c =
-    let a = c .before .before .before .before .before .before .before .before .before .before .before .before .before .before .before .before .before .args in
-    let f = c .before .before .before .before .before .before .marked-along in
+    let at-marked-along = c .before .before .before .before .before .before in
+    let at-turned-size = at-marked-along .before .before .before .before .before .before in
+    let s = at-turned-size .before .before .before .before .before in
+    let a = s .args in
+    let f = at-marked-along .marked-along in
     let h = turnedSize (a .axis) (a .size) .height in
-    let found : SeamGiven (turnedSize (a .axis) (a .size) .height) (seam (c .before .before .before .before .before .before .before .before .before .before .before .before .before .before .before .before .before)) (markedCostAlong (a .axis) (a .size) (picture (a .size) (now (a .picture))) (marksOf (a .size) (now (a .marks)))) (now (a .seam)) (now (a .work)) 0 (f .result) (f .last .1 .1 .1 .1 .0) (f .last .1 .1 .1 .1 .1 .0) = rw (free c) at (f .ensures) in
-    ap (λ t. take (t .height) (f .last .1 .1 .1 .1 .0)) (c .before .before .before .before .before .before .before .before .before .before .before .before .turned-size .ensures)
-    ∙ ap (take h) (found .seam-is) ∙ take-at (seam (c .before .before .before .before .before .before .before .before .before .before .before .before .before .before .before .before .before)) (drop h (now (a .seam))) h (each-length (inside c))
+    let found : SeamGiven (turnedSize (a .axis) (a .size) .height) (seam s) (markedCostAlong (a .axis) (a .size) (picture (a .size) (now (a .picture))) (marksOf (a .size) (now (a .marks)))) (now (a .seam)) (now (a .work)) 0 (f .result) (f .last .1 .1 .1 .1 .0) (f .last .1 .1 .1 .1 .1 .0) = rw (free c) at (f .ensures) in
+    ap (λ t. take (t .height) (f .last .1 .1 .1 .1 .0)) (at-turned-size .turned-size .ensures)
+    ∙ ap (take h) (found .seam-is) ∙ take-at (seam s) (drop h (now (a .seam))) h (each-length (inside c))
 
 -- the work space after the picture was closed up
 closed-long : (c : tie.After-close) → length (c .close .last .1 .1 .1 .1 .0) ≡ length (now (c .before .before .before .before .before .before .before .before .before .before .before .before .before .before .before .before .before .before .before .before .before .args .work))
-closed-long c = c .close .kept .1 .1 .1 .1 .0 ∙ work-long (c .before .before .before .before .before .before .before .before .before .before)
+closed-long c =
+    let at-marked-along = c .before .before .before .before .before .before .before .before .before .before in
+    c .close .kept .1 .1 .1 .1 .0 ∙ work-long at-marked-along
 
 turned-size-requires : tie.Need-turned-size-requires
 turned-size-requires c κs = search needs
@@ -102,22 +118,31 @@ same-length-4 c = search needs
 returns : tie.Need-returns
 unfolding blocked
 returns c =
-    let f = c .before .before .before .before .before .before .marked-along in
+    let at-marked-along = c .before .before .before .before .before .before in
+    let s = at-marked-along .before .before .before .before .before .before .before .before .before .before .before in
+    let f = at-marked-along .marked-along in
     let why = c .enum-told2 .given in
-    let t : blocked (c .before .before .before .before .before .before .before .before .before .before .before .before .before .before .before .before .before) ≡ true = refused-blocked (blocked (c .before .before .before .before .before .before .before .before .before .before .before .before .before .before .before .before .before)) (f .result) (f .ensures .number-is) (why .0 .0) (why .1) in
+    let t : blocked s ≡ true = refused-blocked (blocked s) (f .result) (f .ensures .number-is) (why .0 .0) (why .1) in
     (f .ensures, (record { picture-is = rw t }, record { marks-are = rw t }))
 
 slice-reshare-prefix-close : tie.Need-slice-reshare-prefix-close
-slice-reshare-prefix-close c = rw (c .before .before .before .before .before .before .before .before .before .before .before .before .before .turned-size .ensures) (seam-room (c .before .before .before .before .before .before .before))
+slice-reshare-prefix-close c =
+    let at-marked-along = c .before .before .before .before .before .before .before in
+    let at-turned-size = at-marked-along .before .before .before .before .before .before in
+    rw (at-turned-size .turned-size .ensures) (seam-room at-marked-along)
 
 slice-aggregate-close : tie.Need-slice-aggregate-close
-slice-aggregate-close c = sym (length-take-le (c .before .before .before .before .before .before .before .before .before .before .before .before .before .before .turned-size .result .height) (c .before .before .before .before .before .before .before .before .marked-along .last .1 .1 .1 .1 .0) (rw (c .before .before .before .before .before .before .before .before .before .before .before .before .before .before .turned-size .ensures) (seam-room (c .before .before .before .before .before .before .before .before))))
+slice-aggregate-close c =
+    let at-marked-along = c .before .before .before .before .before .before .before .before in
+    let at-turned-size = at-marked-along .before .before .before .before .before .before in
+    sym (length-take-le (at-turned-size .turned-size .result .height) (at-marked-along .marked-along .last .1 .1 .1 .1 .0) (rw (at-turned-size .turned-size .ensures) (seam-room at-marked-along)))
 
 close-requires : tie.Need-close-requires
 close-requires c κs =
-    let p = c .before .before .before .before .before .before .before .before .before .before .before .before .before .before .before .before .before .before .before .before .pre in
     let told = c .before .before .before in
-    let f = c .before .before .before .before .before .before .before .before .before in
+    let f = told .before .before .before .before .before .before in
+    let s = f .before .before .before .before .before .before .before .before .before .before .before in
+    let p = s .pre in
     record {
       sized = p .0 .sized;
       wide = p .1 .wide;
@@ -127,20 +152,28 @@ close-requires c κs =
     }
 
 slice-reshare-prefix-close-2 : tie.Need-slice-reshare-prefix-close-2
-slice-reshare-prefix-close-2 c = rw (c .before .before .before .before .before .before .before .before .before .before .before .before .before .before .before .before .before .before .before .before .before .turned-size .ensures) (seam-room (c .before .before .before .before .before .before .before .before .before .before .before .before .before .before .before))
+slice-reshare-prefix-close-2 c =
+    let at-marked-along = c .before .before .before .before .before .before .before .before .before .before .before .before .before .before .before in
+    let at-turned-size = at-marked-along .before .before .before .before .before .before in
+    rw (at-turned-size .turned-size .ensures) (seam-room at-marked-along)
 
 slice-aggregate-close-2 : tie.Need-slice-aggregate-close-2
-slice-aggregate-close-2 c = sym (length-take-le (c .before .before .before .before .before .before .before .before .before .before .before .before .before .before .before .before .before .before .before .before .before .before .turned-size .result .height) (c .before .before .before .before .before .before .before .before .before .before .before .before .before .before .before .before .marked-along .last .1 .1 .1 .1 .0) (rw (c .before .before .before .before .before .before .before .before .before .before .before .before .before .before .before .before .before .before .before .before .before .before .turned-size .ensures) (seam-room (c .before .before .before .before .before .before .before .before .before .before .before .before .before .before .before .before))))
+slice-aggregate-close-2 c =
+    let at-marked-along = c .before .before .before .before .before .before .before .before .before .before .before .before .before .before .before .before in
+    let at-turned-size = at-marked-along .before .before .before .before .before .before in
+    sym (length-take-le (at-turned-size .turned-size .result .height) (at-marked-along .marked-along .last .1 .1 .1 .1 .0) (rw (at-turned-size .turned-size .ensures) (seam-room at-marked-along)))
 
 close-requires-2 : tie.Need-close-requires-2
 close-requires-2 c κs =
-    let a = c .before .before .before .before .before .before .before .before .before .before .before .before .before .before .before .before .before .before .before .before .before .before .before .before .before .before .before .before .args in
-    let p = c .before .before .before .before .before .before .before .before .before .before .before .before .before .before .before .before .before .before .before .before .before .before .before .before .before .before .before .before .pre in
-    let told = c .before .before .before .before .before .before .before .before .before .before .before in
     let k = c .before .before .before .before .before .before .before in
-    rw (c .before .before .before .before .before .before .before .before .before .before .before .before .before .before .before .before .before .before .before .before .before .before .grey .ensures)
+    let told = k .before .before .before .before in
+    let at-grey = told .before .before .before .before .before .before .before .before .before .before .before in
+    let s = at-grey .before .before .before .before .before .before in
+    let a = s .args in
+    let p = s .pre in
+    rw (at-grey .grey .ensures)
     (record {
-      sized = grey-sized (a .size) (length (now (a .picture))) (now (a .marks)) (sure (c .before .before .before .before .before .before .before .before .before .before .before .before .before .before .before .before .before .before .before .before .before .before .before .before .before .before .before .before)) (p .0 .marked);
+      sized = grey-sized (a .size) (length (now (a .picture))) (now (a .marks)) (sure s) (p .0 .marked);
       wide = rw (wide-grey (a .axis) (a .size)) (p .1 .wide);
       inside = rw (lent told, wide-grey (a .axis) (a .size), tall-grey (a .axis) (a .size)) (inside told);
       room = omega (arith, p .0 .work-room, closed-long k, grey-bytes (a .size));
@@ -162,38 +195,42 @@ same-length-8 c = search needs
 returns-2 : tie.Need-returns-2
 unfolding blocked seam
 returns-2 c =
-    let a = c .before .before .before .before .before .before .before .before .before .before .before .before .before .before .before .before .before .before .before .before .before .before .before .before .before .before .before .before .before .before .before .before .before .args in
-    let told = c .before .before .before .before .before .before .before .before .before .before .before .before .before .before .before .before in
-    let f = c .before .before .before .before .before .before .before .before .before .before .before .before .before .before .before .before .before .before .before .before .before .before in
-    let k = c .before .before .before .before .before .before .before .before .before .before .before .before in
+    let at-close2 = c .before .before .before .before in
+    let k = at-close2 .before .before .before .before .before .before .before .before in
+    let told = k .before .before .before .before in
+    let f = told .before .before .before .before .before .before in
+    let at-grey = f .before .before .before .before .before in
+    let at-turned-size = at-grey .before in
+    let start = at-turned-size .before .before .before .before .before in
+    let a = start .args in
     let x = a .axis in
     let z = a .size in
     let p = picture z (now (a .picture)) in
     let m = marksOf z (now (a .marks)) in
     let work = now (a .work) in
     let h = turnedSize x z .height in
-    let lost = c .before .before .before .before .close2 in
-    let marks : CloseGiven (now (a .marks)) (greyOf (a .size)) (a .axis) (take (c .before .before .before .before .before .before .before .before .before .before .before .before .before .before .before .before .before .before .before .before .before .before .before .before .before .before .before .before .turned-size .result .height) (f .marked-along .last .1 .1 .1 .1 .0)) (k .close .last .1 .1 .1 .1 .0) (lost .last .0) (lost .last .1 .1 .1 .1 .0) = rw (c .before .before .before .before .before .before .before .before .before .before .before .before .before .before .before .before .before .before .before .before .before .before .before .before .before .before .before .grey .ensures) at (lost .ensures) in (
+    let lost = at-close2 .close2 in
+    let marks : CloseGiven (now (a .marks)) (greyOf (a .size)) (a .axis) (take (at-turned-size .turned-size .result .height) (f .marked-along .last .1 .1 .1 .1 .0)) (k .close .last .1 .1 .1 .1 .0) (lost .last .0) (lost .last .1 .1 .1 .1 .0) = rw (at-grey .grey .ensures) at (lost .ensures) in (
       record {
         number-is = f .marked-along .ensures .number-is;
         cost-is = f .marked-along .ensures .cost-is;
         seam-is = f .marked-along .ensures .seam-is;
-        work-is = lost .ensures .work-is ∙ ap (λ n. replicate n 0) (closed-long k) ∙ sym (worked-or (cond (blocked (c .before .before .before .before .before .before .before .before .before .before .before .before .before .before .before .before .before .before .before .before .before .before .before .before .before .before .before .before .before .before .before .before .before)) 12 0) (replicate (length work) 0) work (blocked (c .before .before .before .before .before .before .before .before .before .before .before .before .before .before .before .before .before .before .before .before .before .before .before .before .before .before .before .before .before .before .before .before .before)) refl);
+        work-is = lost .ensures .work-is ∙ ap (λ n. replicate n 0) (closed-long k) ∙ sym (worked-or (cond (blocked start) 12 0) (replicate (length work) 0) work (blocked start) refl);
       },
       (
         record {
           picture-is =
               k .close .ensures .picture-is
               ∙ ap (λ s. bytes (cutAlong x z s p) ++ replicate (h * channelsOf (z .kind)) 0) (lent told)
-              ∙ sym (ap (λ t. served (cond t 12 0) (bytes (cutAlong x z (seam (c .before .before .before .before .before .before .before .before .before .before .before .before .before .before .before .before .before .before .before .before .before .before .before .before .before .before .before .before .before .before .before .before .before)) p) ++ replicate (h * channelsOf (z .kind)) 0) (now (a .picture))) (free told));
+              ∙ sym (ap (λ t. served (cond t 12 0) (bytes (cutAlong x z (seam start) p) ++ replicate (h * channelsOf (z .kind)) 0) (now (a .picture))) (free told));
         },
         record {
           marks-are =
               marks .picture-is
               ∙ ap₂ _++_
-              (ap (λ s. bytes (cutAlong x (greyOf z) s (picture (greyOf z) (now (a .marks))))) (lent told) ∙ marks-cut x z (now (a .marks)) (c .before .before .before .before .before .before .before .before .before .before .before .before .before .before .before .before .before .before .before .before .before .before .before .before .before .before .before .before .before .before .before .before .before .pre .0 .marked) (seam (c .before .before .before .before .before .before .before .before .before .before .before .before .before .before .before .before .before .before .before .before .before .before .before .before .before .before .before .before .before .before .before .before .before)))
+              (ap (λ s. bytes (cutAlong x (greyOf z) s (picture (greyOf z) (now (a .marks))))) (lent told) ∙ marks-cut x z (now (a .marks)) (start .pre .0 .marked) (seam start))
               (ap (λ n. replicate n 0) (mul-one (turnedSize x (greyOf z) .height) ∙ tall-grey x z))
-              ∙ sym (ap (λ t. served (cond t 12 0) (flat (cutAlong x z (seam (c .before .before .before .before .before .before .before .before .before .before .before .before .before .before .before .before .before .before .before .before .before .before .before .before .before .before .before .before .before .before .before .before .before)) m) ++ replicate h 0) (now (a .marks))) (free told));
+              ∙ sym (ap (λ t. served (cond t 12 0) (flat (cutAlong x z (seam start) m) ++ replicate h 0) (now (a .marks))) (free told));
         },
       ),
     )

@@ -30,7 +30,9 @@ none c = sym (c .before .before .marked-rooms .ensures) ∙ ap given (c .enum-to
 
 rest : (c : tie.After-enum-told) → refusal (first (c .before .before .before .before .before .before .before) ++ last (c .before .before .before .before .before .before .before)) ≡ refusal (last (c .before .before .before .before .before .before .before))
 unfolding first
-rest c = served-first (first (c .before .before .before .before .before .before .before)) (last (c .before .before .before .before .before .before .before)) refl (none c)
+rest c =
+    let s = c .before .before .before .before .before .before .before in
+    served-first (first s) (last s) refl (none c)
 
 marked-rooms-requires : tie.Need-marked-rooms-requires
 marked-rooms-requires c κs = search needs
@@ -41,16 +43,18 @@ enum-known-fits c = search needs
 returns : tie.Need-returns
 unfolding first last
 returns c =
-    let a = c .before .before .before .before .before .before .before .before .args in
+    let at-marked-rooms = c .before .before .before in
+    let s = at-marked-rooms .before .before .before .before .before in
+    let a = s .args in
     let x = a .axis in
     let z = a .size in
     let p = picture z (now (a .picture)) in
     let m = marksOf z (now (a .marks)) in
     let why = c .before .fits2 .given in
-    let told = c .before .before .before .marked-rooms in
-    let n = refusal (first (c .before .before .before .before .before .before .before .before) ++ last (c .before .before .before .before .before .before .before .before)) in
-    let e = sym (ap given (why .1)) ∙ refused-answer (told .result) (why .0 .0) (why .1) (first (c .before .before .before .before .before .before .before .before)) (last (c .before .before .before .before .before .before .before .before)) (told .ensures) in
-    let few = refusal-most 8 (first (c .before .before .before .before .before .before .before .before)) refl in
+    let told = at-marked-rooms .marked-rooms in
+    let n = refusal (first s ++ last s) in
+    let e = sym (ap given (why .1)) ∙ refused-answer (told .result) (why .0 .0) (why .1) (first s) (last s) (told .ensures) in
+    let few = refusal-most 8 (first s) refl in
     record {
       number-is = e;
       cost-is = left-as-was (why .0 .0) n e (markedCostAlong x z p m) 0;
@@ -63,7 +67,11 @@ enum-told c = search needs
 
 marked-along-requires : tie.Need-marked-along-requires
 unfolding first
-marked-along-requires c κs = let a = c .before .before .before .before .before .before .before .before .before .args in marked-rooms-are (a .axis) (a .size) (now (a .picture)) (now (a .marks)) (now (a .seam)) (now (a .work)) (none (c .before .before))
+marked-along-requires c κs =
+    let at-enum-told = c .before .before in
+    let s = at-enum-told .before .before .before .before .before .before .before in
+    let a = s .args in
+    marked-rooms-are (a .axis) (a .size) (now (a .picture)) (now (a .marks)) (now (a .seam)) (now (a .work)) (none at-enum-told)
 
 same-length : tie.Need-same-length
 same-length c = search needs
@@ -73,7 +81,10 @@ same-length-2 c = search needs
 
 returns-2 : tie.Need-returns-2
 unfolding first last
-returns-2 c = rw (rest (c .before .before .before .before .before .before .before)) (c .before .before .before .before .marked-along .ensures)
+returns-2 c =
+    let at-marked-along = c .before .before .before .before in
+    let at-enum-told = at-marked-along .before .before .before in
+    rw (rest at-enum-told) (at-marked-along .marked-along .ensures)
 
 pub find-marked-spec : {M : Type 1} → statement M
 find-marked-spec =

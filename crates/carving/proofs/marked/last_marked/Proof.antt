@@ -21,8 +21,9 @@ blocked c = let a = c .args in blockedAlong (a .axis) (a .size) (picture (a .siz
 zero : (c : tie.After-marked-along) → c .marked-along .last .1 .1 .1 .1 .1 .0 ≡ replicate (length (now (c .before .before .before .before .before .before .args .work))) 0
 unfolding blocked
 zero c =
-    let work = now (c .before .before .before .before .before .before .args .work) in
-    c .marked-along .ensures .work-is ∙ worked-or (cond (blocked (c .before .before .before .before .before .before)) 12 0) (replicate (length work) 0) work (blocked (c .before .before .before .before .before .before)) refl
+    let s = c .before .before .before .before .before .before in
+    let work = now (s .args .work) in
+    c .marked-along .ensures .work-is ∙ worked-or (cond (blocked s) 12 0) (replicate (length work) 0) work (blocked s) refl
 
 slice-aggregate-marked-along : tie.Need-slice-aggregate-marked-along
 slice-aggregate-marked-along c = search needs
@@ -42,13 +43,15 @@ same-length c = search needs
 returns : tie.Need-returns
 unfolding blocked
 returns c =
-    let f = c .before .before .before .before .before .marked-along in
+    let at-marked-along = c .before .before .before .before .before in
+    let s = at-marked-along .before .before .before .before .before .before in
+    let f = at-marked-along .marked-along in
     let why = c .enum-told2 .given in
-    let t : blocked (c .before .before .before .before .before .before .before .before .before .before .before) ≡ true = refused-blocked (blocked (c .before .before .before .before .before .before .before .before .before .before .before)) (f .result) (f .ensures .number-is) (why .0 .0) (why .1) in
+    let t : blocked s ≡ true = refused-blocked (blocked s) (f .result) (f .ensures .number-is) (why .0 .0) (why .1) in
     record {
       number-is = f .ensures .number-is ∙ ap (λ k. cond k 12 0) t ∙ sym (ap (λ k. cond k 12 13) t);
       cost-is = ap foundCost (why .1);
-      work-is = zero (c .before .before .before .before .before);
+      work-is = zero at-marked-along;
     }
 
 same-length-2 : tie.Need-same-length-2
@@ -57,13 +60,15 @@ same-length-2 c = search needs
 returns-2 : tie.Need-returns-2
 unfolding blocked
 returns-2 c =
-    let f = c .before .before .before .before .before .marked-along in
+    let at-marked-along = c .before .before .before .before .before in
+    let s = at-marked-along .before .before .before .before .before .before in
+    let f = at-marked-along .marked-along in
     let seam = c .enum-told .given in
-    let t : blocked (c .before .before .before .before .before .before .before .before .before .before .before) ≡ false = seam-free (blocked (c .before .before .before .before .before .before .before .before .before .before .before)) (f .result) (f .ensures .number-is) (seam .0 .0) (seam .1) in
+    let t : blocked s ≡ false = seam-free (blocked s) (f .result) (f .ensures .number-is) (seam .0 .0) (seam .1) in
     record {
       number-is = sym (ap (λ k. cond k 12 13) t);
       cost-is = refl;
-      work-is = zero (c .before .before .before .before .before);
+      work-is = zero at-marked-along;
     }
 
 pub last-marked-spec : {M : Type 1} → statement M

@@ -28,7 +28,9 @@ none : (c : tie.After-enum-told) → refusal (sizeRules (c .before .before .befo
 none c = sym (c .before .before .sized .ensures) ∙ ap given (c .enum-told .given .1)
 
 rest : (c : tie.After-enum-told) → let a = c .before .before .before .before .args in refusal (sizeRules (a .size) (a .bytes) ++ more (c .before .before .before .before)) ≡ refusal (more (c .before .before .before .before))
-rest c = served-first (sizeRules (c .before .before .before .before .args .size) (c .before .before .before .before .args .bytes)) (more (c .before .before .before .before)) refl (none c)
+rest c =
+    let s = c .before .before .before .before in
+    served-first (sizeRules (s .args .size) (s .args .bytes)) (more s) refl (none c)
 
 sized-requires : tie.Need-sized-requires
 sized-requires c κs = search needs
@@ -42,9 +44,11 @@ enum-told-2 c = search needs
 returns : tie.Need-returns
 unfolding more room
 returns c =
-    let a = c .before .before .before .before .args in
+    let at-sized = c .before .before in
+    let s = at-sized .before .before in
+    let a = s .args in
     let why = c .enum-told2 .given in
-    refused-answer (c .before .before .sized .result) (why .0 .0) (why .1) (sizeRules (a .size) (a .bytes)) (more (c .before .before .before .before)) (c .before .before .sized .ensures)
+    refused-answer (at-sized .sized .result) (why .0 .0) (why .1) (sizeRules (a .size) (a .bytes)) (more s) (at-sized .sized .ensures)
 
 mul-if1 : tie.Need-mul-if1
 mul-if1 c =
@@ -61,7 +65,10 @@ over-two-requires c κs = search needs
 
 returns-3 : tie.Need-returns-3
 unfolding more room
-returns-3 c = sym (rest (c .before .before .before) ∙ simp (eq-eqb _ _ (c .before .before .if1 .left), sym (c .before .over-two .ensures) ∙ c .if2 .taken))
+returns-3 c =
+    let at-if1 = c .before .before in
+    let at-enum-told = at-if1 .before in
+    sym (rest at-enum-told ∙ simp (eq-eqb _ _ (at-if1 .if1 .left), sym (c .before .over-two .ensures) ∙ c .if2 .taken))
 
 rooms-requires : tie.Need-rooms-requires
 rooms-requires c κs = search needs
@@ -69,10 +76,14 @@ rooms-requires c κs = search needs
 returns-4 : tie.Need-returns-4
 unfolding more room
 returns-4 c =
-    let a = c .before .before .before .before .before .before .before .before .args in
+    let at-over-two = c .before .before in
+    let at-if1 = at-over-two .before in
+    let at-enum-told = at-if1 .before in
+    let s = at-enum-told .before .before .before .before in
+    let a = s .args in
     c .rooms .ensures
-    ∙ served-first (sizeRules (a .size) (a .bytes)) (room (c .before .before .before .before .before .before .before .before)) refl (none (c .before .before .before .before))
-    ∙ sym (rest (c .before .before .before .before) ∙ simp (eq-eqb _ _ (c .before .before .before .if1 .left), sym (c .before .before .over-two .ensures) ∙ c .before .if2 .left))
+    ∙ served-first (sizeRules (a .size) (a .bytes)) (room s) refl (none at-enum-told)
+    ∙ sym (rest at-enum-told ∙ simp (eq-eqb _ _ (at-if1 .if1 .left), sym (at-over-two .over-two .ensures) ∙ c .before .if2 .left))
 
 pub marked-rooms-spec : {M : Type 1} → statement M
 marked-rooms-spec =

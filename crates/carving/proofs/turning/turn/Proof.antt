@@ -23,7 +23,9 @@ enum-told : tie.Need-enum-told
 enum-told c = search needs
 
 copy-requires : tie.Need-copy-requires
-copy-requires c κs = omega (arith, sure (c .before .before .before .before .before) .length-is, c .before .before .before .before .before .pre .room)
+copy-requires c κs =
+    let s = c .before .before .before .before .before in
+    omega (arith, sure s .length-is, s .pre .room)
 
 enum-told-2 : tie.Need-enum-told-2
 enum-told-2 c = search needs
@@ -37,11 +39,14 @@ same-length c = search needs
 returns : tie.Need-returns
 unfolding turned
 returns c =
-    let a = c .before .before .before .before .before .before .before .before .args in
+    let at-copy = c .before .before in
+    let at-enum-told = at-copy .before .before in
+    let s = at-enum-told .before .before .before .before in
+    let a = s .args in
     let b = now (a .picture) in
-    let l = sure (c .before .before .before .before .before .before .before .before) .length-is in
-    rw (c .before .before .before .before .enum-told .given .1)
-    (c .before .before .copy .ensures .1
+    let l = sure s .length-is in
+    rw (at-enum-told .enum-told .given .1)
+    (at-copy .copy .ensures .1
     ∙ ap₂ (λ x n. x ++ drop n (now (a .to))) (take-length b ∙ sym (bytes-picture (a .size) b l)) l)
 
 same-length-2 : tie.Need-same-length-2
@@ -50,9 +55,12 @@ same-length-2 c = search needs
 returns-2 : tie.Need-returns-2
 unfolding turned
 returns-2 c =
-    let a = c .before .before .before .before .before .before .before .before .args in
-    rw (c .before .before .before .before .enum-told2 .given .1)
-    (exchange-served (now (a .picture)) (a .size) (now (a .to)) (c .before .before .exchange .last .1 .1 .0) (c .before .before .exchange .result) (c .before .before .exchange .ensures) (c .before .before .before .before .before .before .before .before .pre .sized) (c .before .before .before .before .before .before .before .before .pre .room))
+    let at-exchange = c .before .before in
+    let at-enum-told2 = at-exchange .before .before in
+    let s = at-enum-told2 .before .before .before .before in
+    let a = s .args in
+    rw (at-enum-told2 .enum-told2 .given .1)
+    (exchange-served (now (a .picture)) (a .size) (now (a .to)) (at-exchange .exchange .last .1 .1 .0) (at-exchange .exchange .result) (at-exchange .exchange .ensures) (s .pre .sized) (s .pre .room))
 
 pub turn-spec : {M : Type 1} → statement M
 turn-spec =

@@ -17,8 +17,9 @@ apart-requires c κs = search needs
 
 returns : tie.Need-returns
 returns c =
-    let a = c .before .before .before .before .before .args in
-    let p = c .before .before .before .before .before .pre in
+    let s = c .before .before .before .before .before in
+    let a = s .args in
+    let p = s .pre in
     (c .apart .ensures .0 ∙ sym (grey-is (now (a .a)) (now (a .b)) (a .i) (a .j) (p .0) (p .1)), c .apart .ensures .1)
 
 pub grey-difference-spec : {M : Type 1} → statement M

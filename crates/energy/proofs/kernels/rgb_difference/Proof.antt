@@ -55,10 +55,12 @@ add-result-2 c = search needs
 
 returns : tie.Need-returns
 returns c =
-    let start = c .before .before .before .before .before .before .before .before .before .before .before in
+    let at-apart2 = c .before .before .before in
+    let at-apart = at-apart2 .before .before .before in
+    let start = at-apart .before .before .before .before .before in
     let a = start .args in
-    let first = c .before .before .before .before .before .before .apart .ensures in
-    let second = c .before .before .before .apart2 .ensures in
+    let first = at-apart .apart .ensures in
+    let second = at-apart2 .apart2 .ensures in
     let third = c .apart3 .ensures in
     (ap₂ _+_ (ap₂ _+_ (first .0) (second .0)) (third .0) ∙ sym (rgb-is (now (a .a)) (now (a .b)) (a .i) (a .j) (start .pre .0) (start .pre .1)), omega arith)
 

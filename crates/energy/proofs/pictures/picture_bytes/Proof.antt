@@ -29,9 +29,11 @@ enum-told-2 c = search needs
 
 returns : tie.Need-returns
 returns c =
+    let at-sides = c .before .before in
+    let s = at-sides .before in
     let why = c .enum-told2 .given in
-    refused-kept (c .before .before .sides .result) (why .0 .0) (why .1) (pictureBytes (c .before .before .before .args .size)) 0
-    ∙ ap (λ n. served n (pictureBytes (c .before .before .before .args .size)) 0) (c .before .before .sides .ensures)
+    refused-kept (at-sides .sides .result) (why .0 .0) (why .1) (pictureBytes (s .args .size)) 0
+    ∙ ap (λ n. served n (pictureBytes (s .args .size)) 0) (at-sides .sides .ensures)
 
 row-bytes-requires : tie.Need-row-bytes-requires
 row-bytes-requires c κs = sure c .width-most
@@ -41,7 +43,8 @@ mul-result c = omega (arith, mul-le-mul (sure (c .before) .height-most) (c .row-
 
 returns-2 : tie.Need-returns-2
 returns-2 c =
-    let z = c .before .before .before .before .args .size in
+    let s = c .before .before .before .before in
+    let z = s .args .size in
     ap (z .height *_) (c .row-bytes .ensures .0) ∙ sym (ap (λ n. served n (pictureBytes z) 0) (none (c .before)))
 
 pub picture-bytes-spec : {M : Type 1} → statement M

@@ -25,8 +25,10 @@ sure c = sized-is _ _ (none c)
 -- row r ends within the picture
 end : (c : tie.After-row-bytes) → let a = c .before .before .before .before .before .before .args in a .r * c .row-bytes .result + c .row-bytes .result ≤ length (now (a .picture))
 end c =
-    let a = c .before .before .before .before .before .before .args in
-    let len = sure (c .before .before) .length-is ∙ ap (a .size .height *_) (sym (c .row-bytes .ensures .0)) in
+    let at-enum-told = c .before .before in
+    let s = at-enum-told .before .before .before .before in
+    let a = s .args in
+    let len = sure at-enum-told .length-is ∙ ap (a .size .height *_) (sym (c .row-bytes .ensures .0)) in
     omega (arith, part-end (a .r) (a .size .height) (c .row-bytes .result) (c .before .if1 .left))
 
 sized-requires : tie.Need-sized-requires
@@ -43,17 +45,21 @@ slice-aggregate-result c = search needs
 
 returns : tie.Need-returns
 returns c =
-    let a = c .before .before .before .before .before .args in
+    let at-sized = c .before .before .before in
+    let s = at-sized .before .before in
+    let a = s .args in
     let why = c .before .enum-told2 .given in
-    sym (row-refused (a .size) (now (a .picture)) (a .r) _ (sym (c .before .before .before .sized .ensures) ∙ ap given (why .1)) (number-some (why .0 .0)))
+    sym (row-refused (a .size) (now (a .picture)) (a .r) _ (sym (at-sized .sized .ensures) ∙ ap given (why .1)) (number-some (why .0 .0)))
 
 slice-aggregate-result-2 : tie.Need-slice-aggregate-result-2
 slice-aggregate-result-2 c = search needs
 
 returns-2 : tie.Need-returns-2
 returns-2 c =
-    let a = c .before .before .before .before .before .before .args in
-    sym (row-past (a .size) (now (a .picture)) (a .r) (none (c .before .before)) (c .before .if1 .taken))
+    let at-enum-told = c .before .before in
+    let s = at-enum-told .before .before .before .before in
+    let a = s .args in
+    sym (row-past (a .size) (now (a .picture)) (a .r) (none at-enum-told) (c .before .if1 .taken))
 
 row-bytes-requires : tie.Need-row-bytes-requires
 row-bytes-requires c κs = sure (c .before) .width-most

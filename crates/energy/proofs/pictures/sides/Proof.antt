@@ -14,11 +14,15 @@ returns-3 c = simp (ne-eqb _ _ (c .before .before .if1 .left), ne-eqb _ _ (c .be
 
 returns-4 : tie.Need-returns-4
 returns-4 c =
-    simp (ne-eqb _ _ (c .before .before .before .if1 .left), ne-eqb _ _ (c .before .before .if2 .left), le-ltb _ _ (c .before .if3 .left), lt-ltb _ _ (c .if4 .taken))
+    let at-if2 = c .before .before in
+    let at-if1 = at-if2 .before in
+    simp (ne-eqb _ _ (at-if1 .if1 .left), ne-eqb _ _ (at-if2 .if2 .left), le-ltb _ _ (c .before .if3 .left), lt-ltb _ _ (c .if4 .taken))
 
 returns-5 : tie.Need-returns-5
 returns-5 c =
-    simp (ne-eqb _ _ (c .before .before .before .if1 .left), ne-eqb _ _ (c .before .before .if2 .left), le-ltb _ _ (c .before .if3 .left), le-ltb _ _ (c .if4 .left))
+    let at-if2 = c .before .before in
+    let at-if1 = at-if2 .before in
+    simp (ne-eqb _ _ (at-if1 .if1 .left), ne-eqb _ _ (at-if2 .if2 .left), le-ltb _ _ (c .before .if3 .left), le-ltb _ _ (c .if4 .left))
 
 pub sides-spec : {M : Type 1} → statement M
 sides-spec = tie.close (tie.spec returns returns-2 returns-3 returns-4 returns-5)

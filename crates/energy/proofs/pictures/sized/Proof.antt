@@ -19,7 +19,9 @@ rest : (c : tie.After-enum-told) → let a = c .before .before .before .args in 
 rest c = let a = c .before .before .before .args in served-first (sideRules (a .size)) (4 when not (eqb (a .bytes) (pictureBytes (a .size))) ∷ []) refl (none c)
 
 long : (c : tie.After-picture-bytes) → c .picture-bytes .result ≡ pictureBytes (c .before .before .before .before .args .size)
-long c = c .picture-bytes .ensures ∙ ap (λ n. served n (pictureBytes (c .before .before .before .before .args .size)) 0) (none (c .before))
+long c =
+    let s = c .before .before .before .before in
+    c .picture-bytes .ensures ∙ ap (λ n. served n (pictureBytes (s .args .size)) 0) (none (c .before))
 
 sides-requires : tie.Need-sides-requires
 sides-requires c κs = search needs
@@ -32,9 +34,11 @@ enum-told-2 c = search needs
 
 returns : tie.Need-returns
 returns c =
-    let a = c .before .before .before .args in
+    let at-sides = c .before .before in
+    let s = at-sides .before in
+    let a = s .args in
     let why = c .enum-told2 .given in
-    refused-answer (c .before .before .sides .result) (why .0 .0) (why .1) (sideRules (a .size)) (4 when not (eqb (a .bytes) (pictureBytes (a .size))) ∷ []) (c .before .before .sides .ensures)
+    refused-answer (at-sides .sides .result) (why .0 .0) (why .1) (sideRules (a .size)) (4 when not (eqb (a .bytes) (pictureBytes (a .size))) ∷ []) (at-sides .sides .ensures)
 
 picture-bytes-requires : tie.Need-picture-bytes-requires
 picture-bytes-requires c κs = search needs

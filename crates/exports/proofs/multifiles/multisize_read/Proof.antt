@@ -20,7 +20,9 @@ same-length-3 : tie.Need-same-length-3
 same-length-3 c = search needs
 
 returns : tie.Need-returns
-returns c = rw (c .head-reply .ensures) (read-host (c .before .before .before .before .before .before .before .read .ensures))
+returns c =
+    let at-read = c .before .before .before .before .before .before .before in
+    rw (c .head-reply .ensures) (read-host (at-read .read .ensures))
 
 pub multisize-read-spec : {M : Type 1} → statement M
 multisize-read-spec =

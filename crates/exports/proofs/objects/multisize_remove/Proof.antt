@@ -37,8 +37,11 @@ same-length-3 c = search needs
 
 returns-2 : tie.Need-returns-2
 returns-2 c =
-    let g = c .before .before .before .before .before .before .before .remove .ensures in
-    rw (sym (c .before .before .before .before .before .before .before .before .before .before .before .before .before .before .size-named .ensures) ∙ c .before .before .before .before .before .before .before .before .before .before .before .before .size .given .1, c .reply .ensures) (named-removal (g .0) (g .1))
+    let at-remove = c .before .before .before .before .before .before .before in
+    let at-size = at-remove .before .before .before .before .before in
+    let at-size-named = at-size .before .before in
+    let g = at-remove .remove .ensures in
+    rw (sym (at-size-named .size-named .ensures) ∙ at-size .size .given .1, c .reply .ensures) (named-removal (g .0) (g .1))
 
 pub multisize-remove-spec : {M : Type 1} → statement M
 multisize-remove-spec =

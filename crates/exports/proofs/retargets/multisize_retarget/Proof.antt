@@ -35,8 +35,11 @@ same-length-2 c = search needs
 
 returns-2 : tie.Need-returns-2
 returns-2 c =
-    let g = c .before .before .before .before .before .retarget .ensures in
-    rw (sym (c .before .before .before .before .before .before .before .before .before .before .before .size-named .ensures) ∙ c .before .before .before .before .before .before .before .before .before .size .given .1, c .reply .ensures)
+    let at-retarget = c .before .before .before .before .before in
+    let at-size = at-retarget .before .before .before .before in
+    let at-size-named = at-size .before .before in
+    let g = at-retarget .retarget .ensures in
+    rw (sym (at-size-named .size-named .ensures) ∙ at-size .size .given .1, c .reply .ensures)
     (record { answer = g .number; value = g .total; out-given = g .out-given; work-left = g .work-left })
 
 pub multisize-retarget-spec : {M : Type 1} → statement M

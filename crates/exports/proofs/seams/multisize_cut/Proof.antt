@@ -34,9 +34,12 @@ refused-requires-2 c κs = search needs
 
 returns-2 : tie.Need-returns-2
 returns-2 c =
+    let at-axis-named = c .before .before .before in
+    let at-size = at-axis-named .before .before in
+    let at-size-named = at-size .before .before in
     rw (
-      sym (c .before .before .before .before .before .before .before .size-named .ensures) ∙ c .before .before .before .before .before .size .given .1,
-      sym (c .before .before .before .axis-named .ensures) ∙ c .before .enum-told2 .given .1,
+      sym (at-size-named .size-named .ensures) ∙ at-size .size .given .1,
+      sym (at-axis-named .axis-named .ensures) ∙ c .before .enum-told2 .given .1,
       c .refused2 .ensures,
     )
     (unnamed-seam no-axis, unnamed-cut no-axis)
@@ -58,10 +61,15 @@ same-length-3 c = search needs
 
 returns-3 : tie.Need-returns-3
 returns-3 c =
-    let g = c .before .before .before .before .before .before .before .cut .ensures in
+    let at-cut = c .before .before .before .before .before .before .before in
+    let at-turned = at-cut .before .before .before .before .before in
+    let at-axis-named = at-turned .before .before in
+    let at-size = at-axis-named .before .before in
+    let at-size-named = at-size .before .before in
+    let g = at-cut .cut .ensures in
     rw (
-      sym (c .before .before .before .before .before .before .before .before .before .before .before .before .before .before .before .before .before .before .size-named .ensures) ∙ c .before .before .before .before .before .before .before .before .before .before .before .before .before .before .before .before .size .given .1,
-      sym (c .before .before .before .before .before .before .before .before .before .before .before .before .before .before .axis-named .ensures) ∙ c .before .before .before .before .before .before .before .before .before .before .before .before .turned .given .1,
+      sym (at-size-named .size-named .ensures) ∙ at-size .size .given .1,
+      sym (at-axis-named .axis-named .ensures) ∙ at-turned .turned .given .1,
       c .reply .ensures,
     )
     (named-seam (g .0), rw (g .0 .number-is) (named-cut (g .1)))

@@ -44,20 +44,27 @@ wide c = length-table _ (c .args .size .width)
 row-0 : (c : tie.After-energies) → c .energies .last .1 .1 .1 .0 ≡ costs (c .before .before .before .before .before .before .before)
 unfolding costs
 row-0 c =
-    let a = c .before .before .before .before .before .before .before .args in
+    let s = c .before .before .before .before .before .before .before in
+    let a = s .args in
     let mid = midOf 1 (a .size .width + 1 - 1) (now (a .above)) in
     energies-served (take (a .bytes) (now (a .space))) (a .size) 0 mid (c .energies .last .1 .1 .1 .0) (c .energies .result) (c .energies .ensures)
-    (rw (front-long (c .before .before .before .before .before .before .before)) (c .before .before .before .before .before .before .before .pre .0 .sized)) (sure (c .before .before .before .before .before .before .before) .height-some) (le-of-eq (sym (mid-long (c .before .before .before .before .before .before .before))))
-    ∙ ap (costsOf (a .size) (take (a .bytes) (now (a .space))) 0 ++_) (drop-of-length-le mid {i = a .size .width} (le-of-eq (mid-long (c .before .before .before .before .before .before .before))))
+    (rw (front-long s) (s .pre .0 .sized)) (sure s .height-some) (le-of-eq (sym (mid-long s)))
+    ∙ ap (costsOf (a .size) (take (a .bytes) (now (a .space))) 0 ++_) (drop-of-length-le mid {i = a .size .width} (le-of-eq (mid-long s)))
     ∙ append-nil (costsOf (a .size) (take (a .bytes) (now (a .space))) 0)
-    ∙ ap (λ b. costsOf (a .size) (take b (now (a .space))) 0) (c .before .before .before .before .before .before .before .pre .0 .bytes-are)
+    ∙ ap (λ b. costsOf (a .size) (take b (now (a .space))) 0) (s .pre .0 .bytes-are)
 
 -- the last row of sums
 row-is-long : (c : tie.After-down) → length (take (c .before .before .before .before .before .before .before .before .before .before .before .before .before .before .args .size .width + 1 - 1) (drop 1 (c .down .last .1 .1 .1 .0))) ≡ c .before .before .before .before .before .before .before .before .before .before .before .before .before .before .args .size .width
-row-is-long c = let a = c .before .before .before .before .before .before .before .before .before .before .before .before .before .before .args in row-long 4294967295 (pictureBytes (a .size)) (a .size) (costsOf (a .size)) (now (a .space)) (c .down .last .0) (c .down .last .1 .1 .1 .0) (wide (c .before .before .before .before .before .before .before .before .before .before .before .before .before .before)) (c .down .ensures)
+row-is-long c =
+    let s = c .before .before .before .before .before .before .before .before .before .before .before .before .before .before in
+    let a = s .args in
+    row-long 4294967295 (pictureBytes (a .size)) (a .size) (costsOf (a .size)) (now (a .space)) (c .down .last .0) (c .down .last .1 .1 .1 .0) (wide s) (c .down .ensures)
 
 all-long : (c : tie.After-down) → length (c .down .last .1 .1 .1 .0) ≡ c .before .before .before .before .before .before .before .before .before .before .before .before .before .before .args .size .width + 2
-all-long c = let a = c .before .before .before .before .before .before .before .before .before .before .before .before .before .before .args in last-long 4294967295 (pictureBytes (a .size)) (a .size) (costsOf (a .size)) (now (a .space)) (c .down .last .0) (c .down .last .1 .1 .1 .0) (wide (c .before .before .before .before .before .before .before .before .before .before .before .before .before .before)) (c .down .ensures)
+all-long c =
+    let s = c .before .before .before .before .before .before .before .before .before .before .before .before .before .before in
+    let a = s .args in
+    last-long 4294967295 (pictureBytes (a .size)) (a .size) (costsOf (a .size)) (now (a .space)) (c .down .last .0) (c .down .last .1 .1 .1 .0) (wide s) (c .down .ensures)
 
 add-side : tie.Need-add-side
 add-side c = search needs
@@ -83,13 +90,15 @@ energies-requires c κs = search needs
 down-requires : tie.Need-down-requires
 unfolding costs
 down-requires c κs =
-    let a = c .before .before .before .before .before .before .before .before .before .before .before .before .before .args in
-    let p = c .before .before .before .before .before .before .before .before .before .before .before .before .before .pre in
+    let at-energies = c .before .before .before .before .before .before in
+    let s = at-energies .before .before .before .before .before .before .before in
+    let a = s .args in
+    let p = s .pre in
     record {
       bytes-are = p .0 .bytes-are;
       sized = p .0 .sized;
       room = p .0 .room;
-      first = first-row 4294967295 (a .size .width) (now (a .above)) _ (costsOf (a .size) (take (pictureBytes (a .size)) (now (a .space))) 0) (p .1 .fences) (row-0 (c .before .before .before .before .before .before));
+      first = first-row 4294967295 (a .size .width) (now (a .above)) _ (costsOf (a .size) (take (pictureBytes (a .size)) (now (a .space))) 0) (p .1 .fences) (row-0 at-energies);
       cost-room = p .1 .cost-room;
       next-room = p .1 .next-room;
     }
@@ -101,10 +110,15 @@ part-first-least-start : tie.Need-part-first-least-start
 part-first-least-start c = search needs
 
 part-first-least-end : tie.Need-part-first-least-end
-part-first-least-end c = omega (arith, all-long (c .before .before .before .before .before .before .before .before .before))
+part-first-least-end c =
+    let at-down = c .before .before .before .before .before .before .before .before .before in
+    omega (arith, all-long at-down)
 
 first-least-requires : tie.Need-first-least-requires
-first-least-requires c κs = rw (row-is-long (c .before .before .before .before .before .before .before .before .before .before)) (sure (c .before .before .before .before .before .before .before .before .before .before .before .before .before .before .before .before .before .before .before .before .before .before .before .before) .width-some)
+first-least-requires c κs =
+    let at-down = c .before .before .before .before .before .before .before .before .before .before in
+    let s = at-down .before .before .before .before .before .before .before .before .before .before .before .before .before .before in
+    rw (row-is-long at-down) (sure s .width-some)
 
 add-at : tie.Need-add-at
 add-at c = search needs

@@ -19,25 +19,32 @@ array-borrow-prefix-above : tie.Need-array-borrow-prefix-above
 array-borrow-prefix-above c = omega (arith, sure (c .before .before) .width-most)
 
 slice-aggregate-bottom-with : tie.Need-slice-aggregate-bottom-with
-slice-aggregate-bottom-with c = sym (length-take-replicate {A = ℕ} (c .before .before .before .args .size .width + 2) 514 4294967295 (omega (arith, sure (c .before .before .before) .width-most)))
+slice-aggregate-bottom-with c =
+    let s = c .before .before .before in
+    sym (length-take-replicate {A = ℕ} (s .args .size .width + 2) 514 4294967295 (omega (arith, sure s .width-most)))
 
 array-borrow-prefix-cost : tie.Need-array-borrow-prefix-cost
 array-borrow-prefix-cost c = sure (c .before .before .before) .width-most
 
 slice-aggregate-bottom-with-2 : tie.Need-slice-aggregate-bottom-with-2
-slice-aggregate-bottom-with-2 c = sym (length-take-replicate {A = ℕ} (c .before .before .before .before .args .size .width) 512 0 (sure (c .before .before .before .before) .width-most))
+slice-aggregate-bottom-with-2 c =
+    let s = c .before .before .before .before in
+    sym (length-take-replicate {A = ℕ} (s .args .size .width) 512 0 (sure s .width-most))
 
 array-borrow-prefix-next : tie.Need-array-borrow-prefix-next
 array-borrow-prefix-next c = sure (c .before .before .before .before) .width-most
 
 slice-aggregate-bottom-with-3 : tie.Need-slice-aggregate-bottom-with-3
-slice-aggregate-bottom-with-3 c = sym (length-take-replicate {A = ℕ} (c .before .before .before .before .before .args .size .width) 512 0 (sure (c .before .before .before .before .before) .width-most))
+slice-aggregate-bottom-with-3 c =
+    let s = c .before .before .before .before .before in
+    sym (length-take-replicate {A = ℕ} (s .args .size .width) 512 0 (sure s .width-most))
 
 bottom-with-requires : tie.Need-bottom-with-requires
 bottom-with-requires c κs =
-    let z = c .before .before .before .before .before .args .size in
-    let most = sure (c .before .before .before .before .before) .width-most in (
-      c .before .before .before .before .before .pre,
+    let s = c .before .before .before .before .before in
+    let z = s .args .size in
+    let most = sure s .width-most in (
+      s .pre,
       record {
         fences = take-replicate {A = ℕ} (z .width + 2) 514 4294967295 (omega arith);
         cost-room = length-take-replicate {A = ℕ} (z .width) 512 0 most;

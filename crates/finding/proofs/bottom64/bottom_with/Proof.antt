@@ -52,10 +52,16 @@ row-0 c =
 
 -- the last row of sums
 row-is-long : (c : tie.After-down) → length (take (c .before .before .before .before .before .before .before .before .before .before .before .before .before .before .before .before .before .before .before .args .size .width + 1 - 1) (drop 1 (c .down .last .1 .1 .1 .0))) ≡ c .before .before .before .before .before .before .before .before .before .before .before .before .before .before .before .before .before .before .before .args .size .width
-row-is-long c = let a = c .before .before .before .before .before .before .before .before .before .before .before .before .before .before .before .before .before .before .before .args in row-long 18446744073709551615 (markedBytes (a .size)) (a .size) (weightsOf (a .size)) (now (a .space)) (c .down .last .0) (c .down .last .1 .1 .1 .0) (wide (c .before .before .before .before .before .before .before .before .before .before .before .before .before .before .before .before .before .before .before)) (c .down .ensures)
+row-is-long c =
+    let s = c .before .before .before .before .before .before .before .before .before .before .before .before .before .before .before .before .before .before .before in
+    let a = s .args in
+    row-long 18446744073709551615 (markedBytes (a .size)) (a .size) (weightsOf (a .size)) (now (a .space)) (c .down .last .0) (c .down .last .1 .1 .1 .0) (wide s) (c .down .ensures)
 
 all-long : (c : tie.After-down) → length (c .down .last .1 .1 .1 .0) ≡ c .before .before .before .before .before .before .before .before .before .before .before .before .before .before .before .before .before .before .before .args .size .width + 2
-all-long c = let a = c .before .before .before .before .before .before .before .before .before .before .before .before .before .before .before .before .before .before .before .args in last-long 18446744073709551615 (markedBytes (a .size)) (a .size) (weightsOf (a .size)) (now (a .space)) (c .down .last .0) (c .down .last .1 .1 .1 .0) (wide (c .before .before .before .before .before .before .before .before .before .before .before .before .before .before .before .before .before .before .before)) (c .down .ensures)
+all-long c =
+    let s = c .before .before .before .before .before .before .before .before .before .before .before .before .before .before .before .before .before .before .before in
+    let a = s .args in
+    last-long 18446744073709551615 (markedBytes (a .size)) (a .size) (weightsOf (a .size)) (now (a .space)) (c .down .last .0) (c .down .last .1 .1 .1 .0) (wide s) (c .down .ensures)
 
 add-side : tie.Need-add-side
 add-side c = omega (arith, sure (c .before .before .before .before .before) .width-most)
@@ -79,7 +85,9 @@ part-row-weights-start : tie.Need-part-row-weights-start
 part-row-weights-start c = search needs
 
 part-row-weights-end : tie.Need-part-row-weights-end
-part-row-weights-end c = omega (arith, above-long (c .before .before .before .before .before .before .before))
+part-row-weights-end c =
+    let s = c .before .before .before .before .before .before .before in
+    omega (arith, above-long s)
 
 row-weights-requires : tie.Need-row-weights-requires
 row-weights-requires c κs =
@@ -95,8 +103,8 @@ row-weights-requires c κs =
 
 down-requires : tie.Need-down-requires
 down-requires c κs =
-    let s = c .before .before .before .before .before .before .before .before .before .before .before .before .before .before .before .before .before .before in
     let r = c .before .before .before .before .before .before .before .before .before in
+    let s = r .before .before .before .before .before .before .before .before .before in
     let z = s .args .size in
     let p = s .pre in (
       record {
@@ -117,16 +125,29 @@ part-first-least-start : tie.Need-part-first-least-start
 part-first-least-start c = search needs
 
 part-first-least-end : tie.Need-part-first-least-end
-part-first-least-end c = omega (arith, all-long (c .before .before .before .before .before .before .before .before .before .before .before))
+part-first-least-end c =
+    let at-down = c .before .before .before .before .before .before .before .before .before .before .before in
+    omega (arith, all-long at-down)
 
 first-least-requires : tie.Need-first-least-requires
-first-least-requires c κs = rw (row-is-long (c .before .before .before .before .before .before .before .before .before .before .before .before)) (sure (c .before .before .before .before .before .before .before .before .before .before .before .before .before .before .before .before .before .before .before .before .before .before .before .before .before .before .before .before .before .before .before) .width-some)
+first-least-requires c κs =
+    let at-down = c .before .before .before .before .before .before .before .before .before .before .before .before in
+    let s = at-down .before .before .before .before .before .before .before .before .before .before .before .before .before .before .before .before .before .before .before in
+    rw (row-is-long at-down) (sure s .width-some)
 
 add-at : tie.Need-add-at
-add-at c = let l = c .first-least .ensures .1 in omega (arith, row-is-long (c .before .before .before .before .before .before .before .before .before .before .before .before .before), sure (c .before .before .before .before .before .before .before .before .before .before .before .before .before .before .before .before .before .before .before .before .before .before .before .before .before .before .before .before .before .before .before .before) .width-most)
+add-at c =
+    let at-down = c .before .before .before .before .before .before .before .before .before .before .before .before .before in
+    let s = at-down .before .before .before .before .before .before .before .before .before .before .before .before .before .before .before .before .before .before .before in
+    let l = c .first-least .ensures .1 in
+    omega (arith, row-is-long at-down, sure s .width-most)
 
 mul-t14 : tie.Need-mul-t14
-mul-t14 c = let l = c .first-least .ensures .1 in omega (arith, row-is-long (c .before .before .before .before .before .before .before .before .before .before .before .before .before), sure (c .before .before .before .before .before .before .before .before .before .before .before .before .before .before .before .before .before .before .before .before .before .before .before .before .before .before .before .before .before .before .before .before) .width-most)
+mul-t14 c =
+    let at-down = c .before .before .before .before .before .before .before .before .before .before .before .before .before in
+    let s = at-down .before .before .before .before .before .before .before .before .before .before .before .before .before .before .before .before .before .before .before in
+    let l = c .first-least .ensures .1 in
+    omega (arith, row-is-long at-down, sure s .width-most)
 
 slice-read-t37 : tie.Need-slice-read-t37
 slice-read-t37 c =
@@ -152,7 +173,7 @@ same-length-5 c = search needs
 returns : tie.Need-returns
 returns c =
     let d = c .before .before .before .before .before .before .before .before .before .before .before .before .before .before in
-    let s = c .before .before .before .before .before .before .before .before .before .before .before .before .before .before .before .before .before .before .before .before .before .before .before .before .before .before .before .before .before .before .before .before .before in
+    let s = d .before .before .before .before .before .before .before .before .before .before .before .before .before .before .before .before .before .before .before in
     let z = s .args .size in
     let f = c .before .first-least in
     bottom-given 18446744073709551615 (markedBytes z) z (weightsOf z) (now (s .args .space)) (d .down .last .0) (d .down .last .1 .1 .1 .0) (wide s) (d .down .ensures) (f .result) (f .ensures .0) (f .ensures .1)

@@ -28,8 +28,9 @@ wide z start i = length-table _ (z .width)
 
 loop-holds : tie.Need-loop-holds Inv-loop μ-loop
 loop-holds c =
-    let a = c .before .before .before .before .args in
-    let p = c .before .before .before .before .pre in
+    let s = c .before .before .before .before in
+    let a = s .args in
+    let p = s .pre in
     (omega arith, (omega (arith, sized-is (a .size) (pictureBytes (a .size)) (p .sized) .height-some), (down-start 4294967295 (pictureBytes (a .size)) (a .size) (costsOf (a .size)) (now (a .space)) (wide (a .size) (now (a .space))) (p .room) (now (a .above)) (p .first), (refl, (refl, refl)))))
 
 front-sized : (c : tie.Start Inv-loop μ-loop) → Sized (c .args .size) (length (take (pictureBytes (c .args .size)) (now (c .args .space))))
@@ -41,21 +42,25 @@ byte c i = omega (arith, c .slice-known .given i)
 -- in a turn, the sums above are small
 small : (c : tie.At-loop Inv-loop μ-loop) (k : ℕ) → c .loop .i < c .before .before .before .before .before .args .size .height → k < c .before .before .before .before .before .args .size .width → getD (c .loop .above) (k + 1) 0 < 2147483648
 small c k l h =
-    let a = c .before .before .before .before .before .args in
+    let at-slice-known = c .before .before .before .before in
+    let start = at-slice-known .before in
+    let a = start .args in
     let z = a .size in
     let b = take (pictureBytes z) (now (a .space)) in
-    let s = front-sized (c .before .before .before .before .before) in
-    let most = cost-most z b s (front-most (now (a .space)) (pictureBytes z) 255 (byte (c .before .before .before .before))) in
+    let s = front-sized start in
+    let most = cost-most z b s (front-most (now (a .space)) (pictureBytes z) 255 (byte at-slice-known)) in
     let m = above-most 4294967295 (pictureBytes z) z (costsOf z) (now (a .space)) (wide z (now (a .space))) 1530 (c .loop .i) (c .loop .space) (c .loop .above) most (c .loop .inv .1 .1 .0) k h in
     omega (arith, s .height-most)
 
 row-down-requires : tie.Need-row-down-requires Inv-loop μ-loop
 row-down-requires c κs =
-    let u = c .before .before .before .before .before in
-    let p = c .before .before .before .before .before .before .before .before .before .before .pre in
-    let a = c .before .before .before .before .before .before .before .before .before .before .args in
+    let at-loop-test = c .before .before .before .before in
+    let u = at-loop-test .before in
+    let s = u .before .before .before .before .before in
+    let p = s .pre in
+    let a = s .args in
     let inv = u .loop .inv in
-    let l : u .loop .i < a .size .height = c .before .before .before .before .loop-test .taken in
+    let l : u .loop .i < a .size .height = at-loop-test .loop-test .taken in
     record {
       bytes-are = p .bytes-are;
       sized = p .sized;
@@ -76,15 +81,18 @@ loop-less c = search needs
 
 loop-again : tie.Need-loop-again Inv-loop μ-loop
 loop-again c =
-    let u = c .before .before .before .before .before .before .before .before .before .before .before .before .before .before in
-    let a = c .before .before .before .before .before .before .before .before .before .before .before .before .before .before .before .before .before .before .before .args in
-    let kept = c .before .before .before .before .before .before .before .before .row-down .kept in
+    let at-row-down = c .before .before .before .before .before .before .before .before in
+    let at-loop-test = at-row-down .before .before .before .before .before in
+    let u = at-loop-test .before in
+    let s = u .before .before .before .before .before in
+    let a = s .args in
+    let kept = at-row-down .row-down .kept in
     let inv = u .loop .inv in (
       omega arith,
       (
-        omega (arith, c .before .before .before .before .before .before .before .before .before .before .before .before .before .loop-test .taken),
+        omega (arith, at-loop-test .loop-test .taken),
         (
-          down-turn 4294967295 (pictureBytes (a .size)) (a .size) (costsOf (a .size)) (now (a .space)) (wide (a .size) (now (a .space))) (c .before .before .before .before .before .before .before .before .before .before .before .before .before .before .before .before .before .before .before .pre .room) (u .loop .i) (u .loop .space) (u .loop .above) _ _ (inv .0) (c .before .before .before .before .before .before .before .before .before .before .before .before .before .loop-test .taken) (inv .1 .1 .0) (c .before .before .before .before .before .before .before .before .row-down .ensures),
+          down-turn 4294967295 (pictureBytes (a .size)) (a .size) (costsOf (a .size)) (now (a .space)) (wide (a .size) (now (a .space))) (s .pre .room) (u .loop .i) (u .loop .space) (u .loop .above) _ _ (inv .0) (at-loop-test .loop-test .taken) (inv .1 .1 .0) (at-row-down .row-down .ensures),
           (kept .1 .1 .1 .1 .0 ∙ inv .1 .1 .1 .0, (kept .1 .1 .1 .1 .1 .0 ∙ inv .1 .1 .1 .1 .0, kept .1 .1 .1 .1 .1 .1 .0 ∙ inv .1 .1 .1 .1 .1)),
         ),
       ),
@@ -104,9 +112,10 @@ same-length-4 c = search needs
 
 returns : tie.Need-returns Inv-loop μ-loop
 returns c =
-    let a = c .before .before .before .before .before .before .args in
+    let s = c .before .before .before .before .before .before in
+    let a = s .args in
     let l = c .before .loop in
-    down-end 4294967295 (pictureBytes (a .size)) (a .size) (costsOf (a .size)) (now (a .space)) (wide (a .size) (now (a .space))) (c .before .before .before .before .before .before .pre .room) (l .i) (l .space) (l .above) (omega arith) (l .inv .1 .1 .0)
+    down-end 4294967295 (pictureBytes (a .size)) (a .size) (costsOf (a .size)) (now (a .space)) (wide (a .size) (now (a .space))) (s .pre .room) (l .i) (l .space) (l .above) (omega arith) (l .inv .1 .1 .0)
 
 pub down-spec : {M : Type 1} → statement M
 down-spec =

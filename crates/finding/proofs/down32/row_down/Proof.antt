@@ -64,12 +64,15 @@ costs-long c = length-table _ (c .args .size .width)
 cost-is : (c : tie.After-energies) → c .energies .last .1 .1 .1 .0 ≡ costs (c .before .before .before .before .before .before .before) ++ drop (c .before .before .before .before .before .before .before .args .size .width) (now (c .before .before .before .before .before .before .before .args .cost))
 unfolding costs
 cost-is c =
-    let a = c .before .before .before .before .before .before .before .args in
+    let s = c .before .before .before .before .before .before .before in
+    let a = s .args in
     energies-served (take (a .bytes) (now (a .space))) (a .size) (a .i) (now (a .cost)) (c .energies .last .1 .1 .1 .0) (c .energies .result) (c .energies .ensures)
-    (rw (front-long (c .before .before .before .before .before .before .before)) (c .before .before .before .before .before .before .before .pre .sized)) (c .before .before .before .before .before .before .before .pre .inside) (le-of-eq (sym (c .before .before .before .before .before .before .before .pre .cost-room)))
+    (rw (front-long s) (s .pre .sized)) (s .pre .inside) (le-of-eq (sym (s .pre .cost-room)))
 
 cost-front : (c : tie.After-energies) → take (c .before .before .before .before .before .before .before .args .size .width) (c .energies .last .1 .1 .1 .0) ≡ costs (c .before .before .before .before .before .before .before)
-cost-front c = ap (take (c .before .before .before .before .before .before .before .args .size .width)) (cost-is c) ∙ take-at (costs (c .before .before .before .before .before .before .before)) (drop (c .before .before .before .before .before .before .before .args .size .width) (now (c .before .before .before .before .before .before .before .args .cost))) (c .before .before .before .before .before .before .before .args .size .width) (costs-long (c .before .before .before .before .before .before .before))
+cost-front c =
+    let s = c .before .before .before .before .before .before .before in
+    ap (take (s .args .size .width)) (cost-is c) ∙ take-at (costs s) (drop (s .args .size .width) (now (s .args .cost))) (s .args .size .width) (costs-long s)
 
 add-side : tie.Need-add-side
 add-side c = search needs
@@ -84,7 +87,10 @@ add-a : tie.Need-add-a
 add-a c = let e = ends (c .before .before .before .before) in omega arith
 
 add-e : tie.Need-add-e
-add-e c = let e = ends (c .before .before .before .before) in omega (arith, sure (c .before .before .before .before) .width-most)
+add-e c =
+    let s = c .before .before .before .before in
+    let e = ends s in
+    omega (arith, sure s .width-most)
 
 slice-reshare-prefix-energies : tie.Need-slice-reshare-prefix-energies
 slice-reshare-prefix-energies c = search needs
@@ -99,7 +105,10 @@ slice-reshare-prefix-next-row : tie.Need-slice-reshare-prefix-next-row
 slice-reshare-prefix-next-row c = search needs
 
 slice-aggregate-next-row : tie.Need-slice-aggregate-next-row
-slice-aggregate-next-row c = sym (ap length (cost-front (c .before .before .before .before)) ∙ costs-long (c .before .before .before .before .before .before .before .before .before .before .before))
+slice-aggregate-next-row c =
+    let at-energies = c .before .before .before .before in
+    let s = at-energies .before .before .before .before .before .before .before in
+    sym (ap length (cost-front at-energies) ∙ costs-long s)
 
 sub-next-row : tie.Need-sub-next-row
 sub-next-row c = search needs
@@ -108,21 +117,25 @@ part-next-row-start : tie.Need-part-next-row-start
 part-next-row-start c = search needs
 
 part-next-row-end : tie.Need-part-next-row-end
-part-next-row-end c = ends (c .before .before .before .before .before .before .before .before .before .before .before .before) .end
+part-next-row-end c =
+    let s = c .before .before .before .before .before .before .before .before .before .before .before .before in
+    ends s .end
 
 next-row-requires : tie.Need-next-row-requires
 unfolding costs
 next-row-requires c κs =
-    let s = c .before .before .before .before .before .before .before .before .before .before .before .before .before in
+    let at-energies = c .before .before .before .before .before .before in
+    let at-slice-known = at-energies .before .before .before .before .before .before in
+    let s = at-slice-known .before in
     let p = s .pre in
     let a = s .args in
     let from = a .bytes + (a .i - 1) * a .size .width in
-    let front = cost-front (c .before .before .before .before .before .before) in (
+    let front = cost-front at-energies in (
       record {
         above = omega (arith, p .long, p .next-room);
         costs = ap length front ∙ costs-long s ∙ sym (p .next-room);
         small = λ k l. p .small k (omega (arith, p .next-room));
-        cheap = λ k. rw front (omega (arith, cost-most (a .size) (take (a .bytes) (now (a .space))) (front-sized s) (front-most (now (a .space)) (a .bytes) 255 (byte (c .before .before .before .before .before .before .before .before .before .before .before .before))) (a .i) k));
+        cheap = λ k. rw front (omega (arith, cost-most (a .size) (take (a .bytes) (now (a .space))) (front-sized s) (front-most (now (a .space)) (a .bytes) 255 (byte at-slice-known)) (a .i) k));
       },
       part-length from (from + a .size .width) (now (a .space)) (ends s .end) ∙ add-sub-cancel-left from (a .size .width) ∙ sym (p .next-room),
     )
@@ -154,14 +167,16 @@ same-length-4 c = search needs
 returns : tie.Need-returns
 unfolding costs
 returns c =
-    let s = c .before .before .before .before .before .before .before .before .before .before .before .before .before .before .before .before .before .before .before .before .before .before .before in
+    let at-copy = c .before .before in
+    let at-next-row = at-copy .before .before .before .before .before .before .before in
+    let after = at-next-row .before .before .before .before .before .before .before in
+    let s = after .before .before .before .before .before .before .before in
     let a = s .args in
-    let row = c .before .before .before .before .before .before .before .before .before .next-row in
-    let after = c .before .before .before .before .before .before .before .before .before .before .before .before .before .before .before .before in
-    row-given (pictureBytes (a .size)) (a .size) (costsOf (a .size)) (a .i) (a .bytes) (length (now (a .next))) (now (a .space)) (now (a .above)) (row .last .1 .1 .1 .0) (take (a .size .width) (after .energies .last .1 .1 .1 .0)) (c .before .before .copy .last .1 .0)
+    let row = at-next-row .next-row in
+    row-given (pictureBytes (a .size)) (a .size) (costsOf (a .size)) (a .i) (a .bytes) (length (now (a .next))) (now (a .space)) (now (a .above)) (row .last .1 .1 .1 .0) (take (a .size .width) (after .energies .last .1 .1 .1 .0)) (at-copy .copy .last .1 .0)
     (s .pre .bytes-are) (ends s .end) (row .ensures .1)
     (cost-front after ∙ ap (λ b. costsOf (a .size) (take b (now (a .space))) (a .i)) (s .pre .bytes-are)) (s .pre .next-room)
-    (c .before .before .copy .ensures ∙ row .ensures .0)
+    (at-copy .copy .ensures ∙ row .ensures .0)
 
 pub row-down-spec : {M : Type 1} → statement M
 row-down-spec =

@@ -34,11 +34,12 @@ byte c i = omega (arith, c .slice-known .given i)
 -- in a turn, the sums above are small
 small : (c : tie.At-loop Inv-loop μ-loop) (k : ℕ) → c .loop .i < c .before .before .before .before .before .before .args .size .height → k < c .before .before .before .before .before .before .args .size .width → getD (c .loop .above) (k + 1) 0 < 9223372036854775808
 small c k l h =
-    let s = c .before .before .before .before .before .before in
+    let at-slice-known = c .before .before .before .before .before in
+    let s = at-slice-known .before in
     let z = s .args .size in
     let start = now (s .args .space) in
     let b = take (markedBytes z) start in
-    let most = weights-most z b (front-sized z start (sure s) (omega (arith, s .pre .0 .room))) (front-bytes z start (byte (c .before .before .before .before .before))) in
+    let most = weights-most z b (front-sized z start (sure s) (omega (arith, s .pre .0 .room))) (front-bytes z start (byte at-slice-known)) in
     let m = above-most 18446744073709551615 (markedBytes z) z (weightsOf z) start (wide z start) 281479271679482 (c .loop .i) (c .loop .space) (c .loop .above) most (c .loop .inv .1 .1 .0) k h in
     omega (arith, sure s .height-most)
 
@@ -51,13 +52,14 @@ loop-holds c =
 
 row-down-requires : tie.Need-row-down-requires Inv-loop μ-loop
 row-down-requires c κs =
-    let u = c .before .before .before .before .before .before in
-    let s = c .before .before .before .before .before .before .before .before .before .before .before .before in
+    let at-loop-test = c .before .before .before .before .before in
+    let u = at-loop-test .before in
+    let s = u .before .before .before .before .before .before in
     let p = s .pre .0 in
     let z = s .args .size in
     let start = now (s .args .space) in
     let inv = u .loop .inv in
-    let l : u .loop .i < z .height = c .before .before .before .before .before .loop-test .taken in (
+    let l : u .loop .i < z .height = at-loop-test .loop-test .taken in (
       record {
         bytes-are = p .bytes-are;
         sized = p .sized;
@@ -80,13 +82,15 @@ loop-less c = search needs
 
 loop-again : tie.Need-loop-again Inv-loop μ-loop
 loop-again c =
-    let u = c .before .before .before .before .before .before .before .before .before .before .before .before .before .before .before .before .before in
-    let s = c .before .before .before .before .before .before .before .before .before .before .before .before .before .before .before .before .before .before .before .before .before .before .before in
+    let at-row-down = c .before .before .before .before .before .before .before .before .before .before in
+    let at-loop-test = at-row-down .before .before .before .before .before .before in
+    let u = at-loop-test .before in
+    let s = u .before .before .before .before .before .before in
     let z = s .args .size in
     let start = now (s .args .space) in
-    let r = c .before .before .before .before .before .before .before .before .before .before .row-down in
+    let r = at-row-down .row-down in
     let kept = r .kept in
-    let l = c .before .before .before .before .before .before .before .before .before .before .before .before .before .before .before .before .loop-test .taken in
+    let l = at-loop-test .loop-test .taken in
     let inv = u .loop .inv in (
       omega arith,
       (

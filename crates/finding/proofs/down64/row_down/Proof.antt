@@ -73,7 +73,10 @@ add-a : tie.Need-add-a
 add-a c = let e = ends (c .before .before .before .before .before) in omega arith
 
 add-e : tie.Need-add-e
-add-e c = let e = ends (c .before .before .before .before .before) in omega (arith, sure (c .before .before .before .before .before) .width-most)
+add-e c =
+    let s = c .before .before .before .before .before in
+    let e = ends s in
+    omega (arith, sure s .width-most)
 
 slice-reshare-prefix-row-weights : tie.Need-slice-reshare-prefix-row-weights
 slice-reshare-prefix-row-weights c = ends (c .before .before .before .before .before) .within
@@ -96,7 +99,8 @@ row-weights-requires c κs =
 next-sums-requires : tie.Need-next-sums-requires
 next-sums-requires c κs =
     let r = c .before .before .before .before .before .before .before in
-    let s = c .before .before .before .before .before .before .before .before .before .before .before .before .before .before .before .before in
+    let at-slice-known = r .before .before .before .before .before .before .before .before in
+    let s = at-slice-known .before in
     let z = s .args .size in
     let space = now (s .args .space) in
     let p = s .pre .0 in
@@ -106,7 +110,7 @@ next-sums-requires c κs =
       above = omega (arith, p .long, p .next-room);
       costs = ap length (cost-is r) ∙ length-table _ (z .width) ∙ sym (p .next-room);
       small = λ k l. p .small k (omega (arith, p .next-room));
-      cheap = λ k. rw (cost-is r) (omega (arith, weights-most z (take (markedBytes z) space) (front-sized z space (sure s) room) (front-bytes z space (byte (c .before .before .before .before .before .before .before .before .before .before .before .before .before .before .before))) (s .args .i) k));
+      cheap = λ k. rw (cost-is r) (omega (arith, weights-most z (take (markedBytes z) space) (front-sized z space (sure s) room) (front-bytes z space (byte at-slice-known)) (s .args .i) k));
     }
 
 sub-ways-row : tie.Need-sub-ways-row
@@ -116,7 +120,9 @@ part-ways-row-start : tie.Need-part-ways-row-start
 part-ways-row-start c = search needs
 
 part-ways-row-end : tie.Need-part-ways-row-end
-part-ways-row-end c = ends (c .before .before .before .before .before .before .before .before .before .before .before .before .before .before .before .before .before .before .before .before) .end
+part-ways-row-end c =
+    let s = c .before .before .before .before .before .before .before .before .before .before .before .before .before .before .before .before .before .before .before .before in
+    ends s .end
 
 ways-row-requires : tie.Need-ways-row-requires
 ways-row-requires c κs = search needs
@@ -150,12 +156,15 @@ same-length-5 c = search needs
 
 returns : tie.Need-returns
 returns c =
-    let s = c .before .before .before .before .before .before .before .before .before .before .before .before .before .before .before .before .before .before .before .before .before .before .before .before .before .before .before .before .before in
-    let r = c .before .before .before .before .before .before .before .before .before .before .before .before .before .before .before .before .before .before .before .before in
+    let at-copy = c .before .before in
+    let at-ways-row = at-copy .before .before .before .before .before in
+    let at-next-sums = at-ways-row .before .before .before .before .before in
+    let r = at-next-sums .before .before .before .before .before .before .before .before in
+    let s = r .before .before .before .before .before .before .before .before .before in
     let a = s .args in
-    row-given (markedBytes (a .size)) (a .size) (weightsOf (a .size)) (a .i) (a .bytes + a .size .height * a .size .width) (length (now (a .next))) (now (a .space)) (now (a .above)) (c .before .before .before .before .before .before .before .ways-row .last .1 .0) (r .row-weights .last .1 .1 .1 .1 .1 .0) (c .before .before .copy .last .1 .0)
-    (from-is s) (ends s .end) (c .before .before .before .before .before .before .before .ways-row .ensures) (cost-is r) (s .pre .0 .next-room)
-    (c .before .before .copy .ensures ∙ c .before .before .before .before .before .before .before .before .before .before .before .before .next-sums .ensures)
+    row-given (markedBytes (a .size)) (a .size) (weightsOf (a .size)) (a .i) (a .bytes + a .size .height * a .size .width) (length (now (a .next))) (now (a .space)) (now (a .above)) (at-ways-row .ways-row .last .1 .0) (r .row-weights .last .1 .1 .1 .1 .1 .0) (at-copy .copy .last .1 .0)
+    (from-is s) (ends s .end) (at-ways-row .ways-row .ensures) (cost-is r) (s .pre .0 .next-room)
+    (at-copy .copy .ensures ∙ at-next-sums .next-sums .ensures)
 
 pub row-down-spec : {M : Type 1} → statement M
 row-down-spec =

@@ -33,13 +33,18 @@ none c = sym (c .before .before .sides .ensures) ∙ ap given (c .enum-told .giv
 
 rest : (c : tie.After-enum-told) → let s = c .before .before .before .before .before in refusal (findMarkedRules (s .args .size) (length (now (s .args .space))) (length (now (s .args .seam))) (blocked s)) ≡ refusal (more s)
 unfolding more
-rest c = served-first (sideRules (c .before .before .before .before .before .args .size)) (more (c .before .before .before .before .before)) refl (none c)
+rest c =
+    let s = c .before .before .before .before .before in
+    served-first (sideRules (s .args .size)) (more s) refl (none c)
 
 sure : (c : tie.After-enum-told) → Sides (c .before .before .before .before .before .args .size)
 sure c = sides-are _ (none c)
 
 bytes-are : (c : tie.After-picture-bytes) → c .picture-bytes .result ≡ pictureBytes (c .before .before .before .before .before .before .before .args .size)
-bytes-are c = c .picture-bytes .ensures ∙ ap (λ n. served n (pictureBytes (c .before .before .before .before .before .before .before .args .size)) 0) (none (c .before .before))
+bytes-are c =
+    let at-enum-told = c .before .before in
+    let s = at-enum-told .before .before .before .before .before in
+    c .picture-bytes .ensures ∙ ap (λ n. served n (pictureBytes (s .args .size)) 0) (none at-enum-told)
 
 all-most : (c : tie.After-enum-told) → pixels (c .before .before .before .before .before .args .size) ≤ 262144
 all-most c = mul-le-mul (sure c .height-most) (sure c .width-most)
@@ -53,14 +58,15 @@ enum-known-allowed c = search needs
 returns : tie.Need-returns
 unfolding more blocked
 returns c =
-    let s = c .before .before .before .before .before .before in
+    let at-sides = c .before .before .before in
+    let s = at-sides .before .before .before in
     let z = s .args .size in
     let space = now (s .args .space) in
     let why = c .before .allowed .given in
-    let told = c .before .before .before .sides .ensures in
+    let told = at-sides .sides .ensures in
     let n : numberOf (why .0 .0) ≡ refusal (sideRules z) = sym (ap given (why .1)) ∙ told in
     record {
-      number = sym (ap given (why .1)) ∙ refused-answer (c .before .before .before .sides .result) (why .0 .0) (why .1) (sideRules z) (more s) told;
+      number = sym (ap given (why .1)) ∙ refused-answer (at-sides .sides .result) (why .0 .0) (why .1) (sideRules z) (more s) told;
       cost = kept-by (why .0 .0) (markedCostOf (z .width) (z .height) (pictureIn z space) (marksIn z space)) 0;
       space-left = sym (worked-not (numberOf (why .0 .0)) (take (pictureBytes z + pixels z) space ++ (replicate (pixels z) 0 ++ drop (pictureBytes z + (pixels z + pixels z)) space)) space (number-some (why .0 .0)) (rw n (refusal-most 8 (sideRules z) refl)));
       seam-given = kept-by (why .0 .0) (markedSeamOf (z .width) (z .height) (pictureIn z space) (marksIn z space) ++ drop (z .height) (now (s .args .seam))) (now (s .args .seam));
@@ -93,9 +99,11 @@ add-needed-2 c = omega (arith, all-most (c .before .before), bytes-are c, sure (
 returns-3 : tie.Need-returns-3
 unfolding more blocked
 returns-3 c =
+    let at-if1 = c .before .before in
+    let at-enum-told = at-if1 .before in
     let short = rw (bytes-are (c .before)) at (c .if2 .taken) in
     record {
-      number = sym (rest (c .before .before .before) ∙ simp (le-ltb _ _ (c .before .before .if1 .left), lt-ltb _ _ short));
+      number = sym (rest at-enum-told ∙ simp (le-ltb _ _ (at-if1 .if1 .left), lt-ltb _ _ short));
       cost = refl;
       space-left = refl;
       seam-given = refl;
@@ -103,13 +111,18 @@ returns-3 c =
 
 marked-in-requires : tie.Need-marked-in-requires
 marked-in-requires c κs =
-    let z = c .before .before .before .before .before .before .before .before .before .before .args .size in
-    let b = bytes-are (c .before .before .before) in
+    let at-if2 = c .before .before in
+    let at-picture-bytes = at-if2 .before in
+    let at-if1 = at-picture-bytes .before in
+    let at-enum-told = at-if1 .before in
+    let s = at-enum-told .before .before .before .before .before in
+    let z = s .args .size in
+    let b = bytes-are at-picture-bytes in
     record {
       bytes-are = b;
-      sized = sized-served z (none (c .before .before .before .before .before));
-      room = rw (add-assoc (pictureBytes z) (pixels z) (pixels z)) (rw b at (c .before .before .if2 .left));
-      seam-room = c .before .before .before .before .if1 .left;
+      sized = sized-served z (none at-enum-told);
+      room = rw (add-assoc (pictureBytes z) (pixels z) (pixels z)) (rw b at (at-if2 .if2 .left));
+      seam-room = at-if1 .if1 .left;
     }
 
 same-length : tie.Need-same-length
@@ -121,15 +134,20 @@ same-length-2 c = search needs
 returns-4 : tie.Need-returns-4
 unfolding more blocked
 returns-4 c =
-    let s = c .before .before .before .before .before .before .before .before .before .before .before .before .before .before .before in
+    let at-marked-in = c .before .before .before .before in
+    let at-if2 = at-marked-in .before .before .before in
+    let at-picture-bytes = at-if2 .before in
+    let at-if1 = at-picture-bytes .before in
+    let at-enum-told = at-if1 .before in
+    let s = at-enum-told .before .before .before .before .before in
     let z = s .args .size in
     let space = now (s .args .space) in
     let n = pixels z in
-    let answer = c .before .before .before .before .marked-in .result in
-    let g = c .before .before .before .before .marked-in .ensures in
-    let long = rw (bytes-are (c .before .before .before .before .before .before .before .before)) at (c .before .before .before .before .before .before .before .if2 .left) in
+    let answer = at-marked-in .marked-in .result in
+    let g = at-marked-in .marked-in .ensures in
+    let long = rw (bytes-are at-picture-bytes) at (at-if2 .if2 .left) in
     record {
-      number = g .number ∙ sym (rest (c .before .before .before .before .before .before .before .before .before .before) ∙ simp (le-ltb _ _ (c .before .before .before .before .before .before .before .before .before .if1 .left), le-ltb _ _ long));
+      number = g .number ∙ sym (rest at-enum-told ∙ simp (le-ltb _ _ (at-if1 .if1 .left), le-ltb _ _ long));
       cost = g .cost;
       space-left =
           g .space-is

@@ -85,7 +85,10 @@ ways-are c = c .find-bottom .ensures .ways
 
 ways-wide : (c : tie.After-find-bottom) → let a = c .before .before .before .before .args in length (ways (c .before .before .before .before)) ≡ (a .size .height - 1) * a .size .width
 unfolding ways
-ways-wide c = let z = c .before .before .before .before .args .size in ways-long 18446744073709551615 (z .width) (z .height - 1) (weightsOf z (front (c .before .before .before .before)))
+ways-wide c =
+    let s = c .before .before .before .before in
+    let z = s .args .size in
+    ways-long 18446744073709551615 (z .width) (z .height - 1) (weightsOf z (front s))
 
 ways-lent : (c : tie.After-find-bottom) → let a = c .before .before .before .before .args in let q = a .bytes + a .size .height * a .size .width in take (q + (a .size .height - 1) * a .size .width - q) (drop q (c .find-bottom .last .0)) ≡ ways (c .before .before .before .before)
 ways-lent c =
@@ -151,7 +154,11 @@ part-clear-start : tie.Need-part-clear-start
 part-clear-start c = search needs
 
 part-clear-end : tie.Need-part-clear-end
-part-clear-end c = let e = ends (c .before .before .before .before .before .before .before) in omega (arith, kept-long (c .before .before .before))
+part-clear-end c =
+    let at-find-bottom = c .before .before .before in
+    let s = at-find-bottom .before .before .before .before in
+    let e = ends s in
+    omega (arith, kept-long at-find-bottom)
 
 clear-requires : tie.Need-clear-requires
 clear-requires c κs = search needs
@@ -162,14 +169,17 @@ same-length c = search needs
 returns : tie.Need-returns
 unfolding front weight
 returns c =
-    let f = c .before .before .before .before .before .before .before in
-    let s = c .before .before .before .before .before .before .before .before .before .before .before in
+    let at-clear = c .before .before in
+    let at-if1 = at-clear .before .before in
+    let f = at-if1 .before .before .before in
+    let at-slice-known = f .before .before .before in
+    let s = at-slice-known .before in
     let z = s .args .size in
-    let heavy : 281474976710656 ≤ weight s = rw (weight-is f) at (c .before .before .before .before .if1 .taken) in
+    let heavy : 281474976710656 ≤ weight s = rw (weight-is f) at (at-if1 .if1 .taken) in
     record {
-      number = sym (ap (λ t. cond t 12 0) (sym (same s (λ p m. isNone (markedUp (z .width) (z .height) p m))) ∙ marked-blocked z (front s) (front-is s) (byte (c .before .before .before .before .before .before .before .before .before .before)) heavy));
+      number = sym (ap (λ t. cond t 12 0) (sym (same s (λ p m. isNone (markedUp (z .width) (z .height) p m))) ∙ marked-blocked z (front s) (front-is s) (byte at-slice-known) heavy));
       cost = refl;
-      space-is = cleared f (c .before .before .clear .last .0) (c .before .before .clear .ensures);
+      space-is = cleared f (at-clear .clear .last .0) (at-clear .clear .ensures);
       seam-given = refl;
     }
 
@@ -180,14 +190,19 @@ part-trace-start : tie.Need-part-trace-start
 part-trace-start c = search needs
 
 part-trace-end : tie.Need-part-trace-end
-part-trace-end c = let e = ends (c .before .before .before .before .before .before .before .before) in omega (arith, kept-long (c .before .before .before .before))
+part-trace-end c =
+    let at-find-bottom = c .before .before .before .before in
+    let s = at-find-bottom .before .before .before .before in
+    let e = ends s in
+    omega (arith, kept-long at-find-bottom)
 
 trace-requires : tie.Need-trace-requires
 unfolding ways
 trace-requires c κs =
     let f = c .before .before .before .before .before .before in
-    let s = c .before .before .before .before .before .before .before .before .before .before in
-    rw (ways-lent f) (marked-traced (s .args .size) (front s) (front-is s) (byte (c .before .before .before .before .before .before .before .before .before)) (f .find-bottom .result .column) (now (s .args .seam)) (f .find-bottom .ensures .inside) (s .pre .seam-room))
+    let at-slice-known = f .before .before .before in
+    let s = at-slice-known .before in
+    rw (ways-lent f) (marked-traced (s .args .size) (front s) (front-is s) (byte at-slice-known) (f .find-bottom .result .column) (now (s .args .seam)) (f .find-bottom .ensures .inside) (s .pre .seam-room))
 
 sub-clear-2 : tie.Need-sub-clear-2
 sub-clear-2 c = search needs
@@ -196,7 +211,11 @@ part-clear-start-2 : tie.Need-part-clear-start-2
 part-clear-start-2 c = search needs
 
 part-clear-end-2 : tie.Need-part-clear-end-2
-part-clear-end-2 c = let e = ends (c .before .before .before .before .before .before .before .before .before .before .before .before .before) in omega (arith, kept-long (c .before .before .before .before .before .before .before .before .before))
+part-clear-end-2 c =
+    let at-find-bottom = c .before .before .before .before .before .before .before .before .before in
+    let s = at-find-bottom .before .before .before .before in
+    let e = ends s in
+    omega (arith, kept-long at-find-bottom)
 
 clear-requires-2 : tie.Need-clear-requires-2
 clear-requires-2 c κs = search needs
@@ -210,18 +229,22 @@ same-length-3 c = search needs
 returns-2 : tie.Need-returns-2
 unfolding front ways weight
 returns-2 c =
-    let f = c .before .before .before .before .before .before .before .before .before .before .before .before .before in
-    let s = c .before .before .before .before .before .before .before .before .before .before .before .before .before .before .before .before .before in
+    let at-clear2 = c .before .before in
+    let at-trace = at-clear2 .before .before .before .before in
+    let at-if1 = at-trace .before .before .before .before in
+    let f = at-if1 .before .before .before in
+    let at-slice-known = f .before .before .before in
+    let s = at-slice-known .before in
     let z = s .args .size in
     let seam = now (s .args .seam) in
-    let byte = byte (c .before .before .before .before .before .before .before .before .before .before .before .before .before .before .before .before) in
-    let light : weight s < 281474976710656 = rw (weight-is f) at (c .before .before .before .before .before .before .before .before .before .before .if1 .left) in
+    let byte = byte at-slice-known in
+    let light : weight s < 281474976710656 = rw (weight-is f) at (at-if1 .if1 .left) in
     record {
       number = sym (ap (λ t. cond t 12 0) (sym (same s (λ p m. isNone (markedUp (z .width) (z .height) p m))) ∙ marked-some z (front s) (front-is s) byte light));
       cost = ap (λ n. n % 4294967296) (weight-is f) ∙ marked-cost z (front s) (front-is s) byte light ∙ same s (markedCostOf (z .width) (z .height));
-      space-is = cleared f (c .before .before .clear2 .last .0) (c .before .before .clear2 .ensures);
+      space-is = cleared f (at-clear2 .clear2 .last .0) (at-clear2 .clear2 .ensures);
       seam-given =
-          c .before .before .before .before .before .before .trace .ensures
+          at-trace .trace .ensures
           ∙ ap₂ (λ x k. columnsTo x (z .width) (z .height - 1) k ++ drop (z .height) seam) (ways-lent f) (f .find-bottom .ensures .column-is)
           ∙ ap (_++ drop (z .height) seam) (marked-seam z (front s) (front-is s) byte light ∙ same s (markedSeamOf (z .width) (z .height)));
     }

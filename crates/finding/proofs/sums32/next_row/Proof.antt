@@ -59,9 +59,12 @@ shared-slice-read-next c = search needs
 
 add-next : tie.Need-add-next Inv-loop μ-loop
 add-next c =
-    let k = c .before .before .before .before .before .before .before .loop .c in
-    let p = c .before .before .before .before .before .before .before .before .before .before .before .before .pre .0 in
-    omega (arith, p .small k (omega arith), p .cheap k, c .before .before .lesser .ensures, c .before .lesser2 .ensures)
+    let at-lesser = c .before .before in
+    let at-loop = at-lesser .before .before .before .before .before in
+    let s = at-loop .before .before .before .before .before in
+    let k = at-loop .loop .c in
+    let p = s .pre .0 in
+    omega (arith, p .small k (omega arith), p .cheap k, at-lesser .lesser .ensures, c .before .lesser2 .ensures)
 
 mul-next-2 : tie.Need-mul-next-2 Inv-loop μ-loop
 mul-next-2 c = search needs
@@ -84,11 +87,15 @@ loop-less c = search needs
 loop-again : tie.Need-loop-again Inv-loop μ-loop
 unfolding sumOf3 leastOf3 wayOf3
 loop-again c =
-    let a = c .before .before .before .before .before .before .before .before .before .before .before .before .before .args in
-    let k = c .before .before .before .before .before .before .before .before .loop .c in
+    let at-lesser2 = c .before .before in
+    let at-lesser = at-lesser2 .before in
+    let at-loop = at-lesser .before .before .before .before .before in
+    let s = at-loop .before .before .before .before .before in
+    let a = s .args in
+    let k = at-loop .loop .c in
     let f = sumOf3 (now (a .above)) (now (a .cost)) in
     let g = wayOf3 (now (a .above)) in
-    let e : c .before .before .lesser2 .result + getD (now (a .cost)) k 0 ≡ f k = ap (_+ getD (now (a .cost)) k 0) (c .before .before .lesser2 .ensures ∙ ap (min (getD (now (a .above)) k 0)) (c .before .before .before .lesser .ensures)) in
+    let e : at-lesser2 .lesser2 .result + getD (now (a .cost)) k 0 ≡ f k = ap (_+ getD (now (a .cost)) k 0) (at-lesser2 .lesser2 .ensures ∙ ap (min (getD (now (a .above)) k 0)) (at-lesser .lesser .ensures)) in
     let d : c .way .result ≡ g k = c .way .ensures in (
       search needs,
       (
@@ -108,7 +115,8 @@ same-length-2 c = search needs
 
 returns : tie.Need-returns Inv-loop μ-loop
 returns c =
-    let a = c .before .before .before .before .before .before .args in
+    let s = c .before .before .before .before .before .before in
+    let a = s .args in
     let l = c .before .loop in
     let end : l .c ≡ length (now (a .next)) = omega arith in (
       table-end (sumOf3 (now (a .above)) (now (a .cost))) (now (a .next)) (l .next) (l .c) (l .inv .1 .1 .0 .0) end,

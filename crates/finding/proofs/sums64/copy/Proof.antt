@@ -40,8 +40,10 @@ loop-less c = search needs
 
 loop-again : tie.Need-loop-again Inv-loop μ-loop
 loop-again c =
-    let a = c .before .before .before .args in
-    let k = c .before .before .loop .c in (
+    let at-loop = c .before .before in
+    let s = at-loop .before in
+    let a = s .args in
+    let k = at-loop .loop .c in (
       search needs,
       (
         search needs,
@@ -54,11 +56,12 @@ same-length c = search needs
 
 returns : tie.Need-returns Inv-loop μ-loop
 returns c =
-    let a = c .before .before .args in
     let head = c .before in
+    let s = head .before in
+    let a = s .args in
     let from = now (a .from) in
     table-end (λ i. getD from i 0) (now (a .to)) (head .loop .to) (head .loop .c) (head .loop .inv .1 .1 .0) (omega arith)
-    ∙ ap (table (λ i. getD from i 0)) (c .before .before .pre) ∙ table-all from 0
+    ∙ ap (table (λ i. getD from i 0)) (s .pre) ∙ table-all from 0
 
 pub copy-spec : {M : Type 1} → statement M
 copy-spec =

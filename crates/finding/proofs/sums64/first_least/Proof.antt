@@ -42,7 +42,8 @@ loop-less c = search needs
 loop-again : tie.Need-loop-again Inv-loop μ-loop
 loop-again c =
     let head = c .before .before .before .before in
-    let s = now (c .before .before .before .before .before .args .sums) in
+    let start = head .before in
+    let s = now (start .args .sums) in
     let k = head .loop .k in
     let inv = head .loop .inv in
     ⊎-elim
@@ -53,7 +54,8 @@ loop-again c =
 returns : tie.Need-returns Inv-loop μ-loop
 returns c =
     let head = c .before in
-    let e : head .loop .k ≡ length (now (c .before .before .args .sums)) = omega arith in
+    let s = head .before in
+    let e : head .loop .k ≡ length (now (s .args .sums)) = omega arith in
     (rw e at (head .loop .inv .1 .1 .1 .0), omega arith)
 
 pub first-least-spec : {M : Type 1} → statement M

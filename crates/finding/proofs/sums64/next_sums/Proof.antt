@@ -59,10 +59,13 @@ shared-slice-read-next c = search needs
 
 add-next : tie.Need-add-next Inv-loop μ-loop
 add-next c =
-    let a = c .before .before .before .before .before .before .before .before .before .before .before .args in
-    let k = c .before .before .before .before .before .before .before .loop .c in
-    let p = c .before .before .before .before .before .before .before .before .before .before .before .pre in
-    omega (arith, p .small k (omega arith), p .cheap k, c .before .before .lesser .ensures, c .before .lesser2 .ensures)
+    let at-lesser = c .before .before in
+    let at-loop = at-lesser .before .before .before .before .before in
+    let s = at-loop .before .before .before .before in
+    let a = s .args in
+    let k = at-loop .loop .c in
+    let p = s .pre in
+    omega (arith, p .small k (omega arith), p .cheap k, at-lesser .lesser .ensures, c .before .lesser2 .ensures)
 
 mul-next-2 : tie.Need-mul-next-2 Inv-loop μ-loop
 mul-next-2 c = search needs
@@ -79,10 +82,14 @@ loop-less c = search needs
 loop-again : tie.Need-loop-again Inv-loop μ-loop
 unfolding sumOf3 leastOf3
 loop-again c =
-    let a = c .before .before .before .before .before .before .before .before .before .before .before .args in
-    let k = c .before .before .before .before .before .before .before .loop .c in
+    let at-lesser2 = c .before in
+    let at-lesser = at-lesser2 .before in
+    let at-loop = at-lesser .before .before .before .before .before in
+    let s = at-loop .before .before .before .before in
+    let a = s .args in
+    let k = at-loop .loop .c in
     let f = sumOf3 (now (a .above)) (now (a .cost)) in
-    let e : c .before .lesser2 .result + getD (now (a .cost)) k 0 ≡ f k = ap (_+ getD (now (a .cost)) k 0) (c .before .lesser2 .ensures ∙ ap (min (getD (now (a .above)) k 0)) (c .before .before .lesser .ensures)) in (
+    let e : at-lesser2 .lesser2 .result + getD (now (a .cost)) k 0 ≡ f k = ap (_+ getD (now (a .cost)) k 0) (at-lesser2 .lesser2 .ensures ∙ ap (min (getD (now (a .above)) k 0)) (at-lesser .lesser .ensures)) in (
       search needs,
       (
         search needs,
@@ -95,8 +102,9 @@ same-length c = search needs
 
 returns : tie.Need-returns Inv-loop μ-loop
 returns c =
-    let a = c .before .before .before .before .before .args in
     let head = c .before in
+    let s = head .before .before .before .before in
+    let a = s .args in
     table-end (sumOf3 (now (a .above)) (now (a .cost))) (now (a .next)) (head .loop .next) (head .loop .c) (head .loop .inv .1 .1 .0) (omega arith)
 
 pub next-sums-spec : {M : Type 1} → statement M

@@ -60,8 +60,10 @@ loop-less c = search needs
 loop-again : tie.Need-loop-again Inv-loop μ-loop
 unfolding wayOf3
 loop-again c =
-    let a = c .before .before .before .before .before .before .before .before .args in
-    let k = c .before .before .before .before .before .loop .c in
+    let at-loop = c .before .before .before .before .before in
+    let s = at-loop .before .before .before in
+    let a = s .args in
+    let k = at-loop .loop .c in
     let f = wayOf3 (now (a .above)) in
     let e : c .way .result ≡ f k = c .way .ensures in (
       search needs,
@@ -76,8 +78,9 @@ same-length c = search needs
 
 returns : tie.Need-returns Inv-loop μ-loop
 returns c =
-    let a = c .before .before .before .before .args in
     let head = c .before in
+    let s = head .before .before .before in
+    let a = s .args in
     table-end (wayOf3 (now (a .above))) (now (a .ways)) (head .loop .ways) (head .loop .c) (head .loop .inv .1 .1 .0) (omega arith)
 
 pub ways-row-spec : {M : Type 1} → statement M

@@ -23,7 +23,11 @@ end : (c : tie.In-loop Inv-loop μ-loop) → (c .before .loop .i - 1) * c .befor
 end c = part-end _ _ _ (omega arith)
 
 most : (c : tie.In-loop Inv-loop μ-loop) → (c .before .before .before .before .args .height - 1) * c .before .before .before .before .args .width ≤ 262144
-most c = let p = c .before .before .before .before .pre in let h : c .before .before .before .before .args .height - 1 ≤ 512 = omega arith in mul-le-mul h (p .narrow)
+most c =
+    let s = c .before .before .before .before in
+    let p = s .pre in
+    let h : s .args .height - 1 ≤ 512 = omega arith in
+    mul-le-mul h (p .narrow)
 
 sub-i : tie.Need-sub-i Inv-loop μ-loop
 sub-i c = search needs
@@ -53,36 +57,45 @@ add-at : tie.Need-add-at Inv-loop μ-loop
 add-at c = omega (arith, end c, most c)
 
 shared-slice-read-wide : tie.Need-shared-slice-read-wide Inv-loop μ-loop
-shared-slice-read-wide c = omega (arith, end (c .before), c .before .before .before .before .before .pre .long)
+shared-slice-read-wide c =
+    let s = c .before .before .before .before .before in
+    omega (arith, end (c .before), s .pre .long)
 
 wide-requires : tie.Need-wide-requires Inv-loop μ-loop
 wide-requires c κs = search needs
 
 add-c : tie.Need-add-c Inv-loop μ-loop
 add-c c =
-    let l = c .before .before .before .loop in
-    omega (arith, c .before .before .before .before .before .before .pre .left (l .i - 1) (l .c) (omega arith) (omega arith), c .wide .ensures)
+    let at-loop = c .before .before .before in
+    let s = at-loop .before .before .before in
+    let l = at-loop .loop in
+    omega (arith, s .pre .left (l .i - 1) (l .c) (omega arith) (omega arith), c .wide .ensures)
 
 sub-c : tie.Need-sub-c Inv-loop μ-loop
 sub-c c =
-    let l = c .before .before .before .loop in
-    omega (arith, c .before .before .before .before .before .before .pre .right (l .i - 1) (l .c) (omega arith) (omega arith), c .wide .ensures)
+    let at-loop = c .before .before .before in
+    let s = at-loop .before .before .before in
+    let l = at-loop .loop in
+    omega (arith, s .pre .right (l .i - 1) (l .c) (omega arith) (omega arith), c .wide .ensures)
 
 loop-less : tie.Need-loop-less Inv-loop μ-loop
 loop-less c = search needs
 
 loop-again : tie.Need-loop-again Inv-loop μ-loop
 loop-again c =
-    let l = c .before .before .before .loop in
-    let a = c .before .before .before .before .before .before .args in
-    let p = c .before .before .before .before .before .before .pre in
+    let at-loop-test = c .before .before in
+    let at-loop = at-loop-test .before in
+    let s = at-loop .before .before .before in
+    let l = at-loop .loop in
+    let a = s .args in
+    let p = s .pre in
     let room : l .i < length (now (a .seam)) = omega arith in (
       omega arith,
       (
         omega (arith, p .left (l .i - 1) (l .c) (omega arith) (omega arith), p .right (l .i - 1) (l .c) (omega arith) (omega arith), c .wide .ensures),
         (
           simp length-set (search needs),
-          rw (c .wide .ensures) (back-turn (now (a .ways)) (now (a .seam)) (columnsTo (now (a .ways)) (a .width) (a .height - 1) (a .column)) (a .width) (a .height) (l .i) (l .c) (l .seam) (c .before .before .loop-test .taken) room (l .inv .1 .1 .1)),
+          rw (c .wide .ensures) (back-turn (now (a .ways)) (now (a .seam)) (columnsTo (now (a .ways)) (a .width) (a .height - 1) (a .column)) (a .width) (a .height) (l .i) (l .c) (l .seam) (at-loop-test .loop-test .taken) room (l .inv .1 .1 .1)),
         ),
       ),
     )
@@ -98,11 +111,12 @@ same-length c = search needs
 
 returns : tie.Need-returns Inv-loop μ-loop
 returns c =
+    let s = c .before .before .before .before in
     let l = c .before .loop in
-    let a = c .before .before .before .before .args in
+    let a = s .args in
     let full = columnsTo (now (a .ways)) (a .width) (a .height - 1) (a .column) in
-    back-end (now (a .ways)) (now (a .seam)) full (a .width) (a .height) (l .i) (l .c) (l .seam) (omega arith) (omega (arith, c .before .before .before .before .pre .room, c .before .before .before .before .pre .some))
-    (omega (arith, c .before .before .before .before .pre .some, length-columns (now (a .ways)) (now (a .seam)) full (a .width) (a .height) (a .height - 1) (a .column))) (l .inv .1 .1 .1)
+    back-end (now (a .ways)) (now (a .seam)) full (a .width) (a .height) (l .i) (l .c) (l .seam) (omega arith) (omega (arith, s .pre .room, s .pre .some))
+    (omega (arith, s .pre .some, length-columns (now (a .ways)) (now (a .seam)) full (a .width) (a .height) (a .height - 1) (a .column))) (l .inv .1 .1 .1)
 
 pub trace-spec : {M : Type 1} → statement M
 trace-spec =

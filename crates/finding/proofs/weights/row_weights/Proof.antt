@@ -60,7 +60,10 @@ add-a : tie.Need-add-a
 add-a c = let e = ends (c .before .before .before) in omega arith
 
 add-e : tie.Need-add-e
-add-e c = let e = ends (c .before .before .before) in omega (arith, sure (c .before .before .before) .width-most)
+add-e c =
+    let s = c .before .before .before in
+    let e = ends s in
+    omega (arith, sure s .width-most)
 
 slice-aggregate-energies : tie.Need-slice-aggregate-energies
 slice-aggregate-energies c = sym (length-take-le _ _ (ends (c .before .before .before .before) .within))
@@ -75,7 +78,9 @@ part-weigh-start : tie.Need-part-weigh-start
 part-weigh-start c = search needs
 
 part-weigh-end : tie.Need-part-weigh-end
-part-weigh-end c = ends (c .before .before .before .before .before .before .before .before .before) .end
+part-weigh-end c =
+    let s = c .before .before .before .before .before .before .before .before .before in
+    ends s .end
 
 weigh-requires : tie.Need-weigh-requires
 weigh-requires c κs = search needs
@@ -88,13 +93,14 @@ same-length-2 c = search needs
 
 returns : tie.Need-returns
 returns c =
-    let r = c .before .before .before .before .before .before .before .before in
+    let at-weigh = c .before .before in
+    let r = at-weigh .before .before .before .before .before .before in
     let s = r .before .before .before .before .before .before in
     let a = s .args in
     let z = a .size in
     let front = now (a .front) in
     let from = a .bytes + a .i * z .width in
-    c .before .before .weigh .ensures
+    at-weigh .weigh .ensures
     ∙ ap₂ (λ x n. table (weightIn (r .energies .last .1 .1 .1 .0) x) n)
     (ap (λ n. take n (drop from front)) (add-sub-cancel-left from (z .width)) ∙ ap (λ b. take (z .width) (drop (b + a .i * z .width) front)) (s .pre .bytes-are)) (s .pre .cost-room)
     ∙ ap (λ x. table (weightIn x (take (z .width) (drop (pictureBytes z + a .i * z .width) front))) (z .width)) (energies-are r)

@@ -47,8 +47,10 @@ loop-less c = search needs
 
 loop-again : tie.Need-loop-again Inv-loop μ-loop
 loop-again c =
-    let a = c .before .before .before .before .before .before .before .before .args in
-    let k = c .before .before .before .before .loop .c in
+    let at-loop = c .before .before .before .before in
+    let s = at-loop .before .before .before .before in
+    let a = s .args in
+    let k = at-loop .loop .c in
     let f = weightIn (now (a .energies)) (now (a .marks)) in
     let e : c .weight .result ≡ f k = c .weight .ensures in (
       search needs,
@@ -63,8 +65,9 @@ same-length c = search needs
 
 returns : tie.Need-returns Inv-loop μ-loop
 returns c =
-    let a = c .before .before .before .before .before .args in
     let head = c .before in
+    let s = head .before .before .before .before in
+    let a = s .args in
     table-end (weightIn (now (a .energies)) (now (a .marks))) (now (a .cost)) (head .loop .cost) (head .loop .c) (head .loop .inv .1 .1 .0) (omega arith)
 
 pub weigh-spec : {M : Type 1} → statement M

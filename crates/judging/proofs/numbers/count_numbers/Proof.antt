@@ -39,11 +39,12 @@ same-length c = c .before .before .before .loop .inv .1
 
 returns : tie.Need-returns Inv-loop μ-loop
 returns c =
-    let h = c .before .before .before in
+    let at-loop-test = c .before .before in
+    let h = at-loop-test .before in
     let a = h .before .before .before .args in
     let over = lt-leb (getD (numbersIn (a .row .now)) (h .loop .i) 0) (a .depth) (rw (c .before .number-at .ensures) at (c .if1 .taken)) in
     record {
-      most = sym (sym (h .loop .inv .4) ∙ every-bad (λ v. leb v (a .depth)) (numbersIn (a .row .now)) (h .loop .i) 0 (inside h (c .before .before .loop-test .taken)) over);
+      most = sym (sym (h .loop .inv .4) ∙ every-bad (λ v. leb v (a .depth)) (numbersIn (a .row .now)) (h .loop .i) 0 (inside h (at-loop-test .loop-test .taken)) over);
       counts = λ e. let z : _≡_ {A = ℕ} 0 1 = cc in absurd (omega arith);
     }
 
@@ -57,10 +58,11 @@ slice-read-seen c =
 
 add-seen : tie.Need-add-seen Inv-loop μ-loop
 add-seen c =
-    let h = c .before .before .before .before in
+    let at-number-at = c .before .before in
+    let h = at-number-at .before .before in
     let s = h .before .before .before in
-    let v = c .before .before .number-at .result in
-    let few : c .before .before .number-at .result < 512 = omega (arith, s .pre .deep) in
+    let v = at-number-at .number-at .result in
+    let few : at-number-at .number-at .result < 512 = omega (arith, s .pre .deep) in
     omega (arith, h .loop .inv .3 v few, count-most v (take (h .loop .i) (numbersIn (s .args .row .now))), length-take (h .loop .i) (numbersIn (s .args .row .now)), length-numbers (s .args .row .now), s .pre .short)
 
 slice-write-seen : tie.Need-slice-write-seen Inv-loop μ-loop
@@ -76,14 +78,16 @@ loop-less c = search needs
 
 loop-again : tie.Need-loop-again Inv-loop μ-loop
 loop-again c =
-    let h = c .before .before .before .before in
+    let at-number-at = c .before .before in
+    let at-loop-test = at-number-at .before in
+    let h = at-loop-test .before in
     let s = h .before .before .before in
     let a = s .args in
     let ys = numbersIn (a .row .now) in
-    let v = c .before .before .number-at .result in
-    let is = c .before .before .number-at .ensures in
-    let within = inside h (c .before .before .before .loop-test .taken) in
-    let few : c .before .before .number-at .result < 512 = omega (arith, s .pre .deep) in
+    let v = at-number-at .number-at .result in
+    let is = at-number-at .number-at .ensures in
+    let within = inside h (at-loop-test .loop-test .taken) in
+    let few : at-number-at .number-at .result < 512 = omega (arith, s .pre .deep) in
     let fits = le-leb (getD (numbersIn (a .row .now)) (h .loop .i) 0) (a .depth) (rw is at (c .before .if1 .left)) in
     let same = length-set (h .loop .seen) v (getD (h .loop .seen) v 0 + 1) in (
       omega arith,

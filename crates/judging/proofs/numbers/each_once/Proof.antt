@@ -31,8 +31,10 @@ shared-slice-read-if1 c = search needs
 
 returns : tie.Need-returns Inv-loop μ-loop
 returns c =
-    let at = c .before .before .before .loop in
-    let a = c .before .before .before .before .args in
+    let at-loop = c .before .before .before in
+    let s = at-loop .before in
+    let at = at-loop .loop in
+    let a = s .args in
     sym (run-bad (λ v. eqb (getD (a .seen .now) v 0) 1) (a .depth) (at .t + 1) (omega arith) (omega arith) (ne-eqb (getD (a .seen .now) (at .t + 1) 0) 1 (c .if1 .taken)))
 
 add-t : tie.Need-add-t Inv-loop μ-loop
@@ -43,8 +45,10 @@ loop-less c = search needs
 
 loop-again : tie.Need-loop-again Inv-loop μ-loop
 loop-again c =
-    let at = c .before .before .before .loop in
-    let a = c .before .before .before .before .args in
+    let at-loop = c .before .before .before in
+    let s = at-loop .before in
+    let at = at-loop .loop in
+    let a = s .args in
     (omega arith, passed-more (λ v. eqb (getD (a .seen .now) v 0) 1) (at .t) (eq-eqb (getD (a .seen .now) (at .t + 1) 0) 1 (c .if1 .left)) (at .inv .1))
 
 returns-2 : tie.Need-returns-2 Inv-loop μ-loop

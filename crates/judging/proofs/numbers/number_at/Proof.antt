@@ -33,8 +33,10 @@ add-result c = omega (arith, c .wide2 .ensures, c .before .before .wide .ensures
 
 returns : tie.Need-returns
 returns c =
-    let a = c .before .before .before .before .before .args in
-    ap₂ (λ x y. x + 256 * y) (c .before .before .wide .ensures .0) (c .wide2 .ensures .0) ∙ sym (numbers-at (a .bytes .now) (a .i) (c .before .before .before .before .before .pre))
+    let at-wide = c .before .before in
+    let s = at-wide .before .before .before in
+    let a = s .args in
+    ap₂ (λ x y. x + 256 * y) (at-wide .wide .ensures .0) (c .wide2 .ensures .0) ∙ sym (numbers-at (a .bytes .now) (a .i) (s .pre))
 
 pub number-at-spec : {M : Type 1} → statement M
 number-at-spec =

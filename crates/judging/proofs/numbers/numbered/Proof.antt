@@ -31,10 +31,11 @@ within c l = let a = c .before .before .args in rw (length-rowsOf (a .width) (a 
 told : (c : tie.After-numbered-row Inv-loop μ-loop) → let h = c .before .before .before in let a = h .before .before .args in
     numbers (a .depth) (getD (rowsOf (a .width) (a .height) (numbersIn (a .map .now))) (h .loop .r) []) ≡ c .numbered-row .result
 told c =
-    let h = c .before .before .before in
+    let at-loop-test = c .before .before in
+    let h = at-loop-test .before in
     let a = h .before .before .args in
     let n : h .loop .r * (2 * a .width) + 2 * a .width - h .loop .r * (2 * a .width) ≡ 2 * a .width = omega arith in
-    ap (numbers (a .depth)) (rowsOf-at (a .width) (a .height) (numbersIn (a .map .now)) (h .loop .r) (c .before .before .loop-test .taken) ∙ sym (numbers-row (a .width) (h .loop .r) (a .map .now)))
+    ap (numbers (a .depth)) (rowsOf-at (a .width) (a .height) (numbersIn (a .map .now)) (h .loop .r) (at-loop-test .loop-test .taken) ∙ sym (numbers-row (a .width) (h .loop .r) (a .map .now)))
     ∙ sym (rw n at (c .numbered-row .ensures))
 
 loop-holds : tie.Need-loop-holds Inv-loop μ-loop

@@ -18,8 +18,10 @@ count-numbers-requires c κs = let s = c .before .before in record { short = s .
 
 returns : tie.Need-returns
 returns c =
-    let a = c .before .before .before .before .before .args in
-    sym (numbers-over (a .depth) (numbersIn (a .row .now)) (sym (c .before .before .count-numbers .ensures .most) ∙ not-true _ (c .if1 .taken)))
+    let at-count-numbers = c .before .before in
+    let s = at-count-numbers .before .before .before in
+    let a = s .args in
+    sym (numbers-over (a .depth) (numbersIn (a .row .now)) (sym (at-count-numbers .count-numbers .ensures .most) ∙ not-true _ (c .if1 .taken)))
 
 slice-aggregate-each-once : tie.Need-slice-aggregate-each-once
 slice-aggregate-each-once c = search needs
@@ -32,9 +34,10 @@ each-once-requires c κs =
 
 returns-2 : tie.Need-returns-2
 returns-2 c =
-    let k = c .before .before .before .before in
+    let at-if1 = c .before .before in
+    let k = at-if1 .before .before in
     let s = k .before .before .before in
-    let all : k .count-numbers .result ≡ true = not-false _ (c .before .before .if1 .left) in
+    let all : k .count-numbers .result ≡ true = not-false _ (at-if1 .if1 .left) in
     let told = k .count-numbers .ensures in
     c .each-once .ensures ∙ counts-judge (s .args .depth) 512 (k .count-numbers .last .1 .1 .0) (numbersIn (s .args .row .now)) (s .pre .deep) (told .counts all) (sym (told .most) ∙ all)
 

@@ -21,7 +21,10 @@ first : (c : tie.At-loop Inv-loop μ-loop) → let a = c .before .before .before
 first c l = let a = c .before .before .before .args in omega (arith, length-numbers (a .a .now))
 
 second : (c : tie.At-loop Inv-loop μ-loop) → let a = c .before .before .before .args in c .loop .i < length (a .a .now) / 2 → c .loop .i < length (numbersIn (a .b .now))
-second c l = let a = c .before .before .before .args in omega (arith, length-numbers (a .b .now), c .before .before .before .pre)
+second c l =
+    let s = c .before .before .before in
+    let a = s .args in
+    omega (arith, length-numbers (a .b .now), s .pre)
 
 loop-holds : tie.Need-loop-holds Inv-loop μ-loop
 loop-holds c = (omega arith, refl)
@@ -34,11 +37,13 @@ number-at-requires-2 c κs = search needs
 
 returns : tie.Need-returns Inv-loop μ-loop
 returns c =
-    let h = c .before .before .before .before in
+    let at-number-at = c .before .before in
+    let at-loop-test = at-number-at .before in
+    let h = at-loop-test .before in
     let a = h .before .before .before .args in
-    let test = c .before .before .before .loop-test .taken in
+    let test = at-loop-test .loop-test .taken in
     sym (sym (h .loop .inv .1) ∙ same-bad (numbersIn (a .a .now)) (numbersIn (a .b .now)) (h .loop .i) (first h test) (second h test)
-    (λ e. c .if1 .taken (c .before .before .number-at .ensures ∙ e ∙ sym (c .before .number-at2 .ensures))))
+    (λ e. c .if1 .taken (at-number-at .number-at .ensures ∙ e ∙ sym (c .before .number-at2 .ensures))))
 
 add-i : tie.Need-add-i Inv-loop μ-loop
 add-i c = search needs
@@ -48,12 +53,14 @@ loop-less c = search needs
 
 loop-again : tie.Need-loop-again Inv-loop μ-loop
 loop-again c =
-    let h = c .before .before .before .before in
+    let at-number-at = c .before .before in
+    let at-loop-test = at-number-at .before in
+    let h = at-loop-test .before in
     let a = h .before .before .before .args in
-    let test = c .before .before .before .loop-test .taken in (
+    let test = at-loop-test .loop-test .taken in (
       omega arith,
       same-ok (numbersIn (a .a .now)) (numbersIn (a .b .now)) (h .loop .i) (first h test) (second h test)
-          (sym (c .before .before .number-at .ensures) ∙ c .if1 .left ∙ c .before .number-at2 .ensures) ∙ h .loop .inv .1,
+          (sym (at-number-at .number-at .ensures) ∙ c .if1 .left ∙ c .before .number-at2 .ensures) ∙ h .loop .inv .1,
     )
 
 returns-2 : tie.Need-returns-2 Inv-loop μ-loop

@@ -29,9 +29,10 @@ number-at-requires c κs = search needs
 
 returns : tie.Need-returns Inv-loop μ-loop
 returns c =
-    let h = c .before .before .before in
+    let at-loop-test = c .before .before in
+    let h = at-loop-test .before in
     let a = h .before .before .args in
-    column-here (numbersIn (a .row .now)) (a .t) (h .loop .i) (h .loop .left) _ (inside h (c .before .before .loop-test .taken)) (h .loop .inv .2) (sym (c .before .number-at .ensures) ∙ c .if1 .taken)
+    column-here (numbersIn (a .row .now)) (a .t) (h .loop .i) (h .loop .left) _ (inside h (at-loop-test .loop-test .taken)) (h .loop .inv .2) (sym (c .before .number-at .ensures) ∙ c .if1 .taken)
 
 remains-requires : tie.Need-remains-requires Inv-loop μ-loop
 remains-requires c κs = search needs
@@ -47,12 +48,15 @@ loop-less c = search needs
 
 loop-again : tie.Need-loop-again Inv-loop μ-loop
 loop-again c =
-    let h = c .before .before .before .before .before in
+    let at-if1 = c .before .before in
+    let at-number-at = at-if1 .before in
+    let at-loop-test = at-number-at .before in
+    let h = at-loop-test .before in
     let a = h .before .before .args in
     let ys = numbersIn (a .row .now) in
-    let is = c .before .before .before .number-at .ensures in
-    let within = inside h (c .before .before .before .before .loop-test .taken) in
-    let other : getD (numbersIn (a .row .now)) (h .loop .i) 0 ≡ a .t → ⊥ = λ e. c .before .before .if1 .left (is ∙ e) in
+    let is = at-number-at .number-at .ensures in
+    let within = inside h (at-loop-test .loop-test .taken) in
+    let other : getD (numbersIn (a .row .now)) (h .loop .i) 0 ≡ a .t → ⊥ = λ e. at-if1 .if1 .left (is ∙ e) in
     let told = rw is at (c .before .remains .ensures) in
     ⊎-elim
     (λ w. (omega arith, omega arith, rw (w .1) (column-left ys (a .t) (h .loop .i) (h .loop .left) _ within (h .loop .inv .2) other (sym told ∙ w .0 .taken))))

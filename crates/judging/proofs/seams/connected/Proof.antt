@@ -48,16 +48,22 @@ start c = c .before .before .before .before .before .before .before .before
 
 within : (c : tie.After-beside Inv-loop μ-loop Inv-seams μ-seams) → let t = c .before .before .before .before .before .before .seams .t in
     c .before .before .before .loop .r + 1 < length (seam (start c) (t + 1))
-within c = rw (seam-long (start c) (c .before .before .before .before .before .before .seams .t + 1)) (c .before .before .loop-test .taken)
+within c =
+    let at-loop-test = c .before .before in
+    let at-seams = at-loop-test .before .before .before .before in
+    rw (seam-long (start c) (at-seams .seams .t + 1)) (at-loop-test .loop-test .taken)
 
 -- what the test of a step says
 told : (c : tie.After-beside Inv-loop μ-loop Inv-seams μ-seams) → let t = c .before .before .before .before .before .before .seams .t in let r = c .before .before .before .loop .r in
     beside (getD (seam (start c) (t + 1)) r 0) (getD (seam (start c) (t + 1)) (r + 1) 0) ≡ c .beside .result
 told c =
+    let at-loop-test = c .before .before in
+    let at-loop = at-loop-test .before in
+    let at-seams = at-loop .before .before .before in
     let a = start c .args in
-    let t = c .before .before .before .before .before .before .seams .t in
-    let at = c .before .before .before .loop in
-    let next = c .before .before .loop-test .taken in
+    let t = at-seams .seams .t in
+    let at = at-loop .loop in
+    let next = at-loop-test .loop-test .taken in
     ap₂ beside (recorded-at (t + 1) (a .width) (a .height) (numbersIn (a .map .now)) (at .r) (at .inv .0) ∙ sym (at .inv .3))
     (recorded-at (t + 1) (a .width) (a .height) (numbersIn (a .map .now)) (at .r + 1) next ∙ sym (c .before .column-at2 .ensures .is))
     ∙ sym (c .beside .ensures)
@@ -66,7 +72,9 @@ seams-holds : tie.Need-seams-holds Inv-loop μ-loop Inv-seams μ-seams
 seams-holds c = (omega arith, refl, λ q l h. absurd (omega arith))
 
 add-number : tie.Need-add-number Inv-loop μ-loop Inv-seams μ-seams
-add-number c = omega (arith, c .before .before .before .pre .deep, c .before .before .before .pre .wide)
+add-number c =
+    let s = c .before .before .before in
+    omega (arith, s .pre .deep, s .pre .wide)
 
 column-at-requires : tie.Need-column-at-requires Inv-loop μ-loop Inv-seams μ-seams
 column-at-requires c κs = let s = c .before .before .before in record { inside = row-in s 0 (s .pre .some) }
@@ -83,12 +91,15 @@ add-column-at : tie.Need-add-column-at Inv-loop μ-loop Inv-seams μ-seams
 add-column-at c = search needs
 
 column-at-requires-2 : tie.Need-column-at-requires-2 Inv-loop μ-loop Inv-seams μ-seams
-column-at-requires-2 c κs = let s = c .before .before .before .before .before .before in record { inside = row-in s (c .before .loop .r + 1) (c .loop-test .taken) }
+column-at-requires-2 c κs =
+    let s = c .before .before .before .before .before .before in
+    record { inside = row-in s (c .before .loop .r + 1) (c .loop-test .taken) }
 
 beside-requires : tie.Need-beside-requires Inv-loop μ-loop Inv-seams μ-seams
 beside-requires c κs =
-    let s = c .before .before .before .before .before .before .before in
-    (omega (arith, c .before .before .loop .inv .2, s .pre .wide), omega (arith, c .column-at2 .ensures .most, s .pre .wide))
+    let at-loop = c .before .before in
+    let s = at-loop .before .before .before .before .before in
+    (omega (arith, at-loop .loop .inv .2, s .pre .wide), omega (arith, c .column-at2 .ensures .most, s .pre .wide))
 
 add-r : tie.Need-add-r Inv-loop μ-loop Inv-seams μ-seams
 add-r c = search needs
@@ -116,9 +127,10 @@ seams-less c = search needs
 
 seams-again : tie.Need-seams-again Inv-loop μ-loop Inv-seams μ-seams
 seams-again c =
+    let at-seams = c .before .before .before .before in
+    let s = at-seams .before .before in
     let at = c .before .loop in
-    let out = c .before .before .before .before .seams in
-    let s = c .before .before .before .before .before .before in
+    let out = at-seams .seams in
     let whole = sym (at .inv .4) ∙ linked-end beside (seam s (out .t + 1)) (at .r) (rw (seam-long s (out .t + 1)) (omega arith)) in
     (omega arith, at .inv .1, passed-more (λ q. linked beside (seam s q)) (out .t) whole (out .inv .2))
 

@@ -51,10 +51,14 @@ same-length c = search needs
 
 returns : tie.Need-returns Inv-loop μ-loop
 returns c =
-    let at = c .before .before .before .before .before .before .loop in
-    let args = c .before .before .before .before .before .before .before .before .args in
-    let told = c .before .before .number .ensures in
-    put-number (args .low) (args .high) (at .row) _ (at .c) (at .zeros) (c .before .before .before .before .before .loop-test .taken) (sym told ∙ c .before .if1 .taken) (c .if2 .taken) (at .inv .3) ∙ rw (at .inv .2)
+    let at-number = c .before .before in
+    let at-loop-test = at-number .before .before .before in
+    let at-loop = at-loop-test .before in
+    let s = at-loop .before .before in
+    let at = at-loop .loop in
+    let args = s .args in
+    let told = at-number .number .ensures in
+    put-number (args .low) (args .high) (at .row) _ (at .c) (at .zeros) (at-loop-test .loop-test .taken) (sym told ∙ c .before .if1 .taken) (c .if2 .taken) (at .inv .3) ∙ rw (at .inv .2)
 
 sub-zeros : tie.Need-sub-zeros Inv-loop μ-loop
 sub-zeros c = search needs
@@ -67,10 +71,13 @@ loop-less c = search needs
 
 loop-again : tie.Need-loop-again Inv-loop μ-loop
 loop-again c =
-    let at = c .before .before .before .before .before .loop in
-    let args = c .before .before .before .before .before .before .before .args in
+    let at-loop-test = c .before .before .before .before in
+    let at-loop = at-loop-test .before in
+    let s = at-loop .before .before in
+    let at = at-loop .loop in
+    let args = s .args in
     let told = c .before .number .ensures in
-    let inside = c .before .before .before .before .loop-test .taken in
+    let inside = at-loop-test .loop-test .taken in
     ⊎-elim
     (λ w. (omega arith, at .inv .1, at .inv .2, rw (w .2) (pass-zero (args .low) (args .high) (at .row) _ (at .c) (at .zeros) inside (sym told ∙ w .0 .taken) (omega arith) (at .inv .3))))
     (λ w. (omega arith, at .inv .1, at .inv .2, rw (w .1) (pass-number (args .low) (args .high) (at .row) _ (at .c) (at .zeros) inside (λ e. w .0 .left (told ∙ e)) (at .inv .3))))

@@ -24,9 +24,12 @@ same-length c = search needs
 
 returns : tie.Need-returns
 returns c =
-    let k = c .before .before .before .before .skip in
-    let a = c .before .before .before .before .before .before .before .args in
-    mark-behind (a .low) (a .high) (a .s) (k .result .at) (k .result .zeros) (a .row .now) (c .before .before .mark-rest .last .0) (k .ensures) (c .before .before .mark-rest .ensures)
+    let at-mark-rest = c .before .before in
+    let at-skip = at-mark-rest .before .before in
+    let s = at-skip .before .before .before in
+    let k = at-skip .skip in
+    let a = s .args in
+    mark-behind (a .low) (a .high) (a .s) (k .result .at) (k .result .zeros) (a .row .now) (at-mark-rest .mark-rest .last .0) (k .ensures) (at-mark-rest .mark-rest .ensures)
 
 pub mark-row-spec : {M : Type 1} → statement M
 mark-row-spec =

@@ -60,7 +60,10 @@ part-mark-row-start : tie.Need-part-mark-row-start Inv-loop μ-loop
 part-mark-row-start c = search needs
 
 part-mark-row-end : tie.Need-part-mark-row-end Inv-loop μ-loop
-part-mark-row-end c = omega (arith, inside (c .before .before .before) (c .before .before .loop-test .taken), c .before .before .before .loop .inv .1)
+part-mark-row-end c =
+    let at-loop-test = c .before .before in
+    let at-loop = at-loop-test .before in
+    omega (arith, inside at-loop (at-loop-test .loop-test .taken), at-loop .loop .inv .1)
 
 mark-row-requires : tie.Need-mark-row-requires Inv-loop μ-loop
 mark-row-requires c κs = search needs
@@ -73,15 +76,18 @@ loop-less c = search needs
 
 loop-again : tie.Need-loop-again Inv-loop μ-loop
 loop-again c =
-    let h = c .before .before .before .before .before .before .before in
+    let at-mark-row = c .before .before in
+    let at-column = at-mark-row .before .before in
+    let at-loop-test = at-column .before .before in
+    let h = at-loop-test .before in
     let at = h .loop in
     let a = h .before .before .before .args in
-    let m = c .before .before .mark-row in
+    let m = at-mark-row .mark-row in
     let wide = 2 * a .width in
     let start = at .r * (2 * a .width) in
     let end = at .r * (2 * a .width) + 2 * a .width in
-    let fits : at .r * (2 * a .width) + 2 * a .width ≤ length (at .map) = omega (arith, inside h (c .before .before .before .before .before .before .loop-test .taken), at .inv .1) in
-    let told = m .ensures ∙ ap (λ s. writePair (a .number % 256) (a .number / 256) s (midOf (at .r * (2 * a .width)) (at .r * (2 * a .width) + 2 * a .width - at .r * (2 * a .width)) (at .map))) (c .before .before .before .before .column .ensures) in (
+    let fits : at .r * (2 * a .width) + 2 * a .width ≤ length (at .map) = omega (arith, inside h (at-loop-test .loop-test .taken), at .inv .1) in
+    let told = m .ensures ∙ ap (λ s. writePair (a .number % 256) (a .number / 256) s (midOf (at .r * (2 * a .width)) (at .r * (2 * a .width) + 2 * a .width - at .r * (2 * a .width)) (at .map))) (at-column .column .ensures) in (
       omega arith,
       same-len-mid start (end - start) (at .map) (m .last .0) (m .kept .0) ∙ at .inv .1,
       rows-step (writePair (a .number % 256) (a .number / 256)) 0 (a .seam .now) _ wide (at .r) start end (at .map) (m .last .0) (omega arith) refl refl fits told (m .kept .0 ∙ mid-len start end (at .map) fits ∙ omega arith) (at .inv .2),
@@ -92,8 +98,8 @@ same-length c = c .before .loop .inv .1
 
 returns : tie.Need-returns Inv-loop μ-loop
 returns c =
-    let at = c .before .loop in
     let s = c .before .before .before .before in
+    let at = c .before .loop in
     let a = s .args in
     let last : at .r ≡ length (a .seam .now) = omega arith in
     rows-done (writePair (a .number % 256) (a .number / 256)) 0 (a .seam .now) _ (2 * a .width) (at .r) (at .map) (omega arith) (rw last (omega (arith, s .pre .long, at .inv .1))) (at .inv .2)

@@ -36,8 +36,10 @@ part-zeros-in-end c = search needs
 
 zeros-in-requires : tie.Need-zeros-in-requires Inv-loop μ-loop
 zeros-in-requires c κs =
-    let at = c .before .before .loop in
-    let row = c .before .before .before .before .args .row .now in
+    let at-loop = c .before .before in
+    let s = at-loop .before .before in
+    let at = at-loop .loop in
+    let row = s .args .row .now in
     part-length (at .at) (at .at + 32) row (c .before .loop-test .taken) ∙ omega arith
 
 returns : tie.Need-returns Inv-loop μ-loop
@@ -51,9 +53,12 @@ loop-less c = search needs
 
 loop-again : tie.Need-loop-again Inv-loop μ-loop
 loop-again c =
-    let at = c .before .before .before .before .loop in
-    let args = c .before .before .before .before .before .before .args in
-    let fits = c .before .before .before .loop-test .taken in
+    let at-loop-test = c .before .before .before in
+    let at-loop = at-loop-test .before in
+    let s = at-loop .before .before in
+    let at = at-loop .loop in
+    let args = s .args in
+    let fits = at-loop-test .loop-test .taken in
     let told = c .before .zeros-in .ensures in
     record {
       within = omega arith;

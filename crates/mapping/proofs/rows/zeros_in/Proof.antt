@@ -48,8 +48,9 @@ loop-less c = search needs
 
 loop-again : tie.Need-loop-again Inv-loop μ-loop
 loop-again c =
-    let at = c .before .before .before .before .before .loop in
-    let s = c .before .before .before .before .before .before .before in
+    let at-loop = c .before .before .before .before .before in
+    let s = at-loop .before .before in
+    let at = at-loop .loop in
     let ys = s .args .block .now in
     let told = c .before .number .ensures in
     let inside : 2 * at .i + 1 < length ys = omega (arith, s .pre) in
@@ -63,8 +64,9 @@ wide-requires c κs = search needs
 
 returns : tie.Need-returns Inv-loop μ-loop
 returns c =
-    let at = c .before .before .loop in
-    let s = c .before .before .before .before in
+    let at-loop = c .before .before in
+    let s = at-loop .before .before in
+    let at = at-loop .loop in
     let none : zeroPairs (drop (2 * at .i) (s .args .block .now)) ≡ 0 = ap zeroPairs (drop-of-length-le (s .args .block .now) {i = 2 * at .i} (omega (arith, s .pre))) in
     c .wide .ensures ∙ omega (arith, at .inv .2, none)
 

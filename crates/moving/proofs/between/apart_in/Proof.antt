@@ -15,8 +15,12 @@ within-requires-3 c κs = search needs
 
 returns : tie.Need-returns
 returns c =
-    let one = sym (c .before .before .before .before .before .within .ensures) ∙ c .before .before .before .before .if1 .taken in
-    let two = sym (c .before .before .before .within2 .ensures) ∙ c .before .before .if2 .taken in
+    let at-if2 = c .before .before in
+    let at-within2 = at-if2 .before in
+    let at-if1 = at-within2 .before in
+    let at-within = at-if1 .before in
+    let one = sym (at-within .within .ensures) ∙ at-if1 .if1 .taken in
+    let two = sym (at-within2 .within2 .ensures) ∙ at-if2 .if2 .taken in
     let three = sym (c .before .within3 .ensures) ∙ c .if3 .taken in
     sym (simp (one, two, three))
 
@@ -25,14 +29,21 @@ within-requires-4 c κs = search needs
 
 returns-2 : tie.Need-returns-2
 returns-2 c =
-    let one = sym (c .before .before .before .before .before .before .within .ensures) ∙ c .before .before .before .before .before .if1 .taken in
-    let two = sym (c .before .before .before .before .within2 .ensures) ∙ c .before .before .before .if2 .taken in
-    let three = sym (c .before .before .within3 .ensures) ∙ c .before .if3 .left in
+    let at-within3 = c .before .before in
+    let at-if2 = at-within3 .before in
+    let at-within2 = at-if2 .before in
+    let at-if1 = at-within2 .before in
+    let at-within = at-if1 .before in
+    let one = sym (at-within .within .ensures) ∙ at-if1 .if1 .taken in
+    let two = sym (at-within2 .within2 .ensures) ∙ at-if2 .if2 .taken in
+    let three = sym (at-within3 .within3 .ensures) ∙ c .before .if3 .left in
     c .within4 .ensures ∙ sym (simp (one, two, three))
 
 returns-3 : tie.Need-returns-3
 returns-3 c =
-    let one = sym (c .before .before .before .within .ensures) ∙ c .before .before .if1 .taken in
+    let at-if1 = c .before .before in
+    let at-within = at-if1 .before in
+    let one = sym (at-within .within .ensures) ∙ at-if1 .if1 .taken in
     let two = sym (c .before .within2 .ensures) ∙ c .if2 .left in
     sym (simp (one, two))
 

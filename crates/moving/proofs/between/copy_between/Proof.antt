@@ -16,8 +16,11 @@ same-length c = search needs
 
 returns : tie.Need-returns
 returns c =
-    let test = sym (c .before .before .before .before .before .apart-in .ensures) ∙ c .before .before .before .before .if1 .taken in
-    record { answer = sym (simp test); space-left = c .before .before .copy-places .ensures }
+    let at-copy-places = c .before .before in
+    let at-if1 = at-copy-places .before .before in
+    let at-apart-in = at-if1 .before in
+    let test = sym (at-apart-in .apart-in .ensures) ∙ at-if1 .if1 .taken in
+    record { answer = sym (simp test); space-left = at-copy-places .copy-places .ensures }
 
 returns-2 : tie.Need-returns-2
 returns-2 c = let test = sym (c .before .apart-in .ensures) ∙ c .if1 .left in record { answer = sym (simp test); space-left = refl }

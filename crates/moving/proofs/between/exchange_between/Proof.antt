@@ -21,7 +21,9 @@ rest : (c : tie.After-enum-told) → let a = c .before .before .before .before .
 rest c = let a = c .before .before .before .before .args in served-first (sideRules (a .size)) (copyBetweenRules (length (now (a .space))) (a .from) (pictureBytes (a .size)) (a .to)) refl (none c)
 
 bytes-are : (c : tie.After-picture-bytes) → c .picture-bytes .result ≡ pictureBytes (c .before .before .before .before .before .args .size)
-bytes-are c = c .picture-bytes .ensures ∙ ap (λ n. served n (pictureBytes (c .before .before .before .before .before .args .size)) 0) (none (c .before))
+bytes-are c =
+    let s = c .before .before .before .before .before in
+    c .picture-bytes .ensures ∙ ap (λ n. served n (pictureBytes (s .args .size)) 0) (none (c .before))
 
 sides-requires : tie.Need-sides-requires
 sides-requires c κs = search needs
@@ -34,13 +36,15 @@ enum-told-2 c = search needs
 
 returns : tie.Need-returns
 returns c =
-    let a = c .before .before .before .before .args in
+    let at-sides = c .before .before in
+    let s = at-sides .before .before in
+    let a = s .args in
     let space = now (a .space) in
     let z = a .size in
     let why = c .enum-told2 .given in
     record {
-      answer = refused-answer (c .before .before .sides .result) (why .0 .0) (why .1) (sideRules z) (copyBetweenRules (length space) (a .from) (pictureBytes z) (a .to)) (c .before .before .sides .ensures);
-      space-left = refused-kept (c .before .before .sides .result) (why .0 .0) (why .1) (putAt (a .to) (pictureBytes z) (bytes (exchange (z .width) (picture z (partAt (a .from) (pictureBytes z) space)))) space) space;
+      answer = refused-answer (at-sides .sides .result) (why .0 .0) (why .1) (sideRules z) (copyBetweenRules (length space) (a .from) (pictureBytes z) (a .to)) (at-sides .sides .ensures);
+      space-left = refused-kept (at-sides .sides .result) (why .0 .0) (why .1) (putAt (a .to) (pictureBytes z) (bytes (exchange (z .width) (picture z (partAt (a .from) (pictureBytes z) space)))) space) space;
     }
 
 picture-bytes-requires : tie.Need-picture-bytes-requires
@@ -51,8 +55,9 @@ apart-in-requires c κs = search needs
 
 exchange-places-requires : tie.Need-exchange-places-requires
 exchange-places-requires c κs =
-    let q = c .before .before .before in
-    let test = rw (bytes-are q) at (sym (c .before .before .apart-in .ensures) ∙ c .before .if1 .taken) in
+    let at-apart-in = c .before .before in
+    let q = at-apart-in .before in
+    let test = rw (bytes-are q) at (sym (at-apart-in .apart-in .ensures) ∙ c .before .if1 .taken) in
     record { sides = none (q .before); all-is = bytes-are q; places = places-are _ _ _ _ test }
 
 same-length : tie.Need-same-length
@@ -60,9 +65,12 @@ same-length c = search needs
 
 returns-2 : tie.Need-returns-2
 returns-2 c =
-    let q = c .before .before .before .before .before .before in
-    let test = rw (bytes-are q) at (sym (c .before .before .before .before .before .apart-in .ensures) ∙ c .before .before .before .before .if1 .taken) in
-    record { answer = sym (rest (q .before) ∙ simp test); space-left = c .before .before .exchange-places .ensures }
+    let at-exchange-places = c .before .before in
+    let at-if1 = at-exchange-places .before .before in
+    let at-apart-in = at-if1 .before in
+    let q = at-apart-in .before in
+    let test = rw (bytes-are q) at (sym (at-apart-in .apart-in .ensures) ∙ at-if1 .if1 .taken) in
+    record { answer = sym (rest (q .before) ∙ simp test); space-left = at-exchange-places .exchange-places .ensures }
 
 returns-3 : tie.Need-returns-3
 returns-3 c =

@@ -31,7 +31,9 @@ stride c = ap (c .before .before .args .size .height *_) (c .channels .ensures)
 -- where column c goes
 sure : (c : tie.In-loop Inv-loop μ-loop) → let u = c .before .before in let st = u .before .before in let a = st .args in
     ColumnAt (a .size) (now (a .space)) (a .from) (a .all) (a .to) (s u) (st .pre) (stride u) (c .before .loop .c)
-sure c = let u = c .before .before in let st = u .before .before in let a = st .args in
+sure c =
+    let u = c .before .before in
+    let st = u .before .before in let a = st .args in
     column-at (a .size) (now (a .space)) (a .from) (a .all) (a .to) (s u) (st .pre) (stride u) (c .before .loop .c) (c .loop-test .taken)
 
 channels-requires : tie.Need-channels-requires Inv-loop μ-loop
@@ -84,13 +86,17 @@ add-end : tie.Need-add-end Inv-loop μ-loop
 add-end c = let q = sure (c .before .before .before .before .before) in omega arith
 
 array-share-prefix-line : tie.Need-array-share-prefix-line Inv-loop μ-loop
-array-share-prefix-line c = let q = sure (c .before .before .before .before .before) in omega (arith, c .before .put-column .kept .1 .1 .1 .1 .1 .0)
+array-share-prefix-line c =
+    let at-loop-test = c .before .before .before .before .before in
+    let q = sure at-loop-test in
+    omega (arith, c .before .put-column .kept .1 .1 .1 .1 .1 .0)
 
 slice-aggregate-copy : tie.Need-slice-aggregate-copy Inv-loop μ-loop
 slice-aggregate-copy c =
-    let z = c .before .before .before .before .before .before in
+    let at-put-column = c .before .before in
+    let z = at-put-column .before .before .before .before in
     let q = sure z in
-    let put = c .before .before .put-column in
+    let put = at-put-column .put-column in
     sym (length-take-le (s (z .before .before)) (put .last .1 .1 .1 .1 .1 .0) (omega (arith, put .kept .1 .1 .1 .1 .1 .0)))
 
 sub-copy : tie.Need-sub-copy Inv-loop μ-loop
@@ -104,9 +110,10 @@ part-copy-end c = let q = sure (c .before .before .before .before .before .befor
 
 copy-requires : tie.Need-copy-requires Inv-loop μ-loop
 copy-requires c κs =
-    let z = c .before .before .before .before .before .before .before in
+    let at-put-column = c .before .before .before in
+    let z = at-put-column .before .before .before .before in
     let q = sure z in
-    let put = c .before .before .before .put-column in
+    let put = at-put-column .put-column in
     let n = s (z .before .before) in
     let head = z .before .loop in
     let at = z .before .before .before .before .args .to + head .c * n in
@@ -120,13 +127,15 @@ loop-less c = search needs
 
 loop-again : tie.Need-loop-again Inv-loop μ-loop
 loop-again c =
-    let z = c .before .before .before .before .before .before .before .before .before .before in
+    let at-copy = c .before .before in
+    let at-put-column = at-copy .before .before .before .before in
+    let z = at-put-column .before .before .before .before in
     let head = z .before .loop in
     let u = z .before .before in
     let st = u .before .before in
     let a = st .args in
-    let put = c .before .before .before .before .before .before .put-column in
-    let copied = c .before .before .copy in
+    let put = at-put-column .put-column in
+    let copied = at-copy .copy in
     let at = a .to + head .c * s u in (
       omega arith,
       (

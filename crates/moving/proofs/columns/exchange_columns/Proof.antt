@@ -28,7 +28,9 @@ stride c = ap (c .before .before .before .args .size .height *_) (c .channels .e
 -- where column c goes
 sure : (c : tie.In-loop Inv-loop μ-loop) → let u = c .before .before in let st = u .before .before .before in let a = st .args in
     ColumnSure (a .size) (now (a .from)) (now (a .to)) (a .size .height * u .channels .result) (st .pre) (stride u) (c .before .loop .c)
-sure c = let u = c .before .before in let st = u .before .before .before in let a = st .args in
+sure c =
+    let u = c .before .before in
+    let st = u .before .before .before in let a = st .args in
     column-sure (a .size) (now (a .from)) (now (a .to)) (a .size .height * u .channels .result) (st .pre) (stride u) (c .before .loop .c) (c .loop-test .taken)
 
 channels-requires : tie.Need-channels-requires Inv-loop μ-loop
@@ -79,13 +81,14 @@ loop-less c = search needs
 
 loop-again : tie.Need-loop-again Inv-loop μ-loop
 loop-again c =
-    let z = c .before .before .before .before in
+    let at-put-column = c .before .before in
+    let z = at-put-column .before .before in
     let l = z .before .loop in
     let u = z .before .before in
     let st = u .before .before .before in
     let a = st .args in
     let s = a .size .height * u .channels .result in
-    let put = c .before .before .put-column in (
+    let put = at-put-column .put-column in (
       omega arith,
       (
         same-len-mid (l .c * s) (l .c * s + s - l .c * s) (l .to) (put .last .1 .1 .1 .1 .1 .0) (put .kept .1 .1 .1 .1 .1 .0) ∙ l .inv .1 .0,
@@ -98,8 +101,8 @@ same-length c = search needs
 
 returns : tie.Need-returns Inv-loop μ-loop
 returns c =
-    let l = c .before .loop in
     let u = c .before .before in
+    let l = c .before .loop in
     let st = u .before .before .before in
     let a = st .args in
     let e : l .c ≡ a .size .width = omega arith in

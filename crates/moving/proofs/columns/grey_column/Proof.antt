@@ -21,8 +21,8 @@ abbrev μ-loop : tie.MeasureT-loop
 -- where the sample of pixel r is read
 pixel : (c : tie.In-loop Inv-loop μ-loop) → let a = c .before .before .args in c .before .loop .r * a .width + a .c < length (now (a .from))
 pixel c =
-    let l = c .before .loop in
     let st = c .before .before in
+    let l = c .before .loop in
     let a = st .args in
     let q = samples-end 1 (now (a .from)) (a .width) (a .height) (a .c) (st .pre .length-is) (st .pre .inside) (l .r) (c .loop-test .taken) in
     omega (arith, rw (mul-one (a .width), mul-one (a .c)) at q)

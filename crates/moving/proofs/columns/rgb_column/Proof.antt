@@ -20,7 +20,9 @@ abbrev μ-loop : tie.MeasureT-loop
 -- where the samples of pixel r are read and where they go
 pixel : (c : tie.In-loop Inv-loop μ-loop) → let l = c .before .loop in let st = c .before .before in let a = st .args in
     PixelSure 3 (now (a .from)) (a .width) (a .height) (a .c) (now (a .out)) (l .out) (st .pre) (l .r) (c .loop-test .taken) (l .inv .1 .0)
-pixel c = let l = c .before .loop in let st = c .before .before in let a = st .args in
+pixel c =
+    let st = c .before .before in
+    let l = c .before .loop in let a = st .args in
     pixel-sure 3 (now (a .from)) (a .width) (a .height) (a .c) (now (a .out)) (l .out) (st .pre) (l .r) (c .loop-test .taken) (l .inv .1 .0)
 
 mul-stride : tie.Need-mul-stride Inv-loop μ-loop

@@ -47,9 +47,11 @@ same-length c = search needs
 
 returns : tie.Need-returns
 returns c =
-    let st = c .before .before .before .before .before .before .before .before .before .before .before .before in
+    let at-copy2 = c .before .before in
+    let at-copy = at-copy2 .before .before .before .before .before in
+    let st = at-copy .before .before .before .before .before in
     let a = st .args in
-    two-copies (now (a .line)) (now (a .out)) _ _ (a .gap) (a .n) (st .pre) (c .before .before .before .before .before .before .before .copy .ensures .1) (c .before .before .copy2 .ensures .1)
+    two-copies (now (a .line)) (now (a .out)) _ _ (a .gap) (a .n) (st .pre) (at-copy .copy .ensures .1) (at-copy2 .copy2 .ensures .1)
 
 pub close-row-spec : {M : Type 1} → statement M
 close-row-spec =

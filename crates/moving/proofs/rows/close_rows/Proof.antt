@@ -32,7 +32,9 @@ all c = let st = c .before .before .before in let a = st .args in
 
 row : (c : tie.In-loop Inv-loop μ-loop) → let u = c .before .before in let st = u .before .before .before in let a = st .args in
     RowSure (a .size) (now (a .picture)) (now (a .seam)) (u .channels .result) (st .pre) (u .channels .ensures) (c .before .loop .r) (c .loop-test .taken)
-row c = let u = c .before .before in let st = u .before .before .before in let a = st .args in
+row c =
+    let u = c .before .before in
+    let st = u .before .before .before in let a = st .args in
     row-sure (a .size) (now (a .picture)) (now (a .seam)) (u .channels .result) (st .pre) (u .channels .ensures) (c .before .loop .r) (c .loop-test .taken)
 
 channels-requires : tie.Need-channels-requires Inv-loop μ-loop
@@ -106,33 +108,43 @@ mul-dest c =
 
 array-share-prefix-line : tie.Need-array-share-prefix-line Inv-loop μ-loop
 array-share-prefix-line c =
-    let z = c .before .before .before .before .before .before .before in
+    let at-copy = c .before .before .before in
+    let z = at-copy .before .before .before .before in
     let q = all (z .before .before) in
-    omega (arith, c .before .before .before .copy .kept .1 .0)
+    omega (arith, at-copy .copy .kept .1 .0)
 
 slice-aggregate-close-row : tie.Need-slice-aggregate-close-row Inv-loop μ-loop
 slice-aggregate-close-row c =
-    let z = c .before .before .before .before .before .before .before .before in
+    let at-copy = c .before .before .before .before in
+    let z = at-copy .before .before .before .before in
     let q = all (z .before .before) in
-    let copied = c .before .before .before .before .copy in
+    let copied = at-copy .copy in
     sym (length-take-le (stride (z .before .before)) (copied .last .1 .0) (omega (arith, copied .kept .1 .0)))
 
 sub-close-row : tie.Need-sub-close-row Inv-loop μ-loop
-sub-close-row c = let w = row (c .before .before .before .before .before .before .before .before) in omega arith
+sub-close-row c =
+    let at-loop-test = c .before .before .before .before .before .before .before .before in
+    let w = row at-loop-test in
+    omega arith
 
 part-close-row-start : tie.Need-part-close-row-start Inv-loop μ-loop
-part-close-row-start c = let w = row (c .before .before .before .before .before .before .before .before) in omega arith
+part-close-row-start c =
+    let at-loop-test = c .before .before .before .before .before .before .before .before in
+    let w = row at-loop-test in
+    omega arith
 
 part-close-row-end : tie.Need-part-close-row-end Inv-loop μ-loop
 part-close-row-end c = search needs
 
 close-row-requires : tie.Need-close-row-requires Inv-loop μ-loop
 close-row-requires c κs =
-    let z = c .before .before .before .before .before .before .before .before .before in
+    let at-wide = c .before .before in
+    let at-copy = at-wide .before .before .before in
+    let z = at-copy .before .before .before .before in
     let q = all (z .before .before) in
     let u = row z in
-    let w = rw (← c .before .before .wide .ensures) at (u .gap) in
-    let copied = c .before .before .before .before .before .copy in
+    let w = rw (← at-wide .wide .ensures) at (u .gap) in
+    let copied = at-copy .copy in
     let s = stride (z .before .before) in
     let long = length-take-le s (copied .last .1 .0) (omega (arith, copied .kept .1 .0)) in
     let dest = z .before .loop .r * (s - z .before .before .channels .result) in
@@ -147,22 +159,25 @@ loop-less c = search needs
 
 loop-again : tie.Need-loop-again Inv-loop μ-loop
 loop-again c =
-    let z = c .before .before .before .before .before .before .before .before .before .before .before .before in
+    let at-close-row = c .before .before in
+    let at-wide = at-close-row .before .before .before in
+    let at-copy = at-wide .before .before .before in
+    let z = at-copy .before .before .before .before in
     let u = z .before .before in
     let st = u .before .before .before in
     let a = st .args in
     let n = u .channels .result in
     let head = z .before .loop in
     let dest = head .r * (stride u - n) in
-    let copied = c .before .before .before .before .before .before .before .before .copy in
-    let closed = c .before .before .close-row in (
+    let copied = at-copy .copy in
+    let closed = at-close-row .close-row in (
       omega arith,
       (
         same-len-mid dest (length (head .picture) - dest) (head .picture) (closed .last .1 .1 .1 .0) (closed .kept .1 .1 .1 .0) ∙ head .inv .1 .0,
         (
           copied .kept .1 .0 ∙ head .inv .1 .1 .0,
           row-turn (a .size) (now (a .picture)) (now (a .seam)) n (st .pre) (u .channels .ensures) (head .r) _ _
-              (head .picture) _ (copied .last .1 .0) (head .line) (closed .last .1 .1 .1 .0) (z .loop-test .taken) (head .inv .1 .0) (head .inv .1 .1 .1) refl (copied .ensures .1) (c .before .before .before .before .before .wide .ensures) refl (closed .ensures),
+              (head .picture) _ (copied .last .1 .0) (head .line) (closed .last .1 .1 .1 .0) (z .loop-test .taken) (head .inv .1 .0) (head .inv .1 .1 .1) refl (copied .ensures .1) (at-wide .wide .ensures) refl (closed .ensures),
         ),
       ),
     )
@@ -187,13 +202,15 @@ same-length c = search needs
 
 returns : tie.Need-returns Inv-loop μ-loop
 returns c =
-    let u = c .before .before .before .before .before .before in
+    let at-clear = c .before .before in
+    let at-loop = at-clear .before .before .before in
+    let u = at-loop .before in
     let st = u .before .before .before in
     let a = st .args in
-    let head = c .before .before .before .before .before .loop in
+    let head = at-loop .loop in
     let e : head .r ≡ a .size .height = omega arith in
     rows-end (a .size) (now (a .picture)) (now (a .seam)) (u .channels .result) (st .pre) (u .channels .ensures)
-    (head .picture) (c .before .before .clear .last .0) (head .inv .1 .0) (rw e at (head .inv .1 .1 .1)) (c .before .before .clear .ensures)
+    (head .picture) (at-clear .clear .last .0) (head .inv .1 .0) (rw e at (head .inv .1 .1 .1)) (at-clear .clear .ensures)
 
 pub close-rows-spec : {M : Type 1} → statement M
 close-rows-spec =

@@ -43,7 +43,9 @@ returns-2 c =
     check-short _ _ _ (o .before .before .«open» .ensures) _ (o .opened .given .1) (c .if1 .taken)
 
 judge-requires : tie.Need-judge-requires
-judge-requires c κs = record { opened = is-opened (c .before .before .before .before .before); room = c .before .if1 .left }
+judge-requires c κs =
+    let at-opened = c .before .before .before .before .before in
+    record { opened = is-opened at-opened; room = c .before .if1 .left }
 
 enum-told-2 : tie.Need-enum-told-2
 enum-told-2 c = search needs

@@ -57,8 +57,9 @@ mul-record-maps c = search needs
 
 add-record-maps : tie.Need-add-record-maps
 add-record-maps c =
-    let s = c .before .before .before .before .before .before .before .before .before .before in
-    omega (arith, bytes-are (c .before .before .before .before .before), known s .sides .picture-most, all-most s)
+    let at-picture-bytes = c .before .before .before .before .before in
+    let s = at-picture-bytes .before .before .before .before .before in
+    omega (arith, bytes-are at-picture-bytes, known s .sides .picture-most, all-most s)
 
 sub-record-maps : tie.Need-sub-record-maps
 sub-record-maps c = search needs
@@ -68,8 +69,10 @@ part-record-maps-start c = search needs
 
 part-record-maps-end : tie.Need-part-record-maps-end
 part-record-maps-end c =
-    let s = c .before .before .before .before .before .before .before .before .before .before in
-    omega (arith, bytes-are (c .before .before .before .before .before), room s, c .before .before .read-rows .kept .1 .1 .1 .0)
+    let at-read-rows = c .before .before in
+    let at-picture-bytes = at-read-rows .before .before .before in
+    let s = at-picture-bytes .before .before .before .before .before in
+    omega (arith, bytes-are at-picture-bytes, room s, at-read-rows .read-rows .kept .1 .1 .1 .0)
 
 record-maps-requires : tie.Need-record-maps-requires
 record-maps-requires c κs = search needs
@@ -82,12 +85,13 @@ same-length c = search needs
 
 returns : tie.Need-returns
 returns c =
-    let m = c .before .before .before .before .before .before in
+    let at-judge-in = c .before .before in
+    let m = at-judge-in .before .before .before .before in
     let r = m .before .before .before .before in
     let b = r .before .before .before in
     let s = b .before .before .before .before .before in
     let z = s .args .head .size in
-    map-judged _ _ (known s) (now (s .args .work)) (s .pre .room) (r .read-rows .last .1 .1 .1 .0) (r .read-rows .kept .1 .1 .1 .0) (r .read-rows .ensures .space-is) _ _ (ap (_+ 3 * pixels z) (bytes-are b)) refl _ (m .record-maps .kept .1 .1 .1 .0) (m .record-maps .ensures) _ _ (c .before .before .judge-in .ensures)
+    map-judged _ _ (known s) (now (s .args .work)) (s .pre .room) (r .read-rows .last .1 .1 .1 .0) (r .read-rows .kept .1 .1 .1 .0) (r .read-rows .ensures .space-is) _ _ (ap (_+ 3 * pixels z) (bytes-are b)) refl _ (m .record-maps .kept .1 .1 .1 .0) (m .record-maps .ensures) _ _ (at-judge-in .judge-in .ensures)
 
 pub judge-spec : {M : Type 1} → statement M
 judge-spec =

@@ -46,9 +46,11 @@ part c l =
 -- there is a line
 broken : tie.After-enum-told Inv-loop μ-loop → ⊥
 broken c =
-    let h = c .before .before .before .before .before .before .before in
-    let l = c .before .before .before .before .before .before .loop-test .taken in
-    let m = c .before .before .before .before .map in
+    let k4 = c .before .before .before .before in
+    let k6 = k4 .before .before in
+    let h = k6 .before in
+    let l = k6 .loop-test .taken in
+    let m = k4 .map in
     map-there (known h) (h .loop .r) (h .loop .at .at) _ (m .last .1 .1 .0) l (h .loop .inv .2) (part h l) (rw (c .enum-told .given .1) at (m .ensures))
 
 loop-holds : tie.Need-loop-holds Inv-loop μ-loop
@@ -97,11 +99,13 @@ loop-less c = search needs
 
 loop-again : tie.Need-loop-again Inv-loop μ-loop
 loop-again c =
-    let h = c .before .before .before .before .before .before .before .before in
+    let at-map = c .before .before .before .before .before in
+    let at-loop-test = at-map .before .before in
+    let h = at-loop-test .before in
     let a = h .before .before .before .before .args in
     let at = h .loop in
-    let l = c .before .before .before .before .before .before .before .loop-test .taken in
-    let m = c .before .before .before .before .before .map in
+    let l = at-loop-test .loop-test .taken in
+    let m = at-map .map in
     let next = c .before .next .given in
     let start = at .r * a .head .size .width in
     let end = at .r * a .head .size .width + a .head .size .width in
@@ -117,9 +121,11 @@ same-length-2 c = c .before .loop .inv .1
 
 returns-2 : tie.Need-returns-2 Inv-loop μ-loop
 returns-2 c =
-    let at = c .before .loop in
-    let a = c .before .before .before .before .before .args in
-    filled-done _ (a .space .now) (a .head .size .width) (a .head .size .height) (at .r) (at .space) (map-long (known (c .before))) (omega arith) (at .inv .3)
+    let at-loop = c .before in
+    let s = at-loop .before .before .before .before in
+    let at = at-loop .loop in
+    let a = s .args in
+    filled-done _ (a .space .now) (a .head .size .width) (a .head .size .height) (at .r) (at .space) (map-long (known at-loop)) (omega arith) (at .inv .3)
 
 pub read-maps-spec : {M : Type 1} → statement M
 read-maps-spec =

@@ -30,7 +30,10 @@ known : (c : tie.At-loop Inv-loop μ-loop) → let a = c .before .before .before
 known c = let s = c .before .before .before .before .before .before in opened (s .args .file .now) (s .args .head) (s .pre .opened)
 
 wide : (c : tie.At-loop Inv-loop μ-loop) → let z = c .before .before .before .before .before .before .args .head .size in z .width * c .before .before .channels .result ≡ rowBytes z
-wide c = ap (c .before .before .before .before .before .before .args .head .size .width *_) (c .before .before .channels .ensures)
+wide c =
+    let at-channels = c .before .before in
+    let s = at-channels .before .before .before .before in
+    ap (s .args .head .size .width *_) (at-channels .channels .ensures)
 
 inside : (c : tie.At-loop Inv-loop μ-loop) → let a = c .before .before .before .before .before .before .args in let s = a .head .size .width * c .before .before .channels .result in
     c .loop .r < a .head .size .height → (c .loop .r * s + s ≤ length (a .space .now)) × (c .loop .r * s + s ≤ 786432)
@@ -44,22 +47,28 @@ inside c l =
 part : (c : tie.At-loop Inv-loop μ-loop) → let z = c .before .before .before .before .before .before .args .head .size in let s = z .width * c .before .before .channels .result in
     c .loop .r < z .height → rowBytes z ≡ length (midOf (c .loop .r * s) (c .loop .r * s + s - c .loop .r * s) (c .loop .space))
 part c l =
-    let s = c .before .before .before .before .before .before .args .head .size .width * c .before .before .channels .result in
+    let at-channels = c .before .before in
+    let start = at-channels .before .before .before .before in
+    let s = start .args .head .size .width * at-channels .channels .result in
     omega (arith, wide c, part-length (c .loop .r * s) (c .loop .r * s + s) (c .loop .space) (omega (arith, inside c l .0, c .loop .inv .1)))
 
 -- there is a line
 broken : tie.After-enum-told Inv-loop μ-loop → ⊥
 broken c =
-    let h = c .before .before .before .before .before .before .before in
-    let l = c .before .before .before .before .before .before .loop-test .taken in
-    let m = c .before .before .before .before .row in
+    let k4 = c .before .before .before .before in
+    let k6 = k4 .before .before in
+    let h = k6 .before in
+    let l = k6 .loop-test .taken in
+    let m = k4 .row in
     row-there (known h) (h .loop .r) (h .loop .at .at) _ (m .last .1 .1 .1 .0) l (h .loop .inv .2) (part h l) (rw (c .enum-told .given .1) at (m .ensures))
 
 channels-requires : tie.Need-channels-requires Inv-loop μ-loop
 channels-requires c κs = search needs
 
 mul-stride : tie.Need-mul-stride Inv-loop μ-loop
-mul-stride c = omega (arith, opened (c .before .before .before .before .before .args .file .now) (c .before .before .before .before .before .args .head) (c .before .before .before .before .before .pre .opened) .sides .row-most, ap (c .before .before .before .before .before .args .head .size .width *_) (c .before .channels .ensures))
+mul-stride c =
+    let s = c .before .before .before .before .before in
+    omega (arith, opened (s .args .file .now) (s .args .head) (s .pre .opened) .sides .row-most, ap (s .args .head .size .width *_) (c .before .channels .ensures))
 
 loop-holds : tie.Need-loop-holds Inv-loop μ-loop
 loop-holds c =
@@ -104,11 +113,13 @@ loop-less c = search needs
 
 loop-again : tie.Need-loop-again Inv-loop μ-loop
 loop-again c =
-    let h = c .before .before .before .before .before .before .before .before in
+    let at-row = c .before .before .before .before .before in
+    let at-loop-test = at-row .before .before in
+    let h = at-loop-test .before in
     let a = h .before .before .before .before .before .before .args in
     let at = h .loop in
-    let l = c .before .before .before .before .before .before .before .loop-test .taken in
-    let m = c .before .before .before .before .before .row in
+    let l = at-loop-test .loop-test .taken in
+    let m = at-row .row in
     let next = c .before .next .given in
     let s = a .head .size .width * h .before .before .channels .result in
     let start = at .r * (a .head .size .width * h .before .before .channels .result) in
@@ -125,12 +136,14 @@ same-length-2 c = c .before .loop .inv .1
 
 returns-2 : tie.Need-returns-2 Inv-loop μ-loop
 returns-2 c =
-    let at = c .before .loop in
-    let a = c .before .before .before .before .before .before .before .args in
-    let k = known (c .before) in
+    let at-loop = c .before in
+    let s = at-loop .before .before .before .before .before .before in
+    let at = at-loop .loop in
+    let a = s .args in
+    let k = known at-loop in
     record {
       place = rows-end k (at .r) (at .at .at) (omega arith) (at .inv .2);
-      space-is = filled-done _ (a .space .now) (rowBytes (a .head .size)) (a .head .size .height) (at .r) (at .space) (bytes-long k) (omega arith) (rw (wide (c .before)) at (at .inv .3));
+      space-is = filled-done _ (a .space .now) (rowBytes (a .head .size)) (a .head .size .height) (at .r) (at .space) (bytes-long k) (omega arith) (rw (wide at-loop) at (at .inv .3));
     }
 
 pub read-rows-spec : {M : Type 1} → statement M

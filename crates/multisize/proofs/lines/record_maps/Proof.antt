@@ -50,9 +50,11 @@ part c = sym (length-take-le (c .before .before .before .before .args .head .siz
 -- there is a line, and its numbers are then at the front of the array
 broken : tie.After-enum-told Inv-loop μ-loop → ⊥
 broken c =
-    let h = c .before .before .before .before .before .before in
-    let l = c .before .before .before .before .before .loop-test .taken in
-    let m = c .before .before .before .map in
+    let k3 = c .before .before .before in
+    let k5 = k3 .before .before in
+    let h = k5 .before in
+    let l = k5 .loop-test .taken in
+    let m = k3 .map in
     map-there (known h) (h .loop .r) (h .loop .at .at) _ (m .last .1 .1 .0) l (h .loop .inv .3) (part h) (rw (c .enum-told .given .1) at (m .ensures))
 
 abbrev numbers : tie.After-known-told Inv-loop μ-loop → List ℕ
@@ -61,14 +63,19 @@ numbers c = c .before .before .before .before .map .last .1 .1 .0
 line : (c : tie.After-known-told Inv-loop μ-loop) → let h = c .before .before .before .before .before .before .before in let file = h .before .before .before .before .args .file .now in
     MapsLeft file (h .loop .r + 1) (c .before .next .given .0 .1 .0 .at) × (numbers c ≡ getD (mapsIn (parse file)) (h .loop .r) [])
 line c =
-    let h = c .before .before .before .before .before .before .before in
-    let l = c .before .before .before .before .before .before .loop-test .taken in
-    let m = c .before .before .before .before .map in
+    let at-map = c .before .before .before .before in
+    let at-loop-test = at-map .before .before in
+    let h = at-loop-test .before in
+    let l = at-loop-test .loop-test .taken in
+    let m = at-map .map in
     let next = c .before .next .given in
     map-read (known h) (h .loop .r) (h .loop .at .at) _ (numbers c) l (h .loop .inv .3) (part h) (next .0 .0) (next .0 .1 .0) (rw (next .1) at (m .ensures))
 
 long : (c : tie.After-known-told Inv-loop μ-loop) → length (numbers c) ≡ c .before .before .before .before .before .before .before .before .before .before .before .args .head .size .width
-long c = c .before .before .before .before .map .kept .1 .1 .0 ∙ sym (part (c .before .before .before .before .before .before .before))
+long c =
+    let at-map = c .before .before .before .before in
+    let at-loop = at-map .before .before .before in
+    at-map .map .kept .1 .1 .0 ∙ sym (part at-loop)
 
 front : (c : tie.After-known-told Inv-loop μ-loop) → let h = c .before .before .before .before .before .before .before in let w = h .before .before .before .before .args .head .size .width in
     take w (numbers c ++ drop w (h .loop .numbers)) ≡ numbers c
@@ -77,8 +84,9 @@ front c = take-at (numbers c) _ _ (long c)
 whole : (c : tie.After-known-told Inv-loop μ-loop) → let h = c .before .before .before .before .before .before .before in
     length (numbers c ++ drop (h .before .before .before .before .args .head .size .width) (h .loop .numbers)) ≡ 512
 whole c =
-    let h = c .before .before .before .before .before .before .before in
-    length-front (h .loop .numbers) (numbers c) (h .before .before .before .before .args .head .size .width) (c .before .before .before .before .map .kept .1 .1 .0) ∙ h .loop .inv .2
+    let at-map = c .before .before .before .before in
+    let h = at-map .before .before .before in
+    length-front (h .loop .numbers) (numbers c) (h .before .before .before .before .args .head .size .width) (at-map .map .kept .1 .1 .0) ∙ h .loop .inv .2
 
 loop-holds : tie.Need-loop-holds Inv-loop μ-loop
 loop-holds c =
@@ -107,16 +115,28 @@ returns : tie.Need-returns Inv-loop μ-loop
 returns c = absurd (broken c)
 
 mul-a : tie.Need-mul-a Inv-loop μ-loop
-mul-a c = omega (arith, inside (c .before .before .before .before .before .before .before) (c .before .before .before .before .before .before .loop-test .taken) .1)
+mul-a c =
+    let at-loop-test = c .before .before .before .before .before .before in
+    let at-loop = at-loop-test .before in
+    omega (arith, inside at-loop (at-loop-test .loop-test .taken) .1)
 
 mul-a-2 : tie.Need-mul-a-2 Inv-loop μ-loop
-mul-a-2 c = omega (arith, inside (c .before .before .before .before .before .before .before) (c .before .before .before .before .before .before .loop-test .taken) .1)
+mul-a-2 c =
+    let at-loop-test = c .before .before .before .before .before .before in
+    let at-loop = at-loop-test .before in
+    omega (arith, inside at-loop (at-loop-test .loop-test .taken) .1)
 
 mul-e : tie.Need-mul-e Inv-loop μ-loop
-mul-e c = omega (arith, inside (c .before .before .before .before .before .before .before) (c .before .before .before .before .before .before .loop-test .taken) .1)
+mul-e c =
+    let at-loop-test = c .before .before .before .before .before .before in
+    let at-loop = at-loop-test .before in
+    omega (arith, inside at-loop (at-loop-test .loop-test .taken) .1)
 
 add-e : tie.Need-add-e Inv-loop μ-loop
-add-e c = omega (arith, inside (c .before .before .before .before .before .before .before) (c .before .before .before .before .before .before .loop-test .taken) .1)
+add-e c =
+    let at-loop-test = c .before .before .before .before .before .before in
+    let at-loop = at-loop-test .before in
+    omega (arith, inside at-loop (at-loop-test .loop-test .taken) .1)
 
 sub-record-row : tie.Need-sub-record-row Inv-loop μ-loop
 sub-record-row c = search needs
@@ -125,10 +145,15 @@ part-record-row-start : tie.Need-part-record-row-start Inv-loop μ-loop
 part-record-row-start c = search needs
 
 part-record-row-end : tie.Need-part-record-row-end Inv-loop μ-loop
-part-record-row-end c = inside (c .before .before .before .before .before .before .before) (c .before .before .before .before .before .before .loop-test .taken) .0
+part-record-row-end c =
+    let at-loop-test = c .before .before .before .before .before .before in
+    let at-loop = at-loop-test .before in
+    inside at-loop (at-loop-test .loop-test .taken) .0
 
 array-share-prefix-numbers : tie.Need-array-share-prefix-numbers Inv-loop μ-loop
-array-share-prefix-numbers c = omega (arith, whole (c .before), known (c .before .before .before .before .before .before .before .before) .sides .width-most)
+array-share-prefix-numbers c =
+    let at-loop = c .before .before .before .before .before .before .before .before in
+    omega (arith, whole (c .before), known at-loop .sides .width-most)
 
 slice-aggregate-record-row : tie.Need-slice-aggregate-record-row Inv-loop μ-loop
 slice-aggregate-record-row c = sym (ap length (front (c .before .before)) ∙ long (c .before .before))
@@ -149,12 +174,13 @@ loop-less c = search needs
 
 loop-again : tie.Need-loop-again Inv-loop μ-loop
 loop-again c =
-    let t = c .before .before .before .before .before in
+    let at-record-row = c .before .before in
+    let t = at-record-row .before .before .before in
     let h = t .before .before .before .before .before .before .before in
     let a = h .before .before .before .before .args in
     let at = h .loop in
     let l = t .before .before .before .before .before .before .loop-test .taken in
-    let m = c .before .before .record-row in
+    let m = at-record-row .record-row in
     let w = 2 * a .head .size .width in
     let start = at .r * (2 * a .head .size .width) in
     let end = at .r * (2 * a .head .size .width) + 2 * a .head .size .width in (
@@ -170,9 +196,11 @@ same-length-2 c = c .before .loop .inv .1
 
 returns-2 : tie.Need-returns-2 Inv-loop μ-loop
 returns-2 c =
-    let at = c .before .loop in
-    let a = c .before .before .before .before .before .args in
-    filled-done _ (a .space .now) (2 * a .head .size .width) (a .head .size .height) (at .r) (at .space) (pairs-long (known (c .before))) (omega arith) (at .inv .4)
+    let at-loop = c .before in
+    let s = at-loop .before .before .before .before in
+    let at = at-loop .loop in
+    let a = s .args in
+    filled-done _ (a .space .now) (2 * a .head .size .width) (a .head .size .height) (at .r) (at .space) (pairs-long (known at-loop)) (omega arith) (at .inv .4)
 
 pub record-maps-spec : {M : Type 1} → statement M
 record-maps-spec =

@@ -42,7 +42,11 @@ add-space : tie.Need-add-space Inv-loop μ-loop
 add-space c = search needs
 
 slice-write-space-2 : tie.Need-slice-write-space-2 Inv-loop μ-loop
-slice-write-space-2 c = let at = c .before .before .loop in omega (arith, length-set (at .space) (2 * at .c) (getD (c .before .before .before .args .row .now) (at .c) 0 % 256), at .inv .1, c .before .before .before .pre)
+slice-write-space-2 c =
+    let at-loop = c .before .before in
+    let s = at-loop .before in
+    let at = at-loop .loop in
+    omega (arith, length-set (at .space) (2 * at .c) (getD (s .args .row .now) (at .c) 0 % 256), at .inv .1, s .pre)
 
 add-c : tie.Need-add-c Inv-loop μ-loop
 add-c c = search needs
@@ -52,11 +56,13 @@ loop-less c = search needs
 
 loop-again : tie.Need-loop-again Inv-loop μ-loop
 loop-again c =
-    let at = c .before .before .loop in
-    let a = c .before .before .before .args in (
+    let at-loop = c .before .before in
+    let s = at-loop .before in
+    let at = at-loop .loop in
+    let a = s .args in (
       omega arith,
       length-set (set (at .space) (2 * at .c) _) (2 * at .c + 1) _ ∙ length-set (at .space) (2 * at .c) _ ∙ at .inv .1,
-      recorded-step (a .row .now) (a .space .now) (at .c) (at .space) (c .before .loop-test .taken) (omega (arith, at .inv .1, c .before .before .before .pre)) (at .inv .2),
+      recorded-step (a .row .now) (a .space .now) (at .c) (at .space) (c .before .loop-test .taken) (omega (arith, at .inv .1, s .pre)) (at .inv .2),
     )
 
 same-length : tie.Need-same-length Inv-loop μ-loop
@@ -64,9 +70,10 @@ same-length c = c .before .loop .inv .1
 
 returns : tie.Need-returns Inv-loop μ-loop
 returns c =
+    let s = c .before .before in
     let at = c .before .loop in
-    let a = c .before .before .args in
-    recorded-done (a .row .now) (a .space .now) (at .c) (at .space) (omega arith) (omega (arith, c .before .before .pre)) (at .inv .2)
+    let a = s .args in
+    recorded-done (a .row .now) (a .space .now) (at .c) (at .space) (omega arith) (omega (arith, s .pre)) (at .inv .2)
 
 pub record-row-spec : {M : Type 1} → statement M
 record-row-spec =

@@ -14,10 +14,18 @@ enum-told : tie.Need-enum-told
 enum-told c = search needs
 
 returns : tie.Need-returns
-returns c = let told = rw (c .enum-told .given .1) at (c .before .before .header .ensures) in absurd (head-there _ _ (c .before .before .before .before .pre) told)
+returns c =
+    let at-header = c .before .before in
+    let s = at-header .before .before in
+    let told = rw (c .enum-told .given .1) at (at-header .header .ensures) in
+    absurd (head-there _ _ (s .pre) told)
 
 returns-2 : tie.Need-returns-2
-returns-2 c = let told = rw (c .before .c .given .1) at (c .before .before .before .header .ensures) in head-place _ _ (c .before .before .before .before .before .pre) _ _ told
+returns-2 c =
+    let at-header = c .before .before .before in
+    let s = at-header .before .before in
+    let told = rw (c .before .c .given .1) at (at-header .header .ensures) in
+    head-place _ _ (s .pre) _ _ told
 
 pub first-row-spec : {M : Type 1} → statement M
 first-row-spec = tie.close (tie.spec header-requires enum-known-c enum-told returns returns-2)

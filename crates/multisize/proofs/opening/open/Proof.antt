@@ -27,8 +27,11 @@ enum-known-why c = search needs
 
 returns-2 : tie.Need-returns-2
 returns-2 c =
-    let told = rw (c .before .before .before .before .before .before .before .facts .given .1) at (c .before .before .before .before .before .before .before .before .before .scan .ensures) in
-    open-sides _ _ told (c .before .before .before .sides .result) _ (c .before .why .given .1) (c .before .before .before .sides .ensures)
+    let at-sides = c .before .before .before in
+    let at-facts = at-sides .before .before .before .before in
+    let at-scan = at-facts .before .before in
+    let told = rw (at-facts .facts .given .1) at (at-scan .scan .ensures) in
+    open-sides _ _ told (at-sides .sides .result) _ (c .before .why .given .1) (at-sides .sides .ensures)
 
 enum-told-2 : tie.Need-enum-told-2
 enum-told-2 c = search needs
@@ -38,8 +41,12 @@ counted-requires c κs = search needs
 
 returns-3 : tie.Need-returns-3
 returns-3 c =
-    let told = rw (c .before .before .before .before .before .before .before .before .facts .given .1) at (c .before .before .before .before .before .before .before .before .before .before .scan .ensures) in
-    let sides = sym (c .before .before .before .before .sides .ensures) ∙ ap given (c .before .before .enum-told2 .given .1) in
+    let at-enum-told2 = c .before .before in
+    let at-sides = at-enum-told2 .before .before in
+    let at-facts = at-sides .before .before .before .before in
+    let at-scan = at-facts .before .before in
+    let told = rw (at-facts .facts .given .1) at (at-scan .scan .ensures) in
+    let sides = sym (at-sides .sides .ensures) ∙ ap given (at-enum-told2 .enum-told2 .given .1) in
     open-counts _ _ told sides (sym (c .before .counted .ensures) ∙ not-true _ (c .if1 .taken))
 
 allowed-requires : tie.Need-allowed-requires
@@ -47,15 +54,27 @@ allowed-requires c κs = search needs
 
 returns-4 : tie.Need-returns-4
 returns-4 c =
-    let told = rw (c .before .before .before .before .before .before .before .before .before .before .facts .given .1) at (c .before .before .before .before .before .before .before .before .before .before .before .before .scan .ensures) in
-    let sides = sym (c .before .before .before .before .before .before .sides .ensures) ∙ ap given (c .before .before .before .before .enum-told2 .given .1) in
-    open-range _ _ told sides (sym (c .before .before .before .counted .ensures) ∙ not-false _ (c .before .before .if1 .left)) (sym (c .before .allowed .ensures) ∙ not-true _ (c .if2 .taken))
+    let at-if1 = c .before .before in
+    let at-counted = at-if1 .before in
+    let at-enum-told2 = at-counted .before in
+    let at-sides = at-enum-told2 .before .before in
+    let at-facts = at-sides .before .before .before .before in
+    let at-scan = at-facts .before .before in
+    let told = rw (at-facts .facts .given .1) at (at-scan .scan .ensures) in
+    let sides = sym (at-sides .sides .ensures) ∙ ap given (at-enum-told2 .enum-told2 .given .1) in
+    open-range _ _ told sides (sym (at-counted .counted .ensures) ∙ not-false _ (at-if1 .if1 .left)) (sym (c .before .allowed .ensures) ∙ not-true _ (c .if2 .taken))
 
 returns-5 : tie.Need-returns-5
 returns-5 c =
-    let told = rw (c .before .before .before .before .before .before .before .before .before .before .facts .given .1) at (c .before .before .before .before .before .before .before .before .before .before .before .before .scan .ensures) in
-    let sides = sym (c .before .before .before .before .before .before .sides .ensures) ∙ ap given (c .before .before .before .before .enum-told2 .given .1) in
-    open-served _ _ told sides (sym (c .before .before .before .counted .ensures) ∙ not-false _ (c .before .before .if1 .left)) (sym (c .before .allowed .ensures) ∙ not-false _ (c .if2 .left))
+    let at-if1 = c .before .before in
+    let at-counted = at-if1 .before in
+    let at-enum-told2 = at-counted .before in
+    let at-sides = at-enum-told2 .before .before in
+    let at-facts = at-sides .before .before .before .before in
+    let at-scan = at-facts .before .before in
+    let told = rw (at-facts .facts .given .1) at (at-scan .scan .ensures) in
+    let sides = sym (at-sides .sides .ensures) ∙ ap given (at-enum-told2 .enum-told2 .given .1) in
+    open-served _ _ told sides (sym (at-counted .counted .ensures) ∙ not-false _ (at-if1 .if1 .left)) (sym (c .before .allowed .ensures) ∙ not-false _ (c .if2 .left))
 
 pub open-spec : {M : Type 1} → statement M
 open-spec =

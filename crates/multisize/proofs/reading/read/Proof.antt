@@ -54,7 +54,9 @@ enum-told-2 : tie.Need-enum-told-2
 enum-told-2 c = search needs
 
 judge-requires : tie.Need-judge-requires
-judge-requires c κs = record { opened = is-opened (c .before .before .before .before .before); room = enough (c .before) .work-room }
+judge-requires c κs =
+    let at-opened = c .before .before .before .before .before in
+    record { opened = is-opened at-opened; room = enough (c .before) .work-room }
 
 enum-known-why-2 : tie.Need-enum-known-why-2
 enum-known-why-2 c = search needs
@@ -72,7 +74,9 @@ enum-told-3 : tie.Need-enum-told-3
 enum-told-3 c = search needs
 
 first-row-requires : tie.Need-first-row-requires
-first-row-requires c κs = is-opened (c .before .before .before .before .before .before .before .before .before .before)
+first-row-requires c κs =
+    let at-opened = c .before .before .before .before .before .before .before .before .before .before in
+    is-opened at-opened
 
 read-rows-requires : tie.Need-read-rows-requires
 read-rows-requires c κs =
@@ -81,8 +85,9 @@ read-rows-requires c κs =
 
 read-maps-requires : tie.Need-read-maps-requires
 read-maps-requires c κs =
-    let s = c .before .before .before .before .before .before .before .before .before .before .before .before in
-    record { opened = is-opened (s .before .before .before .before); place = c .before .before .before .read-rows .ensures .place; room = omega (arith, enough s .map-room) }
+    let at-read-rows = c .before .before .before in
+    let s = at-read-rows .before .before .before .before .before .before .before .before .before in
+    record { opened = is-opened (s .before .before .before .before); place = at-read-rows .read-rows .ensures .place; room = omega (arith, enough s .map-room) }
 
 same-length-2 : tie.Need-same-length-2
 same-length-2 c = search needs
@@ -95,11 +100,12 @@ same-length-4 c = search needs
 
 returns-4 : tie.Need-returns-4
 returns-4 c =
-    let r = c .before .before .before .before .before .before in
+    let at-read-maps = c .before .before in
+    let r = at-read-maps .before .before .before .before in
     let t = r .before .before .before in
     let j = t .before .before .before .before in
     let s = j .before .before in
-    read-accepted _ _ _ _ _ (is-opened (s .before .before .before .before)) (none s) _ _ (j .judge .ensures) (t .enum-told3 .given .1) _ _ _ (r .read-rows .ensures) (c .before .before .read-maps .ensures)
+    read-accepted _ _ _ _ _ (is-opened (s .before .before .before .before)) (none s) _ _ (j .judge .ensures) (t .enum-told3 .given .1) _ _ _ (r .read-rows .ensures) (at-read-maps .read-maps .ensures)
 
 pub read-spec : {M : Type 1} → statement M
 read-spec =

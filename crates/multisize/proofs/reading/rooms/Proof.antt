@@ -37,12 +37,16 @@ mul-if3 c = omega (arith, all-most (c .before .before .before .before))
 
 returns-3 : tie.Need-returns-3
 returns-3 c =
-    let long = rw (bytes-are (c .before .before .before)) at (c .before .before .if1 .left) in
+    let at-if1 = c .before .before in
+    let at-picture-bytes = at-if1 .before in
+    let long = rw (bytes-are at-picture-bytes) at (at-if1 .if1 .left) in
     sym (simp (le-ltb _ _ long, le-ltb _ _ (c .before .if2 .left), lt-ltb _ _ (c .if3 .taken)))
 
 returns-4 : tie.Need-returns-4
 returns-4 c =
-    let long = rw (bytes-are (c .before .before .before)) at (c .before .before .if1 .left) in
+    let at-if1 = c .before .before in
+    let at-picture-bytes = at-if1 .before in
+    let long = rw (bytes-are at-picture-bytes) at (at-if1 .if1 .left) in
     sym (simp (le-ltb _ _ long, le-ltb _ _ (c .before .if2 .left), le-ltb _ _ (c .if3 .left)))
 
 pub rooms-spec : {M : Type 1} → statement M

@@ -45,8 +45,9 @@ array-borrow-prefix-numbers c =
 
 slice-aggregate-map : tie.Need-slice-aggregate-map Inv-loop μ-loop
 slice-aggregate-map c =
-    let st = c .before .before .before .before .before .before .before .before .before in
-    sym (length-take-le (st .args .head .size .width) (c .before .before .loop .numbers) (omega (arith, known (now (st .args .out)) (st .pre) .sides .width-most, c .before .before .loop .inv .2)))
+    let at-loop = c .before .before in
+    let st = at-loop .before .before .before .before .before .before .before in
+    sym (length-take-le (st .args .head .size .width) (at-loop .loop .numbers) (omega (arith, known (now (st .args .out)) (st .pre) .sides .width-most, at-loop .loop .inv .2)))
 
 map-requires : tie.Need-map-requires Inv-loop μ-loop
 map-requires c κs = search needs
@@ -62,9 +63,12 @@ same-length c = c .before .before .before .before .before .before .loop .inv .1
 
 returns : tie.Need-returns Inv-loop μ-loop
 returns c =
-    let st = c .before .before .before .before .before .before .before .before .before .before .before .before .before in
-    let at = c .before .before .before .before .before .before .loop in
-    absurd (line-there (now (st .args .out)) (st .pre) (at .r) (c .before .before .before .before .before .loop-test .taken) (at .numbers) (at .inv .2) (at .at .at) (at .inv .3) _ (rw (c .enum-told .given .1) at (c .before .before .before .map .ensures)))
+    let at-map = c .before .before .before in
+    let at-loop-test = at-map .before .before in
+    let at-loop = at-loop-test .before in
+    let st = at-loop .before .before .before .before .before .before .before in
+    let at = at-loop .loop in
+    absurd (line-there (now (st .args .out)) (st .pre) (at .r) (at-loop-test .loop-test .taken) (at .numbers) (at .inv .2) (at .at .at) (at .inv .3) _ (rw (c .enum-told .given .1) at (at-map .map .ensures)))
 
 -- the parts of row r don't overflow
 row-fits : (c : tie.After-known-told Inv-loop μ-loop) → let st = c .before .before .before .before .before .before .before .before .before .before .before .before .before .before in
@@ -73,25 +77,34 @@ row-fits : (c : tie.After-known-told Inv-loop μ-loop) → let st = c .before .b
     let t = st .args .wanted * c .before .before .before .before .before .before .before .before .channels2 .result in
     (r * s + s ≤ 786432) × (r * t + t ≤ 1179648)
 row-fits c =
-    let st = c .before .before .before .before .before .before .before .before .before .before .before .before .before .before in
-    let r = c .before .before .before .before .before .before .before .loop .r in
-    let inside = c .before .before .before .before .before .before .loop-test .taken in
-    (samples-small (now (st .args .out)) (st .pre) r inside _ (c .before .before .before .before .before .before .before .before .before .channels .ensures), shown-small (now (st .args .out)) (st .pre) r inside _ (c .before .before .before .before .before .before .before .before .channels2 .ensures))
+    let at-loop-test = c .before .before .before .before .before .before in
+    let at-loop = at-loop-test .before in
+    let at-channels2 = at-loop .before in
+    let at-channels = at-channels2 .before in
+    let st = at-channels .before .before .before .before .before in
+    let r = at-loop .loop .r in
+    let inside = at-loop-test .loop-test .taken in
+    (samples-small (now (st .args .out)) (st .pre) r inside _ (at-channels .channels .ensures), shown-small (now (st .args .out)) (st .pre) r inside _ (at-channels2 .channels2 .ensures))
 
 -- the map line that was read
 line : (c : tie.After-known-told Inv-loop μ-loop) → let st = c .before .before .before .before .before .before .before .before .before .before .before .before .before .before in
     let r = c .before .before .before .before .before .before .before .loop .r in
     MapsLeft (now (st .args .file)) (r + 1) (c .before .next .given .0 .1 .0 .at) × (c .before .before .before .before .map .last .1 .1 .0 ≡ getD (mapsIn (parse (now (st .args .file)))) r [])
 line c =
-    let st = c .before .before .before .before .before .before .before .before .before .before .before .before .before .before in
-    let at = c .before .before .before .before .before .before .before .loop in
-    line-read (now (st .args .out)) (st .pre) (at .r) (c .before .before .before .before .before .before .loop-test .taken) (at .numbers) (at .inv .2) (at .at .at) (at .inv .3) _ _ _ (rw (c .before .next .given .1) at (c .before .before .before .before .map .ensures))
+    let at-map = c .before .before .before .before in
+    let at-loop-test = at-map .before .before in
+    let at-loop = at-loop-test .before in
+    let st = at-loop .before .before .before .before .before .before .before in
+    let at = at-loop .loop in
+    line-read (now (st .args .out)) (st .pre) (at .r) (at-loop-test .loop-test .taken) (at .numbers) (at .inv .2) (at .at .at) (at .inv .3) _ _ _ (rw (c .before .next .given .1) at (at-map .map .ensures))
 
 numbers-long : (c : tie.After-known-told Inv-loop μ-loop) → length (c .before .before .before .before .map .last .1 .1 .0 ++ drop (c .before .before .before .before .before .before .before .before .before .before .before .before .before .before .args .head .size .width) (c .before .before .before .before .before .before .before .loop .numbers)) ≡ 512
 numbers-long c =
-    let st = c .before .before .before .before .before .before .before .before .before .before .before .before .before .before in
-    let at = c .before .before .before .before .before .before .before .loop in
-    line-long (now (st .args .out)) (st .pre) (at .r) (c .before .before .before .before .before .before .loop-test .taken) (at .numbers) (at .inv .2) (at .at .at) (at .inv .3) _ (line c .1)
+    let at-loop-test = c .before .before .before .before .before .before in
+    let at-loop = at-loop-test .before in
+    let st = at-loop .before .before .before .before .before .before .before in
+    let at = at-loop .loop in
+    line-long (now (st .args .out)) (st .pre) (at .r) (at-loop-test .loop-test .taken) (at .numbers) (at .inv .2) (at .at .at) (at .inv .3) _ (line c .1)
 
 mul-a : tie.Need-mul-a Inv-loop μ-loop
 mul-a c = omega (arith, row-fits c .0)
@@ -110,8 +123,11 @@ part-row-at-start c = search needs
 
 part-row-at-end : tie.Need-part-row-at-end Inv-loop μ-loop
 part-row-at-end c =
-    let st = c .before .before .before .before .before .before .before .before .before .before .before .before .before .before in
-    samples-end (now (st .args .out)) (st .pre) (c .before .before .before .before .before .before .before .loop .r) (c .before .before .before .before .before .before .loop-test .taken) _ (c .before .before .before .before .before .before .before .before .before .channels .ensures)
+    let at-loop-test = c .before .before .before .before .before .before in
+    let at-loop = at-loop-test .before in
+    let at-channels = at-loop .before .before in
+    let st = at-channels .before .before .before .before .before in
+    samples-end (now (st .args .out)) (st .pre) (at-loop .loop .r) (at-loop-test .loop-test .taken) _ (at-channels .channels .ensures)
 
 array-share-prefix-numbers : tie.Need-array-share-prefix-numbers Inv-loop μ-loop
 array-share-prefix-numbers c =
@@ -120,8 +136,9 @@ array-share-prefix-numbers c =
 
 slice-aggregate-row-at : tie.Need-slice-aggregate-row-at Inv-loop μ-loop
 slice-aggregate-row-at c =
-    let st = c .before .before .before .before .before .before .before .before .before .before .before .before .before .before .before .before in
-    sym (length-take-le (st .args .head .size .width) _ (omega (arith, numbers-long (c .before .before), known (now (st .args .out)) (st .pre) .sides .width-most)))
+    let at-known-told = c .before .before in
+    let st = at-known-told .before .before .before .before .before .before .before .before .before .before .before .before .before .before in
+    sym (length-take-le (st .args .head .size .width) _ (omega (arith, numbers-long at-known-told, known (now (st .args .out)) (st .pre) .sides .width-most)))
 
 add-row-at-2 : tie.Need-add-row-at-2 Inv-loop μ-loop
 add-row-at-2 c = omega (arith, row-fits (c .before .before) .1)
@@ -134,29 +151,38 @@ part-row-at-start-2 c = search needs
 
 part-row-at-end-2 : tie.Need-part-row-at-end-2 Inv-loop μ-loop
 part-row-at-end-2 c =
-    let st = c .before .before .before .before .before .before .before .before .before .before .before .before .before .before .before .before in
-    omega (arith, c .before .before .before .before .before .before .before .before .before .loop .inv .1, shown-end (now (st .args .out)) (st .pre) (c .before .before .before .before .before .before .before .before .before .loop .r) (c .before .before .before .before .before .before .before .before .loop-test .taken) _ (c .before .before .before .before .before .before .before .before .before .before .channels2 .ensures))
+    let at-loop-test = c .before .before .before .before .before .before .before .before in
+    let at-loop = at-loop-test .before in
+    let at-channels2 = at-loop .before in
+    let st = at-channels2 .before .before .before .before .before .before in
+    omega (arith, at-loop .loop .inv .1, shown-end (now (st .args .out)) (st .pre) (at-loop .loop .r) (at-loop-test .loop-test .taken) _ (at-channels2 .channels2 .ensures))
 
 row-at-requires : tie.Need-row-at-requires Inv-loop μ-loop
 row-at-requires c κs = search needs
 
 add-r : tie.Need-add-r Inv-loop μ-loop
 add-r c =
-    let st = c .before .before .before .before .before .before .before .before .before .before .before .before .before .before .before .before .before .before .before .before in
-    omega (arith, c .before .before .before .before .before .before .before .before .before .before .before .before .loop-test .taken, known (now (st .args .out)) (st .pre) .sides .height-most)
+    let at-loop-test = c .before .before .before .before .before .before .before .before .before .before .before .before in
+    let st = at-loop-test .before .before .before .before .before .before .before .before in
+    omega (arith, at-loop-test .loop-test .taken, known (now (st .args .out)) (st .pre) .sides .height-most)
 
 loop-less : tie.Need-loop-less Inv-loop μ-loop
 loop-less c = search needs
 
 loop-again : tie.Need-loop-again Inv-loop μ-loop
 loop-again c =
-    let st = c .before .before .before .before .before .before .before .before .before .before .before .before .before .before .before .before .before .before .before .before in
-    let at = c .before .before .before .before .before .before .before .before .before .before .before .before .before .loop in
-    let told = c .before .before .before .before .before .before in
-    let inside = c .before .before .before .before .before .before .before .before .before .before .before .before .loop-test .taken in
-    let m = c .before .before .before .before .before .before .before .before .before .before .before .before .before .before .before .channels in
-    let n = c .before .before .before .before .before .before .before .before .before .before .before .before .before .before .channels2 in
-    let shown = c .before .before .row-at in (
+    let at-row-at = c .before .before in
+    let told = at-row-at .before .before .before .before in
+    let at-loop-test = told .before .before .before .before .before .before in
+    let at-loop = at-loop-test .before in
+    let at-channels2 = at-loop .before in
+    let at-channels = at-channels2 .before in
+    let st = at-channels .before .before .before .before .before in
+    let at = at-loop .loop in
+    let inside = at-loop-test .loop-test .taken in
+    let m = at-channels .channels in
+    let n = at-channels2 .channels2 in
+    let shown = at-row-at .row-at in (
       omega arith,
       row-long (now (st .args .out)) (st .pre) (at .r) inside (at .numbers) _ (line told .1) _ _ (m .ensures) (n .ensures) (at .out) _ (at .inv .1) _ (shown .ensures),
       numbers-long told,
@@ -169,9 +195,10 @@ same-length-2 c = c .before .loop .inv .1
 
 returns-2 : tie.Need-returns-2 Inv-loop μ-loop
 returns-2 c =
-    let st = c .before .before .before .before .before .before .before .before in
+    let at-channels2 = c .before .before in
+    let st = at-channels2 .before .before .before .before .before .before in
     let at = c .before .loop in
-    record { out-is = drawn-all (now (st .args .out)) (st .pre) _ (at .r) (at .out) (c .before .before .channels2 .ensures) (omega (arith, at .inv .0)) (at .inv .4) }
+    record { out-is = drawn-all (now (st .args .out)) (st .pre) _ (at .r) (at .out) (at-channels2 .channels2 .ensures) (omega (arith, at .inv .0)) (at .inv .4) }
 
 pub draw-rows-spec : {M : Type 1} → statement M
 draw-rows-spec =

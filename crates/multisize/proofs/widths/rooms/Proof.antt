@@ -16,8 +16,11 @@ bounds : (c : tie.Else2) → let a = c .before .before .before .before .before .
 bounds c = let st = c .before .before .before .before .before in bounded (st .args .head) (st .args .wanted) (st .pre) (c .if2 .left)
 
 offers : (c : tie.Else2) → let a = c .before .before .before .before .before .args in offered (a .head .size .width) (a .head .depth) (a .head .growth) (a .wanted) ≡ true
-offers c = let a = c .before .before .before .before .before .args in
-    offered-is (a .head .size .width) (a .head .depth) (a .head .growth) (a .wanted) .1 (c .before .before .if1 .left, c .if2 .left)
+offers c =
+    let at-if1 = c .before .before in
+    let s = at-if1 .before .before .before in
+    let a = s .args in
+    offered-is (a .head .size .width) (a .head .depth) (a .head .growth) (a .wanted) .1 (at-if1 .if1 .left, c .if2 .left)
 
 sub-if1 : tie.Need-sub-if1
 sub-if1 c = let st = c .before .before in omega (arith, allowed-is (st .args .head .size .width) (st .args .head .depth) (st .args .head .growth) .0 (st .pre .range) .0)
@@ -52,10 +55,16 @@ mul-if4-2 : tie.Need-mul-if4-2
 mul-if4-2 c = let st = c .before .before .before .before .before .before .before in omega (arith, pixels-most (st .args .head) (st .pre))
 
 returns-4 : tie.Need-returns-4
-returns-4 c = rw (offers (c .before .before .before), le-ltb _ _ (rw (c .before .before .channels .ensures) at (c .before .if3 .left)), lt-ltb _ _ (c .if4 .taken))
+returns-4 c =
+    let at-channels = c .before .before in
+    let at-if2 = at-channels .before in
+    rw (offers at-if2, le-ltb _ _ (rw (at-channels .channels .ensures) at (c .before .if3 .left)), lt-ltb _ _ (c .if4 .taken))
 
 returns-5 : tie.Need-returns-5
-returns-5 c = rw (offers (c .before .before .before), le-ltb _ _ (rw (c .before .before .channels .ensures) at (c .before .if3 .left)), le-ltb _ _ (c .if4 .left))
+returns-5 c =
+    let at-channels = c .before .before in
+    let at-if2 = at-channels .before in
+    rw (offers at-if2, le-ltb _ _ (rw (at-channels .channels .ensures) at (c .before .if3 .left)), le-ltb _ _ (c .if4 .left))
 
 pub rooms-spec : {M : Type 1} → statement M
 rooms-spec =

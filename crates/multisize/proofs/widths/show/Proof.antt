@@ -15,7 +15,11 @@ use Rattle.multisize.proofs.widths.show.Tie as tie
 
 -- a file that was opened
 is-opened : (c : tie.After-known-told) → let a = c .before .before .before .before .before .before .before .args in Open (now (a .file)) (c .before .head .given .0 .0)
-is-opened c = let o = c .before .before .before .«open» in is-open _ (o .result) (o .ensures) (c .before .head .given .0 .0) (c .before .head .given .1)
+is-opened c =
+    let at-head = c .before in
+    let k3 = at-head .before .before in
+    let o = k3 .«open» in
+    is-open _ (o .result) (o .ensures) (at-head .head .given .0 .0) (at-head .head .given .1)
 
 -- neither 7 nor 8 is given
 fits : (c : tie.After-enum-told) → let a = c .before .before .before .before .before .before .before .before .before .before .args in refusal (wantedRules (c .before .before .before .before .head .given .0 .0) (a .wanted) (length (now (a .out))) (length (now (a .work)))) ≡ 0
@@ -46,13 +50,19 @@ enum-known-why-2 : tie.Need-enum-known-why-2
 enum-known-why-2 c = search needs
 
 returns-2 : tie.Need-returns-2
-returns-2 c = show-short _ _ _ _ _ (is-opened (c .before .before .before .before)) _ (c .before .before .before .rooms .ensures) _ (c .before .why2 .given .1)
+returns-2 c =
+    let at-rooms = c .before .before .before in
+    let at-known-told = at-rooms .before in
+    show-short _ _ _ _ _ (is-opened at-known-told) _ (at-rooms .rooms .ensures) _ (c .before .why2 .given .1)
 
 enum-told : tie.Need-enum-told
 enum-told c = search needs
 
 judge-requires : tie.Need-judge-requires
-judge-requires c κs = let o = is-opened (c .before .before .before .before) in record { opened = o; room = roomy _ _ _ _ (sound (opened _ _ o)) (fits (c .before)) .work-room }
+judge-requires c κs =
+    let at-known-told = c .before .before .before .before in
+    let o = is-opened at-known-told in
+    record { opened = o; room = roomy _ _ _ _ (sound (opened _ _ o)) (fits (c .before)) .work-room }
 
 enum-known-why-3 : tie.Need-enum-known-why-3
 enum-known-why-3 c = search needs
@@ -61,15 +71,22 @@ same-length : tie.Need-same-length
 same-length c = search needs
 
 returns-3 : tie.Need-returns-3
-returns-3 c = show-refused _ _ _ _ _ (is-opened (c .before .before .before .before .before .before .before .before .before .before)) (fits (c .before .before .before .before .before .before .before)) _ _ _ (c .before .why3 .given .1) (c .before .before .before .before .before .judge .ensures)
+returns-3 c =
+    let at-judge = c .before .before .before .before .before in
+    let at-enum-told = at-judge .before .before in
+    let at-known-told = at-enum-told .before .before .before in
+    show-refused _ _ _ _ _ (is-opened at-known-told) (fits at-enum-told) _ _ _ (c .before .why3 .given .1) (at-judge .judge .ensures)
 
 enum-told-2 : tie.Need-enum-told-2
 enum-told-2 c = search needs
 
 draw-requires : tie.Need-draw-requires
 draw-requires c κs =
-    let j = accepted (c .before .before) in
-    record { opened = is-opened (c .before .before .before .before .before .before .before .before .before .before .before); accepted = j .0; room = rw (j .1) (fits (c .before .before .before .before .before .before .before .before)) }
+    let at-enum-told2 = c .before .before in
+    let at-enum-told = at-enum-told2 .before .before .before .before .before .before in
+    let at-known-told = at-enum-told .before .before .before in
+    let j = accepted at-enum-told2 in
+    record { opened = is-opened at-known-told; accepted = j .0; room = rw (j .1) (fits at-enum-told) }
 
 same-length-2 : tie.Need-same-length-2
 same-length-2 c = search needs
@@ -79,9 +96,13 @@ same-length-3 c = search needs
 
 returns-4 : tie.Need-returns-4
 returns-4 c =
-    let j = accepted (c .before .before .before .before .before .before .before .before) in
-    let d = c .before .before .before .before .before .draw .ensures in
-    show-served _ _ _ _ _ (is-opened (c .before .before .before .before .before .before .before .before .before .before .before .before .before .before .before .before .before)) (fits (c .before .before .before .before .before .before .before .before .before .before .before .before .before .before)) _ _ (j .0) (d .0) (d .1 ∙ ap (λ n. replicate n 0) (j .1))
+    let at-draw = c .before .before .before .before .before in
+    let at-enum-told2 = at-draw .before .before .before in
+    let at-enum-told = at-enum-told2 .before .before .before .before .before .before in
+    let at-known-told = at-enum-told .before .before .before in
+    let j = accepted at-enum-told2 in
+    let d = at-draw .draw .ensures in
+    show-served _ _ _ _ _ (is-opened at-known-told) (fits at-enum-told) _ _ (j .0) (d .0) (d .1 ∙ ap (λ n. replicate n 0) (j .1))
 
 pub show-spec : {M : Type 1} → statement M
 show-spec =

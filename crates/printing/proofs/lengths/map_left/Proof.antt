@@ -19,13 +19,20 @@ enum-told : tie.Need-enum-told
 enum-told c = search needs
 
 returns : tie.Need-returns
-returns c = map-no-room ((c .before .before .before .before .args) .room) ((c .before .before .before .before .args) .row .now) (rw ((c .enum-told) .given .1) at ((c .before .before .take-numbers) .ensures))
+returns c =
+    let at-take-numbers = c .before .before in
+    let s = at-take-numbers .before .before in
+    map-no-room (s .args .room) (s .args .row .now) (rw (c .enum-told .given .1) at (at-take-numbers .take-numbers .ensures))
 
 take-requires : tie.Need-take-requires
 take-requires c κs = search needs
 
 returns-2 : tie.Need-returns-2
-returns-2 c = (c .take) .ensures ∙ map-room ((c .before .before .before .before .before .before .args) .room) ((c .before .before .before .before .before .before .args) .row .now) (rw ((c .before .before .left) .given .1) at ((c .before .before .before .before .take-numbers) .ensures))
+returns-2 c =
+    let at-left = c .before .before in
+    let at-take-numbers = at-left .before .before in
+    let s = at-take-numbers .before .before in
+    (c .take) .ensures ∙ map-room (s .args .room) (s .args .row .now) (rw (at-left .left .given .1) at (at-take-numbers .take-numbers .ensures))
 
 pub map-left-spec : {M : Type 1} → statement M
 map-left-spec =

@@ -8,10 +8,10 @@ use Rattle.printing.proofs.lengths.take.Reads as reads
 use Rattle.printing.proofs.lengths.take.Lts as lts
 
 returns : tie.Need-returns
-returns c = sym (less-none _ _ ((c .if1) .taken))
+returns c = sym (less-none _ _ (c .if1 .taken))
 
 returns-2 : tie.Need-returns-2
-returns-2 c = sym (less-some _ _ ((c .if1) .left))
+returns-2 c = sym (less-some _ _ (c .if1 .left))
 
 pub take-spec : {M : Type 1} → statement M
 take-spec = tie.close (tie.spec returns returns-2)

@@ -11,7 +11,7 @@ use Rattle.printing.proofs.lengths.digit_count.Reads as digit-count-rea
 use Rattle.printing.proofs.lengths.take.Reads as take-reads
 
 returns : tie.Need-returns
-returns c = spaced-none ((c .before .args) .room) ((c .before .args) .n) ((c .if1) .taken)
+returns c = spaced-none (c .before .args .room) (c .before .args .n) (c .if1 .taken)
 
 sub-take : tie.Need-sub-take
 sub-take c = search needs
@@ -23,7 +23,10 @@ take-requires : tie.Need-take-requires
 take-requires c κs = search needs
 
 returns-2 : tie.Need-returns-2
-returns-2 c = (c .take) .ensures ∙ rw ((c .before .digit-count) .ensures .0) (spaced-first ((c .before .before .before .args) .room) ((c .before .before .before .args) .n) (omega (arith, (c .before .before .if1) .left)))
+returns-2 c =
+    let at-if1 = c .before .before in
+    let s = at-if1 .before in
+    (c .take) .ensures ∙ rw (c .before .digit-count .ensures .0) (spaced-first (s .args .room) (s .args .n) (omega (arith, at-if1 .if1 .left)))
 
 pub take-number-spec : {M : Type 1} → statement M
 take-number-spec =

@@ -39,7 +39,12 @@ enum-told : tie.Need-enum-told Inv-loop μ-loop
 enum-told c = search needs
 
 returns : tie.Need-returns Inv-loop μ-loop
-returns c = leaving-short ((c .before .before .before .before .before .before .loop) .inv) 0 ((c .before .before .before .before .before .loop-test) .taken) ((c .before .before .before .wide) .ensures) (rw ((c .enum-told) .given .1) at ((c .before .before .take-number) .ensures))
+returns c =
+    let at-take-number = c .before .before in
+    let at-wide = at-take-number .before in
+    let at-loop-test = at-wide .before .before in
+    let at-loop = at-loop-test .before in
+    leaving-short (at-loop .loop .inv) 0 (at-loop-test .loop-test .taken) (at-wide .wide .ensures) (rw (c .enum-told .given .1) at (at-take-number .take-number .ensures))
 
 add-i : tie.Need-add-i Inv-loop μ-loop
 add-i c = search needs
@@ -48,10 +53,15 @@ loop-less : tie.Need-loop-less Inv-loop μ-loop
 loop-less c = search needs
 
 loop-again : tie.Need-loop-again Inv-loop μ-loop
-loop-again c = leaving-next ((c .before .before .before .before .before .before .before .loop) .inv) 0 ((c .before .before .before .before .before .before .loop-test) .taken) ((c .before .before .before .before .wide) .ensures) (rw ((c .before .next) .given .1) at ((c .before .before .before .take-number) .ensures))
+loop-again c =
+    let at-take-number = c .before .before .before in
+    let at-wide = at-take-number .before in
+    let at-loop-test = at-wide .before .before in
+    let at-loop = at-loop-test .before in
+    leaving-next (at-loop .loop .inv) 0 (at-loop-test .loop-test .taken) (at-wide .wide .ensures) (rw (c .before .next .given .1) at (at-take-number .take-number .ensures))
 
 returns-2 : tie.Need-returns-2 Inv-loop μ-loop
-returns-2 c = leaving-end ((c .before .loop) .inv) ((c .loop-test) .left)
+returns-2 c = leaving-end (c .before .loop .inv) (c .loop-test .left)
 
 pub take-numbers-spec : {M : Type 1} → statement M
 take-numbers-spec =

@@ -18,13 +18,16 @@ enum-told : tie.Need-enum-told
 enum-told c = search needs
 
 returns : tie.Need-returns
-returns c = less-none-then _ _ _ (rw ((c .enum-told) .given .1) at ((c .before .before .take-number) .ensures))
+returns c = less-none-then _ _ _ (rw (c .enum-told .given .1) at (c .before .before .take-number .ensures))
 
 take-number-requires-2 : tie.Need-take-number-requires-2
 take-number-requires-2 c κs = search needs
 
 returns-2 : tie.Need-returns-2
-returns-2 c = (c .take-number2) .ensures ∙ sym (less-then _ _ _ _ (rw ((c .before .before .left) .given .1) at ((c .before .before .before .before .take-number) .ensures)))
+returns-2 c =
+    let at-left = c .before .before in
+    let at-take-number = at-left .before .before in
+    (c .take-number2) .ensures ∙ sym (less-then _ _ _ _ (rw (at-left .left .given .1) at (at-take-number .take-number .ensures)))
 
 pub take-pair-spec : {M : Type 1} → statement M
 take-pair-spec =

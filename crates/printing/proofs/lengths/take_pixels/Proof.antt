@@ -24,7 +24,10 @@ loop-holds : tie.Need-loop-holds Inv-loop μ-loop
 loop-holds c = leaving-first
 
 take-pixel-requires : tie.Need-take-pixel-requires Inv-loop μ-loop
-take-pixel-requires c κs = let p = pixel-inside ((c .before .before .before .args) .kind) ((c .before .before .before .args) .n) ((c .before .loop) .i) (length ((c .before .before .before .args) .samples .now)) (search needs) ((c .loop-test) .taken) in search needs
+take-pixel-requires c κs =
+    let s = c .before .before .before in
+    let p = pixel-inside (s .args .kind) (s .args .n) (c .before .loop .i) (length (s .args .samples .now)) (search needs) (c .loop-test .taken) in
+    search needs
 
 enum-known-next : tie.Need-enum-known-next Inv-loop μ-loop
 enum-known-next c = search needs
@@ -33,7 +36,12 @@ enum-told : tie.Need-enum-told Inv-loop μ-loop
 enum-told c = search needs
 
 returns : tie.Need-returns Inv-loop μ-loop
-returns c = leaving-short ((c .before .before .before .before .loop) .inv) [] (below-rows ((c .before .before .before .before .before .before .args) .kind) ((c .before .before .before .before .before .before .args) .samples .now) ((c .before .before .before .before .before .before .args) .n) ((c .before .before .before .before .loop) .i) ((c .before .before .before .loop-test) .taken)) (pixel-at ((c .before .before .before .before .before .before .args) .kind) ((c .before .before .before .before .before .before .args) .samples .now) ((c .before .before .before .before .before .before .args) .n) ((c .before .before .before .before .loop) .i) ((c .before .before .before .loop-test) .taken)) (rw ((c .enum-told) .given .1) at ((c .before .before .take-pixel) .ensures))
+returns c =
+    let at-take-pixel = c .before .before in
+    let at-loop-test = at-take-pixel .before in
+    let at-loop = at-loop-test .before in
+    let s = at-loop .before .before in
+    leaving-short (at-loop .loop .inv) [] (below-rows (s .args .kind) (s .args .samples .now) (s .args .n) (at-loop .loop .i) (at-loop-test .loop-test .taken)) (pixel-at (s .args .kind) (s .args .samples .now) (s .args .n) (at-loop .loop .i) (at-loop-test .loop-test .taken)) (rw (c .enum-told .given .1) at (at-take-pixel .take-pixel .ensures))
 
 add-i : tie.Need-add-i Inv-loop μ-loop
 add-i c = search needs
@@ -42,10 +50,18 @@ loop-less : tie.Need-loop-less Inv-loop μ-loop
 loop-less c = search needs
 
 loop-again : tie.Need-loop-again Inv-loop μ-loop
-loop-again c = leaving-next ((c .before .before .before .before .before .loop) .inv) [] (below-rows ((c .before .before .before .before .before .before .before .args) .kind) ((c .before .before .before .before .before .before .before .args) .samples .now) ((c .before .before .before .before .before .before .before .args) .n) ((c .before .before .before .before .before .loop) .i) ((c .before .before .before .before .loop-test) .taken)) (pixel-at ((c .before .before .before .before .before .before .before .args) .kind) ((c .before .before .before .before .before .before .before .args) .samples .now) ((c .before .before .before .before .before .before .before .args) .n) ((c .before .before .before .before .before .loop) .i) ((c .before .before .before .before .loop-test) .taken)) (rw ((c .before .next) .given .1) at ((c .before .before .before .take-pixel) .ensures))
+loop-again c =
+    let at-take-pixel = c .before .before .before in
+    let at-loop-test = at-take-pixel .before in
+    let at-loop = at-loop-test .before in
+    let s = at-loop .before .before in
+    leaving-next (at-loop .loop .inv) [] (below-rows (s .args .kind) (s .args .samples .now) (s .args .n) (at-loop .loop .i) (at-loop-test .loop-test .taken)) (pixel-at (s .args .kind) (s .args .samples .now) (s .args .n) (at-loop .loop .i) (at-loop-test .loop-test .taken)) (rw (c .before .next .given .1) at (at-take-pixel .take-pixel .ensures))
 
 returns-2 : tie.Need-returns-2 Inv-loop μ-loop
-returns-2 c = leaving-end ((c .before .loop) .inv) (all-rows ((c .before .before .before .args) .kind) ((c .before .before .before .args) .samples .now) ((c .before .before .before .args) .n) ((c .before .loop) .i) ((c .loop-test) .left))
+returns-2 c =
+    let at-loop = c .before in
+    let s = at-loop .before .before in
+    leaving-end (at-loop .loop .inv) (all-rows (s .args .kind) (s .args .samples .now) (s .args .n) (at-loop .loop .i) (c .loop-test .left))
 
 pub take-pixels-spec : {M : Type 1} → statement M
 take-pixels-spec =

@@ -106,9 +106,12 @@ put-number-returns-2 : (t : ℕ) → put-number-lts.Need-returns-2 (
   put-number-below t,
   put-number.Post,
 ) (put-number-at t) put-number.Post
-put-number-returns-2 t c = let h = c .before .before .before .before .if1 .left in
+put-number-returns-2 t c =
+    let k2 = c .before .before in
+    let k4 = k2 .before .before in
+    let h = k4 .if1 .left in
     let m = length-large _ h in
-    let e = c .before .before .put-number .ensures in
+    let e = k2 .put-number .ensures in
     record { same = rw (e .same, e .behind) (sym (sets-digit _ _ _ h)); behind = omega arith }
 
 pub +put-number-spec : {M : Type 1} → statement M

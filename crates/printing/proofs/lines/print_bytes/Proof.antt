@@ -18,7 +18,11 @@ same-length : tie.Need-same-length
 same-length c = search needs
 
 returns-3 : tie.Need-returns-3
-returns-3 c = put-done (omega (arith, c .before .before .before .before .before .if1 .left, c .before .before .before .before .if2 .left)) (c .before .before .put-bytes .ensures)
+returns-3 c =
+    let at-put-bytes = c .before .before in
+    let at-if2 = at-put-bytes .before .before in
+    let at-if1 = at-if2 .before in
+    put-done (omega (arith, at-if1 .if1 .left, at-if2 .if2 .left)) (at-put-bytes .put-bytes .ensures)
 
 pub print-bytes-spec : {M : Type 1} → statement M
 print-bytes-spec = tie.close (tie.spec returns returns-2 put-bytes-requires same-length returns-3)

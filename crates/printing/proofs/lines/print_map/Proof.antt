@@ -11,7 +11,7 @@ use Rattle.printing.proofs.lengths.map_left.Reads as map-left-reads
 use Rattle.printing.proofs.lines.put_map.Reads as put-map-reads
 
 returns : tie.Need-returns
-returns c = put-short (omega (arith, (c .if1) .taken))
+returns c = put-short (omega (arith, c .if1 .taken))
 
 map-left-requires : tie.Need-map-left-requires
 map-left-requires c κs = search needs
@@ -23,16 +23,26 @@ enum-told-2 : tie.Need-enum-told-2
 enum-told-2 c = search needs
 
 returns-2 : tie.Need-returns-2
-returns-2 c = let s = less-short _ _ (rw ((c .enum-told2) .given .1) at ((c .before .before .map-left) .ensures)) in put-short (omega (arith, s, (c .before .before .before .if1) .left))
+returns-2 c =
+    let at-map-left = c .before .before in
+    let at-if1 = at-map-left .before in
+    let s = less-short _ _ (rw (c .enum-told2 .given .1) at (at-map-left .map-left .ensures)) in
+    put-short (omega (arith, s, at-if1 .if1 .left))
 
 put-map-requires : tie.Need-put-map-requires
-put-map-requires c κs = let s = less-room _ _ _ (rw ((c .before .enum-told) .given .1) at ((c .before .before .before .map-left) .ensures)) in search needs
+put-map-requires c κs = let s = less-room _ _ _ (rw (c .before .enum-told .given .1) at (c .before .before .before .map-left .ensures)) in search needs
 
 same-length : tie.Need-same-length
 same-length c = search needs
 
 returns-3 : tie.Need-returns-3
-returns-3 c = let s = less-room _ _ _ (rw ((c .before .before .before .before .enum-told) .given .1) at ((c .before .before .before .before .before .before .map-left) .ensures)) in put-done (omega (arith, s .0, (c .before .before .before .before .before .before .before .if1) .left)) ((c .before .before .put-map) .ensures)
+returns-3 c =
+    let at-put-map = c .before .before in
+    let at-enum-told = at-put-map .before .before in
+    let at-map-left = at-enum-told .before .before in
+    let at-if1 = at-map-left .before in
+    let s = less-room _ _ _ (rw (at-enum-told .enum-told .given .1) at (at-map-left .map-left .ensures)) in
+    put-done (omega (arith, s .0, at-if1 .if1 .left)) (at-put-map .put-map .ensures)
 
 pub print-map-spec : {M : Type 1} → statement M
 print-map-spec =

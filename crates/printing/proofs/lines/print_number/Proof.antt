@@ -22,14 +22,18 @@ same-length c = search needs
 
 returns-3 : tie.Need-returns-3
 returns-3 c =
+    let at-put-number = c .before .before in
+    let at-if2 = at-put-number .before .before in
+    let at-digit-count = at-if2 .before in
+    let at-if1 = at-digit-count .before in
     put-done
     (omega (
       arith,
-      c .before .before .before .before .before .before .if1 .left,
-      c .before .before .before .before .before .digit-count .ensures .0,
-      c .before .before .before .before .if2 .left,
+      at-if1 .if1 .left,
+      at-digit-count .digit-count .ensures .0,
+      at-if2 .if2 .left,
     ))
-    (c .before .before .put-number .ensures)
+    (at-put-number .put-number .ensures)
 
 pub print-number-spec : {M : Type 1} → statement M
 print-number-spec = tie.close (tie.spec returns digit-count-requires returns-2 put-number-requires same-length returns-3)

@@ -11,7 +11,7 @@ use Rattle.printing.proofs.lengths.row_left.Reads as row-left-reads
 use Rattle.printing.proofs.lines.put_row.Reads as put-row-reads
 
 returns : tie.Need-returns
-returns c = put-short (omega (arith, (c .if1) .taken))
+returns c = put-short (omega (arith, c .if1 .taken))
 
 row-left-requires : tie.Need-row-left-requires
 row-left-requires c κs = search needs
@@ -23,16 +23,26 @@ enum-told-2 : tie.Need-enum-told-2
 enum-told-2 c = search needs
 
 returns-2 : tie.Need-returns-2
-returns-2 c = let s = less-short _ _ (rw ((c .enum-told2) .given .1) at ((c .before .before .row-left) .ensures)) in put-short (omega (arith, s, (c .before .before .before .if1) .left))
+returns-2 c =
+    let at-row-left = c .before .before in
+    let at-if1 = at-row-left .before in
+    let s = less-short _ _ (rw (c .enum-told2 .given .1) at (at-row-left .row-left .ensures)) in
+    put-short (omega (arith, s, at-if1 .if1 .left))
 
 put-row-requires : tie.Need-put-row-requires
-put-row-requires c κs = let s = less-room _ _ _ (rw ((c .before .enum-told) .given .1) at ((c .before .before .before .row-left) .ensures)) in search needs
+put-row-requires c κs = let s = less-room _ _ _ (rw (c .before .enum-told .given .1) at (c .before .before .before .row-left .ensures)) in search needs
 
 same-length : tie.Need-same-length
 same-length c = search needs
 
 returns-3 : tie.Need-returns-3
-returns-3 c = let s = less-room _ _ _ (rw ((c .before .before .before .before .enum-told) .given .1) at ((c .before .before .before .before .before .before .row-left) .ensures)) in put-done (omega (arith, s .0, (c .before .before .before .before .before .before .before .if1) .left)) ((c .before .before .put-row) .ensures)
+returns-3 c =
+    let at-put-row = c .before .before in
+    let at-enum-told = at-put-row .before .before in
+    let at-row-left = at-enum-told .before .before in
+    let at-if1 = at-row-left .before in
+    let s = less-room _ _ _ (rw (at-enum-told .enum-told .given .1) at (at-row-left .row-left .ensures)) in
+    put-done (omega (arith, s .0, at-if1 .if1 .left)) (at-put-row .put-row .ensures)
 
 pub print-row-spec : {M : Type 1} → statement M
 print-row-spec =

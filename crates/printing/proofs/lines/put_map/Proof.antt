@@ -15,19 +15,36 @@ put-bytes-requires : tie.Need-put-bytes-requires
 put-bytes-requires c κs = let l = map-parts (c .before .before .before .before .args .row .now) in search needs
 
 put-numbers-requires : tie.Need-put-numbers-requires
-put-numbers-requires c κs = let l = map-parts (c .before .before .before .before .before .before .before .before .args .row .now) in let m = printed-length (c .before .before .before .put-bytes .ensures) in search needs
+put-numbers-requires c κs =
+    let at-put-bytes = c .before .before .before in
+    let s = at-put-bytes .before .before .before .before .before in
+    let l = map-parts (s .args .row .now) in
+    let m = printed-length (at-put-bytes .put-bytes .ensures) in
+    search needs
 
 slice-aggregate-put-bytes-2 : tie.Need-slice-aggregate-put-bytes-2
 slice-aggregate-put-bytes-2 c = search needs
 
 put-bytes-requires-2 : tie.Need-put-bytes-requires-2
-put-bytes-requires-2 c κs = let l = map-parts (c .before .before .before .before .before .before .before .before .before .before .before .before .before .args .row .now) in let m = printed-length (c .before .before .before .before .before .before .before .before .put-bytes .ensures) in let k = printed-length (c .before .before .before .before .put-numbers .ensures) in search needs
+put-bytes-requires-2 c κs =
+    let at-put-numbers = c .before .before .before .before in
+    let at-put-bytes = at-put-numbers .before .before .before .before in
+    let s = at-put-bytes .before .before .before .before .before in
+    let l = map-parts (s .args .row .now) in
+    let m = printed-length (at-put-bytes .put-bytes .ensures) in
+    let k = printed-length (at-put-numbers .put-numbers .ensures) in
+    search needs
 
 same-length : tie.Need-same-length
 same-length c = search needs
 
 returns : tie.Need-returns
-returns c = map-all (c .before .before .before .before .before .before .before .before .before .before .before .before .before .before .before .before .args .row .now) (c .before .before .before .before .before .before .before .before .before .before .before .put-bytes .ensures) (c .before .before .before .before .before .before .before .put-numbers .ensures) (c .before .before .put-bytes2 .ensures)
+returns c =
+    let at-put-bytes2 = c .before .before in
+    let at-put-numbers = at-put-bytes2 .before .before .before .before .before in
+    let at-put-bytes = at-put-numbers .before .before .before .before in
+    let s = at-put-bytes .before .before .before .before .before in
+    map-all (s .args .row .now) (at-put-bytes .put-bytes .ensures) (at-put-numbers .put-numbers .ensures) (at-put-bytes2 .put-bytes2 .ensures)
 
 pub put-map-spec : {M : Type 1} → statement M
 put-map-spec =

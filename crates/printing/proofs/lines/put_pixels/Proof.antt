@@ -22,10 +22,19 @@ abbrev μ-loop : tie.MeasureT-loop
 μ-loop out₀ at kind samples n i₀ end₀ out i end = n - i
 
 loop-holds : tie.Need-loop-holds Inv-loop μ-loop
-loop-holds c = (pixels-none ((c .before .before .args) .kind) (rowsOf (channelsOf ((c .before .before .args) .kind)) ((c .before .before .args) .n) ((c .before .before .args) .samples .now)), omega arith)
+loop-holds c =
+    let s = c .before .before in
+    (pixels-none (s .args .kind) (rowsOf (channelsOf (s .args .kind)) (s .args .n) (s .args .samples .now)), omega arith)
 
 put-pixel-requires : tie.Need-put-pixel-requires Inv-loop μ-loop
-put-pixel-requires c κs = let p = pixel-inside ((c .before .before .before .before .before .args) .kind) ((c .before .before .before .before .before .args) .n) ((c .before .before .loop) .i) (length ((c .before .before .before .before .before .args) .samples .now)) (search needs) ((c .before .loop-test) .taken) in let l = pixels-room ((c .before .before .before .before .before .args) .kind) ((c .before .before .before .before .before .args) .samples .now) ((c .before .before .before .before .before .args) .n) ((c .before .before .loop) .i) ((c .before .loop-test) .taken) in let m = printed-length ((c .before .before .loop) .inv .0) in search needs
+put-pixel-requires c κs =
+    let at-loop-test = c .before in
+    let at-loop = at-loop-test .before in
+    let s = at-loop .before .before .before in
+    let p = pixel-inside (s .args .kind) (s .args .n) (at-loop .loop .i) (length (s .args .samples .now)) (search needs) (at-loop-test .loop-test .taken) in
+    let l = pixels-room (s .args .kind) (s .args .samples .now) (s .args .n) (at-loop .loop .i) (at-loop-test .loop-test .taken) in
+    let m = printed-length (at-loop .loop .inv .0) in
+    search needs
 
 add-i : tie.Need-add-i Inv-loop μ-loop
 add-i c = search needs
@@ -34,13 +43,21 @@ loop-less : tie.Need-loop-less Inv-loop μ-loop
 loop-less c = search needs
 
 loop-again : tie.Need-loop-again Inv-loop μ-loop
-loop-again c = (pixels-next ((c .before .before .before .before .before .before .before .before .args) .kind) ((c .before .before .before .before .before .before .before .before .args) .samples .now) ((c .before .before .before .before .before .before .before .before .args) .n) ((c .before .before .before .before .before .loop) .i) ((c .before .before .before .before .loop-test) .taken) ((c .before .before .before .before .before .loop) .inv .0) ((c .before .before .put-pixel) .ensures), omega arith)
+loop-again c =
+    let at-put-pixel = c .before .before in
+    let at-loop-test = at-put-pixel .before .before in
+    let at-loop = at-loop-test .before in
+    let s = at-loop .before .before .before in
+    (pixels-next (s .args .kind) (s .args .samples .now) (s .args .n) (at-loop .loop .i) (at-loop-test .loop-test .taken) (at-loop .loop .inv .0) (at-put-pixel .put-pixel .ensures), omega arith)
 
 same-length : tie.Need-same-length Inv-loop μ-loop
-same-length c = printed-length ((c .before .loop) .inv .0)
+same-length c = printed-length (c .before .loop .inv .0)
 
 returns : tie.Need-returns Inv-loop μ-loop
-returns c = pixels-all ((c .before .before .before .before .args) .kind) ((c .before .before .before .before .args) .samples .now) ((c .before .before .before .before .args) .n) ((c .before .loop) .i) ((c .loop-test) .left) ((c .before .loop) .inv .0)
+returns c =
+    let at-loop = c .before in
+    let s = at-loop .before .before .before in
+    pixels-all (s .args .kind) (s .args .samples .now) (s .args .n) (at-loop .loop .i) (c .loop-test .left) (at-loop .loop .inv .0)
 
 pub put-pixels-spec : {M : Type 1} → statement M
 put-pixels-spec =

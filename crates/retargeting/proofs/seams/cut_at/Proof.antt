@@ -48,9 +48,10 @@ part-close-up-end c = omega (arith, sure c)
 
 slice-aggregate-close-up : tie.Need-slice-aggregate-close-up
 slice-aggregate-close-up c =
-    let st = c .before .before .before .before .before .before in
+    let at-turned-size = c .before .before .before in
+    let st = at-turned-size .before .before .before in
     let a = st .args in
-    let t = c .before .before .before .turned-size in
+    let t = at-turned-size .turned-size in
     sym (length-take-le (t .result .height) (now (a .seam)) (rw (t .ensures) (st .pre .seam-room)))
 
 close-up-requires : tie.Need-close-up-requires
@@ -58,9 +59,11 @@ close-up-requires c κs = search needs
 
 narrower-requires : tie.Need-narrower-requires
 narrower-requires c κs =
-    let st = c .before .before .before .before .before .before .before .before .before .before in
+    let at-picture-bytes = c .before .before .before .before .before .before in
+    let at-turned-size = at-picture-bytes .before in
+    let st = at-turned-size .before .before .before in
     let a = st .args in
-    rw (c .before .before .before .before .before .before .before .turned-size .ensures) (cut-sure (now (a .work)) (a .at) (a .size) (a .axis) (now (a .seam)) (a .to) (st .pre) _ (all-is (c .before .before .before .before .before .before)) .some)
+    rw (at-turned-size .turned-size .ensures) (cut-sure (now (a .work)) (a .at) (a .size) (a .axis) (now (a .seam)) (a .to) (st .pre) _ (all-is at-picture-bytes) .some)
 
 -- the part that was closed up
 closed : (c : tie.After-close-up) → let st = c .before .before .before .before .before .before .before in let a = st .args in let all = c .before .before .before .picture-bytes .result in
@@ -69,23 +72,29 @@ closed c = rw (c .before .before .before .before .turned-size .ensures) at (c .c
 
 turn-requires : tie.Need-turn-requires
 turn-requires c κs =
-    let st = c .before .before .before .before .before .before .before .before .before .before .before in
-    let a = st .args in
     let q = c .before .before .before .before in
-    let n = c .narrower .ensures ∙ ap narrowed (c .before .before .before .before .before .before .before .before .turned-size .ensures) in
-    rw n (back-needed (now (a .work)) (a .at) (a .size) (a .axis) (now (a .seam)) (a .to) (st .pre) _ (all-is (c .before .before .before .before .before .before .before)) (q .close-up .result) (q .close-up .last .0) (closed q) (q .close-up .kept .0))
+    let at-picture-bytes = q .before .before .before in
+    let at-turned-size = at-picture-bytes .before in
+    let st = at-turned-size .before .before .before in
+    let a = st .args in
+    let n = c .narrower .ensures ∙ ap narrowed (at-turned-size .turned-size .ensures) in
+    rw n (back-needed (now (a .work)) (a .at) (a .size) (a .axis) (now (a .seam)) (a .to) (st .pre) _ (all-is at-picture-bytes) (q .close-up .result) (q .close-up .last .0) (closed q) (q .close-up .kept .0))
 
 same-length : tie.Need-same-length
 same-length c = search needs
 
 returns : tie.Need-returns
 returns c =
-    let st = c .before .before .before .before .before .before .before .before .before .before .before .before .before .before in
+    let at-turn = c .before .before in
+    let at-narrower = at-turn .before in
+    let q = at-narrower .before .before .before .before in
+    let at-picture-bytes = q .before .before .before in
+    let at-turned-size = at-picture-bytes .before in
+    let st = at-turned-size .before .before .before in
     let a = st .args in
-    let q = c .before .before .before .before .before .before .before in
-    let n = c .before .before .before .narrower .ensures ∙ ap narrowed (c .before .before .before .before .before .before .before .before .before .before .before .turned-size .ensures) in
-    cut-given (now (a .work)) (a .at) (a .size) (a .axis) (now (a .seam)) (a .to) (st .pre) _ (all-is (c .before .before .before .before .before .before .before .before .before .before)) (q .close-up .result) (q .close-up .last .0) (closed q) (q .close-up .kept .0)
-    (c .before .before .turn .last .0) (rw n at (c .before .before .turn .ensures))
+    let n = at-narrower .narrower .ensures ∙ ap narrowed (at-turned-size .turned-size .ensures) in
+    cut-given (now (a .work)) (a .at) (a .size) (a .axis) (now (a .seam)) (a .to) (st .pre) _ (all-is at-picture-bytes) (q .close-up .result) (q .close-up .last .0) (closed q) (q .close-up .kept .0)
+    (at-turn .turn .last .0) (rw n at (at-turn .turn .ensures))
 
 pub cut-at-spec : {M : Type 1} → statement M
 cut-at-spec =

@@ -41,13 +41,16 @@ same-length-2 c = search needs
 returns : tie.Need-returns
 returns c =
     let q = c .before .before .before .before .before .before .before in
-    let st = c .before .before .before .before .before .before .before .before .before .before .before .before .before .before .before .before .before in
+    let at-turned-size = q .before .before .before in
+    let at-slice-known3 = at-turned-size .before in
+    let at-turn = at-slice-known3 .before .before in
+    let st = at-turn .before .before .before .before in
     let a = st .args in
-    let turn = c .before .before .before .before .before .before .before .before .before .before .before .before .before .turn in
+    let turn = at-turn .turn in
     let found = q .find-in in
     rw (ap foundCost (c .before .found .given .1))
     at (seam-given (now (a .work)) (a .from) (a .size) (a .axis) (a .at) (now (a .seam)) (st .pre) (turn .last .0) (turn .ensures)
-    (found .result) (found .last .0) (found .last .1 .1 .0) (rw (c .before .before .before .before .before .before .before .before .before .before .turned-size .ensures) at (found .ensures)) (λ i. omega (arith, c .before .before .before .before .before .before .before .before .before .before .before .slice-known3 .given i)))
+    (found .result) (found .last .0) (found .last .1 .1 .0) (rw (at-turned-size .turned-size .ensures) at (found .ensures)) (λ i. omega (arith, at-slice-known3 .slice-known3 .given i)))
 
 same-length-3 : tie.Need-same-length-3
 same-length-3 c = search needs
@@ -58,13 +61,16 @@ same-length-4 c = search needs
 returns-2 : tie.Need-returns-2
 returns-2 c =
     let q = c .before .before .before .before .before .before in
-    let st = c .before .before .before .before .before .before .before .before .before .before .before .before .before .before .before .before in
+    let at-turned-size = q .before .before .before in
+    let at-slice-known3 = at-turned-size .before in
+    let at-turn = at-slice-known3 .before .before in
+    let st = at-turn .before .before .before .before in
     let a = st .args in
-    let turn = c .before .before .before .before .before .before .before .before .before .before .before .before .turn in
+    let turn = at-turn .turn in
     let found = q .find-in in
     rw (ap foundCost (c .enum-told .given .1))
     at (seam-given (now (a .work)) (a .from) (a .size) (a .axis) (a .at) (now (a .seam)) (st .pre) (turn .last .0) (turn .ensures)
-    (found .result) (found .last .0) (found .last .1 .1 .0) (rw (c .before .before .before .before .before .before .before .before .before .turned-size .ensures) at (found .ensures)) (λ i. omega (arith, c .before .before .before .before .before .before .before .before .before .before .slice-known3 .given i)))
+    (found .result) (found .last .0) (found .last .1 .1 .0) (rw (at-turned-size .turned-size .ensures) at (found .ensures)) (λ i. omega (arith, at-slice-known3 .slice-known3 .given i)))
 
 pub seam-at-spec : {M : Type 1} → statement M
 seam-at-spec =

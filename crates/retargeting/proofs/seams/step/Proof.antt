@@ -17,9 +17,10 @@ slice-aggregate-cut-at c = search needs
 
 cut-at-requires : tie.Need-cut-at-requires
 cut-at-requires c κs =
-    let st = c .before .before .before .before .before .before .before .before .before in
+    let at-seam-at = c .before .before .before .before .before in
+    let st = at-seam-at .before .before .before .before in
     let a = st .args in
-    let found = c .before .before .before .before .before .seam-at in
+    let found = at-seam-at .seam-at in
     step-cut (now (a .work)) (a .from) (a .size) (a .axis) (a .at) (a .to) (st .pre) _ (found .result) (found .last .0) (found .last .1 .1 .1 .1 .1 .0) (found .ensures) refl
 
 same-length : tie.Need-same-length
@@ -27,11 +28,13 @@ same-length c = search needs
 
 returns : tie.Need-returns
 returns c =
-    let st = c .before .before .before .before .before .before .before .before .before .before .before .before in
+    let at-cut-at = c .before .before in
+    let at-seam-at = at-cut-at .before .before .before .before .before .before in
+    let st = at-seam-at .before .before .before .before in
     let a = st .args in
-    let found = c .before .before .before .before .before .before .before .before .seam-at in
+    let found = at-seam-at .seam-at in
     step-given (now (a .work)) (a .from) (a .size) (a .axis) (a .at) (a .to) (st .pre) _ (found .result) (found .last .0) (found .last .1 .1 .1 .1 .1 .0) (found .ensures) refl
-    (c .before .before .cut-at .last .0) (c .before .before .cut-at .ensures)
+    (at-cut-at .cut-at .last .0) (at-cut-at .cut-at .ensures)
 
 pub step-spec : {M : Type 1} → statement M
 step-spec =

@@ -30,12 +30,15 @@ same-length c = search needs
 
 returns : tie.Need-returns
 returns c =
-    let st = c .before .before .before .before .before .before .before .before in
+    let at-copy-between = c .before .before in
+    let at-picture-bytes = at-copy-between .before .before in
+    let at-enum-told = at-picture-bytes .before in
+    let st = at-enum-told .before .before .before in
     let a = st .args in
-    let all = c .before .before .before .before .picture-bytes in
+    let all = at-picture-bytes .picture-bytes in
     let is : all .result ≡ pictureBytes (a .size) = all .ensures ∙ ap (λ n. served n (pictureBytes (a .size)) 0) (st .pre .sides) in
-    rw (c .before .before .before .before .before .enum-told .given .1)
-    (copied-turned (now (a .work)) (c .before .before .copy-between .last .0) (a .from) (a .size) (a .to) (all .result) (c .before .before .copy-between .result) (st .pre) is (c .before .before .copy-between .ensures))
+    rw (at-enum-told .enum-told .given .1)
+    (copied-turned (now (a .work)) (at-copy-between .copy-between .last .0) (a .from) (a .size) (a .to) (all .result) (at-copy-between .copy-between .result) (st .pre) is (at-copy-between .copy-between .ensures))
 
 same-length-2 : tie.Need-same-length-2
 same-length-2 c = search needs
@@ -43,10 +46,12 @@ same-length-2 c = search needs
 returns-2 : tie.Need-returns-2
 unfolding turned
 returns-2 c =
-    let st = c .before .before .before .before .before .before .before in
+    let at-exchange-between = c .before .before in
+    let at-enum-told2 = at-exchange-between .before .before in
+    let st = at-enum-told2 .before .before .before in
     let a = st .args in
-    rw (c .before .before .before .before .enum-told2 .given .1)
-    (exchange-between-served (now (a .work)) (a .from) (a .size) (a .to) (c .before .before .exchange-between .result) (c .before .before .exchange-between .last .0) (c .before .before .exchange-between .ensures) (st .pre .sides) (st .pre .places))
+    rw (at-enum-told2 .enum-told2 .given .1)
+    (exchange-between-served (now (a .work)) (a .from) (a .size) (a .to) (at-exchange-between .exchange-between .result) (at-exchange-between .exchange-between .last .0) (at-exchange-between .exchange-between .ensures) (st .pre .sides) (st .pre .places))
 
 pub turn-spec : {M : Type 1} → statement M
 turn-spec =

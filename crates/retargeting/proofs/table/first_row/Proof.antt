@@ -43,7 +43,11 @@ mul-step-2 : tie.Need-mul-step-2 Inv-loop μ-loop
 mul-step-2 c = let q = close (c .before .before) in omega arith
 
 add-step : tie.Need-add-step Inv-loop μ-loop
-add-step c = let p = c .before .before .before .before .before .before .pre .0 in omega (arith, p .column, c .before .before .loop-test .taken)
+add-step c =
+    let at-loop-test = c .before .before in
+    let s = at-loop-test .before .before .before .before in
+    let p = s .pre .0 in
+    omega (arith, p .column, at-loop-test .loop-test .taken)
 
 mul-step-3 : tie.Need-mul-step-3 Inv-loop μ-loop
 mul-step-3 c = let q = close (c .before .before) in omega arith
@@ -57,30 +61,51 @@ step-requires c κs =
     rw (c .before .smaller .ensures) (first-step (a .size) (a .whole) (a .columns .0) (now (a .work)) (now (a .totals)) (st .pre .0) (head .j) (head .work) (head .totals) (z .loop-test .taken) (head .inv))
 
 mul-totals : tie.Need-mul-totals Inv-loop μ-loop
-mul-totals c = omega (arith, c .before .before .before .before .before .before .before .before .before .pre .0 .column, c .before .before .before .before .before .loop-test .taken)
+mul-totals c =
+    let at-loop-test = c .before .before .before .before .before in
+    let s = at-loop-test .before .before .before .before in
+    omega (arith, s .pre .0 .column, at-loop-test .loop-test .taken)
 
 slice-read-totals : tie.Need-slice-read-totals Inv-loop μ-loop
-slice-read-totals c = omega (arith, c .before .before .before .before .before .before .before .before .before .before .pre .0 .column, c .before .before .before .before .before .before .loop-test .taken, c .before .before .before .before .before .before .before .loop .inv .totals-long)
+slice-read-totals c =
+    let at-loop-test = c .before .before .before .before .before .before in
+    let at-loop = at-loop-test .before in
+    let s = at-loop .before .before .before in
+    omega (arith, s .pre .0 .column, at-loop-test .loop-test .taken, at-loop .loop .inv .totals-long)
 
 add-totals : tie.Need-add-totals Inv-loop μ-loop
 add-totals c =
-    let z = c .before .before .before .before .before .before in
+    let at-step = c .before .before .before in
+    let z = at-step .before .before .before in
     let head = z .before .loop in
     let st = z .before .before .before .before in
     let a = st .args in
-    omega (arith, head .inv .small (head .j), given (c .before .before .before) .cost-most, st .pre .0 .column, z .loop-test .taken)
+    omega (arith, head .inv .small (head .j), given at-step .cost-most, st .pre .0 .column, z .loop-test .taken)
 
 add-totals-2 : tie.Need-add-totals-2 Inv-loop μ-loop
-add-totals-2 c = omega (arith, c .before .before .before .before .before .before .before .before .before .before .pre .0 .column, c .before .before .before .before .before .before .loop-test .taken)
+add-totals-2 c =
+    let at-loop-test = c .before .before .before .before .before .before in
+    let s = at-loop-test .before .before .before .before in
+    omega (arith, s .pre .0 .column, at-loop-test .loop-test .taken)
 
 mul-totals-2 : tie.Need-mul-totals-2 Inv-loop μ-loop
-mul-totals-2 c = omega (arith, c .before .before .before .before .before .before .before .before .before .before .pre .0 .column, c .before .before .before .before .before .before .loop-test .taken)
+mul-totals-2 c =
+    let at-loop-test = c .before .before .before .before .before .before in
+    let s = at-loop-test .before .before .before .before in
+    omega (arith, s .pre .0 .column, at-loop-test .loop-test .taken)
 
 slice-write-totals : tie.Need-slice-write-totals Inv-loop μ-loop
-slice-write-totals c = omega (arith, c .before .before .before .before .before .before .before .before .before .before .pre .0 .column, c .before .before .before .before .before .before .loop-test .taken, c .before .before .before .before .before .before .before .loop .inv .totals-long)
+slice-write-totals c =
+    let at-loop-test = c .before .before .before .before .before .before in
+    let at-loop = at-loop-test .before in
+    let s = at-loop .before .before .before in
+    omega (arith, s .pre .0 .column, at-loop-test .loop-test .taken, at-loop .loop .inv .totals-long)
 
 add-j : tie.Need-add-j Inv-loop μ-loop
-add-j c = omega (arith, c .before .before .before .before .before .before .before .before .before .before .pre .0 .column, c .before .before .before .before .before .before .loop-test .taken)
+add-j c =
+    let at-loop-test = c .before .before .before .before .before .before in
+    let s = at-loop-test .before .before .before .before in
+    omega (arith, s .pre .0 .column, at-loop-test .loop-test .taken)
 
 loop-less : tie.Need-loop-less Inv-loop μ-loop
 loop-less c = omega (arith, c .before .before .before .before .before .before .loop-test .taken)
@@ -98,7 +123,9 @@ same-length : tie.Need-same-length Inv-loop μ-loop
 same-length c = c .before .loop .inv .long
 
 same-length-2 : tie.Need-same-length-2 Inv-loop μ-loop
-same-length-2 c = c .before .loop .inv .totals-long ∙ sym (c .before .before .before .before .pre .0 .totals-long)
+same-length-2 c =
+    let s = c .before .before .before .before in
+    c .before .loop .inv .totals-long ∙ sym (s .pre .0 .totals-long)
 
 returns : tie.Need-returns Inv-loop μ-loop
 returns c =

@@ -27,16 +27,26 @@ mul-step c =
     omega (arith, p .whole-is, sides-are (st .args .size) (p .sides) .picture-most)
 
 step-requires : tie.Need-step-requires
-step-requires c κs = let st = c .before .before .before .before in let a = st .args in rw (c .before .smaller .ensures) (next-step (a .size) (a .whole) (a .rows .0) (a .columns .0) (now (a .work)) (now (a .totals)) (st .pre .0) (st .pre .1))
+step-requires c κs =
+    let st = c .before .before .before .before in
+    let a = st .args in
+    rw (c .before .smaller .ensures) (next-step (a .size) (a .whole) (a .rows .0) (a .columns .0) (now (a .work)) (now (a .totals)) (st .pre .0) (st .pre .1))
 
 slice-read-totals : tie.Need-slice-read-totals
-slice-read-totals c = omega (arith, c .before .before .before .before .before .before .before .before .pre .0 .totals-long)
+slice-read-totals c =
+    let s = c .before .before .before .before .before .before .before .before in
+    omega (arith, s .pre .0 .totals-long)
 
 add-totals : tie.Need-add-totals
-add-totals c = let st = c .before .before .before .before .before .before .before .before in omega (arith, st .pre .1 0, given (c .before .before .before) .cost-most, st .pre .0 .row)
+add-totals c =
+    let at-step = c .before .before .before in
+    let st = at-step .before .before .before .before .before in
+    omega (arith, st .pre .1 0, given at-step .cost-most, st .pre .0 .row)
 
 slice-write-totals : tie.Need-slice-write-totals
-slice-write-totals c = omega (arith, c .before .before .before .before .before .before .before .before .pre .0 .totals-long)
+slice-write-totals c =
+    let s = c .before .before .before .before .before .before .before .before in
+    omega (arith, s .pre .0 .totals-long)
 
 rest-of-row-requires : tie.Need-rest-of-row-requires
 rest-of-row-requires c κs =
@@ -51,14 +61,18 @@ same-length : tie.Need-same-length
 same-length c = search needs
 
 same-length-2 : tie.Need-same-length-2
-same-length-2 c = c .before .before .before .before .rest-of-row .ensures .totals-long ∙ sym (c .before .before .before .before .before .before .before .before .before .before .before .before .before .before .before .pre .0 .totals-long)
+same-length-2 c =
+    let at-rest-of-row = c .before .before .before .before in
+    let s = at-rest-of-row .before .before .before .before .before .before .before .before .before .before .before in
+    at-rest-of-row .rest-of-row .ensures .totals-long ∙ sym (s .pre .0 .totals-long)
 
 returns : tie.Need-returns
 returns c =
-    let st = c .before .before .before .before .before .before .before .before .before .before .before .before .before .before .before in
+    let at-rest-of-row = c .before .before .before .before in
+    let q = at-rest-of-row .before .before .before .before .before .before in
+    let st = q .before .before .before .before .before in
     let a = st .args in
-    let q = c .before .before .before .before .before .before .before .before .before .before in
-    let row = c .before .before .before .before .rest-of-row in
+    let row = at-rest-of-row .rest-of-row in
     next-given (a .size) (a .whole) (a .rows .0) (a .columns .0) (now (a .work)) (now (a .totals)) (st .pre .0) (st .pre .1) (q .step .result) (q .step .last .0) (given q) (row .last .0) (row .last .1 .1 .1 .1 .1 .0) (row .ensures)
 
 pub next-row-spec : {M : Type 1} → statement M

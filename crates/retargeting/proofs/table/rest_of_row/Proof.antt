@@ -28,13 +28,19 @@ mul-next-cell : tie.Need-mul-next-cell Inv-loop μ-loop
 mul-next-cell c = omega (arith, few (c .before))
 
 slice-read-next-cell : tie.Need-slice-read-next-cell Inv-loop μ-loop
-slice-read-next-cell c = omega (arith, few (c .before .before), c .before .before .before .loop .inv .totals-long)
+slice-read-next-cell c =
+    let at-loop-test = c .before .before in
+    let at-loop = at-loop-test .before in
+    omega (arith, few at-loop-test, at-loop .loop .inv .totals-long)
 
 mul-next-cell-2 : tie.Need-mul-next-cell-2 Inv-loop μ-loop
 mul-next-cell-2 c = omega (arith, few (c .before .before))
 
 slice-read-next-cell-2 : tie.Need-slice-read-next-cell-2 Inv-loop μ-loop
-slice-read-next-cell-2 c = omega (arith, few (c .before .before .before), c .before .before .before .before .loop .inv .totals-long)
+slice-read-next-cell-2 c =
+    let at-loop-test = c .before .before .before in
+    let at-loop = at-loop-test .before in
+    omega (arith, few at-loop-test, at-loop .loop .inv .totals-long)
 
 next-cell-requires : tie.Need-next-cell-requires Inv-loop μ-loop
 next-cell-requires c κs =
@@ -51,7 +57,10 @@ mul-totals : tie.Need-mul-totals Inv-loop μ-loop
 mul-totals c = omega (arith, few (c .before .before .before .before .before .before))
 
 slice-write-totals : tie.Need-slice-write-totals Inv-loop μ-loop
-slice-write-totals c = omega (arith, few (c .before .before .before .before .before .before), c .before .before .before .before .before .before .before .loop .inv .totals-long)
+slice-write-totals c =
+    let at-loop-test = c .before .before .before .before .before .before in
+    let at-loop = at-loop-test .before in
+    omega (arith, few at-loop-test, at-loop .loop .inv .totals-long)
 
 add-j : tie.Need-add-j Inv-loop μ-loop
 add-j c = omega (arith, few (c .before .before .before .before .before .before))
@@ -61,18 +70,21 @@ loop-less c = omega (arith, c .before .before .before .before .before .before .l
 
 loop-again : tie.Need-loop-again Inv-loop μ-loop
 loop-again c =
-    let z = c .before .before .before .before .before .before in
+    let at-next-cell = c .before .before in
+    let z = at-next-cell .before .before .before .before in
     let head = z .before .loop in
     let st = z .before .before .before .before in
     let a = st .args in
-    let next = c .before .before .next-cell in
+    let next = at-next-cell .next-cell in
     rest-turn (a .size) (a .whole) (a .rows .0) (a .columns .0) (now (a .work)) (now (a .totals)) (st .pre .0) (st .pre .1) (head .j) (head .work) (head .totals) (z .loop-test .taken) (head .inv) (next .result) (next .last .0) (next .ensures)
 
 same-length : tie.Need-same-length Inv-loop μ-loop
 same-length c = c .before .loop .inv .long
 
 same-length-2 : tie.Need-same-length-2 Inv-loop μ-loop
-same-length-2 c = c .before .loop .inv .totals-long ∙ sym (c .before .before .before .before .pre .0 .totals-long)
+same-length-2 c =
+    let s = c .before .before .before .before in
+    c .before .loop .inv .totals-long ∙ sym (s .pre .0 .totals-long)
 
 returns : tie.Need-returns Inv-loop μ-loop
 returns c =

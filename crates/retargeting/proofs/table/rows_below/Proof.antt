@@ -37,25 +37,33 @@ next-row-requires c κs =
     )
 
 add-i : tie.Need-add-i Inv-loop μ-loop
-add-i c = omega (arith, c .before .before .before .before .before .before .before .before .before .before .before .pre .0 .row, c .before .before .before .before .before .before .before .loop-test .taken)
+add-i c =
+    let at-loop-test = c .before .before .before .before .before .before .before in
+    let s = at-loop-test .before .before .before .before in
+    omega (arith, s .pre .0 .row, at-loop-test .loop-test .taken)
 
 loop-less : tie.Need-loop-less Inv-loop μ-loop
-loop-less c = omega (arith, c .before .before .before .before .before .before .before .loop-test .taken)
+loop-less c =
+    let at-loop-test = c .before .before .before .before .before .before .before in
+    omega (arith, at-loop-test .loop-test .taken)
 
 loop-again : tie.Need-loop-again Inv-loop μ-loop
 loop-again c =
-    let z = c .before .before .before .before .before .before .before in
+    let at-next-row = c .before .before .before .before in
+    let z = at-next-row .before .before .before in
     let head = z .before .loop in
     let st = z .before .before .before .before in
     let a = st .args in
-    let next = c .before .before .before .before .next-row in
+    let next = at-next-row .next-row in
     (omega (arith, z .loop-test .taken), below-turn (a .size) (a .whole) (a .columns .0) (now (a .work)) (now (a .totals)) (head .i) (head .work) (head .totals) (next .last .0) (next .last .1 .1 .1 .1 .1 .0) (head .inv .1) (next .ensures))
 
 same-length : tie.Need-same-length Inv-loop μ-loop
 same-length c = c .before .loop .inv .1 .long
 
 same-length-2 : tie.Need-same-length-2 Inv-loop μ-loop
-same-length-2 c = c .before .loop .inv .1 .totals-long ∙ sym (c .before .before .before .before .pre .0 .totals-long)
+same-length-2 c =
+    let s = c .before .before .before .before in
+    c .before .loop .inv .1 .totals-long ∙ sym (s .pre .0 .totals-long)
 
 returns : tie.Need-returns Inv-loop μ-loop
 returns c =

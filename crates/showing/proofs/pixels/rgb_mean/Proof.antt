@@ -72,9 +72,11 @@ same-length c = simp length-set
 
 returns : tie.Need-returns
 returns c =
-    let st = c .before .before .before .before .before .before .before .before .before .before .before in
+    let at-mean2 = c .before .before .before in
+    let at-mean = at-mean2 .before .before .before in
+    let st = at-mean .before .before .before .before .before in
     let a = st .args in
-    rgb-mean-put (now (a .samples)) (a .c) (now (a .out)) (a .at) (a .d) (st .pre) (c .before .before .before .before .before .before .mean .ensures) (c .before .before .before .mean2 .ensures) (c .mean3 .ensures)
+    rgb-mean-put (now (a .samples)) (a .c) (now (a .out)) (a .at) (a .d) (st .pre) (at-mean .mean .ensures) (at-mean2 .mean2 .ensures) (c .mean3 .ensures)
 
 pub rgb-mean-spec : {M : Type 1} → statement M
 rgb-mean-spec =

@@ -22,7 +22,10 @@ abbrev μ-loop : tie.MeasureT-loop
 -- the test of number c
 test : (c : tie.After-doubled Inv-loop μ-loop) → let a = c .before .before .before .before .before .before .args in
     doubled (a .u) (getD (now (a .numbers)) (c .before .before .before .before .loop .c) 0) ≡ c .doubled .result
-test c = let a = c .before .before .before .before .before .before .args in sym (c .doubled .ensures ∙ ap (doubled (a .u)) (c .before .wide .ensures))
+test c =
+    let s = c .before .before .before .before .before .before in
+    let a = s .args in
+    sym (c .doubled .ensures ∙ ap (doubled (a .u)) (c .before .wide .ensures))
 
 loop-holds : tie.Need-loop-holds Inv-loop μ-loop
 loop-holds c = (omega arith, (refl, (omega arith, omega arith)))

@@ -26,8 +26,8 @@ abbrev μ-loop : tie.MeasureT-loop
 needed : (c : tie.In-loop Inv-loop μ-loop) → let head = c .before .loop in let a = c .before .before .before .before .before .before .before .args in
     PixelNeeded (channelsOf (a .kind)) (now (a .samples)) (head .c) (head .out) (head .at)
 needed c =
-    let head = c .before .loop in
     let st = c .before .before .before .before .before .before .before in
+    let head = c .before .loop in
     let a = st .args in
     grow-needed (a .kind) (now (a .samples)) (now (a .numbers)) (st .pre .whole) (a .u) (now (a .out)) (head .c) (head .out) (head .at) (omega (arith, c .loop-test .taken)) (head .inv .1 .1)
 
@@ -35,15 +35,21 @@ needed c =
 behind : (c : tie.After-put-pixel Inv-loop μ-loop) → let head = c .before .before .before .loop in let a = c .before .before .before .before .before .before .before .before .before .args in
     Behind (a .kind) (now (a .samples)) (now (a .numbers)) (a .u) (now (a .out)) (head .c) (c .put-pixel .last .1 .1 .1 .0) (head .at + c .before .before .before .before .channels .result)
 behind c =
-    let head = c .before .before .before .loop in
-    let st = c .before .before .before .before .before .before .before .before .before in
+    let at-loop-test = c .before .before in
+    let at-loop = at-loop-test .before in
+    let at-channels = at-loop .before in
+    let st = at-channels .before .before .before .before .before in
+    let head = at-loop .loop in
     let a = st .args in
-    rw (c .put-pixel .ensures) (grow-put (a .kind) (now (a .samples)) (now (a .numbers)) (st .pre .whole) (a .u) (now (a .out)) (head .c) (head .out) (head .at) (omega (arith, c .before .before .loop-test .taken)) (c .before .before .before .before .channels .ensures) (head .inv .1 .1))
+    rw (c .put-pixel .ensures) (grow-put (a .kind) (now (a .samples)) (now (a .numbers)) (st .pre .whole) (a .u) (now (a .out)) (head .c) (head .out) (head .at) (omega (arith, at-loop-test .loop-test .taken)) (at-channels .channels .ensures) (head .inv .1 .1))
 
 -- the test of number c
 test : (c : tie.After-doubled Inv-loop μ-loop) → let a = c .before .before .before .before .before .before .before .before .before .before .before .before .before .before .args in
     doubled (a .u) (getD (now (a .numbers)) (c .before .before .before .before .before .before .before .before .loop .c) 0) ≡ c .doubled .result
-test c = let a = c .before .before .before .before .before .before .before .before .before .before .before .before .before .before .args in sym (c .doubled .ensures ∙ ap (doubled (a .u)) (c .before .wide .ensures))
+test c =
+    let s = c .before .before .before .before .before .before .before .before .before .before .before .before .before .before in
+    let a = s .args in
+    sym (c .doubled .ensures ∙ ap (doubled (a .u)) (c .before .wide .ensures))
 
 -- where it passes, there is room for the new pixel
 new-ready : (c : tie.Then2 Inv-loop μ-loop) → let p = c .before .before .before .before .before .before in let head = p .before .before .before .loop in let a = p .before .before .before .before .before .before .before .before .before .args in
@@ -58,14 +64,20 @@ new-ready c =
 -- the test of the last number, and the last pixel still to come
 new-is : (c : tie.After-doubled2 Inv-loop μ-loop) → let a = c .before .before .before .before .before .before .before .before .before .before .args in
     c .doubled2 .result ≡ doubled (a .u) (getD (now (a .numbers)) (length (now (a .numbers)) - 1) 0)
-new-is c = let a = c .before .before .before .before .before .before .before .before .before .before .args in c .doubled2 .ensures ∙ ap (doubled (a .u)) (c .before .wide2 .ensures)
+new-is c =
+    let s = c .before .before .before .before .before .before .before .before .before .before in
+    let a = s .args in
+    c .doubled2 .ensures ∙ ap (doubled (a .u)) (c .before .wide2 .ensures)
 
 grown-up : (c : tie.After-doubled2 Inv-loop μ-loop) → let head = c .before .before .before .before .loop in let a = c .before .before .before .before .before .before .before .before .before .before .args in
     Growing (a .kind) (now (a .samples)) (now (a .numbers)) (a .u) (now (a .out)) (length (now (a .numbers)) - 1) (head .out) (head .at)
 grown-up c =
-    let head = c .before .before .before .before .loop in
-    let a = c .before .before .before .before .before .before .before .before .before .before .args in
-    let e : head .c ≡ length (now (a .numbers)) - 1 = omega (arith, c .before .before .before .loop-test .left) in
+    let at-loop-test = c .before .before .before in
+    let at-loop = at-loop-test .before in
+    let s = at-loop .before .before .before .before .before .before in
+    let head = at-loop .loop in
+    let a = s .args in
+    let e : head .c ≡ length (now (a .numbers)) - 1 = omega (arith, at-loop-test .loop-test .left) in
     rw e at (head .inv .1 .1)
 
 returns : tie.Need-returns Inv-loop μ-loop
@@ -87,7 +99,11 @@ put-pixel-requires : tie.Need-put-pixel-requires Inv-loop μ-loop
 put-pixel-requires c κs = needed (c .before)
 
 add-at : tie.Need-add-at Inv-loop μ-loop
-add-at c = let q = needed (c .before .before .before .before) in omega (arith, q .room, c .before .before .before .before .before .before .channels .ensures)
+add-at c =
+    let at-loop-test = c .before .before .before .before in
+    let at-channels = at-loop-test .before .before in
+    let q = needed at-loop-test in
+    omega (arith, q .room, at-channels .channels .ensures)
 
 mul-wide : tie.Need-mul-wide Inv-loop μ-loop
 mul-wide c = search needs
@@ -108,7 +124,9 @@ put-mean-requires : tie.Need-put-mean-requires Inv-loop μ-loop
 put-mean-requires c κs = new-ready (c .before)
 
 add-at-2 : tie.Need-add-at-2 Inv-loop μ-loop
-add-at-2 c = let q = new-ready (c .before .before .before .before) in omega (arith, q .room, c .before .before .before .before .before .before .before .before .before .before .before .before .before .before .channels .ensures, c .before .before .before .before .before .before .before .before .before .before .put-pixel .kept .1 .1 .1 .0)
+add-at-2 c =
+    let q = new-ready (c .before .before .before .before) in
+    omega (arith, q .room, c .before .before .before .before .before .before .before .before .before .before .before .before .before .before .channels .ensures, c .before .before .before .before .before .before .before .before .before .before .put-pixel .kept .1 .1 .1 .0)
 
 add-c : tie.Need-add-c Inv-loop μ-loop
 add-c c = search needs
@@ -160,11 +178,12 @@ same-length c = search needs
 
 returns-2 : tie.Need-returns-2 Inv-loop μ-loop
 returns-2 c =
-    let d = c .before .before .before .before in
+    let at-put-last = c .before .before in
+    let d = at-put-last .before .before in
     let st = d .before .before .before .before .before .before .before .before .before .before in
     let a = st .args in
     let head = d .before .before .before .before .loop in
-    (rw (new-is d) at (c .before .before .put-last .ensures))
+    (rw (new-is d) at (at-put-last .put-last .ensures))
     ∙ last-put (a .kind) (now (a .samples)) (now (a .numbers)) (st .pre .whole) (a .u) (now (a .out)) (length (now (a .numbers)) - 1) (head .out) (head .at) (omega (arith, d .before .before .before .before .before .before .if1 .left)) (grown-up d)
 
 pub grow-row-spec : {M : Type 1} → statement M

@@ -26,7 +26,8 @@ abbrev μ-loop : tie.MeasureT-loop
 test : (c : tie.After-stays Inv-loop μ-loop) → let a = c .before .before .before .before .before .before .before .before .before .args in
     stays (a .t) (getD (now (a .numbers)) (c .before .before .before .before .loop .c) 0) ≡ c .stays .result
 test c =
-    let a = c .before .before .before .before .before .before .before .before .before .args in
+    let s = c .before .before .before .before .before .before .before .before .before in
+    let a = s .args in
     sym (c .stays .ensures ∙ ap (stays (a .t)) (c .before .wide .ensures))
 
 -- where it passes, there is room for the pixel
@@ -34,8 +35,9 @@ needed : (c : tie.Then1 Inv-loop μ-loop) → let head = c .before .before .befo
     let a = c .before .before .before .before .before .before .before .before .before .before .args in
     PixelNeeded (channelsOf (a .kind)) (now (a .samples)) (head .c) (head .out) (head .at)
 needed c =
-    let head = c .before .before .before .before .before .loop in
-    let st = c .before .before .before .before .before .before .before .before .before .before in
+    let at-loop = c .before .before .before .before .before in
+    let st = at-loop .before .before .before .before .before in
+    let head = at-loop .loop in
     let a = st .args in
     keep-needed (a .kind) (now (a .samples)) (now (a .numbers)) (st .pre .whole) (a .t) (now (a .out)) (head .c) (head .out) (head .at) (omega arith) (test (c .before) ∙ c .if1 .taken) (head .inv .1 .1 .1)
 
@@ -64,8 +66,10 @@ put-pixel-requires : tie.Need-put-pixel-requires Inv-loop μ-loop
 put-pixel-requires c κs = needed (c .before)
 
 add-at : tie.Need-add-at Inv-loop μ-loop
-add-at c = let q = needed (c .before .before .before .before) in
-    let h = c .before .before .before .before .before .before .before .before .before in
+add-at c =
+    let at-if1 = c .before .before .before .before in
+    let h = at-if1 .before .before .before .before .before in
+    let q = needed at-if1 in
     omega (arith, q .room, h .before .channels .ensures)
 
 add-c : tie.Need-add-c Inv-loop μ-loop
@@ -98,8 +102,8 @@ same-length c = search needs
 
 returns : tie.Need-returns Inv-loop μ-loop
 returns c =
-    let head = c .before .loop in
     let st = c .before .before .before .before .before .before in
+    let head = c .before .loop in
     let a = st .args in
     keep-end (a .kind) (now (a .samples)) (now (a .numbers)) (st .pre .whole) (a .t) (now (a .out)) (head .c) (head .out) (head .at) (omega arith) (head .inv .1 .1 .1)
 

@@ -21,31 +21,52 @@ left-of-requires : tie.Need-left-of-requires
 left-of-requires c κs = search needs
 
 put-mean-requires : tie.Need-put-mean-requires
-put-mean-requires c κs = let st = c .before .before .before .before .before .before in let a = st .args in mean-needed (a .kind) (now (a .samples)) (a .last) (a .new) (now (a .out)) (a .at) (st .pre) (c .before .before .before .if1 .taken) (c .before .left-of .ensures)
+put-mean-requires c κs =
+    let at-if1 = c .before .before .before in
+    let st = at-if1 .before .before .before in
+    let a = st .args in
+    mean-needed (a .kind) (now (a .samples)) (a .last) (a .new) (now (a .out)) (a .at) (st .pre) (at-if1 .if1 .taken) (c .before .left-of .ensures)
 
 put-pixel-requires : tie.Need-put-pixel-requires
 put-pixel-requires c κs =
-    let st = c .before .before .before .before .before .before .before .before .before .before in
+    let at-put-mean = c .before .before .before in
+    let at-left-of = at-put-mean .before .before in
+    let at-channels = at-left-of .before in
+    let at-if1 = at-channels .before in
+    let st = at-if1 .before .before .before in
     let a = st .args in
-    pixel-needed (a .kind) (now (a .samples)) (a .last) (a .new) (now (a .out)) (a .at) (st .pre) (c .before .before .before .before .before .before .before .if1 .taken) (c .before .before .before .before .before .left-of .ensures) (c .before .before .before .before .before .before .channels .ensures) (c .before .before .before .put-mean .ensures)
+    pixel-needed (a .kind) (now (a .samples)) (a .last) (a .new) (now (a .out)) (a .at) (st .pre) (at-if1 .if1 .taken) (at-left-of .left-of .ensures) (at-channels .channels .ensures) (at-put-mean .put-mean .ensures)
 
 put-pixel-requires-2 : tie.Need-put-pixel-requires-2
-put-pixel-requires-2 c κs = let st = c .before .before .before .before in let a = st .args in alone-needed (a .kind) (now (a .samples)) (a .last) (a .new) (now (a .out)) (a .at) (st .pre) (c .before .if1 .left)
+put-pixel-requires-2 c κs =
+    let st = c .before .before .before .before in
+    let a = st .args in
+    alone-needed (a .kind) (now (a .samples)) (a .last) (a .new) (now (a .out)) (a .at) (st .pre) (c .before .if1 .left)
 
 same-length : tie.Need-same-length
 same-length c = search needs
 
 returns : tie.Need-returns
 returns c =
-    let st = c .before .before .before .before .before .before .before .before .before .before .before .before .before in
+    let at-put-pixel = c .before .before in
+    let at-put-mean = at-put-pixel .before .before .before .before in
+    let at-left-of = at-put-mean .before .before in
+    let at-channels = at-left-of .before in
+    let at-if1 = at-channels .before in
+    let st = at-if1 .before .before .before in
     let a = st .args in
-    both-put (a .kind) (now (a .samples)) (a .last) (a .new) (now (a .out)) (a .at) (st .pre) (c .before .before .before .before .before .before .before .before .before .before .if1 .taken) (c .before .before .before .before .before .before .before .before .left-of .ensures) (c .before .before .before .before .before .before .before .before .before .channels .ensures) (c .before .before .before .before .before .before .put-mean .ensures) (c .before .before .put-pixel .ensures)
+    both-put (a .kind) (now (a .samples)) (a .last) (a .new) (now (a .out)) (a .at) (st .pre) (at-if1 .if1 .taken) (at-left-of .left-of .ensures) (at-channels .channels .ensures) (at-put-mean .put-mean .ensures) (at-put-pixel .put-pixel .ensures)
 
 same-length-2 : tie.Need-same-length-2
 same-length-2 c = search needs
 
 returns-2 : tie.Need-returns-2
-returns-2 c = let st = c .before .before .before .before .before .before .before in let a = st .args in alone-put (a .kind) (now (a .samples)) (a .last) (a .new) (now (a .out)) (a .at) (st .pre) (c .before .before .before .before .if1 .left) (c .before .before .put-pixel2 .ensures)
+returns-2 c =
+    let at-put-pixel2 = c .before .before in
+    let at-if1 = at-put-pixel2 .before .before in
+    let st = at-if1 .before .before .before in
+    let a = st .args in
+    alone-put (a .kind) (now (a .samples)) (a .last) (a .new) (now (a .out)) (a .at) (st .pre) (at-if1 .if1 .left) (at-put-pixel2 .put-pixel2 .ensures)
 
 pub put-last-spec : {M : Type 1} → statement M
 put-last-spec =

@@ -35,10 +35,14 @@ returns-7 : tie.Need-returns-7
 returns-7 c = class-other _ (inl (search needs)) (inl (search needs)) (c .before .match .rest .0 .0 .0 .1) (c .before .match .rest .0 .0 .1) (c .before .match .rest .0 .1) (c .before .match .rest .1)
 
 returns-8 : tie.Need-returns-8
-returns-8 c = class-other _ (inr (search needs)) (inl (search needs)) (c .before .before .before .match .rest .0 .0 .0 .1) (c .before .before .before .match .rest .0 .0 .1) (c .before .before .before .match .rest .0 .1) (c .before .before .before .match .rest .1)
+returns-8 c =
+    let at-match = c .before .before .before in
+    class-other _ (inr (search needs)) (inl (search needs)) (at-match .match .rest .0 .0 .0 .1) (at-match .match .rest .0 .0 .1) (at-match .match .rest .0 .1) (at-match .match .rest .1)
 
 returns-9 : tie.Need-returns-9
-returns-9 c = class-other _ (inr (search needs)) (inr (search needs)) (c .before .before .before .before .match .rest .0 .0 .0 .1) (c .before .before .before .before .match .rest .0 .0 .1) (c .before .before .before .before .match .rest .0 .1) (c .before .before .before .before .match .rest .1)
+returns-9 c =
+    let at-match = c .before .before .before .before in
+    class-other _ (inr (search needs)) (inr (search needs)) (at-match .match .rest .0 .0 .0 .1) (at-match .match .rest .0 .0 .1) (at-match .match .rest .0 .1) (at-match .match .rest .1)
 
 pub class-of-spec : {M : Type 1} → statement M
 class-of-spec =

@@ -21,7 +21,12 @@ enum-told : tie.Need-enum-told
 enum-told c = search needs
 
 returns-2 : tie.Need-returns-2
-returns-2 c = let a = c .before .before .before .before .before .before .args in no-front widthGet widthRules pictureAnswer (now (a .input)) (now (a .out)) (c .before .before .before .if1 .left) refl (rw (c .enum-told .given .1) at (c .before .before .width-line .ensures))
+returns-2 c =
+    let at-width-line = c .before .before in
+    let at-if1 = at-width-line .before in
+    let s = at-if1 .before .before .before in
+    let a = s .args in
+    no-front widthGet widthRules pictureAnswer (now (a .input)) (now (a .out)) (at-if1 .if1 .left) refl (rw (c .enum-told .given .1) at (at-width-line .width-line .ensures))
 
 sub-draw-file : tie.Need-sub-draw-file
 sub-draw-file c = let t = rw (c .before .width .given .1) at (c .before .before .before .width-line .ensures) in omega (arith, t .moved .1)
@@ -39,7 +44,14 @@ same-length : tie.Need-same-length
 same-length c = search needs
 
 returns-3 : tie.Need-returns-3
-returns-3 c = let a = c .before .before .before .before .before .before .before .before .before .before .before .before .args in by-front widthGet widthRules pictureAnswer (now (a .input)) (now (a .out)) (c .before .before .before .before .before .before .before .before .before .if1 .left) (rw (c .before .before .before .before .before .before .width .given .1) at (c .before .before .before .before .before .before .before .before .width-line .ensures)) (c .before .before .draw-file .ensures)
+returns-3 c =
+    let at-draw-file = c .before .before in
+    let at-width = at-draw-file .before .before .before .before in
+    let at-width-line = at-width .before .before in
+    let at-if1 = at-width-line .before in
+    let s = at-if1 .before .before .before in
+    let a = s .args in
+    by-front widthGet widthRules pictureAnswer (now (a .input)) (now (a .out)) (at-if1 .if1 .left) (rw (at-width .width .given .1) at (at-width-line .width-line .ensures)) (at-draw-file .draw-file .ensures)
 
 pub draw-spec : {M : Type 1} → statement M
 draw-spec =

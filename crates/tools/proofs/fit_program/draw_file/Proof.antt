@@ -26,7 +26,11 @@ enum-told : tie.Need-enum-told
 enum-told c = search needs
 
 returns : tie.Need-returns
-returns c = let a = c .before .before .before .before .before .args in no-head (a .width) (now (a .out)) (rw (c .enum-told .given .1) at (c .before .before .header .ensures))
+returns c =
+    let at-header = c .before .before in
+    let s = at-header .before .before .before in
+    let a = s .args in
+    no-head (a .width) (now (a .out)) (rw (c .enum-told .given .1) at (at-header .header .ensures))
 
 channels-requires : tie.Need-channels-requires
 channels-requires c κs = search needs
@@ -41,12 +45,17 @@ slice-aggregate-draw-in : tie.Need-slice-aggregate-draw-in
 slice-aggregate-draw-in c = sym (length-take-le _ _ (room-most (c .before)))
 
 draw-in-requires : tie.Need-draw-in-requires
-draw-in-requires c κs = record {
-  held = λ p e.
-      length-take-le _ _ (room-most (c .before .before))
-      ∙ ap (λ n. 1024 * n) (c .before .before .channels .ensures ∙ sym (ap (λ (h : Head). channelsOf (h .size .kind)) (same-head (rw (c .before .before .before .before .before .head .given .1) at (c .before .before .before .before .before .before .before .header .ensures)) p e)));
-  room = c .before .before .before .before .before .before .before .before .before .before .pre;
-}
+draw-in-requires c κs =
+    let at-channels = c .before .before in
+    let at-head = at-channels .before .before .before in
+    let at-header = at-head .before .before in
+    let s = at-header .before .before .before in
+    record {
+      held = λ p e.
+          length-take-le _ _ (room-most at-channels)
+          ∙ ap (λ n. 1024 * n) (at-channels .channels .ensures ∙ sym (ap (λ (h : Head). channelsOf (h .size .kind)) (same-head (rw (at-head .head .given .1) at (at-header .header .ensures)) p e)));
+      room = s .pre;
+    }
 
 same-length : tie.Need-same-length
 same-length c = search needs

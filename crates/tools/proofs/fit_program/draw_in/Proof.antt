@@ -13,13 +13,17 @@ use Rattle.tools.proofs.fit_program.draw_in.Tie as tie
 -- the picture is shown
 shown : (c : tie.After-size) → let a = c .before .before .before .before .before .before .before .before .before .before .before .args in Drawing (now (a .file)) (a .width) (c .size .given .0 .0) (c .before .before .before .before .before .show .last .1 .1 .0)
 shown c =
-    let st = c .before .before .before .before .before .before .before .before .before .before .before in
+    let at-show = c .before .before .before .before .before in
+    let st = at-show .before .before .before .before .before .before in
     let a = st .args in
-    drawing (now (a .file)) (a .width) (now (a .picture)) (now (a .out)) _ (st .pre) refl (c .size .given .0 .0) (rw (c .size .given .1) at (c .before .before .before .before .before .show .ensures))
+    drawing (now (a .file)) (a .width) (now (a .picture)) (now (a .out)) _ (st .pre) refl (c .size .given .0 .0) (rw (c .size .given .1) at (at-show .show .ensures))
 
 -- its bytes are inside the space
 inside : (c : tie.After-put-picture-arg) → let z = c .before .before .before .before .before .size .given .0 .0 in z .height * (z .width * c .before .before .before .channels .result) ≤ length (c .before .before .before .before .before .before .before .before .before .before .show .last .1 .1 .0)
-inside c = rw (c .before .before .before .channels .ensures) (shown (c .before .before .before .before .before) .inside)
+inside c =
+    let at-channels = c .before .before .before in
+    let at-size = at-channels .before .before in
+    rw (at-channels .channels .ensures) (shown at-size .inside)
 
 slice-aggregate-show : tie.Need-slice-aggregate-show
 slice-aggregate-show c = search needs
@@ -37,7 +41,10 @@ mul-bytes : tie.Need-mul-bytes
 mul-bytes c = rw (c .before .channels .ensures) (omega (arith, shown (c .before .before .before) .row-most))
 
 mul-bytes-2 : tie.Need-mul-bytes-2
-mul-bytes-2 c = rw (c .before .before .channels .ensures) (omega (arith, shown (c .before .before .before .before) .few))
+mul-bytes-2 c =
+    let at-channels = c .before .before in
+    let at-size = at-channels .before .before in
+    rw (at-channels .channels .ensures) (omega (arith, shown at-size .few))
 
 slice-reshare-prefix-put-picture : tie.Need-slice-reshare-prefix-put-picture
 slice-reshare-prefix-put-picture c = inside c
@@ -46,7 +53,11 @@ slice-aggregate-put-picture : tie.Need-slice-aggregate-put-picture
 slice-aggregate-put-picture c = sym (length-take-le _ _ (inside (c .before)))
 
 put-picture-requires : tie.Need-put-picture-requires
-put-picture-requires c κs = record { room = rw (c .before .before .before .before .channels .ensures) (omega (arith, c .before .before .before .before .before .before .before .before .before .before .before .before .before .before .before .before .before .pre .room, shown (c .before .before .before .before .before .before) .text-most)) }
+put-picture-requires c κs =
+    let at-channels = c .before .before .before .before in
+    let at-size = at-channels .before .before in
+    let s = at-size .before .before .before .before .before .before .before .before .before .before .before in
+    record { room = rw (at-channels .channels .ensures) (omega (arith, s .pre .room, shown at-size .text-most)) }
 
 enum-known-why : tie.Need-enum-known-why
 enum-known-why c = search needs
@@ -58,17 +69,24 @@ same-length-2 : tie.Need-same-length-2
 same-length-2 c = search needs
 
 returns : tie.Need-returns
-returns c = draw-served (shown (c .before .before .before .before .before .before .before .before .before)) (c .before .before .before .before .before .before .before .before .before .before .before .before .before .before .before .before .before .before .before .before .pre .room) (rw (c .before .before .before .before .before .before .before .channels .ensures) at (c .before .before .put-picture .ensures))
+returns c =
+    let at-put-picture = c .before .before in
+    let at-channels = at-put-picture .before .before .before .before .before in
+    let at-size = at-channels .before .before in
+    let s = at-size .before .before .before .before .before .before .before .before .before .before .before in
+    draw-served (shown at-size) (s .pre .room) (rw (at-channels .channels .ensures) at (at-put-picture .put-picture .ensures))
 
 same-length-3 : tie.Need-same-length-3
 same-length-3 c = search needs
 
 returns-2 : tie.Need-returns-2
 returns-2 c =
-    let st = c .before .before .before .before .before .before .before .before .before .before .before .before in
+    let at-why = c .before in
+    let at-show = at-why .before .before .before .before .before in
+    let st = at-show .before .before .before .before .before .before in
     let a = st .args in
-    draw-refused (now (a .file)) (a .width) (now (a .picture)) (now (a .out)) _ (st .pre) refl (c .before .why .given .0 .0)
-    (rw (c .before .why .given .1) at (c .before .before .before .before .before .before .show .ensures))
+    draw-refused (now (a .file)) (a .width) (now (a .picture)) (now (a .out)) _ (st .pre) refl (at-why .why .given .0 .0)
+    (rw (at-why .why .given .1) at (at-show .show .ensures))
 
 pub draw-in-spec : {M : Type 1} → statement M
 draw-in-spec =

@@ -35,13 +35,20 @@ enum-told-2 c = search needs
 
 returns-2 : tie.Need-returns-2
 unfolding widthGet lineEnd
-returns-2 c = left-no-past lineEnd _ (left-then _ left-start (rw (c .before .before .before .before .before .width .given .1) at (c .before .before .before .before .before .before .before .digits .ensures))) (skipped lineEnd (omega arith) (rw (c .enum-told2 .given .1) at (c .before .before .skip .ensures)))
+returns-2 c =
+    let at-skip = c .before .before in
+    let at-width = at-skip .before .before .before in
+    let at-digits = at-width .before .before in
+    left-no-past lineEnd _ (left-then _ left-start (rw (at-width .width .given .1) at (at-digits .digits .ensures))) (skipped lineEnd (omega arith) (rw (c .enum-told2 .given .1) at (at-skip .skip .ensures)))
 
 returns-3 : tie.Need-returns-3
 unfolding widthGet lineEnd
 returns-3 c =
-    let last = skipped lineEnd (omega arith) (rw (c .before .d .given .1) at (c .before .before .before .skip .ensures)) in
-    left-give (omega (arith, last .moved .0)) (last .moved .1) (left-past lineEnd (left-then _ left-start (rw (c .before .before .before .before .before .before .width .given .1) at (c .before .before .before .before .before .before .before .before .digits .ensures))) last)
+    let at-skip = c .before .before .before in
+    let at-width = at-skip .before .before .before in
+    let at-digits = at-width .before .before in
+    let last = skipped lineEnd (omega arith) (rw (c .before .d .given .1) at (at-skip .skip .ensures)) in
+    left-give (omega (arith, last .moved .0)) (last .moved .1) (left-past lineEnd (left-then _ left-start (rw (at-width .width .given .1) at (at-digits .digits .ensures))) last)
 
 pub width-line-spec : {M : Type 1} → statement M
 width-line-spec =

@@ -32,14 +32,22 @@ enum-known-c-2 c = search needs
 
 returns-2 : tie.Need-returns-2
 unfolding greyMagic rgbMagic
-returns-2 c = magic-rgb (rw (c .before .before .before .before .before .enum-told .given .1) at (c .before .before .before .before .before .before .before .skip .ensures)) (rw (c .before .c2 .given .1) at (c .before .before .before .skip2 .ensures))
+returns-2 c =
+    let at-skip2 = c .before .before .before in
+    let at-enum-told = at-skip2 .before .before in
+    let at-skip = at-enum-told .before .before in
+    magic-rgb (rw (at-enum-told .enum-told .given .1) at (at-skip .skip .ensures)) (rw (c .before .c2 .given .1) at (at-skip2 .skip2 .ensures))
 
 enum-told-2 : tie.Need-enum-told-2
 enum-told-2 c = search needs
 
 returns-3 : tie.Need-returns-3
 unfolding greyMagic rgbMagic
-returns-3 c = magic-none (rw (c .before .before .before .before .enum-told .given .1) at (c .before .before .before .before .before .before .skip .ensures)) (rw (c .enum-told2 .given .1) at (c .before .before .skip2 .ensures))
+returns-3 c =
+    let at-skip2 = c .before .before in
+    let at-enum-told = at-skip2 .before .before in
+    let at-skip = at-enum-told .before .before in
+    magic-none (rw (at-enum-told .enum-told .given .1) at (at-skip .skip .ensures)) (rw (c .enum-told2 .given .1) at (at-skip2 .skip2 .ensures))
 
 pub magic-spec : {M : Type 1} → statement M
 magic-spec =

@@ -10,71 +10,95 @@ put-magic-requires : tie.Need-put-magic-requires
 put-magic-requires c κs = let s = c .before .before in omega (arith, s .pre .room, header-parts (s .args .size))
 
 put-number-requires : tie.Need-put-number-requires
-put-number-requires c κs = let s = c .before .before .before .before .before .before in omega (
-  arith,
-  s .pre .room,
-  header-parts (s .args .size),
-  c .before .before .before .put-magic .ensures .behind,
-  printed-length (c .before .before .before .put-magic .ensures),
-)
+put-number-requires c κs =
+    let at-put-magic = c .before .before .before in
+    let s = at-put-magic .before .before .before in
+    omega (
+      arith,
+      s .pre .room,
+      header-parts (s .args .size),
+      at-put-magic .put-magic .ensures .behind,
+      printed-length (at-put-magic .put-magic .ensures),
+    )
 
 slice-aggregate-put-bytes : tie.Need-slice-aggregate-put-bytes
 slice-aggregate-put-bytes c = search needs
 
 put-bytes-requires : tie.Need-put-bytes-requires
-put-bytes-requires c κs = let s = c .before .before .before .before .before .before .before .before .before .before .before in omega (
-  arith,
-  s .pre .room,
-  header-parts (s .args .size),
-  c .before .before .before .before .before .before .before .before .put-magic .ensures .behind,
-  printed-length (c .before .before .before .before .before .before .before .before .put-magic .ensures),
-  c .before .before .before .before .put-number .ensures .behind,
-  printed-length (c .before .before .before .before .put-number .ensures),
-)
+put-bytes-requires c κs =
+    let at-put-number = c .before .before .before .before in
+    let at-put-magic = at-put-number .before .before .before .before in
+    let s = at-put-magic .before .before .before in
+    omega (
+      arith,
+      s .pre .room,
+      header-parts (s .args .size),
+      at-put-magic .put-magic .ensures .behind,
+      printed-length (at-put-magic .put-magic .ensures),
+      at-put-number .put-number .ensures .behind,
+      printed-length (at-put-number .put-number .ensures),
+    )
 
 put-number-requires-2 : tie.Need-put-number-requires-2
-put-number-requires-2 c κs = let s = c .before .before .before .before .before .before .before .before .before .before .before .before .before .before .before in omega (
-  arith,
-  s .pre .room,
-  header-parts (s .args .size),
-  c .before .before .before .before .before .before .before .before .before .before .before .before .put-magic .ensures .behind,
-  printed-length (c .before .before .before .before .before .before .before .before .before .before .before .before .put-magic .ensures),
-  c .before .before .before .before .before .before .before .before .put-number .ensures .behind,
-  printed-length (c .before .before .before .before .before .before .before .before .put-number .ensures),
-  c .before .before .before .put-bytes .ensures .behind,
-  printed-length (c .before .before .before .put-bytes .ensures),
-)
+put-number-requires-2 c κs =
+    let at-put-bytes = c .before .before .before in
+    let at-put-number = at-put-bytes .before .before .before .before .before in
+    let at-put-magic = at-put-number .before .before .before .before in
+    let s = at-put-magic .before .before .before in
+    omega (
+      arith,
+      s .pre .room,
+      header-parts (s .args .size),
+      at-put-magic .put-magic .ensures .behind,
+      printed-length (at-put-magic .put-magic .ensures),
+      at-put-number .put-number .ensures .behind,
+      printed-length (at-put-number .put-number .ensures),
+      at-put-bytes .put-bytes .ensures .behind,
+      printed-length (at-put-bytes .put-bytes .ensures),
+    )
 
 slice-aggregate-put-bytes-2 : tie.Need-slice-aggregate-put-bytes-2
 slice-aggregate-put-bytes-2 c = search needs
 
 put-bytes-requires-2 : tie.Need-put-bytes-requires-2
-put-bytes-requires-2 c κs = let s = c .before .before .before .before .before .before .before .before .before .before .before .before .before .before .before .before .before .before .before .before in omega (
-  arith,
-  s .pre .room,
-  header-parts (s .args .size),
-  c .before .before .before .before .before .before .before .before .before .before .before .before .before .before .before .before .before .put-magic .ensures .behind,
-  printed-length (c .before .before .before .before .before .before .before .before .before .before .before .before .before .before .before .before .before .put-magic .ensures),
-  c .before .before .before .before .before .before .before .before .before .before .before .before .before .put-number .ensures .behind,
-  printed-length (c .before .before .before .before .before .before .before .before .before .before .before .before .before .put-number .ensures),
-  c .before .before .before .before .before .before .before .before .put-bytes .ensures .behind,
-  printed-length (c .before .before .before .before .before .before .before .before .put-bytes .ensures),
-  c .before .before .before .before .put-number2 .ensures .behind,
-  printed-length (c .before .before .before .before .put-number2 .ensures),
-)
+put-bytes-requires-2 c κs =
+    let at-put-number2 = c .before .before .before .before in
+    let at-put-bytes = at-put-number2 .before .before .before .before in
+    let at-put-number = at-put-bytes .before .before .before .before .before in
+    let at-put-magic = at-put-number .before .before .before .before in
+    let s = at-put-magic .before .before .before in
+    omega (
+      arith,
+      s .pre .room,
+      header-parts (s .args .size),
+      at-put-magic .put-magic .ensures .behind,
+      printed-length (at-put-magic .put-magic .ensures),
+      at-put-number .put-number .ensures .behind,
+      printed-length (at-put-number .put-number .ensures),
+      at-put-bytes .put-bytes .ensures .behind,
+      printed-length (at-put-bytes .put-bytes .ensures),
+      at-put-number2 .put-number2 .ensures .behind,
+      printed-length (at-put-number2 .put-number2 .ensures),
+    )
 
 same-length : tie.Need-same-length
 same-length c = search needs
 
 returns : tie.Need-returns
 returns c =
+    let at-put-bytes2 = c .before .before in
+    let at-put-number2 = at-put-bytes2 .before .before .before .before .before in
+    let at-put-bytes = at-put-number2 .before .before .before .before in
+    let at-put-number = at-put-bytes .before .before .before .before .before in
+    let at-put-magic = at-put-number .before .before .before .before in
+    let s = at-put-magic .before .before .before in
     header-all
-    (c .before .before .before .before .before .before .before .before .before .before .before .before .before .before .before .before .before .before .before .before .before .before .before .args .size)
-    (c .before .before .before .before .before .before .before .before .before .before .before .before .before .before .before .before .before .before .before .before .put-magic .ensures)
-    (c .before .before .before .before .before .before .before .before .before .before .before .before .before .before .before .before .put-number .ensures)
-    (c .before .before .before .before .before .before .before .before .before .before .before .put-bytes .ensures)
-    (c .before .before .before .before .before .before .before .put-number2 .ensures)
-    (c .before .before .put-bytes2 .ensures)
+    (s .args .size)
+    (at-put-magic .put-magic .ensures)
+    (at-put-number .put-number .ensures)
+    (at-put-bytes .put-bytes .ensures)
+    (at-put-number2 .put-number2 .ensures)
+    (at-put-bytes2 .put-bytes2 .ensures)
 
 pub put-header-spec : {M : Type 1} → statement M
 put-header-spec =

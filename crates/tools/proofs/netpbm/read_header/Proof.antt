@@ -32,7 +32,11 @@ enum-told-2 c = search needs
 
 returns-2 : tie.Need-returns-2
 unfolding headerGet blank maxval
-returns-2 c = left-no-then _ (left-then _ left-start (rw (c .before .before .before .before .kind .given .1) at (c .before .before .before .before .before .before .magic .ensures))) (rw (c .enum-told2 .given .1) at (c .before .before .digits .ensures))
+returns-2 c =
+    let at-digits = c .before .before in
+    let at-kind = at-digits .before .before in
+    let at-magic = at-kind .before .before in
+    left-no-then _ (left-then _ left-start (rw (at-kind .kind .given .1) at (at-magic .magic .ensures))) (rw (c .enum-told2 .given .1) at (at-digits .digits .ensures))
 
 slice-aggregate-skip : tie.Need-slice-aggregate-skip
 slice-aggregate-skip c = search needs
@@ -48,7 +52,13 @@ enum-told-3 c = search needs
 
 returns-3 : tie.Need-returns-3
 unfolding headerGet blank maxval
-returns-3 c = left-no-past blank _ (left-then _ (left-then _ left-start (rw (c .before .before .before .before .before .before .before .before .before .kind .given .1) at (c .before .before .before .before .before .before .before .before .before .before .before .magic .ensures))) (rw (c .before .before .before .before .before .width .given .1) at (c .before .before .before .before .before .before .before .digits .ensures))) (skipped blank (omega arith) (rw (c .enum-told3 .given .1) at (c .before .before .skip .ensures)))
+returns-3 c =
+    let at-skip = c .before .before in
+    let at-width = at-skip .before .before .before in
+    let at-digits = at-width .before .before in
+    let at-kind = at-digits .before .before in
+    let at-magic = at-kind .before .before in
+    left-no-past blank _ (left-then _ (left-then _ left-start (rw (at-kind .kind .given .1) at (at-magic .magic .ensures))) (rw (at-width .width .given .1) at (at-digits .digits .ensures))) (skipped blank (omega arith) (rw (c .enum-told3 .given .1) at (at-skip .skip .ensures)))
 
 digits-requires-2 : tie.Need-digits-requires-2
 digits-requires-2 c κs = search needs
@@ -61,7 +71,15 @@ enum-told-4 c = search needs
 
 returns-4 : tie.Need-returns-4
 unfolding headerGet blank maxval
-returns-4 c = left-no-then _ (left-past blank (left-then _ (left-then _ left-start (rw (c .before .before .before .before .before .before .before .before .before .before .before .before .before .kind .given .1) at (c .before .before .before .before .before .before .before .before .before .before .before .before .before .before .before .magic .ensures))) (rw (c .before .before .before .before .before .before .before .before .before .width .given .1) at (c .before .before .before .before .before .before .before .before .before .before .before .digits .ensures))) (skipped blank (omega arith) (rw (c .before .before .before .before .c .given .1) at (c .before .before .before .before .before .before .skip .ensures)))) (rw (c .enum-told4 .given .1) at (c .before .before .digits2 .ensures))
+returns-4 c =
+    let at-digits2 = c .before .before in
+    let at-c = at-digits2 .before .before in
+    let at-skip = at-c .before .before in
+    let at-width = at-skip .before .before .before in
+    let at-digits = at-width .before .before in
+    let at-kind = at-digits .before .before in
+    let at-magic = at-kind .before .before in
+    left-no-then _ (left-past blank (left-then _ (left-then _ left-start (rw (at-kind .kind .given .1) at (at-magic .magic .ensures))) (rw (at-width .width .given .1) at (at-digits .digits .ensures))) (skipped blank (omega arith) (rw (at-c .c .given .1) at (at-skip .skip .ensures)))) (rw (c .enum-told4 .given .1) at (at-digits2 .digits2 .ensures))
 
 slice-aggregate-skip-2 : tie.Need-slice-aggregate-skip-2
 slice-aggregate-skip-2 c = search needs
@@ -77,13 +95,32 @@ enum-told-5 c = search needs
 
 returns-5 : tie.Need-returns-5
 unfolding headerGet blank maxval
-returns-5 c = left-no-past maxval _ (left-then _ (left-past blank (left-then _ (left-then _ left-start (rw (c .before .before .before .before .before .before .before .before .before .before .before .before .before .before .before .before .before .before .kind .given .1) at (c .before .before .before .before .before .before .before .before .before .before .before .before .before .before .before .before .before .before .before .before .magic .ensures))) (rw (c .before .before .before .before .before .before .before .before .before .before .before .before .before .before .width .given .1) at (c .before .before .before .before .before .before .before .before .before .before .before .before .before .before .before .before .digits .ensures))) (skipped blank (omega arith) (rw (c .before .before .before .before .before .before .before .before .before .c .given .1) at (c .before .before .before .before .before .before .before .before .before .before .before .skip .ensures)))) (rw (c .before .before .before .before .before .height .given .1) at (c .before .before .before .before .before .before .before .digits2 .ensures))) (skipped maxval (omega arith) (rw (c .enum-told5 .given .1) at (c .before .before .skip2 .ensures)))
+returns-5 c =
+    let at-skip2 = c .before .before in
+    let at-height = at-skip2 .before .before .before in
+    let at-digits2 = at-height .before .before in
+    let at-c = at-digits2 .before .before in
+    let at-skip = at-c .before .before in
+    let at-width = at-skip .before .before .before in
+    let at-digits = at-width .before .before in
+    let at-kind = at-digits .before .before in
+    let at-magic = at-kind .before .before in
+    left-no-past maxval _ (left-then _ (left-past blank (left-then _ (left-then _ left-start (rw (at-kind .kind .given .1) at (at-magic .magic .ensures))) (rw (at-width .width .given .1) at (at-digits .digits .ensures))) (skipped blank (omega arith) (rw (at-c .c .given .1) at (at-skip .skip .ensures)))) (rw (at-height .height .given .1) at (at-digits2 .digits2 .ensures))) (skipped maxval (omega arith) (rw (c .enum-told5 .given .1) at (at-skip2 .skip2 .ensures)))
 
 returns-6 : tie.Need-returns-6
 unfolding headerGet blank maxval
 returns-6 c =
-    let last = skipped maxval (omega arith) (rw (c .before .e .given .1) at (c .before .before .before .skip2 .ensures)) in
-    left-give (omega (arith, last .moved .0)) (last .moved .1) (left-past maxval (left-then _ (left-past blank (left-then _ (left-then _ left-start (rw (c .before .before .before .before .before .before .before .before .before .before .before .before .before .before .before .before .before .before .before .kind .given .1) at (c .before .before .before .before .before .before .before .before .before .before .before .before .before .before .before .before .before .before .before .before .before .magic .ensures))) (rw (c .before .before .before .before .before .before .before .before .before .before .before .before .before .before .before .width .given .1) at (c .before .before .before .before .before .before .before .before .before .before .before .before .before .before .before .before .before .digits .ensures))) (skipped blank (omega arith) (rw (c .before .before .before .before .before .before .before .before .before .before .c .given .1) at (c .before .before .before .before .before .before .before .before .before .before .before .before .skip .ensures)))) (rw (c .before .before .before .before .before .before .height .given .1) at (c .before .before .before .before .before .before .before .before .digits2 .ensures))) last)
+    let at-skip2 = c .before .before .before in
+    let at-height = at-skip2 .before .before .before in
+    let at-digits2 = at-height .before .before in
+    let at-c = at-digits2 .before .before in
+    let at-skip = at-c .before .before in
+    let at-width = at-skip .before .before .before in
+    let at-digits = at-width .before .before in
+    let at-kind = at-digits .before .before in
+    let at-magic = at-kind .before .before in
+    let last = skipped maxval (omega arith) (rw (c .before .e .given .1) at (at-skip2 .skip2 .ensures)) in
+    left-give (omega (arith, last .moved .0)) (last .moved .1) (left-past maxval (left-then _ (left-past blank (left-then _ (left-then _ left-start (rw (at-kind .kind .given .1) at (at-magic .magic .ensures))) (rw (at-width .width .given .1) at (at-digits .digits .ensures))) (skipped blank (omega arith) (rw (at-c .c .given .1) at (at-skip .skip .ensures)))) (rw (at-height .height .given .1) at (at-digits2 .digits2 .ensures))) last)
 
 pub read-header-spec : {M : Type 1} → statement M
 read-header-spec =

@@ -23,9 +23,12 @@ same-length : tie.Need-same-length
 same-length c = search needs
 
 returns-2 : tie.Need-returns-2
-returns-2 c = let s = c .before .before .before .before .before .before .before .before in
-    rw (c .before .before .before .before .before .answer2 .given .1)
-    (finished-refused (c .before .before .before .before .before .answer2 .given .0 .0) (omega (arith, s .pre, refused-most (numberOf (c .before .before .before .before .before .answer2 .given .0 .0)) (number-below (c .before .before .before .before .before .answer2 .given .0 .0)))) (c .before .before .put-refusal .ensures))
+returns-2 c =
+    let at-put-refusal = c .before .before in
+    let at-answer2 = at-put-refusal .before .before .before in
+    let s = at-answer2 .before .before .before in
+    rw (at-answer2 .answer2 .given .1)
+    (finished-refused (at-answer2 .answer2 .given .0 .0) (omega (arith, s .pre, refused-most (numberOf (at-answer2 .answer2 .given .0 .0)) (number-below (at-answer2 .answer2 .given .0 .0)))) (at-put-refusal .put-refusal .ensures))
 
 pub finish-spec : {M : Type 1} → statement M
 finish-spec =

@@ -17,13 +17,19 @@ same-length : tie.Need-same-length
 same-length c = search needs
 
 returns : tie.Need-returns
-returns c = absurd (never-short (c .before .before .before .before .print-bytes .ensures) (c .before .before .before .before .before .before .before .before .pre) (c .enum-told .given .1))
+returns c =
+    let at-print-bytes = c .before .before .before .before in
+    let s = at-print-bytes .before .before .before .before in
+    absurd (never-short (at-print-bytes .print-bytes .ensures) (s .pre) (c .enum-told .given .1))
 
 same-length-2 : tie.Need-same-length-2
 same-length-2 c = search needs
 
 returns-2 : tie.Need-returns-2
-returns-2 c = printed-next (c .before .before .before .before .before .print-bytes .ensures) (c .before .before .before .before .before .before .before .before .before .pre) (c .before .end .given .1)
+returns-2 c =
+    let at-print-bytes = c .before .before .before .before .before in
+    let s = at-print-bytes .before .before .before .before in
+    printed-next (at-print-bytes .print-bytes .ensures) (s .pre) (c .before .end .given .1)
 
 pub put-bytes-spec : {M : Type 1} → statement M
 put-bytes-spec =

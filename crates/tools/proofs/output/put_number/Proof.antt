@@ -17,13 +17,19 @@ same-length : tie.Need-same-length
 same-length c = search needs
 
 returns : tie.Need-returns
-returns c = absurd (never-short (c .before .before .before .before .print-number .ensures) (c .before .before .before .before .before .before .before .pre) (c .enum-told .given .1))
+returns c =
+    let at-print-number = c .before .before .before .before in
+    let s = at-print-number .before .before .before in
+    absurd (never-short (at-print-number .print-number .ensures) (s .pre) (c .enum-told .given .1))
 
 same-length-2 : tie.Need-same-length-2
 same-length-2 c = search needs
 
 returns-2 : tie.Need-returns-2
-returns-2 c = printed-next (c .before .before .before .before .before .print-number .ensures) (c .before .before .before .before .before .before .before .before .pre) (c .before .end .given .1)
+returns-2 c =
+    let at-print-number = c .before .before .before .before .before in
+    let s = at-print-number .before .before .before in
+    printed-next (at-print-number .print-number .ensures) (s .pre) (c .before .end .given .1)
 
 pub put-number-spec : {M : Type 1} → statement M
 put-number-spec =

@@ -15,8 +15,11 @@ use Rattle.tools.proofs.output.put_refusal.Tie as tie
 
 -- the number has at most three digits
 short : (c : tie.After-put-number) → length (digits (c .before .before .before .before .before .before .before .number .result)) ≤ 3
-short c = let w = c .before .before .before .before .before .before .before .before .before .args .why in
-    rw (c .before .before .before .before .before .before .before .number .ensures) (digits-most (numberOf w) (number-below w))
+short c =
+    let at-number = c .before .before .before .before .before .before .before in
+    let s = at-number .before .before in
+    let w = s .args .why in
+    rw (at-number .number .ensures) (digits-most (numberOf w) (number-below w))
 
 number-requires : tie.Need-number-requires
 number-requires c κs = search needs
@@ -28,23 +31,29 @@ put-bytes-requires : tie.Need-put-bytes-requires
 put-bytes-requires c κs = omega (arith, c .before .before .before .before .pre)
 
 put-number-requires : tie.Need-put-number-requires
-put-number-requires c κs = let s = c .before .before .before .before .before .before .before .before in
-    rw (c .before .before .before .before .before .before .number .ensures)
-    (omega (arith, s .pre, digits-most (numberOf (s .args .why)) (number-below (s .args .why)), c .before .before .before .put-bytes .ensures .behind, printed-length (c .before .before .before .put-bytes .ensures)))
+put-number-requires c κs =
+    let at-put-bytes = c .before .before .before in
+    let at-number = at-put-bytes .before .before .before in
+    let s = at-number .before .before in
+    rw (at-number .number .ensures)
+    (omega (arith, s .pre, digits-most (numberOf (s .args .why)) (number-below (s .args .why)), at-put-bytes .put-bytes .ensures .behind, printed-length (at-put-bytes .put-bytes .ensures)))
 
 slice-aggregate-put-bytes-2 : tie.Need-slice-aggregate-put-bytes-2
 slice-aggregate-put-bytes-2 c = search needs
 
 put-bytes-requires-2 : tie.Need-put-bytes-requires-2
-put-bytes-requires-2 c κs = let s = c .before .before .before .before .before .before .before .before .before .before .before .before .before in
+put-bytes-requires-2 c κs =
+    let at-put-number = c .before .before .before .before in
+    let at-put-bytes = at-put-number .before .before .before .before in
+    let s = at-put-bytes .before .before .before .before .before in
     omega (
       arith,
       s .pre,
-      short (c .before .before .before .before),
-      c .before .before .before .before .before .before .before .before .put-bytes .ensures .behind,
-      printed-length (c .before .before .before .before .before .before .before .before .put-bytes .ensures),
-      c .before .before .before .before .put-number .ensures .behind,
-      printed-length (c .before .before .before .before .put-number .ensures),
+      short at-put-number,
+      at-put-bytes .put-bytes .ensures .behind,
+      printed-length (at-put-bytes .put-bytes .ensures),
+      at-put-number .put-number .ensures .behind,
+      printed-length (at-put-number .put-number .ensures),
     )
 
 same-length : tie.Need-same-length
@@ -52,7 +61,12 @@ same-length c = search needs
 
 returns : tie.Need-returns
 unfolding refusedText refusedWord closed
-returns c = rw (← c .before .before .before .before .before .before .before .before .before .before .before .before .before .before .number .ensures) (printed-more (c .before .before .before .before .before .before .before .before .before .before .before .put-bytes .ensures) (printed-more (c .before .before .before .before .before .before .before .put-number .ensures) (c .before .before .put-bytes2 .ensures)))
+returns c =
+    let at-put-bytes2 = c .before .before in
+    let at-put-number = at-put-bytes2 .before .before .before .before .before in
+    let at-put-bytes = at-put-number .before .before .before .before in
+    let at-number = at-put-bytes .before .before .before in
+    rw (← at-number .number .ensures) (printed-more (at-put-bytes .put-bytes .ensures) (printed-more (at-put-number .put-number .ensures) (at-put-bytes2 .put-bytes2 .ensures)))
 
 pub put-refusal-spec : {M : Type 1} → statement M
 put-refusal-spec =

@@ -22,7 +22,12 @@ enum-told : tie.Need-enum-told
 enum-told c = search needs
 
 returns-2 : tie.Need-returns-2
-returns-2 c = let a = c .before .before .before .before .before .before .args in no-front headerGet pictureRules fileAnswer (now (a .input)) (now (a .out)) (c .before .before .before .if1 .left) refl (rw (c .enum-told .given .1) at (c .before .before .read-header .ensures))
+returns-2 c =
+    let at-read-header = c .before .before in
+    let at-if1 = at-read-header .before in
+    let s = at-if1 .before .before .before in
+    let a = s .args in
+    no-front headerGet pictureRules fileAnswer (now (a .input)) (now (a .out)) (at-if1 .if1 .left) refl (rw (c .enum-told .given .1) at (at-read-header .read-header .ensures))
 
 sub-build-file : tie.Need-sub-build-file
 sub-build-file c = let t = rw (c .before .size .given .1) at (c .before .before .before .read-header .ensures) in omega (arith, t .moved .1)
@@ -40,7 +45,14 @@ same-length : tie.Need-same-length
 same-length c = search needs
 
 returns-3 : tie.Need-returns-3
-returns-3 c = let a = c .before .before .before .before .before .before .before .before .before .before .before .before .args in by-front headerGet pictureRules fileAnswer (now (a .input)) (now (a .out)) (c .before .before .before .before .before .before .before .before .before .if1 .left) (rw (c .before .before .before .before .before .before .size .given .1) at (c .before .before .before .before .before .before .before .before .read-header .ensures)) (c .before .before .build-file .ensures)
+returns-3 c =
+    let at-build-file = c .before .before in
+    let at-size = at-build-file .before .before .before .before in
+    let at-read-header = at-size .before .before in
+    let at-if1 = at-read-header .before in
+    let s = at-if1 .before .before .before in
+    let a = s .args in
+    by-front headerGet pictureRules fileAnswer (now (a .input)) (now (a .out)) (at-if1 .if1 .left) (rw (at-size .size .given .1) at (at-read-header .read-header .ensures)) (at-build-file .build-file .ensures)
 
 pub build-spec : {M : Type 1} → statement M
 build-spec =

@@ -21,7 +21,10 @@ none : (c : tie.After-enum-told) → let a = c .before .before .before .before .
 none c = sym (c .before .before .held .ensures) ∙ ap given (c .enum-told .given .1)
 
 bytes : (c : tie.After-enum-told) → All (λ (b : ℕ). b < 256) (now (c .before .before .before .before .before .args .samples))
-bytes c = all-bytes (now (c .before .before .before .before .before .args .samples)) (λ i. omega (arith, c .before .before .before .before .shared-slice-known .given i))
+bytes c =
+    let at-shared-slice-known = c .before .before .before .before in
+    let s = at-shared-slice-known .before in
+    all-bytes (now (s .args .samples)) (λ i. omega (arith, at-shared-slice-known .shared-slice-known .given i))
 
 held-requires : tie.Need-held-requires
 held-requires c κs = search needs
@@ -30,8 +33,11 @@ enum-known-why : tie.Need-enum-known-why
 enum-known-why c = search needs
 
 returns : tie.Need-returns
-returns c = let a = c .before .before .before .before .before .before .args in let why = c .before .why .given in
-    refused-so (why .0 .0) (fileAnswer (some (a .size, now (a .samples)))) (now (a .out)) (sym (ap given (why .1)) ∙ c .before .before .before .held .ensures)
+returns c =
+    let at-held = c .before .before .before in
+    let s = at-held .before .before .before in
+    let a = s .args in let why = c .before .why .given in
+    refused-so (why .0 .0) (fileAnswer (some (a .size, now (a .samples)))) (now (a .out)) (sym (ap given (why .1)) ∙ at-held .held .ensures)
 
 enum-told : tie.Need-enum-told
 enum-told c = search needs
@@ -55,15 +61,24 @@ same-length : tie.Need-same-length
 same-length c = search needs
 
 returns-2 : tie.Need-returns-2
-returns-2 c = let st = c .before .before .before .before .before .before .before .before .before .before .before .before .before .before in let a = st .args in
-    file-answered (a .size) (now (a .samples)) (none (c .before .before .before .before .before .before .before .before .before)) (bytes (c .before .before .before .before .before .before .before .before .before)) (now (a .out)) _ (st .pre) refl (rw (c .before .n .given .1) at (c .before .before .before .before .before .before .build .ensures))
+returns-2 c =
+    let at-build = c .before .before .before .before .before .before in
+    let at-enum-told = at-build .before .before .before in
+    let st = at-enum-told .before .before .before .before .before in
+    let a = st .args in
+    file-answered (a .size) (now (a .samples)) (none at-enum-told) (bytes at-enum-told) (now (a .out)) _ (st .pre) refl (rw (c .before .n .given .1) at (at-build .build .ensures))
 
 same-length-2 : tie.Need-same-length-2
 same-length-2 c = search needs
 
 returns-3 : tie.Need-returns-3
-returns-3 c = let st = c .before .before .before .before .before .before .before .before .before .before .before .before .before .before in let a = st .args in
-    absurd (never-refused (a .size) (now (a .samples)) (none (c .before .before .before .before .before .before .before .before .before)) (bytes (c .before .before .before .before .before .before .before .before .before)) (now (a .out)) _ (st .pre) refl (c .before .why2 .given .0 .0) (rw (c .before .why2 .given .1) at (c .before .before .before .before .before .before .build .ensures)))
+returns-3 c =
+    let at-why2 = c .before in
+    let at-build = at-why2 .before .before .before .before .before in
+    let at-enum-told = at-build .before .before .before in
+    let st = at-enum-told .before .before .before .before .before in
+    let a = st .args in
+    absurd (never-refused (a .size) (now (a .samples)) (none at-enum-told) (bytes at-enum-told) (now (a .out)) _ (st .pre) refl (at-why2 .why2 .given .0 .0) (rw (at-why2 .why2 .given .1) at (at-build .build .ensures)))
 
 pub build-file-spec : {M : Type 1} → statement M
 build-file-spec =

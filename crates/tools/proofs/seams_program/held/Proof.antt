@@ -35,16 +35,27 @@ enum-told-2 : tie.Need-enum-told-2
 enum-told-2 c = search needs
 
 returns : tie.Need-returns
-returns c = let a = c .before .before .before .args in let why = c .enum-told2 .given in refused-answer (c .before .before .sized .result) (why .0 .0) (why .1) (sizeRules (a .size) (a .bytes)) (pixelsRule (a .size) ∷ []) (c .before .before .sized .ensures)
+returns c =
+    let at-sized = c .before .before in
+    let s = at-sized .before in
+    let a = s .args in
+    let why = c .enum-told2 .given in
+    refused-answer (at-sized .sized .result) (why .0 .0) (why .1) (sizeRules (a .size) (a .bytes)) (pixelsRule (a .size) ∷ []) (at-sized .sized .ensures)
 
 mul-if1 : tie.Need-mul-if1
 mul-if1 c = omega (arith, few (c .before))
 
 returns-2 : tie.Need-returns-2
-returns-2 c = sym (rest (c .before .before) ∙ rw (lt-ltb mostPixels (pixels (c .before .before .before .before .before .args .size)) (c .if1 .taken)))
+returns-2 c =
+    let at-enum-told = c .before .before in
+    let s = at-enum-told .before .before .before in
+    sym (rest at-enum-told ∙ rw (lt-ltb mostPixels (pixels (s .args .size)) (c .if1 .taken)))
 
 returns-3 : tie.Need-returns-3
-returns-3 c = ap given (c .before .before .enum-told .given .1) ∙ sym (rest (c .before .before) ∙ rw (le-ltb mostPixels (pixels (c .before .before .before .before .before .args .size)) (c .if1 .left)))
+returns-3 c =
+    let at-enum-told = c .before .before in
+    let s = at-enum-told .before .before .before in
+    ap given (at-enum-told .enum-told .given .1) ∙ sym (rest at-enum-told ∙ rw (le-ltb mostPixels (pixels (s .args .size)) (c .if1 .left)))
 
 pub held-spec : {M : Type 1} → statement M
 held-spec =

@@ -34,8 +34,12 @@ digits-requires c κs = search needs
 
 returns : tie.Need-returns Inv-loop μ-loop
 returns c =
-    let d = digit-found (getD ((c .before .before .before .before .before .before .before .before .args) .text .now) ((c .before .before .before .before .before .before .loop) .at) 0) ((c .before .enum-told) .given .1) ((c .before .before .before .class-of) .ensures) in
-    skipping-found ((c .before .before .before .before .before .before .loop) .inv) ((c .before .before .before .before .before .loop-test) .taken) d ((c .digits) .ensures)
+    let at-class-of = c .before .before .before in
+    let at-loop-test = at-class-of .before .before in
+    let at-loop = at-loop-test .before in
+    let s = at-loop .before .before in
+    let d = digit-found (getD (s .args .text .now) (at-loop .loop .at) 0) (c .before .enum-told .given .1) (at-class-of .class-of .ensures) in
+    skipping-found (at-loop .loop .inv) (at-loop-test .loop-test .taken) d (c .digits .ensures)
 
 add-at : tie.Need-add-at Inv-loop μ-loop
 add-at c = search needs
@@ -45,11 +49,14 @@ loop-less c = search needs
 
 loop-again : tie.Need-loop-again Inv-loop μ-loop
 loop-again c =
-    let d = arm-no-digit (getD ((c .before .before .before .before .before .before .args) .text .now) ((c .before .before .before .before .loop) .at) 0) ((c .before .class-of) .ensures) ((c .match) .keys2) in
-    skipping-next ((c .before .before .before .before .loop) .inv) ((c .before .before .before .loop-test) .taken) d
+    let at-loop-test = c .before .before .before in
+    let at-loop = at-loop-test .before in
+    let s = at-loop .before .before in
+    let d = arm-no-digit (getD (s .args .text .now) (at-loop .loop .at) 0) (c .before .class-of .ensures) (c .match .keys2) in
+    skipping-next (at-loop .loop .inv) (at-loop-test .loop-test .taken) d
 
 returns-2 : tie.Need-returns-2 Inv-loop μ-loop
-returns-2 c = skipping-end ((c .before .loop) .inv) ((c .loop-test) .left)
+returns-2 c = skipping-end (c .before .loop .inv) (c .loop-test .left)
 
 pub figure-spec : {M : Type 1} → statement M
 figure-spec =

@@ -41,7 +41,11 @@ enum-told-2 c = search needs
 
 returns-2 : tie.Need-returns-2
 unfolding headGet start blank range closed
-returns-2 c = left-no-numbered blank _ (left-past start left-start (rw (c .before .before .before .before .before .a .given .1) at (c .before .before .before .before .before .before .before .past .ensures))) (rw (c .enum-told2 .given .1) at (c .before .before .numbered .ensures))
+returns-2 c =
+    let at-numbered = c .before .before in
+    let at-a = at-numbered .before .before .before in
+    let at-past = at-a .before .before in
+    left-no-numbered blank _ (left-past start left-start (rw (at-a .a .given .1) at (at-past .past .ensures))) (rw (c .enum-told2 .given .1) at (at-numbered .numbered .ensures))
 
 slice-aggregate-numbered-2 : tie.Need-slice-aggregate-numbered-2
 slice-aggregate-numbered-2 c = search needs
@@ -57,7 +61,13 @@ enum-told-3 c = search needs
 
 returns-3 : tie.Need-returns-3
 unfolding headGet start blank range closed
-returns-3 c = left-no-numbered blank _ (left-numbered blank _ (left-past start left-start (rw (c .before .before .before .before .before .before .before .before .before .before .a .given .1) at (c .before .before .before .before .before .before .before .before .before .before .before .before .past .ensures))) (rw (c .before .before .before .before .before .width .given .1) at (c .before .before .before .before .before .before .before .numbered .ensures))) (rw (c .enum-told3 .given .1) at (c .before .before .numbered2 .ensures))
+returns-3 c =
+    let at-numbered2 = c .before .before in
+    let at-width = at-numbered2 .before .before .before in
+    let at-numbered = at-width .before .before in
+    let at-a = at-numbered .before .before .before in
+    let at-past = at-a .before .before in
+    left-no-numbered blank _ (left-numbered blank _ (left-past start left-start (rw (at-a .a .given .1) at (at-past .past .ensures))) (rw (at-width .width .given .1) at (at-numbered .numbered .ensures))) (rw (c .enum-told3 .given .1) at (at-numbered2 .numbered2 .ensures))
 
 kind-requires : tie.Need-kind-requires
 kind-requires c κs = search needs
@@ -70,7 +80,15 @@ enum-told-4 c = search needs
 
 returns-4 : tie.Need-returns-4
 unfolding headGet start blank range closed
-returns-4 c = left-no-then _ (left-numbered blank _ (left-numbered blank _ (left-past start left-start (rw (c .before .before .before .before .before .before .before .before .before .before .before .before .before .before .a .given .1) at (c .before .before .before .before .before .before .before .before .before .before .before .before .before .before .before .before .past .ensures))) (rw (c .before .before .before .before .before .before .before .before .before .width .given .1) at (c .before .before .before .before .before .before .before .before .before .before .before .numbered .ensures))) (rw (c .before .before .before .before .height .given .1) at (c .before .before .before .before .before .before .numbered2 .ensures))) (rw (c .enum-told4 .given .1) at (c .before .before .kind .ensures))
+returns-4 c =
+    let at-kind = c .before .before in
+    let at-height = at-kind .before .before in
+    let at-numbered2 = at-height .before .before in
+    let at-width = at-numbered2 .before .before .before in
+    let at-numbered = at-width .before .before in
+    let at-a = at-numbered .before .before .before in
+    let at-past = at-a .before .before in
+    left-no-then _ (left-numbered blank _ (left-numbered blank _ (left-past start left-start (rw (at-a .a .given .1) at (at-past .past .ensures))) (rw (at-width .width .given .1) at (at-numbered .numbered .ensures))) (rw (at-height .height .given .1) at (at-numbered2 .numbered2 .ensures))) (rw (c .enum-told4 .given .1) at (at-kind .kind .ensures))
 
 slice-aggregate-past-2 : tie.Need-slice-aggregate-past-2
 slice-aggregate-past-2 c = search needs
@@ -86,7 +104,17 @@ enum-told-5 c = search needs
 
 returns-5 : tie.Need-returns-5
 unfolding headGet start blank range closed
-returns-5 c = left-no-past range _ (left-then _ (left-numbered blank _ (left-numbered blank _ (left-past start left-start (rw (c .before .before .before .before .before .before .before .before .before .before .before .before .before .before .before .before .before .before .before .a .given .1) at (c .before .before .before .before .before .before .before .before .before .before .before .before .before .before .before .before .before .before .before .before .before .past .ensures))) (rw (c .before .before .before .before .before .before .before .before .before .before .before .before .before .before .width .given .1) at (c .before .before .before .before .before .before .before .before .before .before .before .before .before .before .before .before .numbered .ensures))) (rw (c .before .before .before .before .before .before .before .before .before .height .given .1) at (c .before .before .before .before .before .before .before .before .before .before .before .numbered2 .ensures))) (rw (c .before .before .before .before .before .kind2 .given .1) at (c .before .before .before .before .before .before .before .kind .ensures))) (rw (c .enum-told5 .given .1) at (c .before .before .past2 .ensures))
+returns-5 c =
+    let at-past2 = c .before .before in
+    let at-kind2 = at-past2 .before .before .before in
+    let at-kind = at-kind2 .before .before in
+    let at-height = at-kind .before .before in
+    let at-numbered2 = at-height .before .before in
+    let at-width = at-numbered2 .before .before .before in
+    let at-numbered = at-width .before .before in
+    let at-a = at-numbered .before .before .before in
+    let at-past = at-a .before .before in
+    left-no-past range _ (left-then _ (left-numbered blank _ (left-numbered blank _ (left-past start left-start (rw (at-a .a .given .1) at (at-past .past .ensures))) (rw (at-width .width .given .1) at (at-numbered .numbered .ensures))) (rw (at-height .height .given .1) at (at-numbered2 .numbered2 .ensures))) (rw (at-kind2 .kind2 .given .1) at (at-kind .kind .ensures))) (rw (c .enum-told5 .given .1) at (at-past2 .past2 .ensures))
 
 slice-aggregate-numbered-3 : tie.Need-slice-aggregate-numbered-3
 slice-aggregate-numbered-3 c = search needs
@@ -102,7 +130,19 @@ enum-told-6 c = search needs
 
 returns-6 : tie.Need-returns-6
 unfolding headGet start blank range closed
-returns-6 c = left-no-numbered blank _ (left-past range (left-then _ (left-numbered blank _ (left-numbered blank _ (left-past start left-start (rw (c .before .before .before .before .before .before .before .before .before .before .before .before .before .before .before .before .before .before .before .before .before .before .before .before .a .given .1) at (c .before .before .before .before .before .before .before .before .before .before .before .before .before .before .before .before .before .before .before .before .before .before .before .before .before .before .past .ensures))) (rw (c .before .before .before .before .before .before .before .before .before .before .before .before .before .before .before .before .before .before .before .width .given .1) at (c .before .before .before .before .before .before .before .before .before .before .before .before .before .before .before .before .before .before .before .before .before .numbered .ensures))) (rw (c .before .before .before .before .before .before .before .before .before .before .before .before .before .before .height .given .1) at (c .before .before .before .before .before .before .before .before .before .before .before .before .before .before .before .before .numbered2 .ensures))) (rw (c .before .before .before .before .before .before .before .before .before .before .kind2 .given .1) at (c .before .before .before .before .before .before .before .before .before .before .before .before .kind .ensures))) (rw (c .before .before .before .before .before .e .given .1) at (c .before .before .before .before .before .before .before .past2 .ensures))) (rw (c .enum-told6 .given .1) at (c .before .before .numbered3 .ensures))
+returns-6 c =
+    let at-numbered3 = c .before .before in
+    let at-e = at-numbered3 .before .before .before in
+    let at-past2 = at-e .before .before in
+    let at-kind2 = at-past2 .before .before .before in
+    let at-kind = at-kind2 .before .before in
+    let at-height = at-kind .before .before in
+    let at-numbered2 = at-height .before .before in
+    let at-width = at-numbered2 .before .before .before in
+    let at-numbered = at-width .before .before in
+    let at-a = at-numbered .before .before .before in
+    let at-past = at-a .before .before in
+    left-no-numbered blank _ (left-past range (left-then _ (left-numbered blank _ (left-numbered blank _ (left-past start left-start (rw (at-a .a .given .1) at (at-past .past .ensures))) (rw (at-width .width .given .1) at (at-numbered .numbered .ensures))) (rw (at-height .height .given .1) at (at-numbered2 .numbered2 .ensures))) (rw (at-kind2 .kind2 .given .1) at (at-kind .kind .ensures))) (rw (at-e .e .given .1) at (at-past2 .past2 .ensures))) (rw (c .enum-told6 .given .1) at (at-numbered3 .numbered3 .ensures))
 
 slice-aggregate-numbered-4 : tie.Need-slice-aggregate-numbered-4
 slice-aggregate-numbered-4 c = search needs
@@ -118,18 +158,47 @@ enum-told-7 c = search needs
 
 returns-7 : tie.Need-returns-7
 unfolding headGet start blank range closed
-returns-7 c = left-no-numbered closed _ (left-numbered blank _ (left-past range (left-then _ (left-numbered blank _ (left-numbered blank _ (left-past start left-start (rw (c .before .before .before .before .before .before .before .before .before .before .before .before .before .before .before .before .before .before .before .before .before .before .before .before .before .before .before .before .before .a .given .1) at (c .before .before .before .before .before .before .before .before .before .before .before .before .before .before .before .before .before .before .before .before .before .before .before .before .before .before .before .before .before .before .before .past .ensures))) (rw (c .before .before .before .before .before .before .before .before .before .before .before .before .before .before .before .before .before .before .before .before .before .before .before .before .width .given .1) at (c .before .before .before .before .before .before .before .before .before .before .before .before .before .before .before .before .before .before .before .before .before .before .before .before .before .before .numbered .ensures))) (rw (c .before .before .before .before .before .before .before .before .before .before .before .before .before .before .before .before .before .before .before .height .given .1) at (c .before .before .before .before .before .before .before .before .before .before .before .before .before .before .before .before .before .before .before .before .before .numbered2 .ensures))) (rw (c .before .before .before .before .before .before .before .before .before .before .before .before .before .before .before .kind2 .given .1) at (c .before .before .before .before .before .before .before .before .before .before .before .before .before .before .before .before .before .kind .ensures))) (rw (c .before .before .before .before .before .before .before .before .before .before .e .given .1) at (c .before .before .before .before .before .before .before .before .before .before .before .before .past2 .ensures))) (rw (c .before .before .before .before .before .depth .given .1) at (c .before .before .before .before .before .before .before .numbered3 .ensures))) (rw (c .enum-told7 .given .1) at (c .before .before .numbered4 .ensures))
+returns-7 c =
+    let at-numbered4 = c .before .before in
+    let at-depth = at-numbered4 .before .before .before in
+    let at-numbered3 = at-depth .before .before in
+    let at-e = at-numbered3 .before .before .before in
+    let at-past2 = at-e .before .before in
+    let at-kind2 = at-past2 .before .before .before in
+    let at-kind = at-kind2 .before .before in
+    let at-height = at-kind .before .before in
+    let at-numbered2 = at-height .before .before in
+    let at-width = at-numbered2 .before .before .before in
+    let at-numbered = at-width .before .before in
+    let at-a = at-numbered .before .before .before in
+    let at-past = at-a .before .before in
+    left-no-numbered closed _ (left-numbered blank _ (left-past range (left-then _ (left-numbered blank _ (left-numbered blank _ (left-past start left-start (rw (at-a .a .given .1) at (at-past .past .ensures))) (rw (at-width .width .given .1) at (at-numbered .numbered .ensures))) (rw (at-height .height .given .1) at (at-numbered2 .numbered2 .ensures))) (rw (at-kind2 .kind2 .given .1) at (at-kind .kind .ensures))) (rw (at-e .e .given .1) at (at-past2 .past2 .ensures))) (rw (at-depth .depth .given .1) at (at-numbered3 .numbered3 .ensures))) (rw (c .enum-told7 .given .1) at (at-numbered4 .numbered4 .ensures))
 
 returns-8 : tie.Need-returns-8
 unfolding headGet start blank range closed
-returns-8 c = let a = rw (c .before .before .before .before .before .before .before .before .before .before .before .before .before .before .before .before .before .before .before .before .before .before .before .before .before .before .before .before .before .before .a .given .1) at (c .before .before .before .before .before .before .before .before .before .before .before .before .before .before .before .before .before .before .before .before .before .before .before .before .before .before .before .before .before .before .before .before .past .ensures) in
-    let b = rw (c .before .before .before .before .before .before .before .before .before .before .before .before .before .before .before .before .before .before .before .before .before .before .before .before .before .width .given .1) at (c .before .before .before .before .before .before .before .before .before .before .before .before .before .before .before .before .before .before .before .before .before .before .before .before .before .before .before .numbered .ensures) in
-    let d = rw (c .before .before .before .before .before .before .before .before .before .before .before .before .before .before .before .before .before .before .before .before .height .given .1) at (c .before .before .before .before .before .before .before .before .before .before .before .before .before .before .before .before .before .before .before .before .before .before .numbered2 .ensures) in
-    let e = rw (c .before .before .before .before .before .before .before .before .before .before .before .before .before .before .before .before .kind2 .given .1) at (c .before .before .before .before .before .before .before .before .before .before .before .before .before .before .before .before .before .before .kind .ensures) in
-    let f = rw (c .before .before .before .before .before .before .before .before .before .before .before .e .given .1) at (c .before .before .before .before .before .before .before .before .before .before .before .before .before .past2 .ensures) in
-    let g = rw (c .before .before .before .before .before .before .depth .given .1) at (c .before .before .before .before .before .before .before .before .numbered3 .ensures) in
-    let h = rw (c .before .growth .given .1) at (c .before .before .before .numbered4 .ensures) in
-    left-give (omega (arith, a .moved .0, b .moved .0, d .moved .0, e .moved .0, f .moved .0, g .moved .0, h .moved .0)) (h .moved .1) (left-numbered closed _ (left-numbered blank _ (left-past range (left-then _ (left-numbered blank _ (left-numbered blank _ (left-past start left-start (rw (c .before .before .before .before .before .before .before .before .before .before .before .before .before .before .before .before .before .before .before .before .before .before .before .before .before .before .before .before .before .before .a .given .1) at (c .before .before .before .before .before .before .before .before .before .before .before .before .before .before .before .before .before .before .before .before .before .before .before .before .before .before .before .before .before .before .before .before .past .ensures))) (rw (c .before .before .before .before .before .before .before .before .before .before .before .before .before .before .before .before .before .before .before .before .before .before .before .before .before .width .given .1) at (c .before .before .before .before .before .before .before .before .before .before .before .before .before .before .before .before .before .before .before .before .before .before .before .before .before .before .before .numbered .ensures))) (rw (c .before .before .before .before .before .before .before .before .before .before .before .before .before .before .before .before .before .before .before .before .height .given .1) at (c .before .before .before .before .before .before .before .before .before .before .before .before .before .before .before .before .before .before .before .before .before .before .numbered2 .ensures))) (rw (c .before .before .before .before .before .before .before .before .before .before .before .before .before .before .before .before .kind2 .given .1) at (c .before .before .before .before .before .before .before .before .before .before .before .before .before .before .before .before .before .before .kind .ensures))) (rw (c .before .before .before .before .before .before .before .before .before .before .before .e .given .1) at (c .before .before .before .before .before .before .before .before .before .before .before .before .before .past2 .ensures))) (rw (c .before .before .before .before .before .before .depth .given .1) at (c .before .before .before .before .before .before .before .before .numbered3 .ensures))) (rw (c .before .growth .given .1) at (c .before .before .before .numbered4 .ensures)))
+returns-8 c =
+    let at-growth = c .before in
+    let at-numbered4 = at-growth .before .before in
+    let at-depth = at-numbered4 .before .before .before in
+    let at-numbered3 = at-depth .before .before in
+    let at-e = at-numbered3 .before .before .before in
+    let at-past2 = at-e .before .before in
+    let at-kind2 = at-past2 .before .before .before in
+    let at-kind = at-kind2 .before .before in
+    let at-height = at-kind .before .before in
+    let at-numbered2 = at-height .before .before in
+    let at-width = at-numbered2 .before .before .before in
+    let at-numbered = at-width .before .before in
+    let at-a = at-numbered .before .before .before in
+    let at-past = at-a .before .before in
+    let a = rw (at-a .a .given .1) at (at-past .past .ensures) in
+    let b = rw (at-width .width .given .1) at (at-numbered .numbered .ensures) in
+    let d = rw (at-height .height .given .1) at (at-numbered2 .numbered2 .ensures) in
+    let e = rw (at-kind2 .kind2 .given .1) at (at-kind .kind .ensures) in
+    let f = rw (at-e .e .given .1) at (at-past2 .past2 .ensures) in
+    let g = rw (at-depth .depth .given .1) at (at-numbered3 .numbered3 .ensures) in
+    let h = rw (at-growth .growth .given .1) at (at-numbered4 .numbered4 .ensures) in
+    left-give (omega (arith, a .moved .0, b .moved .0, d .moved .0, e .moved .0, f .moved .0, g .moved .0, h .moved .0)) (h .moved .1) (left-numbered closed _ (left-numbered blank _ (left-past range (left-then _ (left-numbered blank _ (left-numbered blank _ (left-past start left-start (rw (at-a .a .given .1) at (at-past .past .ensures))) (rw (at-width .width .given .1) at (at-numbered .numbered .ensures))) (rw (at-height .height .given .1) at (at-numbered2 .numbered2 .ensures))) (rw (at-kind2 .kind2 .given .1) at (at-kind .kind .ensures))) (rw (at-e .e .given .1) at (at-past2 .past2 .ensures))) (rw (at-depth .depth .given .1) at (at-numbered3 .numbered3 .ensures))) (rw (at-growth .growth .given .1) at (at-numbered4 .numbered4 .ensures)))
 
 pub header-spec : {M : Type 1} → statement M
 header-spec =

@@ -20,13 +20,13 @@ enum-told-2 : tie.Need-enum-told-2
 enum-told-2 c = search needs
 
 returns : tie.Need-returns
-returns c = told-kind (rw ((c .before .kind) .given .1) at ((c .before .before .before .word) .ensures))
+returns c = told-kind (rw (c .before .kind .given .1) at (c .before .before .before .word .ensures))
 
 returns-2 : tie.Need-returns-2
-returns-2 c = told-kind-number (rw ((c .enum-told) .given .1) at ((c .before .before .word) .ensures))
+returns-2 c = told-kind-number (rw (c .enum-told .given .1) at (c .before .before .word .ensures))
 
 returns-3 : tie.Need-returns-3
-returns-3 c = told-kind-none (rw ((c .enum-told2) .given .1) at ((c .before .before .word) .ensures))
+returns-3 c = told-kind-none (rw (c .enum-told2 .given .1) at (c .before .before .word .ensures))
 
 pub kind-spec : {M : Type 1} → statement M
 kind-spec =

@@ -31,7 +31,10 @@ enum-told : tie.Need-enum-told Inv-loop μ-loop
 enum-told c = search needs
 
 returns : tie.Need-returns Inv-loop μ-loop
-returns c = lining-stop (search needs) (c .before .before .before .loop .inv) (rw (c .enum-told .given .1) at (c .before .before .past .ensures))
+returns c =
+    let at-past = c .before .before in
+    let at-loop = at-past .before in
+    lining-stop (search needs) (at-loop .loop .inv) (rw (c .enum-told .given .1) at (at-past .past .ensures))
 
 rest-requires : tie.Need-rest-requires Inv-loop μ-loop
 rest-requires c κs = search needs
@@ -43,7 +46,12 @@ enum-told-2 : tie.Need-enum-told-2 Inv-loop μ-loop
 enum-told-2 c = search needs
 
 returns-2 : tie.Need-returns-2 Inv-loop μ-loop
-returns-2 c = lining-torn (search needs) (c .before .before .before .before .before .before .before .loop .inv) (rw (c .before .before .before .before .c .given .1) at (c .before .before .before .before .before .before .past .ensures)) (rw (c .enum-told2 .given .1) at (c .before .before .rest .ensures))
+returns-2 c =
+    let at-rest = c .before .before in
+    let at-c = at-rest .before .before in
+    let at-past = at-c .before .before in
+    let at-loop = at-past .before in
+    lining-torn (search needs) (at-loop .loop .inv) (rw (at-c .c .given .1) at (at-past .past .ensures)) (rw (c .enum-told2 .given .1) at (at-rest .rest .ensures))
 
 add-n : tie.Need-add-n Inv-loop μ-loop
 add-n c = search needs
@@ -52,10 +60,23 @@ still-requires : tie.Need-still-requires Inv-loop μ-loop
 still-requires c κs = search needs
 
 loop-less : tie.Need-loop-less Inv-loop μ-loop
-loop-less c = let a = (rw (c .before .before .before .before .before .before .c .given .1) at (c .before .before .before .before .before .before .before .before .past .ensures)) in let b = (rw (c .before .before .m .given .1) at (c .before .before .before .before .rest .ensures)) in omega (arith, a .moved .0, b .moved .0, b .moved .1)
+loop-less c =
+    let at-m = c .before .before in
+    let at-rest = at-m .before .before in
+    let at-c = at-rest .before .before in
+    let at-past = at-c .before .before in
+    let a = (rw (at-c .c .given .1) at (at-past .past .ensures)) in
+    let b = (rw (at-m .m .given .1) at (at-rest .rest .ensures)) in
+    omega (arith, a .moved .0, b .moved .0, b .moved .1)
 
 loop-again : tie.Need-loop-again Inv-loop μ-loop
-loop-again c = lining-next (search needs) (c .before .before .before .before .before .before .before .before .before .loop .inv) (rw (c .before .before .before .before .before .before .c .given .1) at (c .before .before .before .before .before .before .before .before .past .ensures)) (rw (c .before .before .m .given .1) at (c .before .before .before .before .rest .ensures)) (c .still .ensures)
+loop-again c =
+    let at-m = c .before .before in
+    let at-rest = at-m .before .before in
+    let at-c = at-rest .before .before in
+    let at-past = at-c .before .before in
+    let at-loop = at-past .before in
+    lining-next (search needs) (at-loop .loop .inv) (rw (at-c .c .given .1) at (at-past .past .ensures)) (rw (at-m .m .given .1) at (at-rest .rest .ensures)) (c .still .ensures)
 
 pub lines-spec : {M : Type 1} → statement M
 lines-spec =

@@ -22,7 +22,10 @@ begun c = rw (c .c .given .1) at (c .before .before .past .ensures)
 
 -- The line has its form.
 found : (c : tie.After-n) → let a = c .before .before .before .before .before .before .before .before .before .before .args in Found mapLine 65535 (a .text .now) (a .self .at) (c .before .before .before .before .c .given .0 .1 .0 .at) (c .n .given .0 .0) (c .n .given .0 .1 .0 .at)
-found c = map-found (begun (c .before .before .before .before)) (rw (c .n .given .1) at (c .before .before .rest .ensures))
+found c =
+    let at-rest = c .before .before in
+    let at-c = at-rest .before .before in
+    map-found (begun at-c) (rw (c .n .given .1) at (at-rest .rest .ensures))
 
 slice-aggregate-past : tie.Need-slice-aggregate-past
 slice-aggregate-past c = search needs
@@ -50,7 +53,10 @@ enum-told-2 : tie.Need-enum-told-2
 enum-told-2 c = search needs
 
 returns-2 : tie.Need-returns-2
-returns-2 c = map-torn (begun (c .before .before .before .before)) (rw (c .enum-told2 .given .1) at (c .before .before .rest .ensures))
+returns-2 c =
+    let at-rest = c .before .before in
+    let at-c = at-rest .before .before in
+    map-torn (begun at-c) (rw (c .enum-told2 .given .1) at (at-rest .rest .ensures))
 
 returns-3 : tie.Need-returns-3
 returns-3 c = found-long (found (c .before .before)) (c .if1 .taken)
@@ -62,7 +68,11 @@ same-length : tie.Need-same-length
 same-length c = search needs
 
 returns-4 : tie.Need-returns-4
-returns-4 c = found-fits (found (c .before .before .before .before .before .before)) (omega arith) (c .before .before .before .before .if1 .left) (c .before .before .numbers .ensures)
+returns-4 c =
+    let at-numbers = c .before .before in
+    let at-if1 = at-numbers .before .before in
+    let at-n = at-if1 .before .before in
+    found-fits (found at-n) (omega arith) (at-if1 .if1 .left) (at-numbers .numbers .ensures)
 
 pub map-spec : {M : Type 1} → statement M
 map-spec =

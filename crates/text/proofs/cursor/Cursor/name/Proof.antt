@@ -35,14 +35,22 @@ enum-known-c-2 c = search needs
 
 returns-2 : tie.Need-returns-2
 unfolding greyWord rgbWord
-returns-2 c = kind-rgb (rw (c .before .before .before .before .before .enum-told .given .1) at (c .before .before .before .before .before .before .before .past .ensures)) (rw (c .before .c2 .given .1) at (c .before .before .before .past2 .ensures))
+returns-2 c =
+    let at-past2 = c .before .before .before in
+    let at-enum-told = at-past2 .before .before in
+    let at-past = at-enum-told .before .before in
+    kind-rgb (rw (at-enum-told .enum-told .given .1) at (at-past .past .ensures)) (rw (c .before .c2 .given .1) at (at-past2 .past2 .ensures))
 
 enum-told-2 : tie.Need-enum-told-2
 enum-told-2 c = search needs
 
 returns-3 : tie.Need-returns-3
 unfolding greyWord rgbWord
-returns-3 c = kind-none (rw (c .before .before .before .before .enum-told .given .1) at (c .before .before .before .before .before .before .past .ensures)) (rw (c .enum-told2 .given .1) at (c .before .before .past2 .ensures))
+returns-3 c =
+    let at-past2 = c .before .before in
+    let at-enum-told = at-past2 .before .before in
+    let at-past = at-enum-told .before .before in
+    kind-none (rw (at-enum-told .enum-told .given .1) at (at-past .past .ensures)) (rw (c .enum-told2 .given .1) at (at-past2 .past2 .ensures))
 
 pub name-spec : {M : Type 1} → statement M
 name-spec =

@@ -20,16 +20,22 @@ enum-told-2 : tie.Need-enum-told-2
 enum-told-2 c = search needs
 
 returns : tie.Need-returns
-returns c = told-number-over _ (search needs) (rw ((c .before .before .n) .given .1) at ((c .before .before .before .before .word) .ensures)) ((c .if1) .taken)
+returns c =
+    let at-n = c .before .before in
+    let at-word = at-n .before .before in
+    told-number-over _ (search needs) (rw (at-n .n .given .1) at (at-word .word .ensures)) (c .if1 .taken)
 
 returns-2 : tie.Need-returns-2
-returns-2 c = told-number _ (search needs) (rw ((c .before .before .n) .given .1) at ((c .before .before .before .before .word) .ensures)) ((c .if1) .left)
+returns-2 c =
+    let at-n = c .before .before in
+    let at-word = at-n .before .before in
+    told-number _ (search needs) (rw (at-n .n .given .1) at (at-word .word .ensures)) (c .if1 .left)
 
 returns-3 : tie.Need-returns-3
-returns-3 c = told-number-name _ (search needs) (rw ((c .enum-told) .given .1) at ((c .before .before .word) .ensures))
+returns-3 c = told-number-name _ (search needs) (rw (c .enum-told .given .1) at (c .before .before .word .ensures))
 
 returns-4 : tie.Need-returns-4
-returns-4 c = told-number-none _ (search needs) (rw ((c .enum-told2) .given .1) at ((c .before .before .word) .ensures))
+returns-4 c = told-number-none _ (search needs) (rw (c .enum-told2 .given .1) at (c .before .before .word .ensures))
 
 pub number-spec : {M : Type 1} → statement M
 number-spec =

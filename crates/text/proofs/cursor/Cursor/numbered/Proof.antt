@@ -35,13 +35,24 @@ enum-told-2 c = search needs
 
 returns-2 : tie.Need-returns-2
 unfolding numberedOf
-returns-2 c = left-no-past (c .before .before .before .before .before .before .before .before .before .args .w .now) _ (left-then _ left-start (rw (c .before .before .before .before .n .given .1) at (c .before .before .before .before .before .before .number .ensures))) (rw (c .enum-told2 .given .1) at (c .before .before .past .ensures))
+returns-2 c =
+    let at-past = c .before .before in
+    let at-n = at-past .before .before in
+    let at-number = at-n .before .before in
+    let s = at-number .before .before .before in
+    left-no-past (s .args .w .now) _ (left-then _ left-start (rw (at-n .n .given .1) at (at-number .number .ensures))) (rw (c .enum-told2 .given .1) at (at-past .past .ensures))
 
 returns-3 : tie.Need-returns-3
 unfolding numberedOf
-returns-3 c = let a = rw (c .before .before .before .before .before .n .given .1) at (c .before .before .before .before .before .before .before .number .ensures) in
-    let b = rw (c .before .d .given .1) at (c .before .before .before .past .ensures) in
-    left-give (omega (arith, a .moved .0, b .moved .0)) (b .moved .1) (left-past (c .before .before .before .before .before .before .before .before .before .before .args .w .now) (left-then _ left-start (rw (c .before .before .before .before .before .n .given .1) at (c .before .before .before .before .before .before .before .number .ensures))) (rw (c .before .d .given .1) at (c .before .before .before .past .ensures)))
+returns-3 c =
+    let at-d = c .before in
+    let at-past = at-d .before .before in
+    let at-n = at-past .before .before in
+    let at-number = at-n .before .before in
+    let s = at-number .before .before .before in
+    let a = rw (at-n .n .given .1) at (at-number .number .ensures) in
+    let b = rw (at-d .d .given .1) at (at-past .past .ensures) in
+    left-give (omega (arith, a .moved .0, b .moved .0)) (b .moved .1) (left-past (s .args .w .now) (left-then _ left-start (rw (at-n .n .given .1) at (at-number .number .ensures))) (rw (at-d .d .given .1) at (at-past .past .ensures)))
 
 pub numbered-spec : {M : Type 1} → statement M
 numbered-spec =

@@ -38,13 +38,22 @@ enum-told-2 c = search needs
 
 returns-2 : tie.Need-returns-2
 unfolding lineRest lineEnd
-returns-2 c = left-no-past lineEnd _ (left-then _ left-start (rw (c .before .before .before .before .before .n .given .1) at (c .before .before .before .before .before .before .before .form .ensures))) (rw (c .enum-told2 .given .1) at (c .before .before .past .ensures))
+returns-2 c =
+    let at-past = c .before .before in
+    let at-n = at-past .before .before .before in
+    let at-form = at-n .before .before in
+    left-no-past lineEnd _ (left-then _ left-start (rw (at-n .n .given .1) at (at-form .form .ensures))) (rw (c .enum-told2 .given .1) at (at-past .past .ensures))
 
 returns-3 : tie.Need-returns-3
 unfolding lineRest lineEnd
-returns-3 c = let a = rw (c .before .before .before .before .before .before .n .given .1) at (c .before .before .before .before .before .before .before .before .form .ensures) in
-    let b = rw (c .before .d .given .1) at (c .before .before .before .past .ensures) in
-    left-give (omega (arith, a .moved .0, b .moved .0)) (b .moved .1) (left-past lineEnd (left-then _ left-start (rw (c .before .before .before .before .before .before .n .given .1) at (c .before .before .before .before .before .before .before .before .form .ensures))) (rw (c .before .d .given .1) at (c .before .before .before .past .ensures)))
+returns-3 c =
+    let at-d = c .before in
+    let at-past = at-d .before .before in
+    let at-n = at-past .before .before .before in
+    let at-form = at-n .before .before in
+    let a = rw (at-n .n .given .1) at (at-form .form .ensures) in
+    let b = rw (at-d .d .given .1) at (at-past .past .ensures) in
+    left-give (omega (arith, a .moved .0, b .moved .0)) (b .moved .1) (left-past lineEnd (left-then _ left-start (rw (at-n .n .given .1) at (at-form .form .ensures))) (rw (at-d .d .given .1) at (at-past .past .ensures)))
 
 pub rest-spec : {M : Type 1} → statement M
 rest-spec =

@@ -27,7 +27,13 @@ begun c = rw (c .c .given .1) at (c .before .before .past .ensures)
 -- The line has its form.
 found : (c : tie.After-channels) → let a = c .before .before .before .before .before .before .before .before .before .before .before .before .before .args in
     Found (rowLine (a .kind)) 255 (a .text .now) (a .self .at) (c .before .before .before .before .before .before .before .c .given .0 .1 .0 .at) (c .before .before .n .given .0 .0 * c .channels .result) (c .before .before .n .given .0 .1 .0 .at)
-found c = row-found (c .before .before .before .before .before .before .before .before .before .before .before .before .before .args .kind) (begun (c .before .before .before .before .before .before .before)) (rw (c .before .before .before .before .before .items-of .ensures, c .before .before .n .given .1) at (c .before .before .before .before .rest .ensures)) (c .channels .ensures)
+found c =
+    let at-n = c .before .before in
+    let at-rest = at-n .before .before in
+    let at-items-of = at-rest .before in
+    let at-c = at-items-of .before .before in
+    let s = at-c .before .before .before .before .before .before in
+    row-found (s .args .kind) (begun at-c) (rw (at-items-of .items-of .ensures, at-n .n .given .1) at (at-rest .rest .ensures)) (c .channels .ensures)
 
 slice-aggregate-past : tie.Need-slice-aggregate-past
 slice-aggregate-past c = search needs
@@ -43,7 +49,10 @@ enum-told c = search needs
 
 returns : tie.Need-returns
 unfolding rowWord
-returns c = row-no-word (c .before .before .before .before .before .before .args .kind) (rw (c .enum-told .given .1) at (c .before .before .past .ensures))
+returns c =
+    let at-past = c .before .before in
+    let s = at-past .before .before .before .before in
+    row-no-word (s .args .kind) (rw (c .enum-told .given .1) at (at-past .past .ensures))
 
 items-of-requires : tie.Need-items-of-requires
 items-of-requires c κs = search needs
@@ -58,28 +67,51 @@ enum-told-2 : tie.Need-enum-told-2
 enum-told-2 c = search needs
 
 returns-2 : tie.Need-returns-2
-returns-2 c = row-torn (c .before .before .before .before .before .before .before .before .before .before .before .args .kind) (begun (c .before .before .before .before .before)) (rw (c .before .before .before .items-of .ensures, c .enum-told2 .given .1) at (c .before .before .rest .ensures))
+returns-2 c =
+    let at-rest = c .before .before in
+    let at-items-of = at-rest .before in
+    let at-c = at-items-of .before .before in
+    let s = at-c .before .before .before .before .before .before in
+    row-torn (s .args .kind) (begun at-c) (rw (at-items-of .items-of .ensures, c .enum-told2 .given .1) at (at-rest .rest .ensures))
 
 channels-requires : tie.Need-channels-requires
 channels-requires c κs = search needs
 
 div-if1 : tie.Need-div-if1
-div-if1 c = let s = channels-some (c .before .before .before .before .before .before .before .before .before .before .before .before .before .args .kind) in search needs
+div-if1 c =
+    let start = c .before .before .before .before .before .before .before .before .before .before .before .before .before in
+    let s = channels-some (start .args .kind) in
+    search needs
 
 returns-3 : tie.Need-returns-3
-returns-3 c = found-long (found (c .before)) (pixels-over (c .before .before .before .before .before .before .before .before .before .before .before .before .before .before .args .kind) (c .before .channels .result) _ _ (c .before .channels .ensures) (c .if1 .taken))
+returns-3 c =
+    let at-channels = c .before in
+    let s = at-channels .before .before .before .before .before .before .before .before .before .before .before .before .before in
+    found-long (found at-channels) (pixels-over (s .args .kind) (at-channels .channels .result) _ _ (at-channels .channels .ensures) (c .if1 .taken))
 
 mul-count : tie.Need-mul-count
-mul-count c = let f = pixels-fit (c .before .before .before .before .before .before .before .before .before .before .before .before .before .before .args .kind) (c .before .channels .result) _ _ (c .before .channels .ensures) (c .if1 .left) in search needs
+mul-count c =
+    let at-channels = c .before in
+    let s = at-channels .before .before .before .before .before .before .before .before .before .before .before .before .before in
+    let f = pixels-fit (s .args .kind) (at-channels .channels .result) _ _ (at-channels .channels .ensures) (c .if1 .left) in
+    search needs
 
 samples-requires : tie.Need-samples-requires
-samples-requires c κs = record { coming = found-coming (found (c .before .before)) (omega arith); room = pixels-fit (c .before .before .before .before .before .before .before .before .before .before .before .before .before .before .before .args .kind) (c .before .before .channels .result) _ _ (c .before .before .channels .ensures) (c .before .if1 .left) }
+samples-requires c κs =
+    let at-channels = c .before .before in
+    let s = at-channels .before .before .before .before .before .before .before .before .before .before .before .before .before in
+    record { coming = found-coming (found at-channels) (omega arith); room = pixels-fit (s .args .kind) (at-channels .channels .result) _ _ (at-channels .channels .ensures) (c .before .if1 .left) }
 
 same-length : tie.Need-same-length
 same-length c = search needs
 
 returns-4 : tie.Need-returns-4
-returns-4 c = found-fits (found (c .before .before .before .before .before)) (omega arith) (pixels-fit (c .before .before .before .before .before .before .before .before .before .before .before .before .before .before .before .before .before .before .args .kind) (c .before .before .before .before .before .channels .result) _ _ (c .before .before .before .before .before .channels .ensures) (c .before .before .before .before .if1 .left)) (c .before .before .samples .ensures)
+returns-4 c =
+    let at-samples = c .before .before in
+    let at-if1 = at-samples .before .before in
+    let at-channels = at-if1 .before in
+    let s = at-channels .before .before .before .before .before .before .before .before .before .before .before .before .before in
+    found-fits (found at-channels) (omega arith) (pixels-fit (s .args .kind) (at-channels .channels .result) _ _ (at-channels .channels .ensures) (at-if1 .if1 .left)) (at-samples .samples .ensures)
 
 pub row-spec : {M : Type 1} → statement M
 row-spec =

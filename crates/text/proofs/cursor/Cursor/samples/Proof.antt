@@ -31,10 +31,19 @@ same-length : tie.Need-same-length Inv-loop μ-loop
 same-length c = c .before .before .before .before .loop .inv .size
 
 returns : tie.Need-returns Inv-loop μ-loop
-returns c = absurd (writing-some (c .before .before .before .before .loop .inv) (c .before .before .before .loop-test .taken) (rw (c .enum-told .given .1) at (c .before .before .figure .ensures)))
+returns c =
+    let at-figure = c .before .before in
+    let at-loop-test = at-figure .before in
+    let at-loop = at-loop-test .before in
+    absurd (writing-some (at-loop .loop .inv) (at-loop-test .loop-test .taken) (rw (c .enum-told .given .1) at (at-figure .figure .ensures)))
 
 cast-out : tie.Need-cast-out Inv-loop μ-loop
-cast-out c = let s = writing-small (c .before .before .before .before .before .loop .inv) (c .before .before .before .before .loop-test .taken) (rw (c .before .v .given .1) at (c .before .before .before .figure .ensures)) in omega arith
+cast-out c =
+    let at-figure = c .before .before .before in
+    let at-loop-test = at-figure .before in
+    let at-loop = at-loop-test .before in
+    let s = writing-small (at-loop .loop .inv) (at-loop-test .loop-test .taken) (rw (c .before .v .given .1) at (at-figure .figure .ensures)) in
+    omega arith
 
 slice-write-out : tie.Need-slice-write-out Inv-loop μ-loop
 slice-write-out c = let w = c .before .before .before .before .before .loop .inv in omega (arith, w .size, w .room)
@@ -46,7 +55,11 @@ loop-less : tie.Need-loop-less Inv-loop μ-loop
 loop-less c = search needs
 
 loop-again : tie.Need-loop-again Inv-loop μ-loop
-loop-again c = writing-next (c .before .before .before .before .before .loop .inv) (c .before .before .before .before .loop-test .taken) (rw (c .before .v .given .1) at (c .before .before .before .figure .ensures))
+loop-again c =
+    let at-figure = c .before .before .before in
+    let at-loop-test = at-figure .before in
+    let at-loop = at-loop-test .before in
+    writing-next (at-loop .loop .inv) (at-loop-test .loop-test .taken) (rw (c .before .v .given .1) at (at-figure .figure .ensures))
 
 same-length-2 : tie.Need-same-length-2 Inv-loop μ-loop
 same-length-2 c = c .before .loop .inv .size

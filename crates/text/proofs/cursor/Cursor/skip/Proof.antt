@@ -12,7 +12,9 @@ past-requires : tie.Need-past-requires
 past-requires c κs = search needs
 
 returns-2 : tie.Need-returns-2
-returns-2 c = rw (skipping-some (c .before .before .before .before .args .w .now) (omega (arith, c .before .if1 .left))) (c .past .ensures)
+returns-2 c =
+    let s = c .before .before .before .before in
+    rw (skipping-some (s .args .w .now) (omega (arith, c .before .if1 .left))) (c .past .ensures)
 
 pub skip-spec : {M : Type 1} → statement M
 skip-spec = tie.close (tie.spec returns past-requires returns-2)

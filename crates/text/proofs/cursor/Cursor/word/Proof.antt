@@ -12,7 +12,7 @@ use Rattle.text.proofs.cursor.Cursor.name.Reads as name-reads
 use Rattle.text.proofs.cursor.class_of.Reads as class-of-reads
 
 returns : tie.Need-returns
-returns c = told-word-end ((c .if1) .taken)
+returns c = told-word-end (c .if1 .taken)
 
 shared-slice-read-class-of : tie.Need-shared-slice-read-class-of
 shared-slice-read-class-of c = search needs
@@ -33,7 +33,13 @@ enum-told-2 : tie.Need-enum-told-2
 enum-told-2 c = search needs
 
 returns-2 : tie.Need-returns-2
-returns-2 c = told-word-no-number ((c .before .before .before .before .before .before .before .if1) .left) (digit-found (getD ((c .before .before .before .before .before .before .before .before .before .args) .text .now) ((c .before .before .before .before .before .before .before .before .before .args) .self .at) 0) ((c .before .before .before .enum-told) .given .1) ((c .before .before .before .before .before .class-of) .ensures)) (rw ((c .enum-told2) .given .1) at ((c .before .before .digits) .ensures))
+returns-2 c =
+    let at-digits = c .before .before in
+    let at-enum-told = at-digits .before in
+    let at-class-of = at-enum-told .before .before in
+    let at-if1 = at-class-of .before .before in
+    let s = at-if1 .before .before in
+    told-word-no-number (at-if1 .if1 .left) (digit-found (getD (s .args .text .now) (s .args .self .at) 0) (at-enum-told .enum-told .given .1) (at-class-of .class-of .ensures)) (rw (c .enum-told2 .given .1) at (at-digits .digits .ensures))
 
 enum-told-3 : tie.Need-enum-told-3
 enum-told-3 c = search needs
@@ -48,16 +54,32 @@ enum-told-4 : tie.Need-enum-told-4
 enum-told-4 c = search needs
 
 returns-3 : tie.Need-returns-3
-returns-3 c = told-word-no-name ((c .before .before .before .before .before .before .before .if1) .left) (letter-found (getD ((c .before .before .before .before .before .before .before .before .before .args) .text .now) ((c .before .before .before .before .before .before .before .before .before .args) .self .at) 0) ((c .before .before .before .enum-told3) .given .1) ((c .before .before .before .before .before .class-of) .ensures)) (rw ((c .enum-told4) .given .1) at ((c .before .before .name) .ensures))
+returns-3 c =
+    let at-name = c .before .before in
+    let at-enum-told3 = at-name .before in
+    let at-class-of = at-enum-told3 .before .before in
+    let at-if1 = at-class-of .before .before in
+    let s = at-if1 .before .before in
+    told-word-no-name (at-if1 .if1 .left) (letter-found (getD (s .args .text .now) (s .args .self .at) 0) (at-enum-told3 .enum-told3 .given .1) (at-class-of .class-of .ensures)) (rw (c .enum-told4 .given .1) at (at-name .name .ensures))
 
 returns-4 : tie.Need-returns-4
-returns-4 c = told-word-number (rw ((c .before .n) .given .1) at ((c .before .before .before .digits) .ensures))
+returns-4 c = told-word-number (rw (c .before .n .given .1) at (c .before .before .before .digits .ensures))
 
 returns-5 : tie.Need-returns-5
-returns-5 c = told-word-name ((c .before .before .before .before .before .before .before .before .if1) .left) (letter-found (getD ((c .before .before .before .before .before .before .before .before .before .before .args) .text .now) ((c .before .before .before .before .before .before .before .before .before .before .args) .self .at) 0) ((c .before .before .before .before .enum-told3) .given .1) ((c .before .before .before .before .before .before .class-of) .ensures)) (rw ((c .before .kind) .given .1) at ((c .before .before .before .name) .ensures))
+returns-5 c =
+    let at-name = c .before .before .before in
+    let at-enum-told3 = at-name .before in
+    let at-class-of = at-enum-told3 .before .before in
+    let at-if1 = at-class-of .before .before in
+    let s = at-if1 .before .before in
+    told-word-name (at-if1 .if1 .left) (letter-found (getD (s .args .text .now) (s .args .self .at) 0) (at-enum-told3 .enum-told3 .given .1) (at-class-of .class-of .ensures)) (rw (c .before .kind .given .1) at (at-name .name .ensures))
 
 returns-6 : tie.Need-returns-6
-returns-6 c = let a = arm-no-word (getD ((c .before .before .before .before .before .args) .text .now) ((c .before .before .before .before .before .args) .self .at) 0) ((c .before .class-of) .ensures) ((c .match) .keys3) in told-word-other ((c .before .before .before .if1) .left) (a .0) (a .1 .0) (a .1 .1)
+returns-6 c =
+    let at-if1 = c .before .before .before in
+    let s = at-if1 .before .before in
+    let a = arm-no-word (getD (s .args .text .now) (s .args .self .at) 0) (c .before .class-of .ensures) (c .match .keys3) in
+    told-word-other (at-if1 .if1 .left) (a .0) (a .1 .0) (a .1 .1)
 
 pub word-spec : {M : Type 1} → statement M
 word-spec =
