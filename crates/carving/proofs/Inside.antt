@@ -1,11 +1,10 @@
 -- The seam found lies inside the picture.
-use mathlib.Core.Path.{_≡_, refl, sym, ap, _∙_}
-use mathlib.Core.Bool.{true, false, cond}
+use mathlib.Core.Path.{_≡_, refl, ap}
+use mathlib.Core.Bool.{false, cond}
 use mathlib.Core.Option.{Option, Option·getD, none, some}
-use mathlib.Core.List.{List, [], _∷_, reverse}
+use mathlib.Core.List.{List, [], reverse}
 use Prim.Native.Nat.{ℕ, _<_}
 use native.Mathlib.Omega.{arith}
-use lib.ListN.{length}
 use Rattle.grids.specs.Each.{Each}
 use Rattle.grids.proofs.Shapes.{each-member, each-reverse}
 use Rattle.cheapest.specs.Connected.{IsPath}
@@ -15,7 +14,7 @@ use Rattle.energy.specs.declared.pictures.Size.{Size}
 use Rattle.energy.specs.Pictures.{Picture}
 use Rattle.energy.specs.Energy.{energy}
 use Rattle.energy.proofs.Sizes.{Sized}
-use Rattle.finding.specs.Seams.{seamUp, seamOf, markedUp, markedSeamOf}
+use Rattle.finding.specs.Seams.{seamOf, markedUp, markedSeamOf}
 use Rattle.finding.specs.Finding.{isNone}
 use Rattle.finding.proofs.Characterised.{marked-is}
 use Rattle.carving.specs.declared.Axis.{Axis}

@@ -1,13 +1,12 @@
 -- Marks moved as a grey picture: what is done to its bytes is done to the rows of marks.
 use mathlib.Core.Path.{_≡_, refl, sym, ap, ap₂, _∙_}
 use mathlib.Core.List.{List, [], _∷_, _++_, map, append-nil, append-assoc}
-use Prim.Native.Nat.{ℕ, _-_, _*_, _≤_, _<_}
+use Prim.Native.Nat.{ℕ, _-_, _*_, _≤_}
 use native.Mathlib.Nat.{mul-one, le-of-eq}
-use native.Mathlib.Omega.{arith}
 use lib.ListN.{length, take, drop}
 use lib.Seq.{take-at, drop-at}
 use borrow.Rule.Slice.PartMut.{putMid}
-use Rattle.grids.specs.Each.{Each, Grid, none, more}
+use Rattle.grids.specs.Each.{Grid, none, more}
 use Rattle.grids.specs.Rows.{rowsOf, flat}
 use Rattle.grids.specs.Cut.{cut}
 use Rattle.grids.proofs.Rows.{grid-rowsOf, rowsOf-flat, length-flat}
@@ -16,7 +15,7 @@ use Rattle.grids.proofs.Exchange.{exchange-grid}
 use Rattle.grids.proofs.Maps.{single, cut-map, exchange-map, rowsOf-single, rows-single}
 use Rattle.energy.specs.declared.pictures.Size.{Size}
 use Rattle.energy.specs.Refusals.{refusal}
-use Rattle.energy.specs.Pictures.{Picture, pictureBytes, sizeRules, picture, bytes}
+use Rattle.energy.specs.Pictures.{pictureBytes, sizeRules, picture, bytes}
 use Rattle.energy.proofs.Sizes.{Sized, sized-served}
 use Rattle.energy.proofs.Buffers.{picture-ofSize, length-bytes}
 use Rattle.finding.specs.Finding.{pixels, marksOf, pictureIn, marksIn}

@@ -1,19 +1,18 @@
 -- Laws of pictures turned for a seam along an axis, stated once over the axis.
-use mathlib.Core.Path.{_≡_, refl, sym, ap, _∙_}
-use mathlib.Core.List.{List, [], _∷_, _++_}
-use Prim.Native.Nat.{ℕ, zero, suc, _+_, _*_, _≤_, _<_}
+use mathlib.Core.Path.{_≡_, refl, ap, _∙_}
+use mathlib.Core.List.{List, _++_}
+use Prim.Native.Nat.{ℕ, _*_, _≤_, _<_}
 use native.Mathlib.Nat.{mul-comm, mul-left-comm, mul-le-mul-left, mul-assoc}
 use native.Mathlib.Omega.{arith}
 use borrow.Author.Tests.{ne-eqb, le-ltb}
 use lib.ListN.{length, take}
 use lib.Seq.{take-at}
-use Rattle.grids.specs.Each.{Each, Grid}
 use Rattle.grids.proofs.Orders.{more-than-one}
 use Rattle.grids.proofs.Exchange.{exchange-each}
 use Rattle.energy.specs.declared.pictures.Size.{Size}
 use Rattle.energy.specs.Refusals.{refusal}
-use Rattle.energy.specs.Pictures.{Picture, largestSide, channelsOf, rowBytes, pictureBytes, sideRules, sizeRules, picture, bytes, OfSize}
-use Rattle.energy.proofs.Sizes.{Sized, sized-is, channels-most}
+use Rattle.energy.specs.Pictures.{Picture, largestSide, channelsOf, pictureBytes, sideRules, picture, bytes, OfSize}
+use Rattle.energy.proofs.Sizes.{Sized, channels-most}
 use Rattle.energy.proofs.Buffers.{picture-ofSize, picture-bytes, length-bytes}
 use Rattle.finding.specs.Finding.{pixels}
 use Rattle.carving.specs.declared.Axis.{Axis}

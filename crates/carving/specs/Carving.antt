@@ -8,7 +8,7 @@ use lib.ListN.{length, take, drop, replicate}
 use Rattle.grids.specs.Rows.{flat}
 use Rattle.grids.specs.Cut.{cut}
 use Rattle.energy.specs.declared.pictures.Size.{Size}
-use Rattle.energy.specs.Refusals.{Rule, _when_, refusal, served}
+use Rattle.energy.specs.Refusals.{Rule, _when_, served}
 use Rattle.energy.specs.Pictures.{channelsOf, pictureBytes, sizeRules, picture, bytes}
 use Rattle.moving.specs.Moving.{outside}
 use Rattle.finding.specs.declared.Found.{Found}

@@ -88,7 +88,9 @@ best-select {A} le t (x ∷ xs) h s e = go (best-select le t xs (λ y z i j. h y
   where
     first : (o : Option A) → firstBest le xs ≡ o → t x ≡ true → select t xs ≡ [] → better le (some x) o ≡ some x
     first none r p n = better-none le (some x)
-    first (some y) r p n = let i = best-mem le xs y r in better-left le x y (h x y (List·Memᴰ·head refl) (List·Memᴰ·tail i) p (nil-fails t xs n y i) .0)
+    first (some y) r p n =
+        let i = best-mem le xs y r in
+        better-left le x y (h x y (List·Memᴰ·head refl) (List·Memᴰ·tail i) p (nil-fails t xs n y i) .0)
 
     pass : ((y : A) → firstBest le (select t xs) ≡ some y → firstBest le xs ≡ some y) → t x ≡ true
         → (o : Option A) → firstBest le (select t xs) ≡ o → better le (some x) o ≡ some s → better le (some x) (firstBest le xs) ≡ some s

@@ -40,13 +40,17 @@ module _ (above : ℕ → List ℕ) where
   more i c p m = go (Memᴰ·of-map (c ∷_) _ m)
     where
       go : (q : List ℕ) × List·Memᴰ q (flatMap (pathsUp above i) (above c)) × (c ∷ q ≡ p) → More i c p
-      go t = let u = of-flatMap (pathsUp above i) (above c) (t .1) in record { column = u .0; rest = t .0; split = t .2; from = u .1; up = u .2 }
+      go t =
+          let u = of-flatMap (pathsUp above i) (above c) (t .1) in
+          record { column = u .0; rest = t .0; split = t .2; from = u .1; up = u .2 }
 
   -- The paths that are listed from column c of row i start there.
   pub starts : (i c : ℕ) (p : List ℕ) → List·Memᴰ p (pathsUp above i c) → Starts i c p
   unfolding pathsUp
   starts zero c p m = record { rest = []; split = List·Memᴰ·eq-of-singleton m; size = refl }
-  starts (suc i) c p m = let u = more i c p m in rw (← u .split) (starts-more i (u .column) c (u .rest) (starts i (u .column) (u .rest) (u .up)))
+  starts (suc i) c p m =
+      let u = more i c p m in
+      rw (← u .split) (starts-more i (u .column) c (u .rest) (starts i (u .column) (u .rest) (u .up)))
 
   -- Each column but the last is reached from the next.
   abbrev pub Joined : List ℕ → Type 0
@@ -63,7 +67,9 @@ module _ (above : ℕ → List ℕ) where
   of-pathsUp : (i c : ℕ) (p : List ℕ) → List·Memᴰ p (pathsUp above i c) → Joined p
   unfolding pathsUp
   of-pathsUp zero c p m = rw (List·Memᴰ·eq-of-singleton m) tt
-  of-pathsUp (suc i) c p m = let u = more i c p m in go u (starts i (u .column) (u .rest) (u .up)) (of-pathsUp i (u .column) (u .rest) (u .up))
+  of-pathsUp (suc i) c p m =
+      let u = more i c p m in
+      go u (starts i (u .column) (u .rest) (u .up)) (of-pathsUp i (u .column) (u .rest) (u .up))
     where
       go : (u : More i c p) → Starts i (u .column) (u .rest) → Joined (u .rest) → Joined p
       go u s j = rw (← u .split, s .split) (u .from, rw (s .split) at j)

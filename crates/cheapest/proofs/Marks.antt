@@ -78,7 +78,9 @@ module _ (protected : List ℕ → ℕ) (xs : List (List ℕ)) where
 
   -- They are members without a protected pixel.
   pub of-allowed : (p : List ℕ) → List·Memᴰ p allowed → List·Memᴰ p xs × (protected p ≡ 0)
-  of-allowed p i = let r = of-select (λ p. eqb (protected p) 0) xs p i in (r .0, eqb-true (protected p) 0 (r .1))
+  of-allowed p i =
+      let r = of-select (λ p. eqb (protected p) 0) xs p i in
+      (r .0, eqb-true (protected p) 0 (r .1))
 
   -- They are all of these.
   pub in-allowed : (p : List ℕ) → List·Memᴰ p xs → protected p ≡ 0 → List·Memᴰ p allowed

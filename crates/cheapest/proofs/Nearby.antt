@@ -111,10 +111,14 @@ module _ (w : ℕ) where
   straight : (i c : ℕ) → c < w → (p : List ℕ) × List·Memᴰ p (pathsUp (nearby w) i c)
   unfolding pathsUp
   straight zero c h = (c ∷ [], List·Memᴰ·head refl)
-  straight (suc i) c h = let t = straight i c h in (c ∷ t .0, Memᴰ·map (c ∷_) (in-flatMap (pathsUp (nearby w) i) (nearby-self c h) (t .1)))
+  straight (suc i) c h =
+      let t = straight i c h in
+      (c ∷ t .0, Memᴰ·map (c ∷_) (in-flatMap (pathsUp (nearby w) i) (nearby-self c h) (t .1)))
 
   -- There is a path, the straight one.
   pub some-path : (h : ℕ) → 0 < w → 0 < h → (p : List ℕ) × List·Memᴰ p (paths (nearby w) w h)
   unfolding paths
   some-path zero k l = absurd (omega arith)
-  some-path (suc i) k l = let t = straight i 0 k in (t .0, in-flatMap (pathsUp (nearby w) i) (in-run 0 w 0 (omega arith) (omega arith)) (t .1))
+  some-path (suc i) k l =
+      let t = straight i 0 k in
+      (t .0, in-flatMap (pathsUp (nearby w) i) (in-run 0 w 0 (omega arith) (omega arith)) (t .1))

@@ -121,7 +121,9 @@ module _ (first : ℕ → ℕ) (step : ℕ → ℕ → ℕ → ℕ) (w : ℕ) wh
   -- It is what is found among the sums of a row.
   pub bottom-least : 0 < w → (i : ℕ) → least (λ c. getD (sums i) c 0) (run 0 w) ≡ some (bottom i)
   unfolding bottom
-  bottom-least h i = let t = best-some (byCost (λ c. getD (sums i) c 0)) (run 0 w) 0 (in-run 0 w 0 (omega arith) (omega arith)) in rw (t .1)
+  bottom-least h i =
+      let t = best-some (byCost (λ c. getD (sums i) c 0)) (run 0 w) 0 (in-run 0 w 0 (omega arith) (omega arith)) in
+      rw (t .1)
 
   -- The cheapest path is the way back from the first of the least sums of the last row.
   pub cheapest-trace : 0 < w → (i : ℕ) → cheapest (nearby w) first step w (suc i) ≡ some (trace i (bottom i))

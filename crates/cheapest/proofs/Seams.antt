@@ -45,7 +45,9 @@ module _ (le : List ℕ → List ℕ → Bool) where
           later p e (inr i) = ⊎-elim inl (λ j. inr (asc-after Before (r .pre) m (r .post) (rw (r .split) at up) p j)) (List·Memᴰ·cases-cons i)
 
       back : IsBest xs s → firstBest le xs ≡ some s
-      back b = let t = best-some le xs s (b .member) in rw (best-unique b (found (t .0) (best-first le order xs (t .0) (t .1)))) (t .1)
+      back b =
+          let t = best-some le xs s (b .member) in
+          rw (best-unique b (found (t .0) (best-first le order xs (t .0) (t .1)))) (t .1)
 
 module _ (price : List ℕ → ℕ) (xs : List (List ℕ)) where
   cheapest-best : (s : List ℕ) → IsCheapest price xs s ↔ IsBest (byCost price) xs s

@@ -78,7 +78,9 @@ module _ (w : ℕ) (f : ℕ → ℕ) where
 
   -- Something is found there.
   pub near-least : (c : ℕ) → c < w → least f (nearby w c) ≡ some (leastNear w f c)
-  near-least c h = let t = best-some (byCost f) (nearby w c) c (nearby-self w c h) in t .1 ∙ ap some (sym (near-is c (t .0) (t .1)))
+  near-least c h =
+      let t = best-some (byCost f) (nearby w c) c (nearby-self w c h) in
+      t .1 ∙ ap some (sym (near-is c (t .0) (t .1)))
 
   -- It is a column of the grid, and beside c.
   pub near-beside : (c : ℕ) → c < w → (leastNear w f c < w) × (leastNear w f c ≤ c + 1) × (c ≤ leastNear w f c + 1)
@@ -95,7 +97,9 @@ module _ (w : ℕ) (f : ℕ → ℕ) where
   near-left h = near-is 0 (firstOfTwo f 0 1) (ap (least f) columns ∙ two-least f 0 1)
     where
       columns : nearby w 0 ≡ 0 ∷ 1 ∷ []
-      columns = let n : min (0 + 2) w - (0 - 1) ≡ 2 = omega arith in nearby-run w 0 (omega arith) ∙ ap (run 0) n
+      columns =
+          let n : min (0 + 2) w - (0 - 1) ≡ 2 = omega arith in
+          nearby-run w 0 (omega arith) ∙ ap (run 0) n
 
   -- At a column between two others.
   pub near-middle : (c : ℕ) → 0 < c → c + 1 < w → leastNear w f c ≡ firstOfThree f (c - 1) c (c + 1)

@@ -1,15 +1,14 @@
 -- Laws of a picture in a buffer: the two directions, shapes, and where a pixel and a sample stand.
 use mathlib.Core.Path.{_≡_, refl, sym, ap, ap₂, _∙_}
-use mathlib.Core.List.{List, [], _∷_, _++_, map, append-nil}
-use Prim.Native.Nat.{ℕ, zero, suc, _+_, _*_, _≤_, _<_}
-use native.Mathlib.Nat.{le-of-eq, add-assoc}
+use mathlib.Core.List.{List, [], _∷_, map, append-nil}
+use Prim.Native.Nat.{ℕ, _+_, _*_, _≤_, _<_}
+use native.Mathlib.Nat.{le-of-eq}
 use native.Mathlib.Omega.{arith}
-use lib.ListN.{length, getD, take, drop, length-map, List·getD-eq-default, List·getD-map}
+use lib.ListN.{length, getD, length-map, List·getD-eq-default}
 use lib.Seq.{take-all}
 use lib.Arith.{digits-lt}
 use Rattle.grids.specs.Each.{Each, Grid, none, more}
 use Rattle.grids.specs.Rows.{rowsOf, flat, rowAt}
-use Rattle.grids.specs.Exchange.{exchange}
 use Rattle.grids.proofs.Shapes.{each-map, map-at}
 use Rattle.grids.proofs.Rows.{grid-rowsOf, flat-rowsOf, rowsOf-flat, length-flat, rowsOf-at, rowsOf-past, rowsOf-rowAt, length-rowAt, rowAt-getD, length-rowsOf}
 use Rattle.energy.specs.declared.pictures.Size.{Size}

@@ -1,15 +1,13 @@
 -- Laws of energies: from the bytes of two rows, with rows and columns exchanged, and their bound.
-use mathlib.Core.Path.{_≡_, refl, sym, ap, ap₂, _∙_}
+use mathlib.Core.Path.{_≡_, refl, sym, _∙_}
 use mathlib.Core.Logic.{⊎-elim}
-use mathlib.Core.Bool.{Bool, true, false, cond}
-use mathlib.Core.List.{List, [], _∷_, _++_}
-use Prim.Native.Nat.{ℕ, zero, suc, _+_, _-_, _*_, _≤_, _<_}
-use native.Mathlib.Nat.{add-comm, suc-mul, mul-le-mul-right, le-trans}
+use mathlib.Core.List.{List, [], _∷_}
+use Prim.Native.Nat.{ℕ, suc, _+_, _*_, _≤_, _<_}
+use native.Mathlib.Nat.{add-comm, suc-mul, mul-le-mul-right}
 use native.Mathlib.Omega.{arith}
-use lib.Dec.{ltb}
 use borrow.Author.Tests.{lt-ltb, le-ltb}
 use lib.ListN.{length, getD, take, drop}
-use Rattle.grids.specs.Each.{Each, Grid}
+use Rattle.grids.specs.Each.{Grid}
 use Rattle.grids.specs.Table.{table}
 use Rattle.grids.specs.Rows.{rowAt}
 use Rattle.grids.specs.Exchange.{exchange}
@@ -19,7 +17,7 @@ use Rattle.grids.proofs.Tables.{table-same}
 use Rattle.grids.proofs.Exchange.{exchange-at, exchange-table}
 use Rattle.energy.specs.declared.pictures.Size.{Size}
 use Rattle.energy.specs.Pictures.{Picture, channelsOf, rowBytes, pictureBytes, picture}
-use Rattle.energy.specs.Energy.{apart, difference, pixel, energy, energies}
+use Rattle.energy.specs.Energy.{difference, pixel, energy, energies}
 use Rattle.energy.specs.Kernels.{between, lowerRow}
 use Rattle.energy.proofs.Buffers.{pixel-at, pixel-past}
 

@@ -1,6 +1,5 @@
 -- "Pictures": sizes, kinds, and a lent buffer read as rows of pixels.
-use mathlib.Core.Path.{_≡_}
-use mathlib.Core.Bool.{Bool, not, _||_}
+use mathlib.Core.Bool.{not, _||_}
 use mathlib.Core.List.{List, [], _∷_, _++_, map}
 use Prim.Native.Nat.{ℕ, _*_}
 use lib.Dec.{eqb, ltb}

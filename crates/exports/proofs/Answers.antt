@@ -1,5 +1,5 @@
 -- What hosts see, from what the operations promise: said once for finding and cutting, without marks and with them.
-use mathlib.Core.Path.{_≡_, refl}
+use mathlib.Core.Path.{refl}
 use mathlib.Core.List.{List}
 use Prim.Native.Nat.{ℕ}
 use Rattle.energy.specs.declared.pictures.Size.{Size}

@@ -31,7 +31,9 @@ accepted-parts f = (there, back)
     there a = go (parse f) refl
       where
         go : (o : Option Parts) → parse f ≡ o → AcceptedParts f
-        go none e = let c = check-none f (length {A = ℕ} []) e in absurd (omega (arith, c, a [] (λ q. omega (arith, c, q))))
+        go none e =
+            let c = check-none f (length {A = ℕ} []) e in
+            absurd (omega (arith, c, a [] (λ q. omega (arith, c, q))))
         go (some p) e =
             let c = check-some f p (length (room p)) e in
             let z : checked p (length (room p)) ≡ 0 = sym c ∙ a (room p) (λ q. room-not p (sym c ∙ q)) in

@@ -53,7 +53,9 @@ total-later f lo (suc n) = omega (arith, total-later f (suc lo) n)
 -- A sum over a numbering doesn't depend on the order.
 total-numbering : (k : ℕ) (f : ℕ → ℕ) (ys : List ℕ) → Numbering k ys → total f ys + k * f 0 ≡ total f (run 1 k) + length ys * f 0
 unfolding total run numberRow
-total-numbering zero f ys n = let z = numbering-none ys ys refl n in omega (arith, ap (total f) z, total-zeros f ys, zero-mul (f 0))
+total-numbering zero f ys n =
+    let z = numbering-none ys ys refl n in
+    omega (arith, ap (total f) z, total-zeros f ys, zero-mul (f 0))
 total-numbering (suc k) f ys n =
     let one = n .once 1 (omega arith) (omega arith) in
     let zs : List ℕ = lowerRow 1 ys in

@@ -36,7 +36,9 @@ well-formed-parts f = (there, back)
     there a = go (parse f) refl
       where
         go : (o : Option Parts) → parse f ≡ o → WellFormedParts f
-        go none e = let c = check-none f (length {A = ℕ} []) e in absurd (⊎-elim (λ z. omega (arith, c, z)) (λ z. omega (arith, c, z)) (a [] (λ q. omega (arith, c, q))))
+        go none e =
+            let c = check-none f (length {A = ℕ} []) e in
+            absurd (⊎-elim (λ z. omega (arith, c, z)) (λ z. omega (arith, c, z)) (a [] (λ q. omega (arith, c, q))))
         go (some p) e = ⊎-elim served refused (zero-or (refusal (partRules p)))
           where
             c : refusal (checkRules f (length (room p))) ≡ checked p (length (room p))

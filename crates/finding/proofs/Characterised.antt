@@ -1,10 +1,10 @@
 -- The seams found are those that `Chosen` describes, and no others.
 use mathlib.Core.Path.{_≡_, refl, sym, ap, _∙_}
-use mathlib.Core.Logic.{_⊎_, inl, inr, ⊎-elim, _↔_}
+use mathlib.Core.Logic.{inl, inr, ⊎-elim, _↔_}
 use mathlib.Core.Bool.{Bool, true, false, cond}
 use mathlib.Core.Option.{Option·getD, none, some, Option·some-injective}
 use mathlib.Core.List.{List, [], _∷_, reverse, List·Memᴰ}
-use Prim.Native.Nat.{ℕ, _≤_, _<_}
+use Prim.Native.Nat.{ℕ, _<_}
 use native.Mathlib.Nat.{pos-of-ne-zero, eq-zero-or-pos, le-of-eq}
 use native.Mathlib.Omega.{arith}
 use lib.Dec.{eqb}
@@ -12,7 +12,7 @@ use lib.ListN.{length}
 use borrow.Author.Tests.{eqb-true}
 use Rattle.cheapest.specs.Paths.{paths, nearby, along}
 use Rattle.cheapest.specs.Connected.{IsPath}
-use Rattle.cheapest.specs.Seams.{Before, IsCheapest, IsPreferred}
+use Rattle.cheapest.specs.Seams.{IsCheapest, IsPreferred}
 use Rattle.cheapest.proofs.Along.{along-nil, along-cons, along-most}
 use Rattle.cheapest.proofs.Nearby.{nearby-paths, nearby-paths-asc}
 use Rattle.cheapest.proofs.Seams.{cheapest-is, cheapest-some}
@@ -25,7 +25,9 @@ use Rattle.finding.specs.Chosen.{IsSeam, Touches, IsMarkedSeam}
 -- A path touches a protected pixel just where it has one.
 touched : (m : List (List ℕ)) (q : List ℕ) → Touches m q → 0 < along (isMark 1 m) q
 touched m [] t = absurd t
-touched m (c ∷ q) (inl e) = let one : isMark 1 m (length q) c ≡ 1 = ap (λ k. cond (eqb k 1) 1 0) e in omega (arith, along-cons (isMark 1 m) c q)
+touched m (c ∷ q) (inl e) =
+    let one : isMark 1 m (length q) c ≡ 1 = ap (λ k. cond (eqb k 1) 1 0) e in
+    omega (arith, along-cons (isMark 1 m) c q)
 touched m (c ∷ q) (inr t) = omega (arith, along-cons (isMark 1 m) c q, touched m q t)
 
 touching : (m : List (List ℕ)) (q : List ℕ) → 0 < along (isMark 1 m) q → Touches m q
@@ -34,7 +36,9 @@ touching m (c ∷ q) l = go (touching m q) (eqb (markAt m (length q) c) 1) refl
   where
     go : (0 < along (isMark 1 m) q → Touches m q) → (t : Bool) → eqb (markAt m (length q) c) 1 ≡ t → Touches m (c ∷ q)
     go ih true e = inl (eqb-true (markAt m (length q) c) 1 e)
-    go ih false e = let z : isMark 1 m (length q) c ≡ 0 = ap (λ k. cond k 1 0) e in inr (ih (omega (arith, along-cons (isMark 1 m) c q)))
+    go ih false e =
+        let z : isMark 1 m (length q) c ≡ 0 = ap (λ k. cond k 1 0) e in
+        inr (ih (omega (arith, along-cons (isMark 1 m) c q)))
 
 untouched : (m : List (List ℕ)) (q : List ℕ) → (Touches m q → ⊥) → along (isMark 1 m) q ≡ 0
 untouched m q n = ⊎-elim (λ e. e) (λ l. absurd (n (touching m q l))) (eq-zero-or-pos (along (isMark 1 m) q))
@@ -67,7 +71,9 @@ module _ (w h : ℕ) (p : Picture) where
 
   -- there is one,
   pub seam-some : 0 < w → 0 < h → (s : List ℕ) × (seamUp w h p ≡ some s) × IsSeam w h p s
-  seam-some k l = let t = cheapest-some (energy p 0) (λ i a c. energy p i c) w h k l in (t .0, t .1, listed-seam (t .0) (t .2))
+  seam-some k l =
+      let t = cheapest-some (energy p 0) (λ i a c. energy p i c) w h k l in
+      (t .0, t .1, listed-seam (t .0) (t .2))
 
   -- and only one.
   pub seam-unique : (s t : List ℕ) → IsSeam w h p s → IsSeam w h p t → s ≡ t

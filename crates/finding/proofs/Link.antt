@@ -67,16 +67,22 @@ module _ (fence w : ℕ) (s : List ℕ) (wide : length s ≡ w) (low : (c : ℕ)
 
   -- The numbers above a column: the fence at an edge, and else the sums beside it.
   left-at : (c : ℕ) → 0 < c → c < w → getD x c 0 ≡ f (c - 1)
-  left-at c p h = let e : c ≡ c - 1 + 1 = omega arith in ap (λ k. getD x k 0) e ∙ fenced-at fence s (c - 1) (omega arith)
+  left-at c p h =
+      let e : c ≡ c - 1 + 1 = omega arith in
+      ap (λ k. getD x k 0) e ∙ fenced-at fence s (c - 1) (omega arith)
 
   middle-at : (c : ℕ) → c < w → getD x (c + 1) 0 ≡ f c
   middle-at c h = fenced-at fence s c (omega arith)
 
   right-at : (c : ℕ) → c + 1 < w → getD x (c + 2) 0 ≡ f (c + 1)
-  right-at c h = let e : c + 2 ≡ c + 1 + 1 = omega arith in ap (λ k. getD x k 0) e ∙ fenced-at fence s (c + 1) (omega arith)
+  right-at c h =
+      let e : c + 2 ≡ c + 1 + 1 = omega arith in
+      ap (λ k. getD x k 0) e ∙ fenced-at fence s (c + 1) (omega arith)
 
   right-end : (c : ℕ) → c + 1 ≡ w → getD x (c + 2) 0 ≡ fence
-  right-end c h = let e : c + 2 ≡ suc (c + 1) = omega arith in ap (λ k. getD x k 0) e ∙ getD-at s fence [] 0 (c + 1) (wide ∙ sym h)
+  right-end c h =
+      let e : c + 2 ≡ suc (c + 1) = omega arith in
+      ap (λ k. getD x k 0) e ∙ getD-at s fence [] 0 (c + 1) (wide ∙ sym h)
 
   -- The way leads to the first least of the columns nearby. Between the fences its number stands one place further on.
   -- At the only column,

@@ -19,11 +19,15 @@ module _ (s : List ℕ) (k : ℕ) (h : 0 < k) where
 
   pub least-moves : getD s k 0 < getD s (leastTo s (k - 1)) 0 → leastTo s (k + 1 - 1) ≡ k
   unfolding leastTo
-  least-moves l = let m : getD s (suc (k - 1)) 0 < getD s (leastTo s (k - 1)) 0 = rw here l in rw (next, lt-ltb _ _ m) here
+  least-moves l =
+      let m : getD s (suc (k - 1)) 0 < getD s (leastTo s (k - 1)) 0 = rw here l in
+      rw (next, lt-ltb _ _ m) here
 
   pub least-stays : getD s (leastTo s (k - 1)) 0 ≤ getD s k 0 → leastTo s (k + 1 - 1) ≡ leastTo s (k - 1)
   unfolding leastTo
-  least-stays l = let m : getD s (leastTo s (k - 1)) 0 ≤ getD s (suc (k - 1)) 0 = rw here l in rw (next, le-ltb _ _ m)
+  least-stays l =
+      let m : getD s (leastTo s (k - 1)) 0 ≤ getD s (suc (k - 1)) 0 = rw here l in
+      rw (next, le-ltb _ _ m)
 
 -- The way back, a row at a time from the last: `full` is the whole path, of which the columns of the rows below i stand in
 -- the seam's space.

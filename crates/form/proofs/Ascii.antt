@@ -79,4 +79,6 @@ text-ascii p = all (text p) (ascii-text p)
   where
     all : (s : List ℕ) → ascii s ≡ true → All (λ (b : ℕ). b < 128) s
     all [] e = tt
-    all (b ∷ s) e = let q = and-eq-true-iff (ltb b 128) (ascii s) .0 e in (ltb-true b 128 (q .0), all s (q .1))
+    all (b ∷ s) e =
+        let q = and-eq-true-iff (ltb b 128) (ascii s) .0 e in
+        (ltb-true b 128 (q .0), all s (q .1))

@@ -41,7 +41,9 @@ digits-small n h = rw (lt-ltb n 10 h)
 
 pub digits-large : (n : ℕ) → 10 ≤ n → digits n ≡ digits (n / 10) ++ (48 + n % 10) ∷ []
 unfolding digits digitsUpTo
-digits-large n h = let l = tenth n h in rw (le-ltb n 10 h, digits-same n (suc (n / 10)) (n / 10) l (omega arith))
+digits-large n h =
+    let l = tenth n h in
+    rw (le-ltb n 10 h, digits-same n (suc (n / 10)) (n / 10) l (omega arith))
 
 -- How many there are.
 pub length-small : (n : ℕ) → n < 10 → length (digits n) ≡ 1
@@ -131,7 +133,9 @@ module _ (limit : ℕ) where
       last false e n l h = absurd (Option·none-ne-some _ h)
 
       go : (x y : Bool) → isDigit b ≡ x → eqb b 48 ≡ y → cond x (cond y (some (0, s)) (upTo limit (further (b - 48) s))) none ≡ some r → (b ∷ s ≡ digits (r .0) ++ (r .1)) × (r .0 ≤ limit)
-      go true true e f h = let z : r ≡ (0, s) = cc in rw z (rw (digits-small 0 (omega arith), eqb-true b 48 f), omega arith)
+      go true true e f h =
+          let z : r ≡ (0, s) = cc in
+          rw z (rw (digits-small 0 (omega arith), eqb-true b 48 f), omega arith)
       go true false e f h = last _ e (eqb-false b 48 f) refl h
       go false y e f h = absurd (Option·none-ne-some _ h)
 

@@ -3,7 +3,7 @@ use mathlib.Core.Path.{_≡_, refl, sym, ap, _∙_}
 use mathlib.Core.Bool.{Bool, true, false, cond}
 use mathlib.Core.Option.{Option, none, some, Option·none-ne-some}
 use mathlib.Core.List.{List, [], _∷_, _++_, append-assoc, append-nil}
-use Prim.Native.Nat.{ℕ, suc, _+_, _≤_}
+use Prim.Native.Nat.{ℕ, suc, _≤_}
 use native.Mathlib.Omega.{arith}
 use lib.Dec.{eqb}
 use lib.ListN.{length}
@@ -120,7 +120,10 @@ pub either-sound : {A : Type 0} (put : A → List ℕ) (a b : A) (s : List ℕ) 
 either-sound {A} put a b s r h = go (after (put a) (give a) s) refl h
   where
     go : (o : Option (A × List ℕ)) → after (put a) (give a) s ≡ o → either o (after (put b) (give b) s) ≡ some r → s ≡ put (r .0) ++ (r .1)
-    go (some q) e h = let p = after-inv (put a) (give a) s r (e ∙ h) in let z : r ≡ (a, p .0) = cc (p .2) in rw z (p .1)
+    go (some q) e h =
+        let p = after-inv (put a) (give a) s r (e ∙ h) in
+        let z : r ≡ (a, p .0) = cc (p .2) in
+        rw z (p .1)
     go none e h = let p = after-inv (put b) (give b) s r h in let z : r ≡ (b, p .0) = cc (p .2) in rw z (p .1)
 
 kind-sound : (s : List ℕ) (r : Kind × List ℕ) → kindGet s ≡ some r → s ≡ kindText (r .0) ++ (r .1)
@@ -214,7 +217,10 @@ unfolding parse whole
 parse-sound s p h = go (file s) refl h
   where
     last : (r : Parts × List ℕ) (t : List ℕ) → r .1 ≡ t → file s ≡ some r → ended t (r .0) ≡ some p → (text p ≡ s) × Within p
-    last r [] e f h = let m = file-sounds .sounds s r f in let z : p ≡ r .0 = cc in rw z (sym (m .0 ∙ rw (e, append-nil)), m .1)
+    last r [] e f h =
+        let m = file-sounds .sounds s r f in
+        let z : p ≡ r .0 = cc in
+        rw z (sym (m .0 ∙ rw (e, append-nil)), m .1)
     last r (b ∷ t) e f h = absurd (Option·none-ne-some _ h)
 
     go : (o : Option (Parts × List ℕ)) → file s ≡ o → whole o ≡ some p → (text p ≡ s) × Within p

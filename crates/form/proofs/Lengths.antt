@@ -1,7 +1,7 @@
 -- The length of a text is what `textLength` says.
-use mathlib.Core.Path.{_≡_, refl, sym, ap, _∙_}
-use mathlib.Core.List.{List, [], _∷_, _++_, map}
-use Prim.Native.Nat.{ℕ, zero, suc, _+_, _≤_, _<_}
+use mathlib.Core.Path.{_≡_, refl, sym, _∙_}
+use mathlib.Core.List.{List, [], _∷_}
+use Prim.Native.Nat.{ℕ, suc, _+_}
 use native.Mathlib.Omega.{arith}
 use lib.ListN.{length, length-append}
 use Rattle.energy.specs.declared.pictures.Kind.{Kind}
@@ -10,7 +10,7 @@ use Rattle.energy.specs.Pictures.{channelsOf}
 use Rattle.form.specs.declared.Head.{Head}
 use Rattle.form.specs.Decimal.{digits}
 use Rattle.form.specs.Files.{Parts, blank, opening, closing, start, range, closed, rowWord, mapWord, greyWord, rgbWord, each, joined, kindText, pixelText, lineText, rowText, mapText, headText, text, All, Pixel, Within}
-use Rattle.form.specs.Lengths.{total, spaced, brackets, kindLength, pixelLength, rowLength, mapLength, headLength, textLength}
+use Rattle.form.specs.Lengths.{total, spaced, kindLength, pixelLength, rowLength, mapLength, headLength, textLength}
 
 pub each-length : {A : Type 0} (w : List ℕ) (put : A → List ℕ) (f : A → ℕ) (ok : A → Type 0) → ((a : A) → ok a → length w + length (put a) ≡ f a)
     → (xs : List A) → All ok xs → length (each w put xs) ≡ total f xs

@@ -1,10 +1,10 @@
 -- Values one after the other, each behind the same bytes.
-use mathlib.Core.Path.{_≡_, refl, sym, ap, _∙_}
+use mathlib.Core.Path.{_≡_, refl, ap}
 use mathlib.Core.Option.{Option, none, some, Option·none-ne-some}
 use mathlib.Core.List.{List, [], _∷_, _++_, append-assoc}
-use Prim.Native.Nat.{ℕ, zero, suc, _+_, _≤_, _<_}
+use Prim.Native.Nat.{ℕ, zero, suc, _≤_, _<_}
 use native.Mathlib.Omega.{arith}
-use lib.ListN.{length, length-append}
+use lib.ListN.{length}
 use Rattle.form.specs.Readers.{Get, give, on, _▷_, strip, next, manyUpTo, many}
 use Rattle.form.specs.Files.{each, All}
 use Rattle.form.proofs.Pairs.{Reads, strip-back, strip-sound, strip-shorter, on-inv, on-same, short}

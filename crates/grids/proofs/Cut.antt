@@ -101,7 +101,11 @@ module _ {A : Type 0} where
       ∙ sym (ap₂ _++_ (front) (back))
     where
       front : take (suc c * ch) (x ++ flat xs) ≡ x ++ take (c * ch) (flat xs)
-      front = let n : suc c * ch ≡ length x + c * ch = omega (arith, suc-mul c ch) in rw n (take-append-add x (flat xs) (c * ch))
+      front =
+          let n : suc c * ch ≡ length x + c * ch = omega (arith, suc-mul c ch) in
+          rw n (take-append-add x (flat xs) (c * ch))
 
       back : drop (suc c * ch + ch) (x ++ flat xs) ≡ drop (c * ch + ch) (flat xs)
-      back = let n : suc c * ch + ch ≡ length x + (c * ch + ch) = omega (arith, suc-mul c ch) in rw n (drop-append-add x (flat xs) (c * ch + ch))
+      back =
+          let n : suc c * ch + ch ≡ length x + (c * ch + ch) = omega (arith, suc-mul c ch) in
+          rw n (drop-append-add x (flat xs) (c * ch + ch))

@@ -1,9 +1,9 @@
 -- What is done to every element of a grid commutes with cutting and exchanging it; and grids of one sample a pixel.
-use mathlib.Core.Path.{_≡_, refl, sym, ap, ap₂, _∙_}
-use mathlib.Core.List.{List, [], _∷_, _++_, map, zipWith}
+use mathlib.Core.Path.{_≡_, refl, ap, ap₂, _∙_}
+use mathlib.Core.List.{List, [], _∷_, map, zipWith}
 use Prim.Native.Nat.{ℕ, zero, suc}
 use native.Mathlib.Omega.{arith}
-use lib.ListN.{length, take, drop, replicate}
+use lib.ListN.{length, replicate}
 use Rattle.grids.specs.Rows.{rowsOf, flat}
 use Rattle.grids.specs.Exchange.{exchange}
 use Rattle.grids.specs.Cut.{removeAt, cut}

@@ -1,7 +1,7 @@
 -- A part of a lent slice that was lent on and has come back, in terms of take and drop.
 use mathlib.Core.Path.{_≡_, ap}
 use mathlib.Core.List.{List, _++_}
-use Prim.Native.Nat.{ℕ, _-_, _+_, _≤_}
+use Prim.Native.Nat.{ℕ, _-_, _≤_}
 use native.Mathlib.Omega.{arith}
 use borrow.Rule.Slice.PartMut.{putMid, midOf, post-is, mid-len}
 use lib.ListN.{length, take, drop, length-drop}

@@ -1,14 +1,14 @@
 -- Laws of flat lists and their rows.
 use mathlib.Core.Path.{_≡_, refl, sym, ap, ap₂, _∙_}
 use mathlib.Core.Logic.{⊎-elim}
-use mathlib.Core.List.{List, [], _∷_, _++_, append-nil, append-assoc, map}
+use mathlib.Core.List.{List, [], _∷_, _++_, append-nil, append-assoc}
 use Prim.Native.Nat.{ℕ, zero, suc, _+_, _*_, _≤_, _<_}
-use native.Mathlib.Nat.{zero-mul, suc-mul, add-comm, zero-add, le-of-suc-le-suc, mul-le-mul-right, min-le-left, le-trans}
+use native.Mathlib.Nat.{zero-mul, suc-mul, add-comm, le-of-suc-le-suc, mul-le-mul-right, min-le-left, le-trans}
 use native.Mathlib.Numerals.{add-one}
 use native.Mathlib.Omega.{arith}
 use lib.ListN.{length, getD, take, drop, length-append, length-take, length-drop, List·getD-eq-default, drop-of-length-le}
-use lib.Seq.{take-add, take-at, drop-at, length-take-le, take-all, take-nil, getD-take, getD-drop, drop-drop}
-use Rattle.grids.specs.Each.{Each, Grid, none, more}
+use lib.Seq.{take-add, take-at, drop-at, length-take-le, take-nil, getD-take, getD-drop, drop-drop}
+use Rattle.grids.specs.Each.{Grid, none, more}
 use Rattle.grids.specs.Rows.{rowsOf, flat, rowAt}
 use Rattle.grids.proofs.Orders.{le-or-lt}
 

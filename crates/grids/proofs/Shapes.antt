@@ -1,7 +1,7 @@
 -- Laws of lists of a known length whose elements all have a property.
-use mathlib.Core.Path.{_≡_, refl, sym, ap, _∙_}
+use mathlib.Core.Path.{_≡_, refl, ap}
 use mathlib.Core.List.{List, [], _∷_, _++_, map, zipWith, reverse, reverse-cons, List·Memᴰ, List·Memᴰ·head, List·Memᴰ·tail}
-use Prim.Native.Nat.{ℕ, zero, suc, _+_, _≤_, _<_}
+use Prim.Native.Nat.{ℕ, zero, suc, _<_}
 use native.Mathlib.Nat.{le-of-suc-le-suc, suc-inj}
 use native.Mathlib.Omega.{arith}
 use lib.ListN.{length, getD}

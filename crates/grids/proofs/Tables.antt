@@ -1,14 +1,14 @@
 -- Laws of tables, and of a slice that a loop fills from the front.
 use mathlib.Core.Path.{_≡_, refl, sym, ap, ap₂, _∙_}
 use mathlib.Core.Logic.{⊎-elim}
-use mathlib.Core.List.{List, [], _∷_, _++_, append-assoc, append-nil}
+use mathlib.Core.List.{List, [], _∷_, _++_, append-nil}
 use Prim.Native.Nat.{ℕ, zero, suc, _+_, _≤_, _<_}
-use native.Mathlib.Nat.{eq-or-lt-of-le, add-zero}
+use native.Mathlib.Nat.{eq-or-lt-of-le}
 use native.Mathlib.Numerals.{add-one}
 use native.Mathlib.Omega.{arith}
 use lib.ListN.{length, take, drop, getD, set, length-append, length-drop, List·getD-append, List·getD-eq-default}
 use lib.Seq.{drop-cons, drop-length, set-at, append-snoc, getD-at, take-suc, getD-drop, ext-getD}
-use Rattle.grids.specs.Each.{Each, none, more}
+use Rattle.grids.specs.Each.{Each, none}
 use Rattle.grids.specs.Table.{table}
 use Rattle.grids.proofs.Shapes.{each-snoc}
 

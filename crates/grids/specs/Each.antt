@@ -1,7 +1,7 @@
 -- Lists of a known length whose elements all have a property: the shape of rows, grids and pictures.
 use mathlib.Core.Path.{_≡_}
 use mathlib.Core.List.{List, [], _∷_}
-use Prim.Native.Nat.{ℕ, zero, suc}
+use Prim.Native.Nat.{ℕ, suc}
 use lib.ListN.{length}
 
 -- n elements, each with P.

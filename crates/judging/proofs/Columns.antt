@@ -22,13 +22,19 @@ module _ (ys : List ℕ) (t c n r : ℕ) (inside : c < length ys) (so-far : n + 
   column-turn = rw (add-one c, drop-cons ys c 0 inside)
 
   pub column-here : getD ys c 0 ≡ t → n ≡ r
-  column-here e = let z : columnOf t (drop c ys) ≡ 0 = column-turn ∙ rw (eq-eqb (getD ys c 0) t e) in omega (arith, z)
+  column-here e =
+      let z : columnOf t (drop c ys) ≡ 0 = column-turn ∙ rw (eq-eqb (getD ys c 0) t e) in
+      omega (arith, z)
 
   pub column-left : (getD ys c 0 ≡ t → ⊥) → remains t (getD ys c 0) ≡ true → n + 1 + columnOf t (drop (c + 1) ys) ≡ r
-  column-left d e = let z : columnOf t (drop c ys) ≡ suc (columnOf t (drop (c + 1) ys)) = column-turn ∙ rw (ne-eqb (getD ys c 0) t d, e) in omega (arith, z)
+  column-left d e =
+      let z : columnOf t (drop c ys) ≡ suc (columnOf t (drop (c + 1) ys)) = column-turn ∙ rw (ne-eqb (getD ys c 0) t d, e) in
+      omega (arith, z)
 
   pub column-gone : (getD ys c 0 ≡ t → ⊥) → remains t (getD ys c 0) ≡ false → n + columnOf t (drop (c + 1) ys) ≡ r
-  column-gone d e = let z : columnOf t (drop c ys) ≡ columnOf t (drop (c + 1) ys) = column-turn ∙ rw (ne-eqb (getD ys c 0) t d, e) in omega (arith, z)
+  column-gone d e =
+      let z : columnOf t (drop c ys) ≡ columnOf t (drop (c + 1) ys) = column-turn ∙ rw (ne-eqb (getD ys c 0) t d, e) in
+      omega (arith, z)
 
 pub column-end : (ys : List ℕ) (t c : ℕ) → length ys ≤ c → columnOf t (drop c ys) ≡ 0
 column-end ys t c h = rw (drop-of-length-le ys h)

@@ -16,7 +16,9 @@ use Rattle.judging.specs.Judging.{numbersIn, recordedAt, recordedIn}
 -- The numbers of their bytes, and the bytes of their numbers.
 pub numbers-pairs : (ys : List ℕ) → numbersIn (pairs ys) ≡ ys
 numbers-pairs [] = refl
-numbers-pairs (v ∷ ys) = let parts : v % 256 + 256 * (v / 256) ≡ v = omega arith in ap₂ _∷_ parts (numbers-pairs ys)
+numbers-pairs (v ∷ ys) =
+    let parts : v % 256 + 256 * (v / 256) ≡ v = omega arith in
+    ap₂ _∷_ parts (numbers-pairs ys)
 
 pub pairs-numbers : (n : ℕ) (b : List ℕ) → Each (λ x. x < 256) (2 * n) b → pairs (numbersIn b) ≡ b
 pairs-numbers n b e = go n (2 * n) b refl e
@@ -50,13 +52,17 @@ pub numbers-take : (n : ℕ) (b : List ℕ) → numbersIn (take (2 * n) b) ≡ t
 numbers-take zero b = refl
 numbers-take (suc n) [] = let e : 2 * suc n ≡ suc (suc (2 * n)) = omega arith in rw e refl
 numbers-take (suc n) (a ∷ []) = let e : 2 * suc n ≡ suc (suc (2 * n)) = omega arith in rw e refl
-numbers-take (suc n) (a ∷ c ∷ r) = let e : 2 * suc n ≡ suc (suc (2 * n)) = omega arith in rw e (ap ((a + 256 * c) ∷_) (numbers-take n r))
+numbers-take (suc n) (a ∷ c ∷ r) =
+    let e : 2 * suc n ≡ suc (suc (2 * n)) = omega arith in
+    rw e (ap ((a + 256 * c) ∷_) (numbers-take n r))
 
 pub numbers-drop : (n : ℕ) (b : List ℕ) → numbersIn (drop (2 * n) b) ≡ drop n (numbersIn b)
 numbers-drop zero b = refl
 numbers-drop (suc n) [] = let e : 2 * suc n ≡ suc (suc (2 * n)) = omega arith in rw e refl
 numbers-drop (suc n) (a ∷ []) = let e : 2 * suc n ≡ suc (suc (2 * n)) = omega arith in rw e refl
-numbers-drop (suc n) (a ∷ c ∷ r) = let e : 2 * suc n ≡ suc (suc (2 * n)) = omega arith in rw e (numbers-drop n r)
+numbers-drop (suc n) (a ∷ c ∷ r) =
+    let e : 2 * suc n ≡ suc (suc (2 * n)) = omega arith in
+    rw e (numbers-drop n r)
 
 -- Row r of w numbers.
 pub numbers-row : (w r : ℕ) (b : List ℕ) → numbersIn (rowAt (2 * w) r b) ≡ rowAt w r (numbersIn b)

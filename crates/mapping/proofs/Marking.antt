@@ -46,7 +46,9 @@ module _ (low high : ℕ) (ys w : List ℕ) (c z : ℕ) (inside : c + 1 < length
       go (suc a) b k n l r q t = absurd (omega arith)
       go zero (suc b) k n l r q t = absurd (omega arith)
       go zero zero zero n l r q t = absurd (omega arith)
-      go zero zero (suc k) n l r q t = let o : z - 1 ≡ k = omega arith in rw (o, t, append-assoc) (rw (r, q) at e)
+      go zero zero (suc k) n l r q t =
+          let o : z - 1 ≡ k = omega arith in
+          rw (o, t, append-assoc) (rw (r, q) at e)
 
   pub put-number : getD ys c 0 + 256 * getD ys (c + 1) 0 ≡ 0 → z ≡ 0 → take c ys ++ writePair low high z (drop c ys) ≡ w
       → set (set ys c low) (c + 1) high ≡ w

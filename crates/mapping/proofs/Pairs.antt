@@ -42,7 +42,9 @@ grid-pairs {w} (more {x = y} e g) = more (length-pairs y ∙ ap (2 *_) e) (grid-
 -- Numbers that are all 0.
 zeros-row : {A : Type 0} (x : List A) → pairs (map (λ a. 0) x) ≡ replicate (2 * length x) 0
 zeros-row [] = refl
-zeros-row (a ∷ x) = let n : 2 * suc (length x) ≡ suc (suc (2 * length x)) = omega arith in rw n (ap (λ r. 0 ∷ 0 ∷ r) (zeros-row x))
+zeros-row (a ∷ x) =
+    let n : 2 * suc (length x) ≡ suc (suc (2 * length x)) = omega arith in
+    rw n (ap (λ r. 0 ∷ 0 ∷ r) (zeros-row x))
 
 pub pairs-zeros : {A : Type 0} {w h : ℕ} {p : List (List A)} → Grid w h p → pairs (flat (zeros p)) ≡ replicate (h * (2 * w)) 0
 pairs-zeros {A} {w} none = rw (zero-mul (2 * w))

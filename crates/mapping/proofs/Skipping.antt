@@ -20,7 +20,9 @@ module _ (ys : List ℕ) (i n t : ℕ) (inside : 2 * i + 1 < length ys) (so-far 
   count-zero d = rw next (go (getD ys (2 * i) 0) (getD ys (2 * i + 1) 0) d (drop-two ys (2 * i) inside))
     where
       go : (a b : ℕ) → a + 256 * b ≡ 0 → drop (2 * i) ys ≡ a ∷ b ∷ drop (2 * i + 2) ys → n + 1 + zeroPairs (drop (2 * i + 2) ys) ≡ t
-      go zero zero d q = let one : zeroPairs (drop (2 * i) ys) ≡ suc (zeroPairs (drop (2 * i + 2) ys)) = ap zeroPairs q in omega (arith, one, so-far)
+      go zero zero d q =
+          let one : zeroPairs (drop (2 * i) ys) ≡ suc (zeroPairs (drop (2 * i + 2) ys)) = ap zeroPairs q in
+          omega (arith, one, so-far)
       go zero (suc b) d q = absurd (omega arith)
       go (suc a) b d q = absurd (omega arith)
 

@@ -66,7 +66,9 @@ module _ {A : Type 0} (mean : A → A → A) where
 
     pub grow-map : (u k m h : ℕ) (p : List (List A)) → Grid m h p → u ≤ k → k ≤ m
         → zipWith (growRow mean u) p (mapOf choose k m h p) ≡ zipWith (growRow mean u) p (mapOf choose u m h p)
-    grow-map u k m h p g a b = let z : u + (k - u) ≡ k = omega arith in rw z at (deeper u (k - u) m h p g (omega arith))
+    grow-map u k m h p g a b =
+        let z : u + (k - u) ≡ k = omega arith in
+        rw z at (deeper u (k - u) m h p g (omega arith))
 
     -- Width m + u of the picture's own map shows the picture with its first u seams doubled.
     pub shown-grown : (u k m h : ℕ) (p : List (List A)) → Grid m h p → 1 ≤ u → u ≤ k → k ≤ m

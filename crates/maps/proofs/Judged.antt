@@ -88,7 +88,9 @@ module _ {A : Type 0} (choose : Choice A) {near : ℕ → ℕ → ℕ → Bool} 
       whole = number-lower u
 
       first : recorded 1 m ≡ choose w h p
-      first = let z : w - 0 ≡ w = omega arith in (rw z at (c 0 (omega arith))) ∙ ap (choose w h) (before-all g q)
+      first =
+          let z : w - 0 ≡ w = omega arith in
+          (rw z at (c 0 (omega arith))) ∙ ap (choose w h) (before-all g q)
 
       low : Grid (w - 1) h (lower 1 m)
       low = grid-lower q u

@@ -20,7 +20,9 @@ lowerRow t ys = map (λ v. v - t) (keepRow (remains (suc t)) ys ys)
 pub lower-zero-row : (ys : List ℕ) → lowerRow 0 ys ≡ ys
 unfolding lowerRow
 lower-zero-row [] = refl
-lower-zero-row (v ∷ ys) = let z : v - 0 ≡ v = omega arith in rw (remains-all v, z) (ap (v ∷_) (lower-zero-row ys))
+lower-zero-row (v ∷ ys) =
+    let z : v - 0 ≡ v = omega arith in
+    rw (remains-all v, z) (ap (v ∷_) (lower-zero-row ys))
 
 -- An element more in front, kept in both or in neither.
 lower-cons : (t a b : ℕ) (u : Bool) (xs ys : List ℕ) → a - suc t ≡ b - t → map (λ v. v - suc t) xs ≡ map (λ v. v - t) ys

@@ -15,7 +15,9 @@ module _ {A : Type 0} (choose : Choice A) where
   -- One seam more is cut from what is left.
   pub carve-next : (t w h : ℕ) (p : List (List A)) → carve choose (suc t) w h p ≡ cut (choose (w - t) h (carve choose t w h p)) (carve choose t w h p)
   carve-next zero w h p = let z : w - 0 ≡ w = omega arith in rw z
-  carve-next (suc t) w h p = let z : w - 1 - t ≡ w - suc t = omega arith in rw (carve-next t (w - 1) h (cut (choose w h p) p), z)
+  carve-next (suc t) w h p =
+      let z : w - 1 - t ≡ w - suc t = omega arith in
+      rw (carve-next t (w - 1) h (cut (choose w h p) p), z)
 
   -- Seams cut in two goes.
   pub carve-add : (a b w h : ℕ) (p : List (List A)) → carve choose b (w - a) h (carve choose a w h p) ≡ carve choose (a + b) w h p

@@ -61,7 +61,9 @@ same-is s t = (there s t, λ e. ap (same s) (sym e) ∙ self s)
     there [] [] e = refl
     there [] (d ∷ t) e = cc
     there (c ∷ s) [] e = cc
-    there (c ∷ s) (d ∷ t) e = let b = and-eq-true-iff (eqb c d) (same s t) .0 e in ap₂ _∷_ (eqb-true c d (b .0)) (there s t (b .1))
+    there (c ∷ s) (d ∷ t) e =
+        let b = and-eq-true-iff (eqb c d) (same s t) .0 e in
+        ap₂ _∷_ (eqb-true c d (b .0)) (there s t (b .1))
 
     self : (s : List ℕ) → same s s ≡ true
     self [] = refl

@@ -18,7 +18,10 @@ use Rattle.maps.proofs.Doubled.{doubledIn, doubled-numbering}
 module _ {A : Type 0} where
   consIf-sub : (a b : Bool) (x : A) (xs ys : List A) → (a ≡ true → b ≡ true) → Sublistᴰ xs ys → Sublistᴰ (consIf a x xs) (consIf b x ys)
   consIf-sub true true x xs ys h s = Sublistᴰ·cons-cons refl s
-  consIf-sub true false x xs ys h s = let z : _≡_ {A = Bool} false true = h refl in let o : _≡_ {A = ℕ} 0 1 = cc in absurd (omega arith)
+  consIf-sub true false x xs ys h s =
+      let z : _≡_ {A = Bool} false true = h refl in
+      let o : _≡_ {A = ℕ} 0 1 = cc in
+      absurd (omega arith)
   consIf-sub false true x xs ys h s = Sublistᴰ·cons s
   consIf-sub false false x xs ys h s = s
 
@@ -109,7 +112,9 @@ module _ {A : Type 0} (mean : A → A → A) where
   module _ (k m : ℕ) (xs : List A) (ys : List ℕ) (full : length xs ≡ m) (fits : length ys ≡ m) where
     -- At the original width it is the row.
     pub at-original : rowAtWidth mean m m xs ys ≡ xs
-    at-original = let z : m - m ≡ 0 = omega arith in at-narrow m m xs ys (omega arith) ∙ rw z (keep-all xs ys (omega arith))
+    at-original =
+        let z : m - m ≡ 0 = omega arith in
+        at-narrow m m xs ys (omega arith) ∙ rw z (keep-all xs ys (omega arith))
 
     at-sub : (v z : ℕ) → v ≤ z → Sublistᴰ (rowAtWidth mean m v xs ys) (rowAtWidth mean m z xs ys)
     at-sub v z h = go (le-or-lt v m) (le-or-lt z m)

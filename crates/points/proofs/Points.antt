@@ -22,7 +22,7 @@ use Rattle.form.specs.Decimal.{digitsUpTo, digits, isDigit, further, upTo}
 use Rattle.form.specs.Files.{lineEnd, blank, opening, closing, start, range, closed, rowWord, mapWord, greyWord, rgbWord, each, joined, kindText, pixelText, lineText, headText, text, kindGet, items, three, pixel, line, headGet, file, whole, parse}
 use Rattle.form.proofs.Points.{shownText}
 use Rattle.finding.specs.Seams.{seamOf, costOf}
-use Rattle.removal.specs.Objects.{MarkedPicture, Ending, done, narrow, spent, blocked, Removed, someTwo, removal}
+use Rattle.removal.specs.Objects.{Ending, done, narrow, spent, blocked, Removed, someTwo, removal}
 use Rattle.removal.specs.Removing.{markedPicture}
 use Rattle.showing.specs.Showing.{average}
 use Rattle.files.specs.Contents.{partsOf, fileOf}

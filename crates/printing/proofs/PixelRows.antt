@@ -1,14 +1,13 @@
 -- The pixels of a row's bytes: where they stand, how long their text is, and what printing them leaves.
-use mathlib.Core.Path.{_≡_, refl, sym, ap, _∙_}
-use mathlib.Core.Option.{Option, none, some}
+use mathlib.Core.Path.{_≡_, sym, ap, _∙_}
+use mathlib.Core.Option.{none, some}
 use mathlib.Core.List.{List, [], _∷_, _++_, append-nil, append-assoc}
-use Prim.Native.Nat.{ℕ, zero, suc, _+_, _-_, _*_, _/_, _%_, _≤_, _<_}
+use Prim.Native.Nat.{ℕ, _+_, _*_, _/_, _≤_, _<_}
 use native.Mathlib.Nat.{div-add-mod'}
-use native.Mathlib.Numerals.{add-one}
 use native.Mathlib.Omega.{arith}
-use lib.ListN.{length, getD, take, drop, length-append}
+use lib.ListN.{length, getD, take, length-append}
 use lib.Seq.{take-all, drop-cons}
-use Rattle.grids.specs.Each.{Grid, Each}
+use Rattle.grids.specs.Each.{Grid}
 use Rattle.grids.specs.Each as each-of
 use Rattle.grids.specs.Rows.{rowsOf, rowAt}
 use Rattle.grids.proofs.Rows.{part-end, length-rowsOf, grid-rowsOf, rowsOf-at}
@@ -16,14 +15,14 @@ use Rattle.energy.specs.declared.pictures.Kind.{Kind}
 use Rattle.energy.specs.declared.pictures.Kind.the-variants.{Grey, Rgb}
 use Rattle.energy.specs.Pictures.{channelsOf}
 use Rattle.form.specs.Decimal.{digits}
-use Rattle.form.specs.Files.{blank, opening, closing, closed, rowWord, each, joined, pixelText, lineText, rowText, All}
+use Rattle.form.specs.Files.{blank, opening, closing, closed, rowWord, each, joined, pixelText, lineText, rowText}
 use Rattle.form.specs.Lengths.{total, spaced, pixelLength, rowLength}
 use Rattle.form.proofs.Lengths.{Counted, row-length}
 use Rattle.printing.specs.Prints.{less, pixelsOf, Printed}
 use Rattle.printing.specs.Kernels.{pairText}
 use Rattle.form.proofs.Pairs.{front}
 use Rattle.printing.proofs.Rooms.{less-then, less-none-then}
-use Rattle.printing.proofs.Written.{printed-none, printed-more, each-more, each-room, pair-length}
+use Rattle.printing.proofs.Written.{printed-none, printed-more, each-more, each-room}
 
 pub whole-pixels : (k : Kind) (n : ℕ) → n / channelsOf k * channelsOf k ≤ n
 whole-pixels Grey n = omega (arith, div-add-mod' n 1)

@@ -1,9 +1,9 @@
 -- What is left of a room.
-use mathlib.Core.Path.{_≡_, refl, sym, ap, _∙_}
+use mathlib.Core.Path.{_≡_, refl, sym, _∙_}
 use mathlib.Core.Bool.{Bool, true, false, cond}
-use mathlib.Core.Option.{Option, none, some, Option·none-ne-some, Option·some-injective}
-use mathlib.Core.List.{List, [], _∷_}
-use Prim.Native.Nat.{ℕ, zero, suc, _+_, _-_, _≤_, _<_}
+use mathlib.Core.Option.{none, some, Option·none-ne-some, Option·some-injective}
+use mathlib.Core.List.{List}
+use Prim.Native.Nat.{ℕ, suc, _+_, _-_, _≤_, _<_}
 use native.Mathlib.Numerals.{add-one}
 use native.Mathlib.Omega.{arith}
 use lib.Dec.{leb}
@@ -15,7 +15,7 @@ use Rattle.energy.specs.declared.pictures.Kind.the-variants.{Grey, Rgb}
 use Rattle.form.specs.declared.Head.{Head}
 use Rattle.form.specs.Decimal.{digits}
 use Rattle.form.specs.Files.{kindText, headText, mapText}
-use Rattle.form.specs.Lengths.{total, spaced, headLength, mapLength, kindLength}
+use Rattle.form.specs.Lengths.{total, spaced, headLength, mapLength}
 use Rattle.form.proofs.Lengths.{head-length, map-length, kind-length}
 use Rattle.printing.specs.Prints.{less}
 
@@ -50,7 +50,9 @@ unfolding less
 less-then room a b l h = let r = less-room room a l h in go (leb b l) refl (r .0) (r .1)
   where
     go : (x : Bool) → leb b l ≡ x → a ≤ room → l ≡ room - a → cond (leb (a + b) room) (some (room - (a + b))) none ≡ cond x (some (l - b)) none
-    go true e r q = let z : room - (a + b) ≡ l - b = omega (arith, r, q, leb-true b l e) in rw (le-leb (a + b) room (omega (arith, r, q, leb-true b l e)), z)
+    go true e r q =
+        let z : room - (a + b) ≡ l - b = omega (arith, r, q, leb-true b l e) in
+        rw (le-leb (a + b) room (omega (arith, r, q, leb-true b l e)), z)
     go false e r q = rw (lt-leb (a + b) room (omega (arith, r, q, leb-false b l e)))
 
 pub less-none-then : (room a b : ℕ) → none ≡ less room a → none ≡ less room (a + b)
@@ -58,7 +60,9 @@ less-none-then room a b h = sym (less-none room (a + b) (omega (arith, less-shor
 
 pub spaced-first : (room n : ℕ) → 0 < room → less (room - 1) (length (digits n)) ≡ less room (spaced n)
 unfolding spaced
-spaced-first room n h = let z : 1 + length (digits n) ≡ suc (length (digits n)) = omega arith in rw (← z) (sym (less-then room 1 (length (digits n)) (room - 1) (sym (less-some room 1 h))))
+spaced-first room n h =
+    let z : 1 + length (digits n) ≡ suc (length (digits n)) = omega arith in
+    rw (← z) (sym (less-then room 1 (length (digits n)) (room - 1) (sym (less-some room 1 h))))
 
 pub spaced-none : (room n : ℕ) → room ≡ 0 → none ≡ less room (spaced n)
 unfolding spaced
@@ -85,7 +89,9 @@ module _ {A : Type 0} {f : A → ℕ} {room : ℕ} {xs : List A} where
 
     pub leaving-end : length xs ≤ i → some left ≡ less room (total f xs)
     unfolding total
-    leaving-end h = let z : left - 0 ≡ left = omega arith in sym (L .same ∙ rw (drop-of-length-le xs h) (less-some left 0 (omega arith) ∙ rw z))
+    leaving-end h =
+        let z : left - 0 ≡ left = omega arith in
+        sym (L .same ∙ rw (drop-of-length-le xs h) (less-some left 0 (omega arith) ∙ rw z))
 
 pub map-room : (room : ℕ) (xs : List ℕ) {l : ℕ} → some l ≡ less room (total spaced xs) → less l 6 ≡ less room (length (mapText xs))
 unfolding mapLength

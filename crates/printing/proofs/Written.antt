@@ -20,7 +20,9 @@ use Rattle.printing.specs.Kernels.{pairText}
 
 sets-append : (vs ws l : List ℕ) (i : ℕ) → sets l i (vs ++ ws) ≡ sets (sets l i vs) (i + length vs) ws
 sets-append [] ws l i = rw add-zero
-sets-append (a ∷ vs) ws l i = let z : i + suc (length vs) ≡ suc i + length vs = omega arith in sets-append vs ws (set l i a) (suc i) ∙ rw z
+sets-append (a ∷ vs) ws l i =
+    let z : i + suc (length vs) ≡ suc i + length vs = omega arith in
+    sets-append vs ws (set l i a) (suc i) ∙ rw z
 
 -- The last digit behind the others.
 pub sets-digit : (l : List ℕ) (at n : ℕ) → 10 ≤ n → sets l at (digits n) ≡ set (sets l at (digits (n / 10))) (at + length (digits (n / 10))) (48 + n % 10)
@@ -48,7 +50,9 @@ each-room put d xs i h = omega (arith, each-fit put xs (i + 1), simp length-appe
 
 -- One byte more.
 pub bytes-more : (w l : List ℕ) (at i : ℕ) → i < length w → set (sets l at (take i w)) (at + i) (getD w i 0) ≡ sets l at (take (i + 1) w)
-bytes-more w l at i h = let n = length-take-le i w (omega arith) in rw (add-one, take-suc w i 0 h, sets-append, n)
+bytes-more w l at i h =
+    let n = length-take-le i w (omega arith) in
+    rw (add-one, take-suc w i 0 h, sets-append, n)
 
 pub printed-none : {first : List ℕ} {at : ℕ} → Printed first at [] first at
 printed-none = record { same = refl; behind = omega arith }

@@ -1,7 +1,7 @@
 -- What each ending says, and what a removal leaves. The definition computes by the budget, so it ends for every input.
 use mathlib.Core.Path.{_≡_, refl}
 use mathlib.Core.Bool.{Bool, true, false}
-use Prim.Native.Nat.{ℕ, zero, suc, _-_}
+use Prim.Native.Nat.{ℕ, zero, suc}
 use lib.Dec.{eqb}
 use borrow.Author.Tests.{eq-eqb, ne-eqb, eqb-true, eqb-false}
 use Rattle.removal.specs.Objects.{MarkedPicture, toRemove, noSeam, cutOnce, done, narrow, spent, blocked, Removed, ends, removal}
@@ -46,15 +46,21 @@ module _
       where
         go : (t : Bool) → toRemove s ≡ t → (u : Bool) → eqb (s .width) 1 ≡ u → P zero n s (removal zero n s)
         go false e u f = rw (removal-done n s zero e) (at-done zero n s e)
-        go true e true f = let one = eqb-true _ _ f in rw (removal-narrow n s e zero one) (at-narrow zero n s e one)
+        go true e true f =
+            let one = eqb-true _ _ f in
+            rw (removal-narrow n s e zero one) (at-narrow zero n s e one)
         go true e false f = let wide = eqb-false _ _ f in rw (removal-spent n s e wide) (at-spent n s e wide)
     by-steps (suc b) n s = go (toRemove s) refl (eqb (s .width) 1) refl (noSeam s) refl (by-steps b (suc n) (cutOnce s))
       where
         go : (t : Bool) → toRemove s ≡ t → (u : Bool) → eqb (s .width) 1 ≡ u → (v : Bool) → noSeam s ≡ v
             → P b (suc n) (cutOnce s) (removal b (suc n) (cutOnce s)) → P (suc b) n s (removal (suc b) n s)
         go false e u f v g next = rw (removal-done n s (suc b) e) (at-done (suc b) n s e)
-        go true e true f v g next = let one = eqb-true _ _ f in rw (removal-narrow n s e (suc b) one) (at-narrow (suc b) n s e one)
-        go true e false f true g next = let wide = eqb-false _ _ f in rw (removal-blocked n s e wide b g) (at-blocked b n s e wide g)
+        go true e true f v g next =
+            let one = eqb-true _ _ f in
+            rw (removal-narrow n s e (suc b) one) (at-narrow (suc b) n s e one)
+        go true e false f true g next =
+            let wide = eqb-false _ _ f in
+            rw (removal-blocked n s e wide b g) (at-blocked b n s e wide g)
         go true e false f false g next =
             let wide = eqb-false _ _ f in
             rw (removal-cut n s e wide b g) (at-cut b n s (removal b (suc n) (cutOnce s)) e wide g next)

@@ -51,7 +51,9 @@ none : (xs : List ℕ) (n : ℕ) → xs ++ replicate (0 * n) 0 ≡ xs
 none xs n = ap (λ k. xs ++ replicate k 0) (zero-mul n) ∙ append-nil xs
 
 one-more : (n count : ℕ) → replicate n 0 ++ replicate (count * n) 0 ≡ replicate {A = ℕ} (suc count * n) 0
-one-more n count = let e : n + count * n ≡ suc count * n = omega (arith, suc-mul count n) in replicate-append-replicate n (count * n) 0 ∙ ap (λ k. replicate k 0) e
+one-more n count =
+    let e : n + count * n ≡ suc count * n = omega (arith, suc-mul count n) in
+    replicate-append-replicate n (count * n) 0 ∙ ap (λ k. replicate k 0) e
 
 pub going-start : (z : Size) (b m work : List ℕ) (budget : ℕ) → SeamsNeeded z b m work → Going z b m budget (z .width) 0 b m
 unfolding carved

@@ -2,14 +2,13 @@
 use mathlib.Core.Path.{_≡_, refl, sym, ap, _∙_}
 use mathlib.Core.Bool.{Bool, true, false, _||_}
 use mathlib.Core.List.{List, [], _∷_, _++_}
-use Prim.Native.Nat.{ℕ, zero, suc, _+_, _-_, _*_, _≤_, _<_}
+use Prim.Native.Nat.{ℕ, zero, suc, _*_, _≤_, _<_}
 use native.Mathlib.Nat.{suc-mul}
 use native.Mathlib.Omega.{arith}
 use lib.Dec.{leb}
 use lib.ListN.{length, take, drop, length-drop, take-append-drop}
 use lib.Seq.{length-take-le}
 use Rattle.grids.specs.Each.{Each, Grid, none, more}
-use Rattle.grids.specs.Cut.{cut}
 use Rattle.grids.specs.Rows.{rowsOf, flat}
 use Rattle.grids.proofs.Cut.{cut-narrower}
 use Rattle.energy.specs.declared.pictures.Kind.the-variants.{Grey}

@@ -1,6 +1,6 @@
 -- A seam cut at places of the work space, in the terms of the code.
 use mathlib.Core.Path.{_≡_, refl, ap, ap₂, _∙_}
-use mathlib.Core.Logic.{_⊎_, inl, inr, ⊎-elim}
+use mathlib.Core.Logic.{inl, inr, ⊎-elim}
 use mathlib.Core.List.{List, _++_, append-assoc}
 use Prim.Native.Nat.{ℕ, _+_, _-_, _*_, _≤_, _<_}
 use native.Mathlib.Nat.{mul-le-mul-left, mul-le-mul-right, add-sub-cancel-left}
@@ -32,7 +32,9 @@ use Rattle.retargeting.proofs.Steps.{sized-at, at-ofSize}
 
 -- The size that a cut leaves takes no more bytes, and is allowed.
 left-few : (t : Size) → pictureBytes (narrowed t) ≤ pictureBytes t
-left-few t = let w : t .width - 1 ≤ t .width = omega arith in mul-le-mul-left (t .height) (mul-le-mul-right (channelsOf (t .kind)) w)
+left-few t =
+    let w : t .width - 1 ≤ t .width = omega arith in
+    mul-le-mul-left (t .height) (mul-le-mul-right (channelsOf (t .kind)) w)
 
 left-sides : (t : Size) → Sides t → 1 < t .width → refusal (sideRules (narrowed t)) ≡ 0
 left-sides t s wide = sides-of (narrowed t) (omega arith) (omega (arith, s .width-most)) (s .height-some) (s .height-most)

@@ -92,7 +92,9 @@ module _ (work : List ℕ) (from : ℕ) (z : Size) (x : Axis) (at : ℕ) (seam :
         ∙ drop-at (take at work) (Q ++ drop (at + pictureBytes z) work) at (length-take-le at work (omega arith))
 
     lent-long : length lent ≡ length work - at
-    lent-long = let room = needed .room in part-length at (length one) one (omega arith) ∙ ap (_- at) turn-long
+    lent-long =
+        let room = needed .room in
+        part-length at (length one) one (omega arith) ∙ ap (_- at) turn-long
 
     module _ (found : Found) (part seam′ : List ℕ) (g : FindGiven (midOf at (length one - at) one) (turnedSize x z) seam found part seam′)
         (small : (i : ℕ) → getD one i 0 ≤ 255) where

@@ -51,7 +51,10 @@ module _ (u : ℕ) (ys : List ℕ) (c n all : ℕ) where
 
   pub count-end : length ys ≤ c → n + doubledIn u (drop c ys) ≡ all → n ≡ all
   unfolding doubledIn
-  count-end h e = let none : drop c ys ≡ [] = drop-of-length-le ys h in let f : n + 0 ≡ all = rw none at e in omega arith
+  count-end h e =
+      let none : drop c ys ≡ [] = drop-of-length-le ys h in
+      let f : n + 0 ≡ all = rw none at e in
+      omega arith
 
 -- The same number as the theory counts.
 counted : (u : ℕ) (ys : List ℕ) → doubledIn u ys ≡ maps.doubledIn u ys

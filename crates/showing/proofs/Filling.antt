@@ -10,7 +10,9 @@ use lib.Seq.{sets, sets-eq, take-at, drop-at, drop-drop}
 -- Stores one behind the other.
 pub sets-append : (p q out : List ℕ) (at : ℕ) → sets (sets out at p) (at + length p) q ≡ sets out at (p ++ q)
 sets-append [] q out at = rw add-zero
-sets-append (a ∷ p) q out at = let z : at + suc (length p) ≡ suc at + length p = omega arith in rw z (sets-append p q (set out at a) (suc at))
+sets-append (a ∷ p) q out at =
+    let z : at + suc (length p) ≡ suc at + length p = omega arith in
+    rw z (sets-append p q (set out at a) (suc at))
 
 -- `whole` goes into the space `before`; now the space is `out`, and from the place `at` on `rest` is still to come.
 pub record Filling (before whole out : List ℕ) (at : ℕ) (rest : List ℕ) : Type 0 where

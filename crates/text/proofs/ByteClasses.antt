@@ -80,7 +80,11 @@ unfolding classOf
 letter-found b e f = go (isDigit b) refl
   where
     go : (d : Bool) → isDigit b ≡ d → isDigit b ≡ false
-    go true h = let d : classOf b ≡ Digit = rw h in let q : Letter ≡ Digit = sym e ∙ f ∙ d in let z : tagOf Letter ≡ tagOf Digit = ap tagOf q in absurd (omega arith)
+    go true h =
+        let d : classOf b ≡ Digit = rw h in
+        let q : Letter ≡ Digit = sym e ∙ f ∙ d in
+        let z : tagOf Letter ≡ tagOf Digit = ap tagOf q in
+        absurd (omega arith)
     go false h = h
 
 pub opening-byte : {x : Class} {b : ℕ} → x ≡ Opening → x ≡ classOf b → b ≡ 40

@@ -1,17 +1,16 @@
 -- The readers at a place of a text, one step at a time, in the code's terms.
-use mathlib.Core.Path.{_≡_, refl, sym, ap, _∙_}
+use mathlib.Core.Path.{_≡_, refl, _∙_}
 use mathlib.Core.Bool.{Bool, true, false, cond}
-use mathlib.Core.Logic.{_⊎_, inl, inr, ⊎-elim}
-use mathlib.Core.Option.{Option, none, some}
-use mathlib.Core.List.{List, [], _∷_, _++_}
-use Prim.Native.Nat.{ℕ, zero, suc, _+_, _-_, _*_, _≤_, _<_}
+use mathlib.Core.Logic.{_⊎_, inl, inr}
+use mathlib.Core.Option.{none, some}
+use mathlib.Core.List.{List, [], _∷_}
+use Prim.Native.Nat.{ℕ, _+_, _-_, _*_, _≤_, _<_}
 use native.Mathlib.Omega.{arith}
-use lib.Dec.{leb, ltb, eqb}
+use lib.Dec.{leb, ltb}
 use lib.ListN.{length, getD, drop, drop-of-length-le}
-use borrow.Author.Tests.{le-leb, lt-leb, eq-eqb, ne-eqb, ltb-true, ltb-false}
-use Rattle.form.specs.Readers.{Get, give, on, _▷_}
+use borrow.Author.Tests.{le-leb, lt-leb, ltb-true, ltb-false}
 use Rattle.form.specs.Decimal.{isDigit, further, upTo, number}
-use Rattle.text.specs.Answers.{given, ahead, Told}
+use Rattle.text.specs.Answers.{Told}
 use Rattle.text.specs.Kernels.{within}
 use Rattle.form.proofs.Pairs.{front}
 use Rattle.form.proofs.Decimals.{is-digit, number-digit}
@@ -75,7 +74,9 @@ module _ {limit : ℕ} {text : List ℕ} {start : ℕ} where
 
     pub reading-over : limit < n → Told (number limit) text start none
     unfolding upTo
-    reading-over h = let l = further-more (drop at text) n in record { same = R .same ∙ rw (lt-leb (further n (drop at text) .0) limit (omega arith)); moved = tt }
+    reading-over h =
+        let l = further-more (drop at text) n in
+        record { same = R .same ∙ rw (lt-leb (further n (drop at text) .0) limit (omega arith)); moved = tt }
 
     stopped : further n (drop at text) ≡ (n, drop at text) → Told (number limit) text start (within limit n at)
     unfolding upTo

@@ -1,25 +1,24 @@
 -- Forms and items at a place of a text, one step at a time, in the code's terms.
-use mathlib.Core.Path.{_≡_, refl, sym, ap, _∙_}
+use mathlib.Core.Path.{_≡_, refl, sym, _∙_}
 use mathlib.Core.Bool.{Bool, true, false, cond}
 use mathlib.Core.Option.{Option, none, some}
-use mathlib.Core.List.{List, [], _∷_, _++_}
-use Prim.Native.Nat.{ℕ, zero, suc, _+_, _-_, _*_, _≤_, _<_}
+use mathlib.Core.List.{List, [], _∷_}
+use Prim.Native.Nat.{ℕ, suc, _+_, _≤_, _<_}
 use native.Mathlib.Nat.{add-zero, zero-add}
 use native.Mathlib.Omega.{arith}
 use lib.Dec.{eqb}
 use lib.ListN.{length, getD, drop, drop-of-length-le}
-use borrow.Author.Tests.{eqb-true, eq-eqb, ne-eqb}
+use borrow.Author.Tests.{eqb-true, ne-eqb}
 use Rattle.form.specs.Readers.{Get, give, on, _▷_, strip, behind, after, next, many}
-use Rattle.form.specs.Decimal.{digits, number}
-use Rattle.energy.specs.declared.pictures.Kind.{Kind}
-use Rattle.energy.specs.declared.pictures.Kind.the-variants.{Grey, Rgb}
+use Rattle.form.specs.Decimal.{number}
+use Rattle.energy.specs.declared.pictures.Kind.the-variants.{Rgb}
 use Rattle.form.specs.Files.{blank, opening, closing, items, three, pixel}
 use Rattle.text.specs.declared.forms.Items.{Items}
 use Rattle.text.specs.declared.forms.Items.the-variants.{Samples, Pixels, Numbers}
-use Rattle.text.specs.Answers.{given, ahead, Told, counted, itemOf, formOf}
+use Rattle.text.specs.Answers.{Told, counted, itemOf, formOf}
 use Rattle.form.proofs.Pairs.{front, Reads, short}
 use Rattle.form.proofs.Many.{many-next}
-use Rattle.form.proofs.Decimals.{clear, number-reads}
+use Rattle.form.proofs.Decimals.{number-reads}
 use Rattle.form.proofs.Files.{pixel-reads}
 
 module _ {A : Type 0} {ok : A → Type 0} {put : A → List ℕ} {stop : List ℕ → Type 0} {g : Get A} (R : Reads ok put stop g) where

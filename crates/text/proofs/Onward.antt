@@ -12,10 +12,9 @@ use Rattle.text.specs.declared.forms.Items.{Items}
 use Rattle.text.specs.declared.forms.Items.the-variants.{Samples, Pixels, Numbers}
 use Rattle.form.specs.Readers.{Get, give, on, _▷_, strip, behind, after, next, many}
 use Rattle.form.specs.Decimal.{number}
-use Rattle.energy.specs.declared.pictures.Kind.{Kind}
 use Rattle.energy.specs.declared.pictures.Kind.the-variants.{Grey, Rgb}
 use Rattle.form.specs.Files.{greyWord, rgbWord, lineEnd, either, kindGet}
-use Rattle.text.specs.Answers.{given, Told, counted, formOf, evenly}
+use Rattle.text.specs.Answers.{Told, counted, formOf, evenly}
 use Rattle.text.specs.Kernels.{passing, lineRest, numberedOf, Reached, linesOf}
 use Rattle.form.proofs.Pairs.{short, on-inv, after-inv}
 use Rattle.form.proofs.Many.{many-next}

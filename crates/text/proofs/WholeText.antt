@@ -1,13 +1,13 @@
 -- The whole text: counting its lines is counting the lines of its parts.
-use mathlib.Core.Path.{_≡_, refl, sym, ap, _∙_}
-use mathlib.Core.Bool.{Bool, true, false, _&&_}
+use mathlib.Core.Path.{_≡_, refl, sym, _∙_}
+use mathlib.Core.Bool.{Bool, _&&_}
 use mathlib.Core.Option.{Option, none, some}
-use mathlib.Core.List.{List, [], _∷_, _++_, map}
-use Prim.Native.Nat.{ℕ, zero, suc, _+_, _-_, _≤_, _<_}
+use mathlib.Core.List.{List, [], _∷_, map}
+use Prim.Native.Nat.{ℕ, zero, suc, _≤_, _<_}
 use native.Mathlib.Omega.{arith}
-use lib.ListN.{length, length-map, drop, getD, drop-of-length-le}
+use lib.ListN.{length, length-map, drop-of-length-le}
 use Rattle.text.specs.declared.forms.Items.{Items}
-use Rattle.text.specs.declared.forms.Items.the-variants.{Samples, Pixels, Numbers}
+use Rattle.text.specs.declared.forms.Items.the-variants.{Numbers}
 use Rattle.form.specs.Readers.{Get, give, on, _▷_, strip, behind, after, next, manyUpTo, many}
 use Rattle.form.specs.Decimal.{number}
 use Rattle.energy.specs.declared.pictures.Kind.{Kind}
@@ -15,9 +15,9 @@ use Rattle.energy.specs.declared.pictures.Kind.the-variants.{Grey, Rgb}
 use Rattle.form.specs.declared.Head.{Head}
 use Rattle.form.specs.Files.{Parts, lineEnd, blank, closing, closed, rowWord, mapWord, items, pixel, line, headGet, file, ended, whole, parse}
 use Rattle.text.specs.declared.scanning.Facts.{Facts}
-use Rattle.text.specs.Answers.{given, Told, counted, formOf, evenly, factsOf, factsIn}
-use Rattle.text.specs.Kernels.{lineRest, Reached, stays, linesOf, itemsOf, scanOf}
-use Rattle.form.proofs.Pairs.{front, on-same}
+use Rattle.text.specs.Answers.{Told, counted, formOf, evenly, factsOf, factsIn}
+use Rattle.text.specs.Kernels.{lineRest, Reached, linesOf, itemsOf, scanOf}
+use Rattle.form.proofs.Pairs.{front}
 use Rattle.text.proofs.Onward.{Left, tally}
 
 -- A reader of changed values reads the values and changes them.

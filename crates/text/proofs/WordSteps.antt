@@ -2,20 +2,20 @@
 use mathlib.Core.Path.{_≡_, refl, sym, ap, _∙_}
 use mathlib.Core.Bool.{Bool, true, false, cond}
 use mathlib.Core.Option.{Option, none, some, Option·none-ne-some, Option·some-injective}
-use mathlib.Core.List.{List, [], _∷_, _++_}
-use Prim.Native.Nat.{ℕ, zero, suc, _+_, _-_, _≤_, _<_}
+use mathlib.Core.List.{List, [], _∷_}
+use Prim.Native.Nat.{ℕ, _+_, _-_, _≤_, _<_}
 use native.Mathlib.Omega.{arith}
 use lib.Dec.{leb, ltb, eqb}
 use lib.ListN.{length, getD, drop, drop-of-length-le}
-use borrow.Author.Tests.{ne-eqb, leb-true, leb-false, le-leb, lt-leb, le-ltb, lt-ltb}
+use borrow.Author.Tests.{ne-eqb, leb-true, leb-false, le-ltb, lt-ltb}
 use Rattle.energy.specs.declared.pictures.Kind.{Kind}
-use Rattle.energy.specs.declared.pictures.Kind.the-variants.{Grey, Rgb}
-use Rattle.form.specs.Readers.{Get, give, on, _▷_, strip, behind, after}
+use Rattle.energy.specs.declared.pictures.Kind.the-variants.{Grey}
+use Rattle.form.specs.Readers.{give, on, strip}
 use Rattle.form.specs.Decimal.{isDigit, further, upTo, number}
 use Rattle.form.specs.Files.{greyWord, rgbWord, either, kindGet}
 use Rattle.form.proofs.Decimals.{digit-true}
 use Rattle.form.proofs.Pairs.{front}
-use Rattle.text.specs.Answers.{given, ahead, Told, Written, numeral, name, word}
+use Rattle.text.specs.Answers.{Told, Written, numeral, name, word}
 
 kind-nil : kindGet [] ≡ none
 unfolding kindGet greyWord rgbWord strip
@@ -128,11 +128,15 @@ module _ {text : List ℕ} {at : ℕ} where
 
     pub told-word-name : {k : Kind} {c : ℕ} → isDigit (getD text at 0) ≡ false → Told kindGet text at (some (k, c)) → Told word text at (some (name k, c))
     unfolding word
-    told-word-name d t = let n = number-other 65535 (getD text at 0) (drop (at + 1) text) d in record { same = rw (t .same, front text at h, n); moved = t .moved }
+    told-word-name d t =
+        let n = number-other 65535 (getD text at 0) (drop (at + 1) text) d in
+        record { same = rw (t .same, front text at h, n); moved = t .moved }
 
     pub told-word-no-name : isDigit (getD text at 0) ≡ false → Told kindGet text at none → Told word text at none
     unfolding word
-    told-word-no-name d t = let n = number-other 65535 (getD text at 0) (drop (at + 1) text) d in record { same = rw (t .same, front text at h, n); moved = tt }
+    told-word-no-name d t =
+        let n = number-other 65535 (getD text at 0) (drop (at + 1) text) d in
+        record { same = rw (t .same, front text at h, n); moved = tt }
 
     pub told-word-other : isDigit (getD text at 0) ≡ false → (getD text at 0 ≡ 103 → ⊥) → (getD text at 0 ≡ 114 → ⊥) → Told word text at none
     told-word-other d p q = told-word-no-name d (record { same = rw (front text at h, kind-other (getD text at 0) (drop (at + 1) text) p q); moved = tt })

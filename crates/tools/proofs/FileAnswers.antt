@@ -18,7 +18,6 @@ use Rattle.form.specs.Files.{All}
 use Rattle.finding.specs.Finding.{pixels}
 use Rattle.files.specs.Contents.{fileOf}
 use Rattle.files.specs.Rules.{buildRules, workRule}
-use Rattle.building.specs.declared.Built.{Built}
 use Rattle.building.specs.declared.Built.the-variants as builts
 use Rattle.building.specs.Building.{BuildGiven}
 use Rattle.programs.specs.Programs.{mostPixels, pixelsRule, fullRange}

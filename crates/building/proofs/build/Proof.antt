@@ -12,7 +12,9 @@ use Rattle.building.proofs.build.Statement.{statement}
 use Rattle.building.proofs.build.Tie as tie
 
 -- nothing is refused
-none : (c : tie.After-enum-told) → let a = c .before .before .before .before .before .before .args in refusal (buildRules (now (a .picture)) (a .head) (length (now (a .out))) (length (now (a .work)))) ≡ 0
+none : (c : tie.After-enum-told)
+    → let s = c .before .before .before .before .before .before in
+    let a = s .args in refusal (buildRules (now (a .picture)) (a .head) (length (now (a .out))) (length (now (a .work)))) ≡ 0
 none c = sym (c .before .before .rooms .ensures) ∙ ap given (c .enum-told .given .1)
 
 rooms-requires : tie.Need-rooms-requires

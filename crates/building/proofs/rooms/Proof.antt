@@ -28,32 +28,46 @@ more c =
     let a = c .args in
     6 when not (allowed (a .head .size .width) (a .head .depth) (a .head .growth)) ∷ 8 when ltb (a .out) (length (fileIn (a .head) (now (a .picture)))) ∷ workRule (a .head .size) (a .work) ∷ []
 
-none : (c : tie.After-enum-told) → let a = c .before .before .before .before .before .args in refusal (sizeRules (a .head .size) (length (now (a .picture)))) ≡ 0
+none : (c : tie.After-enum-told)
+    → let s = c .before .before .before .before .before in
+    let a = s .args in refusal (sizeRules (a .head .size) (length (now (a .picture)))) ≡ 0
 none c = sym (c .before .before .sized .ensures) ∙ ap given (c .enum-told .given .1)
 
-rest : (c : tie.After-enum-told) → let a = c .before .before .before .before .before .args in
+rest : (c : tie.After-enum-told)
+    → let s = c .before .before .before .before .before in
+    let a = s .args in
     refusal (buildRules (now (a .picture)) (a .head) (a .out) (a .work)) ≡ refusal (more (c .before .before .before .before .before))
 unfolding more
-rest c = let s = c .before .before .before .before .before in served-first (sizeRules (s .args .head .size) (length (now (s .args .picture)))) (more s) refl (none c)
+rest c =
+    let s = c .before .before .before .before .before in
+    served-first (sizeRules (s .args .head .size) (length (now (s .args .picture)))) (more s) refl (none c)
 
-all-most : (c : tie.After-enum-told) → pixels (c .before .before .before .before .before .args .head .size) ≤ 262144
+all-most : (c : tie.After-enum-told)
+    → let s = c .before .before .before .before .before in
+    pixels (s .args .head .size) ≤ 262144
 all-most c =
     let a = c .before .before .before .before .before .args in
     let s = sized-is (a .head .size) (length (now (a .picture))) (none c) in
     mul-le-mul (s .height-most) (s .width-most)
 
-yes : (c : tie.After-allowed) → c .allowed .result ≡ true → let a = c .before .before .before .before .before .before .args in allowed (a .head .size .width) (a .head .depth) (a .head .growth) ≡ true
+yes : (c : tie.After-allowed)
+    → let s = c .before .before .before .before .before .before in
+    c .allowed .result ≡ true → let a = s .args in allowed (a .head .size .width) (a .head .depth) (a .head .growth) ≡ true
 yes c e = sym (c .allowed .ensures) ∙ e
 
 -- what the room of the file says
-long : (c : tie.After-file-fits) → c .file-fits .result ≡ true → let a = c .before .before .before .before .before .before .before .before .args in ltb (a .out) (length (fileIn (a .head) (now (a .picture)))) ≡ false
+long : (c : tie.After-file-fits)
+    → let s = c .before .before .before .before .before .before .before .before in
+    c .file-fits .result ≡ true → let a = s .args in ltb (a .out) (length (fileIn (a .head) (now (a .picture)))) ≡ false
 long c e =
     let s = c .before .before .before .before .before .before .before .before in
     let a = s .args in
     let n : ℕ = length (fileIn (a .head) (now (a .picture))) in
     le-ltb (a .out) n (leb-true n (a .out) (sym (c .file-fits .ensures) ∙ e))
 
-short : (c : tie.After-file-fits) → c .file-fits .result ≡ false → let a = c .before .before .before .before .before .before .before .before .args in ltb (a .out) (length (fileIn (a .head) (now (a .picture)))) ≡ true
+short : (c : tie.After-file-fits)
+    → let s = c .before .before .before .before .before .before .before .before in
+    c .file-fits .result ≡ false → let a = s .args in ltb (a .out) (length (fileIn (a .head) (now (a .picture)))) ≡ true
 short c e =
     let s = c .before .before .before .before .before .before .before .before in
     let a = s .args in

@@ -1,7 +1,7 @@
 -- `carving::cut` meets its contract.
 use mathlib.Core.Path.{_≡_, refl, sym, ap, _∙_}
 use mathlib.Core.List.{List, [], _∷_, _++_}
-use Prim.Native.Nat.{ℕ, _*_, _≤_, _<_}
+use Prim.Native.Nat.{ℕ, _*_}
 use native.Mathlib.Omega.{arith}
 use borrow.Author.Needs.{needs}
 use borrow.Author.Tests.{eq-eqb, ne-eqb}
@@ -9,13 +9,13 @@ use denote.Ref.{now}
 use lib.Dec.{eqb}
 use lib.ListN.{length, drop, replicate}
 use Rattle.energy.specs.declared.refusals.Refusal.the-variants.{Last}
-use Rattle.energy.specs.Refusals.{Rule, _when_, numberOf, given, refusal, served}
+use Rattle.energy.specs.Refusals.{Rule, _when_, given, refusal}
 use Rattle.energy.specs.Pictures.{channelsOf, picture, bytes}
 use Rattle.energy.proofs.Rules.{served-first, refused-answer, refusal-most}
-use Rattle.energy.proofs.Sizes.{Sized, sized-is}
+use Rattle.energy.proofs.Sizes.{sized-is}
 use Rattle.carving.specs.Axes.{turnedSize, seamAlong, costAlong, cutAlong}
-use Rattle.carving.specs.Carving.{cleared, findRules, cutRules, SeamFound, PictureCut}
-use Rattle.carving.specs.Kernels.{SeamNeeded, CutNeeded}
+use Rattle.carving.specs.Carving.{cleared, findRules, cutRules}
+use Rattle.carving.specs.Kernels.{SeamNeeded}
 use Rattle.carving.proofs.Buffers.{rooms-are, left-as-was, work-as-was}
 use Rattle.carving.proofs.Turns.{turned-some}
 use Rattle.carving.proofs.cut.Statement.{statement}
@@ -23,27 +23,39 @@ use Rattle.carving.proofs.cut.Tie as tie
 
 -- the rules of finding, the rule of cutting, and the number they give together
 first : tie.Start → List Rule
-first c = let a = c .args in findRules (a .axis) (a .size) (length (now (a .picture))) (length (now (a .seam))) (length (now (a .work)))
+first c =
+    let a = c .args in
+    findRules (a .axis) (a .size) (length (now (a .picture))) (length (now (a .seam))) (length (now (a .work)))
 
 last : tie.Start → List Rule
 last c = 13 when eqb (turnedSize (c .args .axis) (c .args .size) .width) 1 ∷ []
 
 number : tie.Start → ℕ
-number c = let a = c .args in refusal (cutRules (a .axis) (a .size) (length (now (a .picture))) (length (now (a .seam))) (length (now (a .work))))
+number c =
+    let a = c .args in
+    refusal (cutRules (a .axis) (a .size) (length (now (a .picture))) (length (now (a .seam))) (length (now (a .work))))
 
-none : (c : tie.After-enum-told) → refusal (first (c .before .before .before .before .before .before)) ≡ 0
+none : (c : tie.After-enum-told)
+    → let s = c .before .before .before .before .before .before in
+    refusal (first s) ≡ 0
 unfolding first
 none c = sym (c .before .before .rooms .ensures) ∙ ap given (c .enum-told .given .1)
 
-rest : (c : tie.After-enum-told) → number (c .before .before .before .before .before .before) ≡ refusal (last (c .before .before .before .before .before .before))
+rest : (c : tie.After-enum-told)
+    → let s = c .before .before .before .before .before .before in
+    number s ≡ refusal (last s)
 unfolding first last number
 rest c =
     let s = c .before .before .before .before .before .before in
     served-first (first s) (last s) refl (none c)
 
-needed : (c : tie.After-enum-told) → let a = c .before .before .before .before .before .before .args in SeamNeeded (now (a .picture)) (a .size) (a .axis) (now (a .seam)) (now (a .work))
+needed : (c : tie.After-enum-told)
+    → let s = c .before .before .before .before .before .before in
+    let a = s .args in SeamNeeded (now (a .picture)) (a .size) (a .axis) (now (a .seam)) (now (a .work))
 unfolding first
-needed c = let a = c .before .before .before .before .before .before .args in rooms-are (a .axis) (a .size) (now (a .picture)) (now (a .seam)) (now (a .work)) (none c)
+needed c =
+    let a = c .before .before .before .before .before .before .args in
+    rooms-are (a .axis) (a .size) (now (a .picture)) (now (a .seam)) (now (a .work)) (none c)
 
 rooms-requires : tie.Need-rooms-requires
 rooms-requires c κs = search needs

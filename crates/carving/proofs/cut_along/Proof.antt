@@ -1,19 +1,17 @@
 -- `carving::cut_along` meets its contract.
-use mathlib.Core.Path.{_≡_, refl, sym, ap, _∙_}
+use mathlib.Core.Path.{_≡_, sym, ap, _∙_}
 use mathlib.Core.List.{List, _++_}
 use Prim.Native.Nat.{ℕ, _*_, _≤_, _<_}
 use native.Mathlib.Omega.{arith}
 use borrow.Author.Needs.{needs}
 use denote.Ref.{now}
-use lib.ListN.{length, take, drop, replicate, length-replicate}
+use lib.ListN.{length, take, drop, replicate}
 use lib.Seq.{take-at, length-take-le}
 use Rattle.grids.specs.Each.{Each}
 use Rattle.grids.proofs.Shapes.{each-length}
 use Rattle.energy.specs.Pictures.{channelsOf, picture, bytes}
 use Rattle.energy.proofs.Sizes.{Sized, sized-is}
 use Rattle.carving.specs.Axes.{turnedSize, seamAlong, cutAlong}
-use Rattle.carving.specs.Carving.{SeamFound, PictureCut}
-use Rattle.carving.specs.Kernels.{SeamNeeded, CutNeeded, CloseNeeded}
 use Rattle.carving.proofs.Turns.{bytes-few}
 use Rattle.carving.proofs.Inside.{along-inside}
 use Rattle.carving.proofs.cut_along.Statement.{statement}
@@ -31,12 +29,17 @@ unfolding seam
 inside c = along-inside (c .args .axis) (c .args .size) (length (now (c .args .picture))) (picture (c .args .size) (now (c .args .picture))) (sure c)
 
 -- the seam's space and the work space when it was found
-seam-room : (c : tie.After-seam-along) → turnedSize (c .before .before .before .before .before .before .before .before .args .axis) (c .before .before .before .before .before .before .before .before .args .size) .height ≤ length (c .seam-along .last .1 .1 .1 .0)
+seam-room : (c : tie.After-seam-along)
+    → let s = c .before .before .before .before .before .before .before .before in
+    turnedSize (s .args .axis) (s .args .size) .height ≤ length (c .seam-along .last .1 .1 .1 .0)
 seam-room c =
     let s = c .before .before .before .before .before .before .before .before in
     omega (arith, s .pre .0 .seam-room, c .seam-along .kept .1 .1 .1 .0)
 
-lent : (c : tie.After-seam-along) → take (c .before .before .before .before .turned-size .result .height) (c .seam-along .last .1 .1 .1 .0) ≡ seam (c .before .before .before .before .before .before .before .before)
+lent : (c : tie.After-seam-along)
+    → let at-turned-size = c .before .before .before .before in
+    let s = at-turned-size .before .before .before .before in
+    take (at-turned-size .turned-size .result .height) (c .seam-along .last .1 .1 .1 .0) ≡ seam s
 unfolding seam
 lent c =
     let at-turned-size = c .before .before .before .before in
@@ -46,7 +49,9 @@ lent c =
     ap (λ t. take (t .height) (c .seam-along .last .1 .1 .1 .0)) (at-turned-size .turned-size .ensures)
     ∙ ap (take h) (c .seam-along .ensures .seam-is) ∙ take-at (seam s) (drop h (now (a .seam))) h (each-length (inside s))
 
-work-long : (c : tie.After-seam-along) → length (c .seam-along .last .1 .1 .1 .1 .0) ≡ length (now (c .before .before .before .before .before .before .before .before .args .work))
+work-long : (c : tie.After-seam-along)
+    → let s = c .before .before .before .before .before .before .before .before in
+    length (c .seam-along .last .1 .1 .1 .1 .0) ≡ length (now (s .args .work))
 work-long c = c .seam-along .kept .1 .1 .1 .1 .0
 
 turned-size-requires : tie.Need-turned-size-requires

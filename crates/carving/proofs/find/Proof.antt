@@ -8,12 +8,14 @@ use Rattle.energy.specs.Refusals.{given, refusal}
 use Rattle.energy.specs.Pictures.{picture}
 use Rattle.energy.proofs.Rules.{refusal-most}
 use Rattle.carving.specs.Axes.{turnedSize, seamAlong, costAlong}
-use Rattle.carving.specs.Carving.{findRules, SeamFound}
+use Rattle.carving.specs.Carving.{findRules}
 use Rattle.carving.proofs.Buffers.{rooms-are, left-as-was, work-as-was}
 use Rattle.carving.proofs.find.Statement.{statement}
 use Rattle.carving.proofs.find.Tie as tie
 
-none : (c : tie.After-enum-told) → let a = c .before .before .before .before .before .before .args in refusal (findRules (a .axis) (a .size) (length (now (a .picture))) (length (now (a .seam))) (length (now (a .work)))) ≡ 0
+none : (c : tie.After-enum-told)
+    → let s = c .before .before .before .before .before .before in
+    let a = s .args in refusal (findRules (a .axis) (a .size) (length (now (a .picture))) (length (now (a .seam))) (length (now (a .work)))) ≡ 0
 none c = sym (c .before .before .rooms .ensures) ∙ ap given (c .enum-told .given .1)
 
 rooms-requires : tie.Need-rooms-requires

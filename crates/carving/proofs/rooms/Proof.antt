@@ -1,7 +1,7 @@
 -- `carving::rooms` meets its contract: each return is the first rule that applies.
 use mathlib.Core.Path.{_≡_, refl, sym, ap, _∙_}
-use mathlib.Core.List.{List, [], _∷_, _++_}
-use Prim.Native.Nat.{ℕ, _*_, _≤_}
+use mathlib.Core.List.{List, [], _∷_}
+use Prim.Native.Nat.{_*_, _≤_}
 use native.Mathlib.Nat.{mul-le-mul}
 use native.Mathlib.Omega.{arith}
 use borrow.Author.Needs.{needs}
@@ -10,7 +10,7 @@ use lib.Dec.{ltb}
 use Rattle.energy.specs.Refusals.{Rule, _when_, given, refusal}
 use Rattle.energy.specs.Pictures.{sizeRules}
 use Rattle.energy.proofs.Rules.{served-first, refused-answer}
-use Rattle.energy.proofs.Sizes.{Sized, sized-is}
+use Rattle.energy.proofs.Sizes.{sized-is}
 use Rattle.finding.specs.Finding.{pixels}
 use Rattle.carving.specs.Axes.{turnedSize}
 use Rattle.carving.specs.Carving.{findRules}
@@ -21,10 +21,14 @@ more : tie.Start → List Rule
 more c = 8 when ltb (c .args .seam) (turnedSize (c .args .axis) (c .args .size) .height) ∷ 8 when ltb (c .args .work) (32 * pixels (c .args .size)) ∷ []
 
 -- where the picture is served, the rooms decide
-none : (c : tie.After-enum-told) → refusal (sizeRules (c .before .before .before .args .size) (c .before .before .before .args .bytes)) ≡ 0
+none : (c : tie.After-enum-told)
+    → let s = c .before .before .before in
+    refusal (sizeRules (s .args .size) (s .args .bytes)) ≡ 0
 none c = sym (c .before .before .sized .ensures) ∙ ap given (c .enum-told .given .1)
 
-rest : (c : tie.After-enum-told) → let a = c .before .before .before .args in refusal (findRules (a .axis) (a .size) (a .bytes) (a .seam) (a .work)) ≡ refusal (more (c .before .before .before))
+rest : (c : tie.After-enum-told)
+    → let s = c .before .before .before in
+    let a = s .args in refusal (findRules (a .axis) (a .size) (a .bytes) (a .seam) (a .work)) ≡ refusal (more s)
 unfolding more
 rest c =
     let s = c .before .before .before in

@@ -1,18 +1,14 @@
 -- `carving::seam_along` meets its contract.
-use mathlib.Core.Path.{_≡_, refl, sym, ap, ap₂, _∙_}
-use mathlib.Core.List.{List, _++_}
-use Prim.Native.Nat.{ℕ, _+_, _*_, _≤_}
+use mathlib.Core.Path.{_≡_, ap, _∙_}
+use mathlib.Core.List.{_++_}
 use native.Mathlib.Omega.{arith}
 use borrow.Author.Needs.{needs}
 use denote.Ref.{now}
 use lib.ListN.{length, take, drop, replicate}
-use Rattle.energy.specs.Pictures.{pictureBytes, picture, bytes}
+use Rattle.energy.specs.Pictures.{pictureBytes, picture}
 use Rattle.energy.proofs.Sizes.{Sized, sized-is}
 use Rattle.finding.specs.Seams.{seamOf, costOf}
-use Rattle.finding.specs.Finding.{pixels, FindGiven}
 use Rattle.carving.specs.Axes.{turnedSize, turned, seamAlong, costAlong}
-use Rattle.carving.specs.Carving.{SeamFound}
-use Rattle.carving.specs.Kernels.{SeamNeeded}
 use Rattle.carving.proofs.Turns.{turned-bytes, turned-pixels, turned-sides, turned-picture, bytes-few}
 use Rattle.carving.proofs.FindIn.{FoundThere, find-served}
 use Rattle.carving.proofs.seam_along.Statement.{statement}
@@ -22,7 +18,9 @@ sure : (c : tie.Start) → Sized (c .args .size) (length (now (c .args .picture)
 sure c = sized-is _ _ (c .pre .sized)
 
 -- the turned picture stands at the front of the work space
-there : (c : tie.After-find-in) → let a = c .before .before .before .before .before .before .before .before .before .before .before .args in
+there : (c : tie.After-find-in)
+    → let s = c .before .before .before .before .before .before .before .before .before .before .before in
+    let a = s .args in
     FoundThere (c .before .before .before .before .before .turn .last .1 .1 .1 .0) (turnedSize (a .axis) (a .size)) (now (a .seam)) (c .find-in .result) (c .find-in .last .0) (c .find-in .last .1 .1 .0)
 there c =
     let at-turn = c .before .before .before .before .before in
@@ -36,7 +34,9 @@ there c =
     (turned-sides (a .axis) (a .size) (length (now (a .picture))) s) (p .seam-room)
     (omega (arith, turned-bytes (a .axis) (a .size), turned-pixels (a .axis) (a .size), bytes-few (a .size), p .work-room, at-turn .turn .kept .1 .1 .1 .0))
 
-seen : (c : tie.After-find-in) → let a = c .before .before .before .before .before .before .before .before .before .before .before .args in let t = turnedSize (a .axis) (a .size) in
+seen : (c : tie.After-find-in)
+    → let s = c .before .before .before .before .before .before .before .before .before .before .before in
+    let a = s .args in let t = turnedSize (a .axis) (a .size) in
     picture t (take (pictureBytes t) (c .before .before .before .before .before .turn .last .1 .1 .1 .0)) ≡ turned (a .axis) (a .size .width) (picture (a .size) (now (a .picture)))
 seen c =
     let at-turn = c .before .before .before .before .before in

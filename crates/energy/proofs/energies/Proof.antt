@@ -14,12 +14,18 @@ use Rattle.energy.proofs.energies.Statement.{statement}
 use Rattle.energy.proofs.energies.Tie as tie
 
 -- where the picture is served, the row and the space decide
-none : (c : tie.After-enum-told) → let a = c .before .before .before .before .before .args in refusal (sizeRules (a .size) (length (now (a .picture)))) ≡ 0
+none : (c : tie.After-enum-told)
+    → let s = c .before .before .before .before .before in
+    let a = s .args in refusal (sizeRules (a .size) (length (now (a .picture)))) ≡ 0
 none c = sym (c .before .before .sized .ensures) ∙ ap given (c .enum-told .given .1)
 
-rest : (c : tie.After-enum-told) → let a = c .before .before .before .before .before .args in
+rest : (c : tie.After-enum-told)
+    → let s = c .before .before .before .before .before in
+    let a = s .args in
     refusal (energiesRules (a .size) (length (now (a .picture))) (a .r) (length (now (a .out)))) ≡ refusal (4 when leb (a .size .height) (a .r) ∷ 8 when ltb (length (now (a .out))) (a .size .width) ∷ [])
-rest c = let a = c .before .before .before .before .before .args in served-first (sizeRules (a .size) (length (now (a .picture)))) (4 when leb (a .size .height) (a .r) ∷ 8 when ltb (length (now (a .out))) (a .size .width) ∷ []) refl (none c)
+rest c =
+    let a = c .before .before .before .before .before .args in
+    served-first (sizeRules (a .size) (length (now (a .picture)))) (4 when leb (a .size .height) (a .r) ∷ 8 when ltb (length (now (a .out))) (a .size .width) ∷ []) refl (none c)
 
 sized-requires : tie.Need-sized-requires
 sized-requires c κs = search needs

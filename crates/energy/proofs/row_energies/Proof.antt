@@ -16,7 +16,10 @@ sure : (c : tie.Start) → let a = c .args in Sized (a .size) (length (now (a .p
 sure c = sized-is _ _ (c .pre .sized)
 
 -- both rows end within the picture
-within : (c : tie.After-lower-row) → let a = c .before .before .before .before .args in Ends (a .size) (now (a .picture)) (a .r) (c .before .row-bytes .result) (c .lower-row .result) (sure (c .before .before .before .before)) (c .before .before .before .before .pre .inside) (c .before .row-bytes .ensures .0) (c .lower-row .ensures)
+within : (c : tie.After-lower-row)
+    → let at-row-bytes = c .before in
+    let s = at-row-bytes .before .before .before in
+    let a = s .args in Ends (a .size) (now (a .picture)) (a .r) (at-row-bytes .row-bytes .result) (c .lower-row .result) (sure s) (s .pre .inside) (at-row-bytes .row-bytes .ensures .0) (c .lower-row .ensures)
 within c =
     let at-row-bytes = c .before in
     let s = at-row-bytes .before .before .before in

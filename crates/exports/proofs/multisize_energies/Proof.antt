@@ -1,5 +1,5 @@
 -- `exports::multisize_energies` meets its contract.
-use mathlib.Core.Path.{_≡_, refl, sym, _∙_}
+use mathlib.Core.Path.{refl, sym, _∙_}
 use borrow.Author.Needs.{needs}
 use Rattle.exports.proofs.multisize_energies.Statement.{statement}
 use Rattle.exports.proofs.multisize_energies.Tie as tie

@@ -22,25 +22,35 @@ use Rattle.finding.proofs.find_in.Tie as tie
 more : tie.Start → List Rule
 more c = 8 when ltb (length (now (c .args .seam))) (c .args .size .height) ∷ 8 when ltb (length (now (c .args .space))) (pictureBytes (c .args .size) + pixels (c .args .size)) ∷ []
 
-none : (c : tie.After-enum-told) → refusal (sideRules (c .before .before .before .before .before .args .size)) ≡ 0
+none : (c : tie.After-enum-told)
+    → let s = c .before .before .before .before .before in
+    refusal (sideRules (s .args .size)) ≡ 0
 none c = sym (c .before .before .sides .ensures) ∙ ap given (c .enum-told .given .1)
 
-rest : (c : tie.After-enum-told) → let a = c .before .before .before .before .before .args in refusal (findRules (a .size) (length (now (a .space))) (length (now (a .seam)))) ≡ refusal (more (c .before .before .before .before .before))
+rest : (c : tie.After-enum-told)
+    → let s = c .before .before .before .before .before in
+    let a = s .args in refusal (findRules (a .size) (length (now (a .space))) (length (now (a .seam)))) ≡ refusal (more s)
 unfolding more
 rest c =
     let s = c .before .before .before .before .before in
     served-first (sideRules (s .args .size)) (more s) refl (none c)
 
-sure : (c : tie.After-enum-told) → Sides (c .before .before .before .before .before .args .size)
+sure : (c : tie.After-enum-told)
+    → let s = c .before .before .before .before .before in
+    Sides (s .args .size)
 sure c = sides-are _ (none c)
 
-bytes-are : (c : tie.After-picture-bytes) → c .picture-bytes .result ≡ pictureBytes (c .before .before .before .before .before .before .before .args .size)
+bytes-are : (c : tie.After-picture-bytes)
+    → let s = c .before .before .before .before .before .before .before in
+    c .picture-bytes .result ≡ pictureBytes (s .args .size)
 bytes-are c =
     let at-enum-told = c .before .before in
     let s = at-enum-told .before .before .before .before .before in
     c .picture-bytes .ensures ∙ ap (λ n. served n (pictureBytes (s .args .size)) 0) (none at-enum-told)
 
-all-most : (c : tie.After-enum-told) → pixels (c .before .before .before .before .before .args .size) ≤ 262144
+all-most : (c : tie.After-enum-told)
+    → let s = c .before .before .before .before .before in
+    pixels (s .args .size) ≤ 262144
 all-most c = mul-le-mul (sure c .height-most) (sure c .width-most)
 
 sides-requires : tie.Need-sides-requires

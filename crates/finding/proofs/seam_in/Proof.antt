@@ -61,18 +61,24 @@ byte c = front-most (now (c .before .args .space)) (pictureBytes (c .before .arg
 ways : (c : tie.Start) → List ℕ
 ways c = flat (table (waysUp 4294967295 (c .args .size .width) (costsOf (c .args .size) (front c))) (c .args .size .height - 1))
 
-ways-are : (c : tie.After-find-bottom) → c .find-bottom .last .0 ≡ front (c .before .before .before .before) ++ (ways (c .before .before .before .before) ++ drop (pictureBytes (c .before .before .before .before .args .size) + (c .before .before .before .before .args .size .height - 1) * c .before .before .before .before .args .size .width) (now (c .before .before .before .before .args .space)))
+ways-are : (c : tie.After-find-bottom)
+    → let s = c .before .before .before .before in
+    c .find-bottom .last .0 ≡ front s ++ (ways s ++ drop (pictureBytes (s .args .size) + (s .args .size .height - 1) * s .args .size .width) (now (s .args .space)))
 unfolding front ways
 ways-are c = c .find-bottom .ensures .ways
 
-ways-wide : (c : tie.After-find-bottom) → length (ways (c .before .before .before .before)) ≡ (c .before .before .before .before .args .size .height - 1) * c .before .before .before .before .args .size .width
+ways-wide : (c : tie.After-find-bottom)
+    → let s = c .before .before .before .before in
+    length (ways s) ≡ (s .args .size .height - 1) * s .args .size .width
 unfolding ways
 ways-wide c =
     let s = c .before .before .before .before in
     let z = s .args .size in
     ways-long 4294967295 (z .width) (z .height - 1) (costsOf z (front s))
 
-ways-lent : (c : tie.After-find-bottom) → let a = c .before .before .before .before .args in take (a .bytes + (a .size .height - 1) * a .size .width - a .bytes) (drop (a .bytes) (c .find-bottom .last .0)) ≡ ways (c .before .before .before .before)
+ways-lent : (c : tie.After-find-bottom)
+    → let s = c .before .before .before .before in
+    let a = s .args in take (a .bytes + (a .size .height - 1) * a .size .width - a .bytes) (drop (a .bytes) (c .find-bottom .last .0)) ≡ ways s
 ways-lent c =
     let s = c .before .before .before .before in
     let a = s .args in

@@ -27,23 +27,31 @@ fits : (s : tie.Start) → Fits (s .args .size) (s .args .depth) (length (now (s
 fits s = fits-is (s .args .size) (s .args .depth) (length (now (s .args .space))) (s .pre .served)
 
 bytes-are : (c : tie.After-picture-bytes) → c .picture-bytes .result ≡ pictureBytes (c .before .before .args .size)
-bytes-are c = let s = c .before .before in c .picture-bytes .ensures ∙ ap (λ n. served n (pictureBytes (s .args .size)) 0) (fits s .room .served)
+bytes-are c =
+    let s = c .before .before in
+    c .picture-bytes .ensures ∙ ap (λ n. served n (pictureBytes (s .args .size)) 0) (fits s .room .served)
 
 -- where the two maps stand
 abbrev built : tie.After-picture-bytes → ℕ
 built c = let z = c .before .before .args .size in c .picture-bytes .result + z .height * z .width
 
 abbrev at : tie.After-picture-bytes → ℕ
-at c = let z = c .before .before .args .size in c .picture-bytes .result + z .height * z .width + z .height * (2 * z .width)
+at c =
+    let z = c .before .before .args .size in
+    c .picture-bytes .result + z .height * z .width + z .height * (2 * z .width)
 
 abbrev end : tie.After-picture-bytes → ℕ
-end c = let z = c .before .before .args .size in c .picture-bytes .result + z .height * z .width + z .height * (2 * z .width) + z .height * (2 * z .width)
+end c =
+    let z = c .before .before .args .size in
+    c .picture-bytes .result + z .height * z .width + z .height * (2 * z .width) + z .height * (2 * z .width)
 
 ends : (c : tie.After-picture-bytes) → end c ≤ length (now (c .before .before .args .space))
 ends c = omega (arith, bytes-are c, fits (c .before .before) .long)
 
 -- what the rows' answer says
-rows-told : (c : tie.After-numbered) → let s = c .before .before .before .before .before in c .numbered .result ≡ every (numbers (s .args .depth)) (recordedIn (s .args .size) (now (s .args .space)))
+rows-told : (c : tie.After-numbered)
+    → let start = c .before .before .before .before .before in
+    let s = start in c .numbered .result ≡ every (numbers (s .args .depth)) (recordedIn (s .args .size) (now (s .args .space)))
 rows-told c =
     let k = c .before .before .before in
     let z = k .before .before .args .size in

@@ -19,7 +19,9 @@ use Rattle.judging.proofs.rooms.Tie as tie
 
 -- where the sides are served, the depth and the room decide
 more : tie.Start → List Rule
-more c = let a = c .args in 6 when leb (a .size .width) (a .depth) ∷ 8 when ltb (a .space) (recordedAt (a .size) + mapBytes (a .size)) ∷ []
+more c =
+    let a = c .args in
+    6 when leb (a .size .width) (a .depth) ∷ 8 when ltb (a .space) (recordedAt (a .size) + mapBytes (a .size)) ∷ []
 
 none : (c : tie.After-enum-told) → refusal (sideRules (c .before .before .before .args .size)) ≡ 0
 none c = sym (c .before .before .sides .ensures) ∙ ap given (c .enum-told .given .1)
@@ -43,7 +45,9 @@ map-most c =
     let two : 2 * c .before .before .before .args .size .width ≤ 1024 = omega (arith, sure c .width-most) in
     mul-le-mul (sure c .height-most) two
 
-bytes-are : (c : tie.After-picture-bytes) → let z = c .before .before .before .before .before .args .size in c .picture-bytes .result ≡ pictureBytes z
+bytes-are : (c : tie.After-picture-bytes)
+    → let s = c .before .before .before .before .before in
+    let z = s .args .size in c .picture-bytes .result ≡ pictureBytes z
 bytes-are c =
     let at-enum-told = c .before .before in
     let s = at-enum-told .before .before .before in

@@ -29,7 +29,9 @@ room : (s : tie.Start Inv-loop μ-loop) → Room (s .args .size) (s .args .depth
 room s = room-is (s .args .size) (s .args .depth) (length (now (s .args .space))) (s .pre .served)
 
 bytes-are : (c : tie.After-picture-bytes Inv-loop μ-loop) → c .picture-bytes .result ≡ pictureBytes (c .before .before .args .size)
-bytes-are c = let s = c .before .before in c .picture-bytes .ensures ∙ ap (λ n. served n (pictureBytes (s .args .size)) 0) (room s .served)
+bytes-are c =
+    let s = c .before .before in
+    c .picture-bytes .ensures ∙ ap (λ n. served n (pictureBytes (s .args .size)) 0) (room s .served)
 
 -- the space before the first seam
 first : (k : tie.After-clear Inv-loop μ-loop) → let b = k .before .before .picture-bytes .result in let a = k .before .before .before .before .args in

@@ -22,12 +22,18 @@ abbrev more : Size → List ℕ → List Rule
 more z s = 4 when not (eqb (length s) (z .height)) ∷ 10 when outside (z .width) s ∷ 13 when eqb (z .width) 1 ∷ []
 
 -- where the picture is served, they decide
-none : (c : tie.After-enum-told) → let a = c .before .before .before .before .before .args in refusal (sizeRules (a .size) (length (now (a .picture)))) ≡ 0
+none : (c : tie.After-enum-told)
+    → let s = c .before .before .before .before .before in
+    let a = s .args in refusal (sizeRules (a .size) (length (now (a .picture)))) ≡ 0
 none c = sym (c .before .before .sized .ensures) ∙ ap given (c .enum-told .given .1)
 
-rest : (c : tie.After-enum-told) → let a = c .before .before .before .before .before .args in
+rest : (c : tie.After-enum-told)
+    → let s = c .before .before .before .before .before in
+    let a = s .args in
     refusal (closeRules (a .size) (length (now (a .picture))) (now (a .seam))) ≡ refusal (more (a .size) (now (a .seam)))
-rest c = let a = c .before .before .before .before .before .args in served-first (sizeRules (a .size) (length (now (a .picture)))) (more (a .size) (now (a .seam))) refl (none c)
+rest c =
+    let a = c .before .before .before .before .before .args in
+    served-first (sizeRules (a .size) (length (now (a .picture)))) (more (a .size) (now (a .seam))) refl (none c)
 
 sized-requires : tie.Need-sized-requires
 sized-requires c κs = search needs

@@ -22,15 +22,25 @@ abbrev more : Size → List ℕ → List Rule
 more z to = 8 when ltb (length to) (pictureBytes z) ∷ []
 
 -- where the picture is served, it decides, and the picture is as long as its size says
-none : (c : tie.After-enum-told) → let a = c .before .before .before .before .before .args in refusal (sizeRules (a .size) (length (now (a .from)))) ≡ 0
+none : (c : tie.After-enum-told)
+    → let s = c .before .before .before .before .before in
+    let a = s .args in refusal (sizeRules (a .size) (length (now (a .from)))) ≡ 0
 none c = sym (c .before .before .sized .ensures) ∙ ap given (c .enum-told .given .1)
 
-rest : (c : tie.After-enum-told) → let a = c .before .before .before .before .before .args in
+rest : (c : tie.After-enum-told)
+    → let s = c .before .before .before .before .before in
+    let a = s .args in
     refusal (exchangeRules (a .size) (length (now (a .from))) (length (now (a .to)))) ≡ refusal (more (a .size) (now (a .to)))
-rest c = let a = c .before .before .before .before .before .args in served-first (sizeRules (a .size) (length (now (a .from)))) (more (a .size) (now (a .to))) refl (none c)
+rest c =
+    let a = c .before .before .before .before .before .args in
+    served-first (sizeRules (a .size) (length (now (a .from)))) (more (a .size) (now (a .to))) refl (none c)
 
-long : (c : tie.After-enum-told) → let a = c .before .before .before .before .before .args in length (now (a .from)) ≡ pictureBytes (a .size)
-long c = let a = c .before .before .before .before .before .args in sized-is (a .size) (length (now (a .from))) (none c) .length-is
+long : (c : tie.After-enum-told)
+    → let s = c .before .before .before .before .before in
+    let a = s .args in length (now (a .from)) ≡ pictureBytes (a .size)
+long c =
+    let a = c .before .before .before .before .before .args in
+    sized-is (a .size) (length (now (a .from))) (none c) .length-is
 
 sized-requires : tie.Need-sized-requires
 sized-requires c κs = search needs

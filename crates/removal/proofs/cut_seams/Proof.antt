@@ -59,7 +59,10 @@ slice-reshare-prefix-some-two : tie.Need-slice-reshare-prefix-some-two Inv-loop 
 slice-reshare-prefix-some-two c = let h = c in let a = start h .args in going-room (going h)
 
 slice-aggregate-some-two : tie.Need-slice-aggregate-some-two Inv-loop μ-loop
-slice-aggregate-some-two c = let h = c .before in let a = start h .args in sym (length-take-le _ (h .loop .marks) (going-room (going h)))
+slice-aggregate-some-two c =
+    let h = c .before in
+    let a = start h .args in
+    sym (length-take-le _ (h .loop .marks) (going-room (going h)))
 
 some-two-requires : tie.Need-some-two-requires Inv-loop μ-loop
 some-two-requires c κs = search needs

@@ -12,15 +12,21 @@ use Rattle.removal.proofs.remove.Tie as tie
 
 -- the number that the buffers are refused by
 number : tie.Start → ℕ
-number c = let a = c .args in refusal (removalRules (a .size) (now (a .picture)) (now (a .marks)) (length (now (a .work))))
+number c =
+    let a = c .args in
+    refusal (removalRules (a .size) (now (a .picture)) (now (a .marks)) (length (now (a .work))))
 
-judged : (c : tie.After-marked-rooms) → given (c .marked-rooms .result) ≡ number (c .before .before .before .before .before)
+judged : (c : tie.After-marked-rooms)
+    → let s = c .before .before .before .before .before in
+    given (c .marked-rooms .result) ≡ number s
 unfolding number
 judged c =
     let a = c .before .before .before .before .before .args in
     c .marked-rooms .ensures ∙ rooms-rules (a .size) (now (a .picture)) (now (a .marks)) (length (now (a .work)))
 
-nothing : (c : tie.After-enum-told) → number (c .before .before .before .before .before .before .before) ≡ 0
+nothing : (c : tie.After-enum-told)
+    → let s = c .before .before .before .before .before .before .before in
+    number s ≡ 0
 nothing c = sym (judged (c .before .before)) ∙ ap given (c .enum-told .given .1)
 
 marked-rooms-requires : tie.Need-marked-rooms-requires

@@ -1,7 +1,7 @@
 -- `retargeting::last_cell` meets its contract.
 use mathlib.Core.Path.{_≡_, refl, sym, ap, _∙_}
 use mathlib.Core.List.{List}
-use Prim.Native.Nat.{ℕ, _-_}
+use Prim.Native.Nat.{ℕ}
 use native.Mathlib.Omega.{arith}
 use borrow.Author.Needs.{needs}
 use denote.Ref.{now}
@@ -20,7 +20,9 @@ abbrev blank : List ℕ
 blank = replicate 65 0
 
 -- the bytes of the picture left, and where they stand
-count-is : (c : tie.After-picture-bytes) → let a = c .before .before .before .before .before .before .before .before .before .before .before .before .before .before .before .before .before .before .before .before .before .args in c .picture-bytes .result ≡ pictureBytes (leftSize (a .size) (a .rows) (a .columns))
+count-is : (c : tie.After-picture-bytes)
+    → let s = c .before .before .before .before .before .before .before .before .before .before .before .before .before .before .before .before .before .before .before .before .before in
+    let a = s .args in c .picture-bytes .result ≡ pictureBytes (leftSize (a .size) (a .rows) (a .columns))
 count-is c =
     let st = c .before .before .before .before .before .before .before .before .before .before .before .before .before .before .before .before .before .before .before .before .before in
     let a = st .args in
@@ -29,14 +31,21 @@ count-is c =
     ∙ ap (λ n. served n (pictureBytes (leftSize (a .size) (a .rows) (a .columns))) 0)
     (smaller-sides (a .size) (a .rows .0) (a .columns .0) (sides-served (a .size) (length (now (a .picture))) (p .sized)) (p .rows-left) (p .columns-left))
 
-sure : (c : tie.After-picture-bytes) → let st = c .before .before .before .before .before .before .before .before .before .before .before .before .before .before .before .before .before .before .before .before .before in let a = st .args in LastSure (now (a .picture)) (a .size) (a .rows) (a .columns) (now (a .out)) (now (a .work)) (st .pre) (c .picture-bytes .result)
+sure : (c : tie.After-picture-bytes)
+    → let s = c .before .before .before .before .before .before .before .before .before .before .before .before .before .before .before .before .before .before .before .before .before in
+    let st = s in
+    let a = st .args in
+    LastSure (now (a .picture)) (a .size) (a .rows) (a .columns) (now (a .out)) (now (a .work)) (st .pre) (c .picture-bytes .result)
 sure c =
     let st = c .before .before .before .before .before .before .before .before .before .before .before .before .before .before .before .before .before .before .before .before .before in
     let a = st .args in
     last-sure (now (a .picture)) (a .size) (a .rows) (a .columns) (now (a .out)) (now (a .work)) (st .pre) (c .picture-bytes .result) (count-is c)
 
 copy-requires : tie.Need-copy-requires
-copy-requires c κs = let st = c .before .before .before .before in let a = st .args in last-sure (now (a .picture)) (a .size) (a .rows) (a .columns) (now (a .out)) (now (a .work)) (st .pre) _ refl .fits
+copy-requires c κs =
+    let st = c .before .before .before .before in
+    let a = st .args in
+    last-sure (now (a .picture)) (a .size) (a .rows) (a .columns) (now (a .out)) (now (a .work)) (st .pre) _ refl .fits
 
 slice-aggregate-first-row : tie.Need-slice-aggregate-first-row
 slice-aggregate-first-row c = search needs

@@ -13,7 +13,9 @@ use Rattle.retargeting.proofs.retarget.Statement.{statement}
 use Rattle.retargeting.proofs.retarget.Tie as tie
 
 -- nothing is refused
-none : (c : tie.After-enum-told) → let a = c .before .before .before .before .before .before .args in
+none : (c : tie.After-enum-told)
+    → let s = c .before .before .before .before .before .before in
+    let a = s .args in
     refusal (retargetRules (a .size) (a .rows) (a .columns) (length (now (a .picture))) (length (now (a .out))) (length (now (a .work)))) ≡ 0
 none c = sym (c .before .before .rooms .ensures) ∙ ap given (c .enum-told .given .1)
 

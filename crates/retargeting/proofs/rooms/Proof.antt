@@ -24,7 +24,9 @@ more c =
     7 when ltb 64 (a .rows .0) ∷ 7 when ltb 64 (a .columns .0) ∷ 7 when leb (a .size .height) (a .rows .0) ∷ 7 when leb (a .size .width) (a .columns .0)
     ∷ 8 when ltb (a .out) (pictureBytes (leftSize (a .size) (a .rows) (a .columns))) ∷ 8 when ltb (a .work) (workBytes (a .size)) ∷ []
 
-none : (c : tie.After-enum-told) → refusal (sizeRules (c .before .before .before .args .size) (c .before .before .before .args .bytes)) ≡ 0
+none : (c : tie.After-enum-told)
+    → let s = c .before .before .before in
+    refusal (sizeRules (s .args .size) (s .args .bytes)) ≡ 0
 none c = sym (c .before .before .sized .ensures) ∙ ap given (c .enum-told .given .1)
 
 rest : (c : tie.After-enum-told) → let a = c .before .before .before .args in
@@ -42,7 +44,9 @@ all-most : (c : tie.After-enum-told) → pixels (c .before .before .before .args
 all-most c = mul-le-mul (sure c .height-most) (sure c .width-most)
 
 -- the bytes of the picture left
-left-is : (c : tie.After-picture-bytes) → let a = c .before .before .before .before .before .before .before .before .before .before .before .before .before .args in c .picture-bytes .result ≡ pictureBytes (leftSize (a .size) (a .rows) (a .columns))
+left-is : (c : tie.After-picture-bytes)
+    → let s = c .before .before .before .before .before .before .before .before .before .before .before .before .before in
+    let a = s .args in c .picture-bytes .result ≡ pictureBytes (leftSize (a .size) (a .rows) (a .columns))
 left-is c =
     let at-if4 = c .before .before in
     let at-if3 = at-if4 .before .before in

@@ -13,14 +13,18 @@ use Rattle.showing.proofs.row_at.Statement.{statement}
 use Rattle.showing.proofs.row_at.Tie as tie
 
 -- past the first test, the samples are as many as the numbers say
-whole : (c : tie.Else1) → let a = c .before .before .before .before .before .args in length (now (a .samples)) ≡ length (now (a .numbers)) * channelsOf (a .kind)
+whole : (c : tie.Else1)
+    → let s = c .before .before .before .before .before in
+    let a = s .args in length (now (a .samples)) ≡ length (now (a .numbers)) * channelsOf (a .kind)
 whole c =
     let s = c .before .before .before .before .before in
     let a = s .args in
     c .if1 .left ∙ ap (length (now (a .numbers)) *_) (c .before .channels .ensures)
 
 -- past the second, there is room for what is shown
-room : (c : tie.Else2) → let a = c .before .before .before .before .before .before .before .args in length (rowShown (a .kind) (now (a .samples)) (now (a .numbers)) (a .wanted)) ≤ length (now (a .out))
+room : (c : tie.Else2)
+    → let s = c .before .before .before .before .before .before .before in
+    let a = s .args in length (rowShown (a .kind) (now (a .samples)) (now (a .numbers)) (a .wanted)) ≤ length (now (a .out))
 room c =
     let at-if1 = c .before .before in
     let at-channels = at-if1 .before in
@@ -32,7 +36,9 @@ channels-requires : tie.Need-channels-requires
 channels-requires c κs = search needs
 
 mul-if1 : tie.Need-mul-if1
-mul-if1 c = let a = c .before .before .before .before .args in rw (c .channels .ensures) (omega (arith, channels-most (a .kind) (length (now (a .numbers)))))
+mul-if1 c =
+    let a = c .before .before .before .before .args in
+    rw (c .channels .ensures) (omega (arith, channels-most (a .kind) (length (now (a .numbers)))))
 
 returns : tie.Need-returns
 returns c =

@@ -1,9 +1,8 @@
 -- `trials::fill` meets its contract. The loop's invariant: the seed stays below 65536.
 use mathlib.Core.Path.{_≡_}
 use Prim.Native.Nat.{_-_, _<_}
-use native.Mathlib.Omega.{arith}
 use borrow.Author.Needs.{needs}
-use lib.ListN.{length, length-set}
+use lib.ListN.{length}
 use Rattle.trials.proofs.fill.Statement.{statement}
 use Rattle.trials.proofs.fill.Tie as tie
 

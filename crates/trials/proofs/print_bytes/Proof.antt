@@ -1,9 +1,8 @@
 -- `trials::print_bytes` meets its contract. The loop's invariant: the end is the length.
 use mathlib.Core.Path.{_≡_}
-use Prim.Native.Nat.{_-_, _<_}
-use native.Mathlib.Omega.{arith}
+use Prim.Native.Nat.{_-_}
 use borrow.Author.Needs.{needs}
-use lib.ListN.{length, length-set}
+use lib.ListN.{length}
 use Rattle.trials.proofs.print_bytes.Statement.{statement}
 use Rattle.trials.proofs.print_bytes.Tie as tie
 

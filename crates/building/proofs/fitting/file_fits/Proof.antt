@@ -22,10 +22,14 @@ sure : (s : tie.Start) → Sized (s .args .head .size) (length (now (s .args .pi
 sure s = sized-is (s .args .head .size) (length (now (s .args .picture))) (s .pre .sized)
 
 -- the head fits, and the rows
-first : (c : tie.After-lines) → let a = c .before .before .before .before .before .args in some (c .lines .given .0 .0) ≡ less (a .room) (length (headText (a .head)))
+first : (c : tie.After-lines)
+    → let s = c .before .before .before .before .before in
+    let a = s .args in some (c .lines .given .0 .0) ≡ less (a .room) (length (headText (a .head)))
 first c = rw (c .lines .given .1) at (c .before .before .head-left .ensures)
 
-second : (c : tie.After-maps) → let a = c .before .before .before .before .before .before .before .before .before .args in
+second : (c : tie.After-maps)
+    → let s = c .before .before .before .before .before .before .before .before .before in
+    let a = s .args in
     some (c .maps .given .0 .0) ≡ less (c .before .before .before .before .lines .given .0 .0) (total (rowLength (a .head .size .kind)) (picture (a .head .size) (now (a .picture))))
 second c = rw (c .maps .given .1) at (c .before .before .rows-left .ensures)
 
@@ -33,7 +37,9 @@ second c = rw (c .maps .given .1) at (c .before .before .rows-left .ensures)
 row-whole : (c : tie.After-put-order) → length (c .put-order .last .0) ≡ 512
 row-whole c = c .put-order .kept .0 ∙ length-replicate {A = ℕ} 512 0
 
-line-long : (c : tie.After-put-order) → let a = c .before .before .before .before .before .before .before .before .before .before .before .before .args in
+line-long : (c : tie.After-put-order)
+    → let s = c .before .before .before .before .before .before .before .before .before .before .before .before in
+    let a = s .args in
     length (mapText (take (a .head .size .width) (c .put-order .last .0))) ≡ total spaced (run 1 (a .head .depth)) + 2 * (a .head .size .width - a .head .depth) + 6
 line-long c =
     let s = c .before .before .before .before .before .before .before .before .before .before .before .before in
@@ -74,7 +80,9 @@ slice-aggregate-put-order : tie.Need-slice-aggregate-put-order
 slice-aggregate-put-order c = search needs
 
 put-order-requires : tie.Need-put-order-requires
-put-order-requires c κs = let s = c .before .before .before .before .before .before .before .before .before .before .before in record { room = omega (arith, sure s .width-most, s .pre .deep, length-replicate {A = ℕ} 512 0); small = omega (arith, sure s .width-most, s .pre .deep) }
+put-order-requires c κs =
+    let s = c .before .before .before .before .before .before .before .before .before .before .before in
+    record { room = omega (arith, sure s .width-most, s .pre .deep, length-replicate {A = ℕ} 512 0); small = omega (arith, sure s .width-most, s .pre .deep) }
 
 array-share-prefix-row : tie.Need-array-share-prefix-row
 array-share-prefix-row c =

@@ -8,7 +8,10 @@ use Rattle.building.proofs.lines.print_file.Statement.{statement}
 use Rattle.building.proofs.lines.print_file.Tie as tie
 
 -- the head is printed
-first : (c : tie.After-rows) → let a = c .before .before .before .before .before .before .before .before .before .before .args in Printed (now (a .out)) 0 (headText (a .head)) (c .before .before .before .before .print-head .last .0) (c .rows .given .0 .0)
+first : (c : tie.After-rows)
+    → let at-print-head = c .before .before .before .before in
+    let s = at-print-head .before .before .before .before .before .before in
+    let a = s .args in Printed (now (a .out)) 0 (headText (a .head)) (at-print-head .print-head .last .0) (c .rows .given .0 .0)
 first c =
     let at-print-head = c .before .before .before .before in
     let s = at-print-head .before .before .before .before .before .before in

@@ -28,7 +28,9 @@ abbrev μ-loop : tie.MeasureT-loop
 
 -- the row ends within the map
 inside : (c : tie.At-loop Inv-loop μ-loop) → let a = c .before .before .before .args in c .loop .r < a .height → c .loop .r * (2 * a .width) + 2 * a .width ≤ length (now (a .map))
-inside c l = let s = c .before .before .before in omega (arith, part-end (c .loop .r) (s .args .height) (2 * s .args .width) l, s .pre .long)
+inside c l =
+    let s = c .before .before .before in
+    omega (arith, part-end (c .loop .r) (s .args .height) (2 * s .args .width) l, s .pre .long)
 
 below : (s : tie.Start Inv-loop μ-loop) (r : ℕ) → r < s .args .height → r < length (mapIn (s .args .width) (s .args .height) (now (s .args .map)))
 below s r l = omega (arith, maps-many (s .args .width) (s .args .height) (now (s .args .map)))
@@ -37,7 +39,9 @@ row-whole : (c : tie.After-read-numbers Inv-loop μ-loop) → length (c .read-nu
 row-whole c = c .read-numbers .kept .1 .1 .0 ∙ c .before .before .before .before .loop .inv .1
 
 -- the row's line
-line : (c : tie.After-read-numbers Inv-loop μ-loop) → let a = c .before .before .before .before .before .before .before .args in
+line : (c : tie.After-read-numbers Inv-loop μ-loop)
+    → let s = c .before .before .before .before .before .before .before in
+    let a = s .args in
     mapText (take (a .width) (c .read-numbers .last .1 .1 .0)) ≡ mapWord ++ lineText digits (getD (mapIn (a .width) (a .height) (now (a .map))) (c .before .before .before .before .loop .r) [])
 line c =
     let at-loop-test = c .before .before .before in
@@ -68,7 +72,9 @@ next c n e =
     line-next mapWord (lineText digits) [] (mapIn (s .args .width) (s .args .height) (now (s .args .map))) (at .r) (at .inv .2) (below s (at .r) (at-loop-test .loop-test .taken)) (s .pre .room) (line at-read-numbers) (c .print-map .ensures) e
 
 loop-holds : tie.Need-loop-holds Inv-loop μ-loop
-loop-holds c = let a = c .before .before .args in (omega arith, length-replicate {A = ℕ} 512 0, lines-none mapWord (lineText digits) (mapIn (a .width) (a .height) (now (a .map))) (now (a .out)) (a .at))
+loop-holds c =
+    let a = c .before .before .args in
+    (omega arith, length-replicate {A = ℕ} 512 0, lines-none mapWord (lineText digits) (mapIn (a .width) (a .height) (now (a .map))) (now (a .out)) (a .at))
 
 mul-a : tie.Need-mul-a Inv-loop μ-loop
 mul-a c = omega (arith, inside (c .before) (c .loop-test .taken))

@@ -26,7 +26,9 @@ below : (s : tie.Start Inv-loop μ-loop) (r : ℕ) → r < s .args .size .height
 below s r l = omega (arith, rows-many (s .args .size) (now (s .args .picture)) (s .pre .sized))
 
 -- the row's line
-line : (c : tie.After-row Inv-loop μ-loop) → let a = c .before .before .before .before .before .args in let k = a .size .kind in
+line : (c : tie.After-row Inv-loop μ-loop)
+    → let s = c .before .before .before .before .before in
+    let a = s .args in let k = a .size .kind in
     rowText k (pixelsOf k (now (c .row .result))) ≡ rowWord ++ lineText (pixelText k) (getD (Pictures·picture (a .size) (now (a .picture))) (c .before .before .loop .r) [])
 line c =
     let at-loop = c .before .before in
@@ -56,7 +58,9 @@ next c n e =
     line-next rowWord (lineText (pixelText k)) [] (Pictures·picture (s .args .size) (now (s .args .picture))) (at .r) (at .inv .1) (below s (at .r) (at-loop-test .loop-test .taken)) (s .pre .room) (line at-row) (c .print-row .ensures) e
 
 loop-holds : tie.Need-loop-holds Inv-loop μ-loop
-loop-holds c = let a = c .before .before .args in (omega arith, lines-none rowWord (lineText (pixelText (a .size .kind))) (Pictures·picture (a .size) (now (a .picture))) (now (a .out)) (a .at))
+loop-holds c =
+    let a = c .before .before .args in
+    (omega arith, lines-none rowWord (lineText (pixelText (a .size .kind))) (Pictures·picture (a .size) (now (a .picture))) (now (a .out)) (a .at))
 
 row-requires : tie.Need-row-requires Inv-loop μ-loop
 row-requires c κs = search needs

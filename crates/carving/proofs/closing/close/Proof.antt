@@ -1,11 +1,10 @@
 -- `carving::closing::close` meets its contract.
-use mathlib.Core.Path.{_≡_, refl, sym, ap, _∙_}
 use borrow.Author.Needs.{needs}
 use denote.Ref.{now}
 use Rattle.moving.proofs.Served.{close-served}
-use Rattle.carving.specs.declared.Axis.the-variants.{Vertical, Horizontal}
+use Rattle.carving.specs.declared.Axis.the-variants.{Vertical}
 use Rattle.carving.specs.Axes.{turned, cutAlong}
-use Rattle.carving.specs.Kernels.{CloseNeeded, CloseGiven}
+use Rattle.carving.specs.Kernels.{CloseNeeded}
 use Rattle.carving.proofs.closing.close.Statement.{statement}
 use Rattle.carving.proofs.closing.close.Tie as tie
 

@@ -1,8 +1,7 @@
 -- `carving::closing::close_columns` meets its contract.
-use mathlib.Core.Path.{_≡_, refl, sym, ap, ap₂, _∙_}
-use mathlib.Core.List.{List, [], _++_, append-nil}
-use Prim.Native.Nat.{ℕ, _+_, _-_, _*_, _≤_, _<_}
-use native.Mathlib.Nat.{le-of-eq}
+use mathlib.Core.Path.{_≡_, sym, ap, ap₂, _∙_}
+use mathlib.Core.List.{List, _++_, append-nil}
+use Prim.Native.Nat.{ℕ, _+_, _-_, _*_, _≤_}
 use native.Mathlib.Omega.{arith}
 use borrow.Author.Needs.{needs}
 use denote.Ref.{now}
@@ -15,15 +14,16 @@ use Rattle.energy.specs.Pictures.{channelsOf, pictureBytes, picture, bytes}
 use Rattle.energy.proofs.Sizes.{Sized, sized-is}
 use Rattle.carving.specs.declared.Axis.the-variants.{Horizontal}
 use Rattle.carving.specs.Axes.{turnedSize, narrowed, cutAlong}
-use Rattle.carving.specs.Kernels.{CloseNeeded, CloseGiven}
-use Rattle.carving.proofs.Columns.{restOf, left-bytes, left-sides, front-is, kept-is, back-is}
+use Rattle.carving.proofs.Columns.{restOf, left-bytes, left-sides, kept-is, back-is}
 use Rattle.carving.proofs.closing.close_columns.Statement.{statement}
 use Rattle.carving.proofs.closing.close_columns.Tie as tie
 
 sure : (c : tie.Start) → Sized (c .args .size) (length (now (c .args .picture)))
 sure c = sized-is _ _ (c .pre .sized)
 
-kept-are : (c : tie.After-picture-bytes) → c .picture-bytes .result ≡ pictureBytes (narrowed (turnedSize Horizontal (c .before .before .before .before .before .before .args .size)))
+kept-are : (c : tie.After-picture-bytes)
+    → let s = c .before .before .before .before .before .before in
+    c .picture-bytes .result ≡ pictureBytes (narrowed (turnedSize Horizontal (s .args .size)))
 kept-are c =
     let at-turned-size = c .before .before in
     let s = at-turned-size .before .before .before .before in
@@ -37,16 +37,22 @@ kept-are c =
 room : (c : tie.Start) → length (now (c .args .picture)) ≤ length (now (c .args .work))
 room c = omega (arith, sure c .length-is, c .pre .room)
 
-work-long : (c : tie.After-exchange) → length (c .exchange .last .1 .1 .0) ≡ length (now (c .before .before .before .before .before .before .before .before .before .args .work))
+work-long : (c : tie.After-exchange)
+    → let s = c .before .before .before .before .before .before .before .before .before in
+    length (c .exchange .last .1 .1 .0) ≡ length (now (s .args .work))
 work-long c = c .exchange .kept .1 .1 .0
 
-front-long : (c : tie.After-close-up) → length (c .close-up .last .0) ≡ length (now (c .before .before .before .before .before .before .before .before .before .before .before .before .before .args .picture))
+front-long : (c : tie.After-close-up)
+    → let s = c .before .before .before .before .before .before .before .before .before .before .before .before .before in
+    length (c .close-up .last .0) ≡ length (now (s .args .picture))
 front-long c =
     let at-exchange = c .before .before .before .before in
     let s = at-exchange .before .before .before .before .before .before .before .before .before in
     c .close-up .kept .0 ∙ length-take-le (length (now (s .args .picture))) (at-exchange .exchange .last .1 .1 .0) (omega (arith, work-long at-exchange, room s))
 
-kept-fits : (c : tie.After-picture-bytes) → c .picture-bytes .result + c .before .before .before .before .before .before .args .size .width * channelsOf (c .before .before .before .before .before .before .args .size .kind) ≡ length (now (c .before .before .before .before .before .before .args .picture))
+kept-fits : (c : tie.After-picture-bytes)
+    → let s = c .before .before .before .before .before .before in
+    c .picture-bytes .result + s .args .size .width * channelsOf (s .args .size .kind) ≡ length (now (s .args .picture))
 kept-fits c =
     let s = c .before .before .before .before .before .before in
     let a = s .args in
@@ -60,7 +66,9 @@ closed c =
     let s = at-exchange .before .before .before .before .before .before .before .before .before in
     c .close-up .last .0 ++ drop (length (now (s .args .picture))) (at-exchange .exchange .last .1 .1 .0)
 
-closed-long : (c : tie.After-close-up) → length (closed c) ≡ length (now (c .before .before .before .before .before .before .before .before .before .before .before .before .before .args .work))
+closed-long : (c : tie.After-close-up)
+    → let s = c .before .before .before .before .before .before .before .before .before .before .before .before .before in
+    length (closed c) ≡ length (now (s .args .work))
 unfolding closed
 closed-long c =
     let at-exchange = c .before .before .before .before in
@@ -68,7 +76,10 @@ closed-long c =
     let b = now (s .args .picture) in
     omega (arith, length-append (c .close-up .last .0) (drop (length b) (at-exchange .exchange .last .1 .1 .0)), length-drop (length b) (at-exchange .exchange .last .1 .1 .0), front-long c, work-long at-exchange, room s)
 
-lent-is : (c : tie.After-close-up) → take (c .before .before .before .before .before .before .before .picture-bytes .result) (closed c) ≡ bytes (restOf (c .before .before .before .before .before .before .before .before .before .before .before .before .before .args .size) (now (c .before .before .before .before .before .before .before .before .before .before .before .before .before .args .picture)) (now (c .before .before .before .before .before .before .before .before .before .before .before .before .before .args .seam)))
+lent-is : (c : tie.After-close-up)
+    → let at-picture-bytes = c .before .before .before .before .before .before .before in
+    let s = at-picture-bytes .before .before .before .before .before .before in
+    take (at-picture-bytes .picture-bytes .result) (closed c) ≡ bytes (restOf (s .args .size) (now (s .args .picture)) (now (s .args .seam)))
 unfolding closed
 lent-is c =
     let at-exchange = c .before .before .before .before in
@@ -83,7 +94,9 @@ lent-is c =
     ∙ kept-is (a .size) b (now (a .seam)) (sure s) (p .wide) (p .inside) (now (a .work)) work (at-exchange .exchange .result) (at-exchange .exchange .ensures) (p .sized) (p .room)
     (c .close-up .last .0) (c .close-up .result) (rw (at-turned-size .turned-size .ensures) at (c .close-up .ensures)) (drop (length b) work)
 
-pic-long : (c : tie.After-exchange2) → length (c .exchange2 .last .1 .1 .0) ≡ length (now (c .before .before .before .before .before .before .before .before .before .before .before .before .before .before .before .before .before .before .args .picture))
+pic-long : (c : tie.After-exchange2)
+    → let s = c .before .before .before .before .before .before .before .before .before .before .before .before .before .before .before .before .before .before in
+    length (c .exchange2 .last .1 .1 .0) ≡ length (now (s .args .picture))
 pic-long c = c .exchange2 .kept .1 .1 .0
 
 turned-size-requires : tie.Need-turned-size-requires

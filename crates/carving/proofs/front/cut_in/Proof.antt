@@ -1,6 +1,6 @@
 -- `carving::front::cut_in` meets its contract.
 use mathlib.Core.Path.{_≡_, refl, sym, ap, ap₂, _∙_}
-use mathlib.Core.Bool.{true, false}
+use mathlib.Core.Bool.{true}
 use mathlib.Core.List.{List, [], _∷_, _++_}
 use Prim.Native.Nat.{ℕ, _+_, _*_, _≤_, _<_}
 use native.Mathlib.Omega.{arith}
@@ -15,7 +15,7 @@ use Rattle.grids.specs.Cut.{cut}
 use Rattle.grids.proofs.Orders.{more-than-one}
 use Rattle.grids.proofs.Shapes.{each-length}
 use Rattle.energy.specs.Refusals.{_when_, numberOf, refusal, served}
-use Rattle.energy.specs.Pictures.{channelsOf, pictureBytes, picture, bytes}
+use Rattle.energy.specs.Pictures.{channelsOf, pictureBytes, bytes}
 use Rattle.energy.proofs.Rules.{served-first, refused-first, refusal-most, number-some, served-not}
 use Rattle.energy.proofs.Sizes.{sides-are, sized-served}
 use Rattle.finding.specs.Seams.{seamOf, costOf}
@@ -30,14 +30,19 @@ use Rattle.carving.proofs.front.cut_in.Statement.{statement}
 use Rattle.carving.proofs.front.cut_in.Tie as tie
 
 -- where a seam was found nothing is refused
-rooms : (c : tie.After-enum-told) → let a = c .before .before .before .before .before .before .before .before .before .before .before .before .args in InRoom (a .size) (length (now (a .space))) (length (now (a .seam)))
+rooms : (c : tie.After-enum-told)
+    → let s = c .before .before .before .before .before .before .before .before .before .before .before .before in
+    let a = s .args in InRoom (a .size) (length (now (a .space))) (length (now (a .seam)))
 rooms c =
     let at-find-in = c .before .before .before .before .before .before in
     let s = at-find-in .before .before .before .before .before .before in
     let a = s .args in
     in-room (a .size) (length (now (a .space))) (length (now (a .seam))) (sym (at-find-in .find-in .ensures .number) ∙ ap foundNumber (c .enum-told .given .1))
 
-there : (c : tie.After-enum-told) → let a = c .before .before .before .before .before .before .before .before .before .before .before .before .args in FoundThere (now (a .space)) (a .size) (now (a .seam)) (c .before .before .before .before .before .before .find-in .result) (c .before .before .before .before .before .before .find-in .last .0) (c .before .before .before .before .before .before .find-in .last .1 .1 .0)
+there : (c : tie.After-enum-told)
+    → let at-find-in = c .before .before .before .before .before .before in
+    let s = at-find-in .before .before .before .before .before .before in
+    let a = s .args in FoundThere (now (a .space)) (a .size) (now (a .seam)) (at-find-in .find-in .result) (at-find-in .find-in .last .0) (at-find-in .find-in .last .1 .1 .0)
 there c =
     let at-find-in = c .before .before .before .before .before .before in
     let s = at-find-in .before .before .before .before .before .before in
@@ -51,7 +56,9 @@ seam c =
     let z = s .args .size in
     seamOf (z .width) (z .height) (pictureIn z (now (s .args .space)))
 
-inside : (c : tie.After-enum-told) → let z = c .before .before .before .before .before .before .before .before .before .before .before .before .args .size in Each (λ k. k < z .width) (z .height) (seam c)
+inside : (c : tie.After-enum-told)
+    → let s = c .before .before .before .before .before .before .before .before .before .before .before .before in
+    let z = s .args .size in Each (λ k. k < z .width) (z .height) (seam c)
 unfolding seam
 inside c =
     let start = c .before .before .before .before .before .before .before .before .before .before .before .before in
@@ -59,10 +66,16 @@ inside c =
     let s = sides-are z (rooms c .sides) in
     seam-inside (z .width) (z .height) (pictureIn z (now (start .args .space))) (s .width-some) (s .height-some)
 
-seam-long : (c : tie.After-enum-told) → c .before .before .before .before .before .before .before .before .before .before .before .before .args .size .height ≤ length (c .before .before .before .before .before .before .find-in .last .1 .1 .0)
+seam-long : (c : tie.After-enum-told)
+    → let at-find-in = c .before .before .before .before .before .before in
+    let s = at-find-in .before .before .before .before .before .before in
+    s .args .size .height ≤ length (at-find-in .find-in .last .1 .1 .0)
 seam-long c = omega (arith, rooms c .seam-room, c .before .before .before .before .before .before .find-in .kept .1 .1 .0)
 
-lent-seam : (c : tie.After-enum-told) → take (c .before .before .before .before .before .before .before .before .before .before .before .before .args .size .height) (c .before .before .before .before .before .before .find-in .last .1 .1 .0) ≡ seam c
+lent-seam : (c : tie.After-enum-told)
+    → let at-find-in = c .before .before .before .before .before .before in
+    let s = at-find-in .before .before .before .before .before .before in
+    take (s .args .size .height) (at-find-in .find-in .last .1 .1 .0) ≡ seam c
 unfolding seam
 lent-seam c =
     let s = c .before .before .before .before .before .before .before .before .before .before .before .before in
@@ -70,22 +83,31 @@ lent-seam c =
     ap (take h) (there c .seam-given) ∙ take-at (seam c) (drop h (now (s .args .seam))) h (each-length (inside c))
 
 -- the picture's bytes, and the space in front of them and behind
-bytes-are : (c : tie.After-picture-bytes) → c .picture-bytes .result ≡ pictureBytes (c .before .before .before .before .before .before .before .before .before .before .before .before .before .args .size)
+bytes-are : (c : tie.After-picture-bytes)
+    → let s = c .before .before .before .before .before .before .before .before .before .before .before .before .before in
+    c .picture-bytes .result ≡ pictureBytes (s .args .size)
 bytes-are c =
     let s = c .before .before .before .before .before .before .before .before .before .before .before .before .before in
     c .picture-bytes .ensures ∙ ap (λ n. served n (pictureBytes (s .args .size)) 0) (rooms (c .before) .sides)
 
-front-long : (c : tie.After-picture-bytes) → length (take (pictureBytes (c .before .before .before .before .before .before .before .before .before .before .before .before .before .args .size)) (now (c .before .before .before .before .before .before .before .before .before .before .before .before .before .args .space))) ≡ pictureBytes (c .before .before .before .before .before .before .before .before .before .before .before .before .before .args .size)
+front-long : (c : tie.After-picture-bytes)
+    → let s = c .before .before .before .before .before .before .before .before .before .before .before .before .before in
+    length (take (pictureBytes (s .args .size)) (now (s .args .space))) ≡ pictureBytes (s .args .size)
 front-long c =
     let s = c .before .before .before .before .before .before .before .before .before .before .before .before .before in
     length-take-le (pictureBytes (s .args .size)) (now (s .args .space)) (omega (arith, rooms (c .before) .space-room))
 
-fits : (c : tie.After-picture-bytes) → c .picture-bytes .result ≤ length (c .before .before .before .before .before .before .before .find-in .last .0)
+fits : (c : tie.After-picture-bytes)
+    → let at-find-in = c .before .before .before .before .before .before .before in
+    c .picture-bytes .result ≤ length (at-find-in .find-in .last .0)
 fits c =
     let at-find-in = c .before .before .before .before .before .before .before in
     omega (arith, bytes-are c, rooms (c .before) .space-room, at-find-in .find-in .kept .0)
 
-lent-front : (c : tie.After-picture-bytes) → take (c .picture-bytes .result) (c .before .before .before .before .before .before .before .find-in .last .0) ≡ take (pictureBytes (c .before .before .before .before .before .before .before .before .before .before .before .before .before .args .size)) (now (c .before .before .before .before .before .before .before .before .before .before .before .before .before .args .space))
+lent-front : (c : tie.After-picture-bytes)
+    → let at-find-in = c .before .before .before .before .before .before .before in
+    let s = at-find-in .before .before .before .before .before .before in
+    take (c .picture-bytes .result) (at-find-in .find-in .last .0) ≡ take (pictureBytes (s .args .size)) (now (s .args .space))
 lent-front c =
     let s = c .before .before .before .before .before .before .before .before .before .before .before .before .before in
     let z = s .args .size in
@@ -93,7 +115,10 @@ lent-front c =
     ap₂ take (bytes-are c) (there (c .before) .space-left)
     ∙ take-at (take (pictureBytes z) space) (replicate (pixels z) 0 ++ drop (pictureBytes z + pixels z) space) (pictureBytes z) (front-long c)
 
-left-behind : (c : tie.After-picture-bytes) → let z = c .before .before .before .before .before .before .before .before .before .before .before .before .before .args .size in drop (c .picture-bytes .result) (c .before .before .before .before .before .before .before .find-in .last .0) ≡ replicate (pixels z) 0 ++ drop (pictureBytes z + pixels z) (now (c .before .before .before .before .before .before .before .before .before .before .before .before .before .args .space))
+left-behind : (c : tie.After-picture-bytes)
+    → let at-find-in = c .before .before .before .before .before .before .before in
+    let s = at-find-in .before .before .before .before .before .before in
+    let z = s .args .size in drop (c .picture-bytes .result) (at-find-in .find-in .last .0) ≡ replicate (pixels z) 0 ++ drop (pictureBytes z + pixels z) (now (s .args .space))
 left-behind c =
     let s = c .before .before .before .before .before .before .before .before .before .before .before .before .before in
     let z = s .args .size in

@@ -2,24 +2,27 @@
 use mathlib.Core.Path.{_≡_, refl, sym, ap, _∙_}
 use mathlib.Core.Logic.{_⊎_, inl, inr, ⊎-elim}
 use mathlib.Core.Bool.{true}
-use mathlib.Core.List.{List, [], _∷_, _++_}
+use mathlib.Core.List.{[], _∷_, _++_}
 use Prim.Native.Nat.{ℕ, _+_, _≤_, _<_}
 use native.Mathlib.Omega.{arith}
 use borrow.Author.Needs.{needs}
 use denote.Ref.{now}
 use lib.ListN.{length, take, drop, replicate}
 use lib.Seq.{length-take-le}
-use Rattle.energy.specs.Refusals.{_when_, numberOf, refusal, served}
+use Rattle.energy.specs.Refusals.{_when_, numberOf, refusal}
 use Rattle.energy.specs.Pictures.{largestSide, pictureBytes}
 use Rattle.energy.proofs.Rules.{served-first, refused-first, refusal-most, number-some, served-not}
-use Rattle.finding.specs.Finding.{foundNumber, foundCost, pixels, worked, findRules}
+use Rattle.finding.specs.Finding.{foundNumber, foundCost, pixels, findRules}
 use Rattle.finding.proofs.Worked.{worked-not}
 use Rattle.carving.proofs.Fronts.{room-same}
 use Rattle.carving.proofs.front.last_in.Statement.{statement}
 use Rattle.carving.proofs.front.last_in.Tie as tie
 
 -- the room lent for a seam is what was told, or as much as the longest seam takes
-long : (c : tie.After-find-in-arg) → ((c .before .if1 .long ≡ c .before .before .before .args .room) ⊎ ((largestSide ≤ c .before .before .before .args .room) × (c .before .if1 .long ≡ largestSide)))
+long : (c : tie.After-find-in-arg)
+    → let at-if1 = c .before in
+    let s = at-if1 .before .before in
+    ((at-if1 .if1 .long ≡ s .args .room) ⊎ ((largestSide ≤ s .args .room) × (at-if1 .if1 .long ≡ largestSide)))
 long c = ⊎-elim (λ w. inl (w .1)) (λ w. inr (w .0 .left, w .1)) (c .before .if1 .came)
 
 most : (c : tie.After-find-in-arg) → c .before .if1 .long ≤ 512
@@ -29,7 +32,9 @@ lent : (c : tie.After-find-in-arg) → length (take (c .before .if1 .long) (repl
 lent c = length-take-le (c .before .if1 .long) (replicate {A = ℕ} 512 0) (most c)
 
 -- so finding is refused by the same number
-number-is : (c : tie.After-find-in) → let a = c .before .before .before .before .before .args in foundNumber (c .find-in .result) ≡ refusal (findRules (a .size) (length (now (a .space))) (a .room))
+number-is : (c : tie.After-find-in)
+    → let s = c .before .before .before .before .before in
+    let a = s .args in foundNumber (c .find-in .result) ≡ refusal (findRules (a .size) (length (now (a .space))) (a .room))
 number-is c =
     let at-find-in-arg = c .before .before in
     let at-if1 = at-find-in-arg .before in

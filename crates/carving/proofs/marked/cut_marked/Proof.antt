@@ -1,22 +1,22 @@
 -- `carving::marked::cut_marked` meets its contract.
 use mathlib.Core.Path.{_≡_, refl, sym, ap, _∙_}
 use mathlib.Core.Bool.{Bool, cond}
-use mathlib.Core.List.{List, [], _∷_, _++_}
-use Prim.Native.Nat.{ℕ, _*_, _≤_, _<_}
+use mathlib.Core.List.{List, _∷_, _++_}
+use Prim.Native.Nat.{_*_}
 use native.Mathlib.Omega.{arith}
 use borrow.Author.Needs.{needs}
 use borrow.Author.Tests.{eq-eqb, ne-eqb}
 use denote.Ref.{now}
 use lib.ListN.{length, drop, replicate}
 use Rattle.grids.specs.Rows.{flat}
-use Rattle.energy.specs.Refusals.{Rule, _when_, given, refusal, served}
+use Rattle.energy.specs.Refusals.{Rule, _when_, given, refusal}
 use Rattle.energy.specs.Pictures.{channelsOf, sizeRules, picture, bytes}
 use Rattle.energy.proofs.Rules.{served-first, refused-answer, refusal-most}
-use Rattle.energy.proofs.Sizes.{Sized, sized-is}
-use Rattle.finding.specs.Finding.{foundNumber, marksOf}
+use Rattle.energy.proofs.Sizes.{sized-is}
+use Rattle.finding.specs.Finding.{marksOf}
 use Rattle.carving.specs.Axes.{turnedSize, markedSeamAlong, markedCostAlong, blockedAlong, cutAlong}
-use Rattle.carving.specs.Carving.{cleared, roomRules, markRules, lastRules, SeamGiven, SeamCut, MarksCut}
-use Rattle.carving.specs.Kernels.{MarkedNeeded, CutNeeded}
+use Rattle.carving.specs.Carving.{roomRules, markRules, lastRules}
+use Rattle.carving.specs.Kernels.{MarkedNeeded}
 use Rattle.carving.proofs.Buffers.{marked-rooms-are, left-as-was, work-as-was, last-kept, last-cleared}
 use Rattle.carving.proofs.Turns.{turned-some, turned-tall}
 use Rattle.carving.proofs.marked.cut_marked.Statement.{statement}
@@ -24,25 +24,35 @@ use Rattle.carving.proofs.marked.cut_marked.Tie as tie
 
 -- the rules of picture, marks and spaces; whether every seam meets a protected pixel; and the rules of the seam
 first : tie.Start → List Rule
-first c = let a = c .args in sizeRules (a .size) (length (now (a .picture))) ++ (markRules (a .size) (now (a .marks)) ++ roomRules (a .axis) (a .size) (length (now (a .seam))) (length (now (a .work))))
+first c =
+    let a = c .args in
+    sizeRules (a .size) (length (now (a .picture))) ++ (markRules (a .size) (now (a .marks)) ++ roomRules (a .axis) (a .size) (length (now (a .seam))) (length (now (a .work))))
 
 blocked : tie.Start → Bool
-blocked c = let a = c .args in blockedAlong (a .axis) (a .size) (picture (a .size) (now (a .picture))) (marksOf (a .size) (now (a .marks)))
+blocked c =
+    let a = c .args in
+    blockedAlong (a .axis) (a .size) (picture (a .size) (now (a .picture))) (marksOf (a .size) (now (a .marks)))
 
 last : tie.Start → List Rule
 last c = 12 when blocked c ∷ lastRules (c .args .axis) (c .args .size)
 
-none : (c : tie.After-enum-told) → refusal (first (c .before .before .before .before .before .before .before .before)) ≡ 0
+none : (c : tie.After-enum-told)
+    → let s = c .before .before .before .before .before .before .before .before in
+    refusal (first s) ≡ 0
 unfolding first
 none c = sym (c .before .before .marked-rooms .ensures) ∙ ap given (c .enum-told .given .1)
 
-rest : (c : tie.After-enum-told) → refusal (first (c .before .before .before .before .before .before .before .before) ++ last (c .before .before .before .before .before .before .before .before)) ≡ refusal (last (c .before .before .before .before .before .before .before .before))
+rest : (c : tie.After-enum-told)
+    → let s = c .before .before .before .before .before .before .before .before in
+    refusal (first s ++ last s) ≡ refusal (last s)
 unfolding first
 rest c =
     let s = c .before .before .before .before .before .before .before .before in
     served-first (first s) (last s) refl (none c)
 
-needed : (c : tie.After-enum-told) → let a = c .before .before .before .before .before .before .before .before .args in MarkedNeeded (now (a .picture)) (now (a .marks)) (a .size) (a .axis) (now (a .seam)) (now (a .work))
+needed : (c : tie.After-enum-told)
+    → let s = c .before .before .before .before .before .before .before .before in
+    let a = s .args in MarkedNeeded (now (a .picture)) (now (a .marks)) (a .size) (a .axis) (now (a .seam)) (now (a .work))
 unfolding first
 needed c =
     let s = c .before .before .before .before .before .before .before .before in

@@ -2,7 +2,7 @@
 use mathlib.Core.Path.{_≡_, refl, sym, ap, ap₂, _∙_}
 use mathlib.Core.Bool.{Bool, true, false, cond}
 use mathlib.Core.List.{List, _++_}
-use Prim.Native.Nat.{ℕ, _+_, _*_, _≤_, _<_}
+use Prim.Native.Nat.{ℕ, _*_, _≤_, _<_}
 use native.Mathlib.Nat.{mul-one}
 use native.Mathlib.Omega.{arith}
 use borrow.Author.Needs.{needs}
@@ -18,8 +18,8 @@ use Rattle.energy.proofs.Sizes.{Sized, sized-is}
 use Rattle.finding.specs.Finding.{marksOf}
 use Rattle.finding.proofs.Worked.{worked-or}
 use Rattle.carving.specs.Axes.{turnedSize, markedSeamAlong, markedCostAlong, blockedAlong, cutAlong}
-use Rattle.carving.specs.Carving.{SeamGiven, SeamCut, MarksCut}
-use Rattle.carving.specs.Kernels.{greyOf, CloseNeeded, CloseGiven}
+use Rattle.carving.specs.Carving.{SeamGiven}
+use Rattle.carving.specs.Kernels.{greyOf, CloseGiven}
 use Rattle.carving.proofs.Buffers.{seam-free, refused-blocked}
 use Rattle.carving.proofs.Inside.{marked-inside}
 use Rattle.carving.proofs.Marks.{grey-bytes, grey-sized, wide-grey, tall-grey, marks-cut}
@@ -31,12 +31,18 @@ sure c = sized-is _ _ (c .pre .0 .sized)
 
 -- whether every seam meets a protected pixel, and the seam where not
 blocked : tie.Start → Bool
-blocked c = let a = c .args in blockedAlong (a .axis) (a .size) (picture (a .size) (now (a .picture))) (marksOf (a .size) (now (a .marks)))
+blocked c =
+    let a = c .args in
+    blockedAlong (a .axis) (a .size) (picture (a .size) (now (a .picture))) (marksOf (a .size) (now (a .marks)))
 
 seam : tie.Start → List ℕ
-seam c = let a = c .args in markedSeamAlong (a .axis) (a .size) (picture (a .size) (now (a .picture))) (marksOf (a .size) (now (a .marks)))
+seam c =
+    let a = c .args in
+    markedSeamAlong (a .axis) (a .size) (picture (a .size) (now (a .picture))) (marksOf (a .size) (now (a .marks)))
 
-free : (c : tie.After-enum-told) → blocked (c .before .before .before .before .before .before .before .before .before .before .before .before .before .before .before .before .before) ≡ false
+free : (c : tie.After-enum-told)
+    → let s = c .before .before .before .before .before .before .before .before .before .before .before .before .before .before .before .before .before in
+    blocked s ≡ false
 unfolding blocked
 free c =
     let at-marked-along = c .before .before .before .before .before .before in
@@ -45,7 +51,9 @@ free c =
     let told = c .enum-told .given in
     seam-free (blocked s) (f .result) (f .ensures .number-is) (told .0 .0) (told .1)
 
-inside : (c : tie.After-enum-told) → let a = c .before .before .before .before .before .before .before .before .before .before .before .before .before .before .before .before .before .args in Each (λ k. k < turnedSize (a .axis) (a .size) .width) (turnedSize (a .axis) (a .size) .height) (seam (c .before .before .before .before .before .before .before .before .before .before .before .before .before .before .before .before .before))
+inside : (c : tie.After-enum-told)
+    → let s = c .before .before .before .before .before .before .before .before .before .before .before .before .before .before .before .before .before in
+    let a = s .args in Each (λ k. k < turnedSize (a .axis) (a .size) .width) (turnedSize (a .axis) (a .size) .height) (seam s)
 unfolding seam blocked
 inside c =
     let s = c .before .before .before .before .before .before .before .before .before .before .before .before .before .before .before .before .before in
@@ -53,23 +61,33 @@ inside c =
     marked-inside (a .axis) (a .size) (picture (a .size) (now (a .picture))) (marksOf (a .size) (now (a .marks))) (free c)
 
 -- the seam's space and the work space when it was found
-seam-room : (c : tie.After-marked-along) → turnedSize (c .before .before .before .before .before .before .before .before .before .before .before .args .axis) (c .before .before .before .before .before .before .before .before .before .before .before .args .size) .height ≤ length (c .marked-along .last .1 .1 .1 .1 .0)
+seam-room : (c : tie.After-marked-along)
+    → let s = c .before .before .before .before .before .before .before .before .before .before .before in
+    turnedSize (s .args .axis) (s .args .size) .height ≤ length (c .marked-along .last .1 .1 .1 .1 .0)
 seam-room c =
     let s = c .before .before .before .before .before .before .before .before .before .before .before in
     omega (arith, s .pre .0 .seam-room, c .marked-along .kept .1 .1 .1 .1 .0)
 
-zero : (c : tie.After-marked-along) → c .marked-along .last .1 .1 .1 .1 .1 .0 ≡ replicate (length (now (c .before .before .before .before .before .before .before .before .before .before .before .args .work))) 0
+zero : (c : tie.After-marked-along)
+    → let s = c .before .before .before .before .before .before .before .before .before .before .before in
+    c .marked-along .last .1 .1 .1 .1 .1 .0 ≡ replicate (length (now (s .args .work))) 0
 unfolding blocked
 zero c =
     let s = c .before .before .before .before .before .before .before .before .before .before .before in
     let work = now (s .args .work) in
     c .marked-along .ensures .work-is ∙ worked-or (cond (blocked s) 12 0) (replicate (length work) 0) work (blocked s) refl
 
-work-long : (c : tie.After-marked-along) → length (c .marked-along .last .1 .1 .1 .1 .1 .0) ≡ length (now (c .before .before .before .before .before .before .before .before .before .before .before .args .work))
+work-long : (c : tie.After-marked-along)
+    → let s = c .before .before .before .before .before .before .before .before .before .before .before in
+    length (c .marked-along .last .1 .1 .1 .1 .1 .0) ≡ length (now (s .args .work))
 work-long c = c .marked-along .kept .1 .1 .1 .1 .1 .0
 
 -- what is lent on of the seam's space is the seam
-lent : (c : tie.After-enum-told) → take (c .before .before .before .before .before .before .before .before .before .before .before .before .turned-size .result .height) (c .before .before .before .before .before .before .marked-along .last .1 .1 .1 .1 .0) ≡ seam (c .before .before .before .before .before .before .before .before .before .before .before .before .before .before .before .before .before)
+lent : (c : tie.After-enum-told)
+    → let at-marked-along = c .before .before .before .before .before .before in
+    let at-turned-size = at-marked-along .before .before .before .before .before .before in
+    let s = at-turned-size .before .before .before .before .before in
+    take (at-turned-size .turned-size .result .height) (at-marked-along .marked-along .last .1 .1 .1 .1 .0) ≡ seam s
 unfolding seam blocked
 lent c =
     let at-marked-along = c .before .before .before .before .before .before in
@@ -83,7 +101,9 @@ lent c =
     ∙ ap (take h) (found .seam-is) ∙ take-at (seam s) (drop h (now (a .seam))) h (each-length (inside c))
 
 -- the work space after the picture was closed up
-closed-long : (c : tie.After-close) → length (c .close .last .1 .1 .1 .1 .0) ≡ length (now (c .before .before .before .before .before .before .before .before .before .before .before .before .before .before .before .before .before .before .before .before .before .args .work))
+closed-long : (c : tie.After-close)
+    → let s = c .before .before .before .before .before .before .before .before .before .before .before .before .before .before .before .before .before .before .before .before .before in
+    length (c .close .last .1 .1 .1 .1 .0) ≡ length (now (s .args .work))
 closed-long c =
     let at-marked-along = c .before .before .before .before .before .before .before .before .before .before in
     c .close .kept .1 .1 .1 .1 .0 ∙ work-long at-marked-along

@@ -1,8 +1,6 @@
 -- `carving::marked::find_marked` meets its contract.
 use mathlib.Core.Path.{_≡_, refl, sym, ap, _∙_}
-use mathlib.Core.Bool.{Bool}
 use mathlib.Core.List.{List, [], _∷_, _++_}
-use Prim.Native.Nat.{ℕ, _≤_}
 use native.Mathlib.Omega.{arith}
 use borrow.Author.Needs.{needs}
 use denote.Ref.{now}
@@ -12,23 +10,31 @@ use Rattle.energy.specs.Pictures.{sizeRules, picture}
 use Rattle.energy.proofs.Rules.{served-first, refused-answer, refusal-most}
 use Rattle.finding.specs.Finding.{marksOf}
 use Rattle.carving.specs.Axes.{turnedSize, markedSeamAlong, markedCostAlong, blockedAlong}
-use Rattle.carving.specs.Carving.{roomRules, markRules, SeamGiven}
+use Rattle.carving.specs.Carving.{roomRules, markRules}
 use Rattle.carving.proofs.Buffers.{marked-rooms-are, left-as-was, work-as-was}
 use Rattle.carving.proofs.marked.find_marked.Statement.{statement}
 use Rattle.carving.proofs.marked.find_marked.Tie as tie
 
 -- the rules of picture, marks and spaces, and the rule of the seam
 first : tie.Start → List Rule
-first c = let a = c .args in sizeRules (a .size) (length (now (a .picture))) ++ (markRules (a .size) (now (a .marks)) ++ roomRules (a .axis) (a .size) (length (now (a .seam))) (length (now (a .work))))
+first c =
+    let a = c .args in
+    sizeRules (a .size) (length (now (a .picture))) ++ (markRules (a .size) (now (a .marks)) ++ roomRules (a .axis) (a .size) (length (now (a .seam))) (length (now (a .work))))
 
 last : tie.Start → List Rule
-last c = let a = c .args in 12 when blockedAlong (a .axis) (a .size) (picture (a .size) (now (a .picture))) (marksOf (a .size) (now (a .marks))) ∷ []
+last c =
+    let a = c .args in
+    12 when blockedAlong (a .axis) (a .size) (picture (a .size) (now (a .picture))) (marksOf (a .size) (now (a .marks))) ∷ []
 
-none : (c : tie.After-enum-told) → refusal (first (c .before .before .before .before .before .before .before)) ≡ 0
+none : (c : tie.After-enum-told)
+    → let s = c .before .before .before .before .before .before .before in
+    refusal (first s) ≡ 0
 unfolding first
 none c = sym (c .before .before .marked-rooms .ensures) ∙ ap given (c .enum-told .given .1)
 
-rest : (c : tie.After-enum-told) → refusal (first (c .before .before .before .before .before .before .before) ++ last (c .before .before .before .before .before .before .before)) ≡ refusal (last (c .before .before .before .before .before .before .before))
+rest : (c : tie.After-enum-told)
+    → let s = c .before .before .before .before .before .before .before in
+    refusal (first s ++ last s) ≡ refusal (last s)
 unfolding first
 rest c =
     let s = c .before .before .before .before .before .before .before in

@@ -1,13 +1,11 @@
 -- `carving::marked::last_marked` meets its contract.
 use mathlib.Core.Path.{_≡_, refl, sym, ap, _∙_}
 use mathlib.Core.Bool.{Bool, true, false, cond}
-use mathlib.Core.List.{List}
-use native.Mathlib.Omega.{arith}
 use borrow.Author.Needs.{needs}
 use denote.Ref.{now}
 use lib.ListN.{length, replicate}
 use Rattle.energy.specs.Pictures.{picture}
-use Rattle.finding.specs.Finding.{foundNumber, foundCost, marksOf}
+use Rattle.finding.specs.Finding.{foundCost, marksOf}
 use Rattle.finding.proofs.Worked.{worked-or}
 use Rattle.carving.specs.Axes.{blockedAlong}
 use Rattle.carving.proofs.Buffers.{seam-free, refused-blocked}
@@ -16,9 +14,13 @@ use Rattle.carving.proofs.marked.last_marked.Tie as tie
 
 -- whether every seam meets a protected pixel
 blocked : tie.Start → Bool
-blocked c = let a = c .args in blockedAlong (a .axis) (a .size) (picture (a .size) (now (a .picture))) (marksOf (a .size) (now (a .marks)))
+blocked c =
+    let a = c .args in
+    blockedAlong (a .axis) (a .size) (picture (a .size) (now (a .picture))) (marksOf (a .size) (now (a .marks)))
 
-zero : (c : tie.After-marked-along) → c .marked-along .last .1 .1 .1 .1 .1 .0 ≡ replicate (length (now (c .before .before .before .before .before .before .args .work))) 0
+zero : (c : tie.After-marked-along)
+    → let s = c .before .before .before .before .before .before in
+    c .marked-along .last .1 .1 .1 .1 .1 .0 ≡ replicate (length (now (s .args .work))) 0
 unfolding blocked
 zero c =
     let s = c .before .before .before .before .before .before in

@@ -2,23 +2,22 @@
 use mathlib.Core.Path.{_≡_, refl, sym, ap, ap₂, _∙_}
 use mathlib.Core.Bool.{cond}
 use mathlib.Core.List.{List, _++_}
-use Prim.Native.Nat.{ℕ, _+_, _-_, _*_, _≤_}
+use Prim.Native.Nat.{ℕ, _+_, _-_, _≤_}
 use native.Mathlib.Omega.{arith}
 use borrow.Author.Needs.{needs}
 use borrow.Rule.Slice.PartMut.{putMid, midOf, same-len-mid}
 use denote.Ref.{now}
-use lib.ListN.{length, take, drop, replicate}
+use lib.ListN.{length, drop, replicate}
 use Rattle.grids.specs.Rows.{flat}
 use Rattle.grids.proofs.Parts.{part-length}
 use Rattle.energy.specs.Refusals.{served}
 use Rattle.energy.specs.Pictures.{pictureBytes, picture, bytes}
 use Rattle.energy.proofs.Sizes.{Sized, sized-is}
 use Rattle.finding.specs.Seams.{markedUp, markedSeamOf, markedCostOf}
-use Rattle.finding.specs.Finding.{foundNumber, pixels, marksOf, isNone, FindMarkedGiven}
+use Rattle.finding.specs.Finding.{foundNumber, pixels, marksOf, isNone}
 use Rattle.finding.proofs.Worked.{worked-or}
 use Rattle.carving.specs.Axes.{turnedSize, turned, markedSeamAlong, markedCostAlong, blockedAlong}
-use Rattle.carving.specs.Carving.{SeamGiven}
-use Rattle.carving.specs.Kernels.{greyOf, MarkedNeeded}
+use Rattle.carving.specs.Kernels.{greyOf}
 use Rattle.carving.proofs.Turns.{turned-bytes, turned-pixels, turned-sides}
 use Rattle.carving.proofs.FindIn.{MarkedThere, marked-served}
 use Rattle.carving.proofs.Marks.{grey-bytes, grey-sized, put-behind, picture-there, marks-there}
@@ -29,7 +28,9 @@ sure : (c : tie.Start) → Sized (c .args .size) (length (now (c .args .picture)
 sure c = sized-is _ _ (c .pre .sized)
 
 -- the picture turned stands at the front of the work space, with room for the marks
-fits : (c : tie.After-turn) → length (now (c .before .before .before .before .before .before .before .before .args .picture)) + (pixels (c .before .before .before .before .before .before .before .before .args .size) + pixels (c .before .before .before .before .before .before .before .before .args .size)) ≤ length (c .turn .last .1 .1 .1 .0)
+fits : (c : tie.After-turn)
+    → let s = c .before .before .before .before .before .before .before .before in
+    length (now (s .args .picture)) + (pixels (s .args .size) + pixels (s .args .size)) ≤ length (c .turn .last .1 .1 .1 .0)
 fits c =
     let s = c .before .before .before .before .before .before .before .before in
     omega (arith, sure s .length-is, s .pre .work-room, c .turn .kept .1 .1 .1 .0)
@@ -50,7 +51,9 @@ after c =
     let w = at-turn .turn .last .1 .1 .1 .0 in
     drop (pictureBytes (greyOf (s .args .size))) (midOf n (length w - n) w) ++ drop (length w) w
 
-stands : (c : tie.After-turn2) → let a = c .before .before .before .before .before .before .before .before .before .before .before .before .args in
+stands : (c : tie.After-turn2)
+    → let s = c .before .before .before .before .before .before .before .before .before .before .before .before in
+    let a = s .args in
     space c ≡ bytes (turned (a .axis) (a .size .width) (picture (a .size) (now (a .picture)))) ++ (flat (turned (a .axis) (a .size .width) (marksOf (a .size) (now (a .marks)))) ++ after c)
 unfolding space after
 stands c =
@@ -65,7 +68,9 @@ stands c =
     put-behind (a .axis) (a .size) (now (a .picture)) (now (a .marks)) (now (a .work)) w mid (c .turn2 .last .1 .1 .1 .0)
     (sure s .length-is) (s .pre .marked) (omega (arith, fits at-turn)) (at-turn .turn .ensures) back
 
-space-long : (c : tie.After-turn2) → length (space c) ≡ length (now (c .before .before .before .before .before .before .before .before .before .before .before .before .args .work))
+space-long : (c : tie.After-turn2)
+    → let s = c .before .before .before .before .before .before .before .before .before .before .before .before in
+    length (space c) ≡ length (now (s .args .work))
 unfolding space
 space-long c =
     let at-turn = c .before .before .before .before in
@@ -74,7 +79,9 @@ space-long c =
     let n = length (now (s .args .picture)) in
     same-len-mid n (length w - n) w (c .turn2 .last .1 .1 .1 .0) (c .turn2 .kept .1 .1 .1 .0) ∙ at-turn .turn .kept .1 .1 .1 .0
 
-there : (c : tie.After-find-marked-in) → let a = c .before .before .before .before .before .before .before .before .before .before .before .before .before .before .before .before .before .args in
+there : (c : tie.After-find-marked-in)
+    → let s = c .before .before .before .before .before .before .before .before .before .before .before .before .before .before .before .before .before in
+    let a = s .args in
     MarkedThere (space (c .before .before .before .before .before)) (turnedSize (a .axis) (a .size)) (now (a .seam)) (c .find-marked-in .result) (c .find-marked-in .last .0) (c .find-marked-in .last .1 .1 .0)
 unfolding space
 there c =

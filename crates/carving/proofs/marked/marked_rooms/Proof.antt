@@ -1,7 +1,6 @@
 -- `carving::marked::marked_rooms` meets its contract: each return is the first rule that applies.
 use mathlib.Core.Path.{_≡_, refl, sym, ap, _∙_}
-use mathlib.Core.List.{List, [], _∷_, _++_}
-use Prim.Native.Nat.{ℕ, _*_, _≤_}
+use mathlib.Core.List.{List, _++_}
 use native.Mathlib.Nat.{mul-le-mul}
 use native.Mathlib.Omega.{arith}
 use borrow.Author.Needs.{needs}
@@ -10,9 +9,7 @@ use denote.Ref.{now}
 use Rattle.energy.specs.Refusals.{Rule, given, refusal}
 use Rattle.energy.specs.Pictures.{sizeRules}
 use Rattle.energy.proofs.Rules.{served-first, refused-answer}
-use Rattle.energy.proofs.Sizes.{Sized, sized-is}
-use Rattle.finding.specs.Finding.{pixels}
-use Rattle.moving.specs.Moving.{outside}
+use Rattle.energy.proofs.Sizes.{sized-is}
 use Rattle.carving.specs.Carving.{roomRules, markRules}
 use Rattle.carving.proofs.marked.marked_rooms.Statement.{statement}
 use Rattle.carving.proofs.marked.marked_rooms.Tie as tie
@@ -24,10 +21,14 @@ room c = roomRules (c .args .axis) (c .args .size) (c .args .seam) (c .args .wor
 more : tie.Start → List Rule
 more c = markRules (c .args .size) (now (c .args .marks)) ++ room c
 
-none : (c : tie.After-enum-told) → refusal (sizeRules (c .before .before .before .before .args .size) (c .before .before .before .before .args .bytes)) ≡ 0
+none : (c : tie.After-enum-told)
+    → let s = c .before .before .before .before in
+    refusal (sizeRules (s .args .size) (s .args .bytes)) ≡ 0
 none c = sym (c .before .before .sized .ensures) ∙ ap given (c .enum-told .given .1)
 
-rest : (c : tie.After-enum-told) → let a = c .before .before .before .before .args in refusal (sizeRules (a .size) (a .bytes) ++ more (c .before .before .before .before)) ≡ refusal (more (c .before .before .before .before))
+rest : (c : tie.After-enum-told)
+    → let s = c .before .before .before .before in
+    let a = s .args in refusal (sizeRules (a .size) (a .bytes) ++ more s) ≡ refusal (more s)
 rest c =
     let s = c .before .before .before .before in
     served-first (sizeRules (s .args .size) (s .args .bytes)) (more s) refl (none c)

@@ -2,19 +2,17 @@
 use mathlib.Core.Path.{_≡_, refl, sym, ap, _∙_}
 use mathlib.Core.Logic.{⊎-elim}
 use mathlib.Core.Bool.{Bool, true, false, _||_}
-use mathlib.Core.List.{List, []}
-use Prim.Native.Nat.{ℕ, _+_, _-_, _≤_, _<_}
+use mathlib.Core.List.{[]}
+use Prim.Native.Nat.{_+_, _-_, _≤_}
 use native.Mathlib.Omega.{arith}
 use borrow.Author.Needs.{needs}
 use denote.Ref.{now}
-use lib.ListN.{length, drop, getD}
+use lib.ListN.{length, drop}
 use lib.Seq.{drop-length}
 use Rattle.moving.specs.Moving.{outside}
 use Rattle.moving.proofs.Closing.{outside-here, outside-next}
 use Rattle.carving.proofs.marked.over_two.Statement.{statement}
 use Rattle.carving.proofs.marked.over_two.Tie as tie
-use Rattle.carving.proofs.marked.over_two.Reads as reads
-use Rattle.carving.proofs.marked.over_two.Lts as lts
 
 or-none : (t : Bool) → (t || false) ≡ t
 or-none true = refl

@@ -1,18 +1,16 @@
 -- `carving::turning::turn` meets its contract.
-use mathlib.Core.Path.{_≡_, refl, sym, ap, ap₂, _∙_}
-use mathlib.Core.List.{List, _++_}
+use mathlib.Core.Path.{sym, ap₂, _∙_}
+use mathlib.Core.List.{_++_}
 use native.Mathlib.Omega.{arith}
 use borrow.Author.Needs.{needs}
 use denote.Ref.{now}
-use lib.ListN.{length, take, drop}
+use lib.ListN.{length, drop}
 use lib.Seq.{take-length}
-use Rattle.energy.specs.Pictures.{pictureBytes, picture, bytes}
+use Rattle.energy.specs.Pictures.{picture}
 use Rattle.energy.proofs.Sizes.{Sized, sized-is}
 use Rattle.energy.proofs.Buffers.{bytes-picture}
 use Rattle.moving.proofs.Served.{exchange-served}
-use Rattle.carving.specs.declared.Axis.{Axis}
 use Rattle.carving.specs.Axes.{turned}
-use Rattle.carving.specs.Kernels.{TurnNeeded}
 use Rattle.carving.proofs.turning.turn.Statement.{statement}
 use Rattle.carving.proofs.turning.turn.Tie as tie
 

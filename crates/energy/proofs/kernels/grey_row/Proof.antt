@@ -1,7 +1,7 @@
 -- `energy::kernels::grey_row` meets its contract. The loop's invariant: the energies of c pixels stand at the front of the space.
-use mathlib.Core.Path.{_≡_, refl, sym}
+use mathlib.Core.Path.{_≡_, sym}
 use mathlib.Core.List.{_++_}
-use Prim.Native.Nat.{_+_, _-_, _*_, _≤_, _<_}
+use Prim.Native.Nat.{_-_, _≤_}
 use native.Mathlib.Nat.{mul-one}
 use native.Mathlib.Omega.{arith}
 use borrow.Author.Needs.{needs}

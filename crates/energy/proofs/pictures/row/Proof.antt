@@ -1,6 +1,6 @@
 -- `energy::pictures::row` meets its contract.
 use mathlib.Core.Path.{_≡_, sym, ap, _∙_}
-use Prim.Native.Nat.{ℕ, _+_, _*_, _≤_}
+use Prim.Native.Nat.{_+_, _*_, _≤_}
 use native.Mathlib.Nat.{add-sub-cancel-left}
 use native.Mathlib.Omega.{arith}
 use borrow.Author.Needs.{needs}
@@ -23,7 +23,9 @@ sure : (c : tie.After-enum-told) → let a = c .before .before .before .before .
 sure c = sized-is _ _ (none c)
 
 -- row r ends within the picture
-end : (c : tie.After-row-bytes) → let a = c .before .before .before .before .before .before .args in a .r * c .row-bytes .result + c .row-bytes .result ≤ length (now (a .picture))
+end : (c : tie.After-row-bytes)
+    → let s = c .before .before .before .before .before .before in
+    let a = s .args in a .r * c .row-bytes .result + c .row-bytes .result ≤ length (now (a .picture))
 end c =
     let at-enum-told = c .before .before in
     let s = at-enum-told .before .before .before .before in

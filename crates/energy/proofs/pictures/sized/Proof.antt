@@ -16,7 +16,9 @@ none : (c : tie.After-enum-told) → refusal (sideRules (c .before .before .befo
 none c = sym (c .before .before .sides .ensures) ∙ ap given (c .enum-told .given .1)
 
 rest : (c : tie.After-enum-told) → let a = c .before .before .before .args in refusal (sizeRules (a .size) (a .bytes)) ≡ refusal (4 when not (eqb (a .bytes) (pictureBytes (a .size))) ∷ [])
-rest c = let a = c .before .before .before .args in served-first (sideRules (a .size)) (4 when not (eqb (a .bytes) (pictureBytes (a .size))) ∷ []) refl (none c)
+rest c =
+    let a = c .before .before .before .args in
+    served-first (sideRules (a .size)) (4 when not (eqb (a .bytes) (pictureBytes (a .size))) ∷ []) refl (none c)
 
 long : (c : tie.After-picture-bytes) → c .picture-bytes .result ≡ pictureBytes (c .before .before .before .before .args .size)
 long c =

@@ -41,7 +41,9 @@ costs c = costsOf (c .args .size) (take (pictureBytes (c .args .size)) (now (c .
 wide : (c : tie.Start) → length (costsOf (c .args .size) (take (pictureBytes (c .args .size)) (now (c .args .space))) 0) ≡ c .args .size .width
 wide c = length-table _ (c .args .size .width)
 
-row-0 : (c : tie.After-energies) → c .energies .last .1 .1 .1 .0 ≡ costs (c .before .before .before .before .before .before .before)
+row-0 : (c : tie.After-energies)
+    → let s = c .before .before .before .before .before .before .before in
+    c .energies .last .1 .1 .1 .0 ≡ costs s
 unfolding costs
 row-0 c =
     let s = c .before .before .before .before .before .before .before in
@@ -54,13 +56,17 @@ row-0 c =
     ∙ ap (λ b. costsOf (a .size) (take b (now (a .space))) 0) (s .pre .0 .bytes-are)
 
 -- the last row of sums
-row-is-long : (c : tie.After-down) → length (take (c .before .before .before .before .before .before .before .before .before .before .before .before .before .before .args .size .width + 1 - 1) (drop 1 (c .down .last .1 .1 .1 .0))) ≡ c .before .before .before .before .before .before .before .before .before .before .before .before .before .before .args .size .width
+row-is-long : (c : tie.After-down)
+    → let s = c .before .before .before .before .before .before .before .before .before .before .before .before .before .before in
+    length (take (s .args .size .width + 1 - 1) (drop 1 (c .down .last .1 .1 .1 .0))) ≡ s .args .size .width
 row-is-long c =
     let s = c .before .before .before .before .before .before .before .before .before .before .before .before .before .before in
     let a = s .args in
     row-long 4294967295 (pictureBytes (a .size)) (a .size) (costsOf (a .size)) (now (a .space)) (c .down .last .0) (c .down .last .1 .1 .1 .0) (wide s) (c .down .ensures)
 
-all-long : (c : tie.After-down) → length (c .down .last .1 .1 .1 .0) ≡ c .before .before .before .before .before .before .before .before .before .before .before .before .before .before .args .size .width + 2
+all-long : (c : tie.After-down)
+    → let s = c .before .before .before .before .before .before .before .before .before .before .before .before .before .before in
+    length (c .down .last .1 .1 .1 .0) ≡ s .args .size .width + 2
 all-long c =
     let s = c .before .before .before .before .before .before .before .before .before .before .before .before .before .before in
     let a = s .args in

@@ -45,19 +45,25 @@ wide : (c : tie.Start) → length (weightsOf (c .args .size) (take (markedBytes 
 wide c = length-table _ (c .args .size .width)
 
 -- the weights of row 0
-row-0 : (c : tie.After-row-weights) → let a = c .before .before .before .before .before .before .before .before .before .args in c .row-weights .last .1 .1 .1 .1 .1 .0 ≡ weightsOf (a .size) (take (markedBytes (a .size)) (now (a .space))) 0
+row-0 : (c : tie.After-row-weights)
+    → let s = c .before .before .before .before .before .before .before .before .before in
+    let a = s .args in c .row-weights .last .1 .1 .1 .1 .1 .0 ≡ weightsOf (a .size) (take (markedBytes (a .size)) (now (a .space))) 0
 row-0 c =
     let s = c .before .before .before .before .before .before .before .before .before in
     c .row-weights .ensures ∙ ap (λ n. weightsOf (s .args .size) (take n (now (s .args .space))) 0) (from-is s)
 
 -- the last row of sums
-row-is-long : (c : tie.After-down) → length (take (c .before .before .before .before .before .before .before .before .before .before .before .before .before .before .before .before .before .before .before .args .size .width + 1 - 1) (drop 1 (c .down .last .1 .1 .1 .0))) ≡ c .before .before .before .before .before .before .before .before .before .before .before .before .before .before .before .before .before .before .before .args .size .width
+row-is-long : (c : tie.After-down)
+    → let s = c .before .before .before .before .before .before .before .before .before .before .before .before .before .before .before .before .before .before .before in
+    length (take (s .args .size .width + 1 - 1) (drop 1 (c .down .last .1 .1 .1 .0))) ≡ s .args .size .width
 row-is-long c =
     let s = c .before .before .before .before .before .before .before .before .before .before .before .before .before .before .before .before .before .before .before in
     let a = s .args in
     row-long 18446744073709551615 (markedBytes (a .size)) (a .size) (weightsOf (a .size)) (now (a .space)) (c .down .last .0) (c .down .last .1 .1 .1 .0) (wide s) (c .down .ensures)
 
-all-long : (c : tie.After-down) → length (c .down .last .1 .1 .1 .0) ≡ c .before .before .before .before .before .before .before .before .before .before .before .before .before .before .before .before .before .before .before .args .size .width + 2
+all-long : (c : tie.After-down)
+    → let s = c .before .before .before .before .before .before .before .before .before .before .before .before .before .before .before .before .before .before .before in
+    length (c .down .last .1 .1 .1 .0) ≡ s .args .size .width + 2
 all-long c =
     let s = c .before .before .before .before .before .before .before .before .before .before .before .before .before .before .before .before .before .before .before in
     let a = s .args in

@@ -61,7 +61,9 @@ costs-long : (c : tie.Start) → length (costs c) ≡ c .args .size .width
 unfolding costs
 costs-long c = length-table _ (c .args .size .width)
 
-cost-is : (c : tie.After-energies) → c .energies .last .1 .1 .1 .0 ≡ costs (c .before .before .before .before .before .before .before) ++ drop (c .before .before .before .before .before .before .before .args .size .width) (now (c .before .before .before .before .before .before .before .args .cost))
+cost-is : (c : tie.After-energies)
+    → let s = c .before .before .before .before .before .before .before in
+    c .energies .last .1 .1 .1 .0 ≡ costs s ++ drop (s .args .size .width) (now (s .args .cost))
 unfolding costs
 cost-is c =
     let s = c .before .before .before .before .before .before .before in
@@ -69,7 +71,9 @@ cost-is c =
     energies-served (take (a .bytes) (now (a .space))) (a .size) (a .i) (now (a .cost)) (c .energies .last .1 .1 .1 .0) (c .energies .result) (c .energies .ensures)
     (rw (front-long s) (s .pre .sized)) (s .pre .inside) (le-of-eq (sym (s .pre .cost-room)))
 
-cost-front : (c : tie.After-energies) → take (c .before .before .before .before .before .before .before .args .size .width) (c .energies .last .1 .1 .1 .0) ≡ costs (c .before .before .before .before .before .before .before)
+cost-front : (c : tie.After-energies)
+    → let s = c .before .before .before .before .before .before .before in
+    take (s .args .size .width) (c .energies .last .1 .1 .1 .0) ≡ costs s
 cost-front c =
     let s = c .before .before .before .before .before .before .before in
     ap (take (s .args .size .width)) (cost-is c) ∙ take-at (costs s) (drop (s .args .size .width) (now (s .args .cost))) (s .args .size .width) (costs-long s)

@@ -49,7 +49,9 @@ byte : (c : tie.After-slice-known) (i : ℕ) → getD (now (c .before .args .spa
 byte c i = omega (arith, c .slice-known .given i)
 
 -- the weights of row i
-cost-is : (c : tie.After-row-weights) → let a = c .before .before .before .before .before .before .before .before .before .args in c .row-weights .last .1 .1 .1 .1 .1 .0 ≡ weightsOf (a .size) (take (markedBytes (a .size)) (now (a .space))) (a .i)
+cost-is : (c : tie.After-row-weights)
+    → let s = c .before .before .before .before .before .before .before .before .before in
+    let a = s .args in c .row-weights .last .1 .1 .1 .1 .1 .0 ≡ weightsOf (a .size) (take (markedBytes (a .size)) (now (a .space))) (a .i)
 cost-is c =
     let s = c .before .before .before .before .before .before .before .before .before in
     c .row-weights .ensures ∙ ap (λ n. weightsOf (s .args .size) (take n (now (s .args .space))) (s .args .i)) (from-is s)

@@ -22,31 +22,43 @@ use Rattle.finding.proofs.marked.find_marked_in.Tie as tie
 
 -- whether no seam is allowed
 blocked : tie.Start → Bool
-blocked c = let z = c .args .size in isNone (markedUp (z .width) (z .height) (pictureIn z (now (c .args .space))) (marksIn z (now (c .args .space))))
+blocked c =
+    let z = c .args .size in
+    isNone (markedUp (z .width) (z .height) (pictureIn z (now (c .args .space))) (marksIn z (now (c .args .space))))
 
 -- what decides where the sides are served
 more : tie.Start → List Rule
 more c = 8 when ltb (length (now (c .args .seam))) (c .args .size .height) ∷ 8 when ltb (length (now (c .args .space))) (pictureBytes (c .args .size) + (pixels (c .args .size) + pixels (c .args .size))) ∷ 12 when blocked c ∷ []
 
-none : (c : tie.After-enum-told) → refusal (sideRules (c .before .before .before .before .before .args .size)) ≡ 0
+none : (c : tie.After-enum-told)
+    → let s = c .before .before .before .before .before in
+    refusal (sideRules (s .args .size)) ≡ 0
 none c = sym (c .before .before .sides .ensures) ∙ ap given (c .enum-told .given .1)
 
-rest : (c : tie.After-enum-told) → let s = c .before .before .before .before .before in refusal (findMarkedRules (s .args .size) (length (now (s .args .space))) (length (now (s .args .seam))) (blocked s)) ≡ refusal (more s)
+rest : (c : tie.After-enum-told)
+    → let start = c .before .before .before .before .before in
+    let s = start in refusal (findMarkedRules (s .args .size) (length (now (s .args .space))) (length (now (s .args .seam))) (blocked s)) ≡ refusal (more s)
 unfolding more
 rest c =
     let s = c .before .before .before .before .before in
     served-first (sideRules (s .args .size)) (more s) refl (none c)
 
-sure : (c : tie.After-enum-told) → Sides (c .before .before .before .before .before .args .size)
+sure : (c : tie.After-enum-told)
+    → let s = c .before .before .before .before .before in
+    Sides (s .args .size)
 sure c = sides-are _ (none c)
 
-bytes-are : (c : tie.After-picture-bytes) → c .picture-bytes .result ≡ pictureBytes (c .before .before .before .before .before .before .before .args .size)
+bytes-are : (c : tie.After-picture-bytes)
+    → let s = c .before .before .before .before .before .before .before in
+    c .picture-bytes .result ≡ pictureBytes (s .args .size)
 bytes-are c =
     let at-enum-told = c .before .before in
     let s = at-enum-told .before .before .before .before .before in
     c .picture-bytes .ensures ∙ ap (λ n. served n (pictureBytes (s .args .size)) 0) (none at-enum-told)
 
-all-most : (c : tie.After-enum-told) → pixels (c .before .before .before .before .before .args .size) ≤ 262144
+all-most : (c : tie.After-enum-told)
+    → let s = c .before .before .before .before .before in
+    pixels (s .args .size) ≤ 262144
 all-most c = mul-le-mul (sure c .height-most) (sure c .width-most)
 
 sides-requires : tie.Need-sides-requires

@@ -79,18 +79,26 @@ same c f = ap₂ f (front-picture (c .args .size) (now (c .args .space))) (front
 ways : (c : tie.Start) → List ℕ
 ways c = flat (table (waysUp 18446744073709551615 (c .args .size .width) (weightsOf (c .args .size) (front c))) (c .args .size .height - 1))
 
-ways-are : (c : tie.After-find-bottom) → let a = c .before .before .before .before .args in c .find-bottom .last .0 ≡ front (c .before .before .before .before) ++ (ways (c .before .before .before .before) ++ drop (markedBytes (a .size) + (a .size .height - 1) * a .size .width) (now (a .space)))
+ways-are : (c : tie.After-find-bottom)
+    → let s = c .before .before .before .before in
+    let a = s .args in c .find-bottom .last .0 ≡ front s ++ (ways s ++ drop (markedBytes (a .size) + (a .size .height - 1) * a .size .width) (now (a .space)))
 unfolding front ways
 ways-are c = c .find-bottom .ensures .ways
 
-ways-wide : (c : tie.After-find-bottom) → let a = c .before .before .before .before .args in length (ways (c .before .before .before .before)) ≡ (a .size .height - 1) * a .size .width
+ways-wide : (c : tie.After-find-bottom)
+    → let s = c .before .before .before .before in
+    let a = s .args in length (ways s) ≡ (a .size .height - 1) * a .size .width
 unfolding ways
 ways-wide c =
     let s = c .before .before .before .before in
     let z = s .args .size in
     ways-long 18446744073709551615 (z .width) (z .height - 1) (weightsOf z (front s))
 
-ways-lent : (c : tie.After-find-bottom) → let a = c .before .before .before .before .args in let q = a .bytes + a .size .height * a .size .width in take (q + (a .size .height - 1) * a .size .width - q) (drop q (c .find-bottom .last .0)) ≡ ways (c .before .before .before .before)
+ways-lent : (c : tie.After-find-bottom)
+    → let s = c .before .before .before .before in
+    let a = s .args in
+    let q = a .bytes + a .size .height * a .size .width in
+    take (q + (a .size .height - 1) * a .size .width - q) (drop q (c .find-bottom .last .0)) ≡ ways s
 ways-lent c =
     let s = c .before .before .before .before in
     let a = s .args in
@@ -110,7 +118,10 @@ cleared c filled f =
 
 -- the least weight of the last row
 weight : (c : tie.Start) → ℕ
-weight c = let z = c .args .size in let sums = sumsDown 18446744073709551615 (z .width) (weightsOf z (front c)) (z .height - 1) in getD sums (leastTo sums (z .width - 1)) 0
+weight c =
+    let z = c .args .size in
+    let sums = sumsDown 18446744073709551615 (z .width) (weightsOf z (front c)) (z .height - 1) in
+    getD sums (leastTo sums (z .width - 1)) 0
 
 weight-is : (c : tie.After-find-bottom) → c .find-bottom .result .sum ≡ weight (c .before .before .before .before)
 unfolding front weight

@@ -11,10 +11,14 @@ returns : tie.Need-returns
 returns c = let l = rw (c .before .lesser .ensures) at (c .if1 .taken) in simp (le-leb _ _ l)
 
 returns-2 : tie.Need-returns-2
-returns-2 c = let l = rw (c .before .before .lesser .ensures) at (c .before .if1 .left) in simp (lt-leb _ _ l, le-leb _ _ (c .if2 .taken))
+returns-2 c =
+    let l = rw (c .before .before .lesser .ensures) at (c .before .if1 .left) in
+    simp (lt-leb _ _ l, le-leb _ _ (c .if2 .taken))
 
 returns-3 : tie.Need-returns-3
-returns-3 c = let l = rw (c .before .before .lesser .ensures) at (c .before .if1 .left) in simp (lt-leb _ _ l, lt-leb _ _ (c .if2 .left))
+returns-3 c =
+    let l = rw (c .before .before .lesser .ensures) at (c .before .if1 .left) in
+    simp (lt-leb _ _ l, lt-leb _ _ (c .if2 .left))
 
 pub way-spec : {M : Type 1} → statement M
 way-spec = tie.close (tie.spec lesser-requires returns returns-2 returns-3)

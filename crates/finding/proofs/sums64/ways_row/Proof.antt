@@ -1,7 +1,7 @@
 -- `finding::sums64::ways_row` meets its contract. The loop's invariant: the values of c columns stand at the front.
 use mathlib.Core.Path.{_≡_}
 use mathlib.Core.List.{_++_}
-use Prim.Native.Nat.{_+_, _-_, _≤_}
+use Prim.Native.Nat.{_-_, _≤_}
 use native.Mathlib.Omega.{arith}
 use borrow.Author.Needs.{needs}
 use denote.Ref.{now}

@@ -19,10 +19,14 @@ abbrev μ-loop : tie.MeasureT-loop
 μ-loop ways width height column seam₀ i₀ c₀ seam i c = i
 
 -- in a turn, the way that is read lies within, and leads to a column
-end : (c : tie.In-loop Inv-loop μ-loop) → (c .before .loop .i - 1) * c .before .before .before .before .args .width + c .before .before .before .before .args .width ≤ (c .before .before .before .before .args .height - 1) * c .before .before .before .before .args .width
+end : (c : tie.In-loop Inv-loop μ-loop)
+    → let s = c .before .before .before .before in
+    (c .before .loop .i - 1) * s .args .width + s .args .width ≤ (s .args .height - 1) * s .args .width
 end c = part-end _ _ _ (omega arith)
 
-most : (c : tie.In-loop Inv-loop μ-loop) → (c .before .before .before .before .args .height - 1) * c .before .before .before .before .args .width ≤ 262144
+most : (c : tie.In-loop Inv-loop μ-loop)
+    → let s = c .before .before .before .before in
+    (s .args .height - 1) * s .args .width ≤ 262144
 most c =
     let s = c .before .before .before .before in
     let p = s .pre in

@@ -1,7 +1,7 @@
 -- `finding::weights::row_weights` meets its contract.
 use mathlib.Core.Path.{_≡_, sym, ap, ap₂, _∙_}
 use mathlib.Core.List.{_++_}
-use Prim.Native.Nat.{_+_, _-_, _*_, _≤_}
+use Prim.Native.Nat.{_+_, _*_, _≤_}
 use native.Mathlib.Nat.{le-of-eq, mul-le-mul, add-sub-cancel-left}
 use native.Mathlib.Omega.{arith}
 use borrow.Author.Needs.{needs}
@@ -45,7 +45,9 @@ ends c =
 front-long : (c : tie.Start) → length (take (c .args .bytes) (now (c .args .front))) ≡ pictureBytes (c .args .size)
 front-long c = length-take-le _ _ (ends c .within) ∙ c .pre .bytes-are
 
-energies-are : (c : tie.After-energies) → let a = c .before .before .before .before .before .before .args in c .energies .last .1 .1 .1 .0 ≡ energies (a .size .width) (picture (a .size) (take (pictureBytes (a .size)) (now (a .front)))) (a .i) ++ drop (a .size .width) (now (a .energies))
+energies-are : (c : tie.After-energies)
+    → let s = c .before .before .before .before .before .before in
+    let a = s .args in c .energies .last .1 .1 .1 .0 ≡ energies (a .size .width) (picture (a .size) (take (pictureBytes (a .size)) (now (a .front)))) (a .i) ++ drop (a .size .width) (now (a .energies))
 energies-are c =
     let s = c .before .before .before .before .before .before in
     let a = s .args in

@@ -22,10 +22,14 @@ abbrev μ-loop : tie.MeasureT-loop
 
 -- the row ends within the map
 inside : (c : tie.At-loop Inv-loop μ-loop) → let a = c .before .before .args in c .loop .r < a .height → c .loop .r * (2 * a .width) + 2 * a .width ≤ length (a .map .now)
-inside c l = let s = c .before .before in omega (arith, part-end (c .loop .r) (s .args .height) (2 * s .args .width) l, s .pre .long)
+inside c l =
+    let s = c .before .before in
+    omega (arith, part-end (c .loop .r) (s .args .height) (2 * s .args .width) l, s .pre .long)
 
 within : (c : tie.At-loop Inv-loop μ-loop) → let a = c .before .before .args in c .loop .r < a .height → c .loop .r < length (rowsOf (a .width) (a .height) (numbersIn (a .map .now)))
-within c l = let a = c .before .before .args in rw (length-rowsOf (a .width) (a .height) (numbersIn (a .map .now))) l
+within c l =
+    let a = c .before .before .args in
+    rw (length-rowsOf (a .width) (a .height) (numbersIn (a .map .now))) l
 
 -- what the row's answer says
 told : (c : tie.After-numbered-row Inv-loop μ-loop) → let h = c .before .before .before in let a = h .before .before .args in

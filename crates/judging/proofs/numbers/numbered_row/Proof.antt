@@ -14,7 +14,9 @@ slice-aggregate-count-numbers : tie.Need-slice-aggregate-count-numbers
 slice-aggregate-count-numbers c = search needs
 
 count-numbers-requires : tie.Need-count-numbers-requires
-count-numbers-requires c κs = let s = c .before .before in record { short = s .pre .short; deep = s .pre .deep; blank = refl }
+count-numbers-requires c κs =
+    let s = c .before .before in
+    record { short = s .pre .short; deep = s .pre .deep; blank = refl }
 
 returns : tie.Need-returns
 returns c =

@@ -46,7 +46,9 @@ seam-long s t = length-recorded t (s .args .width) (s .args .height) (numbersIn 
 abbrev start : tie.After-beside Inv-loop μ-loop Inv-seams μ-seams → tie.Start Inv-loop μ-loop Inv-seams μ-seams
 start c = c .before .before .before .before .before .before .before .before
 
-within : (c : tie.After-beside Inv-loop μ-loop Inv-seams μ-seams) → let t = c .before .before .before .before .before .before .seams .t in
+within : (c : tie.After-beside Inv-loop μ-loop Inv-seams μ-seams)
+    → let at-seams = c .before .before .before .before .before .before in
+    let t = at-seams .seams .t in
     c .before .before .before .loop .r + 1 < length (seam (start c) (t + 1))
 within c =
     let at-loop-test = c .before .before in
@@ -54,7 +56,10 @@ within c =
     rw (seam-long (start c) (at-seams .seams .t + 1)) (at-loop-test .loop-test .taken)
 
 -- what the test of a step says
-told : (c : tie.After-beside Inv-loop μ-loop Inv-seams μ-seams) → let t = c .before .before .before .before .before .before .seams .t in let r = c .before .before .before .loop .r in
+told : (c : tie.After-beside Inv-loop μ-loop Inv-seams μ-seams)
+    → let at-loop = c .before .before .before in
+    let at-seams = at-loop .before .before .before in
+    let t = at-seams .seams .t in let r = at-loop .loop .r in
     beside (getD (seam (start c) (t + 1)) r 0) (getD (seam (start c) (t + 1)) (r + 1) 0) ≡ c .beside .result
 told c =
     let at-loop-test = c .before .before in

@@ -27,10 +27,14 @@ cast-high c = search needs
 
 -- the row ends within the map
 inside : (c : tie.At-loop Inv-loop μ-loop) → let a = c .before .before .before .args in c .loop .r < length (a .seam .now) → c .loop .r * (2 * a .width) + 2 * a .width ≤ length (a .map .now)
-inside c l = let s = c .before .before .before in omega (arith, part-end (c .loop .r) (length (s .args .seam .now)) (2 * s .args .width) l, s .pre .long)
+inside c l =
+    let s = c .before .before .before in
+    omega (arith, part-end (c .loop .r) (length (s .args .seam .now)) (2 * s .args .width) l, s .pre .long)
 
 loop-holds : tie.Need-loop-holds Inv-loop μ-loop
-loop-holds c = let a = c .before .before .args in (omega arith, refl, rows-start (writePair (a .number % 256) (a .number / 256)) 0 (a .seam .now) (2 * a .width) (a .map .now))
+loop-holds c =
+    let a = c .before .before .args in
+    (omega arith, refl, rows-start (writePair (a .number % 256) (a .number / 256)) 0 (a .seam .now) (2 * a .width) (a .map .now))
 
 mul-a : tie.Need-mul-a Inv-loop μ-loop
 mul-a c = omega (arith, inside (c .before) (c .loop-test .taken))

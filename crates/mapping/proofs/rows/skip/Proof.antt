@@ -1,5 +1,5 @@
 -- `mapping::rows::skip` meets its contract. The invariant: what was passed and what is to come make the answer.
-use mathlib.Core.Path.{_≡_, refl, _∙_}
+use mathlib.Core.Path.{refl, _∙_}
 use Prim.Native.Nat.{_+_, _-_}
 use native.Mathlib.Omega.{arith}
 use lib.ListN.{length}

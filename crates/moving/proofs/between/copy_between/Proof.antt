@@ -23,7 +23,9 @@ returns c =
     record { answer = sym (simp test); space-left = at-copy-places .copy-places .ensures }
 
 returns-2 : tie.Need-returns-2
-returns-2 c = let test = sym (c .before .apart-in .ensures) ∙ c .if1 .left in record { answer = sym (simp test); space-left = refl }
+returns-2 c =
+    let test = sym (c .before .apart-in .ensures) ∙ c .if1 .left in
+    record { answer = sym (simp test); space-left = refl }
 
 pub copy-between-spec : {M : Type 1} → statement M
 copy-between-spec =

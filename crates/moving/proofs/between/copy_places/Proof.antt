@@ -17,7 +17,9 @@ abbrev μ-loop : tie.MeasureT-loop
 μ-loop space₀ from count to i₀ space i = count - i
 
 loop-holds : tie.Need-loop-holds Inv-loop μ-loop
-loop-holds c = let a = c .args in (omega arith, (refl, paste-zero (now (a .space)) (a .to) (drop (a .from) (now (a .space)))))
+loop-holds c =
+    let a = c .args in
+    (omega arith, (refl, paste-zero (now (a .space)) (a .to) (drop (a .from) (now (a .space)))))
 
 add-space : tie.Need-add-space Inv-loop μ-loop
 add-space c = search needs

@@ -18,9 +18,13 @@ none c = sym (c .before .before .sides .ensures) ∙ ap given (c .enum-told .giv
 
 rest : (c : tie.After-enum-told) → let a = c .before .before .before .before .args in
     refusal (exchangeBetweenRules (length (now (a .space))) (a .from) (a .size) (a .to)) ≡ refusal (copyBetweenRules (length (now (a .space))) (a .from) (pictureBytes (a .size)) (a .to))
-rest c = let a = c .before .before .before .before .args in served-first (sideRules (a .size)) (copyBetweenRules (length (now (a .space))) (a .from) (pictureBytes (a .size)) (a .to)) refl (none c)
+rest c =
+    let a = c .before .before .before .before .args in
+    served-first (sideRules (a .size)) (copyBetweenRules (length (now (a .space))) (a .from) (pictureBytes (a .size)) (a .to)) refl (none c)
 
-bytes-are : (c : tie.After-picture-bytes) → c .picture-bytes .result ≡ pictureBytes (c .before .before .before .before .before .args .size)
+bytes-are : (c : tie.After-picture-bytes)
+    → let s = c .before .before .before .before .before in
+    c .picture-bytes .result ≡ pictureBytes (s .args .size)
 bytes-are c =
     let s = c .before .before .before .before .before in
     c .picture-bytes .ensures ∙ ap (λ n. served n (pictureBytes (s .args .size)) 0) (none (c .before))

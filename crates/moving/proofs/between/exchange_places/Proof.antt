@@ -62,7 +62,9 @@ part-put-column-start : tie.Need-part-put-column-start Inv-loop μ-loop
 part-put-column-start c = search needs
 
 part-put-column-end : tie.Need-part-put-column-end Inv-loop μ-loop
-part-put-column-end c = let p = c .before .before .before .before .before .pre in omega (arith, p .all-is, p .places .from-inside)
+part-put-column-end c =
+    let p = c .before .before .before .before .before .pre in
+    omega (arith, p .all-is, p .places .from-inside)
 
 slice-aggregate-put-column : tie.Need-slice-aggregate-put-column Inv-loop μ-loop
 slice-aggregate-put-column c = sym (c .before .before .before .before .loop .inv .1 .1 .0)

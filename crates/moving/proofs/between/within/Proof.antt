@@ -1,6 +1,6 @@
 -- `moving::between::within` meets its contract.
 use mathlib.Core.Path.{sym}
-use Prim.Native.Nat.{_+_, _-_}
+use Prim.Native.Nat.{_+_}
 use native.Mathlib.Omega.{arith}
 use borrow.Author.Tests.{lt-leb}
 use Rattle.moving.proofs.Relocating.{within-is}

@@ -28,7 +28,9 @@ pixel c =
     omega (arith, rw (mul-one (a .width), mul-one (a .c)) at q)
 
 loop-holds : tie.Need-loop-holds Inv-loop μ-loop
-loop-holds c = let a = c .args in (omega arith, (refl, filled-start (samples 1 (a .width) (now (a .from)) (a .c)) 1 (now (a .out))))
+loop-holds c =
+    let a = c .args in
+    (omega arith, (refl, filled-start (samples 1 (a .width) (now (a .from)) (a .c)) 1 (now (a .out))))
 
 mul-out : tie.Need-mul-out Inv-loop μ-loop
 mul-out c = let q = pixel c in omega arith

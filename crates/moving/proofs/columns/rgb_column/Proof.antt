@@ -32,7 +32,9 @@ mul-left : tie.Need-mul-left Inv-loop μ-loop
 mul-left c = search needs
 
 loop-holds : tie.Need-loop-holds Inv-loop μ-loop
-loop-holds c = let a = c .args in (omega arith, (refl, filled-start (samples 3 (a .width) (now (a .from)) (a .c)) 3 (now (a .out))))
+loop-holds c =
+    let a = c .args in
+    (omega arith, (refl, filled-start (samples 3 (a .width) (now (a .from)) (a .c)) 3 (now (a .out))))
 
 mul-i : tie.Need-mul-i Inv-loop μ-loop
 mul-i c = let q = pixel c in omega arith

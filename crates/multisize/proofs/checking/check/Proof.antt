@@ -13,7 +13,9 @@ use Rattle.multisize.proofs.checking.check.Statement.{statement}
 use Rattle.multisize.proofs.checking.check.Tie as tie
 
 -- the file is open, and its size within the limits
-is-opened : (c : tie.After-opened) → Open (now (c .before .before .before .before .before .args .file)) (c .opened .given .0 .0)
+is-opened : (c : tie.After-opened)
+    → let s = c .before .before .before .before .before in
+    Open (now (s .args .file)) (c .opened .given .0 .0)
 is-opened c = is-open _ (c .before .before .«open» .result) (c .before .before .«open» .ensures) (c .opened .given .0 .0) (c .opened .given .1)
 
 all-most : (c : tie.After-opened) → pixels (c .opened .given .0 .0 .size) ≤ 262144

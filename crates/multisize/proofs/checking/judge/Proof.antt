@@ -24,7 +24,9 @@ room c = judge-room _ _ (known c) (now (c .args .work)) (c .pre .room)
 all-most : (c : tie.Start) → pixels (c .args .head .size) ≤ 262144
 all-most c = let s = known c .sides in mul-le-mul (s .height-most) (s .width-most)
 
-bytes-are : (c : tie.After-picture-bytes) → c .picture-bytes .result ≡ pictureBytes (c .before .before .before .before .before .args .head .size)
+bytes-are : (c : tie.After-picture-bytes)
+    → let s = c .before .before .before .before .before in
+    c .picture-bytes .result ≡ pictureBytes (s .args .head .size)
 bytes-are c =
     let s = c .before .before .before .before .before in
     let z = s .args .head .size in

@@ -27,7 +27,9 @@ abbrev μ-loop : tie.MeasureT-loop
 
 -- what is known of the file, and that row r ends within the space
 known : (c : tie.At-loop Inv-loop μ-loop) → let a = c .before .before .before .before .args in Parsed (a .file .now) (a .head)
-known c = let s = c .before .before .before .before in opened (s .args .file .now) (s .args .head) (s .pre .opened)
+known c =
+    let s = c .before .before .before .before in
+    opened (s .args .file .now) (s .args .head) (s .pre .opened)
 
 inside : (c : tie.At-loop Inv-loop μ-loop) → let a = c .before .before .before .before .args in c .loop .r < a .head .size .height
     → (c .loop .r * a .head .size .width + a .head .size .width ≤ length (a .space .now)) × (c .loop .r * a .head .size .width + a .head .size .width ≤ 262144)
@@ -37,7 +39,9 @@ inside c l =
     (omega (arith, e, s .pre .room), omega (arith, e, pixels-most (known c)))
 
 -- the part for row r is as long as the row
-part : (c : tie.At-loop Inv-loop μ-loop) → let w = c .before .before .before .before .args .head .size .width in c .loop .r < c .before .before .before .before .args .head .size .height
+part : (c : tie.At-loop Inv-loop μ-loop)
+    → let s = c .before .before .before .before in
+    let w = s .args .head .size .width in c .loop .r < s .args .head .size .height
     → w ≡ length (midOf (c .loop .r * w) (c .loop .r * w + w - c .loop .r * w) (c .loop .space))
 part c l =
     let w = c .before .before .before .before .args .head .size .width in

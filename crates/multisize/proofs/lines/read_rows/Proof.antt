@@ -26,16 +26,26 @@ abbrev μ-loop : tie.MeasureT-loop
 μ-loop file space₀ height kind stride at₀ r₀ space at r = height - r
 
 -- what is known of the file, how long a row is, and that row r ends within the space
-known : (c : tie.At-loop Inv-loop μ-loop) → let a = c .before .before .before .before .before .before .args in Parsed (a .file .now) (a .head)
-known c = let s = c .before .before .before .before .before .before in opened (s .args .file .now) (s .args .head) (s .pre .opened)
+known : (c : tie.At-loop Inv-loop μ-loop)
+    → let s = c .before .before .before .before .before .before in
+    let a = s .args in Parsed (a .file .now) (a .head)
+known c =
+    let s = c .before .before .before .before .before .before in
+    opened (s .args .file .now) (s .args .head) (s .pre .opened)
 
-wide : (c : tie.At-loop Inv-loop μ-loop) → let z = c .before .before .before .before .before .before .args .head .size in z .width * c .before .before .channels .result ≡ rowBytes z
+wide : (c : tie.At-loop Inv-loop μ-loop)
+    → let at-channels = c .before .before in
+    let s = at-channels .before .before .before .before in
+    let z = s .args .head .size in z .width * at-channels .channels .result ≡ rowBytes z
 wide c =
     let at-channels = c .before .before in
     let s = at-channels .before .before .before .before in
     ap (s .args .head .size .width *_) (at-channels .channels .ensures)
 
-inside : (c : tie.At-loop Inv-loop μ-loop) → let a = c .before .before .before .before .before .before .args in let s = a .head .size .width * c .before .before .channels .result in
+inside : (c : tie.At-loop Inv-loop μ-loop)
+    → let at-channels = c .before .before in
+    let start = at-channels .before .before .before .before in
+    let a = start .args in let s = a .head .size .width * at-channels .channels .result in
     c .loop .r < a .head .size .height → (c .loop .r * s + s ≤ length (a .space .now)) × (c .loop .r * s + s ≤ 786432)
 inside c l =
     let s = c .before .before .before .before .before .before in
@@ -44,7 +54,10 @@ inside c l =
     rw (wide c) (omega (arith, e, s .pre .room), omega (arith, e, known c .sides .picture-most))
 
 -- the part for row r is as long as the row
-part : (c : tie.At-loop Inv-loop μ-loop) → let z = c .before .before .before .before .before .before .args .head .size in let s = z .width * c .before .before .channels .result in
+part : (c : tie.At-loop Inv-loop μ-loop)
+    → let at-channels = c .before .before in
+    let start = at-channels .before .before .before .before in
+    let z = start .args .head .size in let s = z .width * at-channels .channels .result in
     c .loop .r < z .height → rowBytes z ≡ length (midOf (c .loop .r * s) (c .loop .r * s + s - c .loop .r * s) (c .loop .space))
 part c l =
     let at-channels = c .before .before in

@@ -30,7 +30,9 @@ abbrev μ-loop : tie.MeasureT-loop
 
 -- what is known of the file, and that row r ends within the space
 known : (c : tie.At-loop Inv-loop μ-loop) → let a = c .before .before .before .before .args in Parsed (a .file .now) (a .head)
-known c = let s = c .before .before .before .before in opened (s .args .file .now) (s .args .head) (s .pre .opened)
+known c =
+    let s = c .before .before .before .before in
+    opened (s .args .file .now) (s .args .head) (s .pre .opened)
 
 inside : (c : tie.At-loop Inv-loop μ-loop) → let a = c .before .before .before .before .args in let w = 2 * a .head .size .width in
     c .loop .r < a .head .size .height → (c .loop .r * w + w ≤ length (c .loop .space)) × (c .loop .r * w + w ≤ 524288)
@@ -60,7 +62,9 @@ broken c =
 abbrev numbers : tie.After-known-told Inv-loop μ-loop → List ℕ
 numbers c = c .before .before .before .before .map .last .1 .1 .0
 
-line : (c : tie.After-known-told Inv-loop μ-loop) → let h = c .before .before .before .before .before .before .before in let file = h .before .before .before .before .args .file .now in
+line : (c : tie.After-known-told Inv-loop μ-loop)
+    → let at-loop = c .before .before .before .before .before .before .before in
+    let h = at-loop in let file = h .before .before .before .before .args .file .now in
     MapsLeft file (h .loop .r + 1) (c .before .next .given .0 .1 .0 .at) × (numbers c ≡ getD (mapsIn (parse file)) (h .loop .r) [])
 line c =
     let at-map = c .before .before .before .before in
@@ -71,17 +75,23 @@ line c =
     let next = c .before .next .given in
     map-read (known h) (h .loop .r) (h .loop .at .at) _ (numbers c) l (h .loop .inv .3) (part h) (next .0 .0) (next .0 .1 .0) (rw (next .1) at (m .ensures))
 
-long : (c : tie.After-known-told Inv-loop μ-loop) → length (numbers c) ≡ c .before .before .before .before .before .before .before .before .before .before .before .args .head .size .width
+long : (c : tie.After-known-told Inv-loop μ-loop)
+    → let s = c .before .before .before .before .before .before .before .before .before .before .before in
+    length (numbers c) ≡ s .args .head .size .width
 long c =
     let at-map = c .before .before .before .before in
     let at-loop = at-map .before .before .before in
     at-map .map .kept .1 .1 .0 ∙ sym (part at-loop)
 
-front : (c : tie.After-known-told Inv-loop μ-loop) → let h = c .before .before .before .before .before .before .before in let w = h .before .before .before .before .args .head .size .width in
+front : (c : tie.After-known-told Inv-loop μ-loop)
+    → let at-loop = c .before .before .before .before .before .before .before in
+    let h = at-loop in let w = h .before .before .before .before .args .head .size .width in
     take w (numbers c ++ drop w (h .loop .numbers)) ≡ numbers c
 front c = take-at (numbers c) _ _ (long c)
 
-whole : (c : tie.After-known-told Inv-loop μ-loop) → let h = c .before .before .before .before .before .before .before in
+whole : (c : tie.After-known-told Inv-loop μ-loop)
+    → let at-loop = c .before .before .before .before .before .before .before in
+    let h = at-loop in
     length (numbers c ++ drop (h .before .before .before .before .args .head .size .width) (h .loop .numbers)) ≡ 512
 whole c =
     let at-map = c .before .before .before .before in

@@ -13,7 +13,9 @@ use Rattle.multisize.proofs.reading.read.Statement.{statement}
 use Rattle.multisize.proofs.reading.read.Tie as tie
 
 -- the file is open
-is-opened : (c : tie.After-opened) → Open (now (c .before .before .before .before .before .before .before .args .file)) (c .opened .given .0 .0)
+is-opened : (c : tie.After-opened)
+    → let s = c .before .before .before .before .before .before .before in
+    Open (now (s .args .file)) (c .opened .given .0 .0)
 is-opened c = is-open _ (c .before .before .«open» .result) (c .before .before .«open» .ensures) (c .opened .given .0 .0) (c .opened .given .1)
 
 -- and the spaces are long enough

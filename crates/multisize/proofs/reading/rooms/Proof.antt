@@ -16,7 +16,9 @@ all-most : (c : tie.Start) → pixels (c .args .size) ≤ 262144
 all-most c = let s = sides-are (c .args .size) (c .pre) in mul-le-mul (s .height-most) (s .width-most)
 
 bytes-are : (c : tie.After-picture-bytes) → c .picture-bytes .result ≡ pictureBytes (c .before .before .args .size)
-bytes-are c = let z = c .before .before .args .size in c .picture-bytes .ensures ∙ ap (λ n. served n (pictureBytes z) 0) (c .before .before .pre)
+bytes-are c =
+    let z = c .before .before .args .size in
+    c .picture-bytes .ensures ∙ ap (λ n. served n (pictureBytes z) 0) (c .before .before .pre)
 
 mul-pixels : tie.Need-mul-pixels
 mul-pixels c = omega (arith, all-most (c .before))

@@ -26,13 +26,17 @@ channels-requires : tie.Need-channels-requires Inv-loop μ-loop
 channels-requires c κs = search needs
 
 mul-stride : tie.Need-mul-stride Inv-loop μ-loop
-mul-stride c = let st = c .before .before .before .before .before in rw (c .channels .ensures) (omega (arith, known (now (st .args .out)) (st .pre) .sides .row-most))
+mul-stride c =
+    let st = c .before .before .before .before .before in
+    rw (c .channels .ensures) (omega (arith, known (now (st .args .out)) (st .pre) .sides .row-most))
 
 channels-requires-2 : tie.Need-channels-requires-2 Inv-loop μ-loop
 channels-requires-2 c κs = search needs
 
 mul-shown : tie.Need-mul-shown Inv-loop μ-loop
-mul-shown c = let st = c .before .before .before .before .before .before in rw (c .channels2 .ensures) (omega (arith, fits (now (st .args .out)) (st .pre) .bounds .row-most))
+mul-shown c =
+    let st = c .before .before .before .before .before .before in
+    rw (c .channels2 .ensures) (omega (arith, fits (now (st .args .out)) (st .pre) .bounds .row-most))
 
 loop-holds : tie.Need-loop-holds Inv-loop μ-loop
 loop-holds c = let st = c .before .before .before .before .before .before in
@@ -71,7 +75,9 @@ returns c =
     absurd (line-there (now (st .args .out)) (st .pre) (at .r) (at-loop-test .loop-test .taken) (at .numbers) (at .inv .2) (at .at .at) (at .inv .3) _ (rw (c .enum-told .given .1) at (at-map .map .ensures)))
 
 -- the parts of row r don't overflow
-row-fits : (c : tie.After-known-told Inv-loop μ-loop) → let st = c .before .before .before .before .before .before .before .before .before .before .before .before .before .before in
+row-fits : (c : tie.After-known-told Inv-loop μ-loop)
+    → let s = c .before .before .before .before .before .before .before .before .before .before .before .before .before .before in
+    let st = s in
     let r = c .before .before .before .before .before .before .before .loop .r in
     let s = st .args .head .size .width * c .before .before .before .before .before .before .before .before .before .channels .result in
     let t = st .args .wanted * c .before .before .before .before .before .before .before .before .channels2 .result in
@@ -87,7 +93,9 @@ row-fits c =
     (samples-small (now (st .args .out)) (st .pre) r inside _ (at-channels .channels .ensures), shown-small (now (st .args .out)) (st .pre) r inside _ (at-channels2 .channels2 .ensures))
 
 -- the map line that was read
-line : (c : tie.After-known-told Inv-loop μ-loop) → let st = c .before .before .before .before .before .before .before .before .before .before .before .before .before .before in
+line : (c : tie.After-known-told Inv-loop μ-loop)
+    → let s = c .before .before .before .before .before .before .before .before .before .before .before .before .before .before in
+    let st = s in
     let r = c .before .before .before .before .before .before .before .loop .r in
     MapsLeft (now (st .args .file)) (r + 1) (c .before .next .given .0 .1 .0 .at) × (c .before .before .before .before .map .last .1 .1 .0 ≡ getD (mapsIn (parse (now (st .args .file)))) r [])
 line c =
@@ -98,7 +106,11 @@ line c =
     let at = at-loop .loop in
     line-read (now (st .args .out)) (st .pre) (at .r) (at-loop-test .loop-test .taken) (at .numbers) (at .inv .2) (at .at .at) (at .inv .3) _ _ _ (rw (c .before .next .given .1) at (at-map .map .ensures))
 
-numbers-long : (c : tie.After-known-told Inv-loop μ-loop) → length (c .before .before .before .before .map .last .1 .1 .0 ++ drop (c .before .before .before .before .before .before .before .before .before .before .before .before .before .before .args .head .size .width) (c .before .before .before .before .before .before .before .loop .numbers)) ≡ 512
+numbers-long : (c : tie.After-known-told Inv-loop μ-loop)
+    → let at-map = c .before .before .before .before in
+    let at-loop = at-map .before .before .before in
+    let s = at-loop .before .before .before .before .before .before .before in
+    length (at-map .map .last .1 .1 .0 ++ drop (s .args .head .size .width) (at-loop .loop .numbers)) ≡ 512
 numbers-long c =
     let at-loop-test = c .before .before .before .before .before .before in
     let at-loop = at-loop-test .before in

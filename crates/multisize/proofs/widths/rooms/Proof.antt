@@ -12,10 +12,16 @@ use Rattle.multisize.proofs.widths.rooms.Statement.{statement}
 use Rattle.multisize.proofs.widths.rooms.Tie as tie
 
 -- past the second test the width is offered, so what is shown is bounded
-bounds : (c : tie.Else2) → let a = c .before .before .before .before .before .args in Bounded (a .head) (a .wanted)
-bounds c = let st = c .before .before .before .before .before in bounded (st .args .head) (st .args .wanted) (st .pre) (c .if2 .left)
+bounds : (c : tie.Else2)
+    → let s = c .before .before .before .before .before in
+    let a = s .args in Bounded (a .head) (a .wanted)
+bounds c =
+    let st = c .before .before .before .before .before in
+    bounded (st .args .head) (st .args .wanted) (st .pre) (c .if2 .left)
 
-offers : (c : tie.Else2) → let a = c .before .before .before .before .before .args in offered (a .head .size .width) (a .head .depth) (a .head .growth) (a .wanted) ≡ true
+offers : (c : tie.Else2)
+    → let s = c .before .before .before .before .before in
+    let a = s .args in offered (a .head .size .width) (a .head .depth) (a .head .growth) (a .wanted) ≡ true
 offers c =
     let at-if1 = c .before .before in
     let s = at-if1 .before .before .before in
@@ -23,14 +29,18 @@ offers c =
     offered-is (a .head .size .width) (a .head .depth) (a .head .growth) (a .wanted) .1 (at-if1 .if1 .left, c .if2 .left)
 
 sub-if1 : tie.Need-sub-if1
-sub-if1 c = let st = c .before .before in omega (arith, allowed-is (st .args .head .size .width) (st .args .head .depth) (st .args .head .growth) .0 (st .pre .range) .0)
+sub-if1 c =
+    let st = c .before .before in
+    omega (arith, allowed-is (st .args .head .size .width) (st .args .head .depth) (st .args .head .growth) .0 (st .pre .range) .0)
 
 returns : tie.Need-returns
 unfolding offered
 returns c = rw (lt-leb _ _ (c .if1 .taken))
 
 add-if2 : tie.Need-add-if2
-add-if2 c = let st = c .before .before .before .before in omega (arith, growth-most (st .args .head) (st .pre), sides-are (st .args .head .size) (st .pre .sides) .width-most)
+add-if2 c =
+    let st = c .before .before .before .before in
+    omega (arith, growth-most (st .args .head) (st .pre), sides-are (st .args .head .size) (st .pre .sides) .width-most)
 
 returns-2 : tie.Need-returns-2
 unfolding offered
@@ -49,10 +59,14 @@ returns-3 : tie.Need-returns-3
 returns-3 c = rw (offers (c .before .before), lt-ltb _ _ (rw (c .before .channels .ensures) at (c .if3 .taken)))
 
 mul-if4 : tie.Need-mul-if4
-mul-if4 c = let st = c .before .before .before .before .before .before .before in omega (arith, pixels-most (st .args .head) (st .pre))
+mul-if4 c =
+    let st = c .before .before .before .before .before .before .before in
+    omega (arith, pixels-most (st .args .head) (st .pre))
 
 mul-if4-2 : tie.Need-mul-if4-2
-mul-if4-2 c = let st = c .before .before .before .before .before .before .before in omega (arith, pixels-most (st .args .head) (st .pre))
+mul-if4-2 c =
+    let st = c .before .before .before .before .before .before .before in
+    omega (arith, pixels-most (st .args .head) (st .pre))
 
 returns-4 : tie.Need-returns-4
 returns-4 c =

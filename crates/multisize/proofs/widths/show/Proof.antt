@@ -14,7 +14,9 @@ use Rattle.multisize.proofs.widths.show.Statement.{statement}
 use Rattle.multisize.proofs.widths.show.Tie as tie
 
 -- a file that was opened
-is-opened : (c : tie.After-known-told) → let a = c .before .before .before .before .before .before .before .args in Open (now (a .file)) (c .before .head .given .0 .0)
+is-opened : (c : tie.After-known-told)
+    → let s = c .before .before .before .before .before .before .before in
+    let a = s .args in Open (now (a .file)) (c .before .head .given .0 .0)
 is-opened c =
     let at-head = c .before in
     let k3 = at-head .before .before in
@@ -22,11 +24,17 @@ is-opened c =
     is-open _ (o .result) (o .ensures) (at-head .head .given .0 .0) (at-head .head .given .1)
 
 -- neither 7 nor 8 is given
-fits : (c : tie.After-enum-told) → let a = c .before .before .before .before .before .before .before .before .before .before .args in refusal (wantedRules (c .before .before .before .before .head .given .0 .0) (a .wanted) (length (now (a .out))) (length (now (a .work)))) ≡ 0
+fits : (c : tie.After-enum-told)
+    → let at-head = c .before .before .before .before in
+    let s = at-head .before .before .before .before .before .before in
+    let a = s .args in refusal (wantedRules (at-head .head .given .0 .0) (a .wanted) (length (now (a .out))) (length (now (a .work)))) ≡ 0
 fits c = sym (c .before .before .rooms .ensures) ∙ ap given (c .enum-told .given .1)
 
 -- nor is the map refused, and the work space is as long as it was
-accepted : (c : tie.After-enum-told2) → let a = c .before .before .before .before .before .before .before .before .before .before .before .before .before .before .before .before .args in (refusal (judgedIn (parse (now (a .file)))) ≡ 0) × (length (c .before .before .before .before .judge .last .1 .1 .0) ≡ length (now (a .work)))
+accepted : (c : tie.After-enum-told2)
+    → let at-judge = c .before .before .before .before in
+    let s = at-judge .before .before .before .before .before .before .before .before .before .before .before .before in
+    let a = s .args in (refusal (judgedIn (parse (now (a .file)))) ≡ 0) × (length (at-judge .judge .last .1 .1 .0) ≡ length (now (a .work)))
 accepted c =
     let j = c .before .before .before .before .judge .ensures in
     (sym (j .number) ∙ ap given (c .enum-told2 .given .1), ap length (j .work-left) ∙ length-replicate _ _)

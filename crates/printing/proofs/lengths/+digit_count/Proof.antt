@@ -45,7 +45,10 @@ digit-count-returns-2 : (t : ℕ) → digit-count-lts.Need-returns-2 (
   digit-count-below t,
   digit-count.Post,
 ) (digit-count-at t) digit-count.Post
-digit-count-returns-2 t c = let l = tenth _ (c .before .if1 .left) in let m = length-large _ (c .before .if1 .left) in (omega arith, omega arith)
+digit-count-returns-2 t c =
+    let l = tenth _ (c .before .if1 .left) in
+    let m = length-large _ (c .before .if1 .left) in
+    (omega arith, omega arith)
 
 pub +digit-count-spec : {M : Type 1} → statement M
 +digit-count-spec = close μ-digit-count λ t. digit-count-lts.spec (

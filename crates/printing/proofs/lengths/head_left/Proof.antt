@@ -1,14 +1,9 @@
 -- `printing::lengths::head_left` meets its contract.
-use mathlib.Core.Path.{sym, _∙_}
+use mathlib.Core.Path.{_∙_}
 use Rattle.printing.proofs.Rooms.{head-no-size, head-no-range, head-room, kind-most}
 use borrow.Author.Needs.{needs}
 use Rattle.printing.proofs.lengths.head_left.Statement.{statement}
 use Rattle.printing.proofs.lengths.head_left.Tie as tie
-use Rattle.printing.proofs.lengths.head_left.Reads as reads
-use Rattle.printing.proofs.lengths.head_left.Lts as lts
-use Rattle.printing.proofs.lengths.kind_length.Reads as kind-length-reads
-use Rattle.printing.proofs.lengths.take.Reads as take-reads
-use Rattle.printing.proofs.lengths.take_pair.Reads as take-pair-reads
 
 take-pair-requires : tie.Need-take-pair-requires
 take-pair-requires c κs = search needs
@@ -61,7 +56,7 @@ returns-3 c =
     let at-sized = at-take-pair2 .before .before in
     let at-take-pair = at-sized .before .before in
     let s = at-take-pair .before .before in
-    (c .take) .ensures ∙ rw (c .before .kind-length .ensures) (head-room _ (s .args .head) (rw (at-sized .sized .given .1) at (at-take-pair .take-pair .ensures)) (rw (at-ranged .ranged .given .1) at (at-take-pair2 .take-pair2 .ensures)))
+    c .take .ensures ∙ rw (c .before .kind-length .ensures) (head-room _ (s .args .head) (rw (at-sized .sized .given .1) at (at-take-pair .take-pair .ensures)) (rw (at-ranged .ranged .given .1) at (at-take-pair2 .take-pair2 .ensures)))
 
 pub head-left-spec : {M : Type 1} → statement M
 head-left-spec =

@@ -3,8 +3,6 @@ use Rattle.form.specs.Files.{kindText, greyWord, rgbWord}
 use borrow.Author.Needs.{needs}
 use Rattle.printing.proofs.lengths.kind_length.Statement.{statement}
 use Rattle.printing.proofs.lengths.kind_length.Tie as tie
-use Rattle.printing.proofs.lengths.kind_length.Reads as reads
-use Rattle.printing.proofs.lengths.kind_length.Lts as lts
 
 enum-told : tie.Need-enum-told
 enum-told c = search needs

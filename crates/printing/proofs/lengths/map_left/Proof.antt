@@ -4,10 +4,6 @@ use Rattle.printing.proofs.Rooms.{map-room, map-no-room}
 use borrow.Author.Needs.{needs}
 use Rattle.printing.proofs.lengths.map_left.Statement.{statement}
 use Rattle.printing.proofs.lengths.map_left.Tie as tie
-use Rattle.printing.proofs.lengths.map_left.Reads as reads
-use Rattle.printing.proofs.lengths.map_left.Lts as lts
-use Rattle.printing.proofs.lengths.take.Reads as take-reads
-use Rattle.printing.proofs.lengths.take_numbers.Reads as take-numbers-reads
 
 take-numbers-requires : tie.Need-take-numbers-requires
 take-numbers-requires c κs = search needs
@@ -32,7 +28,7 @@ returns-2 c =
     let at-left = c .before .before in
     let at-take-numbers = at-left .before .before in
     let s = at-take-numbers .before .before in
-    (c .take) .ensures ∙ map-room (s .args .room) (s .args .row .now) (rw (at-left .left .given .1) at (at-take-numbers .take-numbers .ensures))
+    c .take .ensures ∙ map-room (s .args .room) (s .args .row .now) (rw (at-left .left .given .1) at (at-take-numbers .take-numbers .ensures))
 
 pub map-left-spec : {M : Type 1} → statement M
 map-left-spec =

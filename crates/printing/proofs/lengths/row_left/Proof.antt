@@ -6,11 +6,6 @@ use Rattle.printing.proofs.PixelRows.{whole-by, row-room, row-no-room}
 use borrow.Author.Needs.{needs}
 use Rattle.printing.proofs.lengths.row_left.Statement.{statement}
 use Rattle.printing.proofs.lengths.row_left.Tie as tie
-use Rattle.printing.proofs.lengths.row_left.Reads as reads
-use Rattle.printing.proofs.lengths.row_left.Lts as lts
-use Rattle.energy.proofs.channels.Reads as channels-reads
-use Rattle.printing.proofs.lengths.take.Reads as take-reads
-use Rattle.printing.proofs.lengths.take_pixels.Reads as take-pixels-reads
 
 channels-requires : tie.Need-channels-requires
 channels-requires c κs = search needs
@@ -19,7 +14,9 @@ div-n : tie.Need-div-n
 div-n c = let s = channels-some (c .before .before .args .kind) in search needs
 
 take-pixels-requires : tie.Need-take-pixels-requires
-take-pixels-requires c κs = let w = whole-by (c .before .before .args .kind) (length (c .before .before .args .samples .now)) _ (c .channels .ensures) in search needs
+take-pixels-requires c κs =
+    let w = whole-by (c .before .before .args .kind) (length (c .before .before .args .samples .now)) _ (c .channels .ensures) in
+    search needs
 
 enum-known-left : tie.Need-enum-known-left
 enum-known-left c = search needs
@@ -43,7 +40,7 @@ returns-2 c =
     let at-take-pixels = at-left .before .before in
     let at-channels = at-take-pixels .before in
     let s = at-channels .before .before in
-    (c .take) .ensures ∙ row-room (s .args .room) (s .args .kind) (s .args .samples .now) (rw (at-left .left .given .1, at-channels .channels .ensures) at (at-take-pixels .take-pixels .ensures))
+    c .take .ensures ∙ row-room (s .args .room) (s .args .kind) (s .args .samples .now) (rw (at-left .left .given .1, at-channels .channels .ensures) at (at-take-pixels .take-pixels .ensures))
 
 pub row-left-spec : {M : Type 1} → statement M
 row-left-spec =

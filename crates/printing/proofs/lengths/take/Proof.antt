@@ -1,11 +1,8 @@
 -- `printing::lengths::take` meets its contract.
 use mathlib.Core.Path.{sym}
 use Rattle.printing.proofs.Rooms.{less-some, less-none}
-use borrow.Author.Needs.{needs}
 use Rattle.printing.proofs.lengths.take.Statement.{statement}
 use Rattle.printing.proofs.lengths.take.Tie as tie
-use Rattle.printing.proofs.lengths.take.Reads as reads
-use Rattle.printing.proofs.lengths.take.Lts as lts
 
 returns : tie.Need-returns
 returns c = sym (less-none _ _ (c .if1 .taken))

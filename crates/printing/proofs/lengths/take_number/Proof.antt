@@ -1,14 +1,10 @@
 -- `printing::lengths::take_number` meets its contract.
-use mathlib.Core.Path.{sym, _∙_}
+use mathlib.Core.Path.{_∙_}
 use native.Mathlib.Omega.{arith}
 use Rattle.printing.proofs.Rooms.{spaced-first, spaced-none}
 use borrow.Author.Needs.{needs}
 use Rattle.printing.proofs.lengths.take_number.Statement.{statement}
 use Rattle.printing.proofs.lengths.take_number.Tie as tie
-use Rattle.printing.proofs.lengths.take_number.Reads as reads
-use Rattle.printing.proofs.lengths.take_number.Lts as lts
-use Rattle.printing.proofs.lengths.digit_count.Reads as digit-count-reads
-use Rattle.printing.proofs.lengths.take.Reads as take-reads
 
 returns : tie.Need-returns
 returns c = spaced-none (c .before .args .room) (c .before .args .n) (c .if1 .taken)
@@ -26,7 +22,7 @@ returns-2 : tie.Need-returns-2
 returns-2 c =
     let at-if1 = c .before .before in
     let s = at-if1 .before in
-    (c .take) .ensures ∙ rw (c .before .digit-count .ensures .0) (spaced-first (s .args .room) (s .args .n) (omega (arith, at-if1 .if1 .left)))
+    c .take .ensures ∙ rw (c .before .digit-count .ensures .0) (spaced-first (s .args .room) (s .args .n) (omega (arith, at-if1 .if1 .left)))
 
 pub take-number-spec : {M : Type 1} → statement M
 take-number-spec =

@@ -6,10 +6,6 @@ use Rattle.printing.proofs.Rooms.{Leaving, leaving-first, leaving-next,
 use borrow.Author.Needs.{needs}
 use Rattle.printing.proofs.lengths.take_numbers.Statement.{statement}
 use Rattle.printing.proofs.lengths.take_numbers.Tie as tie
-use Rattle.printing.proofs.lengths.take_numbers.Reads as reads
-use Rattle.printing.proofs.lengths.take_numbers.Lts as lts
-use Rattle.printing.proofs.lengths.take_number.Reads as take-number-reads
-use Rattle.printing.proofs.lengths.wide.Reads as wide-reads
 
 abbrev Inv-loop : tie.InvT-loop
 Inv-loop room row left₀ i₀ left i = Leaving spaced room row i left

@@ -4,9 +4,6 @@ use Rattle.printing.proofs.Rooms.{less-then, less-none-then}
 use borrow.Author.Needs.{needs}
 use Rattle.printing.proofs.lengths.take_pair.Statement.{statement}
 use Rattle.printing.proofs.lengths.take_pair.Tie as tie
-use Rattle.printing.proofs.lengths.take_pair.Reads as reads
-use Rattle.printing.proofs.lengths.take_pair.Lts as lts
-use Rattle.printing.proofs.lengths.take_number.Reads as take-number-reads
 
 take-number-requires : tie.Need-take-number-requires
 take-number-requires c κs = search needs
@@ -27,7 +24,7 @@ returns-2 : tie.Need-returns-2
 returns-2 c =
     let at-left = c .before .before in
     let at-take-number = at-left .before .before in
-    (c .take-number2) .ensures ∙ sym (less-then _ _ _ _ (rw (at-left .left .given .1) at (at-take-number .take-number .ensures)))
+    c .take-number2 .ensures ∙ sym (less-then _ _ _ _ (rw (at-left .left .given .1) at (at-take-number .take-number .ensures)))
 
 pub take-pair-spec : {M : Type 1} → statement M
 take-pair-spec =

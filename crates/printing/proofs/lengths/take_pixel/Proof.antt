@@ -5,12 +5,6 @@ use Rattle.printing.proofs.PixelRows.{grey-inside, rgb-inside, grey-len
 use borrow.Author.Needs.{needs}
 use Rattle.printing.proofs.lengths.take_pixel.Statement.{statement}
 use Rattle.printing.proofs.lengths.take_pixel.Tie as tie
-use Rattle.printing.proofs.lengths.take_pixel.Reads as reads
-use Rattle.printing.proofs.lengths.take_pixel.Lts as lts
-use Rattle.printing.proofs.lengths.sample.Reads as sample-reads
-use Rattle.printing.proofs.lengths.take.Reads as take-reads
-use Rattle.printing.proofs.lengths.take_number.Reads as take-number-reads
-use Rattle.printing.proofs.lengths.take_pair.Reads as take-pair-reads
 
 enum-told : tie.Need-enum-told
 enum-told c = search needs

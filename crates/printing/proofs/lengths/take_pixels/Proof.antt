@@ -10,9 +10,6 @@ use Rattle.printing.proofs.PixelRows.{pixel-at, pixel-inside, below-row
 use borrow.Author.Needs.{needs}
 use Rattle.printing.proofs.lengths.take_pixels.Statement.{statement}
 use Rattle.printing.proofs.lengths.take_pixels.Tie as tie
-use Rattle.printing.proofs.lengths.take_pixels.Reads as reads
-use Rattle.printing.proofs.lengths.take_pixels.Lts as lts
-use Rattle.printing.proofs.lengths.take_pixel.Reads as take-pixel-reads
 
 abbrev Inv-loop : tie.InvT-loop
 Inv-loop room kind samples n left₀ i₀ left i = Leaving (pixelLength kind) room (rowsOf (channelsOf kind) n samples) i left

@@ -56,7 +56,10 @@ put-number-put-number-requires : (t : ℕ) → put-number-lts.Need-put-number-re
   put-number-below t,
   put-number.Post,
 ) (put-number-at t) put-number.Post
-put-number-put-number-requires t c κs = let l = tenth _ (c .before .if1 .left) in let m = length-large _ (c .before .if1 .left) in search needs
+put-number-put-number-requires t c κs =
+    let l = tenth _ (c .before .if1 .left) in
+    let m = length-large _ (c .before .if1 .left) in
+    search needs
 
 put-number-cast-out-2 : (t : ℕ) → put-number-lts.Need-cast-out-2 (
   put-number-below t,
@@ -74,13 +77,17 @@ put-number-slice-write-out-2 : (t : ℕ) → put-number-lts.Need-slice-write-out
   put-number-below t,
   put-number.Post,
 ) (put-number-at t) put-number.Post
-put-number-slice-write-out-2 t c = let m = length-large _ (c .before .before .before .before .if1 .left) in search needs
+put-number-slice-write-out-2 t c =
+    let m = length-large _ (c .before .before .before .before .if1 .left) in
+    search needs
 
 put-number-add-result-2 : (t : ℕ) → put-number-lts.Need-add-result-2 (
   put-number-below t,
   put-number.Post,
 ) (put-number-at t) put-number.Post
-put-number-add-result-2 t c = let m = length-large _ (c .before .before .before .before .if1 .left) in search needs
+put-number-add-result-2 t c =
+    let m = length-large _ (c .before .before .before .before .if1 .left) in
+    search needs
 
 put-number-same-length : (t : ℕ) → put-number-lts.Need-same-length (
   put-number-below t,
@@ -94,7 +101,9 @@ put-number-returns :
     (put-number-below t, put-number.Post)
     (put-number-at t)
     put-number.Post
-put-number-returns t c = let l = length-small _ (c .if1 .taken) in record { same = sym (sets-small _ _ _ (c .if1 .taken)); behind = omega arith }
+put-number-returns t c =
+    let l = length-small _ (c .if1 .taken) in
+    record { same = sym (sets-small _ _ _ (c .if1 .taken)); behind = omega arith }
 
 put-number-same-length-2 : (t : ℕ) → put-number-lts.Need-same-length-2 (
   put-number-below t,

@@ -5,10 +5,6 @@ use Rattle.printing.proofs.Written.{put-short, put-done}
 use borrow.Author.Needs.{needs}
 use Rattle.printing.proofs.lines.print_head.Statement.{statement}
 use Rattle.printing.proofs.lines.print_head.Tie as tie
-use Rattle.printing.proofs.lines.print_head.Reads as reads
-use Rattle.printing.proofs.lines.print_head.Lts as lts
-use Rattle.printing.proofs.lengths.head_left.Reads as head-left-reads
-use Rattle.printing.proofs.lines.put_head.Reads as put-head-reads
 
 returns : tie.Need-returns
 returns c = put-short (omega (arith, c .if1 .taken))
@@ -30,7 +26,9 @@ returns-2 c =
     put-short (omega (arith, s, at-if1 .if1 .left))
 
 put-head-requires : tie.Need-put-head-requires
-put-head-requires c κs = let s = less-room _ _ _ (rw (c .before .enum-told .given .1) at (c .before .before .before .head-left .ensures)) in search needs
+put-head-requires c κs =
+    let s = less-room _ _ _ (rw (c .before .enum-told .given .1) at (c .before .before .before .head-left .ensures)) in
+    search needs
 
 same-length : tie.Need-same-length
 same-length c = search needs

@@ -5,10 +5,6 @@ use Rattle.printing.proofs.Written.{put-short, put-done}
 use borrow.Author.Needs.{needs}
 use Rattle.printing.proofs.lines.print_map.Statement.{statement}
 use Rattle.printing.proofs.lines.print_map.Tie as tie
-use Rattle.printing.proofs.lines.print_map.Reads as reads
-use Rattle.printing.proofs.lines.print_map.Lts as lts
-use Rattle.printing.proofs.lengths.map_left.Reads as map-left-reads
-use Rattle.printing.proofs.lines.put_map.Reads as put-map-reads
 
 returns : tie.Need-returns
 returns c = put-short (omega (arith, c .if1 .taken))
@@ -30,7 +26,9 @@ returns-2 c =
     put-short (omega (arith, s, at-if1 .if1 .left))
 
 put-map-requires : tie.Need-put-map-requires
-put-map-requires c κs = let s = less-room _ _ _ (rw (c .before .enum-told .given .1) at (c .before .before .before .map-left .ensures)) in search needs
+put-map-requires c κs =
+    let s = less-room _ _ _ (rw (c .before .enum-told .given .1) at (c .before .before .before .map-left .ensures)) in
+    search needs
 
 same-length : tie.Need-same-length
 same-length c = search needs

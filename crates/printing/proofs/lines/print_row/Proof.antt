@@ -5,10 +5,6 @@ use Rattle.printing.proofs.Written.{put-short, put-done}
 use borrow.Author.Needs.{needs}
 use Rattle.printing.proofs.lines.print_row.Statement.{statement}
 use Rattle.printing.proofs.lines.print_row.Tie as tie
-use Rattle.printing.proofs.lines.print_row.Reads as reads
-use Rattle.printing.proofs.lines.print_row.Lts as lts
-use Rattle.printing.proofs.lengths.row_left.Reads as row-left-reads
-use Rattle.printing.proofs.lines.put_row.Reads as put-row-reads
 
 returns : tie.Need-returns
 returns c = put-short (omega (arith, c .if1 .taken))
@@ -30,7 +26,9 @@ returns-2 c =
     put-short (omega (arith, s, at-if1 .if1 .left))
 
 put-row-requires : tie.Need-put-row-requires
-put-row-requires c κs = let s = less-room _ _ _ (rw (c .before .enum-told .given .1) at (c .before .before .before .row-left .ensures)) in search needs
+put-row-requires c κs =
+    let s = less-room _ _ _ (rw (c .before .enum-told .given .1) at (c .before .before .before .row-left .ensures)) in
+    search needs
 
 same-length : tie.Need-same-length
 same-length c = search needs

@@ -1,15 +1,13 @@
 -- `printing::lines::put_bytes` meets its contract.
-use Prim.Native.Nat.{ℕ, _+_, _-_, _≤_, _<_}
+use Prim.Native.Nat.{_-_, _≤_}
 use native.Mathlib.Omega.{arith}
-use mathlib.Core.Path.{_≡_, refl, sym, ap, _∙_}
-use lib.ListN.{length, take, getD, set, length-set}
+use mathlib.Core.Path.{_≡_, _∙_}
+use lib.ListN.{length, take, length-set}
 use lib.Seq.{sets, take-all}
 use Rattle.printing.proofs.Written.{bytes-more}
 use borrow.Author.Needs.{needs}
 use Rattle.printing.proofs.lines.put_bytes.Statement.{statement}
 use Rattle.printing.proofs.lines.put_bytes.Tie as tie
-use Rattle.printing.proofs.lines.put_bytes.Reads as reads
-use Rattle.printing.proofs.lines.put_bytes.Lts as lts
 
 abbrev Inv-loop : tie.InvT-loop
 Inv-loop out₀ at w i₀ out i = (out ≡ sets out₀ at (take i w)) × ((i ≤ length w) × (length out ≡ length out₀))

@@ -4,11 +4,6 @@ use Rattle.printing.proofs.Written.{printed-length, head-parts, head-al
 use borrow.Author.Needs.{needs}
 use Rattle.printing.proofs.lines.put_head.Statement.{statement}
 use Rattle.printing.proofs.lines.put_head.Tie as tie
-use Rattle.printing.proofs.lines.put_head.Reads as reads
-use Rattle.printing.proofs.lines.put_head.Lts as lts
-use Rattle.printing.proofs.lines.put_bytes.Reads as put-bytes-reads
-use Rattle.printing.proofs.lines.put_kind.Reads as put-kind-reads
-use Rattle.printing.proofs.lines.put_pair.Reads as put-pair-reads
 
 slice-aggregate-put-pair : tie.Need-slice-aggregate-put-pair
 slice-aggregate-put-pair c = search needs

@@ -4,9 +4,6 @@ use Rattle.printing.proofs.Rooms.{kind-grey, kind-rgb}
 use borrow.Author.Needs.{needs}
 use Rattle.printing.proofs.lines.put_kind.Statement.{statement}
 use Rattle.printing.proofs.lines.put_kind.Tie as tie
-use Rattle.printing.proofs.lines.put_kind.Reads as reads
-use Rattle.printing.proofs.lines.put_kind.Lts as lts
-use Rattle.printing.proofs.lines.put_bytes.Reads as put-bytes-reads
 
 enum-told : tie.Need-enum-told
 enum-told c = search needs

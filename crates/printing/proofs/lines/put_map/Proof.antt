@@ -3,16 +3,14 @@ use Rattle.printing.proofs.Written.{printed-length, map-parts, map-all}
 use borrow.Author.Needs.{needs}
 use Rattle.printing.proofs.lines.put_map.Statement.{statement}
 use Rattle.printing.proofs.lines.put_map.Tie as tie
-use Rattle.printing.proofs.lines.put_map.Reads as reads
-use Rattle.printing.proofs.lines.put_map.Lts as lts
-use Rattle.printing.proofs.lines.put_bytes.Reads as put-bytes-reads
-use Rattle.printing.proofs.lines.put_numbers.Reads as put-numbers-reads
 
 slice-aggregate-put-bytes : tie.Need-slice-aggregate-put-bytes
 slice-aggregate-put-bytes c = search needs
 
 put-bytes-requires : tie.Need-put-bytes-requires
-put-bytes-requires c κs = let l = map-parts (c .before .before .before .before .args .row .now) in search needs
+put-bytes-requires c κs =
+    let l = map-parts (c .before .before .before .before .args .row .now) in
+    search needs
 
 put-numbers-requires : tie.Need-put-numbers-requires
 put-numbers-requires c κs =

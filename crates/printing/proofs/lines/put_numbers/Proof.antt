@@ -10,11 +10,6 @@ use Rattle.printing.proofs.Written.{printed-length, numbers-none, each-
 use borrow.Author.Needs.{needs}
 use Rattle.printing.proofs.lines.put_numbers.Statement.{statement}
 use Rattle.printing.proofs.lines.put_numbers.Tie as tie
-use Rattle.printing.proofs.lines.put_numbers.Reads as reads
-use Rattle.printing.proofs.lines.put_numbers.Lts as lts
-use Rattle.printing.proofs.lengths.wide.Reads as wide-reads
-use Rattle.printing.proofs.lines.put_bytes.Reads as put-bytes-reads
-use Rattle.printing.proofs.lines.put_number.Reads as put-number-reads
 
 abbrev Inv-loop : tie.InvT-loop
 Inv-loop out₀ at row i₀ end₀ t8 out i end = Printed out₀ at (each blank digits (take i row)) out end × (i ≤ length row)

@@ -3,10 +3,6 @@ use Rattle.printing.proofs.Written.{printed-length, pair-length, pair-a
 use borrow.Author.Needs.{needs}
 use Rattle.printing.proofs.lines.put_pair.Statement.{statement}
 use Rattle.printing.proofs.lines.put_pair.Tie as tie
-use Rattle.printing.proofs.lines.put_pair.Reads as reads
-use Rattle.printing.proofs.lines.put_pair.Lts as lts
-use Rattle.printing.proofs.lines.put_bytes.Reads as put-bytes-reads
-use Rattle.printing.proofs.lines.put_number.Reads as put-number-reads
 
 put-bytes-requires : tie.Need-put-bytes-requires
 put-bytes-requires c κs =

@@ -9,12 +9,6 @@ use Rattle.printing.proofs.PixelRows.{grey-inside, rgb-inside, grey-roo
 use borrow.Author.Needs.{needs}
 use Rattle.printing.proofs.lines.put_pixel.Statement.{statement}
 use Rattle.printing.proofs.lines.put_pixel.Tie as tie
-use Rattle.printing.proofs.lines.put_pixel.Reads as reads
-use Rattle.printing.proofs.lines.put_pixel.Lts as lts
-use Rattle.printing.proofs.lengths.sample.Reads as sample-reads
-use Rattle.printing.proofs.lines.put_bytes.Reads as put-bytes-reads
-use Rattle.printing.proofs.lines.put_number.Reads as put-number-reads
-use Rattle.printing.proofs.lines.put_pair.Reads as put-pair-reads
 
 enum-told : tie.Need-enum-told
 enum-told c = search needs

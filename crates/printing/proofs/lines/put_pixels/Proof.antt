@@ -11,9 +11,6 @@ use Rattle.printing.proofs.PixelRows.{pixel-inside, pixels-none, pixels
 use borrow.Author.Needs.{needs}
 use Rattle.printing.proofs.lines.put_pixels.Statement.{statement}
 use Rattle.printing.proofs.lines.put_pixels.Tie as tie
-use Rattle.printing.proofs.lines.put_pixels.Reads as reads
-use Rattle.printing.proofs.lines.put_pixels.Lts as lts
-use Rattle.printing.proofs.lines.put_pixel.Reads as put-pixel-reads
 
 abbrev Inv-loop : tie.InvT-loop
 Inv-loop out₀ at kind samples n i₀ end₀ out i end = Printed out₀ at (each blank (pixelText kind) (take i (rowsOf (channelsOf kind) n samples))) out end × (i ≤ n)

@@ -12,11 +12,6 @@ use Rattle.printing.proofs.PixelRows.{whole-by, row-parts, row-all}
 use borrow.Author.Needs.{needs}
 use Rattle.printing.proofs.lines.put_row.Statement.{statement}
 use Rattle.printing.proofs.lines.put_row.Tie as tie
-use Rattle.printing.proofs.lines.put_row.Reads as reads
-use Rattle.printing.proofs.lines.put_row.Lts as lts
-use Rattle.energy.proofs.channels.Reads as channels-reads
-use Rattle.printing.proofs.lines.put_bytes.Reads as put-bytes-reads
-use Rattle.printing.proofs.lines.put_pixels.Reads as put-pixels-reads
 
 channels-requires : tie.Need-channels-requires
 channels-requires c κs = search needs

@@ -16,14 +16,20 @@ use Rattle.retargeting.proofs.cells.next_cell.Tie as tie
 
 -- no place is far away
 close : (c : tie.Start) → Near (c .args .whole) (c .args .columns .0)
-close c = let a = c .args in near (a .size) (a .whole) (length (now (a .work))) (a .columns .0) (c .pre .space) (c .pre .column)
+close c =
+    let a = c .args in
+    near (a .size) (a .whole) (length (now (a .work))) (a .columns .0) (c .pre .space) (c .pre .column)
 
 -- the seam of the cell above, and of the cell to the left
-first : (c : tie.After-seam-at) → let a = c .before .before .before .before .before .before .args in let r = a .rows .0 in let k = a .columns .0 in
+first : (c : tie.After-seam-at)
+    → let s = c .before .before .before .before .before .before in
+    let a = s .args in let r = a .rows .0 in let k = a .columns .0 in
     SeamGiven (now (a .work)) ((k + 1) * a .whole) (smaller (a .size) r (k + 1)) Horizontal (67 * a .whole) (lib.ListN.replicate 512 0) (c .seam-at .result) (c .seam-at .last .0) (c .seam-at .last .1 .1 .1 .1 .1 .0)
 first c = rw (c .before .before .before .before .smaller .ensures) at (c .seam-at .ensures)
 
-second : (c : tie.After-seam-at2) → let a = c .before .before .before .before .before .before .before .before .before .before .before .before .args in let r = a .rows .0 in let k = a .columns .0 in
+second : (c : tie.After-seam-at2)
+    → let s = c .before .before .before .before .before .before .before .before .before .before .before .before in
+    let a = s .args in let r = a .rows .0 in let k = a .columns .0 in
     SeamGiven (c .before .before .before .before .before .before .seam-at .last .0) (k * a .whole) (smaller (a .size) (r + 1) k) Vertical (65 * a .whole) (lib.ListN.replicate 512 0) (c .seam-at2 .result) (c .seam-at2 .last .0) (c .seam-at2 .last .1 .1 .1 .1 .1 .0)
 second c =
     let at-smaller2 = c .before .before .before .before .before .before .before .before .before in
@@ -33,13 +39,20 @@ add-slot : tie.Need-add-slot
 add-slot c = let p = c .before .pre in omega (arith, p .column)
 
 smaller-requires : tie.Need-smaller-requires
-smaller-requires c κs = let p = c .before .pre in (omega (arith, p .rows-left), omega (arith, p .columns-left))
+smaller-requires c κs =
+    let p = c .before .pre in
+    (omega (arith, p .rows-left), omega (arith, p .columns-left))
 
 add-slot-2 : tie.Need-add-slot-2
-add-slot-2 c = let st = c .before .before in let p = st .pre in omega (arith, p .rows-left, sides-are (st .args .size) (p .space .sides) .height-most)
+add-slot-2 c =
+    let st = c .before .before in
+    let p = st .pre in
+    omega (arith, p .rows-left, sides-are (st .args .size) (p .space .sides) .height-most)
 
 smaller-requires-2 : tie.Need-smaller-requires-2
-smaller-requires-2 c κs = let p = c .before .before .pre in (omega (arith, p .rows-left), omega (arith, p .columns-left))
+smaller-requires-2 c κs =
+    let p = c .before .before .pre in
+    (omega (arith, p .rows-left), omega (arith, p .columns-left))
 
 add-slot-3 : tie.Need-add-slot-3
 add-slot-3 c = let p = c .before .before .before .pre in omega (arith, p .column)

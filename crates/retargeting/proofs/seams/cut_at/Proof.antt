@@ -26,7 +26,10 @@ all-is c =
     ∙ ap (λ n. served n (pictureBytes (turnedSize (a .axis) (a .size))) 0) (turned-sides (a .axis) (a .size) (pictureBytes (a .size)) (sized-at (a .size) (st .pre .sides)))
 
 sure : (c : tie.After-picture-bytes) → let st = c .before .before .before .before in let a = st .args in c .picture-bytes .result + a .at ≤ length (now (a .work))
-sure c = let st = c .before .before .before .before in let a = st .args in omega (arith, cut-sure (now (a .work)) (a .at) (a .size) (a .axis) (now (a .seam)) (a .to) (st .pre) (c .picture-bytes .result) (all-is c) .end)
+sure c =
+    let st = c .before .before .before .before in
+    let a = st .args in
+    omega (arith, cut-sure (now (a .work)) (a .at) (a .size) (a .axis) (now (a .seam)) (a .to) (st .pre) (c .picture-bytes .result) (all-is c) .end)
 
 turned-size-requires : tie.Need-turned-size-requires
 turned-size-requires c κs = search needs
@@ -66,7 +69,10 @@ narrower-requires c κs =
     rw (at-turned-size .turned-size .ensures) (cut-sure (now (a .work)) (a .at) (a .size) (a .axis) (now (a .seam)) (a .to) (st .pre) _ (all-is at-picture-bytes) .some)
 
 -- the part that was closed up
-closed : (c : tie.After-close-up) → let st = c .before .before .before .before .before .before .before in let a = st .args in let all = c .before .before .before .picture-bytes .result in
+closed : (c : tie.After-close-up)
+    → let at-picture-bytes = c .before .before .before in
+    let s = at-picture-bytes .before .before .before .before in
+    let st = s in let a = st .args in let all = at-picture-bytes .picture-bytes .result in
     CloseGiven (take (a .at + all - a .at) (lib.ListN.drop (a .at) (now (a .work)))) (turnedSize (a .axis) (a .size)) (take (turnedSize (a .axis) (a .size) .height) (now (a .seam))) (c .close-up .result) (c .close-up .last .0)
 closed c = rw (c .before .before .before .before .turned-size .ensures) at (c .close-up .ensures)
 

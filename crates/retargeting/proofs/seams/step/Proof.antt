@@ -10,7 +10,10 @@ slice-aggregate-seam-at : tie.Need-slice-aggregate-seam-at
 slice-aggregate-seam-at c = search needs
 
 seam-at-requires : tie.Need-seam-at-requires
-seam-at-requires c κs = let st = c .before .before .before in let a = st .args in step-seam (now (a .work)) (a .from) (a .size) (a .axis) (a .at) (a .to) (st .pre) _ refl
+seam-at-requires c κs =
+    let st = c .before .before .before in
+    let a = st .args in
+    step-seam (now (a .work)) (a .from) (a .size) (a .axis) (a .at) (a .to) (st .pre) _ refl
 
 slice-aggregate-cut-at : tie.Need-slice-aggregate-cut-at
 slice-aggregate-cut-at c = search needs

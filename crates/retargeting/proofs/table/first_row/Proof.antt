@@ -19,22 +19,32 @@ abbrev μ-loop : tie.MeasureT-loop
 μ-loop work₀ size whole totals₀ last j₀ work totals j = last - j
 
 -- no place is far away
-close : (c : tie.In-loop Inv-loop μ-loop) → Near (c .before .before .before .before .args .whole) (c .before .loop .j)
+close : (c : tie.In-loop Inv-loop μ-loop)
+    → let s = c .before .before .before .before in
+    Near (s .args .whole) (c .before .loop .j)
 close c =
     let st = c .before .before .before .before in
     let a = st .args in
     near (a .size) (a .whole) (length (now (a .work))) (c .before .loop .j) (st .pre .0 .space) (omega (arith, st .pre .0 .column, c .loop-test .taken))
 
 -- the step to the next cell
-given : (c : tie.After-step Inv-loop μ-loop) → let head = c .before .before .before .before .loop in let a = c .before .before .before .before .before .before .before .args in
+given : (c : tie.After-step Inv-loop μ-loop)
+    → let at-loop = c .before .before .before .before in
+    let s = at-loop .before .before .before in
+    let head = at-loop .loop in let a = s .args in
     StepGiven (head .work) (head .j * a .whole) (smaller (a .size) 0 (head .j)) Vertical (65 * a .whole) ((head .j + 1) * a .whole) (c .step .result) (c .step .last .0)
 given c = rw (c .before .before .smaller .ensures) at (c .step .ensures)
 
 loop-holds : tie.Need-loop-holds Inv-loop μ-loop
-loop-holds c = let st = c .before .before in let a = st .args in first-start (a .size) (a .whole) (a .columns .0) (now (a .work)) (now (a .totals)) (st .pre .0) (st .pre .1)
+loop-holds c =
+    let st = c .before .before in
+    let a = st .args in
+    first-start (a .size) (a .whole) (a .columns .0) (now (a .work)) (now (a .totals)) (st .pre .0) (st .pre .1)
 
 smaller-requires : tie.Need-smaller-requires Inv-loop μ-loop
-smaller-requires c κs = let p = c .before .before .before .before .pre .0 in (omega arith, omega (arith, p .columns-left, c .loop-test .taken))
+smaller-requires c κs =
+    let p = c .before .before .before .before .pre .0 in
+    (omega arith, omega (arith, p .columns-left, c .loop-test .taken))
 
 mul-step : tie.Need-mul-step Inv-loop μ-loop
 mul-step c = let q = close (c .before .before) in omega arith

@@ -13,7 +13,9 @@ use Rattle.retargeting.proofs.table.next_row.Statement.{statement}
 use Rattle.retargeting.proofs.table.next_row.Tie as tie
 
 -- the step to the first cell
-given : (c : tie.After-step) → let a = c .before .before .before .before .before .args in
+given : (c : tie.After-step)
+    → let s = c .before .before .before .before .before in
+    let a = s .args in
     StepGiven (now (a .work)) 0 (smaller (a .size) (a .rows .0) 0) Horizontal (67 * a .whole) 0 (c .step .result) (c .step .last .0)
 given c = rw (c .before .before .smaller .ensures) at (c .step .ensures)
 

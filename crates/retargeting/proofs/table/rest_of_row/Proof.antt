@@ -19,7 +19,10 @@ few : (c : tie.In-loop Inv-loop μ-loop) → c .before .loop .j + 1 < 65
 few c = omega (arith, c .before .before .before .before .pre .0 .column, c .loop-test .taken)
 
 loop-holds : tie.Need-loop-holds Inv-loop μ-loop
-loop-holds c = let st = c .before .before in let a = st .args in rest-start (a .size) (a .whole) (a .rows .0) (a .columns .0) (now (a .work)) (now (a .totals)) (st .pre .0) (st .pre .1)
+loop-holds c =
+    let st = c .before .before in
+    let a = st .args in
+    rest-start (a .size) (a .whole) (a .rows .0) (a .columns .0) (now (a .work)) (now (a .totals)) (st .pre .0) (st .pre .1)
 
 add-next-cell : tie.Need-add-next-cell Inv-loop μ-loop
 add-next-cell c = omega (arith, few (c .before))

@@ -15,7 +15,10 @@ abbrev μ-loop : tie.MeasureT-loop
 μ-loop work₀ size whole columns totals₀ last i₀ work totals i = last - i
 
 loop-holds : tie.Need-loop-holds Inv-loop μ-loop
-loop-holds c = let st = c .before .before in let a = st .args in (omega arith, below-start (a .size) (a .whole) (a .columns .0) (now (a .work)) (now (a .totals)) (st .pre .0 .totals-long) (st .pre .1))
+loop-holds c =
+    let st = c .before .before in
+    let a = st .args in
+    (omega arith, below-start (a .size) (a .whole) (a .columns .0) (now (a .work)) (now (a .totals)) (st .pre .0 .totals-long) (st .pre .1))
 
 next-row-requires : tie.Need-next-row-requires Inv-loop μ-loop
 next-row-requires c κs =

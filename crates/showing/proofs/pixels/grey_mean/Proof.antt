@@ -21,7 +21,10 @@ same-length : tie.Need-same-length
 same-length c = search needs
 
 returns : tie.Need-returns
-returns c = let st = c .before .before .before .before .before in let a = st .args in grey-mean-put (now (a .samples)) (a .c) (now (a .out)) (a .at) (a .d) (st .pre) (c .mean .ensures)
+returns c =
+    let st = c .before .before .before .before .before in
+    let a = st .args in
+    grey-mean-put (now (a .samples)) (a .c) (now (a .out)) (a .at) (a .d) (st .pre) (c .mean .ensures)
 
 pub grey-mean-spec : {M : Type 1} → statement M
 grey-mean-spec =

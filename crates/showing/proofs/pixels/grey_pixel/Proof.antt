@@ -15,7 +15,10 @@ same-length : tie.Need-same-length
 same-length c = search needs
 
 returns : tie.Need-returns
-returns c = let st = c .before in let a = st .args in grey-put (now (a .samples)) (a .c) (now (a .out)) (a .at) (st .pre)
+returns c =
+    let st = c .before in
+    let a = st .args in
+    grey-put (now (a .samples)) (a .c) (now (a .out)) (a .at) (st .pre)
 
 pub grey-pixel-spec : {M : Type 1} → statement M
 grey-pixel-spec = tie.close (tie.spec shared-slice-read-out slice-write-out same-length returns)

@@ -44,7 +44,10 @@ same-length : tie.Need-same-length
 same-length c = simp length-set
 
 returns : tie.Need-returns
-returns c = let st = c .before .before .before in let a = st .args in rgb-put (now (a .samples)) (a .c) (now (a .out)) (a .at) (st .pre)
+returns c =
+    let st = c .before .before .before in
+    let a = st .args in
+    rgb-put (now (a .samples)) (a .c) (now (a .out)) (a .at) (st .pre)
 
 pub rgb-pixel-spec : {M : Type 1} → statement M
 rgb-pixel-spec =

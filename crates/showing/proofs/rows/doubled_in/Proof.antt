@@ -20,7 +20,9 @@ abbrev μ-loop : tie.MeasureT-loop
 μ-loop u numbers count₀ c₀ c-end count c = c-end - c
 
 -- the test of number c
-test : (c : tie.After-doubled Inv-loop μ-loop) → let a = c .before .before .before .before .before .before .args in
+test : (c : tie.After-doubled Inv-loop μ-loop)
+    → let s = c .before .before .before .before .before .before in
+    let a = s .args in
     doubled (a .u) (getD (now (a .numbers)) (c .before .before .before .before .loop .c) 0) ≡ c .doubled .result
 test c =
     let s = c .before .before .before .before .before .before in

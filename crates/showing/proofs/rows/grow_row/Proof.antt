@@ -23,7 +23,9 @@ abbrev μ-loop : tie.MeasureT-loop
 μ-loop kind samples numbers u out₀ n last at₀ c₀ out at c = last - c
 
 -- there is room for pixel c
-needed : (c : tie.In-loop Inv-loop μ-loop) → let head = c .before .loop in let a = c .before .before .before .before .before .before .before .args in
+needed : (c : tie.In-loop Inv-loop μ-loop)
+    → let s = c .before .before .before .before .before .before .before in
+    let head = c .before .loop in let a = s .args in
     PixelNeeded (channelsOf (a .kind)) (now (a .samples)) (head .c) (head .out) (head .at)
 needed c =
     let st = c .before .before .before .before .before .before .before in
@@ -32,7 +34,10 @@ needed c =
     grow-needed (a .kind) (now (a .samples)) (now (a .numbers)) (st .pre .whole) (a .u) (now (a .out)) (head .c) (head .out) (head .at) (omega (arith, c .loop-test .taken)) (head .inv .1 .1)
 
 -- what is still to come behind it
-behind : (c : tie.After-put-pixel Inv-loop μ-loop) → let head = c .before .before .before .loop in let a = c .before .before .before .before .before .before .before .before .before .args in
+behind : (c : tie.After-put-pixel Inv-loop μ-loop)
+    → let at-loop = c .before .before .before in
+    let s = at-loop .before .before .before .before .before .before in
+    let head = at-loop .loop in let a = s .args in
     Behind (a .kind) (now (a .samples)) (now (a .numbers)) (a .u) (now (a .out)) (head .c) (c .put-pixel .last .1 .1 .1 .0) (head .at + c .before .before .before .before .channels .result)
 behind c =
     let at-loop-test = c .before .before in
@@ -44,7 +49,9 @@ behind c =
     rw (c .put-pixel .ensures) (grow-put (a .kind) (now (a .samples)) (now (a .numbers)) (st .pre .whole) (a .u) (now (a .out)) (head .c) (head .out) (head .at) (omega (arith, at-loop-test .loop-test .taken)) (at-channels .channels .ensures) (head .inv .1 .1))
 
 -- the test of number c
-test : (c : tie.After-doubled Inv-loop μ-loop) → let a = c .before .before .before .before .before .before .before .before .before .before .before .before .before .before .args in
+test : (c : tie.After-doubled Inv-loop μ-loop)
+    → let s = c .before .before .before .before .before .before .before .before .before .before .before .before .before .before in
+    let a = s .args in
     doubled (a .u) (getD (now (a .numbers)) (c .before .before .before .before .before .before .before .before .loop .c) 0) ≡ c .doubled .result
 test c =
     let s = c .before .before .before .before .before .before .before .before .before .before .before .before .before .before in
@@ -52,7 +59,11 @@ test c =
     sym (c .doubled .ensures ∙ ap (doubled (a .u)) (c .before .wide .ensures))
 
 -- where it passes, there is room for the new pixel
-new-ready : (c : tie.Then2 Inv-loop μ-loop) → let p = c .before .before .before .before .before .before in let head = p .before .before .before .loop in let a = p .before .before .before .before .before .before .before .before .before .args in
+new-ready : (c : tie.Then2 Inv-loop μ-loop)
+    → let at-put-pixel = c .before .before .before .before .before .before in
+    let p = at-put-pixel in
+    let head = p .before .before .before .loop in
+    let a = p .before .before .before .before .before .before .before .before .before .args in
     MeanNeeded (channelsOf (a .kind)) (now (a .samples)) (head .c) (head .c + 1) (p .put-pixel .last .1 .1 .1 .0) (head .at + p .before .before .before .before .channels .result)
 new-ready c =
     let p = c .before .before .before .before .before .before in
@@ -62,14 +73,19 @@ new-ready c =
     new-needed (a .kind) (now (a .samples)) (now (a .numbers)) (st .pre .whole) (a .u) (now (a .out)) (head .c) _ _ (omega (arith, p .before .before .loop-test .taken)) (test (c .before) ∙ c .if2 .taken) (behind p)
 
 -- the test of the last number, and the last pixel still to come
-new-is : (c : tie.After-doubled2 Inv-loop μ-loop) → let a = c .before .before .before .before .before .before .before .before .before .before .args in
+new-is : (c : tie.After-doubled2 Inv-loop μ-loop)
+    → let s = c .before .before .before .before .before .before .before .before .before .before in
+    let a = s .args in
     c .doubled2 .result ≡ doubled (a .u) (getD (now (a .numbers)) (length (now (a .numbers)) - 1) 0)
 new-is c =
     let s = c .before .before .before .before .before .before .before .before .before .before in
     let a = s .args in
     c .doubled2 .ensures ∙ ap (doubled (a .u)) (c .before .wide2 .ensures)
 
-grown-up : (c : tie.After-doubled2 Inv-loop μ-loop) → let head = c .before .before .before .before .loop in let a = c .before .before .before .before .before .before .before .before .before .before .args in
+grown-up : (c : tie.After-doubled2 Inv-loop μ-loop)
+    → let at-loop = c .before .before .before .before in
+    let s = at-loop .before .before .before .before .before .before in
+    let head = at-loop .loop in let a = s .args in
     Growing (a .kind) (now (a .samples)) (now (a .numbers)) (a .u) (now (a .out)) (length (now (a .numbers)) - 1) (head .out) (head .at)
 grown-up c =
     let at-loop-test = c .before .before .before in
@@ -81,7 +97,10 @@ grown-up c =
     rw e at (head .inv .1 .1)
 
 returns : tie.Need-returns Inv-loop μ-loop
-returns c = let st = c .before .before .before .before in let a = st .args in grow-none (a .kind) (now (a .samples)) (now (a .numbers)) (st .pre .whole) (a .u) (now (a .out)) (c .if1 .taken)
+returns c =
+    let st = c .before .before .before .before in
+    let a = st .args in
+    grow-none (a .kind) (now (a .samples)) (now (a .numbers)) (st .pre .whole) (a .u) (now (a .out)) (c .if1 .taken)
 
 channels-requires : tie.Need-channels-requires Inv-loop μ-loop
 channels-requires c κs = search needs

@@ -23,7 +23,9 @@ abbrev μ-loop : tie.MeasureT-loop
 μ-loop kind samples numbers t out₀ n at₀ c₀ c-end out at c = c-end - c
 
 -- the test of number c
-test : (c : tie.After-stays Inv-loop μ-loop) → let a = c .before .before .before .before .before .before .before .before .before .args in
+test : (c : tie.After-stays Inv-loop μ-loop)
+    → let s = c .before .before .before .before .before .before .before .before .before in
+    let a = s .args in
     stays (a .t) (getD (now (a .numbers)) (c .before .before .before .before .loop .c) 0) ≡ c .stays .result
 test c =
     let s = c .before .before .before .before .before .before .before .before .before in
@@ -31,7 +33,9 @@ test c =
     sym (c .stays .ensures ∙ ap (stays (a .t)) (c .before .wide .ensures))
 
 -- where it passes, there is room for the pixel
-needed : (c : tie.Then1 Inv-loop μ-loop) → let head = c .before .before .before .before .before .loop in
+needed : (c : tie.Then1 Inv-loop μ-loop)
+    → let at-loop = c .before .before .before .before .before in
+    let head = at-loop .loop in
     let a = c .before .before .before .before .before .before .before .before .before .before .args in
     PixelNeeded (channelsOf (a .kind)) (now (a .samples)) (head .c) (head .out) (head .at)
 needed c =

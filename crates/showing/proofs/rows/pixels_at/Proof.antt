@@ -14,7 +14,9 @@ doubled-in-requires : tie.Need-doubled-in-requires
 doubled-in-requires c κs = search needs
 
 sub-result : tie.Need-sub-result
-sub-result c = let a = c .before .before .before .args in omega (arith, c .doubled-in .ensures, doubled-most (length (now (a .numbers)) - a .wanted) (now (a .numbers)))
+sub-result c =
+    let a = c .before .before .before .args in
+    omega (arith, c .doubled-in .ensures, doubled-most (length (now (a .numbers)) - a .wanted) (now (a .numbers)))
 
 sub-doubled-in : tie.Need-sub-doubled-in
 sub-doubled-in c = search needs
@@ -23,7 +25,9 @@ doubled-in-requires-2 : tie.Need-doubled-in-requires-2
 doubled-in-requires-2 c κs = search needs
 
 add-result : tie.Need-add-result
-add-result c = let a = c .before .before .before .args in omega (arith, c .doubled-in2 .ensures, doubled-most (a .wanted - length (now (a .numbers))) (now (a .numbers)))
+add-result c =
+    let a = c .before .before .before .args in
+    omega (arith, c .doubled-in2 .ensures, doubled-most (a .wanted - length (now (a .numbers))) (now (a .numbers)))
 
 returns : tie.Need-returns
 unfolding pixelsAt

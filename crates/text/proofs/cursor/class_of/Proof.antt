@@ -6,8 +6,6 @@ use Rattle.text.proofs.ByteClasses.{class-digit, class-letter, class-ot
 use borrow.Author.Needs.{needs}
 use Rattle.text.proofs.cursor.class_of.Statement.{statement}
 use Rattle.text.proofs.cursor.class_of.Tie as tie
-use Rattle.text.proofs.cursor.class_of.Reads as reads
-use Rattle.text.proofs.cursor.class_of.Lts as lts
 
 returns : tie.Need-returns
 unfolding classOf isDigit isLetter

@@ -3,8 +3,6 @@ use Rattle.text.specs.Kernels.{itemsOf}
 use borrow.Author.Needs.{needs}
 use Rattle.text.proofs.scanning.items_of.Statement.{statement}
 use Rattle.text.proofs.scanning.items_of.Tie as tie
-use Rattle.text.proofs.scanning.items_of.Reads as reads
-use Rattle.text.proofs.scanning.items_of.Lts as lts
 
 enum-told : tie.Need-enum-told
 enum-told c = search needs

@@ -7,13 +7,6 @@ use Rattle.text.proofs.WholeText.{left-reach, left-no-reach, scan-none,
 use borrow.Author.Needs.{needs}
 use Rattle.text.proofs.scanning.scan.Statement.{statement}
 use Rattle.text.proofs.scanning.scan.Tie as tie
-use Rattle.text.proofs.scanning.scan.Reads as reads
-use Rattle.text.proofs.scanning.scan.Lts as lts
-use Rattle.text.proofs.cursor.Cursor.header.Reads as header-reads
-use Rattle.text.proofs.cursor.Cursor.lines.Reads as lines-reads
-use Rattle.text.proofs.cursor.Cursor.past.Reads as past-reads
-use Rattle.text.proofs.scanning.both.Reads as both-reads
-use Rattle.text.proofs.scanning.items_of.Reads as items-of-reads
 
 header-requires : tie.Need-header-requires
 header-requires c κs = search needs

@@ -2,11 +2,8 @@
 use mathlib.Core.Path.{sym}
 use borrow.Author.Tests.{eq-eqb, ne-eqb}
 use Rattle.text.proofs.Onward.{and-true, and-false}
-use borrow.Author.Needs.{needs}
 use Rattle.text.proofs.scanning.still.Statement.{statement}
 use Rattle.text.proofs.scanning.still.Tie as tie
-use Rattle.text.proofs.scanning.still.Reads as reads
-use Rattle.text.proofs.scanning.still.Lts as lts
 
 returns : tie.Need-returns
 returns c = rw (eq-eqb _ _ (c .if1 .taken)) (sym (and-true _))

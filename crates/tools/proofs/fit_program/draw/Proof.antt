@@ -9,7 +9,9 @@ use Rattle.tools.proofs.fit_program.draw.Statement.{statement}
 use Rattle.tools.proofs.fit_program.draw.Tie as tie
 
 returns : tie.Need-returns
-returns c = let a = c .before .before .before .args in too-long widthGet widthRules pictureAnswer (now (a .input)) (now (a .out)) (c .if1 .taken)
+returns c =
+    let a = c .before .before .before .args in
+    too-long widthGet widthRules pictureAnswer (now (a .input)) (now (a .out)) (c .if1 .taken)
 
 width-line-requires : tie.Need-width-line-requires
 width-line-requires c κs = search needs
@@ -29,10 +31,14 @@ returns-2 c =
     no-front widthGet widthRules pictureAnswer (now (a .input)) (now (a .out)) (at-if1 .if1 .left) refl (rw (c .enum-told .given .1) at (at-width-line .width-line .ensures))
 
 sub-draw-file : tie.Need-sub-draw-file
-sub-draw-file c = let t = rw (c .before .width .given .1) at (c .before .before .before .width-line .ensures) in omega (arith, t .moved .1)
+sub-draw-file c =
+    let t = rw (c .before .width .given .1) at (c .before .before .before .width-line .ensures) in
+    omega (arith, t .moved .1)
 
 part-draw-file-start : tie.Need-part-draw-file-start
-part-draw-file-start c = let t = rw (c .before .width .given .1) at (c .before .before .before .width-line .ensures) in omega (arith, t .moved .1)
+part-draw-file-start c =
+    let t = rw (c .before .width .given .1) at (c .before .before .before .width-line .ensures) in
+    omega (arith, t .moved .1)
 
 part-draw-file-end : tie.Need-part-draw-file-end
 part-draw-file-end c = search needs

@@ -11,7 +11,10 @@ use Rattle.tools.proofs.fit_program.draw_in.Statement.{statement}
 use Rattle.tools.proofs.fit_program.draw_in.Tie as tie
 
 -- the picture is shown
-shown : (c : tie.After-size) → let a = c .before .before .before .before .before .before .before .before .before .before .before .args in Drawing (now (a .file)) (a .width) (c .size .given .0 .0) (c .before .before .before .before .before .show .last .1 .1 .0)
+shown : (c : tie.After-size)
+    → let at-show = c .before .before .before .before .before in
+    let s = at-show .before .before .before .before .before .before in
+    let a = s .args in Drawing (now (a .file)) (a .width) (c .size .given .0 .0) (at-show .show .last .1 .1 .0)
 shown c =
     let at-show = c .before .before .before .before .before in
     let st = at-show .before .before .before .before .before .before in
@@ -19,7 +22,11 @@ shown c =
     drawing (now (a .file)) (a .width) (now (a .picture)) (now (a .out)) _ (st .pre) refl (c .size .given .0 .0) (rw (c .size .given .1) at (at-show .show .ensures))
 
 -- its bytes are inside the space
-inside : (c : tie.After-put-picture-arg) → let z = c .before .before .before .before .before .size .given .0 .0 in z .height * (z .width * c .before .before .before .channels .result) ≤ length (c .before .before .before .before .before .before .before .before .before .before .show .last .1 .1 .0)
+inside : (c : tie.After-put-picture-arg)
+    → let at-channels = c .before .before .before in
+    let at-size = at-channels .before .before in
+    let at-show = at-size .before .before .before .before .before in
+    let z = at-size .size .given .0 .0 in z .height * (z .width * at-channels .channels .result) ≤ length (at-show .show .last .1 .1 .0)
 inside c =
     let at-channels = c .before .before .before in
     let at-size = at-channels .before .before in

@@ -7,7 +7,9 @@ use Rattle.tools.proofs.netpbm.put_header.Statement.{statement}
 use Rattle.tools.proofs.netpbm.put_header.Tie as tie
 
 put-magic-requires : tie.Need-put-magic-requires
-put-magic-requires c κs = let s = c .before .before in omega (arith, s .pre .room, header-parts (s .args .size))
+put-magic-requires c κs =
+    let s = c .before .before in
+    omega (arith, s .pre .room, header-parts (s .args .size))
 
 put-number-requires : tie.Need-put-number-requires
 put-number-requires c κs =

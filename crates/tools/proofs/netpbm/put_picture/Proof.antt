@@ -9,7 +9,9 @@ use Rattle.tools.proofs.netpbm.put_picture.Statement.{statement}
 use Rattle.tools.proofs.netpbm.put_picture.Tie as tie
 
 put-header-requires : tie.Need-put-header-requires
-put-header-requires c κs = let s = c .before .before .before in record { room = omega (arith, s .pre .room, length-append (headerText (s .args .size)) (now (s .args .samples))) }
+put-header-requires c κs =
+    let s = c .before .before .before in
+    record { room = omega (arith, s .pre .room, length-append (headerText (s .args .size)) (now (s .args .samples))) }
 
 put-bytes-requires : tie.Need-put-bytes-requires
 put-bytes-requires c κs =

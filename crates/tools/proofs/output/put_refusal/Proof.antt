@@ -14,7 +14,9 @@ use Rattle.tools.proofs.output.put_refusal.Statement.{statement}
 use Rattle.tools.proofs.output.put_refusal.Tie as tie
 
 -- the number has at most three digits
-short : (c : tie.After-put-number) → length (digits (c .before .before .before .before .before .before .before .number .result)) ≤ 3
+short : (c : tie.After-put-number)
+    → let at-number = c .before .before .before .before .before .before .before in
+    length (digits (at-number .number .result)) ≤ 3
 short c =
     let at-number = c .before .before .before .before .before .before .before in
     let s = at-number .before .before in

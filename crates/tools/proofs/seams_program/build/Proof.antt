@@ -10,7 +10,9 @@ use Rattle.tools.proofs.seams_program.build.Statement.{statement}
 use Rattle.tools.proofs.seams_program.build.Tie as tie
 
 returns : tie.Need-returns
-returns c = let a = c .before .before .before .args in too-long headerGet pictureRules fileAnswer (now (a .input)) (now (a .out)) (c .if1 .taken)
+returns c =
+    let a = c .before .before .before .args in
+    too-long headerGet pictureRules fileAnswer (now (a .input)) (now (a .out)) (c .if1 .taken)
 
 read-header-requires : tie.Need-read-header-requires
 read-header-requires c κs = search needs
@@ -30,10 +32,14 @@ returns-2 c =
     no-front headerGet pictureRules fileAnswer (now (a .input)) (now (a .out)) (at-if1 .if1 .left) refl (rw (c .enum-told .given .1) at (at-read-header .read-header .ensures))
 
 sub-build-file : tie.Need-sub-build-file
-sub-build-file c = let t = rw (c .before .size .given .1) at (c .before .before .before .read-header .ensures) in omega (arith, t .moved .1)
+sub-build-file c =
+    let t = rw (c .before .size .given .1) at (c .before .before .before .read-header .ensures) in
+    omega (arith, t .moved .1)
 
 part-build-file-start : tie.Need-part-build-file-start
-part-build-file-start c = let t = rw (c .before .size .given .1) at (c .before .before .before .read-header .ensures) in omega (arith, t .moved .1)
+part-build-file-start c =
+    let t = rw (c .before .size .given .1) at (c .before .before .before .read-header .ensures) in
+    omega (arith, t .moved .1)
 
 part-build-file-end : tie.Need-part-build-file-end
 part-build-file-end c = search needs

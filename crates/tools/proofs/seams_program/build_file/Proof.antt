@@ -17,10 +17,14 @@ use Rattle.tools.proofs.seams_program.build_file.Statement.{statement}
 use Rattle.tools.proofs.seams_program.build_file.Tie as tie
 
 -- nothing of the picture is refused, and its samples are bytes
-none : (c : tie.After-enum-told) → let a = c .before .before .before .before .before .args in refusal (sizeRules (a .size) (length (now (a .samples))) ++ (pixelsRule (a .size) ∷ [])) ≡ 0
+none : (c : tie.After-enum-told)
+    → let s = c .before .before .before .before .before in
+    let a = s .args in refusal (sizeRules (a .size) (length (now (a .samples))) ++ (pixelsRule (a .size) ∷ [])) ≡ 0
 none c = sym (c .before .before .held .ensures) ∙ ap given (c .enum-told .given .1)
 
-bytes : (c : tie.After-enum-told) → All (λ (b : ℕ). b < 256) (now (c .before .before .before .before .before .args .samples))
+bytes : (c : tie.After-enum-told)
+    → let s = c .before .before .before .before .before in
+    All (λ (b : ℕ). b < 256) (now (s .args .samples))
 bytes c =
     let at-shared-slice-known = c .before .before .before .before in
     let s = at-shared-slice-known .before in
@@ -43,7 +47,9 @@ enum-told : tie.Need-enum-told
 enum-told c = search needs
 
 sub-t11 : tie.Need-sub-t11
-sub-t11 c = let a = c .before .before .before .before .before .args in omega (arith, held-sized (a .size) (now (a .samples)) (none c) .width-some)
+sub-t11 c =
+    let a = c .before .before .before .before .before .args in
+    omega (arith, held-sized (a .size) (now (a .samples)) (none c) .width-some)
 
 slice-aggregate-build : tie.Need-slice-aggregate-build
 slice-aggregate-build c = search needs

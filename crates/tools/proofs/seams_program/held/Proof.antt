@@ -20,10 +20,15 @@ none : (c : tie.After-enum-told) → let a = c .before .before .before .args in 
 none c = sym (c .before .before .sized .ensures) ∙ ap given (c .enum-told .given .1)
 
 rest : (c : tie.After-enum-told) → let a = c .before .before .before .args in refusal (sizeRules (a .size) (a .bytes) ++ (pixelsRule (a .size) ∷ [])) ≡ refusal (pixelsRule (a .size) ∷ [])
-rest c = let a = c .before .before .before .args in served-first (sizeRules (a .size) (a .bytes)) (pixelsRule (a .size) ∷ []) refl (none c)
+rest c =
+    let a = c .before .before .before .args in
+    served-first (sizeRules (a .size) (a .bytes)) (pixelsRule (a .size) ∷ []) refl (none c)
 
 few : (c : tie.After-enum-told) → pixels (c .before .before .before .args .size) ≤ 262144
-few c = let a = c .before .before .before .args in let s = sized-is (a .size) (a .bytes) (none c) in mul-le-mul (s .height-most) (s .width-most)
+few c =
+    let a = c .before .before .before .args in
+    let s = sized-is (a .size) (a .bytes) (none c) in
+    mul-le-mul (s .height-most) (s .width-most)
 
 sized-requires : tie.Need-sized-requires
 sized-requires c κs = search needs

@@ -1,10 +1,10 @@
 -- The form reader and the item reader meet their contracts: the bytes left fall at each call, and the loop's state is `Counting`.
 use native.Mathlib.Omega.{arith}
-use lib.ListN.{length, getD}
+use lib.ListN.{length}
 use Rattle.text.proofs.ByteClasses.{opening-byte, closing-byte, blank-byte, arm-no-opening, arm-no-item}
 use Rattle.text.proofs.FormSteps.{Counting, counting-first, counting-next, counting-close, counting-broken, counting-other, counting-end, item-end, item-other, item-first, item-rest, item-three, item-count, item-samples, item-numbers}
 use borrow.Author.Needs.{needs}
-use Prim.Native.Nat.{ℕ, _+_, _-_, _≤_, _<_}
+use Prim.Native.Nat.{ℕ, _-_, _<_}
 use borrow.Fn.Kinds.{In}
 use borrow.Fn.PlainCycle.{Measures, is, falls, and}
 use Rattle.text.proofs.cursor.Cursor.form.Reads as form

@@ -1,5 +1,5 @@
 -- `Cursor::digits` meets its contract: the loop's state is `Reading`.
-use Prim.Native.Nat.{ℕ, _-_, _≤_, _<_}
+use Prim.Native.Nat.{_-_}
 use native.Mathlib.Omega.{arith}
 use lib.ListN.{length, getD}
 use Rattle.text.proofs.ByteClasses.{digit-byte, arm-no-digit}
@@ -7,11 +7,6 @@ use Rattle.text.proofs.DigitSteps.{Reading, number-end, number-none, nu
 use borrow.Author.Needs.{needs}
 use Rattle.text.proofs.cursor.Cursor.digits.Statement.{statement}
 use Rattle.text.proofs.cursor.Cursor.digits.Tie as tie
-use Rattle.text.proofs.cursor.Cursor.digits.Reads as reads
-use Rattle.text.proofs.cursor.Cursor.digits.Lts as lts
-use Rattle.text.proofs.cursor.class_of.Reads as class-of-reads
-use Rattle.text.proofs.cursor.digit.Reads as digit-reads
-use Rattle.text.proofs.cursor.judged.Reads as judged-reads
 
 abbrev Inv-loop : tie.InvT-loop
 Inv-loop text start first n₀ at₀ n at = Reading 65535 text start n at

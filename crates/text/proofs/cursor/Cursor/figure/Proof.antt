@@ -6,10 +6,6 @@ use Rattle.text.proofs.Figures.{Skipping, skipping-first, skipping-next
 use borrow.Author.Needs.{needs}
 use Rattle.text.proofs.cursor.Cursor.figure.Statement.{statement}
 use Rattle.text.proofs.cursor.Cursor.figure.Tie as tie
-use Rattle.text.proofs.cursor.Cursor.figure.Reads as reads
-use Rattle.text.proofs.cursor.Cursor.figure.Lts as lts
-use Rattle.text.proofs.cursor.Cursor.digits.Reads as digits-reads
-use Rattle.text.proofs.cursor.class_of.Reads as class-of-reads
 
 abbrev Inv-loop : tie.InvT-loop
 Inv-loop text at₀ at = Skipping text at₀ at

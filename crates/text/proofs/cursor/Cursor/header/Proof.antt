@@ -5,11 +5,6 @@ use Rattle.text.proofs.Onward.{left-start, left-past, left-no-past, lef
 use borrow.Author.Needs.{needs}
 use Rattle.text.proofs.cursor.Cursor.header.Statement.{statement}
 use Rattle.text.proofs.cursor.Cursor.header.Tie as tie
-use Rattle.text.proofs.cursor.Cursor.header.Reads as reads
-use Rattle.text.proofs.cursor.Cursor.header.Lts as lts
-use Rattle.text.proofs.cursor.Cursor.kind.Reads as kind-reads
-use Rattle.text.proofs.cursor.Cursor.numbered.Reads as numbered-reads
-use Rattle.text.proofs.cursor.Cursor.past.Reads as past-reads
 
 slice-aggregate-past : tie.Need-slice-aggregate-past
 slice-aggregate-past c = search needs

@@ -3,9 +3,6 @@ use Rattle.text.proofs.WordSteps.{told-kind, told-kind-number, told-kin
 use borrow.Author.Needs.{needs}
 use Rattle.text.proofs.cursor.Cursor.kind.Statement.{statement}
 use Rattle.text.proofs.cursor.Cursor.kind.Tie as tie
-use Rattle.text.proofs.cursor.Cursor.kind.Reads as reads
-use Rattle.text.proofs.cursor.Cursor.kind.Lts as lts
-use Rattle.text.proofs.cursor.Cursor.word.Reads as word-reads
 
 word-requires : tie.Need-word-requires
 word-requires c κs = search needs

@@ -1,16 +1,11 @@
 -- `text::cursor::Cursor::lines` meets its contract.
-use Prim.Native.Nat.{ℕ, _-_}
+use Prim.Native.Nat.{_-_}
 use native.Mathlib.Omega.{arith}
 use lib.ListN.{length}
 use Rattle.text.proofs.Onward.{Lining, lining-first, lining-stop, lining-torn, lining-next}
 use borrow.Author.Needs.{needs}
 use Rattle.text.proofs.cursor.Cursor.lines.Statement.{statement}
 use Rattle.text.proofs.cursor.Cursor.lines.Tie as tie
-use Rattle.text.proofs.cursor.Cursor.lines.Reads as reads
-use Rattle.text.proofs.cursor.Cursor.lines.Lts as lts
-use Rattle.text.proofs.cursor.Cursor.past.Reads as past-reads
-use Rattle.text.proofs.cursor.Cursor.rest.Reads as rest-reads
-use Rattle.text.proofs.scanning.still.Reads as still-reads
 
 abbrev Inv-loop : tie.InvT-loop
 Inv-loop text word what width at₀ n₀ even₀ at n even = Lining word what width text at₀ n even at

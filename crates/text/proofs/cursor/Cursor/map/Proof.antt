@@ -9,19 +9,19 @@ use Rattle.text.proofs.LinesTaken.{Found, map-no-word, map-torn, map-fo
 use borrow.Author.Needs.{needs}
 use Rattle.text.proofs.cursor.Cursor.map.Statement.{statement}
 use Rattle.text.proofs.cursor.Cursor.map.Tie as tie
-use Rattle.text.proofs.cursor.Cursor.map.Reads as reads
-use Rattle.text.proofs.cursor.Cursor.map.Lts as lts
-use Rattle.text.proofs.cursor.Cursor.numbers.Reads as numbers-reads
-use Rattle.text.proofs.cursor.Cursor.past.Reads as past-reads
-use Rattle.text.proofs.cursor.Cursor.rest.Reads as rest-reads
 
 -- The word stands there.
-begun : (c : tie.After-c) → let a = c .before .before .before .before .before .before .args in Told (passing mapWord) (a .text .now) (a .self .at) (some (c .c .given .0 .0, c .c .given .0 .1 .0 .at))
+begun : (c : tie.After-c)
+    → let s = c .before .before .before .before .before .before in
+    let a = s .args in Told (passing mapWord) (a .text .now) (a .self .at) (some (c .c .given .0 .0, c .c .given .0 .1 .0 .at))
 unfolding mapWord
 begun c = rw (c .c .given .1) at (c .before .before .past .ensures)
 
 -- The line has its form.
-found : (c : tie.After-n) → let a = c .before .before .before .before .before .before .before .before .before .before .args in Found mapLine 65535 (a .text .now) (a .self .at) (c .before .before .before .before .c .given .0 .1 .0 .at) (c .n .given .0 .0) (c .n .given .0 .1 .0 .at)
+found : (c : tie.After-n)
+    → let at-c = c .before .before .before .before in
+    let s = at-c .before .before .before .before .before .before in
+    let a = s .args in Found mapLine 65535 (a .text .now) (a .self .at) (at-c .c .given .0 .1 .0 .at) (c .n .given .0 .0) (c .n .given .0 .1 .0 .at)
 found c =
     let at-rest = c .before .before in
     let at-c = at-rest .before .before in

@@ -4,9 +4,6 @@ use Rattle.text.proofs.Onward.{kind-grey, kind-rgb, kind-none}
 use borrow.Author.Needs.{needs}
 use Rattle.text.proofs.cursor.Cursor.name.Statement.{statement}
 use Rattle.text.proofs.cursor.Cursor.name.Tie as tie
-use Rattle.text.proofs.cursor.Cursor.name.Reads as reads
-use Rattle.text.proofs.cursor.Cursor.name.Lts as lts
-use Rattle.text.proofs.cursor.Cursor.past.Reads as past-reads
 
 slice-aggregate-past : tie.Need-slice-aggregate-past
 slice-aggregate-past c = search needs

@@ -3,9 +3,6 @@ use Rattle.text.proofs.WordSteps.{told-number, told-number-over, told-n
 use borrow.Author.Needs.{needs}
 use Rattle.text.proofs.cursor.Cursor.number.Statement.{statement}
 use Rattle.text.proofs.cursor.Cursor.number.Tie as tie
-use Rattle.text.proofs.cursor.Cursor.number.Reads as reads
-use Rattle.text.proofs.cursor.Cursor.number.Lts as lts
-use Rattle.text.proofs.cursor.Cursor.word.Reads as word-reads
 
 word-requires : tie.Need-word-requires
 word-requires c κs = search needs

@@ -1,15 +1,10 @@
 -- `text::cursor::Cursor::numbered` meets its contract.
 use native.Mathlib.Omega.{arith}
-use Rattle.form.specs.Files.{lineEnd}
-use Rattle.text.specs.Kernels.{lineRest, numberedOf}
+use Rattle.text.specs.Kernels.{numberedOf}
 use Rattle.text.proofs.Onward.{left-start, left-past, left-no-past, left-then, left-no-then, left-give}
 use borrow.Author.Needs.{needs}
 use Rattle.text.proofs.cursor.Cursor.numbered.Statement.{statement}
 use Rattle.text.proofs.cursor.Cursor.numbered.Tie as tie
-use Rattle.text.proofs.cursor.Cursor.numbered.Reads as reads
-use Rattle.text.proofs.cursor.Cursor.numbered.Lts as lts
-use Rattle.text.proofs.cursor.Cursor.number.Reads as number-reads
-use Rattle.text.proofs.cursor.Cursor.past.Reads as past-reads
 
 number-requires : tie.Need-number-requires
 number-requires c κs = search needs

@@ -5,9 +5,6 @@ use Rattle.text.proofs.Figures.{Writing, writing-first, writing-some, w
 use borrow.Author.Needs.{needs}
 use Rattle.text.proofs.cursor.Cursor.numbers.Statement.{statement}
 use Rattle.text.proofs.cursor.Cursor.numbers.Tie as tie
-use Rattle.text.proofs.cursor.Cursor.numbers.Reads as reads
-use Rattle.text.proofs.cursor.Cursor.numbers.Lts as lts
-use Rattle.text.proofs.cursor.Cursor.figure.Reads as figure-reads
 
 abbrev Inv-loop : tie.InvT-loop
 Inv-loop text n out₀ at₀ i₀ out at i = Writing 65535 n text at₀ out₀ i at out
@@ -49,7 +46,9 @@ mul-out : tie.Need-mul-out Inv-loop μ-loop
 mul-out c = search needs
 
 slice-write-out : tie.Need-slice-write-out Inv-loop μ-loop
-slice-write-out c = let w = c .before .before .before .before .before .loop .inv in omega (arith, w .size, w .room)
+slice-write-out c =
+    let w = c .before .before .before .before .before .loop .inv in
+    omega (arith, w .size, w .room)
 
 add-i : tie.Need-add-i Inv-loop μ-loop
 add-i c = search needs

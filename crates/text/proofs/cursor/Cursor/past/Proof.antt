@@ -1,12 +1,10 @@
 -- `text::cursor::Cursor::past` meets its contract.
-use Prim.Native.Nat.{ℕ, _-_}
+use Prim.Native.Nat.{_-_}
 use lib.ListN.{length}
-use Rattle.text.proofs.FixedBytes.{Matching, matching-first, matching-next, matching-short, matching-other, matching-end}
+use Rattle.text.proofs.FixedBytes.{Matching, matching-next, matching-short, matching-other, matching-end}
 use borrow.Author.Needs.{needs}
 use Rattle.text.proofs.cursor.Cursor.past.Statement.{statement}
 use Rattle.text.proofs.cursor.Cursor.past.Tie as tie
-use Rattle.text.proofs.cursor.Cursor.past.Reads as reads
-use Rattle.text.proofs.cursor.Cursor.past.Lts as lts
 
 abbrev Inv-loop : tie.InvT-loop
 Inv-loop text w at₀ i₀ at i = Matching w text at₀ i at

@@ -1,15 +1,11 @@
 -- `text::cursor::Cursor::rest` meets its contract.
 use native.Mathlib.Omega.{arith}
 use Rattle.form.specs.Files.{lineEnd}
-use Rattle.text.specs.Kernels.{lineRest, numberedOf}
+use Rattle.text.specs.Kernels.{lineRest}
 use Rattle.text.proofs.Onward.{left-start, left-past, left-no-past, left-then, left-no-then, left-give}
 use borrow.Author.Needs.{needs}
 use Rattle.text.proofs.cursor.Cursor.rest.Statement.{statement}
 use Rattle.text.proofs.cursor.Cursor.rest.Tie as tie
-use Rattle.text.proofs.cursor.Cursor.rest.Reads as reads
-use Rattle.text.proofs.cursor.Cursor.rest.Lts as lts
-use Rattle.text.proofs.cursor.Cursor.form.Reads as form-reads
-use Rattle.text.proofs.cursor.Cursor.past.Reads as past-reads
 
 form-requires : tie.Need-form-requires
 form-requires c κs = search needs

@@ -11,21 +11,18 @@ use Rattle.text.proofs.LinesTaken.{Found, row-no-word, row-torn, row-fo
 use borrow.Author.Needs.{needs}
 use Rattle.text.proofs.cursor.Cursor.row.Statement.{statement}
 use Rattle.text.proofs.cursor.Cursor.row.Tie as tie
-use Rattle.text.proofs.cursor.Cursor.row.Reads as reads
-use Rattle.text.proofs.cursor.Cursor.row.Lts as lts
-use Rattle.energy.proofs.channels.Reads as channels-reads
-use Rattle.text.proofs.cursor.Cursor.past.Reads as past-reads
-use Rattle.text.proofs.cursor.Cursor.rest.Reads as rest-reads
-use Rattle.text.proofs.cursor.Cursor.samples.Reads as samples-reads
-use Rattle.text.proofs.scanning.items_of.Reads as items-of-reads
 
 -- The word stands there.
-begun : (c : tie.After-c) → let a = c .before .before .before .before .before .before .args in Told (passing rowWord) (a .text .now) (a .self .at) (some (c .c .given .0 .0, c .c .given .0 .1 .0 .at))
+begun : (c : tie.After-c)
+    → let s = c .before .before .before .before .before .before in
+    let a = s .args in Told (passing rowWord) (a .text .now) (a .self .at) (some (c .c .given .0 .0, c .c .given .0 .1 .0 .at))
 unfolding rowWord
 begun c = rw (c .c .given .1) at (c .before .before .past .ensures)
 
 -- The line has its form.
-found : (c : tie.After-channels) → let a = c .before .before .before .before .before .before .before .before .before .before .before .before .before .args in
+found : (c : tie.After-channels)
+    → let s = c .before .before .before .before .before .before .before .before .before .before .before .before .before in
+    let a = s .args in
     Found (rowLine (a .kind)) 255 (a .text .now) (a .self .at) (c .before .before .before .before .before .before .before .c .given .0 .1 .0 .at) (c .before .before .n .given .0 .0 * c .channels .result) (c .before .before .n .given .0 .1 .0 .at)
 found c =
     let at-n = c .before .before in

@@ -5,9 +5,6 @@ use Rattle.text.proofs.Figures.{Writing, writing-first, writing-some, w
 use borrow.Author.Needs.{needs}
 use Rattle.text.proofs.cursor.Cursor.samples.Statement.{statement}
 use Rattle.text.proofs.cursor.Cursor.samples.Tie as tie
-use Rattle.text.proofs.cursor.Cursor.samples.Reads as reads
-use Rattle.text.proofs.cursor.Cursor.samples.Lts as lts
-use Rattle.text.proofs.cursor.Cursor.figure.Reads as figure-reads
 
 abbrev Inv-loop : tie.InvT-loop
 Inv-loop text n out₀ at₀ i₀ out at i = Writing 255 n text at₀ out₀ i at out
@@ -46,7 +43,9 @@ cast-out c =
     omega arith
 
 slice-write-out : tie.Need-slice-write-out Inv-loop μ-loop
-slice-write-out c = let w = c .before .before .before .before .before .loop .inv in omega (arith, w .size, w .room)
+slice-write-out c =
+    let w = c .before .before .before .before .before .loop .inv in
+    omega (arith, w .size, w .room)
 
 add-i : tie.Need-add-i Inv-loop μ-loop
 add-i c = search needs

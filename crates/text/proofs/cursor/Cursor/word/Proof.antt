@@ -5,11 +5,6 @@ use Rattle.text.proofs.WordSteps.{told-word-end, told-word-number, told
 use borrow.Author.Needs.{needs}
 use Rattle.text.proofs.cursor.Cursor.word.Statement.{statement}
 use Rattle.text.proofs.cursor.Cursor.word.Tie as tie
-use Rattle.text.proofs.cursor.Cursor.word.Reads as reads
-use Rattle.text.proofs.cursor.Cursor.word.Lts as lts
-use Rattle.text.proofs.cursor.Cursor.digits.Reads as digits-reads
-use Rattle.text.proofs.cursor.Cursor.name.Reads as name-reads
-use Rattle.text.proofs.cursor.class_of.Reads as class-of-reads
 
 returns : tie.Need-returns
 returns c = told-word-end (c .if1 .taken)
