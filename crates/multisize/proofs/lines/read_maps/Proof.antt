@@ -50,11 +50,11 @@ part c l =
 -- there is a line
 broken : tie.After-enum-told Inv-loop μ-loop → ⊥
 broken c =
-    let k4 = c .before .before .before .before in
-    let k6 = k4 .before .before in
-    let h = k6 .before in
-    let l = k6 .loop-test .taken in
-    let m = k4 .map in
+    let at-map = c .before .before .before .before in
+    let at-loop-test = at-map .before .before in
+    let h = at-loop-test .before in
+    let l = at-loop-test .loop-test .taken in
+    let m = at-map .map in
     map-there (known h) (h .loop .r) (h .loop .at .at) _ (m .last .1 .1 .0) l (h .loop .inv .2) (part h l) (rw (c .enum-told .given .1) at (m .ensures))
 
 loop-holds : tie.Need-loop-holds Inv-loop μ-loop

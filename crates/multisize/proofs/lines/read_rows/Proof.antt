@@ -68,11 +68,11 @@ part c l =
 -- there is a line
 broken : tie.After-enum-told Inv-loop μ-loop → ⊥
 broken c =
-    let k4 = c .before .before .before .before in
-    let k6 = k4 .before .before in
-    let h = k6 .before in
-    let l = k6 .loop-test .taken in
-    let m = k4 .row in
+    let at-row = c .before .before .before .before in
+    let at-loop-test = at-row .before .before in
+    let h = at-loop-test .before in
+    let l = at-loop-test .loop-test .taken in
+    let m = at-row .row in
     row-there (known h) (h .loop .r) (h .loop .at .at) _ (m .last .1 .1 .1 .0) l (h .loop .inv .2) (part h l) (rw (c .enum-told .given .1) at (m .ensures))
 
 channels-requires : tie.Need-channels-requires Inv-loop μ-loop

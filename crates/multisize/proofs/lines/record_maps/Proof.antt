@@ -52,11 +52,11 @@ part c = sym (length-take-le (c .before .before .before .before .args .head .siz
 -- there is a line, and its numbers are then at the front of the array
 broken : tie.After-enum-told Inv-loop μ-loop → ⊥
 broken c =
-    let k3 = c .before .before .before in
-    let k5 = k3 .before .before in
-    let h = k5 .before in
-    let l = k5 .loop-test .taken in
-    let m = k3 .map in
+    let at-map = c .before .before .before in
+    let at-loop-test = at-map .before .before in
+    let h = at-loop-test .before in
+    let l = at-loop-test .loop-test .taken in
+    let m = at-map .map in
     map-there (known h) (h .loop .r) (h .loop .at .at) _ (m .last .1 .1 .0) l (h .loop .inv .3) (part h) (rw (c .enum-told .given .1) at (m .ensures))
 
 abbrev numbers : tie.After-known-told Inv-loop μ-loop → List ℕ

@@ -19,8 +19,8 @@ is-opened : (c : tie.After-known-told)
     let a = s .args in Open (now (a .file)) (c .before .head .given .0 .0)
 is-opened c =
     let at-head = c .before in
-    let k3 = at-head .before .before in
-    let o = k3 .«open» in
+    let at-open = at-head .before .before in
+    let o = at-open .«open» in
     is-open _ (o .result) (o .ensures) (at-head .head .given .0 .0) (at-head .head .given .1)
 
 -- neither 7 nor 8 is given
