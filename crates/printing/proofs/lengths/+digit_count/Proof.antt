@@ -6,58 +6,39 @@ use borrow.Author.Needs.{needs}
 use Prim.Native.Nat.{ℕ, _<_}
 use borrow.Fn.Kinds.{In}
 use borrow.Fn.PlainCycle.{Measures, is, falls, and}
-use Rattle.printing.proofs.lengths.digit_count.Reads as digit-count
-use Rattle.printing.proofs.lengths.digit_count.Kinds as digit-count-kinds
-use Rattle.printing.proofs.lengths.+digit_count.Lts-digit_count as digit-count-lts
+use Rattle.printing.proofs.lengths.digit_count.Reads as reads
+use Rattle.printing.proofs.lengths.digit_count.Kinds as kinds
+use Rattle.printing.proofs.lengths.+digit_count.Lts-digit_count as lts
 use Rattle.printing.proofs.lengths.+digit_count.{statement}
 use Rattle.printing.proofs.lengths.+digit_count.Tie.{close}
 
-abbrev μ-digit-count : Measures 0 digit-count-kinds.ps ℕ
-μ-digit-count κs a = a .0
+-- The number, which falls at each call.
+abbrev number : Measures 0 kinds.ps ℕ
+number κs a = a .0
 
-abbrev digit-count-at : ℕ → In 0 digit-count-kinds.ps
-digit-count-at t =
-    and 0 digit-count-kinds.ps (is 0 digit-count-kinds.ps μ-digit-count t) digit-count.Pre
+-- Where it is t: what may be taken for granted, and what the call of itself asks and promises.
+module _ (t : ℕ) where
+  abbrev here : In 0 kinds.ps
+  here = and 0 kinds.ps (is 0 kinds.ps number t) reads.Pre
 
-abbrev digit-count-below : ℕ → In 0 digit-count-kinds.ps
-digit-count-below t =
-    and 0 digit-count-kinds.ps (falls 0 digit-count-kinds.ps _<_ μ-digit-count t) digit-count.Pre
+  abbrev calls : lts.Claims
+  calls = (and 0 kinds.ps (falls 0 kinds.ps _<_ number t) reads.Pre, reads.Post)
 
-digit-count-digit-count-requires : (t : ℕ) → digit-count-lts.Need-digit-count-requires (
-  digit-count-below t,
-  digit-count.Post,
-) (digit-count-at t) digit-count.Post
-digit-count-digit-count-requires t c κs = let l = tenth _ (c .if1 .left) in search needs
+  digit-count-requires : lts.Need-digit-count-requires calls here reads.Post
+  digit-count-requires c κs = let l = tenth _ (c .if1 .left) in search needs
 
-digit-count-add-result : (t : ℕ) → digit-count-lts.Need-add-result (
-  digit-count-below t,
-  digit-count.Post,
-) (digit-count-at t) digit-count.Post
-digit-count-add-result t c = search needs
+  add-result : lts.Need-add-result calls here reads.Post
+  add-result c = search needs
 
-digit-count-returns : (t : ℕ) → digit-count-lts.Need-returns (
-  digit-count-below t,
-  digit-count.Post,
-) (digit-count-at t) digit-count.Post
-digit-count-returns t c = (sym (length-small _ (c .if1 .taken)), omega arith)
+  returns : lts.Need-returns calls here reads.Post
+  returns c = (sym (length-small _ (c .if1 .taken)), omega arith)
 
-digit-count-returns-2 : (t : ℕ) → digit-count-lts.Need-returns-2 (
-  digit-count-below t,
-  digit-count.Post,
-) (digit-count-at t) digit-count.Post
-digit-count-returns-2 t c =
-    let l = tenth _ (c .before .if1 .left) in
-    let m = length-large _ (c .before .if1 .left) in
-    (omega arith, omega arith)
+  returns-2 : lts.Need-returns-2 calls here reads.Post
+  returns-2 c =
+      let l = tenth _ (c .before .if1 .left) in
+      let m = length-large _ (c .before .if1 .left) in
+      (omega arith, omega arith)
 
 pub +digit-count-spec : {M : Type 1} → statement M
-+digit-count-spec = close μ-digit-count λ t. digit-count-lts.spec (
-  digit-count-below t,
-  digit-count.Post,
-)
-    (digit-count-at t)
-    digit-count.Post
-    (digit-count-digit-count-requires t)
-    (digit-count-add-result t)
-    (digit-count-returns t)
-    (digit-count-returns-2 t)
++digit-count-spec =
+    close number λ t. lts.spec (calls t) (here t) reads.Post (digit-count-requires t) (add-result t) (returns t) (returns-2 t)

@@ -7,139 +7,78 @@ use borrow.Author.Needs.{needs}
 use Prim.Native.Nat.{ℕ, _<_}
 use borrow.Fn.Kinds.{In}
 use borrow.Fn.PlainCycle.{Measures, is, falls, and}
-use Rattle.printing.proofs.lines.put_number.Reads as put-number
-use Rattle.printing.proofs.lines.put_number.Kinds as put-number-kinds
-use Rattle.printing.proofs.lines.+put_number.Lts-put_number as put-number-lts
+use Rattle.printing.proofs.lines.put_number.Reads as reads
+use Rattle.printing.proofs.lines.put_number.Kinds as kinds
+use Rattle.printing.proofs.lines.+put_number.Lts-put_number as lts
 use Rattle.printing.proofs.lines.+put_number.{statement}
 use Rattle.printing.proofs.lines.+put_number.Tie.{close}
 
-abbrev μ-put-number : Measures 1 put-number-kinds.ps ℕ
-μ-put-number κs a = a .1 .1 .0
+-- The number, which falls at each call.
+abbrev number : Measures 1 kinds.ps ℕ
+number κs a = a .1 .1 .0
 
-abbrev put-number-at : ℕ → In 1 put-number-kinds.ps
-put-number-at t =
-    and 1 put-number-kinds.ps (is 1 put-number-kinds.ps μ-put-number t) put-number.Pre
+-- Where it is t: what may be taken for granted, and what the call of itself asks and promises.
+module _ (t : ℕ) where
+  abbrev here : In 1 kinds.ps
+  here = and 1 kinds.ps (is 1 kinds.ps number t) reads.Pre
 
-abbrev put-number-below : ℕ → In 1 put-number-kinds.ps
-put-number-below t =
-    and 1 put-number-kinds.ps (falls 1 put-number-kinds.ps _<_ μ-put-number t) put-number.Pre
+  abbrev calls : lts.Claims
+  calls = (and 1 kinds.ps (falls 1 kinds.ps _<_ number t) reads.Pre, reads.Post)
 
-put-number-cast-out :
-    (t : ℕ) →
-    put-number-lts.Need-cast-out
-    (put-number-below t, put-number.Post)
-    (put-number-at t)
-    put-number.Post
-put-number-cast-out t c = search needs
+  cast-out : lts.Need-cast-out calls here reads.Post
+  cast-out c = search needs
 
-put-number-add-out :
-    (t : ℕ) →
-    put-number-lts.Need-add-out
-    (put-number-below t, put-number.Post)
-    (put-number-at t)
-    put-number.Post
-put-number-add-out t c = search needs
+  add-out : lts.Need-add-out calls here reads.Post
+  add-out c = search needs
 
-put-number-slice-write-out : (t : ℕ) → put-number-lts.Need-slice-write-out (
-  put-number-below t,
-  put-number.Post,
-) (put-number-at t) put-number.Post
-put-number-slice-write-out t c = let l = length-small _ (c .if1 .taken) in search needs
+  slice-write-out : lts.Need-slice-write-out calls here reads.Post
+  slice-write-out c = let l = length-small _ (c .if1 .taken) in search needs
 
-put-number-add-result : (t : ℕ) → put-number-lts.Need-add-result (
-  put-number-below t,
-  put-number.Post,
-) (put-number-at t) put-number.Post
-put-number-add-result t c = search needs
+  add-result : lts.Need-add-result calls here reads.Post
+  add-result c = search needs
 
-put-number-put-number-requires : (t : ℕ) → put-number-lts.Need-put-number-requires (
-  put-number-below t,
-  put-number.Post,
-) (put-number-at t) put-number.Post
-put-number-put-number-requires t c κs =
-    let l = tenth _ (c .before .if1 .left) in
-    let m = length-large _ (c .before .if1 .left) in
-    search needs
+  put-number-requires : lts.Need-put-number-requires calls here reads.Post
+  put-number-requires c κs =
+      let l = tenth _ (c .before .if1 .left) in
+      let m = length-large _ (c .before .if1 .left) in
+      search needs
 
-put-number-cast-out-2 : (t : ℕ) → put-number-lts.Need-cast-out-2 (
-  put-number-below t,
-  put-number.Post,
-) (put-number-at t) put-number.Post
-put-number-cast-out-2 t c = search needs
+  cast-out-2 : lts.Need-cast-out-2 calls here reads.Post
+  cast-out-2 c = search needs
 
-put-number-add-out-2 : (t : ℕ) → put-number-lts.Need-add-out-2 (
-  put-number-below t,
-  put-number.Post,
-) (put-number-at t) put-number.Post
-put-number-add-out-2 t c = search needs
+  add-out-2 : lts.Need-add-out-2 calls here reads.Post
+  add-out-2 c = search needs
 
-put-number-slice-write-out-2 : (t : ℕ) → put-number-lts.Need-slice-write-out-2 (
-  put-number-below t,
-  put-number.Post,
-) (put-number-at t) put-number.Post
-put-number-slice-write-out-2 t c =
-    let m = length-large _ (c .before .before .before .before .if1 .left) in
-    search needs
+  slice-write-out-2 : lts.Need-slice-write-out-2 calls here reads.Post
+  slice-write-out-2 c =
+      let m = length-large _ (c .before .before .before .before .if1 .left) in
+      search needs
 
-put-number-add-result-2 : (t : ℕ) → put-number-lts.Need-add-result-2 (
-  put-number-below t,
-  put-number.Post,
-) (put-number-at t) put-number.Post
-put-number-add-result-2 t c =
-    let m = length-large _ (c .before .before .before .before .if1 .left) in
-    search needs
+  add-result-2 : lts.Need-add-result-2 calls here reads.Post
+  add-result-2 c =
+      let m = length-large _ (c .before .before .before .before .if1 .left) in
+      search needs
 
-put-number-same-length : (t : ℕ) → put-number-lts.Need-same-length (
-  put-number-below t,
-  put-number.Post,
-) (put-number-at t) put-number.Post
-put-number-same-length t c = search needs
+  same-length : lts.Need-same-length calls here reads.Post
+  same-length c = search needs
 
-put-number-returns :
-    (t : ℕ) →
-    put-number-lts.Need-returns
-    (put-number-below t, put-number.Post)
-    (put-number-at t)
-    put-number.Post
-put-number-returns t c =
-    let l = length-small _ (c .if1 .taken) in
-    record { same = sym (sets-small _ _ _ (c .if1 .taken)); behind = omega arith }
+  returns : lts.Need-returns calls here reads.Post
+  returns c =
+      let l = length-small _ (c .if1 .taken) in
+      record { same = sym (sets-small _ _ _ (c .if1 .taken)); behind = omega arith }
 
-put-number-same-length-2 : (t : ℕ) → put-number-lts.Need-same-length-2 (
-  put-number-below t,
-  put-number.Post,
-) (put-number-at t) put-number.Post
-put-number-same-length-2 t c = search needs
+  same-length-2 : lts.Need-same-length-2 calls here reads.Post
+  same-length-2 c = search needs
 
-put-number-returns-2 : (t : ℕ) → put-number-lts.Need-returns-2 (
-  put-number-below t,
-  put-number.Post,
-) (put-number-at t) put-number.Post
-put-number-returns-2 t c =
-    let k2 = c .before .before in
-    let k4 = k2 .before .before in
-    let h = k4 .if1 .left in
-    let m = length-large _ h in
-    let e = k2 .put-number .ensures in
-    record { same = rw (e .same, e .behind) (sym (sets-digit _ _ _ h)); behind = omega arith }
+  returns-2 : lts.Need-returns-2 calls here reads.Post
+  returns-2 c =
+      let at-put-number = c .before .before in
+      let at-if1 = at-put-number .before .before in
+      let h = at-if1 .if1 .left in
+      let m = length-large _ h in
+      let e = at-put-number .put-number .ensures in
+      record { same = rw (e .same, e .behind) (sym (sets-digit _ _ _ h)); behind = omega arith }
 
 pub +put-number-spec : {M : Type 1} → statement M
-+put-number-spec = close μ-put-number λ t. put-number-lts.spec (
-  put-number-below t,
-  put-number.Post,
-)
-    (put-number-at t)
-    put-number.Post
-    (put-number-cast-out t)
-    (put-number-add-out t)
-    (put-number-slice-write-out t)
-    (put-number-add-result t)
-    (put-number-put-number-requires t)
-    (put-number-cast-out-2 t)
-    (put-number-add-out-2 t)
-    (put-number-slice-write-out-2 t)
-    (put-number-add-result-2 t)
-    (put-number-same-length t)
-    (put-number-returns t)
-    (put-number-same-length-2 t)
-    (put-number-returns-2 t)
++put-number-spec =
+    close number λ t. lts.spec (calls t) (here t) reads.Post (cast-out t) (add-out t) (slice-write-out t) (add-result t) (put-number-requires t) (cast-out-2 t) (add-out-2 t) (slice-write-out-2 t) (add-result-2 t) (same-length t) (returns t) (same-length-2 t) (returns-2 t)
