@@ -30,7 +30,7 @@ module _ {A : Type 0} (P : A → Type 0) where
   all-take (suc n) [] a = tt
   all-take (suc n) (x ∷ xs) a = (a .0, all-take n xs (a .1))
 
-  all-drop : (n : ℕ) (xs : List A) → All P xs → All P (drop n xs)
+  pub all-drop : (n : ℕ) (xs : List A) → All P xs → All P (drop n xs)
   all-drop zero xs a = a
   all-drop (suc n) [] a = tt
   all-drop (suc n) (x ∷ xs) a = all-drop n xs (a .1)

@@ -8,6 +8,7 @@ use native.Mathlib.Nat.{mul-assoc, mul-le-mul}
 use native.Mathlib.Omega.{arith}
 use lib.Dec.{ltb}
 use lib.ListN.{length, length-append}
+use lib.Seq.{drop-at}
 use borrow.Author.Tests.{le-ltb}
 use Rattle.energy.specs.declared.pictures.Size.{Size}
 use Rattle.energy.specs.Refusals.{refusal}
@@ -23,7 +24,7 @@ use Rattle.files.specs.Shows.{Accepted}
 use Rattle.files.specs.Demands.{Built}
 use Rattle.files.proofs.Accepting.{accepted-built}
 use Rattle.files.proofs.Built.{built-parsed}
-use Rattle.files.proofs.Lent.{lent-allowed}
+use Rattle.files.proofs.Lent.{all-drop, lent-allowed}
 use Rattle.programs.specs.Netpbm.{headerText, headerGet}
 use Rattle.programs.specs.Programs.{mostInput, mostPixels, pixelsRule, written, fullRange, pictureRules, fileAnswer, seamsRules, seams}
 use Rattle.programs.proofs.Header.{header-back, header-reads}
@@ -67,10 +68,6 @@ seams-served z b fine few =
     rw (header-back z (omega arith) (omega arith) b)
     (short-input (headerText z ++ b) (refusal (pictureRules (some (z, b)))) (fileAnswer (some (z, b))) l ∙ rw r)
 
-all-behind : {A : Type 0} (P : A → Type 0) (xs ys : List A) → All P (xs ++ ys) → All P ys
-all-behind P [] ys a = a
-all-behind P (x ∷ xs) ys a = all-behind P xs ys (a .1)
-
 -- What it writes where it refuses nothing is accepted.
 pub seams-accepted : (input : List ℕ) → All (λ (a : ℕ). a < 256) input → refusal (seamsRules input) ≡ 0 → Accepted (seams input)
 unfolding seams
@@ -83,4 +80,6 @@ seams-accepted input small e =
     go (some (z, b)) h r =
         let s = header-reads .sound input (z, b) h .0 in
         let fine = served-both (sizeRules z (length b)) (pixelsRule z ∷ []) refl r .0 in
-        rw h (full-accepted z b (all-behind (λ (a : ℕ). a < 256) (headerText z) b (rw s at small)) fine)
+        let n : ℕ = length (headerText z) in
+        let behind : All (λ (a : ℕ). a < 256) b = rw (s, drop-at (headerText z) b n refl) at (all-drop (λ (a : ℕ). a < 256) n input small) in
+        rw h (full-accepted z b behind fine)
