@@ -4,10 +4,10 @@ use mathlib.Core.Option.{Option, none, some}
 use mathlib.Core.List.{List}
 use Prim.Native.Nat.{ℕ}
 use Rattle.energy.specs.declared.pictures.Size.{Size}
-use Rattle.form.specs.declared.Head.{Head}
-use Rattle.multisize.specs.declared.checking.Checked.{Checked}
-use Rattle.multisize.specs.declared.widths.Shown.{Shown}
-use Rattle.multisize.specs.Multisize.{checkedNumber, checkedHead, shownNumber, shownSize, CheckGiven, ReadGiven, ShowGiven}
+use Rattle.text_theory.specs.declared.Head.{Head}
+use Rattle.file_read.specs.declared.checking.Checked.{Checked}
+use Rattle.file_read.specs.declared.widths.Shown.{Shown}
+use Rattle.file_read.specs.Multisize.{checkedNumber, checkedHead, shownNumber, shownSize, CheckGiven, ReadGiven, ShowGiven}
 use Rattle.exports.specs.Files.{headed, framed, headOf, sizeOf, HostChecked, HostRead, HostShown}
 
 -- the number that stands in an answer

@@ -6,9 +6,9 @@ use Prim.Native.Nat.{ℕ, zero, suc}
 use lib.ListN.{length, replicate}
 use Rattle.energy.specs.declared.pictures.Size.{Size}
 use Rattle.energy.specs.Refusals.{refusal, served}
-use Rattle.removal.specs.declared.Removal.{Removal}
-use Rattle.removal.specs.Objects.{Ending}
-use Rattle.removal.specs.Removing.{removalRules, ObjectRemoved}
+use Rattle.seam_objects.specs.declared.Removal.{Removal}
+use Rattle.seam_objects.specs.Objects.{Ending}
+use Rattle.seam_objects.specs.Removing.{removalRules, ObjectRemoved}
 use Rattle.exports.specs.declared.Sizing.the-variants.{Of, Unknown}
 use Rattle.exports.specs.Objects.{endingNumber, someNumber, stoppedBy, endedOf, removed, HostRemoved}
 

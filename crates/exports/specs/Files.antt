@@ -10,17 +10,17 @@ use Rattle.energy.specs.declared.pictures.Kind.the-variants.{Grey, Rgb}
 use Rattle.energy.specs.declared.pictures.Size.{Size}
 use Rattle.energy.specs.Refusals.{refusal, served}
 use Rattle.energy.specs.Pictures.{picture, bytes}
-use Rattle.finding.specs.Finding.{worked}
-use Rattle.form.specs.declared.Head.{Head}
-use Rattle.form.specs.Files.{parse}
-use Rattle.files.specs.Contents.{fileOf}
-use Rattle.files.specs.Rules.{checkRules, readRules, showRules, buildRules}
-use Rattle.files.specs.Shows.{headIn, rowsIn, mapsIn, shows, drawnSize, drawnBytes}
-use Rattle.building.specs.declared.Built.{Built}
-use Rattle.building.specs.Building.{builtNumber, builtLength}
-use Rattle.multisize.specs.declared.checking.Checked.{Checked}
-use Rattle.multisize.specs.declared.widths.Shown.{Shown}
-use Rattle.multisize.specs.Multisize.{checkedNumber, checkedHead, shownNumber, shownSize}
+use Rattle.seam_find.specs.Finding.{worked}
+use Rattle.text_theory.specs.declared.Head.{Head}
+use Rattle.text_theory.specs.Files.{parse}
+use Rattle.file_theory.specs.Contents.{fileOf}
+use Rattle.file_theory.specs.Rules.{checkRules, readRules, showRules, buildRules}
+use Rattle.file_theory.specs.Shows.{headIn, rowsIn, mapsIn, shows, drawnSize, drawnBytes}
+use Rattle.file_build.specs.declared.Built.{Built}
+use Rattle.file_build.specs.Building.{builtNumber, builtLength}
+use Rattle.file_read.specs.declared.checking.Checked.{Checked}
+use Rattle.file_read.specs.declared.widths.Shown.{Shown}
+use Rattle.file_read.specs.Multisize.{checkedNumber, checkedHead, shownNumber, shownSize}
 use Rattle.exports.specs.declared.Answer.{Answer}
 use Rattle.exports.specs.declared.Sizing.{Sizing}
 use Rattle.exports.specs.declared.multifiles.FileAnswer.{FileAnswer}

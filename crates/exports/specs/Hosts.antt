@@ -11,8 +11,8 @@ use Rattle.energy.specs.declared.pictures.Size.{Size}
 use Rattle.energy.specs.Refusals.{_when_, refusal, served}
 use Rattle.energy.specs.Pictures.{picture, rowOf}
 use Rattle.energy.specs.Energy.{energies, energiesRules}
-use Rattle.carving.specs.declared.Axis.{Axis}
-use Rattle.carving.specs.declared.Axis.the-variants.{Vertical, Horizontal}
+use Rattle.seam_cut.specs.declared.Axis.{Axis}
+use Rattle.seam_cut.specs.declared.Axis.the-variants.{Vertical, Horizontal}
 use Rattle.exports.specs.declared.Answer.{Answer}
 use Rattle.exports.specs.declared.Sizing.{Sizing}
 use Rattle.exports.specs.declared.Sizing.the-variants.{Of, Unknown}

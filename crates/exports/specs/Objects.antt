@@ -8,9 +8,9 @@ use Rattle.grids.specs.Rows.{flat}
 use Rattle.energy.specs.declared.pictures.Size.{Size}
 use Rattle.energy.specs.Refusals.{refusal, served}
 use Rattle.energy.specs.Pictures.{channelsOf, bytes}
-use Rattle.removal.specs.declared.Removal.{Removal}
-use Rattle.removal.specs.Objects.{Ending, done, narrow, spent, blocked, Removed, removal}
-use Rattle.removal.specs.Removing.{removalNumber, removalEnding, removalCount, removalRules, markedPicture}
+use Rattle.seam_objects.specs.declared.Removal.{Removal}
+use Rattle.seam_objects.specs.Objects.{Ending, done, narrow, spent, blocked, Removed, removal}
+use Rattle.seam_objects.specs.Removing.{removalNumber, removalEnding, removalCount, removalRules, markedPicture}
 use Rattle.exports.specs.declared.Sizing.{Sizing}
 use Rattle.exports.specs.declared.objects.Ended.{Ended}
 use Rattle.exports.specs.Hosts.{known}

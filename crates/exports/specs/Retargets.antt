@@ -5,10 +5,10 @@ use Prim.Native.Nat.{ℕ}
 use lib.ListN.{length, drop, replicate}
 use Rattle.energy.specs.Refusals.{refusal, served}
 use Rattle.energy.specs.Pictures.{pictureBytes, bytes}
-use Rattle.retargeting.specs.declared.Rows.{Rows}
-use Rattle.retargeting.specs.declared.Columns.{Columns}
-use Rattle.retargeting.specs.declared.Retargeted.{Retargeted}
-use Rattle.retargeting.specs.Retargeting.{retargetedNumber, retargetedTotal, leftSize, cellOf, retargetRules}
+use Rattle.seam_retarget.specs.declared.Rows.{Rows}
+use Rattle.seam_retarget.specs.declared.Columns.{Columns}
+use Rattle.seam_retarget.specs.declared.Retargeted.{Retargeted}
+use Rattle.seam_retarget.specs.Retargeting.{retargetedNumber, retargetedTotal, leftSize, cellOf, retargetRules}
 use Rattle.exports.specs.declared.Answer.{Answer}
 use Rattle.exports.specs.declared.Sizing.{Sizing}
 use Rattle.exports.specs.Hosts.{known}

@@ -7,11 +7,11 @@ use Rattle.grids.specs.Rows.{flat}
 use Rattle.energy.specs.declared.pictures.Size.{Size}
 use Rattle.energy.specs.Refusals.{Rule, refusal, served}
 use Rattle.energy.specs.Pictures.{channelsOf, picture, bytes}
-use Rattle.finding.specs.declared.Found.{Found}
-use Rattle.finding.specs.Finding.{foundNumber, foundCost, marksOf}
-use Rattle.carving.specs.declared.Axis.{Axis}
-use Rattle.carving.specs.Axes.{turnedSize, seamAlong, costAlong, markedSeamAlong, markedCostAlong, cutAlong}
-use Rattle.carving.specs.Carving.{cleared}
+use Rattle.seam_find.specs.declared.Found.{Found}
+use Rattle.seam_find.specs.Finding.{foundNumber, foundCost, marksOf}
+use Rattle.seam_cut.specs.declared.Axis.{Axis}
+use Rattle.seam_cut.specs.Axes.{turnedSize, seamAlong, costAlong, markedSeamAlong, markedCostAlong, cutAlong}
+use Rattle.seam_cut.specs.Carving.{cleared}
 use Rattle.exports.specs.declared.Answer.{Answer}
 use Rattle.exports.specs.declared.Sizing.{Sizing}
 use Rattle.exports.specs.declared.Turning.{Turning}

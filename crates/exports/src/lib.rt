@@ -4,9 +4,9 @@ mod objects;
 mod retargets;
 mod seams;
 
-use carving::Axis;
 use energy::Kind;
 use energy::Size;
+use seam_cut::Axis;
 ghost use mathlib.Core.Path.{_≡_};
 ghost use Rattle.exports.specs.Hosts.{sizingOf, turningOf, refusedBy, HostEnergies, HostRow};
 

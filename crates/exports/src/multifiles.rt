@@ -3,11 +3,11 @@ use crate::Answer;
 use crate::Sizing;
 use crate::refused;
 use crate::size_named;
-use building::Built;
 use energy::Kind;
-use form::Head;
-use multisize::Checked;
-use multisize::Shown;
+use file_build::Built;
+use file_read::Checked;
+use file_read::Shown;
+use text_theory::Head;
 ghost use mathlib.Core.Path.{_≡_};
 ghost use Rattle.exports.specs.Hosts.{sizingOf};
 ghost use Rattle.exports.specs.Files.{kindNumber, lengthOf, headOf, sizeOf, HostBuilt, HostChecked, HostRead, HostShown};
@@ -124,7 +124,7 @@ pub extern "C" fn multisize_build(
         depth,
         growth,
     };
-    length_reply(building::build(picture, head, out, work))
+    length_reply(file_build::build(picture, head, out, work))
 }
 
 // Checks a file; gives its size and range.
@@ -132,7 +132,7 @@ pub extern "C" fn multisize_build(
 pub extern "C" fn multisize_check(file: &[u8], work: &mut [u8]) -> FileAnswer
     ensures { λ a. ⌜ HostChecked (now (file .entry)) (now (work .entry)) a (now (work .exit)) ⌝ }
 {
-    head_reply(multisize::check(file, work))
+    head_reply(file_read::check(file, work))
 }
 
 // The picture of a file put into the front of one space, its map into the front of another; gives its size and range.
@@ -145,7 +145,7 @@ pub extern "C" fn multisize_read(
 ) -> FileAnswer
     ensures { λ a. ⌜ HostRead (now (file .entry)) (now (picture .entry)) (now (map .entry)) (now (work .entry)) a (now (picture .exit)) (now (map .exit)) (now (work .exit)) ⌝ }
 {
-    head_reply(multisize::read(file, picture, map, work))
+    head_reply(file_read::read(file, picture, map, work))
 }
 
 // What a file shows at the wanted width, put into the front of out; gives its size.
@@ -158,5 +158,5 @@ pub extern "C" fn multisize_show(
 ) -> SizeAnswer
     ensures { λ a. ⌜ HostShown (now (file .entry)) wanted (now (out .entry)) (now (work .entry)) a (now (out .exit)) (now (work .exit)) ⌝ }
 {
-    size_reply(multisize::show(file, wanted, out, work))
+    size_reply(file_read::show(file, wanted, out, work))
 }

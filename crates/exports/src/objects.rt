@@ -1,7 +1,7 @@
 // Objects removed by seams with marks, for hosts.
 use crate::Sizing;
 use crate::size_named;
-use removal::Removal;
+use seam_objects::Removal;
 ghost use mathlib.Core.Path.{_≡_};
 ghost use Rattle.exports.specs.Hosts.{sizingOf};
 ghost use Rattle.exports.specs.Objects.{stoppedBy, endedAs, endedOf, HostRemoved};
@@ -64,5 +64,5 @@ pub extern "C" fn multisize_remove(
     let Sizing::Of(size) = size_named(width, height, kind) else {
         return stopped(1);
     };
-    reply(removal::remove(picture, marks, size, budget, work))
+    reply(seam_objects::remove(picture, marks, size, budget, work))
 }

@@ -3,9 +3,9 @@ use crate::Answer;
 use crate::Sizing;
 use crate::refused;
 use crate::size_named;
-use retargeting::Columns;
-use retargeting::Retargeted;
-use retargeting::Rows;
+use seam_retarget::Columns;
+use seam_retarget::Retargeted;
+use seam_retarget::Rows;
 ghost use mathlib.Core.Path.{_≡_};
 ghost use Rattle.exports.specs.Hosts.{sizingOf};
 ghost use Rattle.exports.specs.Retargets.{totalOf, HostRetargeted};
@@ -39,5 +39,5 @@ pub extern "C" fn multisize_retarget(
     let Sizing::Of(size) = size_named(width, height, kind) else {
         return refused(1);
     };
-    reply(retargeting::retarget(picture, size, Rows(rows), Columns(columns), out, work))
+    reply(seam_retarget::retarget(picture, size, Rows(rows), Columns(columns), out, work))
 }

@@ -5,9 +5,9 @@ use crate::Turning;
 use crate::axis_named;
 use crate::refused;
 use crate::size_named;
-use finding::Found;
+use seam_find::Found;
 ghost use mathlib.Core.Path.{_≡_};
-ghost use Rattle.carving.specs.Carving.{findRules, cutRules, markedFindRules, markedCutRules};
+ghost use Rattle.seam_cut.specs.Carving.{findRules, cutRules, markedFindRules, markedCutRules};
 ghost use Rattle.exports.specs.Hosts.{sizingOf, turningOf};
 ghost use Rattle.exports.specs.Seams.{replyOf, HostFound, HostPictureCut, HostMarkedFound, HostMarkedPictureCut, HostMarkedMarksCut};
 
@@ -42,7 +42,7 @@ pub extern "C" fn multisize_find(
     let Turning::Along(turned) = axis_named(axis) else {
         return refused(1);
     };
-    reply(carving::find(picture, size, turned, seam, work))
+    reply(seam_cut::find(picture, size, turned, seam, work))
 }
 
 // Cuts the seam along the axis out of the picture and gives it as multisize_find does. The rows then lie packed at the
@@ -66,7 +66,7 @@ pub extern "C" fn multisize_cut(
     let Turning::Along(turned) = axis_named(axis) else {
         return refused(1);
     };
-    reply(carving::cut(picture, size, turned, seam, work))
+    reply(seam_cut::cut(picture, size, turned, seam, work))
 }
 
 // The seam along the axis by the marks, one byte a pixel: 0 plain, 1 protected, 2 to be removed.
@@ -89,7 +89,7 @@ pub extern "C" fn multisize_find_marked(
     let Turning::Along(turned) = axis_named(axis) else {
         return refused(1);
     };
-    reply(carving::find_marked(picture, marks, size, turned, seam, work))
+    reply(seam_cut::find_marked(picture, marks, size, turned, seam, work))
 }
 
 // Cuts that seam out of the picture and the marks and gives it as multisize_find_marked does.
@@ -114,5 +114,5 @@ pub extern "C" fn multisize_cut_marked(
     let Turning::Along(turned) = axis_named(axis) else {
         return refused(1);
     };
-    reply(carving::cut_marked(picture, marks, size, turned, seam, work))
+    reply(seam_cut::cut_marked(picture, marks, size, turned, seam, work))
 }

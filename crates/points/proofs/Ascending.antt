@@ -1,5 +1,5 @@
 -- "Of several, the smallest number is given": the rules of each operation on pictures stand in ascending order, so that
--- `smallest` holds of them. Those of files are in `files`.
+-- `smallest` holds of them. Those of files are in `file_theory`.
 use mathlib.Core.Path.{_≡_, refl}
 use mathlib.Core.Bool.{true}
 use mathlib.Core.List.{List}
@@ -7,12 +7,12 @@ use Prim.Native.Nat.{ℕ}
 use Rattle.energy.specs.declared.pictures.Size.{Size}
 use Rattle.energy.specs.Energy.{energiesRules}
 use Rattle.energy.proofs.Rules.{ascending}
-use Rattle.carving.specs.declared.Axis.{Axis}
-use Rattle.carving.specs.Carving.{findRules, cutRules, markedFindRules, markedCutRules}
-use Rattle.removal.specs.Removing.{removalRules}
-use Rattle.retargeting.specs.declared.Rows.{Rows}
-use Rattle.retargeting.specs.declared.Columns.{Columns}
-use Rattle.retargeting.specs.Retargeting.{retargetRules}
+use Rattle.seam_cut.specs.declared.Axis.{Axis}
+use Rattle.seam_cut.specs.Carving.{findRules, cutRules, markedFindRules, markedCutRules}
+use Rattle.seam_objects.specs.Removing.{removalRules}
+use Rattle.seam_retarget.specs.declared.Rows.{Rows}
+use Rattle.seam_retarget.specs.declared.Columns.{Columns}
+use Rattle.seam_retarget.specs.Retargeting.{retargetRules}
 
 pub energies-ascending : (z : Size) (bytes r out : ℕ) → ascending 1 (energiesRules z bytes r out) ≡ true
 energies-ascending z bytes r out = refl

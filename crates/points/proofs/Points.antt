@@ -6,28 +6,28 @@ use mathlib.Core.List.{List, [], _∷_, map, zipWith, flatMap}
 use Prim.Native.Nat.{ℕ}
 use Rattle.grids.specs.Rows.{flat}
 use Rattle.grids.specs.Cut.{removeAt, cut}
-use Rattle.cheapest.specs.Best.{better, firstBest}
-use Rattle.cheapest.specs.Paths.{run, select, pathsUp, paths, cost, beside, nearby}
+use Rattle.seam_theory.specs.Best.{better, firstBest}
+use Rattle.seam_theory.specs.Paths.{run, select, pathsUp, paths, cost, beside, nearby}
 use Rattle.energy.specs.declared.pictures.Kind.the-variants.{Grey}
 use Rattle.energy.specs.declared.pictures.Size.{Size}
 use Rattle.energy.specs.Refusals.{Rule, refusal}
 use Rattle.energy.specs.Pictures.{Picture, picture}
 use Rattle.energy.specs.Energy.{difference, energy, energies}
-use Rattle.maps.specs.Maps.{numberRow, number}
-use Rattle.maps.specs.Widths.{allowed, offered, stays, doubled, rowAtWidth, shown}
-use Rattle.maps.specs.Judged.{numbers, remains, before, connected, found}
-use Rattle.form.specs.declared.Head.{Head}
-use Rattle.form.specs.Readers.{strip, next, manyUpTo, many}
-use Rattle.form.specs.Decimal.{digitsUpTo, digits, isDigit, further, upTo}
-use Rattle.form.specs.Files.{lineEnd, blank, opening, closing, start, range, closed, rowWord, mapWord, greyWord, rgbWord, each, joined, kindText, pixelText, lineText, headText, text, kindGet, items, three, pixel, line, headGet, file, whole, parse}
-use Rattle.form.proofs.Points.{shownText}
-use Rattle.finding.specs.Seams.{seamOf, costOf}
-use Rattle.removal.specs.Objects.{Ending, done, narrow, spent, blocked, Removed, someTwo, removal}
-use Rattle.removal.specs.Removing.{markedPicture}
-use Rattle.showing.specs.Showing.{average}
-use Rattle.files.specs.Contents.{partsOf, fileOf}
-use Rattle.files.specs.Rules.{filled, checkRules, showRules}
-use Rattle.files.specs.Shows.{Drawn, shows}
+use Rattle.map_theory.specs.Maps.{numberRow, number}
+use Rattle.map_theory.specs.Widths.{allowed, offered, stays, doubled, rowAtWidth, shown}
+use Rattle.map_theory.specs.Judged.{numbers, remains, before, connected, found}
+use Rattle.text_theory.specs.declared.Head.{Head}
+use Rattle.text_theory.specs.Readers.{strip, next, manyUpTo, many}
+use Rattle.text_theory.specs.Decimal.{digitsUpTo, digits, isDigit, further, upTo}
+use Rattle.text_theory.specs.Files.{lineEnd, blank, opening, closing, start, range, closed, rowWord, mapWord, greyWord, rgbWord, each, joined, kindText, pixelText, lineText, headText, text, kindGet, items, three, pixel, line, headGet, file, whole, parse}
+use Rattle.text_theory.proofs.Points.{shownText}
+use Rattle.seam_find.specs.Seams.{seamOf, costOf}
+use Rattle.seam_objects.specs.Objects.{Ending, done, narrow, spent, blocked, Removed, someTwo, removal}
+use Rattle.seam_objects.specs.Removing.{markedPicture}
+use Rattle.map_show.specs.Showing.{average}
+use Rattle.file_theory.specs.Contents.{partsOf, fileOf}
+use Rattle.file_theory.specs.Rules.{filled, checkRules, showRules}
+use Rattle.file_theory.specs.Shows.{Drawn, shows}
 
 -- A line of the table: what a definition gives, and what it should, as rows.
 pub record Point : Type 0 where
@@ -122,5 +122,5 @@ table =
     ∷ []
 
 pub points : map (λ p. p .got) table ≡ map (λ p. p .expected) table
-unfolding picture energy difference seamOf costOf paths pathsUp cost nearby beside select run better firstBest removeAt cut zipWith flatMap someTwo removal numberRow number allowed offered stays doubled rowAtWidth shown numbers remains before connected found strip next manyUpTo many digitsUpTo digits isDigit further upTo Rattle.form.specs.Decimal.number lineEnd blank opening closing start range closed rowWord mapWord greyWord rgbWord each joined kindText pixelText lineText headText text kindGet items three pixel line headGet file whole parse average fileOf filled shows
+unfolding picture energy difference seamOf costOf paths pathsUp cost nearby beside select run better firstBest removeAt cut zipWith flatMap someTwo removal numberRow number allowed offered stays doubled rowAtWidth shown numbers remains before connected found strip next manyUpTo many digitsUpTo digits isDigit further upTo Rattle.text_theory.specs.Decimal.number lineEnd blank opening closing start range closed rowWord mapWord greyWord rgbWord each joined kindText pixelText lineText headText text kindGet items three pixel line headGet file whole parse average fileOf filled shows
 points = refl

@@ -2,12 +2,12 @@
 use crate::print_bytes;
 use crate::print_number;
 use crate::print_seam;
-use building::Built;
 use energy::Size;
-use form::Head;
+use file_build::Built;
+use file_read::Checked;
+use file_read::Shown;
 use libc::STDOUT_FILENO;
-use multisize::Checked;
-use multisize::Shown;
+use text_theory::Head;
 ghost use Prim.Native.Nat.{_≤_};
 ghost use lib.ListN.{length};
 
@@ -16,7 +16,7 @@ ghost use lib.ListN.{length};
 pub(crate) fn print_build(picture: &[u8], head: Head, out: &mut [u8], work: &mut [u8]) -> usize
     ensures { λ n. ⌜ n ≤ length (now (out .exit)) ⌝ }
 {
-    let built = building::build(picture, head, out, work);
+    let built = file_build::build(picture, head, out, work);
     io::write_all(STDOUT_FILENO, b"build");
     print_built(built);
     print_used(out);
@@ -52,7 +52,7 @@ fn print_built(built: Built) {
 
 // The number given, size and range, and how many bytes of the work space aren't 0.
 pub(crate) fn print_check(file: &[u8], work: &mut [u8]) {
-    let checked = multisize::check(file, work);
+    let checked = file_read::check(file, work);
     io::write_all(STDOUT_FILENO, b"check");
     print_checked(checked);
     print_used(work);
@@ -61,7 +61,7 @@ pub(crate) fn print_check(file: &[u8], work: &mut [u8]) {
 
 // The same, and the spaces of picture and map.
 pub(crate) fn print_read(file: &[u8], picture: &mut [u8], map: &mut [u16], work: &mut [u8]) {
-    let checked = multisize::read(file, picture, map, work);
+    let checked = file_read::read(file, picture, map, work);
     io::write_all(STDOUT_FILENO, b"read");
     print_checked(checked);
     print_used(work);
@@ -74,7 +74,7 @@ pub(crate) fn print_read(file: &[u8], picture: &mut [u8], map: &mut [u16], work:
 
 // The width, the number given, the size shown, how many bytes of the work space aren't 0, and the output space.
 pub(crate) fn print_show(file: &[u8], wanted: usize, out: &mut [u8], work: &mut [u8]) {
-    let shown = multisize::show(file, wanted, out, work);
+    let shown = file_read::show(file, wanted, out, work);
     io::write_all(STDOUT_FILENO, b"show");
     print_number(wide_length(wanted));
     print_shown(shown);

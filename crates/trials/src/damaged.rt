@@ -84,9 +84,9 @@ fn print_numbers(file: &[u8]) {
     let mut picture = [7u8; 73];
     let mut map = [9u16; 73];
     let mut work = [1u8; 2304];
-    let checked = answers::checked_number(multisize::check(file, &mut work));
-    let read = answers::checked_number(multisize::read(file, &mut picture, &mut map, &mut work));
-    let shown = answers::shown_number(multisize::show(file, 1, &mut picture, &mut work));
+    let checked = answers::checked_number(file_read::check(file, &mut work));
+    let read = answers::checked_number(file_read::read(file, &mut picture, &mut map, &mut work));
+    let shown = answers::shown_number(file_read::show(file, 1, &mut picture, &mut work));
     print_number(checked);
     print_other(b" read", read, checked);
     print_other(b" show", shown, checked);

@@ -4,8 +4,8 @@ use crate::count;
 use crate::fill;
 use energy::Kind;
 use energy::Size;
-use form::Head;
 use libc::STDOUT_FILENO;
+use text_theory::Head;
 ghost use Prim.Native.Nat.{_<_, _≤_};
 
 // Files of pictures of every width to 5 and height to 3, of both kinds, that offer all widths; then two that offer fewer.

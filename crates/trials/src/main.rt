@@ -7,11 +7,11 @@ mod objects;
 mod retargets;
 mod rooms;
 
-use carving::Axis;
 use energy::Kind;
 use energy::Size;
-use finding::Found;
 use libc::STDOUT_FILENO;
+use seam_cut::Axis;
+use seam_find::Found;
 ghost use Prim.Native.Nat.{_<_, _≤_};
 ghost use lib.ListN.{length};
 
@@ -129,7 +129,7 @@ fn print_seams(space: [u8; 72], bytes: usize, size: Size)
 fn print_find(picture: &[u8], size: Size, axis: Axis) {
     let mut seam = [9u16; 8];
     let mut work = [1u8; 768];
-    let found = carving::find(picture, size, axis, &mut seam, &mut work);
+    let found = seam_cut::find(picture, size, axis, &mut seam, &mut work);
     print_found(found);
     print_seam(&seam);
     print_number(wide_byte(work[767]));
@@ -156,7 +156,7 @@ fn print_marked(
 fn print_find_marked(picture: &[u8], marks: &[u8], size: Size, axis: Axis) {
     let mut seam = [9u16; 8];
     let mut work = [1u8; 768];
-    let found = carving::find_marked(picture, marks, size, axis, &mut seam, &mut work);
+    let found = seam_cut::find_marked(picture, marks, size, axis, &mut seam, &mut work);
     print_found(found);
     print_seam(&seam);
     print_number(wide_byte(work[767]));
@@ -177,7 +177,7 @@ fn print_cut_marked(
     let mut left = marks;
     let mut seam = [9u16; 8];
     let mut work = [1u8; 768];
-    let found = carving::cut_marked(
+    let found = seam_cut::cut_marked(
         &mut copy[..bytes],
         &mut left[..pixels],
         size,
@@ -198,7 +198,7 @@ fn print_cut(space: [u8; 72], bytes: usize, size: Size, axis: Axis)
     let mut copy = space;
     let mut seam = [9u16; 8];
     let mut work = [1u8; 768];
-    let found = carving::cut(&mut copy[..bytes], size, axis, &mut seam, &mut work);
+    let found = seam_cut::cut(&mut copy[..bytes], size, axis, &mut seam, &mut work);
     print_found(found);
     print_bytes(&copy[..bytes]);
     io::write_all(STDOUT_FILENO, b"\n");

@@ -9,7 +9,7 @@ use crate::wide_column;
 use energy::Kind;
 use energy::Size;
 use libc::STDOUT_FILENO;
-use removal::Removal;
+use seam_objects::Removal;
 ghost use Prim.Native.Nat.{_<_, _≤_};
 
 // Pictures of two rows and every width to 4, of both kinds, with a budget of 0 to 3.
@@ -61,7 +61,7 @@ fn print_removal(
     let mut copy = space;
     let mut left = marks;
     let mut work = [1u8; 768];
-    let how = removal::remove(
+    let how = seam_objects::remove(
         &mut copy[..bytes],
         &mut left[..pixels],
         size,

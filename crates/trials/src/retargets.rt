@@ -7,9 +7,9 @@ use crate::wide_byte;
 use energy::Kind;
 use energy::Size;
 use libc::STDOUT_FILENO;
-use retargeting::Columns;
-use retargeting::Retargeted;
-use retargeting::Rows;
+use seam_retarget::Columns;
+use seam_retarget::Retargeted;
+use seam_retarget::Rows;
 ghost use Prim.Native.Nat.{_<_, _≤_};
 
 // A line for each count of rows and of columns up to 2.
@@ -41,7 +41,7 @@ fn print_retargets(picture: &[u8], size: Size, rows: usize) {
 fn print_retarget(picture: &[u8], size: Size, rows: Rows, columns: Columns) {
     let mut out = [7u8; 20];
     let mut work = [1u8; 2100];
-    let given = retargeting::retarget(picture, size, rows, columns, &mut out, &mut work);
+    let given = seam_retarget::retarget(picture, size, rows, columns, &mut out, &mut work);
     print_total(given);
     print_bytes(&out);
     print_number(wide_byte(work[2099]));

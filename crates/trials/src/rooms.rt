@@ -6,7 +6,7 @@ use crate::files;
 use crate::fill;
 use energy::Kind;
 use energy::Size;
-use form::Head;
+use text_theory::Head;
 ghost use Prim.Native.Nat.{_<_, _≤_};
 ghost use lib.ListN.{length};
 

@@ -1,0 +1,92 @@
+-- The rows of a map: read from bytes, and how long their lines are.
+use mathlib.Core.Path.{_≡_, refl, sym, ap, ap₂, _∙_}
+use mathlib.Core.List.{List, [], _∷_, _++_, map, append-nil}
+use Prim.Native.Nat.{ℕ, zero, suc, _+_, _-_, _*_, _≤_, _<_}
+use native.Mathlib.Omega.{arith}
+use lib.ListN.{length, getD, take, drop, replicate, length-map}
+use lib.Seq.{take-append-add, take-at}
+use Rattle.grids.specs.Each.{Grid, none, more}
+use Rattle.grids.specs.Table.{table}
+use Rattle.grids.specs.Rows.{rowsOf, rowAt, flat}
+use Rattle.grids.proofs.Shapes.{map-at}
+use Rattle.grids.proofs.Tables.{length-table, table-same, table-all}
+use Rattle.grids.proofs.Rows.{rowsOf-flat, rowsOf-at, length-rowsOf}
+use Rattle.seam_theory.specs.Paths.{run}
+use Rattle.seam_theory.proofs.Members.{run-append}
+use Rattle.text_theory.specs.Decimal.{digits}
+use Rattle.text_theory.specs.Files.{mapWord, lineText, mapText}
+use Rattle.text_theory.specs.Lengths.{total, spaced, mapLength}
+use Rattle.text_theory.proofs.Decimals.{digits-small}
+use Rattle.text_theory.proofs.Lengths.{map-length}
+use Rattle.map_build.specs.Numbers.{pairs}
+use Rattle.map_build.proofs.Lists.{drop-replicate}
+use Rattle.map_build.proofs.Pairs.{pairs-at, pairs-flat, grid-pairs}
+use Rattle.file_build.specs.Kernels.{numberAt, firstNumbers, mapIn}
+
+-- A row's numbers from its bytes.
+row-back : (w : ℕ) (ys : List ℕ) → length ys ≡ w → firstNumbers w (pairs ys) ≡ ys
+unfolding numberAt
+row-back w ys e =
+    table-same (numberAt (pairs ys)) (λ i. getD ys i 0) w (λ i l. pairs-at ys i) ∙ ap (table (λ i. getD ys i 0)) (sym e) ∙ table-all ys 0
+
+rows-back : {w h : ℕ} {m : List (List ℕ)} → Grid w h m → map (firstNumbers w) (map pairs m) ≡ m
+rows-back none = refl
+rows-back {w} (more {x = y} e g) = ap₂ _∷_ (row-back w y e) (rows-back g)
+
+-- A map from its bytes.
+pub map-back : {w h : ℕ} {m : List (List ℕ)} → Grid w h m → mapIn w h (pairs (flat m)) ≡ m
+map-back {w} {h} {m} g =
+    ap (λ b. mapIn w h b) (pairs-flat m ∙ sym (append-nil (flat (map pairs m))))
+    ∙ ap (map (firstNumbers w)) (rowsOf-flat [] (grid-pairs g)) ∙ rows-back g
+
+pub maps-many : (w h : ℕ) (b : List ℕ) → length (mapIn w h b) ≡ h
+maps-many w h b = length-map (rowsOf (2 * w) h b) (firstNumbers w) ∙ length-rowsOf (2 * w) h b
+
+-- The line of row r, its numbers read from the part of the bytes where it stands.
+pub map-line : (w h r : ℕ) (b row rest : List ℕ) → r < h → row ≡ firstNumbers w (take (r * (2 * w) + 2 * w - r * (2 * w)) (drop (r * (2 * w)) b)) ++ rest
+    → mapText (take w row) ≡ mapWord ++ lineText digits (getD (mapIn w h b) r [])
+unfolding mapText
+map-line w h r b row rest l e =
+    let n : r * (2 * w) + 2 * w - r * (2 * w) ≡ 2 * w = omega arith in
+    let below : r < length (rowsOf (2 * w) h b) = rw (length-rowsOf (2 * w) h b) l in
+    let numbers : take w row ≡ firstNumbers w (rowAt (2 * w) r b) =
+    ap (take w) (e ∙ ap (λ k. firstNumbers w (take k (drop (r * (2 * w)) b)) ++ rest) n) ∙ take-at (firstNumbers w (rowAt (2 * w) r b)) rest w (length-table (numberAt (rowAt (2 * w) r b)) w) in
+    ap mapText
+    (numbers ∙ ap (firstNumbers w) (sym (rowsOf-at (2 * w) h b r l)) ∙ sym (map-at (firstNumbers w) (rowsOf (2 * w) h b) r [] [] below))
+
+-- The numbers in their order.
+pub run-table : (k : ℕ) → table (λ t. t + 1) k ≡ run 1 k
+unfolding run
+run-table zero = refl
+run-table (suc k) =
+    let e : k + 1 ≡ suc k = omega arith in
+    let f : 1 + k ≡ k + 1 = omega arith in
+    ap (_++ ((k + 1) ∷ [])) (run-table k) ∙ sym (ap (run 1) (sym e) ∙ run-append 1 k 1 ∙ rw f)
+
+total-append : (f : ℕ → ℕ) (xs ys : List ℕ) → total f (xs ++ ys) ≡ total f xs + total f ys
+unfolding total
+total-append f [] ys = omega arith
+total-append f (x ∷ xs) ys = omega (arith, total-append f xs ys)
+
+-- Zeros, each with the blank before it.
+zeros-total : (n m : ℕ) → n ≤ m → total spaced (take n (replicate m 0)) ≡ 2 * n
+unfolding total spaced
+zeros-total zero m l = refl
+zeros-total (suc n) zero l = absurd (omega arith)
+zeros-total (suc n) (suc m) l = rw (digits-small 0 (omega arith)) (omega (arith, zeros-total n m (omega arith)))
+
+-- The line of the numbers in their order and zeros behind them.
+pub order-long : (k w : ℕ) (row : List ℕ) → k ≤ w → w ≤ 512 → row ≡ run 1 k ++ drop k (replicate 512 0)
+    → length (mapText (take w row)) ≡ total spaced (run 1 k) + 2 * (w - k) + 6
+unfolding mapLength
+order-long k w row l m e =
+    let long : length (run 1 k) ≡ k = ap length (sym (run-table k)) ∙ length-table (λ t. t + 1) k in
+    let split : w ≡ length (run 1 k) + (w - k) = omega (arith, long) in
+    let n : 512 ≡ k + (512 - k) = omega arith in
+    let zeros : List ℕ = replicate (512 - k) 0 in
+    let back : _≡_ {A = List ℕ} (drop k (replicate 512 0)) (replicate (512 - k) 0) = ap (λ i. drop k (replicate i 0)) n ∙ drop-replicate k (512 - k) 0 in
+    let front : take w row ≡ run 1 k ++ take (w - k) (replicate (512 - k) 0) =
+    ap (take w) (e ∙ ap (run 1 k ++_) back) ∙ ap (λ i. take i (run 1 k ++ zeros)) split ∙ take-append-add (run 1 k) zeros (w - k) in
+    map-length (take w row)
+    ∙ ap (λ r. total spaced r + 6) front
+    ∙ omega (arith, total-append spaced (run 1 k) (take (w - k) (replicate (512 - k) 0)), zeros-total (w - k) (512 - k) (omega arith))

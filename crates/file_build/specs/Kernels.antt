@@ -1,0 +1,80 @@
+-- What the private functions of this crate ask and promise. No public promise cites it.
+use mathlib.Core.Path.{_≡_}
+use mathlib.Core.List.{List, _++_, map}
+use Prim.Native.Nat.{ℕ, _+_, _*_, _≤_, _<_}
+use lib.ListN.{length, getD, drop, replicate}
+use Rattle.grids.specs.Table.{table}
+use Rattle.grids.specs.Rows.{rowsOf}
+use Rattle.energy.specs.declared.pictures.Kind.{Kind}
+use Rattle.energy.specs.declared.pictures.Size.{Size}
+use Rattle.energy.specs.Refusals.{refusal}
+use Rattle.energy.specs.Pictures.{Picture, largestSide, sizeRules, picture}
+use Rattle.text_theory.specs.declared.Head.{Head}
+use Rattle.text_theory.specs.Decimal.{digits}
+use Rattle.text_theory.specs.Files.{Parts, rowWord, mapWord, each, pixelText, lineText, text}
+use Rattle.file_theory.specs.Rules.{buildRules}
+use Rattle.file_build.specs.Building.{fileIn}
+
+-- The row lines of a picture, and the map lines of a map.
+abbrev pub rowLines : Kind → Picture → List ℕ
+rowLines k p = each rowWord (lineText (pixelText k)) p
+
+abbrev pub mapLines : List (List ℕ) → List ℕ
+mapLines m = each mapWord (lineText digits) m
+
+-- The i-th number in bytes, two a number, the low byte first; the first w of them; a map of h rows of w numbers.
+unfoldable pub numberAt : List ℕ → ℕ → ℕ
+numberAt b i = getD b (2 * i) 0 + 256 * getD b (2 * i + 1) 0
+
+abbrev pub firstNumbers : ℕ → List ℕ → List ℕ
+firstNumbers w b = table (numberAt b) w
+
+abbrev pub mapIn : ℕ → ℕ → List ℕ → List (List ℕ)
+mapIn w h b = map (firstNumbers w) (rowsOf (2 * w) h b)
+
+-- A file's parts from bytes: its picture and its map.
+abbrev pub partsIn : Head → List ℕ → List ℕ → Parts
+partsIn h b m = record { head = h; rows = picture (h .size) b; maps = mapIn (h .size .width) (h .size .height) m }
+
+-- A row with places for so many numbers.
+pub record OrderNeeded (row : List ℕ) (depth : ℕ) : Type 0 where
+  pub room : depth ≤ length row
+  pub small : depth ≤ largestSide
+
+-- A picture of its size, and a depth below its width.
+pub record FitNeeded (b : List ℕ) (h : Head) : Type 0 where
+  pub sized : refusal (sizeRules (h .size) (length b)) ≡ 0
+  pub deep : h .depth < h .size .width
+
+-- The bytes of w numbers, and places for them.
+pub record NumbersNeeded (map : List ℕ) (w : ℕ) (row : List ℕ) : Type 0 where
+  pub inside : 2 * w ≤ length map
+  pub room : w ≤ length row
+  pub narrow : w ≤ largestSide
+
+-- A picture of its size, and room for its row lines.
+pub record RowsNeeded (out : List ℕ) (at : ℕ) (b : List ℕ) (z : Size) : Type 0 where
+  pub sized : refusal (sizeRules z (length b)) ≡ 0
+  pub room : at + length (rowLines (z .kind) (picture z b)) ≤ length out
+
+-- The bytes of a map, and room for its lines.
+pub record MapsNeeded (out : List ℕ) (at : ℕ) (map : List ℕ) (w h : ℕ) : Type 0 where
+  pub long : length map ≡ h * (2 * w)
+  pub narrow : w ≤ largestSide
+  pub room : at + length (mapLines (mapIn w h map)) ≤ length out
+
+-- A picture of its size, the bytes of its map, and room for the file.
+pub record PrintNeeded (b : List ℕ) (h : Head) (map out : List ℕ) : Type 0 where
+  pub sized : refusal (sizeRules (h .size) (length b)) ≡ 0
+  pub long : length map ≡ h .size .height * (2 * h .size .width)
+  pub room : length (text (partsIn h b map)) ≤ length out
+
+-- Nothing is refused.
+pub record BuildNeeded (b : List ℕ) (h : Head) (out work : List ℕ) : Type 0 where
+  pub served : refusal (buildRules b h (length out) (length work)) ≡ 0
+
+-- The file, its length, and the work space cleared.
+pub record FileGiven (b : List ℕ) (h : Head) (out work : List ℕ) (n : ℕ) (out′ work′ : List ℕ) : Type 0 where
+  pub length-is : n ≡ length (fileIn h b)
+  pub out-is : out′ ≡ fileIn h b ++ drop (length (fileIn h b)) out
+  pub work-is : work′ ≡ replicate (length work) 0

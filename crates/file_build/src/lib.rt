@@ -1,0 +1,69 @@
+// The multi-size file of a picture.
+mod fitting;
+mod lines;
+
+use energy::Refusal;
+use energy::Verdict;
+use text_theory::Head;
+ghost use mathlib.Core.Path.{_≡_};
+ghost use Rattle.energy.specs.Refusals.{given, refusal};
+ghost use Rattle.file_theory.specs.Rules.{buildRules};
+ghost use Rattle.file_build.specs.Building.{BuildGiven};
+ghost use Rattle.file_build.specs.Kernels.{BuildNeeded, FileGiven};
+
+// The length of the file, or why there is none.
+pub enum Built {
+    Length(usize),
+    Refused(Refusal),
+}
+
+// The multi-size file of a picture, put into the front of out: its length. Refused by 2, 3, 4, 6 and 8.
+pub fn build(picture: &[u8], head: Head, out: &mut [u8], work: &mut [u8]) -> Built
+    ensures { λ b. ⌜ BuildGiven (now (picture .entry)) head (now (out .entry)) (now (work .entry)) b (now (out .exit)) (now (work .exit)) ⌝ }
+{
+    let fits = rooms(picture, head, out.len(), work.len());
+    if let Verdict::Refused(why) = fits {
+        return Built::Refused(why);
+    }
+    Built::Length(put_file(picture, head, out, work))
+}
+
+// Which of 2, 3, 4, 6 and 8 refuses this picture, range and buffers of these lengths, or none.
+fn rooms(picture: &[u8], head: Head, out: usize, work: usize) -> Verdict
+    ensures { λ v. ⌜ given v ≡ refusal (buildRules (now (picture .entry)) head out work) ⌝ }
+{
+    let size = head.size;
+    let fits = energy::sized(size, picture.len());
+    let Verdict::Served = fits else {
+        return fits;
+    };
+    let width = size.width;
+    let height = size.height;
+    if map_build::allowed(width, head.depth, head.growth) {
+        if fitting::file_fits(picture, head, out) {
+            if work < 32 * (height * width) {
+                return Verdict::Refused(Refusal::Space);
+            }
+            return Verdict::Served;
+        }
+        return Verdict::Refused(Refusal::Space);
+    }
+    Verdict::Refused(Refusal::Range)
+}
+
+// The file where nothing is refused. The map is built in the work space, from a copy of the picture.
+fn put_file(picture: &[u8], head: Head, out: &mut [u8], work: &mut [u8]) -> usize
+    requires { ⌜ BuildNeeded (now picture) head (now out) (now work) ⌝ }
+    ensures { λ n. ⌜ FileGiven (now (picture .entry)) head (now (out .entry)) (now (work .entry)) n (now (out .exit)) (now (work .exit)) ⌝ }
+{
+    let size = head.size;
+    let width = size.width;
+    let height = size.height;
+    bytes::copy(picture, work);
+    map_build::map_in(work, size, head.depth);
+    let at = picture.len() + height * width;
+    let end = at + height * (2 * width);
+    let length = lines::print_file(picture, head, &work[at..end], out);
+    seam_moves::clear(work);
+    length
+}

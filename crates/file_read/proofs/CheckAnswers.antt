@@ -1,0 +1,63 @@
+-- The answers of checking a file.
+use mathlib.Core.Path.{_≡_, refl, sym, ap, _∙_}
+use mathlib.Core.List.{List, [], _∷_}
+use Prim.Native.Nat.{ℕ, _*_, _≤_, _<_}
+use native.Mathlib.Omega.{arith}
+use borrow.Author.Tests.{lt-ltb, le-ltb}
+use lib.ListN.{length, replicate}
+use Rattle.energy.specs.declared.refusals.Refusal.{Refusal}
+use Rattle.energy.specs.declared.refusals.Refusal.the-variants.{Space}
+use Rattle.energy.specs.declared.refusals.Verdict.{Verdict}
+use Rattle.energy.specs.declared.refusals.Verdict.the-variants as verdicts
+use Rattle.energy.specs.Refusals.{Rule, given, refusal}
+use Rattle.energy.proofs.Rules.{kept-by}
+use Rattle.seam_find.specs.Finding.{pixels, worked}
+use Rattle.text_theory.specs.declared.Head.{Head}
+use Rattle.text_theory.specs.Files.{parse}
+use Rattle.file_theory.specs.Rules.{judgedRules, workRule, checkRules}
+use Rattle.file_theory.specs.Shows.{headIn}
+use Rattle.file_read.specs.declared.checking.Checked.{Checked}
+use Rattle.file_read.specs.declared.checking.Checked.the-variants as checks
+use Rattle.file_read.specs.Multisize.{CheckGiven}
+use Rattle.file_read.specs.Kernels.{OpenGiven, MapJudged}
+use Rattle.file_read.proofs.Answered.{early-number, early-work, is-open, own-number, judged-number, judged-work}
+
+module _ (file work : List ℕ) (answer : Checked) (g : OpenGiven file answer) where
+  -- 1 to 6.
+  pub check-early : (why : Refusal) → answer ≡ checks.Refused why → CheckGiven file work answer work
+  check-early why is = record {
+    number = early-number file answer g why is (λ p. workRule (p .head .size) (length work) ∷ judgedRules p);
+    head = g .head;
+    work-left = early-work file answer g why is (replicate (length work) 0) work;
+  }
+
+  module _ (h : Head) (is : answer ≡ checks.Accepted h) where
+    abbrev own : Head → List Rule
+    own x = workRule (x .size) (length work) ∷ []
+
+    -- 8.
+    pub check-short : length work < 32 * pixels (h .size) → CheckGiven file work (checks.Refused Space) work
+    check-short l = record {
+      number = own-number file h (is-open file answer g h is) own 8 (rw (lt-ltb _ _ l)) (omega arith);
+      head = refl;
+      work-left = refl;
+    }
+
+    module _ (l : 32 * pixels (h .size) ≤ length work) (v : Verdict) (work′ : List ℕ) (j : MapJudged file work v work′) where
+      same-number : given v ≡ refusal (checkRules file (length work))
+      same-number = j .number ∙ judged-number file h (is-open file answer g h is) own refl (rw (le-ltb _ _ l))
+
+      -- 9 to 11.
+      pub check-refused : (why : Refusal) → v ≡ verdicts.Refused why → CheckGiven file work (checks.Refused why) work′
+      check-refused why e = record {
+        number = sym (ap given e) ∙ same-number;
+        head = kept-by why (headIn (parse file)) _;
+        work-left = judged-work file work v work′ j ∙ ap (λ x. worked (given x) (replicate (length work) 0) work) e;
+      }
+
+      pub check-accepted : v ≡ verdicts.Served → CheckGiven file work (checks.Accepted h) work′
+      check-accepted e = record {
+        number = sym (ap given e) ∙ same-number;
+        head = sym (is-open file answer g h is .head-is);
+        work-left = judged-work file work v work′ j ∙ ap (λ x. worked (given x) (replicate (length work) 0) work) e;
+      }

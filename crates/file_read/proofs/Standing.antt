@@ -1,0 +1,107 @@
+-- The picture and the recorded map of a file, standing in the work space where they are judged.
+use mathlib.Core.Path.{_≡_, refl, sym, ap, ap₂, _∙_}
+use mathlib.Core.Bool.{_&&_}
+use mathlib.Core.List.{List, [], _∷_, _++_, append-nil}
+use Prim.Native.Nat.{ℕ, _+_, _-_, _*_, _/_, _≤_, _<_}
+use native.Mathlib.Omega.{arith}
+use borrow.Author.Tests.{ltb-true, lt-leb, le-ltb}
+use borrow.Rule.Slice.PartMut.{putMid, midOf, same-len-mid}
+use lib.Dec.{leb, ltb}
+use lib.ListN.{length, take, drop, replicate, drop-of-length-le}
+use lib.Seq.{take-at, drop-at, take-take, take-append-le, length-take-le}
+use Rattle.grids.specs.Rows.{rowsOf, flat}
+use Rattle.grids.proofs.Rows.{rowsOf-flat, length-flat}
+use Rattle.grids.proofs.Parts.{put-part, part-length}
+use Rattle.energy.specs.declared.refusals.Verdict.{Verdict}
+use Rattle.energy.specs.Refusals.{_when_, given, refusal}
+use Rattle.energy.specs.Pictures.{sideRules, pictureBytes, picture, bytes}
+use Rattle.energy.proofs.Rules.{both, served-first}
+use Rattle.energy.proofs.Buffers.{picture-bytes, length-bytes}
+use Rattle.map_theory.specs.Widths.{allowed}
+use Rattle.seam_find.specs.Finding.{pixels, pictureIn, worked}
+use Rattle.seam_cut.proofs.Turns.{bytes-few}
+use Rattle.map_build.specs.Numbers.{pairs}
+use Rattle.map_build.specs.Mapping.{mapBytes}
+use Rattle.map_build.proofs.Pairs.{length-pairs}
+use Rattle.map_check.specs.Judging.{numbersIn, recordedAt, recordedIn, judgeInRules, recordedRules, JudgeGiven}
+use Rattle.map_check.proofs.Recorded.{numbers-pairs}
+use Rattle.map_check.proofs.Answers.{worked-judged}
+use Rattle.text_theory.specs.declared.Head.{Head}
+use Rattle.text_theory.specs.Files.{parse}
+use Rattle.file_theory.specs.Shows.{rowsIn, mapsIn}
+use Rattle.file_read.specs.Kernels.{judgedIn, MapJudged}
+use Rattle.file_read.proofs.Parsed.{Parsed}
+use Rattle.file_read.proofs.Places.{map-bytes}
+
+module _ (file : List ℕ) (h : Head) (k : Parsed file h) (work : List ℕ) (room : 32 * pixels (h .size) ≤ length work) where
+  -- There is room for a picture and five bytes a pixel.
+  pub judge-room : pictureBytes (h .size) + 5 * pixels (h .size) ≤ length work
+  judge-room = omega (arith, bytes-few (h .size))
+
+  deep : h .depth < h .size .width
+  unfolding allowed
+  deep = ltb-true _ _ (both (ltb (h .depth) (h .size .width)) (leb (h .growth) (h .depth) && leb (h .growth) (h .size .width / 2)) (k .range) .0)
+
+  -- So nothing up to 8 refuses a space as long as this one.
+  none-refused : (n : ℕ) → n ≡ length work → refusal (judgeInRules (h .size) (h .depth) n) ≡ 0
+  none-refused n e =
+      served-first (sideRules (h .size)) (6 when leb (h .size .width) (h .depth) ∷ 8 when ltb n (recordedAt (h .size) + mapBytes (h .size)) ∷ []) refl (k .sides-served)
+      ∙ simp (lt-leb _ _ deep, le-ltb n (recordedAt (h .size) + mapBytes (h .size)) (omega (arith, judge-room, map-bytes (h .size))))
+
+  -- The picture at the front, and the recorded map in its part of the space.
+  module _ (first : List ℕ) (as-long : length first ≡ length work) (is : first ≡ bytes (rowsIn (parse file)) ++ drop (pictureBytes (h .size)) work)
+      (at e : ℕ) (starts : at ≡ pictureBytes (h .size) + 3 * pixels (h .size)) (ends : e ≡ at + 2 * pixels (h .size))
+      (new : List ℕ) (kept : length new ≡ length (midOf at (e - at) first)) (recorded : new ≡ pairs (flat (mapsIn (parse file))) ++ drop (mapBytes (h .size)) (midOf at (e - at) first)) where
+    abbrev whole : List ℕ
+    whole = putMid at (e - at) first new
+
+    whole-is : whole ≡ take at first ++ (new ++ drop e first)
+    whole-is = put-part at e first new (omega arith)
+
+    front : length (take at first) ≡ at
+    front = length-take-le at first (omega (arith, judge-room))
+
+    new-is : new ≡ pairs (flat (mapsIn (parse file)))
+    new-is =
+        let part = midOf at (e - at) first in
+        recorded
+        ∙ ap (pairs (flat (mapsIn (parse file))) ++_)
+        (drop-of-length-le part {i = mapBytes (h .size)} (omega (arith, map-bytes (h .size), part-length at e first (omega (arith, judge-room)))))
+        ∙ append-nil (pairs (flat (mapsIn (parse file))))
+
+    new-long : length new ≡ mapBytes (h .size)
+    new-long =
+        let long : length (flat (mapsIn (parse file))) ≡ pixels (h .size) = length-flat (k .maps-grid) in
+        omega (arith, ap length new-is, length-pairs (flat (mapsIn (parse file))), long, map-bytes (h .size))
+
+    picture-there : pictureIn (h .size) whole ≡ rowsIn (parse file)
+    picture-there =
+        let n = pictureBytes (h .size) in
+        let p = rowsIn (parse file) in
+        ap (picture (h .size))
+        (ap (take n) whole-is ∙ take-append-le n (take at first) (new ++ drop e first) (omega (arith, front)) ∙ take-take n at first (omega arith)
+        ∙ ap (take n) is ∙ take-at (bytes p) (drop n work) n (length-bytes (h .size) p (k .of-size)))
+        ∙ picture-bytes (h .size) p (k .of-size)
+
+    maps-there : recordedIn (h .size) whole ≡ mapsIn (parse file)
+    maps-there =
+        let m = mapsIn (parse file) in
+        let start : recordedAt (h .size) ≡ at = omega (arith, map-bytes (h .size)) in
+        ap (λ b. rowsOf (h .size .width) (h .size .height) (numbersIn b))
+        (ap (take (mapBytes (h .size))) (ap₂ drop start whole-is ∙ drop-at (take at first) (new ++ drop e first) at front)
+        ∙ take-at new (drop e first) (mapBytes (h .size)) new-long ∙ new-is)
+        ∙ ap (rowsOf (h .size .width) (h .size .height)) (numbers-pairs (flat m) ∙ sym (append-nil (flat m))) ∙ rowsOf-flat [] (k .maps-grid)
+
+    -- So judging it there judges the map of the file.
+    pub map-judged : (v : Verdict) (work′ : List ℕ) → JudgeGiven whole (h .size) (h .depth) v work′ → MapJudged file work v work′
+    map-judged v work′ g =
+        let same : length whole ≡ length work = same-len-mid at (e - at) first new kept ∙ as-long in
+        let number : given v ≡ refusal (recordedRules (h .size) (h .depth) (pictureIn (h .size) whole) (recordedIn (h .size) whole)) =
+        g .number-is
+        ∙ served-first (judgeInRules (h .size) (h .depth) (length whole)) (recordedRules (h .size) (h .depth) (pictureIn (h .size) whole) (recordedIn (h .size) whole)) refl (none-refused (length whole) same) in
+        record {
+          number = number ∙ ap₂ (λ p m. refusal (recordedRules (h .size) (h .depth) p m)) picture-there maps-there ∙ sym (ap (λ q. refusal (judgedIn q)) (k .parsed));
+          work-left =
+              g .space-is ∙ ap (λ n. worked n (replicate (length whole) 0) whole) number
+              ∙ worked-judged (h .size) (h .depth) (pictureIn (h .size) whole) (recordedIn (h .size) whole) (replicate (length whole) 0) whole ∙ ap (λ n. replicate n 0) same;
+        }

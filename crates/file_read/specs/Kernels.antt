@@ -1,0 +1,104 @@
+-- What the private functions of this crate ask and promise. No public promise cites it.
+use mathlib.Core.Path.{_≡_}
+use mathlib.Core.Bool.{true, not}
+use mathlib.Core.Option.{Option, none, some}
+use mathlib.Core.List.{List, [], _∷_, _++_}
+use Prim.Native.Nat.{ℕ, _*_, _≤_}
+use lib.Dec.{ltb}
+use lib.ListN.{length, take, drop, replicate}
+use Rattle.energy.specs.declared.pictures.Size.{Size}
+use Rattle.energy.specs.declared.refusals.Verdict.{Verdict}
+use Rattle.energy.specs.Refusals.{Rule, _when_, given, refusal, served}
+use Rattle.energy.specs.Pictures.{channelsOf, sideRules, pictureBytes, bytes}
+use Rattle.seam_find.specs.Finding.{pixels}
+use Rattle.map_theory.specs.Widths.{allowed, offered}
+use Rattle.text_theory.specs.declared.Head.{Head}
+use Rattle.text_theory.specs.Decimal.{digits}
+use Rattle.text_theory.specs.Files.{Parts, parse, each, rowWord, mapWord, lineText, pixelText, closed}
+use Rattle.file_theory.specs.Rules.{partRules, judgedRules, formRules, workRule}
+use Rattle.file_theory.specs.Shows.{headIn, rowsIn, shows, drawnBytes}
+use Rattle.file_read.specs.declared.checking.Checked.{Checked}
+use Rattle.file_read.specs.Multisize.{checkedNumber, checkedHead}
+
+-- What stands in a text from its row lines on, and from its map lines on.
+abbrev pub mapLines : Option Parts → List ℕ
+mapLines none = []
+mapLines (some p) = each mapWord (lineText digits) (p .maps) ++ closed
+
+abbrev pub rowLines : Option Parts → List ℕ
+rowLines none = []
+rowLines (some p) = each rowWord (lineText (pixelText (p .head .size .kind))) (p .rows) ++ mapLines (some p)
+
+-- Which of 1 to 6 is given, and size and range where none is.
+pub record OpenGiven (file : List ℕ) (answer : Checked) : Type 0 where
+  pub number : checkedNumber answer ≡ refusal (formRules partRules (parse file))
+  pub head : checkedHead answer ≡ served (checkedNumber answer) (headIn (parse file)) none
+
+-- A file that 1 to 6 don't refuse, of this size and range.
+pub record Open (file : List ℕ) (h : Head) : Type 0 where
+  pub sound : refusal (formRules partRules (parse file)) ≡ 0
+  pub head-is : headIn (parse file) ≡ some h
+
+-- The row lines, from the first one on, and room for the picture.
+pub record RowsNeeded (file : List ℕ) (h : Head) (at space : ℕ) : Type 0 where
+  pub opened : Open file h
+  pub place : drop at file ≡ rowLines (parse file)
+  pub room : pictureBytes (h .size) ≤ space
+
+pub record RowsRead (file : List ℕ) (h : Head) (space : List ℕ) (at : ℕ) (space′ : List ℕ) : Type 0 where
+  pub place : drop at file ≡ mapLines (parse file)
+  pub space-is : space′ ≡ bytes (rowsIn (parse file)) ++ drop (pictureBytes (h .size)) space
+
+-- The map lines, from the first one on, and room for so many values a pixel.
+pub record MapsNeeded (file : List ℕ) (h : Head) (at values space : ℕ) : Type 0 where
+  pub opened : Open file h
+  pub place : drop at file ≡ mapLines (parse file)
+  pub room : values * pixels (h .size) ≤ space
+
+-- Room for the judging of a map.
+pub record JudgeNeeded (file : List ℕ) (h : Head) (work : ℕ) : Type 0 where
+  pub opened : Open file h
+  pub room : 32 * pixels (h .size) ≤ work
+
+-- What 9, 10 and 11 say of a file.
+abbrev pub judgedIn : Option Parts → List Rule
+judgedIn none = []
+judgedIn (some p) = judgedRules p
+
+-- Which of 9, 10 and 11 is given, and the work space.
+pub record MapJudged (file work : List ℕ) (answer : Verdict) (work′ : List ℕ) : Type 0 where
+  pub number : given answer ≡ refusal (judgedIn (parse file))
+  pub work-left : work′ ≡ replicate (length work) 0
+
+-- What 8 says of the spaces for reading.
+abbrev pub spaceRules : Size → ℕ → ℕ → ℕ → List Rule
+spaceRules z picture map work = 8 when ltb picture (pictureBytes z) ∷ 8 when ltb map (pixels z) ∷ workRule z work ∷ []
+
+-- What 7 and 8 say of a wanted width.
+abbrev pub wantedRules : Head → ℕ → ℕ → ℕ → List Rule
+wantedRules h v out work =
+    7 when not (offered (h .size .width) (h .depth) (h .growth) v)
+    ∷ 8 when ltb out (h .size .height * (v * channelsOf (h .size .kind)))
+    ∷ workRule (h .size) work
+    ∷ []
+
+-- Size and range that are allowed.
+pub record Sound (h : Head) : Type 0 where
+  pub sides : refusal (sideRules (h .size)) ≡ 0
+  pub range : allowed (h .size .width) (h .depth) (h .growth) ≡ true
+
+-- A file that is accepted, a width that it offers, and room for what is shown.
+pub record DrawNeeded (file : List ℕ) (h : Head) (v out work : ℕ) : Type 0 where
+  pub opened : Open file h
+  pub accepted : refusal (judgedIn (parse file)) ≡ 0
+  pub room : refusal (wantedRules h v out work) ≡ 0
+
+-- What is shown, at the front of the space.
+pub record DrawGiven (file : List ℕ) (v : ℕ) (out out′ : List ℕ) : Type 0 where
+  pub out-is : out′ ≡ drawnBytes (shows file v) ++ drop (length (drawnBytes (shows file v))) out
+
+-- The same from the first map line on, the picture standing at the front of a space.
+pub record LinesNeeded (file : List ℕ) (h : Head) (at v : ℕ) (space : List ℕ) (out : ℕ) : Type 0 where
+  pub drawn : DrawNeeded file h v out (length space)
+  pub place : drop at file ≡ mapLines (parse file)
+  pub picture-is : take (pictureBytes (h .size)) space ≡ bytes (rowsIn (parse file))

@@ -1,0 +1,66 @@
+// A file opened: its form, its counts and its range judged, and the place of its row lines.
+use crate::checking::Checked;
+use energy::Refusal;
+use energy::Verdict;
+use text_read::Cursor;
+use text_read::Facts;
+use text_read::HeadRead;
+use text_read::Scanned;
+use text_theory::Head;
+ghost use mathlib.Core.Path.{_≡_};
+ghost use mathlib.Core.Bool.{_&&_};
+ghost use Prim.Native.Nat.{_≤_};
+ghost use lib.Dec.{eqb};
+ghost use lib.ListN.{drop};
+ghost use Rattle.text_theory.specs.Files.{parse};
+ghost use Rattle.file_read.specs.Kernels.{OpenGiven, Open, rowLines};
+
+// Whether there are as many row lines and map lines as the size says, each as wide as it says.
+fn counted(facts: Facts) -> bool
+    ensures { λ r. ⌜ r ≡ (eqb (facts .rows) (facts .head .size .height) && (eqb (facts .maps) (facts .head .size .height) && facts .full)) ⌝ }
+{
+    let head = facts.head;
+    let size = head.size;
+    let height = size.height;
+    if facts.rows != height {
+        return false;
+    }
+    if facts.maps != height {
+        return false;
+    }
+    facts.full
+}
+
+// Which of 1 to 6 refuses a file; else its size and range.
+pub(crate) fn open(file: &[u8]) -> Checked
+    ensures { λ c. ⌜ OpenGiven (now (file .entry)) c ⌝ }
+{
+    let Scanned::Formed(facts) = text_read::scan(file) else {
+        return Checked::Refused(Refusal::Form);
+    };
+    let head = facts.head;
+    let size = head.size;
+    if let Verdict::Refused(why) = energy::sides(size) {
+        return Checked::Refused(why);
+    }
+    if !counted(facts) {
+        return Checked::Refused(Refusal::Length);
+    }
+    if !map_build::allowed(size.width, head.depth, head.growth) {
+        return Checked::Refused(Refusal::Range);
+    }
+    Checked::Accepted(head)
+}
+
+// The place of the first row line.
+pub(crate) fn first_row(file: &[u8], head: Head) -> Cursor
+    requires { ⌜ Open (now file) head ⌝ }
+    ensures { λ c. ⌜ drop (c .at) (now (file .entry)) ≡ rowLines (parse (now (file .entry))) ⌝ }
+{
+    let start = Cursor { at: 0 };
+    let HeadRead::Begun(_, c) = start.header(file) else {
+        // never here: the text has its form
+        return start;
+    };
+    c
+}

@@ -1,0 +1,116 @@
+// A file shown at a width.
+use crate::checking;
+use crate::checking::Checked;
+use crate::lines;
+use crate::opening;
+use energy::Refusal;
+use energy::Size;
+use energy::Verdict;
+use text_read::Cursor;
+use text_read::Read;
+use text_theory::Head;
+ghost use mathlib.Core.Path.{_≡_};
+ghost use lib.ListN.{length, replicate};
+ghost use Rattle.energy.specs.Refusals.{given, refusal};
+ghost use Rattle.file_read.specs.Multisize.{ShowGiven};
+ghost use Rattle.file_read.specs.Kernels.{wantedRules, Sound, DrawNeeded, DrawGiven, LinesNeeded};
+
+// The size of the picture shown, or why there is none.
+pub enum Shown {
+    Size(Size),
+    Refused(Refusal),
+}
+
+// The picture that a file shows at the wanted width, put into the front of out, and its size. Refused by what checking
+// refuses, by 7 where the width isn't offered, and by 8 where out is shorter than the picture.
+pub fn show(file: &[u8], wanted: usize, out: &mut [u8], work: &mut [u8]) -> Shown
+    ensures { λ s. ⌜ ShowGiven (now (file .entry)) wanted (now (out .entry)) (now (work .entry)) s (now (out .exit)) (now (work .exit)) ⌝ }
+{
+    let head = match opening::open(file) {
+        Checked::Accepted(head) => head,
+        Checked::Refused(why) => return Shown::Refused(why),
+    };
+    if let Verdict::Refused(why) = rooms(head, wanted, out.len(), work.len()) {
+        return Shown::Refused(why);
+    }
+    if let Verdict::Refused(why) = checking::judge(file, head, work) {
+        return Shown::Refused(why);
+    }
+    draw(file, head, wanted, out, work);
+    let size = head.size;
+    let kind = size.kind;
+    Shown::Size(Size {
+        width: wanted,
+        height: size.height,
+        kind,
+    })
+}
+
+// Which of 7 and 8 refuses the wanted width in spaces of these lengths, or none.
+fn rooms(head: Head, wanted: usize, out: usize, work: usize) -> Verdict
+    requires { ⌜ Sound head ⌝ }
+    ensures { λ v. ⌜ given v ≡ refusal (wantedRules head wanted out work) ⌝ }
+{
+    let size = head.size;
+    let width = size.width;
+    let height = size.height;
+    let kind = size.kind;
+    if wanted < width - head.depth {
+        return Verdict::Refused(Refusal::Wanted);
+    }
+    if width + head.growth < wanted {
+        return Verdict::Refused(Refusal::Wanted);
+    }
+    if out < height * (wanted * energy::channels(kind)) {
+        return Verdict::Refused(Refusal::Space);
+    }
+    if work < 32 * (height * width) {
+        return Verdict::Refused(Refusal::Space);
+    }
+    Verdict::Served
+}
+
+// Puts what an accepted file shows into the front of out. The picture stands in the work space meanwhile.
+fn draw(file: &[u8], head: Head, wanted: usize, out: &mut [u8], work: &mut [u8])
+    requires { ⌜ DrawNeeded (now file) head wanted (length (now out)) (length (now work)) ⌝ }
+    ensures { λ _. ⌜ DrawGiven (now (file .entry)) wanted (now (out .entry)) (now (out .exit)) ⌝ }
+    ensures { λ _. ⌜ now (work .exit) ≡ replicate (length (now (work .entry))) 0 ⌝ }
+{
+    let rows = opening::first_row(file, head);
+    let maps = lines::read_rows(file, head, rows, work);
+    draw_rows(file, head, maps, wanted, work, out);
+    seam_moves::clear(work);
+}
+
+// The same, the picture standing at the front of a space.
+fn draw_rows(file: &[u8], head: Head, maps: Cursor, wanted: usize, space: &[u8], out: &mut [u8])
+    requires { ⌜ LinesNeeded (now file) head (maps .at) wanted (now space) (length (now out)) ⌝ }
+    ensures { λ _. ⌜ DrawGiven (now (file .entry)) wanted (now (out .entry)) (now (out .exit)) ⌝ }
+{
+    let size = head.size;
+    let width = size.width;
+    let height = size.height;
+    let kind = size.kind;
+    let stride = width * energy::channels(kind);
+    let shown = wanted * energy::channels(kind);
+    let mut numbers = [0u16; 512];
+    let mut at = maps;
+    let mut r: usize = 0;
+    while r < height {
+        let Read::Good(_, next) = at.map(file, &mut numbers[..width]) else {
+            // never here: the line has its form
+            return;
+        };
+        let a = r * stride;
+        let b = r * shown;
+        map_show::row_at(
+            kind,
+            &space[a..a + stride],
+            &numbers[..width],
+            wanted,
+            &mut out[b..b + shown],
+        );
+        at = next;
+        r += 1;
+    }
+}

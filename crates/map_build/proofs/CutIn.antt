@@ -1,0 +1,60 @@
+-- A cut at the front of a space where nothing refuses it.
+use mathlib.Core.Path.{_≡_, refl, sym, ap, ap₂, _∙_}
+use mathlib.Core.List.{List, [], _∷_, _++_}
+use Prim.Native.Nat.{ℕ, _+_, _-_, _*_, _≤_, _<_}
+use native.Mathlib.Omega.{arith}
+use borrow.Author.Tests.{le-ltb, ne-eqb}
+use lib.Dec.{eqb, ltb}
+use lib.ListN.{length, drop, take, replicate}
+use lib.Seq.{take-at, drop-at, drop-drop}
+use borrow.Rule.Slice.PartMut.{putMid, midOf}
+use Rattle.grids.specs.Cut.{cut}
+use Rattle.grids.proofs.Parts.{put-part}
+use Rattle.energy.specs.declared.pictures.Size.{Size}
+use Rattle.energy.specs.Refusals.{_when_, refusal}
+use Rattle.energy.specs.Pictures.{channelsOf, sideRules, pictureBytes, bytes}
+use Rattle.energy.proofs.Rules.{served-first}
+use Rattle.seam_find.specs.declared.Found.{Found}
+use Rattle.seam_find.specs.Seams.{seamOf}
+use Rattle.seam_find.specs.Finding.{pixels, pictureIn, findRules}
+use Rattle.seam_cut.specs.Carving.{cutInRules, CutInGiven}
+use Rattle.map_build.specs.Kernels.{writeRows, NextGiven}
+
+module _ (space : List ℕ) (z : Size) (seam : List ℕ) (answer : Found) (space′ seam′ : List ℕ)
+    (g : CutInGiven space z seam (refusal (cutInRules z (length space) (length seam))) answer space′ seam′)
+    (sides : refusal (sideRules z) ≡ 0) (tall : z .height ≤ length seam) (room : pictureBytes z + pixels z ≤ length space) (wide : 1 < z .width) where
+  none : refusal (cutInRules z (length space) (length seam)) ≡ 0
+  none =
+      let last : z .width ≡ 1 → ⊥ = λ e. omega arith in
+      served-first (findRules z (length space) (length seam)) (13 when eqb (z .width) 1 ∷ []) refl
+      (served-first (sideRules z) (8 when ltb (length seam) (z .height) ∷ 8 when ltb (length space) (pictureBytes z + pixels z) ∷ []) refl sides
+      ∙ simp (le-ltb _ _ tall, le-ltb _ _ room))
+      ∙ simp (ne-eqb (z .width) 1 last)
+
+  pub cut-space : space′ ≡ (bytes (cut (seamOf (z .width) (z .height) (pictureIn z space)) (pictureIn z space)) ++ replicate (z .height * channelsOf (z .kind)) 0)
+      ++ (replicate (pixels z) 0 ++ drop (pictureBytes z + pixels z) space)
+  cut-space = (rw none at g) .space-is
+
+  pub cut-seam : seam′ ≡ seamOf (z .width) (z .height) (pictureIn z space) ++ drop (z .height) seam
+  cut-seam = (rw none at g) .seam-is
+
+-- The part that is cut and the part that is marked, put back.
+pub next-put : (z : Size) (w at number : ℕ) (space front seam new : List ℕ) → length front ≡ at
+    → front ≡ (bytes (cut (seamOf (z .width) (z .height) (pictureIn z (take at space))) (pictureIn z (take at space))) ++ replicate (z .height * channelsOf (z .kind)) 0)
+    ++ (replicate (pixels z) 0 ++ drop (pictureBytes z + pixels z) (take at space))
+    → seam ≡ seamOf (z .width) (z .height) (pictureIn z (take at space))
+    → new ≡ writeRows number w seam (midOf at (at + z .height * (2 * w) - at) (front ++ drop at space))
+    → NextGiven z w at number space (putMid at (at + z .height * (2 * w) - at) (front ++ drop at space) new)
+next-put z w at number space front seam new long is column marked =
+    let end = at + z .height * (2 * w) in
+    let n : at + z .height * (2 * w) - at ≡ z .height * (2 * w) = omega arith in
+    let behind : drop at (front ++ drop at space) ≡ drop at space = drop-at front (drop at space) at long in
+    let last : drop (at + z .height * (2 * w)) (front ++ drop at space) ≡ drop (at + z .height * (2 * w)) space =
+    sym (drop-drop (z .height * (2 * w)) at (front ++ drop at space)) ∙ ap (drop (z .height * (2 * w))) behind ∙ drop-drop (z .height * (2 * w)) at space in
+    let told : new ≡ writeRows number w (seamOf (z .width) (z .height) (pictureIn z (take at space))) (take (z .height * (2 * w)) (drop at space)) =
+    marked ∙ ap₂ (λ c b. writeRows number w c b) column (ap₂ (λ k b. take k b) n behind) in
+    record {
+      space-is =
+          put-part at end (front ++ drop at space) new (omega arith)
+          ∙ ap₂ (λ f r. f ++ (new ++ r)) (take-at front (drop at space) at long) last ∙ ap₂ (λ f x. f ++ (x ++ drop end space)) is told;
+    }

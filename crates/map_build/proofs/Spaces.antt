@@ -1,0 +1,90 @@
+-- What it says of a space that nothing refuses, and the space before the first seam.
+use mathlib.Core.Path.{_≡_, refl, sym, ap, _∙_}
+use mathlib.Core.Bool.{cond}
+use mathlib.Core.List.{List, [], _∷_, _++_, append-assoc}
+use Prim.Native.Nat.{ℕ, _+_, _-_, _*_, _≤_, _<_}
+use native.Mathlib.Nat.{mul-le-mul, mul-le-mul-left, mul-le-mul-right}
+use native.Mathlib.Omega.{arith}
+use borrow.Author.Tests.{leb-false, ltb-false}
+use borrow.Rule.Slice.PartMut.{putMid, midOf, mid-len}
+use lib.Dec.{leb, ltb}
+use lib.ListN.{length, take, drop, replicate, length-append, length-replicate, length-drop}
+use lib.Seq.{take-at, drop-at, length-take-le}
+use Rattle.grids.proofs.Parts.{put-part}
+use Rattle.energy.specs.declared.pictures.Size.{Size}
+use Rattle.energy.specs.Refusals.{_when_, refusal}
+use Rattle.energy.specs.Pictures.{channelsOf, sideRules, pictureBytes, picture, OfSize}
+use Rattle.energy.proofs.Rules.{served-both, passed}
+use Rattle.energy.proofs.Sizes.{Sides, sides-are}
+use Rattle.energy.proofs.Buffers.{picture-ofSize}
+use Rattle.seam_find.specs.Finding.{pixels, pictureIn}
+use Rattle.seam_cut.proofs.Turns.{sides-of}
+use Rattle.map_build.specs.Mapping.{mapBytes, mapAt, mapInRules, mapped}
+use Rattle.map_build.specs.Kernels.{NextNeeded}
+use Rattle.map_build.proofs.Steps.{leftSize, first-mapped}
+
+pub record Room (z : Size) (depth space : ℕ) : Type 0 where
+  pub served : refusal (sideRules z) ≡ 0
+  pub sides : Sides z
+  pub deep : depth < z .width
+  pub long : mapAt z + mapBytes z ≤ space
+  pub pixels-most : pixels z ≤ 262144
+  pub map-most : mapBytes z ≤ 524288
+
+pub room-is : (z : Size) (depth space : ℕ) → refusal (mapInRules z depth space) ≡ 0 → Room z depth space
+room-is z depth space e =
+    let parts = served-both (sideRules z) (6 when leb (z .width) depth ∷ 8 when ltb space (mapAt z + mapBytes z) ∷ []) refl e in
+    let first = passed (leb (z .width) depth) 5 (cond (ltb space (mapAt z + mapBytes z)) 8 0) (parts .1) in
+    let second = passed (ltb space (mapAt z + mapBytes z)) 7 0 (first .1) in
+    let sides = sides-are z (parts .0) in
+    let two : 2 * z .width ≤ 1024 = omega (arith, sides .width-most) in
+    record {
+      served = parts .0;
+      sides = sides;
+      deep = leb-false _ _ (first .0);
+      long = ltb-false _ _ (second .0);
+      pixels-most = mul-le-mul (sides .height-most) (sides .width-most);
+      map-most = mul-le-mul (sides .height-most) two;
+    }
+
+-- The picture that stands there is of its size.
+pub there-ofSize : (z : Size) (space : List ℕ) → pictureBytes z ≤ length space → OfSize z (pictureIn z space)
+there-ofSize z space l = picture-ofSize z (take (pictureBytes z) space) (length-take-le (pictureBytes z) space l)
+
+-- The next seam can be cut.
+pub next-needed : (z : Size) (depth space t : ℕ) → Room z depth space → t < depth → NextNeeded (leftSize z t) (z .width) (mapAt z) (t + 1) space
+next-needed z depth space t r l =
+    let less : z .width - t ≤ z .width = omega arith in
+    record {
+      sides = sides-of (leftSize z t) (omega (arith, r .deep)) (omega (arith, r .sides .width-most)) (r .sides .height-some) (r .sides .height-most);
+      wide = omega (arith, r .deep);
+      work-room = omega (arith, mul-le-mul-left (z .height) less, mul-le-mul-left (z .height) (mul-le-mul-right (channelsOf (z .kind)) less));
+      map-room = r .long;
+      small = omega (arith, r .deep, r .sides .width-most);
+    }
+
+-- The picture and what stands behind the map as they were, zeros between them.
+pub record First (z : Size) (space now : List ℕ) : Type 0 where
+  pub same-long : length now ≡ length space
+  pub same-picture : pictureIn z now ≡ pictureIn z space
+  pub same-rest : drop (mapAt z + mapBytes z) now ≡ drop (mapAt z + mapBytes z) space
+  pub now-is : now ≡ mapped z 0 (pictureIn z space) ++ drop (mapAt z + mapBytes z) space
+
+pub first-is : (z : Size) (space cleared : List ℕ) → mapAt z + mapBytes z ≤ length space
+    → cleared ≡ replicate (length (midOf (pictureBytes z) (mapAt z + mapBytes z - pictureBytes z) space)) 0
+    → First z space (putMid (pictureBytes z) (mapAt z + mapBytes z - pictureBytes z) space cleared)
+first-is z space cleared room e =
+    let b = pictureBytes z in
+    let end = mapAt z + mapBytes z in
+    let front : length (take (pictureBytes z) space) ≡ pictureBytes z = length-take-le (pictureBytes z) space (omega arith) in
+    let many : length (midOf (pictureBytes z) (mapAt z + mapBytes z - pictureBytes z) space) ≡ pixels z + mapBytes z = mid-len b end space room ∙ omega arith in
+    let is = put-part b end space cleared (omega arith) in
+    let long : length cleared ≡ pixels z + mapBytes z = ap length e ∙ length-replicate _ 0 ∙ many in
+    let both : length (take (pictureBytes z) space ++ cleared) ≡ mapAt z + mapBytes z = omega (arith, length-append (take (pictureBytes z) space) cleared, front, long) in
+    let split = is ∙ sym (append-assoc (take b space) cleared (drop end space)) in
+    record {
+      same-long = ap length split ∙ length-append (take b space ++ cleared) (drop end space) ∙ omega (arith, both, length-drop (mapAt z + mapBytes z) space);
+      same-picture = ap (picture z) (ap (take b) is ∙ take-at (take b space) (cleared ++ drop end space) b front);
+      same-rest = ap (drop end) split ∙ drop-at (take b space ++ cleared) (drop end space) end both;
+      now-is = is ∙ ap (λ r. take b space ++ (r ++ drop end space)) e ∙ first-mapped z (take b space) (drop end space) _ front many;
+    }

@@ -1,0 +1,61 @@
+-- `map_build::map_in` meets its contract.
+use mathlib.Core.Path.{_≡_, sym, ap, _∙_}
+use mathlib.Core.List.{_++_}
+use Prim.Native.Nat.{_+_}
+use borrow.Author.Needs.{needs}
+use denote.Ref.{now}
+use lib.ListN.{drop}
+use Rattle.energy.specs.Refusals.{given, served}
+use Rattle.energy.proofs.Rules.{refused-kept}
+use Rattle.seam_find.specs.Finding.{pictureIn}
+use Rattle.map_build.specs.Mapping.{mapBytes, mapAt, mapped}
+use Rattle.map_build.proofs.map_in.Statement.{statement}
+use Rattle.map_build.proofs.map_in.Tie as tie
+
+rooms-requires : tie.Need-rooms-requires
+rooms-requires c κs = search needs
+
+enum-told : tie.Need-enum-told
+enum-told c = search needs
+
+enum-told-2 : tie.Need-enum-told-2
+enum-told-2 c = search needs
+
+returns : tie.Need-returns
+returns c =
+    let at-rooms = c .before .before in
+    let s = at-rooms .before .before in
+    let a = s .args in
+    let r = at-rooms .rooms in
+    let why = c .enum-told2 .given in
+    record { number-is = r .ensures; space-is = refused-kept (r .result) (why .0 .0) (why .1) _ (now (a .space)) }
+
+cut-seams-requires : tie.Need-cut-seams-requires
+cut-seams-requires c κs = record { served = sym (c .before .before .before .rooms .ensures) ∙ ap given (c .before .enum-told .given .1) }
+
+same-length : tie.Need-same-length
+same-length c = search needs
+
+returns-2 : tie.Need-returns-2
+returns-2 c =
+    let at-cut-seams = c .before .before in
+    let at-enum-told = at-cut-seams .before .before in
+    let at-rooms = at-enum-told .before .before in
+    let s = at-rooms .before .before in
+    let a = s .args in
+    let r = at-rooms .rooms in
+    let none : given (r .result) ≡ 0 = ap given (at-enum-told .enum-told .given .1) in
+    let new = mapped (a .size) (a .depth) (pictureIn (a .size) (now (a .space))) ++ drop (mapAt (a .size) + mapBytes (a .size)) (now (a .space)) in
+    record { number-is = r .ensures; space-is = at-cut-seams .cut-seams .ensures .space-is ∙ sym (ap (λ n. served n new (now (a .space))) none) }
+
+pub map-in-spec : {M : Type 1} → statement M
+map-in-spec =
+    tie.close
+    (tie.spec
+    rooms-requires
+    enum-told
+    enum-told-2
+    returns
+    cut-seams-requires
+    same-length
+    returns-2)

@@ -1,0 +1,70 @@
+-- What the private functions of this crate ask and promise. No public promise cites it.
+use mathlib.Core.Path.{_≡_}
+use mathlib.Core.List.{List, [], _∷_, _++_, zipWith}
+use Prim.Native.Nat.{ℕ, zero, suc, _+_, _*_, _/_, _%_, _≤_, _<_}
+use lib.ListN.{length, take, drop, replicate}
+use Rattle.grids.specs.Rows.{rowsOf, flat}
+use Rattle.grids.specs.Cut.{cut}
+use Rattle.energy.specs.declared.pictures.Size.{Size}
+use Rattle.energy.specs.Refusals.{refusal}
+use Rattle.energy.specs.Pictures.{channelsOf, sideRules, pictureBytes, bytes}
+use Rattle.seam_find.specs.Seams.{seamOf}
+use Rattle.seam_find.specs.Finding.{pixels, pictureIn}
+use Rattle.map_build.specs.Mapping.{mapBytes, mapAt, mapInRules, mapped}
+
+-- The two bytes written over the s-th number that is 0, both its bytes being 0.
+abbrev pub writePair : ℕ → ℕ → ℕ → List ℕ → List ℕ
+writePair low high s [] = []
+writePair low high s (a ∷ []) = a ∷ []
+writePair low high s (suc a ∷ b ∷ r) = suc a ∷ b ∷ writePair low high s r
+writePair low high s (zero ∷ suc b ∷ r) = zero ∷ suc b ∷ writePair low high s r
+writePair low high zero (zero ∷ zero ∷ r) = low ∷ high ∷ r
+writePair low high (suc s) (zero ∷ zero ∷ r) = zero ∷ zero ∷ writePair low high s r
+
+-- How many numbers of two bytes are 0.
+abbrev pub zeroPairs : List ℕ → ℕ
+zeroPairs [] = 0
+zeroPairs (a ∷ []) = 0
+zeroPairs (suc a ∷ b ∷ r) = zeroPairs r
+zeroPairs (zero ∷ suc b ∷ r) = zeroPairs r
+zeroPairs (zero ∷ zero ∷ r) = suc (zeroPairs r)
+
+-- A place in a row before which nothing is written: over the s-th 0 of the row is over that 0 of the rest.
+pub record SkipGiven (row : List ℕ) (s at zeros : ℕ) : Type 0 where
+  pub within : at ≤ length row
+  pub written : (low high : ℕ) → take at row ++ writePair low high zeros (drop at row) ≡ writePair low high s row
+
+-- The number written in each row of a map of w columns, where the seam counts out.
+abbrev pub writeRows : ℕ → ℕ → List ℕ → List ℕ → List ℕ
+writeRows v w s map = flat (zipWith (writePair (v % 256) (v / 256)) s (rowsOf (2 * w) (length s) map))
+
+-- A map of w columns with a row for each column of the seam, and a number of two bytes.
+pub record RowsNeeded (map : List ℕ) (w : ℕ) (seam : List ℕ) (number : ℕ) : Type 0 where
+  pub long : length map ≡ length seam * (2 * w)
+  pub small : number < 65536
+
+-- A picture of its size with more than one column, at the front of a space of which the map stands at `at`, its rows of w
+-- numbers.
+pub record NextNeeded (z : Size) (w at number space : ℕ) : Type 0 where
+  pub sides : refusal (sideRules z) ≡ 0
+  pub wide : 1 < z .width
+  pub work-room : pictureBytes z + pixels z ≤ at
+  pub map-room : at + z .height * (2 * w) ≤ space
+  pub small : number < 65536
+
+-- The picture without its seam, and the map with the number written where the seam counts out; the rest as it was.
+pub record NextGiven (z : Size) (w at number : ℕ) (space space′ : List ℕ) : Type 0 where
+  pub space-is :
+      space′ ≡ ((bytes (cut (seamOf (z .width) (z .height) (pictureIn z (take at space))) (pictureIn z (take at space)))
+      ++ replicate (z .height * channelsOf (z .kind)) 0)
+      ++ (replicate (pixels z) 0 ++ drop (pictureBytes z + pixels z) (take at space)))
+      ++ (writeRows number w (seamOf (z .width) (z .height) (pictureIn z (take at space))) (take (z .height * (2 * w)) (drop at space))
+      ++ drop (at + z .height * (2 * w)) space)
+
+-- A space that nothing refuses.
+pub record SeamsNeeded (z : Size) (depth space : ℕ) : Type 0 where
+  pub served : refusal (mapInRules z depth space) ≡ 0
+
+-- And the map in it.
+pub record SeamsGiven (z : Size) (depth : ℕ) (space space′ : List ℕ) : Type 0 where
+  pub space-is : space′ ≡ mapped z depth (pictureIn z space) ++ drop (mapAt z + mapBytes z) space

@@ -1,0 +1,92 @@
+// The map of a picture, built in a space.
+mod rows;
+
+use energy::Refusal;
+use energy::Size;
+use energy::Verdict;
+ghost use mathlib.Core.Path.{_≡_};
+ghost use lib.ListN.{length};
+ghost use Rattle.energy.specs.Refusals.{given, refusal};
+ghost use Rattle.map_theory.specs.Widths.{allowed as Widths·allowed};
+ghost use Rattle.map_build.specs.Mapping.{mapInRules, MapGiven};
+ghost use Rattle.map_build.specs.Kernels.{NextNeeded, NextGiven, SeamsNeeded, SeamsGiven};
+
+// The map of this depth of the picture at the front of the space. Behind the picture stand a byte for each pixel, for work,
+// and two bytes for each pixel, for the map. The picture is left without its first `depth` seams, packed at the front, and
+// the freed bytes and those for work are 0. Refused by 2, 3, 6 and 8.
+pub fn map_in(space: &mut [u8], size: Size, depth: usize) -> Verdict
+    ensures { λ v. ⌜ MapGiven (now (space .entry)) size depth v (now (space .exit)) ⌝ }
+{
+    let fits = rooms(size, depth, space.len());
+    let Verdict::Served = fits else {
+        return fits;
+    };
+    cut_seams(space, size, depth);
+    fits
+}
+
+// Whether a depth and a growth are allowed at this width.
+pub fn allowed(width: usize, depth: usize, growth: usize) -> bool
+    ensures { λ t. ⌜ t ≡ Widths·allowed width depth growth ⌝ }
+{
+    if depth >= width {
+        return false;
+    }
+    if depth < growth {
+        return false;
+    }
+    growth <= width / 2
+}
+
+// Which of 2, 3, 6 and 8 refuses a map of this depth in a space of this length, or none.
+fn rooms(size: Size, depth: usize, space: usize) -> Verdict
+    ensures { λ v. ⌜ given v ≡ refusal (mapInRules size depth space) ⌝ }
+{
+    let fits = energy::sides(size);
+    let Verdict::Served = fits else {
+        return fits;
+    };
+    let width = size.width;
+    let height = size.height;
+    if width <= depth {
+        return Verdict::Refused(Refusal::Range);
+    }
+    if space < energy::picture_bytes(size) + height * width + height * (2 * width) {
+        return Verdict::Refused(Refusal::Space);
+    }
+    Verdict::Served
+}
+
+// The map where nothing is refused.
+fn cut_seams(space: &mut [u8], size: Size, depth: usize)
+    requires { ⌜ SeamsNeeded size depth (length (now space)) ⌝ }
+    ensures { λ _. ⌜ SeamsGiven size depth (now (space .entry)) (now (space .exit)) ⌝ }
+{
+    let width = size.width;
+    let height = size.height;
+    let kind = size.kind;
+    let bytes = energy::picture_bytes(size);
+    let at = bytes + height * width;
+    let end = at + height * (2 * width);
+    seam_moves::clear(&mut space[bytes..end]);
+    for t in 0..depth {
+        let left = Size {
+            width: width - t,
+            height,
+            kind,
+        };
+        next_seam(space, left, width, at, t + 1);
+    }
+}
+
+// Cuts the seam of the picture at the front and writes its number into the map at `at`, whose rows have `width` numbers.
+fn next_seam(space: &mut [u8], size: Size, width: usize, at: usize, number: usize)
+    requires { ⌜ NextNeeded size width at number (length (now space)) ⌝ }
+    ensures { λ _. ⌜ NextGiven size width at number (now (space .entry)) (now (space .exit)) ⌝ }
+{
+    let height = size.height;
+    let mut seam = [0u16; 512];
+    seam_cut::cut_in(&mut space[..at], size, &mut seam);
+    let end = at + height * (2 * width);
+    rows::mark_rows(&mut space[at..end], width, &seam[..height], number);
+}

@@ -1,0 +1,74 @@
+-- `map_check::numbers::each_once` meets its contract. The invariant: the numbers passed stand once.
+use mathlib.Core.Path.{sym}
+use Prim.Native.Nat.{_+_, _-_, _≤_}
+use native.Mathlib.Omega.{arith}
+use borrow.Author.Needs.{needs}
+use borrow.Author.Tests.{eq-eqb, ne-eqb}
+use lib.Dec.{eqb}
+use lib.ListN.{getD}
+use Rattle.map_theory.proofs.Tests.{every-run}
+use Rattle.map_check.proofs.Turns.{Passed, passed-more, run-bad}
+use Rattle.map_check.proofs.numbers.each_once.Statement.{statement}
+use Rattle.map_check.proofs.numbers.each_once.Tie as tie
+
+abbrev Inv-loop : tie.InvT-loop
+Inv-loop seen depth t₀ t = (t ≤ depth) × Passed (λ v. eqb (getD seen v 0) 1) t
+
+abbrev μ-loop : tie.MeasureT-loop
+μ-loop seen depth t₀ t = depth - t
+
+loop-holds : tie.Need-loop-holds Inv-loop μ-loop
+loop-holds c = (omega arith, λ q l h. absurd (omega arith))
+
+add-if1 : tie.Need-add-if1 Inv-loop μ-loop
+add-if1 c = search needs
+
+mul-if1 : tie.Need-mul-if1 Inv-loop μ-loop
+mul-if1 c = search needs
+
+shared-slice-read-if1 : tie.Need-shared-slice-read-if1 Inv-loop μ-loop
+shared-slice-read-if1 c = search needs
+
+returns : tie.Need-returns Inv-loop μ-loop
+returns c =
+    let at-loop = c .before .before .before in
+    let s = at-loop .before in
+    let at = at-loop .loop in
+    let a = s .args in
+    sym (run-bad (λ v. eqb (getD (a .seen .now) v 0) 1) (a .depth) (at .t + 1) (omega arith) (omega arith) (ne-eqb (getD (a .seen .now) (at .t + 1) 0) 1 (c .if1 .taken)))
+
+add-t : tie.Need-add-t Inv-loop μ-loop
+add-t c = search needs
+
+loop-less : tie.Need-loop-less Inv-loop μ-loop
+loop-less c = search needs
+
+loop-again : tie.Need-loop-again Inv-loop μ-loop
+loop-again c =
+    let at-loop = c .before .before .before in
+    let s = at-loop .before in
+    let at = at-loop .loop in
+    let a = s .args in
+    (omega arith, passed-more (λ v. eqb (getD (a .seen .now) v 0) 1) (at .t) (eq-eqb (getD (a .seen .now) (at .t + 1) 0) 1 (c .if1 .left)) (at .inv .1))
+
+returns-2 : tie.Need-returns-2 Inv-loop μ-loop
+returns-2 c =
+    let at = c .before .loop in
+    let a = c .before .before .args in
+    sym (every-run (λ v. eqb (getD (a .seen .now) v 0) 1) (a .depth) .1 (λ q l h. at .inv .1 q l (omega arith)))
+
+pub each-once-spec : {M : Type 1} → statement M
+each-once-spec =
+    tie.close
+    (tie.spec
+    Inv-loop
+    μ-loop
+    loop-holds
+    add-if1
+    mul-if1
+    shared-slice-read-if1
+    returns
+    add-t
+    loop-less
+    loop-again
+    returns-2)

@@ -1,0 +1,82 @@
+// A map recorded in a space, judged for the picture at its front.
+mod numbers;
+mod seams;
+
+use energy::Refusal;
+use energy::Size;
+use energy::Verdict;
+ghost use mathlib.Core.Path.{_≡_};
+ghost use lib.ListN.{length};
+ghost use Rattle.energy.specs.Refusals.{given, refusal};
+ghost use Rattle.seam_find.specs.Finding.{pictureIn};
+ghost use Rattle.map_check.specs.Judging.{recordedIn, judgeInRules, recordedRules, JudgeGiven};
+ghost use Rattle.map_check.specs.Kernels.{JudgeNeeded, MapsNeeded, besideBuilt};
+
+// Judges the map recorded in the space for the picture at its front. In the space stand, one behind the other: the picture, a
+// byte for each pixel and two bytes for each pixel for work, and the recorded map, two bytes a number, the low byte first.
+// Refused by 2, 3, 6 and 8; then by 9, 10 and 11. The space is all 0 after success and after 9, 10 and 11, else as it was.
+pub fn judge_in(space: &mut [u8], size: Size, depth: usize) -> Verdict
+    ensures { λ v. ⌜ JudgeGiven (now (space .entry)) size depth v (now (space .exit)) ⌝ }
+{
+    let fits = rooms(size, depth, space.len());
+    let Verdict::Served = fits else {
+        return fits;
+    };
+    let answer = judge_rows(space, size, depth);
+    seam_moves::clear(space);
+    answer
+}
+
+// Which of 2, 3, 6 and 8 refuses a map of this depth in a space of this length, or none.
+fn rooms(size: Size, depth: usize, space: usize) -> Verdict
+    ensures { λ v. ⌜ given v ≡ refusal (judgeInRules size depth space) ⌝ }
+{
+    let fits = energy::sides(size);
+    let Verdict::Served = fits else {
+        return fits;
+    };
+    let width = size.width;
+    let height = size.height;
+    if width <= depth {
+        return Verdict::Refused(Refusal::Range);
+    }
+    let map = height * (2 * width);
+    if space < energy::picture_bytes(size) + height * width + map + map {
+        return Verdict::Refused(Refusal::Space);
+    }
+    Verdict::Served
+}
+
+// 9 where a row isn't a numbering; else the map is built in front of the recorded one, and they are compared.
+fn judge_rows(space: &mut [u8], size: Size, depth: usize) -> Verdict
+    requires { ⌜ JudgeNeeded size depth (length (now space)) ⌝ }
+    ensures { λ v. ⌜ given v ≡ refusal (recordedRules size depth (pictureIn size (now (space .entry))) (recordedIn size (now (space .entry)))) ⌝ }
+{
+    let width = size.width;
+    let height = size.height;
+    let map = height * (2 * width);
+    let built = energy::picture_bytes(size) + height * width;
+    let at = built + map;
+    let end = at + map;
+    if !numbers::numbered(&space[at..end], width, height, depth) {
+        return Verdict::Refused(Refusal::Numbering);
+    }
+    map_build::map_in(&mut space[..at], size, depth);
+    judge_seams(&space[built..end], width, height, depth)
+}
+
+// Of two maps, one behind the other, the first is the one built. Where the second differs, 10 if a seam of it isn't
+// connected, else 11.
+fn judge_seams(maps: &[u8], width: usize, height: usize, depth: usize) -> Verdict
+    requires { ⌜ MapsNeeded (now maps) width height depth ⌝ }
+    ensures { λ v. ⌜ given v ≡ besideBuilt (now (maps .entry)) width height depth ⌝ }
+{
+    let map = height * (2 * width);
+    if numbers::same_numbers(&maps[map..], &maps[..map]) {
+        return Verdict::Served;
+    }
+    if seams::connected(&maps[map..], width, height, depth) {
+        return Verdict::Refused(Refusal::Other);
+    }
+    Verdict::Refused(Refusal::Broken)
+}

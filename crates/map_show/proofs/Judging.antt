@@ -1,0 +1,42 @@
+-- When a row is refused, in the terms of the code; and what a caller knows where nothing is refused.
+use mathlib.Core.Path.{_≡_, sym, ap, _∙_}
+use mathlib.Core.List.{List, _++_}
+use Prim.Native.Nat.{ℕ, _-_, _*_, _≤_, _<_}
+use borrow.Author.Tests.{eq-eqb, ne-eqb, lt-ltb, le-ltb}
+use lib.ListN.{length, drop}
+use Rattle.energy.specs.declared.pictures.Kind.{Kind}
+use Rattle.energy.specs.declared.refusals.Verdict.{Verdict}
+use Rattle.energy.specs.Refusals.{refusal, served}
+use Rattle.energy.specs.Pictures.{channelsOf}
+use Rattle.map_show.specs.Showing.{rowShown, rowRules, RowShown}
+use Rattle.map_show.specs.Kernels.{pixelsAt, kept, grown, RowNeeded}
+use Rattle.map_show.proofs.Lengths.{length-shown, narrow-is, wide-is}
+
+module _ (k : Kind) (samples ys : List ℕ) (v : ℕ) (out : List ℕ) where
+  pub refused-length : {n : ℕ} → n ≡ channelsOf k → (length samples ≡ length ys * n → ⊥) → 4 ≡ refusal (rowRules k samples ys v (length out))
+  refused-length e d = rw (ne-eqb (length samples) (length ys * channelsOf k) (λ q. d (q ∙ ap (length ys *_) (sym e))))
+
+  module _ (whole : length samples ≡ length ys * channelsOf k) where
+    pub refused-space : length out < pixelsAt ys v * channelsOf k → 8 ≡ refusal (rowRules k samples ys v (length out))
+    refused-space h =
+        rw (eq-eqb (length samples) (length ys * channelsOf k) whole, lt-ltb (length out) (length (rowShown k samples ys v)) (rw (length-shown k samples ys v whole) h))
+
+    module _ (room : length (rowShown k samples ys v) ≤ length out) where
+      pub nothing-refused : 0 ≡ refusal (rowRules k samples ys v (length out))
+      nothing-refused = rw (eq-eqb (length samples) (length ys * channelsOf k) whole, le-ltb (length out) (length (rowShown k samples ys v)) room)
+
+      -- As many samples as the numbers say, and room: the row stands at the front of the space.
+      pub row-served : {answer : Verdict} {out′ : List ℕ} → RowShown k samples ys v out answer out′
+          → out′ ≡ rowShown k samples ys v ++ drop (length (rowShown k samples ys v)) out
+      row-served g =
+          g .out-is
+          ∙ ap (λ n. served n (rowShown k samples ys v ++ drop (length (rowShown k samples ys v)) out) out) (g .number-is ∙ sym nothing-refused)
+
+    pub shown-room : pixelsAt ys v * channelsOf k ≤ length out → length (rowShown k samples ys v) ≤ length out
+    shown-room h = rw (length-shown k samples ys v whole) h
+
+    pub keep-ready : v ≤ length ys → length (rowShown k samples ys v) ≤ length out → RowNeeded k samples ys (kept k samples ys (length ys - v)) out
+    keep-ready h room = record { whole = whole; room = rw (narrow-is k samples ys v h) at room }
+
+    pub grow-ready : length ys < v → length (rowShown k samples ys v) ≤ length out → RowNeeded k samples ys (grown k samples ys (v - length ys)) out
+    grow-ready h room = record { whole = whole; room = rw (wide-is k samples ys v h) at room }

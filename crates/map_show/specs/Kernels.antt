@@ -1,0 +1,58 @@
+-- What the private functions of this crate ask and promise. No public promise cites it.
+use mathlib.Core.Path.{_≡_}
+use mathlib.Core.Bool.{Bool, cond}
+use mathlib.Core.List.{List, [], _∷_}
+use Prim.Native.Nat.{ℕ, _+_, _-_, _*_, _≤_}
+use lib.Dec.{leb}
+use lib.ListN.{length}
+use Rattle.grids.specs.Rows.{rowsOf, rowAt, flat}
+use Rattle.seam_theory.specs.Paths.{consIf}
+use Rattle.energy.specs.declared.pictures.Kind.{Kind}
+use Rattle.energy.specs.Pictures.{channelsOf}
+use Rattle.map_theory.specs.Widths.{stays, doubled, keepRow, growRow}
+use Rattle.map_show.specs.Showing.{average}
+
+-- How many of the numbers are 1 to u.
+unfoldable pub doubledIn : ℕ → List ℕ → ℕ
+doubledIn u numbers = length (keepRow (doubled u) numbers numbers)
+
+-- How many pixels a row with these numbers shows at width v.
+unfoldable pub pixelsAt : List ℕ → ℕ → ℕ
+pixelsAt numbers v =
+    cond (leb v (length numbers)) (length numbers - doubledIn (length numbers - v) numbers) (length numbers + doubledIn (v - length numbers) numbers)
+
+-- The pixels of a row's bytes, as many as there are numbers.
+abbrev pub pixels : Kind → List ℕ → List ℕ → List (List ℕ)
+pixels k samples numbers = rowsOf (channelsOf k) (length numbers) samples
+
+-- The bytes of a row with t columns less, and with u columns more.
+unfoldable pub kept : Kind → List ℕ → List ℕ → ℕ → List ℕ
+kept k samples numbers t = flat (keepRow (stays t) (pixels k samples numbers) numbers)
+
+unfoldable pub grown : Kind → List ℕ → List ℕ → ℕ → List ℕ
+grown k samples numbers u = flat (growRow average u (pixels k samples numbers) numbers)
+
+-- A row's bytes, and room for what is shown of it.
+pub record RowNeeded (k : Kind) (samples numbers shown out : List ℕ) : Type 0 where
+  pub whole : length samples ≡ length numbers * channelsOf k
+  pub room : length shown ≤ length out
+
+-- Pixel c of a row's bytes, of ch samples a pixel, and room for a pixel at a place.
+pub record PixelNeeded (ch : ℕ) (samples : List ℕ) (c : ℕ) (out : List ℕ) (at : ℕ) : Type 0 where
+  pub inside : c * ch + ch ≤ length samples
+  pub room : at + ch ≤ length out
+
+-- The same of two pixels and their mean.
+pub record MeanNeeded (ch : ℕ) (samples : List ℕ) (c d : ℕ) (out : List ℕ) (at : ℕ) : Type 0 where
+  pub inside : c * ch + ch ≤ length samples
+  pub beside : d * ch + ch ≤ length samples
+  pub room : at + ch ≤ length out
+
+-- The bytes of the last column's pixel, with those of its new pixel ahead where there is one.
+abbrev pub lastPixels : Kind → List ℕ → ℕ → Bool → List ℕ
+lastPixels k samples c new =
+    flat (consIf new (average (rowAt (channelsOf k) c samples) (rowAt (channelsOf k) (c - 1) samples)) (rowAt (channelsOf k) c samples ∷ []))
+
+pub record LastNeeded (k : Kind) (samples : List ℕ) (c : ℕ) (new : Bool) (out : List ℕ) (at : ℕ) : Type 0 where
+  pub inside : c * channelsOf k + channelsOf k ≤ length samples
+  pub room : at + length (lastPixels k samples c new) ≤ length out

@@ -1,0 +1,32 @@
+-- A row of a picture and its row of the map, shown at a width.
+use mathlib.Core.Path.{_≡_}
+use mathlib.Core.Bool.{not}
+use mathlib.Core.List.{List, [], _∷_, _++_, zipWith}
+use Prim.Native.Nat.{ℕ, _+_, _*_, _/_}
+use lib.Dec.{eqb, ltb}
+use lib.ListN.{length, drop}
+use Rattle.grids.specs.Rows.{rowsOf, flat}
+use Rattle.energy.specs.declared.pictures.Kind.{Kind}
+use Rattle.energy.specs.declared.refusals.Verdict.{Verdict}
+use Rattle.energy.specs.Refusals.{Rule, _when_, given, refusal, served}
+use Rattle.energy.specs.Pictures.{channelsOf}
+use Rattle.map_theory.specs.Widths.{rowAtWidth}
+
+-- "(pixel + right neighbour)/2 rounded down per channel"
+unfoldable pub average : List ℕ → List ℕ → List ℕ
+average = zipWith (λ a b. (a + b) / 2)
+
+-- The bytes of a row at width v: as many pixels as there are numbers, shown by them.
+unfoldable pub rowShown : Kind → List ℕ → List ℕ → ℕ → List ℕ
+rowShown k samples numbers v = flat (rowAtWidth average (length numbers) v (rowsOf (channelsOf k) (length numbers) samples) numbers)
+
+-- When it is refused: where the samples aren't as many as the numbers say, and where the space is shorter than what is shown.
+abbrev pub rowRules : Kind → List ℕ → List ℕ → ℕ → ℕ → List Rule
+rowRules k samples numbers v space =
+    4 when not (eqb (length samples) (length numbers * channelsOf k)) ∷ 8 when ltb space (length (rowShown k samples numbers v)) ∷ []
+
+-- What showing a row gives: the number, and the space, which keeps what stands behind the row.
+pub record RowShown (k : Kind) (samples numbers : List ℕ) (v : ℕ) (out : List ℕ) (answer : Verdict) (out′ : List ℕ) : Type 0 where
+  pub number-is : given answer ≡ refusal (rowRules k samples numbers v (length out))
+  pub out-is :
+      out′ ≡ served (given answer) (rowShown k samples numbers v ++ drop (length (rowShown k samples numbers v)) out) out

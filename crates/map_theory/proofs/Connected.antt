@@ -1,0 +1,78 @@
+-- Seams whose columns differ by at most 1 from row to row, and paths as a way of choosing them.
+use mathlib.Core.Path.{_≡_, refl, subst}
+use mathlib.Core.Logic.{_↔_}
+use mathlib.Core.Bool.{Bool, true, and-eq-true-iff}
+use mathlib.Core.List.{List, [], _∷_, reverse, reverseAux}
+use Prim.Native.Nat.{ℕ, zero, suc, _<_}
+use native.Mathlib.Omega.{arith}
+use Rattle.grids.specs.Each.{Each, Grid, none}
+use Rattle.grids.proofs.Shapes.{each-member, each-reverse}
+use Rattle.seam_theory.specs.Paths.{beside}
+use Rattle.seam_theory.specs.Connected.{Linked, IsPath}
+use Rattle.seam_theory.proofs.Nearby.{beside-is}
+use Rattle.map_theory.specs.Choices.{linked, Choice, Chooses}
+use Rattle.map_theory.proofs.Tests.{and-both}
+
+-- The test of a seam's columns, as inequations.
+pub linked-is : (c : ℕ) (s : List ℕ) → (linked beside (c ∷ s) ≡ true) ↔ Linked (c ∷ s)
+linked-is c s = (there c s, back c s)
+  where
+    there : (c : ℕ) (s : List ℕ) → linked beside (c ∷ s) ≡ true → Linked (c ∷ s)
+    there c [] e = tt
+    there c (d ∷ s) e =
+        let b = and-eq-true-iff (beside c d) (linked beside (d ∷ s)) .0 e in
+        let k = beside-is c d .0 (b .0) in
+        (k .0, k .1, there d s (b .1))
+
+    back : (c : ℕ) (s : List ℕ) → Linked (c ∷ s) → linked beside (c ∷ s) ≡ true
+    back c [] l = refl
+    back c (d ∷ s) l = and-both (beside c d) (linked beside (d ∷ s)) (beside-is c d .1 (l .0, l .1)) (back d s (l .2))
+
+module _ (near : ℕ → ℕ → Bool) (both : (c d : ℕ) → near c d ≡ true → near d c ≡ true) where
+  -- The step from a list turned round to what stands behind it.
+  abbrev Meets : List ℕ → List ℕ → Type 0
+  Meets [] r = Unit
+  Meets (c ∷ s) [] = Unit
+  Meets (c ∷ s) (d ∷ r) = near c d ≡ true
+
+  meets-end : (s : List ℕ) → Meets s []
+  meets-end [] = tt
+  meets-end (c ∷ s) = tt
+
+  linked-cons : (c : ℕ) (s r : List ℕ) → Meets (c ∷ s) r → linked near r ≡ true → linked near (c ∷ r) ≡ true
+  linked-cons c s [] j e = refl
+  linked-cons c s (d ∷ r) j e = and-both (near c d) (linked near (d ∷ r)) j e
+
+  linked-turned : (s r : List ℕ) → linked near s ≡ true → linked near r ≡ true → Meets s r → linked near (reverseAux s r) ≡ true
+  linked-turned [] r p q j = q
+  linked-turned (c ∷ []) r p q j = linked-cons c [] r j q
+  linked-turned (c ∷ a ∷ s) r p q j =
+      let b = and-eq-true-iff (near c a) (linked near (a ∷ s)) .0 p in
+      linked-turned (a ∷ s) (c ∷ r) (b .1) (linked-cons c (a ∷ s) r j q) (both c a (b .0))
+
+  -- Connected from the bottom row is connected from the top row, where a step may go both ways.
+  pub linked-reverse : (s : List ℕ) → linked near s ≡ true → linked near (reverse s) ≡ true
+  linked-reverse s e = linked-turned s [] e refl (meets-end s)
+
+beside-both : (c d : ℕ) → beside c d ≡ true → beside d c ≡ true
+beside-both c d e = let k = beside-is c d .0 e in beside-is d c .1 (k .1, k .0)
+
+-- A way to choose a path from the bottom row upward is, read from the top row, a way to choose a seam.
+pub paths-choose : {A : Type 0} (up : Choice A)
+    → ((w h : ℕ) (p : List (List A)) → 0 < w → 0 < h → Grid w h p → IsPath w h (up w h p)) → ((w : ℕ) (p : List (List A)) → up w 0 p ≡ [])
+    → Chooses (λ w. beside) (λ w h p. reverse (up w h p))
+paths-choose {A} up path low = record { inside = inside; joined = joined }
+  where
+    inside : (w h : ℕ) (p : List (List A)) → 0 < w → Grid w h p → Each (λ c. c < w) h (reverse (up w h p))
+    inside w zero p l g = rw (low w p) none
+    inside w (suc h) p l g =
+        let k = path w (suc h) p l (omega arith) g in
+        each-reverse (subst (λ n. Each (λ c. c < w) n (up w (suc h) p)) (k .size) (each-member (up w (suc h) p) (k .within)))
+
+    whole : (s : List ℕ) → Linked s → linked beside s ≡ true
+    whole [] l = refl
+    whole (c ∷ s) l = linked-is c s .1 l
+
+    joined : (w h : ℕ) (p : List (List A)) → 0 < w → Grid w h p → linked beside (reverse (up w h p)) ≡ true
+    joined w zero p l g = rw (low w p)
+    joined w (suc h) p l g = linked-reverse beside beside-both (up w (suc h) p) (whole (up w (suc h) p) (path w (suc h) p l (omega arith) g .linked))

@@ -1,0 +1,131 @@
+-- Bounds on what the programs write, from which the lengths of their spaces follow.
+use mathlib.Core.Path.{_≡_, refl}
+use mathlib.Core.Bool.{Bool, true, false}
+use mathlib.Core.List.{List, [], _∷_}
+use Prim.Native.Nat.{ℕ, zero, suc, _+_, _-_, _*_, _/_, _≤_, _<_}
+use native.Mathlib.Nat.{suc-mul, mul-add, mul-assoc, mul-le-mul, le-refl}
+use native.Mathlib.Omega.{arith}
+use lib.Dec.{ltb}
+use lib.ListN.{length, length-append}
+use borrow.Author.Tests.{ltb-true, ltb-false}
+use Rattle.grids.specs.Each.{Each, none, more}
+use Rattle.seam_theory.specs.Paths.{run}
+use Rattle.energy.specs.declared.pictures.Kind.{Kind}
+use Rattle.energy.specs.declared.pictures.Kind.the-variants.{Grey, Rgb}
+use Rattle.energy.specs.declared.pictures.Size.{Size}
+use Rattle.energy.specs.Refusals.{refusal}
+use Rattle.energy.specs.Pictures.{Picture, sizeRules, picture}
+use Rattle.energy.proofs.Sizes.{sides-are, sides-served}
+use Rattle.text_theory.specs.declared.Head.{Head}
+use Rattle.text_theory.specs.Decimal.{digits}
+use Rattle.text_theory.specs.Files.{blank, closed, All, Pixel}
+use Rattle.text_theory.specs.Lengths.{total, spaced, kindLength, pixelLength, rowLength, headLength}
+use Rattle.text_theory.proofs.Decimals.{length-small, length-large}
+use Rattle.seam_find.specs.Finding.{pixels}
+use Rattle.file_theory.specs.Contents.{fileOf}
+use Rattle.file_theory.specs.Demands.{AllowedPicture}
+use Rattle.file_theory.proofs.Shaped.{allowed-ofSize}
+use Rattle.file_theory.proofs.Lent.{lent-allowed}
+use Rattle.file_theory.proofs.Lengths.{file-length}
+use Rattle.program_theory.specs.Netpbm.{greyMagic, rgbMagic, maxval, magicText, headerText}
+use Rattle.program_theory.specs.Programs.{fullRange, refusedWord, refusedText}
+
+-- Where the numbers below m have at most c digits, those below ten times m have at most one more.
+one-more : (m c : ℕ) → ((n : ℕ) → n < m → length (digits n) ≤ c) → (n : ℕ) → n < m * 10 → length (digits n) ≤ suc c
+one-more m c h n l = go (ltb n 10) refl
+  where
+    go : (x : Bool) → ltb n 10 ≡ x → length (digits n) ≤ suc c
+    go true e = omega (arith, length-small n (ltb-true n 10 e))
+    go false e = omega (arith, length-large n (ltb-false n 10 e), h (n / 10) (omega arith))
+
+ten : (n : ℕ) → n < 10 → length (digits n) ≤ 1
+ten n l = omega (arith, length-small n l)
+
+-- A number of a size has at most three digits, a number of the file's form at most five.
+pub digits-most : (n : ℕ) → n < 1000 → length (digits n) ≤ 3
+digits-most = one-more 100 2 (one-more 10 1 ten)
+
+pub number-most : (n : ℕ) → n ≤ 65535 → length (digits n) ≤ 5
+number-most n l = one-more 10000 4 (one-more 1000 3 digits-most) n (omega arith)
+
+spaced-most : (n : ℕ) → n < 1000 → spaced n ≤ 4
+unfolding spaced
+spaced-most n l = omega (arith, digits-most n l)
+
+-- Sums of values of which each is at most c.
+module _ {A : Type 0} (f : A → ℕ) (c : ℕ) where
+  total-each : {P : A → Type 0} {n : ℕ} {xs : List A} → ((x : A) → P x → f x ≤ c) → Each P n xs → total f xs ≤ n * c
+  unfolding total
+  total-each h none = omega arith
+  total-each h (more {n = n} {x = x} p e) = omega (arith, h x p, total-each h e, suc-mul n c)
+
+  total-all : {P : A → Type 0} → ((x : A) → P x → f x ≤ c) → (xs : List A) → All P xs → total f xs ≤ length xs * c
+  unfolding total
+  total-all h [] a = omega arith
+  total-all h (x ∷ xs) a = omega (arith, h x (a .0), total-all h xs (a .1), suc-mul (length xs) c)
+
+total-run : (f : ℕ → ℕ) (c lo n : ℕ) → ((v : ℕ) → v < lo + n → f v ≤ c) → total f (run lo n) ≤ n * c
+unfolding total run
+total-run f c lo zero h = omega arith
+total-run f c lo (suc n) h = omega (arith, h lo (omega arith), total-run f c (suc lo) n (λ v l. h v (omega arith)), suc-mul n c)
+
+-- A pixel has at most 14 bytes, ` (255 255 255)`.
+samples-most : (px : List ℕ) → All (λ (a : ℕ). a ≤ 255) px → total spaced px ≤ length px * 4
+samples-most = total-all spaced 4 (λ a l. spaced-most a (omega arith))
+
+pixel-most : (k : Kind) (px : List ℕ) → Pixel k px → pixelLength k px ≤ 14
+unfolding pixelLength
+pixel-most Grey px p = omega (arith, p .count, samples-most px (p .small))
+pixel-most Rgb px p = omega (arith, p .count, samples-most px (p .small))
+
+-- A row line, and the row lines of a picture.
+row-most : (k : Kind) (w : ℕ) (row : List (List ℕ)) → Each (Pixel k) w row → rowLength k row ≤ w * 14 + 6
+unfolding rowLength
+row-most k w row e = omega (arith, total-each (pixelLength k) 14 (pixel-most k) e)
+
+rows-most : (z : Size) (p : Picture) → AllowedPicture z p → total (rowLength (z .kind)) p ≤ z .height * (z .width * 14 + 6)
+rows-most z p a = total-each (rowLength (z .kind)) (z .width * 14 + 6) (row-most (z .kind) (z .width)) (a .pixels)
+
+-- The lines up to the range.
+kind-most : (k : Kind) → kindLength k ≤ 4
+kind-most Grey = omega arith
+kind-most Rgb = omega arith
+
+head-most : (h : Head) → h .size .width < 1000 → h .size .height < 1000 → h .depth < 1000 → h .growth < 1000 → headLength h ≤ 43
+unfolding headLength
+head-most h a b c d =
+    omega (arith, spaced-most (h .size .width) a, spaced-most (h .size .height) b, spaced-most (h .depth) c, spaced-most (h .growth) d, kind-most (h .size .kind))
+
+-- The file of a picture of at most 1,024 pixels: 18 bytes a pixel, 12 for the two lines of a row, and the other lines.
+pub file-most : (z : Size) (b : List ℕ) → All (λ (a : ℕ). a < 256) b → refusal (sizeRules z (length b)) ≡ 0 → pixels z ≤ 1024
+    → length (fileOf (fullRange z) (picture z b)) ≤ 24640
+file-most z b a e l =
+    let p = lent-allowed z b a e in
+    let s = sides-are z (sides-served z (length b) e) in
+    let w : ℕ = z .width in
+    let h : ℕ = z .height in
+    let wm : w ≤ 512 = s .width-most in
+    let hm : h ≤ 512 = s .height-most in
+    let ws : 0 < w = s .width-some in
+    let k : ℕ = w - 1 in
+    let f = file-length (fullRange z) (picture z b) (allowed-ofSize z (picture z b) p) (omega arith) in
+    let t : total spaced (run 1 k) ≤ k * 4 = total-run spaced 4 1 k (λ v l. spaced-most v (omega arith)) in
+    let m : h * (total spaced (run 1 k) + 2 * (w - k) + 6) ≤ h * (w * 4 + 6) = mul-le-mul (le-refl h) (omega arith) in
+    let top = head-most (fullRange z) (omega arith) (omega arith) (omega arith) (omega arith) in
+    let rows = rows-most z (picture z b) p in
+    omega (arith, f, top, rows, m, mul-add h (w * 14) 6, mul-add h (w * 4) 6, mul-assoc h w 14, mul-assoc h w 4)
+
+magic-length : (k : Kind) → length (magicText k) ≡ 3
+unfolding magicText greyMagic rgbMagic
+magic-length Grey = refl
+magic-length Rgb = refl
+
+-- A header, up to the widest picture that is offered.
+pub header-most : (z : Size) → z .width ≤ 768 → z .height ≤ 512 → length (headerText z) ≤ 15
+unfolding headerText blank maxval
+header-most z w h = simp length-append (omega (arith, magic-length (z .kind), digits-most (z .width) (omega arith), digits-most (z .height) (omega arith)))
+
+-- A refusal.
+pub refused-most : (n : ℕ) → n < 1000 → length (refusedText n) ≤ 14
+unfolding refusedText refusedWord closed
+refused-most n l = simp length-append (omega (arith, digits-most n l))

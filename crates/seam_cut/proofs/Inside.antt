@@ -1,0 +1,50 @@
+-- The seam found lies inside the picture.
+use mathlib.Core.Path.{_≡_, refl, ap}
+use mathlib.Core.Bool.{false, cond}
+use mathlib.Core.Option.{Option, Option·getD, none, some}
+use mathlib.Core.List.{List, [], reverse}
+use Prim.Native.Nat.{ℕ, _<_}
+use native.Mathlib.Omega.{arith}
+use Rattle.grids.specs.Each.{Each}
+use Rattle.grids.proofs.Shapes.{each-member, each-reverse}
+use Rattle.seam_theory.specs.Connected.{IsPath}
+use Rattle.seam_theory.proofs.Nearby.{nearby-paths}
+use Rattle.seam_theory.proofs.Seams.{cheapest-some}
+use Rattle.energy.specs.declared.pictures.Size.{Size}
+use Rattle.energy.specs.Pictures.{Picture}
+use Rattle.energy.specs.Energy.{energy}
+use Rattle.energy.proofs.Sizes.{Sized}
+use Rattle.seam_find.specs.Seams.{seamOf, markedUp, markedSeamOf}
+use Rattle.seam_find.specs.Finding.{isNone}
+use Rattle.seam_find.proofs.Characterised.{marked-is}
+use Rattle.seam_cut.specs.declared.Axis.{Axis}
+use Rattle.seam_cut.specs.declared.Axis.the-variants.{Vertical, Horizontal}
+use Rattle.seam_cut.specs.Axes.{turnedSize, turned, seamAlong, markedSeamAlong, blockedAlong}
+
+-- A path has h columns below w.
+path-inside : (w h : ℕ) (s : List ℕ) → IsPath w h s → Each (λ c. c < w) h s
+path-inside w h s p = rw (p .size) at (each-member s (p .within))
+
+pub seam-inside : (w h : ℕ) (p : Picture) → 0 < w → 0 < h → Each (λ c. c < w) h (seamOf w h p)
+unfolding seamOf
+seam-inside w h p some-column some-row =
+    let found = cheapest-some (energy p 0) (λ i a c. energy p i c) w h some-column some-row in
+    rw (found .1) (each-reverse (path-inside w h (found .0) (nearby-paths w h (found .0) .0 (found .2 .member))))
+
+-- The same along either axis.
+pub along-inside : (x : Axis) (z : Size) (n : ℕ) (p : Picture) → Sized z n → Each (λ c. c < turnedSize x z .width) (turnedSize x z .height) (seamAlong x z p)
+unfolding seamAlong
+along-inside Vertical z n p s = seam-inside (z .width) (z .height) (turned Vertical (z .width) p) (s .width-some) (s .height-some)
+along-inside Horizontal z n p s = seam-inside (z .height) (z .width) (turned Horizontal (z .width) p) (s .height-some) (s .width-some)
+
+-- And the seam found by marks, where one is allowed.
+marked-up-inside : (w h : ℕ) (p : Picture) (m : List (List ℕ)) (o : Option (List ℕ)) → markedUp w h p m ≡ o → isNone o ≡ false → Each (λ c. c < w) h (reverse (Option·getD o []))
+marked-up-inside w h p m none e t = absurd (omega (arith, ap (λ k. cond {A = ℕ} k 0 1) t))
+marked-up-inside w h p m (some s) e t = each-reverse (path-inside w h s (marked-is w h p m s .0 e .path))
+
+pub marked-inside : (x : Axis) (z : Size) (p : Picture) (m : List (List ℕ)) → blockedAlong x z p m ≡ false → Each (λ c. c < turnedSize x z .width) (turnedSize x z .height) (markedSeamAlong x z p m)
+unfolding blockedAlong markedSeamAlong markedSeamOf
+marked-inside x z p m e =
+    let q = turned x (z .width) p in
+    let n = turned x (z .width) m in
+    marked-up-inside (turnedSize x z .width) (turnedSize x z .height) q n (markedUp (turnedSize x z .width) (turnedSize x z .height) q n) refl e

@@ -1,0 +1,72 @@
+-- Laws of pictures turned for a seam along an axis, stated once over the axis.
+use mathlib.Core.Path.{_≡_, refl, ap, _∙_}
+use mathlib.Core.List.{List, _++_}
+use Prim.Native.Nat.{ℕ, _*_, _≤_, _<_}
+use native.Mathlib.Nat.{mul-comm, mul-left-comm, mul-le-mul-left, mul-assoc}
+use native.Mathlib.Omega.{arith}
+use borrow.Author.Tests.{ne-eqb, le-ltb}
+use lib.ListN.{length, take}
+use lib.Seq.{take-at}
+use Rattle.grids.proofs.Orders.{more-than-one}
+use Rattle.grids.proofs.Exchange.{exchange-each}
+use Rattle.energy.specs.declared.pictures.Size.{Size}
+use Rattle.energy.specs.Refusals.{refusal}
+use Rattle.energy.specs.Pictures.{Picture, largestSide, channelsOf, pictureBytes, sideRules, picture, bytes, OfSize}
+use Rattle.energy.proofs.Sizes.{Sized, channels-most}
+use Rattle.energy.proofs.Buffers.{picture-ofSize, picture-bytes, length-bytes}
+use Rattle.seam_find.specs.Finding.{pixels}
+use Rattle.seam_cut.specs.declared.Axis.{Axis}
+use Rattle.seam_cut.specs.declared.Axis.the-variants.{Vertical, Horizontal}
+use Rattle.seam_cut.specs.Axes.{turnedSize, turned}
+
+pub turned-bytes : (x : Axis) (z : Size) → pictureBytes (turnedSize x z) ≡ pictureBytes z
+turned-bytes Vertical z = refl
+turned-bytes Horizontal z = mul-left-comm (z .width) (z .height) (channelsOf (z .kind))
+
+pub turned-pixels : (x : Axis) (z : Size) → pixels (turnedSize x z) ≡ pixels z
+turned-pixels Vertical z = refl
+turned-pixels Horizontal z = mul-comm (z .width) (z .height)
+
+pub turned-kind : (x : Axis) (z : Size) → channelsOf (turnedSize x z .kind) ≡ channelsOf (z .kind)
+turned-kind Vertical z = refl
+turned-kind Horizontal z = refl
+
+-- Sides within the limits are served.
+pub sides-of : (z : Size) → 0 < z .width → z .width ≤ largestSide → 0 < z .height → z .height ≤ largestSide → refusal (sideRules z) ≡ 0
+sides-of z p q r s =
+    let w : z .width ≡ 0 → ⊥ = λ e. omega arith in
+    let h : z .height ≡ 0 → ⊥ = λ e. omega arith in
+    simp (ne-eqb _ _ w, ne-eqb _ _ h, le-ltb _ _ q, le-ltb _ _ s)
+
+pub turned-sides : (x : Axis) (z : Size) (n : ℕ) → Sized z n → refusal (sideRules (turnedSize x z)) ≡ 0
+turned-sides Vertical z n s = sides-of z (s .width-some) (s .width-most) (s .height-some) (s .height-most)
+turned-sides Horizontal z n s = sides-of (turnedSize Horizontal z) (s .height-some) (s .height-most) (s .width-some) (s .width-most)
+
+pub turned-ofSize : (x : Axis) (z : Size) (p : Picture) → OfSize z p → OfSize (turnedSize x z) (turned x (z .width) p)
+unfolding turned
+turned-ofSize Vertical z p o = o
+turned-ofSize Horizontal z p o = exchange-each o
+
+-- The turned picture read back from the front of a space.
+pub turned-picture : (x : Axis) (z : Size) (b space rest : List ℕ) → length b ≡ pictureBytes z → space ≡ bytes (turned x (z .width) (picture z b)) ++ rest
+    → picture (turnedSize x z) (take (pictureBytes (turnedSize x z)) space) ≡ turned x (z .width) (picture z b)
+turned-picture x z b space rest e is =
+    let t = turnedSize x z in
+    let o = turned-ofSize x z (picture z b) (picture-ofSize z b e) in
+    ap (picture t) (ap (take (pictureBytes t)) is ∙ take-at (bytes (turned x (z .width) (picture z b))) rest (pictureBytes t) (length-bytes t (turned x (z .width) (picture z b)) o))
+    ∙ picture-bytes t (turned x (z .width) (picture z b)) o
+
+-- A picture takes at most three bytes a pixel.
+pub bytes-few : (z : Size) → pictureBytes z ≤ 3 * pixels z
+bytes-few z =
+    let m = mul-le-mul-left (z .height) (mul-le-mul-left (z .width) (channels-most (z .kind))) in
+    omega (arith, mul-assoc (z .height) (z .width) 3, mul-comm (z .height * z .width) 3)
+
+-- A side that isn't 1 is more.
+pub turned-some : (x : Axis) (z : Size) (n : ℕ) → Sized z n → (turnedSize x z .width ≡ 1 → ⊥) → 1 < turnedSize x z .width
+turned-some Vertical z n s two = more-than-one (z .width) (s .width-some) two
+turned-some Horizontal z n s two = more-than-one (z .height) (s .height-some) two
+
+pub turned-tall : (x : Axis) (z : Size) (n : ℕ) → Sized z n → turnedSize x z .height ≤ largestSide
+turned-tall Vertical z n s = s .height-most
+turned-tall Horizontal z n s = s .width-most

@@ -1,0 +1,106 @@
+-- `seam_cut::marked::find_marked` meets its contract.
+use mathlib.Core.Path.{_≡_, refl, sym, ap, _∙_}
+use mathlib.Core.List.{List, [], _∷_, _++_}
+use native.Mathlib.Omega.{arith}
+use borrow.Author.Needs.{needs}
+use denote.Ref.{now}
+use lib.ListN.{length, drop}
+use Rattle.energy.specs.Refusals.{Rule, _when_, given, refusal}
+use Rattle.energy.specs.Pictures.{sizeRules, picture}
+use Rattle.energy.proofs.Rules.{served-first, refused-answer, refusal-most}
+use Rattle.seam_find.specs.Finding.{marksOf}
+use Rattle.seam_cut.specs.Axes.{turnedSize, markedSeamAlong, markedCostAlong, blockedAlong}
+use Rattle.seam_cut.specs.Carving.{roomRules, markRules}
+use Rattle.seam_cut.proofs.Buffers.{marked-rooms-are, left-as-was, work-as-was}
+use Rattle.seam_cut.proofs.marked.find_marked.Statement.{statement}
+use Rattle.seam_cut.proofs.marked.find_marked.Tie as tie
+
+-- the rules of picture, marks and spaces, and the rule of the seam
+first : tie.Start → List Rule
+first c =
+    let a = c .args in
+    sizeRules (a .size) (length (now (a .picture))) ++ (markRules (a .size) (now (a .marks)) ++ roomRules (a .axis) (a .size) (length (now (a .seam))) (length (now (a .work))))
+
+last : tie.Start → List Rule
+last c =
+    let a = c .args in
+    12 when blockedAlong (a .axis) (a .size) (picture (a .size) (now (a .picture))) (marksOf (a .size) (now (a .marks))) ∷ []
+
+none : (c : tie.After-enum-told)
+    → let s = c .before .before .before .before .before .before .before in
+    refusal (first s) ≡ 0
+unfolding first
+none c = sym (c .before .before .marked-rooms .ensures) ∙ ap given (c .enum-told .given .1)
+
+rest : (c : tie.After-enum-told)
+    → let s = c .before .before .before .before .before .before .before in
+    refusal (first s ++ last s) ≡ refusal (last s)
+unfolding first
+rest c =
+    let s = c .before .before .before .before .before .before .before in
+    served-first (first s) (last s) refl (none c)
+
+marked-rooms-requires : tie.Need-marked-rooms-requires
+marked-rooms-requires c κs = search needs
+
+enum-known-fits : tie.Need-enum-known-fits
+enum-known-fits c = search needs
+
+returns : tie.Need-returns
+unfolding first last
+returns c =
+    let at-marked-rooms = c .before .before .before in
+    let s = at-marked-rooms .before .before .before .before .before in
+    let a = s .args in
+    let x = a .axis in
+    let z = a .size in
+    let p = picture z (now (a .picture)) in
+    let m = marksOf z (now (a .marks)) in
+    let why = c .before .fits2 .given in
+    let told = at-marked-rooms .marked-rooms in
+    let n = refusal (first s ++ last s) in
+    let e = sym (ap given (why .1)) ∙ refused-answer (told .result) (why .0 .0) (why .1) (first s) (last s) (told .ensures) in
+    let few = refusal-most 8 (first s) refl in
+    record {
+      number-is = e;
+      cost-is = left-as-was (why .0 .0) n e (markedCostAlong x z p m) 0;
+      seam-is = left-as-was (why .0 .0) n e (markedSeamAlong x z p m ++ drop (turnedSize x z .height) (now (a .seam))) (now (a .seam));
+      work-is = work-as-was (why .0 .0) n e (omega (arith, few, sym (ap given (why .1)) ∙ told .ensures)) (now (a .work));
+    }
+
+enum-told : tie.Need-enum-told
+enum-told c = search needs
+
+marked-along-requires : tie.Need-marked-along-requires
+unfolding first
+marked-along-requires c κs =
+    let at-enum-told = c .before .before in
+    let s = at-enum-told .before .before .before .before .before .before .before in
+    let a = s .args in
+    marked-rooms-are (a .axis) (a .size) (now (a .picture)) (now (a .marks)) (now (a .seam)) (now (a .work)) (none at-enum-told)
+
+same-length : tie.Need-same-length
+same-length c = search needs
+
+same-length-2 : tie.Need-same-length-2
+same-length-2 c = search needs
+
+returns-2 : tie.Need-returns-2
+unfolding first last
+returns-2 c =
+    let at-marked-along = c .before .before .before .before in
+    let at-enum-told = at-marked-along .before .before .before in
+    rw (rest at-enum-told) (at-marked-along .marked-along .ensures)
+
+pub find-marked-spec : {M : Type 1} → statement M
+find-marked-spec =
+    tie.close
+    (tie.spec
+    marked-rooms-requires
+    enum-known-fits
+    returns
+    enum-told
+    marked-along-requires
+    same-length
+    same-length-2
+    returns-2)

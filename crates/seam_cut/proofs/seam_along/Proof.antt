@@ -1,0 +1,93 @@
+-- `seam_cut::seam_along` meets its contract.
+use mathlib.Core.Path.{_≡_, ap, _∙_}
+use mathlib.Core.List.{_++_}
+use native.Mathlib.Omega.{arith}
+use borrow.Author.Needs.{needs}
+use denote.Ref.{now}
+use lib.ListN.{length, take, drop, replicate}
+use Rattle.energy.specs.Pictures.{pictureBytes, picture}
+use Rattle.energy.proofs.Sizes.{Sized, sized-is}
+use Rattle.seam_find.specs.Seams.{seamOf, costOf}
+use Rattle.seam_cut.specs.Axes.{turnedSize, turned, seamAlong, costAlong}
+use Rattle.seam_cut.proofs.Turns.{turned-bytes, turned-pixels, turned-sides, turned-picture, bytes-few}
+use Rattle.seam_cut.proofs.FindIn.{FoundThere, find-served}
+use Rattle.seam_cut.proofs.seam_along.Statement.{statement}
+use Rattle.seam_cut.proofs.seam_along.Tie as tie
+
+sure : (c : tie.Start) → Sized (c .args .size) (length (now (c .args .picture)))
+sure c = sized-is _ _ (c .pre .sized)
+
+-- the turned picture stands at the front of the work space
+there : (c : tie.After-find-in)
+    → let s = c .before .before .before .before .before .before .before .before .before .before .before in
+    let a = s .args in
+    FoundThere (c .before .before .before .before .before .turn .last .1 .1 .1 .0) (turnedSize (a .axis) (a .size)) (now (a .seam)) (c .find-in .result) (c .find-in .last .0) (c .find-in .last .1 .1 .0)
+there c =
+    let at-turn = c .before .before .before .before .before in
+    let at-turned-size = at-turn .before .before in
+    let start = at-turned-size .before .before .before .before in
+    let a = start .args in
+    let s = sure start in
+    let p = start .pre in
+    find-served (at-turn .turn .last .1 .1 .1 .0) (turnedSize (a .axis) (a .size)) (now (a .seam)) (c .find-in .result) (c .find-in .last .0) (c .find-in .last .1 .1 .0)
+    (rw (at-turned-size .turned-size .ensures) at (c .find-in .ensures))
+    (turned-sides (a .axis) (a .size) (length (now (a .picture))) s) (p .seam-room)
+    (omega (arith, turned-bytes (a .axis) (a .size), turned-pixels (a .axis) (a .size), bytes-few (a .size), p .work-room, at-turn .turn .kept .1 .1 .1 .0))
+
+seen : (c : tie.After-find-in)
+    → let s = c .before .before .before .before .before .before .before .before .before .before .before in
+    let a = s .args in let t = turnedSize (a .axis) (a .size) in
+    picture t (take (pictureBytes t) (c .before .before .before .before .before .turn .last .1 .1 .1 .0)) ≡ turned (a .axis) (a .size .width) (picture (a .size) (now (a .picture)))
+seen c =
+    let at-turn = c .before .before .before .before .before in
+    let s = at-turn .before .before .before .before .before .before in
+    let a = s .args in
+    turned-picture (a .axis) (a .size) (now (a .picture)) (at-turn .turn .last .1 .1 .1 .0) (drop (pictureBytes (a .size)) (now (a .work))) (sure s .length-is) (at-turn .turn .ensures)
+
+turned-size-requires : tie.Need-turned-size-requires
+turned-size-requires c κs = search needs
+
+turn-requires : tie.Need-turn-requires
+turn-requires c κs =
+    let s = c .before .before .before .before .before in
+    record { sized = s .pre .sized; room = omega (arith, bytes-few (s .args .size), s .pre .work-room) }
+
+find-in-requires : tie.Need-find-in-requires
+find-in-requires c κs = search needs
+
+clear-requires : tie.Need-clear-requires
+clear-requires c κs = search needs
+
+same-length : tie.Need-same-length
+same-length c = search needs
+
+same-length-2 : tie.Need-same-length-2
+same-length-2 c = search needs
+
+returns : tie.Need-returns
+unfolding seamAlong costAlong
+returns c =
+    let at-clear = c .before .before in
+    let f = at-clear .before .before .before .before .before .before in
+    let s = f .before .before .before .before .before .before .before .before .before .before .before in
+    let a = s .args in
+    let t = turnedSize (a .axis) (a .size) in
+    let g = there f in
+    record {
+      number-is = g .number;
+      cost-is = g .cost ∙ ap (costOf (t .width) (t .height)) (seen f);
+      seam-is = g .seam-given ∙ ap (λ p. seamOf (t .width) (t .height) p ++ drop (t .height) (now (a .seam))) (seen f);
+      work-is = at-clear .clear .ensures ∙ ap (λ n. replicate n 0) (f .find-in .kept .0 ∙ f .before .before .before .before .before .turn .kept .1 .1 .1 .0);
+    }
+
+pub seam-along-spec : {M : Type 1} → statement M
+seam-along-spec =
+    tie.close
+    (tie.spec
+    turned-size-requires
+    turn-requires
+    find-in-requires
+    clear-requires
+    same-length
+    same-length-2
+    returns)

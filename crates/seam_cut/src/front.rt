@@ -1,0 +1,45 @@
+// The seam of a picture that stands at the front of a space, cut.
+use energy::Refusal;
+use energy::Size;
+use seam_find::Found;
+ghost use lib.ListN.{length};
+ghost use Rattle.energy.specs.Refusals.{refusal};
+ghost use Rattle.seam_cut.specs.Carving.{cutInRules, CutInGiven};
+ghost use Rattle.seam_cut.specs.Kernels.{LastInGiven};
+
+// Cuts the vertical seam out of the picture at the front of the space and gives it as `seam_find::find_in` does. The rows then
+// lie packed at the front, the freed bytes are 0, and a byte for each pixel is cleared behind the picture. Refused by 2, 3,
+// 8 and 13.
+pub fn cut_in(space: &mut [u8], size: Size, seam: &mut [u16]) -> Found
+    ensures { λ f. ⌜ CutInGiven (now (space .entry)) size (now (seam .entry)) (refusal (cutInRules size (length (now (space .entry))) (length (now (seam .entry))))) f (now (space .exit)) (now (seam .exit)) ⌝ }
+{
+    let width = size.width;
+    if width == 1 {
+        return last_in(space, size, seam.len());
+    }
+    let found = seam_find::find_in(space, size, seam);
+    let Found::Seam(_) = found else {
+        return found;
+    };
+    let height = size.height;
+    let bytes = energy::picture_bytes(size);
+    seam_moves::close_up(&mut space[..bytes], size, &seam[..height]);
+    found
+}
+
+// What refuses a cut at the last column: what refuses finding with so much room for the seam, else 13. The seam itself isn't
+// given.
+fn last_in(space: &mut [u8], size: Size, room: usize) -> Found
+    ensures { λ f. ⌜ LastInGiven (now (space .entry)) size room f (now (space .exit)) ⌝ }
+{
+    let mut spare = [0u16; 512];
+    let mut long = 512;
+    if room < 512 {
+        long = room;
+    }
+    let found = seam_find::find_in(space, size, &mut spare[..long]);
+    let Found::Seam(_) = found else {
+        return found;
+    };
+    Found::Refused(Refusal::Last)
+}

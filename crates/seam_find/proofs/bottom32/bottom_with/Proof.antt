@@ -1,0 +1,183 @@
+-- `seam_find::bottom32::bottom_with` meets its contract.
+use mathlib.Core.Path.{_≡_, sym, ap, _∙_}
+use mathlib.Core.List.{List, _++_, append-nil}
+use Prim.Native.Nat.{ℕ, _+_, _-_, _≤_}
+use native.Mathlib.Nat.{add-sub-cancel, le-of-eq}
+use native.Mathlib.Omega.{arith}
+use borrow.Author.Needs.{needs}
+use borrow.Rule.Slice.PartMut.{midOf}
+use denote.Ref.{now}
+use lib.ListN.{length, take, drop, length-replicate, drop-of-length-le}
+use lib.Seq.{length-take-le}
+use Rattle.grids.proofs.Tables.{length-table}
+use Rattle.grids.proofs.Parts.{part-length}
+use Rattle.energy.specs.Pictures.{pictureBytes}
+use Rattle.energy.proofs.Sizes.{Sized, sized-is}
+use Rattle.energy.proofs.Served.{energies-served}
+use Rattle.seam_find.specs.Kernels.{costsOf}
+use Rattle.seam_find.proofs.Fences.{first-row, last-long, row-long, bottom-given}
+use Rattle.seam_find.proofs.bottom32.bottom_with.Statement.{statement}
+use Rattle.seam_find.proofs.bottom32.bottom_with.Tie as tie
+
+sure : (c : tie.Start) → Sized (c .args .size) (pictureBytes (c .args .size))
+sure c = sized-is _ _ (c .pre .0 .sized)
+
+front-room : (c : tie.Start) → c .args .bytes ≤ length (now (c .args .space))
+front-room c = omega (arith, c .pre .0 .room, c .pre .0 .bytes-are)
+
+front-long : (c : tie.Start) → length (take (c .args .bytes) (now (c .args .space))) ≡ pictureBytes (c .args .size)
+front-long c = length-take-le _ _ (front-room c) ∙ c .pre .0 .bytes-are
+
+above-long : (c : tie.Start) → length (now (c .args .above)) ≡ c .args .size .width + 2
+above-long c = ap length (c .pre .1 .fences) ∙ length-replicate (c .args .size .width + 2) 4294967295
+
+mid-long : (c : tie.Start) → length (midOf 1 (c .args .size .width + 1 - 1) (now (c .args .above))) ≡ c .args .size .width
+mid-long c = part-length 1 (c .args .size .width + 1) (now (c .args .above)) (omega (arith, above-long c)) ∙ add-sub-cancel (c .args .size .width) 1
+
+-- the costs of row 0
+costs : (c : tie.Start) → List ℕ
+costs c = costsOf (c .args .size) (take (pictureBytes (c .args .size)) (now (c .args .space))) 0
+
+wide : (c : tie.Start) → length (costsOf (c .args .size) (take (pictureBytes (c .args .size)) (now (c .args .space))) 0) ≡ c .args .size .width
+wide c = length-table _ (c .args .size .width)
+
+row-0 : (c : tie.After-energies)
+    → let s = c .before .before .before .before .before .before .before in
+    c .energies .last .1 .1 .1 .0 ≡ costs s
+unfolding costs
+row-0 c =
+    let s = c .before .before .before .before .before .before .before in
+    let a = s .args in
+    let mid = midOf 1 (a .size .width + 1 - 1) (now (a .above)) in
+    energies-served (take (a .bytes) (now (a .space))) (a .size) 0 mid (c .energies .last .1 .1 .1 .0) (c .energies .result) (c .energies .ensures)
+    (rw (front-long s) (s .pre .0 .sized)) (sure s .height-some) (le-of-eq (sym (mid-long s)))
+    ∙ ap (costsOf (a .size) (take (a .bytes) (now (a .space))) 0 ++_) (drop-of-length-le mid {i = a .size .width} (le-of-eq (mid-long s)))
+    ∙ append-nil (costsOf (a .size) (take (a .bytes) (now (a .space))) 0)
+    ∙ ap (λ b. costsOf (a .size) (take b (now (a .space))) 0) (s .pre .0 .bytes-are)
+
+-- the last row of sums
+row-is-long : (c : tie.After-down)
+    → let s = c .before .before .before .before .before .before .before .before .before .before .before .before .before .before in
+    length (take (s .args .size .width + 1 - 1) (drop 1 (c .down .last .1 .1 .1 .0))) ≡ s .args .size .width
+row-is-long c =
+    let s = c .before .before .before .before .before .before .before .before .before .before .before .before .before .before in
+    let a = s .args in
+    row-long 4294967295 (pictureBytes (a .size)) (a .size) (costsOf (a .size)) (now (a .space)) (c .down .last .0) (c .down .last .1 .1 .1 .0) (wide s) (c .down .ensures)
+
+all-long : (c : tie.After-down)
+    → let s = c .before .before .before .before .before .before .before .before .before .before .before .before .before .before in
+    length (c .down .last .1 .1 .1 .0) ≡ s .args .size .width + 2
+all-long c =
+    let s = c .before .before .before .before .before .before .before .before .before .before .before .before .before .before in
+    let a = s .args in
+    last-long 4294967295 (pictureBytes (a .size)) (a .size) (costsOf (a .size)) (now (a .space)) (c .down .last .0) (c .down .last .1 .1 .1 .0) (wide s) (c .down .ensures)
+
+add-side : tie.Need-add-side
+add-side c = search needs
+
+slice-reshare-prefix-energies : tie.Need-slice-reshare-prefix-energies
+slice-reshare-prefix-energies c = search needs
+
+slice-aggregate-energies : tie.Need-slice-aggregate-energies
+slice-aggregate-energies c = sym (length-take-le _ _ (front-room (c .before .before .before .before .before)))
+
+sub-energies : tie.Need-sub-energies
+sub-energies c = search needs
+
+part-energies-start : tie.Need-part-energies-start
+part-energies-start c = search needs
+
+part-energies-end : tie.Need-part-energies-end
+part-energies-end c = omega (arith, above-long (c .before .before .before .before .before))
+
+energies-requires : tie.Need-energies-requires
+energies-requires c κs = search needs
+
+down-requires : tie.Need-down-requires
+unfolding costs
+down-requires c κs =
+    let at-energies = c .before .before .before .before .before .before in
+    let s = at-energies .before .before .before .before .before .before .before in
+    let a = s .args in
+    let p = s .pre in
+    record {
+      bytes-are = p .0 .bytes-are;
+      sized = p .0 .sized;
+      room = p .0 .room;
+      first = first-row 4294967295 (a .size .width) (now (a .above)) _ (costsOf (a .size) (take (pictureBytes (a .size)) (now (a .space))) 0) (p .1 .fences) (row-0 at-energies);
+      cost-room = p .1 .cost-room;
+      next-room = p .1 .next-room;
+    }
+
+sub-first-least : tie.Need-sub-first-least
+sub-first-least c = search needs
+
+part-first-least-start : tie.Need-part-first-least-start
+part-first-least-start c = search needs
+
+part-first-least-end : tie.Need-part-first-least-end
+part-first-least-end c =
+    let at-down = c .before .before .before .before .before .before .before .before .before in
+    omega (arith, all-long at-down)
+
+first-least-requires : tie.Need-first-least-requires
+first-least-requires c κs =
+    let at-down = c .before .before .before .before .before .before .before .before .before .before in
+    let s = at-down .before .before .before .before .before .before .before .before .before .before .before .before .before .before in
+    rw (row-is-long at-down) (sure s .width-some)
+
+add-at : tie.Need-add-at
+add-at c = search needs
+
+mul-t15 : tie.Need-mul-t15
+mul-t15 c = search needs
+
+slice-read-t31 : tie.Need-slice-read-t31
+slice-read-t31 c =
+    let d = c .before .before .before .before .before .before .before .before .before .before .before .before in
+    let l = c .before .first-least .ensures .1 in
+    omega (arith, all-long d, row-is-long d)
+
+same-length : tie.Need-same-length
+same-length c = search needs
+
+same-length-2 : tie.Need-same-length-2
+same-length-2 c = search needs
+
+same-length-3 : tie.Need-same-length-3
+same-length-3 c = search needs
+
+same-length-4 : tie.Need-same-length-4
+same-length-4 c = search needs
+
+returns : tie.Need-returns
+returns c =
+    let d = c .before .before .before .before .before .before .before .before .before .before .before .before in
+    let a = d .before .before .before .before .before .before .before .before .before .before .before .before .before .before .args in
+    let f = c .before .first-least in
+    bottom-given 4294967295 (pictureBytes (a .size)) (a .size) (costsOf (a .size)) (now (a .space)) (d .down .last .0) (d .down .last .1 .1 .1 .0) (wide (d .before .before .before .before .before .before .before .before .before .before .before .before .before .before)) (d .down .ensures) (f .result) (f .ensures .0) (f .ensures .1)
+
+pub bottom-with-spec : {M : Type 1} → statement M
+bottom-with-spec =
+    tie.close
+    (tie.spec
+    add-side
+    slice-reshare-prefix-energies
+    slice-aggregate-energies
+    sub-energies
+    part-energies-start
+    part-energies-end
+    energies-requires
+    down-requires
+    sub-first-least
+    part-first-least-start
+    part-first-least-end
+    first-least-requires
+    add-at
+    mul-t15
+    slice-read-t31
+    same-length
+    same-length-2
+    same-length-3
+    same-length-4
+    returns)

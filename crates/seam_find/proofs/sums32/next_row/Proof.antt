@@ -1,0 +1,155 @@
+-- `seam_find::sums32::next_row` meets its contract. The loop's invariant: the sums and the ways of c columns stand at the front.
+use mathlib.Core.Path.{_≡_, ap, _∙_}
+use mathlib.Core.List.{_++_}
+use Prim.Native.Nat.{_+_, _-_, _≤_, min}
+use native.Mathlib.Omega.{arith}
+use borrow.Author.Needs.{needs}
+use denote.Ref.{now}
+use lib.ListN.{length, getD, drop, length-set}
+use Rattle.grids.specs.Table.{table}
+use Rattle.grids.proofs.Tables.{table-more, table-end}
+use Rattle.seam_find.specs.Kernels.{leastOf3, sumOf3, wayOf3}
+use Rattle.seam_find.proofs.sums32.next_row.Statement.{statement}
+use Rattle.seam_find.proofs.sums32.next_row.Tie as tie
+
+abbrev Inv-loop : tie.InvT-loop
+Inv-loop above cost next₀ ways₀ c₀ c-end next ways c = (c ≤ c-end) × ((c-end ≡ length next₀) × (((next ≡ table (sumOf3 above cost) c ++ drop c next₀) × (length next ≡ length next₀)) × ((ways ≡ table (wayOf3 above) c ++ drop c ways₀) × (length ways ≡ length ways₀))))
+
+abbrev μ-loop : tie.MeasureT-loop
+μ-loop above cost next₀ ways₀ c₀ c-end next ways c = c-end - c
+
+loop-holds : tie.Need-loop-holds Inv-loop μ-loop
+loop-holds c = search needs
+
+mul-left : tie.Need-mul-left Inv-loop μ-loop
+mul-left c = search needs
+
+shared-slice-read-left : tie.Need-shared-slice-read-left Inv-loop μ-loop
+shared-slice-read-left c = search needs
+
+add-middle : tie.Need-add-middle Inv-loop μ-loop
+add-middle c = search needs
+
+mul-middle : tie.Need-mul-middle Inv-loop μ-loop
+mul-middle c = search needs
+
+shared-slice-read-middle : tie.Need-shared-slice-read-middle Inv-loop μ-loop
+shared-slice-read-middle c = search needs
+
+add-right : tie.Need-add-right Inv-loop μ-loop
+add-right c = search needs
+
+mul-right : tie.Need-mul-right Inv-loop μ-loop
+mul-right c = search needs
+
+shared-slice-read-right : tie.Need-shared-slice-read-right Inv-loop μ-loop
+shared-slice-read-right c = search needs
+
+lesser-requires : tie.Need-lesser-requires Inv-loop μ-loop
+lesser-requires c κs = search needs
+
+lesser-requires-2 : tie.Need-lesser-requires-2 Inv-loop μ-loop
+lesser-requires-2 c κs = search needs
+
+mul-next : tie.Need-mul-next Inv-loop μ-loop
+mul-next c = search needs
+
+shared-slice-read-next : tie.Need-shared-slice-read-next Inv-loop μ-loop
+shared-slice-read-next c = search needs
+
+add-next : tie.Need-add-next Inv-loop μ-loop
+add-next c =
+    let at-lesser = c .before .before in
+    let at-loop = at-lesser .before .before .before .before .before in
+    let s = at-loop .before .before .before .before .before in
+    let k = at-loop .loop .c in
+    let p = s .pre .0 in
+    omega (arith, p .small k (omega arith), p .cheap k, at-lesser .lesser .ensures, c .before .lesser2 .ensures)
+
+mul-next-2 : tie.Need-mul-next-2 Inv-loop μ-loop
+mul-next-2 c = search needs
+
+slice-write-next : tie.Need-slice-write-next Inv-loop μ-loop
+slice-write-next c = search needs
+
+way-requires : tie.Need-way-requires Inv-loop μ-loop
+way-requires c κs = search needs
+
+slice-write-ways : tie.Need-slice-write-ways Inv-loop μ-loop
+slice-write-ways c = search needs
+
+add-c : tie.Need-add-c Inv-loop μ-loop
+add-c c = search needs
+
+loop-less : tie.Need-loop-less Inv-loop μ-loop
+loop-less c = search needs
+
+loop-again : tie.Need-loop-again Inv-loop μ-loop
+unfolding sumOf3 leastOf3 wayOf3
+loop-again c =
+    let at-lesser2 = c .before .before in
+    let at-lesser = at-lesser2 .before in
+    let at-loop = at-lesser .before .before .before .before .before in
+    let s = at-loop .before .before .before .before .before in
+    let a = s .args in
+    let k = at-loop .loop .c in
+    let f = sumOf3 (now (a .above)) (now (a .cost)) in
+    let g = wayOf3 (now (a .above)) in
+    let e : at-lesser2 .lesser2 .result + getD (now (a .cost)) k 0 ≡ f k = ap (_+ getD (now (a .cost)) k 0) (at-lesser2 .lesser2 .ensures ∙ ap (min (getD (now (a .above)) k 0)) (at-lesser .lesser .ensures)) in
+    let d : c .way .result ≡ g k = c .way .ensures in (
+      search needs,
+      (
+        search needs,
+        (
+          (cc (table-more f (now (a .next)) k 0 (omega arith)), simp length-set (search needs)),
+          (cc (table-more g (now (a .ways)) k 0 (omega arith)), simp length-set (search needs)),
+        ),
+      ),
+    )
+
+same-length : tie.Need-same-length Inv-loop μ-loop
+same-length c = search needs
+
+same-length-2 : tie.Need-same-length-2 Inv-loop μ-loop
+same-length-2 c = search needs
+
+returns : tie.Need-returns Inv-loop μ-loop
+returns c =
+    let s = c .before .before .before .before .before .before in
+    let a = s .args in
+    let l = c .before .loop in
+    let end : l .c ≡ length (now (a .next)) = omega arith in (
+      table-end (sumOf3 (now (a .above)) (now (a .cost))) (now (a .next)) (l .next) (l .c) (l .inv .1 .1 .0 .0) end,
+      table-end (wayOf3 (now (a .above))) (now (a .ways)) (l .ways) (l .c) (l .inv .1 .1 .1 .0) (omega arith),
+    )
+
+pub next-row-spec : {M : Type 1} → statement M
+next-row-spec =
+    tie.close
+    (tie.spec
+    Inv-loop
+    μ-loop
+    loop-holds
+    mul-left
+    shared-slice-read-left
+    add-middle
+    mul-middle
+    shared-slice-read-middle
+    add-right
+    mul-right
+    shared-slice-read-right
+    lesser-requires
+    lesser-requires-2
+    mul-next
+    shared-slice-read-next
+    add-next
+    mul-next-2
+    slice-write-next
+    way-requires
+    slice-write-ways
+    add-c
+    loop-less
+    loop-again
+    same-length
+    same-length-2
+    returns)

@@ -1,0 +1,89 @@
+-- Finding the seam of a picture that stands at the front of a space: when it is refused, and what it gives.
+use mathlib.Core.Path.{_≡_}
+use mathlib.Core.Bool.{Bool, true, false, cond, _||_}
+use mathlib.Core.Option.{Option, none, some}
+use mathlib.Core.List.{List, [], _∷_, _++_}
+use Prim.Native.Nat.{ℕ, _+_, _*_}
+use lib.Dec.{eqb, ltb}
+use lib.ListN.{length, take, drop, replicate}
+use Rattle.grids.specs.Rows.{rowsOf}
+use Rattle.energy.specs.declared.pictures.Size.{Size}
+use Rattle.energy.specs.Refusals.{Rule, _when_, numberOf, refusal, served}
+use Rattle.energy.specs.Pictures.{Picture, sideRules, pictureBytes, picture}
+use Rattle.seam_find.specs.declared.Found.{Found}
+use Rattle.seam_find.specs.declared.Found.the-variants.{Seam, Refused}
+use Rattle.seam_find.specs.Seams.{seamOf, costOf, markedUp, markedSeamOf, markedCostOf}
+
+-- The number that an answer is refused by, 0 where a seam is given; and the seam's cost.
+abbrev pub foundNumber : Found → ℕ
+foundNumber (Seam cost) = 0
+foundNumber (Refused why) = numberOf why
+
+abbrev pub foundCost : Found → ℕ
+foundCost (Seam cost) = cost
+foundCost (Refused why) = 0
+
+abbrev pub pixels : Size → ℕ
+pixels z = z .height * z .width
+
+-- The marks in a buffer: rows from the top, one byte a pixel.
+abbrev pub marksOf : Size → List ℕ → List (List ℕ)
+marksOf z b = rowsOf (z .width) (z .height) b
+
+-- The picture at the front of a space, and the marks behind it.
+abbrev pub pictureIn : Size → List ℕ → Picture
+pictureIn z space = picture z (take (pictureBytes z) space)
+
+abbrev pub marksIn : Size → List ℕ → List (List ℕ)
+marksIn z space = marksOf z (take (pixels z) (drop (pictureBytes z) space))
+
+-- Refused by 2 and 3, and by 8 where the seam's space is shorter than the seam, or the space than the picture and a byte
+-- for each of its pixels.
+abbrev pub findRules : Size → ℕ → ℕ → List Rule
+findRules z space seam = sideRules z ++ (8 when ltb seam (z .height) ∷ 8 when ltb space (pictureBytes z + pixels z) ∷ [])
+
+-- The seam of the picture at the front, and what is left: the picture, zeros for its pixels behind it, the rest as it was.
+pub record FindGiven (space : List ℕ) (z : Size) (seam : List ℕ) (answer : Found) (space′ seam′ : List ℕ) : Type 0 where
+  pub number : foundNumber answer ≡ refusal (findRules z (length space) (length seam))
+  pub cost : foundCost answer ≡ served (foundNumber answer) (costOf (z .width) (z .height) (pictureIn z space)) 0
+  pub space-left :
+      space′ ≡ served (foundNumber answer)
+      (take (pictureBytes z) space ++ (replicate (pixels z) 0 ++ drop (pictureBytes z + pixels z) space))
+      space
+  pub seam-given :
+      seam′ ≡ served (foundNumber answer)
+      (seamOf (z .width) (z .height) (pictureIn z space) ++ drop (z .height) seam)
+      seam
+
+-- Whether there is none.
+abbrev pub isNone : {A : Type 0} → Option A → Bool
+isNone none = true
+isNone (some a) = false
+
+-- Refused by 2, 3 and 8 in the same way, where the space also has the marks; and by 12 where no seam is allowed.
+abbrev pub findMarkedRules : Size → ℕ → ℕ → Bool → List Rule
+findMarkedRules z space seam blocked =
+    sideRules z
+    ++ (8 when ltb seam (z .height) ∷ 8 when ltb space (pictureBytes z + (pixels z + pixels z)) ∷ 12 when blocked ∷ [])
+
+-- "After 1 to 8 all buffers are unchanged. After 9 and every higher number .. as after success": the first after success and
+-- after 9 and more, else the second.
+abbrev pub worked : {A : Type 0} → ℕ → A → A → A
+worked n x y = cond (eqb n 0 || ltb 8 n) x y
+
+-- The seam of the picture at the front by the marks behind it, and what is left: picture and marks, zeros for its pixels
+-- behind them, the rest as it was.
+pub record FindMarkedGiven (space : List ℕ) (z : Size) (seam : List ℕ) (answer : Found) (space′ seam′ : List ℕ) : Type 0 where
+  pub number :
+      foundNumber answer ≡ refusal (findMarkedRules z (length space) (length seam)
+      (isNone (markedUp (z .width) (z .height) (pictureIn z space) (marksIn z space))))
+  pub cost : foundCost answer ≡ served (foundNumber answer) (markedCostOf (z .width) (z .height) (pictureIn z space) (marksIn z space)) 0
+  pub space-left :
+      space′ ≡ worked (foundNumber answer)
+      (take (pictureBytes z + pixels z) space
+      ++ (replicate (pixels z) 0 ++ drop (pictureBytes z + (pixels z + pixels z)) space))
+      space
+  pub seam-given :
+      seam′ ≡ served (foundNumber answer)
+      (markedSeamOf (z .width) (z .height) (pictureIn z space) (marksIn z space) ++ drop (z .height) seam)
+      seam

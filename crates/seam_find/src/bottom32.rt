@@ -1,0 +1,57 @@
+// The end of the cheapest path of a picture without marks.
+use crate::down32;
+use crate::sums32;
+use energy::Size;
+ghost use Rattle.energy.specs.Pictures.{pictureBytes};
+ghost use Rattle.seam_find.specs.Kernels.{costsOf, BottomNeeded, BottomGiven, RowsNeeded};
+
+// The column where the path ends, in the last row, and what the path costs.
+pub(crate) struct Bottom {
+    pub(crate) column: usize,
+    pub(crate) sum: u32,
+}
+
+// Works out all sums of the picture at the front of the space. Behind it is written where each column of a row comes from.
+pub(crate) fn find_bottom(space: &mut [u8], size: Size, bytes: usize) -> Bottom
+    requires { ⌜ BottomNeeded (pictureBytes size) size bytes (now space) ⌝ }
+    ensures { λ r. ⌜ BottomGiven 4294967295 (pictureBytes size) size (costsOf size) (now (space .entry)) (now (space .exit)) (r .column) (r .sum) ⌝ }
+{
+    let width = size.width;
+    let both = width + 2;
+    let mut above = [down32::FENCE; 514];
+    let mut cost = [0u32; 512];
+    let mut next = [0u32; 512];
+    bottom_with(
+        space,
+        size,
+        bytes,
+        &mut above[..both],
+        &mut cost[..width],
+        &mut next[..width],
+    )
+}
+
+// The same with room for the fenced sums of a row, which is all fence, and for a row of costs and of sums.
+fn bottom_with(
+    space: &mut [u8],
+    size: Size,
+    bytes: usize,
+    above: &mut [u32],
+    cost: &mut [u32],
+    next: &mut [u32],
+) -> Bottom
+    requires { ⌜ BottomNeeded (pictureBytes size) size bytes (now space) ⌝ }
+    requires { ⌜ RowsNeeded 4294967295 size (now above) (now cost) (now next) ⌝ }
+    ensures { λ r. ⌜ BottomGiven 4294967295 (pictureBytes size) size (costsOf size) (now (space .entry)) (now (space .exit)) (r .column) (r .sum) ⌝ }
+{
+    let width = size.width;
+    let side = width + 1;
+    energy::energies(&space[..bytes], size, 0, &mut above[1..side]);
+    down32::down(space, size, bytes, above, cost, next);
+    let column = sums32::first_least(&above[1..side]);
+    let at = column + 1;
+    Bottom {
+        column,
+        sum: above[at],
+    }
+}

@@ -1,0 +1,49 @@
+// All rows of sums of a picture without marks, from the top.
+use crate::sums32;
+use energy::Size;
+ghost use Rattle.energy.specs.Pictures.{pictureBytes};
+ghost use Rattle.seam_find.specs.Kernels.{costsOf, DownNeeded, DownGiven, RowNeeded, RowGiven};
+
+// A number larger than every sum.
+pub(crate) const FENCE: u32 = 4294967295;
+
+// From the fenced sums of row 0 to those of the last row. The picture, of so many bytes, stands at the front of the space;
+// behind it is written, row after row, where each column of a row comes from. cost and next are for a row each.
+pub(crate) fn down(
+    space: &mut [u8],
+    size: Size,
+    bytes: usize,
+    above: &mut [u32],
+    cost: &mut [u32],
+    next: &mut [u32],
+)
+    requires { ⌜ DownNeeded 4294967295 (pictureBytes size) size (costsOf size) bytes (now space) (now above) (now cost) (now next) ⌝ }
+    ensures { λ _. ⌜ DownGiven 4294967295 (pictureBytes size) size (costsOf size) (now (space .entry)) (now (space .exit)) (now (above .exit)) ⌝ }
+{
+    let height = size.height;
+    for i in 1..height {
+        row_down(space, size, bytes, i, above, cost, next);
+    }
+}
+
+// From the fenced sums of row i - 1 to those of row i.
+fn row_down(
+    space: &mut [u8],
+    size: Size,
+    bytes: usize,
+    i: usize,
+    above: &mut [u32],
+    cost: &mut [u32],
+    next: &mut [u32],
+)
+    requires { ⌜ RowNeeded 2147483648 (pictureBytes size) size bytes i (now space) (now above) (now cost) (now next) ⌝ }
+    ensures { λ _. ⌜ RowGiven (pictureBytes size) size (costsOf size) i (now (space .entry)) (now (above .entry)) (now (space .exit)) (now (above .exit)) ⌝ }
+{
+    let width = size.width;
+    let side = width + 1;
+    let a = bytes + (i - 1) * width;
+    let e = a + width;
+    energy::energies(&space[..bytes], size, i, cost);
+    sums32::next_row(above, &cost[..width], next, &mut space[a..e]);
+    sums32::copy(next, &mut above[1..side]);
+}

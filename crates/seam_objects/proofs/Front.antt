@@ -1,0 +1,97 @@
+-- A cut of the picture and marks that stand at the front of their buffers: which number it is refused by, and what it leaves.
+use mathlib.Core.Path.{_≡_, sym, ap, _∙_}
+use mathlib.Core.Bool.{Bool, true, false, not, cond}
+use mathlib.Core.List.{List, _++_, append-assoc}
+use Prim.Native.Nat.{ℕ, _*_, _≤_}
+use native.Mathlib.Omega.{arith}
+use borrow.Author.Tests.{eq-eqb, ne-eqb, le-ltb}
+use lib.ListN.{length, take, drop, replicate, take-append-drop}
+use lib.Seq.{length-take-le}
+use Rattle.grids.specs.Rows.{flat}
+use Rattle.energy.specs.declared.pictures.Size.{Size}
+use Rattle.energy.specs.declared.refusals.Refusal.{Refusal}
+use Rattle.energy.specs.Refusals.{refusal, served}
+use Rattle.energy.specs.Pictures.{channelsOf, pictureBytes, bytes}
+use Rattle.energy.proofs.Sizes.{sides-are}
+use Rattle.seam_find.specs.declared.Found.{Found}
+use Rattle.seam_find.specs.declared.Found.the-variants.{Seam, Refused}
+use Rattle.seam_find.specs.Finding.{foundNumber, pixels}
+use Rattle.seam_cut.specs.declared.Axis.the-variants.{Vertical}
+use Rattle.seam_cut.specs.Axes.{turned, markedSeamAlong, blockedAlong, cutAlong}
+use Rattle.seam_cut.specs.Carving.{markedCutRules, MarkedPictureCut, MarkedMarksCut}
+use Rattle.seam_cut.proofs.Buffers.{seam-free, refused-blocked}
+use Rattle.seam_objects.specs.Objects.{noSeam, cutOnce}
+use Rattle.seam_objects.specs.Kernels.{FrontNeeded, front, FrontCut}
+
+-- A part at the front as it comes back, with what stood behind it.
+part-back : {A : Type 0} (t : Bool) (n k : ℕ) (x freed b b′ : List A) → n ≡ cond t 12 0 → b′ ≡ served n (x ++ freed) (take k b)
+    → b′ ++ drop k b ≡ cond (not t) (x ++ (freed ++ drop k b)) b
+part-back true n k x freed b b′ e f = ap (_++ drop k b) (f ∙ ap (λ n. served n (x ++ freed) (take k b)) e) ∙ take-append-drop k b
+part-back false n k x freed b b′ e f = ap (_++ drop k b) (f ∙ ap (λ n. served n (x ++ freed) (take k b)) e) ∙ append-assoc x freed (drop k b)
+
+module _ {z : Size} {b m work : List ℕ} (need : FrontNeeded z b m work) where
+  -- Only 12 refuses it.
+  front-number : (seam : ℕ) → z .height ≤ seam
+      → refusal (markedCutRules Vertical z (take (pictureBytes z) b) (take (pixels z) m) seam (length (take (32 * pixels z) work))) ≡ cond (noSeam (front z b m)) 12 0
+  unfolding blockedAlong turned
+  front-number seam long =
+      let s = sides-are z (need .sides) in
+      let w : z .width ≡ 0 → ⊥ = λ e. omega (arith, s .width-some) in
+      let h : z .height ≡ 0 → ⊥ = λ e. omega (arith, s .height-some) in
+      let one : z .width ≡ 1 → ⊥ = λ e. omega (arith, need .wide) in
+      let room : 32 * pixels z ≤ length (take (32 * pixels z) work) = omega (arith, length-take-le (32 * pixels z) work (need .room)) in
+      simp (
+        ne-eqb _ _ w,
+        ne-eqb _ _ h,
+        le-ltb _ _ (s .width-most),
+        le-ltb _ _ (s .height-most),
+        eq-eqb _ _ (length-take-le (pictureBytes z) b (need .picture-there)),
+        eq-eqb _ _ (length-take-le (pixels z) m (need .marks-there)),
+        need .few,
+        le-ltb _ _ long,
+        le-ltb _ _ room,
+        ne-eqb _ _ one,
+      )
+
+  -- The number, where k bytes of the picture are lent.
+  abbrev numberAt : ℕ → ℕ → ℕ
+  numberAt k seam = refusal (markedCutRules Vertical z (take k b) (take (pixels z) m) seam (length (take (32 * pixels z) work)))
+
+  cut-at : (seam : ℕ) → z .height ≤ seam → (b′ m′ : List ℕ) (t : Bool) → t ≡ not (noSeam (front z b m))
+      → MarkedPictureCut (take (pictureBytes z) b) (take (pixels z) m) z Vertical (numberAt (pictureBytes z) seam) b′
+      → MarkedMarksCut (take (pictureBytes z) b) (take (pixels z) m) z Vertical (numberAt (pictureBytes z) seam) m′
+      → FrontCut z b m t (b′ ++ drop (pictureBytes z) b) (m′ ++ drop (pixels z) m)
+  unfolding markedSeamAlong cutAlong turned cutOnce
+  cut-at seam long b′ m′ t is p q =
+      let u = noSeam (front z b m) in
+      let n = numberAt (pictureBytes z) seam in
+      let left = cutOnce (front z b m) in
+      let gap : List ℕ = replicate (z .height * channelsOf (z .kind)) 0 in
+      record {
+        cut-is = is;
+        picture-is =
+            part-back u n (pictureBytes z) (bytes (left .picture)) gap b b′ (front-number seam long) (p .picture-is)
+            ∙ ap (λ t. cond t (bytes (left .picture) ++ (gap ++ drop (pictureBytes z) b)) b) (sym is);
+        marks-are =
+            part-back u n (pixels z) (flat (left .marks)) (replicate (z .height) 0) m m′ (front-number seam long) (q .marks-are)
+            ∙ ap (λ t. cond t (flat (left .marks) ++ (replicate (z .height) 0 ++ drop (pixels z) m)) m) (sym is);
+      }
+
+  module _ {k : ℕ} (e : k ≡ pictureBytes z) {seam : ℕ} (long : z .height ≤ seam) where
+    number-is : numberAt k seam ≡ cond (noSeam (front z b m)) 12 0
+    number-is = rw e (front-number seam long)
+
+    -- The answer says whether there was a seam.
+    module _ (answer : Found) (n : foundNumber answer ≡ numberAt k seam) where
+      pub front-found : (cost : ℕ) → answer ≡ Seam cost → true ≡ not (noSeam (front z b m))
+      front-found cost is = sym (ap not (seam-free (noSeam (front z b m)) answer (n ∙ number-is) cost is))
+
+      pub front-refused : (why : Refusal) → answer ≡ Refused why → false ≡ not (noSeam (front z b m))
+      front-refused why is = sym (ap not (refused-blocked (noSeam (front z b m)) answer (n ∙ number-is) why is))
+
+    -- What stands in the buffers then.
+    pub front-cut : (b′ m′ : List ℕ) (t : Bool) → t ≡ not (noSeam (front z b m))
+        → MarkedPictureCut (take k b) (take (pixels z) m) z Vertical (numberAt k seam) b′
+        → MarkedMarksCut (take k b) (take (pixels z) m) z Vertical (numberAt k seam) m′
+        → FrontCut z b m t (b′ ++ drop k b) (m′ ++ drop (pixels z) m)
+    front-cut = rw e (cut-at seam long)

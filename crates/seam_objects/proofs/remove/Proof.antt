@@ -1,0 +1,94 @@
+-- `seam_objects::remove` meets its contract.
+use mathlib.Core.Path.{_≡_, sym, ap, _∙_}
+use Prim.Native.Nat.{ℕ}
+use borrow.Author.Needs.{needs}
+use denote.Ref.{now}
+use lib.ListN.{length, replicate}
+use Rattle.energy.specs.Refusals.{given, refusal}
+use Rattle.seam_objects.specs.Removing.{removalRules}
+use Rattle.seam_objects.proofs.Rooms.{rooms-rules, rooms-are, refused-all}
+use Rattle.seam_objects.proofs.remove.Statement.{statement}
+use Rattle.seam_objects.proofs.remove.Tie as tie
+
+-- the number that the buffers are refused by
+number : tie.Start → ℕ
+number c =
+    let a = c .args in
+    refusal (removalRules (a .size) (now (a .picture)) (now (a .marks)) (length (now (a .work))))
+
+judged : (c : tie.After-marked-rooms)
+    → let s = c .before .before .before .before .before in
+    given (c .marked-rooms .result) ≡ number s
+unfolding number
+judged c =
+    let a = c .before .before .before .before .before .args in
+    c .marked-rooms .ensures ∙ rooms-rules (a .size) (now (a .picture)) (now (a .marks)) (length (now (a .work)))
+
+nothing : (c : tie.After-enum-told)
+    → let s = c .before .before .before .before .before .before .before in
+    number s ≡ 0
+nothing c = sym (judged (c .before .before)) ∙ ap given (c .enum-told .given .1)
+
+marked-rooms-requires : tie.Need-marked-rooms-requires
+marked-rooms-requires c κs = search needs
+
+enum-known-fits : tie.Need-enum-known-fits
+enum-known-fits c = search needs
+
+same-length : tie.Need-same-length
+same-length c = search needs
+
+returns : tie.Need-returns
+unfolding number
+returns c =
+    let q = c .before .before .before in
+    let a = q .before .before .before .before .before .args in
+    let why = c .before .fits2 .given in
+    refused-all (a .size) (now (a .picture)) (now (a .marks)) (a .budget) (now (a .work)) (why .0 .0) (number (q .before .before .before .before .before)) (sym (ap given (why .1)) ∙ judged q)
+
+enum-told : tie.Need-enum-told
+enum-told c = search needs
+
+cut-seams-requires : tie.Need-cut-seams-requires
+unfolding number
+cut-seams-requires c κs =
+    let q = c .before .before .before in
+    let a = q .before .before .before .before .before .before .before .args in
+    rooms-are (a .size) (now (a .picture)) (now (a .marks)) (now (a .work)) (nothing q)
+
+clear-requires : tie.Need-clear-requires
+clear-requires c κs = search needs
+
+same-length-2 : tie.Need-same-length-2
+same-length-2 c = search needs
+
+same-length-3 : tie.Need-same-length-3
+same-length-3 c = search needs
+
+same-length-4 : tie.Need-same-length-4
+same-length-4 c = search needs
+
+returns-2 : tie.Need-returns-2
+unfolding number
+returns-2 c =
+    let at-clear = c .before .before in
+    let k = at-clear .before .before .before .before .before .before .before .before in
+    let q = k .before .before .before .before in
+    let a = q .before .before .before .before .before .before .before .args in
+    rw (nothing q) (k .cut-seams .ensures, at-clear .clear .ensures ∙ ap (λ n. replicate n 0) (k .cut-seams .kept .1 .1 .1 .1 .0))
+
+pub remove-spec : {M : Type 1} → statement M
+remove-spec =
+    tie.close
+    (tie.spec
+    marked-rooms-requires
+    enum-known-fits
+    same-length
+    returns
+    enum-told
+    cut-seams-requires
+    clear-requires
+    same-length-2
+    same-length-3
+    same-length-4
+    returns-2)

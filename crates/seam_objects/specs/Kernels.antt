@@ -1,0 +1,42 @@
+-- What the private functions of this crate ask and promise. No public promise cites it.
+use mathlib.Core.Path.{_≡_}
+use mathlib.Core.Bool.{Bool, false, not, cond}
+use mathlib.Core.List.{List, _++_}
+use Prim.Native.Nat.{ℕ, _*_, _≤_, _<_}
+use lib.ListN.{length, take, drop, replicate}
+use Rattle.grids.specs.Rows.{flat}
+use Rattle.energy.specs.declared.pictures.Size.{Size}
+use Rattle.energy.specs.Refusals.{refusal}
+use Rattle.energy.specs.Pictures.{channelsOf, sideRules, sizeRules, pictureBytes, bytes}
+use Rattle.seam_moves.specs.Moving.{outside}
+use Rattle.seam_find.specs.Finding.{pixels}
+use Rattle.seam_objects.specs.Objects.{MarkedPicture, noSeam, cutOnce}
+use Rattle.seam_objects.specs.Removing.{markedPicture}
+
+-- A picture and marks of its size, and room for the work.
+pub record SeamsNeeded (z : Size) (b m work : List ℕ) : Type 0 where
+  pub sized : refusal (sizeRules z (length b)) ≡ 0
+  pub marked : length m ≡ pixels z
+  pub few : outside 3 m ≡ false
+  pub room : 32 * pixels z ≤ length work
+
+-- A picture and marks of more than one column at the front of their buffers, and room for the work.
+pub record FrontNeeded (z : Size) (b m work : List ℕ) : Type 0 where
+  pub sides : refusal (sideRules z) ≡ 0
+  pub wide : 1 < z .width
+  pub picture-there : pictureBytes z ≤ length b
+  pub marks-there : pixels z ≤ length m
+  pub few : outside 3 (take (pixels z) m) ≡ false
+  pub room : 32 * pixels z ≤ length work
+
+-- What stands at the front.
+abbrev pub front : Size → List ℕ → List ℕ → MarkedPicture
+front z b m = markedPicture z (take (pictureBytes z) b) (take (pixels z) m)
+
+-- Whether a seam was cut out of it; then what is left is packed at the front, the freed bytes are 0, and what stood behind
+-- is as it was.
+pub record FrontCut (z : Size) (b m : List ℕ) (cut : Bool) (b′ m′ : List ℕ) : Type 0 where
+  pub cut-is : cut ≡ not (noSeam (front z b m))
+  pub picture-is :
+      b′ ≡ cond cut (bytes (cutOnce (front z b m) .picture) ++ (replicate (z .height * channelsOf (z .kind)) 0 ++ drop (pictureBytes z) b)) b
+  pub marks-are : m′ ≡ cond cut (flat (cutOnce (front z b m) .marks) ++ (replicate (z .height) 0 ++ drop (pixels z) m)) m

@@ -1,0 +1,132 @@
+// Object removal: vertical seams are cut by the marks until no pixel is marked 2.
+use energy::LARGEST_SIDE;
+use energy::Refusal;
+use energy::Size;
+use energy::Verdict;
+use seam_cut::Axis;
+use seam_find::Found;
+ghost use mathlib.Core.Path.{_≡_};
+ghost use lib.ListN.{length, replicate};
+ghost use Rattle.energy.specs.Refusals.{refusal, served};
+ghost use Rattle.seam_objects.specs.Objects.{someTwo};
+ghost use Rattle.seam_objects.specs.Removing.{removalRules, ObjectRemoved};
+ghost use Rattle.seam_objects.specs.Kernels.{SeamsNeeded, FrontNeeded, FrontCut};
+
+// How a removal ended, with the count of seams cut, or why it is refused.
+pub enum Removal {
+    // no pixel is marked 2
+    Done(u16),
+    // width 1
+    Narrow(u16),
+    // as many seams cut as allowed
+    Spent(u16),
+    // every seam meets a protected pixel
+    Blocked(u16),
+    Refused(Refusal),
+}
+
+// Cuts at most `budget` seams by the marks. The picture and marks left lie packed at the front of each buffer and the freed
+// bytes are 0. Refused by 2, 3, 4, 5 and 8.
+pub fn remove(
+    picture: &mut [u8],
+    marks: &mut [u8],
+    size: Size,
+    budget: u16,
+    work: &mut [u8],
+) -> Removal
+    ensures { λ r. ⌜ ObjectRemoved size (now (picture .entry)) (now (marks .entry)) budget (refusal (removalRules size (now (picture .entry)) (now (marks .entry)) (length (now (work .entry))))) r (now (picture .exit)) (now (marks .exit)) ⌝ }
+    ensures { λ r. ⌜ now (work .exit) ≡ served (refusal (removalRules size (now (picture .entry)) (now (marks .entry)) (length (now (work .entry))))) (replicate (length (now (work .entry))) 0) (now (work .entry)) ⌝ }
+{
+    let fits = seam_cut::marked_rooms(
+        picture.len(),
+        marks,
+        size,
+        Axis::Vertical,
+        LARGEST_SIDE,
+        work.len(),
+    );
+    if let Verdict::Refused(why) = fits {
+        return Removal::Refused(why);
+    }
+    let ended = cut_seams(picture, marks, size, budget, work);
+    seam_moves::clear(work);
+    ended
+}
+
+// The removal where nothing is refused.
+fn cut_seams(
+    picture: &mut [u8],
+    marks: &mut [u8],
+    size: Size,
+    budget: u16,
+    work: &mut [u8],
+) -> Removal
+    requires { ⌜ SeamsNeeded size (now picture) (now marks) (now work) ⌝ }
+    ensures { λ r. ⌜ ObjectRemoved size (now (picture .entry)) (now (marks .entry)) budget 0 r (now (picture .exit)) (now (marks .exit)) ⌝ }
+{
+    let height = size.height;
+    let kind = size.kind;
+    let mut width = size.width;
+    let mut count = 0u16;
+    loop {
+        let pixels = height * width;
+        if !some_two(&marks[..pixels]) {
+            return Removal::Done(count);
+        }
+        if width == 1 {
+            return Removal::Narrow(count);
+        }
+        if count == budget {
+            return Removal::Spent(count);
+        }
+        let left = Size {
+            width,
+            height,
+            kind,
+        };
+        if !cut_front(picture, marks, left, work) {
+            return Removal::Blocked(count);
+        }
+        width -= 1;
+        count += 1;
+    }
+}
+
+// Cuts the seam out of the picture and the marks of this size that stand at the front of their buffers; false, and nothing
+// is cut, where every seam meets a protected pixel.
+fn cut_front(picture: &mut [u8], marks: &mut [u8], size: Size, work: &mut [u8]) -> bool
+    requires { ⌜ FrontNeeded size (now picture) (now marks) (now work) ⌝ }
+    ensures { λ t. ⌜ FrontCut size (now (picture .entry)) (now (marks .entry)) t (now (picture .exit)) (now (marks .exit)) ⌝ }
+{
+    let width = size.width;
+    let height = size.height;
+    let bytes = energy::picture_bytes(size);
+    let pixels = height * width;
+    let room = 32 * pixels;
+    let mut seam = [0u16; 512];
+    let found = seam_cut::cut_marked(
+        &mut picture[..bytes],
+        &mut marks[..pixels],
+        size,
+        Axis::Vertical,
+        &mut seam,
+        &mut work[..room],
+    );
+    let Found::Seam(_) = found else {
+        return false;
+    };
+    true
+}
+
+// Whether some mark is 2.
+fn some_two(marks: &[u8]) -> bool
+    ensures { λ t. ⌜ t ≡ someTwo (now (marks .entry)) ⌝ }
+{
+    let mut some = false;
+    for i in 0..marks.len() {
+        if marks[i] == 2 {
+            some = true;
+        }
+    }
+    some
+}

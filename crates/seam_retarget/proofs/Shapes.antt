@@ -1,0 +1,142 @@
+-- What every cell of the table is: a picture of its size, of samples that are bytes, with a total that stays small.
+use mathlib.Core.Path.{_≡_}
+use mathlib.Core.Bool.{Bool, true, false, cond}
+use mathlib.Core.List.{List, []}
+use Prim.Native.Nat.{ℕ, zero, suc, _+_, _-_, _*_, _≤_, _<_}
+use native.Mathlib.Nat.{mul-le-mul-right}
+use native.Mathlib.Omega.{arith}
+use lib.Dec.{leb}
+use lib.ListN.{length, getD}
+use Rattle.grids.specs.Each.{Each, none, more}
+use Rattle.grids.specs.Cut.{cut}
+use Rattle.grids.proofs.Exchange.{exchange-each}
+use Rattle.grids.proofs.Cut.{cut-narrower}
+use Rattle.energy.specs.declared.pictures.Size.{Size}
+use Rattle.energy.specs.Refusals.{refusal}
+use Rattle.energy.specs.Pictures.{Picture, channelsOf, pictureBytes, sideRules, OfSize}
+use Rattle.energy.specs.Energy.{pixel}
+use Rattle.energy.proofs.Sizes.{Sides, sides-are}
+use Rattle.energy.proofs.Energy.{energy-most}
+use Rattle.seam_cut.specs.declared.Axis.{Axis}
+use Rattle.seam_cut.specs.declared.Axis.the-variants.{Vertical, Horizontal}
+use Rattle.seam_cut.specs.Axes.{turnedSize, turned, narrowed, seamAlong, costAlong, cutAlong}
+use Rattle.seam_cut.proofs.Turns.{turned-sides}
+use Rattle.seam_cut.proofs.Inside.{along-inside}
+use Rattle.seam_retarget.specs.Cells.{Cell, smaller, bySeam, chosen, cell}
+use Rattle.seam_retarget.specs.Kernels.{leftAlong}
+use Rattle.seam_retarget.proofs.Costs.{cost-bound}
+use Rattle.seam_retarget.proofs.Steps.{sized-at}
+use Rattle.seam_retarget.proofs.Slots.{smaller-sides}
+
+-- A picture of this size whose pixels all have P.
+abbrev pub Of : (List ℕ → Type 0) → Size → Picture → Type 0
+Of P z p = Each (Each P (z .width)) (z .height) p
+
+module _ (P : List ℕ → Type 0) where
+  turned-of : (x : Axis) (z : Size) (p : Picture) → Of P z p → Of P (turnedSize x z) (turned x (z .width) p)
+  unfolding turned
+  turned-of Vertical z p o = o
+  turned-of Horizontal z p o = exchange-each o
+
+  -- By a seam, a row or a column less.
+  by-of : (x : Axis) (z : Size) (k : Cell) → refusal (sideRules z) ≡ 0 → 1 < turnedSize x z .width → Of P z (k .picture) → Of P (leftAlong x z) (bySeam x z k .picture)
+  unfolding bySeam cutAlong
+  by-of x z k s wide o =
+      let t = turnedSize x z in
+      let p = k .picture in
+      turned-of x (narrowed (turnedSize x z)) (cut (seamAlong x z p) (turned x (z .width) p))
+      (cut-narrower (t .width) wide (along-inside x z (pictureBytes z) p (sized-at z s)) (turned-of x z p o))
+
+  chosen-of : (z : Size) (v h : Cell) → Of P z (v .picture) → Of P z (h .picture) → Of P z (chosen v h .picture)
+  unfolding chosen
+  chosen-of z v h a b = go (leb (v .total) (h .total))
+    where
+      go : (t : Bool) → Of P z (cond t v h .picture)
+      go true = a
+      go false = b
+
+  less-column-of : (z : Size) (r c : ℕ) (q : Picture) → Of P (leftAlong Vertical (smaller z r c)) q → Of P (smaller z r (suc c)) q
+  less-column-of z r c q o = let e : z .width - c - 1 ≡ z .width - suc c = omega arith in rw e at o
+
+  less-row-of : (z : Size) (r c : ℕ) (q : Picture) → Of P (leftAlong Horizontal (smaller z r c)) q → Of P (smaller z (suc r) c) q
+  less-row-of z r c q o = let e : z .height - r - 1 ≡ z .height - suc r = omega arith in rw e at o
+
+  -- Each cell has the pixels of the picture, r rows and c columns less.
+  module _ (z : Size) (p : Picture) (s : refusal (sideRules z) ≡ 0) (o : Of P z p) where
+    pub cell-of : (r c : ℕ) → r < z .height → c < z .width → Of P (smaller z r c) (cell z p r c .picture)
+    unfolding cell
+    cell-of zero zero h w =
+        let a : z .width - 0 ≡ z .width = omega arith in
+        let b : z .height - 0 ≡ z .height = omega arith in
+        rw (a, b) o
+    cell-of zero (suc c) h w =
+        less-column-of z 0 c (bySeam Vertical (smaller z 0 c) (cell z p 0 c) .picture)
+        (by-of Vertical (smaller z 0 c) (cell z p 0 c) (smaller-sides z 0 c s h (omega arith)) (omega arith) (cell-of 0 c h (omega arith)))
+    cell-of (suc r) zero h w =
+        less-row-of z r 0 (bySeam Horizontal (smaller z r 0) (cell z p r 0) .picture)
+        (by-of Horizontal (smaller z r 0) (cell z p r 0) (smaller-sides z r 0 s (omega arith) w) (omega arith) (cell-of r 0 (omega arith) w))
+    cell-of (suc r) (suc c) h w =
+        chosen-of (smaller z (suc r) (suc c)) (bySeam Vertical (smaller z (suc r) c) (cell z p (suc r) c)) (bySeam Horizontal (smaller z r (suc c)) (cell z p r (suc c)))
+        (less-column-of z (suc r) c (bySeam Vertical (smaller z (suc r) c) (cell z p (suc r) c) .picture)
+        (by-of Vertical (smaller z (suc r) c) (cell z p (suc r) c) (smaller-sides z (suc r) c s h (omega arith)) (omega arith) (cell-of (suc r) c h (omega arith))))
+        (less-row-of z r (suc c) (bySeam Horizontal (smaller z r (suc c)) (cell z p r (suc c)) .picture)
+        (by-of Horizontal (smaller z r (suc c)) (cell z p r (suc c)) (smaller-sides z r (suc c) s (omega arith) w) (omega arith) (cell-of r (suc c) (omega arith) w)))
+
+-- "To remove r rows and c columns": the cell's picture has the size m - c by n - r.
+pub cell-ofSize : (z : Size) (p : Picture) → refusal (sideRules z) ≡ 0 → OfSize z p → (r c : ℕ) → r < z .height → c < z .width → OfSize (smaller z r c) (cell z p r c .picture)
+cell-ofSize z p s o r c h w = cell-of (λ x. length x ≡ channelsOf (z .kind)) z p s o r c h w
+
+-- A pixel of so many samples, each a byte.
+pub record Bytes (channels : ℕ) (x : List ℕ) : Type 0 where
+  pub many : length x ≤ channels
+  pub small : (k : ℕ) → getD x k 0 ≤ 255
+
+-- What holds of each element and of the default holds everywhere.
+each-any-at : {A : Type 0} {P Q : A → Type 0} {n : ℕ} {xs : List A} (d : A) → Q d → ((x : A) → P x → Q x) → Each P n xs → (i : ℕ) → Q (getD xs i d)
+each-any-at d z h none i = z
+each-any-at d z h (more {x = x} p e) zero = h x p
+each-any-at d z h (more p e) (suc i) = each-any-at d z h e i
+
+pixel-bytes : (ch : ℕ) (z : Size) (p : Picture) → Of (Bytes ch) z p → (r c : ℕ) → Bytes ch (pixel p r c)
+pixel-bytes ch z p o r c =
+    each-any-at {Q = λ row. (c : ℕ) → Bytes ch (getD row c [])} [] (λ c. blank) (λ row e c. each-any-at [] blank (λ x b. b) e c) o r c
+  where
+    blank : Bytes ch []
+    blank = record { many = omega arith; small = λ k. omega arith }
+
+-- The cost of a seam along either axis.
+cost-most : (ch : ℕ) → ch ≤ 3 → (x : Axis) (z : Size) (p : Picture) → refusal (sideRules z) ≡ 0 → Of (Bytes ch) z p → costAlong x z p ≤ 783360
+unfolding costAlong
+cost-most ch few x z p s o =
+    let t = turnedSize x z in
+    let q = turned x (z .width) p in
+    let sides : Sides (turnedSize x z) = sides-are t (turned-sides x z (pictureBytes z) (sized-at z s)) in
+    let b = pixel-bytes ch t q (turned-of (Bytes ch) x z p o) in
+    cost-bound (t .width) (t .height) q (sides .width-some) (sides .height-some) (sides .height-most)
+    (λ r c. omega (arith, energy-most ch 255 q (λ r c. b r c .many) (λ r c. b r c .small) r c, mul-le-mul-right 255 few))
+
+-- The total of r + c seams: at most 128 of them, it fits 64 bits.
+module _ (z : Size) (p : Picture) (s : refusal (sideRules z) ≡ 0) (ch : ℕ) (few : ch ≤ 3) (o : Of (Bytes ch) z p) where
+  by-most : (x : Axis) (r c m : ℕ) → r < z .height → c < z .width → cell z p r c .total ≤ m → bySeam x (smaller z r c) (cell z p r c) .total ≤ m + 783360
+  unfolding bySeam
+  by-most x r c m h w l = omega (arith, cost-most ch few x (smaller z r c) (cell z p r c .picture) (smaller-sides z r c s h w) (cell-of (Bytes ch) z p s o r c h w))
+
+  pub total-most : (r c : ℕ) → r < z .height → c < z .width → cell z p r c .total ≤ (r + c) * 783360
+  unfolding cell chosen
+  total-most zero zero h w = omega arith
+  total-most zero (suc c) h w = omega (arith, by-most Vertical 0 c ((0 + c) * 783360) h (omega arith) (total-most 0 c h (omega arith)))
+  total-most (suc r) zero h w = omega (arith, by-most Horizontal r 0 ((r + 0) * 783360) (omega arith) w (total-most r 0 (omega arith) w))
+  total-most (suc r) (suc c) h w =
+      less (bySeam Vertical (smaller z (suc r) c) (cell z p (suc r) c)) (bySeam Horizontal (smaller z r (suc c)) (cell z p r (suc c)))
+      (omega (arith, by-most Vertical (suc r) c ((suc r + c) * 783360) h (omega arith) (total-most (suc r) c h (omega arith))))
+      (omega (arith, by-most Horizontal r (suc c) ((r + suc c) * 783360) (omega arith) w (total-most r (suc c) (omega arith) w)))
+    where
+      less : (u v : Cell) → u .total ≤ (suc r + suc c) * 783360 → v .total ≤ (suc r + suc c) * 783360 → chosen u v .total ≤ (suc r + suc c) * 783360
+      less u v a b = go (leb (u .total) (v .total))
+        where
+          go : (t : Bool) → cond t u v .total ≤ (suc r + suc c) * 783360
+          go true = a
+          go false = b
+
+  pub total-fits : (r c : ℕ) → r < z .height → c < z .width → r ≤ 64 → c ≤ 64 → cell z p r c .total < 18446744073709551616
+  total-fits r c h w k l = omega (arith, total-most r c h w)

@@ -1,0 +1,65 @@
+// One cell of the table, where two ways lead to it.
+use crate::Columns;
+use crate::Rows;
+use crate::seams::cut_at;
+use crate::seams::seam_at;
+use energy::Size;
+use seam_cut::Axis;
+ghost use mathlib.Core.Path.{_≡_};
+ghost use Prim.Native.Nat.{_≤_};
+ghost use lib.ListN.{length};
+ghost use Rattle.seam_retarget.specs.Cells.{smaller as Cells·smaller};
+ghost use Rattle.seam_retarget.specs.Kernels.{CellNeeded, CellGiven};
+
+// Where the places for work stand, counted in pictures: behind the 65 slots, each of two pictures.
+pub(crate) const VERTICAL: usize = 65;
+
+pub(crate) const HORIZONTAL: usize = 67;
+
+// The size with so many rows and so many columns less.
+pub(crate) fn smaller(size: Size, rows: Rows, columns: Columns) -> Size
+    requires { ⌜ (rows .0 ≤ size .height) × (columns .0 ≤ size .width) ⌝ }
+    ensures { λ z. ⌜ z ≡ Cells·smaller size (rows .0) (columns .0) ⌝ }
+{
+    let width = size.width;
+    let height = size.height;
+    let kind = size.kind;
+    Size {
+        width: width - columns.0,
+        height: height - rows.0,
+        kind,
+    }
+}
+
+// The cell with a row and a column more removed: from the cell above it, in its own slot, by a horizontal seam, or from the
+// cell to its left by a vertical one. Takes the totals of the two and gives the cell's. `whole` is the bytes of a slot.
+pub(crate) fn next_cell(
+    work: &mut [u8],
+    size: Size,
+    whole: usize,
+    rows: Rows,
+    columns: Columns,
+    above: u64,
+    left: u64,
+) -> u64
+    requires { ⌜ CellNeeded size whole (rows .0) (columns .0) above left (length (now work)) ⌝ }
+    ensures { λ n. ⌜ CellGiven size whole (rows .0) (columns .0) above left (now (work .entry)) n (now (work .exit)) ⌝ }
+{
+    let r = rows.0;
+    let c = columns.0;
+    let upper = smaller(size, rows, Columns(c + 1));
+    let beside = smaller(size, Rows(r + 1), columns);
+    let slot = (c + 1) * whole;
+    let vertical = VERTICAL * whole;
+    let horizontal = HORIZONTAL * whole;
+    let mut across = [0u16; 512];
+    let mut down = [0u16; 512];
+    let by_row = above + seam_at(work, slot, upper, Axis::Horizontal, horizontal, &mut across);
+    let by_column = left + seam_at(work, c * whole, beside, Axis::Vertical, vertical, &mut down);
+    if by_column <= by_row {
+        cut_at(work, vertical, beside, Axis::Vertical, &down, slot);
+        return by_column;
+    }
+    cut_at(work, horizontal, upper, Axis::Horizontal, &across, slot);
+    by_row
+}

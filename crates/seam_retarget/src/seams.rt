@@ -1,0 +1,97 @@
+// One seam of a picture that stands at a place of the work space: found, and cut.
+use energy::Size;
+use seam_cut::Axis;
+use seam_cut::turned_size;
+use seam_find::Found;
+ghost use mathlib.Core.Path.{_≡_};
+ghost use lib.ListN.{length};
+ghost use Rattle.energy.specs.Pictures.{pictureBytes, bytes};
+ghost use Rattle.seam_moves.specs.Between.{putAt};
+ghost use Rattle.seam_cut.specs.Axes.{turned, narrowed};
+ghost use Rattle.seam_retarget.specs.Kernels.{pictureAt, TurnNeeded, SeamNeeded, SeamGiven, CutNeeded, CutGiven, StepNeeded, StepGiven};
+ghost use Prim.Native.Nat.{_<_};
+
+// The picture at `from`, put turned at `to`.
+fn turn(work: &mut [u8], from: usize, size: Size, axis: Axis, to: usize)
+    requires { ⌜ TurnNeeded (length (now work)) from size to ⌝ }
+    ensures { λ _. ⌜ now (work .exit) ≡ putAt to (pictureBytes size) (bytes (turned axis (size .width) (pictureAt size from (now (work .entry))))) (now (work .entry)) ⌝ }
+{
+    match axis {
+        Axis::Vertical => {
+            let all = energy::picture_bytes(size);
+            seam_moves::copy_between(work, from, all, to);
+        }
+        Axis::Horizontal => {
+            seam_moves::exchange_between(work, from, size, to);
+        }
+    }
+}
+
+// The size with a column less.
+fn narrower(size: Size) -> Size
+    requires { ⌜ 0 < size .width ⌝ }
+    ensures { λ z. ⌜ z ≡ narrowed size ⌝ }
+{
+    let width = size.width;
+    let height = size.height;
+    let kind = size.kind;
+    Size {
+        width: width - 1,
+        height,
+        kind,
+    }
+}
+
+// The seam along the axis of the picture at `from`, put into the front of seam, and its cost. The picture then stands turned
+// at `at`.
+pub(crate) fn seam_at(
+    work: &mut [u8],
+    from: usize,
+    size: Size,
+    axis: Axis,
+    at: usize,
+    seam: &mut [u16],
+) -> u64
+    requires { ⌜ SeamNeeded (length (now work)) from size axis at (length (now seam)) ⌝ }
+    ensures { λ n. ⌜ SeamGiven (now (work .entry)) from size axis at (now (seam .entry)) n (now (work .exit)) (now (seam .exit)) ⌝ }
+{
+    turn(work, from, size, axis, at);
+    let over = turned_size(axis, size);
+    let found = seam_find::find_in(&mut work[at..], over, seam);
+    match found {
+        Found::Seam(cost) => cost,
+        // never here: the size is allowed and there is room
+        Found::Refused(_) => 0,
+    }
+}
+
+// The picture that stands turned at `at`, without the seam, put at `to`.
+pub(crate) fn cut_at(work: &mut [u8], at: usize, size: Size, axis: Axis, seam: &[u16], to: usize)
+    requires { ⌜ CutNeeded (length (now work)) at size axis (now seam) to ⌝ }
+    ensures { λ _. ⌜ CutGiven (now (work .entry)) at size axis (now (seam .entry)) to (now (work .exit)) ⌝ }
+{
+    let over = turned_size(axis, size);
+    let all = energy::picture_bytes(over);
+    let long = over.height;
+    let end = at + all;
+    seam_moves::close_up(&mut work[at..end], over, &seam[..long]);
+    turn(work, at, narrower(over), axis, to);
+}
+
+// The picture at `from` without its seam along the axis, put at `to`; gives the seam's cost. `at` is for the work.
+pub(crate) fn step(
+    work: &mut [u8],
+    from: usize,
+    size: Size,
+    axis: Axis,
+    at: usize,
+    to: usize,
+) -> u64
+    requires { ⌜ StepNeeded (length (now work)) from size axis at to ⌝ }
+    ensures { λ n. ⌜ StepGiven (now (work .entry)) from size axis at to n (now (work .exit)) ⌝ }
+{
+    let mut seam = [0u16; 512];
+    let cost = seam_at(work, from, size, axis, at, &mut seam);
+    cut_at(work, at, size, axis, &seam, to);
+    cost
+}

@@ -1,0 +1,105 @@
+// The table of cells, one row of it at a time: slot j of the work space holds the picture of the row's cell j, and totals[j]
+// its total. `whole` is the bytes of a slot.
+use crate::Columns;
+use crate::Rows;
+use crate::cells::HORIZONTAL;
+use crate::cells::VERTICAL;
+use crate::cells::next_cell;
+use crate::cells::smaller;
+use crate::seams::step;
+use energy::Size;
+use seam_cut::Axis;
+ghost use Prim.Native.Nat.{_+_};
+ghost use Rattle.seam_retarget.specs.Kernels.{held, firstRow, alongRow, nextRow, tableRow, RowNeeded, RowGiven, NoTotals, Totals, MoreTotals};
+
+// Row 0, from the picture in slot 0.
+pub(crate) fn first_row(
+    work: &mut [u8],
+    size: Size,
+    whole: usize,
+    columns: Columns,
+    totals: &mut [u64],
+)
+    requires { ⌜ RowNeeded size whole 0 (columns .0) (now work) (now totals) ⌝ }
+    requires { ⌜ NoTotals (now totals) ⌝ }
+    ensures { λ _. ⌜ RowGiven size whole 0 (columns .0) (firstRow size (held size whole 0 (now (work .entry)) (now (totals .entry)) 0)) (now (work .entry)) (now (work .exit)) (now (totals .exit)) ⌝ }
+{
+    let last = columns.0;
+    for j in 0..last {
+        let before = smaller(size, Rows(0), Columns(j));
+        let cost = step(
+            work,
+            j * whole,
+            before,
+            Axis::Vertical,
+            VERTICAL * whole,
+            (j + 1) * whole,
+        );
+        totals[j + 1] = totals[j] + cost;
+    }
+}
+
+// The row below row `rows`, whose first cell stands in slot 0 already.
+fn rest_of_row(
+    work: &mut [u8],
+    size: Size,
+    whole: usize,
+    rows: Rows,
+    columns: Columns,
+    totals: &mut [u64],
+)
+    requires { ⌜ RowNeeded size whole (rows .0 + 1) (columns .0) (now work) (now totals) ⌝ }
+    requires { ⌜ MoreTotals (rows .0) (now totals) ⌝ }
+    ensures { λ _. ⌜ RowGiven size whole (rows .0 + 1) (columns .0) (alongRow size (rows .0) (held size whole (rows .0 + 1) (now (work .entry)) (now (totals .entry)) 0) (held size whole (rows .0) (now (work .entry)) (now (totals .entry)))) (now (work .entry)) (now (work .exit)) (now (totals .exit)) ⌝ }
+{
+    let last = columns.0;
+    for j in 0..last {
+        totals[j + 1] = next_cell(
+            work,
+            size,
+            whole,
+            rows,
+            Columns(j),
+            totals[j + 1],
+            totals[j],
+        );
+    }
+}
+
+// The row below row `rows`.
+fn next_row(
+    work: &mut [u8],
+    size: Size,
+    whole: usize,
+    rows: Rows,
+    columns: Columns,
+    totals: &mut [u64],
+)
+    requires { ⌜ RowNeeded size whole (rows .0 + 1) (columns .0) (now work) (now totals) ⌝ }
+    requires { ⌜ Totals (rows .0) (now totals) ⌝ }
+    ensures { λ _. ⌜ RowGiven size whole (rows .0 + 1) (columns .0) (nextRow size (rows .0) (held size whole (rows .0) (now (work .entry)) (now (totals .entry)))) (now (work .entry)) (now (work .exit)) (now (totals .exit)) ⌝ }
+{
+    let above = smaller(size, rows, Columns(0));
+    let cost = step(work, 0, above, Axis::Horizontal, HORIZONTAL * whole, 0);
+    totals[0] = totals[0] + cost;
+    rest_of_row(work, size, whole, rows, columns, totals);
+}
+
+// Row `rows`, from row 0.
+pub(crate) fn rows_below(
+    work: &mut [u8],
+    size: Size,
+    whole: usize,
+    rows: Rows,
+    columns: Columns,
+    totals: &mut [u64],
+)
+    requires { ⌜ RowNeeded size whole (rows .0) (columns .0) (now work) (now totals) ⌝ }
+    requires { ⌜ Totals 0 (now totals) ⌝ }
+    ensures { λ _. ⌜ RowGiven size whole (rows .0) (columns .0) (tableRow size (held size whole 0 (now (work .entry)) (now (totals .entry))) (rows .0)) (now (work .entry)) (now (work .exit)) (now (totals .exit)) ⌝ }
+{
+    let last = rows.0;
+    for i in 0..last {
+        next_row(work, size, whole, Rows(i), columns, totals);
+    }
+}

@@ -1,0 +1,22 @@
+-- What the functions inside this crate promise each other.
+use mathlib.Core.List.{List, _++_}
+use Prim.Native.Nat.{ℕ, _+_, _*_, _≤_}
+use lib.ListN.{length}
+use Rattle.energy.specs.declared.pictures.Kind.{Kind}
+use Rattle.energy.specs.Pictures.{channelsOf}
+use Rattle.grids.specs.Rows.{rowsOf, rowAt}
+use Rattle.text_theory.specs.Decimal.{digits}
+use Rattle.text_theory.specs.Files.{blank, each, pixelText}
+
+-- The bytes w, and two numbers with a blank between them.
+unfoldable pub pairText : List ℕ → ℕ → ℕ → List ℕ
+pairText w m n = w ++ (digits m ++ (blank ++ digits n))
+
+-- A pixel of a row's bytes, or n of them, with room for their text.
+pub record PixelNeeded (out : List ℕ) (at : ℕ) (k : Kind) (b : List ℕ) (i : ℕ) : Type 0 where
+  pub inside : i * channelsOf k + channelsOf k ≤ length b
+  pub room : at + (1 + length (pixelText k (rowAt (channelsOf k) i b))) ≤ length out
+
+pub record PixelsNeeded (out : List ℕ) (at : ℕ) (k : Kind) (b : List ℕ) (n : ℕ) : Type 0 where
+  pub inside : n * channelsOf k ≤ length b
+  pub room : at + length (each blank (pixelText k) (rowsOf (channelsOf k) n b)) ≤ length out

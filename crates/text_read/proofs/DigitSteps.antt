@@ -1,0 +1,95 @@
+-- The readers at a place of a text, one step at a time, in the code's terms.
+use mathlib.Core.Path.{_≡_, refl, _∙_}
+use mathlib.Core.Bool.{Bool, true, false, cond}
+use mathlib.Core.Logic.{_⊎_, inl, inr}
+use mathlib.Core.Option.{none, some}
+use mathlib.Core.List.{List, [], _∷_}
+use Prim.Native.Nat.{ℕ, _+_, _-_, _*_, _≤_, _<_}
+use native.Mathlib.Omega.{arith}
+use lib.Dec.{leb, ltb}
+use lib.ListN.{length, getD, drop, drop-of-length-le}
+use borrow.Author.Tests.{le-leb, lt-leb, ltb-true, ltb-false}
+use Rattle.text_theory.specs.Decimal.{isDigit, further, upTo, number}
+use Rattle.text_read.specs.Answers.{Told}
+use Rattle.text_read.specs.Kernels.{within}
+use Rattle.text_theory.proofs.Pairs.{front}
+use Rattle.text_theory.proofs.Decimals.{is-digit, number-digit}
+
+pub no-digit : (b : ℕ) → (b < 48) ⊎ (58 ≤ b) → isDigit b ≡ false
+unfolding isDigit
+no-digit b (inl h) = rw (lt-leb 48 b h)
+no-digit b (inr h) = rw (lt-leb b 57 h) (go (leb 48 b))
+  where
+    go : (x : Bool) → mathlib.Core.Bool._&&_ x false ≡ false
+    go true = refl
+    go false = refl
+
+further-more : (s : List ℕ) (n : ℕ) → n ≤ further n s .0
+unfolding further
+further-more [] n = omega arith
+further-more (b ∷ s) n = go (isDigit b) (further-more s (n * 10 + (b - 48)))
+  where
+    go : (x : Bool) → n * 10 + (b - 48) ≤ further (n * 10 + (b - 48)) s .0 → n ≤ cond x (further (n * 10 + (b - 48)) s) (n, b ∷ s) .0
+    go true h = omega arith
+    go false h = omega arith
+
+-- The state of the digits' loop: n is what the digits between start and at say.
+pub record Reading (limit : ℕ) (text : List ℕ) (start n at : ℕ) : Type 0 where
+  pub same : number limit (drop start text) ≡ upTo limit (further n (drop at text))
+  pub there : start < at
+  pub inside : at ≤ length text
+  pub small : n ≤ 655359
+
+module _ (limit : ℕ) {text : List ℕ} {start : ℕ} where
+  pub number-end : length text ≤ start → Told (number limit) text start none
+  unfolding number
+  number-end h = record { same = rw (drop-of-length-le text h); moved = tt }
+
+  pub number-none : start < length text → isDigit (getD text start 0) ≡ false → Told (number limit) text start none
+  unfolding number
+  number-none h d = record { same = rw (front text start h, d); moved = tt }
+
+  pub number-zero : start < length text → getD text start 0 ≡ 48 → Told (number limit) text start (some (0, start + 1))
+  unfolding number isDigit
+  number-zero h e = record { same = rw (front text start h, e); moved = (omega arith, omega arith) }
+
+module _ {limit : ℕ} {text : List ℕ} {start : ℕ} where
+  pub reading-first : {d : ℕ} → start < length text → (48 ≤ getD text start 0) × (getD text start 0 ≤ 57) → (getD text start 0 ≡ 48 → ⊥) → d ≡ getD text start 0 - 48 → Reading limit text start d (start + 1)
+  reading-first h b z e = record {
+    same = rw (front text start h, e) (number-digit limit (getD text start 0) (drop (start + 1) text) (is-digit (getD text start 0) (b .0) (b .1)) (omega (arith, b .0, z)));
+    there = omega arith;
+    inside = omega arith;
+    small = omega arith;
+  }
+
+  module _ {n at : ℕ} (R : Reading limit text start n at) where
+    pub reading-next : {d : ℕ} → limit ≤ 65535 → n ≤ limit → at < length text → (48 ≤ getD text at 0) × (getD text at 0 ≤ 57) → d ≡ getD text at 0 - 48 → Reading limit text start (n * 10 + d) (at + 1)
+    unfolding further
+    reading-next m k h b e = record {
+      same = R .same ∙ rw (front text at h, is-digit (getD text at 0) (b .0) (b .1), e);
+      there = omega arith;
+      inside = omega arith;
+      small = omega arith;
+    }
+
+    pub reading-over : limit < n → Told (number limit) text start none
+    unfolding upTo
+    reading-over h =
+        let l = further-more (drop at text) n in
+        record { same = R .same ∙ rw (lt-leb (further n (drop at text) .0) limit (omega arith)); moved = tt }
+
+    stopped : further n (drop at text) ≡ (n, drop at text) → Told (number limit) text start (within limit n at)
+    unfolding upTo
+    stopped e = go (ltb limit n) refl
+      where
+        go : (x : Bool) → ltb limit n ≡ x → Told (number limit) text start (cond x none (some (n, at)))
+        go true f = record { same = R .same ∙ rw (e, lt-leb n limit (ltb-true limit n f)); moved = tt }
+        go false f = record { same = R .same ∙ rw (e, le-leb n limit (ltb-false limit n f)); moved = (R .there, R .inside) }
+
+    pub reading-stop : at < length text → isDigit (getD text at 0) ≡ false → Told (number limit) text start (within limit n at)
+    unfolding further
+    reading-stop h d = stopped (rw (front text at h, d))
+
+    pub reading-end : length text ≤ at → Told (number limit) text start (within limit n at)
+    unfolding further
+    reading-end h = stopped (rw (drop-of-length-le text h))

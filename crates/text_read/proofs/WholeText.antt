@@ -1,0 +1,147 @@
+-- The whole text: counting its lines is counting the lines of its parts.
+use mathlib.Core.Path.{_≡_, refl, sym, _∙_}
+use mathlib.Core.Bool.{Bool, _&&_}
+use mathlib.Core.Option.{Option, none, some}
+use mathlib.Core.List.{List, [], _∷_, map}
+use Prim.Native.Nat.{ℕ, zero, suc, _≤_, _<_}
+use native.Mathlib.Omega.{arith}
+use lib.ListN.{length, length-map, drop-of-length-le}
+use Rattle.text_read.specs.declared.forms.Items.{Items}
+use Rattle.text_read.specs.declared.forms.Items.the-variants.{Numbers}
+use Rattle.text_theory.specs.Readers.{Get, give, on, _▷_, strip, behind, after, next, manyUpTo, many}
+use Rattle.text_theory.specs.Decimal.{number}
+use Rattle.energy.specs.declared.pictures.Kind.{Kind}
+use Rattle.energy.specs.declared.pictures.Kind.the-variants.{Grey, Rgb}
+use Rattle.text_theory.specs.declared.Head.{Head}
+use Rattle.text_theory.specs.Files.{Parts, lineEnd, blank, closing, closed, rowWord, mapWord, items, pixel, line, headGet, file, ended, whole, parse}
+use Rattle.text_read.specs.declared.scanning.Facts.{Facts}
+use Rattle.text_read.specs.Answers.{Told, counted, formOf, evenly, factsOf, factsIn}
+use Rattle.text_read.specs.Kernels.{lineRest, Reached, linesOf, itemsOf, scanOf}
+use Rattle.text_theory.proofs.Pairs.{front}
+use Rattle.text_read.proofs.Onward.{Left, tally}
+
+-- A reader of changed values reads the values and changes them.
+many-change : {A B : Type 0} (f : A → B) (g : Get A) (k : Get B) (e : (s : List ℕ) → k s ≡ on (g s) (λ a. give (f a))) (w : List ℕ) (n : ℕ) (s : List ℕ) → manyUpTo n w k s ≡ on (manyUpTo n w g s) (λ xs. give (map f xs))
+unfolding manyUpTo next
+many-change f g k e w zero s = refl
+many-change {A} {B} f g k e w (suc n) s = go (strip w s) (many-change f g k e w n)
+  where
+    last : (x : A) (o : Option (List A × List ℕ)) → on (on o (λ xs. give (map f xs))) (λ xs. give (f x ∷ xs)) ≡ on (on o (λ xs. give (x ∷ xs))) (λ xs. give (map f xs))
+    last x none = refl
+    last x (some r) = refl
+
+    more : (o : Option (A × List ℕ)) → ((s : List ℕ) → manyUpTo n w k s ≡ on (manyUpTo n w g s) (λ xs. give (map f xs)))
+        → on (on o (λ a. give (f a))) (λ x. manyUpTo n w k ▷ λ xs. give (x ∷ xs)) ≡ on (on o (λ x. manyUpTo n w g ▷ λ xs. give (x ∷ xs))) (λ xs. give (map f xs))
+    more none h = refl
+    more (some r) h = rw (h (r .1)) (last (r .0) (manyUpTo n w g (r .1)))
+
+    go : (o : Option (List ℕ)) → ((s : List ℕ) → manyUpTo n w k s ≡ on (manyUpTo n w g s) (λ xs. give (map f xs)))
+        → next o s k (manyUpTo n w k) ≡ on (next o s g (manyUpTo n w g)) (λ xs. give (map f xs))
+    go none h = refl
+    go (some t) h = rw (e t) (more (g t) h)
+
+count-map : {A B : Type 0} (f : A → B) (g : Get A) (s : List ℕ) → counted (items (g ▷ λ a. give (f a))) s ≡ counted (items g) s
+unfolding counted items many
+count-map {A} f g s = rw (many-change f g (g ▷ λ a. give (f a)) (λ t. refl) blank (suc (length s)) s) (go (manyUpTo (suc (length s)) blank g s))
+  where
+    last : (xs : List A) (o : Option (List ℕ)) → on (behind o (give (map f xs))) (λ xs. give (length xs)) ≡ on (behind o (give xs)) (λ xs. give (length xs))
+    last xs none = refl
+    last xs (some t) = rw length-map
+
+    go : (o : Option (List A × List ℕ)) → on (on (on o (λ xs. give (map f xs))) (λ xs. after closing (give xs))) (λ xs. give (length xs)) ≡ on (on o (λ xs. after closing (give xs))) (λ xs. give (length xs))
+    go none = refl
+    go (some r) = last (r .0) (strip closing (r .1))
+
+count-line : {A : Type 0} (g : Get A) (s : List ℕ) → counted (line g) s ≡ on (counted (items g) s) (λ n. after lineEnd (give n))
+unfolding counted line
+count-line {A} g s = go (items g s)
+  where
+    last : (xs : List A) (o : Option (List ℕ)) → on (behind o (give xs)) (λ xs. give (length xs)) ≡ behind o (give (length xs))
+    last xs none = refl
+    last xs (some t) = refl
+
+    go : (o : Option (List A × List ℕ)) → on (on o (λ xs. after lineEnd (give xs))) (λ xs. give (length xs)) ≡ on (on o (λ xs. give (length xs))) (λ n. after lineEnd (give n))
+    go none = refl
+    go (some r) = last (r .0) (strip lineEnd (r .1))
+
+pub rest-map : (s : List ℕ) → lineRest Numbers s ≡ on (line (number 65535) s) (λ xs. give (length xs))
+unfolding lineRest formOf counted
+rest-map s = sym (count-line (number 65535) s)
+
+pub rest-row : (k : Kind) (s : List ℕ) → lineRest (itemsOf k) s ≡ on (line (pixel k) s) (λ xs. give (length xs))
+unfolding lineRest formOf counted itemsOf pixel
+rest-row Grey s = rw (← count-map (λ a. a ∷ []) (number 255) s) (sym (count-line _ s))
+rest-row Rgb s = sym (count-line _ s)
+
+abbrev tallyAll : {A : Type 0} → ℕ → List (List A) → Get (ℕ × Bool)
+tallyAll width xss = give (length xss, evenly width (map length xss))
+
+-- Lines counted are the lines read, counted.
+lines-read : {A : Type 0} (word : List ℕ) (w : Items) (g : Get (List A)) (width : ℕ) → ((s : List ℕ) → lineRest w s ≡ on (g s) (λ xs. give (length xs)))
+    → (s : List ℕ) → linesOf word w width s ≡ on (many word g s) (tallyAll width)
+unfolding linesOf many
+lines-read {A} word w g width e s = rw (many-change length g (lineRest w) e word (suc (length s)) s) (go (manyUpTo (suc (length s)) word g s))
+  where
+    go : (o : Option (List (List A) × List ℕ)) → on (on o (λ xss. give (map length xss))) (tally width) ≡ on o (tallyAll width)
+    go none = refl
+    go (some r) = rw length-map
+
+pub scan-file : (s : List ℕ) → scanOf s ≡ on (file s) (λ p. give (factsOf p))
+unfolding scanOf file factsOf
+scan-file s = go (headGet s)
+  where
+    last : (h : Head) (rows : List (List (List ℕ))) (maps : List (List ℕ)) (o : Option (List ℕ))
+        → behind o (give (record { head = h; rows = length rows; maps = length maps; full = evenly (h .size .width) (map length rows) && evenly (h .size .width) (map length maps) }))
+        ≡ on (behind o (give (record { head = h; rows = rows; maps = maps }))) (λ p. give (factsOf p))
+    last h rows maps none = refl
+    last h rows maps (some t) = refl
+
+    maps-step : (h : Head) (rows : List (List (List ℕ))) (o : Option (List (List ℕ) × List ℕ))
+        → on (on o (tallyAll (h .size .width))) (λ m. after closed (give (record { head = h; rows = length rows; maps = m .0; full = evenly (h .size .width) (map length rows) && m .1 })))
+        ≡ on (on o (λ maps. after closed (give (record { head = h; rows = rows; maps = maps })))) (λ p. give (factsOf p))
+    maps-step h rows none = refl
+    maps-step h rows (some r) = last h rows (r .0) (strip closed (r .1))
+
+    rows-step : (h : Head) (o : Option (List (List (List ℕ)) × List ℕ))
+        → on (on o (tallyAll (h .size .width))) (λ r. linesOf mapWord Numbers (h .size .width) ▷ λ m. after closed (give (record { head = h; rows = r .0; maps = m .0; full = r .1 && m .1 })))
+        ≡ on (on o (λ rows. many mapWord (line (number 65535)) ▷ λ maps. after closed (give (record { head = h; rows = rows; maps = maps })))) (λ p. give (factsOf p))
+    rows-step h none = refl
+    rows-step h (some r) = rw (lines-read mapWord Numbers (line (number 65535)) (h .size .width) rest-map (r .1)) (maps-step h (r .0) (many mapWord (line (number 65535)) (r .1)))
+
+    go : (o : Option (Head × List ℕ))
+        → on o (λ h. linesOf rowWord (itemsOf (h .size .kind)) (h .size .width) ▷ λ r. linesOf mapWord Numbers (h .size .width) ▷ λ m. after closed (give (record { head = h; rows = r .0; maps = m .0; full = r .1 && m .1 })))
+        ≡ on (on o (λ h. many rowWord (line (pixel (h .size .kind))) ▷ λ rows. many mapWord (line (number 65535)) ▷ λ maps. after closed (give (record { head = h; rows = rows; maps = maps })))) (λ p. give (factsOf p))
+    go none = refl
+    go (some r) = rw (lines-read rowWord (itemsOf (r .0 .size .kind)) (line (pixel (r .0 .size .kind))) (r .0 .size .width) (rest-row (r .0 .size .kind)) (r .1)) (rows-step (r .0) (many rowWord (line (pixel (r .0 .size .kind))) (r .1)))
+
+factsOf-parse : (s : List ℕ) → factsIn (parse s) ≡ whole (scanOf s)
+unfolding parse whole
+factsOf-parse s = rw scan-file (go (file s))
+  where
+    last : (p : Parts) (t : List ℕ) → factsIn (ended t p) ≡ ended t (factsOf p)
+    last p [] = refl
+    last p (b ∷ t) = refl
+
+    go : (o : Option (Parts × List ℕ)) → factsIn (whole o) ≡ whole (on o (λ p. give (factsOf p)))
+    go none = refl
+    go (some r) = last (r .0) (r .1)
+
+pub scan-none : {text : List ℕ} → Told scanOf text 0 none → factsIn (parse text) ≡ none
+unfolding whole
+scan-none {text} t = factsOf-parse text ∙ rw (t .same)
+
+module _ {text : List ℕ} {f : Facts} {at : ℕ} (L : Left scanOf text 0 (give f) at) where
+  pub scan-more : at < length text → factsIn (parse text) ≡ none
+  unfolding whole
+  scan-more h = factsOf-parse text ∙ rw (L .same, front text at h)
+
+  pub scan-end : length text ≤ at → factsIn (parse text) ≡ some f
+  unfolding whole
+  scan-end h = factsOf-parse text ∙ rw (L .same, drop-of-length-le text h)
+
+module _ {B : Type 0} {whole : Get B} {text : List ℕ} {from : ℕ} where
+  pub left-reach : {A : Type 0} {g : Get A} (f : A → Get B) {at : ℕ} {a : A} {c : ℕ} → Left whole text from (g ▷ f) at → Reached g text at (some (a, c)) → Left whole text from (f a) c
+  left-reach f L t = record { same = L .same ∙ rw (t .same); there = omega (arith, L .there, t .moved .0) }
+
+  pub left-no-reach : {A : Type 0} {g : Get A} (f : A → Get B) {at : ℕ} → Left whole text from (g ▷ f) at → Reached g text at none → Told whole text from none
+  left-no-reach f L t = record { same = L .same ∙ rw (t .same); moved = tt }

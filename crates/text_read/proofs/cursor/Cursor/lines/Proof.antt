@@ -1,0 +1,94 @@
+-- `text_read::cursor::Cursor::lines` meets its contract.
+use Prim.Native.Nat.{_-_}
+use native.Mathlib.Omega.{arith}
+use lib.ListN.{length}
+use Rattle.text_read.proofs.Onward.{Lining, lining-first, lining-stop, lining-torn, lining-next}
+use borrow.Author.Needs.{needs}
+use Rattle.text_read.proofs.cursor.Cursor.lines.Statement.{statement}
+use Rattle.text_read.proofs.cursor.Cursor.lines.Tie as tie
+
+abbrev Inv-loop : tie.InvT-loop
+Inv-loop text word what width at₀ n₀ even₀ at n even = Lining word what width text at₀ n even at
+
+abbrev μ-loop : tie.MeasureT-loop
+μ-loop text word what width at₀ n₀ even₀ at n even = length text - at
+
+loop-holds : tie.Need-loop-holds Inv-loop μ-loop
+loop-holds c = lining-first (search needs)
+
+past-requires : tie.Need-past-requires Inv-loop μ-loop
+past-requires c κs = search needs
+
+enum-known-c : tie.Need-enum-known-c Inv-loop μ-loop
+enum-known-c c = search needs
+
+enum-told : tie.Need-enum-told Inv-loop μ-loop
+enum-told c = search needs
+
+returns : tie.Need-returns Inv-loop μ-loop
+returns c =
+    let at-past = c .before .before in
+    let at-loop = at-past .before in
+    lining-stop (search needs) (at-loop .loop .inv) (rw (c .enum-told .given .1) at (at-past .past .ensures))
+
+rest-requires : tie.Need-rest-requires Inv-loop μ-loop
+rest-requires c κs = search needs
+
+enum-known-m : tie.Need-enum-known-m Inv-loop μ-loop
+enum-known-m c = search needs
+
+enum-told-2 : tie.Need-enum-told-2 Inv-loop μ-loop
+enum-told-2 c = search needs
+
+returns-2 : tie.Need-returns-2 Inv-loop μ-loop
+returns-2 c =
+    let at-rest = c .before .before in
+    let at-c = at-rest .before .before in
+    let at-past = at-c .before .before in
+    let at-loop = at-past .before in
+    lining-torn (search needs) (at-loop .loop .inv) (rw (at-c .c .given .1) at (at-past .past .ensures)) (rw (c .enum-told2 .given .1) at (at-rest .rest .ensures))
+
+add-n : tie.Need-add-n Inv-loop μ-loop
+add-n c = search needs
+
+still-requires : tie.Need-still-requires Inv-loop μ-loop
+still-requires c κs = search needs
+
+loop-less : tie.Need-loop-less Inv-loop μ-loop
+loop-less c =
+    let at-m = c .before .before in
+    let at-rest = at-m .before .before in
+    let at-c = at-rest .before .before in
+    let at-past = at-c .before .before in
+    let a = (rw (at-c .c .given .1) at (at-past .past .ensures)) in
+    let b = (rw (at-m .m .given .1) at (at-rest .rest .ensures)) in
+    omega (arith, a .moved .0, b .moved .0, b .moved .1)
+
+loop-again : tie.Need-loop-again Inv-loop μ-loop
+loop-again c =
+    let at-m = c .before .before in
+    let at-rest = at-m .before .before in
+    let at-c = at-rest .before .before in
+    let at-past = at-c .before .before in
+    let at-loop = at-past .before in
+    lining-next (search needs) (at-loop .loop .inv) (rw (at-c .c .given .1) at (at-past .past .ensures)) (rw (at-m .m .given .1) at (at-rest .rest .ensures)) (c .still .ensures)
+
+pub lines-spec : {M : Type 1} → statement M
+lines-spec =
+    tie.close
+    (tie.spec
+    Inv-loop
+    μ-loop
+    loop-holds
+    past-requires
+    enum-known-c
+    enum-told
+    returns
+    rest-requires
+    enum-known-m
+    enum-told-2
+    returns-2
+    add-n
+    still-requires
+    loop-less
+    loop-again)

@@ -1,0 +1,104 @@
+// Lines read into a lent space. Nothing is written before the whole line is known to have its form and to fit: a first pass
+// counts its items, a second takes its numbers.
+use crate::cursor::Class;
+use crate::cursor::Cursor;
+use crate::cursor::Read;
+use crate::cursor::class_of;
+use crate::forms::Items;
+use crate::scanning::items_of;
+use energy::Kind;
+ghost use mathlib.Core.Path.{_≡_};
+ghost use mathlib.Core.List.{_++_};
+ghost use lib.ListN.{drop};
+ghost use Rattle.text_read.specs.Answers.{Told, read};
+ghost use Rattle.text_read.specs.Lines.{rowLine, mapLine, Taken};
+ghost use Rattle.text_read.specs.Kernels.{figure, figures, Fitting};
+
+impl Cursor {
+    // The next number, whatever stands before it: in a line, blanks and brackets.
+    fn figure(self, text: &[u8]) -> Read
+        ensures { λ r. ⌜ Told figure (now (text .entry)) (self .at) (read r) ⌝ }
+    {
+        let mut at = self.at;
+        while at < text.len() {
+            if let Class::Digit = class_of(text[at]) {
+                let here = Cursor { at };
+                return here.digits(text);
+            }
+            at += 1;
+        }
+        Read::Broken
+    }
+
+    // Writes the next n numbers, which are samples.
+    fn samples(self, text: &[u8], n: usize, out: &mut [u8])
+        requires { ⌜ Fitting 255 n (now text) (self .at) (now out) ⌝ }
+        ensures { λ _. ⌜ now (out .exit) ≡ figures n (drop (self .at) (now (text .entry))) ++ drop n (now (out .entry)) ⌝ }
+    {
+        let mut at = self.at;
+        let mut i: usize = 0;
+        while i < n {
+            let here = Cursor { at };
+            let Read::Good(v, c) = here.figure(text) else {
+                return;
+            };
+            out[i] = v as u8;
+            at = c.at;
+            i += 1;
+        }
+    }
+
+    // Writes the next n numbers.
+    fn numbers(self, text: &[u8], n: usize, out: &mut [u16])
+        requires { ⌜ Fitting 65535 n (now text) (self .at) (now out) ⌝ }
+        ensures { λ _. ⌜ now (out .exit) ≡ figures n (drop (self .at) (now (text .entry))) ++ drop n (now (out .entry)) ⌝ }
+    {
+        let mut at = self.at;
+        let mut i: usize = 0;
+        while i < n {
+            let here = Cursor { at };
+            let Read::Good(v, c) = here.figure(text) else {
+                return;
+            };
+            out[i] = v as u16;
+            at = c.at;
+            i += 1;
+        }
+    }
+
+    // The row line of this kind's pixels at this place: its samples at the front of out, if they fit. Else out stays.
+    pub fn row(self, text: &[u8], kind: Kind, out: &mut [u8]) -> Read
+        ensures { λ r. ⌜ Taken (rowLine kind) (now (text .entry)) (self .at) (now (out .entry)) (read r) (now (out .exit)) ⌝ }
+    {
+        let Read::Good(_, c) = self.past(text, b"(row") else {
+            return Read::Broken;
+        };
+        let Read::Good(n, d) = c.rest(text, items_of(kind)) else {
+            return Read::Broken;
+        };
+        let channels = energy::channels(kind);
+        if out.len() / channels < n {
+            return Read::Broken;
+        }
+        let count = n * channels;
+        c.samples(text, count, out);
+        Read::Good(count, d)
+    }
+
+    // The map line at this place: its numbers at the front of out, if they fit. Else out stays.
+    pub fn map(self, text: &[u8], out: &mut [u16]) -> Read
+        ensures { λ r. ⌜ Taken mapLine (now (text .entry)) (self .at) (now (out .entry)) (read r) (now (out .exit)) ⌝ }
+    {
+        let Read::Good(_, c) = self.past(text, b"(map") else {
+            return Read::Broken;
+        };
+        let Read::Good(n, d) = c.rest(text, Items::Numbers) else {
+            return Read::Broken;
+        };
+        if out.len() < n {
+            return Read::Broken;
+        }
+        c.numbers(text, n, out);
+        Read::Good(n, d)
+    }
+}

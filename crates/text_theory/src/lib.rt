@@ -1,0 +1,10 @@
+// The text of a multi-size file: its definitions (specs/) and their laws (proofs/). The code that reads it is in `text_read`, the
+// code that prints it in `text_print`.
+use energy::Size;
+
+// What the lines of size and range say.
+pub struct Head {
+    pub size: Size,
+    pub depth: usize,
+    pub growth: usize,
+}
