@@ -15,11 +15,11 @@ use Rattle.grids.proofs.Orders.{le-or-lt}
 use Rattle.grids.proofs.Rows.{rowAt-short, rowAt-all}
 use Rattle.grids.proofs.Tables.{table-same}
 use Rattle.grids.proofs.Exchange.{exchange-at, exchange-table}
-use Rattle.energy.specs.declared.pictures.Size.{Size}
-use Rattle.energy.specs.Pictures.{Picture, channelsOf, rowBytes, pictureBytes, picture}
-use Rattle.energy.specs.Energy.{difference, pixel, energy, energies}
+use Rattle.pictures.specs.declared.sizes.Size.{Size}
+use Rattle.pictures.specs.Pictures.{Picture, channelsOf, rowBytes, pictureBytes, picture, pixel}
+use Rattle.energy.specs.Energy.{difference, energy, energies}
 use Rattle.energy.specs.Kernels.{between, lowerRow}
-use Rattle.energy.proofs.Buffers.{pixel-at, pixel-past}
+use Rattle.pictures.proofs.Buffers.{pixel-at, pixel-past}
 
 pub difference-self : (p : List ℕ) → difference p p ≡ 0
 unfolding difference

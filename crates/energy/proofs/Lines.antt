@@ -13,11 +13,11 @@ use Rattle.grids.specs.Table.{table}
 use Rattle.grids.proofs.Tables.{table-part, table-more, table-same}
 use Rattle.grids.proofs.Orders.{le-or-lt}
 use Rattle.grids.proofs.Rows.{rowAt-past, part-end}
-use Rattle.energy.specs.declared.pictures.Size.{Size}
-use Rattle.energy.specs.Pictures.{channelsOf, rowBytes, picture}
+use Rattle.pictures.specs.declared.sizes.Size.{Size}
+use Rattle.pictures.specs.Pictures.{channelsOf, rowBytes, picture}
 use Rattle.energy.specs.Energy.{apart, difference, energy, energies}
 use Rattle.energy.specs.Kernels.{LinesNeeded, between, lowerRow}
-use Rattle.energy.proofs.Sizes.{Sized}
+use Rattle.pictures.proofs.Limits.{Sized}
 use Rattle.energy.proofs.Energy.{difference-none, energy-between}
 
 -- The difference of two pixels of one sample, and of three.

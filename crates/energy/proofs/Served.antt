@@ -5,12 +5,12 @@ use Prim.Native.Nat.{ℕ, _≤_, _<_}
 use lib.Dec.{leb, ltb}
 use borrow.Author.Tests.{lt-leb, le-ltb}
 use lib.ListN.{length, drop}
-use Rattle.energy.specs.declared.pictures.Size.{Size}
-use Rattle.energy.specs.declared.refusals.Verdict.{Verdict}
-use Rattle.energy.specs.Refusals.{_when_, refusal, served}
-use Rattle.energy.specs.Pictures.{sizeRules, picture}
+use Rattle.pictures.specs.declared.sizes.Size.{Size}
+use Rattle.pictures.specs.declared.refusals.Verdict.{Verdict}
+use Rattle.pictures.specs.Refusals.{_when_, refusal, served}
+use Rattle.pictures.specs.Pictures.{sizeRules, picture}
 use Rattle.energy.specs.Energy.{energies, EnergiesGiven}
-use Rattle.energy.proofs.Rules.{served-first}
+use Rattle.pictures.proofs.Rules.{served-first}
 
 -- A row of a picture of its size, and room for it: the energies stand at the front of the space.
 pub energies-served : (b : List ℕ) (z : Size) (r : ℕ) (out out′ : List ℕ) (v : Verdict) → EnergiesGiven b z r out v out′

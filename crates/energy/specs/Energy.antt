@@ -5,10 +5,10 @@ use Prim.Native.Nat.{ℕ, _+_, _-_}
 use lib.Dec.{leb, ltb}
 use lib.ListN.{length, getD, drop}
 use Rattle.grids.specs.Table.{table}
-use Rattle.energy.specs.declared.pictures.Size.{Size}
-use Rattle.energy.specs.declared.refusals.Verdict.{Verdict}
-use Rattle.energy.specs.Refusals.{Rule, _when_, given, refusal, served}
-use Rattle.energy.specs.Pictures.{Picture, picture, sizeRules}
+use Rattle.pictures.specs.declared.sizes.Size.{Size}
+use Rattle.pictures.specs.declared.refusals.Verdict.{Verdict}
+use Rattle.pictures.specs.Refusals.{Rule, _when_, given, refusal, served}
+use Rattle.pictures.specs.Pictures.{Picture, picture, pixel, sizeRules}
 
 -- |a - b|
 abbrev pub apart : ℕ → ℕ → ℕ
@@ -20,10 +20,6 @@ unfoldable pub difference : List ℕ → List ℕ → ℕ
 difference [] q = 0
 difference (a ∷ p) [] = 0
 difference (a ∷ p) (b ∷ q) = apart a b + difference p q
-
--- The pixel in row r and column c; past the edge, no samples.
-abbrev pub pixel : Picture → ℕ → ℕ → List ℕ
-pixel p r c = getD (getD p r []) c []
 
 -- "|right neighbour - it| + |lower neighbour - it|. The channels are added."
 unfoldable pub energy : Picture → ℕ → ℕ → ℕ

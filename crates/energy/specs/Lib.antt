@@ -1,4 +1,2 @@
-pub mod Refusals
-pub mod Pictures
 pub mod Energy
 pub mod Kernels

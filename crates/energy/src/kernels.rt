@@ -1,13 +1,13 @@
 // The energies of one row of pixels, given its bytes and those of the row below it. One function for each number of
 // channels, with one contract: three channels written out are much faster than a loop over them.
-use crate::pictures::Kind;
+use pictures::Kind;
 ghost use mathlib.Core.Path.{_≡_};
 ghost use mathlib.Core.List.{_++_};
 ghost use Prim.Native.Nat.{_+_, _*_, _≤_};
 ghost use lib.ListN.{length, take, drop};
 ghost use Rattle.grids.specs.Table.{table};
 ghost use Rattle.energy.specs.Energy.{apart as Energy·apart, difference};
-ghost use Rattle.energy.specs.Pictures.{channelsOf};
+ghost use Rattle.pictures.specs.Pictures.{channelsOf};
 ghost use Rattle.energy.specs.Kernels.{LinesNeeded, between};
 
 // How far two samples are apart.

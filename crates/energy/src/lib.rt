@@ -1,22 +1,13 @@
-// The lowest layer: pictures in lent buffers, the numbers of what is refused, and the energy of a row's pixels.
+// The energy of a row's pixels.
 mod kernels;
-pub mod pictures;
-pub mod refusals;
 
-pub use pictures::Kind;
-pub use pictures::LARGEST_SIDE;
-pub use pictures::Size;
-pub use pictures::channels;
-pub use pictures::picture_bytes;
-pub use pictures::row;
-pub use pictures::sides;
-pub use pictures::sized;
-pub use refusals::Refusal;
-pub use refusals::Verdict;
-pub use refusals::given;
-pub use refusals::number;
+use pictures::Refusal;
+use pictures::Size;
+use pictures::Verdict;
+use pictures::channels;
+use pictures::sized;
 ghost use Rattle.energy.specs.Energy.{EnergiesGiven, energies as Energy·energies};
-ghost use Rattle.energy.specs.Pictures.{largestSide, picture as Pictures·picture};
+ghost use Rattle.pictures.specs.Pictures.{largestSide, picture as Pictures·picture};
 ghost use Rattle.energy.specs.Kernels.{RowNeeded, lowerRow};
 ghost use mathlib.Core.Path.{_≡_};
 ghost use mathlib.Core.List.{_++_};
@@ -64,7 +55,7 @@ fn row_energies(picture: &[u8], size: Size, r: usize, out: &mut [u32])
     let width = size.width;
     let height = size.height;
     let kind = size.kind;
-    let stride = pictures::row_bytes(size);
+    let stride = width * channels(kind);
     let at = r * stride;
     let below = lower_row(r, height, stride);
     kernels::line_energies(

@@ -2,12 +2,12 @@
 use mathlib.Core.Path.{refl}
 use mathlib.Core.List.{List}
 use Prim.Native.Nat.{ℕ}
-use Rattle.energy.specs.declared.pictures.Size.{Size}
-use Rattle.energy.specs.Refusals.{Rule, refusal}
+use Rattle.pictures.specs.declared.sizes.Size.{Size}
+use Rattle.pictures.specs.Refusals.{Rule, refusal}
 use Rattle.seam_find.specs.declared.Found.{Found}
 use Rattle.seam_cut.specs.declared.Axis.{Axis}
 use Rattle.seam_cut.specs.Axes.{turnedSize}
-use Rattle.seam_cut.specs.Carving.{SeamGiven, SeamCut, MarksCut}
+use Rattle.seam_cut.specs.Cutting.{SeamGiven, SeamCut, MarksCut}
 use Rattle.exports.specs.declared.Sizing.{Sizing}
 use Rattle.exports.specs.declared.Sizing.the-variants.{Of, Unknown}
 use Rattle.exports.specs.declared.Turning.{Turning}

@@ -3,11 +3,11 @@ use mathlib.Core.Path.{_≡_, refl, ap, _∙_}
 use mathlib.Core.Option.{Option, none, some}
 use mathlib.Core.List.{List}
 use Prim.Native.Nat.{ℕ}
-use Rattle.energy.specs.declared.pictures.Size.{Size}
+use Rattle.pictures.specs.declared.sizes.Size.{Size}
 use Rattle.text_theory.specs.declared.Head.{Head}
 use Rattle.file_read.specs.declared.checking.Checked.{Checked}
 use Rattle.file_read.specs.declared.widths.Shown.{Shown}
-use Rattle.file_read.specs.Multisize.{checkedNumber, checkedHead, shownNumber, shownSize, CheckGiven, ReadGiven, ShowGiven}
+use Rattle.file_read.specs.Reading.{checkedNumber, checkedHead, shownNumber, shownSize, CheckGiven, ReadGiven, ShowGiven}
 use Rattle.exports.specs.Files.{headed, framed, headOf, sizeOf, HostChecked, HostRead, HostShown}
 
 -- the number that stands in an answer

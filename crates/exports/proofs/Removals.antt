@@ -4,8 +4,8 @@ use mathlib.Core.Option.{none, some}
 use mathlib.Core.List.{List}
 use Prim.Native.Nat.{ℕ, zero, suc}
 use lib.ListN.{length, replicate}
-use Rattle.energy.specs.declared.pictures.Size.{Size}
-use Rattle.energy.specs.Refusals.{refusal, served}
+use Rattle.pictures.specs.declared.sizes.Size.{Size}
+use Rattle.pictures.specs.Refusals.{refusal, served}
 use Rattle.seam_objects.specs.declared.Removal.{Removal}
 use Rattle.seam_objects.specs.Objects.{Ending}
 use Rattle.seam_objects.specs.Removing.{removalRules, ObjectRemoved}

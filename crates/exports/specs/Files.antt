@@ -5,12 +5,11 @@ use mathlib.Core.List.{List, _++_}
 use Prim.Native.Nat.{ℕ}
 use lib.ListN.{length, drop, replicate}
 use Rattle.grids.specs.Rows.{flat}
-use Rattle.energy.specs.declared.pictures.Kind.{Kind}
-use Rattle.energy.specs.declared.pictures.Kind.the-variants.{Grey, Rgb}
-use Rattle.energy.specs.declared.pictures.Size.{Size}
-use Rattle.energy.specs.Refusals.{refusal, served}
-use Rattle.energy.specs.Pictures.{picture, bytes}
-use Rattle.seam_find.specs.Finding.{worked}
+use Rattle.pictures.specs.declared.sizes.Kind.{Kind}
+use Rattle.pictures.specs.declared.sizes.Kind.the-variants.{Grey, Rgb}
+use Rattle.pictures.specs.declared.sizes.Size.{Size}
+use Rattle.pictures.specs.Refusals.{refusal, served, worked}
+use Rattle.pictures.specs.Pictures.{picture, bytes}
 use Rattle.text_theory.specs.declared.Head.{Head}
 use Rattle.text_theory.specs.Files.{parse}
 use Rattle.file_theory.specs.Contents.{fileOf}
@@ -20,7 +19,7 @@ use Rattle.file_build.specs.declared.Built.{Built}
 use Rattle.file_build.specs.Building.{builtNumber, builtLength}
 use Rattle.file_read.specs.declared.checking.Checked.{Checked}
 use Rattle.file_read.specs.declared.widths.Shown.{Shown}
-use Rattle.file_read.specs.Multisize.{checkedNumber, checkedHead, shownNumber, shownSize}
+use Rattle.file_read.specs.Reading.{checkedNumber, checkedHead, shownNumber, shownSize}
 use Rattle.exports.specs.declared.Answer.{Answer}
 use Rattle.exports.specs.declared.Sizing.{Sizing}
 use Rattle.exports.specs.declared.multifiles.FileAnswer.{FileAnswer}

@@ -6,10 +6,10 @@ use mathlib.Core.List.{List, [], _∷_, _++_}
 use Prim.Native.Nat.{ℕ}
 use lib.Dec.{eqb, ltb}
 use lib.ListN.{length, drop}
-use Rattle.energy.specs.declared.pictures.Kind.the-variants.{Grey, Rgb}
-use Rattle.energy.specs.declared.pictures.Size.{Size}
-use Rattle.energy.specs.Refusals.{_when_, refusal, served}
-use Rattle.energy.specs.Pictures.{picture, rowOf}
+use Rattle.pictures.specs.declared.sizes.Kind.the-variants.{Grey, Rgb}
+use Rattle.pictures.specs.declared.sizes.Size.{Size}
+use Rattle.pictures.specs.Refusals.{_when_, refusal, served}
+use Rattle.pictures.specs.Pictures.{picture, rowOf}
 use Rattle.energy.specs.Energy.{energies, energiesRules}
 use Rattle.seam_cut.specs.declared.Axis.{Axis}
 use Rattle.seam_cut.specs.declared.Axis.the-variants.{Vertical, Horizontal}

@@ -5,9 +5,9 @@ use mathlib.Core.List.{List, _++_}
 use Prim.Native.Nat.{ℕ, _*_}
 use lib.ListN.{length, replicate}
 use Rattle.grids.specs.Rows.{flat}
-use Rattle.energy.specs.declared.pictures.Size.{Size}
-use Rattle.energy.specs.Refusals.{refusal, served}
-use Rattle.energy.specs.Pictures.{channelsOf, bytes}
+use Rattle.pictures.specs.declared.sizes.Size.{Size}
+use Rattle.pictures.specs.Refusals.{refusal, served}
+use Rattle.pictures.specs.Pictures.{channelsOf, bytes}
 use Rattle.seam_objects.specs.declared.Removal.{Removal}
 use Rattle.seam_objects.specs.Objects.{Ending, done, narrow, spent, blocked, Removed, removal}
 use Rattle.seam_objects.specs.Removing.{removalNumber, removalEnding, removalCount, removalRules, markedPicture}

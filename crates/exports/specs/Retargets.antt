@@ -3,8 +3,8 @@ use mathlib.Core.Path.{_≡_}
 use mathlib.Core.List.{List, _++_}
 use Prim.Native.Nat.{ℕ}
 use lib.ListN.{length, drop, replicate}
-use Rattle.energy.specs.Refusals.{refusal, served}
-use Rattle.energy.specs.Pictures.{pictureBytes, bytes}
+use Rattle.pictures.specs.Refusals.{refusal, served}
+use Rattle.pictures.specs.Pictures.{pictureBytes, bytes}
 use Rattle.seam_retarget.specs.declared.Rows.{Rows}
 use Rattle.seam_retarget.specs.declared.Columns.{Columns}
 use Rattle.seam_retarget.specs.declared.Retargeted.{Retargeted}

@@ -4,14 +4,14 @@ use mathlib.Core.List.{List, _++_}
 use Prim.Native.Nat.{ℕ, _*_}
 use lib.ListN.{length, drop, replicate}
 use Rattle.grids.specs.Rows.{flat}
-use Rattle.energy.specs.declared.pictures.Size.{Size}
-use Rattle.energy.specs.Refusals.{Rule, refusal, served}
-use Rattle.energy.specs.Pictures.{channelsOf, picture, bytes}
+use Rattle.pictures.specs.declared.sizes.Size.{Size}
+use Rattle.pictures.specs.Refusals.{Rule, refusal, served}
+use Rattle.pictures.specs.Pictures.{channelsOf, picture, bytes, marksOf}
 use Rattle.seam_find.specs.declared.Found.{Found}
-use Rattle.seam_find.specs.Finding.{foundNumber, foundCost, marksOf}
+use Rattle.seam_find.specs.Finding.{foundNumber, foundCost}
 use Rattle.seam_cut.specs.declared.Axis.{Axis}
 use Rattle.seam_cut.specs.Axes.{turnedSize, seamAlong, costAlong, markedSeamAlong, markedCostAlong, cutAlong}
-use Rattle.seam_cut.specs.Carving.{cleared}
+use Rattle.seam_cut.specs.Cutting.{cleared}
 use Rattle.exports.specs.declared.Answer.{Answer}
 use Rattle.exports.specs.declared.Sizing.{Sizing}
 use Rattle.exports.specs.declared.Turning.{Turning}

@@ -4,8 +4,8 @@ mod objects;
 mod retargets;
 mod seams;
 
-use energy::Kind;
-use energy::Size;
+use pictures::Kind;
+use pictures::Size;
 use seam_cut::Axis;
 ghost use mathlib.Core.Path.{_≡_};
 ghost use Rattle.exports.specs.Hosts.{sizingOf, turningOf, refusedBy, HostEnergies, HostRow};
@@ -84,7 +84,7 @@ pub extern "C" fn multisize_energies(
     let Sizing::Of(size) = size_named(width, height, kind) else {
         return 1;
     };
-    energy::given(energy::energies(picture, size, r, out))
+    pictures::given(energy::energies(picture, size, r, out))
 }
 
 // Row r copied to the front of out; the value is its length.
@@ -102,7 +102,7 @@ pub extern "C" fn multisize_row(
     let Sizing::Of(size) = size_named(width, height, kind) else {
         return refused(1);
     };
-    let row = energy::row(picture, size, r);
+    let row = pictures::row(picture, size, r);
     if out.len() < row.len() {
         return refused(8);
     }

@@ -3,10 +3,10 @@ use crate::Answer;
 use crate::Sizing;
 use crate::refused;
 use crate::size_named;
-use energy::Kind;
 use file_build::Built;
 use file_read::Checked;
 use file_read::Shown;
+use pictures::Kind;
 use text_theory::Head;
 ghost use mathlib.Core.Path.{_≡_};
 ghost use Rattle.exports.specs.Hosts.{sizingOf};
@@ -49,7 +49,7 @@ fn length_reply(given: Built) -> Answer
             number: 0,
             value: length as u64,
         },
-        Built::Refused(why) => refused(energy::number(why)),
+        Built::Refused(why) => refused(pictures::number(why)),
     }
 }
 
@@ -70,7 +70,7 @@ fn head_reply(given: Checked) -> FileAnswer
             }
         }
         Checked::Refused(why) => FileAnswer {
-            number: energy::number(why),
+            number: pictures::number(why),
             width: 0,
             height: 0,
             kind: 0,
@@ -94,7 +94,7 @@ fn size_reply(given: Shown) -> SizeAnswer
             }
         }
         Shown::Refused(why) => SizeAnswer {
-            number: energy::number(why),
+            number: pictures::number(why),
             width: 0,
             height: 0,
             kind: 0,

@@ -43,7 +43,7 @@ fn reply(how: Removal) -> Ended
         Removal::Narrow(count) => served(2, count),
         Removal::Spent(count) => served(3, count),
         Removal::Blocked(count) => served(4, count),
-        Removal::Refused(why) => stopped(energy::number(why)),
+        Removal::Refused(why) => stopped(pictures::number(why)),
     }
 }
 

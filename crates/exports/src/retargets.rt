@@ -18,7 +18,7 @@ fn reply(given: Retargeted) -> Answer
             number: 0,
             value: total,
         },
-        Retargeted::Refused(why) => refused(energy::number(why)),
+        Retargeted::Refused(why) => refused(pictures::number(why)),
     }
 }
 

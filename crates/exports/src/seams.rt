@@ -7,7 +7,7 @@ use crate::refused;
 use crate::size_named;
 use seam_find::Found;
 ghost use mathlib.Core.Path.{_≡_};
-ghost use Rattle.seam_cut.specs.Carving.{findRules, cutRules, markedFindRules, markedCutRules};
+ghost use Rattle.seam_cut.specs.Cutting.{findRules, cutRules, markedFindRules, markedCutRules};
 ghost use Rattle.exports.specs.Hosts.{sizingOf, turningOf};
 ghost use Rattle.exports.specs.Seams.{replyOf, HostFound, HostPictureCut, HostMarkedFound, HostMarkedPictureCut, HostMarkedMarksCut};
 
@@ -19,7 +19,7 @@ fn reply(found: Found) -> Answer
             number: 0,
             value: cost,
         },
-        Found::Refused(why) => refused(energy::number(why)),
+        Found::Refused(why) => refused(pictures::number(why)),
     }
 }
 

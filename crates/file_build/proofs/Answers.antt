@@ -12,23 +12,22 @@ use lib.Seq.{take-at, take-length}
 use Rattle.grids.specs.Rows.{flat}
 use Rattle.grids.proofs.Shapes.{grid-of}
 use Rattle.grids.proofs.Parts.{part-length}
-use Rattle.energy.specs.declared.pictures.Size.{Size}
-use Rattle.energy.specs.declared.refusals.Verdict.{Verdict}
-use Rattle.energy.specs.Refusals.{_when_, refusal, served}
-use Rattle.energy.specs.Pictures.{pictureBytes, sideRules, sizeRules, picture}
-use Rattle.energy.proofs.Rules.{both, served-first, served-both, passed}
-use Rattle.energy.proofs.Sizes.{Sized, sized-is, sides-served}
+use Rattle.pictures.specs.declared.sizes.Size.{Size}
+use Rattle.pictures.specs.declared.refusals.Verdict.{Verdict}
+use Rattle.pictures.specs.Refusals.{_when_, refusal, served}
+use Rattle.pictures.specs.Pictures.{pictureBytes, sideRules, sizeRules, picture, pixels, pictureIn}
+use Rattle.pictures.proofs.Rules.{both, served-first, served-both, passed}
+use Rattle.pictures.proofs.Limits.{Sized, sized-is, sides-served}
 use Rattle.map_theory.specs.Maps.{mapOf}
 use Rattle.map_theory.specs.Widths.{allowed}
 use Rattle.map_theory.proofs.Maps.{map-grid}
 use Rattle.text_theory.specs.declared.Head.{Head}
 use Rattle.text_theory.specs.Files.{text}
-use Rattle.seam_find.specs.Seams.{seamOf}
-use Rattle.seam_find.specs.Finding.{pixels, pictureIn}
+use Rattle.seam_theory.specs.PictureSeams.{seamOf}
 use Rattle.seam_cut.proofs.Turns.{bytes-few}
 use Rattle.map_build.specs.Numbers.{pairs}
-use Rattle.map_build.specs.Mapping.{mapBytes, mapAt, mapInRules, mapped, MapGiven}
-use Rattle.map_build.proofs.Choosing.{seam-chooses}
+use Rattle.map_build.specs.Building.{mapBytes, mapAt, mapInRules, mapped, MapGiven}
+use Rattle.seam_theory.proofs.Choosing.{seam-chooses}
 use Rattle.map_build.proofs.Steps.{take-map}
 use Rattle.text_print.specs.Prints.{Printed}
 use Rattle.text_print.proofs.Written.{printed-front}

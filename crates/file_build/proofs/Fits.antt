@@ -11,7 +11,7 @@ use lib.Dec.{leb}
 use lib.ListN.{length}
 use Rattle.grids.proofs.Rows.{part-end}
 use Rattle.seam_theory.specs.Paths.{run}
-use Rattle.energy.specs.Pictures.{picture}
+use Rattle.pictures.specs.Pictures.{picture}
 use Rattle.text_theory.specs.declared.Head.{Head}
 use Rattle.text_theory.specs.Files.{headText}
 use Rattle.text_theory.specs.Lengths.{total, spaced, rowLength}

@@ -8,11 +8,11 @@ use lib.ListN.{length, getD}
 use Rattle.grids.specs.Rows.{rowsOf, rowAt}
 use Rattle.grids.proofs.Shapes.{map-at, each-at, each-length}
 use Rattle.grids.proofs.Rows.{length-rowsOf, rowsOf-at, length-rowAt}
-use Rattle.energy.specs.declared.pictures.Size.{Size}
-use Rattle.energy.specs.Refusals.{refusal}
-use Rattle.energy.specs.Pictures.{channelsOf, rowBytes, sizeRules, picture, rowOf, OfSize}
-use Rattle.energy.proofs.Sizes.{sized-is}
-use Rattle.energy.proofs.Buffers.{picture-ofSize, row-is}
+use Rattle.pictures.specs.declared.sizes.Size.{Size}
+use Rattle.pictures.specs.Refusals.{refusal}
+use Rattle.pictures.specs.Pictures.{channelsOf, rowBytes, sizeRules, picture, rowOf, OfSize}
+use Rattle.pictures.proofs.Limits.{sized-is}
+use Rattle.pictures.proofs.Buffers.{picture-ofSize, row-is}
 use Rattle.text_theory.specs.Files.{rowWord, pixelText, lineText, rowText}
 use Rattle.text_theory.specs.Lengths.{rowLength}
 use Rattle.text_theory.proofs.Lengths.{row-length}

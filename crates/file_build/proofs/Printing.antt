@@ -4,8 +4,8 @@ use mathlib.Core.List.{List, _++_}
 use Prim.Native.Nat.{ℕ, _+_, _≤_}
 use native.Mathlib.Omega.{arith}
 use lib.ListN.{length, length-append}
-use Rattle.energy.specs.Pictures.{picture}
-use Rattle.energy.proofs.Sizes.{sized-is}
+use Rattle.pictures.specs.Pictures.{picture}
+use Rattle.pictures.proofs.Limits.{sized-is}
 use Rattle.text_theory.specs.declared.Head.{Head}
 use Rattle.text_theory.specs.Files.{closed, headText, text}
 use Rattle.text_print.specs.declared.lines.Place.{Place}

@@ -3,8 +3,8 @@ use mathlib.Core.Path.{_≡_}
 use mathlib.Core.List.{List, _++_}
 use Prim.Native.Nat.{ℕ}
 use lib.ListN.{length, drop, replicate}
-use Rattle.energy.specs.Refusals.{numberOf, refusal, served}
-use Rattle.energy.specs.Pictures.{picture}
+use Rattle.pictures.specs.Refusals.{numberOf, refusal, served}
+use Rattle.pictures.specs.Pictures.{picture}
 use Rattle.text_theory.specs.declared.Head.{Head}
 use Rattle.file_theory.specs.Contents.{fileOf}
 use Rattle.file_theory.specs.Rules.{buildRules}

@@ -1,5 +1,5 @@
 // Whether the file fits a room: decided from sizes and samples, without the map.
-use energy::Size;
+use pictures::Size;
 use text_print::Left;
 use text_theory::Head;
 ghost use mathlib.Core.Path.{_≡_};
@@ -8,8 +8,8 @@ ghost use Prim.Native.Nat.{_*_, _<_};
 ghost use lib.Dec.{leb};
 ghost use lib.ListN.{length, drop};
 ghost use Rattle.seam_theory.specs.Paths.{run};
-ghost use Rattle.energy.specs.Refusals.{refusal};
-ghost use Rattle.energy.specs.Pictures.{sizeRules, picture as Pictures·picture};
+ghost use Rattle.pictures.specs.Refusals.{refusal};
+ghost use Rattle.pictures.specs.Pictures.{sizeRules, picture as Pictures·picture};
 ghost use Rattle.text_theory.specs.Files.{mapText};
 ghost use Rattle.text_theory.specs.Lengths.{total, rowLength};
 ghost use Rattle.text_print.specs.Prints.{leftRead, less};
@@ -26,7 +26,7 @@ fn rows_left(room: usize, picture: &[u8], size: Size) -> Left
     let mut left = room;
     let mut r: usize = 0;
     while r < height {
-        let Left::Room(next) = text_print::row_left(left, kind, energy::row(picture, size, r))
+        let Left::Room(next) = text_print::row_left(left, kind, pictures::row(picture, size, r))
         else {
             return Left::Short;
         };

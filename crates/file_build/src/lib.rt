@@ -2,11 +2,11 @@
 mod fitting;
 mod lines;
 
-use energy::Refusal;
-use energy::Verdict;
+use pictures::Refusal;
+use pictures::Verdict;
 use text_theory::Head;
 ghost use mathlib.Core.Path.{_≡_};
-ghost use Rattle.energy.specs.Refusals.{given, refusal};
+ghost use Rattle.pictures.specs.Refusals.{given, refusal};
 ghost use Rattle.file_theory.specs.Rules.{buildRules};
 ghost use Rattle.file_build.specs.Building.{BuildGiven};
 ghost use Rattle.file_build.specs.Kernels.{BuildNeeded, FileGiven};
@@ -33,7 +33,7 @@ fn rooms(picture: &[u8], head: Head, out: usize, work: usize) -> Verdict
     ensures { λ v. ⌜ given v ≡ refusal (buildRules (now (picture .entry)) head out work) ⌝ }
 {
     let size = head.size;
-    let fits = energy::sized(size, picture.len());
+    let fits = pictures::sized(size, picture.len());
     let Verdict::Served = fits else {
         return fits;
     };

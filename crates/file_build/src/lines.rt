@@ -1,12 +1,12 @@
 // The lines of a file, printed one behind the other into a space that has room for them.
-use energy::Size;
+use pictures::Size;
 use text_print::Place;
 use text_theory::Head;
 ghost use mathlib.Core.Path.{_≡_};
 ghost use mathlib.Core.List.{_++_};
 ghost use Prim.Native.Nat.{_+_, _*_};
 ghost use lib.ListN.{drop};
-ghost use Rattle.energy.specs.Pictures.{picture as Pictures·picture};
+ghost use Rattle.pictures.specs.Pictures.{picture as Pictures·picture};
 ghost use Rattle.text_theory.specs.Files.{text as Files·text};
 ghost use Rattle.text_print.specs.Prints.{Printed};
 ghost use Rattle.file_build.specs.Kernels.{rowLines, mapLines, firstNumbers, mapIn, partsIn, NumbersNeeded, RowsNeeded, MapsNeeded, PrintNeeded};
@@ -21,7 +21,7 @@ fn print_rows(out: &mut [u8], at: usize, picture: &[u8], size: Size) -> usize
     let mut end = at;
     let mut r: usize = 0;
     while r < height {
-        let row = energy::row(picture, size, r);
+        let row = pictures::row(picture, size, r);
         let Place::Next(next) = text_print::print_row(out, end, kind, row) else {
             // never here: there is room
             return end;

@@ -6,11 +6,10 @@ use mathlib.Core.List.{List, _++_}
 use Prim.Native.Nat.{ℕ, _≤_, _<_}
 use native.Mathlib.Omega.{arith}
 use lib.ListN.{length, replicate}
-use Rattle.energy.specs.declared.refusals.Refusal.{Refusal}
-use Rattle.energy.specs.declared.refusals.Verdict.{Verdict}
-use Rattle.energy.specs.Refusals.{Rule, given, refusal, served}
-use Rattle.energy.proofs.Rules.{positive, served-first, refused-first, refusal-most, number-some, served-not}
-use Rattle.seam_find.specs.Finding.{worked}
+use Rattle.pictures.specs.declared.refusals.Refusal.{Refusal}
+use Rattle.pictures.specs.declared.refusals.Verdict.{Verdict}
+use Rattle.pictures.specs.Refusals.{Rule, given, refusal, served, worked}
+use Rattle.pictures.proofs.Rules.{positive, served-first, refused-first, refusal-most, number-some, served-not}
 use Rattle.seam_find.proofs.Worked.{worked-not}
 use Rattle.map_check.proofs.Answers.{worked-judged}
 use Rattle.text_theory.specs.declared.Head.{Head}
@@ -18,7 +17,7 @@ use Rattle.text_theory.specs.Files.{Parts, parse}
 use Rattle.file_theory.specs.Rules.{partRules, judgedRules, formRules}
 use Rattle.file_read.specs.declared.checking.Checked.{Checked}
 use Rattle.file_read.specs.declared.checking.Checked.the-variants as checks
-use Rattle.file_read.specs.Multisize.{checkedNumber}
+use Rattle.file_read.specs.Reading.{checkedNumber}
 use Rattle.file_read.specs.Kernels.{OpenGiven, Open, judgedIn, MapJudged}
 use Rattle.file_read.proofs.Parsed.{partsWith, opened}
 

@@ -5,20 +5,20 @@ use Prim.Native.Nat.{ℕ, _*_, _≤_, _<_}
 use native.Mathlib.Omega.{arith}
 use borrow.Author.Tests.{lt-ltb, le-ltb}
 use lib.ListN.{length, replicate}
-use Rattle.energy.specs.declared.refusals.Refusal.{Refusal}
-use Rattle.energy.specs.declared.refusals.Refusal.the-variants.{Space}
-use Rattle.energy.specs.declared.refusals.Verdict.{Verdict}
-use Rattle.energy.specs.declared.refusals.Verdict.the-variants as verdicts
-use Rattle.energy.specs.Refusals.{Rule, given, refusal}
-use Rattle.energy.proofs.Rules.{kept-by}
-use Rattle.seam_find.specs.Finding.{pixels, worked}
+use Rattle.pictures.specs.declared.refusals.Refusal.{Refusal}
+use Rattle.pictures.specs.declared.refusals.Refusal.the-variants.{Space}
+use Rattle.pictures.specs.declared.refusals.Verdict.{Verdict}
+use Rattle.pictures.specs.declared.refusals.Verdict.the-variants as verdicts
+use Rattle.pictures.specs.Refusals.{Rule, given, refusal, worked}
+use Rattle.pictures.proofs.Rules.{kept-by}
+use Rattle.pictures.specs.Pictures.{pixels}
 use Rattle.text_theory.specs.declared.Head.{Head}
 use Rattle.text_theory.specs.Files.{parse}
 use Rattle.file_theory.specs.Rules.{judgedRules, workRule, checkRules}
 use Rattle.file_theory.specs.Shows.{headIn}
 use Rattle.file_read.specs.declared.checking.Checked.{Checked}
 use Rattle.file_read.specs.declared.checking.Checked.the-variants as checks
-use Rattle.file_read.specs.Multisize.{CheckGiven}
+use Rattle.file_read.specs.Reading.{CheckGiven}
 use Rattle.file_read.specs.Kernels.{OpenGiven, MapJudged}
 use Rattle.file_read.proofs.Answered.{early-number, early-work, is-open, own-number, judged-number, judged-work}
 

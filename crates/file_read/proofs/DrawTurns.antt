@@ -10,8 +10,8 @@ use Rattle.grids.specs.Rows.{flat, rowAt}
 use Rattle.grids.proofs.Rows.{part-end, length-flat, length-rowAt}
 use Rattle.grids.proofs.Shapes.{each-at}
 use Rattle.grids.proofs.Parts.{part-length}
-use Rattle.energy.specs.declared.refusals.Verdict.{Verdict}
-use Rattle.energy.specs.Pictures.{channelsOf, rowBytes, pictureBytes}
+use Rattle.pictures.specs.declared.refusals.Verdict.{Verdict}
+use Rattle.pictures.specs.Pictures.{channelsOf, rowBytes, pictureBytes}
 use Rattle.text_theory.specs.declared.Head.{Head}
 use Rattle.text_theory.specs.Files.{parse}
 use Rattle.text_read.specs.declared.cursor.Cursor.{Cursor}

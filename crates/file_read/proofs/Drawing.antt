@@ -11,17 +11,17 @@ use Rattle.grids.specs.Rows.{flat, rowAt, rowsOf}
 use Rattle.grids.proofs.Rows.{flat-at, rowsOf-flat}
 use Rattle.grids.proofs.Shapes.{each-length, each-at, each-any, grid-of, map-at}
 use Rattle.seam_theory.specs.Paths.{beside}
-use Rattle.energy.specs.Refusals.{refusal}
-use Rattle.energy.specs.Pictures.{Picture, channelsOf, pictureBytes, bytes, OfSize}
-use Rattle.energy.proofs.Buffers.{flats-grid, length-bytes}
-use Rattle.map_theory.specs.Widths.{offered, shown}
+use Rattle.pictures.specs.Refusals.{refusal}
+use Rattle.pictures.specs.Pictures.{Picture, channelsOf, pictureBytes, bytes, OfSize}
+use Rattle.pictures.proofs.Buffers.{flats-grid, length-bytes}
+use Rattle.map_theory.specs.Widths.{offered, shown, average}
 use Rattle.map_theory.specs.Judged.{Numbering}
 use Rattle.map_theory.proofs.Judged.{judged-is}
 use Rattle.map_theory.proofs.Shown.{shown-grid, shown-at}
-use Rattle.seam_find.specs.Seams.{seamOf}
+use Rattle.seam_theory.specs.PictureSeams.{seamOf}
 use Rattle.text_theory.specs.declared.Head.{Head}
 use Rattle.text_theory.specs.Files.{parse, Pixel}
-use Rattle.map_show.specs.Showing.{average, rowShown}
+use Rattle.map_show.specs.Showing.{rowShown}
 use Rattle.file_theory.specs.Rules.{judgedRules}
 use Rattle.file_theory.specs.Shows.{rowsIn, mapsIn, sized, showsIn, shows, drawnBytes}
 use Rattle.file_theory.proofs.Shapes.{all-each, each-all}

@@ -7,12 +7,11 @@ use native.Mathlib.Nat.{mul-le-mul}
 use native.Mathlib.Omega.{arith}
 use lib.Dec.{ltb}
 use borrow.Author.Tests.{ltb-false, not-false}
-use Rattle.energy.specs.declared.pictures.Size.{Size}
-use Rattle.energy.specs.Refusals.{refusal}
-use Rattle.energy.specs.Pictures.{channelsOf, pictureBytes}
-use Rattle.energy.proofs.Rules.{passed}
-use Rattle.energy.proofs.Sizes.{sides-are}
-use Rattle.seam_find.specs.Finding.{pixels}
+use Rattle.pictures.specs.declared.sizes.Size.{Size}
+use Rattle.pictures.specs.Refusals.{refusal}
+use Rattle.pictures.specs.Pictures.{channelsOf, pictureBytes, pixels}
+use Rattle.pictures.proofs.Rules.{passed}
+use Rattle.pictures.proofs.Limits.{sides-are}
 use Rattle.seam_cut.proofs.Turns.{bytes-few}
 use Rattle.map_theory.specs.Widths.{offered}
 use Rattle.map_theory.proofs.Shown.{allowed-is, offered-is}

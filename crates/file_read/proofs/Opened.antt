@@ -6,13 +6,13 @@ use mathlib.Core.List.{List, [], _∷_, map}
 use Prim.Native.Nat.{ℕ}
 use lib.Dec.{eqb}
 use lib.ListN.{length}
-use Rattle.energy.specs.declared.refusals.Refusal.{Refusal}
-use Rattle.energy.specs.declared.refusals.Refusal.the-variants.{Form, Length, Range}
-use Rattle.energy.specs.declared.refusals.Verdict.{Verdict}
-use Rattle.energy.specs.declared.refusals.Verdict.the-variants as verdicts
-use Rattle.energy.specs.Refusals.{Rule, _when_, numberOf, given, refusal}
-use Rattle.energy.specs.Pictures.{sideRules}
-use Rattle.energy.proofs.Rules.{served-first, refused-answer, kept-by}
+use Rattle.pictures.specs.declared.refusals.Refusal.{Refusal}
+use Rattle.pictures.specs.declared.refusals.Refusal.the-variants.{Form, Length, Range}
+use Rattle.pictures.specs.declared.refusals.Verdict.{Verdict}
+use Rattle.pictures.specs.declared.refusals.Verdict.the-variants as verdicts
+use Rattle.pictures.specs.Refusals.{Rule, _when_, numberOf, given, refusal}
+use Rattle.pictures.specs.Pictures.{sideRules}
+use Rattle.pictures.proofs.Rules.{served-first, refused-answer, kept-by}
 use Rattle.map_theory.specs.Widths.{allowed}
 use Rattle.map_theory.specs.Judged.{every}
 use Rattle.text_theory.specs.Files.{Parts, parse}

@@ -6,9 +6,9 @@ use mathlib.Core.List.{List, _++_}
 use Prim.Native.Nat.{ℕ}
 use lib.ListN.{drop}
 use Rattle.grids.specs.Each.{Each, Grid}
-use Rattle.energy.specs.Refusals.{refusal}
-use Rattle.energy.specs.Pictures.{sideRules, OfSize}
-use Rattle.energy.proofs.Sizes.{Sides, sides-are}
+use Rattle.pictures.specs.Refusals.{refusal}
+use Rattle.pictures.specs.Pictures.{sideRules, OfSize}
+use Rattle.pictures.proofs.Limits.{Sides, sides-are}
 use Rattle.map_theory.specs.Widths.{allowed}
 use Rattle.text_theory.specs.declared.Head.{Head}
 use Rattle.text_theory.specs.Decimal.{digits}

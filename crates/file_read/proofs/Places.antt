@@ -11,14 +11,13 @@ use lib.Seq.{drop-cons}
 use Rattle.grids.specs.Rows.{flat, rowAt}
 use Rattle.grids.proofs.Rows.{flat-at, length-flat}
 use Rattle.grids.proofs.Shapes.{each-length, each-at, map-at}
-use Rattle.energy.specs.declared.pictures.Kind.{Kind}
-use Rattle.energy.specs.declared.pictures.Size.{Size}
-use Rattle.energy.specs.Pictures.{rowBytes, pictureBytes, bytes}
-use Rattle.energy.proofs.Buffers.{flats-grid, length-bytes}
+use Rattle.pictures.specs.declared.sizes.Kind.{Kind}
+use Rattle.pictures.specs.declared.sizes.Size.{Size}
+use Rattle.pictures.specs.Pictures.{rowBytes, pictureBytes, bytes, pixels}
+use Rattle.pictures.proofs.Buffers.{flats-grid, length-bytes}
 use Rattle.map_build.specs.Numbers.{pairs}
-use Rattle.map_build.specs.Mapping.{mapBytes}
+use Rattle.map_build.specs.Building.{mapBytes}
 use Rattle.map_build.proofs.Pairs.{pairs-flat, grid-pairs}
-use Rattle.seam_find.specs.Finding.{pixels}
 use Rattle.text_theory.specs.declared.Head.{Head}
 use Rattle.text_theory.specs.Decimal.{digits}
 use Rattle.text_theory.specs.Files.{parse, each, rowWord, mapWord, lineText, pixelText, closed, All, Pixel}

@@ -9,15 +9,14 @@ use lib.Dec.{ltb}
 use lib.ListN.{length, drop, replicate}
 use Rattle.grids.specs.Rows.{flat}
 use Rattle.grids.proofs.Rows.{length-flat}
-use Rattle.energy.specs.declared.pictures.Size.{Size}
-use Rattle.energy.specs.declared.refusals.Refusal.{Refusal}
-use Rattle.energy.specs.declared.refusals.Verdict.{Verdict}
-use Rattle.energy.specs.declared.refusals.Verdict.the-variants as verdicts
-use Rattle.energy.specs.Refusals.{Rule, numberOf, given, refusal}
-use Rattle.energy.specs.Pictures.{pictureBytes, bytes}
-use Rattle.energy.proofs.Rules.{refusal-most, passed, number-some, kept-by}
-use Rattle.energy.proofs.Buffers.{length-bytes}
-use Rattle.seam_find.specs.Finding.{pixels, worked}
+use Rattle.pictures.specs.declared.sizes.Size.{Size}
+use Rattle.pictures.specs.declared.refusals.Refusal.{Refusal}
+use Rattle.pictures.specs.declared.refusals.Verdict.{Verdict}
+use Rattle.pictures.specs.declared.refusals.Verdict.the-variants as verdicts
+use Rattle.pictures.specs.Refusals.{Rule, numberOf, given, refusal, worked}
+use Rattle.pictures.specs.Pictures.{pictureBytes, bytes, pixels}
+use Rattle.pictures.proofs.Rules.{refusal-most, passed, number-some, kept-by}
+use Rattle.pictures.proofs.Buffers.{length-bytes}
 use Rattle.seam_find.proofs.Worked.{worked-not}
 use Rattle.text_theory.specs.declared.Head.{Head}
 use Rattle.text_theory.specs.Files.{parse}
@@ -25,7 +24,7 @@ use Rattle.file_theory.specs.Rules.{judgedRules, readRules}
 use Rattle.file_theory.specs.Shows.{headIn, rowsIn, mapsIn}
 use Rattle.file_read.specs.declared.checking.Checked.{Checked}
 use Rattle.file_read.specs.declared.checking.Checked.the-variants as checks
-use Rattle.file_read.specs.Multisize.{ReadGiven}
+use Rattle.file_read.specs.Reading.{ReadGiven}
 use Rattle.file_read.specs.Kernels.{OpenGiven, Open, RowsRead, MapJudged, spaceRules}
 use Rattle.file_read.proofs.Parsed.{opened}
 use Rattle.file_read.proofs.Answered.{early-number, early-kept, early-work, own-number, judged-number, judged-work}

@@ -5,12 +5,11 @@ use mathlib.Core.List.{List, _++_}
 use Prim.Native.Nat.{ℕ}
 use native.Mathlib.Omega.{arith}
 use lib.ListN.{length, drop, replicate}
-use Rattle.energy.specs.declared.refusals.Refusal.{Refusal}
-use Rattle.energy.specs.declared.refusals.Verdict.{Verdict}
-use Rattle.energy.specs.declared.refusals.Verdict.the-variants as verdicts
-use Rattle.energy.specs.Refusals.{Rule, numberOf, given, refusal}
-use Rattle.energy.proofs.Rules.{refusal-most, number-some, kept-by}
-use Rattle.seam_find.specs.Finding.{worked}
+use Rattle.pictures.specs.declared.refusals.Refusal.{Refusal}
+use Rattle.pictures.specs.declared.refusals.Verdict.{Verdict}
+use Rattle.pictures.specs.declared.refusals.Verdict.the-variants as verdicts
+use Rattle.pictures.specs.Refusals.{Rule, numberOf, given, refusal, worked}
+use Rattle.pictures.proofs.Rules.{refusal-most, number-some, kept-by}
 use Rattle.seam_find.proofs.Worked.{worked-not}
 use Rattle.text_theory.specs.declared.Head.{Head}
 use Rattle.text_theory.specs.Files.{parse}
@@ -18,7 +17,7 @@ use Rattle.file_theory.specs.Rules.{judgedRules, showRules}
 use Rattle.file_theory.specs.Shows.{sized, showsIn, shows, drawnSize, drawnBytes}
 use Rattle.file_read.specs.declared.checking.Checked.the-variants as checks
 use Rattle.file_read.specs.declared.widths.Shown.the-variants as showings
-use Rattle.file_read.specs.Multisize.{ShowGiven}
+use Rattle.file_read.specs.Reading.{ShowGiven}
 use Rattle.file_read.specs.Kernels.{OpenGiven, Open, judgedIn, MapJudged, wantedRules, DrawGiven}
 use Rattle.file_read.proofs.Parsed.{opened}
 use Rattle.file_read.proofs.Answered.{early-number, early-work, own-number, judged-number, judged-work}

@@ -12,18 +12,17 @@ use lib.Seq.{take-at, drop-at, take-take, take-append-le, length-take-le}
 use Rattle.grids.specs.Rows.{rowsOf, flat}
 use Rattle.grids.proofs.Rows.{rowsOf-flat, length-flat}
 use Rattle.grids.proofs.Parts.{put-part, part-length}
-use Rattle.energy.specs.declared.refusals.Verdict.{Verdict}
-use Rattle.energy.specs.Refusals.{_when_, given, refusal}
-use Rattle.energy.specs.Pictures.{sideRules, pictureBytes, picture, bytes}
-use Rattle.energy.proofs.Rules.{both, served-first}
-use Rattle.energy.proofs.Buffers.{picture-bytes, length-bytes}
+use Rattle.pictures.specs.declared.refusals.Verdict.{Verdict}
+use Rattle.pictures.specs.Refusals.{_when_, given, refusal, worked}
+use Rattle.pictures.specs.Pictures.{sideRules, pictureBytes, picture, bytes, pixels, pictureIn}
+use Rattle.pictures.proofs.Rules.{both, served-first}
+use Rattle.pictures.proofs.Buffers.{picture-bytes, length-bytes}
 use Rattle.map_theory.specs.Widths.{allowed}
-use Rattle.seam_find.specs.Finding.{pixels, pictureIn, worked}
 use Rattle.seam_cut.proofs.Turns.{bytes-few}
 use Rattle.map_build.specs.Numbers.{pairs}
-use Rattle.map_build.specs.Mapping.{mapBytes}
+use Rattle.map_build.specs.Building.{mapBytes}
 use Rattle.map_build.proofs.Pairs.{length-pairs}
-use Rattle.map_check.specs.Judging.{numbersIn, recordedAt, recordedIn, judgeInRules, recordedRules, JudgeGiven}
+use Rattle.map_check.specs.Checking.{numbersIn, recordedAt, recordedIn, judgeInRules, recordedRules, JudgeGiven}
 use Rattle.map_check.proofs.Recorded.{numbers-pairs}
 use Rattle.map_check.proofs.Answers.{worked-judged}
 use Rattle.text_theory.specs.declared.Head.{Head}

@@ -7,7 +7,7 @@ use borrow.Rule.Slice.PartMut.{putMid}
 use Rattle.grids.specs.Rows.{flat}
 use Rattle.grids.proofs.Rows.{length-flat}
 use Rattle.grids.proofs.Shapes.{each-at}
-use Rattle.energy.specs.Pictures.{rowBytes, bytes}
+use Rattle.pictures.specs.Pictures.{rowBytes, bytes}
 use Rattle.map_build.specs.Numbers.{pairs}
 use Rattle.text_theory.specs.declared.Head.{Head}
 use Rattle.text_theory.specs.Files.{parse}

@@ -6,11 +6,10 @@ use mathlib.Core.List.{List, [], _∷_, _++_}
 use Prim.Native.Nat.{ℕ, _*_, _≤_}
 use lib.Dec.{ltb}
 use lib.ListN.{length, take, drop, replicate}
-use Rattle.energy.specs.declared.pictures.Size.{Size}
-use Rattle.energy.specs.declared.refusals.Verdict.{Verdict}
-use Rattle.energy.specs.Refusals.{Rule, _when_, given, refusal, served}
-use Rattle.energy.specs.Pictures.{channelsOf, sideRules, pictureBytes, bytes}
-use Rattle.seam_find.specs.Finding.{pixels}
+use Rattle.pictures.specs.declared.sizes.Size.{Size}
+use Rattle.pictures.specs.declared.refusals.Verdict.{Verdict}
+use Rattle.pictures.specs.Refusals.{Rule, _when_, given, refusal, served}
+use Rattle.pictures.specs.Pictures.{channelsOf, sideRules, pictureBytes, bytes, pixels}
 use Rattle.map_theory.specs.Widths.{allowed, offered}
 use Rattle.text_theory.specs.declared.Head.{Head}
 use Rattle.text_theory.specs.Decimal.{digits}
@@ -18,7 +17,7 @@ use Rattle.text_theory.specs.Files.{Parts, parse, each, rowWord, mapWord, lineT
 use Rattle.file_theory.specs.Rules.{partRules, judgedRules, formRules, workRule}
 use Rattle.file_theory.specs.Shows.{headIn, rowsIn, shows, drawnBytes}
 use Rattle.file_read.specs.declared.checking.Checked.{Checked}
-use Rattle.file_read.specs.Multisize.{checkedNumber, checkedHead}
+use Rattle.file_read.specs.Reading.{checkedNumber, checkedHead}
 
 -- What stands in a text from its row lines on, and from its map lines on.
 abbrev pub mapLines : Option Parts → List ℕ

@@ -1,2 +1,2 @@
-pub mod Multisize
+pub mod Reading
 pub mod Kernels

@@ -1,11 +1,11 @@
 // A file checked.
 use crate::lines;
 use crate::opening;
-use energy::Refusal;
-use energy::Verdict;
+use pictures::Refusal;
+use pictures::Verdict;
 use text_theory::Head;
 ghost use lib.ListN.{length};
-ghost use Rattle.file_read.specs.Multisize.{CheckGiven};
+ghost use Rattle.file_read.specs.Reading.{CheckGiven};
 ghost use Rattle.file_read.specs.Kernels.{JudgeNeeded, MapJudged};
 
 // Size and range of a file that is accepted, or why it isn't.
@@ -40,7 +40,7 @@ pub(crate) fn judge(file: &[u8], head: Head, work: &mut [u8]) -> Verdict
 {
     let size = head.size;
     let pixels = size.height * size.width;
-    let at = energy::picture_bytes(size) + 3 * pixels;
+    let at = pictures::picture_bytes(size) + 3 * pixels;
     let rows = opening::first_row(file, head);
     let maps = lines::read_rows(file, head, rows, work);
     lines::record_maps(file, head, maps, &mut work[at..at + 2 * pixels]);

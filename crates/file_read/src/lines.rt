@@ -7,9 +7,9 @@ ghost use mathlib.Core.List.{_++_};
 ghost use Prim.Native.Nat.{_*_, _≤_};
 ghost use lib.ListN.{length, drop};
 ghost use Rattle.grids.specs.Rows.{flat};
-ghost use Rattle.seam_find.specs.Finding.{pixels};
+ghost use Rattle.pictures.specs.Pictures.{pixels};
 ghost use Rattle.map_build.specs.Numbers.{pairs};
-ghost use Rattle.map_build.specs.Mapping.{mapBytes};
+ghost use Rattle.map_build.specs.Building.{mapBytes};
 ghost use Rattle.text_theory.specs.Files.{parse};
 ghost use Rattle.file_theory.specs.Shows.{mapsIn};
 ghost use Rattle.file_read.specs.Kernels.{RowsNeeded, RowsRead, MapsNeeded};
@@ -22,7 +22,7 @@ pub(crate) fn read_rows(file: &[u8], head: Head, rows: Cursor, space: &mut [u8])
     let size = head.size;
     let height = size.height;
     let kind = size.kind;
-    let stride = size.width * energy::channels(kind);
+    let stride = size.width * pictures::channels(kind);
     let mut at = rows;
     let mut r: usize = 0;
     while r < height {

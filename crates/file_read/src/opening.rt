@@ -1,7 +1,7 @@
 // A file opened: its form, its counts and its range judged, and the place of its row lines.
 use crate::checking::Checked;
-use energy::Refusal;
-use energy::Verdict;
+use pictures::Refusal;
+use pictures::Verdict;
 use text_read::Cursor;
 use text_read::Facts;
 use text_read::HeadRead;
@@ -40,7 +40,7 @@ pub(crate) fn open(file: &[u8]) -> Checked
     };
     let head = facts.head;
     let size = head.size;
-    if let Verdict::Refused(why) = energy::sides(size) {
+    if let Verdict::Refused(why) = pictures::sides(size) {
         return Checked::Refused(why);
     }
     if !counted(facts) {

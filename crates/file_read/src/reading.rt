@@ -3,13 +3,13 @@ use crate::checking;
 use crate::checking::Checked;
 use crate::lines;
 use crate::opening;
-use energy::Refusal;
-use energy::Size;
-use energy::Verdict;
+use pictures::Refusal;
+use pictures::Size;
+use pictures::Verdict;
 ghost use mathlib.Core.Path.{_≡_};
-ghost use Rattle.energy.specs.Refusals.{given, refusal};
-ghost use Rattle.energy.specs.Pictures.{sideRules};
-ghost use Rattle.file_read.specs.Multisize.{ReadGiven};
+ghost use Rattle.pictures.specs.Refusals.{given, refusal};
+ghost use Rattle.pictures.specs.Pictures.{sideRules};
+ghost use Rattle.file_read.specs.Reading.{ReadGiven};
 ghost use Rattle.file_read.specs.Kernels.{spaceRules};
 
 // The picture of a file into the front of one space, its map into the front of another, and its size and range. Refused by
@@ -39,7 +39,7 @@ fn rooms(size: Size, picture: usize, map: usize, work: usize) -> Verdict
     ensures { λ v. ⌜ given v ≡ refusal (spaceRules size picture map work) ⌝ }
 {
     let pixels = size.height * size.width;
-    if picture < energy::picture_bytes(size) {
+    if picture < pictures::picture_bytes(size) {
         return Verdict::Refused(Refusal::Space);
     }
     if map < pixels {

@@ -3,16 +3,16 @@ use crate::checking;
 use crate::checking::Checked;
 use crate::lines;
 use crate::opening;
-use energy::Refusal;
-use energy::Size;
-use energy::Verdict;
+use pictures::Refusal;
+use pictures::Size;
+use pictures::Verdict;
 use text_read::Cursor;
 use text_read::Read;
 use text_theory::Head;
 ghost use mathlib.Core.Path.{_≡_};
 ghost use lib.ListN.{length, replicate};
-ghost use Rattle.energy.specs.Refusals.{given, refusal};
-ghost use Rattle.file_read.specs.Multisize.{ShowGiven};
+ghost use Rattle.pictures.specs.Refusals.{given, refusal};
+ghost use Rattle.file_read.specs.Reading.{ShowGiven};
 ghost use Rattle.file_read.specs.Kernels.{wantedRules, Sound, DrawNeeded, DrawGiven, LinesNeeded};
 
 // The size of the picture shown, or why there is none.
@@ -61,7 +61,7 @@ fn rooms(head: Head, wanted: usize, out: usize, work: usize) -> Verdict
     if width + head.growth < wanted {
         return Verdict::Refused(Refusal::Wanted);
     }
-    if out < height * (wanted * energy::channels(kind)) {
+    if out < height * (wanted * pictures::channels(kind)) {
         return Verdict::Refused(Refusal::Space);
     }
     if work < 32 * (height * width) {
@@ -91,8 +91,8 @@ fn draw_rows(file: &[u8], head: Head, maps: Cursor, wanted: usize, space: &[u8],
     let width = size.width;
     let height = size.height;
     let kind = size.kind;
-    let stride = width * energy::channels(kind);
-    let shown = wanted * energy::channels(kind);
+    let stride = width * pictures::channels(kind);
+    let shown = wanted * pictures::channels(kind);
     let mut numbers = [0u16; 512];
     let mut at = maps;
     let mut r: usize = 0;

@@ -7,15 +7,15 @@ use Prim.Native.Nat.{ℕ, _*_}
 use native.Mathlib.Omega.{arith}
 use lib.Dec.{ltb}
 use lib.ListN.{length}
-use Rattle.energy.specs.Refusals.{refusal}
-use Rattle.energy.proofs.Rules.{served-both, passed}
+use Rattle.pictures.specs.Refusals.{refusal}
+use Rattle.pictures.proofs.Rules.{served-both, passed}
 use Rattle.map_theory.proofs.Judged.{judged-map}
 use Rattle.map_theory.proofs.Shown.{allowed-is}
 use Rattle.text_theory.specs.Files.{Parts, text, parse}
 use Rattle.text_theory.proofs.Files.{parse-text, parse-sound}
-use Rattle.seam_find.specs.Seams.{seamOf}
-use Rattle.seam_find.specs.Finding.{pixels}
-use Rattle.map_build.proofs.Choosing.{seam-chooses}
+use Rattle.seam_theory.specs.PictureSeams.{seamOf}
+use Rattle.pictures.specs.Pictures.{pixels}
+use Rattle.seam_theory.proofs.Choosing.{seam-chooses}
 use Rattle.file_theory.specs.Contents.{partsOf, fileOf}
 use Rattle.file_theory.specs.Rules.{partRules, judgedRules, workRule}
 use Rattle.file_theory.specs.Shows.{Accepted}

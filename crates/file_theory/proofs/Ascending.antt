@@ -4,8 +4,8 @@ use mathlib.Core.Bool.{true}
 use mathlib.Core.Option.{Option, none, some}
 use mathlib.Core.List.{List}
 use Prim.Native.Nat.{ℕ}
-use Rattle.energy.specs.Refusals.{Rule}
-use Rattle.energy.proofs.Rules.{ascending, smallest, given-applies}
+use Rattle.pictures.specs.Refusals.{Rule}
+use Rattle.pictures.proofs.Rules.{ascending, smallest, given-applies}
 use Rattle.text_theory.specs.declared.Head.{Head}
 use Rattle.text_theory.specs.Files.{Parts, parse}
 use Rattle.file_theory.specs.Rules.{formRules, checkRules, readRules, showRules, buildRules}

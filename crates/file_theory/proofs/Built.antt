@@ -7,12 +7,11 @@ use Prim.Native.Nat.{ℕ, _-_, _≤_, _<_}
 use lib.ListN.{getD}
 use Rattle.grids.specs.Each.{Each}
 use Rattle.grids.proofs.Shapes.{each-any}
-use Rattle.energy.specs.Pictures.{Picture}
-use Rattle.map_theory.specs.Widths.{offered, shown, LeftOut}
+use Rattle.pictures.specs.Pictures.{Picture}
+use Rattle.map_theory.specs.Widths.{offered, shown, LeftOut, average}
 use Rattle.map_theory.proofs.Shown.{shown-original, shown-grid, shown-left-out}
 use Rattle.text_theory.specs.Files.{parse, Pixel}
 use Rattle.text_theory.proofs.Files.{parse-text}
-use Rattle.map_show.specs.Showing.{average}
 use Rattle.file_theory.specs.Contents.{partsOf, fileOf}
 use Rattle.file_theory.specs.Demands.{Built}
 use Rattle.file_theory.specs.Shows.{offers, sized, shows, original}

@@ -10,12 +10,12 @@ use lib.Dec.{ltb}
 use lib.ListN.{length, replicate, length-replicate}
 use borrow.Author.Tests.{le-ltb}
 use Rattle.seam_theory.specs.Paths.{beside}
-use Rattle.energy.specs.Refusals.{_when_, refusal}
-use Rattle.energy.proofs.Rules.{served-first, refused-first, refusal-most}
+use Rattle.pictures.specs.Refusals.{_when_, refusal}
+use Rattle.pictures.proofs.Rules.{served-first, refused-first, refusal-most}
 use Rattle.map_theory.specs.Judged.{every, numbers, connected, found}
 use Rattle.text_theory.specs.Files.{Parts, parse}
-use Rattle.seam_find.specs.Seams.{seamOf}
-use Rattle.seam_find.specs.Finding.{pixels}
+use Rattle.seam_theory.specs.PictureSeams.{seamOf}
+use Rattle.pictures.specs.Pictures.{pixels}
 use Rattle.file_theory.specs.Rules.{partRules, judgedRules, workRule, checkRules}
 
 -- Checking parts, in a work space of so many bytes.

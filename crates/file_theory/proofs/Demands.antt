@@ -7,18 +7,17 @@ use mathlib.Core.List.{List, [], zipWith}
 use Prim.Native.Nat.{ℕ, _+_, _-_, _≤_, _<_}
 use native.Mathlib.Omega.{arith}
 use lib.ListN.{getD}
-use Rattle.energy.specs.declared.pictures.Size.{Size}
-use Rattle.energy.specs.Pictures.{Picture}
+use Rattle.pictures.specs.declared.sizes.Size.{Size}
+use Rattle.pictures.specs.Pictures.{Picture}
 use Rattle.map_theory.specs.Maps.{carve, mapOf}
-use Rattle.map_theory.specs.Widths.{allowed, offered, growRow, shown, LeftOut}
+use Rattle.map_theory.specs.Widths.{allowed, offered, growRow, shown, LeftOut, average}
 use Rattle.map_theory.proofs.Shown.{allowed-is, offered-is, shown-carve}
 use Rattle.map_theory.proofs.Grown.{shown-grown}
 use Rattle.text_theory.specs.declared.Head.{Head}
 use Rattle.text_theory.specs.Files.{Parts, parse, text}
 use Rattle.text_theory.proofs.Ascii.{text-ascii}
-use Rattle.seam_find.specs.Seams.{seamOf}
-use Rattle.map_build.proofs.Choosing.{seam-chooses}
-use Rattle.map_show.specs.Showing.{average}
+use Rattle.seam_theory.specs.PictureSeams.{seamOf}
+use Rattle.seam_theory.proofs.Choosing.{seam-chooses}
 use Rattle.file_theory.specs.Contents.{partsOf, fileOf}
 use Rattle.file_theory.specs.Shows.{Accepted, offers, Drawn, sized, showsIn, shows, original}
 use Rattle.file_theory.specs.Demands.{AllowedPicture, Built, FileFor, ShownAt}

@@ -8,8 +8,8 @@ use lib.ListN.{length, length-append}
 use Rattle.grids.specs.Each.{Each, Grid, none, more}
 use Rattle.grids.proofs.Shapes.{grid-of}
 use Rattle.seam_theory.specs.Paths.{run}
-use Rattle.energy.specs.declared.pictures.Kind.{Kind}
-use Rattle.energy.specs.Pictures.{Picture, OfSize}
+use Rattle.pictures.specs.declared.sizes.Kind.{Kind}
+use Rattle.pictures.specs.Pictures.{Picture, OfSize}
 use Rattle.map_theory.specs.Maps.{insertAt, later, numberRow, mapOf}
 use Rattle.map_theory.specs.Judged.{columnOf, Numbering}
 use Rattle.map_theory.proofs.Lowered.{lowerRow, number-lower-row, length-lower-row}
@@ -22,8 +22,8 @@ use Rattle.text_theory.specs.Files.{closed, rowWord, mapWord, pixelText, lineTe
 use Rattle.text_theory.specs.Lengths.{total, spaced, rowLength, mapLength, headLength}
 use Rattle.text_theory.proofs.Decimals.{digits-small}
 use Rattle.text_theory.proofs.Lengths.{each-length, Counted, row-length, map-length, head-length}
-use Rattle.seam_find.specs.Seams.{seamOf}
-use Rattle.map_build.proofs.Choosing.{seam-chooses}
+use Rattle.seam_theory.specs.PictureSeams.{seamOf}
+use Rattle.seam_theory.proofs.Choosing.{seam-chooses}
 use Rattle.file_theory.specs.Contents.{fileOf}
 use Rattle.file_theory.proofs.Shapes.{all-each}
 

@@ -8,12 +8,12 @@ use lib.Dec.{ltb}
 use lib.ListN.{length, take, drop}
 use borrow.Author.Tests.{not-false}
 use Rattle.grids.specs.Rows.{rowsOf}
-use Rattle.energy.specs.declared.pictures.Size.{Size}
-use Rattle.energy.specs.Refusals.{Rule, _when_, refusal}
-use Rattle.energy.specs.Pictures.{channelsOf, rowBytes, sizeRules, picture}
-use Rattle.energy.proofs.Rules.{served-both, passed}
-use Rattle.energy.proofs.Sizes.{sides-served, sized-is}
-use Rattle.energy.proofs.Buffers.{picture-ofSize}
+use Rattle.pictures.specs.declared.sizes.Size.{Size}
+use Rattle.pictures.specs.Refusals.{Rule, _when_, refusal}
+use Rattle.pictures.specs.Pictures.{channelsOf, rowBytes, sizeRules, picture}
+use Rattle.pictures.proofs.Rules.{served-both, passed}
+use Rattle.pictures.proofs.Limits.{sides-served, sized-is}
+use Rattle.pictures.proofs.Buffers.{picture-ofSize}
 use Rattle.map_theory.specs.Widths.{allowed}
 use Rattle.text_theory.specs.declared.Head.{Head}
 use Rattle.text_theory.specs.Files.{All}

@@ -8,11 +8,10 @@ use native.Mathlib.Omega.{arith}
 use lib.Dec.{leb}
 use lib.ListN.{length}
 use Rattle.seam_theory.specs.Paths.{consIf}
-use Rattle.energy.specs.declared.pictures.Kind.{Kind}
-use Rattle.energy.specs.Pictures.{channelsOf}
-use Rattle.map_theory.specs.Widths.{keepRow, stays, doubled, growFrom, growRow, rowAtWidth, shown}
+use Rattle.pictures.specs.declared.sizes.Kind.{Kind}
+use Rattle.pictures.specs.Pictures.{channelsOf}
+use Rattle.map_theory.specs.Widths.{keepRow, stays, doubled, growFrom, growRow, rowAtWidth, shown, average}
 use Rattle.text_theory.specs.Files.{All, Pixel}
-use Rattle.map_show.specs.Showing.{average}
 
 -- The mean of two pixels is a pixel.
 average-length : (n : ℕ) (p q : List ℕ) → length p ≡ n → length q ≡ n → length (average p q) ≡ n

@@ -8,12 +8,11 @@ use Prim.Native.Nat.{ℕ, _*_, _<_}
 use native.Mathlib.Omega.{arith}
 use lib.Dec.{ltb}
 use lib.ListN.{replicate, length-replicate}
-use Rattle.energy.specs.Refusals.{Rule, _when_, refusal}
-use Rattle.energy.specs.Pictures.{channelsOf, pictureBytes}
-use Rattle.energy.proofs.Rules.{positive, served-first, served-both, passed}
+use Rattle.pictures.specs.Refusals.{Rule, _when_, refusal}
+use Rattle.pictures.specs.Pictures.{channelsOf, pictureBytes, pixels}
+use Rattle.pictures.proofs.Rules.{positive, served-first, served-both, passed}
 use Rattle.map_theory.specs.Widths.{offered}
 use Rattle.text_theory.specs.Files.{Parts, parse}
-use Rattle.seam_find.specs.Finding.{pixels}
 use Rattle.file_theory.specs.Rules.{partRules, judgedRules, workRule, checkRules, readRules, showRules}
 use Rattle.file_theory.specs.Shows.{Accepted, offers}
 use Rattle.file_theory.specs.Demands.{AcceptedParts}

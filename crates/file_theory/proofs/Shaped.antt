@@ -9,11 +9,11 @@ use lib.Dec.{leb}
 use borrow.Author.Tests.{leb-true, not-false}
 use Rattle.grids.specs.Each.{Each, Grid}
 use Rattle.grids.proofs.Shapes.{each-any, each-weaken, grid-of}
-use Rattle.energy.specs.declared.pictures.Size.{Size}
-use Rattle.energy.specs.Refusals.{_when_, refusal}
-use Rattle.energy.specs.Pictures.{Picture, sideRules, OfSize}
-use Rattle.energy.proofs.Rules.{served-first, served-both, passed}
-use Rattle.energy.proofs.Sizes.{sides-are}
+use Rattle.pictures.specs.declared.sizes.Size.{Size}
+use Rattle.pictures.specs.Refusals.{_when_, refusal}
+use Rattle.pictures.specs.Pictures.{Picture, sideRules, OfSize}
+use Rattle.pictures.proofs.Rules.{served-first, served-both, passed}
+use Rattle.pictures.proofs.Limits.{sides-are}
 use Rattle.map_theory.specs.Widths.{allowed}
 use Rattle.map_theory.specs.Judged.{every, Numbering}
 use Rattle.map_theory.proofs.Numberings.{numbering-most}
@@ -21,8 +21,8 @@ use Rattle.map_theory.proofs.Maps.{map-grid, map-numbered}
 use Rattle.map_theory.proofs.Shown.{allowed-is}
 use Rattle.text_theory.specs.declared.Head.{Head}
 use Rattle.text_theory.specs.Files.{Parts, All, Within}
-use Rattle.seam_find.specs.Seams.{seamOf}
-use Rattle.map_build.proofs.Choosing.{seam-chooses}
+use Rattle.seam_theory.specs.PictureSeams.{seamOf}
+use Rattle.seam_theory.proofs.Choosing.{seam-chooses}
 use Rattle.file_theory.specs.Contents.{partsOf}
 use Rattle.file_theory.specs.Rules.{filled, partRules}
 use Rattle.file_theory.specs.Demands.{AllowedPicture}

@@ -8,19 +8,19 @@ use Prim.Native.Nat.{ℕ, _+_, _-_, _≤_, _<_}
 use native.Mathlib.Omega.{arith}
 use lib.ListN.{length}
 use Rattle.seam_theory.specs.Paths.{beside}
-use Rattle.energy.specs.Refusals.{refusal}
-use Rattle.energy.specs.Pictures.{Picture}
-use Rattle.energy.proofs.Sizes.{sides-are}
+use Rattle.pictures.specs.Refusals.{refusal}
+use Rattle.pictures.specs.Pictures.{Picture}
+use Rattle.pictures.proofs.Limits.{sides-are}
 use Rattle.map_theory.specs.Judged.{every, numbers, before, recorded}
 use Rattle.map_theory.proofs.Tests.{every-each}
 use Rattle.map_theory.proofs.Numberings.{numbers-is}
 use Rattle.map_theory.proofs.Judged.{judged-is, chosen-only}
 use Rattle.map_theory.proofs.Shown.{allowed-is}
 use Rattle.text_theory.specs.Files.{Parts, parse}
-use Rattle.seam_find.specs.Seams.{seamUp, seamOf}
-use Rattle.seam_find.specs.Chosen.{IsSeam}
-use Rattle.seam_find.proofs.Characterised.{seam-is, seam-some}
-use Rattle.map_build.proofs.Choosing.{seam-chooses}
+use Rattle.seam_theory.specs.PictureSeams.{seamUp, seamOf}
+use Rattle.seam_theory.specs.Chosen.{IsSeam}
+use Rattle.seam_theory.proofs.Characterised.{seam-is, seam-some}
+use Rattle.seam_theory.proofs.Choosing.{seam-chooses}
 use Rattle.file_theory.specs.Rules.{partRules, judgedRules, checkRules}
 use Rattle.file_theory.specs.Shows.{Accepted}
 use Rattle.file_theory.specs.Demands.{WellFormed, WellFormedParts}

@@ -7,9 +7,9 @@ use mathlib.Core.List.{List, List·Memᴰ}
 use Prim.Native.Nat.{ℕ, _≤_, _<_}
 use lib.ListN.{length}
 use Rattle.grids.specs.Each.{Each}
-use Rattle.energy.specs.declared.pictures.Size.{Size}
-use Rattle.energy.specs.Refusals.{Rule, _when_, refusal}
-use Rattle.energy.specs.Pictures.{Picture, sideRules}
+use Rattle.pictures.specs.declared.sizes.Size.{Size}
+use Rattle.pictures.specs.Refusals.{Rule, _when_, refusal}
+use Rattle.pictures.specs.Pictures.{Picture, sideRules}
 use Rattle.map_theory.specs.Widths.{allowed, offered}
 use Rattle.map_theory.specs.Judged.{every, numbers}
 use Rattle.text_theory.specs.declared.Head.{Head}

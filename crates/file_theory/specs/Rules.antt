@@ -6,15 +6,14 @@ use Prim.Native.Nat.{ℕ, _*_}
 use lib.Dec.{eqb, ltb}
 use lib.ListN.{length}
 use Rattle.seam_theory.specs.Paths.{beside}
-use Rattle.energy.specs.declared.pictures.Size.{Size}
-use Rattle.energy.specs.Refusals.{Rule, _when_}
-use Rattle.energy.specs.Pictures.{channelsOf, sideRules, sizeRules, pictureBytes, picture}
+use Rattle.pictures.specs.declared.sizes.Size.{Size}
+use Rattle.pictures.specs.Refusals.{Rule, _when_}
+use Rattle.pictures.specs.Pictures.{channelsOf, sideRules, sizeRules, pictureBytes, picture, pixels}
 use Rattle.map_theory.specs.Widths.{allowed, offered}
 use Rattle.map_theory.specs.Judged.{every, mapRules}
 use Rattle.text_theory.specs.declared.Head.{Head}
 use Rattle.text_theory.specs.Files.{Parts, parse}
-use Rattle.seam_find.specs.Seams.{seamOf}
-use Rattle.seam_find.specs.Finding.{pixels}
+use Rattle.seam_theory.specs.PictureSeams.{seamOf}
 use Rattle.file_theory.specs.Contents.{fileOf}
 
 -- So many rows of so many items.

@@ -5,13 +5,12 @@ use mathlib.Core.Option.{Option, none, some}
 use mathlib.Core.List.{List, []}
 use Prim.Native.Nat.{ℕ}
 use lib.ListN.{length}
-use Rattle.energy.specs.declared.pictures.Size.{Size}
-use Rattle.energy.specs.Refusals.{refusal}
-use Rattle.energy.specs.Pictures.{Picture, bytes}
-use Rattle.map_theory.specs.Widths.{offered, shown}
+use Rattle.pictures.specs.declared.sizes.Size.{Size}
+use Rattle.pictures.specs.Refusals.{refusal}
+use Rattle.pictures.specs.Pictures.{Picture, bytes}
+use Rattle.map_theory.specs.Widths.{offered, shown, average}
 use Rattle.text_theory.specs.declared.Head.{Head}
 use Rattle.text_theory.specs.Files.{Parts, parse}
-use Rattle.map_show.specs.Showing.{average}
 use Rattle.file_theory.specs.Rules.{checkRules}
 
 -- "a file is any list of bytes, and it is accepted when checking accepts it in every work space that 8 doesn't refuse"

@@ -10,14 +10,14 @@ use lib.Seq.{take-at, drop-at, drop-drop}
 use borrow.Rule.Slice.PartMut.{putMid, midOf}
 use Rattle.grids.specs.Cut.{cut}
 use Rattle.grids.proofs.Parts.{put-part}
-use Rattle.energy.specs.declared.pictures.Size.{Size}
-use Rattle.energy.specs.Refusals.{_when_, refusal}
-use Rattle.energy.specs.Pictures.{channelsOf, sideRules, pictureBytes, bytes}
-use Rattle.energy.proofs.Rules.{served-first}
+use Rattle.pictures.specs.declared.sizes.Size.{Size}
+use Rattle.pictures.specs.Refusals.{_when_, refusal}
+use Rattle.pictures.specs.Pictures.{channelsOf, sideRules, pictureBytes, bytes, pixels, pictureIn}
+use Rattle.pictures.proofs.Rules.{served-first}
 use Rattle.seam_find.specs.declared.Found.{Found}
-use Rattle.seam_find.specs.Seams.{seamOf}
-use Rattle.seam_find.specs.Finding.{pixels, pictureIn, findRules}
-use Rattle.seam_cut.specs.Carving.{cutInRules, CutInGiven}
+use Rattle.seam_theory.specs.PictureSeams.{seamOf}
+use Rattle.seam_find.specs.Finding.{findRules}
+use Rattle.seam_cut.specs.Cutting.{cutInRules, CutInGiven}
 use Rattle.map_build.specs.Kernels.{writeRows, NextGiven}
 
 module _ (space : List ℕ) (z : Size) (seam : List ℕ) (answer : Found) (space′ seam′ : List ℕ)

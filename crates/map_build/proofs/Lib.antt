@@ -3,7 +3,6 @@ pub mod Marking
 pub mod Skipping
 pub mod Turns
 pub mod Lists
-pub mod Choosing
 pub mod CutIn
 pub mod Steps
 pub mod Spaces

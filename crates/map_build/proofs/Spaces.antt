@@ -11,15 +11,14 @@ use lib.Dec.{leb, ltb}
 use lib.ListN.{length, take, drop, replicate, length-append, length-replicate, length-drop}
 use lib.Seq.{take-at, drop-at, length-take-le}
 use Rattle.grids.proofs.Parts.{put-part}
-use Rattle.energy.specs.declared.pictures.Size.{Size}
-use Rattle.energy.specs.Refusals.{_when_, refusal}
-use Rattle.energy.specs.Pictures.{channelsOf, sideRules, pictureBytes, picture, OfSize}
-use Rattle.energy.proofs.Rules.{served-both, passed}
-use Rattle.energy.proofs.Sizes.{Sides, sides-are}
-use Rattle.energy.proofs.Buffers.{picture-ofSize}
-use Rattle.seam_find.specs.Finding.{pixels, pictureIn}
+use Rattle.pictures.specs.declared.sizes.Size.{Size}
+use Rattle.pictures.specs.Refusals.{_when_, refusal}
+use Rattle.pictures.specs.Pictures.{channelsOf, sideRules, pictureBytes, picture, OfSize, pixels, pictureIn}
+use Rattle.pictures.proofs.Rules.{served-both, passed}
+use Rattle.pictures.proofs.Limits.{Sides, sides-are}
+use Rattle.pictures.proofs.Buffers.{picture-ofSize}
 use Rattle.seam_cut.proofs.Turns.{sides-of}
-use Rattle.map_build.specs.Mapping.{mapBytes, mapAt, mapInRules, mapped}
+use Rattle.map_build.specs.Building.{mapBytes, mapAt, mapInRules, mapped}
 use Rattle.map_build.specs.Kernels.{NextNeeded}
 use Rattle.map_build.proofs.Steps.{leftSize, first-mapped}
 

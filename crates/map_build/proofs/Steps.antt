@@ -12,19 +12,18 @@ use Rattle.grids.specs.Rows.{rowsOf, flat}
 use Rattle.grids.specs.Cut.{cut}
 use Rattle.grids.proofs.Shapes.{each-length, grid-of}
 use Rattle.grids.proofs.Rows.{rowsOf-flat, length-flat}
-use Rattle.energy.specs.declared.pictures.Size.{Size}
-use Rattle.energy.specs.Pictures.{Picture, channelsOf, pictureBytes, picture, bytes, OfSize}
-use Rattle.energy.proofs.Buffers.{picture-ofSize, picture-bytes, bytes-picture, length-bytes}
+use Rattle.pictures.specs.declared.sizes.Size.{Size}
+use Rattle.pictures.specs.Pictures.{Picture, channelsOf, pictureBytes, picture, bytes, OfSize, pixels, pictureIn}
+use Rattle.pictures.proofs.Buffers.{picture-ofSize, picture-bytes, bytes-picture, length-bytes}
 use Rattle.map_theory.specs.Maps.{carve, mapOf}
-use Rattle.map_theory.proofs.Maps.{carve-next, map-grid, map-next}
-use Rattle.seam_find.specs.Seams.{seamOf}
-use Rattle.seam_find.specs.Finding.{pixels, pictureIn}
+use Rattle.map_theory.proofs.Maps.{carve-next, map-grid, map-next, carve-each}
+use Rattle.seam_theory.specs.PictureSeams.{seamOf}
 use Rattle.map_build.specs.Numbers.{pairs}
-use Rattle.map_build.specs.Mapping.{mapBytes, mapAt, mapped}
+use Rattle.map_build.specs.Building.{mapBytes, mapAt, mapped}
 use Rattle.map_build.specs.Kernels.{writePair, writeRows, NextGiven}
 use Rattle.map_build.proofs.Pairs.{pairs-flat, grid-pairs, pairs-zeros, write-all-pairs}
 use Rattle.map_build.proofs.Lists.{drop-replicate}
-use Rattle.map_build.proofs.Choosing.{seam-chooses, carve-each}
+use Rattle.seam_theory.proofs.Choosing.{seam-chooses}
 
 -- The size that is left after t seams.
 abbrev pub leftSize : Size → ℕ → Size
@@ -51,7 +50,7 @@ module _ (z : Size) (p : Picture) (o : OfSize z p) (t : ℕ) (deep : t < z .widt
   q = carve seamOf t (z .width) (z .height) p
 
   q-of : OfSize (leftSize z t) q
-  q-of = carve-each t (z .width) (z .height) p deep o
+  q-of = carve-each seamOf seam-chooses t (z .width) (z .height) p deep o
 
   grid : Grid (z .width) (z .height) p
   grid = grid-of o

@@ -5,12 +5,11 @@ use Prim.Native.Nat.{ℕ, zero, suc, _+_, _*_, _/_, _%_, _≤_, _<_}
 use lib.ListN.{length, take, drop, replicate}
 use Rattle.grids.specs.Rows.{rowsOf, flat}
 use Rattle.grids.specs.Cut.{cut}
-use Rattle.energy.specs.declared.pictures.Size.{Size}
-use Rattle.energy.specs.Refusals.{refusal}
-use Rattle.energy.specs.Pictures.{channelsOf, sideRules, pictureBytes, bytes}
-use Rattle.seam_find.specs.Seams.{seamOf}
-use Rattle.seam_find.specs.Finding.{pixels, pictureIn}
-use Rattle.map_build.specs.Mapping.{mapBytes, mapAt, mapInRules, mapped}
+use Rattle.pictures.specs.declared.sizes.Size.{Size}
+use Rattle.pictures.specs.Refusals.{refusal}
+use Rattle.pictures.specs.Pictures.{channelsOf, sideRules, pictureBytes, bytes, pixels, pictureIn}
+use Rattle.seam_theory.specs.PictureSeams.{seamOf}
+use Rattle.map_build.specs.Building.{mapBytes, mapAt, mapInRules, mapped}
 
 -- The two bytes written over the s-th number that is 0, both its bytes being 0.
 abbrev pub writePair : ℕ → ℕ → ℕ → List ℕ → List ℕ

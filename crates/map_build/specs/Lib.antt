@@ -1,3 +1,3 @@
 pub mod Numbers
-pub mod Mapping
+pub mod Building
 pub mod Kernels

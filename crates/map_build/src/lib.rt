@@ -1,14 +1,14 @@
 // The map of a picture, built in a space.
 mod rows;
 
-use energy::Refusal;
-use energy::Size;
-use energy::Verdict;
+use pictures::Refusal;
+use pictures::Size;
+use pictures::Verdict;
 ghost use mathlib.Core.Path.{_≡_};
 ghost use lib.ListN.{length};
-ghost use Rattle.energy.specs.Refusals.{given, refusal};
+ghost use Rattle.pictures.specs.Refusals.{given, refusal};
 ghost use Rattle.map_theory.specs.Widths.{allowed as Widths·allowed};
-ghost use Rattle.map_build.specs.Mapping.{mapInRules, MapGiven};
+ghost use Rattle.map_build.specs.Building.{mapInRules, MapGiven};
 ghost use Rattle.map_build.specs.Kernels.{NextNeeded, NextGiven, SeamsNeeded, SeamsGiven};
 
 // The map of this depth of the picture at the front of the space. Behind the picture stand a byte for each pixel, for work,
@@ -42,7 +42,7 @@ pub fn allowed(width: usize, depth: usize, growth: usize) -> bool
 fn rooms(size: Size, depth: usize, space: usize) -> Verdict
     ensures { λ v. ⌜ given v ≡ refusal (mapInRules size depth space) ⌝ }
 {
-    let fits = energy::sides(size);
+    let fits = pictures::sides(size);
     let Verdict::Served = fits else {
         return fits;
     };
@@ -51,7 +51,7 @@ fn rooms(size: Size, depth: usize, space: usize) -> Verdict
     if width <= depth {
         return Verdict::Refused(Refusal::Range);
     }
-    if space < energy::picture_bytes(size) + height * width + height * (2 * width) {
+    if space < pictures::picture_bytes(size) + height * width + height * (2 * width) {
         return Verdict::Refused(Refusal::Space);
     }
     Verdict::Served
@@ -65,7 +65,7 @@ fn cut_seams(space: &mut [u8], size: Size, depth: usize)
     let width = size.width;
     let height = size.height;
     let kind = size.kind;
-    let bytes = energy::picture_bytes(size);
+    let bytes = pictures::picture_bytes(size);
     let at = bytes + height * width;
     let end = at + height * (2 * width);
     seam_moves::clear(&mut space[bytes..end]);

@@ -14,25 +14,24 @@ use Rattle.grids.specs.Rows.{rowsOf, flat}
 use Rattle.grids.proofs.Rows.{grid-rowsOf, flat-rowsOf}
 use Rattle.grids.proofs.Shapes.{grid-of}
 use Rattle.seam_theory.specs.Paths.{beside}
-use Rattle.energy.specs.declared.pictures.Size.{Size}
-use Rattle.energy.specs.declared.refusals.Verdict.{Verdict}
-use Rattle.energy.specs.Refusals.{_when_, given, refusal, served}
-use Rattle.energy.specs.Pictures.{Picture, sideRules, pictureBytes, picture}
-use Rattle.energy.proofs.Rules.{served-first}
+use Rattle.pictures.specs.declared.sizes.Size.{Size}
+use Rattle.pictures.specs.declared.refusals.Verdict.{Verdict}
+use Rattle.pictures.specs.Refusals.{_when_, given, refusal, served, worked}
+use Rattle.pictures.specs.Pictures.{Picture, sideRules, pictureBytes, picture, pixels, pictureIn}
+use Rattle.pictures.proofs.Rules.{served-first}
 use Rattle.map_theory.specs.Maps.{mapOf}
 use Rattle.map_theory.specs.Judged.{every, same, numbers, connected, found}
 use Rattle.map_theory.proofs.Tests.{same-is}
 use Rattle.map_theory.proofs.Maps.{map-grid}
 use Rattle.map_theory.proofs.Judged.{judged-map}
 use Rattle.map_theory.proofs.Building.{flat-same, judged-rebuilt}
-use Rattle.seam_find.specs.Seams.{seamOf}
-use Rattle.seam_find.specs.Finding.{pixels, pictureIn, worked}
+use Rattle.seam_theory.specs.PictureSeams.{seamOf}
 use Rattle.map_build.specs.Numbers.{pairs}
-use Rattle.map_build.specs.Mapping.{mapBytes, mapAt, mapInRules, mapped, MapGiven}
-use Rattle.map_build.proofs.Choosing.{seam-chooses}
+use Rattle.map_build.specs.Building.{mapBytes, mapAt, mapInRules, mapped, MapGiven}
+use Rattle.seam_theory.proofs.Choosing.{seam-chooses}
 use Rattle.map_build.proofs.Spaces.{there-ofSize}
 use Rattle.map_build.proofs.Steps.{map-long, drop-front}
-use Rattle.map_check.specs.Judging.{numbersIn, recordedAt, recordedIn, recordedRules}
+use Rattle.map_check.specs.Checking.{numbersIn, recordedAt, recordedIn, recordedRules}
 use Rattle.map_check.specs.Kernels.{besideBuilt}
 use Rattle.map_check.proofs.Recorded.{numbers-pairs, length-numbers}
 use Rattle.map_check.proofs.Spaces.{Fits}

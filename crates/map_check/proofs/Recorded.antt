@@ -8,10 +8,10 @@ use lib.ListN.{length, getD, take, drop}
 use Rattle.grids.specs.Each.{Each, Grid, none, more}
 use Rattle.grids.specs.Rows.{rowsOf, flat, rowAt}
 use Rattle.grids.proofs.Rows.{rowsOf-flat}
-use Rattle.energy.specs.declared.pictures.Size.{Size}
+use Rattle.pictures.specs.declared.sizes.Size.{Size}
 use Rattle.map_build.specs.Numbers.{pairs}
-use Rattle.map_build.specs.Mapping.{mapBytes}
-use Rattle.map_check.specs.Judging.{numbersIn, recordedAt, recordedIn}
+use Rattle.map_build.specs.Building.{mapBytes}
+use Rattle.map_check.specs.Checking.{numbersIn, recordedAt, recordedIn}
 
 -- The numbers of their bytes, and the bytes of their numbers.
 pub numbers-pairs : (ys : List ℕ) → numbersIn (pairs ys) ≡ ys

@@ -7,14 +7,14 @@ use native.Mathlib.Nat.{mul-le-mul}
 use native.Mathlib.Omega.{arith}
 use borrow.Author.Tests.{leb-false, ltb-false}
 use lib.Dec.{leb, ltb}
-use Rattle.energy.specs.declared.pictures.Size.{Size}
-use Rattle.energy.specs.Refusals.{_when_, refusal, served}
-use Rattle.energy.specs.Pictures.{sideRules}
-use Rattle.energy.proofs.Rules.{served-both, passed}
-use Rattle.energy.proofs.Sizes.{sides-are}
-use Rattle.map_build.specs.Mapping.{mapBytes}
+use Rattle.pictures.specs.declared.sizes.Size.{Size}
+use Rattle.pictures.specs.Refusals.{_when_, refusal, served}
+use Rattle.pictures.specs.Pictures.{sideRules}
+use Rattle.pictures.proofs.Rules.{served-both, passed}
+use Rattle.pictures.proofs.Limits.{sides-are}
+use Rattle.map_build.specs.Building.{mapBytes}
 use Rattle.map_build.proofs.Spaces.{Room}
-use Rattle.map_check.specs.Judging.{recordedAt, judgeInRules}
+use Rattle.map_check.specs.Checking.{recordedAt, judgeInRules}
 
 -- There is room for the map, and behind it for the recorded one.
 pub record Fits (z : Size) (depth space : ℕ) : Type 0 where

@@ -7,10 +7,10 @@ use lib.Dec.{leb}
 use lib.ListN.{length, getD, take, drop, replicate}
 use Rattle.grids.specs.Rows.{rowsOf, rowAt}
 use Rattle.seam_theory.specs.Paths.{beside}
-use Rattle.energy.specs.declared.pictures.Size.{Size}
-use Rattle.energy.specs.Refusals.{refusal}
+use Rattle.pictures.specs.declared.sizes.Size.{Size}
+use Rattle.pictures.specs.Refusals.{refusal}
 use Rattle.map_theory.specs.Judged.{every, same, count, columnOf, connected}
-use Rattle.map_check.specs.Judging.{numbersIn, judgeInRules}
+use Rattle.map_check.specs.Checking.{numbersIn, judgeInRules}
 
 -- A row of a map in bytes, judged at depth k.
 pub record RowNeeded (row : List ℕ) (k : ℕ) : Type 0 where

@@ -2,14 +2,14 @@
 mod numbers;
 mod seams;
 
-use energy::Refusal;
-use energy::Size;
-use energy::Verdict;
+use pictures::Refusal;
+use pictures::Size;
+use pictures::Verdict;
 ghost use mathlib.Core.Path.{_≡_};
 ghost use lib.ListN.{length};
-ghost use Rattle.energy.specs.Refusals.{given, refusal};
-ghost use Rattle.seam_find.specs.Finding.{pictureIn};
-ghost use Rattle.map_check.specs.Judging.{recordedIn, judgeInRules, recordedRules, JudgeGiven};
+ghost use Rattle.pictures.specs.Refusals.{given, refusal};
+ghost use Rattle.pictures.specs.Pictures.{pictureIn};
+ghost use Rattle.map_check.specs.Checking.{recordedIn, judgeInRules, recordedRules, JudgeGiven};
 ghost use Rattle.map_check.specs.Kernels.{JudgeNeeded, MapsNeeded, besideBuilt};
 
 // Judges the map recorded in the space for the picture at its front. In the space stand, one behind the other: the picture, a
@@ -31,7 +31,7 @@ pub fn judge_in(space: &mut [u8], size: Size, depth: usize) -> Verdict
 fn rooms(size: Size, depth: usize, space: usize) -> Verdict
     ensures { λ v. ⌜ given v ≡ refusal (judgeInRules size depth space) ⌝ }
 {
-    let fits = energy::sides(size);
+    let fits = pictures::sides(size);
     let Verdict::Served = fits else {
         return fits;
     };
@@ -41,7 +41,7 @@ fn rooms(size: Size, depth: usize, space: usize) -> Verdict
         return Verdict::Refused(Refusal::Range);
     }
     let map = height * (2 * width);
-    if space < energy::picture_bytes(size) + height * width + map + map {
+    if space < pictures::picture_bytes(size) + height * width + map + map {
         return Verdict::Refused(Refusal::Space);
     }
     Verdict::Served
@@ -55,7 +55,7 @@ fn judge_rows(space: &mut [u8], size: Size, depth: usize) -> Verdict
     let width = size.width;
     let height = size.height;
     let map = height * (2 * width);
-    let built = energy::picture_bytes(size) + height * width;
+    let built = pictures::picture_bytes(size) + height * width;
     let at = built + map;
     let end = at + map;
     if !numbers::numbered(&space[at..end], width, height, depth) {

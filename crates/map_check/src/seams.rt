@@ -5,7 +5,7 @@ ghost use Prim.Native.Nat.{_≤_};
 ghost use Rattle.grids.specs.Rows.{rowsOf};
 ghost use Rattle.seam_theory.specs.Paths.{beside};
 ghost use Rattle.map_theory.specs.Judged.{remains, columnOf, connected};
-ghost use Rattle.map_check.specs.Judging.{numbersIn};
+ghost use Rattle.map_check.specs.Checking.{numbersIn};
 ghost use Rattle.map_check.specs.Kernels.{ColumnNeeded, ColumnGiven, MapNeeded};
 
 // Whether a pixel numbered v is left before seam t.

@@ -10,10 +10,9 @@ use lib.Seq.{drop-cons, sets}
 use Rattle.grids.specs.Rows.{rowAt, flat}
 use Rattle.grids.proofs.Rows.{length-rowsOf}
 use Rattle.seam_theory.specs.Paths.{consIf}
-use Rattle.energy.specs.declared.pictures.Kind.{Kind}
-use Rattle.energy.specs.Pictures.{channelsOf}
-use Rattle.map_theory.specs.Widths.{doubled, growFrom, growRow}
-use Rattle.map_show.specs.Showing.{average}
+use Rattle.pictures.specs.declared.sizes.Kind.{Kind}
+use Rattle.pictures.specs.Pictures.{channelsOf}
+use Rattle.map_theory.specs.Widths.{doubled, growFrom, growRow, average}
 use Rattle.map_show.specs.Kernels.{pixels, grown, lastPixels, PixelNeeded, MeanNeeded, LastNeeded}
 use Rattle.map_show.proofs.Filling.{Filling, fill-start, fill-as, fill-room, fill-more, fill-end}
 use Rattle.map_show.proofs.Samples.{length-average}

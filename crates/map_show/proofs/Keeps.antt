@@ -9,8 +9,8 @@ use lib.Seq.{drop-cons, sets}
 use Rattle.grids.specs.Rows.{rowAt, flat}
 use Rattle.grids.proofs.Rows.{length-rowsOf}
 use Rattle.seam_theory.specs.Paths.{consIf}
-use Rattle.energy.specs.declared.pictures.Kind.{Kind}
-use Rattle.energy.specs.Pictures.{channelsOf}
+use Rattle.pictures.specs.declared.sizes.Kind.{Kind}
+use Rattle.pictures.specs.Pictures.{channelsOf}
 use Rattle.map_theory.specs.Widths.{stays, keepRow}
 use Rattle.map_show.specs.Kernels.{pixels, kept, PixelNeeded}
 use Rattle.map_show.proofs.Filling.{Filling, fill-start, fill-as, fill-room, fill-more, fill-end}

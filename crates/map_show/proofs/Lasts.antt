@@ -8,9 +8,9 @@ use native.Mathlib.Omega.{arith}
 use lib.ListN.{length, drop, length-append, length-drop}
 use lib.Seq.{length-take-le, sets, length-sets}
 use Rattle.grids.specs.Rows.{rowAt}
-use Rattle.energy.specs.declared.pictures.Kind.{Kind}
-use Rattle.energy.specs.Pictures.{channelsOf}
-use Rattle.map_show.specs.Showing.{average}
+use Rattle.pictures.specs.declared.sizes.Kind.{Kind}
+use Rattle.pictures.specs.Pictures.{channelsOf}
+use Rattle.map_theory.specs.Widths.{average}
 use Rattle.map_show.specs.Kernels.{lastPixels, PixelNeeded, MeanNeeded, LastNeeded}
 use Rattle.map_show.proofs.Filling.{sets-append}
 use Rattle.map_show.proofs.Samples.{length-average}

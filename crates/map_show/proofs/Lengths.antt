@@ -12,12 +12,12 @@ use Rattle.grids.specs.Each.{Each, none, more}
 use Rattle.grids.proofs.Orders.{le-or-lt}
 use Rattle.grids.proofs.Rows.{length-rowsOf, grid-rowsOf, length-flat}
 use Rattle.seam_theory.specs.Paths.{consIf}
-use Rattle.energy.specs.declared.pictures.Kind.{Kind}
-use Rattle.energy.specs.declared.pictures.Kind.the-variants.{Grey, Rgb}
-use Rattle.energy.specs.Pictures.{channelsOf}
-use Rattle.map_theory.specs.Widths.{doubled, keepRow, growFrom, growRow, rowAtWidth}
+use Rattle.pictures.specs.declared.sizes.Kind.{Kind}
+use Rattle.pictures.specs.declared.sizes.Kind.the-variants.{Grey, Rgb}
+use Rattle.pictures.specs.Pictures.{channelsOf}
+use Rattle.map_theory.specs.Widths.{doubled, keepRow, growFrom, growRow, rowAtWidth, average}
 use Rattle.map_theory.proofs.Widths.{at-narrow, at-wide}
-use Rattle.map_show.specs.Showing.{average, rowShown}
+use Rattle.map_show.specs.Showing.{rowShown}
 use Rattle.map_show.specs.Kernels.{pixelsAt, pixels, kept, grown}
 use Rattle.map_show.proofs.Samples.{length-average}
 use Rattle.map_show.proofs.Counts.{pixels-shown, pixels-most}

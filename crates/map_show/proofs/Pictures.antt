@@ -12,14 +12,14 @@ use Rattle.grids.specs.Rows.{rowsOf, rowAt, flat}
 use Rattle.grids.proofs.Shapes.{each-length, each-at}
 use Rattle.grids.proofs.Tables.{table-same}
 use Rattle.grids.proofs.Rows.{flat-snoc, length-rowsOf, rowsOf-at, length-rowAt}
-use Rattle.energy.specs.declared.pictures.Kind.{Kind}
-use Rattle.energy.specs.declared.pictures.Size.{Size}
-use Rattle.energy.specs.Pictures.{channelsOf, rowBytes, pictureBytes, picture, bytes}
-use Rattle.map_theory.specs.Widths.{rowAtWidth, shown, allowed, offered}
+use Rattle.pictures.specs.declared.sizes.Kind.{Kind}
+use Rattle.pictures.specs.declared.sizes.Size.{Size}
+use Rattle.pictures.specs.Pictures.{channelsOf, rowBytes, pictureBytes, picture, bytes}
+use Rattle.map_theory.specs.Widths.{rowAtWidth, shown, allowed, offered, average}
 use Rattle.map_theory.specs.Judged.{Numbering}
 use Rattle.map_theory.proofs.Widths.{length-at}
 use Rattle.map_theory.proofs.Shown.{allowed-is, offered-is}
-use Rattle.map_show.specs.Showing.{average, rowShown}
+use Rattle.map_show.specs.Showing.{rowShown}
 use Rattle.map_show.specs.Kernels.{pixels}
 use Rattle.map_show.proofs.Zips.{zipWith-table}
 use Rattle.map_show.proofs.Counts.{pixels-shown}

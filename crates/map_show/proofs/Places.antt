@@ -6,8 +6,8 @@ use native.Mathlib.Omega.{arith}
 use lib.ListN.{length, getD}
 use Rattle.grids.specs.Rows.{rowAt}
 use Rattle.grids.proofs.Rows.{part-end, length-rowsOf, rowsOf-at, length-rowAt}
-use Rattle.energy.specs.declared.pictures.Kind.{Kind}
-use Rattle.energy.specs.Pictures.{channelsOf}
+use Rattle.pictures.specs.declared.sizes.Kind.{Kind}
+use Rattle.pictures.specs.Pictures.{channelsOf}
 use Rattle.map_show.specs.Kernels.{pixels}
 
 module _ (k : Kind) (samples ys : List ℕ) (whole : length samples ≡ length ys * channelsOf k) (c : ℕ) (inside : c < length ys) where

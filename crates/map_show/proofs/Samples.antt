@@ -10,7 +10,7 @@ use lib.Seq.{sets}
 use Rattle.grids.specs.Table.{table}
 use Rattle.grids.specs.Rows.{rowAt}
 use Rattle.grids.proofs.Tables.{length-table, table-at, table-same, table-part}
-use Rattle.map_show.specs.Showing.{average}
+use Rattle.map_theory.specs.Widths.{average}
 use Rattle.map_show.specs.Kernels.{PixelNeeded, MeanNeeded}
 use Rattle.map_show.proofs.Zips.{length-zipWith, zipWith-table}
 

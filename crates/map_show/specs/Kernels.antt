@@ -7,10 +7,9 @@ use lib.Dec.{leb}
 use lib.ListN.{length}
 use Rattle.grids.specs.Rows.{rowsOf, rowAt, flat}
 use Rattle.seam_theory.specs.Paths.{consIf}
-use Rattle.energy.specs.declared.pictures.Kind.{Kind}
-use Rattle.energy.specs.Pictures.{channelsOf}
-use Rattle.map_theory.specs.Widths.{stays, doubled, keepRow, growRow}
-use Rattle.map_show.specs.Showing.{average}
+use Rattle.pictures.specs.declared.sizes.Kind.{Kind}
+use Rattle.pictures.specs.Pictures.{channelsOf}
+use Rattle.map_theory.specs.Widths.{stays, doubled, keepRow, growRow, average}
 
 -- How many of the numbers are 1 to u.
 unfoldable pub doubledIn : ℕ → List ℕ → ℕ

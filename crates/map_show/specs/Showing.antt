@@ -6,15 +6,11 @@ use Prim.Native.Nat.{ℕ, _+_, _*_, _/_}
 use lib.Dec.{eqb, ltb}
 use lib.ListN.{length, drop}
 use Rattle.grids.specs.Rows.{rowsOf, flat}
-use Rattle.energy.specs.declared.pictures.Kind.{Kind}
-use Rattle.energy.specs.declared.refusals.Verdict.{Verdict}
-use Rattle.energy.specs.Refusals.{Rule, _when_, given, refusal, served}
-use Rattle.energy.specs.Pictures.{channelsOf}
+use Rattle.pictures.specs.declared.sizes.Kind.{Kind}
+use Rattle.pictures.specs.declared.refusals.Verdict.{Verdict}
+use Rattle.pictures.specs.Refusals.{Rule, _when_, given, refusal, served}
+use Rattle.pictures.specs.Pictures.{channelsOf}
 use Rattle.map_theory.specs.Widths.{rowAtWidth}
-
--- "(pixel + right neighbour)/2 rounded down per channel"
-unfoldable pub average : List ℕ → List ℕ → List ℕ
-average = zipWith (λ a b. (a + b) / 2)
 
 -- The bytes of a row at width v: as many pixels as there are numbers, shown by them.
 unfoldable pub rowShown : Kind → List ℕ → List ℕ → ℕ → List ℕ

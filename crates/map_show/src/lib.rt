@@ -2,9 +2,9 @@
 mod pixels;
 mod rows;
 
-use energy::Kind;
-use energy::Refusal;
-use energy::Verdict;
+use pictures::Kind;
+use pictures::Refusal;
+use pictures::Verdict;
 ghost use Rattle.map_show.specs.Showing.{RowShown};
 
 // A row of pixels and its row of the map, shown at the wanted width, at the front of out. The row has as many pixels as the
@@ -14,7 +14,7 @@ pub fn row_at(kind: Kind, samples: &[u8], numbers: &[u16], wanted: usize, out: &
     ensures { λ v. ⌜ RowShown kind (now (samples .entry)) (now (numbers .entry)) wanted (now (out .entry)) v (now (out .exit)) ⌝ }
 {
     let width = numbers.len();
-    let n = energy::channels(kind);
+    let n = pictures::channels(kind);
     if samples.len() != width * n {
         return Verdict::Refused(Refusal::Length);
     }

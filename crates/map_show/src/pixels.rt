@@ -1,12 +1,12 @@
 // A pixel put into a row, as it is or as the mean of two. One function for each number of channels, with one contract: three
 // channels written out are much faster than a loop over them.
-use energy::Kind;
+use pictures::Kind;
 ghost use mathlib.Core.Path.{_≡_};
 ghost use Prim.Native.Nat.{_+_, _/_, _<_};
 ghost use lib.Seq.{sets};
 ghost use Rattle.grids.specs.Rows.{rowAt};
-ghost use Rattle.energy.specs.Pictures.{channelsOf};
-ghost use Rattle.map_show.specs.Showing.{average};
+ghost use Rattle.pictures.specs.Pictures.{channelsOf};
+ghost use Rattle.map_theory.specs.Widths.{average};
 ghost use Rattle.map_show.specs.Kernels.{PixelNeeded, MeanNeeded};
 
 // The samples of pixel c, at the place.

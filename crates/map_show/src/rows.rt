@@ -1,8 +1,8 @@
 // A row of pixels kept or grown by the numbers of its row of the map.
 use crate::pixels::put_mean;
 use crate::pixels::put_pixel;
-use energy::Kind;
-use energy::channels;
+use pictures::Kind;
+use pictures::channels;
 ghost use mathlib.Core.Path.{_≡_};
 ghost use mathlib.Core.List.{_++_};
 ghost use Prim.Native.Nat.{_-_};

@@ -6,7 +6,7 @@ use Prim.Native.Nat.{ℕ, zero, suc, _+_, _-_, _≤_, _<_}
 use native.Mathlib.Omega.{arith}
 use Rattle.grids.specs.Each.{Grid, none, more}
 use Rattle.seam_theory.specs.Paths.{consIf}
-use Rattle.map_theory.specs.Choices.{Choice, Chooses}
+use Rattle.seam_theory.specs.Choices.{Choice, Chooses}
 use Rattle.map_theory.specs.Maps.{carve, mapOf}
 use Rattle.map_theory.specs.Widths.{doubled, growFrom, growRow, shown}
 use Rattle.map_theory.proofs.Numbers.{remains-zero, remains-le, doubled-not}

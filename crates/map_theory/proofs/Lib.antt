@@ -11,5 +11,4 @@ pub mod Widths
 pub mod Shown
 pub mod Grown
 pub mod Building
-pub mod Connected
 pub mod Points

@@ -6,7 +6,9 @@ use Prim.Native.Nat.{ℕ, zero, suc, _+_, _-_, _≤_, _<_}
 use native.Mathlib.Omega.{arith}
 use Rattle.grids.specs.Each.{Each, Grid}
 use Rattle.grids.specs.Cut.{cut}
-use Rattle.map_theory.specs.Choices.{Choice, Chooses}
+use Rattle.grids.proofs.Cut.{cut-narrower}
+use Rattle.grids.proofs.Shapes.{grid-of}
+use Rattle.seam_theory.specs.Choices.{Choice, Chooses}
 use Rattle.map_theory.specs.Maps.{number, carve, mapOf}
 use Rattle.map_theory.specs.Judged.{before, recorded, Numbering}
 use Rattle.map_theory.proofs.Levels.{Columns, writeAll, lower, before-number, write-number, lower-zero, grid-cut, grid-number, grid-zeros, before-all, recorded-first, recorded-number, lower-number, write-first, numbered-number, numbered-zeros}
@@ -40,6 +42,15 @@ module _ {A : Type 0} (choose : Choice A) where
     carve-grid (suc t) w h p g l =
         let z : w - suc t ≡ w - 1 - t = omega arith in
         rw z (carve-grid t (w - 1) h (cut (choose w h p) p) (grid-next (omega arith) g) (omega arith))
+
+    -- It keeps what holds of each pixel.
+    pub carve-each : {P : A → Type 0} (t w h : ℕ) (p : List (List A)) → t < w → Each (Each P w) h p → Each (Each P (w - t)) h (carve choose t w h p)
+    carve-each zero w h p l g = let z : w - 0 ≡ w = omega arith in rw z g
+    carve-each (suc t) w h p l g =
+        let z : w - suc t ≡ w - 1 - t = omega arith in
+        rw z
+        (carve-each t (w - 1) h (cut (choose w h p) p) (omega arith)
+        (cut-narrower w (omega arith) (good .inside w h p (omega arith) (grid-of g)) g))
 
     -- The map has the picture's shape.
     pub map-grid : (k w h : ℕ) (p : List (List A)) → Grid w h p → k ≤ w → Grid w h (mapOf choose k w h p)

@@ -7,8 +7,8 @@ use Prim.Native.Nat.{ℕ, _+_, _/_}
 use lib.Dec.{eqb}
 use Rattle.grids.specs.Cut.{removeAt, cut}
 use Rattle.seam_theory.specs.Paths.{run, beside}
-use Rattle.energy.specs.Refusals.{refusal}
-use Rattle.map_theory.specs.Choices.{Choice}
+use Rattle.pictures.specs.Refusals.{refusal}
+use Rattle.seam_theory.specs.Choices.{Choice}
 use Rattle.map_theory.specs.Maps.{numberRow, number, mapOf}
 use Rattle.map_theory.specs.Widths.{offered, stays, doubled, rowAtWidth, shown}
 use Rattle.map_theory.specs.Judged.{tick, numbers, remains, before, recorded, connected, found, mapRules}

@@ -11,7 +11,7 @@ use lib.ListN.{getD}
 use borrow.Author.Tests.{leb-true, le-leb, ltb-true, lt-ltb}
 use Rattle.grids.specs.Each.{Each, Grid, none, more}
 use Rattle.grids.proofs.Shapes.{each-length, zipWith-at}
-use Rattle.map_theory.specs.Choices.{Choice, Chooses}
+use Rattle.seam_theory.specs.Choices.{Choice, Chooses}
 use Rattle.map_theory.specs.Maps.{carve, mapOf}
 use Rattle.map_theory.specs.Widths.{allowed, offered, rowAtWidth, shown, LeftOut}
 use Rattle.map_theory.specs.Judged.{before, Numbering}

@@ -6,8 +6,8 @@ use Prim.Native.Nat.{ℕ, suc, _+_, _-_, _≤_, _<_}
 use lib.Dec.{leb, eqb}
 use Rattle.grids.specs.Each.{Each}
 use Rattle.seam_theory.specs.Paths.{run}
-use Rattle.energy.specs.Refusals.{Rule, _when_}
-use Rattle.map_theory.specs.Choices.{Choice, linked}
+use Rattle.pictures.specs.Refusals.{Rule, _when_}
+use Rattle.seam_theory.specs.Choices.{Choice, linked}
 use Rattle.map_theory.specs.Widths.{keepRow}
 
 -- Every element passes a test.

@@ -1,4 +1,3 @@
-pub mod Choices
 pub mod Maps
 pub mod Widths
 pub mod Judged

@@ -2,7 +2,7 @@
 use mathlib.Core.List.{List, [], _∷_, map, zipWith}
 use Prim.Native.Nat.{ℕ, zero, suc, _-_}
 use Rattle.grids.specs.Cut.{cut}
-use Rattle.map_theory.specs.Choices.{Choice}
+use Rattle.seam_theory.specs.Choices.{Choice}
 
 -- The list with a put in as its c-th element; past the end, behind all.
 abbrev pub insertAt : {A : Type 0} → ℕ → A → List A → List A

@@ -29,6 +29,10 @@ keepRow f (x ∷ xs) (v ∷ ys) = consIf (f v) x (keepRow f xs ys)
 unfoldable pub doubled : ℕ → ℕ → Bool
 doubled u v = leb 1 v && leb v u
 
+-- "(pixel + right neighbour)/2 rounded down per channel"
+unfoldable pub average : List ℕ → List ℕ → List ℕ
+average = zipWith (λ a b. (a + b) / 2)
+
 module _ {A : Type 0} (mean : A → A → A) where
   -- "It stands directly to the right and is (pixel + right neighbour)/2 .., neighbours taken in the original. In the last
   -- column it stands directly to the left and uses the left neighbour; a new pixel of the column before stands ahead of

@@ -4,11 +4,11 @@ use mathlib.Core.Path.{_≡_, refl}
 use mathlib.Core.Bool.{true}
 use mathlib.Core.List.{List}
 use Prim.Native.Nat.{ℕ}
-use Rattle.energy.specs.declared.pictures.Size.{Size}
+use Rattle.pictures.specs.declared.sizes.Size.{Size}
 use Rattle.energy.specs.Energy.{energiesRules}
-use Rattle.energy.proofs.Rules.{ascending}
+use Rattle.pictures.proofs.Rules.{ascending}
 use Rattle.seam_cut.specs.declared.Axis.{Axis}
-use Rattle.seam_cut.specs.Carving.{findRules, cutRules, markedFindRules, markedCutRules}
+use Rattle.seam_cut.specs.Cutting.{findRules, cutRules, markedFindRules, markedCutRules}
 use Rattle.seam_objects.specs.Removing.{removalRules}
 use Rattle.seam_retarget.specs.declared.Rows.{Rows}
 use Rattle.seam_retarget.specs.declared.Columns.{Columns}

@@ -8,23 +8,22 @@ use Rattle.grids.specs.Rows.{flat}
 use Rattle.grids.specs.Cut.{removeAt, cut}
 use Rattle.seam_theory.specs.Best.{better, firstBest}
 use Rattle.seam_theory.specs.Paths.{run, select, pathsUp, paths, cost, beside, nearby}
-use Rattle.energy.specs.declared.pictures.Kind.the-variants.{Grey}
-use Rattle.energy.specs.declared.pictures.Size.{Size}
-use Rattle.energy.specs.Refusals.{Rule, refusal}
-use Rattle.energy.specs.Pictures.{Picture, picture}
+use Rattle.pictures.specs.declared.sizes.Kind.the-variants.{Grey}
+use Rattle.pictures.specs.declared.sizes.Size.{Size}
+use Rattle.pictures.specs.Refusals.{Rule, refusal}
+use Rattle.pictures.specs.Pictures.{Picture, picture}
 use Rattle.energy.specs.Energy.{difference, energy, energies}
 use Rattle.map_theory.specs.Maps.{numberRow, number}
-use Rattle.map_theory.specs.Widths.{allowed, offered, stays, doubled, rowAtWidth, shown}
+use Rattle.map_theory.specs.Widths.{allowed, offered, stays, doubled, rowAtWidth, shown, average}
 use Rattle.map_theory.specs.Judged.{numbers, remains, before, connected, found}
 use Rattle.text_theory.specs.declared.Head.{Head}
 use Rattle.text_theory.specs.Readers.{strip, next, manyUpTo, many}
 use Rattle.text_theory.specs.Decimal.{digitsUpTo, digits, isDigit, further, upTo}
 use Rattle.text_theory.specs.Files.{lineEnd, blank, opening, closing, start, range, closed, rowWord, mapWord, greyWord, rgbWord, each, joined, kindText, pixelText, lineText, headText, text, kindGet, items, three, pixel, line, headGet, file, whole, parse}
 use Rattle.text_theory.proofs.Points.{shownText}
-use Rattle.seam_find.specs.Seams.{seamOf, costOf}
+use Rattle.seam_theory.specs.PictureSeams.{seamOf, costOf}
 use Rattle.seam_objects.specs.Objects.{Ending, done, narrow, spent, blocked, Removed, someTwo, removal}
 use Rattle.seam_objects.specs.Removing.{markedPicture}
-use Rattle.map_show.specs.Showing.{average}
 use Rattle.file_theory.specs.Contents.{partsOf, fileOf}
 use Rattle.file_theory.specs.Rules.{filled, checkRules, showRules}
 use Rattle.file_theory.specs.Shows.{Drawn, shows}

@@ -7,15 +7,14 @@ use native.Mathlib.Omega.{arith}
 use lib.Dec.{ltb}
 use lib.ListN.{length, getD}
 use borrow.Author.Tests.{ltb-false, le-ltb}
-use Rattle.energy.specs.declared.pictures.Size.{Size}
-use Rattle.energy.specs.declared.refusals.Refusal.{Refusal}
-use Rattle.energy.specs.Refusals.{_when_, refusal}
-use Rattle.energy.specs.Pictures.{sizeRules, picture}
-use Rattle.energy.proofs.Rules.{served-first, served-both, passed, number-some}
-use Rattle.energy.proofs.Sizes.{Sized, sized-is}
+use Rattle.pictures.specs.declared.sizes.Size.{Size}
+use Rattle.pictures.specs.declared.refusals.Refusal.{Refusal}
+use Rattle.pictures.specs.Refusals.{_when_, refusal}
+use Rattle.pictures.specs.Pictures.{sizeRules, picture, pixels}
+use Rattle.pictures.proofs.Rules.{served-first, served-both, passed, number-some}
+use Rattle.pictures.proofs.Limits.{Sized, sized-is}
 use Rattle.map_theory.specs.Widths.{allowed}
 use Rattle.text_theory.specs.Files.{All}
-use Rattle.seam_find.specs.Finding.{pixels}
 use Rattle.file_theory.specs.Contents.{fileOf}
 use Rattle.file_theory.specs.Rules.{buildRules, workRule}
 use Rattle.file_build.specs.declared.Built.the-variants as builts

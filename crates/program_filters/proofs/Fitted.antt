@@ -10,14 +10,13 @@ use native.Mathlib.Omega.{arith}
 use lib.Dec.{ltb}
 use lib.ListN.{length}
 use borrow.Author.Tests.{ltb-true, ltb-false, lt-ltb, le-ltb, not-false}
-use Rattle.energy.specs.declared.pictures.Kind.{Kind}
-use Rattle.energy.specs.declared.pictures.Kind.the-variants.{Grey, Rgb}
-use Rattle.energy.specs.Refusals.{Rule, _when_, refusal}
-use Rattle.energy.specs.Pictures.{channelsOf}
-use Rattle.energy.proofs.Rules.{served-both, passed}
+use Rattle.pictures.specs.declared.sizes.Kind.{Kind}
+use Rattle.pictures.specs.declared.sizes.Kind.the-variants.{Grey, Rgb}
+use Rattle.pictures.specs.Refusals.{Rule, _when_, refusal}
+use Rattle.pictures.specs.Pictures.{channelsOf, pixels}
+use Rattle.pictures.proofs.Rules.{served-both, passed}
 use Rattle.map_theory.specs.Widths.{offered}
 use Rattle.text_theory.specs.Files.{Parts, parse}
-use Rattle.seam_find.specs.Finding.{pixels}
 use Rattle.file_theory.specs.Rules.{partRules, judgedRules, formRules, showRules}
 use Rattle.file_theory.specs.Shows.{sized}
 use Rattle.file_theory.proofs.Shaped.{Shaped, shaped-is}

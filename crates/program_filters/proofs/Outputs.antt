@@ -8,10 +8,10 @@ use native.Mathlib.Omega.{arith}
 use lib.ListN.{length, take, drop, length-append}
 use borrow.Author.Tests.{lt-ltb, le-ltb}
 use Rattle.grids.proofs.Parts.{last-part}
-use Rattle.energy.specs.declared.refusals.Refusal.{Refusal}
-use Rattle.energy.specs.declared.refusals.Refusal.the-variants as refusals
-use Rattle.energy.specs.Refusals.{Rule, _when_, numberOf, refusal, served}
-use Rattle.energy.proofs.Rules.{kept-by}
+use Rattle.pictures.specs.declared.refusals.Refusal.{Refusal}
+use Rattle.pictures.specs.declared.refusals.Refusal.the-variants as refusals
+use Rattle.pictures.specs.Refusals.{Rule, _when_, numberOf, refusal, served}
+use Rattle.pictures.proofs.Rules.{kept-by}
 use Rattle.text_theory.specs.Readers.{Get}
 use Rattle.text_read.specs.Answers.{Told}
 use Rattle.text_print.specs.Prints.{Printed}
@@ -19,7 +19,7 @@ use Rattle.text_print.proofs.Written.{printed-front}
 use Rattle.program_theory.specs.Programs.{mostInput, inputRule, refusedText, written}
 use Rattle.program_filters.specs.declared.output.Output.{Output}
 use Rattle.program_filters.specs.declared.output.Output.the-variants as outputs
-use Rattle.program_filters.specs.Tools.{Wrote}
+use Rattle.program_filters.specs.Filters.{Wrote}
 use Rattle.program_filters.specs.Kernels.{outputNumber, outputLength, Answered, Finished}
 
 -- A refusal has a number of at most three digits.

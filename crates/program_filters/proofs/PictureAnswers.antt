@@ -10,13 +10,13 @@ use lib.ListN.{length, take, drop, length-append}
 use lib.Seq.{take-at}
 use Rattle.grids.specs.Each.{Each}
 use Rattle.grids.proofs.Shapes.{each-weaken}
-use Rattle.energy.specs.declared.pictures.Size.{Size}
-use Rattle.energy.specs.declared.refusals.Refusal.{Refusal}
-use Rattle.energy.specs.declared.refusals.Refusal.the-variants as refusals
-use Rattle.energy.specs.Refusals.{refusal}
-use Rattle.energy.specs.Pictures.{channelsOf, pictureBytes, bytes}
-use Rattle.energy.proofs.Sizes.{channels-most, sides-are}
-use Rattle.energy.proofs.Buffers.{length-bytes}
+use Rattle.pictures.specs.declared.sizes.Size.{Size}
+use Rattle.pictures.specs.declared.refusals.Refusal.{Refusal}
+use Rattle.pictures.specs.declared.refusals.Refusal.the-variants as refusals
+use Rattle.pictures.specs.Refusals.{refusal}
+use Rattle.pictures.specs.Pictures.{channelsOf, pictureBytes, bytes}
+use Rattle.pictures.proofs.Limits.{channels-most, sides-are}
+use Rattle.pictures.proofs.Buffers.{length-bytes}
 use Rattle.map_theory.proofs.Shown.{allowed-is, offered-is}
 use Rattle.text_theory.specs.declared.Head.{Head}
 use Rattle.text_theory.specs.Files.{Parts, parse, Pixel, headGet}
@@ -28,7 +28,7 @@ use Rattle.file_theory.proofs.Shaped.{Shaped}
 use Rattle.file_theory.proofs.Refused.{show-checked, checked-accepted}
 use Rattle.file_theory.proofs.Demands.{shows-some}
 use Rattle.file_read.specs.declared.widths.Shown.the-variants as showings
-use Rattle.file_read.specs.Multisize.{ShowGiven}
+use Rattle.file_read.specs.Reading.{ShowGiven}
 use Rattle.text_print.specs.Prints.{Printed}
 use Rattle.text_print.proofs.Written.{printed-front}
 use Rattle.program_theory.specs.Netpbm.{headerText, netpbm}

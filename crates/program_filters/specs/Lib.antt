@@ -1,2 +1,2 @@
-pub mod Tools
+pub mod Filters
 pub mod Kernels

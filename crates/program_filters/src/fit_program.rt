@@ -4,8 +4,8 @@ use crate::MOST_PIXELS;
 use crate::netpbm;
 use crate::output;
 use crate::output::Output;
-use energy::Refusal;
 use file_read::Shown;
+use pictures::Refusal;
 use text_read::Cursor;
 use text_read::HeadRead;
 use text_read::Read;
@@ -13,7 +13,7 @@ ghost use Prim.Native.Nat.{_≤_};
 ghost use lib.ListN.{length};
 ghost use Rattle.text_read.specs.Answers.{Told, read};
 ghost use Rattle.program_theory.specs.Programs.{widthGet, pictureAnswer, fitRules, fit as Programs·fit};
-ghost use Rattle.program_filters.specs.Tools.{Wrote};
+ghost use Rattle.program_filters.specs.Filters.{Wrote};
 ghost use Rattle.program_filters.specs.Kernels.{outputSpace, Answered, DrawNeeded, PictureAnswered};
 
 // What `fit` writes for an input: the picture that the file shows at the width, or a refusal.
@@ -64,7 +64,7 @@ fn draw_file(file: &[u8], width: usize, out: &mut [u8]) -> Output
     };
     let size = head.size;
     let kind = size.kind;
-    let room = MOST_PIXELS * energy::channels(kind);
+    let room = MOST_PIXELS * pictures::channels(kind);
     let mut picture = [0u8; 3072];
     draw_in(file, width, &mut picture[..room], out)
 }
@@ -78,7 +78,7 @@ fn draw_in(file: &[u8], width: usize, picture: &mut [u8], out: &mut [u8]) -> Out
     match file_read::show(file, width, picture, &mut work) {
         Shown::Size(size) => {
             let kind = size.kind;
-            let bytes = size.height * (size.width * energy::channels(kind));
+            let bytes = size.height * (size.width * pictures::channels(kind));
             Output::Length(netpbm::put_picture(out, size, &picture[..bytes]))
         }
         Shown::Refused(why) => Output::Refused(why),

@@ -1,7 +1,7 @@
 // Netpbm pictures: the header read, and a picture printed with its header.
 use crate::output;
-use energy::Kind;
-use energy::Size;
+use pictures::Kind;
+use pictures::Size;
 use text_read::Cursor;
 use text_read::KindRead;
 use text_read::Read;

@@ -1,9 +1,9 @@
 // What a program puts into its output: bytes and numbers where there is room for them, and refusals.
-use energy::Refusal;
+use pictures::Refusal;
 use text_print::Place;
 ghost use Prim.Native.Nat.{_+_, _≤_};
 ghost use lib.ListN.{length};
-ghost use Rattle.energy.specs.Refusals.{numberOf};
+ghost use Rattle.pictures.specs.Refusals.{numberOf};
 ghost use Rattle.text_theory.specs.Decimal.{digits};
 ghost use Rattle.text_print.specs.Prints.{Printed};
 ghost use Rattle.program_theory.specs.Programs.{refusedText};
@@ -44,7 +44,7 @@ fn put_refusal(out: &mut [u8], why: Refusal) -> usize
     requires { ⌜ outputSpace ≤ length (now out) ⌝ }
     ensures { λ n. ⌜ Printed (now (out .entry)) 0 (refusedText (numberOf why)) (now (out .exit)) n ⌝ }
 {
-    let number = energy::number(why) as usize;
+    let number = pictures::number(why) as usize;
     let a = put_bytes(out, 0, b"(refused ");
     let b = put_number(out, a, number);
     put_bytes(out, b, b")\n")

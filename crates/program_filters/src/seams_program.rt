@@ -5,20 +5,20 @@ use crate::netpbm;
 use crate::netpbm::Header;
 use crate::output;
 use crate::output::Output;
-use energy::Refusal;
-use energy::Size;
-use energy::Verdict;
 use file_build::Built;
+use pictures::Refusal;
+use pictures::Size;
+use pictures::Verdict;
 use text_theory::Head;
 ghost use mathlib.Core.Path.{_≡_};
 ghost use mathlib.Core.List.{[], _∷_, _++_};
 ghost use Prim.Native.Nat.{_≤_};
 ghost use lib.ListN.{length};
-ghost use Rattle.energy.specs.Refusals.{given, refusal};
-ghost use Rattle.energy.specs.Pictures.{sizeRules};
+ghost use Rattle.pictures.specs.Refusals.{given, refusal};
+ghost use Rattle.pictures.specs.Pictures.{sizeRules};
 ghost use Rattle.program_theory.specs.Netpbm.{headerGet};
 ghost use Rattle.program_theory.specs.Programs.{pixelsRule, fileAnswer, seamsRules, seams as Programs·seams};
-ghost use Rattle.program_filters.specs.Tools.{Wrote};
+ghost use Rattle.program_filters.specs.Filters.{Wrote};
 ghost use Rattle.program_filters.specs.Kernels.{outputSpace, Answered, FileAnswered};
 
 // What `seams` writes for an input: the file of the picture, with depth m - 1 and growth m/2, or a refusal.
@@ -48,7 +48,7 @@ fn build(input: &[u8], out: &mut [u8]) -> Output
 fn held(size: Size, bytes: usize) -> Verdict
     ensures { λ v. ⌜ given v ≡ refusal (sizeRules size bytes ++ (pixelsRule size ∷ [])) ⌝ }
 {
-    let fits = energy::sized(size, bytes);
+    let fits = pictures::sized(size, bytes);
     let Verdict::Served = fits else {
         return fits;
     };

@@ -4,8 +4,8 @@ use mathlib.Core.Bool.{true}
 use mathlib.Core.Option.{Option, none, some}
 use mathlib.Core.List.{List}
 use Prim.Native.Nat.{ℕ}
-use Rattle.energy.specs.declared.pictures.Size.{Size}
-use Rattle.energy.proofs.Rules.{ascending}
+use Rattle.pictures.specs.declared.sizes.Size.{Size}
+use Rattle.pictures.proofs.Rules.{ascending}
 use Rattle.text_theory.specs.Files.{parse}
 use Rattle.file_theory.specs.Demands.{SmallestGiven}
 use Rattle.file_theory.proofs.Ascending.{form-ascending, given-smallest}

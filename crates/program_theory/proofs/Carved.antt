@@ -9,17 +9,16 @@ use native.Mathlib.Omega.{arith}
 use lib.Dec.{leb}
 use lib.ListN.{length, length-append}
 use borrow.Author.Tests.{le-ltb, leb-true, leb-false, le-leb}
-use Rattle.energy.specs.declared.pictures.Size.{Size}
-use Rattle.energy.specs.Refusals.{Rule, _when_, refusal}
-use Rattle.energy.specs.Pictures.{sizeRules, picture}
-use Rattle.energy.proofs.Rules.{served-first}
-use Rattle.energy.proofs.Sizes.{Sized, sized-is}
-use Rattle.energy.proofs.Buffers.{bytes-picture}
+use Rattle.pictures.specs.declared.sizes.Size.{Size}
+use Rattle.pictures.specs.Refusals.{Rule, _when_, refusal}
+use Rattle.pictures.specs.Pictures.{sizeRules, picture, pixels}
+use Rattle.pictures.proofs.Rules.{served-first}
+use Rattle.pictures.proofs.Limits.{Sized, sized-is}
+use Rattle.pictures.proofs.Buffers.{bytes-picture}
 use Rattle.map_theory.specs.Widths.{offered}
 use Rattle.map_theory.proofs.Shown.{offered-is}
 use Rattle.text_theory.specs.Decimal.{digits}
 use Rattle.text_theory.specs.Files.{Parts, lineEnd, parse, All}
-use Rattle.seam_find.specs.Finding.{pixels}
 use Rattle.file_theory.specs.Contents.{partsOf, fileOf}
 use Rattle.file_theory.specs.Rules.{partRules, judgedRules}
 use Rattle.file_theory.specs.Shows.{Accepted, sized, shows}

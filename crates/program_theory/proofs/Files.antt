@@ -10,15 +10,14 @@ use lib.Dec.{ltb}
 use lib.ListN.{length, length-append}
 use lib.Seq.{drop-at}
 use borrow.Author.Tests.{le-ltb}
-use Rattle.energy.specs.declared.pictures.Size.{Size}
-use Rattle.energy.specs.Refusals.{refusal}
-use Rattle.energy.specs.Pictures.{channelsOf, sizeRules, picture}
-use Rattle.energy.proofs.Rules.{served-first, served-both, passed}
-use Rattle.energy.proofs.Sizes.{sized-is}
+use Rattle.pictures.specs.declared.sizes.Size.{Size}
+use Rattle.pictures.specs.Refusals.{refusal}
+use Rattle.pictures.specs.Pictures.{channelsOf, sizeRules, picture, pixels}
+use Rattle.pictures.proofs.Rules.{served-first, served-both, passed}
+use Rattle.pictures.proofs.Limits.{sized-is}
 use Rattle.map_theory.specs.Widths.{allowed}
 use Rattle.map_theory.proofs.Shown.{allowed-is}
 use Rattle.text_theory.specs.Files.{parse, All}
-use Rattle.seam_find.specs.Finding.{pixels}
 use Rattle.file_theory.specs.Contents.{partsOf, fileOf}
 use Rattle.file_theory.specs.Shows.{Accepted}
 use Rattle.file_theory.specs.Demands.{Built}

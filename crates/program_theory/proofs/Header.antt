@@ -4,9 +4,9 @@ use mathlib.Core.Option.{some}
 use mathlib.Core.List.{List, [], _++_, append-assoc}
 use Prim.Native.Nat.{ℕ, _≤_}
 use Rattle.grids.proofs.Shapes.{Any}
-use Rattle.energy.specs.declared.pictures.Kind.{Kind}
-use Rattle.energy.specs.declared.pictures.Kind.the-variants.{Grey, Rgb}
-use Rattle.energy.specs.declared.pictures.Size.{Size}
+use Rattle.pictures.specs.declared.sizes.Kind.{Kind}
+use Rattle.pictures.specs.declared.sizes.Kind.the-variants.{Grey, Rgb}
+use Rattle.pictures.specs.declared.sizes.Size.{Size}
 use Rattle.text_theory.specs.Readers.{strip}
 use Rattle.text_theory.specs.Decimal.{digits, isDigit}
 use Rattle.text_theory.specs.Files.{blank, lineEnd}

@@ -10,18 +10,17 @@ use lib.ListN.{length, length-append}
 use borrow.Author.Tests.{ltb-true, ltb-false}
 use Rattle.grids.specs.Each.{Each, none, more}
 use Rattle.seam_theory.specs.Paths.{run}
-use Rattle.energy.specs.declared.pictures.Kind.{Kind}
-use Rattle.energy.specs.declared.pictures.Kind.the-variants.{Grey, Rgb}
-use Rattle.energy.specs.declared.pictures.Size.{Size}
-use Rattle.energy.specs.Refusals.{refusal}
-use Rattle.energy.specs.Pictures.{Picture, sizeRules, picture}
-use Rattle.energy.proofs.Sizes.{sides-are, sides-served}
+use Rattle.pictures.specs.declared.sizes.Kind.{Kind}
+use Rattle.pictures.specs.declared.sizes.Kind.the-variants.{Grey, Rgb}
+use Rattle.pictures.specs.declared.sizes.Size.{Size}
+use Rattle.pictures.specs.Refusals.{refusal}
+use Rattle.pictures.specs.Pictures.{Picture, sizeRules, picture, pixels}
+use Rattle.pictures.proofs.Limits.{sides-are, sides-served}
 use Rattle.text_theory.specs.declared.Head.{Head}
 use Rattle.text_theory.specs.Decimal.{digits}
 use Rattle.text_theory.specs.Files.{blank, closed, All, Pixel}
 use Rattle.text_theory.specs.Lengths.{total, spaced, kindLength, pixelLength, rowLength, headLength}
 use Rattle.text_theory.proofs.Decimals.{length-small, length-large}
-use Rattle.seam_find.specs.Finding.{pixels}
 use Rattle.file_theory.specs.Contents.{fileOf}
 use Rattle.file_theory.specs.Demands.{AllowedPicture}
 use Rattle.file_theory.proofs.Shaped.{allowed-ofSize}

@@ -5,18 +5,16 @@ use mathlib.Core.List.{List, [], _∷_, _++_, zipWith}
 use Prim.Native.Nat.{ℕ, _-_, _/_}
 use lib.Dec.{leb, ltb}
 use lib.ListN.{length}
-use Rattle.energy.specs.declared.pictures.Size.{Size}
-use Rattle.energy.specs.Refusals.{Rule, _when_, refusal, served}
-use Rattle.energy.specs.Pictures.{Picture, sizeRules, picture}
+use Rattle.pictures.specs.declared.sizes.Size.{Size}
+use Rattle.pictures.specs.Refusals.{Rule, _when_, refusal, served}
+use Rattle.pictures.specs.Pictures.{Picture, sizeRules, picture, pixels}
 use Rattle.map_theory.specs.Maps.{carve, mapOf}
-use Rattle.map_theory.specs.Widths.{offered, growRow}
+use Rattle.map_theory.specs.Widths.{offered, growRow, average}
 use Rattle.text_theory.specs.declared.Head.{Head}
 use Rattle.text_theory.specs.Readers.{Get, give, _▷_, after}
 use Rattle.text_theory.specs.Decimal.{digits, number}
 use Rattle.text_theory.specs.Files.{lineEnd, closed, parse}
-use Rattle.seam_find.specs.Seams.{seamOf}
-use Rattle.seam_find.specs.Finding.{pixels}
-use Rattle.map_show.specs.Showing.{average}
+use Rattle.seam_theory.specs.PictureSeams.{seamOf}
 use Rattle.file_theory.specs.Contents.{fileOf}
 use Rattle.file_theory.specs.Rules.{partRules, judgedRules, formRules}
 use Rattle.file_theory.specs.Shows.{Drawn, sized, shows}

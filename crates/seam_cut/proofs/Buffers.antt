@@ -7,18 +7,18 @@ use native.Mathlib.Omega.{arith}
 use lib.Dec.{eqb, ltb}
 use borrow.Author.Tests.{ne-eqb, eqb-true, le-ltb, ltb-false, not-false}
 use lib.ListN.{length, replicate}
-use Rattle.energy.specs.declared.pictures.Size.{Size}
-use Rattle.energy.specs.declared.refusals.Refusal.{Refusal}
-use Rattle.energy.specs.Refusals.{_when_, numberOf, refusal, served}
-use Rattle.energy.specs.Pictures.{sizeRules}
-use Rattle.energy.proofs.Rules.{served-first, served-both, passed, number-some, served-not}
+use Rattle.pictures.specs.declared.sizes.Size.{Size}
+use Rattle.pictures.specs.declared.refusals.Refusal.{Refusal}
+use Rattle.pictures.specs.Refusals.{_when_, numberOf, refusal, served}
+use Rattle.pictures.specs.Pictures.{sizeRules, pixels}
+use Rattle.pictures.proofs.Rules.{served-first, served-both, passed, number-some, served-not}
 use Rattle.seam_moves.specs.Moving.{outside}
 use Rattle.seam_find.specs.declared.Found.{Found}
 use Rattle.seam_find.specs.declared.Found.the-variants.{Seam, Refused}
-use Rattle.seam_find.specs.Finding.{foundNumber, pixels}
+use Rattle.seam_find.specs.Finding.{foundNumber}
 use Rattle.seam_cut.specs.declared.Axis.{Axis}
 use Rattle.seam_cut.specs.Axes.{turnedSize}
-use Rattle.seam_cut.specs.Carving.{cleared, roomRules, findRules, markRules}
+use Rattle.seam_cut.specs.Cutting.{cleared, roomRules, findRules, markRules}
 use Rattle.seam_cut.specs.Kernels.{SeamNeeded, MarkedNeeded}
 use Rattle.seam_cut.proofs.Turns.{bytes-few}
 

@@ -11,12 +11,12 @@ use Rattle.grids.specs.Exchange.{exchange}
 use Rattle.grids.specs.Cut.{cut}
 use Rattle.grids.proofs.Exchange.{exchange-each}
 use Rattle.grids.proofs.Cut.{cut-narrower}
-use Rattle.energy.specs.declared.pictures.Size.{Size}
-use Rattle.energy.specs.declared.refusals.Verdict.{Verdict}
-use Rattle.energy.specs.Refusals.{refusal}
-use Rattle.energy.specs.Pictures.{Picture, channelsOf, pictureBytes, sideRules, sizeRules, picture, bytes, OfSize}
-use Rattle.energy.proofs.Sizes.{Sized, sized-served}
-use Rattle.energy.proofs.Buffers.{picture-ofSize, picture-bytes, length-bytes}
+use Rattle.pictures.specs.declared.sizes.Size.{Size}
+use Rattle.pictures.specs.declared.refusals.Verdict.{Verdict}
+use Rattle.pictures.specs.Refusals.{refusal}
+use Rattle.pictures.specs.Pictures.{Picture, channelsOf, pictureBytes, sideRules, sizeRules, picture, bytes, OfSize}
+use Rattle.pictures.proofs.Limits.{Sized, sized-served}
+use Rattle.pictures.proofs.Buffers.{picture-ofSize, picture-bytes, length-bytes}
 use Rattle.seam_moves.specs.Moving.{ExchangeGiven, CloseGiven}
 use Rattle.seam_moves.proofs.Served.{exchange-served, close-served}
 use Rattle.seam_cut.specs.declared.Axis.the-variants.{Horizontal}

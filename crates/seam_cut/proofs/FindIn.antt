@@ -6,13 +6,13 @@ use Prim.Native.Nat.{ℕ, _+_, _≤_}
 use lib.Dec.{ltb}
 use borrow.Author.Tests.{le-ltb}
 use lib.ListN.{length, take, drop, replicate}
-use Rattle.energy.specs.declared.pictures.Size.{Size}
-use Rattle.energy.specs.Refusals.{Rule, _when_, refusal, served}
-use Rattle.energy.specs.Pictures.{sideRules, pictureBytes, picture}
-use Rattle.energy.proofs.Rules.{served-first}
+use Rattle.pictures.specs.declared.sizes.Size.{Size}
+use Rattle.pictures.specs.Refusals.{Rule, _when_, refusal, served}
+use Rattle.pictures.specs.Pictures.{sideRules, pictureBytes, picture, pixels, pictureIn, marksIn}
+use Rattle.pictures.proofs.Rules.{served-first}
 use Rattle.seam_find.specs.declared.Found.{Found}
-use Rattle.seam_find.specs.Seams.{seamOf, costOf, markedUp, markedSeamOf, markedCostOf}
-use Rattle.seam_find.specs.Finding.{foundNumber, foundCost, pixels, pictureIn, marksIn, isNone, FindGiven, FindMarkedGiven}
+use Rattle.seam_theory.specs.PictureSeams.{seamOf, costOf, markedUp, markedSeamOf, markedCostOf, isNone}
+use Rattle.seam_find.specs.Finding.{foundNumber, foundCost, FindGiven, FindMarkedGiven}
 
 pub record FoundThere (space : List ℕ) (z : Size) (seam : List ℕ) (answer : Found) (space′ seam′ : List ℕ) : Type 0 where
   pub number : foundNumber answer ≡ 0

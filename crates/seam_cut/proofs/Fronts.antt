@@ -8,12 +8,12 @@ use native.Mathlib.Nat.{eq-zero-or-pos}
 use native.Mathlib.Omega.{arith}
 use borrow.Author.Tests.{le-ltb, ltb-false}
 use lib.Dec.{ltb}
-use Rattle.energy.specs.declared.pictures.Size.{Size}
-use Rattle.energy.specs.Refusals.{Rule, _when_, refusal}
-use Rattle.energy.specs.Pictures.{largestSide, sideRules, pictureBytes}
-use Rattle.energy.proofs.Rules.{served-first, served-both, refused-first, passed}
-use Rattle.energy.proofs.Sizes.{sides-are}
-use Rattle.seam_find.specs.Finding.{pixels, findRules}
+use Rattle.pictures.specs.declared.sizes.Size.{Size}
+use Rattle.pictures.specs.Refusals.{Rule, _when_, refusal}
+use Rattle.pictures.specs.Pictures.{largestSide, sideRules, pictureBytes, pixels}
+use Rattle.pictures.proofs.Rules.{served-first, served-both, refused-first, passed}
+use Rattle.pictures.proofs.Limits.{sides-are}
+use Rattle.seam_find.specs.Finding.{findRules}
 
 -- Room for more than the longest seam is as good as room for the longest.
 short : (h long room : ℕ) → h ≤ largestSide → (long ≡ room) ⊎ ((largestSide ≤ room) × (long ≡ largestSide)) → ltb long h ≡ ltb room h

@@ -10,13 +10,12 @@ use Rattle.grids.proofs.Shapes.{each-member, each-reverse}
 use Rattle.seam_theory.specs.Connected.{IsPath}
 use Rattle.seam_theory.proofs.Nearby.{nearby-paths}
 use Rattle.seam_theory.proofs.Seams.{cheapest-some}
-use Rattle.energy.specs.declared.pictures.Size.{Size}
-use Rattle.energy.specs.Pictures.{Picture}
+use Rattle.pictures.specs.declared.sizes.Size.{Size}
+use Rattle.pictures.specs.Pictures.{Picture}
 use Rattle.energy.specs.Energy.{energy}
-use Rattle.energy.proofs.Sizes.{Sized}
-use Rattle.seam_find.specs.Seams.{seamOf, markedUp, markedSeamOf}
-use Rattle.seam_find.specs.Finding.{isNone}
-use Rattle.seam_find.proofs.Characterised.{marked-is}
+use Rattle.pictures.proofs.Limits.{Sized}
+use Rattle.seam_theory.specs.PictureSeams.{seamOf, markedUp, markedSeamOf, isNone}
+use Rattle.seam_theory.proofs.Characterised.{marked-is}
 use Rattle.seam_cut.specs.declared.Axis.{Axis}
 use Rattle.seam_cut.specs.declared.Axis.the-variants.{Vertical, Horizontal}
 use Rattle.seam_cut.specs.Axes.{turnedSize, turned, seamAlong, markedSeamAlong, blockedAlong}

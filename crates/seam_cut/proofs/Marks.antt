@@ -13,12 +13,11 @@ use Rattle.grids.proofs.Rows.{grid-rowsOf, rowsOf-flat, length-flat}
 use Rattle.grids.proofs.Parts.{put-part}
 use Rattle.grids.proofs.Exchange.{exchange-grid}
 use Rattle.grids.proofs.Maps.{single, cut-map, exchange-map, rowsOf-single, rows-single}
-use Rattle.energy.specs.declared.pictures.Size.{Size}
-use Rattle.energy.specs.Refusals.{refusal}
-use Rattle.energy.specs.Pictures.{pictureBytes, sizeRules, picture, bytes}
-use Rattle.energy.proofs.Sizes.{Sized, sized-served}
-use Rattle.energy.proofs.Buffers.{picture-ofSize, length-bytes}
-use Rattle.seam_find.specs.Finding.{pixels, marksOf, pictureIn, marksIn}
+use Rattle.pictures.specs.declared.sizes.Size.{Size}
+use Rattle.pictures.specs.Refusals.{refusal}
+use Rattle.pictures.specs.Pictures.{pictureBytes, sizeRules, picture, bytes, pixels, marksOf, pictureIn, marksIn}
+use Rattle.pictures.proofs.Limits.{Sized, sized-served}
+use Rattle.pictures.proofs.Buffers.{picture-ofSize, length-bytes}
 use Rattle.seam_cut.specs.declared.Axis.{Axis}
 use Rattle.seam_cut.specs.declared.Axis.the-variants.{Vertical, Horizontal}
 use Rattle.seam_cut.specs.Axes.{turnedSize, turned, cutAlong}

@@ -9,12 +9,11 @@ use lib.ListN.{length, take}
 use lib.Seq.{take-at}
 use Rattle.grids.proofs.Orders.{more-than-one}
 use Rattle.grids.proofs.Exchange.{exchange-each}
-use Rattle.energy.specs.declared.pictures.Size.{Size}
-use Rattle.energy.specs.Refusals.{refusal}
-use Rattle.energy.specs.Pictures.{Picture, largestSide, channelsOf, pictureBytes, sideRules, picture, bytes, OfSize}
-use Rattle.energy.proofs.Sizes.{Sized, channels-most}
-use Rattle.energy.proofs.Buffers.{picture-ofSize, picture-bytes, length-bytes}
-use Rattle.seam_find.specs.Finding.{pixels}
+use Rattle.pictures.specs.declared.sizes.Size.{Size}
+use Rattle.pictures.specs.Refusals.{refusal}
+use Rattle.pictures.specs.Pictures.{Picture, largestSide, channelsOf, pictureBytes, sideRules, picture, bytes, OfSize, pixels}
+use Rattle.pictures.proofs.Limits.{Sized, channels-most}
+use Rattle.pictures.proofs.Buffers.{picture-ofSize, picture-bytes, length-bytes}
 use Rattle.seam_cut.specs.declared.Axis.{Axis}
 use Rattle.seam_cut.specs.declared.Axis.the-variants.{Vertical, Horizontal}
 use Rattle.seam_cut.specs.Axes.{turnedSize, turned}

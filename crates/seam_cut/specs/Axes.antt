@@ -4,10 +4,9 @@ use mathlib.Core.List.{List}
 use Prim.Native.Nat.{ℕ, _-_}
 use Rattle.grids.specs.Exchange.{exchange}
 use Rattle.grids.specs.Cut.{cut}
-use Rattle.energy.specs.declared.pictures.Size.{Size}
-use Rattle.energy.specs.Pictures.{Picture}
-use Rattle.seam_find.specs.Seams.{seamOf, costOf, markedUp, markedSeamOf, markedCostOf}
-use Rattle.seam_find.specs.Finding.{isNone}
+use Rattle.pictures.specs.declared.sizes.Size.{Size}
+use Rattle.pictures.specs.Pictures.{Picture}
+use Rattle.seam_theory.specs.PictureSeams.{seamOf, costOf, markedUp, markedSeamOf, markedCostOf, isNone}
 use Rattle.seam_cut.specs.declared.Axis.{Axis}
 use Rattle.seam_cut.specs.declared.Axis.the-variants.{Vertical, Horizontal}
 

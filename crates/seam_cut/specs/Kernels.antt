@@ -5,12 +5,12 @@ use mathlib.Core.List.{List, [], _∷_, _++_}
 use Prim.Native.Nat.{ℕ, _+_, _*_, _≤_, _<_}
 use lib.ListN.{length, take, drop, replicate}
 use Rattle.grids.specs.Each.{Each}
-use Rattle.energy.specs.declared.pictures.Kind.the-variants.{Grey}
-use Rattle.energy.specs.declared.pictures.Size.{Size}
-use Rattle.energy.specs.Refusals.{_when_, refusal}
-use Rattle.energy.specs.Pictures.{channelsOf, sizeRules, pictureBytes, picture, bytes}
+use Rattle.pictures.specs.declared.sizes.Kind.the-variants.{Grey}
+use Rattle.pictures.specs.declared.sizes.Size.{Size}
+use Rattle.pictures.specs.Refusals.{_when_, refusal, worked}
+use Rattle.pictures.specs.Pictures.{channelsOf, sizeRules, pictureBytes, picture, bytes, pixels, marksOf}
 use Rattle.seam_find.specs.declared.Found.{Found}
-use Rattle.seam_find.specs.Finding.{foundNumber, foundCost, pixels, marksOf, worked, findRules}
+use Rattle.seam_find.specs.Finding.{foundNumber, foundCost, findRules}
 use Rattle.seam_cut.specs.declared.Axis.{Axis}
 use Rattle.seam_cut.specs.Axes.{turnedSize, blockedAlong, cutAlong}
 

@@ -1,7 +1,7 @@
 // A picture closed up along a seam.
 use crate::Axis;
 use crate::turning;
-use energy::Size;
+use pictures::Size;
 ghost use mathlib.Core.Path.{_≡_};
 ghost use lib.ListN.{length, replicate};
 ghost use Rattle.seam_cut.specs.declared.Axis.the-variants.{Horizontal};
@@ -28,7 +28,7 @@ fn close_columns(picture: &mut [u8], size: Size, seam: &[u16], work: &mut [u8])
     let bytes = picture.len();
     let turned = turning::turned_size(Axis::Horizontal, size);
     let left = turning::narrower(turned);
-    let kept = energy::picture_bytes(left);
+    let kept = pictures::picture_bytes(left);
     seam_moves::exchange(picture, size, work);
     seam_moves::close_up(&mut work[..bytes], turned, seam);
     seam_moves::exchange(&work[..kept], left, picture);

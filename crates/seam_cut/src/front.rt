@@ -1,10 +1,10 @@
 // The seam of a picture that stands at the front of a space, cut.
-use energy::Refusal;
-use energy::Size;
+use pictures::Refusal;
+use pictures::Size;
 use seam_find::Found;
 ghost use lib.ListN.{length};
-ghost use Rattle.energy.specs.Refusals.{refusal};
-ghost use Rattle.seam_cut.specs.Carving.{cutInRules, CutInGiven};
+ghost use Rattle.pictures.specs.Refusals.{refusal};
+ghost use Rattle.seam_cut.specs.Cutting.{cutInRules, CutInGiven};
 ghost use Rattle.seam_cut.specs.Kernels.{LastInGiven};
 
 // Cuts the vertical seam out of the picture at the front of the space and gives it as `seam_find::find_in` does. The rows then
@@ -22,7 +22,7 @@ pub fn cut_in(space: &mut [u8], size: Size, seam: &mut [u16]) -> Found
         return found;
     };
     let height = size.height;
-    let bytes = energy::picture_bytes(size);
+    let bytes = pictures::picture_bytes(size);
     seam_moves::close_up(&mut space[..bytes], size, &seam[..height]);
     found
 }

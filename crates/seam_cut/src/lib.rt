@@ -4,19 +4,19 @@ pub mod front;
 pub mod marked;
 pub mod turning;
 
-use energy::Refusal;
-use energy::Size;
-use energy::Verdict;
 pub use front::cut_in;
 pub use marked::cut_marked;
 pub use marked::find_marked;
 pub use marked::marked_rooms;
+use pictures::Refusal;
+use pictures::Size;
+use pictures::Verdict;
 use seam_find::Found;
 pub use turning::turned_size;
 ghost use mathlib.Core.Path.{_≡_};
 ghost use lib.ListN.{length};
-ghost use Rattle.energy.specs.Refusals.{given, refusal};
-ghost use Rattle.seam_cut.specs.Carving.{findRules, cutRules, SeamFound, PictureCut};
+ghost use Rattle.pictures.specs.Refusals.{given, refusal};
+ghost use Rattle.seam_cut.specs.Cutting.{findRules, cutRules, SeamFound, PictureCut};
 ghost use Rattle.seam_cut.specs.Kernels.{SeamNeeded, CutNeeded};
 
 // The direction of a seam: one column for each row, or one row for each column.
@@ -59,7 +59,7 @@ pub fn cut(picture: &mut [u8], size: Size, axis: Axis, seam: &mut [u16], work: &
 pub(crate) fn rooms(size: Size, axis: Axis, bytes: usize, seam: usize, work: usize) -> Verdict
     ensures { λ v. ⌜ given v ≡ refusal (findRules axis size bytes seam work) ⌝ }
 {
-    let fits = energy::sized(size, bytes);
+    let fits = pictures::sized(size, bytes);
     let Verdict::Served = fits else {
         return fits;
     };

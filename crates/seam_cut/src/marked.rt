@@ -3,17 +3,17 @@ use crate::Axis;
 use crate::closing;
 use crate::rooms;
 use crate::turning;
-use energy::Refusal;
-use energy::Size;
-use energy::Verdict;
+use pictures::Refusal;
+use pictures::Size;
+use pictures::Verdict;
 use seam_find::Found;
 ghost use mathlib.Core.Path.{_≡_};
 ghost use mathlib.Core.List.{_++_};
 ghost use lib.ListN.{length, replicate};
-ghost use Rattle.energy.specs.Refusals.{given, refusal};
-ghost use Rattle.energy.specs.Pictures.{sizeRules};
+ghost use Rattle.pictures.specs.Refusals.{given, refusal};
+ghost use Rattle.pictures.specs.Pictures.{sizeRules};
 ghost use Rattle.seam_moves.specs.Moving.{outside};
-ghost use Rattle.seam_cut.specs.Carving.{roomRules, markRules, markedFindRules, markedCutRules, MarkedSeamFound, MarkedPictureCut, MarkedMarksCut};
+ghost use Rattle.seam_cut.specs.Cutting.{roomRules, markRules, markedFindRules, markedCutRules, MarkedSeamFound, MarkedPictureCut, MarkedMarksCut};
 ghost use Rattle.seam_cut.specs.Kernels.{blockedNumber, MarkedNeeded, CutNeeded, LastGiven};
 
 // The seam along the axis by the marks, put into the front of seam, and its cost. Refused by 2, 3, 4, 5 and 8, and by 12
@@ -72,7 +72,7 @@ pub fn marked_rooms(
 ) -> Verdict
     ensures { λ v. ⌜ given v ≡ refusal (sizeRules size bytes ++ (markRules size (now (marks .entry)) ++ roomRules axis size seam work)) ⌝ }
 {
-    let fits = energy::sized(size, bytes);
+    let fits = pictures::sized(size, bytes);
     let Verdict::Served = fits else {
         return fits;
     };

@@ -1,12 +1,12 @@
 // Pictures turned so that a seam along an axis is vertical.
 use crate::Axis;
-use energy::Kind;
-use energy::Size;
+use pictures::Kind;
+use pictures::Size;
 ghost use mathlib.Core.Path.{_≡_};
 ghost use mathlib.Core.List.{_++_};
 ghost use Prim.Native.Nat.{_<_};
 ghost use lib.ListN.{drop};
-ghost use Rattle.energy.specs.Pictures.{picture as Pictures·picture, bytes, pictureBytes};
+ghost use Rattle.pictures.specs.Pictures.{picture as Pictures·picture, bytes, pictureBytes};
 ghost use Rattle.seam_cut.specs.Axes.{turnedSize, turned, narrowed};
 ghost use Rattle.seam_cut.specs.Kernels.{greyOf, TurnNeeded};
 

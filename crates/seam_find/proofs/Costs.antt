@@ -11,10 +11,10 @@ use lib.Seq.{getD-take}
 use Rattle.grids.specs.Table.{table}
 use Rattle.grids.proofs.Orders.{le-or-lt}
 use Rattle.grids.proofs.Tables.{length-table, table-at, table-past}
-use Rattle.energy.specs.declared.pictures.Size.{Size}
-use Rattle.energy.specs.Pictures.{picture}
+use Rattle.pictures.specs.declared.sizes.Size.{Size}
+use Rattle.pictures.specs.Pictures.{picture}
 use Rattle.energy.specs.Energy.{energy}
-use Rattle.energy.proofs.Sizes.{Sized}
+use Rattle.pictures.proofs.Limits.{Sized}
 use Rattle.energy.proofs.Energy.{buffer-energy-most}
 use Rattle.seam_find.specs.Kernels.{leastOf3, sumOf3, fenced, sumsDown, costsOf}
 

@@ -13,7 +13,7 @@ use Rattle.grids.specs.Rows.{flat}
 use Rattle.grids.proofs.Tables.{length-table, each-table}
 use Rattle.grids.proofs.Rows.{length-flat, flat-snoc}
 use Rattle.grids.proofs.Parts.{put-part, part-length}
-use Rattle.energy.specs.declared.pictures.Size.{Size}
+use Rattle.pictures.specs.declared.sizes.Size.{Size}
 use Rattle.seam_find.specs.Kernels.{wayOf3, sumOf3, fenced, sumsDown, waysUp, waysAt, RowGiven, DownGiven}
 use Rattle.seam_find.proofs.Costs.{length-sums, sums-most, fenced-at}
 

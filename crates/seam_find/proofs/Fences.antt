@@ -9,7 +9,7 @@ use borrow.Rule.Slice.PartMut.{putMid}
 use lib.ListN.{length, getD, take, drop, replicate, length-append, length-replicate}
 use lib.Seq.{take-at}
 use Rattle.grids.proofs.Parts.{put-part}
-use Rattle.energy.specs.declared.pictures.Size.{Size}
+use Rattle.pictures.specs.declared.sizes.Size.{Size}
 use Rattle.seam_find.specs.Kernels.{fenced, sumsDown, leastTo, DownGiven, BottomGiven}
 use Rattle.seam_find.proofs.Costs.{fenced-at, length-sums}
 

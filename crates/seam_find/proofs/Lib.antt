@@ -8,4 +8,3 @@ pub mod Traced
 pub mod Spaces
 pub mod Weighed
 pub mod Worked
-pub mod Characterised

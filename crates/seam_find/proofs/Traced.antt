@@ -10,11 +10,11 @@ use Rattle.seam_theory.specs.Paths.{along}
 use Rattle.grids.specs.Table.{table}
 use Rattle.grids.specs.Rows.{flat}
 use Rattle.grids.proofs.Tables.{length-table, table-at}
-use Rattle.energy.specs.declared.pictures.Size.{Size}
-use Rattle.energy.specs.Pictures.{picture}
+use Rattle.pictures.specs.declared.sizes.Size.{Size}
+use Rattle.pictures.specs.Pictures.{picture}
 use Rattle.energy.specs.Energy.{energy}
-use Rattle.energy.proofs.Sizes.{Sized}
-use Rattle.seam_find.specs.Seams.{seamUp, seamOf, costOf}
+use Rattle.pictures.proofs.Limits.{Sized}
+use Rattle.seam_theory.specs.PictureSeams.{seamUp, seamOf, costOf}
 use Rattle.seam_find.specs.Kernels.{sumsDown, waysUp, columnsTo, leastTo, costsOf, TraceNeeded}
 use Rattle.seam_find.proofs.Costs.{cost-most, sums-most}
 use Rattle.seam_find.proofs.Ways.{FoundFor, found-for, trace-needed}

@@ -20,12 +20,11 @@ use Rattle.seam_theory.proofs.Best.{best-mem}
 use Rattle.seam_theory.proofs.Least.{byCost}
 use Rattle.seam_theory.proofs.Nearby.{nearby-paths}
 use Rattle.seam_theory.proofs.Weights.{weight, Weighed, least-along, weight-price, weights-found, weights-blocked}
-use Rattle.energy.specs.declared.pictures.Size.{Size}
-use Rattle.energy.specs.Pictures.{Picture, pictureBytes, picture}
+use Rattle.pictures.specs.declared.sizes.Size.{Size}
+use Rattle.pictures.specs.Pictures.{Picture, pictureBytes, picture, pixels, pictureIn, marksIn}
 use Rattle.energy.specs.Energy.{energy, energies}
-use Rattle.energy.proofs.Sizes.{Sized}
-use Rattle.seam_find.specs.Seams.{markAt, isMark, markedUp, markedSeamOf, markedCostOf}
-use Rattle.seam_find.specs.Finding.{pixels, pictureIn, marksIn, isNone}
+use Rattle.pictures.proofs.Limits.{Sized}
+use Rattle.seam_theory.specs.PictureSeams.{markAt, isMark, markedUp, markedSeamOf, markedCostOf, isNone}
 use Rattle.seam_find.specs.Kernels.{sumsDown, waysUp, columnsTo, leastTo, weightOf, weightIn, weightAt, weightsOf, markedBytes, TraceNeeded}
 use Rattle.seam_find.proofs.Costs.{front-most, pixel-most, table-most, sums-most}
 use Rattle.seam_find.proofs.Ways.{FoundFor, found-for, trace-needed}

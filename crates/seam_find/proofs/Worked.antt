@@ -4,7 +4,7 @@ use mathlib.Core.Bool.{Bool, true, false, cond}
 use Prim.Native.Nat.{ℕ, _≤_, _<_}
 use native.Mathlib.Omega.{arith}
 use borrow.Author.Tests.{ne-eqb, le-ltb}
-use Rattle.seam_find.specs.Finding.{worked}
+use Rattle.pictures.specs.Refusals.{worked}
 
 module _ {A : Type 0} (n : ℕ) (x y : A) where
   -- After 1 to 8 it is the second.

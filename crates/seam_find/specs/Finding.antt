@@ -7,12 +7,12 @@ use Prim.Native.Nat.{ℕ, _+_, _*_}
 use lib.Dec.{eqb, ltb}
 use lib.ListN.{length, take, drop, replicate}
 use Rattle.grids.specs.Rows.{rowsOf}
-use Rattle.energy.specs.declared.pictures.Size.{Size}
-use Rattle.energy.specs.Refusals.{Rule, _when_, numberOf, refusal, served}
-use Rattle.energy.specs.Pictures.{Picture, sideRules, pictureBytes, picture}
+use Rattle.pictures.specs.declared.sizes.Size.{Size}
+use Rattle.pictures.specs.Refusals.{Rule, _when_, numberOf, refusal, served}
+use Rattle.pictures.specs.Pictures.{Picture, sideRules, pictureBytes, picture}
 use Rattle.seam_find.specs.declared.Found.{Found}
 use Rattle.seam_find.specs.declared.Found.the-variants.{Seam, Refused}
-use Rattle.seam_find.specs.Seams.{seamOf, costOf, markedUp, markedSeamOf, markedCostOf}
+use Rattle.seam_theory.specs.PictureSeams.{seamOf, costOf, markedUp, markedSeamOf, markedCostOf}
 
 -- The number that an answer is refused by, 0 where a seam is given; and the seam's cost.
 abbrev pub foundNumber : Found → ℕ
@@ -22,20 +22,6 @@ foundNumber (Refused why) = numberOf why
 abbrev pub foundCost : Found → ℕ
 foundCost (Seam cost) = cost
 foundCost (Refused why) = 0
-
-abbrev pub pixels : Size → ℕ
-pixels z = z .height * z .width
-
--- The marks in a buffer: rows from the top, one byte a pixel.
-abbrev pub marksOf : Size → List ℕ → List (List ℕ)
-marksOf z b = rowsOf (z .width) (z .height) b
-
--- The picture at the front of a space, and the marks behind it.
-abbrev pub pictureIn : Size → List ℕ → Picture
-pictureIn z space = picture z (take (pictureBytes z) space)
-
-abbrev pub marksIn : Size → List ℕ → List (List ℕ)
-marksIn z space = marksOf z (take (pixels z) (drop (pictureBytes z) space))
 
 -- Refused by 2 and 3, and by 8 where the seam's space is shorter than the seam, or the space than the picture and a byte
 -- for each of its pixels.
@@ -55,21 +41,11 @@ pub record FindGiven (space : List ℕ) (z : Size) (seam : List ℕ) (answer : F
       (seamOf (z .width) (z .height) (pictureIn z space) ++ drop (z .height) seam)
       seam
 
--- Whether there is none.
-abbrev pub isNone : {A : Type 0} → Option A → Bool
-isNone none = true
-isNone (some a) = false
-
 -- Refused by 2, 3 and 8 in the same way, where the space also has the marks; and by 12 where no seam is allowed.
 abbrev pub findMarkedRules : Size → ℕ → ℕ → Bool → List Rule
 findMarkedRules z space seam blocked =
     sideRules z
     ++ (8 when ltb seam (z .height) ∷ 8 when ltb space (pictureBytes z + (pixels z + pixels z)) ∷ 12 when blocked ∷ [])
-
--- "After 1 to 8 all buffers are unchanged. After 9 and every higher number .. as after success": the first after success and
--- after 9 and more, else the second.
-abbrev pub worked : {A : Type 0} → ℕ → A → A → A
-worked n x y = cond (eqb n 0 || ltb 8 n) x y
 
 -- The seam of the picture at the front by the marks behind it, and what is left: picture and marks, zeros for its pixels
 -- behind them, the rest as it was.

@@ -7,13 +7,13 @@ use lib.Dec.{leb, ltb, eqb}
 use lib.ListN.{length, getD, take, drop, replicate}
 use Rattle.grids.specs.Table.{table}
 use Rattle.grids.specs.Rows.{flat}
-use Rattle.energy.specs.declared.pictures.Size.{Size}
-use Rattle.energy.specs.Refusals.{refusal, served}
-use Rattle.energy.specs.Pictures.{Picture, largestSide, sizeRules, pictureBytes, picture}
+use Rattle.pictures.specs.declared.sizes.Size.{Size}
+use Rattle.pictures.specs.Refusals.{refusal, served}
+use Rattle.pictures.specs.Pictures.{Picture, largestSide, sizeRules, pictureBytes, picture, pixels, pictureIn, marksIn}
 use Rattle.energy.specs.Energy.{energy, energies}
 use Rattle.seam_find.specs.declared.Found.{Found}
-use Rattle.seam_find.specs.Seams.{seamOf, costOf, markAt, markedUp, markedSeamOf, markedCostOf}
-use Rattle.seam_find.specs.Finding.{foundNumber, foundCost, pixels, pictureIn, marksIn, isNone}
+use Rattle.seam_theory.specs.PictureSeams.{seamOf, costOf, markAt, markedUp, markedSeamOf, markedCostOf, isNone}
+use Rattle.seam_find.specs.Finding.{foundNumber, foundCost}
 
 -- A row of sums has a number at either side that is larger than every sum, so that each column has three above it.
 -- The least of the three above column c.

@@ -1,4 +1,2 @@
-pub mod Seams
-pub mod Chosen
 pub mod Finding
 pub mod Kernels

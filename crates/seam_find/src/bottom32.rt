@@ -1,8 +1,8 @@
 // The end of the cheapest path of a picture without marks.
 use crate::down32;
 use crate::sums32;
-use energy::Size;
-ghost use Rattle.energy.specs.Pictures.{pictureBytes};
+use pictures::Size;
+ghost use Rattle.pictures.specs.Pictures.{pictureBytes};
 ghost use Rattle.seam_find.specs.Kernels.{costsOf, BottomNeeded, BottomGiven, RowsNeeded};
 
 // The column where the path ends, in the last row, and what the path costs.

@@ -2,7 +2,7 @@
 use crate::down64;
 use crate::sums64;
 use crate::weights;
-use energy::Size;
+use pictures::Size;
 ghost use mathlib.Core.Path.{_≡_};
 ghost use lib.ListN.{length};
 ghost use Rattle.seam_find.specs.Kernels.{markedBytes, weightsOf, BottomNeeded, BottomGiven, RowsNeeded};

@@ -1,7 +1,7 @@
 // All rows of sums of a picture without marks, from the top.
 use crate::sums32;
-use energy::Size;
-ghost use Rattle.energy.specs.Pictures.{pictureBytes};
+use pictures::Size;
+ghost use Rattle.pictures.specs.Pictures.{pictureBytes};
 ghost use Rattle.seam_find.specs.Kernels.{costsOf, DownNeeded, DownGiven, RowNeeded, RowGiven};
 
 // A number larger than every sum.

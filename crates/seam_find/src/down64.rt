@@ -1,7 +1,7 @@
 // All rows of sums of a picture with marks, from the top.
 use crate::sums64;
 use crate::weights;
-use energy::Size;
+use pictures::Size;
 ghost use mathlib.Core.Path.{_≡_};
 ghost use lib.ListN.{length};
 ghost use Rattle.seam_find.specs.Kernels.{markedBytes, weightsOf, DownNeeded, DownGiven, RowNeeded, RowGiven};

@@ -9,12 +9,12 @@ mod sums64;
 mod trace;
 mod weights;
 
-use energy::Refusal;
-use energy::Size;
-use energy::Verdict;
 pub use marked::find_marked_in;
+use pictures::Refusal;
+use pictures::Size;
+use pictures::Verdict;
 ghost use mathlib.Core.Path.{_≡_};
-ghost use Rattle.energy.specs.Pictures.{pictureBytes};
+ghost use Rattle.pictures.specs.Pictures.{pictureBytes};
 ghost use Rattle.seam_find.specs.Finding.{FindGiven};
 ghost use Rattle.seam_find.specs.Kernels.{SeamNeeded, SeamGiven};
 
@@ -29,7 +29,7 @@ pub enum Found {
 pub fn find_in(space: &mut [u8], size: Size, seam: &mut [u16]) -> Found
     ensures { λ f. ⌜ FindGiven (now (space .entry)) size (now (seam .entry)) f (now (space .exit)) (now (seam .exit)) ⌝ }
 {
-    let allowed = energy::sides(size);
+    let allowed = pictures::sides(size);
     if let Verdict::Refused(why) = allowed {
         return Found::Refused(why);
     }
@@ -38,7 +38,7 @@ pub fn find_in(space: &mut [u8], size: Size, seam: &mut [u16]) -> Found
     if seam.len() < height {
         return Found::Refused(Refusal::Space);
     }
-    let bytes = energy::picture_bytes(size);
+    let bytes = pictures::picture_bytes(size);
     let needed = bytes + height * width;
     if space.len() < needed {
         return Found::Refused(Refusal::Space);

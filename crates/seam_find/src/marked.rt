@@ -3,9 +3,9 @@ use crate::Found;
 use crate::bottom64;
 use crate::trace;
 use crate::weights;
-use energy::Refusal;
-use energy::Size;
-use energy::Verdict;
+use pictures::Refusal;
+use pictures::Size;
+use pictures::Verdict;
 ghost use Rattle.seam_find.specs.Finding.{FindMarkedGiven};
 ghost use Rattle.seam_find.specs.Kernels.{markedBytes, SeamNeeded, MarkedGiven};
 
@@ -15,7 +15,7 @@ ghost use Rattle.seam_find.specs.Kernels.{markedBytes, SeamNeeded, Marke
 pub fn find_marked_in(space: &mut [u8], size: Size, seam: &mut [u16]) -> Found
     ensures { λ f. ⌜ FindMarkedGiven (now (space .entry)) size (now (seam .entry)) f (now (space .exit)) (now (seam .exit)) ⌝ }
 {
-    let allowed = energy::sides(size);
+    let allowed = pictures::sides(size);
     if let Verdict::Refused(why) = allowed {
         return Found::Refused(why);
     }
@@ -24,7 +24,7 @@ pub fn find_marked_in(space: &mut [u8], size: Size, seam: &mut [u16]) -> Found
     if seam.len() < height {
         return Found::Refused(Refusal::Space);
     }
-    let bytes = energy::picture_bytes(size);
+    let bytes = pictures::picture_bytes(size);
     let pixels = height * width;
     let needed = bytes + (pixels + pixels);
     if space.len() < needed {

@@ -1,5 +1,5 @@
 // A row of weights: each pixel's energy and mark in one number.
-use energy::Size;
+use pictures::Size;
 ghost use mathlib.Core.Path.{_≡_};
 ghost use lib.ListN.{length};
 ghost use Rattle.grids.specs.Table.{table};

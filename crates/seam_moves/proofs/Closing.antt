@@ -20,10 +20,10 @@ use Rattle.grids.proofs.Tables.{table-same}
 use Rattle.grids.proofs.Parts.{last-part}
 use Rattle.grids.proofs.Rows.{flat-rowsOf, length-rowAt, rowsOf-at, length-rowsOf, part-end}
 use Rattle.grids.proofs.Cut.{cut-each, cut-table, flat-removeAt}
-use Rattle.energy.specs.declared.pictures.Size.{Size}
-use Rattle.energy.specs.Pictures.{channelsOf, rowBytes, pictureBytes, picture, bytes, OfSize}
-use Rattle.energy.proofs.Sizes.{Sized, sized-is}
-use Rattle.energy.proofs.Buffers.{picture-ofSize}
+use Rattle.pictures.specs.declared.sizes.Size.{Size}
+use Rattle.pictures.specs.Pictures.{channelsOf, rowBytes, pictureBytes, picture, bytes, OfSize}
+use Rattle.pictures.proofs.Limits.{Sized, sized-is}
+use Rattle.pictures.proofs.Buffers.{picture-ofSize}
 use Rattle.seam_moves.specs.Moving.{outside}
 use Rattle.seam_moves.specs.Kernels.{without, RowNeeded, CloseNeeded}
 use Rattle.seam_moves.proofs.Parts.{map-table, Filled, filled-later, filled-part, filled-rest}

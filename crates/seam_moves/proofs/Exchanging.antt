@@ -17,10 +17,10 @@ use Rattle.grids.proofs.Shapes.{grid-of}
 use Rattle.grids.proofs.Tables.{length-table, table-at, table-same, table-part, each-table}
 use Rattle.grids.proofs.Rows.{length-rowAt, length-flat, rowAt-getD, part-end}
 use Rattle.grids.proofs.Exchange.{exchange-each, exchange-grid, exchange-at, grid-same}
-use Rattle.energy.specs.declared.pictures.Size.{Size}
-use Rattle.energy.specs.Pictures.{channelsOf, pictureBytes, picture, bytes, OfSize}
-use Rattle.energy.proofs.Sizes.{Sized, sized-is}
-use Rattle.energy.proofs.Buffers.{picture-ofSize, pixel-at}
+use Rattle.pictures.specs.declared.sizes.Size.{Size}
+use Rattle.pictures.specs.Pictures.{channelsOf, pictureBytes, picture, bytes, OfSize}
+use Rattle.pictures.proofs.Limits.{Sized, sized-is}
+use Rattle.pictures.proofs.Buffers.{picture-ofSize, pixel-at}
 use Rattle.seam_moves.specs.Kernels.{samples, ColumnNeeded, ExchangeNeeded}
 use Rattle.seam_moves.proofs.Parts.{map-table, Filled, filled-sets, filled-part}
 

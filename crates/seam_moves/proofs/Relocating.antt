@@ -18,9 +18,9 @@ use Rattle.grids.specs.Exchange.{exchange}
 use Rattle.grids.proofs.Parts.{put-part, part-length}
 use Rattle.grids.proofs.Rows.{part-end, length-flat}
 use Rattle.grids.proofs.Tables.{each-table}
-use Rattle.energy.specs.declared.pictures.Size.{Size}
-use Rattle.energy.specs.Pictures.{channelsOf, pictureBytes, picture, bytes}
-use Rattle.energy.proofs.Sizes.{Sides, sides-are}
+use Rattle.pictures.specs.declared.sizes.Size.{Size}
+use Rattle.pictures.specs.Pictures.{channelsOf, pictureBytes, picture, bytes}
+use Rattle.pictures.proofs.Limits.{Sides, sides-are}
 use Rattle.seam_moves.specs.Between.{partAt, putAt, apartIn, PlacesApart}
 use Rattle.seam_moves.specs.Kernels.{samples, ColumnNeeded, PictureNeeded}
 use Rattle.seam_moves.proofs.Parts.{flat-more, filled-length}

@@ -11,11 +11,11 @@ use Rattle.grids.specs.Each.{Each, none, more}
 use Rattle.grids.specs.Exchange.{exchange}
 use Rattle.grids.specs.Cut.{cut}
 use Rattle.grids.proofs.Shapes.{each-length}
-use Rattle.energy.specs.declared.pictures.Size.{Size}
-use Rattle.energy.specs.declared.refusals.Verdict.{Verdict}
-use Rattle.energy.specs.Refusals.{_when_, refusal, served}
-use Rattle.energy.specs.Pictures.{channelsOf, pictureBytes, sideRules, sizeRules, picture, bytes}
-use Rattle.energy.proofs.Rules.{served-first}
+use Rattle.pictures.specs.declared.sizes.Size.{Size}
+use Rattle.pictures.specs.declared.refusals.Verdict.{Verdict}
+use Rattle.pictures.specs.Refusals.{_when_, refusal, served}
+use Rattle.pictures.specs.Pictures.{channelsOf, pictureBytes, sideRules, sizeRules, picture, bytes}
+use Rattle.pictures.proofs.Rules.{served-first}
 use Rattle.seam_moves.specs.Moving.{outside, ExchangeGiven, CloseGiven}
 use Rattle.seam_moves.specs.Between.{partAt, putAt, PlacesApart, copyBetweenRules, CopyBetweenGiven, ExchangeBetweenGiven}
 use Rattle.seam_moves.proofs.Relocating.{are-places}

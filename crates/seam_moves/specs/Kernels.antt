@@ -5,9 +5,9 @@ use mathlib.Core.List.{List, _++_}
 use Prim.Native.Nat.{ℕ, _+_, _*_, _≤_, _<_}
 use lib.ListN.{length, take, drop}
 use Rattle.grids.specs.Rows.{rowAt}
-use Rattle.energy.specs.declared.pictures.Size.{Size}
-use Rattle.energy.specs.Refusals.{refusal}
-use Rattle.energy.specs.Pictures.{largestSide, pictureBytes, sideRules, sizeRules}
+use Rattle.pictures.specs.declared.sizes.Size.{Size}
+use Rattle.pictures.specs.Refusals.{refusal}
+use Rattle.pictures.specs.Pictures.{largestSide, pictureBytes, sideRules, sizeRules}
 use Rattle.seam_moves.specs.Moving.{outside}
 use Rattle.seam_moves.specs.Between.{PlacesApart}
 

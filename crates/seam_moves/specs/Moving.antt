@@ -7,10 +7,10 @@ use lib.Dec.{eqb, leb, ltb}
 use lib.ListN.{length, drop, replicate}
 use Rattle.grids.specs.Exchange.{exchange}
 use Rattle.grids.specs.Cut.{cut}
-use Rattle.energy.specs.declared.pictures.Size.{Size}
-use Rattle.energy.specs.declared.refusals.Verdict.{Verdict}
-use Rattle.energy.specs.Refusals.{Rule, _when_, given, refusal, served}
-use Rattle.energy.specs.Pictures.{channelsOf, pictureBytes, sizeRules, picture, bytes}
+use Rattle.pictures.specs.declared.sizes.Size.{Size}
+use Rattle.pictures.specs.declared.refusals.Verdict.{Verdict}
+use Rattle.pictures.specs.Refusals.{Rule, _when_, given, refusal, served}
+use Rattle.pictures.specs.Pictures.{channelsOf, pictureBytes, sizeRules, picture, bytes}
 
 -- When an exchange is refused: as the picture is, and where the space is shorter than the picture.
 abbrev pub exchangeRules : Size → ℕ → ℕ → List Rule

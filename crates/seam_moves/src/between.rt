@@ -1,15 +1,15 @@
 // A picture, or some bytes, moved from one place of a space to another: two parts of one space can't be lent at once.
 use crate::columns::put_column;
-use energy::Refusal;
-use energy::Size;
-use energy::Verdict;
-use energy::channels;
+use pictures::Refusal;
+use pictures::Size;
+use pictures::Verdict;
+use pictures::channels;
 ghost use mathlib.Core.Path.{_≡_};
 ghost use Prim.Native.Nat.{_+_};
 ghost use lib.Dec.{leb};
 ghost use lib.ListN.{length};
 ghost use Rattle.grids.specs.Exchange.{exchange};
-ghost use Rattle.energy.specs.Pictures.{picture, bytes as Pictures·bytes, pictureBytes};
+ghost use Rattle.pictures.specs.Pictures.{picture, bytes as Pictures·bytes, pictureBytes};
 ghost use Rattle.seam_moves.specs.Between.{apartIn, partAt, putAt, PlacesApart, CopyBetweenGiven, ExchangeBetweenGiven};
 ghost use Rattle.seam_moves.specs.Kernels.{PictureNeeded};
 
@@ -19,11 +19,11 @@ ghost use Rattle.seam_moves.specs.Kernels.{PictureNeeded};
 pub fn exchange_between(space: &mut [u8], from: usize, size: Size, to: usize) -> Verdict
     ensures { λ v. ⌜ ExchangeBetweenGiven (now (space .entry)) from size to v (now (space .exit)) ⌝ }
 {
-    let allowed = energy::sides(size);
+    let allowed = pictures::sides(size);
     let Verdict::Served = allowed else {
         return allowed;
     };
-    let all = energy::picture_bytes(size);
+    let all = pictures::picture_bytes(size);
     if apart_in(space.len(), from, to, all) {
         exchange_places(space, from, size, all, to);
         return Verdict::Served;

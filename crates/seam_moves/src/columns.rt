@@ -1,8 +1,8 @@
 // Rows and columns exchanged, column by column. One function for each number of channels, with one contract: three
 // channels written out are much faster than a loop over them.
-use energy::Kind;
-use energy::Size;
-use energy::channels;
+use pictures::Kind;
+use pictures::Size;
+use pictures::channels;
 ghost use mathlib.Core.Path.{_≡_};
 ghost use mathlib.Core.List.{_++_};
 ghost use Prim.Native.Nat.{_*_};
@@ -10,7 +10,7 @@ ghost use lib.ListN.{drop};
 ghost use Rattle.grids.specs.Table.{table};
 ghost use Rattle.grids.specs.Rows.{flat};
 ghost use Rattle.grids.specs.Exchange.{exchange};
-ghost use Rattle.energy.specs.Pictures.{picture, bytes, channelsOf, pictureBytes};
+ghost use Rattle.pictures.specs.Pictures.{picture, bytes, channelsOf, pictureBytes};
 ghost use Rattle.seam_moves.specs.Kernels.{samples, ColumnNeeded, ExchangeNeeded};
 
 // Each column of the picture, put into `to` as a row.

@@ -6,10 +6,10 @@ pub mod spaces;
 
 pub use between::copy_between;
 pub use between::exchange_between;
-use energy::Refusal;
-use energy::Size;
-use energy::Verdict;
-use energy::sized;
+use pictures::Refusal;
+use pictures::Size;
+use pictures::Verdict;
+use pictures::sized;
 pub use spaces::clear;
 ghost use Rattle.seam_moves.specs.Moving.{ExchangeGiven, CloseGiven};
 

@@ -1,13 +1,13 @@
 // A seam closed up, row by row.
 use crate::spaces::clear;
-use energy::Size;
-use energy::channels;
+use pictures::Size;
+use pictures::channels;
 ghost use mathlib.Core.Path.{_≡_};
 ghost use mathlib.Core.List.{_++_};
 ghost use Prim.Native.Nat.{_-_, _*_};
 ghost use lib.ListN.{length, drop, replicate};
 ghost use Rattle.grids.specs.Cut.{cut};
-ghost use Rattle.energy.specs.Pictures.{picture as Pictures·picture, bytes, channelsOf};
+ghost use Rattle.pictures.specs.Pictures.{picture as Pictures·picture, bytes, channelsOf};
 ghost use Rattle.seam_moves.specs.Moving.{outside as Moving·outside};
 ghost use Rattle.seam_moves.specs.Kernels.{without, RowNeeded, CloseNeeded};
 

@@ -8,17 +8,17 @@ use borrow.Author.Tests.{eq-eqb, ne-eqb, le-ltb}
 use lib.ListN.{length, take, drop, replicate, take-append-drop}
 use lib.Seq.{length-take-le}
 use Rattle.grids.specs.Rows.{flat}
-use Rattle.energy.specs.declared.pictures.Size.{Size}
-use Rattle.energy.specs.declared.refusals.Refusal.{Refusal}
-use Rattle.energy.specs.Refusals.{refusal, served}
-use Rattle.energy.specs.Pictures.{channelsOf, pictureBytes, bytes}
-use Rattle.energy.proofs.Sizes.{sides-are}
+use Rattle.pictures.specs.declared.sizes.Size.{Size}
+use Rattle.pictures.specs.declared.refusals.Refusal.{Refusal}
+use Rattle.pictures.specs.Refusals.{refusal, served}
+use Rattle.pictures.specs.Pictures.{channelsOf, pictureBytes, bytes, pixels}
+use Rattle.pictures.proofs.Limits.{sides-are}
 use Rattle.seam_find.specs.declared.Found.{Found}
 use Rattle.seam_find.specs.declared.Found.the-variants.{Seam, Refused}
-use Rattle.seam_find.specs.Finding.{foundNumber, pixels}
+use Rattle.seam_find.specs.Finding.{foundNumber}
 use Rattle.seam_cut.specs.declared.Axis.the-variants.{Vertical}
 use Rattle.seam_cut.specs.Axes.{turned, markedSeamAlong, blockedAlong, cutAlong}
-use Rattle.seam_cut.specs.Carving.{markedCutRules, MarkedPictureCut, MarkedMarksCut}
+use Rattle.seam_cut.specs.Cutting.{markedCutRules, MarkedPictureCut, MarkedMarksCut}
 use Rattle.seam_cut.proofs.Buffers.{seam-free, refused-blocked}
 use Rattle.seam_objects.specs.Objects.{noSeam, cutOnce}
 use Rattle.seam_objects.specs.Kernels.{FrontNeeded, front, FrontCut}

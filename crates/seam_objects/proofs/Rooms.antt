@@ -8,15 +8,14 @@ use lib.Dec.{eqb, ltb}
 use borrow.Author.Tests.{eqb-true, ltb-false, not-false}
 use lib.ListN.{length, replicate}
 use Rattle.grids.specs.Rows.{flat}
-use Rattle.energy.specs.declared.pictures.Size.{Size}
-use Rattle.energy.specs.declared.refusals.Refusal.{Refusal}
-use Rattle.energy.specs.Refusals.{_when_, numberOf, refusal, served}
-use Rattle.energy.specs.Pictures.{largestSide, channelsOf, sizeRules, bytes}
-use Rattle.energy.proofs.Rules.{served-both, passed}
+use Rattle.pictures.specs.declared.sizes.Size.{Size}
+use Rattle.pictures.specs.declared.refusals.Refusal.{Refusal}
+use Rattle.pictures.specs.Refusals.{_when_, numberOf, refusal, served}
+use Rattle.pictures.specs.Pictures.{largestSide, channelsOf, sizeRules, bytes, pixels}
+use Rattle.pictures.proofs.Rules.{served-both, passed}
 use Rattle.seam_moves.specs.Moving.{outside}
-use Rattle.seam_find.specs.Finding.{pixels}
 use Rattle.seam_cut.specs.declared.Axis.the-variants.{Vertical}
-use Rattle.seam_cut.specs.Carving.{roomRules, markRules}
+use Rattle.seam_cut.specs.Cutting.{roomRules, markRules}
 use Rattle.seam_cut.proofs.Buffers.{left-as-was}
 use Rattle.seam_objects.specs.declared.Removal.the-variants.{Refused}
 use Rattle.seam_objects.specs.Objects.{removal}

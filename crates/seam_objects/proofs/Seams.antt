@@ -13,12 +13,11 @@ use lib.ListN.{length, take, replicate, replicate-append-replicate}
 use lib.Seq.{take-all}
 use Rattle.grids.specs.Rows.{flat}
 use Rattle.grids.proofs.Rows.{flat-rowsOf}
-use Rattle.energy.specs.declared.pictures.Size.{Size}
-use Rattle.energy.specs.Pictures.{channelsOf, picture, bytes}
-use Rattle.energy.proofs.Sizes.{Sides, sides-are, sides-served, sized-is}
-use Rattle.energy.proofs.Buffers.{bytes-picture}
+use Rattle.pictures.specs.declared.sizes.Size.{Size}
+use Rattle.pictures.specs.Pictures.{channelsOf, picture, bytes, pixels, marksOf}
+use Rattle.pictures.proofs.Limits.{Sides, sides-are, sides-served, sized-is}
+use Rattle.pictures.proofs.Buffers.{bytes-picture}
 use Rattle.seam_moves.specs.Moving.{outside}
-use Rattle.seam_find.specs.Finding.{pixels, marksOf}
 use Rattle.seam_cut.proofs.Turns.{sides-of}
 use Rattle.grids.proofs.Orders.{more-than-one}
 use Rattle.seam_objects.specs.declared.Removal.{Removal}

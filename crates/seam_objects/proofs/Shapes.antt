@@ -11,11 +11,11 @@ use lib.Seq.{length-take-le}
 use Rattle.grids.specs.Each.{Each, Grid, none, more}
 use Rattle.grids.specs.Rows.{rowsOf, flat}
 use Rattle.grids.proofs.Cut.{cut-narrower}
-use Rattle.energy.specs.declared.pictures.Kind.the-variants.{Grey}
-use Rattle.energy.specs.declared.pictures.Size.{Size}
-use Rattle.energy.specs.Pictures.{channelsOf}
-use Rattle.energy.proofs.Sizes.{sized-is}
-use Rattle.energy.proofs.Buffers.{picture-ofSize}
+use Rattle.pictures.specs.declared.sizes.Kind.the-variants.{Grey}
+use Rattle.pictures.specs.declared.sizes.Size.{Size}
+use Rattle.pictures.specs.Pictures.{channelsOf}
+use Rattle.pictures.proofs.Limits.{sized-is}
+use Rattle.pictures.proofs.Buffers.{picture-ofSize}
 use Rattle.seam_moves.specs.Moving.{outside}
 use Rattle.seam_moves.proofs.Closing.{inside-each}
 use Rattle.seam_moves.proofs.Served.{each-inside}

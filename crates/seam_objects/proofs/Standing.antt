@@ -8,10 +8,9 @@ use lib.Seq.{take-at, drop-at}
 use Rattle.grids.specs.Rows.{flat}
 use Rattle.grids.proofs.Shapes.{grid-of}
 use Rattle.grids.proofs.Rows.{rowsOf-flat, length-flat}
-use Rattle.energy.specs.declared.pictures.Size.{Size}
-use Rattle.energy.specs.Pictures.{channelsOf, pictureBytes, picture, bytes, OfSize}
-use Rattle.energy.proofs.Buffers.{picture-bytes, length-bytes}
-use Rattle.seam_find.specs.Finding.{pixels, marksOf}
+use Rattle.pictures.specs.declared.sizes.Size.{Size}
+use Rattle.pictures.specs.Pictures.{channelsOf, pictureBytes, picture, bytes, OfSize, pixels, marksOf}
+use Rattle.pictures.proofs.Buffers.{picture-bytes, length-bytes}
 use Rattle.seam_objects.specs.Objects.{MarkedPicture}
 use Rattle.seam_objects.specs.Kernels.{front}
 use Rattle.seam_objects.proofs.Shapes.{Shaped}

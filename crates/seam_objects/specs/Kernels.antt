@@ -5,11 +5,10 @@ use mathlib.Core.List.{List, _++_}
 use Prim.Native.Nat.{ℕ, _*_, _≤_, _<_}
 use lib.ListN.{length, take, drop, replicate}
 use Rattle.grids.specs.Rows.{flat}
-use Rattle.energy.specs.declared.pictures.Size.{Size}
-use Rattle.energy.specs.Refusals.{refusal}
-use Rattle.energy.specs.Pictures.{channelsOf, sideRules, sizeRules, pictureBytes, bytes}
+use Rattle.pictures.specs.declared.sizes.Size.{Size}
+use Rattle.pictures.specs.Refusals.{refusal}
+use Rattle.pictures.specs.Pictures.{channelsOf, sideRules, sizeRules, pictureBytes, bytes, pixels}
 use Rattle.seam_moves.specs.Moving.{outside}
-use Rattle.seam_find.specs.Finding.{pixels}
 use Rattle.seam_objects.specs.Objects.{MarkedPicture, noSeam, cutOnce}
 use Rattle.seam_objects.specs.Removing.{markedPicture}
 

@@ -5,9 +5,8 @@ use Prim.Native.Nat.{ℕ, zero, suc, _-_}
 use lib.Dec.{eqb}
 use Rattle.grids.specs.Rows.{flat}
 use Rattle.grids.specs.Cut.{cut}
-use Rattle.energy.specs.Pictures.{Picture}
-use Rattle.seam_find.specs.Seams.{markedUp, markedSeamOf}
-use Rattle.seam_find.specs.Finding.{isNone}
+use Rattle.pictures.specs.Pictures.{Picture}
+use Rattle.seam_theory.specs.PictureSeams.{markedUp, markedSeamOf, isNone}
 
 -- A picture and its marks, with their width and height.
 pub record MarkedPicture : Type 0 where

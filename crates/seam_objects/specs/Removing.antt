@@ -6,11 +6,10 @@ use Prim.Native.Nat.{ℕ, _*_}
 use lib.Dec.{ltb}
 use lib.ListN.{length, replicate}
 use Rattle.grids.specs.Rows.{flat}
-use Rattle.energy.specs.declared.pictures.Size.{Size}
-use Rattle.energy.specs.Refusals.{Rule, _when_, numberOf, served}
-use Rattle.energy.specs.Pictures.{channelsOf, sizeRules, picture, bytes}
-use Rattle.seam_find.specs.Finding.{pixels, marksOf}
-use Rattle.seam_cut.specs.Carving.{markRules}
+use Rattle.pictures.specs.declared.sizes.Size.{Size}
+use Rattle.pictures.specs.Refusals.{Rule, _when_, numberOf, served}
+use Rattle.pictures.specs.Pictures.{channelsOf, sizeRules, picture, bytes, pixels, marksOf}
+use Rattle.seam_cut.specs.Cutting.{markRules}
 use Rattle.seam_objects.specs.declared.Removal.{Removal}
 use Rattle.seam_objects.specs.declared.Removal.the-variants.{Done, Narrow, Spent, Blocked, Refused}
 use Rattle.seam_objects.specs.Objects.{MarkedPicture, Ending, done, narrow, spent, blocked, Removed, removal}

@@ -1,13 +1,13 @@
 // Object removal: vertical seams are cut by the marks until no pixel is marked 2.
-use energy::LARGEST_SIDE;
-use energy::Refusal;
-use energy::Size;
-use energy::Verdict;
+use pictures::LARGEST_SIDE;
+use pictures::Refusal;
+use pictures::Size;
+use pictures::Verdict;
 use seam_cut::Axis;
 use seam_find::Found;
 ghost use mathlib.Core.Path.{_≡_};
 ghost use lib.ListN.{length, replicate};
-ghost use Rattle.energy.specs.Refusals.{refusal, served};
+ghost use Rattle.pictures.specs.Refusals.{refusal, served};
 ghost use Rattle.seam_objects.specs.Objects.{someTwo};
 ghost use Rattle.seam_objects.specs.Removing.{removalRules, ObjectRemoved};
 ghost use Rattle.seam_objects.specs.Kernels.{SeamsNeeded, FrontNeeded, FrontCut};
@@ -100,7 +100,7 @@ fn cut_front(picture: &mut [u8], marks: &mut [u8], size: Size, work: &mut [u8]) 
 {
     let width = size.width;
     let height = size.height;
-    let bytes = energy::picture_bytes(size);
+    let bytes = pictures::picture_bytes(size);
     let pixels = height * width;
     let room = 32 * pixels;
     let mut seam = [0u16; 512];

@@ -11,12 +11,12 @@ use borrow.Rule.Slice.PartMut.{midOf}
 use lib.ListN.{length, getD, take, drop, replicate}
 use lib.Seq.{take-at, take-length}
 use Rattle.grids.proofs.Rows.{part-end}
-use Rattle.energy.specs.declared.pictures.Size.{Size}
-use Rattle.energy.specs.Refusals.{_when_, refusal}
-use Rattle.energy.specs.Pictures.{pictureBytes, sizeRules, picture, bytes}
-use Rattle.energy.proofs.Rules.{served-both, passed}
-use Rattle.energy.proofs.Sizes.{Sized, sized-is, sides-served}
-use Rattle.energy.proofs.Buffers.{bytes-picture}
+use Rattle.pictures.specs.declared.sizes.Size.{Size}
+use Rattle.pictures.specs.Refusals.{_when_, refusal}
+use Rattle.pictures.specs.Pictures.{pictureBytes, sizeRules, picture, bytes}
+use Rattle.pictures.proofs.Rules.{served-both, passed}
+use Rattle.pictures.proofs.Limits.{Sized, sized-is, sides-served}
+use Rattle.pictures.proofs.Buffers.{bytes-picture}
 use Rattle.seam_moves.specs.Between.{partAt}
 use Rattle.seam_moves.proofs.Places.{length-part}
 use Rattle.seam_cut.proofs.Turns.{bytes-few}

@@ -7,8 +7,8 @@ use native.Mathlib.Numerals.{add-one}
 use native.Mathlib.Omega.{arith}
 use lib.ListN.{length, getD, set, length-set}
 use lib.Seq.{getD-set-same, getD-set-other}
-use Rattle.energy.specs.declared.pictures.Size.{Size}
-use Rattle.energy.specs.Pictures.{picture}
+use Rattle.pictures.specs.declared.sizes.Size.{Size}
+use Rattle.pictures.specs.Pictures.{picture}
 use Rattle.seam_moves.specs.Between.{partAt}
 use Rattle.seam_cut.specs.declared.Axis.the-variants.{Vertical, Horizontal}
 use Rattle.seam_retarget.specs.Cells.{Cell, smaller, bySeam, chosen}

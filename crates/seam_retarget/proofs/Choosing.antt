@@ -9,9 +9,9 @@ use borrow.Author.Tests.{le-leb, lt-leb}
 use lib.Dec.{leb}
 use lib.ListN.{length}
 use Rattle.grids.proofs.Rows.{part-end}
-use Rattle.energy.specs.declared.pictures.Size.{Size}
-use Rattle.energy.specs.Refusals.{refusal}
-use Rattle.energy.specs.Pictures.{pictureBytes, sideRules, picture}
+use Rattle.pictures.specs.declared.sizes.Size.{Size}
+use Rattle.pictures.specs.Refusals.{refusal}
+use Rattle.pictures.specs.Pictures.{pictureBytes, sideRules, picture}
 use Rattle.seam_moves.specs.Between.{partAt}
 use Rattle.seam_cut.specs.declared.Axis.{Axis}
 use Rattle.seam_cut.specs.declared.Axis.the-variants.{Vertical, Horizontal}

@@ -7,14 +7,13 @@ use native.Mathlib.Omega.{arith}
 use lib.ListN.{length, getD, take}
 use lib.Seq.{length-take-le}
 use Rattle.seam_theory.proofs.Along.{along-most}
-use Rattle.energy.specs.declared.pictures.Size.{Size}
-use Rattle.energy.specs.Pictures.{Picture, pictureBytes}
+use Rattle.pictures.specs.declared.sizes.Size.{Size}
+use Rattle.pictures.specs.Pictures.{Picture, pictureBytes, pictureIn}
 use Rattle.energy.specs.Energy.{energy}
-use Rattle.energy.proofs.Sizes.{Sides, Sized, sized-of}
-use Rattle.seam_find.specs.Seams.{costOf}
-use Rattle.seam_find.specs.Finding.{pictureIn}
+use Rattle.pictures.proofs.Limits.{Sides, Sized, sized-of}
+use Rattle.seam_theory.specs.PictureSeams.{costOf}
 use Rattle.seam_find.proofs.Costs.{front-most, pixel-most}
-use Rattle.seam_find.proofs.Characterised.{seam-some}
+use Rattle.seam_theory.proofs.Characterised.{seam-some}
 
 -- At most 512 energies of at most 1530.
 pub cost-bound : (w h : ℕ) (p : Picture) → 0 < w → 0 < h → h ≤ 512 → ((r c : ℕ) → energy p r c ≤ 1530) → costOf w h p ≤ 783360

@@ -12,17 +12,16 @@ use Rattle.grids.specs.Each.{Each}
 use Rattle.grids.specs.Cut.{cut}
 use Rattle.grids.proofs.Cut.{cut-narrower}
 use Rattle.grids.proofs.Parts.{put-part}
-use Rattle.energy.specs.declared.pictures.Size.{Size}
-use Rattle.energy.specs.declared.refusals.Verdict.{Verdict}
-use Rattle.energy.specs.Refusals.{refusal}
-use Rattle.energy.specs.Pictures.{Picture, channelsOf, pictureBytes, sideRules, picture, bytes, OfSize}
-use Rattle.energy.proofs.Sizes.{Sides, sides-are, sized-served}
-use Rattle.energy.proofs.Buffers.{picture-bytes, length-bytes}
+use Rattle.pictures.specs.declared.sizes.Size.{Size}
+use Rattle.pictures.specs.declared.refusals.Verdict.{Verdict}
+use Rattle.pictures.specs.Refusals.{refusal}
+use Rattle.pictures.specs.Pictures.{Picture, channelsOf, pictureBytes, sideRules, picture, bytes, OfSize, pixels}
+use Rattle.pictures.proofs.Limits.{Sides, sides-are, sized-served}
+use Rattle.pictures.proofs.Buffers.{picture-bytes, length-bytes}
 use Rattle.seam_moves.specs.Between.{partAt, putAt}
 use Rattle.seam_moves.specs.Moving.{CloseGiven}
 use Rattle.seam_moves.proofs.Places.{Kept, kept-part, put-there, put-kept, length-part}
 use Rattle.seam_moves.proofs.Served.{close-served}
-use Rattle.seam_find.specs.Finding.{pixels}
 use Rattle.seam_cut.specs.declared.Axis.{Axis}
 use Rattle.seam_cut.specs.Axes.{turnedSize, turned, narrowed, seamAlong, cutAlong}
 use Rattle.seam_cut.proofs.Turns.{turned-bytes, turned-sides, turned-ofSize, sides-of}

@@ -11,11 +11,10 @@ use Rattle.grids.specs.Each.{Each, none, more}
 use Rattle.grids.specs.Cut.{cut}
 use Rattle.grids.proofs.Exchange.{exchange-each}
 use Rattle.grids.proofs.Cut.{cut-narrower}
-use Rattle.energy.specs.declared.pictures.Size.{Size}
-use Rattle.energy.specs.Refusals.{refusal}
-use Rattle.energy.specs.Pictures.{Picture, channelsOf, pictureBytes, sideRules, OfSize}
-use Rattle.energy.specs.Energy.{pixel}
-use Rattle.energy.proofs.Sizes.{Sides, sides-are}
+use Rattle.pictures.specs.declared.sizes.Size.{Size}
+use Rattle.pictures.specs.Refusals.{refusal}
+use Rattle.pictures.specs.Pictures.{Picture, channelsOf, pictureBytes, sideRules, OfSize, pixel}
+use Rattle.pictures.proofs.Limits.{Sides, sides-are}
 use Rattle.energy.proofs.Energy.{energy-most}
 use Rattle.seam_cut.specs.declared.Axis.{Axis}
 use Rattle.seam_cut.specs.declared.Axis.the-variants.{Vertical, Horizontal}

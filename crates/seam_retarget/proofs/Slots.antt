@@ -9,12 +9,11 @@ use lib.ListN.{take, drop}
 use lib.Seq.{take-take}
 use Rattle.grids.proofs.Orders.{le-or-lt}
 use Rattle.grids.proofs.Rows.{part-end}
-use Rattle.energy.specs.declared.pictures.Size.{Size}
-use Rattle.energy.specs.Refusals.{refusal}
-use Rattle.energy.specs.Pictures.{channelsOf, pictureBytes, sideRules, picture}
-use Rattle.energy.proofs.Sizes.{sides-are, channels-some}
+use Rattle.pictures.specs.declared.sizes.Size.{Size}
+use Rattle.pictures.specs.Refusals.{refusal}
+use Rattle.pictures.specs.Pictures.{channelsOf, pictureBytes, sideRules, picture, pixels}
+use Rattle.pictures.proofs.Limits.{sides-are, channels-some}
 use Rattle.seam_moves.specs.Between.{partAt, PlacesApart}
-use Rattle.seam_find.specs.Finding.{pixels}
 use Rattle.seam_cut.specs.declared.Axis.the-variants.{Vertical, Horizontal}
 use Rattle.seam_cut.proofs.Turns.{sides-of}
 use Rattle.seam_retarget.specs.Cells.{smaller}

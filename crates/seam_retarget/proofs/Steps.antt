@@ -9,18 +9,18 @@ use lib.ListN.{length, getD, take, drop, replicate, length-append, length-drop, 
 use lib.Seq.{take-at, drop-at, drop-drop, length-take-le, getD-drop}
 use Rattle.grids.proofs.Shapes.{each-length}
 use Rattle.grids.proofs.Parts.{put-part, part-length, last-part}
-use Rattle.energy.specs.declared.pictures.Size.{Size}
-use Rattle.energy.specs.declared.refusals.Verdict.{Verdict}
-use Rattle.energy.specs.Refusals.{refusal}
-use Rattle.energy.specs.Pictures.{pictureBytes, sideRules, picture, bytes, OfSize}
-use Rattle.energy.proofs.Sizes.{Sized, sides-are, sized-of}
-use Rattle.energy.proofs.Buffers.{picture-ofSize, bytes-picture, length-bytes}
+use Rattle.pictures.specs.declared.sizes.Size.{Size}
+use Rattle.pictures.specs.declared.refusals.Verdict.{Verdict}
+use Rattle.pictures.specs.Refusals.{refusal}
+use Rattle.pictures.specs.Pictures.{pictureBytes, sideRules, picture, bytes, OfSize, pixels}
+use Rattle.pictures.proofs.Limits.{Sized, sides-are, sized-of}
+use Rattle.pictures.proofs.Buffers.{picture-ofSize, bytes-picture, length-bytes}
 use Rattle.seam_moves.specs.Between.{partAt, putAt, CopyBetweenGiven}
 use Rattle.seam_moves.proofs.Places.{Kept, kept-part, put-kept, length-part}
 use Rattle.seam_moves.proofs.Served.{copy-between-served}
 use Rattle.seam_find.specs.declared.Found.{Found}
-use Rattle.seam_find.specs.Seams.{seamOf, costOf}
-use Rattle.seam_find.specs.Finding.{foundCost, pixels, FindGiven}
+use Rattle.seam_theory.specs.PictureSeams.{seamOf, costOf}
+use Rattle.seam_find.specs.Finding.{foundCost, FindGiven}
 use Rattle.seam_find.proofs.Costs.{front-most}
 use Rattle.seam_cut.specs.declared.Axis.{Axis}
 use Rattle.seam_cut.specs.declared.Axis.the-variants.{Vertical}

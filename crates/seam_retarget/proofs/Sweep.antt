@@ -10,8 +10,8 @@ use lib.ListN.{length, getD, set, length-set}
 use lib.Seq.{getD-set-same, getD-set-other, set-out}
 use Rattle.grids.proofs.Orders.{le-or-lt}
 use Rattle.grids.proofs.Rows.{part-end}
-use Rattle.energy.specs.declared.pictures.Size.{Size}
-use Rattle.energy.specs.Pictures.{Picture, pictureBytes, picture}
+use Rattle.pictures.specs.declared.sizes.Size.{Size}
+use Rattle.pictures.specs.Pictures.{Picture, pictureBytes, picture}
 use Rattle.seam_moves.specs.Between.{partAt}
 use Rattle.seam_cut.specs.declared.Axis.{Axis}
 use Rattle.seam_cut.specs.declared.Axis.the-variants.{Vertical, Horizontal}

@@ -2,8 +2,8 @@
 use mathlib.Core.Bool.{cond}
 use Prim.Native.Nat.{ℕ, zero, suc, _+_, _-_}
 use lib.Dec.{leb}
-use Rattle.energy.specs.declared.pictures.Size.{Size}
-use Rattle.energy.specs.Pictures.{Picture}
+use Rattle.pictures.specs.declared.sizes.Size.{Size}
+use Rattle.pictures.specs.Pictures.{Picture}
 use Rattle.seam_cut.specs.declared.Axis.{Axis}
 use Rattle.seam_cut.specs.declared.Axis.the-variants.{Vertical, Horizontal}
 use Rattle.seam_cut.specs.Axes.{seamAlong, costAlong, cutAlong}

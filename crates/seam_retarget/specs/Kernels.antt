@@ -7,11 +7,10 @@ use Prim.Native.Nat.{ℕ, zero, suc, _+_, _-_, _*_, _≤_, _<_}
 use lib.ListN.{length, getD, take, drop, replicate}
 use Rattle.grids.specs.Each.{Each}
 use Rattle.grids.specs.Cut.{cut}
-use Rattle.energy.specs.declared.pictures.Size.{Size}
-use Rattle.energy.specs.Refusals.{refusal}
-use Rattle.energy.specs.Pictures.{Picture, sideRules, sizeRules, pictureBytes, picture, bytes}
+use Rattle.pictures.specs.declared.sizes.Size.{Size}
+use Rattle.pictures.specs.Refusals.{refusal}
+use Rattle.pictures.specs.Pictures.{Picture, sideRules, sizeRules, pictureBytes, picture, bytes, pixels}
 use Rattle.seam_moves.specs.Between.{partAt, PlacesApart}
-use Rattle.seam_find.specs.Finding.{pixels}
 use Rattle.seam_cut.specs.declared.Axis.{Axis}
 use Rattle.seam_cut.specs.declared.Axis.the-variants.{Vertical, Horizontal}
 use Rattle.seam_cut.specs.Axes.{turnedSize, turned, narrowed, seamAlong, costAlong, cutAlong}

@@ -4,10 +4,9 @@ use mathlib.Core.List.{List, [], _∷_, _++_}
 use Prim.Native.Nat.{ℕ, _+_, _*_}
 use lib.Dec.{leb, ltb}
 use lib.ListN.{length, drop, replicate}
-use Rattle.energy.specs.declared.pictures.Size.{Size}
-use Rattle.energy.specs.Refusals.{Rule, _when_, numberOf, refusal, served}
-use Rattle.energy.specs.Pictures.{pictureBytes, sizeRules, picture, bytes}
-use Rattle.seam_find.specs.Finding.{pixels}
+use Rattle.pictures.specs.declared.sizes.Size.{Size}
+use Rattle.pictures.specs.Refusals.{Rule, _when_, numberOf, refusal, served}
+use Rattle.pictures.specs.Pictures.{pictureBytes, sizeRules, picture, bytes, pixels}
 use Rattle.seam_retarget.specs.declared.Rows.{Rows}
 use Rattle.seam_retarget.specs.declared.Columns.{Columns}
 use Rattle.seam_retarget.specs.declared.Retargeted.{Retargeted}

@@ -3,7 +3,7 @@ use crate::Columns;
 use crate::Rows;
 use crate::seams::cut_at;
 use crate::seams::seam_at;
-use energy::Size;
+use pictures::Size;
 use seam_cut::Axis;
 ghost use mathlib.Core.Path.{_≡_};
 ghost use Prim.Native.Nat.{_≤_};

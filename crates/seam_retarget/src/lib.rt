@@ -3,11 +3,11 @@ mod cells;
 mod seams;
 mod table;
 
-use energy::Refusal;
-use energy::Size;
-use energy::Verdict;
+use pictures::Refusal;
+use pictures::Size;
+use pictures::Verdict;
 ghost use mathlib.Core.Path.{_≡_};
-ghost use Rattle.energy.specs.Refusals.{given, refusal};
+ghost use Rattle.pictures.specs.Refusals.{given, refusal};
 ghost use Rattle.seam_retarget.specs.Retargeting.{retargetRules, RetargetGiven};
 ghost use Rattle.seam_retarget.specs.Kernels.{RetargetNeeded, LastGiven};
 
@@ -48,7 +48,7 @@ pub fn retarget(
 fn rooms(size: Size, rows: Rows, columns: Columns, bytes: usize, out: usize, work: usize) -> Verdict
     ensures { λ v. ⌜ given v ≡ refusal (retargetRules size rows columns bytes out work) ⌝ }
 {
-    let fits = energy::sized(size, bytes);
+    let fits = pictures::sized(size, bytes);
     let Verdict::Served = fits else {
         return fits;
     };
@@ -66,7 +66,7 @@ fn rooms(size: Size, rows: Rows, columns: Columns, bytes: usize, out: usize, wor
     if width <= columns.0 {
         return Verdict::Refused(Refusal::Wanted);
     }
-    if out < energy::picture_bytes(cells::smaller(size, rows, columns)) {
+    if out < pictures::picture_bytes(cells::smaller(size, rows, columns)) {
         return Verdict::Refused(Refusal::Space);
     }
     if work < 32 * (height * width) + 66 * bytes {
@@ -93,7 +93,7 @@ fn last_cell(
     bytes::copy(picture, work);
     table::first_row(work, size, whole, columns, &mut totals);
     table::rows_below(work, size, whole, rows, columns, &mut totals);
-    let count = energy::picture_bytes(cells::smaller(size, rows, columns));
+    let count = pictures::picture_bytes(cells::smaller(size, rows, columns));
     let at = last * whole;
     bytes::copy(&work[at..at + count], out);
     seam_moves::clear(work);

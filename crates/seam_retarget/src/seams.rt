@@ -1,11 +1,11 @@
 // One seam of a picture that stands at a place of the work space: found, and cut.
-use energy::Size;
+use pictures::Size;
 use seam_cut::Axis;
 use seam_cut::turned_size;
 use seam_find::Found;
 ghost use mathlib.Core.Path.{_≡_};
 ghost use lib.ListN.{length};
-ghost use Rattle.energy.specs.Pictures.{pictureBytes, bytes};
+ghost use Rattle.pictures.specs.Pictures.{pictureBytes, bytes};
 ghost use Rattle.seam_moves.specs.Between.{putAt};
 ghost use Rattle.seam_cut.specs.Axes.{turned, narrowed};
 ghost use Rattle.seam_retarget.specs.Kernels.{pictureAt, TurnNeeded, SeamNeeded, SeamGiven, CutNeeded, CutGiven, StepNeeded, StepGiven};
@@ -18,7 +18,7 @@ fn turn(work: &mut [u8], from: usize, size: Size, axis: Axis, to: usize)
 {
     match axis {
         Axis::Vertical => {
-            let all = energy::picture_bytes(size);
+            let all = pictures::picture_bytes(size);
             seam_moves::copy_between(work, from, all, to);
         }
         Axis::Horizontal => {
@@ -71,7 +71,7 @@ pub(crate) fn cut_at(work: &mut [u8], at: usize, size: Size, axis: Axis, seam: &
     ensures { λ _. ⌜ CutGiven (now (work .entry)) at size axis (now (seam .entry)) to (now (work .exit)) ⌝ }
 {
     let over = turned_size(axis, size);
-    let all = energy::picture_bytes(over);
+    let all = pictures::picture_bytes(over);
     let long = over.height;
     let end = at + all;
     seam_moves::close_up(&mut work[at..end], over, &seam[..long]);

@@ -7,7 +7,7 @@ use crate::cells::VERTICAL;
 use crate::cells::next_cell;
 use crate::cells::smaller;
 use crate::seams::step;
-use energy::Size;
+use pictures::Size;
 use seam_cut::Axis;
 ghost use Prim.Native.Nat.{_+_};
 ghost use Rattle.seam_retarget.specs.Kernels.{held, firstRow, alongRow, nextRow, tableRow, RowNeeded, RowGiven, NoTotals, Totals, MoreTotals};

@@ -14,3 +14,5 @@ pub mod Weights
 pub mod Steps
 pub mod Rows
 pub mod Loops
+pub mod Characterised
+pub mod Choosing

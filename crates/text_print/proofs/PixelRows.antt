@@ -11,9 +11,9 @@ use Rattle.grids.specs.Each.{Grid}
 use Rattle.grids.specs.Each as each-of
 use Rattle.grids.specs.Rows.{rowsOf, rowAt}
 use Rattle.grids.proofs.Rows.{part-end, length-rowsOf, grid-rowsOf, rowsOf-at}
-use Rattle.energy.specs.declared.pictures.Kind.{Kind}
-use Rattle.energy.specs.declared.pictures.Kind.the-variants.{Grey, Rgb}
-use Rattle.energy.specs.Pictures.{channelsOf}
+use Rattle.pictures.specs.declared.sizes.Kind.{Kind}
+use Rattle.pictures.specs.declared.sizes.Kind.the-variants.{Grey, Rgb}
+use Rattle.pictures.specs.Pictures.{channelsOf}
 use Rattle.text_theory.specs.Decimal.{digits}
 use Rattle.text_theory.specs.Files.{blank, opening, closing, closed, rowWord, each, joined, pixelText, lineText, rowText}
 use Rattle.text_theory.specs.Lengths.{total, spaced, pixelLength, rowLength}

@@ -10,8 +10,8 @@ use lib.Dec.{leb}
 use lib.ListN.{length, getD, drop, drop-of-length-le}
 use lib.Seq.{drop-cons}
 use borrow.Author.Tests.{leb-true, leb-false, le-leb, lt-leb}
-use Rattle.energy.specs.declared.pictures.Kind.{Kind}
-use Rattle.energy.specs.declared.pictures.Kind.the-variants.{Grey, Rgb}
+use Rattle.pictures.specs.declared.sizes.Kind.{Kind}
+use Rattle.pictures.specs.declared.sizes.Kind.the-variants.{Grey, Rgb}
 use Rattle.text_theory.specs.declared.Head.{Head}
 use Rattle.text_theory.specs.Decimal.{digits}
 use Rattle.text_theory.specs.Files.{kindText, headText, mapText}

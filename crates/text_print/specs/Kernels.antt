@@ -2,8 +2,8 @@
 use mathlib.Core.List.{List, _++_}
 use Prim.Native.Nat.{ℕ, _+_, _*_, _≤_}
 use lib.ListN.{length}
-use Rattle.energy.specs.declared.pictures.Kind.{Kind}
-use Rattle.energy.specs.Pictures.{channelsOf}
+use Rattle.pictures.specs.declared.sizes.Kind.{Kind}
+use Rattle.pictures.specs.Pictures.{channelsOf}
 use Rattle.grids.specs.Rows.{rowsOf, rowAt}
 use Rattle.text_theory.specs.Decimal.{digits}
 use Rattle.text_theory.specs.Files.{blank, each, pixelText}

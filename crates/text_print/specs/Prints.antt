@@ -8,8 +8,8 @@ use lib.Dec.{leb}
 use lib.ListN.{length, take, drop}
 use lib.Seq.{sets}
 use Rattle.grids.specs.Rows.{rowsOf}
-use Rattle.energy.specs.declared.pictures.Kind.{Kind}
-use Rattle.energy.specs.Pictures.{channelsOf}
+use Rattle.pictures.specs.declared.sizes.Kind.{Kind}
+use Rattle.pictures.specs.Pictures.{channelsOf}
 use Rattle.text_print.specs.declared.lengths.Left.{Left}
 use Rattle.text_print.specs.declared.lengths.Left.the-variants as lefts
 use Rattle.text_print.specs.declared.lines.Place.{Place}

@@ -1,11 +1,11 @@
 // How long lines are, as what is left of a room: whatever the numbers are, nothing overflows.
-use energy::Kind;
+use pictures::Kind;
 use text_theory::Head;
 ghost use mathlib.Core.Path.{_≡_};
 ghost use Prim.Native.Nat.{_+_, _*_, _≤_};
 ghost use lib.ListN.{length};
 ghost use Rattle.text_theory.specs.Decimal.{digits};
-ghost use Rattle.energy.specs.Pictures.{channelsOf};
+ghost use Rattle.pictures.specs.Pictures.{channelsOf};
 ghost use Rattle.grids.specs.Rows.{rowsOf, rowAt};
 ghost use Rattle.text_theory.specs.Files.{headText, rowText, mapText, kindText};
 ghost use Rattle.text_theory.specs.Lengths.{total, spaced, pixelLength};
@@ -159,7 +159,7 @@ fn take_pixels(room: usize, kind: Kind, samples: &[u8], n: usize) -> Left
 pub fn row_left(room: usize, kind: Kind, samples: &[u8]) -> Left
     ensures { λ l. ⌜ leftRead l ≡ less room (length (rowText kind (pixelsOf kind (now (samples .entry))))) ⌝ }
 {
-    let n = samples.len() / energy::channels(kind);
+    let n = samples.len() / pictures::channels(kind);
     let Left::Room(left) = take_pixels(room, kind, samples, n) else {
         return Left::Short;
     };

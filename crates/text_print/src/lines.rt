@@ -1,14 +1,14 @@
 // Lines printed into a lent space, at a place of it.
 use crate::lengths;
 use crate::lengths::Left;
-use energy::Kind;
+use pictures::Kind;
 use text_theory::Head;
 ghost use mathlib.Core.List.{_++_};
 ghost use Prim.Native.Nat.{_+_, _*_, _≤_};
 ghost use lib.ListN.{length};
 ghost use Rattle.text_theory.specs.Decimal.{digits};
 ghost use Rattle.text_theory.specs.Files.{blank, closed, each, pixelText, kindText, headText, rowText, mapText};
-ghost use Rattle.energy.specs.Pictures.{channelsOf};
+ghost use Rattle.pictures.specs.Pictures.{channelsOf};
 ghost use Rattle.grids.specs.Rows.{rowsOf, rowAt};
 ghost use Rattle.text_print.specs.Prints.{Put, pixelsOf, Printed};
 ghost use Rattle.text_print.specs.Kernels.{pairText, PixelNeeded, PixelsNeeded};
@@ -211,7 +211,7 @@ fn put_row(out: &mut [u8], at: usize, kind: Kind, samples: &[u8]) -> usize
     requires { ⌜ at + length (rowText kind (pixelsOf kind (now samples))) ≤ length (now out) ⌝ }
     ensures { λ r. ⌜ Printed (now (out .entry)) at (rowText kind (pixelsOf kind (now (samples .entry)))) (now (out .exit)) r ⌝ }
 {
-    let n = samples.len() / energy::channels(kind);
+    let n = samples.len() / pictures::channels(kind);
     let a = put_bytes(out, at, b"(row");
     let b = put_pixels(out, a, kind, samples, n);
     put_bytes(out, b, b")\n")

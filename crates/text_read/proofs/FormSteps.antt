@@ -11,7 +11,7 @@ use lib.ListN.{length, getD, drop, drop-of-length-le}
 use borrow.Author.Tests.{eqb-true, ne-eqb}
 use Rattle.text_theory.specs.Readers.{Get, give, on, _▷_, strip, behind, after, next, many}
 use Rattle.text_theory.specs.Decimal.{number}
-use Rattle.energy.specs.declared.pictures.Kind.the-variants.{Rgb}
+use Rattle.pictures.specs.declared.sizes.Kind.the-variants.{Rgb}
 use Rattle.text_theory.specs.Files.{blank, opening, closing, items, three, pixel}
 use Rattle.text_read.specs.declared.forms.Items.{Items}
 use Rattle.text_read.specs.declared.forms.Items.the-variants.{Samples, Pixels, Numbers}

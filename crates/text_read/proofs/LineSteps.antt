@@ -8,9 +8,9 @@ use native.Mathlib.Nat.{suc-mul}
 use native.Mathlib.Omega.{arith}
 use lib.ListN.{length, length-append}
 use Rattle.grids.specs.Rows.{flat}
-use Rattle.energy.specs.declared.pictures.Kind.{Kind}
-use Rattle.energy.specs.declared.pictures.Kind.the-variants.{Grey, Rgb}
-use Rattle.energy.specs.Pictures.{channelsOf}
+use Rattle.pictures.specs.declared.sizes.Kind.{Kind}
+use Rattle.pictures.specs.declared.sizes.Kind.the-variants.{Grey, Rgb}
+use Rattle.pictures.specs.Pictures.{channelsOf}
 use Rattle.text_theory.specs.Decimal.{digits, isDigit}
 use Rattle.text_theory.specs.Files.{blank, opening, closing, each, joined, pixelText, All, Pixel}
 use Rattle.text_theory.proofs.Decimals.{clear, number-reads}

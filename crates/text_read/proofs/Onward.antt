@@ -12,7 +12,7 @@ use Rattle.text_read.specs.declared.forms.Items.{Items}
 use Rattle.text_read.specs.declared.forms.Items.the-variants.{Samples, Pixels, Numbers}
 use Rattle.text_theory.specs.Readers.{Get, give, on, _▷_, strip, behind, after, next, many}
 use Rattle.text_theory.specs.Decimal.{number}
-use Rattle.energy.specs.declared.pictures.Kind.the-variants.{Grey, Rgb}
+use Rattle.pictures.specs.declared.sizes.Kind.the-variants.{Grey, Rgb}
 use Rattle.text_theory.specs.Files.{greyWord, rgbWord, lineEnd, either, kindGet}
 use Rattle.text_read.specs.Answers.{Told, counted, formOf, evenly}
 use Rattle.text_read.specs.Kernels.{passing, lineRest, numberedOf, Reached, linesOf}

@@ -10,8 +10,8 @@ use Rattle.text_read.specs.declared.forms.Items.{Items}
 use Rattle.text_read.specs.declared.forms.Items.the-variants.{Numbers}
 use Rattle.text_theory.specs.Readers.{Get, give, on, _▷_, strip, behind, after, next, manyUpTo, many}
 use Rattle.text_theory.specs.Decimal.{number}
-use Rattle.energy.specs.declared.pictures.Kind.{Kind}
-use Rattle.energy.specs.declared.pictures.Kind.the-variants.{Grey, Rgb}
+use Rattle.pictures.specs.declared.sizes.Kind.{Kind}
+use Rattle.pictures.specs.declared.sizes.Kind.the-variants.{Grey, Rgb}
 use Rattle.text_theory.specs.declared.Head.{Head}
 use Rattle.text_theory.specs.Files.{Parts, lineEnd, blank, closing, closed, rowWord, mapWord, items, pixel, line, headGet, file, ended, whole, parse}
 use Rattle.text_read.specs.declared.scanning.Facts.{Facts}

@@ -8,8 +8,8 @@ use native.Mathlib.Omega.{arith}
 use lib.Dec.{leb, ltb, eqb}
 use lib.ListN.{length, getD, drop, drop-of-length-le}
 use borrow.Author.Tests.{ne-eqb, leb-true, leb-false, le-ltb, lt-ltb}
-use Rattle.energy.specs.declared.pictures.Kind.{Kind}
-use Rattle.energy.specs.declared.pictures.Kind.the-variants.{Grey}
+use Rattle.pictures.specs.declared.sizes.Kind.{Kind}
+use Rattle.pictures.specs.declared.sizes.Kind.the-variants.{Grey}
 use Rattle.text_theory.specs.Readers.{give, on, strip}
 use Rattle.text_theory.specs.Decimal.{isDigit, further, upTo, number}
 use Rattle.text_theory.specs.Files.{greyWord, rgbWord, either, kindGet}

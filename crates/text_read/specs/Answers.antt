@@ -6,8 +6,8 @@ use mathlib.Core.List.{List, [], _∷_, map}
 use Prim.Native.Nat.{ℕ, _≤_, _<_}
 use lib.Dec.{leb, eqb}
 use lib.ListN.{length, drop}
-use Rattle.energy.specs.declared.pictures.Kind.{Kind}
-use Rattle.energy.specs.declared.pictures.Kind.the-variants.{Rgb}
+use Rattle.pictures.specs.declared.sizes.Kind.{Kind}
+use Rattle.pictures.specs.declared.sizes.Kind.the-variants.{Rgb}
 use Rattle.text_theory.specs.declared.Head.{Head}
 use Rattle.text_theory.specs.Readers.{Get, give, _▷_, after}
 use Rattle.text_theory.specs.Decimal.{number, isDigit}

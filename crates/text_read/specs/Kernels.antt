@@ -6,8 +6,8 @@ use mathlib.Core.List.{List, [], _∷_}
 use Prim.Native.Nat.{ℕ, zero, suc, _≤_}
 use lib.Dec.{ltb}
 use lib.ListN.{length, drop}
-use Rattle.energy.specs.declared.pictures.Kind.{Kind}
-use Rattle.energy.specs.declared.pictures.Kind.the-variants.{Grey, Rgb}
+use Rattle.pictures.specs.declared.sizes.Kind.{Kind}
+use Rattle.pictures.specs.declared.sizes.Kind.the-variants.{Grey, Rgb}
 use Rattle.text_theory.specs.Readers.{Get, give, _▷_, after, many}
 use Rattle.text_theory.specs.Decimal.{number, isDigit}
 use Rattle.text_theory.specs.Files.{lineEnd, closed, rowWord, mapWord, headGet}

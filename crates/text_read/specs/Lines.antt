@@ -7,7 +7,7 @@ use Prim.Native.Nat.{ℕ}
 use lib.Dec.{leb}
 use lib.ListN.{length, drop}
 use Rattle.grids.specs.Rows.{flat}
-use Rattle.energy.specs.declared.pictures.Kind.{Kind}
+use Rattle.pictures.specs.declared.sizes.Kind.{Kind}
 use Rattle.text_theory.specs.Readers.{Get, give, _▷_, after}
 use Rattle.text_theory.specs.Decimal.{number}
 use Rattle.text_theory.specs.Files.{rowWord, mapWord, pixel, line}

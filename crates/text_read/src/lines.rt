@@ -6,7 +6,7 @@ use crate::cursor::Read;
 use crate::cursor::class_of;
 use crate::forms::Items;
 use crate::scanning::items_of;
-use energy::Kind;
+use pictures::Kind;
 ghost use mathlib.Core.Path.{_≡_};
 ghost use mathlib.Core.List.{_++_};
 ghost use lib.ListN.{drop};
@@ -76,7 +76,7 @@ impl Cursor {
         let Read::Good(n, d) = c.rest(text, items_of(kind)) else {
             return Read::Broken;
         };
-        let channels = energy::channels(kind);
+        let channels = pictures::channels(kind);
         if out.len() / channels < n {
             return Read::Broken;
         }

@@ -3,7 +3,7 @@ use crate::cursor::Class;
 use crate::cursor::Cursor;
 use crate::cursor::Read;
 use crate::cursor::class_of;
-use energy::Kind;
+use pictures::Kind;
 ghost use Prim.Native.Nat.{_≤_, _<_};
 ghost use lib.ListN.{length};
 ghost use Rattle.text_theory.specs.Decimal.{number};

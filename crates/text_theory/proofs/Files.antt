@@ -11,8 +11,8 @@ use borrow.Author.Tests.{eqb-true, eq-eqb}
 use Rattle.text_theory.specs.Readers.{Get, give, _▷_, strip, after, many}
 use Rattle.text_theory.specs.Decimal.{digits, isDigit, number}
 use Rattle.grids.proofs.Shapes.{Any}
-use Rattle.energy.specs.declared.pictures.Kind.{Kind}
-use Rattle.energy.specs.declared.pictures.Kind.the-variants.{Grey, Rgb}
+use Rattle.pictures.specs.declared.sizes.Kind.{Kind}
+use Rattle.pictures.specs.declared.sizes.Kind.the-variants.{Grey, Rgb}
 use Rattle.text_theory.specs.declared.Head.{Head}
 use Rattle.text_theory.specs.Files.{Parts, lineEnd, blank, opening, closing, start, range, closed, rowWord, mapWord, greyWord, rgbWord, each, joined, kindText, pixelText, lineText, headText, text, either, kindGet, items, three, pixel, line, headGet, file, ended, whole, parse, All, Pixel, Numbers, Within}
 use Rattle.text_theory.proofs.Pairs.{Reads, strip-back, on-inv, after-inv, Sounds, give-sounds, after-sounds, then-sounds, soundly}

@@ -4,9 +4,9 @@ use mathlib.Core.List.{List, [], _∷_}
 use Prim.Native.Nat.{ℕ, suc, _+_}
 use native.Mathlib.Omega.{arith}
 use lib.ListN.{length, length-append}
-use Rattle.energy.specs.declared.pictures.Kind.{Kind}
-use Rattle.energy.specs.declared.pictures.Kind.the-variants.{Grey, Rgb}
-use Rattle.energy.specs.Pictures.{channelsOf}
+use Rattle.pictures.specs.declared.sizes.Kind.{Kind}
+use Rattle.pictures.specs.declared.sizes.Kind.the-variants.{Grey, Rgb}
+use Rattle.pictures.specs.Pictures.{channelsOf}
 use Rattle.text_theory.specs.declared.Head.{Head}
 use Rattle.text_theory.specs.Decimal.{digits}
 use Rattle.text_theory.specs.Files.{Parts, blank, opening, closing, start, range, closed, rowWord, mapWord, greyWord, rgbWord, each, joined, kindText, pixelText, lineText, rowText, mapText, headText, text, All, Pixel, Within}

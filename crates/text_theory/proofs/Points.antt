@@ -3,7 +3,7 @@ use mathlib.Core.Path.{_≡_, refl}
 use mathlib.Core.Option.{none, some}
 use mathlib.Core.List.{List, [], _∷_, map}
 use Prim.Native.Nat.{ℕ}
-use Rattle.energy.specs.declared.pictures.Kind.the-variants.{Grey, Rgb}
+use Rattle.pictures.specs.declared.sizes.Kind.the-variants.{Grey, Rgb}
 use Rattle.text_theory.specs.Readers.{strip, next, manyUpTo, many}
 use Rattle.text_theory.specs.Decimal.{digitsUpTo, digits, isDigit, further, upTo, number}
 use Rattle.text_theory.specs.Files.{Parts, lineEnd, blank, opening, closing, start, range, closed, rowWord, mapWord, greyWord, rgbWord, each, joined, kindText, pixelText, lineText, headText, text, kindGet, items, three, pixel, line, headGet, file, whole, parse}

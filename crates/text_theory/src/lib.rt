@@ -1,6 +1,6 @@
 // The text of a multi-size file: its definitions (specs/) and their laws (proofs/). The code that reads it is in `text_read`, the
 // code that prints it in `text_print`.
-use energy::Size;
+use pictures::Size;
 
 // What the lines of size and range say.
 pub struct Head {

@@ -2,11 +2,11 @@
 use crate::print_bytes;
 use crate::print_number;
 use crate::print_seam;
-use energy::Size;
 use file_build::Built;
 use file_read::Checked;
 use file_read::Shown;
 use libc::STDOUT_FILENO;
+use pictures::Size;
 use text_theory::Head;
 ghost use Prim.Native.Nat.{_≤_};
 ghost use lib.ListN.{length};
@@ -45,7 +45,7 @@ fn print_built(built: Built) {
             print_number(wide_length(n));
         }
         Built::Refused(why) => {
-            print_number(energy::number(why));
+            print_number(pictures::number(why));
         }
     }
 }
@@ -94,7 +94,7 @@ fn print_checked(checked: Checked) {
             print_number(wide_length(head.growth));
         }
         Checked::Refused(why) => {
-            print_number(energy::number(why));
+            print_number(pictures::number(why));
         }
     }
 }
@@ -106,7 +106,7 @@ fn print_shown(shown: Shown) {
             print_size(size);
         }
         Shown::Refused(why) => {
-            print_number(energy::number(why));
+            print_number(pictures::number(why));
         }
     }
 }
@@ -116,14 +116,14 @@ fn print_size(size: Size) {
     let kind = size.kind;
     print_number(wide_length(size.width));
     print_number(wide_length(size.height));
-    print_number(wide_length(energy::channels(kind)));
+    print_number(wide_length(pictures::channels(kind)));
 }
 
 // The number that a file is refused by, 0 where it is accepted.
 pub(crate) fn checked_number(checked: Checked) -> u64 {
     match checked {
         Checked::Accepted(_) => 0,
-        Checked::Refused(why) => energy::number(why),
+        Checked::Refused(why) => pictures::number(why),
     }
 }
 
@@ -131,7 +131,7 @@ pub(crate) fn checked_number(checked: Checked) -> u64 {
 pub(crate) fn shown_number(shown: Shown) -> u64 {
     match shown {
         Shown::Size(_) => 0,
-        Shown::Refused(why) => energy::number(why),
+        Shown::Refused(why) => pictures::number(why),
     }
 }
 

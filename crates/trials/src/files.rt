@@ -2,9 +2,9 @@
 use crate::answers;
 use crate::count;
 use crate::fill;
-use energy::Kind;
-use energy::Size;
 use libc::STDOUT_FILENO;
+use pictures::Kind;
+use pictures::Size;
 use text_theory::Head;
 ghost use Prim.Native.Nat.{_<_, _≤_};
 
@@ -41,7 +41,7 @@ fn trial(width: usize, height: usize, kind: Kind, depth: usize, growth: usize, s
         depth,
         growth,
     };
-    let bytes = count(height, width, energy::channels(kind));
+    let bytes = count(height, width, pictures::channels(kind));
     print_file(&space[..bytes], head);
     next
 }
@@ -64,7 +64,7 @@ pub(crate) fn print_uses(file: &[u8], head: Head)
     let width = size.width;
     let height = size.height;
     let kind = size.kind;
-    let samples = energy::channels(kind);
+    let samples = pictures::channels(kind);
     io::write_all(STDOUT_FILENO, file);
     check_in(file, 2304);
     let bytes = count(height, width, samples);

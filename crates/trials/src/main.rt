@@ -7,9 +7,9 @@ mod objects;
 mod retargets;
 mod rooms;
 
-use energy::Kind;
-use energy::Size;
 use libc::STDOUT_FILENO;
+use pictures::Kind;
+use pictures::Size;
 use seam_cut::Axis;
 use seam_find::Found;
 ghost use Prim.Native.Nat.{_<_, _≤_};
@@ -46,7 +46,7 @@ fn trial(width: usize, height: usize, kind: Kind, seed: u64) -> u64
         height,
         kind,
     };
-    let bytes = count(height, width, energy::channels(kind));
+    let bytes = count(height, width, pictures::channels(kind));
     print_seams(space, bytes, size);
     let pixels = count(height, width, 1);
     print_marked(space, bytes, marks, pixels, size, Axis::Vertical);
@@ -211,7 +211,7 @@ fn print_found(found: Found) {
             print_number(cost);
         }
         Found::Refused(why) => {
-            io::print_decimal(STDOUT_FILENO, energy::number(why));
+            io::print_decimal(STDOUT_FILENO, pictures::number(why));
         }
     }
 }
@@ -230,10 +230,10 @@ pub(crate) fn wide_column(n: u16) -> u64 {
 fn print_row(picture: &[u8], size: Size, r: usize) {
     let mut out = [7u32; 8];
     let verdict = energy::energies(picture, size, r, &mut out);
-    io::print_decimal(STDOUT_FILENO, energy::given(verdict));
+    io::print_decimal(STDOUT_FILENO, pictures::given(verdict));
     print_numbers(&out);
     io::write_all(STDOUT_FILENO, b" |");
-    print_bytes(energy::row(picture, size, r));
+    print_bytes(pictures::row(picture, size, r));
     io::write_all(STDOUT_FILENO, b"\n");
 }
 

@@ -6,9 +6,9 @@ use crate::print_bytes;
 use crate::print_number;
 use crate::wide_byte;
 use crate::wide_column;
-use energy::Kind;
-use energy::Size;
 use libc::STDOUT_FILENO;
+use pictures::Kind;
+use pictures::Size;
 use seam_objects::Removal;
 ghost use Prim.Native.Nat.{_<_, _≤_};
 
@@ -40,7 +40,7 @@ fn trial(width: usize, kind: Kind, budget: u16, seed: u64) -> u64
         height: 2,
         kind,
     };
-    let bytes = count(2, width, energy::channels(kind));
+    let bytes = count(2, width, pictures::channels(kind));
     let pixels = count(2, width, 1);
     print_removal(space, bytes, marks, pixels, size, budget);
     next
@@ -96,7 +96,7 @@ fn print_ending(how: Removal) {
             print_number(wide_column(count));
         }
         Removal::Refused(why) => {
-            io::print_decimal(STDOUT_FILENO, energy::number(why));
+            io::print_decimal(STDOUT_FILENO, pictures::number(why));
         }
     }
 }

@@ -4,9 +4,9 @@ use crate::fill;
 use crate::print_bytes;
 use crate::print_number;
 use crate::wide_byte;
-use energy::Kind;
-use energy::Size;
 use libc::STDOUT_FILENO;
+use pictures::Kind;
+use pictures::Size;
 use seam_retarget::Columns;
 use seam_retarget::Retargeted;
 use seam_retarget::Rows;
@@ -24,7 +24,7 @@ pub(crate) fn trial(width: usize, height: usize, kind: Kind, seed: u64) -> u64
         height,
         kind,
     };
-    let bytes = count(height, width, energy::channels(kind));
+    let bytes = count(height, width, pictures::channels(kind));
     for rows in 0..3 {
         print_retargets(&space[..bytes], size, rows);
     }
@@ -55,7 +55,7 @@ fn print_total(given: Retargeted) {
             print_number(total);
         }
         Retargeted::Refused(why) => {
-            io::print_decimal(STDOUT_FILENO, energy::number(why));
+            io::print_decimal(STDOUT_FILENO, pictures::number(why));
         }
     }
 }

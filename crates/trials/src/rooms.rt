@@ -4,8 +4,8 @@ use crate::count;
 use crate::damaged;
 use crate::files;
 use crate::fill;
-use energy::Kind;
-use energy::Size;
+use pictures::Kind;
+use pictures::Size;
 use text_theory::Head;
 ghost use Prim.Native.Nat.{_<_, _≤_};
 ghost use lib.ListN.{length};
@@ -26,7 +26,7 @@ fn generated(width: usize, height: usize, kind: Kind, seed: u64) -> u64
 {
     let mut space = [0u8; 72];
     let next = fill(&mut space, seed);
-    let bytes = count(height, width, energy::channels(kind));
+    let bytes = count(height, width, pictures::channels(kind));
     trial(&space[..bytes], width, height, kind);
     next
 }
@@ -67,7 +67,7 @@ fn print_rooms(picture: &[u8], head: Head, file: &[u8])
     files::check_in(file, less(32 * pixels));
     print_reads(file, picture.len(), pixels, 32 * pixels);
     let widest = width + head.growth;
-    let shown = count(height, widest, energy::channels(kind));
+    let shown = count(height, widest, pictures::channels(kind));
     print_shows(file, widest, shown, 32 * pixels);
 }
 

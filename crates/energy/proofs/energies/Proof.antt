@@ -6,10 +6,10 @@ use borrow.Author.Tests.{le-leb, lt-leb, lt-ltb, le-ltb}
 use denote.Ref.{now}
 use lib.Dec.{leb, ltb}
 use lib.ListN.{length, drop}
-use Rattle.energy.specs.Refusals.{_when_, given, refusal}
-use Rattle.energy.specs.Pictures.{sizeRules, picture}
+use Rattle.pictures.specs.Refusals.{_when_, given, refusal}
+use Rattle.pictures.specs.Pictures.{sizeRules, picture}
 use Rattle.energy.specs.Energy.{energies, energiesRules}
-use Rattle.energy.proofs.Rules.{served-first, refused-answer, refused-kept}
+use Rattle.pictures.proofs.Rules.{served-first, refused-answer, refused-kept}
 use Rattle.energy.proofs.energies.Statement.{statement}
 use Rattle.energy.proofs.energies.Tie as tie
 

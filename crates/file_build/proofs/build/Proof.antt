@@ -3,8 +3,8 @@ use mathlib.Core.Path.{_≡_, sym, ap, _∙_}
 use mathlib.Core.List.{_++_}
 use denote.Ref.{now}
 use lib.ListN.{length, drop, replicate}
-use Rattle.energy.specs.Refusals.{given, refusal}
-use Rattle.energy.proofs.Rules.{kept-by}
+use Rattle.pictures.specs.Refusals.{given, refusal}
+use Rattle.pictures.proofs.Rules.{kept-by}
 use Rattle.file_theory.specs.Rules.{buildRules}
 use Rattle.file_build.specs.Building.{fileIn}
 use borrow.Author.Needs.{needs}

@@ -9,12 +9,11 @@ use borrow.Author.Tests.{lt-ltb, le-ltb, leb-true, leb-false}
 use denote.Ref.{now}
 use lib.Dec.{ltb}
 use lib.ListN.{length}
-use Rattle.energy.specs.Refusals.{Rule, _when_, given, refusal}
-use Rattle.energy.specs.Pictures.{sizeRules}
-use Rattle.energy.proofs.Rules.{served-first, refused-answer}
-use Rattle.energy.proofs.Sizes.{sized-is}
+use Rattle.pictures.specs.Refusals.{Rule, _when_, given, refusal}
+use Rattle.pictures.specs.Pictures.{sizeRules, pixels}
+use Rattle.pictures.proofs.Rules.{served-first, refused-answer}
+use Rattle.pictures.proofs.Limits.{sized-is}
 use Rattle.map_theory.specs.Widths.{allowed}
-use Rattle.seam_find.specs.Finding.{pixels}
 use Rattle.file_theory.specs.Rules.{workRule, buildRules}
 use Rattle.file_build.specs.Building.{fileIn}
 use Rattle.file_build.proofs.Answers.{allowed-deep}

@@ -7,11 +7,10 @@ use borrow.Author.Needs.{needs}
 use borrow.Rule.Slice.PartMut.{putMid}
 use denote.Ref.{now}
 use lib.ListN.{length, drop}
-use Rattle.energy.specs.declared.pictures.Size.{Size}
-use Rattle.energy.specs.Refusals.{served}
-use Rattle.energy.specs.Pictures.{pictureBytes}
-use Rattle.seam_find.specs.Finding.{pictureIn}
-use Rattle.map_build.specs.Mapping.{mapBytes, mapAt, mapped}
+use Rattle.pictures.specs.declared.sizes.Size.{Size}
+use Rattle.pictures.specs.Refusals.{served}
+use Rattle.pictures.specs.Pictures.{pictureBytes, pictureIn}
+use Rattle.map_build.specs.Building.{mapBytes, mapAt, mapped}
 use Rattle.map_build.proofs.Steps.{next-mapped}
 use Rattle.map_build.proofs.Spaces.{Room, room-is, there-ofSize, next-needed, First, first-is}
 use Rattle.map_build.proofs.cut_seams.Statement.{statement}

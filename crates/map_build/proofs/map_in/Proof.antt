@@ -5,10 +5,10 @@ use Prim.Native.Nat.{_+_}
 use borrow.Author.Needs.{needs}
 use denote.Ref.{now}
 use lib.ListN.{drop}
-use Rattle.energy.specs.Refusals.{given, served}
-use Rattle.energy.proofs.Rules.{refused-kept}
-use Rattle.seam_find.specs.Finding.{pictureIn}
-use Rattle.map_build.specs.Mapping.{mapBytes, mapAt, mapped}
+use Rattle.pictures.specs.Refusals.{given, served}
+use Rattle.pictures.proofs.Rules.{refused-kept}
+use Rattle.pictures.specs.Pictures.{pictureIn}
+use Rattle.map_build.specs.Building.{mapBytes, mapAt, mapped}
 use Rattle.map_build.proofs.map_in.Statement.{statement}
 use Rattle.map_build.proofs.map_in.Tie as tie
 

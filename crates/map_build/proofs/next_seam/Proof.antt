@@ -11,10 +11,9 @@ use lib.Seq.{take-at, length-take-le}
 use Rattle.grids.specs.Cut.{cut}
 use Rattle.grids.proofs.Shapes.{each-length}
 use Rattle.grids.proofs.Rows.{part-end}
-use Rattle.energy.specs.Pictures.{channelsOf, pictureBytes, bytes}
-use Rattle.energy.proofs.Sizes.{sides-are}
-use Rattle.seam_find.specs.Seams.{seamOf}
-use Rattle.seam_find.specs.Finding.{pixels, pictureIn}
+use Rattle.pictures.specs.Pictures.{channelsOf, pictureBytes, bytes, pixels, pictureIn}
+use Rattle.pictures.proofs.Limits.{sides-are}
+use Rattle.seam_theory.specs.PictureSeams.{seamOf}
 use Rattle.seam_cut.proofs.Inside.{seam-inside}
 use Rattle.map_build.proofs.CutIn.{cut-space, cut-seam, next-put}
 use Rattle.map_build.proofs.next_seam.Statement.{statement}

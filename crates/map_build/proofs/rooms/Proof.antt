@@ -7,12 +7,11 @@ use native.Mathlib.Omega.{arith}
 use borrow.Author.Needs.{needs}
 use borrow.Author.Tests.{lt-ltb, le-ltb, le-leb, lt-leb}
 use lib.Dec.{leb, ltb}
-use Rattle.energy.specs.Refusals.{Rule, _when_, given, refusal, served}
-use Rattle.energy.specs.Pictures.{pictureBytes, sideRules}
-use Rattle.energy.proofs.Rules.{served-first, refused-answer}
-use Rattle.energy.proofs.Sizes.{Sides, sides-are}
-use Rattle.seam_find.specs.Finding.{pixels}
-use Rattle.map_build.specs.Mapping.{mapBytes, mapAt, mapInRules}
+use Rattle.pictures.specs.Refusals.{Rule, _when_, given, refusal, served}
+use Rattle.pictures.specs.Pictures.{pictureBytes, sideRules, pixels}
+use Rattle.pictures.proofs.Rules.{served-first, refused-answer}
+use Rattle.pictures.proofs.Limits.{Sides, sides-are}
+use Rattle.map_build.specs.Building.{mapBytes, mapAt, mapInRules}
 use Rattle.map_build.proofs.rooms.Statement.{statement}
 use Rattle.map_build.proofs.rooms.Tie as tie
 

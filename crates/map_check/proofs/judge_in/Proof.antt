@@ -4,11 +4,11 @@ use native.Mathlib.Omega.{arith}
 use borrow.Author.Needs.{needs}
 use denote.Ref.{now}
 use lib.ListN.{length, replicate}
-use Rattle.energy.specs.Refusals.{given, refusal}
-use Rattle.energy.proofs.Rules.{served-first, refused-answer, refusal-most, number-some}
-use Rattle.seam_find.specs.Finding.{pictureIn, worked}
+use Rattle.pictures.specs.Refusals.{given, refusal, worked}
+use Rattle.pictures.proofs.Rules.{served-first, refused-answer, refusal-most, number-some}
+use Rattle.pictures.specs.Pictures.{pictureIn}
 use Rattle.seam_find.proofs.Worked.{worked-not}
-use Rattle.map_check.specs.Judging.{recordedIn, judgeInRules, recordedRules}
+use Rattle.map_check.specs.Checking.{recordedIn, judgeInRules, recordedRules}
 use Rattle.map_check.proofs.Answers.{worked-judged}
 use Rattle.map_check.proofs.judge_in.Statement.{statement}
 use Rattle.map_check.proofs.judge_in.Tie as tie

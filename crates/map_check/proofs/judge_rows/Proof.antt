@@ -9,15 +9,14 @@ use lib.ListN.{length, take, drop}
 use lib.Seq.{length-take-le, length-front}
 use Rattle.grids.specs.Rows.{flat}
 use Rattle.grids.proofs.Parts.{part-length}
-use Rattle.energy.specs.Refusals.{served}
-use Rattle.energy.specs.Pictures.{pictureBytes}
+use Rattle.pictures.specs.Refusals.{served}
+use Rattle.pictures.specs.Pictures.{pictureBytes, pictureIn}
 use Rattle.map_theory.specs.Maps.{mapOf}
 use Rattle.map_theory.specs.Judged.{every, numbers}
-use Rattle.seam_find.specs.Seams.{seamOf}
-use Rattle.seam_find.specs.Finding.{pictureIn}
+use Rattle.seam_theory.specs.PictureSeams.{seamOf}
 use Rattle.map_build.specs.Numbers.{pairs}
-use Rattle.map_build.specs.Mapping.{mapBytes}
-use Rattle.map_check.specs.Judging.{recordedAt, recordedIn}
+use Rattle.map_build.specs.Building.{mapBytes}
+use Rattle.map_check.specs.Checking.{recordedAt, recordedIn}
 use Rattle.map_check.proofs.Spaces.{Fits, fits-is}
 use Rattle.map_check.proofs.Answers.{nine, compared-is, maps-at}
 use Rattle.map_check.proofs.judge_rows.Statement.{statement}

@@ -4,7 +4,7 @@ use Prim.Native.Nat.{_*_, _≤_}
 use native.Mathlib.Omega.{arith}
 use denote.Ref.{now}
 use lib.ListN.{length}
-use Rattle.energy.specs.Pictures.{channelsOf}
+use Rattle.pictures.specs.Pictures.{channelsOf}
 use Rattle.map_show.specs.Showing.{rowShown}
 use Rattle.map_show.proofs.Lengths.{channels-most, shown-most, narrow-is, wide-is}
 use Rattle.map_show.proofs.Judging.{refused-length, refused-space, nothing-refused, shown-room, keep-ready, grow-ready}

@@ -8,13 +8,13 @@ use borrow.Author.Tests.{eq-eqb, ne-eqb}
 use denote.Ref.{now}
 use lib.Dec.{eqb}
 use lib.ListN.{length, drop, replicate}
-use Rattle.energy.specs.declared.refusals.Refusal.the-variants.{Last}
-use Rattle.energy.specs.Refusals.{Rule, _when_, given, refusal}
-use Rattle.energy.specs.Pictures.{channelsOf, picture, bytes}
-use Rattle.energy.proofs.Rules.{served-first, refused-answer, refusal-most}
-use Rattle.energy.proofs.Sizes.{sized-is}
+use Rattle.pictures.specs.declared.refusals.Refusal.the-variants.{Last}
+use Rattle.pictures.specs.Refusals.{Rule, _when_, given, refusal}
+use Rattle.pictures.specs.Pictures.{channelsOf, picture, bytes}
+use Rattle.pictures.proofs.Rules.{served-first, refused-answer, refusal-most}
+use Rattle.pictures.proofs.Limits.{sized-is}
 use Rattle.seam_cut.specs.Axes.{turnedSize, seamAlong, costAlong, cutAlong}
-use Rattle.seam_cut.specs.Carving.{cleared, findRules, cutRules}
+use Rattle.seam_cut.specs.Cutting.{cleared, findRules, cutRules}
 use Rattle.seam_cut.specs.Kernels.{SeamNeeded}
 use Rattle.seam_cut.proofs.Buffers.{rooms-are, left-as-was, work-as-was}
 use Rattle.seam_cut.proofs.Turns.{turned-some}

@@ -9,8 +9,8 @@ use lib.ListN.{length, take, drop, replicate}
 use lib.Seq.{take-at, length-take-le}
 use Rattle.grids.specs.Each.{Each}
 use Rattle.grids.proofs.Shapes.{each-length}
-use Rattle.energy.specs.Pictures.{channelsOf, picture, bytes}
-use Rattle.energy.proofs.Sizes.{Sized, sized-is}
+use Rattle.pictures.specs.Pictures.{channelsOf, picture, bytes}
+use Rattle.pictures.proofs.Limits.{Sized, sized-is}
 use Rattle.seam_cut.specs.Axes.{turnedSize, seamAlong, cutAlong}
 use Rattle.seam_cut.proofs.Turns.{bytes-few}
 use Rattle.seam_cut.proofs.Inside.{along-inside}

@@ -4,11 +4,11 @@ use mathlib.Core.List.{_++_}
 use borrow.Author.Needs.{needs}
 use denote.Ref.{now}
 use lib.ListN.{length, drop}
-use Rattle.energy.specs.Refusals.{given, refusal}
-use Rattle.energy.specs.Pictures.{picture}
-use Rattle.energy.proofs.Rules.{refusal-most}
+use Rattle.pictures.specs.Refusals.{given, refusal}
+use Rattle.pictures.specs.Pictures.{picture}
+use Rattle.pictures.proofs.Rules.{refusal-most}
 use Rattle.seam_cut.specs.Axes.{turnedSize, seamAlong, costAlong}
-use Rattle.seam_cut.specs.Carving.{findRules}
+use Rattle.seam_cut.specs.Cutting.{findRules}
 use Rattle.seam_cut.proofs.Buffers.{rooms-are, left-as-was, work-as-was}
 use Rattle.seam_cut.proofs.find.Statement.{statement}
 use Rattle.seam_cut.proofs.find.Tie as tie

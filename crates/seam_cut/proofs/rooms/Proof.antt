@@ -7,13 +7,12 @@ use native.Mathlib.Omega.{arith}
 use borrow.Author.Needs.{needs}
 use borrow.Author.Tests.{lt-ltb, le-ltb}
 use lib.Dec.{ltb}
-use Rattle.energy.specs.Refusals.{Rule, _when_, given, refusal}
-use Rattle.energy.specs.Pictures.{sizeRules}
-use Rattle.energy.proofs.Rules.{served-first, refused-answer}
-use Rattle.energy.proofs.Sizes.{sized-is}
-use Rattle.seam_find.specs.Finding.{pixels}
+use Rattle.pictures.specs.Refusals.{Rule, _when_, given, refusal}
+use Rattle.pictures.specs.Pictures.{sizeRules, pixels}
+use Rattle.pictures.proofs.Rules.{served-first, refused-answer}
+use Rattle.pictures.proofs.Limits.{sized-is}
 use Rattle.seam_cut.specs.Axes.{turnedSize}
-use Rattle.seam_cut.specs.Carving.{findRules}
+use Rattle.seam_cut.specs.Cutting.{findRules}
 use Rattle.seam_cut.proofs.rooms.Statement.{statement}
 use Rattle.seam_cut.proofs.rooms.Tie as tie
 

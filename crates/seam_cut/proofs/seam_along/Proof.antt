@@ -5,9 +5,9 @@ use native.Mathlib.Omega.{arith}
 use borrow.Author.Needs.{needs}
 use denote.Ref.{now}
 use lib.ListN.{length, take, drop, replicate}
-use Rattle.energy.specs.Pictures.{pictureBytes, picture}
-use Rattle.energy.proofs.Sizes.{Sized, sized-is}
-use Rattle.seam_find.specs.Seams.{seamOf, costOf}
+use Rattle.pictures.specs.Pictures.{pictureBytes, picture}
+use Rattle.pictures.proofs.Limits.{Sized, sized-is}
+use Rattle.seam_theory.specs.PictureSeams.{seamOf, costOf}
 use Rattle.seam_cut.specs.Axes.{turnedSize, turned, seamAlong, costAlong}
 use Rattle.seam_cut.proofs.Turns.{turned-bytes, turned-pixels, turned-sides, turned-picture, bytes-few}
 use Rattle.seam_cut.proofs.FindIn.{FoundThere, find-served}

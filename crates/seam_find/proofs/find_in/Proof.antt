@@ -9,12 +9,12 @@ use borrow.Author.Tests.{lt-ltb, le-ltb}
 use denote.Ref.{now}
 use lib.Dec.{ltb}
 use lib.ListN.{length, take, drop, replicate}
-use Rattle.energy.specs.Refusals.{Rule, _when_, given, refusal, served}
-use Rattle.energy.specs.Pictures.{sideRules, pictureBytes, picture}
-use Rattle.energy.proofs.Rules.{served-first, refused-answer, kept-by}
-use Rattle.energy.proofs.Sizes.{Sides, sides-are, sized-served}
-use Rattle.seam_find.specs.Seams.{seamOf, costOf}
-use Rattle.seam_find.specs.Finding.{findRules, pixels}
+use Rattle.pictures.specs.Refusals.{Rule, _when_, given, refusal, served}
+use Rattle.pictures.specs.Pictures.{sideRules, pictureBytes, picture, pixels}
+use Rattle.pictures.proofs.Rules.{served-first, refused-answer, kept-by}
+use Rattle.pictures.proofs.Limits.{Sides, sides-are, sized-served}
+use Rattle.seam_theory.specs.PictureSeams.{seamOf, costOf}
+use Rattle.seam_find.specs.Finding.{findRules}
 use Rattle.seam_find.proofs.find_in.Statement.{statement}
 use Rattle.seam_find.proofs.find_in.Tie as tie
 

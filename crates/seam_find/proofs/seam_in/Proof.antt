@@ -11,8 +11,8 @@ use lib.Seq.{length-take-le}
 use Rattle.grids.specs.Table.{table}
 use Rattle.grids.specs.Rows.{flat}
 use Rattle.grids.proofs.Rows.{part-end}
-use Rattle.energy.specs.Pictures.{pictureBytes}
-use Rattle.energy.proofs.Sizes.{Sized, sized-is}
+use Rattle.pictures.specs.Pictures.{pictureBytes}
+use Rattle.pictures.proofs.Limits.{Sized, sized-is}
 use Rattle.seam_find.specs.Kernels.{costsOf, sumsDown, waysUp, columnsTo}
 use Rattle.seam_find.proofs.Costs.{front-most}
 use Rattle.seam_find.proofs.Ways.{ways-long}

@@ -9,10 +9,10 @@ use denote.Ref.{now}
 use lib.Dec.{eqb}
 use lib.ListN.{length, replicate}
 use Rattle.grids.specs.Cut.{cut}
-use Rattle.energy.specs.declared.pictures.Size.{Size}
-use Rattle.energy.specs.Refusals.{Rule, _when_, given, refusal}
-use Rattle.energy.specs.Pictures.{channelsOf, sizeRules, picture, bytes}
-use Rattle.energy.proofs.Rules.{served-first, refused-answer, refused-kept}
+use Rattle.pictures.specs.declared.sizes.Size.{Size}
+use Rattle.pictures.specs.Refusals.{Rule, _when_, given, refusal}
+use Rattle.pictures.specs.Pictures.{channelsOf, sizeRules, picture, bytes}
+use Rattle.pictures.proofs.Rules.{served-first, refused-answer, refused-kept}
 use Rattle.seam_moves.specs.Moving.{outside, closeRules}
 use Rattle.seam_moves.proofs.close_up.Statement.{statement}
 use Rattle.seam_moves.proofs.close_up.Tie as tie

@@ -8,11 +8,11 @@ use denote.Ref.{now}
 use lib.Dec.{ltb}
 use lib.ListN.{length, drop}
 use Rattle.grids.specs.Exchange.{exchange}
-use Rattle.energy.specs.declared.pictures.Size.{Size}
-use Rattle.energy.specs.Refusals.{Rule, _when_, given, refusal}
-use Rattle.energy.specs.Pictures.{pictureBytes, sizeRules, picture, bytes}
-use Rattle.energy.proofs.Rules.{served-first, refused-answer, refused-kept}
-use Rattle.energy.proofs.Sizes.{sized-is}
+use Rattle.pictures.specs.declared.sizes.Size.{Size}
+use Rattle.pictures.specs.Refusals.{Rule, _when_, given, refusal}
+use Rattle.pictures.specs.Pictures.{pictureBytes, sizeRules, picture, bytes}
+use Rattle.pictures.proofs.Rules.{served-first, refused-answer, refused-kept}
+use Rattle.pictures.proofs.Limits.{sized-is}
 use Rattle.seam_moves.specs.Moving.{exchangeRules}
 use Rattle.seam_moves.proofs.exchange.Statement.{statement}
 use Rattle.seam_moves.proofs.exchange.Tie as tie

@@ -5,10 +5,9 @@ use Prim.Native.Nat.{_*_, _≤_}
 use native.Mathlib.Omega.{arith}
 use borrow.Author.Needs.{needs}
 use lib.Seq.{length-take-le}
-use Rattle.energy.specs.Refusals.{served}
-use Rattle.energy.specs.Pictures.{pictureBytes}
-use Rattle.energy.proofs.Sizes.{sides-are}
-use Rattle.seam_find.specs.Finding.{pixels}
+use Rattle.pictures.specs.Refusals.{served}
+use Rattle.pictures.specs.Pictures.{pictureBytes, pixels}
+use Rattle.pictures.proofs.Limits.{sides-are}
 use Rattle.seam_objects.proofs.Front.{front-found, front-refused, front-cut}
 use Rattle.seam_objects.proofs.cut_front.Statement.{statement}
 use Rattle.seam_objects.proofs.cut_front.Tie as tie

@@ -4,7 +4,7 @@ use Prim.Native.Nat.{ℕ}
 use borrow.Author.Needs.{needs}
 use denote.Ref.{now}
 use lib.ListN.{length, replicate}
-use Rattle.energy.specs.Refusals.{given, refusal}
+use Rattle.pictures.specs.Refusals.{given, refusal}
 use Rattle.seam_objects.specs.Removing.{removalRules}
 use Rattle.seam_objects.proofs.Rooms.{rooms-rules, rooms-are, refused-all}
 use Rattle.seam_objects.proofs.remove.Statement.{statement}

@@ -6,9 +6,9 @@ use native.Mathlib.Omega.{arith}
 use borrow.Author.Needs.{needs}
 use denote.Ref.{now}
 use lib.ListN.{length, replicate}
-use Rattle.energy.specs.Refusals.{served}
-use Rattle.energy.specs.Pictures.{pictureBytes}
-use Rattle.energy.proofs.Sizes.{sides-served}
+use Rattle.pictures.specs.Refusals.{served}
+use Rattle.pictures.specs.Pictures.{pictureBytes}
+use Rattle.pictures.proofs.Limits.{sides-served}
 use Rattle.seam_retarget.specs.Retargeting.{leftSize}
 use Rattle.seam_retarget.proofs.Slots.{smaller-sides}
 use Rattle.seam_retarget.proofs.Answers.{no-totals, LastSure, last-sure, first-needed, below-needed, three-long, part-long, served as answer}

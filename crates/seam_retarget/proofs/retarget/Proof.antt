@@ -4,9 +4,9 @@ use mathlib.Core.List.{_++_}
 use borrow.Author.Needs.{needs}
 use denote.Ref.{now}
 use lib.ListN.{length, drop, replicate}
-use Rattle.energy.specs.Refusals.{given, refusal}
-use Rattle.energy.specs.Pictures.{pictureBytes, bytes}
-use Rattle.energy.proofs.Rules.{kept-by}
+use Rattle.pictures.specs.Refusals.{given, refusal}
+use Rattle.pictures.specs.Pictures.{pictureBytes, bytes}
+use Rattle.pictures.proofs.Rules.{kept-by}
 use Rattle.seam_retarget.specs.Retargeting.{leftSize, cellOf, retargetRules}
 use Rattle.seam_retarget.proofs.Answers.{needed-are}
 use Rattle.seam_retarget.proofs.retarget.Statement.{statement}

@@ -7,11 +7,10 @@ use native.Mathlib.Omega.{arith}
 use borrow.Author.Needs.{needs}
 use borrow.Author.Tests.{lt-ltb, le-ltb, le-leb, lt-leb}
 use lib.Dec.{leb, ltb}
-use Rattle.energy.specs.Refusals.{Rule, _when_, given, refusal, served}
-use Rattle.energy.specs.Pictures.{pictureBytes, sizeRules}
-use Rattle.energy.proofs.Rules.{served-first, refused-answer}
-use Rattle.energy.proofs.Sizes.{Sized, sized-is, sides-served}
-use Rattle.seam_find.specs.Finding.{pixels}
+use Rattle.pictures.specs.Refusals.{Rule, _when_, given, refusal, served}
+use Rattle.pictures.specs.Pictures.{pictureBytes, sizeRules, pixels}
+use Rattle.pictures.proofs.Rules.{served-first, refused-answer}
+use Rattle.pictures.proofs.Limits.{Sized, sized-is, sides-served}
 use Rattle.seam_retarget.specs.Retargeting.{leftSize, workBytes, retargetRules}
 use Rattle.seam_retarget.proofs.Slots.{smaller-sides}
 use Rattle.seam_retarget.proofs.rooms.Statement.{statement}

@@ -1,7 +1,7 @@
 -- `energy::kernels::line_energies` meets its contract: each kind's channels are those of the function called.
 use mathlib.Core.Path.{ap}
 use borrow.Author.Needs.{needs}
-use Rattle.energy.specs.Pictures.{channelsOf}
+use Rattle.pictures.specs.Pictures.{channelsOf}
 use Rattle.energy.proofs.kernels.line_energies.Statement.{statement}
 use Rattle.energy.proofs.kernels.line_energies.Tie as tie
 

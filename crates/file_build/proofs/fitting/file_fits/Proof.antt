@@ -7,8 +7,8 @@ use denote.Ref.{now}
 use lib.ListN.{length, take, length-replicate}
 use lib.Seq.{length-take-le}
 use Rattle.seam_theory.specs.Paths.{run}
-use Rattle.energy.specs.Pictures.{picture}
-use Rattle.energy.proofs.Sizes.{Sized, sized-is}
+use Rattle.pictures.specs.Pictures.{picture}
+use Rattle.pictures.proofs.Limits.{Sized, sized-is}
 use Rattle.text_theory.specs.Files.{headText, mapText}
 use Rattle.text_theory.specs.Lengths.{total, spaced, rowLength}
 use Rattle.text_print.specs.Prints.{less}

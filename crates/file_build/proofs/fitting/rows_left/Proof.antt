@@ -5,7 +5,7 @@ use Prim.Native.Nat.{ℕ, _-_, _<_}
 use native.Mathlib.Omega.{arith}
 use denote.Ref.{now}
 use lib.ListN.{length, getD}
-use Rattle.energy.specs.Pictures.{picture as Pictures·picture}
+use Rattle.pictures.specs.Pictures.{picture as Pictures·picture}
 use Rattle.text_theory.specs.Files.{rowText}
 use Rattle.text_theory.specs.Lengths.{rowLength}
 use Rattle.text_print.specs.Prints.{pixelsOf}

@@ -5,7 +5,7 @@ use Prim.Native.Nat.{ℕ, _+_, _-_, _≤_, _<_}
 use native.Mathlib.Omega.{arith}
 use denote.Ref.{now}
 use lib.ListN.{length, getD, take}
-use Rattle.energy.specs.Pictures.{picture as Pictures·picture}
+use Rattle.pictures.specs.Pictures.{picture as Pictures·picture}
 use Rattle.text_theory.specs.Files.{rowWord, each, pixelText, lineText, rowText}
 use Rattle.text_print.specs.declared.lines.Place.the-variants as places
 use Rattle.text_print.specs.Prints.{pixelsOf, Printed}

@@ -3,7 +3,7 @@ use Prim.Native.Nat.{_≤_}
 use native.Mathlib.Nat.{mul-le-mul}
 use native.Mathlib.Omega.{arith}
 use denote.Ref.{now}
-use Rattle.seam_find.specs.Finding.{pixels}
+use Rattle.pictures.specs.Pictures.{pixels}
 use Rattle.file_read.specs.Kernels.{Open}
 use Rattle.file_read.proofs.Parsed.{opened}
 use Rattle.file_read.proofs.Answered.{is-open}

@@ -5,9 +5,8 @@ use native.Mathlib.Nat.{mul-le-mul}
 use native.Mathlib.Omega.{arith}
 use denote.Ref.{now}
 use lib.ListN.{length}
-use Rattle.energy.specs.Refusals.{served}
-use Rattle.energy.specs.Pictures.{pictureBytes}
-use Rattle.seam_find.specs.Finding.{pixels}
+use Rattle.pictures.specs.Refusals.{served}
+use Rattle.pictures.specs.Pictures.{pictureBytes, pixels}
 use Rattle.file_read.proofs.Parsed.{Parsed, opened}
 use Rattle.file_read.proofs.Standing.{judge-room, map-judged}
 use borrow.Author.Needs.{needs}

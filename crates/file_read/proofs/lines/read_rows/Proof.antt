@@ -7,7 +7,7 @@ use borrow.Author.Needs.{needs}
 use borrow.Rule.Slice.PartMut.{midOf, same-len-mid}
 use denote.Ref.{now}
 use Rattle.grids.proofs.Rows.{part-end}
-use Rattle.energy.specs.Pictures.{rowBytes, bytes}
+use Rattle.pictures.specs.Pictures.{rowBytes, bytes}
 use Rattle.grids.proofs.Parts.{part-length}
 use Rattle.text_theory.specs.Files.{parse}
 use Rattle.file_theory.specs.Shows.{rowsIn}

@@ -1,7 +1,7 @@
 -- `file_read::opening::open` meets its contract.
 use mathlib.Core.Path.{sym, ap, _∙_}
 use borrow.Author.Tests.{not-true, not-false}
-use Rattle.energy.specs.Refusals.{given}
+use Rattle.pictures.specs.Refusals.{given}
 use Rattle.file_read.proofs.Opened.{open-broken, open-sides, open-counts, open-range, open-served}
 use borrow.Author.Needs.{needs}
 use Rattle.file_read.proofs.opening.open.Statement.{statement}

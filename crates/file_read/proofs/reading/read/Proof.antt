@@ -3,7 +3,7 @@ use mathlib.Core.Path.{_≡_, sym, ap, _∙_}
 use native.Mathlib.Omega.{arith}
 use denote.Ref.{now}
 use lib.ListN.{length}
-use Rattle.energy.specs.Refusals.{given, refusal}
+use Rattle.pictures.specs.Refusals.{given, refusal}
 use Rattle.file_read.specs.Kernels.{Open, spaceRules}
 use Rattle.file_read.proofs.Parsed.{opened}
 use Rattle.file_read.proofs.Answered.{is-open}

@@ -4,10 +4,9 @@ use Prim.Native.Nat.{_≤_}
 use native.Mathlib.Nat.{mul-le-mul}
 use native.Mathlib.Omega.{arith}
 use borrow.Author.Tests.{lt-ltb, le-ltb}
-use Rattle.energy.specs.Refusals.{served}
-use Rattle.energy.specs.Pictures.{pictureBytes}
-use Rattle.energy.proofs.Sizes.{sides-are}
-use Rattle.seam_find.specs.Finding.{pixels}
+use Rattle.pictures.specs.Refusals.{served}
+use Rattle.pictures.specs.Pictures.{pictureBytes, pixels}
+use Rattle.pictures.proofs.Limits.{sides-are}
 use borrow.Author.Needs.{needs}
 use Rattle.file_read.proofs.reading.rooms.Statement.{statement}
 use Rattle.file_read.proofs.reading.rooms.Tie as tie

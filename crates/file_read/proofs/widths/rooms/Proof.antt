@@ -6,7 +6,7 @@ use borrow.Author.Tests.{lt-ltb, le-ltb, le-leb, lt-leb}
 use Rattle.map_theory.specs.Widths.{offered}
 use Rattle.map_theory.proofs.Shown.{allowed-is, offered-is}
 use Rattle.file_read.proofs.Offered.{growth-most, pixels-most, Bounded, bounded}
-use Rattle.energy.proofs.Sizes.{sides-are}
+use Rattle.pictures.proofs.Limits.{sides-are}
 use borrow.Author.Needs.{needs}
 use Rattle.file_read.proofs.widths.rooms.Statement.{statement}
 use Rattle.file_read.proofs.widths.rooms.Tie as tie

@@ -2,7 +2,7 @@
 use mathlib.Core.Path.{_≡_, sym, ap, _∙_}
 use denote.Ref.{now}
 use lib.ListN.{length, length-replicate, replicate}
-use Rattle.energy.specs.Refusals.{given, refusal}
+use Rattle.pictures.specs.Refusals.{given, refusal}
 use Rattle.text_theory.specs.Files.{parse}
 use Rattle.file_read.specs.Kernels.{Open, wantedRules, judgedIn}
 use Rattle.file_read.proofs.Parsed.{opened}

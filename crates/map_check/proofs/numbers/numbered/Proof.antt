@@ -8,7 +8,7 @@ use lib.ListN.{length, getD, drop, length-take}
 use Rattle.grids.specs.Rows.{rowsOf}
 use Rattle.grids.proofs.Rows.{part-end, length-rowsOf, rowsOf-at}
 use Rattle.map_theory.specs.Judged.{every, numbers}
-use Rattle.map_check.specs.Judging.{numbersIn}
+use Rattle.map_check.specs.Checking.{numbersIn}
 use Rattle.map_check.proofs.Recorded.{numbers-row}
 use Rattle.map_check.proofs.Turns.{every-ok, every-bad, every-end}
 use Rattle.map_check.proofs.numbers.numbered.Statement.{statement}

@@ -6,7 +6,7 @@ use borrow.Author.Needs.{needs}
 use Rattle.grids.specs.Rows.{rowAt}
 use Rattle.grids.proofs.Rows.{rowAt-short}
 use Rattle.map_theory.specs.Judged.{columnOf}
-use Rattle.map_check.specs.Judging.{numbersIn}
+use Rattle.map_check.specs.Checking.{numbersIn}
 use Rattle.map_check.proofs.Recorded.{numbers-row}
 use Rattle.map_check.proofs.Columns.{column-most}
 use Rattle.map_check.proofs.seams.column_at.Statement.{statement}

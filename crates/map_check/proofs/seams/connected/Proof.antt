@@ -9,10 +9,10 @@ use lib.ListN.{length, getD, drop}
 use Rattle.grids.specs.Rows.{rowsOf, rowAt}
 use Rattle.grids.proofs.Rows.{part-end}
 use Rattle.seam_theory.specs.Paths.{beside}
-use Rattle.map_theory.specs.Choices.{linked}
+use Rattle.seam_theory.specs.Choices.{linked}
 use Rattle.map_theory.specs.Judged.{columnOf, recorded}
 use Rattle.map_theory.proofs.Judged.{connected-is}
-use Rattle.map_check.specs.Judging.{numbersIn}
+use Rattle.map_check.specs.Checking.{numbersIn}
 use Rattle.map_check.proofs.Turns.{Passed, passed-more}
 use Rattle.map_check.proofs.Columns.{connected-bad, linked-ok, linked-bad, linked-end, recorded-at, length-recorded}
 use Rattle.map_check.proofs.seams.connected.Statement.{statement}

@@ -1,6 +1,6 @@
 -- `map_show::pixels::put_pixel` meets its contract: each kind's channels are those of the function called.
 use mathlib.Core.Path.{ap}
-use Rattle.energy.specs.Pictures.{channelsOf}
+use Rattle.pictures.specs.Pictures.{channelsOf}
 use borrow.Author.Needs.{needs}
 use Rattle.map_show.proofs.pixels.put_pixel.Statement.{statement}
 use Rattle.map_show.proofs.pixels.put_pixel.Tie as tie

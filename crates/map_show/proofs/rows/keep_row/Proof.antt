@@ -6,7 +6,7 @@ use Prim.Native.Nat.{_+_, _-_, _≤_}
 use native.Mathlib.Omega.{arith}
 use denote.Ref.{now}
 use lib.ListN.{length, getD}
-use Rattle.energy.specs.Pictures.{channelsOf}
+use Rattle.pictures.specs.Pictures.{channelsOf}
 use Rattle.map_theory.specs.Widths.{stays}
 use Rattle.map_show.specs.Kernels.{PixelNeeded}
 use Rattle.map_show.proofs.Filling.{fill-size}

@@ -4,8 +4,8 @@ use Prim.Native.Nat.{_*_, _≤_}
 use native.Mathlib.Omega.{arith}
 use denote.Ref.{now}
 use lib.Seq.{length-take-le}
-use Rattle.energy.specs.Pictures.{channelsOf}
-use Rattle.energy.proofs.Sizes.{channels-most}
+use Rattle.pictures.specs.Pictures.{channelsOf}
+use Rattle.pictures.proofs.Limits.{channels-most}
 use Rattle.text_theory.specs.declared.Head.{Head}
 use Rattle.program_filters.proofs.PictureAnswers.{no-head, same-head}
 use borrow.Author.Needs.{needs}

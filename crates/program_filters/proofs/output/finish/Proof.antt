@@ -1,6 +1,6 @@
 -- `program_filters::output::finish` meets its contract.
 use native.Mathlib.Omega.{arith}
-use Rattle.energy.specs.Refusals.{numberOf}
+use Rattle.pictures.specs.Refusals.{numberOf}
 use Rattle.program_theory.proofs.Lengths.{refused-most}
 use Rattle.program_filters.proofs.Outputs.{number-below, finished-refused}
 use borrow.Author.Needs.{needs}

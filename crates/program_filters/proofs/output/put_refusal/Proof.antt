@@ -2,7 +2,7 @@
 use Prim.Native.Nat.{_≤_}
 use native.Mathlib.Omega.{arith}
 use lib.ListN.{length}
-use Rattle.energy.specs.Refusals.{numberOf}
+use Rattle.pictures.specs.Refusals.{numberOf}
 use Rattle.text_theory.specs.Decimal.{digits}
 use Rattle.text_theory.specs.Files.{closed}
 use Rattle.text_print.proofs.Written.{printed-more, printed-length}

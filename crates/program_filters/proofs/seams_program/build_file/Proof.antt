@@ -6,8 +6,8 @@ use Prim.Native.Nat.{ℕ, _<_}
 use native.Mathlib.Omega.{arith}
 use denote.Ref.{now}
 use lib.ListN.{length}
-use Rattle.energy.specs.Refusals.{given, refusal}
-use Rattle.energy.specs.Pictures.{sizeRules}
+use Rattle.pictures.specs.Refusals.{given, refusal}
+use Rattle.pictures.specs.Pictures.{sizeRules}
 use Rattle.text_theory.specs.Files.{All}
 use Rattle.program_theory.specs.Programs.{pixelsRule, fileAnswer}
 use Rattle.program_filters.proofs.Outputs.{refused-so}

@@ -9,9 +9,9 @@ use lib.ListN.{length, take, drop, replicate, length-append, length-drop}
 use lib.Seq.{length-take-le, drop-length}
 use Rattle.seam_moves.specs.Moving.{ExchangeGiven}
 use Rattle.grids.proofs.Parts.{put-part, part-length}
-use Rattle.energy.specs.Refusals.{served}
-use Rattle.energy.specs.Pictures.{channelsOf, pictureBytes, picture, bytes}
-use Rattle.energy.proofs.Sizes.{Sized, sized-is}
+use Rattle.pictures.specs.Refusals.{served}
+use Rattle.pictures.specs.Pictures.{channelsOf, pictureBytes, picture, bytes}
+use Rattle.pictures.proofs.Limits.{Sized, sized-is}
 use Rattle.seam_cut.specs.declared.Axis.the-variants.{Horizontal}
 use Rattle.seam_cut.specs.Axes.{turnedSize, narrowed, cutAlong}
 use Rattle.seam_cut.proofs.Columns.{restOf, left-bytes, left-sides, kept-is, back-is}

@@ -14,12 +14,12 @@ use Rattle.grids.specs.Each.{Each}
 use Rattle.grids.specs.Cut.{cut}
 use Rattle.grids.proofs.Orders.{more-than-one}
 use Rattle.grids.proofs.Shapes.{each-length}
-use Rattle.energy.specs.Refusals.{_when_, numberOf, refusal, served}
-use Rattle.energy.specs.Pictures.{channelsOf, pictureBytes, bytes}
-use Rattle.energy.proofs.Rules.{served-first, refused-first, refusal-most, number-some, served-not}
-use Rattle.energy.proofs.Sizes.{sides-are, sized-served}
-use Rattle.seam_find.specs.Seams.{seamOf, costOf}
-use Rattle.seam_find.specs.Finding.{foundNumber, foundCost, pixels, pictureIn, worked, findRules}
+use Rattle.pictures.specs.Refusals.{_when_, numberOf, refusal, served, worked}
+use Rattle.pictures.specs.Pictures.{channelsOf, pictureBytes, bytes, pixels, pictureIn}
+use Rattle.pictures.proofs.Rules.{served-first, refused-first, refusal-most, number-some, served-not}
+use Rattle.pictures.proofs.Limits.{sides-are, sized-served}
+use Rattle.seam_theory.specs.PictureSeams.{seamOf, costOf}
+use Rattle.seam_find.specs.Finding.{foundNumber, foundCost, findRules}
 use Rattle.seam_find.proofs.Worked.{worked-not}
 use Rattle.seam_moves.specs.Moving.{CloseGiven}
 use Rattle.seam_moves.proofs.Served.{close-served}

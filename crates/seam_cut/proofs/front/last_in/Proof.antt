@@ -9,10 +9,10 @@ use borrow.Author.Needs.{needs}
 use denote.Ref.{now}
 use lib.ListN.{length, take, drop, replicate}
 use lib.Seq.{length-take-le}
-use Rattle.energy.specs.Refusals.{_when_, numberOf, refusal}
-use Rattle.energy.specs.Pictures.{largestSide, pictureBytes}
-use Rattle.energy.proofs.Rules.{served-first, refused-first, refusal-most, number-some, served-not}
-use Rattle.seam_find.specs.Finding.{foundNumber, foundCost, pixels, findRules}
+use Rattle.pictures.specs.Refusals.{_when_, numberOf, refusal}
+use Rattle.pictures.specs.Pictures.{largestSide, pictureBytes, pixels}
+use Rattle.pictures.proofs.Rules.{served-first, refused-first, refusal-most, number-some, served-not}
+use Rattle.seam_find.specs.Finding.{foundNumber, foundCost, findRules}
 use Rattle.seam_find.proofs.Worked.{worked-not}
 use Rattle.seam_cut.proofs.Fronts.{room-same}
 use Rattle.seam_cut.proofs.front.last_in.Statement.{statement}

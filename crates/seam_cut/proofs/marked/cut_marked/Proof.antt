@@ -9,13 +9,12 @@ use borrow.Author.Tests.{eq-eqb, ne-eqb}
 use denote.Ref.{now}
 use lib.ListN.{length, drop, replicate}
 use Rattle.grids.specs.Rows.{flat}
-use Rattle.energy.specs.Refusals.{Rule, _when_, given, refusal}
-use Rattle.energy.specs.Pictures.{channelsOf, sizeRules, picture, bytes}
-use Rattle.energy.proofs.Rules.{served-first, refused-answer, refusal-most}
-use Rattle.energy.proofs.Sizes.{sized-is}
-use Rattle.seam_find.specs.Finding.{marksOf}
+use Rattle.pictures.specs.Refusals.{Rule, _when_, given, refusal}
+use Rattle.pictures.specs.Pictures.{channelsOf, sizeRules, picture, bytes, marksOf}
+use Rattle.pictures.proofs.Rules.{served-first, refused-answer, refusal-most}
+use Rattle.pictures.proofs.Limits.{sized-is}
 use Rattle.seam_cut.specs.Axes.{turnedSize, markedSeamAlong, markedCostAlong, blockedAlong, cutAlong}
-use Rattle.seam_cut.specs.Carving.{roomRules, markRules, lastRules}
+use Rattle.seam_cut.specs.Cutting.{roomRules, markRules, lastRules}
 use Rattle.seam_cut.specs.Kernels.{MarkedNeeded}
 use Rattle.seam_cut.proofs.Buffers.{marked-rooms-are, left-as-was, work-as-was, last-kept, last-cleared}
 use Rattle.seam_cut.proofs.Turns.{turned-some, turned-tall}

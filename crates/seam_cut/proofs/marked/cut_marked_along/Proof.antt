@@ -12,13 +12,12 @@ use lib.Seq.{take-at, length-take-le}
 use Rattle.grids.specs.Each.{Each}
 use Rattle.grids.specs.Rows.{flat}
 use Rattle.grids.proofs.Shapes.{each-length}
-use Rattle.energy.specs.Refusals.{served}
-use Rattle.energy.specs.Pictures.{channelsOf, picture, bytes}
-use Rattle.energy.proofs.Sizes.{Sized, sized-is}
-use Rattle.seam_find.specs.Finding.{marksOf}
+use Rattle.pictures.specs.Refusals.{served}
+use Rattle.pictures.specs.Pictures.{channelsOf, picture, bytes, marksOf}
+use Rattle.pictures.proofs.Limits.{Sized, sized-is}
 use Rattle.seam_find.proofs.Worked.{worked-or}
 use Rattle.seam_cut.specs.Axes.{turnedSize, markedSeamAlong, markedCostAlong, blockedAlong, cutAlong}
-use Rattle.seam_cut.specs.Carving.{SeamGiven}
+use Rattle.seam_cut.specs.Cutting.{SeamGiven}
 use Rattle.seam_cut.specs.Kernels.{greyOf, CloseGiven}
 use Rattle.seam_cut.proofs.Buffers.{seam-free, refused-blocked}
 use Rattle.seam_cut.proofs.Inside.{marked-inside}

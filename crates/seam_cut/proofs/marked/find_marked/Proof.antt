@@ -5,12 +5,11 @@ use native.Mathlib.Omega.{arith}
 use borrow.Author.Needs.{needs}
 use denote.Ref.{now}
 use lib.ListN.{length, drop}
-use Rattle.energy.specs.Refusals.{Rule, _when_, given, refusal}
-use Rattle.energy.specs.Pictures.{sizeRules, picture}
-use Rattle.energy.proofs.Rules.{served-first, refused-answer, refusal-most}
-use Rattle.seam_find.specs.Finding.{marksOf}
+use Rattle.pictures.specs.Refusals.{Rule, _when_, given, refusal}
+use Rattle.pictures.specs.Pictures.{sizeRules, picture, marksOf}
+use Rattle.pictures.proofs.Rules.{served-first, refused-answer, refusal-most}
 use Rattle.seam_cut.specs.Axes.{turnedSize, markedSeamAlong, markedCostAlong, blockedAlong}
-use Rattle.seam_cut.specs.Carving.{roomRules, markRules}
+use Rattle.seam_cut.specs.Cutting.{roomRules, markRules}
 use Rattle.seam_cut.proofs.Buffers.{marked-rooms-are, left-as-was, work-as-was}
 use Rattle.seam_cut.proofs.marked.find_marked.Statement.{statement}
 use Rattle.seam_cut.proofs.marked.find_marked.Tie as tie

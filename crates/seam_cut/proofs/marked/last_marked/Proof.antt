@@ -4,8 +4,8 @@ use mathlib.Core.Bool.{Bool, true, false, cond}
 use borrow.Author.Needs.{needs}
 use denote.Ref.{now}
 use lib.ListN.{length, replicate}
-use Rattle.energy.specs.Pictures.{picture}
-use Rattle.seam_find.specs.Finding.{foundCost, marksOf}
+use Rattle.pictures.specs.Pictures.{picture, marksOf}
+use Rattle.seam_find.specs.Finding.{foundCost}
 use Rattle.seam_find.proofs.Worked.{worked-or}
 use Rattle.seam_cut.specs.Axes.{blockedAlong}
 use Rattle.seam_cut.proofs.Buffers.{seam-free, refused-blocked}

@@ -10,11 +10,11 @@ use denote.Ref.{now}
 use lib.ListN.{length, drop, replicate}
 use Rattle.grids.specs.Rows.{flat}
 use Rattle.grids.proofs.Parts.{part-length}
-use Rattle.energy.specs.Refusals.{served}
-use Rattle.energy.specs.Pictures.{pictureBytes, picture, bytes}
-use Rattle.energy.proofs.Sizes.{Sized, sized-is}
-use Rattle.seam_find.specs.Seams.{markedUp, markedSeamOf, markedCostOf}
-use Rattle.seam_find.specs.Finding.{foundNumber, pixels, marksOf, isNone}
+use Rattle.pictures.specs.Refusals.{served}
+use Rattle.pictures.specs.Pictures.{pictureBytes, picture, bytes, pixels, marksOf}
+use Rattle.pictures.proofs.Limits.{Sized, sized-is}
+use Rattle.seam_theory.specs.PictureSeams.{markedUp, markedSeamOf, markedCostOf, isNone}
+use Rattle.seam_find.specs.Finding.{foundNumber}
 use Rattle.seam_find.proofs.Worked.{worked-or}
 use Rattle.seam_cut.specs.Axes.{turnedSize, turned, markedSeamAlong, markedCostAlong, blockedAlong}
 use Rattle.seam_cut.specs.Kernels.{greyOf}

@@ -6,11 +6,11 @@ use native.Mathlib.Omega.{arith}
 use borrow.Author.Needs.{needs}
 use borrow.Author.Tests.{eq-eqb, ne-eqb}
 use denote.Ref.{now}
-use Rattle.energy.specs.Refusals.{Rule, given, refusal}
-use Rattle.energy.specs.Pictures.{sizeRules}
-use Rattle.energy.proofs.Rules.{served-first, refused-answer}
-use Rattle.energy.proofs.Sizes.{sized-is}
-use Rattle.seam_cut.specs.Carving.{roomRules, markRules}
+use Rattle.pictures.specs.Refusals.{Rule, given, refusal}
+use Rattle.pictures.specs.Pictures.{sizeRules}
+use Rattle.pictures.proofs.Rules.{served-first, refused-answer}
+use Rattle.pictures.proofs.Limits.{sized-is}
+use Rattle.seam_cut.specs.Cutting.{roomRules, markRules}
 use Rattle.seam_cut.proofs.marked.marked_rooms.Statement.{statement}
 use Rattle.seam_cut.proofs.marked.marked_rooms.Tie as tie
 

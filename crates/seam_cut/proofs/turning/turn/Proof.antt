@@ -6,9 +6,9 @@ use borrow.Author.Needs.{needs}
 use denote.Ref.{now}
 use lib.ListN.{length, drop}
 use lib.Seq.{take-length}
-use Rattle.energy.specs.Pictures.{picture}
-use Rattle.energy.proofs.Sizes.{Sized, sized-is}
-use Rattle.energy.proofs.Buffers.{bytes-picture}
+use Rattle.pictures.specs.Pictures.{picture}
+use Rattle.pictures.proofs.Limits.{Sized, sized-is}
+use Rattle.pictures.proofs.Buffers.{bytes-picture}
 use Rattle.seam_moves.proofs.Served.{exchange-served}
 use Rattle.seam_cut.specs.Axes.{turned}
 use Rattle.seam_cut.proofs.turning.turn.Statement.{statement}

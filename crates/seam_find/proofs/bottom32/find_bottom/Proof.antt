@@ -3,8 +3,8 @@ use mathlib.Core.Path.{sym}
 use Prim.Native.Nat.{ℕ, _+_}
 use native.Mathlib.Omega.{arith}
 use borrow.Author.Needs.{needs}
-use Rattle.energy.specs.Pictures.{pictureBytes}
-use Rattle.energy.proofs.Sizes.{Sized, sized-is}
+use Rattle.pictures.specs.Pictures.{pictureBytes}
+use Rattle.pictures.proofs.Limits.{Sized, sized-is}
 use Rattle.seam_find.proofs.Fences.{take-replicate, length-take-replicate}
 use Rattle.seam_find.proofs.bottom32.find_bottom.Statement.{statement}
 use Rattle.seam_find.proofs.bottom32.find_bottom.Tie as tie

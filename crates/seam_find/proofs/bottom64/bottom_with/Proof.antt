@@ -10,8 +10,8 @@ use lib.ListN.{length, take, drop, length-replicate}
 use lib.Seq.{length-take-le}
 use Rattle.grids.proofs.Tables.{length-table}
 use Rattle.grids.proofs.Parts.{part-length}
-use Rattle.energy.specs.Pictures.{pictureBytes}
-use Rattle.energy.proofs.Sizes.{Sized, sized-is}
+use Rattle.pictures.specs.Pictures.{pictureBytes}
+use Rattle.pictures.proofs.Limits.{Sized, sized-is}
 use Rattle.seam_find.specs.Kernels.{weightsOf, markedBytes}
 use Rattle.seam_find.proofs.Fences.{first-row, last-long, row-long, bottom-given}
 use Rattle.seam_find.proofs.bottom64.bottom_with.Statement.{statement}

@@ -11,8 +11,8 @@ use lib.Seq.{length-take-le, take-at}
 use Rattle.grids.proofs.Tables.{length-table}
 use Rattle.grids.proofs.Rows.{part-end}
 use Rattle.grids.proofs.Parts.{part-length}
-use Rattle.energy.specs.Pictures.{pictureBytes}
-use Rattle.energy.proofs.Sizes.{Sized, sized-is}
+use Rattle.pictures.specs.Pictures.{pictureBytes}
+use Rattle.pictures.proofs.Limits.{Sized, sized-is}
 use Rattle.energy.proofs.Served.{energies-served}
 use Rattle.seam_find.specs.Kernels.{costsOf}
 use Rattle.seam_find.proofs.Costs.{front-most, cost-most}

@@ -7,9 +7,9 @@ use borrow.Author.Needs.{needs}
 use denote.Ref.{now}
 use lib.ListN.{length, getD, take}
 use Rattle.grids.proofs.Tables.{length-table}
-use Rattle.energy.specs.declared.pictures.Size.{Size}
-use Rattle.energy.specs.Pictures.{pictureBytes}
-use Rattle.energy.proofs.Sizes.{Sized, sized-is}
+use Rattle.pictures.specs.declared.sizes.Size.{Size}
+use Rattle.pictures.specs.Pictures.{pictureBytes}
+use Rattle.pictures.proofs.Limits.{Sized, sized-is}
 use Rattle.seam_find.specs.Kernels.{weightsOf, markedBytes}
 use Rattle.seam_find.proofs.Downs.{Downs, down-start, down-turn, down-end, above-long, above-most}
 use Rattle.seam_find.proofs.Weighed.{weights-most, front-sized, front-bytes}

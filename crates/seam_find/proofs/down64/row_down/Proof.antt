@@ -9,8 +9,8 @@ use lib.ListN.{length, getD, take}
 use lib.Seq.{length-take-le}
 use Rattle.grids.proofs.Tables.{length-table}
 use Rattle.grids.proofs.Rows.{part-end}
-use Rattle.energy.specs.Pictures.{pictureBytes}
-use Rattle.energy.proofs.Sizes.{Sized, sized-is}
+use Rattle.pictures.specs.Pictures.{pictureBytes}
+use Rattle.pictures.proofs.Limits.{Sized, sized-is}
 use Rattle.seam_find.specs.Kernels.{weightsOf, markedBytes}
 use Rattle.seam_find.proofs.Downs.{row-given}
 use Rattle.seam_find.proofs.Weighed.{weights-most, front-sized, front-bytes}

@@ -10,12 +10,12 @@ use borrow.Author.Tests.{lt-ltb, le-ltb}
 use denote.Ref.{now}
 use lib.Dec.{ltb}
 use lib.ListN.{length, take, drop, replicate}
-use Rattle.energy.specs.Refusals.{Rule, _when_, numberOf, given, refusal, served}
-use Rattle.energy.specs.Pictures.{sideRules, pictureBytes}
-use Rattle.energy.proofs.Rules.{refusal-most, number-some, served-first, refused-answer, kept-by}
-use Rattle.energy.proofs.Sizes.{Sides, sides-are, sized-served}
-use Rattle.seam_find.specs.Seams.{markedUp, markedSeamOf, markedCostOf}
-use Rattle.seam_find.specs.Finding.{foundNumber, findMarkedRules, pixels, pictureIn, marksIn, isNone}
+use Rattle.pictures.specs.Refusals.{Rule, _when_, numberOf, given, refusal, served}
+use Rattle.pictures.specs.Pictures.{sideRules, pictureBytes, pixels, pictureIn, marksIn}
+use Rattle.pictures.proofs.Rules.{refusal-most, number-some, served-first, refused-answer, kept-by}
+use Rattle.pictures.proofs.Limits.{Sides, sides-are, sized-served}
+use Rattle.seam_theory.specs.PictureSeams.{markedUp, markedSeamOf, markedCostOf, isNone}
+use Rattle.seam_find.specs.Finding.{foundNumber, findMarkedRules}
 use Rattle.seam_find.proofs.Worked.{worked-not, worked-or}
 use Rattle.seam_find.proofs.marked.find_marked_in.Statement.{statement}
 use Rattle.seam_find.proofs.marked.find_marked_in.Tie as tie

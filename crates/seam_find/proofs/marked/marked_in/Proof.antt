@@ -13,10 +13,9 @@ use lib.Seq.{length-take-le}
 use Rattle.grids.specs.Table.{table}
 use Rattle.grids.specs.Rows.{flat}
 use Rattle.grids.proofs.Rows.{part-end}
-use Rattle.energy.specs.Pictures.{Picture, pictureBytes}
-use Rattle.energy.proofs.Sizes.{Sized, sized-is}
-use Rattle.seam_find.specs.Seams.{markedUp, markedSeamOf, markedCostOf}
-use Rattle.seam_find.specs.Finding.{pictureIn, marksIn, isNone}
+use Rattle.pictures.specs.Pictures.{Picture, pictureBytes, pictureIn, marksIn}
+use Rattle.pictures.proofs.Limits.{Sized, sized-is}
+use Rattle.seam_theory.specs.PictureSeams.{markedUp, markedSeamOf, markedCostOf, isNone}
 use Rattle.seam_find.specs.Kernels.{weightsOf, markedBytes, sumsDown, waysUp, columnsTo, leastTo}
 use Rattle.seam_find.proofs.Ways.{ways-long}
 use Rattle.seam_find.proofs.Weighed.{front-picture, front-marks, front-sized, front-bytes, marked-traced, marked-some, marked-seam, marked-cost, marked-blocked}

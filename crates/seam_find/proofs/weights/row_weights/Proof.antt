@@ -10,9 +10,9 @@ use lib.ListN.{length, take, drop}
 use lib.Seq.{length-take-le}
 use Rattle.grids.specs.Table.{table}
 use Rattle.grids.proofs.Rows.{part-end}
-use Rattle.energy.specs.Pictures.{pictureBytes, picture}
+use Rattle.pictures.specs.Pictures.{pictureBytes, picture}
 use Rattle.energy.specs.Energy.{energies}
-use Rattle.energy.proofs.Sizes.{Sized, sized-is}
+use Rattle.pictures.proofs.Limits.{Sized, sized-is}
 use Rattle.energy.proofs.Served.{energies-served}
 use Rattle.seam_find.specs.Kernels.{weightIn}
 use Rattle.seam_find.proofs.Weighed.{row-weighed}

@@ -4,9 +4,9 @@ use borrow.Author.Needs.{needs}
 use denote.Ref.{now}
 use lib.ListN.{length}
 use Rattle.grids.specs.Exchange.{exchange}
-use Rattle.energy.specs.Refusals.{given, refusal, served}
-use Rattle.energy.specs.Pictures.{sideRules, pictureBytes, picture, bytes}
-use Rattle.energy.proofs.Rules.{served-first, refused-answer, refused-kept}
+use Rattle.pictures.specs.Refusals.{given, refusal, served}
+use Rattle.pictures.specs.Pictures.{sideRules, pictureBytes, picture, bytes}
+use Rattle.pictures.proofs.Rules.{served-first, refused-answer, refused-kept}
 use Rattle.seam_moves.specs.Between.{partAt, putAt, copyBetweenRules, exchangeBetweenRules}
 use Rattle.seam_moves.proofs.Relocating.{places-are}
 use Rattle.seam_moves.proofs.between.exchange_between.Statement.{statement}

@@ -8,8 +8,8 @@ use borrow.Rule.Slice.PartMut.{same-len-mid, mid-len}
 use denote.Ref.{now}
 use lib.ListN.{length}
 use lib.Seq.{length-take-le}
-use Rattle.energy.specs.Pictures.{channelsOf}
-use Rattle.energy.proofs.Sizes.{sides-are}
+use Rattle.pictures.specs.Pictures.{channelsOf}
+use Rattle.pictures.proofs.Limits.{sides-are}
 use Rattle.seam_moves.proofs.Relocating.{Exchanged, exchanged-start, ColumnAt, column-at, lent-needed, column-turn, exchanged-all}
 use Rattle.seam_moves.proofs.between.exchange_places.Statement.{statement}
 use Rattle.seam_moves.proofs.between.exchange_places.Tie as tie

@@ -8,8 +8,8 @@ use borrow.Author.Needs.{needs}
 use borrow.Rule.Slice.PartMut.{same-len-mid}
 use denote.Ref.{now}
 use lib.ListN.{length}
-use Rattle.energy.specs.Pictures.{channelsOf}
-use Rattle.energy.proofs.Sizes.{sized-is, channels-most}
+use Rattle.pictures.specs.Pictures.{channelsOf}
+use Rattle.pictures.proofs.Limits.{sized-is, channels-most}
 use Rattle.seam_moves.proofs.Parts.{Filled, filled-start}
 use Rattle.seam_moves.proofs.Exchanging.{column, ColumnSure, column-sure, column-needed, columns-turn, columns-end}
 use Rattle.seam_moves.proofs.columns.exchange_columns.Statement.{statement}

@@ -1,7 +1,7 @@
 -- `seam_moves::columns::put_column` meets its contract: each kind's channels are those of the function called.
 use mathlib.Core.Path.{ap}
 use borrow.Author.Needs.{needs}
-use Rattle.energy.specs.Pictures.{channelsOf}
+use Rattle.pictures.specs.Pictures.{channelsOf}
 use Rattle.seam_moves.proofs.columns.put_column.Statement.{statement}
 use Rattle.seam_moves.proofs.columns.put_column.Tie as tie
 

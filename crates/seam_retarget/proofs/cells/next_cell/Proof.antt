@@ -5,7 +5,7 @@ use native.Mathlib.Omega.{arith}
 use borrow.Author.Needs.{needs}
 use denote.Ref.{now}
 use lib.ListN.{length}
-use Rattle.energy.proofs.Sizes.{sides-are}
+use Rattle.pictures.proofs.Limits.{sides-are}
 use Rattle.seam_cut.specs.declared.Axis.the-variants.{Vertical, Horizontal}
 use Rattle.seam_retarget.specs.Cells.{smaller}
 use Rattle.seam_retarget.specs.Kernels.{SeamGiven}

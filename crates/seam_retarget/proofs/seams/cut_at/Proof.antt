@@ -6,8 +6,8 @@ use borrow.Author.Needs.{needs}
 use denote.Ref.{now}
 use lib.ListN.{length, take}
 use lib.Seq.{length-take-le}
-use Rattle.energy.specs.Refusals.{served}
-use Rattle.energy.specs.Pictures.{pictureBytes}
+use Rattle.pictures.specs.Refusals.{served}
+use Rattle.pictures.specs.Pictures.{pictureBytes}
 use Rattle.seam_moves.specs.Moving.{CloseGiven}
 use Rattle.seam_cut.specs.Axes.{turnedSize, narrowed}
 use Rattle.seam_cut.proofs.Turns.{turned-sides}

@@ -2,8 +2,8 @@
 use mathlib.Core.Path.{_≡_, ap, _∙_}
 use borrow.Author.Needs.{needs}
 use denote.Ref.{now}
-use Rattle.energy.specs.Refusals.{served}
-use Rattle.energy.specs.Pictures.{pictureBytes}
+use Rattle.pictures.specs.Refusals.{served}
+use Rattle.pictures.specs.Pictures.{pictureBytes}
 use Rattle.seam_moves.proofs.Served.{exchange-between-served}
 use Rattle.seam_cut.specs.Axes.{turned}
 use Rattle.seam_retarget.proofs.Steps.{copied-turned}

@@ -4,7 +4,7 @@ use Prim.Native.Nat.{_*_}
 use native.Mathlib.Omega.{arith}
 use borrow.Author.Needs.{needs}
 use denote.Ref.{now}
-use Rattle.energy.proofs.Sizes.{sides-are}
+use Rattle.pictures.proofs.Limits.{sides-are}
 use Rattle.seam_cut.specs.declared.Axis.the-variants.{Horizontal}
 use Rattle.seam_retarget.specs.Cells.{smaller}
 use Rattle.seam_retarget.specs.Kernels.{StepGiven}

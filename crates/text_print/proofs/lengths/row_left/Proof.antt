@@ -1,7 +1,7 @@
 -- `text_print::lengths::row_left` meets its contract.
 use mathlib.Core.Path.{_∙_}
 use lib.ListN.{length}
-use Rattle.energy.proofs.Sizes.{channels-some}
+use Rattle.pictures.proofs.Limits.{channels-some}
 use Rattle.text_print.proofs.PixelRows.{whole-by, row-room, row-no-room}
 use borrow.Author.Needs.{needs}
 use Rattle.text_print.proofs.lengths.row_left.Statement.{statement}

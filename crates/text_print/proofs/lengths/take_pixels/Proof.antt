@@ -3,7 +3,7 @@ use mathlib.Core.List.{[]}
 use Prim.Native.Nat.{_-_}
 use lib.ListN.{length}
 use Rattle.grids.specs.Rows.{rowsOf}
-use Rattle.energy.specs.Pictures.{channelsOf}
+use Rattle.pictures.specs.Pictures.{channelsOf}
 use Rattle.text_theory.specs.Lengths.{pixelLength}
 use Rattle.text_print.proofs.Rooms.{Leaving, leaving-first, leaving-next, leaving-short, leaving-end}
 use Rattle.text_print.proofs.PixelRows.{pixel-at, pixel-inside, below-rows, all-rows}

@@ -3,7 +3,7 @@ use Prim.Native.Nat.{_-_, _≤_}
 use native.Mathlib.Omega.{arith}
 use lib.ListN.{length, take}
 use Rattle.grids.specs.Rows.{rowsOf}
-use Rattle.energy.specs.Pictures.{channelsOf}
+use Rattle.pictures.specs.Pictures.{channelsOf}
 use Rattle.text_theory.specs.Files.{blank, each, pixelText}
 use Rattle.text_print.specs.Prints.{Printed}
 use Rattle.text_print.proofs.Written.{printed-length}

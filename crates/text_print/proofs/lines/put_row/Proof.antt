@@ -3,11 +3,11 @@ use mathlib.Core.Path.{ap}
 use Prim.Native.Nat.{ℕ, _/_}
 use lib.ListN.{length}
 use Rattle.grids.specs.Rows.{rowsOf}
-use Rattle.energy.specs.Pictures.{channelsOf}
+use Rattle.pictures.specs.Pictures.{channelsOf}
 use Rattle.text_theory.specs.Files.{blank, each, pixelText}
 use Rattle.text_print.specs.Prints.{pixelsOf}
 use Rattle.text_print.proofs.Written.{printed-length}
-use Rattle.energy.proofs.Sizes.{channels-some}
+use Rattle.pictures.proofs.Limits.{channels-some}
 use Rattle.text_print.proofs.PixelRows.{whole-by, row-parts, row-all}
 use borrow.Author.Needs.{needs}
 use Rattle.text_print.proofs.lines.put_row.Statement.{statement}

@@ -2,7 +2,7 @@
 use mathlib.Core.Option.{some}
 use Prim.Native.Nat.{_*_}
 use native.Mathlib.Omega.{arith}
-use Rattle.energy.proofs.Sizes.{channels-some}
+use Rattle.pictures.proofs.Limits.{channels-some}
 use Rattle.text_theory.specs.Files.{rowWord}
 use Rattle.text_read.specs.Answers.{Told}
 use Rattle.text_read.specs.Lines.{rowLine}

@@ -5,10 +5,9 @@ use mathlib.Core.List.{List, _++_}
 use Prim.Native.Nat.{ℕ}
 use lib.ListN.{length, drop, replicate}
 use Rattle.grids.specs.Rows.{flat}
-use Rattle.energy.specs.declared.pictures.Size.{Size}
-use Rattle.energy.specs.Refusals.{numberOf, refusal, served}
-use Rattle.energy.specs.Pictures.{bytes}
-use Rattle.seam_find.specs.Finding.{worked}
+use Rattle.pictures.specs.declared.sizes.Size.{Size}
+use Rattle.pictures.specs.Refusals.{numberOf, refusal, served, worked}
+use Rattle.pictures.specs.Pictures.{bytes}
 use Rattle.text_theory.specs.declared.Head.{Head}
 use Rattle.text_theory.specs.Files.{parse}
 use Rattle.file_theory.specs.Rules.{checkRules, readRules, showRules}

@@ -1,11 +1,12 @@
 -- "When it says no": the refusals, their numbers, and which of several is given.
-use mathlib.Core.Bool.{Bool, cond}
+use mathlib.Core.Bool.{Bool, cond, _||_}
 use mathlib.Core.List.{List, [], _∷_}
 use Prim.Native.Nat.{ℕ, zero, suc}
-use Rattle.energy.specs.declared.refusals.Refusal.{Refusal}
-use Rattle.energy.specs.declared.refusals.Refusal.the-variants.{Form, Empty, Large, Length, Mark, Range, Wanted, Space, Numbering, Broken, Other, Protected, Last}
-use Rattle.energy.specs.declared.refusals.Verdict.{Verdict}
-use Rattle.energy.specs.declared.refusals.Verdict.the-variants.{Served, Refused}
+use lib.Dec.{eqb, ltb}
+use Rattle.pictures.specs.declared.refusals.Refusal.{Refusal}
+use Rattle.pictures.specs.declared.refusals.Refusal.the-variants.{Form, Empty, Large, Length, Mark, Range, Wanted, Space, Numbering, Broken, Other, Protected, Last}
+use Rattle.pictures.specs.declared.refusals.Verdict.{Verdict}
+use Rattle.pictures.specs.declared.refusals.Verdict.the-variants.{Served, Refused}
 
 -- The number of a refusal. 14 to 20 are free.
 abbrev pub numberOf : Refusal → ℕ
@@ -43,3 +44,8 @@ refusal ((n when t) ∷ rules) = cond t n (refusal rules)
 abbrev pub served : {A : Type 0} → ℕ → A → A → A
 served zero x y = x
 served (suc n) x y = y
+
+-- "After 1 to 8 all buffers are unchanged. After 9 and every higher number .. as after success": the first after success and
+-- after 9 and more, else the second.
+abbrev pub worked : {A : Type 0} → ℕ → A → A → A
+worked n x y = cond (eqb n 0 || ltb 8 n) x y

@@ -1,15 +1,15 @@
--- `energy::pictures::picture_bytes` meets its contract.
+-- `pictures::sizes::picture_bytes` meets its contract.
 use mathlib.Core.Path.{_≡_, sym, ap, _∙_}
 use Prim.Native.Nat.{_*_}
 use native.Mathlib.Nat.{mul-le-mul}
 use native.Mathlib.Omega.{arith}
 use borrow.Author.Needs.{needs}
-use Rattle.energy.specs.Refusals.{given, refusal, served}
-use Rattle.energy.specs.Pictures.{sideRules, pictureBytes}
-use Rattle.energy.proofs.Rules.{refused-kept}
-use Rattle.energy.proofs.Sizes.{Sides, sides-are}
-use Rattle.energy.proofs.pictures.picture_bytes.Statement.{statement}
-use Rattle.energy.proofs.pictures.picture_bytes.Tie as tie
+use Rattle.pictures.specs.Refusals.{given, refusal, served}
+use Rattle.pictures.specs.Pictures.{sideRules, pictureBytes}
+use Rattle.pictures.proofs.Rules.{refused-kept}
+use Rattle.pictures.proofs.Limits.{Sides, sides-are}
+use Rattle.pictures.proofs.sizes.picture_bytes.Statement.{statement}
+use Rattle.pictures.proofs.sizes.picture_bytes.Tie as tie
 
 -- where the sides are served
 none : (c : tie.After-enum-told) → refusal (sideRules (c .before .before .before .args .size)) ≡ 0

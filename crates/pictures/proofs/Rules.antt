@@ -7,11 +7,11 @@ use Prim.Native.Nat.{ℕ, zero, suc, _≤_, _<_}
 use native.Mathlib.Omega.{arith}
 use lib.Dec.{leb, ltb}
 use borrow.Author.Tests.{leb-true, ltb-true}
-use Rattle.energy.specs.declared.refusals.Refusal.{Refusal}
-use Rattle.energy.specs.declared.refusals.Refusal.the-variants.{Form, Empty, Large, Length, Mark, Range, Wanted, Space, Numbering, Broken, Other, Protected, Last}
-use Rattle.energy.specs.declared.refusals.Verdict.{Verdict}
-use Rattle.energy.specs.declared.refusals.Verdict.the-variants.{Refused}
-use Rattle.energy.specs.Refusals.{Rule, _when_, numberOf, given, refusal, served}
+use Rattle.pictures.specs.declared.refusals.Refusal.{Refusal}
+use Rattle.pictures.specs.declared.refusals.Refusal.the-variants.{Form, Empty, Large, Length, Mark, Range, Wanted, Space, Numbering, Broken, Other, Protected, Last}
+use Rattle.pictures.specs.declared.refusals.Verdict.{Verdict}
+use Rattle.pictures.specs.declared.refusals.Verdict.the-variants.{Refused}
+use Rattle.pictures.specs.Refusals.{Rule, _when_, numberOf, given, refusal, served}
 
 -- A conjunction that holds, taken apart.
 pub both : (a b : Bool) → (a && b) ≡ true → (a ≡ true) × (b ≡ true)

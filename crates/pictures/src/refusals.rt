@@ -1,6 +1,6 @@
 // What can't be served, by the numbers of "When it says no".
 ghost use mathlib.Core.Path.{_≡_};
-ghost use Rattle.energy.specs.Refusals.{numberOf, given as Refusals·given};
+ghost use Rattle.pictures.specs.Refusals.{numberOf, given as Refusals·given};
 
 // The refusals of one number each, in the order of their numbers from 1.
 pub enum Refusal {

@@ -11,11 +11,10 @@ use Rattle.grids.specs.Each.{Each, Grid, none, more}
 use Rattle.grids.specs.Rows.{rowsOf, flat, rowAt}
 use Rattle.grids.proofs.Shapes.{each-map, map-at}
 use Rattle.grids.proofs.Rows.{grid-rowsOf, flat-rowsOf, rowsOf-flat, length-flat, rowsOf-at, rowsOf-past, rowsOf-rowAt, length-rowAt, rowAt-getD, length-rowsOf}
-use Rattle.energy.specs.declared.pictures.Size.{Size}
-use Rattle.energy.specs.Refusals.{refusal, served}
-use Rattle.energy.specs.Pictures.{Picture, channelsOf, rowBytes, pictureBytes, sizeRules, picture, bytes, OfSize, rowOf}
-use Rattle.energy.specs.Energy.{pixel}
-use Rattle.energy.proofs.Rules.{served-not}
+use Rattle.pictures.specs.declared.sizes.Size.{Size}
+use Rattle.pictures.specs.Refusals.{refusal, served}
+use Rattle.pictures.specs.Pictures.{Picture, channelsOf, rowBytes, pictureBytes, sizeRules, picture, bytes, OfSize, rowOf, pixel}
+use Rattle.pictures.proofs.Rules.{served-not}
 
 -- The rows of a picture, each cut into pixels.
 pub picture-ofSize : (z : Size) (b : List ℕ) → length b ≡ pictureBytes z → OfSize z (picture z b)

@@ -5,12 +5,12 @@ use mathlib.Core.Logic.{_⊎_}
 use mathlib.Core.List.{List, [], _∷_}
 use Prim.Native.Nat.{ℕ, _≤_}
 use lib.ListN.{length}
 use Rattle.seam_theory.specs.Paths.{along}
 use Rattle.seam_theory.specs.Connected.{IsPath}
 use Rattle.seam_theory.specs.Seams.{Before}
-use Rattle.energy.specs.Pictures.{Picture}
+use Rattle.pictures.specs.Pictures.{Picture}
 use Rattle.energy.specs.Energy.{energy}
-use Rattle.seam_find.specs.Seams.{markAt, isMark}
+use Rattle.seam_theory.specs.PictureSeams.{markAt, isMark}
 
 -- A connected path, none is cheaper, and each other that costs the same comes after it, read from the bottom row upward.
 pub record IsSeam (w h : ℕ) (p : Picture) (s : List ℕ) : Type 0 where

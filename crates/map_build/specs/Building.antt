@@ -5,13 +5,12 @@ use Prim.Native.Nat.{ℕ, _+_, _*_}
 use lib.Dec.{leb, ltb}
 use lib.ListN.{length, drop, replicate}
 use Rattle.grids.specs.Rows.{flat}
-use Rattle.energy.specs.declared.pictures.Size.{Size}
-use Rattle.energy.specs.declared.refusals.Verdict.{Verdict}
-use Rattle.energy.specs.Refusals.{Rule, _when_, given, refusal, served}
-use Rattle.energy.specs.Pictures.{Picture, channelsOf, sideRules, pictureBytes, bytes}
+use Rattle.pictures.specs.declared.sizes.Size.{Size}
+use Rattle.pictures.specs.declared.refusals.Verdict.{Verdict}
+use Rattle.pictures.specs.Refusals.{Rule, _when_, given, refusal, served}
+use Rattle.pictures.specs.Pictures.{Picture, channelsOf, sideRules, pictureBytes, bytes, pixels, pictureIn}
 use Rattle.map_theory.specs.Maps.{carve, mapOf}
-use Rattle.seam_find.specs.Seams.{seamOf}
-use Rattle.seam_find.specs.Finding.{pixels, pictureIn}
+use Rattle.seam_theory.specs.PictureSeams.{seamOf}
 use Rattle.map_build.specs.Numbers.{pairs}
 
 -- Bytes of a map: two a pixel. It stands behind the picture and a byte for each pixel.

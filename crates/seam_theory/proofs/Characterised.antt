@@ -10,17 +10,17 @@ use native.Mathlib.Omega.{arith}
 use lib.Dec.{eqb}
 use lib.ListN.{length}
 use borrow.Author.Tests.{eqb-true}
 use Rattle.seam_theory.specs.Paths.{paths, nearby, along}
 use Rattle.seam_theory.specs.Connected.{IsPath}
 use Rattle.seam_theory.specs.Seams.{IsCheapest, IsPreferred}
 use Rattle.seam_theory.proofs.Along.{along-nil, along-cons, along-most}
 use Rattle.seam_theory.proofs.Nearby.{nearby-paths, nearby-paths-asc}
 use Rattle.seam_theory.proofs.Seams.{cheapest-is, cheapest-some}
 use Rattle.seam_theory.proofs.Marks.{allowed-is, allowed-none, unmarked}
-use Rattle.energy.specs.Pictures.{Picture}
+use Rattle.pictures.specs.Pictures.{Picture}
 use Rattle.energy.specs.Energy.{energy}
-use Rattle.seam_find.specs.Seams.{seamUp, seamOf, costOf, markAt, isMark, markedUp, markedSeamOf, markedCostOf}
-use Rattle.seam_find.specs.Chosen.{IsSeam, Touches, IsMarkedSeam}
+use Rattle.seam_theory.specs.PictureSeams.{seamUp, seamOf, costOf, markAt, isMark, markedUp, markedSeamOf, markedCostOf}
+use Rattle.seam_theory.specs.Chosen.{IsSeam, Touches, IsMarkedSeam}
 
 -- A path touches a protected pixel just where it has one.
 touched : (m : List (List ℕ)) (q : List ℕ) → Touches m q → 0 < along (isMark 1 m) q

@@ -1,15 +1,15 @@
--- `energy::pictures::sized` meets its contract: the sides first, then the length.
+-- `pictures::sizes::sized` meets its contract: the sides first, then the length.
 use mathlib.Core.Path.{_≡_, refl, sym, ap, _∙_}
 use mathlib.Core.Bool.{not}
 use mathlib.Core.List.{[], _∷_}
 use borrow.Author.Needs.{needs}
 use borrow.Author.Tests.{eq-eqb, ne-eqb}
 use lib.Dec.{eqb}
-use Rattle.energy.specs.Refusals.{_when_, given, refusal, served}
-use Rattle.energy.specs.Pictures.{sideRules, sizeRules, pictureBytes}
-use Rattle.energy.proofs.Rules.{served-first, refused-answer}
-use Rattle.energy.proofs.pictures.sized.Statement.{statement}
-use Rattle.energy.proofs.pictures.sized.Tie as tie
+use Rattle.pictures.specs.Refusals.{_when_, given, refusal, served}
+use Rattle.pictures.specs.Pictures.{sideRules, sizeRules, pictureBytes}
+use Rattle.pictures.proofs.Rules.{served-first, refused-answer}
+use Rattle.pictures.proofs.sizes.sized.Statement.{statement}
+use Rattle.pictures.proofs.sizes.sized.Tie as tie
 
 -- where the sides are served, the length decides
 none : (c : tie.After-enum-told) → refusal (sideRules (c .before .before .before .args .size)) ≡ 0

@@ -3,13 +3,13 @@ use mathlib.Core.Bool.{not, _||_}
 use mathlib.Core.List.{List, [], _∷_, _++_, map}
 use Prim.Native.Nat.{ℕ, _*_}
 use lib.Dec.{eqb, ltb}
-use lib.ListN.{length, getD}
+use lib.ListN.{length, getD, take, drop}
 use Rattle.grids.specs.Each.{Each, Grid}
 use Rattle.grids.specs.Rows.{rowsOf, flat}
-use Rattle.energy.specs.declared.pictures.Kind.{Kind}
-use Rattle.energy.specs.declared.pictures.Kind.the-variants.{Grey, Rgb}
-use Rattle.energy.specs.declared.pictures.Size.{Size}
-use Rattle.energy.specs.Refusals.{Rule, _when_, refusal, served}
+use Rattle.pictures.specs.declared.sizes.Kind.{Kind}
+use Rattle.pictures.specs.declared.sizes.Kind.the-variants.{Grey, Rgb}
+use Rattle.pictures.specs.declared.sizes.Size.{Size}
+use Rattle.pictures.specs.Refusals.{Rule, _when_, refusal, served}
 
 -- A picture: rows from the top, of pixels from the left. A pixel is the list of its samples, red first.
 abbrev pub Picture : Type 0
@@ -31,6 +31,10 @@ rowBytes z = z .width * channelsOf (z .kind)
 abbrev pub pictureBytes : Size → ℕ
 pictureBytes z = z .height * rowBytes z
 
+-- How many pixels a picture has.
+abbrev pub pixels : Size → ℕ
+pixels z = z .height * z .width
+
 -- What 2 and 3 say of a size.
 abbrev pub sideRules : Size → List Rule
 sideRules z =
@@ -48,6 +52,21 @@ picture z b = map (rowsOf (channelsOf (z .kind)) (z .width)) (rowsOf (rowBytes z
 
 unfoldable pub bytes : Picture → List ℕ
 bytes p = flat (map flat p)
+
+-- The pixel in row r and column c; past the edge, no samples.
+abbrev pub pixel : Picture → ℕ → ℕ → List ℕ
+pixel p r c = getD (getD p r []) c []
+
+-- The marks in a buffer: rows from the top, one byte a pixel.
+abbrev pub marksOf : Size → List ℕ → List (List ℕ)
+marksOf z b = rowsOf (z .width) (z .height) b
+
+-- The picture at the front of a space, and the marks after it.
+abbrev pub pictureIn : Size → List ℕ → Picture
+pictureIn z space = picture z (take (pictureBytes z) space)
+
+abbrev pub marksIn : Size → List ℕ → List (List ℕ)
+marksIn z space = marksOf z (take (pixels z) (drop (pictureBytes z) space))
 
 -- A picture of this size: as many rows of as many pixels of as many samples.
 abbrev pub OfSize : Size → Picture → Type 0

@@ -1,4 +1,4 @@
--- `energy::pictures::row` meets its contract.
+-- `pictures::row` meets its contract.
 use mathlib.Core.Path.{_≡_, sym, ap, _∙_}
 use Prim.Native.Nat.{_+_, _*_, _≤_}
 use native.Mathlib.Nat.{add-sub-cancel-left}
@@ -7,13 +7,13 @@ use borrow.Author.Needs.{needs}
 use denote.Ref.{now}
 use lib.ListN.{length, take, drop}
 use Rattle.grids.proofs.Rows.{part-end}
-use Rattle.energy.specs.Refusals.{given, refusal}
-use Rattle.energy.specs.Pictures.{sizeRules}
-use Rattle.energy.proofs.Rules.{number-some}
-use Rattle.energy.proofs.Sizes.{Sized, sized-is}
-use Rattle.energy.proofs.Buffers.{row-refused, row-past, row-is}
-use Rattle.energy.proofs.pictures.row.Statement.{statement}
-use Rattle.energy.proofs.pictures.row.Tie as tie
+use Rattle.pictures.specs.Refusals.{given, refusal}
+use Rattle.pictures.specs.Pictures.{sizeRules}
+use Rattle.pictures.proofs.Rules.{number-some}
+use Rattle.pictures.proofs.Limits.{Sized, sized-is}
+use Rattle.pictures.proofs.Buffers.{row-refused, row-past, row-is}
+use Rattle.pictures.proofs.row.Statement.{statement}
+use Rattle.pictures.proofs.row.Tie as tie
 
 -- where the picture is served
 none : (c : tie.After-enum-told) → let a = c .before .before .before .before .args in refusal (sizeRules (a .size) (length (now (a .picture)))) ≡ 0

@@ -1,13 +1,13 @@
 -- "Energy and seams": the seam found in a picture, without marks and with them.
-use mathlib.Core.Bool.{cond}
-use mathlib.Core.Option.{Option, Option·getD}
+use mathlib.Core.Bool.{Bool, true, false, cond}
+use mathlib.Core.Option.{Option, none, some, Option·getD}
 use mathlib.Core.List.{List, [], reverse}
 use Prim.Native.Nat.{ℕ}
 use lib.Dec.{eqb}
 use lib.ListN.{getD}
 use Rattle.seam_theory.specs.Paths.{paths, nearby, along}
 use Rattle.seam_theory.specs.Seams.{cheapest, cheapestAllowed}
-use Rattle.energy.specs.Pictures.{Picture}
+use Rattle.pictures.specs.Pictures.{Picture}
 use Rattle.energy.specs.Energy.{energy}
 
 -- "The seam found is the cheapest. Among equals it is the one whose columns, read from the bottom row upward, come first in
@@ -42,3 +42,8 @@ markedSeamOf w h p m = reverse (Option·getD (markedUp w h p m) [])
 
 unfoldable pub markedCostOf : ℕ → ℕ → Picture → List (List ℕ) → ℕ
 markedCostOf w h p m = along (energy p) (Option·getD (markedUp w h p m) [])
+
+-- Whether there is none: every path meets a protected pixel.
+abbrev pub isNone : {A : Type 0} → Option A → Bool
+isNone none = true
+isNone (some a) = false

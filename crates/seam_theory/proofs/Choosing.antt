@@ -1,17 +1,22 @@
--- Seams whose columns differ by at most 1 from row to row, and paths as a way of choosing them.
+-- Seams whose columns differ by at most 1 from row to row, and paths, among them the seam of a picture, as a way of choosing
+-- them.
 use mathlib.Core.Path.{_≡_, refl, subst}
 use mathlib.Core.Logic.{_↔_}
 use mathlib.Core.Bool.{Bool, true, and-eq-true-iff}
+use mathlib.Core.Option.{Option·getD}
 use mathlib.Core.List.{List, [], _∷_, reverse, reverseAux}
 use Prim.Native.Nat.{ℕ, zero, suc, _<_}
 use native.Mathlib.Omega.{arith}
 use Rattle.grids.specs.Each.{Each, Grid, none}
 use Rattle.grids.proofs.Shapes.{each-member, each-reverse}
-use Rattle.seam_theory.specs.Paths.{beside}
+use Rattle.pictures.specs.Pictures.{Picture}
+use Rattle.seam_theory.specs.Best.{firstBest}
+use Rattle.seam_theory.specs.Paths.{beside, paths}
 use Rattle.seam_theory.specs.Connected.{Linked, IsPath}
 use Rattle.seam_theory.proofs.Nearby.{beside-is}
-use Rattle.map_theory.specs.Choices.{linked, Choice, Chooses}
-use Rattle.map_theory.proofs.Tests.{and-both}
+use Rattle.seam_theory.specs.PictureSeams.{seamUp, seamOf}
+use Rattle.seam_theory.specs.Choices.{linked, Choice, Chooses}
+use Rattle.seam_theory.proofs.Characterised.{seam-some}
 
 -- The test of a seam's columns, as inequations.
 pub linked-is : (c : ℕ) (s : List ℕ) → (linked beside (c ∷ s) ≡ true) ↔ Linked (c ∷ s)
@@ -26,7 +31,7 @@ linked-is c s = (there c s, back c s)
 
     back : (c : ℕ) (s : List ℕ) → Linked (c ∷ s) → linked beside (c ∷ s) ≡ true
     back c [] l = refl
-    back c (d ∷ s) l = and-both (beside c d) (linked beside (d ∷ s)) (beside-is c d .1 (l .0, l .1)) (back d s (l .2))
+    back c (d ∷ s) l = and-eq-true-iff (beside c d) (linked beside (d ∷ s)) .1 (beside-is c d .1 (l .0, l .1), back d s (l .2))
 
 module _ (near : ℕ → ℕ → Bool) (both : (c d : ℕ) → near c d ≡ true → near d c ≡ true) where
   -- The step from a list turned round to what stands behind it.
@@ -41,7 +46,7 @@ module _ (near : ℕ → ℕ → Bool) (both : (c d : ℕ) → near c d ≡ true
 
   linked-cons : (c : ℕ) (s r : List ℕ) → Meets (c ∷ s) r → linked near r ≡ true → linked near (c ∷ r) ≡ true
   linked-cons c s [] j e = refl
-  linked-cons c s (d ∷ r) j e = and-both (near c d) (linked near (d ∷ r)) j e
+  linked-cons c s (d ∷ r) j e = and-eq-true-iff (near c d) (linked near (d ∷ r)) .1 (j, e)
 
   linked-turned : (s r : List ℕ) → linked near s ≡ true → linked near r ≡ true → Meets s r → linked near (reverseAux s r) ≡ true
   linked-turned [] r p q j = q
@@ -76,3 +81,11 @@ paths-choose {A} up path low = record { inside = inside; joined = joined }
     joined : (w h : ℕ) (p : List (List A)) → 0 < w → Grid w h p → linked beside (reverse (up w h p)) ≡ true
     joined w zero p l g = rw (low w p)
     joined w (suc h) p l g = linked-reverse beside beside-both (up w (suc h) p) (whole (up w (suc h) p) (path w (suc h) p l (omega arith) g .linked))
+
+-- The seam of a picture is such a path.
+seam-path : (w h : ℕ) (p : Picture) → 0 < w → 0 < h → Grid w h p → IsPath w h (Option·getD (seamUp w h p) [])
+seam-path w h p k l g = let s = seam-some w h p k l in rw (s .1) (s .2 .path)
+
+pub seam-chooses : Chooses (λ w. beside) seamOf
+unfolding seamOf paths firstBest
+seam-chooses = paths-choose (λ w h p. Option·getD (seamUp w h p) []) seam-path (λ w p. refl)

@@ -1,9 +1,9 @@
-// Pictures in lent buffers: kind, size, and the rows as parts of the buffer.
+// Kinds and sizes of pictures, the bytes that they take, and which sizes are refused.
 use crate::refusals::Refusal;
 use crate::refusals::Verdict;
 ghost use mathlib.Core.Path.{_≡_};
-ghost use Rattle.energy.specs.Refusals.{given, refusal, served};
-ghost use Rattle.energy.specs.Pictures.{largestSide, channelsOf, rowBytes, pictureBytes, sideRules, sizeRules, rowOf};
+ghost use Rattle.pictures.specs.Refusals.{given, refusal, served};
+ghost use Rattle.pictures.specs.Pictures.{largestSide, channelsOf, rowBytes, pictureBytes, sideRules, sizeRules};
 ghost use Prim.Native.Nat.{_*_, _≤_};
 
 // The largest width and the largest height of a picture.
@@ -84,20 +84,4 @@ pub fn sized(size: Size, bytes: usize) -> Verdict
         return Verdict::Refused(Refusal::Length);
     }
     Verdict::Served
-}
-
-// Row r as that part of the lent picture itself; the empty part where there is no such row or 2 to 4 refuse the picture.
-pub fn row<'a>(picture: &'a [u8], size: Size, r: usize) -> &'a [u8]
-    ensures { λ s. ⌜ now s ≡ rowOf size (now (picture .entry)) r ⌝ }
-{
-    let Verdict::Served = sized(size, picture.len()) else {
-        return &picture[..0];
-    };
-    let height = size.height;
-    if height <= r {
-        return &picture[..0];
-    }
-    let stride = row_bytes(size);
-    let at = r * stride;
-    &picture[at..at + stride]
 }

@@ -1,7 +1,7 @@
--- `energy::pictures::sides` meets its contract: each return rewrites the rules by the tests that led there.
+-- `pictures::sizes::sides` meets its contract: each return rewrites the rules by the tests that led there.
 use borrow.Author.Tests.{eq-eqb, ne-eqb, lt-ltb, le-ltb}
-use Rattle.energy.proofs.pictures.sides.Statement.{statement}
-use Rattle.energy.proofs.pictures.sides.Tie as tie
+use Rattle.pictures.proofs.sizes.sides.Statement.{statement}
+use Rattle.pictures.proofs.sizes.sides.Tie as tie
 
 returns : tie.Need-returns
 returns c = simp (eq-eqb _ _ (c .if1 .taken))

@@ -7,13 +7,13 @@ use lib.Dec.{eqb, ltb}
 use lib.ListN.{length, take, drop, replicate}
 use Rattle.grids.specs.Rows.{flat}
 use Rattle.grids.specs.Cut.{cut}
-use Rattle.energy.specs.declared.pictures.Size.{Size}
-use Rattle.energy.specs.Refusals.{Rule, _when_, served}
-use Rattle.energy.specs.Pictures.{channelsOf, pictureBytes, sizeRules, picture, bytes}
+use Rattle.pictures.specs.declared.sizes.Size.{Size}
+use Rattle.pictures.specs.Refusals.{Rule, _when_, served, worked}
+use Rattle.pictures.specs.Pictures.{channelsOf, pictureBytes, sizeRules, picture, bytes, pixels, pictureIn, marksOf}
 use Rattle.seam_moves.specs.Moving.{outside}
 use Rattle.seam_find.specs.declared.Found.{Found}
-use Rattle.seam_find.specs.Seams.{seamOf, costOf}
-use Rattle.seam_find.specs.Finding.{foundNumber, foundCost, pixels, pictureIn, marksOf, worked, findRules as Finding·findRules}
+use Rattle.seam_theory.specs.PictureSeams.{seamOf, costOf}
+use Rattle.seam_find.specs.Finding.{foundNumber, foundCost, findRules as Finding·findRules}
 use Rattle.seam_cut.specs.declared.Axis.{Axis}
 use Rattle.seam_cut.specs.declared.Axis.the-variants.{Vertical}
 use Rattle.seam_cut.specs.Axes.{turnedSize, seamAlong, costAlong, markedSeamAlong, markedCostAlong, blockedAlong, cutAlong}

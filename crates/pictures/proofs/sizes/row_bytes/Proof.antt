@@ -1,12 +1,12 @@
--- `energy::pictures::row_bytes` meets its contract.
+-- `pictures::sizes::row_bytes` meets its contract.
 use mathlib.Core.Path.{ap}
 use Prim.Native.Nat.{_*_, _≤_}
 use native.Mathlib.Nat.{mul-le-mul}
 use native.Mathlib.Omega.{arith}
 use borrow.Author.Needs.{needs}
-use Rattle.energy.proofs.Sizes.{channels-most}
-use Rattle.energy.proofs.pictures.row_bytes.Statement.{statement}
-use Rattle.energy.proofs.pictures.row_bytes.Tie as tie
+use Rattle.pictures.proofs.Limits.{channels-most}
+use Rattle.pictures.proofs.sizes.row_bytes.Statement.{statement}
+use Rattle.pictures.proofs.sizes.row_bytes.Tie as tie
 
 channels-requires : tie.Need-channels-requires
 channels-requires c κs = search needs

@@ -6,14 +6,13 @@ use lib.Dec.{leb, ltb}
 use lib.ListN.{length, take, drop, replicate}
 use Rattle.grids.specs.Rows.{rowsOf}
 use Rattle.seam_theory.specs.Paths.{beside}
-use Rattle.energy.specs.declared.pictures.Size.{Size}
-use Rattle.energy.specs.declared.refusals.Verdict.{Verdict}
-use Rattle.energy.specs.Refusals.{Rule, _when_, given, refusal}
-use Rattle.energy.specs.Pictures.{Picture, sideRules}
+use Rattle.pictures.specs.declared.sizes.Size.{Size}
+use Rattle.pictures.specs.declared.refusals.Verdict.{Verdict}
+use Rattle.pictures.specs.Refusals.{Rule, _when_, given, refusal, worked}
+use Rattle.pictures.specs.Pictures.{Picture, sideRules, pictureIn}
 use Rattle.map_theory.specs.Judged.{mapRules}
-use Rattle.seam_find.specs.Seams.{seamOf}
-use Rattle.seam_find.specs.Finding.{pictureIn, worked}
-use Rattle.map_build.specs.Mapping.{mapBytes, mapAt}
+use Rattle.seam_theory.specs.PictureSeams.{seamOf}
+use Rattle.map_build.specs.Building.{mapBytes, mapAt}
 
 -- The numbers in bytes, two a number, the low byte first. A last byte that makes no number is left out.
 abbrev pub numbersIn : List ℕ → List ℕ

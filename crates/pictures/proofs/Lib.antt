@@ -1,0 +1,3 @@
+pub mod Rules
+pub mod Limits
+pub mod Buffers
