@@ -4,8 +4,8 @@ use mathlib.Core.List.{List}
 use Prim.Native.Nat.{ℕ}
 use Rattle.pictures.specs.declared.sizes.Size.{Size}
 use Rattle.pictures.specs.Refusals.{Rule, refusal}
-use Rattle.seam_find.specs.declared.Found.{Found}
-use Rattle.seam_cut.specs.declared.Axis.{Axis}
+use Rattle.seam_rules.specs.declared.answers.Found.{Found}
+use Rattle.seam_rules.specs.declared.answers.Axis.{Axis}
 use Rattle.seam_cut.specs.Axes.{turnedSize}
 use Rattle.seam_cut.specs.Cutting.{SeamGiven, SeamCut, MarksCut}
 use Rattle.exports.specs.declared.Sizing.{Sizing}

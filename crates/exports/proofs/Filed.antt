@@ -5,9 +5,10 @@ use mathlib.Core.List.{List}
 use Prim.Native.Nat.{ℕ}
 use Rattle.pictures.specs.declared.sizes.Size.{Size}
 use Rattle.text_theory.specs.declared.Head.{Head}
-use Rattle.file_read.specs.declared.checking.Checked.{Checked}
-use Rattle.file_read.specs.declared.widths.Shown.{Shown}
-use Rattle.file_read.specs.Reading.{checkedNumber, checkedHead, shownNumber, shownSize, CheckGiven, ReadGiven, ShowGiven}
+use Rattle.file_rules.specs.declared.answers.Checked.{Checked}
+use Rattle.file_rules.specs.declared.answers.Shown.{Shown}
+use Rattle.file_rules.specs.Answers.{checkedNumber, checkedHead, shownNumber, shownSize}
+use Rattle.file_read.specs.Reading.{CheckGiven, ReadGiven, ShowGiven}
 use Rattle.exports.specs.Files.{headed, framed, headOf, sizeOf, HostChecked, HostRead, HostShown}
 
 -- the number that stands in an answer

@@ -6,7 +6,7 @@ use Prim.Native.Nat.{ℕ, zero, suc}
 use lib.ListN.{length, replicate}
 use Rattle.pictures.specs.declared.sizes.Size.{Size}
 use Rattle.pictures.specs.Refusals.{refusal, served}
-use Rattle.seam_objects.specs.declared.Removal.{Removal}
+use Rattle.seam_rules.specs.declared.answers.Removal.{Removal}
 use Rattle.seam_objects.specs.Objects.{Ending}
 use Rattle.seam_objects.specs.Removing.{removalRules, ObjectRemoved}
 use Rattle.exports.specs.declared.Sizing.the-variants.{Of, Unknown}

@@ -15,11 +15,10 @@ use Rattle.text_theory.specs.Files.{parse}
 use Rattle.file_theory.specs.Contents.{fileOf}
 use Rattle.file_theory.specs.Rules.{checkRules, readRules, showRules, buildRules}
 use Rattle.file_theory.specs.Shows.{headIn, rowsIn, mapsIn, shows, drawnSize, drawnBytes}
-use Rattle.file_build.specs.declared.Built.{Built}
-use Rattle.file_build.specs.Building.{builtNumber, builtLength}
-use Rattle.file_read.specs.declared.checking.Checked.{Checked}
-use Rattle.file_read.specs.declared.widths.Shown.{Shown}
-use Rattle.file_read.specs.Reading.{checkedNumber, checkedHead, shownNumber, shownSize}
+use Rattle.file_rules.specs.declared.answers.Built.{Built}
+use Rattle.file_rules.specs.Answers.{builtNumber, builtLength, checkedNumber, checkedHead, shownNumber, shownSize}
+use Rattle.file_rules.specs.declared.answers.Checked.{Checked}
+use Rattle.file_rules.specs.declared.answers.Shown.{Shown}
 use Rattle.exports.specs.declared.Answer.{Answer}
 use Rattle.exports.specs.declared.Sizing.{Sizing}
 use Rattle.exports.specs.declared.multifiles.FileAnswer.{FileAnswer}

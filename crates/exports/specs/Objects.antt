@@ -8,9 +8,10 @@ use Rattle.grids.specs.Rows.{flat}
 use Rattle.pictures.specs.declared.sizes.Size.{Size}
 use Rattle.pictures.specs.Refusals.{refusal, served}
 use Rattle.pictures.specs.Pictures.{channelsOf, bytes}
-use Rattle.seam_objects.specs.declared.Removal.{Removal}
+use Rattle.seam_rules.specs.declared.answers.Removal.{Removal}
 use Rattle.seam_objects.specs.Objects.{Ending, done, narrow, spent, blocked, Removed, removal}
-use Rattle.seam_objects.specs.Removing.{removalNumber, removalEnding, removalCount, removalRules, markedPicture}
+use Rattle.seam_rules.specs.Answers.{removalNumber, removalCount}
+use Rattle.seam_objects.specs.Removing.{removalEnding, removalRules, markedPicture}
 use Rattle.exports.specs.declared.Sizing.{Sizing}
 use Rattle.exports.specs.declared.objects.Ended.{Ended}
 use Rattle.exports.specs.Hosts.{known}

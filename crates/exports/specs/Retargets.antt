@@ -5,10 +5,11 @@ use Prim.Native.Nat.{ℕ}
 use lib.ListN.{length, drop, replicate}
 use Rattle.pictures.specs.Refusals.{refusal, served}
 use Rattle.pictures.specs.Pictures.{pictureBytes, bytes}
-use Rattle.seam_retarget.specs.declared.Rows.{Rows}
-use Rattle.seam_retarget.specs.declared.Columns.{Columns}
-use Rattle.seam_retarget.specs.declared.Retargeted.{Retargeted}
-use Rattle.seam_retarget.specs.Retargeting.{retargetedNumber, retargetedTotal, leftSize, cellOf, retargetRules}
+use Rattle.seam_rules.specs.declared.answers.Rows.{Rows}
+use Rattle.seam_rules.specs.declared.answers.Columns.{Columns}
+use Rattle.seam_rules.specs.declared.answers.Retargeted.{Retargeted}
+use Rattle.seam_rules.specs.Answers.{retargetedNumber, retargetedTotal}
+use Rattle.seam_retarget.specs.Retargeting.{leftSize, cellOf, retargetRules}
 use Rattle.exports.specs.declared.Answer.{Answer}
 use Rattle.exports.specs.declared.Sizing.{Sizing}
 use Rattle.exports.specs.Hosts.{known}

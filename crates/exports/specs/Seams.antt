@@ -7,9 +7,9 @@ use Rattle.grids.specs.Rows.{flat}
 use Rattle.pictures.specs.declared.sizes.Size.{Size}
 use Rattle.pictures.specs.Refusals.{Rule, refusal, served}
 use Rattle.pictures.specs.Pictures.{channelsOf, picture, bytes, marksOf}
-use Rattle.seam_find.specs.declared.Found.{Found}
-use Rattle.seam_find.specs.Finding.{foundNumber, foundCost}
-use Rattle.seam_cut.specs.declared.Axis.{Axis}
+use Rattle.seam_rules.specs.declared.answers.Found.{Found}
+use Rattle.seam_rules.specs.Answers.{foundNumber, foundCost}
+use Rattle.seam_rules.specs.declared.answers.Axis.{Axis}
 use Rattle.seam_cut.specs.Axes.{turnedSize, seamAlong, costAlong, markedSeamAlong, markedCostAlong, cutAlong}
 use Rattle.seam_cut.specs.Cutting.{cleared}
 use Rattle.exports.specs.declared.Answer.{Answer}

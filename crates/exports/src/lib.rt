@@ -6,7 +6,7 @@ mod seams;
 
 use pictures::Kind;
 use pictures::Size;
-use seam_cut::Axis;
+use seam_rules::Axis;
 ghost use mathlib.Core.Path.{_≡_};
 ghost use Rattle.exports.specs.Hosts.{sizingOf, turningOf, refusedBy, HostEnergies, HostRow};
 

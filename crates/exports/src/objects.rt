@@ -1,7 +1,7 @@
 // Objects removed by seams with marks, for hosts.
 use crate::Sizing;
 use crate::size_named;
-use seam_objects::Removal;
+use seam_rules::Removal;
 ghost use mathlib.Core.Path.{_≡_};
 ghost use Rattle.exports.specs.Hosts.{sizingOf};
 ghost use Rattle.exports.specs.Objects.{stoppedBy, endedAs, endedOf, HostRemoved};

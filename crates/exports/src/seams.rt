@@ -5,7 +5,7 @@ use crate::Turning;
 use crate::axis_named;
 use crate::refused;
 use crate::size_named;
-use seam_find::Found;
+use seam_rules::Found;
 ghost use mathlib.Core.Path.{_≡_};
 ghost use Rattle.seam_cut.specs.Cutting.{findRules, cutRules, markedFindRules, markedCutRules};
 ghost use Rattle.exports.specs.Hosts.{sizingOf, turningOf};

@@ -3,22 +3,13 @@ use mathlib.Core.Path.{_≡_}
 use mathlib.Core.List.{List, _++_}
 use Prim.Native.Nat.{ℕ}
 use lib.ListN.{length, drop, replicate}
-use Rattle.pictures.specs.Refusals.{numberOf, refusal, served}
+use Rattle.pictures.specs.Refusals.{refusal, served}
 use Rattle.pictures.specs.Pictures.{picture}
 use Rattle.text_theory.specs.declared.Head.{Head}
 use Rattle.file_theory.specs.Contents.{fileOf}
 use Rattle.file_theory.specs.Rules.{buildRules}
-use Rattle.file_build.specs.declared.Built.{Built}
-use Rattle.file_build.specs.declared.Built.the-variants.{Length, Refused}
-
--- The number that an answer is refused by, 0 where a length is given; and the length.
-abbrev pub builtNumber : Built → ℕ
-builtNumber (Length n) = 0
-builtNumber (Refused why) = numberOf why
-
-abbrev pub builtLength : Built → ℕ
-builtLength (Length n) = n
-builtLength (Refused why) = 0
+use Rattle.file_rules.specs.declared.answers.Built.{Built}
+use Rattle.file_rules.specs.Answers.{builtNumber, builtLength}
 
 -- The file of the picture in these bytes, with the size and range of the head.
 abbrev pub fileIn : Head → List ℕ → List ℕ

@@ -2,6 +2,7 @@
 mod fitting;
 mod lines;
 
+use file_rules::Built;
 use pictures::Refusal;
 use pictures::Verdict;
 use text_theory::Head;
@@ -10,12 +11,6 @@ ghost use Rattle.pictures.specs.Refusals.{given, refusal};
 ghost use Rattle.file_theory.specs.Rules.{buildRules};
 ghost use Rattle.file_build.specs.Building.{BuildGiven};
 ghost use Rattle.file_build.specs.Kernels.{BuildNeeded, FileGiven};
-
-// The length of the file, or why there is none.
-pub enum Built {
-    Length(usize),
-    Refused(Refusal),
-}
 
 // The multi-size file of a picture, put into the front of out: its length. Refused by 2, 3, 4, 6 and 8.
 pub fn build(picture: &[u8], head: Head, out: &mut [u8], work: &mut [u8]) -> Built

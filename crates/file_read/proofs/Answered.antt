@@ -15,9 +15,9 @@ use Rattle.map_check.proofs.Answers.{worked-judged}
 use Rattle.text_theory.specs.declared.Head.{Head}
 use Rattle.text_theory.specs.Files.{Parts, parse}
 use Rattle.file_theory.specs.Rules.{partRules, judgedRules, formRules}
-use Rattle.file_read.specs.declared.checking.Checked.{Checked}
-use Rattle.file_read.specs.declared.checking.Checked.the-variants as checks
-use Rattle.file_read.specs.Reading.{checkedNumber}
+use Rattle.file_rules.specs.declared.answers.Checked.{Checked}
+use Rattle.file_rules.specs.declared.answers.Checked.the-variants as checks
+use Rattle.file_rules.specs.Answers.{checkedNumber}
 use Rattle.file_read.specs.Kernels.{OpenGiven, Open, judgedIn, MapJudged}
 use Rattle.file_read.proofs.Parsed.{partsWith, opened}
 

@@ -16,8 +16,8 @@ use Rattle.text_theory.specs.declared.Head.{Head}
 use Rattle.text_theory.specs.Files.{parse}
 use Rattle.file_theory.specs.Rules.{judgedRules, workRule, checkRules}
 use Rattle.file_theory.specs.Shows.{headIn}
-use Rattle.file_read.specs.declared.checking.Checked.{Checked}
-use Rattle.file_read.specs.declared.checking.Checked.the-variants as checks
+use Rattle.file_rules.specs.declared.answers.Checked.{Checked}
+use Rattle.file_rules.specs.declared.answers.Checked.the-variants as checks
 use Rattle.file_read.specs.Reading.{CheckGiven}
 use Rattle.file_read.specs.Kernels.{OpenGiven, MapJudged}
 use Rattle.file_read.proofs.Answered.{early-number, early-work, is-open, own-number, judged-number, judged-work}

@@ -20,7 +20,7 @@ use Rattle.text_read.specs.declared.scanning.Facts.{Facts}
 use Rattle.text_read.specs.Answers.{evenly, factsOf, factsIn}
 use Rattle.file_theory.specs.Rules.{filled, partRules}
 use Rattle.file_theory.specs.Shows.{headIn}
-use Rattle.file_read.specs.declared.checking.Checked.the-variants as checks
+use Rattle.file_rules.specs.declared.answers.Checked.the-variants as checks
 use Rattle.file_read.specs.Kernels.{OpenGiven}
 
 -- Whether all rows are as long as the width says: said of their lengths, and of the rows.

@@ -22,8 +22,8 @@ use Rattle.text_theory.specs.declared.Head.{Head}
 use Rattle.text_theory.specs.Files.{parse}
 use Rattle.file_theory.specs.Rules.{judgedRules, readRules}
 use Rattle.file_theory.specs.Shows.{headIn, rowsIn, mapsIn}
-use Rattle.file_read.specs.declared.checking.Checked.{Checked}
-use Rattle.file_read.specs.declared.checking.Checked.the-variants as checks
+use Rattle.file_rules.specs.declared.answers.Checked.{Checked}
+use Rattle.file_rules.specs.declared.answers.Checked.the-variants as checks
 use Rattle.file_read.specs.Reading.{ReadGiven}
 use Rattle.file_read.specs.Kernels.{OpenGiven, Open, RowsRead, MapJudged, spaceRules}
 use Rattle.file_read.proofs.Parsed.{opened}

@@ -15,8 +15,8 @@ use Rattle.text_theory.specs.declared.Head.{Head}
 use Rattle.text_theory.specs.Files.{parse}
 use Rattle.file_theory.specs.Rules.{judgedRules, showRules}
 use Rattle.file_theory.specs.Shows.{sized, showsIn, shows, drawnSize, drawnBytes}
-use Rattle.file_read.specs.declared.checking.Checked.the-variants as checks
-use Rattle.file_read.specs.declared.widths.Shown.the-variants as showings
+use Rattle.file_rules.specs.declared.answers.Checked.the-variants as checks
+use Rattle.file_rules.specs.declared.answers.Shown.the-variants as showings
 use Rattle.file_read.specs.Reading.{ShowGiven}
 use Rattle.file_read.specs.Kernels.{OpenGiven, Open, judgedIn, MapJudged, wantedRules, DrawGiven}
 use Rattle.file_read.proofs.Parsed.{opened}

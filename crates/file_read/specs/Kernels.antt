@@ -16,8 +16,8 @@ use Rattle.text_theory.specs.Decimal.{digits}
 use Rattle.text_theory.specs.Files.{Parts, parse, each, rowWord, mapWord, lineText, pixelText, closed}
 use Rattle.file_theory.specs.Rules.{partRules, judgedRules, formRules, workRule}
 use Rattle.file_theory.specs.Shows.{headIn, rowsIn, shows, drawnBytes}
-use Rattle.file_read.specs.declared.checking.Checked.{Checked}
-use Rattle.file_read.specs.Reading.{checkedNumber, checkedHead}
+use Rattle.file_rules.specs.declared.answers.Checked.{Checked}
+use Rattle.file_rules.specs.Answers.{checkedNumber, checkedHead}
 
 -- What stands in a text from its row lines on, and from its map lines on.
 abbrev pub mapLines : Option Parts → List ℕ

@@ -1,18 +1,13 @@
 // A file checked.
 use crate::lines;
 use crate::opening;
+use file_rules::Checked;
 use pictures::Refusal;
 use pictures::Verdict;
 use text_theory::Head;
 ghost use lib.ListN.{length};
 ghost use Rattle.file_read.specs.Reading.{CheckGiven};
 ghost use Rattle.file_read.specs.Kernels.{JudgeNeeded, MapJudged};
-
-// Size and range of a file that is accepted, or why it isn't.
-pub enum Checked {
-    Accepted(Head),
-    Refused(Refusal),
-}
 
 // Checks a file: whether each seam that its map records is the one found in the picture then left. Refused by 1, 2, 3, 4, 6, 8,
 // 9, 10 and 11.

@@ -5,8 +5,6 @@ mod opening;
 pub mod reading;
 pub mod widths;
 
-pub use checking::Checked;
 pub use checking::check;
 pub use reading::read;
-pub use widths::Shown;
 pub use widths::show;

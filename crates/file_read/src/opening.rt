@@ -1,5 +1,5 @@
 // A file opened: its form, its counts and its range judged, and the place of its row lines.
-use crate::checking::Checked;
+use file_rules::Checked;
 use pictures::Refusal;
 use pictures::Verdict;
 use text_read::Cursor;

@@ -1,8 +1,8 @@
 // The picture and the map of a file read back.
 use crate::checking;
-use crate::checking::Checked;
 use crate::lines;
 use crate::opening;
+use file_rules::Checked;
 use pictures::Refusal;
 use pictures::Size;
 use pictures::Verdict;

@@ -1,8 +1,9 @@
 // A file shown at a width.
 use crate::checking;
-use crate::checking::Checked;
 use crate::lines;
 use crate::opening;
+use file_rules::Checked;
+use file_rules::Shown;
 use pictures::Refusal;
 use pictures::Size;
 use pictures::Verdict;
@@ -14,12 +15,6 @@ ghost use lib.ListN.{length, replicate};
 ghost use Rattle.pictures.specs.Refusals.{given, refusal};
 ghost use Rattle.file_read.specs.Reading.{ShowGiven};
 ghost use Rattle.file_read.specs.Kernels.{wantedRules, Sound, DrawNeeded, DrawGiven, LinesNeeded};
-
-// The size of the picture shown, or why there is none.
-pub enum Shown {
-    Size(Size),
-    Refused(Refusal),
-}
 
 // The picture that a file shows at the wanted width, put into the front of out, and its size. Refused by what checking
 // refuses, by 7 where the width isn't offered, and by 8 where out is shorter than the picture.

@@ -14,7 +14,7 @@ use Rattle.pictures.specs.declared.sizes.Size.{Size}
 use Rattle.pictures.specs.Refusals.{_when_, refusal}
 use Rattle.pictures.specs.Pictures.{channelsOf, sideRules, pictureBytes, bytes, pixels, pictureIn}
 use Rattle.pictures.proofs.Rules.{served-first}
-use Rattle.seam_find.specs.declared.Found.{Found}
+use Rattle.seam_rules.specs.declared.answers.Found.{Found}
 use Rattle.seam_theory.specs.PictureSeams.{seamOf}
 use Rattle.seam_find.specs.Finding.{findRules}
 use Rattle.seam_cut.specs.Cutting.{cutInRules, CutInGiven}

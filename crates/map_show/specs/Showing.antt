@@ -1,8 +1,8 @@
 -- A row of a picture and its row of the map, shown at a width.
 use mathlib.Core.Path.{_≡_}
 use mathlib.Core.Bool.{not}
-use mathlib.Core.List.{List, [], _∷_, _++_, zipWith}
-use Prim.Native.Nat.{ℕ, _+_, _*_, _/_}
+use mathlib.Core.List.{List, [], _∷_, _++_}
+use Prim.Native.Nat.{ℕ, _*_}
 use lib.Dec.{eqb, ltb}
 use lib.ListN.{length, drop}
 use Rattle.grids.specs.Rows.{rowsOf, flat}
@@ -10,7 +10,7 @@ use Rattle.pictures.specs.declared.sizes.Kind.{Kind}
 use Rattle.pictures.specs.declared.refusals.Verdict.{Verdict}
 use Rattle.pictures.specs.Refusals.{Rule, _when_, given, refusal, served}
 use Rattle.pictures.specs.Pictures.{channelsOf}
-use Rattle.map_theory.specs.Widths.{rowAtWidth}
+use Rattle.map_theory.specs.Widths.{average, rowAtWidth}
 
 -- The bytes of a row at width v: as many pixels as there are numbers, shown by them.
 unfoldable pub rowShown : Kind → List ℕ → List ℕ → ℕ → List ℕ

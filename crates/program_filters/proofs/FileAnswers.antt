@@ -17,7 +17,7 @@ use Rattle.map_theory.specs.Widths.{allowed}
 use Rattle.text_theory.specs.Files.{All}
 use Rattle.file_theory.specs.Contents.{fileOf}
 use Rattle.file_theory.specs.Rules.{buildRules, workRule}
-use Rattle.file_build.specs.declared.Built.the-variants as builts
+use Rattle.file_rules.specs.declared.answers.Built.the-variants as builts
 use Rattle.file_build.specs.Building.{BuildGiven}
 use Rattle.program_theory.specs.Programs.{mostPixels, pixelsRule, fullRange}
 use Rattle.program_theory.proofs.Lengths.{file-most}

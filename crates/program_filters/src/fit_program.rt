@@ -4,7 +4,7 @@ use crate::MOST_PIXELS;
 use crate::netpbm;
 use crate::output;
 use crate::output::Output;
-use file_read::Shown;
+use file_rules::Shown;
 use pictures::Refusal;
 use text_read::Cursor;
 use text_read::HeadRead;

@@ -5,7 +5,7 @@ use crate::netpbm;
 use crate::netpbm::Header;
 use crate::output;
 use crate::output::Output;
-use file_build::Built;
+use file_rules::Built;
 use pictures::Refusal;
 use pictures::Size;
 use pictures::Verdict;

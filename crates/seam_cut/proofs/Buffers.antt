@@ -13,10 +13,10 @@ use Rattle.pictures.specs.Refusals.{_when_, numberOf, refusal, served}
 use Rattle.pictures.specs.Pictures.{sizeRules, pixels}
 use Rattle.pictures.proofs.Rules.{served-first, served-both, passed, number-some, served-not}
 use Rattle.seam_moves.specs.Moving.{outside}
-use Rattle.seam_find.specs.declared.Found.{Found}
-use Rattle.seam_find.specs.declared.Found.the-variants.{Seam, Refused}
-use Rattle.seam_find.specs.Finding.{foundNumber}
-use Rattle.seam_cut.specs.declared.Axis.{Axis}
+use Rattle.seam_rules.specs.declared.answers.Found.{Found}
+use Rattle.seam_rules.specs.declared.answers.Found.the-variants.{Seam, Refused}
+use Rattle.seam_rules.specs.Answers.{foundNumber}
+use Rattle.seam_rules.specs.declared.answers.Axis.{Axis}
 use Rattle.seam_cut.specs.Axes.{turnedSize}
 use Rattle.seam_cut.specs.Cutting.{cleared, roomRules, findRules, markRules}
 use Rattle.seam_cut.specs.Kernels.{SeamNeeded, MarkedNeeded}

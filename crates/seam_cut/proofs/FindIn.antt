@@ -10,9 +10,10 @@ use Rattle.pictures.specs.declared.sizes.Size.{Size}
 use Rattle.pictures.specs.Refusals.{Rule, _when_, refusal, served}
 use Rattle.pictures.specs.Pictures.{sideRules, pictureBytes, picture, pixels, pictureIn, marksIn}
 use Rattle.pictures.proofs.Rules.{served-first}
-use Rattle.seam_find.specs.declared.Found.{Found}
+use Rattle.seam_rules.specs.declared.answers.Found.{Found}
 use Rattle.seam_theory.specs.PictureSeams.{seamOf, costOf, markedUp, markedSeamOf, markedCostOf, isNone}
-use Rattle.seam_find.specs.Finding.{foundNumber, foundCost, FindGiven, FindMarkedGiven}
+use Rattle.seam_rules.specs.Answers.{foundNumber, foundCost}
+use Rattle.seam_find.specs.Finding.{FindGiven, FindMarkedGiven}
 
 pub record FoundThere (space : List ℕ) (z : Size) (seam : List ℕ) (answer : Found) (space′ seam′ : List ℕ) : Type 0 where
   pub number : foundNumber answer ≡ 0

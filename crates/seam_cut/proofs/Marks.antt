@@ -18,8 +18,8 @@ use Rattle.pictures.specs.Refusals.{refusal}
 use Rattle.pictures.specs.Pictures.{pictureBytes, sizeRules, picture, bytes, pixels, marksOf, pictureIn, marksIn}
 use Rattle.pictures.proofs.Limits.{Sized, sized-served}
 use Rattle.pictures.proofs.Buffers.{picture-ofSize, length-bytes}
-use Rattle.seam_cut.specs.declared.Axis.{Axis}
-use Rattle.seam_cut.specs.declared.Axis.the-variants.{Vertical, Horizontal}
+use Rattle.seam_rules.specs.declared.answers.Axis.{Axis}
+use Rattle.seam_rules.specs.declared.answers.Axis.the-variants.{Vertical, Horizontal}
 use Rattle.seam_cut.specs.Axes.{turnedSize, turned, cutAlong}
 use Rattle.seam_cut.specs.Kernels.{greyOf}
 use Rattle.seam_cut.proofs.Turns.{sides-of, turned-bytes, turned-pixels, turned-ofSize, turned-picture}

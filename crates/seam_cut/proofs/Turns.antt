@@ -14,8 +14,8 @@ use Rattle.pictures.specs.Refusals.{refusal}
 use Rattle.pictures.specs.Pictures.{Picture, largestSide, channelsOf, pictureBytes, sideRules, picture, bytes, OfSize, pixels}
 use Rattle.pictures.proofs.Limits.{Sized, channels-most}
 use Rattle.pictures.proofs.Buffers.{picture-ofSize, picture-bytes, length-bytes}
-use Rattle.seam_cut.specs.declared.Axis.{Axis}
-use Rattle.seam_cut.specs.declared.Axis.the-variants.{Vertical, Horizontal}
+use Rattle.seam_rules.specs.declared.answers.Axis.{Axis}
+use Rattle.seam_rules.specs.declared.answers.Axis.the-variants.{Vertical, Horizontal}
 use Rattle.seam_cut.specs.Axes.{turnedSize, turned}
 
 pub turned-bytes : (x : Axis) (z : Size) → pictureBytes (turnedSize x z) ≡ pictureBytes z

@@ -7,8 +7,8 @@ use Rattle.grids.specs.Cut.{cut}
 use Rattle.pictures.specs.declared.sizes.Size.{Size}
 use Rattle.pictures.specs.Pictures.{Picture}
 use Rattle.seam_theory.specs.PictureSeams.{seamOf, costOf, markedUp, markedSeamOf, markedCostOf, isNone}
-use Rattle.seam_cut.specs.declared.Axis.{Axis}
-use Rattle.seam_cut.specs.declared.Axis.the-variants.{Vertical, Horizontal}
+use Rattle.seam_rules.specs.declared.answers.Axis.{Axis}
+use Rattle.seam_rules.specs.declared.answers.Axis.the-variants.{Vertical, Horizontal}
 
 -- The size in which a seam along the axis is vertical.
 abbrev pub turnedSize : Axis → Size → Size

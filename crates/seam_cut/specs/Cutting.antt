@@ -11,11 +11,12 @@ use Rattle.pictures.specs.declared.sizes.Size.{Size}
 use Rattle.pictures.specs.Refusals.{Rule, _when_, served, worked}
 use Rattle.pictures.specs.Pictures.{channelsOf, pictureBytes, sizeRules, picture, bytes, pixels, pictureIn, marksOf}
 use Rattle.seam_moves.specs.Moving.{outside}
-use Rattle.seam_find.specs.declared.Found.{Found}
+use Rattle.seam_rules.specs.declared.answers.Found.{Found}
 use Rattle.seam_theory.specs.PictureSeams.{seamOf, costOf}
-use Rattle.seam_find.specs.Finding.{foundNumber, foundCost, findRules as Finding·findRules}
-use Rattle.seam_cut.specs.declared.Axis.{Axis}
-use Rattle.seam_cut.specs.declared.Axis.the-variants.{Vertical}
+use Rattle.seam_rules.specs.Answers.{foundNumber, foundCost}
+use Rattle.seam_find.specs.Finding.{findRules as Finding·findRules}
+use Rattle.seam_rules.specs.declared.answers.Axis.{Axis}
+use Rattle.seam_rules.specs.declared.answers.Axis.the-variants.{Vertical}
 use Rattle.seam_cut.specs.Axes.{turnedSize, seamAlong, costAlong, markedSeamAlong, markedCostAlong, blockedAlong, cutAlong}
 
 -- "After 1 to 8 all buffers are unchanged. After 9 and every higher number .. work space is zero, as after success."

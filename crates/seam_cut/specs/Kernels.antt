@@ -9,9 +9,10 @@ use Rattle.pictures.specs.declared.sizes.Kind.the-variants.{Grey}
 use Rattle.pictures.specs.declared.sizes.Size.{Size}
 use Rattle.pictures.specs.Refusals.{_when_, refusal, worked}
 use Rattle.pictures.specs.Pictures.{channelsOf, sizeRules, pictureBytes, picture, bytes, pixels, marksOf}
-use Rattle.seam_find.specs.declared.Found.{Found}
-use Rattle.seam_find.specs.Finding.{foundNumber, foundCost, findRules}
-use Rattle.seam_cut.specs.declared.Axis.{Axis}
+use Rattle.seam_rules.specs.declared.answers.Found.{Found}
+use Rattle.seam_rules.specs.Answers.{foundNumber, foundCost}
+use Rattle.seam_find.specs.Finding.{findRules}
+use Rattle.seam_rules.specs.declared.answers.Axis.{Axis}
 use Rattle.seam_cut.specs.Axes.{turnedSize, blockedAlong, cutAlong}
 
 -- A picture of its size, and room for it turned.

@@ -1,10 +1,10 @@
 // A picture closed up along a seam.
-use crate::Axis;
 use crate::turning;
 use pictures::Size;
+use seam_rules::Axis;
 ghost use mathlib.Core.Path.{_≡_};
 ghost use lib.ListN.{length, replicate};
-ghost use Rattle.seam_cut.specs.declared.Axis.the-variants.{Horizontal};
+ghost use Rattle.seam_rules.specs.declared.answers.Axis.the-variants.{Horizontal};
 ghost use Rattle.seam_cut.specs.Kernels.{CloseNeeded, CloseGiven};
 
 // Takes the seam's pixels out of the picture. The work space is zero, and zero again afterwards.

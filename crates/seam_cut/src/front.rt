@@ -1,7 +1,7 @@
 // The seam of a picture that stands at the front of a space, cut.
 use pictures::Refusal;
 use pictures::Size;
-use seam_find::Found;
+use seam_rules::Found;
 ghost use lib.ListN.{length};
 ghost use Rattle.pictures.specs.Refusals.{refusal};
 ghost use Rattle.seam_cut.specs.Cutting.{cutInRules, CutInGiven};

@@ -11,19 +11,14 @@ pub use marked::marked_rooms;
 use pictures::Refusal;
 use pictures::Size;
 use pictures::Verdict;
-use seam_find::Found;
+use seam_rules::Axis;
+use seam_rules::Found;
 pub use turning::turned_size;
 ghost use mathlib.Core.Path.{_≡_};
 ghost use lib.ListN.{length};
 ghost use Rattle.pictures.specs.Refusals.{given, refusal};
 ghost use Rattle.seam_cut.specs.Cutting.{findRules, cutRules, SeamFound, PictureCut};
 ghost use Rattle.seam_cut.specs.Kernels.{SeamNeeded, CutNeeded};
-
-// The direction of a seam: one column for each row, or one row for each column.
-pub enum Axis {
-    Vertical,
-    Horizontal,
-}
 
 // The seam along the axis, put into the front of seam, and its cost. Refused by 2, 3, 4 and 8.
 pub fn find(picture: &[u8], size: Size, axis: Axis, seam: &mut [u16], work: &mut [u8]) -> Found

@@ -1,12 +1,12 @@
 // Seams by marks: finding and cutting, along either axis. Marks are turned and closed up as a grey picture is.
-use crate::Axis;
 use crate::closing;
 use crate::rooms;
 use crate::turning;
 use pictures::Refusal;
 use pictures::Size;
 use pictures::Verdict;
-use seam_find::Found;
+use seam_rules::Axis;
+use seam_rules::Found;
 ghost use mathlib.Core.Path.{_≡_};
 ghost use mathlib.Core.List.{_++_};
 ghost use lib.ListN.{length, replicate};

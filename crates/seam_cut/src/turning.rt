@@ -1,7 +1,7 @@
 // Pictures turned so that a seam along an axis is vertical.
-use crate::Axis;
 use pictures::Kind;
 use pictures::Size;
+use seam_rules::Axis;
 ghost use mathlib.Core.Path.{_≡_};
 ghost use mathlib.Core.List.{_++_};
 ghost use Prim.Native.Nat.{_<_};

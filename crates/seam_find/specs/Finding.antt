@@ -1,27 +1,16 @@
 -- Finding the seam of a picture that stands at the front of a space: when it is refused, and what it gives.
 use mathlib.Core.Path.{_≡_}
-use mathlib.Core.Bool.{Bool, true, false, cond, _||_}
-use mathlib.Core.Option.{Option, none, some}
+use mathlib.Core.Bool.{Bool}
 use mathlib.Core.List.{List, [], _∷_, _++_}
-use Prim.Native.Nat.{ℕ, _+_, _*_}
-use lib.Dec.{eqb, ltb}
+use Prim.Native.Nat.{ℕ, _+_}
+use lib.Dec.{ltb}
 use lib.ListN.{length, take, drop, replicate}
-use Rattle.grids.specs.Rows.{rowsOf}
 use Rattle.pictures.specs.declared.sizes.Size.{Size}
-use Rattle.pictures.specs.Refusals.{Rule, _when_, numberOf, refusal, served}
-use Rattle.pictures.specs.Pictures.{Picture, sideRules, pictureBytes, picture}
-use Rattle.seam_find.specs.declared.Found.{Found}
-use Rattle.seam_find.specs.declared.Found.the-variants.{Seam, Refused}
-use Rattle.seam_theory.specs.PictureSeams.{seamOf, costOf, markedUp, markedSeamOf, markedCostOf}
-
--- The number that an answer is refused by, 0 where a seam is given; and the seam's cost.
-abbrev pub foundNumber : Found → ℕ
-foundNumber (Seam cost) = 0
-foundNumber (Refused why) = numberOf why
-
-abbrev pub foundCost : Found → ℕ
-foundCost (Seam cost) = cost
-foundCost (Refused why) = 0
+use Rattle.pictures.specs.Refusals.{Rule, _when_, refusal, served, worked}
+use Rattle.pictures.specs.Pictures.{sideRules, pictureBytes, pixels, pictureIn, marksIn}
+use Rattle.seam_rules.specs.declared.answers.Found.{Found}
+use Rattle.seam_rules.specs.Answers.{foundNumber, foundCost}
+use Rattle.seam_theory.specs.PictureSeams.{seamOf, costOf, markedUp, markedSeamOf, markedCostOf, isNone}
 
 -- Refused by 2 and 3, and by 8 where the seam's space is shorter than the seam, or the space than the picture and a byte
 -- for each of its pixels.

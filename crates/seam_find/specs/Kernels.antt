@@ -11,9 +11,9 @@ use Rattle.pictures.specs.declared.sizes.Size.{Size}
 use Rattle.pictures.specs.Refusals.{refusal, served}
 use Rattle.pictures.specs.Pictures.{Picture, largestSide, sizeRules, pictureBytes, picture, pixels, pictureIn, marksIn}
 use Rattle.energy.specs.Energy.{energy, energies}
-use Rattle.seam_find.specs.declared.Found.{Found}
+use Rattle.seam_rules.specs.declared.answers.Found.{Found}
 use Rattle.seam_theory.specs.PictureSeams.{seamOf, costOf, markAt, markedUp, markedSeamOf, markedCostOf, isNone}
-use Rattle.seam_find.specs.Finding.{foundNumber, foundCost}
+use Rattle.seam_rules.specs.Answers.{foundNumber, foundCost}
 
 -- A row of sums has a number at either side that is larger than every sum, so that each column has three above it.
 -- The least of the three above column c.

@@ -13,16 +13,11 @@ pub use marked::find_marked_in;
 use pictures::Refusal;
 use pictures::Size;
 use pictures::Verdict;
+use seam_rules::Found;
 ghost use mathlib.Core.Path.{_≡_};
 ghost use Rattle.pictures.specs.Pictures.{pictureBytes};
 ghost use Rattle.seam_find.specs.Finding.{FindGiven};
 ghost use Rattle.seam_find.specs.Kernels.{SeamNeeded, SeamGiven};
-
-// A seam was found, at this cost, or there is none to give.
-pub enum Found {
-    Seam(u64),
-    Refused(Refusal),
-}
 
 // The vertical seam of the picture at the front of the space, put into the front of seam from the top row. The rest of the
 // space is for work: a byte for each pixel is cleared behind the picture. Refused by 2, 3 and 8.

@@ -1,11 +1,11 @@
 // Finding the seam of a picture with marks.
-use crate::Found;
 use crate::bottom64;
 use crate::trace;
 use crate::weights;
 use pictures::Refusal;
 use pictures::Size;
 use pictures::Verdict;
+use seam_rules::Found;
 ghost use Rattle.seam_find.specs.Finding.{FindMarkedGiven};
 ghost use Rattle.seam_find.specs.Kernels.{markedBytes, SeamNeeded, MarkedGiven};
 

@@ -13,10 +13,10 @@ use Rattle.pictures.specs.declared.refusals.Refusal.{Refusal}
 use Rattle.pictures.specs.Refusals.{refusal, served}
 use Rattle.pictures.specs.Pictures.{channelsOf, pictureBytes, bytes, pixels}
 use Rattle.pictures.proofs.Limits.{sides-are}
-use Rattle.seam_find.specs.declared.Found.{Found}
-use Rattle.seam_find.specs.declared.Found.the-variants.{Seam, Refused}
-use Rattle.seam_find.specs.Finding.{foundNumber}
-use Rattle.seam_cut.specs.declared.Axis.the-variants.{Vertical}
+use Rattle.seam_rules.specs.declared.answers.Found.{Found}
+use Rattle.seam_rules.specs.declared.answers.Found.the-variants.{Seam, Refused}
+use Rattle.seam_rules.specs.Answers.{foundNumber}
+use Rattle.seam_rules.specs.declared.answers.Axis.the-variants.{Vertical}
 use Rattle.seam_cut.specs.Axes.{turned, markedSeamAlong, blockedAlong, cutAlong}
 use Rattle.seam_cut.specs.Cutting.{markedCutRules, MarkedPictureCut, MarkedMarksCut}
 use Rattle.seam_cut.proofs.Buffers.{seam-free, refused-blocked}

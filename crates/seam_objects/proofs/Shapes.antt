@@ -19,7 +19,7 @@ use Rattle.pictures.proofs.Buffers.{picture-ofSize}
 use Rattle.seam_moves.specs.Moving.{outside}
 use Rattle.seam_moves.proofs.Closing.{inside-each}
 use Rattle.seam_moves.proofs.Served.{each-inside}
-use Rattle.seam_cut.specs.declared.Axis.the-variants.{Vertical}
+use Rattle.seam_rules.specs.declared.answers.Axis.the-variants.{Vertical}
 use Rattle.seam_cut.specs.Axes.{turned, markedSeamAlong, blockedAlong}
 use Rattle.seam_cut.proofs.Inside.{marked-inside}
 use Rattle.seam_objects.specs.Objects.{MarkedPicture, noSeam, seamIn, cutOnce}

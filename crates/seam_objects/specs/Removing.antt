@@ -7,34 +7,21 @@ use lib.Dec.{ltb}
 use lib.ListN.{length, replicate}
 use Rattle.grids.specs.Rows.{flat}
 use Rattle.pictures.specs.declared.sizes.Size.{Size}
-use Rattle.pictures.specs.Refusals.{Rule, _when_, numberOf, served}
+use Rattle.pictures.specs.Refusals.{Rule, _when_, served}
 use Rattle.pictures.specs.Pictures.{channelsOf, sizeRules, picture, bytes, pixels, marksOf}
 use Rattle.seam_cut.specs.Cutting.{markRules}
-use Rattle.seam_objects.specs.declared.Removal.{Removal}
-use Rattle.seam_objects.specs.declared.Removal.the-variants.{Done, Narrow, Spent, Blocked, Refused}
+use Rattle.seam_rules.specs.declared.answers.Removal.{Removal}
+use Rattle.seam_rules.specs.declared.answers.Removal.the-variants.{Done, Narrow, Spent, Blocked, Refused}
+use Rattle.seam_rules.specs.Answers.{removalNumber, removalCount}
 use Rattle.seam_objects.specs.Objects.{MarkedPicture, Ending, done, narrow, spent, blocked, Removed, removal}
 
--- The number that an answer is refused by, 0 where the removal has ended; the ending; and the count of seams cut.
-abbrev pub removalNumber : Removal → ℕ
-removalNumber (Done n) = 0
-removalNumber (Narrow n) = 0
-removalNumber (Spent n) = 0
-removalNumber (Blocked n) = 0
-removalNumber (Refused why) = numberOf why
-
+-- How a removal ended; none where it is refused.
 abbrev pub removalEnding : Removal → Option Ending
 removalEnding (Done n) = some done
 removalEnding (Narrow n) = some narrow
 removalEnding (Spent n) = some spent
 removalEnding (Blocked n) = some blocked
 removalEnding (Refused why) = none
-
-abbrev pub removalCount : Removal → ℕ
-removalCount (Done n) = n
-removalCount (Narrow n) = n
-removalCount (Spent n) = n
-removalCount (Blocked n) = n
-removalCount (Refused why) = 0
 
 -- Refused as picture and marks are, and by 8 where the work space has less than 32 bytes a pixel.
 abbrev pub removalRules : Size → List ℕ → List ℕ → ℕ → List Rule

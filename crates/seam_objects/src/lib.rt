@@ -1,29 +1,16 @@
 // Object removal: vertical seams are cut by the marks until no pixel is marked 2.
 use pictures::LARGEST_SIDE;
-use pictures::Refusal;
 use pictures::Size;
 use pictures::Verdict;
-use seam_cut::Axis;
-use seam_find::Found;
+use seam_rules::Axis;
+use seam_rules::Found;
+use seam_rules::Removal;
 ghost use mathlib.Core.Path.{_≡_};
 ghost use lib.ListN.{length, replicate};
 ghost use Rattle.pictures.specs.Refusals.{refusal, served};
 ghost use Rattle.seam_objects.specs.Objects.{someTwo};
 ghost use Rattle.seam_objects.specs.Removing.{removalRules, ObjectRemoved};
 ghost use Rattle.seam_objects.specs.Kernels.{SeamsNeeded, FrontNeeded, FrontCut};
-
-// How a removal ended, with the count of seams cut, or why it is refused.
-pub enum Removal {
-    // no pixel is marked 2
-    Done(u16),
-    // width 1
-    Narrow(u16),
-    // as many seams cut as allowed
-    Spent(u16),
-    // every seam meets a protected pixel
-    Blocked(u16),
-    Refused(Refusal),
-}
 
 // Cuts at most `budget` seams by the marks. The picture and marks left lie packed at the front of each buffer and the freed
 // bytes are 0. Refused by 2, 3, 4, 5 and 8.

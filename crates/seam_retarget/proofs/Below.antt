@@ -10,7 +10,7 @@ use lib.Seq.{getD-set-same, getD-set-other}
 use Rattle.pictures.specs.declared.sizes.Size.{Size}
 use Rattle.pictures.specs.Pictures.{picture}
 use Rattle.seam_moves.specs.Between.{partAt}
-use Rattle.seam_cut.specs.declared.Axis.the-variants.{Vertical, Horizontal}
+use Rattle.seam_rules.specs.declared.answers.Axis.the-variants.{Vertical, Horizontal}
 use Rattle.seam_retarget.specs.Cells.{Cell, smaller, bySeam, chosen}
 use Rattle.seam_retarget.specs.Kernels.{pictureAt, largestTotal, StepNeeded, StepGiven, CellNeeded, CellGiven, held, alongRow, nextRow, tableRow, RowNeeded, RowGiven, MoreTotals}
 use Rattle.seam_retarget.proofs.Slots.{smaller-sides, less-row, same-picture, placed-horizontal}

@@ -13,8 +13,8 @@ use Rattle.pictures.specs.declared.sizes.Size.{Size}
 use Rattle.pictures.specs.Refusals.{refusal}
 use Rattle.pictures.specs.Pictures.{pictureBytes, sideRules, picture}
 use Rattle.seam_moves.specs.Between.{partAt}
-use Rattle.seam_cut.specs.declared.Axis.{Axis}
-use Rattle.seam_cut.specs.declared.Axis.the-variants.{Vertical, Horizontal}
+use Rattle.seam_rules.specs.declared.answers.Axis.{Axis}
+use Rattle.seam_rules.specs.declared.answers.Axis.the-variants.{Vertical, Horizontal}
 use Rattle.seam_cut.specs.Axes.{seamAlong, costAlong, cutAlong}
 use Rattle.seam_retarget.specs.Cells.{Cell, smaller, bySeam, chosen}
 use Rattle.seam_retarget.specs.Kernels.{pictureAt, leftAlong, SpaceNeeded, SeamNeeded, SeamGiven, CutNeeded, CutGiven, CellNeeded, CellGiven}

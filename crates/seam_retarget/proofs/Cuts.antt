@@ -22,7 +22,7 @@ use Rattle.seam_moves.specs.Between.{partAt, putAt}
 use Rattle.seam_moves.specs.Moving.{CloseGiven}
 use Rattle.seam_moves.proofs.Places.{Kept, kept-part, put-there, put-kept, length-part}
 use Rattle.seam_moves.proofs.Served.{close-served}
-use Rattle.seam_cut.specs.declared.Axis.{Axis}
+use Rattle.seam_rules.specs.declared.answers.Axis.{Axis}
 use Rattle.seam_cut.specs.Axes.{turnedSize, turned, narrowed, seamAlong, cutAlong}
 use Rattle.seam_cut.proofs.Turns.{turned-bytes, turned-sides, turned-ofSize, sides-of}
 use Rattle.seam_cut.proofs.Inside.{along-inside}

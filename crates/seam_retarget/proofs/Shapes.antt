@@ -16,8 +16,8 @@ use Rattle.pictures.specs.Refusals.{refusal}
 use Rattle.pictures.specs.Pictures.{Picture, channelsOf, pictureBytes, sideRules, OfSize, pixel}
 use Rattle.pictures.proofs.Limits.{Sides, sides-are}
 use Rattle.energy.proofs.Energy.{energy-most}
-use Rattle.seam_cut.specs.declared.Axis.{Axis}
-use Rattle.seam_cut.specs.declared.Axis.the-variants.{Vertical, Horizontal}
+use Rattle.seam_rules.specs.declared.answers.Axis.{Axis}
+use Rattle.seam_rules.specs.declared.answers.Axis.the-variants.{Vertical, Horizontal}
 use Rattle.seam_cut.specs.Axes.{turnedSize, turned, narrowed, seamAlong, costAlong, cutAlong}
 use Rattle.seam_cut.proofs.Turns.{turned-sides}
 use Rattle.seam_cut.proofs.Inside.{along-inside}

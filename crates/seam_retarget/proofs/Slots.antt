@@ -14,7 +14,7 @@ use Rattle.pictures.specs.Refusals.{refusal}
 use Rattle.pictures.specs.Pictures.{channelsOf, pictureBytes, sideRules, picture, pixels}
 use Rattle.pictures.proofs.Limits.{sides-are, channels-some}
 use Rattle.seam_moves.specs.Between.{partAt, PlacesApart}
-use Rattle.seam_cut.specs.declared.Axis.the-variants.{Vertical, Horizontal}
+use Rattle.seam_rules.specs.declared.answers.Axis.the-variants.{Vertical, Horizontal}
 use Rattle.seam_cut.proofs.Turns.{sides-of}
 use Rattle.seam_retarget.specs.Cells.{smaller}
 use Rattle.seam_retarget.specs.Kernels.{Apart, pictureAt, leftAlong, SpaceNeeded}

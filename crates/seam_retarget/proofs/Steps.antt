@@ -18,12 +18,13 @@ use Rattle.pictures.proofs.Buffers.{picture-ofSize, bytes-picture, length-bytes
 use Rattle.seam_moves.specs.Between.{partAt, putAt, CopyBetweenGiven}
 use Rattle.seam_moves.proofs.Places.{Kept, kept-part, put-kept, length-part}
 use Rattle.seam_moves.proofs.Served.{copy-between-served}
-use Rattle.seam_find.specs.declared.Found.{Found}
+use Rattle.seam_rules.specs.declared.answers.Found.{Found}
 use Rattle.seam_theory.specs.PictureSeams.{seamOf, costOf}
-use Rattle.seam_find.specs.Finding.{foundCost, FindGiven}
+use Rattle.seam_rules.specs.Answers.{foundCost}
+use Rattle.seam_find.specs.Finding.{FindGiven}
 use Rattle.seam_find.proofs.Costs.{front-most}
-use Rattle.seam_cut.specs.declared.Axis.{Axis}
-use Rattle.seam_cut.specs.declared.Axis.the-variants.{Vertical}
+use Rattle.seam_rules.specs.declared.answers.Axis.{Axis}
+use Rattle.seam_rules.specs.declared.answers.Axis.the-variants.{Vertical}
 use Rattle.seam_cut.specs.Axes.{turnedSize, turned, seamAlong, costAlong}
 use Rattle.seam_cut.proofs.Turns.{turned-bytes, turned-pixels, turned-sides, turned-ofSize, turned-picture}
 use Rattle.seam_cut.proofs.FindIn.{FoundThere, find-served}

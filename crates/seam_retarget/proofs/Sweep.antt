@@ -13,8 +13,8 @@ use Rattle.grids.proofs.Rows.{part-end}
 use Rattle.pictures.specs.declared.sizes.Size.{Size}
 use Rattle.pictures.specs.Pictures.{Picture, pictureBytes, picture}
 use Rattle.seam_moves.specs.Between.{partAt}
-use Rattle.seam_cut.specs.declared.Axis.{Axis}
-use Rattle.seam_cut.specs.declared.Axis.the-variants.{Vertical, Horizontal}
+use Rattle.seam_rules.specs.declared.answers.Axis.{Axis}
+use Rattle.seam_rules.specs.declared.answers.Axis.the-variants.{Vertical, Horizontal}
 use Rattle.seam_retarget.specs.Cells.{Cell, smaller, bySeam, chosen, cell}
 use Rattle.seam_retarget.specs.Kernels.{pictureAt, leftAlong, SpaceNeeded, StepNeeded, StepGiven, held, firstRow, alongRow, nextRow, tableRow, RowNeeded, RowGiven}
 use Rattle.seam_retarget.proofs.Slots.{smaller-few, smaller-sides, less-column, same-picture, slots-apart, placed-vertical}

@@ -11,11 +11,11 @@ use Rattle.pictures.specs.declared.sizes.Size.{Size}
 use Rattle.pictures.specs.Refusals.{refusal}
 use Rattle.pictures.specs.Pictures.{Picture, sideRules, sizeRules, pictureBytes, picture, bytes, pixels}
 use Rattle.seam_moves.specs.Between.{partAt, PlacesApart}
-use Rattle.seam_cut.specs.declared.Axis.{Axis}
-use Rattle.seam_cut.specs.declared.Axis.the-variants.{Vertical, Horizontal}
+use Rattle.seam_rules.specs.declared.answers.Axis.{Axis}
+use Rattle.seam_rules.specs.declared.answers.Axis.the-variants.{Vertical, Horizontal}
 use Rattle.seam_cut.specs.Axes.{turnedSize, turned, narrowed, seamAlong, costAlong, cutAlong}
-use Rattle.seam_retarget.specs.declared.Rows.{Rows}
-use Rattle.seam_retarget.specs.declared.Columns.{Columns}
+use Rattle.seam_rules.specs.declared.answers.Rows.{Rows}
+use Rattle.seam_rules.specs.declared.answers.Columns.{Columns}
 use Rattle.seam_retarget.specs.Cells.{Cell, smaller, bySeam, chosen}
 use Rattle.seam_retarget.specs.Retargeting.{largestCount, leftSize, cellOf, workBytes}
 

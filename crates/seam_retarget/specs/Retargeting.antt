@@ -5,22 +5,13 @@ use Prim.Native.Nat.{ℕ, _+_, _*_}
 use lib.Dec.{leb, ltb}
 use lib.ListN.{length, drop, replicate}
 use Rattle.pictures.specs.declared.sizes.Size.{Size}
-use Rattle.pictures.specs.Refusals.{Rule, _when_, numberOf, refusal, served}
+use Rattle.pictures.specs.Refusals.{Rule, _when_, refusal, served}
 use Rattle.pictures.specs.Pictures.{pictureBytes, sizeRules, picture, bytes, pixels}
-use Rattle.seam_retarget.specs.declared.Rows.{Rows}
-use Rattle.seam_retarget.specs.declared.Columns.{Columns}
-use Rattle.seam_retarget.specs.declared.Retargeted.{Retargeted}
-use Rattle.seam_retarget.specs.declared.Retargeted.the-variants.{Total, Refused}
+use Rattle.seam_rules.specs.declared.answers.Rows.{Rows}
+use Rattle.seam_rules.specs.declared.answers.Columns.{Columns}
+use Rattle.seam_rules.specs.declared.answers.Retargeted.{Retargeted}
+use Rattle.seam_rules.specs.Answers.{retargetedNumber, retargetedTotal}
 use Rattle.seam_retarget.specs.Cells.{Cell, smaller, cell}
-
--- The number that an answer is refused by, 0 where a total is given; and the total.
-abbrev pub retargetedNumber : Retargeted → ℕ
-retargetedNumber (Total total) = 0
-retargetedNumber (Refused why) = numberOf why
-
-abbrev pub retargetedTotal : Retargeted → ℕ
-retargetedTotal (Total total) = total
-retargetedTotal (Refused why) = 0
 
 -- "To remove r rows and c columns, each 0 to 64."
 abbrev pub largestCount : ℕ

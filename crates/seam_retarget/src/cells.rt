@@ -1,10 +1,10 @@
 // One cell of the table, where two ways lead to it.
-use crate::Columns;
-use crate::Rows;
 use crate::seams::cut_at;
 use crate::seams::seam_at;
 use pictures::Size;
-use seam_cut::Axis;
+use seam_rules::Axis;
+use seam_rules::Columns;
+use seam_rules::Rows;
 ghost use mathlib.Core.Path.{_≡_};
 ghost use Prim.Native.Nat.{_≤_};
 ghost use lib.ListN.{length};

@@ -6,24 +6,16 @@ mod table;
 use pictures::Refusal;
 use pictures::Size;
 use pictures::Verdict;
+use seam_rules::Columns;
+use seam_rules::Retargeted;
+use seam_rules::Rows;
 ghost use mathlib.Core.Path.{_≡_};
 ghost use Rattle.pictures.specs.Refusals.{given, refusal};
 ghost use Rattle.seam_retarget.specs.Retargeting.{retargetRules, RetargetGiven};
 ghost use Rattle.seam_retarget.specs.Kernels.{RetargetNeeded, LastGiven};
 
-// A count of rows, and a count of columns: never one for the other.
-pub struct Rows(pub usize);
-
-pub struct Columns(pub usize);
-
 // The largest count of rows, and of columns, that are removed.
 pub const LARGEST_COUNT: usize = 64;
-
-// The total of the costs of the seams, or why there is none to give.
-pub enum Retargeted {
-    Total(u64),
-    Refused(Refusal),
-}
 
 // The picture with so many rows and so many columns less, put into the front of out, and the total of its seams. Refused by
 // 2, 3 and 4 as every picture is, by 7 where either count is over 64 or leaves nothing, and by 8.

@@ -1,8 +1,8 @@
 // One seam of a picture that stands at a place of the work space: found, and cut.
 use pictures::Size;
-use seam_cut::Axis;
 use seam_cut::turned_size;
-use seam_find::Found;
+use seam_rules::Axis;
+use seam_rules::Found;
 ghost use mathlib.Core.Path.{_≡_};
 ghost use lib.ListN.{length};
 ghost use Rattle.pictures.specs.Pictures.{pictureBytes, bytes};

@@ -1,14 +1,14 @@
 // The table of cells, one row of it at a time: slot j of the work space holds the picture of the row's cell j, and totals[j]
 // its total. `whole` is the bytes of a slot.
-use crate::Columns;
-use crate::Rows;
 use crate::cells::HORIZONTAL;
 use crate::cells::VERTICAL;
 use crate::cells::next_cell;
 use crate::cells::smaller;
 use crate::seams::step;
 use pictures::Size;
-use seam_cut::Axis;
+use seam_rules::Axis;
+use seam_rules::Columns;
+use seam_rules::Rows;
 ghost use Prim.Native.Nat.{_+_};
 ghost use Rattle.seam_retarget.specs.Kernels.{held, firstRow, alongRow, nextRow, tableRow, RowNeeded, RowGiven, NoTotals, Totals, MoreTotals};
 

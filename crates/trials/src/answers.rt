@@ -2,9 +2,9 @@
 use crate::print_bytes;
 use crate::print_number;
 use crate::print_seam;
-use file_build::Built;
-use file_read::Checked;
-use file_read::Shown;
+use file_rules::Built;
+use file_rules::Checked;
+use file_rules::Shown;
 use libc::STDOUT_FILENO;
 use pictures::Size;
 use text_theory::Head;

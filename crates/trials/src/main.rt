@@ -10,8 +10,8 @@ mod rooms;
 use libc::STDOUT_FILENO;
 use pictures::Kind;
 use pictures::Size;
-use seam_cut::Axis;
-use seam_find::Found;
+use seam_rules::Axis;
+use seam_rules::Found;
 ghost use Prim.Native.Nat.{_<_, _≤_};
 ghost use lib.ListN.{length};
 

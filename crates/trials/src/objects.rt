@@ -9,7 +9,7 @@ use crate::wide_column;
 use libc::STDOUT_FILENO;
 use pictures::Kind;
 use pictures::Size;
-use seam_objects::Removal;
+use seam_rules::Removal;
 ghost use Prim.Native.Nat.{_<_, _≤_};
 
 // Pictures of two rows and every width to 4, of both kinds, with a budget of 0 to 3.

@@ -7,9 +7,9 @@ use crate::wide_byte;
 use libc::STDOUT_FILENO;
 use pictures::Kind;
 use pictures::Size;
-use seam_retarget::Columns;
-use seam_retarget::Retargeted;
-use seam_retarget::Rows;
+use seam_rules::Columns;
+use seam_rules::Retargeted;
+use seam_rules::Rows;
 ghost use Prim.Native.Nat.{_<_, _≤_};
 
 // A line for each count of rows and of columns up to 2.

@@ -2,7 +2,7 @@
 use borrow.Author.Needs.{needs}
 use denote.Ref.{now}
 use Rattle.seam_moves.proofs.Served.{close-served}
-use Rattle.seam_cut.specs.declared.Axis.the-variants.{Vertical}
+use Rattle.seam_rules.specs.declared.answers.Axis.the-variants.{Vertical}
 use Rattle.seam_cut.specs.Axes.{turned, cutAlong}
 use Rattle.seam_cut.specs.Kernels.{CloseNeeded}
 use Rattle.seam_cut.proofs.closing.close.Statement.{statement}

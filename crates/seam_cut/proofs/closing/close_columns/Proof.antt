@@ -12,7 +12,7 @@ use Rattle.grids.proofs.Parts.{put-part, part-length}
 use Rattle.pictures.specs.Refusals.{served}
 use Rattle.pictures.specs.Pictures.{channelsOf, pictureBytes, picture, bytes}
 use Rattle.pictures.proofs.Limits.{Sized, sized-is}
-use Rattle.seam_cut.specs.declared.Axis.the-variants.{Horizontal}
+use Rattle.seam_rules.specs.declared.answers.Axis.the-variants.{Horizontal}
 use Rattle.seam_cut.specs.Axes.{turnedSize, narrowed, cutAlong}
 use Rattle.seam_cut.proofs.Columns.{restOf, left-bytes, left-sides, kept-is, back-is}
 use Rattle.seam_cut.proofs.closing.close_columns.Statement.{statement}

@@ -19,7 +19,8 @@ use Rattle.pictures.specs.Pictures.{channelsOf, pictureBytes, bytes, pixels, pi
 use Rattle.pictures.proofs.Rules.{served-first, refused-first, refusal-most, number-some, served-not}
 use Rattle.pictures.proofs.Limits.{sides-are, sized-served}
 use Rattle.seam_theory.specs.PictureSeams.{seamOf, costOf}
-use Rattle.seam_find.specs.Finding.{foundNumber, foundCost, findRules}
+use Rattle.seam_rules.specs.Answers.{foundNumber, foundCost}
+use Rattle.seam_find.specs.Finding.{findRules}
 use Rattle.seam_find.proofs.Worked.{worked-not}
 use Rattle.seam_moves.specs.Moving.{CloseGiven}
 use Rattle.seam_moves.proofs.Served.{close-served}

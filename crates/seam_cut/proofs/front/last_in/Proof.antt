@@ -12,7 +12,8 @@ use lib.Seq.{length-take-le}
 use Rattle.pictures.specs.Refusals.{_when_, numberOf, refusal}
 use Rattle.pictures.specs.Pictures.{largestSide, pictureBytes, pixels}
 use Rattle.pictures.proofs.Rules.{served-first, refused-first, refusal-most, number-some, served-not}
-use Rattle.seam_find.specs.Finding.{foundNumber, foundCost, findRules}
+use Rattle.seam_rules.specs.Answers.{foundNumber, foundCost}
+use Rattle.seam_find.specs.Finding.{findRules}
 use Rattle.seam_find.proofs.Worked.{worked-not}
 use Rattle.seam_cut.proofs.Fronts.{room-same}
 use Rattle.seam_cut.proofs.front.last_in.Statement.{statement}

@@ -5,7 +5,7 @@ use borrow.Author.Needs.{needs}
 use denote.Ref.{now}
 use lib.ListN.{length, replicate}
 use Rattle.pictures.specs.Pictures.{picture, marksOf}
-use Rattle.seam_find.specs.Finding.{foundCost}
+use Rattle.seam_rules.specs.Answers.{foundCost}
 use Rattle.seam_find.proofs.Worked.{worked-or}
 use Rattle.seam_cut.specs.Axes.{blockedAlong}
 use Rattle.seam_cut.proofs.Buffers.{seam-free, refused-blocked}

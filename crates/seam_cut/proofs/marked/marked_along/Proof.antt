@@ -14,7 +14,7 @@ use Rattle.pictures.specs.Refusals.{served}
 use Rattle.pictures.specs.Pictures.{pictureBytes, picture, bytes, pixels, marksOf}
 use Rattle.pictures.proofs.Limits.{Sized, sized-is}
 use Rattle.seam_theory.specs.PictureSeams.{markedUp, markedSeamOf, markedCostOf, isNone}
-use Rattle.seam_find.specs.Finding.{foundNumber}
+use Rattle.seam_rules.specs.Answers.{foundNumber}
 use Rattle.seam_find.proofs.Worked.{worked-or}
 use Rattle.seam_cut.specs.Axes.{turnedSize, turned, markedSeamAlong, markedCostAlong, blockedAlong}
 use Rattle.seam_cut.specs.Kernels.{greyOf}

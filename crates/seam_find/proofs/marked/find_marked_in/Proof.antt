@@ -15,7 +15,8 @@ use Rattle.pictures.specs.Pictures.{sideRules, pictureBytes, pixels, pictureIn,
 use Rattle.pictures.proofs.Rules.{refusal-most, number-some, served-first, refused-answer, kept-by}
 use Rattle.pictures.proofs.Limits.{Sides, sides-are, sized-served}
 use Rattle.seam_theory.specs.PictureSeams.{markedUp, markedSeamOf, markedCostOf, isNone}
-use Rattle.seam_find.specs.Finding.{foundNumber, findMarkedRules}
+use Rattle.seam_rules.specs.Answers.{foundNumber}
+use Rattle.seam_find.specs.Finding.{findMarkedRules}
 use Rattle.seam_find.proofs.Worked.{worked-not, worked-or}
 use Rattle.seam_find.proofs.marked.find_marked_in.Statement.{statement}
 use Rattle.seam_find.proofs.marked.find_marked_in.Tie as tie

@@ -6,7 +6,7 @@ use borrow.Author.Needs.{needs}
 use denote.Ref.{now}
 use lib.ListN.{length}
 use Rattle.pictures.proofs.Limits.{sides-are}
-use Rattle.seam_cut.specs.declared.Axis.the-variants.{Vertical, Horizontal}
+use Rattle.seam_rules.specs.declared.answers.Axis.the-variants.{Vertical, Horizontal}
 use Rattle.seam_retarget.specs.Cells.{smaller}
 use Rattle.seam_retarget.specs.Kernels.{SeamGiven}
 use Rattle.seam_retarget.proofs.Slots.{Near, near}

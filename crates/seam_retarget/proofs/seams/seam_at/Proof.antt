@@ -3,7 +3,7 @@ use mathlib.Core.Path.{ap}
 use native.Mathlib.Omega.{arith}
 use borrow.Author.Needs.{needs}
 use denote.Ref.{now}
-use Rattle.seam_find.specs.Finding.{foundCost}
+use Rattle.seam_rules.specs.Answers.{foundCost}
 use Rattle.seam_retarget.proofs.Steps.{seam-given}
 use Rattle.seam_retarget.proofs.seams.seam_at.Statement.{statement}
 use Rattle.seam_retarget.proofs.seams.seam_at.Tie as tie

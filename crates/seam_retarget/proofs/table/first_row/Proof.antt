@@ -4,7 +4,7 @@ use Prim.Native.Nat.{_+_, _-_, _*_}
 use native.Mathlib.Omega.{arith}
 use denote.Ref.{now}
 use lib.ListN.{length}
-use Rattle.seam_cut.specs.declared.Axis.the-variants.{Vertical}
+use Rattle.seam_rules.specs.declared.answers.Axis.the-variants.{Vertical}
 use Rattle.seam_retarget.specs.Cells.{smaller}
 use Rattle.seam_retarget.specs.Kernels.{StepGiven}
 use Rattle.seam_retarget.proofs.Slots.{Near, near}

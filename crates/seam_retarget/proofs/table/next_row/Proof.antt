@@ -5,7 +5,7 @@ use native.Mathlib.Omega.{arith}
 use borrow.Author.Needs.{needs}
 use denote.Ref.{now}
 use Rattle.pictures.proofs.Limits.{sides-are}
-use Rattle.seam_cut.specs.declared.Axis.the-variants.{Horizontal}
+use Rattle.seam_rules.specs.declared.answers.Axis.the-variants.{Horizontal}
 use Rattle.seam_retarget.specs.Cells.{smaller}
 use Rattle.seam_retarget.specs.Kernels.{StepGiven}
 use Rattle.seam_retarget.proofs.Below.{next-step, next-needed, next-sums, next-given}

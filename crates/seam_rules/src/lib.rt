@@ -1,0 +1,10 @@
+// What the operations on seams decide before they touch a buffer, as pure functions of numbers, and the forms of their
+// answers.
+pub mod answers;
+
+pub use answers::Axis;
+pub use answers::Columns;
+pub use answers::Found;
+pub use answers::Removal;
+pub use answers::Retargeted;
+pub use answers::Rows;
