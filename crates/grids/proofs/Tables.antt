@@ -6,7 +6,7 @@ use Prim.Native.Nat.{ℕ, zero, suc, _+_, _≤_, _<_}
 use native.Mathlib.Nat.{eq-or-lt-of-le}
 use native.Mathlib.Numerals.{add-one}
 use native.Mathlib.Omega.{arith}
-use lib.ListN.{length, take, drop, getD, set, length-append, length-drop, List·getD-append, List·getD-eq-default}
+use lib.ListN.{length, take, drop, getD, set, length-append, length-drop, length-set, List·getD-append, List·getD-eq-default}
 use lib.Seq.{drop-cons, drop-length, set-at, append-snoc, getD-at, take-suc, getD-drop, ext-getD}
 use Rattle.grids.specs.Each.{Each, none}
 use Rattle.grids.specs.Table.{table}
@@ -62,3 +62,26 @@ module _ {A : Type 0} where
   pub each-table : {P : A → Type 0} (f : ℕ → A) (n : ℕ) → ((i : ℕ) → i < n → P (f i)) → Each P n (table f n)
   each-table f zero h = none
   each-table f (suc n) h = each-snoc (each-table f n (λ i l. h i (omega arith))) (h n (omega arith))
+
+-- What a loop holds that stores f n at n of a slice that was d, before it stores the n-th of `end` values.
+pub record Filled {A : Type 0} (f : ℕ → A) (d : List A) (end n : ℕ) (out : List A) : Type 0 where
+  pub within : n ≤ end
+  pub all : end ≡ length d
+  pub is : out ≡ table f n ++ drop n d
+  pub long : length out ≡ length d
+
+module _ {A : Type 0} (f : ℕ → A) (d : List A) (end : ℕ) where
+  pub filled-start : end ≡ length d → Filled f d end 0 d
+  filled-start e = record { within = omega arith; all = e; is = refl; long = refl }
+
+  -- One turn: v is stored at n.
+  pub filled-turn : (n : ℕ) (out : List A) (v z : A) → n < end → v ≡ f n → Filled f d end n out → Filled f d end (n + 1) (set out n v)
+  filled-turn n out v z h g o = record {
+    within = omega arith;
+    all = o .all;
+    is = ap₂ (λ x y. set x n y) (o .is) g ∙ table-more f d n z (omega (arith, o .all));
+    long = length-set out n v ∙ o .long;
+  }
+
+  pub filled-end : (n : ℕ) (out : List A) → end ≤ n → Filled f d end n out → out ≡ table f (length d)
+  filled-end n out h o = table-end f d out n (o .is) (omega (arith, o .within, o .all))

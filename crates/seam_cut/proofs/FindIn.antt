@@ -13,7 +13,8 @@ use Rattle.pictures.proofs.Rules.{served-first}
 use Rattle.seam_rules.specs.declared.answers.Found.{Found}
 use Rattle.seam_theory.specs.PictureSeams.{seamOf, costOf, markedUp, markedSeamOf, markedCostOf, isNone}
 use Rattle.seam_rules.specs.Answers.{foundNumber, foundCost}
-use Rattle.seam_find.specs.Finding.{FindGiven, FindMarkedGiven}
+use Rattle.seam_find.specs.Finding.{FindGiven}
+use Rattle.seam_find_marked.specs.Finding.{FindMarkedGiven}
 
 pub record FoundThere (space : List ℕ) (z : Size) (seam : List ℕ) (answer : Found) (space′ seam′ : List ℕ) : Type 0 where
   pub number : foundNumber answer ≡ 0

@@ -118,7 +118,7 @@ fn marked_along(
     let marked = turning::grey(size);
     turning::turn(picture, size, axis, work);
     turning::turn(marks, marked, axis, &mut work[bytes..]);
-    let found = seam_find::find_marked_in(work, turned, seam);
+    let found = seam_find_marked::find_marked_in(work, turned, seam);
     seam_moves::clear(work);
     found
 }

@@ -10,7 +10,9 @@ use lib.ListN.{length, getD, take, drop, replicate, length-append, length-replic
 use lib.Seq.{take-at}
 use Rattle.grids.proofs.Parts.{put-part}
 use Rattle.pictures.specs.declared.sizes.Size.{Size}
-use Rattle.seam_find.specs.Kernels.{fenced, sumsDown, leastTo, DownGiven, BottomGiven}
+use Rattle.seam_find.specs.Kernels.{fenced, sumsDown, DownGiven, BottomGiven}
+use Rattle.seam_sums.specs.Least.{leastTo}
+use Rattle.seam_sums.proofs.Turns.{least-inside}
 use Rattle.seam_find.proofs.Costs.{fenced-at, length-sums}
 
 pub take-replicate : {A : Type 0} (n m : ℕ) (a : A) → n ≤ m → take n (replicate m a) ≡ replicate n a
@@ -60,13 +62,19 @@ module _ (fence from : ℕ) (z : Size) (costs : List ℕ → ℕ → List ℕ) (
   pub row-long : length (take (z .width + 1 - 1) (drop 1 above)) ≡ z .width
   row-long = ap length last-row ∙ sums-long
 
+  -- It is one of the columns.
+  pub bottom-inside : (column : ℕ) → 0 < z .width
+      → column ≡ leastTo (take (z .width + 1 - 1) (drop 1 above)) (length (take (z .width + 1 - 1) (drop 1 above)) - 1) → column < z .width
+  bottom-inside column some is =
+      omega (arith, row-long, least-inside (take (z .width + 1 - 1) (drop 1 above)) (length (take (z .width + 1 - 1) (drop 1 above)) - 1))
+
   pub bottom-given : (column : ℕ)
       → column ≡ leastTo (take (z .width + 1 - 1) (drop 1 above)) (length (take (z .width + 1 - 1) (drop 1 above)) - 1)
-      → column < length (take (z .width + 1 - 1) (drop 1 above))
+      → column < z .width
       → BottomGiven fence from z costs space space′ column (getD above (column + 1) 0)
   bottom-given column is inside = record {
     ways = given .ways;
     column-is = is ∙ ap (λ x. leastTo x (length x - 1)) last-row ∙ ap (λ n. leastTo sums (n - 1)) sums-long;
-    inside = omega (arith, row-long);
-    sum-is = ap (λ x. getD x (column + 1) 0) (given .sums) ∙ fenced-at fence sums column (omega (arith, row-long, sums-long));
+    inside = inside;
+    sum-is = ap (λ x. getD x (column + 1) 0) (given .sums) ∙ fenced-at fence sums column (omega (arith, sums-long));
   }

@@ -6,5 +6,4 @@ pub mod Link
 pub mod Ways
 pub mod Traced
 pub mod Spaces
-pub mod Weighed
 pub mod Worked

@@ -18,7 +18,8 @@ use Rattle.grids.proofs.Tables.{table-at, table-same, table-all}
 use Rattle.seam_theory.proofs.Steps.{leastNear, near-beside, near-only, near-left, near-middle, near-right}
 use Rattle.seam_theory.proofs.Rows.{from, sumAt, from-beside, sums}
 use Rattle.seam_theory.proofs.Loops.{from-plain, sumAt-plain}
-use Rattle.seam_find.specs.Kernels.{leastOf3, wayOf3, sumOf3, fenced, sumsDown, waysUp}
+use Rattle.seam_sums.specs.Least.{leastOf3, wayOf3, sumOf3}
+use Rattle.seam_find.specs.Kernels.{fenced, sumsDown, waysUp}
 use Rattle.seam_find.proofs.Costs.{fenced-at, length-sums}
 
 -- A number is at most the least of two if it is at most each.
@@ -203,10 +204,6 @@ module _ (fence w n : ℕ) (costs : ℕ → List ℕ) (wide : (i : ℕ) → leng
     pub way-from : c + getD (waysUp fence w costs i) c 0 - 1 ≡ fromOf (costAt costs) w i c
     way-from = omega (arith, way-next)
 
-    -- It leads past neither the left edge
-    pub way-right : 0 < c + getD (waysUp fence w costs i) c 0
-    way-right = omega (arith, way-next)
-
-    -- nor the right one.
+    -- It doesn't lead past the right edge.
     pub way-left : c + getD (waysUp fence w costs i) c 0 ≤ w
     way-left = omega (arith, way-next, from-beside step w (sumsOf (costAt costs) w i) (suc i) c l)

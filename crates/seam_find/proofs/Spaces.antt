@@ -1,13 +1,17 @@
--- A space in which a part behind the picture was written.
+-- A space in which a part after the picture was written, and where its parts end.
 use mathlib.Core.Path.{_≡_, sym, ap, ap₂, _∙_}
 use mathlib.Core.List.{List, _++_, append-assoc}
-use Prim.Native.Nat.{ℕ, _+_, _-_, _≤_}
+use Prim.Native.Nat.{ℕ, _+_, _-_, _*_, _≤_, _<_}
 use native.Mathlib.Omega.{arith}
-use native.Mathlib.Nat.{add-sub-of-le, add-sub-cancel-left}
+use native.Mathlib.Nat.{mul-le-mul, add-sub-of-le, add-sub-cancel-left}
 use borrow.Rule.Slice.PartMut.{putMid, midOf}
 use lib.ListN.{length, take, drop, replicate, length-append}
 use lib.Seq.{take-at, drop-at, drop-drop}
 use Rattle.grids.proofs.Parts.{put-part, part-length}
+use Rattle.grids.proofs.Rows.{part-end}
+use Rattle.pictures.specs.declared.sizes.Size.{Size}
+use Rattle.pictures.specs.Pictures.{largestSide, pictureBytes}
+use Rattle.pictures.proofs.Limits.{Sides}
 
 module _ {A : Type 0} (start front part space : List A) (p n : ℕ) (is : space ≡ front ++ (part ++ drop (p + n) start)) (long : length front ≡ p) (wide : length part ≡ n) where
   pub space-front : take p space ≡ front
@@ -21,7 +25,7 @@ module _ {A : Type 0} (start front part space : List A) (p n : ℕ) (is : space 
       ap (drop (p + n)) (is ∙ sym (append-assoc front part (drop (p + n) start)))
       ∙ drop-at (front ++ part) (drop (p + n) start) (p + n) (omega (arith, length-append front part))
 
-  -- Behind the part the space is as it was.
+  -- After the part the space is as it was.
   pub space-rest : (e : ℕ) → p + n ≤ e → drop e space ≡ drop e start
   space-rest e h =
       let s : p + n + (e - (p + n)) ≡ e = add-sub-of-le h in
@@ -41,3 +45,22 @@ module _ {A : Type 0} (start front part space : List A) (p n : ℕ) (is : space 
       (f ∙ ap (λ k. replicate k d) (part-length q (q + all) space room ∙ add-sub-cancel-left q all))
       ∙ ap (λ k. take k space ++ (replicate all d ++ drop (k + all) space)) e
       ∙ ap₂ (λ x y. x ++ (replicate all d ++ y)) space-front (space-rest (p + all) (omega arith))
+
+-- The bounds of what stands after a picture: a byte for each pixel, and one for each pixel of every row but the first.
+pub record Ends (z : Size) : Type 0 where
+  pub some : 0 < z .height
+  pub few : (z .height - 1) * z .width ≤ 262144
+  pub all : z .height * z .width ≤ 262144
+  pub rows : (z .height - 1) * z .width + z .width ≤ z .height * z .width
+  pub short : pictureBytes z ≤ 786432
+
+pub ends : (z : Size) → Sides z → Ends z
+ends z s =
+    let h : z .height - 1 ≤ largestSide = omega (arith, s .height-most) in
+    record {
+      some = s .height-some;
+      few = mul-le-mul h (s .width-most);
+      all = mul-le-mul (s .height-most) (s .width-most);
+      rows = part-end (z .height - 1) (z .height) (z .width) (omega (arith, s .height-some));
+      short = s .picture-most;
+    }

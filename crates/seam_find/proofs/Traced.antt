@@ -15,9 +15,12 @@ use Rattle.pictures.specs.Pictures.{picture}
 use Rattle.energy.specs.Energy.{energy}
 use Rattle.pictures.proofs.Limits.{Sized}
 use Rattle.seam_theory.specs.PictureSeams.{seamUp, seamOf, costOf}
-use Rattle.seam_find.specs.Kernels.{sumsDown, waysUp, columnsTo, leastTo, costsOf, TraceNeeded}
+use Rattle.seam_find.specs.Kernels.{sumsDown, waysUp, costsOf}
+use Rattle.seam_find.specs.Tracing.{columnsTo}
+use Rattle.seam_sums.specs.Least.{leastTo}
 use Rattle.seam_find.proofs.Costs.{cost-most, sums-most}
-use Rattle.seam_find.proofs.Ways.{FoundFor, found-for, trace-needed}
+use Rattle.seam_find.proofs.Ways.{FoundFor, found-for, ways-traceable}
+use Rattle.seam_find.proofs.Loops.{Traceable}
 
 module _ (z : Size) (b : List ℕ) (sized : Sized z (length b)) (byte : (i : ℕ) → getD b i 0 ≤ 255) where
   wide : (i : ℕ) → length (costsOf z b i) ≡ z .width
@@ -29,9 +32,9 @@ module _ (z : Size) (b : List ℕ) (sized : Sized z (length b)) (byte : (i : ℕ
       let rows : suc i ≤ 512 = omega (arith, sized .height-most) in
       omega (arith, sums-most 4294967295 (z .width) 1530 (costsOf z b) (wide 0) (cost-most z b sized byte) i c l, mul-le-mul-right 1530 rows)
 
-  pub plain-traced : (column : ℕ) (seam : List ℕ) → column < z .width → z .height ≤ length seam
-      → TraceNeeded (flat (table (waysUp 4294967295 (z .width) (costsOf z b)) (z .height - 1))) (z .width) (z .height) column seam
-  plain-traced = trace-needed 4294967295 (z .width) (z .height) (costsOf z b) (sized .height-some) (sized .height-most) (sized .width-most) wide low
+  pub plain-traceable : (column seam : ℕ) → column < z .width → z .height ≤ seam
+      → Traceable (length (flat (table (waysUp 4294967295 (z .width) (costsOf z b)) (z .height - 1)))) (z .width) (z .height) column seam
+  plain-traceable = ways-traceable 4294967295 (z .width) (z .height) (costsOf z b) (sized .height-some) (sized .height-most) (sized .width-most)
 
   found : FoundFor 4294967295 (z .width) (z .height) (costsOf z b) (energy (picture z b))
   found = found-for 4294967295 (z .width) (z .height) (costsOf z b) (energy (picture z b)) (sized .width-some) (sized .height-some) wide low (λ i c l. table-at (energy (picture z b) i) (z .width) c 0 l)

@@ -15,6 +15,7 @@ use Rattle.grids.specs.Rows.{flat, rowsOf}
 use Rattle.grids.proofs.Orders.{le-or-lt}
 use Rattle.grids.proofs.Tables.{length-table, table-at, each-table}
 use Rattle.grids.proofs.Rows.{rowsOf-flat, rowsOf-at, rowAt-getD, length-flat}
+use Rattle.pictures.specs.Pictures.{largestSide}
 use Rattle.seam_theory.specs.Best.{least}
 use Rattle.seam_theory.specs.Paths.{run, paths, along, nearby}
 use Rattle.seam_theory.specs.Connected.{IsPath}
@@ -25,8 +26,11 @@ use Rattle.seam_theory.proofs.Nearby.{nearby-paths}
 use Rattle.seam_theory.proofs.Along.{along-same}
 use Rattle.seam_theory.proofs.Rows.{from-beside, trace, bottom, cheapest-trace}
 use Rattle.seam_theory.proofs.Loops.{starts-at, keeps, moves, bottom-is, bottom-within, cheapest-cost}
-use Rattle.seam_find.specs.Kernels.{wayOf3, leastTo, fenced, sumsDown, waysUp, columnsTo, TraceNeeded}
-use Rattle.seam_find.proofs.Link.{costAt, sumsOf, fromOf, sums-link, way-from, way-right, way-left}
+use Rattle.seam_sums.specs.Least.{wayOf3, leastTo}
+use Rattle.seam_find.specs.Kernels.{fenced, sumsDown, waysUp}
+use Rattle.seam_find.specs.Tracing.{stepBy, columnsTo}
+use Rattle.seam_find.proofs.Link.{costAt, sumsOf, fromOf, sums-link, way-from, way-left}
+use Rattle.seam_find.proofs.Loops.{Traceable, step-inside}
 
 -- The theory's way back, and its first column of least sum, where a step costs the same from every column above.
 abbrev pub traceOf : (ℕ → ℕ → ℕ) → ℕ → ℕ → ℕ → List ℕ
@@ -118,7 +122,9 @@ module _ (fence w n : ℕ) (costs : ℕ → List ℕ) (wide : (i : ℕ) → leng
   columns-link (suc i) c h l =
       let a : ℕ = fromOf v w i c in
       ap (λ k. columnsTo ways w i k ++ (c ∷ []))
-      (ap (λ k. c + k - 1) (ways-at fence w n costs i c h l) ∙ way-from fence w n costs wide low i c h l)
+      (ap (stepBy w c) (ways-at fence w n costs i c h l)
+      ∙ step-inside w c (getD (waysUp fence w costs i) c 0) (way-left fence w n costs wide low i c h l)
+      ∙ way-from fence w n costs wide low i c h l)
       ∙ ap (_++ (c ∷ [])) (columns-link i a (omega arith) (from-beside step w (sumsOf v w i) (suc i) c l .0))
       ∙ sym (reverse-cons c (traceOf v w i a))
 
@@ -171,18 +177,15 @@ found-for fence w h costs v some-column some-row wide low same = record {
     is-path : IsPath w h (f .path)
     is-path = nearby-paths w h (f .path) .0 (best-mem (byCost (along v)) (paths (nearby w) w h) (f .path) is)
 
--- The ways lead to a column of the row above, so that the path can be traced back.
-pub trace-needed : (fence w h : ℕ) (costs : ℕ → List ℕ) → 0 < h → h ≤ 512 → w ≤ 512 → ((i : ℕ) → length (costs i) ≡ w)
-    → ((i c : ℕ) → i < h - 1 → c < w → getD (sumsDown fence w costs i) c 0 < fence)
-    → (column : ℕ) (seam : List ℕ) → column < w → h ≤ length seam
-    → TraceNeeded (flat (table (waysUp fence w costs) (h - 1))) w h column seam
-trace-needed fence w h costs some-row short narrow wide low column seam inside room = record {
+-- The path can be traced back in a space that is long enough.
+pub ways-traceable : (fence w h : ℕ) (costs : ℕ → List ℕ) → 0 < h → h ≤ largestSide → w ≤ largestSide
+    → (column seam : ℕ) → column < w → h ≤ seam
+    → Traceable (length (flat (table (waysUp fence w costs) (h - 1)))) w h column seam
+ways-traceable fence w h costs some-row short narrow column seam inside room = record {
   some = some-row;
   short = short;
   narrow = narrow;
   inside = inside;
   room = room;
   long = ways-long fence w (h - 1) costs;
-  right = λ i c k l. rw (ways-at fence w (h - 1) costs i c k l) (way-right fence w (h - 1) costs wide low i c k l);
-  left = λ i c k l. rw (ways-at fence w (h - 1) costs i c k l) (way-left fence w (h - 1) costs wide low i c k l);
 }

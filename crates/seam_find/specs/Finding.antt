@@ -1,23 +1,23 @@
 -- Finding the seam of a picture that stands at the front of a space: when it is refused, and what it gives.
 use mathlib.Core.Path.{_≡_}
-use mathlib.Core.Bool.{Bool}
-use mathlib.Core.List.{List, [], _∷_, _++_}
+use mathlib.Core.Bool.{false}
+use mathlib.Core.List.{List, _++_}
 use Prim.Native.Nat.{ℕ, _+_}
-use lib.Dec.{ltb}
 use lib.ListN.{length, take, drop, replicate}
 use Rattle.pictures.specs.declared.sizes.Size.{Size}
-use Rattle.pictures.specs.Refusals.{Rule, _when_, refusal, served, worked}
-use Rattle.pictures.specs.Pictures.{sideRules, pictureBytes, pixels, pictureIn, marksIn}
+use Rattle.pictures.specs.Refusals.{Rule, refusal, served}
+use Rattle.pictures.specs.Pictures.{pictureBytes, pixels, pictureIn}
 use Rattle.seam_rules.specs.declared.answers.Found.{Found}
 use Rattle.seam_rules.specs.Answers.{foundNumber, foundCost}
-use Rattle.seam_theory.specs.PictureSeams.{seamOf, costOf, markedUp, markedSeamOf, markedCostOf, isNone}
+use Rattle.seam_rules.specs.Spaces.{spaceRules}
+use Rattle.seam_theory.specs.PictureSeams.{seamOf, costOf}
 
 -- Refused by 2 and 3, and by 8 where the seam's space is shorter than the seam, or the space than the picture and a byte
 -- for each of its pixels.
 abbrev pub findRules : Size → ℕ → ℕ → List Rule
-findRules z space seam = sideRules z ++ (8 when ltb seam (z .height) ∷ 8 when ltb space (pictureBytes z + pixels z) ∷ [])
+findRules z space seam = spaceRules z false space seam
 
--- The seam of the picture at the front, and what is left: the picture, zeros for its pixels behind it, the rest as it was.
+-- The seam of the picture at the front, and what is left: the picture, zeros for its pixels after it, the rest as it was.
 pub record FindGiven (space : List ℕ) (z : Size) (seam : List ℕ) (answer : Found) (space′ seam′ : List ℕ) : Type 0 where
   pub number : foundNumber answer ≡ refusal (findRules z (length space) (length seam))
   pub cost : foundCost answer ≡ served (foundNumber answer) (costOf (z .width) (z .height) (pictureIn z space)) 0
@@ -28,27 +28,4 @@ pub record FindGiven (space : List ℕ) (z : Size) (seam : List ℕ) (answer : F
   pub seam-given :
       seam′ ≡ served (foundNumber answer)
       (seamOf (z .width) (z .height) (pictureIn z space) ++ drop (z .height) seam)
-      seam
-
--- Refused by 2, 3 and 8 in the same way, where the space also has the marks; and by 12 where no seam is allowed.
-abbrev pub findMarkedRules : Size → ℕ → ℕ → Bool → List Rule
-findMarkedRules z space seam blocked =
-    sideRules z
-    ++ (8 when ltb seam (z .height) ∷ 8 when ltb space (pictureBytes z + (pixels z + pixels z)) ∷ 12 when blocked ∷ [])
-
--- The seam of the picture at the front by the marks behind it, and what is left: picture and marks, zeros for its pixels
--- behind them, the rest as it was.
-pub record FindMarkedGiven (space : List ℕ) (z : Size) (seam : List ℕ) (answer : Found) (space′ seam′ : List ℕ) : Type 0 where
-  pub number :
-      foundNumber answer ≡ refusal (findMarkedRules z (length space) (length seam)
-      (isNone (markedUp (z .width) (z .height) (pictureIn z space) (marksIn z space))))
-  pub cost : foundCost answer ≡ served (foundNumber answer) (markedCostOf (z .width) (z .height) (pictureIn z space) (marksIn z space)) 0
-  pub space-left :
-      space′ ≡ worked (foundNumber answer)
-      (take (pictureBytes z + pixels z) space
-      ++ (replicate (pixels z) 0 ++ drop (pictureBytes z + (pixels z + pixels z)) space))
-      space
-  pub seam-given :
-      seam′ ≡ served (foundNumber answer)
-      (markedSeamOf (z .width) (z .height) (pictureIn z space) (marksIn z space) ++ drop (z .height) seam)
       seam

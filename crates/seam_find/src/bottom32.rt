@@ -1,7 +1,7 @@
 // The end of the cheapest path of a picture without marks.
 use crate::down32;
-use crate::sums32;
 use pictures::Size;
+use seam_sums::least32;
 ghost use Rattle.pictures.specs.Pictures.{pictureBytes};
 ghost use Rattle.seam_find.specs.Kernels.{costsOf, BottomNeeded, BottomGiven, RowsNeeded};
 
@@ -11,7 +11,7 @@ pub(crate) struct Bottom {
     pub(crate) sum: u32,
 }
 
-// Works out all sums of the picture at the front of the space. Behind it is written where each column of a row comes from.
+// Works out all sums of the picture at the front of the space. After it is written where each column of a row comes from.
 pub(crate) fn find_bottom(space: &mut [u8], size: Size, bytes: usize) -> Bottom
     requires { ⌜ BottomNeeded (pictureBytes size) size bytes (now space) ⌝ }
     ensures { λ r. ⌜ BottomGiven 4294967295 (pictureBytes size) size (costsOf size) (now (space .entry)) (now (space .exit)) (r .column) (r .sum) ⌝ }
@@ -48,7 +48,7 @@ fn bottom_with(
     let side = width + 1;
     energy::energies(&space[..bytes], size, 0, &mut above[1..side]);
     down32::down(space, size, bytes, above, cost, next);
-    let column = sums32::first_least(&above[1..side]);
+    let column = least32::first_least(&above[1..side]);
     let at = column + 1;
     Bottom {
         column,

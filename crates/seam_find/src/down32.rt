@@ -7,8 +7,8 @@ ghost use Rattle.seam_find.specs.Kernels.{costsOf, DownNeeded, DownGiven
 // A number larger than every sum.
 pub(crate) const FENCE: u32 = 4294967295;
 
-// From the fenced sums of row 0 to those of the last row. The picture, of so many bytes, stands at the front of the space;
-// behind it is written, row after row, where each column of a row comes from. cost and next are for a row each.
+// From the fenced sums of row 0 to those of the last row. The picture, of `bytes` bytes, stands at the front of the space;
+// after it is written, row after row, where each column of a row comes from. cost and next are for a row each.
 pub(crate) fn down(
     space: &mut [u8],
     size: Size,

@@ -1,6 +1,7 @@
 // What the operations on seams decide before they touch a buffer, as pure functions of numbers, and the forms of their
 // answers.
 pub mod answers;
+pub mod spaces;
 
 pub use answers::Axis;
 pub use answers::Columns;
@@ -8,3 +9,4 @@ pub use answers::Found;
 pub use answers::Removal;
 pub use answers::Retargeted;
 pub use answers::Rows;
+pub use spaces::judge_find;

@@ -1,7 +1,7 @@
 -- `seam_find::bottom32::bottom_with` meets its contract.
 use mathlib.Core.Path.{_≡_, sym, ap, _∙_}
 use mathlib.Core.List.{List, _++_, append-nil}
-use Prim.Native.Nat.{ℕ, _+_, _-_, _≤_}
+use Prim.Native.Nat.{ℕ, _+_, _-_, _≤_, _<_}
 use native.Mathlib.Nat.{add-sub-cancel, le-of-eq}
 use native.Mathlib.Omega.{arith}
 use borrow.Author.Needs.{needs}
@@ -15,7 +15,7 @@ use Rattle.pictures.specs.Pictures.{pictureBytes}
 use Rattle.pictures.proofs.Limits.{Sized, sized-is}
 use Rattle.energy.proofs.Served.{energies-served}
 use Rattle.seam_find.specs.Kernels.{costsOf}
-use Rattle.seam_find.proofs.Fences.{first-row, last-long, row-long, bottom-given}
+use Rattle.seam_find.proofs.Fences.{first-row, last-long, bottom-inside, bottom-given}
 use Rattle.seam_find.proofs.bottom32.bottom_with.Statement.{statement}
 use Rattle.seam_find.proofs.bottom32.bottom_with.Tie as tie
 
@@ -56,14 +56,6 @@ row-0 c =
     ∙ ap (λ b. costsOf (a .size) (take b (now (a .space))) 0) (s .pre .0 .bytes-are)
 
 -- the last row of sums
-row-is-long : (c : tie.After-down)
-    → let s = c .before .before .before .before .before .before .before .before .before .before .before .before .before .before in
-    length (take (s .args .size .width + 1 - 1) (drop 1 (c .down .last .1 .1 .1 .0))) ≡ s .args .size .width
-row-is-long c =
-    let s = c .before .before .before .before .before .before .before .before .before .before .before .before .before .before in
-    let a = s .args in
-    row-long 4294967295 (pictureBytes (a .size)) (a .size) (costsOf (a .size)) (now (a .space)) (c .down .last .0) (c .down .last .1 .1 .1 .0) (wide s) (c .down .ensures)
-
 all-long : (c : tie.After-down)
     → let s = c .before .before .before .before .before .before .before .before .before .before .before .before .before .before in
     length (c .down .last .1 .1 .1 .0) ≡ s .args .size .width + 2
@@ -71,6 +63,14 @@ all-long c =
     let s = c .before .before .before .before .before .before .before .before .before .before .before .before .before .before in
     let a = s .args in
     last-long 4294967295 (pictureBytes (a .size)) (a .size) (costsOf (a .size)) (now (a .space)) (c .down .last .0) (c .down .last .1 .1 .1 .0) (wide s) (c .down .ensures)
+
+-- the first of the least sums is one of its columns
+inside : (c : tie.After-first-least) → c .first-least .result < c .before .before .before .before .before .before .before .before .before .before .before .before .before .before .before .before .before .before .before .before .before .before .before .before .before .args .size .width
+inside c =
+    let d = c .before .before .before .before .before .before .before .before .before .before .before in
+    let s = d .before .before .before .before .before .before .before .before .before .before .before .before .before .before in
+    let a = s .args in
+    bottom-inside 4294967295 (pictureBytes (a .size)) (a .size) (costsOf (a .size)) (now (a .space)) (d .down .last .0) (d .down .last .1 .1 .1 .0) (wide s) (d .down .ensures) (c .first-least .result) (sure s .width-some) (c .first-least .ensures)
 
 add-side : tie.Need-add-side
 add-side c = search needs
@@ -121,22 +121,16 @@ part-first-least-end c =
     omega (arith, all-long at-down)
 
 first-least-requires : tie.Need-first-least-requires
-first-least-requires c κs =
-    let at-down = c .before .before .before .before .before .before .before .before .before .before in
-    let s = at-down .before .before .before .before .before .before .before .before .before .before .before .before .before .before in
-    rw (row-is-long at-down) (sure s .width-some)
+first-least-requires c κs = search needs
 
 add-at : tie.Need-add-at
-add-at c = search needs
+add-at c = let s = c .before .before .before .before .before .before .before .before .before .before .before .before .before .before .before .before .before .before .before .before .before .before .before .before .before in omega (arith, inside c, sure s .width-most)
 
 mul-t15 : tie.Need-mul-t15
-mul-t15 c = search needs
+mul-t15 c = let s = c .before .before .before .before .before .before .before .before .before .before .before .before .before .before .before .before .before .before .before .before .before .before .before .before .before in omega (arith, inside c, sure s .width-most)
 
 slice-read-t31 : tie.Need-slice-read-t31
-slice-read-t31 c =
-    let d = c .before .before .before .before .before .before .before .before .before .before .before .before in
-    let l = c .before .first-least .ensures .1 in
-    omega (arith, all-long d, row-is-long d)
+slice-read-t31 c = omega (arith, all-long (c .before .before .before .before .before .before .before .before .before .before .before .before), inside (c .before))
 
 same-length : tie.Need-same-length
 same-length c = search needs
@@ -155,7 +149,7 @@ returns c =
     let d = c .before .before .before .before .before .before .before .before .before .before .before .before in
     let a = d .before .before .before .before .before .before .before .before .before .before .before .before .before .before .args in
     let f = c .before .first-least in
-    bottom-given 4294967295 (pictureBytes (a .size)) (a .size) (costsOf (a .size)) (now (a .space)) (d .down .last .0) (d .down .last .1 .1 .1 .0) (wide (d .before .before .before .before .before .before .before .before .before .before .before .before .before .before)) (d .down .ensures) (f .result) (f .ensures .0) (f .ensures .1)
+    bottom-given 4294967295 (pictureBytes (a .size)) (a .size) (costsOf (a .size)) (now (a .space)) (d .down .last .0) (d .down .last .1 .1 .1 .0) (wide (d .before .before .before .before .before .before .before .before .before .before .before .before .before .before)) (d .down .ensures) (f .result) (f .ensures) (inside (c .before))
 
 pub bottom-with-spec : {M : Type 1} → statement M
 bottom-with-spec =

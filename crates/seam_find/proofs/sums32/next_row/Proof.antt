@@ -8,7 +8,7 @@ use denote.Ref.{now}
 use lib.ListN.{length, getD, drop, length-set}
 use Rattle.grids.specs.Table.{table}
 use Rattle.grids.proofs.Tables.{table-more, table-end}
-use Rattle.seam_find.specs.Kernels.{leastOf3, sumOf3, wayOf3}
+use Rattle.seam_sums.specs.Least.{leastOf3, sumOf3, wayOf3}
 use Rattle.seam_find.proofs.sums32.next_row.Statement.{statement}
 use Rattle.seam_find.proofs.sums32.next_row.Tie as tie
 

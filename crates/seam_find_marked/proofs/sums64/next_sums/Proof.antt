@@ -1,0 +1,136 @@
+-- `seam_find_marked::sums64::next_sums` meets its contract. The loop's invariant: the values of c columns stand at the front.
+use mathlib.Core.Path.{_≡_, ap, _∙_}
+use mathlib.Core.List.{_++_}
+use Prim.Native.Nat.{_+_, _-_, _≤_, min}
+use native.Mathlib.Omega.{arith}
+use borrow.Author.Needs.{needs}
+use denote.Ref.{now}
+use lib.ListN.{length, getD, drop, length-set}
+use Rattle.grids.specs.Table.{table}
+use Rattle.grids.proofs.Tables.{table-more, table-end}
+use Rattle.seam_sums.specs.Least.{leastOf3, sumOf3}
+use Rattle.seam_find_marked.proofs.sums64.next_sums.Statement.{statement}
+use Rattle.seam_find_marked.proofs.sums64.next_sums.Tie as tie
+
+abbrev Inv-loop : tie.InvT-loop
+Inv-loop above cost next₀ c₀ c-end next c = (c ≤ c-end) × ((c-end ≡ length next₀) × ((next ≡ table (sumOf3 above cost) c ++ drop c next₀) × (length next ≡ length next₀)))
+
+abbrev μ-loop : tie.MeasureT-loop
+μ-loop above cost next₀ c₀ c-end next c = c-end - c
+
+loop-holds : tie.Need-loop-holds Inv-loop μ-loop
+loop-holds c = search needs
+
+mul-lesser : tie.Need-mul-lesser Inv-loop μ-loop
+mul-lesser c = search needs
+
+shared-slice-read-lesser : tie.Need-shared-slice-read-lesser Inv-loop μ-loop
+shared-slice-read-lesser c = search needs
+
+add-lesser : tie.Need-add-lesser Inv-loop μ-loop
+add-lesser c = search needs
+
+mul-lesser-2 : tie.Need-mul-lesser-2 Inv-loop μ-loop
+mul-lesser-2 c = search needs
+
+shared-slice-read-lesser-2 : tie.Need-shared-slice-read-lesser-2 Inv-loop μ-loop
+shared-slice-read-lesser-2 c = search needs
+
+add-lesser-2 : tie.Need-add-lesser-2 Inv-loop μ-loop
+add-lesser-2 c = search needs
+
+mul-lesser-3 : tie.Need-mul-lesser-3 Inv-loop μ-loop
+mul-lesser-3 c = search needs
+
+shared-slice-read-lesser-3 : tie.Need-shared-slice-read-lesser-3 Inv-loop μ-loop
+shared-slice-read-lesser-3 c = search needs
+
+lesser-requires : tie.Need-lesser-requires Inv-loop μ-loop
+lesser-requires c κs = search needs
+
+lesser-requires-2 : tie.Need-lesser-requires-2 Inv-loop μ-loop
+lesser-requires-2 c κs = search needs
+
+mul-next : tie.Need-mul-next Inv-loop μ-loop
+mul-next c = search needs
+
+shared-slice-read-next : tie.Need-shared-slice-read-next Inv-loop μ-loop
+shared-slice-read-next c = search needs
+
+add-next : tie.Need-add-next Inv-loop μ-loop
+add-next c =
+    let at-lesser = c .before .before in
+    let at-loop = at-lesser .before .before .before .before .before in
+    let s = at-loop .before .before .before .before in
+    let a = s .args in
+    let k = at-loop .loop .c in
+    let p = s .pre in
+    omega (arith, p .small k (omega arith), p .cheap k, at-lesser .lesser .ensures, c .before .lesser2 .ensures)
+
+mul-next-2 : tie.Need-mul-next-2 Inv-loop μ-loop
+mul-next-2 c = search needs
+
+slice-write-next : tie.Need-slice-write-next Inv-loop μ-loop
+slice-write-next c = search needs
+
+add-c : tie.Need-add-c Inv-loop μ-loop
+add-c c = search needs
+
+loop-less : tie.Need-loop-less Inv-loop μ-loop
+loop-less c = search needs
+
+loop-again : tie.Need-loop-again Inv-loop μ-loop
+unfolding sumOf3 leastOf3
+loop-again c =
+    let at-lesser2 = c .before in
+    let at-lesser = at-lesser2 .before in
+    let at-loop = at-lesser .before .before .before .before .before in
+    let s = at-loop .before .before .before .before in
+    let a = s .args in
+    let k = at-loop .loop .c in
+    let f = sumOf3 (now (a .above)) (now (a .cost)) in
+    let e : at-lesser2 .lesser2 .result + getD (now (a .cost)) k 0 ≡ f k = ap (_+ getD (now (a .cost)) k 0) (at-lesser2 .lesser2 .ensures ∙ ap (min (getD (now (a .above)) k 0)) (at-lesser .lesser .ensures)) in (
+      search needs,
+      (
+        search needs,
+        (cc (table-more f (now (a .next)) k 0 (omega arith)), simp length-set (search needs)),
+      ),
+    )
+
+same-length : tie.Need-same-length Inv-loop μ-loop
+same-length c = search needs
+
+returns : tie.Need-returns Inv-loop μ-loop
+returns c =
+    let head = c .before in
+    let s = head .before .before .before .before in
+    let a = s .args in
+    table-end (sumOf3 (now (a .above)) (now (a .cost))) (now (a .next)) (head .loop .next) (head .loop .c) (head .loop .inv .1 .1 .0) (omega arith)
+
+pub next-sums-spec : {M : Type 1} → statement M
+next-sums-spec =
+    tie.close
+    (tie.spec
+    Inv-loop
+    μ-loop
+    loop-holds
+    mul-lesser
+    shared-slice-read-lesser
+    add-lesser
+    mul-lesser-2
+    shared-slice-read-lesser-2
+    add-lesser-2
+    mul-lesser-3
+    shared-slice-read-lesser-3
+    lesser-requires
+    lesser-requires-2
+    mul-next
+    shared-slice-read-next
+    add-next
+    mul-next-2
+    slice-write-next
+    add-c
+    loop-less
+    loop-again
+    same-length
+    returns)

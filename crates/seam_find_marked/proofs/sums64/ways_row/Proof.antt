@@ -1,0 +1,107 @@
+-- `seam_find_marked::sums64::ways_row` meets its contract. The loop's invariant: the values of c columns stand at the front.
+use mathlib.Core.Path.{_≡_}
+use mathlib.Core.List.{_++_}
+use Prim.Native.Nat.{_-_, _≤_}
+use native.Mathlib.Omega.{arith}
+use borrow.Author.Needs.{needs}
+use denote.Ref.{now}
+use lib.ListN.{length, drop, length-set}
+use Rattle.grids.specs.Table.{table}
+use Rattle.grids.proofs.Tables.{table-more, table-end}
+use Rattle.seam_sums.specs.Least.{wayOf3}
+use Rattle.seam_find_marked.proofs.sums64.ways_row.Statement.{statement}
+use Rattle.seam_find_marked.proofs.sums64.ways_row.Tie as tie
+
+abbrev Inv-loop : tie.InvT-loop
+Inv-loop above ways₀ c₀ c-end ways c = (c ≤ c-end) × ((c-end ≡ length ways₀) × ((ways ≡ table (wayOf3 above) c ++ drop c ways₀) × (length ways ≡ length ways₀)))
+
+abbrev μ-loop : tie.MeasureT-loop
+μ-loop above ways₀ c₀ c-end ways c = c-end - c
+
+loop-holds : tie.Need-loop-holds Inv-loop μ-loop
+loop-holds c = search needs
+
+mul-way : tie.Need-mul-way Inv-loop μ-loop
+mul-way c = search needs
+
+shared-slice-read-way : tie.Need-shared-slice-read-way Inv-loop μ-loop
+shared-slice-read-way c = search needs
+
+add-way : tie.Need-add-way Inv-loop μ-loop
+add-way c = search needs
+
+mul-way-2 : tie.Need-mul-way-2 Inv-loop μ-loop
+mul-way-2 c = search needs
+
+shared-slice-read-way-2 : tie.Need-shared-slice-read-way-2 Inv-loop μ-loop
+shared-slice-read-way-2 c = search needs
+
+add-way-2 : tie.Need-add-way-2 Inv-loop μ-loop
+add-way-2 c = search needs
+
+mul-way-3 : tie.Need-mul-way-3 Inv-loop μ-loop
+mul-way-3 c = search needs
+
+shared-slice-read-way-3 : tie.Need-shared-slice-read-way-3 Inv-loop μ-loop
+shared-slice-read-way-3 c = search needs
+
+way-requires : tie.Need-way-requires Inv-loop μ-loop
+way-requires c κs = search needs
+
+slice-write-ways : tie.Need-slice-write-ways Inv-loop μ-loop
+slice-write-ways c = search needs
+
+add-c : tie.Need-add-c Inv-loop μ-loop
+add-c c = search needs
+
+loop-less : tie.Need-loop-less Inv-loop μ-loop
+loop-less c = search needs
+
+loop-again : tie.Need-loop-again Inv-loop μ-loop
+unfolding wayOf3
+loop-again c =
+    let at-loop = c .before .before .before .before .before in
+    let s = at-loop .before .before .before in
+    let a = s .args in
+    let k = at-loop .loop .c in
+    let f = wayOf3 (now (a .above)) in
+    let e : c .way .result ≡ f k = c .way .ensures in (
+      search needs,
+      (
+        search needs,
+        (cc (table-more f (now (a .ways)) k 0 (omega arith)), simp length-set (search needs)),
+      ),
+    )
+
+same-length : tie.Need-same-length Inv-loop μ-loop
+same-length c = search needs
+
+returns : tie.Need-returns Inv-loop μ-loop
+returns c =
+    let head = c .before in
+    let s = head .before .before .before in
+    let a = s .args in
+    table-end (wayOf3 (now (a .above))) (now (a .ways)) (head .loop .ways) (head .loop .c) (head .loop .inv .1 .1 .0) (omega arith)
+
+pub ways-row-spec : {M : Type 1} → statement M
+ways-row-spec =
+    tie.close
+    (tie.spec
+    Inv-loop
+    μ-loop
+    loop-holds
+    mul-way
+    shared-slice-read-way
+    add-way
+    mul-way-2
+    shared-slice-read-way-2
+    add-way-2
+    mul-way-3
+    shared-slice-read-way-3
+    way-requires
+    slice-write-ways
+    add-c
+    loop-less
+    loop-again
+    same-length
+    returns)

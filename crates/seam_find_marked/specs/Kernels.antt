@@ -1,0 +1,43 @@
+-- What the private functions of this crate ask and promise besides those of finding without marks. No public promise cites
+-- it.
+use mathlib.Core.Path.{_≡_}
+use mathlib.Core.List.{List}
+use Prim.Native.Nat.{ℕ, _+_, _<_}
+use lib.ListN.{length, getD}
+use Rattle.grids.specs.Table.{table}
+use Rattle.pictures.specs.declared.sizes.Size.{Size}
+use Rattle.pictures.specs.Refusals.{refusal}
+use Rattle.pictures.specs.Pictures.{Picture, sizeRules, pictureBytes, pixels, pictureIn, marksIn}
+use Rattle.energy.specs.Energy.{energy}
+use Rattle.seam_theory.specs.PictureSeams.{markAt}
+use Rattle.seam_sums.specs.Weights.{weightOf}
+
+-- The weight at column c of a row, from its energies and marks.
+abbrev pub weightIn : List ℕ → List ℕ → ℕ → ℕ
+weightIn energies marks c = weightOf (getD energies c 0) (getD marks c 0)
+
+-- In row r and column c of a picture with marks.
+abbrev pub weightAt : Picture → List (List ℕ) → ℕ → ℕ → ℕ
+weightAt p m r c = weightOf (energy p r c) (markAt m r c)
+
+-- The costs of row i of a picture with the marks after it: its weights.
+abbrev pub weightsOf : Size → List ℕ → ℕ → List ℕ
+weightsOf z b i = table (weightAt (pictureIn z b) (marksIn z b) i) (z .width)
+
+-- The bytes of a picture and of its marks.
+abbrev pub markedBytes : Size → ℕ
+markedBytes z = pictureBytes z + pixels z
+
+-- A row's energies and marks, and room for its weights.
+pub record WeighNeeded (energy marks cost : List ℕ) : Type 0 where
+  pub energies : length energy ≡ length cost
+  pub marked : length marks ≡ length cost
+
+-- A picture of its size with its marks after it, and room for the energies and the weights of row i.
+pub record WeightsNeeded (z : Size) (bytes i : ℕ) (front energy cost : List ℕ) : Type 0 where
+  pub bytes-are : bytes ≡ pictureBytes z
+  pub sized : refusal (sizeRules z (pictureBytes z)) ≡ 0
+  pub inside : i < z .height
+  pub long : length front ≡ markedBytes z
+  pub energy-room : length energy ≡ z .width
+  pub cost-room : length cost ≡ z .width

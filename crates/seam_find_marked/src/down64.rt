@@ -1,0 +1,60 @@
+// All rows of sums of a picture with marks, from the top.
+use crate::sums64;
+use crate::weights;
+use pictures::Size;
+ghost use mathlib.Core.Path.{_≡_};
+ghost use lib.ListN.{length};
+ghost use Rattle.seam_find_marked.specs.Kernels.{markedBytes, weightsOf};
+ghost use Rattle.seam_find.specs.Kernels.{DownNeeded, DownGiven, RowNeeded, RowGiven};
+
+// A number larger than every sum.
+pub(crate) const FENCE: u64 = 18446744073709551615;
+
+// From the fenced sums of row 0 to those of the last row. The picture, of `bytes` bytes, stands at the front of the space
+// and its marks after it; after them is written, row after row, where each column of a row comes from. energies, cost and
+// next are for a row each.
+pub(crate) fn down(
+    space: &mut [u8],
+    size: Size,
+    bytes: usize,
+    above: &mut [u64],
+    energies: &mut [u32],
+    cost: &mut [u64],
+    next: &mut [u64],
+)
+    requires { ⌜ DownNeeded 18446744073709551615 (markedBytes size) size (weightsOf size) bytes (now space) (now above) (now cost) (now next) ⌝ }
+    requires { ⌜ length (now energies) ≡ size .width ⌝ }
+    ensures { λ _. ⌜ DownGiven 18446744073709551615 (markedBytes size) size (weightsOf size) (now (space .entry)) (now (space .exit)) (now (above .exit)) ⌝ }
+{
+    let height = size.height;
+    for i in 1..height {
+        row_down(space, size, bytes, i, above, energies, cost, next);
+    }
+}
+
+// From the fenced sums of row i - 1 to those of row i.
+fn row_down(
+    space: &mut [u8],
+    size: Size,
+    bytes: usize,
+    i: usize,
+    above: &mut [u64],
+    energies: &mut [u32],
+    cost: &mut [u64],
+    next: &mut [u64],
+)
+    requires { ⌜ RowNeeded 9223372036854775808 (markedBytes size) size bytes i (now space) (now above) (now cost) (now next) ⌝ }
+    requires { ⌜ length (now energies) ≡ size .width ⌝ }
+    ensures { λ _. ⌜ RowGiven (markedBytes size) size (weightsOf size) i (now (space .entry)) (now (above .entry)) (now (space .exit)) (now (above .exit)) ⌝ }
+{
+    let width = size.width;
+    let height = size.height;
+    let side = width + 1;
+    let from = bytes + height * width;
+    let a = from + (i - 1) * width;
+    let e = a + width;
+    weights::row_weights(&space[..from], size, bytes, i, energies, cost);
+    sums64::next_sums(above, cost, next);
+    sums64::ways_row(above, &mut space[a..e]);
+    sums64::copy(next, &mut above[1..side]);
+}
