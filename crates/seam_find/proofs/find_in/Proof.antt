@@ -179,10 +179,10 @@ wide-requires : tie.Need-wide-requires
 wide-requires c κs = search needs
 
 same-length : tie.Need-same-length
-same-length c = search needs
+same-length c = c .before .before .space3 .given .1 ∙ c .before .before .before .before .before .before .before .before .before .before .before .before .space .given
 
 same-length-2 : tie.Need-same-length-2
-same-length-2 c = search needs
+same-length-2 c = c .before .before .before .before .before .before .seam .given
 
 returns-2 : tie.Need-returns-2
 unfolding front ways

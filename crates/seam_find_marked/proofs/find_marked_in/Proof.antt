@@ -244,7 +244,7 @@ clear-requires : tie.Need-clear-requires
 clear-requires c κs = search needs
 
 same-length : tie.Need-same-length
-same-length c = search needs
+same-length c = c .before .space2 .given .1 ∙ c .before .before .before .before .before .before .before .before .before .space .given
 
 returns-2 : tie.Need-returns-2
 unfolding front weight
@@ -302,10 +302,10 @@ clear-requires-2 : tie.Need-clear-requires-2
 clear-requires-2 c κs = search needs
 
 same-length-2 : tie.Need-same-length-2
-same-length-2 c = search needs
+same-length-2 c = c .before .space4 .given .1 ∙ c .before .before .before .before .before .before .before .before .before .before .before .before .before .before .space .given
 
 same-length-3 : tie.Need-same-length-3
-same-length-3 c = search needs
+same-length-3 c = c .before .before .before .before .before .seam .given
 
 returns-3 : tie.Need-returns-3
 unfolding front ways weight

@@ -1,25 +1,25 @@
 -- `seam_find::sums32::next_row` meets its contract. The loop's invariant: the sums and the ways of c columns stand at the front.
-use mathlib.Core.Path.{_≡_, ap, _∙_}
-use mathlib.Core.List.{_++_}
-use Prim.Native.Nat.{_+_, _-_, _≤_, min}
+use mathlib.Core.Path.{_≡_, refl, sym, ap, _∙_}
+use Prim.Native.Nat.{_+_, _-_, min}
 use native.Mathlib.Omega.{arith}
 use borrow.Author.Needs.{needs}
 use denote.Ref.{now}
-use lib.ListN.{length, getD, drop, length-set}
-use Rattle.grids.specs.Table.{table}
-use Rattle.grids.proofs.Tables.{table-more, table-end}
+use lib.ListN.{getD}
+use Rattle.grids.proofs.Tables.{Filled, filled-start, filled-turn, filled-end}
 use Rattle.seam_sums.specs.Least.{leastOf3, sumOf3, wayOf3}
 use Rattle.seam_find.proofs.sums32.next_row.Statement.{statement}
 use Rattle.seam_find.proofs.sums32.next_row.Tie as tie
 
 abbrev Inv-loop : tie.InvT-loop
-Inv-loop above cost next₀ ways₀ c₀ c-end next ways c = (c ≤ c-end) × ((c-end ≡ length next₀) × (((next ≡ table (sumOf3 above cost) c ++ drop c next₀) × (length next ≡ length next₀)) × ((ways ≡ table (wayOf3 above) c ++ drop c ways₀) × (length ways ≡ length ways₀))))
+Inv-loop above cost next₀ ways₀ c₀ c-end next ways c = Filled (sumOf3 above cost) next₀ c-end c next × Filled (wayOf3 above) ways₀ c-end c ways
 
 abbrev μ-loop : tie.MeasureT-loop
 μ-loop above cost next₀ ways₀ c₀ c-end next ways c = c-end - c
 
 loop-holds : tie.Need-loop-holds Inv-loop μ-loop
-loop-holds c = search needs
+loop-holds c =
+    let s = c .before .before .before .before in
+    (filled-start _ _ _ refl, filled-start _ _ _ (sym (s .pre .1)))
 
 mul-left : tie.Need-mul-left Inv-loop μ-loop
 mul-left c = search needs
@@ -90,38 +90,24 @@ loop-again c =
     let at-lesser2 = c .before .before in
     let at-lesser = at-lesser2 .before in
     let at-loop = at-lesser .before .before .before .before .before in
-    let s = at-loop .before .before .before .before .before in
-    let a = s .args in
-    let k = at-loop .loop .c in
-    let f = sumOf3 (now (a .above)) (now (a .cost)) in
-    let g = wayOf3 (now (a .above)) in
-    let e : at-lesser2 .lesser2 .result + getD (now (a .cost)) k 0 ≡ f k = ap (_+ getD (now (a .cost)) k 0) (at-lesser2 .lesser2 .ensures ∙ ap (min (getD (now (a .above)) k 0)) (at-lesser .lesser .ensures)) in
-    let d : c .way .result ≡ g k = c .way .ensures in (
-      search needs,
-      (
-        search needs,
-        (
-          (cc (table-more f (now (a .next)) k 0 (omega arith)), simp length-set (search needs)),
-          (cc (table-more g (now (a .ways)) k 0 (omega arith)), simp length-set (search needs)),
-        ),
-      ),
+    let a = at-loop .before .before .before .before .before .args in
+    let l = at-loop .loop in
+    let h = c .before .before .before .before .before .before .before .loop-test .taken in (
+      filled-turn (sumOf3 (now (a .above)) (now (a .cost))) (now (a .next)) _ (l .c) (l .next) _ 0 h
+          (ap (_+ getD (now (a .cost)) (l .c) 0) (at-lesser2 .lesser2 .ensures ∙ ap (min (getD (now (a .above)) (l .c) 0)) (at-lesser .lesser .ensures))) (l .inv .0),
+      filled-turn (wayOf3 (now (a .above))) (now (a .ways)) _ (l .c) (l .ways) _ 0 h (c .way .ensures) (l .inv .1),
     )
 
 same-length : tie.Need-same-length Inv-loop μ-loop
-same-length c = search needs
+same-length c = c .before .loop .inv .0 .long
 
 same-length-2 : tie.Need-same-length-2 Inv-loop μ-loop
-same-length-2 c = search needs
+same-length-2 c = c .before .loop .inv .1 .long
 
 returns : tie.Need-returns Inv-loop μ-loop
 returns c =
-    let s = c .before .before .before .before .before .before in
-    let a = s .args in
     let l = c .before .loop in
-    let end : l .c ≡ length (now (a .next)) = omega arith in (
-      table-end (sumOf3 (now (a .above)) (now (a .cost))) (now (a .next)) (l .next) (l .c) (l .inv .1 .1 .0 .0) end,
-      table-end (wayOf3 (now (a .above))) (now (a .ways)) (l .ways) (l .c) (l .inv .1 .1 .1 .0) (omega arith),
-    )
+    (filled-end _ _ _ (l .c) (l .next) (c .loop-test .left) (l .inv .0), filled-end _ _ _ (l .c) (l .ways) (c .loop-test .left) (l .inv .1))
 
 pub next-row-spec : {M : Type 1} → statement M
 next-row-spec =

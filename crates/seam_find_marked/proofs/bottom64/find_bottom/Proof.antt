@@ -64,7 +64,7 @@ bottom-with-requires c κs =
     )
 
 same-length : tie.Need-same-length
-same-length c = search needs
+same-length c = c .before .before .before .before .before .space .given
 
 returns : tie.Need-returns
 returns c = c .before .before .before .before .before .before .bottom-with .ensures

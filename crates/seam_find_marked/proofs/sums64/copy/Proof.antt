@@ -1,24 +1,22 @@
 -- `seam_find_marked::sums64::copy` meets its contract. The loop's invariant: c elements are copied.
-use mathlib.Core.Path.{_≡_, ap, _∙_}
-use mathlib.Core.List.{_++_}
-use Prim.Native.Nat.{_-_, _≤_}
-use native.Mathlib.Omega.{arith}
+use mathlib.Core.Path.{_≡_, refl, ap, _∙_}
+use Prim.Native.Nat.{_-_}
 use borrow.Author.Needs.{needs}
 use denote.Ref.{now}
-use lib.ListN.{length, getD, drop, length-set}
+use lib.ListN.{getD}
 use Rattle.grids.specs.Table.{table}
-use Rattle.grids.proofs.Tables.{table-more, table-end, table-all}
+use Rattle.grids.proofs.Tables.{table-all, Filled, filled-start, filled-turn, filled-end}
 use Rattle.seam_find_marked.proofs.sums64.copy.Statement.{statement}
 use Rattle.seam_find_marked.proofs.sums64.copy.Tie as tie
 
 abbrev Inv-loop : tie.InvT-loop
-Inv-loop from to₀ c₀ c-end to c = (c ≤ c-end) × ((c-end ≡ length to₀) × ((to ≡ table (λ i. getD from i 0) c ++ drop c to₀) × (length to ≡ length to₀)))
+Inv-loop from to₀ c₀ c-end to c = Filled (λ i. getD from i 0) to₀ c-end c to
 
 abbrev μ-loop : tie.MeasureT-loop
 μ-loop from to₀ c₀ c-end to c = c-end - c
 
 loop-holds : tie.Need-loop-holds Inv-loop μ-loop
-loop-holds c = search needs
+loop-holds c = filled-start _ _ _ refl
 
 mul-to : tie.Need-mul-to Inv-loop μ-loop
 mul-to c = search needs
@@ -40,27 +38,20 @@ loop-less c = search needs
 
 loop-again : tie.Need-loop-again Inv-loop μ-loop
 loop-again c =
-    let at-loop = c .before .before in
-    let s = at-loop .before in
-    let a = s .args in
-    let k = at-loop .loop .c in (
-      search needs,
-      (
-        search needs,
-        (cc (table-more (λ i. getD (now (a .from)) i 0) (now (a .to)) k 0 (omega arith)), simp length-set (search needs)),
-      ),
-    )
+    let turn = c .before in
+    let l = turn .before .loop in
+    let a = turn .before .before .args in
+    filled-turn (λ i. getD (now (a .from)) i 0) (now (a .to)) _ (l .c) (l .to) _ 0 (turn .loop-test .taken) refl (l .inv)
 
 same-length : tie.Need-same-length Inv-loop μ-loop
-same-length c = search needs
+same-length c = c .before .loop .inv .long
 
 returns : tie.Need-returns Inv-loop μ-loop
 returns c =
-    let head = c .before in
-    let s = head .before in
-    let a = s .args in
-    let from = now (a .from) in
-    table-end (λ i. getD from i 0) (now (a .to)) (head .loop .to) (head .loop .c) (head .loop .inv .1 .1 .0) (omega arith)
+    let l = c .before .loop in
+    let s = c .before .before in
+    let from = now (s .args .from) in
+    filled-end (λ i. getD from i 0) (now (s .args .to)) _ (l .c) (l .to) (c .loop-test .left) (l .inv)
     ∙ ap (table (λ i. getD from i 0)) (s .pre) ∙ table-all from 0
 
 pub copy-spec : {M : Type 1} → statement M

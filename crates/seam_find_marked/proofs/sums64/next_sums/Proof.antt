@@ -1,25 +1,23 @@
 -- `seam_find_marked::sums64::next_sums` meets its contract. The loop's invariant: the values of c columns stand at the front.
-use mathlib.Core.Path.{_≡_, ap, _∙_}
-use mathlib.Core.List.{_++_}
-use Prim.Native.Nat.{_+_, _-_, _≤_, min}
+use mathlib.Core.Path.{refl, ap, _∙_}
+use Prim.Native.Nat.{_+_, _-_, min}
 use native.Mathlib.Omega.{arith}
 use borrow.Author.Needs.{needs}
 use denote.Ref.{now}
-use lib.ListN.{length, getD, drop, length-set}
-use Rattle.grids.specs.Table.{table}
-use Rattle.grids.proofs.Tables.{table-more, table-end}
+use lib.ListN.{getD}
+use Rattle.grids.proofs.Tables.{Filled, filled-start, filled-turn, filled-end}
 use Rattle.seam_sums.specs.Least.{leastOf3, sumOf3}
 use Rattle.seam_find_marked.proofs.sums64.next_sums.Statement.{statement}
 use Rattle.seam_find_marked.proofs.sums64.next_sums.Tie as tie
 
 abbrev Inv-loop : tie.InvT-loop
-Inv-loop above cost next₀ c₀ c-end next c = (c ≤ c-end) × ((c-end ≡ length next₀) × ((next ≡ table (sumOf3 above cost) c ++ drop c next₀) × (length next ≡ length next₀)))
+Inv-loop above cost next₀ c₀ c-end next c = Filled (sumOf3 above cost) next₀ c-end c next
 
 abbrev μ-loop : tie.MeasureT-loop
 μ-loop above cost next₀ c₀ c-end next c = c-end - c
 
 loop-holds : tie.Need-loop-holds Inv-loop μ-loop
-loop-holds c = search needs
+loop-holds c = filled-start _ _ _ refl
 
 mul-lesser : tie.Need-mul-lesser Inv-loop μ-loop
 mul-lesser c = search needs
@@ -84,28 +82,19 @@ unfolding sumOf3 leastOf3
 loop-again c =
     let at-lesser2 = c .before in
     let at-lesser = at-lesser2 .before in
-    let at-loop = at-lesser .before .before .before .before .before in
-    let s = at-loop .before .before .before .before in
-    let a = s .args in
-    let k = at-loop .loop .c in
-    let f = sumOf3 (now (a .above)) (now (a .cost)) in
-    let e : at-lesser2 .lesser2 .result + getD (now (a .cost)) k 0 ≡ f k = ap (_+ getD (now (a .cost)) k 0) (at-lesser2 .lesser2 .ensures ∙ ap (min (getD (now (a .above)) k 0)) (at-lesser .lesser .ensures)) in (
-      search needs,
-      (
-        search needs,
-        (cc (table-more f (now (a .next)) k 0 (omega arith)), simp length-set (search needs)),
-      ),
-    )
+    let turn = at-lesser .before .before .before .before in
+    let l = turn .before .loop in
+    let a = turn .before .before .before .before .before .args in
+    filled-turn (sumOf3 (now (a .above)) (now (a .cost))) (now (a .next)) _ (l .c) (l .next) _ 0 (turn .loop-test .taken)
+    (ap (_+ getD (now (a .cost)) (l .c) 0) (at-lesser2 .lesser2 .ensures ∙ ap (min (getD (now (a .above)) (l .c) 0)) (at-lesser .lesser .ensures))) (l .inv)
 
 same-length : tie.Need-same-length Inv-loop μ-loop
-same-length c = search needs
+same-length c = c .before .loop .inv .long
 
 returns : tie.Need-returns Inv-loop μ-loop
 returns c =
-    let head = c .before in
-    let s = head .before .before .before .before in
-    let a = s .args in
-    table-end (sumOf3 (now (a .above)) (now (a .cost))) (now (a .next)) (head .loop .next) (head .loop .c) (head .loop .inv .1 .1 .0) (omega arith)
+    let l = c .before .loop in
+    filled-end _ _ _ (l .c) (l .next) (c .loop-test .left) (l .inv)
 
 pub next-sums-spec : {M : Type 1} → statement M
 next-sums-spec =

@@ -1,25 +1,21 @@
 -- `seam_find_marked::sums64::ways_row` meets its contract. The loop's invariant: the values of c columns stand at the front.
-use mathlib.Core.Path.{_≡_}
-use mathlib.Core.List.{_++_}
-use Prim.Native.Nat.{_-_, _≤_}
-use native.Mathlib.Omega.{arith}
+use mathlib.Core.Path.{refl}
+use Prim.Native.Nat.{_-_}
 use borrow.Author.Needs.{needs}
 use denote.Ref.{now}
-use lib.ListN.{length, drop, length-set}
-use Rattle.grids.specs.Table.{table}
-use Rattle.grids.proofs.Tables.{table-more, table-end}
+use Rattle.grids.proofs.Tables.{Filled, filled-start, filled-turn, filled-end}
 use Rattle.seam_sums.specs.Least.{wayOf3}
 use Rattle.seam_find_marked.proofs.sums64.ways_row.Statement.{statement}
 use Rattle.seam_find_marked.proofs.sums64.ways_row.Tie as tie
 
 abbrev Inv-loop : tie.InvT-loop
-Inv-loop above ways₀ c₀ c-end ways c = (c ≤ c-end) × ((c-end ≡ length ways₀) × ((ways ≡ table (wayOf3 above) c ++ drop c ways₀) × (length ways ≡ length ways₀)))
+Inv-loop above ways₀ c₀ c-end ways c = Filled (wayOf3 above) ways₀ c-end c ways
 
 abbrev μ-loop : tie.MeasureT-loop
 μ-loop above ways₀ c₀ c-end ways c = c-end - c
 
 loop-holds : tie.Need-loop-holds Inv-loop μ-loop
-loop-holds c = search needs
+loop-holds c = filled-start _ _ _ refl
 
 mul-way : tie.Need-mul-way Inv-loop μ-loop
 mul-way c = search needs
@@ -60,28 +56,18 @@ loop-less c = search needs
 loop-again : tie.Need-loop-again Inv-loop μ-loop
 unfolding wayOf3
 loop-again c =
-    let at-loop = c .before .before .before .before .before in
-    let s = at-loop .before .before .before in
-    let a = s .args in
-    let k = at-loop .loop .c in
-    let f = wayOf3 (now (a .above)) in
-    let e : c .way .result ≡ f k = c .way .ensures in (
-      search needs,
-      (
-        search needs,
-        (cc (table-more f (now (a .ways)) k 0 (omega arith)), simp length-set (search needs)),
-      ),
-    )
+    let turn = c .before .before .before .before in
+    let l = turn .before .loop in
+    let a = turn .before .before .before .before .args in
+    filled-turn (wayOf3 (now (a .above))) (now (a .ways)) _ (l .c) (l .ways) _ 0 (turn .loop-test .taken) (c .way .ensures) (l .inv)
 
 same-length : tie.Need-same-length Inv-loop μ-loop
-same-length c = search needs
+same-length c = c .before .loop .inv .long
 
 returns : tie.Need-returns Inv-loop μ-loop
 returns c =
-    let head = c .before in
-    let s = head .before .before .before in
-    let a = s .args in
-    table-end (wayOf3 (now (a .above))) (now (a .ways)) (head .loop .ways) (head .loop .c) (head .loop .inv .1 .1 .0) (omega arith)
+    let l = c .before .loop in
+    filled-end _ _ _ (l .c) (l .ways) (c .loop-test .left) (l .inv)
 
 pub ways-row-spec : {M : Type 1} → statement M
 ways-row-spec =

@@ -91,7 +91,7 @@ same-length : tie.Need-same-length
 same-length c = search needs
 
 same-length-2 : tie.Need-same-length-2
-same-length-2 c = search needs
+same-length-2 c = c .before .cost .given
 
 returns : tie.Need-returns
 returns c =

@@ -1,25 +1,21 @@
 -- `seam_find_marked::weights::weigh` meets its contract. The loop's invariant: the weights of c columns stand at the front.
-use mathlib.Core.Path.{_≡_}
-use mathlib.Core.List.{_++_}
-use Prim.Native.Nat.{_-_, _≤_}
-use native.Mathlib.Omega.{arith}
+use mathlib.Core.Path.{refl}
+use Prim.Native.Nat.{_-_}
 use denote.Ref.{now}
-use lib.ListN.{length, drop, length-set}
-use Rattle.grids.specs.Table.{table}
-use Rattle.grids.proofs.Tables.{table-more, table-end}
+use Rattle.grids.proofs.Tables.{Filled, filled-start, filled-turn, filled-end}
 use Rattle.seam_find_marked.specs.Kernels.{weightIn}
 use borrow.Author.Needs.{needs}
 use Rattle.seam_find_marked.proofs.weights.weigh.Statement.{statement}
 use Rattle.seam_find_marked.proofs.weights.weigh.Tie as tie
 
 abbrev Inv-loop : tie.InvT-loop
-Inv-loop energies marks cost₀ c₀ c-end cost c = (c ≤ c-end) × ((c-end ≡ length cost₀) × ((cost ≡ table (weightIn energies marks) c ++ drop c cost₀) × (length cost ≡ length cost₀)))
+Inv-loop energies marks cost₀ c₀ c-end cost c = Filled (weightIn energies marks) cost₀ c-end c cost
 
 abbrev μ-loop : tie.MeasureT-loop
 μ-loop energies marks cost₀ c₀ c-end cost c = c-end - c
 
 loop-holds : tie.Need-loop-holds Inv-loop μ-loop
-loop-holds c = search needs
+loop-holds c = filled-start _ _ _ refl
 
 mul-weight : tie.Need-mul-weight Inv-loop μ-loop
 mul-weight c = search needs
@@ -47,28 +43,18 @@ loop-less c = search needs
 
 loop-again : tie.Need-loop-again Inv-loop μ-loop
 loop-again c =
-    let at-loop = c .before .before .before .before in
-    let s = at-loop .before .before .before .before in
-    let a = s .args in
-    let k = at-loop .loop .c in
-    let f = weightIn (now (a .energies)) (now (a .marks)) in
-    let e : c .weight .result ≡ f k = c .weight .ensures in (
-      search needs,
-      (
-        search needs,
-        (cc (table-more f (now (a .cost)) k 0 (omega arith)), simp length-set (search needs)),
-      ),
-    )
+    let turn = c .before .before .before in
+    let l = turn .before .loop in
+    let a = turn .before .before .before .before .before .args in
+    filled-turn (weightIn (now (a .energies)) (now (a .marks))) (now (a .cost)) _ (l .c) (l .cost) _ 0 (turn .loop-test .taken) (c .weight .ensures) (l .inv)
 
 same-length : tie.Need-same-length Inv-loop μ-loop
-same-length c = search needs
+same-length c = c .before .loop .inv .long
 
 returns : tie.Need-returns Inv-loop μ-loop
 returns c =
-    let head = c .before in
-    let s = head .before .before .before .before in
-    let a = s .args in
-    table-end (weightIn (now (a .energies)) (now (a .marks))) (now (a .cost)) (head .loop .cost) (head .loop .c) (head .loop .inv .1 .1 .0) (omega arith)
+    let l = c .before .loop in
+    filled-end _ _ _ (l .c) (l .cost) (c .loop-test .left) (l .inv)
 
 pub weigh-spec : {M : Type 1} → statement M
 weigh-spec =

@@ -2,6 +2,7 @@
 -- measure is the number of columns left.
 use mathlib.Core.Logic.{⊎-elim}
 use Prim.Native.Nat.{_-_}
+use native.Mathlib.Omega.{arith}
 use borrow.Author.Needs.{needs}
 use denote.Ref.{now}
 use lib.ListN.{length}
@@ -44,8 +45,8 @@ loop-again c =
     let s = now (head .before .args .sums) in
     let inside = turn .loop-test .taken in
     ⊎-elim
-    (λ w. least-moves s (length s) (l .k) (l .best) inside (l .inv) _ (w .1) (w .0 .taken))
-    (λ w. least-stays s (length s) (l .k) (l .best) inside (l .inv) _ (w .1) (w .0 .left))
+    (λ w. least-moves s (length s) (l .k) (l .best) inside (l .inv) _ (w .1) (omega (arith, w .0 .taken)))
+    (λ w. least-stays s (length s) (l .k) (l .best) inside (l .inv) _ (w .1) (omega (arith, w .0 .left)))
     (c .if1 .came)
 
 returns : tie.Need-returns Inv-loop μ-loop
