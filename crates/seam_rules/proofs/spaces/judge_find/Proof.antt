@@ -67,7 +67,10 @@ returns c =
     refused-answer (at-sides .sides .result) (why .0 .0) (why .1) (sideRules (s .args .size)) (more s) (at-sides .sides .ensures)
 
 returns-2 : tie.Need-returns-2
-returns-2 c = sym (rest (c .before) ∙ simp (lt-ltb _ _ (c .if1 .taken)))
+returns-2 c =
+    let a = c .before .before .before .before .args in
+    let short : ltb (a .seam) (a .size .height) ≡ true = lt-ltb _ _ (c .if1 .taken) in
+    sym (rest (c .before) ∙ rw short)
 
 picture-bytes-requires : tie.Need-picture-bytes-requires
 picture-bytes-requires c κs = search needs
@@ -87,14 +90,18 @@ add-needed c =
 returns-3 : tie.Need-returns-3
 returns-3 c =
     let at-if1 = c .before .before .before in
-    let short = rw (needed-is (c .before)) at (c .if2 .taken) in
-    sym (rest (at-if1 .before) ∙ simp (le-ltb _ _ (at-if1 .if1 .left), lt-ltb _ _ short))
+    let a = at-if1 .before .before .before .before .args in
+    let long : ltb (a .seam) (a .size .height) ≡ false = le-ltb _ _ (at-if1 .if1 .left) in
+    let short : ltb (a .space) (pictureBytes (a .size) + bytesAfter (a .size) (a .marked)) ≡ true = lt-ltb _ _ (rw (needed-is (c .before)) at (c .if2 .taken)) in
+    sym (rest (at-if1 .before) ∙ rw (long, short))
 
 returns-4 : tie.Need-returns-4
 returns-4 c =
     let at-if1 = c .before .before .before in
-    let long = rw (needed-is (c .before)) at (c .if2 .left) in
-    sym (rest (at-if1 .before) ∙ simp (le-ltb _ _ (at-if1 .if1 .left), le-ltb _ _ long))
+    let a = at-if1 .before .before .before .before .args in
+    let long : ltb (a .seam) (a .size .height) ≡ false = le-ltb _ _ (at-if1 .if1 .left) in
+    let room : ltb (a .space) (pictureBytes (a .size) + bytesAfter (a .size) (a .marked)) ≡ false = le-ltb _ _ (rw (needed-is (c .before)) at (c .if2 .left)) in
+    sym (rest (at-if1 .before) ∙ rw (long, room))
 
 pub judge-find-spec : {M : Type 1} → statement M
 judge-find-spec =
