@@ -64,24 +64,24 @@ module _ {A : Type 0} where
   each-table f (suc n) h = each-snoc (each-table f n (λ i l. h i (omega arith))) (h n (omega arith))
 
 -- What a loop holds that stores f n at n of a slice that was d, before it stores the n-th of `end` values.
-pub record Filled {A : Type 0} (f : ℕ → A) (d : List A) (end n : ℕ) (out : List A) : Type 0 where
+pub record Stored {A : Type 0} (f : ℕ → A) (d : List A) (end n : ℕ) (out : List A) : Type 0 where
   pub within : n ≤ end
   pub all : end ≡ length d
   pub is : out ≡ table f n ++ drop n d
   pub long : length out ≡ length d
 
 module _ {A : Type 0} (f : ℕ → A) (d : List A) (end : ℕ) where
-  pub filled-start : end ≡ length d → Filled f d end 0 d
-  filled-start e = record { within = omega arith; all = e; is = refl; long = refl }
+  pub stored-start : end ≡ length d → Stored f d end 0 d
+  stored-start e = record { within = omega arith; all = e; is = refl; long = refl }
 
   -- One turn: v is stored at n.
-  pub filled-turn : (n : ℕ) (out : List A) (v z : A) → n < end → v ≡ f n → Filled f d end n out → Filled f d end (n + 1) (set out n v)
-  filled-turn n out v z h g o = record {
+  pub stored-turn : (n : ℕ) (out : List A) (v z : A) → n < end → v ≡ f n → Stored f d end n out → Stored f d end (n + 1) (set out n v)
+  stored-turn n out v z h g o = record {
     within = omega arith;
     all = o .all;
     is = ap₂ (λ x y. set x n y) (o .is) g ∙ table-more f d n z (omega (arith, o .all));
     long = length-set out n v ∙ o .long;
   }
 
-  pub filled-end : (n : ℕ) (out : List A) → end ≤ n → Filled f d end n out → out ≡ table f (length d)
-  filled-end n out h o = table-end f d out n (o .is) (omega (arith, o .within, o .all))
+  pub stored-end : (n : ℕ) (out : List A) → end ≤ n → Stored f d end n out → out ≡ table f (length d)
+  stored-end n out h o = table-end f d out n (o .is) (omega (arith, o .within, o .all))

@@ -1,7 +1,7 @@
 // What the operations on seams decide before they touch a buffer, as pure functions of numbers, and the forms of their
 // answers.
 pub mod answers;
-pub mod spaces;
+pub mod finding;
 
 pub use answers::Axis;
 pub use answers::Columns;
@@ -9,4 +9,4 @@ pub use answers::Found;
 pub use answers::Removal;
 pub use answers::Retargeted;
 pub use answers::Rows;
-pub use spaces::judge_find;
+pub use finding::judge_find;

@@ -5,18 +5,18 @@ use borrow.Author.Needs.{needs}
 use denote.Ref.{now}
 use lib.ListN.{getD}
 use Rattle.grids.specs.Table.{table}
-use Rattle.grids.proofs.Tables.{table-all, Filled, filled-start, filled-turn, filled-end}
+use Rattle.grids.proofs.Tables.{table-all, Stored, stored-start, stored-turn, stored-end}
 use Rattle.seam_find.proofs.sums32.copy.Statement.{statement}
 use Rattle.seam_find.proofs.sums32.copy.Tie as tie
 
 abbrev Inv-loop : tie.InvT-loop
-Inv-loop from to₀ c₀ c-end to c = Filled (λ i. getD from i 0) to₀ c-end c to
+Inv-loop from to₀ c₀ c-end to c = Stored (λ i. getD from i 0) to₀ c-end c to
 
 abbrev μ-loop : tie.MeasureT-loop
 μ-loop from to₀ c₀ c-end to c = c-end - c
 
 loop-holds : tie.Need-loop-holds Inv-loop μ-loop
-loop-holds c = filled-start _ _ _ refl
+loop-holds c = stored-start _ _ _ refl
 
 mul-to : tie.Need-mul-to Inv-loop μ-loop
 mul-to c = search needs
@@ -41,7 +41,7 @@ loop-again c =
     let turn = c .before in
     let l = turn .before .loop in
     let a = turn .before .before .args in
-    filled-turn (λ i. getD (now (a .from)) i 0) (now (a .to)) _ (l .c) (l .to) _ 0 (turn .loop-test .taken) refl (l .inv)
+    stored-turn (λ i. getD (now (a .from)) i 0) (now (a .to)) _ (l .c) (l .to) _ 0 (turn .loop-test .taken) refl (l .inv)
 
 same-length : tie.Need-same-length Inv-loop μ-loop
 same-length c = c .before .loop .inv .long
@@ -51,7 +51,7 @@ returns c =
     let l = c .before .loop in
     let s = c .before .before in
     let from = now (s .args .from) in
-    filled-end (λ i. getD from i 0) (now (s .args .to)) _ (l .c) (l .to) (c .loop-test .left) (l .inv)
+    stored-end (λ i. getD from i 0) (now (s .args .to)) _ (l .c) (l .to) (c .loop-test .left) (l .inv)
     ∙ ap (table (λ i. getD from i 0)) (s .pre) ∙ table-all from 0
 
 pub copy-spec : {M : Type 1} → statement M

@@ -5,13 +5,13 @@ use native.Mathlib.Omega.{arith}
 use borrow.Author.Needs.{needs}
 use denote.Ref.{now}
 use lib.ListN.{getD}
-use Rattle.grids.proofs.Tables.{Filled, filled-start, filled-turn, filled-end}
+use Rattle.grids.proofs.Tables.{Stored, stored-start, stored-turn, stored-end}
 use Rattle.seam_sums.specs.Least.{leastOf3, sumOf3, wayOf3}
 use Rattle.seam_find.proofs.sums32.next_row.Statement.{statement}
 use Rattle.seam_find.proofs.sums32.next_row.Tie as tie
 
 abbrev Inv-loop : tie.InvT-loop
-Inv-loop above cost next₀ ways₀ c₀ c-end next ways c = Filled (sumOf3 above cost) next₀ c-end c next × Filled (wayOf3 above) ways₀ c-end c ways
+Inv-loop above cost next₀ ways₀ c₀ c-end next ways c = Stored (sumOf3 above cost) next₀ c-end c next × Stored (wayOf3 above) ways₀ c-end c ways
 
 abbrev μ-loop : tie.MeasureT-loop
 μ-loop above cost next₀ ways₀ c₀ c-end next ways c = c-end - c
@@ -19,7 +19,7 @@ abbrev μ-loop : tie.MeasureT-loop
 loop-holds : tie.Need-loop-holds Inv-loop μ-loop
 loop-holds c =
     let s = c .before .before .before .before in
-    (filled-start _ _ _ refl, filled-start _ _ _ (sym (s .pre .1)))
+    (stored-start _ _ _ refl, stored-start _ _ _ (sym (s .pre .1)))
 
 mul-left : tie.Need-mul-left Inv-loop μ-loop
 mul-left c = search needs
@@ -93,9 +93,9 @@ loop-again c =
     let a = at-loop .before .before .before .before .before .args in
     let l = at-loop .loop in
     let h = c .before .before .before .before .before .before .before .loop-test .taken in (
-      filled-turn (sumOf3 (now (a .above)) (now (a .cost))) (now (a .next)) _ (l .c) (l .next) _ 0 h
+      stored-turn (sumOf3 (now (a .above)) (now (a .cost))) (now (a .next)) _ (l .c) (l .next) _ 0 h
           (ap (_+ getD (now (a .cost)) (l .c) 0) (at-lesser2 .lesser2 .ensures ∙ ap (min (getD (now (a .above)) (l .c) 0)) (at-lesser .lesser .ensures))) (l .inv .0),
-      filled-turn (wayOf3 (now (a .above))) (now (a .ways)) _ (l .c) (l .ways) _ 0 h (c .way .ensures) (l .inv .1),
+      stored-turn (wayOf3 (now (a .above))) (now (a .ways)) _ (l .c) (l .ways) _ 0 h (c .way .ensures) (l .inv .1),
     )
 
 same-length : tie.Need-same-length Inv-loop μ-loop
@@ -107,7 +107,7 @@ same-length-2 c = c .before .loop .inv .1 .long
 returns : tie.Need-returns Inv-loop μ-loop
 returns c =
     let l = c .before .loop in
-    (filled-end _ _ _ (l .c) (l .next) (c .loop-test .left) (l .inv .0), filled-end _ _ _ (l .c) (l .ways) (c .loop-test .left) (l .inv .1))
+    (stored-end _ _ _ (l .c) (l .next) (c .loop-test .left) (l .inv .0), stored-end _ _ _ (l .c) (l .ways) (c .loop-test .left) (l .inv .1))
 
 pub next-row-spec : {M : Type 1} → statement M
 next-row-spec =

@@ -5,19 +5,19 @@ use native.Mathlib.Omega.{arith}
 use borrow.Author.Needs.{needs}
 use denote.Ref.{now}
 use lib.ListN.{getD}
-use Rattle.grids.proofs.Tables.{Filled, filled-start, filled-turn, filled-end}
+use Rattle.grids.proofs.Tables.{Stored, stored-start, stored-turn, stored-end}
 use Rattle.seam_sums.specs.Least.{leastOf3, sumOf3}
 use Rattle.seam_find_marked.proofs.sums64.next_sums.Statement.{statement}
 use Rattle.seam_find_marked.proofs.sums64.next_sums.Tie as tie
 
 abbrev Inv-loop : tie.InvT-loop
-Inv-loop above cost next₀ c₀ c-end next c = Filled (sumOf3 above cost) next₀ c-end c next
+Inv-loop above cost next₀ c₀ c-end next c = Stored (sumOf3 above cost) next₀ c-end c next
 
 abbrev μ-loop : tie.MeasureT-loop
 μ-loop above cost next₀ c₀ c-end next c = c-end - c
 
 loop-holds : tie.Need-loop-holds Inv-loop μ-loop
-loop-holds c = filled-start _ _ _ refl
+loop-holds c = stored-start _ _ _ refl
 
 mul-lesser : tie.Need-mul-lesser Inv-loop μ-loop
 mul-lesser c = search needs
@@ -85,7 +85,7 @@ loop-again c =
     let turn = at-lesser .before .before .before .before in
     let l = turn .before .loop in
     let a = turn .before .before .before .before .before .args in
-    filled-turn (sumOf3 (now (a .above)) (now (a .cost))) (now (a .next)) _ (l .c) (l .next) _ 0 (turn .loop-test .taken)
+    stored-turn (sumOf3 (now (a .above)) (now (a .cost))) (now (a .next)) _ (l .c) (l .next) _ 0 (turn .loop-test .taken)
     (ap (_+ getD (now (a .cost)) (l .c) 0) (at-lesser2 .lesser2 .ensures ∙ ap (min (getD (now (a .above)) (l .c) 0)) (at-lesser .lesser .ensures))) (l .inv)
 
 same-length : tie.Need-same-length Inv-loop μ-loop
@@ -94,7 +94,7 @@ same-length c = c .before .loop .inv .long
 returns : tie.Need-returns Inv-loop μ-loop
 returns c =
     let l = c .before .loop in
-    filled-end _ _ _ (l .c) (l .next) (c .loop-test .left) (l .inv)
+    stored-end _ _ _ (l .c) (l .next) (c .loop-test .left) (l .inv)
 
 pub next-sums-spec : {M : Type 1} → statement M
 next-sums-spec =

@@ -3,19 +3,19 @@ use mathlib.Core.Path.{refl}
 use Prim.Native.Nat.{_-_}
 use borrow.Author.Needs.{needs}
 use denote.Ref.{now}
-use Rattle.grids.proofs.Tables.{Filled, filled-start, filled-turn, filled-end}
+use Rattle.grids.proofs.Tables.{Stored, stored-start, stored-turn, stored-end}
 use Rattle.seam_sums.specs.Least.{wayOf3}
 use Rattle.seam_find_marked.proofs.sums64.ways_row.Statement.{statement}
 use Rattle.seam_find_marked.proofs.sums64.ways_row.Tie as tie
 
 abbrev Inv-loop : tie.InvT-loop
-Inv-loop above ways₀ c₀ c-end ways c = Filled (wayOf3 above) ways₀ c-end c ways
+Inv-loop above ways₀ c₀ c-end ways c = Stored (wayOf3 above) ways₀ c-end c ways
 
 abbrev μ-loop : tie.MeasureT-loop
 μ-loop above ways₀ c₀ c-end ways c = c-end - c
 
 loop-holds : tie.Need-loop-holds Inv-loop μ-loop
-loop-holds c = filled-start _ _ _ refl
+loop-holds c = stored-start _ _ _ refl
 
 mul-way : tie.Need-mul-way Inv-loop μ-loop
 mul-way c = search needs
@@ -59,7 +59,7 @@ loop-again c =
     let turn = c .before .before .before .before in
     let l = turn .before .loop in
     let a = turn .before .before .before .before .args in
-    filled-turn (wayOf3 (now (a .above))) (now (a .ways)) _ (l .c) (l .ways) _ 0 (turn .loop-test .taken) (c .way .ensures) (l .inv)
+    stored-turn (wayOf3 (now (a .above))) (now (a .ways)) _ (l .c) (l .ways) _ 0 (turn .loop-test .taken) (c .way .ensures) (l .inv)
 
 same-length : tie.Need-same-length Inv-loop μ-loop
 same-length c = c .before .loop .inv .long
@@ -67,7 +67,7 @@ same-length c = c .before .loop .inv .long
 returns : tie.Need-returns Inv-loop μ-loop
 returns c =
     let l = c .before .loop in
-    filled-end _ _ _ (l .c) (l .ways) (c .loop-test .left) (l .inv)
+    stored-end _ _ _ (l .c) (l .ways) (c .loop-test .left) (l .inv)
 
 pub ways-row-spec : {M : Type 1} → statement M
 ways-row-spec =

@@ -2,20 +2,20 @@
 use mathlib.Core.Path.{refl}
 use Prim.Native.Nat.{_-_}
 use denote.Ref.{now}
-use Rattle.grids.proofs.Tables.{Filled, filled-start, filled-turn, filled-end}
+use Rattle.grids.proofs.Tables.{Stored, stored-start, stored-turn, stored-end}
 use Rattle.seam_find_marked.specs.Kernels.{weightIn}
 use borrow.Author.Needs.{needs}
 use Rattle.seam_find_marked.proofs.weights.weigh.Statement.{statement}
 use Rattle.seam_find_marked.proofs.weights.weigh.Tie as tie
 
 abbrev Inv-loop : tie.InvT-loop
-Inv-loop energies marks cost₀ c₀ c-end cost c = Filled (weightIn energies marks) cost₀ c-end c cost
+Inv-loop energies marks cost₀ c₀ c-end cost c = Stored (weightIn energies marks) cost₀ c-end c cost
 
 abbrev μ-loop : tie.MeasureT-loop
 μ-loop energies marks cost₀ c₀ c-end cost c = c-end - c
 
 loop-holds : tie.Need-loop-holds Inv-loop μ-loop
-loop-holds c = filled-start _ _ _ refl
+loop-holds c = stored-start _ _ _ refl
 
 mul-weight : tie.Need-mul-weight Inv-loop μ-loop
 mul-weight c = search needs
@@ -46,7 +46,7 @@ loop-again c =
     let turn = c .before .before .before in
     let l = turn .before .loop in
     let a = turn .before .before .before .before .before .args in
-    filled-turn (weightIn (now (a .energies)) (now (a .marks))) (now (a .cost)) _ (l .c) (l .cost) _ 0 (turn .loop-test .taken) (c .weight .ensures) (l .inv)
+    stored-turn (weightIn (now (a .energies)) (now (a .marks))) (now (a .cost)) _ (l .c) (l .cost) _ 0 (turn .loop-test .taken) (c .weight .ensures) (l .inv)
 
 same-length : tie.Need-same-length Inv-loop μ-loop
 same-length c = c .before .loop .inv .long
@@ -54,7 +54,7 @@ same-length c = c .before .loop .inv .long
 returns : tie.Need-returns Inv-loop μ-loop
 returns c =
     let l = c .before .loop in
-    filled-end _ _ _ (l .c) (l .cost) (c .loop-test .left) (l .inv)
+    stored-end _ _ _ (l .c) (l .cost) (c .loop-test .left) (l .inv)
 
 pub weigh-spec : {M : Type 1} → statement M
 weigh-spec =

@@ -1,4 +1,4 @@
--- `seam_rules::spaces::judge_find` meets its contract: each return is the first rule that applies. No sum overflows, since the
+-- `seam_rules::finding::judge_find` meets its contract: each return is the first rule that applies. No sum overflows, since the
 -- sides are within the limits.
 use mathlib.Core.Path.{_≡_, refl, sym, ap, ap₂, _∙_}
 use mathlib.Core.Bool.{Bool, true, false, cond}
@@ -14,8 +14,8 @@ use Rattle.pictures.specs.Pictures.{sideRules, pictureBytes, pixels}
 use Rattle.pictures.proofs.Rules.{served-first, refused-answer}
 use Rattle.pictures.proofs.Limits.{Sides, sides-are}
 use Rattle.seam_rules.specs.Spaces.{bytesAfter, spaceRules}
-use Rattle.seam_rules.proofs.spaces.judge_find.Statement.{statement}
-use Rattle.seam_rules.proofs.spaces.judge_find.Tie as tie
+use Rattle.seam_rules.proofs.finding.judge_find.Statement.{statement}
+use Rattle.seam_rules.proofs.finding.judge_find.Tie as tie
 
 -- what decides where the sides are served
 abbrev more : tie.Start → List Rule
