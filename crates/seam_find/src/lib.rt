@@ -53,7 +53,7 @@ fn seam_in(space: &mut [u8], size: Size, bytes: usize, seam: &mut [u16]) -> u64
     let bottom = bottom32::find_bottom(space, size, bytes);
     let column = bottom.column;
     trace::trace(&space[bytes..last], width, height, column, seam);
-    seam_moves::clear(&mut space[bytes..end]);
+    spaces::clear(&mut space[bytes..end]);
     wide(bottom.sum)
 }
 

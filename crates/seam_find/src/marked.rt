@@ -47,10 +47,10 @@ fn marked_in(space: &mut [u8], size: Size, bytes: usize, seam: &mut [u16]) -> Fo
     let column = bottom.column;
     let weight = bottom.sum;
     if weights::PROTECTED <= weight {
-        seam_moves::clear(&mut space[from..end]);
+        spaces::clear(&mut space[from..end]);
         return Found::Refused(Refusal::Protected);
     }
     trace::trace(&space[from..last], width, height, column, seam);
-    seam_moves::clear(&mut space[from..end]);
+    spaces::clear(&mut space[from..end]);
     Found::Seam(weight % weights::KEPT)
 }
