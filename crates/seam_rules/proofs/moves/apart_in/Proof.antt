@@ -1,5 +1,7 @@
 -- `seam_rules::moves::apart_in` meets its contract.
-use mathlib.Core.Path.{sym, _∙_}
+use mathlib.Core.Path.{_≡_, sym, _∙_}
+use Prim.Native.Nat.{_+_}
+use lib.Dec.{leb}
 use borrow.Author.Needs.{needs}
 use Rattle.seam_rules.proofs.moves.apart_in.Statement.{statement}
 use Rattle.seam_rules.proofs.moves.apart_in.Tie as tie
@@ -37,7 +39,9 @@ returns-2 c =
     let one = sym (at-within .within .ensures) ∙ at-if1 .if1 .taken in
     let two = sym (at-within2 .within2 .ensures) ∙ at-if2 .if2 .taken in
     let three = sym (at-within3 .within3 .ensures) ∙ c .before .if3 .left in
-    c .within4 .ensures ∙ sym (simp (one, two, three))
+    let a = at-within .before .args in
+    let four : c .within4 .result ≡ leb (a .to + a .count) (a .from) = c .within4 .ensures in
+    four ∙ sym (simp (one, two, three))
 
 returns-3 : tie.Need-returns-3
 returns-3 c =

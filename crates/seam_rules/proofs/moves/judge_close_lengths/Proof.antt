@@ -43,10 +43,10 @@ returns c =
     refused-answer (at-sized .sized .result) (why .0 .0) (why .1) (sizeRules (a .size) (a .bytes)) (more (a .size) (a .columns)) (at-sized .sized .ensures)
 
 returns-2 : tie.Need-returns-2
-returns-2 c = sym (rest (c .before) ∙ simp (ne-eqb _ _ (c .if1 .taken)))
+returns-2 c = let a = c .before .before .before .before .args in sym (rest (c .before) ∙ simp (ne-eqb (a .columns) (a .size .height) (c .if1 .taken)))
 
 returns-3 : tie.Need-returns-3
-returns-3 c = sym (rest (c .before) ∙ simp (eq-eqb _ _ (c .if1 .left)))
+returns-3 c = let a = c .before .before .before .before .args in sym (rest (c .before) ∙ simp (eq-eqb (a .columns) (a .size .height) (c .if1 .left)))
 
 pub judge-close-lengths-spec : {M : Type 1} → statement M
 judge-close-lengths-spec =

@@ -1,7 +1,7 @@
 -- `seam_rules::moves::judge_column` meets its contract: the picture first, then the space, then the column.
 use mathlib.Core.Path.{_≡_, refl, sym, ap, _∙_}
 use mathlib.Core.List.{List, [], _∷_}
-use Prim.Native.Nat.{ℕ, _*_}
+use Prim.Native.Nat.{ℕ, _*_, _≤_, _<_}
 use native.Mathlib.Nat.{mul-le-mul}
 use native.Mathlib.Omega.{arith}
 use borrow.Author.Needs.{needs}
@@ -35,6 +35,10 @@ tall : (c : tie.After-channels) → let a = c .before .before .before .before .a
     a .size .height * c .channels .result ≡ a .size .height * channelsOf (a .size .kind)
 tall c = ap (c .before .before .before .before .args .size .height *_) (c .channels .ensures)
 
+-- and room for them
+room : (c : tie.Else1) → let a = c .before .before .before .before .before .args in a .size .height * channelsOf (a .size .kind) ≤ a .space
+room c = rw (tall (c .before)) at (c .if1 .left)
+
 sized-requires : tie.Need-sized-requires
 sized-requires c κs = search needs
 
@@ -62,17 +66,23 @@ mul-if1 c =
     omega (arith, tall c, mul-le-mul (q .height-most) (q .channels-most))
 
 returns-2 : tie.Need-returns-2
-returns-2 c = sym (rest (c .before .before) ∙ simp (lt-ltb _ _ (rw (tall (c .before)) at (c .if1 .taken))))
+returns-2 c =
+    let u = c .before .before in
+    let a = u .before .before .before .args in
+    let short : a .space < a .size .height * channelsOf (a .size .kind) = rw (tall (c .before)) at (c .if1 .taken) in
+    sym (rest u ∙ simp (lt-ltb _ _ short))
 
 returns-3 : tie.Need-returns-3
 returns-3 c =
-    let at-channels = c .before .before in
-    sym (rest (at-channels .before) ∙ simp (le-ltb _ _ (rw (tall at-channels) at (c .before .if1 .left)), le-leb _ _ (c .if2 .taken)))
+    let u = c .before .before .before in
+    let a = u .before .before .before .args in
+    sym (rest u ∙ simp (le-ltb _ _ (room (c .before)), le-leb (a .size .width) (a .column) (c .if2 .taken)))
 
 returns-4 : tie.Need-returns-4
 returns-4 c =
-    let at-channels = c .before .before in
-    sym (rest (at-channels .before) ∙ simp (le-ltb _ _ (rw (tall at-channels) at (c .before .if1 .left)), lt-leb _ _ (c .if2 .left)))
+    let u = c .before .before .before in
+    let a = u .before .before .before .args in
+    sym (rest u ∙ simp (le-ltb _ _ (room (c .before)), lt-leb (a .size .width) (a .column) (c .if2 .left)))
 
 pub judge-column-spec : {M : Type 1} → statement M
 judge-column-spec =
