@@ -9,7 +9,7 @@ ghost use Prim.Native.Nat.{_-_, _*_};
 ghost use lib.ListN.{length, drop, replicate};
 ghost use Rattle.grids.specs.Cut.{cut};
 ghost use Rattle.pictures.specs.Pictures.{picture as Pictures·picture, bytes, channelsOf};
-ghost use Rattle.seam_rules.specs.Moves.{outside as Moving·outside};
+ghost use Rattle.seam_rules.specs.Moves.{outside as Moves·outside};
 ghost use Rattle.seam_close.specs.Kernels.{without, RowNeeded, CloseNeeded};
 
 // A column as an index.
@@ -21,7 +21,7 @@ fn wide(column: u16) -> usize
 
 // Whether some column of the seam isn't below the width.
 pub(crate) fn outside(seam: &[u16], width: usize) -> bool
-    ensures { λ t. ⌜ t ≡ Moving·outside width (now (seam .entry)) ⌝ }
+    ensures { λ t. ⌜ t ≡ Moves·outside width (now (seam .entry)) ⌝ }
 {
     for r in 0..seam.len() {
         if is_outside(width, seam[r]) {

@@ -21,9 +21,10 @@ columnRules z bytes c space = sizeRules z bytes ++ (8 when ltb space (z .height 
 abbrev pub closeLengthRules : Size → ℕ → ℕ → List Rule
 closeLengthRules z bytes columns = sizeRules z bytes ++ (4 when not (eqb columns (z .height)) ∷ [])
 
--- When a seam that was read isn't closed up: where one of its columns is outside the picture, and at the last column.
+-- When a seam that was read isn't closed up: where one of its columns is outside the picture, which `beyond`
+-- says, and at the last column.
 abbrev pub closeColumnRules : ℕ → Bool → List Rule
-closeColumnRules w outside = 10 when outside ∷ 13 when eqb w 1 ∷ []
+closeColumnRules w beyond = 10 when beyond ∷ 13 when eqb w 1 ∷ []
 
 -- Whether some column of the seam isn't below w.
 unfoldable pub outside : ℕ → List ℕ → Bool

@@ -64,11 +64,11 @@ pub fn judge_close_lengths(size: Size, bytes: usize, columns: usize) -> Verdict
 }
 
 // Whether a seam may be closed up in a picture of this width. Refused by 10 where one of its columns is outside the picture,
-// and by 13 at the last column.
-pub fn judge_close_columns(width: usize, outside: bool) -> Verdict
-    ensures { λ v. ⌜ given v ≡ refusal (closeColumnRules width outside) ⌝ }
+// which `beyond` says, and by 13 at the last column.
+pub fn judge_close_columns(width: usize, beyond: bool) -> Verdict
+    ensures { λ v. ⌜ given v ≡ refusal (closeColumnRules width beyond) ⌝ }
 {
-    if outside {
+    if beyond {
         return Verdict::Refused(Refusal::Broken);
     }
     if width == 1 {
