@@ -5,4 +5,5 @@ pub mod Rows
 pub mod Exchange
 pub mod Cut
 pub mod Parts
+pub mod Filled
 pub mod Maps

@@ -68,7 +68,7 @@ fn cut_seams(space: &mut [u8], size: Size, depth: usize)
     let bytes = pictures::picture_bytes(size);
     let at = bytes + height * width;
     let end = at + height * (2 * width);
-    seam_moves::clear(&mut space[bytes..end]);
+    spaces::clear(&mut space[bytes..end]);
     for t in 0..depth {
         let left = Size {
             width: width - t,

@@ -17,8 +17,10 @@ use Rattle.pictures.specs.Refusals.{refusal}
 use Rattle.pictures.specs.Pictures.{Picture, channelsOf, pictureBytes, sideRules, sizeRules, picture, bytes, OfSize}
 use Rattle.pictures.proofs.Limits.{Sized, sized-served}
 use Rattle.pictures.proofs.Buffers.{picture-ofSize, picture-bytes, length-bytes}
-use Rattle.seam_moves.specs.Moving.{ExchangeGiven, CloseGiven}
-use Rattle.seam_moves.proofs.Served.{exchange-served, close-served}
+use Rattle.seam_moves.specs.Moving.{ExchangeGiven}
+use Rattle.seam_close.specs.Closing.{CloseGiven}
+use Rattle.seam_moves.proofs.Served.{exchange-served}
+use Rattle.seam_close.proofs.Served.{close-served}
 use Rattle.seam_rules.specs.declared.answers.Axis.the-variants.{Horizontal}
 use Rattle.seam_cut.specs.Axes.{turnedSize, turned, narrowed, cutAlong}
 use Rattle.seam_cut.proofs.Turns.{turned-bytes, turned-sides, turned-ofSize, sides-of}

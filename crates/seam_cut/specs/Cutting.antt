@@ -10,7 +10,7 @@ use Rattle.grids.specs.Cut.{cut}
 use Rattle.pictures.specs.declared.sizes.Size.{Size}
 use Rattle.pictures.specs.Refusals.{Rule, _when_, served, worked}
 use Rattle.pictures.specs.Pictures.{channelsOf, pictureBytes, sizeRules, picture, bytes, pixels, pictureIn, marksOf}
-use Rattle.seam_moves.specs.Moving.{outside}
+use Rattle.seam_rules.specs.Moves.{outside}
 use Rattle.seam_rules.specs.declared.answers.Found.{Found}
 use Rattle.seam_theory.specs.PictureSeams.{seamOf, costOf}
 use Rattle.seam_rules.specs.Answers.{foundNumber, foundCost}

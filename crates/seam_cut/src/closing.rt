@@ -14,7 +14,7 @@ pub(crate) fn close(picture: &mut [u8], size: Size, axis: Axis, seam: &[u16], wo
 {
     match axis {
         Axis::Vertical => {
-            seam_moves::close_up(picture, size, seam);
+            seam_close::close_up(picture, size, seam);
         }
         Axis::Horizontal => close_columns(picture, size, seam, work),
     }
@@ -30,8 +30,8 @@ fn close_columns(picture: &mut [u8], size: Size, seam: &[u16], work: &mut [u8])
     let left = turning::narrower(turned);
     let kept = pictures::picture_bytes(left);
     seam_moves::exchange(picture, size, work);
-    seam_moves::close_up(&mut work[..bytes], turned, seam);
+    seam_close::close_up(&mut work[..bytes], turned, seam);
     seam_moves::exchange(&work[..kept], left, picture);
-    seam_moves::clear(&mut picture[kept..]);
-    seam_moves::clear(work);
+    spaces::clear(&mut picture[kept..]);
+    spaces::clear(work);
 }

@@ -23,7 +23,7 @@ pub fn cut_in(space: &mut [u8], size: Size, seam: &mut [u16]) -> Found
     };
     let height = size.height;
     let bytes = pictures::picture_bytes(size);
-    seam_moves::close_up(&mut space[..bytes], size, &seam[..height]);
+    seam_close::close_up(&mut space[..bytes], size, &seam[..height]);
     found
 }
 

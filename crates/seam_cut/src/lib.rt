@@ -44,7 +44,7 @@ pub fn cut(picture: &mut [u8], size: Size, axis: Axis, seam: &mut [u16], work: &
     let turned = turning::turned_size(axis, size);
     let wide = turned.width;
     if wide == 1 {
-        seam_moves::clear(work);
+        spaces::clear(work);
         return Found::Refused(Refusal::Last);
     }
     cut_along(picture, size, axis, seam, work)
@@ -79,7 +79,7 @@ fn seam_along(picture: &[u8], size: Size, axis: Axis, seam: &mut [u16], work: &m
     let turned = turning::turned_size(axis, size);
     turning::turn(picture, size, axis, work);
     let found = seam_find::find_in(work, turned, seam);
-    seam_moves::clear(work);
+    spaces::clear(work);
     found
 }
 

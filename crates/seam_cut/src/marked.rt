@@ -12,7 +12,7 @@ ghost use mathlib.Core.List.{_++_};
 ghost use lib.ListN.{length, replicate};
 ghost use Rattle.pictures.specs.Refusals.{given, refusal};
 ghost use Rattle.pictures.specs.Pictures.{sizeRules};
-ghost use Rattle.seam_moves.specs.Moving.{outside};
+ghost use Rattle.seam_rules.specs.Moves.{outside};
 ghost use Rattle.seam_cut.specs.Cutting.{roomRules, markRules, markedFindRules, markedCutRules, MarkedSeamFound, MarkedPictureCut, MarkedMarksCut};
 ghost use Rattle.seam_cut.specs.Kernels.{blockedNumber, MarkedNeeded, CutNeeded, LastGiven};
 
@@ -119,7 +119,7 @@ fn marked_along(
     turning::turn(picture, size, axis, work);
     turning::turn(marks, marked, axis, &mut work[bytes..]);
     let found = seam_find_marked::find_marked_in(work, turned, seam);
-    seam_moves::clear(work);
+    spaces::clear(work);
     found
 }
 

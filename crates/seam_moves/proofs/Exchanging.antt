@@ -1,11 +1,14 @@
 -- Laws of rows and columns exchanged, in the terms of the loops over a picture's bytes.
-use mathlib.Core.Path.{_≡_, sym, ap, ap₂, _∙_}
-use mathlib.Core.List.{List, [], _++_, map}
+use mathlib.Core.Path.{_≡_, refl, sym, ap, ap₂, _∙_}
+use mathlib.Core.Bool.{cond}
+use mathlib.Core.List.{List, [], _∷_, _++_, map}
 use Prim.Native.Nat.{ℕ, suc, _+_, _-_, _*_, _≤_, _<_}
 use native.Mathlib.Nat.{add-assoc, add-zero, mul-one, mul-left-comm, add-sub-cancel-left}
 use native.Mathlib.Numerals.{add-one}
 use native.Mathlib.Omega.{arith}
+use borrow.Author.Tests.{leb-false, ltb-false}
 use borrow.Rule.Slice.PartMut.{midOf, putMid, mid-len}
+use lib.Dec.{leb, ltb}
 use lib.ListN.{length, getD, drop, set}
 use lib.Seq.{sets}
 use lib.Arith.{digits-lt}
@@ -13,16 +16,20 @@ use Rattle.grids.specs.Each.{Grid}
 use Rattle.grids.specs.Table.{table}
 use Rattle.grids.specs.Rows.{flat, rowAt}
 use Rattle.grids.specs.Exchange.{exchange}
-use Rattle.grids.proofs.Shapes.{grid-of}
-use Rattle.grids.proofs.Tables.{length-table, table-at, table-same, table-part, each-table}
+use Rattle.grids.proofs.Shapes.{grid-of, each-length, each-at}
+use Rattle.grids.proofs.Tables.{length-table, table-at, table-same, table-all, table-part, each-table}
 use Rattle.grids.proofs.Rows.{length-rowAt, length-flat, rowAt-getD, part-end}
 use Rattle.grids.proofs.Exchange.{exchange-each, exchange-grid, exchange-at, grid-same}
 use Rattle.pictures.specs.declared.sizes.Size.{Size}
-use Rattle.pictures.specs.Pictures.{channelsOf, pictureBytes, picture, bytes, OfSize}
+use Rattle.pictures.specs.Refusals.{_when_, refusal}
+use Rattle.pictures.specs.Pictures.{channelsOf, pictureBytes, sizeRules, picture, bytes, OfSize}
+use Rattle.pictures.proofs.Rules.{served-both, passed}
 use Rattle.pictures.proofs.Limits.{Sized, sized-is}
 use Rattle.pictures.proofs.Buffers.{picture-ofSize, pixel-at}
+use Rattle.seam_rules.specs.Moves.{exchangeRules, columnRules}
+use Rattle.seam_moves.specs.Moving.{columnBytes}
 use Rattle.seam_moves.specs.Kernels.{samples, ColumnNeeded, ExchangeNeeded}
-use Rattle.seam_moves.proofs.Parts.{map-table, Filled, filled-sets, filled-part}
+use Rattle.grids.proofs.Filled.{map-table, Filled, filled-sets, filled-part}
 
 -- The exchanged grid as the table of its rows.
 exchange-rows : {A : Type 0} {w n : ℕ} {p : List (List (List A))} → Grid w n p → exchange w p ≡ table (λ c. table (λ r. getD (getD p r []) c []) n) w
@@ -43,22 +50,59 @@ exchange-rows {A} {w} {n} {p} g = grid-same [] (exchange-grid g) columns at
 abbrev pub column : ℕ → ℕ → ℕ → List ℕ → ℕ → List ℕ
 column ch w n b c = flat (table (samples ch w b c) n)
 
--- The columns are the rows of the exchanged picture.
-pub exchanged-is : (z : Size) (b : List ℕ) → length b ≡ pictureBytes z
-    → bytes (exchange (z .width) (picture z b)) ≡ flat (table (column (channelsOf (z .kind)) (z .width) (z .height) b) (z .width))
-unfolding bytes
-exchanged-is z b e =
-    let p = picture z b in
-    let ch = channelsOf (z .kind) in
-    ap (λ q. flat (map flat q)) (exchange-rows (grid-of (picture-ofSize z b e)))
-    ∙ ap flat (map-table flat (λ c. table (λ r. getD (getD p r []) c []) (z .height)) (z .width)
-    ∙ table-same (λ c. flat (table (λ r. getD (getD p r []) c []) (z .height))) (column ch (z .width) (z .height) b) (z .width)
-    (λ c l. ap flat (table-same (λ r. getD (getD p r []) c []) (samples ch (z .width) b c) (z .height) (λ r h. pixel-at z b e r c h))))
-
 -- The exchanged picture is a picture of its size, width and height exchanged.
 pub exchanged-ofSize : (z : Size) (b : List ℕ) → length b ≡ pictureBytes z
     → OfSize (record { width = z .height; height = z .width; kind = z .kind }) (exchange (z .width) (picture z b))
 exchanged-ofSize z b e = exchange-each (picture-ofSize z b e)
+
+-- Its rows are the columns of the picture.
+pub exchanged-columns : (z : Size) (b : List ℕ) → length b ≡ pictureBytes z
+    → bytes (exchange (z .width) (picture z b)) ≡ flat (table (columnBytes z b) (z .width))
+unfolding bytes
+exchanged-columns z b e =
+    let q = exchange (z .width) (picture z b) in
+    ap (λ x. flat (map flat x)) (sym (table-all q []) ∙ ap (table (λ c. getD q c [])) (each-length (exchanged-ofSize z b e)))
+    ∙ ap flat (map-table flat (λ c. getD q c []) (z .width))
+
+pub length-columnBytes : (z : Size) (b : List ℕ) → length b ≡ pictureBytes z → (c : ℕ) → c < z .width
+    → length (columnBytes z b c) ≡ z .height * channelsOf (z .kind)
+length-columnBytes z b e c l = length-flat (each-at c [] l (exchanged-ofSize z b e))
+
+-- A column is put together from the samples of its pixels.
+pub column-is : (z : Size) (b : List ℕ) → length b ≡ pictureBytes z → (c : ℕ) → c < z .width
+    → columnBytes z b c ≡ column (channelsOf (z .kind)) (z .width) (z .height) b c
+column-is z b e c l =
+    let p = picture z b in
+    ap (λ q. flat (getD q c [])) (exchange-rows (grid-of (picture-ofSize z b e)))
+    ∙ ap flat (table-at (λ c. table (λ r. getD (getD p r []) c []) (z .height)) (z .width) c [] l
+    ∙ table-same (λ r. getD (getD p r []) c []) (samples (channelsOf (z .kind)) (z .width) b c) (z .height) (λ r h. pixel-at z b e r c h))
+
+exchanged-is : (z : Size) (b : List ℕ) → length b ≡ pictureBytes z
+    → bytes (exchange (z .width) (picture z b)) ≡ flat (table (column (channelsOf (z .kind)) (z .width) (z .height) b) (z .width))
+exchanged-is z b e =
+    exchanged-columns z b e
+    ∙ ap flat (table-same (columnBytes z b) (column (channelsOf (z .kind)) (z .width) (z .height) b) (z .width) (column-is z b e))
+
+-- What an exchange and a copy of a column need, where no rule applies.
+pub exchange-needed : (b : List ℕ) (z : Size) (to : List ℕ) → refusal (exchangeRules z (length b) (length to)) ≡ 0 → ExchangeNeeded b z to
+exchange-needed b z to e =
+    let short = ltb (length to) (pictureBytes z) in
+    let both = served-both (sizeRules z (length b)) (8 when short ∷ []) refl e in
+    record { sized = both .0; room = ltb-false (length to) (pictureBytes z) (passed short 7 0 (both .1) .0) }
+
+pub copy-needed : (b : List ℕ) (z : Size) (c : ℕ) (out : List ℕ) → refusal (columnRules z (length b) c (length out)) ≡ 0
+    → ColumnNeeded (channelsOf (z .kind)) b (z .width) (z .height) c out
+copy-needed b z c out e =
+    let short = ltb (length out) (z .height * channelsOf (z .kind)) in
+    let both = served-both (sizeRules z (length b)) (8 when short ∷ 10 when leb (z .width) c ∷ []) refl e in
+    let room = passed short 7 (cond (leb (z .width) c) 10 0) (both .1) in
+    let sized = sized-is z (length b) (both .0) in
+    record {
+      narrow = sized .width-most;
+      inside = leb-false (z .width) c (passed (leb (z .width) c) 9 0 (room .1) .0);
+      length-is = sized .length-is;
+      room = ltb-false (length out) (z .height * channelsOf (z .kind)) (room .0);
+    }
 
 -- The samples of a pixel, one after the other.
 module _ (ch : ℕ) (b : List ℕ) (w n c : ℕ) (e : length b ≡ n * (w * ch)) (l : c < w) (r : ℕ) (h : r < n) where

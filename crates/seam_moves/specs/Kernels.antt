@@ -1,30 +1,12 @@
 -- What the private functions of this crate ask and promise, in terms of rows of bytes. No public promise cites it.
 use mathlib.Core.Path.{_≡_}
-use mathlib.Core.Bool.{false}
-use mathlib.Core.List.{List, _++_}
-use Prim.Native.Nat.{ℕ, _+_, _*_, _≤_, _<_}
-use lib.ListN.{length, take, drop}
+use mathlib.Core.List.{List}
+use Prim.Native.Nat.{ℕ, _*_, _≤_, _<_}
+use lib.ListN.{length}
 use Rattle.grids.specs.Rows.{rowAt}
 use Rattle.pictures.specs.declared.sizes.Size.{Size}
 use Rattle.pictures.specs.Refusals.{refusal}
-use Rattle.pictures.specs.Pictures.{largestSide, pictureBytes, sideRules, sizeRules}
-use Rattle.seam_moves.specs.Moving.{outside}
-use Rattle.seam_moves.specs.Between.{PlacesApart}
-
--- A line of bytes without the n bytes from `gap` on.
-abbrev pub without : ℕ → ℕ → List ℕ → List ℕ
-without gap n line = take gap line ++ drop (gap + n) line
-
--- A line with n bytes at `gap`, and room for the rest of it.
-pub record RowNeeded (line : List ℕ) (gap n : ℕ) (out : List ℕ) : Type 0 where
-  pub inside : gap + n ≤ length line
-  pub room : length line ≤ length out + n
-
--- A picture of its size, and a seam with one column inside it for each row.
-pub record CloseNeeded (b : List ℕ) (z : Size) (s : List ℕ) : Type 0 where
-  pub sized : refusal (sizeRules z (length b)) ≡ 0
-  pub columns : length s ≡ z .height
-  pub inside : outside (z .width) s ≡ false
+use Rattle.pictures.specs.Pictures.{largestSide, pictureBytes, sizeRules}
 
 -- The samples of the pixel in column c and row r, from the bytes of a picture of w columns of ch samples.
 abbrev pub samples : ℕ → ℕ → List ℕ → ℕ → ℕ → List ℕ
@@ -41,9 +23,3 @@ pub record ColumnNeeded (ch : ℕ) (b : List ℕ) (width height c : ℕ) (out : 
 pub record ExchangeNeeded (b : List ℕ) (z : Size) (to : List ℕ) : Type 0 where
   pub sized : refusal (sizeRules z (length b)) ≡ 0
   pub room : pictureBytes z ≤ length to
-
--- A size that is allowed, its bytes, and two such places of them.
-pub record PictureNeeded (space from : ℕ) (z : Size) (all to : ℕ) : Type 0 where
-  pub sides : refusal (sideRules z) ≡ 0
-  pub all-is : all ≡ pictureBytes z
-  pub places : PlacesApart space from to (pictureBytes z)

@@ -13,7 +13,7 @@ use Rattle.pictures.specs.declared.refusals.Refusal.{Refusal}
 use Rattle.pictures.specs.Refusals.{_when_, numberOf, refusal, served}
 use Rattle.pictures.specs.Pictures.{largestSide, channelsOf, sizeRules, bytes, pixels}
 use Rattle.pictures.proofs.Rules.{served-both, passed}
-use Rattle.seam_moves.specs.Moving.{outside}
+use Rattle.seam_rules.specs.Moves.{outside}
 use Rattle.seam_rules.specs.declared.answers.Axis.the-variants.{Vertical}
 use Rattle.seam_cut.specs.Cutting.{roomRules, markRules}
 use Rattle.seam_cut.proofs.Buffers.{left-as-was}

@@ -16,9 +16,8 @@ use Rattle.pictures.specs.declared.sizes.Size.{Size}
 use Rattle.pictures.specs.Pictures.{channelsOf}
 use Rattle.pictures.proofs.Limits.{sized-is}
 use Rattle.pictures.proofs.Buffers.{picture-ofSize}
-use Rattle.seam_moves.specs.Moving.{outside}
-use Rattle.seam_moves.proofs.Closing.{inside-each}
-use Rattle.seam_moves.proofs.Served.{each-inside}
+use Rattle.seam_rules.specs.Moves.{outside}
+use Rattle.seam_rules.proofs.Moving.{inside-each, each-inside}
 use Rattle.seam_rules.specs.declared.answers.Axis.the-variants.{Vertical}
 use Rattle.seam_cut.specs.Axes.{turned, markedSeamAlong, blockedAlong}
 use Rattle.seam_cut.proofs.Inside.{marked-inside}

@@ -36,7 +36,7 @@ pub fn remove(
         return Removal::Refused(why);
     }
     let ended = cut_seams(picture, marks, size, budget, work);
-    seam_moves::clear(work);
+    spaces::clear(work);
     ended
 }
 

@@ -13,7 +13,8 @@ use Rattle.pictures.specs.declared.sizes.Size.{Size}
 use Rattle.pictures.specs.Refusals.{refusal}
 use Rattle.pictures.specs.Pictures.{channelsOf, pictureBytes, sideRules, picture, pixels}
 use Rattle.pictures.proofs.Limits.{sides-are, channels-some}
-use Rattle.seam_moves.specs.Between.{partAt, PlacesApart}
+use Rattle.seam_places.specs.Between.{partAt}
+use Rattle.seam_rules.specs.Moves.{PlacesApart}
 use Rattle.seam_rules.specs.declared.answers.Axis.the-variants.{Vertical, Horizontal}
 use Rattle.seam_cut.proofs.Turns.{sides-of}
 use Rattle.seam_retarget.specs.Cells.{smaller}

@@ -10,7 +10,8 @@ use Rattle.grids.specs.Cut.{cut}
 use Rattle.pictures.specs.declared.sizes.Size.{Size}
 use Rattle.pictures.specs.Refusals.{refusal}
 use Rattle.pictures.specs.Pictures.{Picture, sideRules, sizeRules, pictureBytes, picture, bytes, pixels}
-use Rattle.seam_moves.specs.Between.{partAt, PlacesApart}
+use Rattle.seam_places.specs.Between.{partAt}
+use Rattle.seam_rules.specs.Moves.{PlacesApart}
 use Rattle.seam_rules.specs.declared.answers.Axis.{Axis}
 use Rattle.seam_rules.specs.declared.answers.Axis.the-variants.{Vertical, Horizontal}
 use Rattle.seam_cut.specs.Axes.{turnedSize, turned, narrowed, seamAlong, costAlong, cutAlong}

@@ -88,6 +88,6 @@ fn last_cell(
     let count = pictures::picture_bytes(cells::smaller(size, rows, columns));
     let at = last * whole;
     bytes::copy(&work[at..at + count], out);
-    seam_moves::clear(work);
+    spaces::clear(work);
     totals[last]
 }

@@ -6,7 +6,7 @@ use seam_rules::Found;
 ghost use mathlib.Core.Path.{_≡_};
 ghost use lib.ListN.{length};
 ghost use Rattle.pictures.specs.Pictures.{pictureBytes, bytes};
-ghost use Rattle.seam_moves.specs.Between.{putAt};
+ghost use Rattle.seam_places.specs.Between.{putAt};
 ghost use Rattle.seam_cut.specs.Axes.{turned, narrowed};
 ghost use Rattle.seam_retarget.specs.Kernels.{pictureAt, TurnNeeded, SeamNeeded, SeamGiven, CutNeeded, CutGiven, StepNeeded, StepGiven};
 ghost use Prim.Native.Nat.{_<_};
@@ -19,10 +19,10 @@ fn turn(work: &mut [u8], from: usize, size: Size, axis: Axis, to: usize)
     match axis {
         Axis::Vertical => {
             let all = pictures::picture_bytes(size);
-            seam_moves::copy_between(work, from, all, to);
+            seam_places::copy_between(work, from, all, to);
         }
         Axis::Horizontal => {
-            seam_moves::exchange_between(work, from, size, to);
+            seam_places::exchange_between(work, from, size, to);
         }
     }
 }
@@ -74,7 +74,7 @@ pub(crate) fn cut_at(work: &mut [u8], at: usize, size: Size, axis: Axis, seam: &
     let all = pictures::picture_bytes(over);
     let long = over.height;
     let end = at + all;
-    seam_moves::close_up(&mut work[at..end], over, &seam[..long]);
+    seam_close::close_up(&mut work[at..end], over, &seam[..long]);
     turn(work, at, narrower(over), axis, to);
 }
 

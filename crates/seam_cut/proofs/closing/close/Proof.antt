@@ -1,7 +1,7 @@
 -- `seam_cut::closing::close` meets its contract.
 use borrow.Author.Needs.{needs}
 use denote.Ref.{now}
-use Rattle.seam_moves.proofs.Served.{close-served}
+use Rattle.seam_close.proofs.Served.{close-served}
 use Rattle.seam_rules.specs.declared.answers.Axis.the-variants.{Vertical}
 use Rattle.seam_cut.specs.Axes.{turned, cutAlong}
 use Rattle.seam_cut.specs.Kernels.{CloseNeeded}

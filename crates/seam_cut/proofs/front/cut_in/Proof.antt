@@ -22,8 +22,8 @@ use Rattle.seam_theory.specs.PictureSeams.{seamOf, costOf}
 use Rattle.seam_rules.specs.Answers.{foundNumber, foundCost}
 use Rattle.seam_find.specs.Finding.{findRules}
 use Rattle.seam_find.proofs.Worked.{worked-not}
-use Rattle.seam_moves.specs.Moving.{CloseGiven}
-use Rattle.seam_moves.proofs.Served.{close-served}
+use Rattle.seam_close.specs.Closing.{CloseGiven}
+use Rattle.seam_close.proofs.Served.{close-served}
 use Rattle.seam_cut.proofs.FindIn.{FoundThere, find-served}
 use Rattle.seam_cut.proofs.Inside.{seam-inside}
 use Rattle.seam_cut.proofs.Fronts.{InRoom, in-room, last-some}

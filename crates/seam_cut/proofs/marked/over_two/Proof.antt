@@ -9,8 +9,8 @@ use borrow.Author.Needs.{needs}
 use denote.Ref.{now}
 use lib.ListN.{length, drop}
 use lib.Seq.{drop-length}
-use Rattle.seam_moves.specs.Moving.{outside}
-use Rattle.seam_moves.proofs.Closing.{outside-here, outside-next}
+use Rattle.seam_rules.specs.Moves.{outside}
+use Rattle.seam_rules.proofs.Moving.{outside-here, outside-next}
 use Rattle.seam_cut.proofs.marked.over_two.Statement.{statement}
 use Rattle.seam_cut.proofs.marked.over_two.Tie as tie
 

@@ -1,5 +1,5 @@
 -- `seam_moves::columns::exchange_columns` meets its contract. The loop's invariant: c columns stand at the front of the space as
--- rows, and behind them stands what stood there.
+-- rows, and after them stands what stood there.
 use mathlib.Core.Path.{_≡_, refl, ap, _∙_}
 use Prim.Native.Nat.{_+_, _-_, _*_, _≤_}
 use native.Mathlib.Nat.{mul-le-mul}
@@ -10,7 +10,7 @@ use denote.Ref.{now}
 use lib.ListN.{length}
 use Rattle.pictures.specs.Pictures.{channelsOf}
 use Rattle.pictures.proofs.Limits.{sized-is, channels-most}
-use Rattle.seam_moves.proofs.Parts.{Filled, filled-start}
+use Rattle.grids.proofs.Filled.{Filled, filled-start}
 use Rattle.seam_moves.proofs.Exchanging.{column, ColumnSure, column-sure, column-needed, columns-turn, columns-end}
 use Rattle.seam_moves.proofs.columns.exchange_columns.Statement.{statement}
 use Rattle.seam_moves.proofs.columns.exchange_columns.Tie as tie

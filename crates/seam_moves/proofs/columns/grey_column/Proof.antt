@@ -7,7 +7,7 @@ use borrow.Author.Needs.{needs}
 use denote.Ref.{now}
 use lib.ListN.{length, length-set}
 use Rattle.seam_moves.specs.Kernels.{samples}
-use Rattle.seam_moves.proofs.Parts.{Filled, filled-start}
+use Rattle.grids.proofs.Filled.{Filled, filled-start}
 use Rattle.seam_moves.proofs.Exchanging.{samples-end, grey-turn}
 use Rattle.seam_moves.proofs.columns.grey_column.Statement.{statement}
 use Rattle.seam_moves.proofs.columns.grey_column.Tie as tie

@@ -8,7 +8,7 @@ use lib.ListN.{length, take}
 use lib.Seq.{length-take-le}
 use Rattle.pictures.specs.Refusals.{served}
 use Rattle.pictures.specs.Pictures.{pictureBytes}
-use Rattle.seam_moves.specs.Moving.{CloseGiven}
+use Rattle.seam_close.specs.Closing.{CloseGiven}
 use Rattle.seam_cut.specs.Axes.{turnedSize, narrowed}
 use Rattle.seam_cut.proofs.Turns.{turned-sides}
 use Rattle.seam_retarget.proofs.Steps.{sized-at}
