@@ -1,4 +1,4 @@
--- `seam_retarget::rooms` meets its contract: each return is the first rule that applies.
+-- `seam_rules::counts::judge_retarget` meets its contract: each return is the first rule that applies.
 use mathlib.Core.Path.{_≡_, refl, sym, ap, _∙_}
 use mathlib.Core.List.{List, [], _∷_}
 use Prim.Native.Nat.{_≤_}
@@ -11,10 +11,10 @@ use Rattle.pictures.specs.Refusals.{Rule, _when_, given, refusal, served}
 use Rattle.pictures.specs.Pictures.{pictureBytes, sizeRules, pixels}
 use Rattle.pictures.proofs.Rules.{served-first, refused-answer}
 use Rattle.pictures.proofs.Limits.{Sized, sized-is, sides-served}
-use Rattle.seam_retarget.specs.Retargeting.{leftSize, workBytes, retargetRules}
-use Rattle.seam_retarget.proofs.Slots.{smaller-sides}
-use Rattle.seam_retarget.proofs.rooms.Statement.{statement}
-use Rattle.seam_retarget.proofs.rooms.Tie as tie
+use Rattle.seam_rules.specs.Counts.{leftSize, workBytes, retargetRules}
+use Rattle.seam_rules.proofs.Left.{smaller-sides}
+use Rattle.seam_rules.proofs.counts.judge_retarget.Statement.{statement}
+use Rattle.seam_rules.proofs.counts.judge_retarget.Tie as tie
 
 -- where the picture is served, the counts and the rooms decide
 more : tie.Start → List Rule
@@ -103,7 +103,7 @@ returns-5 c =
     sym (rest at-enum-told ∙ simp (le-ltb _ _ (at-if1 .if1 .left), le-ltb _ _ (at-if2 .if2 .left), lt-leb _ _ (at-if3 .if3 .left), le-leb _ _ (c .if4 .taken)))
 
 smaller-requires : tie.Need-smaller-requires
-smaller-requires c κs = (omega (arith, c .before .before .if3 .left), omega (arith, c .if4 .left))
+smaller-requires c κs = search needs
 
 picture-bytes-requires : tie.Need-picture-bytes-requires
 picture-bytes-requires c κs = search needs
@@ -165,8 +165,8 @@ returns-8 c =
     let wide = rw (sure at-enum-told .length-is) at (c .if6 .left) in
     sym (rest at-enum-told ∙ simp (le-ltb _ _ (at-if1 .if1 .left), le-ltb _ _ (at-if2 .if2 .left), lt-leb _ _ (at-if3 .if3 .left), lt-leb _ _ (at-if4 .if4 .left), le-ltb _ _ long, le-ltb _ _ wide))
 
-pub rooms-spec : {M : Type 1} → statement M
-rooms-spec =
+pub judge-retarget-spec : {M : Type 1} → statement M
+judge-retarget-spec =
     tie.close
     (tie.spec
     sized-requires

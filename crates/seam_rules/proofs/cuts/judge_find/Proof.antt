@@ -1,4 +1,4 @@
--- `seam_cut::rooms` meets its contract: each return is the first rule that applies.
+-- `seam_rules::cuts::judge_find` meets its contract: each return is the first rule that applies.
 use mathlib.Core.Path.{_≡_, refl, sym, ap, _∙_}
 use mathlib.Core.List.{List, [], _∷_}
 use Prim.Native.Nat.{_*_, _≤_}
@@ -11,10 +11,10 @@ use Rattle.pictures.specs.Refusals.{Rule, _when_, given, refusal}
 use Rattle.pictures.specs.Pictures.{sizeRules, pixels}
 use Rattle.pictures.proofs.Rules.{served-first, refused-answer}
 use Rattle.pictures.proofs.Limits.{sized-is}
-use Rattle.seam_cut.specs.Axes.{turnedSize}
-use Rattle.seam_cut.specs.Cutting.{findRules}
-use Rattle.seam_cut.proofs.rooms.Statement.{statement}
-use Rattle.seam_cut.proofs.rooms.Tie as tie
+use Rattle.seam_rules.specs.Axes.{turnedSize}
+use Rattle.seam_rules.specs.Cuts.{findRules}
+use Rattle.seam_rules.proofs.cuts.judge_find.Statement.{statement}
+use Rattle.seam_rules.proofs.cuts.judge_find.Tie as tie
 
 more : tie.Start → List Rule
 more c = 8 when ltb (c .args .seam) (turnedSize (c .args .axis) (c .args .size) .height) ∷ 8 when ltb (c .args .work) (32 * pixels (c .args .size)) ∷ []
@@ -88,8 +88,8 @@ returns-4 c =
     let long = rw (at-turned-size .turned-size .ensures) at (c .before .if1 .left) in
     sym (rest at-enum-told ∙ simp (le-ltb _ _ long, le-ltb _ _ (c .if2 .left)))
 
-pub rooms-spec : {M : Type 1} → statement M
-rooms-spec =
+pub judge-find-spec : {M : Type 1} → statement M
+judge-find-spec =
     tie.close
     (tie.spec
     sized-requires

@@ -1,7 +1,7 @@
--- `seam_cut::turning::turned_size` meets its contract.
+-- `seam_rules::axes::turned_size` meets its contract.
 use borrow.Author.Needs.{needs}
-use Rattle.seam_cut.proofs.turning.turned_size.Statement.{statement}
-use Rattle.seam_cut.proofs.turning.turned_size.Tie as tie
+use Rattle.seam_rules.proofs.axes.turned_size.Statement.{statement}
+use Rattle.seam_rules.proofs.axes.turned_size.Tie as tie
 
 enum-told : tie.Need-enum-told
 enum-told c = search needs
