@@ -7,7 +7,8 @@ use crate::refused;
 use crate::size_named;
 use seam_rules::Found;
 ghost use mathlib.Core.Path.{_≡_};
-ghost use Rattle.seam_cut.specs.Cutting.{findRules, cutRules, markedFindRules, markedCutRules};
+ghost use Rattle.seam_rules.specs.Cuts.{findRules, cutRules};
+ghost use Rattle.seam_cut_marked.specs.Marking.{markedFindRules, markedCutRules};
 ghost use Rattle.exports.specs.Hosts.{sizingOf, turningOf};
 ghost use Rattle.exports.specs.Seams.{replyOf, HostFound, HostPictureCut, HostMarkedFound, HostMarkedPictureCut, HostMarkedMarksCut};
 

@@ -17,7 +17,8 @@ pub use turning::turned_size;
 ghost use mathlib.Core.Path.{_≡_};
 ghost use lib.ListN.{length};
 ghost use Rattle.pictures.specs.Refusals.{given, refusal};
-ghost use Rattle.seam_cut.specs.Cutting.{findRules, cutRules, SeamFound, PictureCut};
+ghost use Rattle.seam_rules.specs.Cuts.{findRules, cutRules};
+ghost use Rattle.seam_cut.specs.Cutting.{SeamFound, PictureCut};
 ghost use Rattle.seam_cut.specs.Kernels.{SeamNeeded, CutNeeded};
 
 // The seam along the axis, put into the front of seam, and its cost. Refused by 2, 3, 4 and 8.

@@ -15,8 +15,8 @@ use Rattle.pictures.specs.Pictures.{channelsOf, pictureBytes, sideRules, pictur
 use Rattle.pictures.proofs.Limits.{sides-are, channels-some}
 use Rattle.seam_moves.specs.Between.{partAt, PlacesApart}
 use Rattle.seam_rules.specs.declared.answers.Axis.the-variants.{Vertical, Horizontal}
-use Rattle.seam_cut.proofs.Turns.{sides-of}
-use Rattle.seam_retarget.specs.Cells.{smaller}
+use Rattle.seam_rules.proofs.Turns.{sides-of}
+use Rattle.seam_rules.specs.Counts.{smaller}
 use Rattle.seam_retarget.specs.Kernels.{Apart, pictureAt, leftAlong, SpaceNeeded}
 
 -- A smaller size takes no more bytes, and a picture at least a byte a pixel.

@@ -6,7 +6,8 @@ use Rattle.pictures.specs.declared.sizes.Size.{Size}
 use Rattle.pictures.specs.Pictures.{Picture}
 use Rattle.seam_rules.specs.declared.answers.Axis.{Axis}
 use Rattle.seam_rules.specs.declared.answers.Axis.the-variants.{Vertical, Horizontal}
-use Rattle.seam_cut.specs.Axes.{seamAlong, costAlong, cutAlong}
+use Rattle.seam_cut.specs.Axes.{seamAlong, costAlong}
+use Rattle.seam_turn.specs.Axes.{cutAlong}
 
 -- "The answer is the cell's picture and total."
 pub record Cell : Type 0 where

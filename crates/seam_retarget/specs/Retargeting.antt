@@ -11,7 +11,8 @@ use Rattle.seam_rules.specs.declared.answers.Rows.{Rows}
 use Rattle.seam_rules.specs.declared.answers.Columns.{Columns}
 use Rattle.seam_rules.specs.declared.answers.Retargeted.{Retargeted}
 use Rattle.seam_rules.specs.Answers.{retargetedNumber, retargetedTotal}
-use Rattle.seam_retarget.specs.Cells.{Cell, smaller, cell}
+use Rattle.seam_retarget.specs.Cells.{Cell, cell}
+use Rattle.seam_rules.specs.Counts.{smaller}
 
 -- "To remove r rows and c columns, each 0 to 64."
 abbrev pub largestCount : ℕ

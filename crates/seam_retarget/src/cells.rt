@@ -8,7 +8,7 @@ use seam_rules::Rows;
 ghost use mathlib.Core.Path.{_≡_};
 ghost use Prim.Native.Nat.{_≤_};
 ghost use lib.ListN.{length};
-ghost use Rattle.seam_retarget.specs.Cells.{smaller as Cells·smaller};
+ghost use Rattle.seam_rules.specs.Counts.{smaller as Cells·smaller};
 ghost use Rattle.seam_retarget.specs.Kernels.{CellNeeded, CellGiven};
 
 // Where the places for work stand, counted in pictures: behind the 65 slots, each of two pictures.

@@ -11,7 +11,8 @@ use seam_rules::Retargeted;
 use seam_rules::Rows;
 ghost use mathlib.Core.Path.{_≡_};
 ghost use Rattle.pictures.specs.Refusals.{given, refusal};
-ghost use Rattle.seam_retarget.specs.Retargeting.{retargetRules, RetargetGiven};
+ghost use Rattle.seam_rules.specs.Counts.{retargetRules};
+ghost use Rattle.seam_retarget.specs.Retargeting.{RetargetGiven};
 ghost use Rattle.seam_retarget.specs.Kernels.{RetargetNeeded, LastGiven};
 
 // The largest count of rows, and of columns, that are removed.

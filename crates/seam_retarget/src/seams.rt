@@ -7,7 +7,8 @@ ghost use mathlib.Core.Path.{_≡_};
 ghost use lib.ListN.{length};
 ghost use Rattle.pictures.specs.Pictures.{pictureBytes, bytes};
 ghost use Rattle.seam_moves.specs.Between.{putAt};
-ghost use Rattle.seam_cut.specs.Axes.{turned, narrowed};
+ghost use Rattle.seam_turn.specs.Axes.{turned};
+ghost use Rattle.seam_rules.specs.Axes.{narrowed};
 ghost use Rattle.seam_retarget.specs.Kernels.{pictureAt, TurnNeeded, SeamNeeded, SeamGiven, CutNeeded, CutGiven, StepNeeded, StepGiven};
 ghost use Prim.Native.Nat.{_<_};
 

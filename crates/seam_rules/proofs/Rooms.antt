@@ -1,19 +1,20 @@
 -- What the rules say of sizes and lengths that they don't refuse.
 use mathlib.Core.Path.{_≡_, refl, sym, _∙_}
 use mathlib.Core.Bool.{Bool, true, false, not, cond}
-use mathlib.Core.List.{[], _∷_, _++_}
+use mathlib.Core.List.{List, [], _∷_}
 use Prim.Native.Nat.{ℕ, _*_, _≤_, _<_}
 use native.Mathlib.Omega.{arith}
 use lib.Dec.{eqb, leb, ltb}
-use borrow.Author.Tests.{eq-eqb, eqb-true, le-ltb, ltb-false, leb-true, leb-false, not-false}
+use borrow.Author.Tests.{ne-eqb, eq-eqb, eqb-true, le-ltb, ltb-false, leb-true, leb-false, not-false}
 use Rattle.pictures.specs.declared.sizes.Size.{Size}
-use Rattle.pictures.specs.Refusals.{_when_, refusal}
+use Rattle.pictures.specs.declared.refusals.Refusal.{Refusal}
+use Rattle.pictures.specs.Refusals.{_when_, numberOf, refusal, served}
 use Rattle.pictures.specs.Pictures.{pictureBytes, sizeRules, pixels}
-use Rattle.pictures.proofs.Rules.{served-first, served-both, passed}
+use Rattle.pictures.proofs.Rules.{served-first, served-both, passed, number-some, served-not}
 use Rattle.seam_rules.specs.declared.answers.Axis.{Axis}
 use Rattle.seam_rules.specs.declared.answers.Axis.the-variants.{Vertical, Horizontal}
 use Rattle.seam_rules.specs.Axes.{turnedSize}
-use Rattle.seam_rules.specs.Cuts.{findRules, closeLengthRules, markAllowed}
+use Rattle.seam_rules.specs.Cuts.{cleared, findRules, closeLengthRules, markAllowed}
 use Rattle.seam_rules.specs.Counts.{chosenAxis}
 
 -- Finding: a picture of its size, and room for the seam and for the work.
@@ -77,3 +78,14 @@ horizontal-taken v h = go (leb v h)
     go : (t : Bool) → cond t Vertical Horizontal ≡ Horizontal → t ≡ false
     go true e = cc
     go false e = refl
+
+-- What is given by 1 to 8 leaves a buffer, and the work space, as it was.
+module _ (why : Refusal) (n : ℕ) (e : numberOf why ≡ n) where
+  some : 0 < n
+  some = rw e at (number-some why)
+
+  pub left-as-was : {A : Type 0} (x y : A) → y ≡ served n x y
+  left-as-was x y = sym (served-not n x y some)
+
+  pub work-as-was : n ≤ 8 → (work : List ℕ) → work ≡ cleared n work
+  work-as-was h work = let z : n ≡ 0 → ⊥ = λ q. omega (arith, some) in simp (ne-eqb _ _ z, le-ltb _ _ h)

@@ -3,11 +3,16 @@ use mathlib.Core.Bool.{Bool, not}
 use mathlib.Core.List.{List, [], _∷_, _++_}
 use Prim.Native.Nat.{ℕ, _*_}
 use lib.Dec.{eqb, leb, ltb}
+use lib.ListN.{length, replicate}
 use Rattle.pictures.specs.declared.sizes.Size.{Size}
-use Rattle.pictures.specs.Refusals.{Rule, _when_}
+use Rattle.pictures.specs.Refusals.{Rule, _when_, worked}
 use Rattle.pictures.specs.Pictures.{pictureBytes, sizeRules, pixels}
 use Rattle.seam_rules.specs.declared.answers.Axis.{Axis}
 use Rattle.seam_rules.specs.Axes.{turnedSize}
+
+-- "After 1 to 8 all buffers are unchanged. After 9 and every higher number .. work space is zero, as after success."
+abbrev pub cleared : ℕ → List ℕ → List ℕ
+cleared n work = worked n (replicate (length work) 0) work
 
 -- What 8 says of spaces of these lengths for a seam along the axis and for the work: as long as the seam, and 32 bytes a
 -- pixel.

@@ -13,11 +13,14 @@ use Rattle.pictures.specs.Refusals.{Rule, _when_, given, refusal}
 use Rattle.pictures.specs.Pictures.{channelsOf, picture, bytes}
 use Rattle.pictures.proofs.Rules.{served-first, refused-answer, refusal-most}
 use Rattle.pictures.proofs.Limits.{sized-is}
-use Rattle.seam_cut.specs.Axes.{turnedSize, seamAlong, costAlong, cutAlong}
-use Rattle.seam_cut.specs.Cutting.{cleared, findRules, cutRules}
+use Rattle.seam_rules.specs.Axes.{turnedSize}
+use Rattle.seam_cut.specs.Axes.{seamAlong, costAlong}
+use Rattle.seam_turn.specs.Axes.{cutAlong}
+use Rattle.seam_rules.specs.Cuts.{cleared, findRules, cutRules}
 use Rattle.seam_cut.specs.Kernels.{SeamNeeded}
-use Rattle.seam_cut.proofs.Buffers.{rooms-are, left-as-was, work-as-was}
-use Rattle.seam_cut.proofs.Turns.{turned-some}
+use Rattle.seam_cut.proofs.Buffers.{rooms-are}
+use Rattle.seam_rules.proofs.Rooms.{left-as-was, work-as-was}
+use Rattle.seam_rules.proofs.Turns.{turned-some}
 use Rattle.seam_cut.proofs.cut.Statement.{statement}
 use Rattle.seam_cut.proofs.cut.Tie as tie
 

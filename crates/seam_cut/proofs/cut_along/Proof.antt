@@ -11,8 +11,10 @@ use Rattle.grids.specs.Each.{Each}
 use Rattle.grids.proofs.Shapes.{each-length}
 use Rattle.pictures.specs.Pictures.{channelsOf, picture, bytes}
 use Rattle.pictures.proofs.Limits.{Sized, sized-is}
-use Rattle.seam_cut.specs.Axes.{turnedSize, seamAlong, cutAlong}
-use Rattle.seam_cut.proofs.Turns.{bytes-few}
+use Rattle.seam_rules.specs.Axes.{turnedSize}
+use Rattle.seam_cut.specs.Axes.{seamAlong}
+use Rattle.seam_turn.specs.Axes.{cutAlong}
+use Rattle.seam_rules.proofs.Turns.{bytes-few}
 use Rattle.seam_cut.proofs.Inside.{along-inside}
 use Rattle.seam_cut.proofs.cut_along.Statement.{statement}
 use Rattle.seam_cut.proofs.cut_along.Tie as tie

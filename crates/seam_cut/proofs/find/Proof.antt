@@ -7,9 +7,11 @@ use lib.ListN.{length, drop}
 use Rattle.pictures.specs.Refusals.{given, refusal}
 use Rattle.pictures.specs.Pictures.{picture}
 use Rattle.pictures.proofs.Rules.{refusal-most}
-use Rattle.seam_cut.specs.Axes.{turnedSize, seamAlong, costAlong}
-use Rattle.seam_cut.specs.Cutting.{findRules}
-use Rattle.seam_cut.proofs.Buffers.{rooms-are, left-as-was, work-as-was}
+use Rattle.seam_rules.specs.Axes.{turnedSize}
+use Rattle.seam_cut.specs.Axes.{seamAlong, costAlong}
+use Rattle.seam_rules.specs.Cuts.{findRules}
+use Rattle.seam_cut.proofs.Buffers.{rooms-are}
+use Rattle.seam_rules.proofs.Rooms.{left-as-was, work-as-was}
 use Rattle.seam_cut.proofs.find.Statement.{statement}
 use Rattle.seam_cut.proofs.find.Tie as tie
 

@@ -8,8 +8,11 @@ use lib.ListN.{length, take, drop, replicate}
 use Rattle.pictures.specs.Pictures.{pictureBytes, picture}
 use Rattle.pictures.proofs.Limits.{Sized, sized-is}
 use Rattle.seam_theory.specs.PictureSeams.{seamOf, costOf}
-use Rattle.seam_cut.specs.Axes.{turnedSize, turned, seamAlong, costAlong}
-use Rattle.seam_cut.proofs.Turns.{turned-bytes, turned-pixels, turned-sides, turned-picture, bytes-few}
+use Rattle.seam_rules.specs.Axes.{turnedSize}
+use Rattle.seam_turn.specs.Axes.{turned}
+use Rattle.seam_cut.specs.Axes.{seamAlong, costAlong}
+use Rattle.seam_rules.proofs.Turns.{turned-bytes, turned-pixels, turned-sides, bytes-few}
+use Rattle.seam_turn.proofs.Turned.{turned-picture}
 use Rattle.seam_cut.proofs.FindIn.{FoundThere, find-served}
 use Rattle.seam_cut.proofs.seam_along.Statement.{statement}
 use Rattle.seam_cut.proofs.seam_along.Tie as tie

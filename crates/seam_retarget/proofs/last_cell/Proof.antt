@@ -9,8 +9,8 @@ use lib.ListN.{length, replicate}
 use Rattle.pictures.specs.Refusals.{served}
 use Rattle.pictures.specs.Pictures.{pictureBytes}
 use Rattle.pictures.proofs.Limits.{sides-served}
-use Rattle.seam_retarget.specs.Retargeting.{leftSize}
-use Rattle.seam_retarget.proofs.Slots.{smaller-sides}
+use Rattle.seam_rules.specs.Counts.{leftSize}
+use Rattle.seam_rules.proofs.Left.{smaller-sides}
 use Rattle.seam_retarget.proofs.Answers.{no-totals, LastSure, last-sure, first-needed, below-needed, three-long, part-long, served as answer}
 use Rattle.seam_retarget.proofs.last_cell.Statement.{statement}
 use Rattle.seam_retarget.proofs.last_cell.Tie as tie

@@ -7,7 +7,8 @@ use lib.ListN.{length, drop, replicate}
 use Rattle.pictures.specs.Refusals.{given, refusal}
 use Rattle.pictures.specs.Pictures.{pictureBytes, bytes}
 use Rattle.pictures.proofs.Rules.{kept-by}
-use Rattle.seam_retarget.specs.Retargeting.{leftSize, cellOf, retargetRules}
+use Rattle.seam_rules.specs.Counts.{leftSize, retargetRules}
+use Rattle.seam_retarget.specs.Retargeting.{cellOf}
 use Rattle.seam_retarget.proofs.Answers.{needed-are}
 use Rattle.seam_retarget.proofs.retarget.Statement.{statement}
 use Rattle.seam_retarget.proofs.retarget.Tie as tie

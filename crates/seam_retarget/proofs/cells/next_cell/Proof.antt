@@ -7,7 +7,7 @@ use denote.Ref.{now}
 use lib.ListN.{length}
 use Rattle.pictures.proofs.Limits.{sides-are}
 use Rattle.seam_rules.specs.declared.answers.Axis.the-variants.{Vertical, Horizontal}
-use Rattle.seam_retarget.specs.Cells.{smaller}
+use Rattle.seam_rules.specs.Counts.{smaller}
 use Rattle.seam_retarget.specs.Kernels.{SeamGiven}
 use Rattle.seam_retarget.proofs.Slots.{Near, near}
 use Rattle.seam_retarget.proofs.Choosing.{seam-vertical, seam-horizontal, cut-vertical, cut-horizontal, given-vertical, given-horizontal}

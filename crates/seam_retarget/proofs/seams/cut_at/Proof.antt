@@ -9,8 +9,8 @@ use lib.Seq.{length-take-le}
 use Rattle.pictures.specs.Refusals.{served}
 use Rattle.pictures.specs.Pictures.{pictureBytes}
 use Rattle.seam_moves.specs.Moving.{CloseGiven}
-use Rattle.seam_cut.specs.Axes.{turnedSize, narrowed}
-use Rattle.seam_cut.proofs.Turns.{turned-sides}
+use Rattle.seam_rules.specs.Axes.{turnedSize, narrowed}
+use Rattle.seam_rules.proofs.Turns.{turned-sides}
 use Rattle.seam_retarget.proofs.Steps.{sized-at}
 use Rattle.seam_retarget.proofs.Cuts.{cut-sure, back-needed, cut-given}
 use Rattle.seam_retarget.proofs.seams.cut_at.Statement.{statement}

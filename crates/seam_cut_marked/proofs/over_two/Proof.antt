@@ -1,0 +1,71 @@
+-- `seam_cut_marked::over_two` meets its contract. The loop's invariant: what was seen, or the marks still to come, decides.
+use mathlib.Core.Path.{_≡_, refl, sym, ap, _∙_}
+use mathlib.Core.Logic.{⊎-elim}
+use mathlib.Core.Bool.{Bool, true, false, _||_}
+use mathlib.Core.List.{[]}
+use Prim.Native.Nat.{_+_, _-_, _≤_}
+use native.Mathlib.Omega.{arith}
+use borrow.Author.Needs.{needs}
+use denote.Ref.{now}
+use lib.ListN.{length, drop}
+use lib.Seq.{drop-length}
+use Rattle.seam_moves.specs.Moving.{outside}
+use Rattle.seam_moves.proofs.Closing.{outside-here, outside-next}
+use Rattle.seam_cut_marked.proofs.over_two.Statement.{statement}
+use Rattle.seam_cut_marked.proofs.over_two.Tie as tie
+
+or-none : (t : Bool) → (t || false) ≡ t
+or-none true = refl
+or-none false = refl
+
+or-true : (t : Bool) → (t || true) ≡ true
+or-true true = refl
+or-true false = refl
+
+abbrev Inv-loop : tie.InvT-loop
+Inv-loop marks over₀ i₀ i-end over i = (i ≤ i-end) × ((i-end ≡ length marks) × ((over || outside 3 (drop i marks)) ≡ outside 3 marks))
+
+abbrev μ-loop : tie.MeasureT-loop
+μ-loop marks over₀ i₀ i-end over i = i-end - i
+
+loop-holds : tie.Need-loop-holds Inv-loop μ-loop
+loop-holds c = search needs
+
+shared-slice-read-if1 : tie.Need-shared-slice-read-if1 Inv-loop μ-loop
+shared-slice-read-if1 c = search needs
+
+add-i : tie.Need-add-i Inv-loop μ-loop
+add-i c = search needs
+
+loop-less : tie.Need-loop-less Inv-loop μ-loop
+loop-less c = search needs
+
+loop-again : tie.Need-loop-again Inv-loop μ-loop
+loop-again c =
+    let head = c .before .before .before in
+    let marks = now (head .before .args .marks) in
+    let i = head .loop .i in
+    let inv = head .loop .inv .1 .1 in (
+      omega arith,
+      (
+        refl,
+        ⊎-elim
+            (λ (w : _ × _). ap (_|| outside 3 (drop (i + 1) marks)) (w .1) ∙ sym (ap (head .loop .over ||_) (outside-here 3 marks i (omega arith) (w .0 .taken)) ∙ or-true (head .loop .over)) ∙ inv)
+            (λ (w : _ × _). ap (_|| outside 3 (drop (i + 1) marks)) (w .1) ∙ ap (head .loop .over ||_) (outside-next 3 marks i (omega arith) (omega (arith, w .0 .left))) ∙ inv)
+            (c .if1 .came),
+      ),
+    )
+
+returns : tie.Need-returns Inv-loop μ-loop
+unfolding outside
+returns c =
+    let head = c .before in
+    let a = head .before .args in
+    let e : head .loop .i ≡ length (now (a .marks)) = omega arith in
+    let none : drop (head .loop .i) (now (a .marks)) ≡ [] = rw e (drop-length (now (a .marks))) in
+    sym (or-none (head .loop .over)) ∙ ap (λ r. head .loop .over || outside 3 r) (sym none) ∙ head .loop .inv .1 .1
+
+pub over-two-spec : {M : Type 1} → statement M
+over-two-spec =
+    tie.close
+    (tie.spec Inv-loop μ-loop loop-holds shared-slice-read-if1 add-i loop-less loop-again returns)
