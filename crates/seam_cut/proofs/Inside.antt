@@ -16,7 +16,6 @@ use Rattle.seam_rules.specs.declared.answers.Axis.the-variants.{Vertical, Horiz
 use Rattle.seam_rules.specs.Axes.{turnedSize}
 use Rattle.seam_turn.specs.Axes.{turned}
 use Rattle.seam_cut.specs.Axes.{seamAlong}
-use Rattle.seam_cut_marked.specs.Axes.{markedSeamAlong, blockedAlong}
 
 -- A path has h columns below w.
 pub path-inside : (w h : ℕ) (s : List ℕ) → IsPath w h s → Each (λ c. c < w) h s

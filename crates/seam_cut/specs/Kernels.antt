@@ -2,22 +2,14 @@
 use mathlib.Core.Path.{_≡_}
 use mathlib.Core.Bool.{true}
 use mathlib.Core.List.{List, [], _∷_, _++_}
-use Prim.Native.Nat.{ℕ, _+_, _*_, _≤_}
+use Prim.Native.Nat.{ℕ, _+_}
 use lib.ListN.{length, take, drop, replicate}
 use Rattle.pictures.specs.declared.sizes.Size.{Size}
 use Rattle.pictures.specs.Refusals.{_when_, refusal, worked}
-use Rattle.pictures.specs.Pictures.{sizeRules, pictureBytes, pixels}
+use Rattle.pictures.specs.Pictures.{pictureBytes, pixels}
 use Rattle.seam_rules.specs.declared.answers.Found.{Found}
 use Rattle.seam_rules.specs.Answers.{foundNumber, foundCost}
-use Rattle.seam_rules.specs.Axes.{turnedSize}
 use Rattle.seam_find.specs.Finding.{findRules}
-use Rattle.seam_rules.specs.declared.answers.Axis.{Axis}
-
--- A picture of its size, with room for its seam and for the work.
-pub record SeamNeeded (b : List ℕ) (z : Size) (x : Axis) (seam work : List ℕ) : Type 0 where
-  pub sized : refusal (sizeRules z (length b)) ≡ 0
-  pub seam-room : turnedSize x z .height ≤ length seam
-  pub work-room : 32 * pixels z ≤ length work
 
 -- What refuses finding with so much room for the seam, else 13; the places after the picture cleared unless 1 to 8 refuse.
 pub record LastInGiven (space : List ℕ) (z : Size) (room : ℕ) (answer : Found) (space′ : List ℕ) : Type 0 where

@@ -1,11 +1,11 @@
--- `seam_cut_marked::cut_marked` meets its contract.
+-- `seam_cut_marked::cut_marked` meets its contract: `judge_marked` gives the numbers to 8; `last_marked` gives 12 or 13 at the
+-- last column or row, and `cut_marked_along` all else.
 use mathlib.Core.Path.{_≡_, refl, sym, ap, _∙_}
-use mathlib.Core.Bool.{Bool, cond}
+use mathlib.Core.Bool.{Bool, true, false, cond}
 use mathlib.Core.List.{List, _∷_, _++_}
 use Prim.Native.Nat.{_*_}
 use native.Mathlib.Omega.{arith}
 use borrow.Author.Needs.{needs}
-use borrow.Author.Tests.{eq-eqb, ne-eqb}
 use denote.Ref.{now}
 use lib.ListN.{length, drop, replicate}
 use Rattle.grids.specs.Rows.{flat}
@@ -16,13 +16,13 @@ use Rattle.pictures.proofs.Limits.{sized-is}
 use Rattle.seam_rules.specs.Axes.{turnedSize}
 use Rattle.seam_cut_marked.specs.Axes.{markedSeamAlong, markedCostAlong, blockedAlong}
 use Rattle.seam_turn.specs.Axes.{cutAlong}
-use Rattle.seam_rules.specs.Cuts.{roomRules, lastRules}
+use Rattle.seam_rules.specs.Cuts.{roomRules, lastAlong, lastRules}
 use Rattle.seam_cut_marked.specs.Marking.{markRules}
 use Rattle.seam_cut_marked.specs.Kernels.{MarkedNeeded}
 use Rattle.seam_cut.proofs.Buffers.{judge-marked-are}
 use Rattle.seam_rules.proofs.Rooms.{left-as-was, work-as-was}
 use Rattle.seam_cut_marked.proofs.Buffers.{last-kept, last-cleared}
-use Rattle.seam_rules.proofs.Turns.{turned-some, turned-tall}
+use Rattle.seam_rules.proofs.Turns.{turned-tall}
 use Rattle.seam_cut_marked.proofs.cut_marked.Statement.{statement}
 use Rattle.seam_cut_marked.proofs.cut_marked.Tie as tie
 
@@ -75,8 +75,8 @@ same-length c = search needs
 returns : tie.Need-returns
 unfolding first last blocked
 returns c =
-    let at-judge-marked = c .before .before .before in
-    let s = at-judge-marked .before .before .before .before .before .before in
+    let judged = c .before .before .before in
+    let s = judged .before .before .before .before .before .before in
     let a = s .args in
     let x = a .axis in
     let z = a .size in
@@ -84,7 +84,7 @@ returns c =
     let m = marksOf z (now (a .marks)) in
     let h = turnedSize x z .height in
     let why = c .before .fits2 .given in
-    let told = at-judge-marked .judge-marked in
+    let told = judged .judge-marked in
     let n = refusal (first s ++ last s) in
     let e = sym (ap given (why .1)) ∙ refused-answer (told .result) (why .0 .0) (why .1) (first s) (last s) (told .ensures) in
     let few = refusal-most 8 (first s) refl in (
@@ -107,8 +107,8 @@ returns c =
 enum-told : tie.Need-enum-told
 enum-told c = search needs
 
-turned-size-requires : tie.Need-turned-size-requires
-turned-size-requires c κs = search needs
+takes-last-requires : tie.Need-takes-last-requires
+takes-last-requires c κs = search needs
 
 last-marked-requires : tie.Need-last-marked-requires
 last-marked-requires c κs =
@@ -137,8 +137,8 @@ unfolding first last blocked
 returns-2 c =
     let at-last-marked = c .before .before in
     let at-if1 = at-last-marked .before .before .before .before in
-    let at-turned-size = at-if1 .before in
-    let at-enum-told = at-turned-size .before in
+    let at-takes-last = at-if1 .before in
+    let at-enum-told = at-takes-last .before in
     let s = at-enum-told .before .before .before .before .before .before .before .before in
     let a = s .args in
     let x = a .axis in
@@ -148,8 +148,8 @@ returns-2 c =
     let h = turnedSize x z .height in
     let t = blocked s in
     let g = at-last-marked .last-marked .ensures in
-    let narrow = rw (at-turned-size .turned-size .ensures) at (at-if1 .if1 .taken) in
-    let e : refusal (first s ++ last s) ≡ cond (blocked s) 12 13 = rest at-enum-told ∙ simp (eq-eqb _ _ narrow) in
+    let narrow : lastAlong (a .axis) (a .size) ≡ true = sym (at-takes-last .takes-last .ensures) ∙ at-if1 .if1 .taken in
+    let e : refusal (first s ++ last s) ≡ cond (blocked s) 12 13 = rest at-enum-told ∙ ap (λ t. cond (blocked s) 12 (cond t 13 0)) narrow in
     rw e (
       record {
         number-is = g .number-is;
@@ -166,13 +166,9 @@ returns-2 c =
 cut-marked-along-requires : tie.Need-cut-marked-along-requires
 cut-marked-along-requires c κs =
     let at-if1 = c .before .before .before .before in
-    let at-turned-size = at-if1 .before in
-    let at-enum-told = at-turned-size .before in
-    let s = at-enum-told .before .before .before .before .before .before .before .before in
-    let a = s .args in
-    let p = needed at-enum-told in
-    let two : turnedSize (a .axis) (a .size) .width ≡ 1 → ⊥ = rw (at-turned-size .turned-size .ensures) at (at-if1 .if1 .left) in
-    (p, record { wide = turned-some (a .axis) (a .size) (length (now (a .picture))) (sized-is _ _ (p .sized)) two })
+    let at-takes-last = at-if1 .before in
+    let at-enum-told = at-takes-last .before in
+    (needed at-enum-told, sym (at-takes-last .takes-last .ensures) ∙ at-if1 .if1 .left)
 
 same-length-5 : tie.Need-same-length-5
 same-length-5 c = search needs
@@ -191,12 +187,11 @@ unfolding first last blocked
 returns-3 c =
     let at-cut-marked-along = c .before .before .before .before .before .before .before .before in
     let at-if1 = at-cut-marked-along .before .before .before .before .before in
-    let at-turned-size = at-if1 .before in
-    let at-enum-told = at-turned-size .before in
+    let at-takes-last = at-if1 .before in
+    let at-enum-told = at-takes-last .before in
     let s = at-enum-told .before .before .before .before .before .before .before .before in
-    let a = s .args in
-    let two : turnedSize (a .axis) (a .size) .width ≡ 1 → ⊥ = rw (at-turned-size .turned-size .ensures) at (at-if1 .if1 .left) in
-    let e : refusal (first s ++ last s) ≡ cond (blocked s) 12 0 = rest at-enum-told ∙ simp (ne-eqb _ _ two) in
+    let some : lastAlong (s .args .axis) (s .args .size) ≡ false = sym (at-takes-last .takes-last .ensures) ∙ at-if1 .if1 .left in
+    let e : refusal (first s ++ last s) ≡ cond (blocked s) 12 0 = rest at-enum-told ∙ ap (λ t. cond (blocked s) 12 (cond t 13 0)) some in
     rw e (at-cut-marked-along .cut-marked-along .ensures)
 
 pub cut-marked-spec : {M : Type 1} → statement M
@@ -208,7 +203,7 @@ cut-marked-spec =
     same-length
     returns
     enum-told
-    turned-size-requires
+    takes-last-requires
     last-marked-requires
     same-length-2
     same-length-3

@@ -1,4 +1,5 @@
--- `seam_cut_marked::find_marked` meets its contract.
+-- `seam_cut_marked::find_marked` meets its contract: `judge_marked` gives the numbers to 8, and where it gives none,
+-- `marked_along` all else.
 use mathlib.Core.Path.{_≡_, refl, sym, ap, _∙_}
 use mathlib.Core.List.{List, [], _∷_, _++_}
 use native.Mathlib.Omega.{arith}
@@ -51,15 +52,15 @@ enum-known-fits c = search needs
 returns : tie.Need-returns
 unfolding first last
 returns c =
-    let at-judge-marked = c .before .before .before in
-    let s = at-judge-marked .before .before .before .before .before in
+    let judged = c .before .before .before in
+    let s = judged .before .before .before .before .before in
     let a = s .args in
     let x = a .axis in
     let z = a .size in
     let p = picture z (now (a .picture)) in
     let m = marksOf z (now (a .marks)) in
     let why = c .before .fits2 .given in
-    let told = at-judge-marked .judge-marked in
+    let told = judged .judge-marked in
     let n = refusal (first s ++ last s) in
     let e = sym (ap given (why .1)) ∙ refused-answer (told .result) (why .0 .0) (why .1) (first s) (last s) (told .ensures) in
     let few = refusal-most 8 (first s) refl in

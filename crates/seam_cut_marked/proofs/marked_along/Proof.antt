@@ -1,4 +1,5 @@
--- `seam_cut_marked::marked_along` meets its contract.
+-- `seam_cut_marked::marked_along` meets its contract: both turnings are served, and the seam is found in the picture and the marks
+-- that then stand at the front of the work space.
 use mathlib.Core.Path.{_≡_, refl, sym, ap, ap₂, _∙_}
 use mathlib.Core.Bool.{cond}
 use mathlib.Core.List.{List, _++_}
@@ -36,7 +37,16 @@ fits c =
     let s = c .before .before .before .before .before .before .before .before in
     omega (arith, sure s .length-is, s .pre .work-room, c .turn .kept .1 .1 .1 .0)
 
--- and then the marks turned behind it
+-- what turning the picture leaves in the work space
+turned-is : (c : tie.After-turn)
+    → let s = c .before .before .before .before .before .before .before .before in
+    let a = s .args in c .turn .last .1 .1 .1 .0 ≡ bytes (turned (a .axis) (a .size .width) (picture (a .size) (now (a .picture)))) ++ drop (pictureBytes (a .size)) (now (a .work))
+turned-is c =
+    let s = c .before .before .before .before .before .before .before .before in
+    let a = s .args in
+    turn-served (now (a .picture)) (a .size) (a .axis) (now (a .work)) (c .turn .last .1 .1 .1 .0) (c .turn .result) (c .turn .ensures) (s .pre .sized) (omega (arith, s .pre .work-room))
+
+-- and then the marks turned after it
 space : (c : tie.After-turn2) → List ℕ
 space c =
     let at-turn = c .before .before .before .before in
@@ -65,9 +75,12 @@ stands c =
     let n = length (now (a .picture)) in
     let w = at-turn .turn .last .1 .1 .1 .0 in
     let mid = midOf n (length w - n) w in
-    let back : c .turn2 .last .1 .1 .1 .0 ≡ bytes (turned (a .axis) (a .size .width) (picture (greyOf (a .size)) (now (a .marks)))) ++ drop (pictureBytes (greyOf (a .size))) mid = rw (at-grey .grey .ensures) at (c .turn2 .ensures) in
+    let turns : TurnGiven (now (a .marks)) (greyOf (a .size)) (a .axis) (midOf n (length w - n) w) (c .turn2 .result) (c .turn2 .last .1 .1 .1 .0) = rw (at-grey .grey .ensures) at (c .turn2 .ensures) in
+    let back = turn-served (now (a .marks)) (greyOf (a .size)) (a .axis) mid (c .turn2 .last .1 .1 .1 .0) (c .turn2 .result) turns
+        (grey-sized (a .size) n (now (a .marks)) (sure s) (s .pre .marked))
+        (omega (arith, grey-bytes (a .size), part-length n (length w) w (omega arith), fits at-turn)) in
     put-behind (a .axis) (a .size) (now (a .picture)) (now (a .marks)) (now (a .work)) w mid (c .turn2 .last .1 .1 .1 .0)
-    (sure s .length-is) (s .pre .marked) (omega (arith, fits at-turn)) (at-turn .turn .ensures) back
+    (sure s .length-is) (s .pre .marked) (omega (arith, fits at-turn)) (turned-is at-turn) back
 
 space-long : (c : tie.After-turn2)
     → let s = c .before .before .before .before .before .before .before .before .before .before .before .before in
@@ -115,17 +128,7 @@ part-turn-end : tie.Need-part-turn-end
 part-turn-end c = search needs
 
 turn-requires-2 : tie.Need-turn-requires-2
-turn-requires-2 c κs =
-    let at-turn = c .before .before .before in
-    let at-grey = at-turn .before .before in
-    let s = at-grey .before .before .before .before .before .before in
-    let a = s .args in
-    let space = at-turn .turn .last .1 .1 .1 .0 in
-    rw (at-grey .grey .ensures)
-    (record {
-      sized = grey-sized (a .size) (length (now (a .picture))) (now (a .marks)) (sure s) (s .pre .marked);
-      room = omega (arith, grey-bytes (a .size), part-length (length (now (a .picture))) (length space) space (omega arith), fits at-turn);
-    })
+turn-requires-2 c κs = search needs
 
 find-marked-in-requires : tie.Need-find-marked-in-requires
 find-marked-in-requires c κs = search needs
