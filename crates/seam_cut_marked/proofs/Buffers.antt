@@ -24,9 +24,9 @@ use Rattle.seam_cut_marked.specs.Marking.{markRules}
 use Rattle.seam_cut_marked.specs.Kernels.{MarkedNeeded}
 
 -- Buffers that nothing is refused of: what finding by them needs of the work space is less than 32 bytes a pixel.
-pub marked-rooms-are : (x : Axis) (z : Size) (b m seam work : List ℕ) → refusal (sizeRules z (length b) ++ (markRules z m ++ roomRules x z (length seam) (length work))) ≡ 0
+pub marked-needed : (x : Axis) (z : Size) (b m seam work : List ℕ) → refusal (sizeRules z (length b) ++ (markRules z m ++ roomRules x z (length seam) (length work))) ≡ 0
     → MarkedNeeded b m z x seam work
-marked-rooms-are x z b m seam work e =
+marked-needed x z b m seam work e =
     let parts = served-both (sizeRules z (length b)) (markRules z m ++ roomRules x z (length seam) (length work)) refl e in
     let marks = served-both (markRules z m) (roomRules x z (length seam) (length work)) refl (parts .1) in
     let long = passed (not (eqb (length m) (pixels z))) 3 (cond (outside 3 m) 5 0) (marks .0) in

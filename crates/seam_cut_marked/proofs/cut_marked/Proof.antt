@@ -19,9 +19,8 @@ use Rattle.seam_turn.specs.Axes.{cutAlong}
 use Rattle.seam_rules.specs.Cuts.{roomRules, lastAlong, lastRules}
 use Rattle.seam_cut_marked.specs.Marking.{markRules}
 use Rattle.seam_cut_marked.specs.Kernels.{MarkedNeeded}
-use Rattle.seam_cut.proofs.Buffers.{judge-marked-are}
+use Rattle.seam_cut_marked.proofs.Buffers.{marked-needed, last-kept, last-cleared}
 use Rattle.seam_rules.proofs.Rooms.{left-as-was, work-as-was}
-use Rattle.seam_cut_marked.proofs.Buffers.{last-kept, last-cleared}
 use Rattle.seam_rules.proofs.Turns.{turned-tall}
 use Rattle.seam_cut_marked.proofs.cut_marked.Statement.{statement}
 use Rattle.seam_cut_marked.proofs.cut_marked.Tie as tie
@@ -61,7 +60,7 @@ unfolding first
 needed c =
     let s = c .before .before .before .before .before .before .before .before in
     let a = s .args in
-    judge-marked-are (a .axis) (a .size) (now (a .picture)) (now (a .marks)) (now (a .seam)) (now (a .work)) (none c)
+    marked-needed (a .axis) (a .size) (now (a .picture)) (now (a .marks)) (now (a .seam)) (now (a .work)) (none c)
 
 judge-marked-requires : tie.Need-judge-marked-requires
 judge-marked-requires c κs = search needs

@@ -1,4 +1,5 @@
--- `seam_cut_marked::cut_marked_along` meets its contract.
+-- `seam_cut_marked::cut_marked_along` meets its contract: where a seam is allowed it lies inside the picture, so closing up the
+-- picture and the marks is served.
 use mathlib.Core.Path.{_≡_, refl, sym, ap, ap₂, _∙_}
 use mathlib.Core.Bool.{Bool, true, false, cond}
 use mathlib.Core.List.{List, _++_}
@@ -7,6 +8,7 @@ use native.Mathlib.Nat.{mul-one}
 use native.Mathlib.Omega.{arith}
 use borrow.Author.Needs.{needs}
 use denote.Ref.{now}
+use lib.Dec.{eqb}
 use lib.ListN.{length, take, drop, replicate}
 use lib.Seq.{take-at, length-take-le}
 use Rattle.grids.specs.Each.{Each}
@@ -20,7 +22,8 @@ use Rattle.seam_rules.specs.Axes.{turnedSize, greyOf}
 use Rattle.seam_cut_marked.specs.Axes.{markedSeamAlong, markedCostAlong, blockedAlong}
 use Rattle.seam_turn.specs.Axes.{cutAlong}
 use Rattle.seam_cut.specs.Cutting.{SeamGiven}
-use Rattle.seam_cut.specs.Kernels.{CloseGiven}
+use Rattle.seam_turn.specs.Turning.{CloseGiven}
+use Rattle.seam_turn.proofs.Served.{Closed, close-served}
 use Rattle.seam_cut_marked.proofs.Buffers.{seam-free, refused-blocked}
 use Rattle.seam_cut_marked.proofs.Marked.{marked-inside}
 use Rattle.seam_cut_marked.proofs.Marks.{grey-bytes, grey-sized, wide-grey, tall-grey, marks-cut}
@@ -109,6 +112,51 @@ closed-long c =
     let at-marked-along = c .before .before .before .before .before .before .before .before .before .before in
     c .close .kept .1 .1 .1 .1 .0 ∙ work-long at-marked-along
 
+-- the picture closed up, and the marks, as a grey picture of its sides
+picture-closed : (c : tie.After-close)
+    → let f = c .before .before .before .before .before .before .before .before .before .before in
+    let at-turned-size = f .before .before .before .before .before .before in
+    let s = at-turned-size .before .before .before .before .before in
+    let a = s .args in
+    Closed (now (a .picture)) (a .size) (a .axis) (take (at-turned-size .turned-size .result .height) (f .marked-along .last .1 .1 .1 .1 .0)) (f .marked-along .last .1 .1 .1 .1 .1 .0) (c .close .last .0) (c .close .last .1 .1 .1 .1 .0)
+picture-closed c =
+    let told = c .before .before .before .before in
+    let f = told .before .before .before .before .before .before in
+    let at-turned-size = f .before .before .before .before .before .before in
+    let s = at-turned-size .before .before .before .before .before in
+    let a = s .args in
+    let p = s .pre in
+    close-served (now (a .picture)) (a .size) (a .axis) (take (at-turned-size .turned-size .result .height) (f .marked-along .last .1 .1 .1 .1 .0)) (f .marked-along .last .1 .1 .1 .1 .1 .0) (c .close .result) (c .close .last .0) (c .close .last .1 .1 .1 .1 .0) (c .close .ensures)
+    (p .0 .sized) (rw (lent told) (inside told)) (p .1) (omega (arith, p .0 .work-room, work-long f))
+
+closed-zero : (c : tie.After-close) → c .close .last .1 .1 .1 .1 .0 ≡ replicate (length (c .close .last .1 .1 .1 .1 .0)) 0
+closed-zero c =
+    let f = c .before .before .before .before .before .before .before .before .before .before in
+    picture-closed c .work-is (zero f ∙ ap (λ n. replicate n 0) (sym (work-long f))) ∙ ap (λ n. replicate n 0) (sym (c .close .kept .1 .1 .1 .1 .0))
+
+marks-closed : (c : tie.After-close2)
+    → let k = c .before .before .before .before .before .before .before .before in
+    let f = k .before .before .before .before .before .before .before .before .before .before in
+    let at-turned-size = f .before .before .before .before .before .before in
+    let s = at-turned-size .before .before .before .before .before in
+    let a = s .args in
+    Closed (now (a .marks)) (greyOf (a .size)) (a .axis) (take (at-turned-size .turned-size .result .height) (f .marked-along .last .1 .1 .1 .1 .0)) (k .close .last .1 .1 .1 .1 .0) (c .close2 .last .0) (c .close2 .last .1 .1 .1 .1 .0)
+marks-closed c =
+    let k = c .before .before .before .before .before .before .before .before in
+    let told = k .before .before .before .before in
+    let f = told .before .before .before .before .before .before in
+    let at-grey = f .before .before .before .before .before in
+    let at-turned-size = at-grey .before in
+    let s = at-turned-size .before .before .before .before .before in
+    let a = s .args in
+    let p = s .pre in
+    let marks : CloseGiven (now (a .marks)) (greyOf (a .size)) (a .axis) (take (at-turned-size .turned-size .result .height) (f .marked-along .last .1 .1 .1 .1 .0)) (k .close .last .1 .1 .1 .1 .0) (c .close2 .result) (c .close2 .last .0) (c .close2 .last .1 .1 .1 .1 .0) = rw (at-grey .grey .ensures) at (c .close2 .ensures) in
+    close-served (now (a .marks)) (greyOf (a .size)) (a .axis) (take (at-turned-size .turned-size .result .height) (f .marked-along .last .1 .1 .1 .1 .0)) (k .close .last .1 .1 .1 .1 .0) (c .close2 .result) (c .close2 .last .0) (c .close2 .last .1 .1 .1 .1 .0) marks
+    (grey-sized (a .size) (length (now (a .picture))) (now (a .marks)) (sure s) (p .0 .marked))
+    (rw (lent told, wide-grey (a .axis) (a .size), tall-grey (a .axis) (a .size)) (inside told))
+    (ap (λ w. eqb w 1) (wide-grey (a .axis) (a .size)) ∙ p .1)
+    (omega (arith, p .0 .work-room, closed-long k, grey-bytes (a .size)))
+
 turned-size-requires : tie.Need-turned-size-requires
 turned-size-requires c κs = search needs
 
@@ -159,18 +207,7 @@ slice-aggregate-close c =
     sym (length-take-le (at-turned-size .turned-size .result .height) (at-marked-along .marked-along .last .1 .1 .1 .1 .0) (rw (at-turned-size .turned-size .ensures) (seam-room at-marked-along)))
 
 close-requires : tie.Need-close-requires
-close-requires c κs =
-    let told = c .before .before .before in
-    let f = told .before .before .before .before .before .before in
-    let s = f .before .before .before .before .before .before .before .before .before .before .before in
-    let p = s .pre in
-    record {
-      sized = p .0 .sized;
-      wide = p .1 .wide;
-      inside = rw (lent told) (inside told);
-      room = omega (arith, p .0 .work-room, work-long f);
-      zero = zero f ∙ ap (λ n. replicate n 0) (sym (work-long f));
-    }
+close-requires c κs = search needs
 
 slice-reshare-prefix-close-2 : tie.Need-slice-reshare-prefix-close-2
 slice-reshare-prefix-close-2 c =
@@ -185,21 +222,7 @@ slice-aggregate-close-2 c =
     sym (length-take-le (at-turned-size .turned-size .result .height) (at-marked-along .marked-along .last .1 .1 .1 .1 .0) (rw (at-turned-size .turned-size .ensures) (seam-room at-marked-along)))
 
 close-requires-2 : tie.Need-close-requires-2
-close-requires-2 c κs =
-    let k = c .before .before .before .before .before .before .before in
-    let told = k .before .before .before .before in
-    let at-grey = told .before .before .before .before .before .before .before .before .before .before .before in
-    let s = at-grey .before .before .before .before .before .before in
-    let a = s .args in
-    let p = s .pre in
-    rw (at-grey .grey .ensures)
-    (record {
-      sized = grey-sized (a .size) (length (now (a .picture))) (now (a .marks)) (sure s) (p .0 .marked);
-      wide = rw (wide-grey (a .axis) (a .size)) (p .1 .wide);
-      inside = rw (lent told, wide-grey (a .axis) (a .size), tall-grey (a .axis) (a .size)) (inside told);
-      room = omega (arith, p .0 .work-room, closed-long k, grey-bytes (a .size));
-      zero = k .close .ensures .work-is ∙ ap (λ n. replicate n 0) (sym (k .close .kept .1 .1 .1 .1 .0));
-    })
+close-requires-2 c κs = search needs
 
 same-length-5 : tie.Need-same-length-5
 same-length-5 c = search needs
@@ -230,24 +253,23 @@ returns-2 c =
     let m = marksOf z (now (a .marks)) in
     let work = now (a .work) in
     let h = turnedSize x z .height in
-    let lost = at-close2 .close2 in
-    let marks : CloseGiven (now (a .marks)) (greyOf (a .size)) (a .axis) (take (at-turned-size .turned-size .result .height) (f .marked-along .last .1 .1 .1 .1 .0)) (k .close .last .1 .1 .1 .1 .0) (lost .last .0) (lost .last .1 .1 .1 .1 .0) = rw (at-grey .grey .ensures) at (lost .ensures) in (
+    let lost = marks-closed at-close2 in (
       record {
         number-is = f .marked-along .ensures .number-is;
         cost-is = f .marked-along .ensures .cost-is;
         seam-is = f .marked-along .ensures .seam-is;
-        work-is = lost .ensures .work-is ∙ ap (λ n. replicate n 0) (closed-long k) ∙ sym (worked-or (cond (blocked start) 12 0) (replicate (length work) 0) work (blocked start) refl);
+        work-is = lost .work-is (closed-zero k) ∙ ap (λ n. replicate n 0) (closed-long k) ∙ sym (worked-or (cond (blocked start) 12 0) (replicate (length work) 0) work (blocked start) refl);
       },
       (
         record {
           picture-is =
-              k .close .ensures .picture-is
+              picture-closed k .picture-is
               ∙ ap (λ s. bytes (cutAlong x z s p) ++ replicate (h * channelsOf (z .kind)) 0) (lent told)
               ∙ sym (ap (λ t. served (cond t 12 0) (bytes (cutAlong x z (seam start) p) ++ replicate (h * channelsOf (z .kind)) 0) (now (a .picture))) (free told));
         },
         record {
           marks-are =
-              marks .picture-is
+              lost .picture-is
               ∙ ap₂ _++_
               (ap (λ s. bytes (cutAlong x (greyOf z) s (picture (greyOf z) (now (a .marks))))) (lent told) ∙ marks-cut x z (now (a .marks)) (start .pre .0 .marked) (seam start))
               (ap (λ n. replicate n 0) (mul-one (turnedSize x (greyOf z) .height) ∙ tall-grey x z))

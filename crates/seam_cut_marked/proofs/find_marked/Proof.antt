@@ -13,7 +13,7 @@ use Rattle.seam_rules.specs.Axes.{turnedSize}
 use Rattle.seam_cut_marked.specs.Axes.{markedSeamAlong, markedCostAlong, blockedAlong}
 use Rattle.seam_rules.specs.Cuts.{roomRules}
 use Rattle.seam_cut_marked.specs.Marking.{markRules}
-use Rattle.seam_cut.proofs.Buffers.{judge-marked-are}
+use Rattle.seam_cut_marked.proofs.Buffers.{marked-needed}
 use Rattle.seam_rules.proofs.Rooms.{left-as-was, work-as-was}
 use Rattle.seam_cut_marked.proofs.find_marked.Statement.{statement}
 use Rattle.seam_cut_marked.proofs.find_marked.Tie as tie
@@ -80,7 +80,7 @@ marked-along-requires c κs =
     let at-enum-told = c .before .before in
     let s = at-enum-told .before .before .before .before .before .before .before in
     let a = s .args in
-    judge-marked-are (a .axis) (a .size) (now (a .picture)) (now (a .marks)) (now (a .seam)) (now (a .work)) (none at-enum-told)
+    marked-needed (a .axis) (a .size) (now (a .picture)) (now (a .marks)) (now (a .seam)) (now (a .work)) (none at-enum-told)
 
 same-length : tie.Need-same-length
 same-length c = search needs

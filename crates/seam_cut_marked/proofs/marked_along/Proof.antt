@@ -19,6 +19,8 @@ use Rattle.seam_rules.specs.Answers.{foundNumber}
 use Rattle.seam_find.proofs.Worked.{worked-or}
 use Rattle.seam_rules.specs.Axes.{turnedSize, greyOf}
 use Rattle.seam_turn.specs.Axes.{turned}
+use Rattle.seam_turn.specs.Turning.{TurnGiven}
+use Rattle.seam_turn.proofs.Served.{turn-served}
 use Rattle.seam_cut_marked.specs.Axes.{markedSeamAlong, markedCostAlong, blockedAlong}
 use Rattle.seam_rules.proofs.Turns.{turned-bytes, turned-pixels, turned-sides}
 use Rattle.seam_cut_marked.proofs.Marked.{MarkedThere, marked-served}
