@@ -1,3 +1,4 @@
 pub mod Turns
 pub mod Left
 pub mod Rooms
+pub mod Choices

@@ -1,10 +1,10 @@
 -- What the rules say of sizes and lengths that they don't refuse.
 use mathlib.Core.Path.{_≡_, refl, sym, _∙_}
-use mathlib.Core.Bool.{Bool, true, false, not, cond}
+use mathlib.Core.Bool.{true, false, not, cond}
 use mathlib.Core.List.{List, [], _∷_}
 use Prim.Native.Nat.{ℕ, _*_, _≤_, _<_}
 use native.Mathlib.Omega.{arith}
-use lib.Dec.{eqb, leb, ltb}
+use lib.Dec.{eqb, ltb}
 use borrow.Author.Tests.{ne-eqb, eq-eqb, eqb-true, le-ltb, ltb-false, leb-true, leb-false, not-false}
 use Rattle.pictures.specs.declared.sizes.Size.{Size}
 use Rattle.pictures.specs.declared.refusals.Refusal.{Refusal}
@@ -12,10 +12,8 @@ use Rattle.pictures.specs.Refusals.{_when_, numberOf, refusal, served}
 use Rattle.pictures.specs.Pictures.{pictureBytes, sizeRules, pixels}
 use Rattle.pictures.proofs.Rules.{served-first, served-both, passed, number-some, served-not}
 use Rattle.seam_rules.specs.declared.answers.Axis.{Axis}
-use Rattle.seam_rules.specs.declared.answers.Axis.the-variants.{Vertical, Horizontal}
 use Rattle.seam_rules.specs.Axes.{turnedSize}
 use Rattle.seam_rules.specs.Cuts.{cleared, findRules, closeLengthRules, markAllowed}
-use Rattle.seam_rules.specs.Counts.{chosenAxis}
 
 -- Finding: a picture of its size, and room for the seam and for the work.
 pub record FindRoom (x : Axis) (z : Size) (bytes seam work : ℕ) : Type 0 where
@@ -63,21 +61,6 @@ mark-below m e = omega (arith, leb-true m 2 e)
 
 pub mark-over : (m : ℕ) → markAllowed m ≡ false → 3 ≤ m
 mark-over m e = omega (arith, leb-false m 2 e)
-
--- What the axis taken says of the totals.
-pub vertical-taken : (v h : ℕ) → chosenAxis v h ≡ Vertical → leb v h ≡ true
-vertical-taken v h = go (leb v h)
-  where
-    go : (t : Bool) → cond t Vertical Horizontal ≡ Vertical → t ≡ true
-    go true e = refl
-    go false e = cc
-
-pub horizontal-taken : (v h : ℕ) → chosenAxis v h ≡ Horizontal → leb v h ≡ false
-horizontal-taken v h = go (leb v h)
-  where
-    go : (t : Bool) → cond t Vertical Horizontal ≡ Horizontal → t ≡ false
-    go true e = cc
-    go false e = refl
 
 -- What is given by 1 to 8 leaves a buffer, and the work space, as it was.
 module _ (why : Refusal) (n : ℕ) (e : numberOf why ≡ n) where

@@ -1,5 +1,5 @@
 -- Sizes for seams along either axis. "A horizontal seam is the vertical seam of the picture with rows and columns exchanged."
-use Prim.Native.Nat.{ℕ, _-_}
+use Prim.Native.Nat.{_-_}
 use Rattle.pictures.specs.declared.sizes.Kind.the-variants.{Grey}
 use Rattle.pictures.specs.declared.sizes.Size.{Size}
 use Rattle.seam_rules.specs.declared.answers.Axis.{Axis}
