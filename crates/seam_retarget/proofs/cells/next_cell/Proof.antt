@@ -39,9 +39,7 @@ add-slot : tie.Need-add-slot
 add-slot c = let p = c .before .pre in omega (arith, p .column)
 
 smaller-requires : tie.Need-smaller-requires
-smaller-requires c κs =
-    let p = c .before .pre in
-    (omega (arith, p .rows-left), omega (arith, p .columns-left))
+smaller-requires c κs = search needs
 
 add-slot-2 : tie.Need-add-slot-2
 add-slot-2 c =
@@ -50,9 +48,7 @@ add-slot-2 c =
     omega (arith, p .rows-left, sides-are (st .args .size) (p .space .sides) .height-most)
 
 smaller-requires-2 : tie.Need-smaller-requires-2
-smaller-requires-2 c κs =
-    let p = c .before .before .pre in
-    (omega (arith, p .rows-left), omega (arith, p .columns-left))
+smaller-requires-2 c κs = search needs
 
 add-slot-3 : tie.Need-add-slot-3
 add-slot-3 c = let p = c .before .before .before .pre in omega (arith, p .column)

@@ -42,9 +42,7 @@ loop-holds c =
     first-start (a .size) (a .whole) (a .columns .0) (now (a .work)) (now (a .totals)) (st .pre .0) (st .pre .1)
 
 smaller-requires : tie.Need-smaller-requires Inv-loop μ-loop
-smaller-requires c κs =
-    let p = c .before .before .before .before .pre .0 in
-    (omega arith, omega (arith, p .columns-left, c .loop-test .taken))
+smaller-requires c κs = search needs
 
 mul-step : tie.Need-mul-step Inv-loop μ-loop
 mul-step c = let q = close (c .before .before) in omega arith

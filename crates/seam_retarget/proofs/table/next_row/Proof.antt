@@ -20,7 +20,7 @@ given : (c : tie.After-step)
 given c = rw (c .before .before .smaller .ensures) at (c .step .ensures)
 
 smaller-requires : tie.Need-smaller-requires
-smaller-requires c κs = let p = c .before .before .pre .0 in (omega (arith, p .rows-left), omega arith)
+smaller-requires c κs = search needs
 
 mul-step : tie.Need-mul-step
 mul-step c =
