@@ -1,6 +1,7 @@
 -- What the operation that retargets a lent picture gives.
 use mathlib.Core.Path.{_≡_}
 use mathlib.Core.List.{List, _++_}
+use Prim.Native.Nat.{ℕ}
 use lib.ListN.{length, drop, replicate}
 use Rattle.pictures.specs.declared.sizes.Size.{Size}
 use Rattle.pictures.specs.Refusals.{refusal, served}
