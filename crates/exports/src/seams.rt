@@ -90,7 +90,7 @@ pub extern "C" fn multisize_find_marked(
     let Turning::Along(turned) = axis_named(axis) else {
         return refused(1);
     };
-    reply(seam_cut::find_marked(picture, marks, size, turned, seam, work))
+    reply(seam_cut_marked::find_marked(picture, marks, size, turned, seam, work))
 }
 
 // Cuts that seam out of the picture and the marks and gives it as multisize_find_marked does.
@@ -115,5 +115,5 @@ pub extern "C" fn multisize_cut_marked(
     let Turning::Along(turned) = axis_named(axis) else {
         return refused(1);
     };
-    reply(seam_cut::cut_marked(picture, marks, size, turned, seam, work))
+    reply(seam_cut_marked::cut_marked(picture, marks, size, turned, seam, work))
 }

@@ -10,8 +10,7 @@ use lib.Seq.{take-take}
 use Rattle.grids.proofs.Orders.{le-or-lt}
 use Rattle.grids.proofs.Rows.{part-end}
 use Rattle.pictures.specs.declared.sizes.Size.{Size}
-use Rattle.pictures.specs.Refusals.{refusal}
-use Rattle.pictures.specs.Pictures.{channelsOf, pictureBytes, sideRules, picture, pixels}
+use Rattle.pictures.specs.Pictures.{channelsOf, pictureBytes, picture, pixels}
 use Rattle.pictures.proofs.Limits.{sides-are, channels-some}
 use Rattle.seam_moves.specs.Between.{partAt, PlacesApart}
 use Rattle.seam_rules.specs.declared.answers.Axis.the-variants.{Vertical, Horizontal}

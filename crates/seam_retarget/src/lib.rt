@@ -8,8 +8,6 @@ use pictures::Verdict;
 use seam_rules::Columns;
 use seam_rules::Retargeted;
 use seam_rules::Rows;
-ghost use Rattle.pictures.specs.Refusals.{given, refusal};
-ghost use Rattle.seam_rules.specs.Counts.{retargetRules};
 ghost use Rattle.seam_retarget.specs.Retargeting.{RetargetGiven};
 ghost use Rattle.seam_retarget.specs.Kernels.{RetargetNeeded, LastGiven};
 
@@ -25,7 +23,14 @@ pub fn retarget(
 ) -> Retargeted
     ensures { λ t. ⌜ RetargetGiven (now (picture .entry)) size rows columns (now (out .entry)) (now (work .entry)) t (now (out .exit)) (now (work .exit)) ⌝ }
 {
-    let fits = seam_rules::judge_retarget(size, rows, columns, picture.len(), out.len(), work.len());
+    let fits = seam_rules::judge_retarget(
+        size,
+        rows,
+        columns,
+        picture.len(),
+        out.len(),
+        work.len(),
+    );
     if let Verdict::Refused(why) = fits {
         return Retargeted::Refused(why);
     }

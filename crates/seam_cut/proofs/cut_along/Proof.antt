@@ -104,7 +104,7 @@ returns c =
     let lent-seam = take (q .before .before .before .before .turned-size .result .height) (q .seam-along .last .1 .1 .1 .0) in
     let zero = f .work-is ∙ ap (λ n. replicate n 0) (sym (work-long q)) in
     let k = close-served b z (a .axis) lent-seam (q .seam-along .last .1 .1 .1 .1 .0) (at-close .close .result) (at-close .close .last .0) (at-close .close .last .1 .1 .1 .1 .0) (at-close .close .ensures)
-        (rooms start .sized) (rw (lent q) (inside start)) (start .pre .1) (omega (arith, bytes-few z, rooms start .work-room, work-long q)) in (
+    (rooms start .sized) (rw (lent q) (inside start)) (start .pre .1) (omega (arith, bytes-few z, rooms start .work-room, work-long q)) in (
       record {
         number-is = f .number-is;
         cost-is = f .cost-is;

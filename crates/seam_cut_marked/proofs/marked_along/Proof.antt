@@ -79,8 +79,8 @@ stands c =
     let mid = midOf n (length w - n) w in
     let turns : TurnGiven (now (a .marks)) (greyOf (a .size)) (a .axis) (midOf n (length w - n) w) (c .turn2 .result) (c .turn2 .last .1 .1 .1 .0) = rw (at-grey .grey .ensures) at (c .turn2 .ensures) in
     let back = turn-served (now (a .marks)) (greyOf (a .size)) (a .axis) mid (c .turn2 .last .1 .1 .1 .0) (c .turn2 .result) turns
-        (grey-sized (a .size) n (now (a .marks)) (sure s) (s .pre .marked))
-        (omega (arith, grey-bytes (a .size), part-length n (length w) w (omega arith), fits at-turn)) in
+    (grey-sized (a .size) n (now (a .marks)) (sure s) (s .pre .marked))
+    (omega (arith, grey-bytes (a .size), part-length n (length w) w (omega arith), fits at-turn)) in
     put-behind (a .axis) (a .size) (now (a .picture)) (now (a .marks)) (now (a .work)) w mid (c .turn2 .last .1 .1 .1 .0)
     (sure s .length-is) (s .pre .marked) (omega (arith, fits at-turn)) (turned-is at-turn) back
 
