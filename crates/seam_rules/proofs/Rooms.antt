@@ -13,7 +13,7 @@ use Rattle.pictures.specs.Pictures.{pictureBytes, sizeRules, pixels}
 use Rattle.pictures.proofs.Rules.{served-first, served-both, passed, number-some, served-not}
 use Rattle.seam_rules.specs.declared.answers.Axis.{Axis}
 use Rattle.seam_rules.specs.Axes.{turnedSize}
-use Rattle.seam_rules.specs.Cuts.{cleared, findRules, closeLengthRules, markAllowed}
+use Rattle.seam_rules.specs.Cuts.{cleared, findRules, closeAlongLengths, markAllowed}
 
 -- Finding: a picture of its size, and room for the seam and for the work.
 pub record FindRoom (x : Axis) (z : Size) (bytes seam work : ℕ) : Type 0 where
@@ -38,7 +38,7 @@ pub record CloseRoom (x : Axis) (z : Size) (bytes seam work : ℕ) : Type 0 wher
   pub seam-long : seam ≡ turnedSize x z .height
   pub room : pictureBytes z ≤ work
 
-pub close-room : (x : Axis) (z : Size) (bytes seam work : ℕ) → refusal (closeLengthRules x z bytes seam work) ≡ 0 → CloseRoom x z bytes seam work
+pub close-room : (x : Axis) (z : Size) (bytes seam work : ℕ) → refusal (closeAlongLengths x z bytes seam work) ≡ 0 → CloseRoom x z bytes seam work
 close-room x z bytes seam work e =
     let h = turnedSize x z .height in
     let parts = served-both (sizeRules z bytes) (4 when not (eqb seam (turnedSize x z .height)) ∷ 8 when ltb work (pictureBytes z) ∷ []) refl e in
@@ -50,7 +50,7 @@ close-room x z bytes seam work e =
       room = ltb-false _ _ (second .0);
     }
 
-pub close-length : (x : Axis) (z : Size) (bytes seam work : ℕ) → CloseRoom x z bytes seam work → refusal (closeLengthRules x z bytes seam work) ≡ 0
+pub close-length : (x : Axis) (z : Size) (bytes seam work : ℕ) → CloseRoom x z bytes seam work → refusal (closeAlongLengths x z bytes seam work) ≡ 0
 close-length x z bytes seam work c =
     served-first (sizeRules z bytes) (4 when not (eqb seam (turnedSize x z .height)) ∷ 8 when ltb work (pictureBytes z) ∷ []) refl (c .sized)
     ∙ simp (eq-eqb _ _ (c .seam-long), le-ltb _ _ (c .room))

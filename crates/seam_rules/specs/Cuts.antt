@@ -44,6 +44,6 @@ markAllowed mark = leb mark 2
 
 -- Closing up along the axis is refused as the picture is, by 4 where the seam isn't as long as the picture is along the axis,
 -- and by 8 where the work space is shorter than the picture.
-abbrev pub closeLengthRules : Axis → Size → ℕ → ℕ → ℕ → List Rule
-closeLengthRules x z bytes seam work =
+abbrev pub closeAlongLengths : Axis → Size → ℕ → ℕ → ℕ → List Rule
+closeAlongLengths x z bytes seam work =
     sizeRules z bytes ++ (4 when not (eqb seam (turnedSize x z .height)) ∷ 8 when ltb work (pictureBytes z) ∷ [])

@@ -6,7 +6,7 @@ use pictures::Size;
 use pictures::Verdict;
 ghost use mathlib.Core.Path.{_≡_};
 ghost use Rattle.pictures.specs.Refusals.{given, refusal};
-ghost use Rattle.seam_rules.specs.Cuts.{findRules, markLengthRules, closeLengthRules, lastAlong, markAllowed};
+ghost use Rattle.seam_rules.specs.Cuts.{findRules, markLengthRules, closeAlongLengths, lastAlong, markAllowed};
 ghost use mathlib.Core.List.{_++_};
 ghost use Rattle.pictures.specs.Pictures.{sizeRules};
 
@@ -56,7 +56,7 @@ pub fn mark_allowed(mark: u8) -> bool
 
 // Which of 2, 3, 4 and 8 refuses closing up a seam along the axis in buffers of these lengths, or none.
 pub fn judge_close_along(size: Size, axis: Axis, bytes: usize, seam: usize, work: usize) -> Verdict
-    ensures { λ v. ⌜ given v ≡ refusal (closeLengthRules axis size bytes seam work) ⌝ }
+    ensures { λ v. ⌜ given v ≡ refusal (closeAlongLengths axis size bytes seam work) ⌝ }
 {
     let fits = pictures::sized(size, bytes);
     let Verdict::Served = fits else {

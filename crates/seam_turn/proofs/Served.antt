@@ -15,15 +15,15 @@ use Rattle.pictures.specs.declared.refusals.Refusal.{Refusal}
 use Rattle.pictures.specs.Refusals.{_when_, numberOf, given, refusal, served}
 use Rattle.pictures.specs.Pictures.{channelsOf, pictureBytes, sizeRules, picture, bytes}
 use Rattle.pictures.proofs.Rules.{served-first}
-use Rattle.seam_moves.specs.Moving.{outside, closeRules as Moving·closeRules}
+use Rattle.seam_moves.specs.Moving.{outside, closeRules}
 use Rattle.seam_moves.proofs.Served.{each-inside}
 use Rattle.seam_rules.specs.declared.answers.Axis.{Axis}
 use Rattle.seam_rules.specs.declared.answers.Axis.the-variants.{Vertical, Horizontal}
 use Rattle.seam_rules.specs.Axes.{turnedSize}
-use Rattle.seam_rules.specs.Cuts.{cleared, lastAlong, lastRules, closeLengthRules}
+use Rattle.seam_rules.specs.Cuts.{cleared, lastAlong, lastRules, closeAlongLengths}
 use Rattle.seam_rules.proofs.Rooms.{close-room, close-length, work-as-was}
 use Rattle.seam_turn.specs.Axes.{turned, cutAlong}
-use Rattle.seam_turn.specs.Turning.{TurnGiven, closeRules, workLeft, CloseGiven}
+use Rattle.seam_turn.specs.Turning.{TurnGiven, closeAlongRules, workLeft, CloseAlongGiven}
 
 -- A picture of its size, and room for it: the turned picture stands at the front of the space.
 pub turn-served : (b : List ℕ) (z : Size) (x : Axis) (to to′ : List ℕ) (v : Verdict) → TurnGiven b z x to v to′
@@ -36,14 +36,14 @@ turn-served b z x to to′ v g s l =
     (g .number ∙ served-first (sizeRules z (length b)) (8 when ltb (length to) (pictureBytes z) ∷ []) refl s ∙ none)
 
 -- Where the lengths are served, only 10 and 13 are left, as in closing up the picture turned.
-pub close-number : (x : Axis) (z : Size) (bytes : ℕ) (s : List ℕ) (work : ℕ) → refusal (closeLengthRules x z bytes (length s) work) ≡ 0
-    → (m : ℕ) → refusal (sizeRules (turnedSize x z) m) ≡ 0 → refusal (Moving·closeRules (turnedSize x z) m s) ≡ refusal (closeRules x z bytes s work)
+pub close-number : (x : Axis) (z : Size) (bytes : ℕ) (s : List ℕ) (work : ℕ) → refusal (closeAlongLengths x z bytes (length s) work) ≡ 0
+    → (m : ℕ) → refusal (sizeRules (turnedSize x z) m) ≡ 0 → refusal (closeRules (turnedSize x z) m s) ≡ refusal (closeAlongRules x z bytes s work)
 close-number x z bytes s work none m sized =
     let h = turnedSize x z .height in
     let ends = 10 when outside (turnedSize x z .width) s ∷ lastRules x z in
     served-first (sizeRules (turnedSize x z) m) (4 when not (eqb (length s) h) ∷ ends) refl sized
     ∙ ap (λ t. cond (not t) 4 (refusal (10 when outside (turnedSize x z .width) s ∷ lastRules x z))) (eq-eqb (length s) h (close-room x z bytes (length s) work none .seam-long))
-    ∙ sym (served-first (closeLengthRules x z bytes (length s) work) ends refl none)
+    ∙ sym (served-first (closeAlongLengths x z bytes (length s) work) ends refl none)
 
 -- A picture of its size with more than one column or row, a seam inside it, and room: the picture left stands at the front.
 pub record Closed (b : List ℕ) (z : Size) (x : Axis) (s work b′ work′ : List ℕ) : Type 0 where
@@ -55,7 +55,7 @@ unfolding workLeft
 zero-left Vertical work e = e
 zero-left Horizontal work e = refl
 
-pub close-served : (b : List ℕ) (z : Size) (x : Axis) (s work : List ℕ) (v : Verdict) (b′ work′ : List ℕ) → CloseGiven b z x s work v b′ work′
+pub close-served : (b : List ℕ) (z : Size) (x : Axis) (s work : List ℕ) (v : Verdict) (b′ work′ : List ℕ) → CloseAlongGiven b z x s work v b′ work′
     → refusal (sizeRules z (length b)) ≡ 0 → Each (λ c. c < turnedSize x z .width) (turnedSize x z .height) s → lastAlong x z ≡ false → pictureBytes z ≤ length work
     → Closed b z x s work b′ work′
 close-served b z x s work v b′ work′ g sized inside wide room =
@@ -64,13 +64,13 @@ close-served b z x s work v b′ work′ g sized inside wide room =
       work-is = λ e. g .work-left ∙ ap (λ n. workLeft x n work) none ∙ zero-left x work e;
     }
   where
-    lengths : refusal (closeLengthRules x z (length b) (length s) (length work)) ≡ 0
+    lengths : refusal (closeAlongLengths x z (length b) (length s) (length work)) ≡ 0
     lengths = close-length x z (length b) (length s) (length work) (record { sized = sized; seam-long = each-length inside; room = room })
 
     none : given v ≡ 0
     none =
         g .number
-        ∙ served-first (closeLengthRules x z (length b) (length s) (length work)) (10 when outside (turnedSize x z .width) s ∷ lastRules x z) refl lengths
+        ∙ served-first (closeAlongLengths x z (length b) (length s) (length work)) (10 when outside (turnedSize x z .width) s ∷ lastRules x z) refl lengths
         ∙ simp (each-inside inside, wide)
 
 -- The work space as it was where 1 to 8 refuse, and zero after 10 and 13.

@@ -11,7 +11,7 @@ use Rattle.seam_moves.specs.Moving.{outside, exchangeRules}
 use Rattle.seam_rules.specs.declared.answers.Axis.{Axis}
 use Rattle.seam_rules.specs.declared.answers.Axis.the-variants.{Vertical, Horizontal}
 use Rattle.seam_rules.specs.Axes.{turnedSize}
-use Rattle.seam_rules.specs.Cuts.{cleared, closeLengthRules, lastRules}
+use Rattle.seam_rules.specs.Cuts.{cleared, closeAlongLengths, lastRules}
 use Rattle.seam_turn.specs.Axes.{turned, cutAlong}
 
 -- What turning gives, refused as an exchange is: the number, and the space, which keeps what stands after the turned picture.
@@ -21,8 +21,8 @@ pub record TurnGiven (b : List ℕ) (z : Size) (x : Axis) (to : List ℕ) (verdi
 
 -- When closing up is refused: for the lengths of the buffers, by 10 where a column of the seam, or a row, is outside the
 -- picture, and by 13 at the last column or row.
-abbrev pub closeRules : Axis → Size → ℕ → List ℕ → ℕ → List Rule
-closeRules x z bytes s work = closeLengthRules x z bytes (length s) work ++ (10 when outside (turnedSize x z .width) s ∷ lastRules x z)
+abbrev pub closeAlongRules : Axis → Size → ℕ → List ℕ → ℕ → List Rule
+closeAlongRules x z bytes s work = closeAlongLengths x z bytes (length s) work ++ (10 when outside (turnedSize x z .width) s ∷ lastRules x z)
 
 -- Only a horizontal seam takes work space: it is zero afterwards, unless 1 to 8 refuse.
 unfoldable pub workLeft : Axis → ℕ → List ℕ → List ℕ
@@ -31,8 +31,8 @@ workLeft Horizontal n work = cleared n work
 
 -- What closing up gives: the number; the picture without the seam, its rows packed at the front and the freed bytes 0; and the
 -- work space.
-pub record CloseGiven (b : List ℕ) (z : Size) (x : Axis) (s work : List ℕ) (verdict : Verdict) (b′ work′ : List ℕ) : Type 0 where
-  pub number : given verdict ≡ refusal (closeRules x z (length b) s (length work))
+pub record CloseAlongGiven (b : List ℕ) (z : Size) (x : Axis) (s work : List ℕ) (verdict : Verdict) (b′ work′ : List ℕ) : Type 0 where
+  pub number : given verdict ≡ refusal (closeAlongRules x z (length b) s (length work))
   pub picture-left :
       b′ ≡ served (given verdict) (bytes (cutAlong x z s (picture z b)) ++ replicate (turnedSize x z .height * channelsOf (z .kind)) 0) b
   pub work-left : work′ ≡ workLeft x (given verdict) work

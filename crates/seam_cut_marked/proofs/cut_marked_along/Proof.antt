@@ -22,7 +22,7 @@ use Rattle.seam_rules.specs.Axes.{turnedSize, greyOf}
 use Rattle.seam_cut_marked.specs.Axes.{markedSeamAlong, markedCostAlong, blockedAlong}
 use Rattle.seam_turn.specs.Axes.{cutAlong}
 use Rattle.seam_cut.specs.Cutting.{SeamGiven}
-use Rattle.seam_turn.specs.Turning.{CloseGiven}
+use Rattle.seam_turn.specs.Turning.{CloseAlongGiven}
 use Rattle.seam_turn.proofs.Served.{Closed, close-served}
 use Rattle.seam_cut_marked.proofs.Buffers.{seam-free, refused-blocked}
 use Rattle.seam_cut_marked.proofs.Marked.{marked-inside}
@@ -150,7 +150,7 @@ marks-closed c =
     let s = at-turned-size .before .before .before .before .before in
     let a = s .args in
     let p = s .pre in
-    let marks : CloseGiven (now (a .marks)) (greyOf (a .size)) (a .axis) (take (at-turned-size .turned-size .result .height) (f .marked-along .last .1 .1 .1 .1 .0)) (k .close .last .1 .1 .1 .1 .0) (c .close2 .result) (c .close2 .last .0) (c .close2 .last .1 .1 .1 .1 .0) = rw (at-grey .grey .ensures) at (c .close2 .ensures) in
+    let marks : CloseAlongGiven (now (a .marks)) (greyOf (a .size)) (a .axis) (take (at-turned-size .turned-size .result .height) (f .marked-along .last .1 .1 .1 .1 .0)) (k .close .last .1 .1 .1 .1 .0) (c .close2 .result) (c .close2 .last .0) (c .close2 .last .1 .1 .1 .1 .0) = rw (at-grey .grey .ensures) at (c .close2 .ensures) in
     close-served (now (a .marks)) (greyOf (a .size)) (a .axis) (take (at-turned-size .turned-size .result .height) (f .marked-along .last .1 .1 .1 .1 .0)) (k .close .last .1 .1 .1 .1 .0) (c .close2 .result) (c .close2 .last .0) (c .close2 .last .1 .1 .1 .1 .0) marks
     (grey-sized (a .size) (length (now (a .picture))) (now (a .marks)) (sure s) (p .0 .marked))
     (rw (lent told, wide-grey (a .axis) (a .size), tall-grey (a .axis) (a .size)) (inside told))

@@ -13,7 +13,7 @@ use Rattle.pictures.proofs.Rules.{refused-answer, refused-kept, refusal-most}
 use Rattle.seam_moves.specs.Moving.{outside}
 use Rattle.seam_rules.specs.declared.answers.Axis.the-variants.{Vertical}
 use Rattle.seam_rules.specs.Axes.{turnedSize}
-use Rattle.seam_rules.specs.Cuts.{lastRules, closeLengthRules}
+use Rattle.seam_rules.specs.Cuts.{lastRules, closeAlongLengths}
 use Rattle.seam_rules.proofs.Rooms.{close-room}
 use Rattle.seam_turn.specs.Axes.{turned, cutAlong}
 use Rattle.seam_turn.specs.Turning.{workLeft}
@@ -25,7 +25,7 @@ use Rattle.seam_turn.proofs.close.Tie as tie
 first : tie.Start → List Rule
 first c =
     let a = c .args in
-    closeLengthRules (a .axis) (a .size) (length (now (a .picture))) (length (now (a .seam))) (length (now (a .work)))
+    closeAlongLengths (a .axis) (a .size) (length (now (a .picture))) (length (now (a .seam))) (length (now (a .work)))
 
 last : tie.Start → List Rule
 last c =
@@ -93,7 +93,7 @@ returns-2 c =
     let seam = now (a .seam) in
     let work = length (now (a .work)) in
     let e = at-enum-told3 .enum-told3 .given .1 in
-    let lengths : refusal (closeLengthRules Vertical (a .size) (length (now (a .picture))) (length (now (a .seam))) (length (now (a .work)))) ≡ 0 = rw e at (none told) in
+    let lengths : refusal (closeAlongLengths Vertical (a .size) (length (now (a .picture))) (length (now (a .seam))) (length (now (a .work)))) ≡ 0 = rw e at (none told) in
     rw e
     (record {
       number = closed .close-up .ensures .answer ∙ close-number Vertical (a .size) n seam work lengths n (close-room Vertical (a .size) n (length seam) work lengths .sized);

@@ -14,13 +14,13 @@ use Rattle.pictures.specs.Refusals.{_when_, given, refusal, served}
 use Rattle.pictures.specs.Pictures.{channelsOf, pictureBytes, sizeRules, picture, bytes}
 use Rattle.pictures.proofs.Rules.{served-first, number-some, refused-kept}
 use Rattle.pictures.proofs.Limits.{Sized, sized-is}
-use Rattle.seam_moves.specs.Moving.{outside, ExchangeGiven, CloseGiven as Moving·CloseGiven}
+use Rattle.seam_moves.specs.Moving.{outside, ExchangeGiven, CloseGiven}
 use Rattle.seam_rules.specs.declared.answers.Axis.the-variants.{Horizontal}
 use Rattle.seam_rules.specs.Axes.{turnedSize, narrowed}
-use Rattle.seam_rules.specs.Cuts.{lastRules, closeLengthRules, cleared}
+use Rattle.seam_rules.specs.Cuts.{lastRules, closeAlongLengths, cleared}
 use Rattle.seam_rules.proofs.Rooms.{CloseRoom, close-room}
 use Rattle.seam_turn.specs.Axes.{cutAlong}
-use Rattle.seam_turn.specs.Turning.{closeRules, workLeft}
+use Rattle.seam_turn.specs.Turning.{closeAlongRules, workLeft}
 use Rattle.seam_turn.proofs.Columns.{Inside, close-inside, overOf, restOf, front-is, front-sized, left-bytes, left-sides, kept-is, back-is}
 use Rattle.seam_turn.proofs.Served.{close-number, ends-cleared}
 use Rattle.seam_turn.proofs.close_columns.Statement.{statement}
@@ -67,11 +67,11 @@ over-sized c =
 
 -- closed up, with its answer
 closed-as : (c : tie.After-close-up) → let a = start (exchanged c) .args in
-    Moving·CloseGiven (take (length (now (a .picture))) (exchanged c .exchange .last .1 .1 .0)) (turnedSize Horizontal (a .size)) (now (a .seam)) (c .close-up .result) (c .close-up .last .0)
+    CloseGiven (take (length (now (a .picture))) (exchanged c .exchange .last .1 .1 .0)) (turnedSize Horizontal (a .size)) (now (a .seam)) (c .close-up .result) (c .close-up .last .0)
 closed-as c = rw (exchanged c .before .before .before .turned-size .ensures) at (c .close-up .ensures)
 
 number-is : (c : tie.After-close-up) → let a = start (exchanged c) .args in
-    given (c .close-up .result) ≡ refusal (closeRules Horizontal (a .size) (length (now (a .picture))) (now (a .seam)) (length (now (a .work))))
+    given (c .close-up .result) ≡ refusal (closeAlongRules Horizontal (a .size) (length (now (a .picture))) (now (a .seam)) (length (now (a .work))))
 number-is c =
     let s = start (exchanged c) in
     let a = s .args in
@@ -180,7 +180,7 @@ returns c =
     let v = k .close-up .result in
     let why = told .enum-told2 .given in
     let ends = 10 when outside (z .height) seam ∷ lastRules Horizontal z in
-    let n : given (k .close-up .result) ≡ refusal (10 when outside (a .size .height) (now (a .seam)) ∷ lastRules Horizontal (a .size)) = number-is k ∙ served-first (closeLengthRules Horizontal z (length b) (length seam) (length work)) ends refl (s .pre .lengths) in
+    let n : given (k .close-up .result) ≡ refusal (10 when outside (a .size .height) (now (a .seam)) ∷ lastRules Horizontal (a .size)) = number-is k ∙ served-first (closeAlongLengths Horizontal z (length b) (length seam) (length work)) ends refl (s .pre .lengths) in
     let some : 0 < refusal (10 when outside (a .size .height) (now (a .seam)) ∷ lastRules Horizontal (a .size)) = omega (arith, n, ap given (why .1), number-some (why .0 .0)) in
     record {
       number = number-is k;

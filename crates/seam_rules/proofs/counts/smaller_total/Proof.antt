@@ -4,10 +4,10 @@ use Rattle.seam_rules.proofs.counts.smaller_total.Statement.{statement}
 use Rattle.seam_rules.proofs.counts.smaller_total.Tie as tie
 
 returns : tie.Need-returns
-returns c = simp (le-leb _ _ (c .if1 .taken))
+returns c = let a = c .before .args in simp (le-leb (a .vertical) (a .horizontal) (c .if1 .taken))
 
 returns-2 : tie.Need-returns-2
-returns-2 c = simp (lt-leb _ _ (c .if1 .left))
+returns-2 c = let a = c .before .args in simp (lt-leb (a .vertical) (a .horizontal) (c .if1 .left))
 
 pub smaller-total-spec : {M : Type 1} → statement M
 smaller-total-spec = tie.close (tie.spec returns returns-2)

@@ -2,6 +2,7 @@
 use mathlib.Core.Path.{_≡_, refl, sym, ap, _∙_}
 use mathlib.Core.Bool.{not}
 use mathlib.Core.List.{List, [], _∷_}
+use Prim.Native.Nat.{_≤_, _<_}
 use borrow.Author.Needs.{needs}
 use borrow.Author.Tests.{eq-eqb, ne-eqb, lt-ltb, le-ltb}
 use lib.Dec.{eqb, ltb}
@@ -10,7 +11,7 @@ use Rattle.pictures.specs.Pictures.{pictureBytes, sizeRules}
 use Rattle.pictures.proofs.Rules.{served-first, refused-answer}
 use Rattle.pictures.proofs.Limits.{sized-is}
 use Rattle.seam_rules.specs.Axes.{turnedSize}
-use Rattle.seam_rules.specs.Cuts.{closeLengthRules}
+use Rattle.seam_rules.specs.Cuts.{closeAlongLengths}
 use Rattle.seam_rules.proofs.cuts.judge_close_along.Statement.{statement}
 use Rattle.seam_rules.proofs.cuts.judge_close_along.Tie as tie
 
@@ -27,7 +28,7 @@ none c = sym (c .before .before .sized .ensures) ∙ ap given (c .enum-told .giv
 
 rest : (c : tie.After-enum-told)
     → let s = c .before .before .before in
-    let a = s .args in refusal (closeLengthRules (a .axis) (a .size) (a .bytes) (a .seam) (a .work)) ≡ refusal (more s)
+    let a = s .args in refusal (closeAlongLengths (a .axis) (a .size) (a .bytes) (a .seam) (a .work)) ≡ refusal (more s)
 unfolding more
 rest c =
     let s = c .before .before .before in
@@ -68,7 +69,9 @@ returns-3 c =
     let at-turned-size = c .before .before in
     let at-enum-told = at-turned-size .before in
     let same = rw (at-turned-size .turned-size .ensures) at (c .before .if1 .left) in
-    let short = rw (long at-enum-told) at (c .if2 .taken) in
+    let a = at-enum-told .before .before .before .args in
+    let less : a .work < a .bytes = c .if2 .taken in
+    let short = rw (long at-enum-told) at less in
     sym (rest at-enum-told ∙ simp (eq-eqb _ _ same, lt-ltb _ _ short))
 
 returns-4 : tie.Need-returns-4
@@ -77,7 +80,9 @@ returns-4 c =
     let at-turned-size = c .before .before in
     let at-enum-told = at-turned-size .before in
     let same = rw (at-turned-size .turned-size .ensures) at (c .before .if1 .left) in
-    let room = rw (long at-enum-told) at (c .if2 .left) in
+    let a = at-enum-told .before .before .before .args in
+    let most : a .bytes ≤ a .work = c .if2 .left in
+    let room = rw (long at-enum-told) at most in
     sym (rest at-enum-told ∙ simp (eq-eqb _ _ same, le-ltb _ _ room))
 
 pub judge-close-along-spec : {M : Type 1} → statement M

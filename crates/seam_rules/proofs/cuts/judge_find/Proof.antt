@@ -1,7 +1,7 @@
 -- `seam_rules::cuts::judge_find` meets its contract: each return is the first rule that applies.
 use mathlib.Core.Path.{_≡_, refl, sym, ap, _∙_}
 use mathlib.Core.List.{List, [], _∷_}
-use Prim.Native.Nat.{_*_, _≤_}
+use Prim.Native.Nat.{_*_, _≤_, _<_}
 use native.Mathlib.Nat.{mul-le-mul}
 use native.Mathlib.Omega.{arith}
 use borrow.Author.Needs.{needs}
@@ -63,8 +63,10 @@ turned-size-requires c κs = search needs
 returns-2 : tie.Need-returns-2
 unfolding more
 returns-2 c =
-    let short = rw (c .before .turned-size .ensures) at (c .if1 .taken) in
-    sym (rest (c .before .before) ∙ simp (lt-ltb _ _ short))
+    let at-turned-size = c .before in
+    let a = at-turned-size .before .before .before .before .args in
+    let short : a .seam < at-turned-size .turned-size .result .height = c .if1 .taken in
+    sym (rest (at-turned-size .before) ∙ simp (lt-ltb _ _ (rw (at-turned-size .turned-size .ensures) at short)))
 
 mul-if2 : tie.Need-mul-if2
 mul-if2 c = omega (arith, all-most (c .before .before))
@@ -78,7 +80,8 @@ returns-3 c =
     let at-turned-size = c .before .before in
     let at-enum-told = at-turned-size .before in
     let long = rw (at-turned-size .turned-size .ensures) at (c .before .if1 .left) in
-    sym (rest at-enum-told ∙ simp (le-ltb _ _ long, lt-ltb _ _ (c .if2 .taken)))
+    let a = at-enum-told .before .before .before .args in
+    sym (rest at-enum-told ∙ simp (le-ltb _ _ long, lt-ltb (a .work) (32 * pixels (a .size)) (c .if2 .taken)))
 
 returns-4 : tie.Need-returns-4
 unfolding more
@@ -86,7 +89,8 @@ returns-4 c =
     let at-turned-size = c .before .before in
     let at-enum-told = at-turned-size .before in
     let long = rw (at-turned-size .turned-size .ensures) at (c .before .if1 .left) in
-    sym (rest at-enum-told ∙ simp (le-ltb _ _ long, le-ltb _ _ (c .if2 .left)))
+    let a = at-enum-told .before .before .before .args in
+    sym (rest at-enum-told ∙ simp (le-ltb _ _ long, le-ltb (a .work) (32 * pixels (a .size)) (c .if2 .left)))
 
 pub judge-find-spec : {M : Type 1} → statement M
 judge-find-spec =

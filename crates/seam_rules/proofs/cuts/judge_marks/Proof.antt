@@ -6,7 +6,7 @@ use native.Mathlib.Omega.{arith}
 use borrow.Author.Needs.{needs}
 use borrow.Author.Tests.{eq-eqb, ne-eqb}
 use Rattle.pictures.specs.Refusals.{given, refusal}
-use Rattle.pictures.specs.Pictures.{sizeRules}
+use Rattle.pictures.specs.Pictures.{sizeRules, pixels}
 use Rattle.pictures.proofs.Rules.{served-first, refused-answer}
 use Rattle.pictures.proofs.Limits.{sized-is}
 use Rattle.seam_rules.specs.Cuts.{markLengthRules}
@@ -49,10 +49,14 @@ mul-if1 c =
     omega (arith, mul-le-mul (s .height-most) (s .width-most))
 
 returns-2 : tie.Need-returns-2
-returns-2 c = sym (rest (c .before) ∙ simp (ne-eqb _ _ (c .if1 .taken)))
+returns-2 c =
+    let a = c .before .before .before .before .args in
+    sym (rest (c .before) ∙ simp (ne-eqb (a .marks) (pixels (a .size)) (c .if1 .taken)))
 
 returns-3 : tie.Need-returns-3
-returns-3 c = sym (rest (c .before) ∙ simp (eq-eqb _ _ (c .if1 .left)))
+returns-3 c =
+    let a = c .before .before .before .before .args in
+    sym (rest (c .before) ∙ simp (eq-eqb (a .marks) (pixels (a .size)) (c .if1 .left)))
 
 pub judge-marks-spec : {M : Type 1} → statement M
 judge-marks-spec =
