@@ -6,8 +6,9 @@ use Rattle.pictures.specs.declared.sizes.Size.{Size}
 use Rattle.pictures.specs.Refusals.{Rule, refusal}
 use Rattle.seam_rules.specs.declared.answers.Found.{Found}
 use Rattle.seam_rules.specs.declared.answers.Axis.{Axis}
-use Rattle.seam_cut.specs.Axes.{turnedSize}
-use Rattle.seam_cut.specs.Cutting.{SeamGiven, SeamCut, MarksCut}
+use Rattle.seam_rules.specs.Axes.{turnedSize}
+use Rattle.seam_cut.specs.Cutting.{SeamGiven, SeamCut}
+use Rattle.seam_cut_marked.specs.Marking.{MarksCut}
 use Rattle.exports.specs.declared.Sizing.{Sizing}
 use Rattle.exports.specs.declared.Sizing.the-variants.{Of, Unknown}
 use Rattle.exports.specs.declared.Turning.{Turning}

@@ -9,7 +9,8 @@ use Rattle.seam_rules.specs.declared.answers.Rows.{Rows}
 use Rattle.seam_rules.specs.declared.answers.Columns.{Columns}
 use Rattle.seam_rules.specs.declared.answers.Retargeted.{Retargeted}
 use Rattle.seam_rules.specs.Answers.{retargetedNumber, retargetedTotal}
-use Rattle.seam_retarget.specs.Retargeting.{leftSize, cellOf, retargetRules}
+use Rattle.seam_rules.specs.Counts.{leftSize, retargetRules}
+use Rattle.seam_retarget.specs.Retargeting.{cellOf}
 use Rattle.exports.specs.declared.Answer.{Answer}
 use Rattle.exports.specs.declared.Sizing.{Sizing}
 use Rattle.exports.specs.Hosts.{known}

@@ -10,8 +10,11 @@ use Rattle.pictures.specs.Pictures.{channelsOf, picture, bytes, marksOf}
 use Rattle.seam_rules.specs.declared.answers.Found.{Found}
 use Rattle.seam_rules.specs.Answers.{foundNumber, foundCost}
 use Rattle.seam_rules.specs.declared.answers.Axis.{Axis}
-use Rattle.seam_cut.specs.Axes.{turnedSize, seamAlong, costAlong, markedSeamAlong, markedCostAlong, cutAlong}
-use Rattle.seam_cut.specs.Cutting.{cleared}
+use Rattle.seam_rules.specs.Axes.{turnedSize}
+use Rattle.seam_cut.specs.Axes.{seamAlong, costAlong}
+use Rattle.seam_cut_marked.specs.Axes.{markedSeamAlong, markedCostAlong}
+use Rattle.seam_turn.specs.Axes.{cutAlong}
+use Rattle.seam_rules.specs.Cuts.{cleared}
 use Rattle.exports.specs.declared.Answer.{Answer}
 use Rattle.exports.specs.declared.Sizing.{Sizing}
 use Rattle.exports.specs.declared.Turning.{Turning}

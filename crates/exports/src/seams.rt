@@ -7,7 +7,8 @@ use crate::refused;
 use crate::size_named;
 use seam_rules::Found;
 ghost use mathlib.Core.Path.{_≡_};
-ghost use Rattle.seam_cut.specs.Cutting.{findRules, cutRules, markedFindRules, markedCutRules};
+ghost use Rattle.seam_rules.specs.Cuts.{findRules, cutRules};
+ghost use Rattle.seam_cut_marked.specs.Marking.{markedFindRules, markedCutRules};
 ghost use Rattle.exports.specs.Hosts.{sizingOf, turningOf};
 ghost use Rattle.exports.specs.Seams.{replyOf, HostFound, HostPictureCut, HostMarkedFound, HostMarkedPictureCut, HostMarkedMarksCut};
 
@@ -89,7 +90,7 @@ pub extern "C" fn multisize_find_marked(
     let Turning::Along(turned) = axis_named(axis) else {
         return refused(1);
     };
-    reply(seam_cut::find_marked(picture, marks, size, turned, seam, work))
+    reply(seam_cut_marked::find_marked(picture, marks, size, turned, seam, work))
 }
 
 // Cuts that seam out of the picture and the marks and gives it as multisize_find_marked does.
@@ -114,5 +115,5 @@ pub extern "C" fn multisize_cut_marked(
     let Turning::Along(turned) = axis_named(axis) else {
         return refused(1);
     };
-    reply(seam_cut::cut_marked(picture, marks, size, turned, seam, work))
+    reply(seam_cut_marked::cut_marked(picture, marks, size, turned, seam, work))
 }

@@ -24,7 +24,7 @@ use Rattle.map_theory.proofs.Maps.{map-grid}
 use Rattle.text_theory.specs.declared.Head.{Head}
 use Rattle.text_theory.specs.Files.{text}
 use Rattle.seam_theory.specs.PictureSeams.{seamOf}
-use Rattle.seam_cut.proofs.Turns.{bytes-few}
+use Rattle.seam_rules.proofs.Turns.{bytes-few}
 use Rattle.map_build.specs.Numbers.{pairs}
 use Rattle.map_build.specs.Building.{mapBytes, mapAt, mapInRules, mapped, MapGiven}
 use Rattle.seam_theory.proofs.Choosing.{seam-chooses}

@@ -12,7 +12,7 @@ use Rattle.pictures.specs.Refusals.{refusal}
 use Rattle.pictures.specs.Pictures.{channelsOf, pictureBytes, pixels}
 use Rattle.pictures.proofs.Rules.{passed}
 use Rattle.pictures.proofs.Limits.{sides-are}
-use Rattle.seam_cut.proofs.Turns.{bytes-few}
+use Rattle.seam_rules.proofs.Turns.{bytes-few}
 use Rattle.map_theory.specs.Widths.{offered}
 use Rattle.map_theory.proofs.Shown.{allowed-is, offered-is}
 use Rattle.text_theory.specs.declared.Head.{Head}

@@ -18,7 +18,7 @@ use Rattle.pictures.specs.Pictures.{sideRules, pictureBytes, picture, bytes, pi
 use Rattle.pictures.proofs.Rules.{both, served-first}
 use Rattle.pictures.proofs.Buffers.{picture-bytes, length-bytes}
 use Rattle.map_theory.specs.Widths.{allowed}
-use Rattle.seam_cut.proofs.Turns.{bytes-few}
+use Rattle.seam_rules.proofs.Turns.{bytes-few}
 use Rattle.map_build.specs.Numbers.{pairs}
 use Rattle.map_build.specs.Building.{mapBytes}
 use Rattle.map_build.proofs.Pairs.{length-pairs}

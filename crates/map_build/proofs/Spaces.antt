@@ -17,7 +17,7 @@ use Rattle.pictures.specs.Pictures.{channelsOf, sideRules, pictureBytes, pictur
 use Rattle.pictures.proofs.Rules.{served-both, passed}
 use Rattle.pictures.proofs.Limits.{Sides, sides-are}
 use Rattle.pictures.proofs.Buffers.{picture-ofSize}
-use Rattle.seam_cut.proofs.Turns.{sides-of}
+use Rattle.seam_rules.proofs.Turns.{sides-of}
 use Rattle.map_build.specs.Building.{mapBytes, mapAt, mapInRules, mapped}
 use Rattle.map_build.specs.Kernels.{NextNeeded}
 use Rattle.map_build.proofs.Steps.{leftSize, first-mapped}

@@ -8,11 +8,12 @@ use Rattle.pictures.specs.declared.sizes.Size.{Size}
 use Rattle.energy.specs.Energy.{energiesRules}
 use Rattle.pictures.proofs.Rules.{ascending}
 use Rattle.seam_rules.specs.declared.answers.Axis.{Axis}
-use Rattle.seam_cut.specs.Cutting.{findRules, cutRules, markedFindRules, markedCutRules}
+use Rattle.seam_rules.specs.Cuts.{findRules, cutRules}
+use Rattle.seam_cut_marked.specs.Marking.{markedFindRules, markedCutRules}
 use Rattle.seam_objects.specs.Removing.{removalRules}
 use Rattle.seam_rules.specs.declared.answers.Rows.{Rows}
 use Rattle.seam_rules.specs.declared.answers.Columns.{Columns}
-use Rattle.seam_retarget.specs.Retargeting.{retargetRules}
+use Rattle.seam_rules.specs.Counts.{retargetRules}
 
 pub energies-ascending : (z : Size) (bytes r out : ℕ) → ascending 1 (energiesRules z bytes r out) ≡ true
 energies-ascending z bytes r out = refl

@@ -1,10 +1,6 @@
 -- The seam found lies inside the picture.
-use mathlib.Core.Path.{_≡_, refl, ap}
-use mathlib.Core.Bool.{false, cond}
-use mathlib.Core.Option.{Option, Option·getD, none, some}
-use mathlib.Core.List.{List, [], reverse}
+use mathlib.Core.List.{List}
 use Prim.Native.Nat.{ℕ, _<_}
-use native.Mathlib.Omega.{arith}
 use Rattle.grids.specs.Each.{Each}
 use Rattle.grids.proofs.Shapes.{each-member, each-reverse}
 use Rattle.seam_theory.specs.Connected.{IsPath}
@@ -14,14 +10,15 @@ use Rattle.pictures.specs.declared.sizes.Size.{Size}
 use Rattle.pictures.specs.Pictures.{Picture}
 use Rattle.energy.specs.Energy.{energy}
 use Rattle.pictures.proofs.Limits.{Sized}
-use Rattle.seam_theory.specs.PictureSeams.{seamOf, markedUp, markedSeamOf, isNone}
-use Rattle.seam_theory.proofs.Characterised.{marked-is}
+use Rattle.seam_theory.specs.PictureSeams.{seamOf}
 use Rattle.seam_rules.specs.declared.answers.Axis.{Axis}
 use Rattle.seam_rules.specs.declared.answers.Axis.the-variants.{Vertical, Horizontal}
-use Rattle.seam_cut.specs.Axes.{turnedSize, turned, seamAlong, markedSeamAlong, blockedAlong}
+use Rattle.seam_rules.specs.Axes.{turnedSize}
+use Rattle.seam_turn.specs.Axes.{turned}
+use Rattle.seam_cut.specs.Axes.{seamAlong}
 
 -- A path has h columns below w.
-path-inside : (w h : ℕ) (s : List ℕ) → IsPath w h s → Each (λ c. c < w) h s
+pub path-inside : (w h : ℕ) (s : List ℕ) → IsPath w h s → Each (λ c. c < w) h s
 path-inside w h s p = rw (p .size) at (each-member s (p .within))
 
 pub seam-inside : (w h : ℕ) (p : Picture) → 0 < w → 0 < h → Each (λ c. c < w) h (seamOf w h p)
@@ -35,15 +32,3 @@ pub along-inside : (x : Axis) (z : Size) (n : ℕ) (p : Picture) → Sized z n �
 unfolding seamAlong
 along-inside Vertical z n p s = seam-inside (z .width) (z .height) (turned Vertical (z .width) p) (s .width-some) (s .height-some)
 along-inside Horizontal z n p s = seam-inside (z .height) (z .width) (turned Horizontal (z .width) p) (s .height-some) (s .width-some)
-
--- And the seam found by marks, where one is allowed.
-marked-up-inside : (w h : ℕ) (p : Picture) (m : List (List ℕ)) (o : Option (List ℕ)) → markedUp w h p m ≡ o → isNone o ≡ false → Each (λ c. c < w) h (reverse (Option·getD o []))
-marked-up-inside w h p m none e t = absurd (omega (arith, ap (λ k. cond {A = ℕ} k 0 1) t))
-marked-up-inside w h p m (some s) e t = each-reverse (path-inside w h s (marked-is w h p m s .0 e .path))
-
-pub marked-inside : (x : Axis) (z : Size) (p : Picture) (m : List (List ℕ)) → blockedAlong x z p m ≡ false → Each (λ c. c < turnedSize x z .width) (turnedSize x z .height) (markedSeamAlong x z p m)
-unfolding blockedAlong markedSeamAlong markedSeamOf
-marked-inside x z p m e =
-    let q = turned x (z .width) p in
-    let n = turned x (z .width) m in
-    marked-up-inside (turnedSize x z .width) (turnedSize x z .height) q n (markedUp (turnedSize x z .width) (turnedSize x z .height) q n) refl e

@@ -1,30 +1,24 @@
 // Seams of lent pictures: finding and cutting, along either axis.
-mod closing;
 pub mod front;
-pub mod marked;
-pub mod turning;
 
 pub use front::cut_in;
-pub use marked::cut_marked;
-pub use marked::find_marked;
-pub use marked::marked_rooms;
 use pictures::Refusal;
 use pictures::Size;
 use pictures::Verdict;
 use seam_rules::Axis;
 use seam_rules::Found;
-pub use turning::turned_size;
 ghost use mathlib.Core.Path.{_≡_};
+ghost use mathlib.Core.Bool.{false};
 ghost use lib.ListN.{length};
-ghost use Rattle.pictures.specs.Refusals.{given, refusal};
-ghost use Rattle.seam_cut.specs.Cutting.{findRules, cutRules, SeamFound, PictureCut};
-ghost use Rattle.seam_cut.specs.Kernels.{SeamNeeded, CutNeeded};
+ghost use Rattle.pictures.specs.Refusals.{refusal};
+ghost use Rattle.seam_rules.specs.Cuts.{findRules, lastAlong, cutRules};
+ghost use Rattle.seam_cut.specs.Cutting.{SeamFound, PictureCut};
 
 // The seam along the axis, put into the front of seam, and its cost. Refused by 2, 3, 4 and 8.
 pub fn find(picture: &[u8], size: Size, axis: Axis, seam: &mut [u16], work: &mut [u8]) -> Found
     ensures { λ f. ⌜ SeamFound (now (picture .entry)) size axis (now (seam .entry)) (now (work .entry)) (refusal (findRules axis size (length (now (picture .entry))) (length (now (seam .entry))) (length (now (work .entry))))) f (now (seam .exit)) (now (work .exit)) ⌝ }
 {
-    let fits = rooms(size, axis, picture.len(), seam.len(), work.len());
+    let fits = seam_rules::judge_find(size, axis, picture.len(), seam.len(), work.len());
     if let Verdict::Refused(why) = fits {
         return Found::Refused(why);
     }
@@ -37,47 +31,24 @@ pub fn cut(picture: &mut [u8], size: Size, axis: Axis, seam: &mut [u16], work: &
     ensures { λ f. ⌜ SeamFound (now (picture .entry)) size axis (now (seam .entry)) (now (work .entry)) (refusal (cutRules axis size (length (now (picture .entry))) (length (now (seam .entry))) (length (now (work .entry))))) f (now (seam .exit)) (now (work .exit)) ⌝ }
     ensures { λ f. ⌜ PictureCut (now (picture .entry)) size axis (refusal (cutRules axis size (length (now (picture .entry))) (length (now (seam .entry))) (length (now (work .entry))))) (now (picture .exit)) ⌝ }
 {
-    let fits = rooms(size, axis, picture.len(), seam.len(), work.len());
+    let fits = seam_rules::judge_find(size, axis, picture.len(), seam.len(), work.len());
     if let Verdict::Refused(why) = fits {
         return Found::Refused(why);
     }
-    let turned = turning::turned_size(axis, size);
-    let wide = turned.width;
-    if wide == 1 {
+    if seam_rules::takes_last(axis, size) {
         spaces::clear(work);
         return Found::Refused(Refusal::Last);
     }
     cut_along(picture, size, axis, seam, work)
 }
 
-// Which of 2, 3, 4 and 8 refuses buffers of these lengths, or none.
-pub(crate) fn rooms(size: Size, axis: Axis, bytes: usize, seam: usize, work: usize) -> Verdict
-    ensures { λ v. ⌜ given v ≡ refusal (findRules axis size bytes seam work) ⌝ }
-{
-    let fits = pictures::sized(size, bytes);
-    let Verdict::Served = fits else {
-        return fits;
-    };
-    let width = size.width;
-    let height = size.height;
-    let turned = turning::turned_size(axis, size);
-    let long = turned.height;
-    if seam < long {
-        return Verdict::Refused(Refusal::Space);
-    }
-    if work < 32 * (height * width) {
-        return Verdict::Refused(Refusal::Space);
-    }
-    Verdict::Served
-}
-
 // The seam where nothing is refused: found in the picture turned, which stands in the work space.
 fn seam_along(picture: &[u8], size: Size, axis: Axis, seam: &mut [u16], work: &mut [u8]) -> Found
-    requires { ⌜ SeamNeeded (now picture) size axis (now seam) (now work) ⌝ }
+    requires { ⌜ refusal (findRules axis size (length (now picture)) (length (now seam)) (length (now work))) ≡ 0 ⌝ }
     ensures { λ f. ⌜ SeamFound (now (picture .entry)) size axis (now (seam .entry)) (now (work .entry)) 0 f (now (seam .exit)) (now (work .exit)) ⌝ }
 {
-    let turned = turning::turned_size(axis, size);
-    turning::turn(picture, size, axis, work);
+    let turned = seam_rules::turned_size(axis, size);
+    seam_turn::turn(picture, size, axis, work);
     let found = seam_find::find_in(work, turned, seam);
     spaces::clear(work);
     found
@@ -85,14 +56,14 @@ fn seam_along(picture: &[u8], size: Size, axis: Axis, seam: &mut [u16], work: &m
 
 // The cut where nothing is refused.
 fn cut_along(picture: &mut [u8], size: Size, axis: Axis, seam: &mut [u16], work: &mut [u8]) -> Found
-    requires { ⌜ SeamNeeded (now picture) size axis (now seam) (now work) ⌝ }
-    requires { ⌜ CutNeeded size axis ⌝ }
+    requires { ⌜ refusal (findRules axis size (length (now picture)) (length (now seam)) (length (now work))) ≡ 0 ⌝ }
+    requires { ⌜ lastAlong axis size ≡ false ⌝ }
     ensures { λ f. ⌜ SeamFound (now (picture .entry)) size axis (now (seam .entry)) (now (work .entry)) 0 f (now (seam .exit)) (now (work .exit)) ⌝ }
     ensures { λ f. ⌜ PictureCut (now (picture .entry)) size axis 0 (now (picture .exit)) ⌝ }
 {
-    let turned = turning::turned_size(axis, size);
+    let turned = seam_rules::turned_size(axis, size);
     let long = turned.height;
     let found = seam_along(picture, size, axis, seam, work);
-    closing::close(picture, size, axis, &seam[..long], work);
+    seam_turn::close(picture, size, axis, &seam[..long], work);
     found
 }

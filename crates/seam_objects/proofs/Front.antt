@@ -17,9 +17,10 @@ use Rattle.seam_rules.specs.declared.answers.Found.{Found}
 use Rattle.seam_rules.specs.declared.answers.Found.the-variants.{Seam, Refused}
 use Rattle.seam_rules.specs.Answers.{foundNumber}
 use Rattle.seam_rules.specs.declared.answers.Axis.the-variants.{Vertical}
-use Rattle.seam_cut.specs.Axes.{turned, markedSeamAlong, blockedAlong, cutAlong}
-use Rattle.seam_cut.specs.Cutting.{markedCutRules, MarkedPictureCut, MarkedMarksCut}
-use Rattle.seam_cut.proofs.Buffers.{seam-free, refused-blocked}
+use Rattle.seam_turn.specs.Axes.{turned, cutAlong}
+use Rattle.seam_cut_marked.specs.Axes.{markedSeamAlong, blockedAlong}
+use Rattle.seam_cut_marked.specs.Marking.{markedCutRules, MarkedPictureCut, MarkedMarksCut}
+use Rattle.seam_cut_marked.proofs.Buffers.{seam-free, refused-blocked}
 use Rattle.seam_objects.specs.Objects.{noSeam, cutOnce}
 use Rattle.seam_objects.specs.Kernels.{FrontNeeded, front, FrontCut}
 

@@ -15,8 +15,9 @@ use Rattle.pictures.specs.Pictures.{largestSide, channelsOf, sizeRules, bytes, 
 use Rattle.pictures.proofs.Rules.{served-both, passed}
 use Rattle.seam_rules.specs.Moves.{outside}
 use Rattle.seam_rules.specs.declared.answers.Axis.the-variants.{Vertical}
-use Rattle.seam_cut.specs.Cutting.{roomRules, markRules}
-use Rattle.seam_cut.proofs.Buffers.{left-as-was}
+use Rattle.seam_rules.specs.Cuts.{roomRules}
+use Rattle.seam_cut_marked.specs.Marking.{markRules}
+use Rattle.seam_rules.proofs.Rooms.{left-as-was}
 use Rattle.seam_rules.specs.declared.answers.Removal.the-variants.{Refused}
 use Rattle.seam_objects.specs.Objects.{removal}
 use Rattle.seam_objects.specs.Removing.{removalRules, markedPicture, ObjectRemoved}

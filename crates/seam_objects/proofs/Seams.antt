@@ -1,7 +1,7 @@
 -- The loop of object removal: what stands in the buffers after so many cuts, and what is still to be done.
 use mathlib.Core.Path.{_≡_, refl, sym, ap, ap₂, _∙_}
 use mathlib.Core.Logic.{⊎-elim}
-use mathlib.Core.Bool.{true, false, not}
+use mathlib.Core.Bool.{Bool, true, false, not}
 use mathlib.Core.Option.{some}
 use mathlib.Core.List.{List, _++_, append-nil}
 use Prim.Native.Nat.{ℕ, suc, _+_, _-_, _*_, _≤_, _<_}
@@ -18,12 +18,15 @@ use Rattle.pictures.specs.Pictures.{channelsOf, picture, bytes, pixels, marksOf
 use Rattle.pictures.proofs.Limits.{Sides, sides-are, sides-served, sized-is}
 use Rattle.pictures.proofs.Buffers.{bytes-picture}
 use Rattle.seam_rules.specs.Moves.{outside}
-use Rattle.seam_cut.proofs.Turns.{sides-of}
+use Rattle.seam_rules.proofs.Turns.{sides-of}
 use Rattle.grids.proofs.Orders.{more-than-one}
 use Rattle.seam_rules.specs.declared.answers.Removal.{Removal}
 use Rattle.seam_rules.specs.declared.answers.Removal.the-variants.{Done, Narrow, Spent, Blocked}
 use Rattle.seam_objects.specs.Objects.{MarkedPicture, someTwo, toRemove, noSeam, cutOnce, carved, Ending, done, narrow, spent, blocked, ends, removal}
 use Rattle.seam_rules.specs.Answers.{removalNumber, removalCount}
+use Rattle.seam_rules.specs.declared.endings.Next.the-variants.{Ended}
+use Rattle.seam_rules.specs.Endings.{nextStep}
+use Rattle.seam_rules.proofs.Choices.{step-ended}
 use Rattle.seam_objects.specs.Removing.{removalEnding, markedPicture, ObjectRemoved}
 use Rattle.seam_objects.specs.Kernels.{SeamsNeeded, FrontNeeded, front, FrontCut}
 use Rattle.seam_objects.proofs.Shapes.{flat-inside, shaped-start, shaped-cut}
@@ -171,3 +174,12 @@ module _ {z : Size} {b m : List ℕ} {budget width count : ℕ} {b′ m′ : Lis
         -- One cut more.
         pub going-on : FrontCut (sizeAt z width) b′ m′ true b″ m″ → Going z b m budget (width - 1) (count + 1) b″ m″
         going-on f = rw (add-one count) (next f)
+
+-- An ending that the step before a cut gives.
+pub going-ended : {z : Size} {b m : List ℕ} {budget width count : ℕ} {b′ m′ : List ℕ} (g : Going z b m budget width count b′ m′) (marked : Bool)
+    → marked ≡ toRemove (carved count (markedPicture z b m)) → (how : Removal) → nextStep marked width count budget ≡ Ended how → ObjectRemoved z b m budget 0 how b′ m′
+going-ended {z} {b} {m} {budget} {width} {count} {b′} {m′} g marked is =
+    step-ended marked width count budget (λ how. ObjectRemoved z b m budget 0 how b′ m′)
+    (λ e. going-done g (sym e ∙ is))
+    (λ e one. going-narrow g (sym e ∙ is) one)
+    (λ e more all. going-spent g (sym e ∙ is) more all)

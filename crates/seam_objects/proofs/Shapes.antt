@@ -19,8 +19,9 @@ use Rattle.pictures.proofs.Buffers.{picture-ofSize}
 use Rattle.seam_rules.specs.Moves.{outside}
 use Rattle.seam_rules.proofs.Moving.{inside-each, each-inside}
 use Rattle.seam_rules.specs.declared.answers.Axis.the-variants.{Vertical}
-use Rattle.seam_cut.specs.Axes.{turned, markedSeamAlong, blockedAlong}
-use Rattle.seam_cut.proofs.Inside.{marked-inside}
+use Rattle.seam_turn.specs.Axes.{turned}
+use Rattle.seam_cut_marked.specs.Axes.{markedSeamAlong, blockedAlong}
+use Rattle.seam_cut_marked.proofs.Marked.{marked-inside}
 use Rattle.seam_objects.specs.Objects.{MarkedPicture, noSeam, seamIn, cutOnce}
 use Rattle.seam_objects.specs.Removing.{markedPicture}
 use Rattle.seam_objects.specs.Kernels.{SeamsNeeded}

@@ -9,7 +9,7 @@ use Rattle.grids.specs.Rows.{flat}
 use Rattle.pictures.specs.declared.sizes.Size.{Size}
 use Rattle.pictures.specs.Refusals.{Rule, _when_, served}
 use Rattle.pictures.specs.Pictures.{channelsOf, sizeRules, picture, bytes, pixels, marksOf}
-use Rattle.seam_cut.specs.Cutting.{markRules}
+use Rattle.seam_cut_marked.specs.Marking.{markRules}
 use Rattle.seam_rules.specs.declared.answers.Removal.{Removal}
 use Rattle.seam_rules.specs.declared.answers.Removal.the-variants.{Done, Narrow, Spent, Blocked, Refused}
 use Rattle.seam_rules.specs.Answers.{removalNumber, removalCount}

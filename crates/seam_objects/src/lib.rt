@@ -4,6 +4,7 @@ use pictures::Size;
 use pictures::Verdict;
 use seam_rules::Axis;
 use seam_rules::Found;
+use seam_rules::Next;
 use seam_rules::Removal;
 ghost use mathlib.Core.Path.{_≡_};
 ghost use lib.ListN.{length, replicate};
@@ -24,7 +25,7 @@ pub fn remove(
     ensures { λ r. ⌜ ObjectRemoved size (now (picture .entry)) (now (marks .entry)) budget (refusal (removalRules size (now (picture .entry)) (now (marks .entry)) (length (now (work .entry))))) r (now (picture .exit)) (now (marks .exit)) ⌝ }
     ensures { λ r. ⌜ now (work .exit) ≡ served (refusal (removalRules size (now (picture .entry)) (now (marks .entry)) (length (now (work .entry))))) (replicate (length (now (work .entry))) 0) (now (work .entry)) ⌝ }
 {
-    let fits = seam_cut::marked_rooms(
+    let fits = seam_cut_marked::judge_marked(
         picture.len(),
         marks,
         size,
@@ -57,14 +58,10 @@ fn cut_seams(
     let mut count = 0u16;
     loop {
         let pixels = height * width;
-        if !some_two(&marks[..pixels]) {
-            return Removal::Done(count);
-        }
-        if width == 1 {
-            return Removal::Narrow(count);
-        }
-        if count == budget {
-            return Removal::Spent(count);
+        let marked = some_two(&marks[..pixels]);
+        let next = seam_rules::next_step(marked, width, count, budget);
+        if let Next::Ended(how) = next {
+            return how;
         }
         let left = Size {
             width,
@@ -91,7 +88,7 @@ fn cut_front(picture: &mut [u8], marks: &mut [u8], size: Size, work: &mut [u8]) 
     let pixels = height * width;
     let room = 32 * pixels;
     let mut seam = [0u16; 512];
-    let found = seam_cut::cut_marked(
+    let found = seam_cut_marked::cut_marked(
         &mut picture[..bytes],
         &mut marks[..pixels],
         size,

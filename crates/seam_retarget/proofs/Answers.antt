@@ -19,11 +19,12 @@ use Rattle.pictures.proofs.Limits.{Sized, sized-is, sides-served}
 use Rattle.pictures.proofs.Buffers.{bytes-picture}
 use Rattle.seam_places.specs.Between.{partAt}
 use Rattle.seam_places.proofs.Places.{length-part}
-use Rattle.seam_cut.proofs.Turns.{bytes-few}
+use Rattle.seam_rules.proofs.Turns.{bytes-few}
 use Rattle.seam_rules.specs.declared.answers.Rows.{Rows}
 use Rattle.seam_rules.specs.declared.answers.Columns.{Columns}
-use Rattle.seam_retarget.specs.Cells.{smaller, cell}
-use Rattle.seam_retarget.specs.Retargeting.{leftSize, cellOf, workBytes, retargetRules}
+use Rattle.seam_rules.specs.Counts.{smaller, leftSize, workBytes, retargetRules}
+use Rattle.seam_retarget.specs.Cells.{cell}
+use Rattle.seam_retarget.specs.Retargeting.{cellOf}
 use Rattle.seam_retarget.specs.Kernels.{pictureAt, SpaceNeeded, held, firstRow, tableRow, RowNeeded, RowGiven, RetargetNeeded, LastGiven}
 use Rattle.seam_retarget.proofs.Slots.{smaller-few}
 use Rattle.seam_retarget.proofs.Sweep.{first-cells, table-cells}

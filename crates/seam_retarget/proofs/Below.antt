@@ -11,9 +11,11 @@ use Rattle.pictures.specs.declared.sizes.Size.{Size}
 use Rattle.pictures.specs.Pictures.{picture}
 use Rattle.seam_places.specs.Between.{partAt}
 use Rattle.seam_rules.specs.declared.answers.Axis.the-variants.{Vertical, Horizontal}
-use Rattle.seam_retarget.specs.Cells.{Cell, smaller, bySeam, chosen}
+use Rattle.seam_retarget.specs.Cells.{Cell, bySeam, chosen}
+use Rattle.seam_rules.specs.Counts.{smaller}
 use Rattle.seam_retarget.specs.Kernels.{pictureAt, largestTotal, StepNeeded, StepGiven, CellNeeded, CellGiven, held, alongRow, nextRow, tableRow, RowNeeded, RowGiven, MoreTotals}
-use Rattle.seam_retarget.proofs.Slots.{smaller-sides, less-row, same-picture, placed-horizontal}
+use Rattle.seam_rules.proofs.Left.{smaller-sides}
+use Rattle.seam_retarget.proofs.Slots.{less-row, same-picture, placed-horizontal}
 use Rattle.seam_retarget.proofs.Sweep.{along-same, next-same, held-new, held-other, set-small, step-cell, slot-kept, up-to}
 
 -- The row below row r up to column j; behind it stands row r.

@@ -15,11 +15,14 @@ use Rattle.pictures.specs.Pictures.{pictureBytes, sideRules, picture}
 use Rattle.seam_places.specs.Between.{partAt}
 use Rattle.seam_rules.specs.declared.answers.Axis.{Axis}
 use Rattle.seam_rules.specs.declared.answers.Axis.the-variants.{Vertical, Horizontal}
-use Rattle.seam_cut.specs.Axes.{seamAlong, costAlong, cutAlong}
-use Rattle.seam_retarget.specs.Cells.{Cell, smaller, bySeam, chosen}
+use Rattle.seam_cut.specs.Axes.{seamAlong, costAlong}
+use Rattle.seam_turn.specs.Axes.{cutAlong}
+use Rattle.seam_retarget.specs.Cells.{Cell, bySeam, chosen}
+use Rattle.seam_rules.specs.Counts.{smaller}
 use Rattle.seam_retarget.specs.Kernels.{pictureAt, leftAlong, SpaceNeeded, SeamNeeded, SeamGiven, CutNeeded, CutGiven, CellNeeded, CellGiven}
 use Rattle.seam_retarget.proofs.Cuts.{turned-tall, found-inside, cut-is}
-use Rattle.seam_retarget.proofs.Slots.{smaller-few, smaller-sides, less-column, less-row, same-picture, slots-apart, double-few, placed-vertical, placed-horizontal, apart-vertical, apart-horizontal}
+use Rattle.seam_retarget.proofs.Slots.{smaller-few, less-column, less-row, same-picture, slots-apart, double-few, placed-vertical, placed-horizontal, apart-vertical, apart-horizontal}
+use Rattle.seam_rules.proofs.Left.{smaller-sides}
 
 -- A seam found with a seam's space of 512.
 module _ (z : Size) (whole work : ℕ) (needed : SpaceNeeded z whole work) (k r c n : ℕ) (slot : k < 65) (rows : r < z .height) (columns : c < z .width) (many : n ≡ 512) where

@@ -23,8 +23,11 @@ use Rattle.seam_close.specs.Closing.{CloseGiven}
 use Rattle.seam_places.proofs.Places.{Kept, kept-part, put-there, put-kept, length-part}
 use Rattle.seam_close.proofs.Served.{close-served}
 use Rattle.seam_rules.specs.declared.answers.Axis.{Axis}
-use Rattle.seam_cut.specs.Axes.{turnedSize, turned, narrowed, seamAlong, cutAlong}
-use Rattle.seam_cut.proofs.Turns.{turned-bytes, turned-sides, turned-ofSize, sides-of}
+use Rattle.seam_rules.specs.Axes.{turnedSize, narrowed}
+use Rattle.seam_turn.specs.Axes.{turned, cutAlong}
+use Rattle.seam_cut.specs.Axes.{seamAlong}
+use Rattle.seam_rules.proofs.Turns.{turned-bytes, turned-sides, sides-of}
+use Rattle.seam_turn.proofs.Turned.{turned-ofSize}
 use Rattle.seam_cut.proofs.Inside.{along-inside}
 use Rattle.seam_retarget.specs.Kernels.{pictureAt, leftAlong, TurnNeeded, SeamNeeded, SeamGiven, CutNeeded, CutGiven, StepNeeded, StepGiven}
 use Rattle.seam_retarget.proofs.Steps.{sized-at, at-ofSize}

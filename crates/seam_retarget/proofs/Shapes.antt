@@ -18,14 +18,17 @@ use Rattle.pictures.proofs.Limits.{Sides, sides-are}
 use Rattle.energy.proofs.Energy.{energy-most}
 use Rattle.seam_rules.specs.declared.answers.Axis.{Axis}
 use Rattle.seam_rules.specs.declared.answers.Axis.the-variants.{Vertical, Horizontal}
-use Rattle.seam_cut.specs.Axes.{turnedSize, turned, narrowed, seamAlong, costAlong, cutAlong}
-use Rattle.seam_cut.proofs.Turns.{turned-sides}
+use Rattle.seam_rules.specs.Axes.{turnedSize, narrowed}
+use Rattle.seam_turn.specs.Axes.{turned, cutAlong}
+use Rattle.seam_cut.specs.Axes.{seamAlong, costAlong}
+use Rattle.seam_rules.proofs.Turns.{turned-sides}
 use Rattle.seam_cut.proofs.Inside.{along-inside}
-use Rattle.seam_retarget.specs.Cells.{Cell, smaller, bySeam, chosen, cell}
+use Rattle.seam_retarget.specs.Cells.{Cell, bySeam, chosen, cell}
+use Rattle.seam_rules.specs.Counts.{smaller}
 use Rattle.seam_retarget.specs.Kernels.{leftAlong}
 use Rattle.seam_retarget.proofs.Costs.{cost-bound}
 use Rattle.seam_retarget.proofs.Steps.{sized-at}
-use Rattle.seam_retarget.proofs.Slots.{smaller-sides}
+use Rattle.seam_rules.proofs.Left.{smaller-sides}
 
 -- A picture of this size whose pixels all have P.
 abbrev pub Of : (List ℕ → Type 0) → Size → Picture → Type 0

@@ -10,14 +10,12 @@ use lib.Seq.{take-take}
 use Rattle.grids.proofs.Orders.{le-or-lt}
 use Rattle.grids.proofs.Rows.{part-end}
 use Rattle.pictures.specs.declared.sizes.Size.{Size}
-use Rattle.pictures.specs.Refusals.{refusal}
-use Rattle.pictures.specs.Pictures.{channelsOf, pictureBytes, sideRules, picture, pixels}
+use Rattle.pictures.specs.Pictures.{channelsOf, pictureBytes, picture, pixels}
 use Rattle.pictures.proofs.Limits.{sides-are, channels-some}
 use Rattle.seam_places.specs.Between.{partAt}
 use Rattle.seam_rules.specs.Moves.{PlacesApart}
 use Rattle.seam_rules.specs.declared.answers.Axis.the-variants.{Vertical, Horizontal}
-use Rattle.seam_cut.proofs.Turns.{sides-of}
-use Rattle.seam_retarget.specs.Cells.{smaller}
+use Rattle.seam_rules.specs.Counts.{smaller}
 use Rattle.seam_retarget.specs.Kernels.{Apart, pictureAt, leftAlong, SpaceNeeded}
 
 -- A smaller size takes no more bytes, and a picture at least a byte a pixel.
@@ -31,11 +29,6 @@ pub pixels-few : (z : Size) → pixels z ≤ pictureBytes z
 pixels-few z =
     let one : z .width * 1 ≤ z .width * channelsOf (z .kind) = mul-le-mul-left (z .width) (channels-some (z .kind)) in
     mul-le-mul-left (z .height) (rw (mul-one (z .width)) at one)
-
-pub smaller-sides : (z : Size) (r c : ℕ) → refusal (sideRules z) ≡ 0 → r < z .height → c < z .width → refusal (sideRules (smaller z r c)) ≡ 0
-smaller-sides z r c s h w =
-    let q = sides-are z s in
-    sides-of (smaller z r c) (omega arith) (omega (arith, q .width-most)) (omega arith) (omega (arith, q .height-most))
 
 -- A column less, and a row less.
 pub less-column : (z : Size) (r c : ℕ) → leftAlong Vertical (smaller z r c) ≡ smaller z r (c + 1)

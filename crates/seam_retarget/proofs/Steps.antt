@@ -25,8 +25,11 @@ use Rattle.seam_find.specs.Finding.{FindGiven}
 use Rattle.seam_find.proofs.Costs.{front-most}
 use Rattle.seam_rules.specs.declared.answers.Axis.{Axis}
 use Rattle.seam_rules.specs.declared.answers.Axis.the-variants.{Vertical}
-use Rattle.seam_cut.specs.Axes.{turnedSize, turned, seamAlong, costAlong}
-use Rattle.seam_cut.proofs.Turns.{turned-bytes, turned-pixels, turned-sides, turned-ofSize, turned-picture}
+use Rattle.seam_rules.specs.Axes.{turnedSize}
+use Rattle.seam_turn.specs.Axes.{turned}
+use Rattle.seam_cut.specs.Axes.{seamAlong, costAlong}
+use Rattle.seam_rules.proofs.Turns.{turned-bytes, turned-pixels, turned-sides}
+use Rattle.seam_turn.proofs.Turned.{turned-ofSize, turned-picture}
 use Rattle.seam_cut.proofs.FindIn.{FoundThere, find-served}
 use Rattle.seam_cut.proofs.Inside.{along-inside}
 use Rattle.seam_retarget.specs.Kernels.{pictureAt, TurnNeeded, SeamNeeded, SeamGiven}

@@ -15,9 +15,11 @@ use Rattle.pictures.specs.Pictures.{Picture, pictureBytes, picture}
 use Rattle.seam_places.specs.Between.{partAt}
 use Rattle.seam_rules.specs.declared.answers.Axis.{Axis}
 use Rattle.seam_rules.specs.declared.answers.Axis.the-variants.{Vertical, Horizontal}
-use Rattle.seam_retarget.specs.Cells.{Cell, smaller, bySeam, chosen, cell}
+use Rattle.seam_retarget.specs.Cells.{Cell, bySeam, chosen, cell}
+use Rattle.seam_rules.specs.Counts.{smaller}
 use Rattle.seam_retarget.specs.Kernels.{pictureAt, leftAlong, SpaceNeeded, StepNeeded, StepGiven, held, firstRow, alongRow, nextRow, tableRow, RowNeeded, RowGiven}
-use Rattle.seam_retarget.proofs.Slots.{smaller-few, smaller-sides, less-column, same-picture, slots-apart, placed-vertical}
+use Rattle.seam_retarget.proofs.Slots.{smaller-few, less-column, same-picture, slots-apart, placed-vertical}
+use Rattle.seam_rules.proofs.Left.{smaller-sides}
 
 -- The rows are those of the table of cells.
 pub first-cells : (z : Size) (p : Picture) (c : ℕ) → firstRow z (cell z p 0 0) c ≡ cell z p 0 c

@@ -1,21 +1,19 @@
 -- "Retargeting": the table of cells, one for each count of rows and count of columns removed.
 use mathlib.Core.Bool.{cond}
-use Prim.Native.Nat.{ℕ, zero, suc, _+_, _-_}
+use Prim.Native.Nat.{ℕ, zero, suc, _+_}
 use lib.Dec.{leb}
 use Rattle.pictures.specs.declared.sizes.Size.{Size}
 use Rattle.pictures.specs.Pictures.{Picture}
 use Rattle.seam_rules.specs.declared.answers.Axis.{Axis}
 use Rattle.seam_rules.specs.declared.answers.Axis.the-variants.{Vertical, Horizontal}
-use Rattle.seam_cut.specs.Axes.{seamAlong, costAlong, cutAlong}
+use Rattle.seam_rules.specs.Counts.{smaller}
+use Rattle.seam_cut.specs.Axes.{seamAlong, costAlong}
+use Rattle.seam_turn.specs.Axes.{cutAlong}
 
 -- "The answer is the cell's picture and total."
 pub record Cell : Type 0 where
   pub picture : Picture
   pub total : ℕ
-
--- A size with so many rows and so many columns less.
-abbrev pub smaller : Size → ℕ → ℕ → Size
-smaller z rows columns = record { width = z .width - columns; height = z .height - rows; kind = z .kind }
 
 -- From a cell whose picture has this size, by its seam along the axis: "the total growing by that seam's cost in the picture
 -- before the cut".

@@ -14,11 +14,14 @@ use Rattle.seam_places.specs.Between.{partAt}
 use Rattle.seam_rules.specs.Moves.{PlacesApart}
 use Rattle.seam_rules.specs.declared.answers.Axis.{Axis}
 use Rattle.seam_rules.specs.declared.answers.Axis.the-variants.{Vertical, Horizontal}
-use Rattle.seam_cut.specs.Axes.{turnedSize, turned, narrowed, seamAlong, costAlong, cutAlong}
+use Rattle.seam_rules.specs.Axes.{turnedSize, narrowed}
+use Rattle.seam_turn.specs.Axes.{turned, cutAlong}
+use Rattle.seam_cut.specs.Axes.{seamAlong, costAlong}
 use Rattle.seam_rules.specs.declared.answers.Rows.{Rows}
 use Rattle.seam_rules.specs.declared.answers.Columns.{Columns}
-use Rattle.seam_retarget.specs.Cells.{Cell, smaller, bySeam, chosen}
-use Rattle.seam_retarget.specs.Retargeting.{largestCount, leftSize, cellOf, workBytes}
+use Rattle.seam_retarget.specs.Cells.{Cell, bySeam, chosen}
+use Rattle.seam_rules.specs.Counts.{smaller, largestCount, leftSize, workBytes}
+use Rattle.seam_retarget.specs.Retargeting.{cellOf}
 
 -- n bytes at a and m bytes at b don't overlap.
 abbrev pub Apart : ℕ → ℕ → ℕ → ℕ → Type 0

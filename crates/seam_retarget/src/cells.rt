@@ -5,31 +5,14 @@ use pictures::Size;
 use seam_rules::Axis;
 use seam_rules::Columns;
 use seam_rules::Rows;
-ghost use mathlib.Core.Path.{_≡_};
-ghost use Prim.Native.Nat.{_≤_};
+use seam_rules::smaller;
 ghost use lib.ListN.{length};
-ghost use Rattle.seam_retarget.specs.Cells.{smaller as Cells·smaller};
 ghost use Rattle.seam_retarget.specs.Kernels.{CellNeeded, CellGiven};
 
-// Where the places for work stand, counted in pictures: behind the 65 slots, each of two pictures.
+// Where the places for work stand, counted in pictures: after the 65 slots, each of two pictures.
 pub(crate) const VERTICAL: usize = 65;
 
 pub(crate) const HORIZONTAL: usize = 67;
-
-// The size with so many rows and so many columns less.
-pub(crate) fn smaller(size: Size, rows: Rows, columns: Columns) -> Size
-    requires { ⌜ (rows .0 ≤ size .height) × (columns .0 ≤ size .width) ⌝ }
-    ensures { λ z. ⌜ z ≡ Cells·smaller size (rows .0) (columns .0) ⌝ }
-{
-    let width = size.width;
-    let height = size.height;
-    let kind = size.kind;
-    Size {
-        width: width - columns.0,
-        height: height - rows.0,
-        kind,
-    }
-}
 
 // The cell with a row and a column more removed: from the cell above it, in its own slot, by a horizontal seam, or from the
 // cell to its left by a vertical one. Takes the totals of the two and gives the cell's. `whole` is the bytes of a slot.
@@ -56,10 +39,15 @@ pub(crate) fn next_cell(
     let mut down = [0u16; 512];
     let by_row = above + seam_at(work, slot, upper, Axis::Horizontal, horizontal, &mut across);
     let by_column = left + seam_at(work, c * whole, beside, Axis::Vertical, vertical, &mut down);
-    if by_column <= by_row {
-        cut_at(work, vertical, beside, Axis::Vertical, &down, slot);
-        return by_column;
+    let taken = seam_rules::smaller_total(by_column, by_row);
+    match taken {
+        Axis::Vertical => {
+            cut_at(work, vertical, beside, Axis::Vertical, &down, slot);
+            by_column
+        }
+        Axis::Horizontal => {
+            cut_at(work, horizontal, upper, Axis::Horizontal, &across, slot);
+            by_row
+        }
     }
-    cut_at(work, horizontal, upper, Axis::Horizontal, &across, slot);
-    by_row
 }

@@ -1,15 +1,15 @@
 // One seam of a picture that stands at a place of the work space: found, and cut.
 use pictures::Size;
-use seam_cut::turned_size;
 use seam_rules::Axis;
 use seam_rules::Found;
+use seam_rules::narrower;
+use seam_rules::turned_size;
 ghost use mathlib.Core.Path.{_≡_};
 ghost use lib.ListN.{length};
 ghost use Rattle.pictures.specs.Pictures.{pictureBytes, bytes};
 ghost use Rattle.seam_places.specs.Between.{putAt};
-ghost use Rattle.seam_cut.specs.Axes.{turned, narrowed};
+ghost use Rattle.seam_turn.specs.Axes.{turned};
 ghost use Rattle.seam_retarget.specs.Kernels.{pictureAt, TurnNeeded, SeamNeeded, SeamGiven, CutNeeded, CutGiven, StepNeeded, StepGiven};
-ghost use Prim.Native.Nat.{_<_};
 
 // The picture at `from`, put turned at `to`.
 fn turn(work: &mut [u8], from: usize, size: Size, axis: Axis, to: usize)
@@ -24,21 +24,6 @@ fn turn(work: &mut [u8], from: usize, size: Size, axis: Axis, to: usize)
         Axis::Horizontal => {
             seam_places::exchange_between(work, from, size, to);
         }
-    }
-}
-
-// The size with a column less.
-fn narrower(size: Size) -> Size
-    requires { ⌜ 0 < size .width ⌝ }
-    ensures { λ z. ⌜ z ≡ narrowed size ⌝ }
-{
-    let width = size.width;
-    let height = size.height;
-    let kind = size.kind;
-    Size {
-        width: width - 1,
-        height,
-        kind,
     }
 }
 
@@ -60,7 +45,7 @@ pub(crate) fn seam_at(
     let found = seam_find::find_in(&mut work[at..], over, seam);
     match found {
         Found::Seam(cost) => cost,
-        // never here: the size is allowed and there is room
+        // unreachable: the size is allowed and there is room
         Found::Refused(_) => 0,
     }
 }

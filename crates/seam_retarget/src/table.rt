@@ -3,12 +3,12 @@
 use crate::cells::HORIZONTAL;
 use crate::cells::VERTICAL;
 use crate::cells::next_cell;
-use crate::cells::smaller;
 use crate::seams::step;
 use pictures::Size;
 use seam_rules::Axis;
 use seam_rules::Columns;
 use seam_rules::Rows;
+use seam_rules::smaller;
 ghost use Prim.Native.Nat.{_+_};
 ghost use Rattle.seam_retarget.specs.Kernels.{held, firstRow, alongRow, nextRow, tableRow, RowNeeded, RowGiven, NoTotals, Totals, MoreTotals};
 

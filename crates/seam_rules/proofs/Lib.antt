@@ -1,2 +1,6 @@
 pub mod Moving
+pub mod Spaces
+pub mod Turns
+pub mod Left
 pub mod Rooms
+pub mod Choices

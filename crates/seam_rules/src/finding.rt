@@ -11,7 +11,7 @@ ghost use Rattle.seam_rules.specs.Spaces.{spaceRules};
 
 // Whether the seam of a picture of this size can be found in a space of `space` bytes, with the picture's marks if it is
 // marked, and put into a space of `seam` columns; or which of 2, 3 and 8 refuses it.
-pub fn judge_find(size: Size, marked: bool, space: usize, seam: usize) -> Verdict
+pub fn judge_find_in(size: Size, marked: bool, space: usize, seam: usize) -> Verdict
     ensures { λ v. ⌜ given v ≡ refusal (spaceRules size marked space seam) ⌝ }
 {
     let allowed = pictures::sides(size);

@@ -1,6 +1,10 @@
 // What the operations on seams decide before they touch a buffer, as pure functions of numbers, and the forms of their
 // answers.
 pub mod answers;
+pub mod axes;
+pub mod counts;
+pub mod cuts;
+pub mod endings;
 pub mod finding;
 pub mod moves;
 
@@ -10,7 +14,21 @@ pub use answers::Found;
 pub use answers::Removal;
 pub use answers::Retargeted;
 pub use answers::Rows;
-pub use finding::judge_find;
+pub use axes::grey;
+pub use axes::narrower;
+pub use axes::turned_size;
+pub use counts::LARGEST_COUNT;
+pub use counts::judge_retarget;
+pub use counts::smaller;
+pub use counts::smaller_total;
+pub use cuts::judge_close_along;
+pub use cuts::judge_find;
+pub use cuts::judge_marks;
+pub use cuts::mark_allowed;
+pub use cuts::takes_last;
+pub use endings::Next;
+pub use endings::next_step;
+pub use finding::judge_find_in;
 pub use moves::apart_in;
 pub use moves::is_outside;
 pub use moves::judge_close_columns;

@@ -156,7 +156,7 @@ fn print_marked(
 fn print_find_marked(picture: &[u8], marks: &[u8], size: Size, axis: Axis) {
     let mut seam = [9u16; 8];
     let mut work = [1u8; 768];
-    let found = seam_cut::find_marked(picture, marks, size, axis, &mut seam, &mut work);
+    let found = seam_cut_marked::find_marked(picture, marks, size, axis, &mut seam, &mut work);
     print_found(found);
     print_seam(&seam);
     print_number(wide_byte(work[767]));
@@ -177,7 +177,7 @@ fn print_cut_marked(
     let mut left = marks;
     let mut seam = [9u16; 8];
     let mut work = [1u8; 768];
-    let found = seam_cut::cut_marked(
+    let found = seam_cut_marked::cut_marked(
         &mut copy[..bytes],
         &mut left[..pixels],
         size,

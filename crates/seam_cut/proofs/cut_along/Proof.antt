@@ -1,4 +1,4 @@
--- `seam_cut::cut_along` meets its contract.
+-- `seam_cut::cut_along` meets its contract: the seam found lies inside the picture, so closing it up is served.
 use mathlib.Core.Path.{_≡_, sym, ap, _∙_}
 use mathlib.Core.List.{List, _++_}
 use Prim.Native.Nat.{ℕ, _*_, _≤_, _<_}
@@ -11,14 +11,21 @@ use Rattle.grids.specs.Each.{Each}
 use Rattle.grids.proofs.Shapes.{each-length}
 use Rattle.pictures.specs.Pictures.{channelsOf, picture, bytes}
 use Rattle.pictures.proofs.Limits.{Sized, sized-is}
-use Rattle.seam_cut.specs.Axes.{turnedSize, seamAlong, cutAlong}
-use Rattle.seam_cut.proofs.Turns.{bytes-few}
+use Rattle.seam_rules.specs.Axes.{turnedSize}
+use Rattle.seam_cut.specs.Axes.{seamAlong}
+use Rattle.seam_turn.specs.Axes.{cutAlong}
+use Rattle.seam_rules.proofs.Turns.{bytes-few}
+use Rattle.seam_rules.proofs.Rooms.{FindRoom, find-room}
+use Rattle.seam_turn.proofs.Served.{close-served}
 use Rattle.seam_cut.proofs.Inside.{along-inside}
 use Rattle.seam_cut.proofs.cut_along.Statement.{statement}
 use Rattle.seam_cut.proofs.cut_along.Tie as tie
 
+rooms : (c : tie.Start) → FindRoom (c .args .axis) (c .args .size) (length (now (c .args .picture))) (length (now (c .args .seam))) (length (now (c .args .work)))
+rooms c = find-room (c .args .axis) (c .args .size) (length (now (c .args .picture))) (length (now (c .args .seam))) (length (now (c .args .work))) (c .pre .0)
+
 sure : (c : tie.Start) → Sized (c .args .size) (length (now (c .args .picture)))
-sure c = sized-is _ _ (c .pre .0 .sized)
+sure c = sized-is _ _ (rooms c .sized)
 
 -- the seam found
 seam : (c : tie.Start) → List ℕ
@@ -34,7 +41,7 @@ seam-room : (c : tie.After-seam-along)
     turnedSize (s .args .axis) (s .args .size) .height ≤ length (c .seam-along .last .1 .1 .1 .0)
 seam-room c =
     let s = c .before .before .before .before .before .before .before .before in
-    omega (arith, s .pre .0 .seam-room, c .seam-along .kept .1 .1 .1 .0)
+    omega (arith, rooms s .seam-room, c .seam-along .kept .1 .1 .1 .0)
 
 lent : (c : tie.After-seam-along)
     → let at-turned-size = c .before .before .before .before in
@@ -73,17 +80,7 @@ slice-aggregate-close c =
     sym (length-take-le (at-turned-size .turned-size .result .height) (at-seam-along .seam-along .last .1 .1 .1 .0) (rw (at-turned-size .turned-size .ensures) (seam-room at-seam-along)))
 
 close-requires : tie.Need-close-requires
-close-requires c κs =
-    let q = c .before .before .before .before .before .before .before in
-    let s = q .before .before .before .before .before .before .before .before in
-    let p = s .pre in
-    record {
-      sized = p .0 .sized;
-      wide = p .1 .wide;
-      inside = rw (lent q) (inside s);
-      room = omega (arith, bytes-few (s .args .size), p .0 .work-room, work-long q);
-      zero = q .seam-along .ensures .work-is ∙ ap (λ n. replicate n 0) (sym (work-long q));
-    }
+close-requires c κs = search needs
 
 same-length : tie.Need-same-length
 same-length c = search needs
@@ -104,12 +101,15 @@ returns c =
     let z = a .size in
     let b = now (a .picture) in
     let f = q .seam-along .ensures in
-    let k = at-close .close .ensures in (
+    let lent-seam = take (q .before .before .before .before .turned-size .result .height) (q .seam-along .last .1 .1 .1 .0) in
+    let zero = f .work-is ∙ ap (λ n. replicate n 0) (sym (work-long q)) in
+    let k = close-served b z (a .axis) lent-seam (q .seam-along .last .1 .1 .1 .1 .0) (at-close .close .result) (at-close .close .last .0) (at-close .close .last .1 .1 .1 .1 .0) (at-close .close .ensures)
+    (rooms start .sized) (rw (lent q) (inside start)) (start .pre .1) (omega (arith, bytes-few z, rooms start .work-room, work-long q)) in (
       record {
         number-is = f .number-is;
         cost-is = f .cost-is;
         seam-is = f .seam-is;
-        work-is = k .work-is ∙ ap (λ n. replicate n 0) (work-long q);
+        work-is = k .work-is zero ∙ ap (λ n. replicate n 0) (work-long q);
       },
       record {
         picture-is = k .picture-is ∙ ap (λ s. bytes (cutAlong (a .axis) z s (picture z b)) ++ replicate (turnedSize (a .axis) z .height * channelsOf (z .kind)) 0) (lent q);

@@ -1,21 +1,39 @@
--- `seam_cut::seam_along` meets its contract.
+-- `seam_cut::seam_along` meets its contract: turning is served, and the seam is found in the picture that then stands at the
+-- front of the work space.
 use mathlib.Core.Path.{_≡_, ap, _∙_}
 use mathlib.Core.List.{_++_}
 use native.Mathlib.Omega.{arith}
 use borrow.Author.Needs.{needs}
 use denote.Ref.{now}
 use lib.ListN.{length, take, drop, replicate}
-use Rattle.pictures.specs.Pictures.{pictureBytes, picture}
+use Rattle.pictures.specs.Pictures.{pictureBytes, picture, bytes}
 use Rattle.pictures.proofs.Limits.{Sized, sized-is}
 use Rattle.seam_theory.specs.PictureSeams.{seamOf, costOf}
-use Rattle.seam_cut.specs.Axes.{turnedSize, turned, seamAlong, costAlong}
-use Rattle.seam_cut.proofs.Turns.{turned-bytes, turned-pixels, turned-sides, turned-picture, bytes-few}
+use Rattle.seam_rules.specs.Axes.{turnedSize}
+use Rattle.seam_turn.specs.Axes.{turned}
+use Rattle.seam_cut.specs.Axes.{seamAlong, costAlong}
+use Rattle.seam_rules.proofs.Turns.{turned-bytes, turned-pixels, turned-sides, bytes-few}
+use Rattle.seam_rules.proofs.Rooms.{FindRoom, find-room}
+use Rattle.seam_turn.proofs.Turned.{turned-picture}
+use Rattle.seam_turn.proofs.Served.{turn-served}
 use Rattle.seam_cut.proofs.FindIn.{FoundThere, find-served}
 use Rattle.seam_cut.proofs.seam_along.Statement.{statement}
 use Rattle.seam_cut.proofs.seam_along.Tie as tie
 
+rooms : (c : tie.Start) → FindRoom (c .args .axis) (c .args .size) (length (now (c .args .picture))) (length (now (c .args .seam))) (length (now (c .args .work)))
+rooms c = find-room (c .args .axis) (c .args .size) (length (now (c .args .picture))) (length (now (c .args .seam))) (length (now (c .args .work))) (c .pre)
+
 sure : (c : tie.Start) → Sized (c .args .size) (length (now (c .args .picture)))
-sure c = sized-is _ _ (c .pre .sized)
+sure c = sized-is _ _ (rooms c .sized)
+
+-- what turning leaves in the work space
+turned-is : (c : tie.After-turn)
+    → let s = c .before .before .before .before .before .before in
+    let a = s .args in c .turn .last .1 .1 .1 .0 ≡ bytes (turned (a .axis) (a .size .width) (picture (a .size) (now (a .picture)))) ++ drop (pictureBytes (a .size)) (now (a .work))
+turned-is c =
+    let s = c .before .before .before .before .before .before in
+    let a = s .args in
+    turn-served (now (a .picture)) (a .size) (a .axis) (now (a .work)) (c .turn .last .1 .1 .1 .0) (c .turn .result) (c .turn .ensures) (rooms s .sized) (omega (arith, bytes-few (a .size), rooms s .work-room))
 
 -- the turned picture stands at the front of the work space
 there : (c : tie.After-find-in)
@@ -28,7 +46,7 @@ there c =
     let start = at-turned-size .before .before .before .before in
     let a = start .args in
     let s = sure start in
-    let p = start .pre in
+    let p = rooms start in
     find-served (at-turn .turn .last .1 .1 .1 .0) (turnedSize (a .axis) (a .size)) (now (a .seam)) (c .find-in .result) (c .find-in .last .0) (c .find-in .last .1 .1 .0)
     (rw (at-turned-size .turned-size .ensures) at (c .find-in .ensures))
     (turned-sides (a .axis) (a .size) (length (now (a .picture))) s) (p .seam-room)
@@ -42,15 +60,13 @@ seen c =
     let at-turn = c .before .before .before .before .before in
     let s = at-turn .before .before .before .before .before .before in
     let a = s .args in
-    turned-picture (a .axis) (a .size) (now (a .picture)) (at-turn .turn .last .1 .1 .1 .0) (drop (pictureBytes (a .size)) (now (a .work))) (sure s .length-is) (at-turn .turn .ensures)
+    turned-picture (a .axis) (a .size) (now (a .picture)) (at-turn .turn .last .1 .1 .1 .0) (drop (pictureBytes (a .size)) (now (a .work))) (sure s .length-is) (turned-is at-turn)
 
 turned-size-requires : tie.Need-turned-size-requires
 turned-size-requires c κs = search needs
 
 turn-requires : tie.Need-turn-requires
-turn-requires c κs =
-    let s = c .before .before .before .before .before in
-    record { sized = s .pre .sized; room = omega (arith, bytes-few (s .args .size), s .pre .work-room) }
+turn-requires c κs = search needs
 
 find-in-requires : tie.Need-find-in-requires
 find-in-requires c κs = search needs

@@ -16,7 +16,7 @@ use Rattle.pictures.specs.Refusals.{given, refusal, served}
 use Rattle.pictures.specs.Pictures.{pictureBytes, picture, pixels}
 use Rattle.pictures.proofs.Rules.{kept-by}
 use Rattle.pictures.proofs.Limits.{Sized, sides-are, sized-of, sized-served}
-use Rattle.seam_rules.proofs.Rooms.{Rooms, rooms-are}
+use Rattle.seam_rules.proofs.Spaces.{Rooms, rooms-are}
 use Rattle.seam_theory.specs.PictureSeams.{seamOf, costOf}
 use Rattle.seam_find.specs.Finding.{findRules}
 use Rattle.seam_find.specs.Tracing.{columnsTo}
@@ -43,7 +43,7 @@ abbrev seam : tie.After-picture-bytes → List ℕ
 seam c = now (start c .args .seam)
 
 none : (c : tie.After-picture-bytes) → refusal (findRules (size c) (length (space c)) (length (seam c))) ≡ 0
-none c = sym (c .before .before .before .judge-find .ensures) ∙ ap given (c .before .enum-told .given .1)
+none c = sym (c .before .before .before .judge-find-in .ensures) ∙ ap given (c .before .enum-told .given .1)
 
 rooms : (c : tie.After-picture-bytes) → Rooms (size c) false (length (space c)) (length (seam c))
 rooms c = rooms-are (size c) false (length (space c)) (length (seam c)) (none c)
@@ -94,8 +94,8 @@ ways-lent c =
 kept-long : (c : tie.After-find-bottom) → length (c .find-bottom .last .0) ≡ length (space (c .before .before))
 kept-long c = c .find-bottom .kept .0
 
-judge-find-requires : tie.Need-judge-find-requires
-judge-find-requires c κs = search needs
+judge-find-in-requires : tie.Need-judge-find-in-requires
+judge-find-in-requires c κs = search needs
 
 enum-known-allowed : tie.Need-enum-known-allowed
 enum-known-allowed c = search needs
@@ -109,7 +109,7 @@ returns c =
     let seam = now (a .seam) in
     let why = c .before .allowed .given in
     record {
-      number = sym (ap given (why .1)) ∙ at-judge .judge-find .ensures;
+      number = sym (ap given (why .1)) ∙ at-judge .judge-find-in .ensures;
       cost = kept-by (why .0 .0) (costOf (z .width) (z .height) (picture z (take (pictureBytes z) space))) 0;
       space-left = kept-by (why .0 .0) (take (pictureBytes z) space ++ (replicate (pixels z) 0 ++ drop (pictureBytes z + pixels z) space)) space;
       seam-given = kept-by (why .0 .0) (seamOf (z .width) (z .height) (picture z (take (pictureBytes z) space)) ++ drop (z .height) seam) seam;
@@ -211,7 +211,7 @@ pub find-in-spec : {M : Type 1} → statement M
 find-in-spec =
     tie.close
     (tie.spec
-    judge-find-requires
+    judge-find-in-requires
     enum-known-allowed
     returns
     enum-told

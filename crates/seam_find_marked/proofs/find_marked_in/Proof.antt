@@ -22,7 +22,7 @@ use Rattle.pictures.proofs.Limits.{Sized, sides-are, sized-of, sized-served}
 use Rattle.seam_theory.specs.PictureSeams.{markedUp, markedSeamOf, markedCostOf, isNone}
 use Rattle.seam_rules.specs.Answers.{foundNumber}
 use Rattle.seam_rules.specs.Spaces.{spaceRules}
-use Rattle.seam_rules.proofs.Rooms.{Rooms, rooms-are}
+use Rattle.seam_rules.proofs.Spaces.{Rooms, rooms-are}
 use Rattle.seam_sums.specs.Least.{leastTo}
 use Rattle.seam_sums.specs.Weights.{kept, protected}
 use Rattle.seam_sums.proofs.Meant.{heavy, heavy-number, light, light-cost}
@@ -64,7 +64,7 @@ abbrev seam : tie.After-picture-bytes → List ℕ
 seam c = now (start c .args .seam)
 
 none : (c : tie.After-picture-bytes) → refusal (spaceRules (size c) true (length (space c)) (length (seam c))) ≡ 0
-none c = sym (c .before .before .before .judge-find .ensures) ∙ ap given (c .before .enum-told .given .1)
+none c = sym (c .before .before .before .judge-find-in .ensures) ∙ ap given (c .before .enum-told .given .1)
 
 -- then 12 decides
 last-rule : (c : tie.After-picture-bytes)
@@ -162,8 +162,8 @@ weight-is c =
     let g = c .find-bottom .ensures in
     g .sum-is ∙ ap (λ k. getD (sumsDown 18446744073709551615 (size p .width) (weightsOf (size p) (front p)) (size p .height - 1)) k 0) (g .column-is)
 
-judge-find-requires : tie.Need-judge-find-requires
-judge-find-requires c κs = search needs
+judge-find-in-requires : tie.Need-judge-find-in-requires
+judge-find-in-requires c κs = search needs
 
 enum-known-allowed : tie.Need-enum-known-allowed
 enum-known-allowed c = search needs
@@ -176,11 +176,11 @@ returns c =
     let space = now (s .args .space) in
     let seam = now (s .args .seam) in
     let why = c .before .allowed .given in
-    let told = at-judge .judge-find .ensures in
+    let told = at-judge .judge-find-in .ensures in
     let rules = spaceRules z true (length space) (length seam) in
     let n : numberOf (why .0 .0) ≡ refusal (spaceRules z true (length space) (length seam)) = sym (ap given (why .1)) ∙ told in
     record {
-      number = sym (ap given (why .1)) ∙ refused-answer (at-judge .judge-find .result) (why .0 .0) (why .1) rules (12 when blocked s ∷ []) told;
+      number = sym (ap given (why .1)) ∙ refused-answer (at-judge .judge-find-in .result) (why .0 .0) (why .1) rules (12 when blocked s ∷ []) told;
       cost = kept-by (why .0 .0) (markedCostOf (z .width) (z .height) (pictureIn z space) (marksIn z space)) 0;
       space-left = sym (worked-not (numberOf (why .0 .0)) (left s) space (number-some (why .0 .0)) (rw n (refusal-most 8 rules refl)));
       seam-given = kept-by (why .0 .0) (markedSeamOf (z .width) (z .height) (pictureIn z space) (marksIn z space) ++ drop (z .height) seam) seam;
@@ -346,7 +346,7 @@ pub find-marked-in-spec : {M : Type 1} → statement M
 find-marked-in-spec =
     tie.close
     (tie.spec
-    judge-find-requires
+    judge-find-in-requires
     enum-known-allowed
     returns
     enum-told

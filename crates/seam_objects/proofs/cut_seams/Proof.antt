@@ -1,4 +1,5 @@
--- `seam_objects::cut_seams` meets its contract. The loop's invariant: what stands in the buffers after `count` cuts.
+-- `seam_objects::cut_seams` meets its contract. The loop's invariant: what stands in the buffers after `count` cuts. The measure is
+-- the width.
 use mathlib.Core.Path.{_≡_, refl, sym, _∙_}
 use mathlib.Core.Bool.{true}
 use Prim.Native.Nat.{_*_, _≤_}
@@ -9,9 +10,10 @@ use borrow.Author.Tests.{not-true, not-false}
 use denote.Ref.{now}
 use lib.ListN.{length}
 use lib.Seq.{length-take-le}
+use Rattle.seam_rules.proofs.Choices.{GoesOn, step-cut}
 use Rattle.seam_objects.specs.Objects.{toRemove, carved}
 use Rattle.seam_objects.specs.Removing.{markedPicture}
-use Rattle.seam_objects.proofs.Seams.{Going, going-start, going-marks, going-room, going-less, going-needed, going-done, going-narrow, going-spent, going-blocked, going-on}
+use Rattle.seam_objects.proofs.Seams.{Going, going-start, going-marks, going-room, going-less, going-needed, going-ended, going-blocked, going-on}
 use Rattle.seam_objects.proofs.cut_seams.Statement.{statement}
 use Rattle.seam_objects.proofs.cut_seams.Tie as tie
 
@@ -43,8 +45,15 @@ found c =
     let a = start h .args in
     c .some-two .ensures ∙ going-marks (going h)
 
-two : (c : tie.Else1 Inv-loop μ-loop) → let h = c .before .before .before in let a = start h .args in true ≡ toRemove (carved (h .loop .count) (markedPicture (a .size) (now (a .picture)) (now (a .marks))))
-two c = sym (not-false (c .before .some-two .result) (c .if1 .left)) ∙ found (c .before)
+-- what the step before a cut says where it is to go on
+on : (c : tie.After-enum-told Inv-loop μ-loop) → let p = c .before .before in let h = p .before .before .before in GoesOn (p .before .some-two .result) (h .loop .width) (h .loop .count) (start h .args .budget)
+on c =
+    let p = c .before .before in
+    let h = p .before .before .before in
+    step-cut (p .before .some-two .result) (h .loop .width) (h .loop .count) (start h .args .budget) (sym (p .next-step .ensures) ∙ c .enum-told .given .1)
+
+two : (c : tie.After-enum-told Inv-loop μ-loop) → let h = c .before .before .before .before .before in let a = start h .args in true ≡ toRemove (carved (h .loop .count) (markedPicture (a .size) (now (a .picture)) (now (a .marks))))
+two c = sym (on c .some) ∙ found (c .before .before .before)
 
 loop-holds : tie.Need-loop-holds Inv-loop μ-loop
 loop-holds c =
@@ -67,6 +76,12 @@ slice-aggregate-some-two c =
 some-two-requires : tie.Need-some-two-requires Inv-loop μ-loop
 some-two-requires c κs = search needs
 
+next-step-requires : tie.Need-next-step-requires Inv-loop μ-loop
+next-step-requires c κs = search needs
+
+enum-known-next : tie.Need-enum-known-next Inv-loop μ-loop
+enum-known-next c = search needs
+
 same-length : tie.Need-same-length Inv-loop μ-loop
 same-length c = search needs
 
@@ -78,10 +93,19 @@ same-length-3 c = search needs
 
 returns : tie.Need-returns Inv-loop μ-loop
 returns c =
-    let at-some-two = c .before in
-    let h = at-some-two .before .before in
-    let a = start h .args in
-    going-done (going h) (sym (not-true (at-some-two .some-two .result) (c .if1 .taken)) ∙ found at-some-two)
+    let p = c .before .before .before in
+    let h = p .before .before .before in
+    let how = c .before .next .given in
+    going-ended (going h) (p .before .some-two .result) (found (p .before)) (how .0 .0) (sym (p .next-step .ensures) ∙ how .1)
+
+enum-told : tie.Need-enum-told Inv-loop μ-loop
+enum-told c = search needs
+
+cut-front-requires : tie.Need-cut-front-requires Inv-loop μ-loop
+cut-front-requires c κs =
+    let told = c .before .before .before in
+    let h = told .before .before .before .before .before in
+    going-needed (going h) (h .loop .work) (on told .wide) (omega (arith, start h .pre .room, h .loop .inv .1 .1 .1))
 
 same-length-4 : tie.Need-same-length-4 Inv-loop μ-loop
 same-length-4 c = search needs
@@ -94,49 +118,11 @@ same-length-6 c = search needs
 
 returns-2 : tie.Need-returns-2 Inv-loop μ-loop
 returns-2 c =
-    let h = c .before .before .before .before in
-    let a = start h .args in
-    going-narrow (going h) (two (c .before)) (c .if2 .taken)
-
-same-length-7 : tie.Need-same-length-7 Inv-loop μ-loop
-same-length-7 c = search needs
-
-same-length-8 : tie.Need-same-length-8 Inv-loop μ-loop
-same-length-8 c = search needs
-
-same-length-9 : tie.Need-same-length-9 Inv-loop μ-loop
-same-length-9 c = search needs
-
-returns-3 : tie.Need-returns-3 Inv-loop μ-loop
-returns-3 c =
-    let at-if1 = c .before .before in
-    let h = at-if1 .before .before .before in
-    let a = start h .args in
-    going-spent (going h) (two at-if1) (c .before .if2 .left) (c .if3 .taken)
-
-cut-front-requires : tie.Need-cut-front-requires Inv-loop μ-loop
-cut-front-requires c κs =
-    let at-if2 = c .before .before .before .before in
-    let h = at-if2 .before .before .before .before in
-    let a = start h .args in
-    going-needed (going h) (h .loop .work) (at-if2 .if2 .left) (omega (arith, start h .pre .room, h .loop .inv .1 .1 .1))
-
-same-length-10 : tie.Need-same-length-10 Inv-loop μ-loop
-same-length-10 c = search needs
-
-same-length-11 : tie.Need-same-length-11 Inv-loop μ-loop
-same-length-11 c = search needs
-
-same-length-12 : tie.Need-same-length-12 Inv-loop μ-loop
-same-length-12 c = search needs
-
-returns-4 : tie.Need-returns-4 Inv-loop μ-loop
-returns-4 c =
     let q = c .before .before .before .before .before .before .before in
-    let h = q .before .before .before .before .before .before .before .before .before in
-    let a = start h .args in
-    let no = not-true (q .cut-front .result) (c .if4 .taken) in
-    going-blocked (going h) (two (q .before .before .before .before .before .before)) (q .before .before .before .before .before .if2 .left) (q .before .before .before .before .if3 .left) (q .cut-front .last .0) (q .cut-front .last .1 .0) (rw no at (q .cut-front .ensures))
+    let told = q .before .before .before .before in
+    let h = told .before .before .before .before .before in
+    let no = not-true (q .cut-front .result) (c .if1 .taken) in
+    going-blocked (going h) (two told) (on told .wide) (on told .due) (q .cut-front .last .0) (q .cut-front .last .1 .0) (rw no at (q .cut-front .ensures))
 
 sub-width : tie.Need-sub-width Inv-loop μ-loop
 sub-width c =
@@ -147,9 +133,9 @@ sub-width c =
 add-count : tie.Need-add-count Inv-loop μ-loop
 add-count c =
     let q = c .before .before .before .before .before .before .before in
-    let h = q .before .before .before .before .before .before .before .before .before in
-    let a = start h .args in
-    let less = going-less (going h) (q .before .before .before .before .if3 .left) in
+    let told = q .before .before .before .before in
+    let h = told .before .before .before .before .before in
+    let less = going-less (going h) (on told .due) in
     search needs
 
 loop-less : tie.Need-loop-less Inv-loop μ-loop
@@ -161,10 +147,10 @@ loop-less c =
 loop-again : tie.Need-loop-again Inv-loop μ-loop
 loop-again c =
     let q = c .before .before .before .before .before .before .before in
-    let h = q .before .before .before .before .before .before .before .before .before in
-    let a = start h .args in
-    let yes = not-false (q .cut-front .result) (c .if4 .left) in
-    (going-on (going h) (two (q .before .before .before .before .before .before)) (q .before .before .before .before .before .if2 .left) (q .before .before .before .before .if3 .left) (q .cut-front .last .0) (q .cut-front .last .1 .0) (rw yes at (q .cut-front .ensures)), (omega (arith, q .cut-front .kept .0, h .loop .inv .1 .0), (omega (arith, q .cut-front .kept .1 .0, h .loop .inv .1 .1 .0), omega (arith, h .loop .inv .1 .1 .1, q .cut-front .kept .1 .1 .1 .0))))
+    let told = q .before .before .before .before in
+    let h = told .before .before .before .before .before in
+    let yes = not-false (q .cut-front .result) (c .if1 .left) in
+    (going-on (going h) (two told) (on told .wide) (on told .due) (q .cut-front .last .0) (q .cut-front .last .1 .0) (rw yes at (q .cut-front .ensures)), (omega (arith, q .cut-front .kept .0, h .loop .inv .1 .0), (omega (arith, q .cut-front .kept .1 .0, h .loop .inv .1 .1 .0), omega (arith, h .loop .inv .1 .1 .1, q .cut-front .kept .1 .1 .1 .0))))
 
 pub cut-seams-spec : {M : Type 1} → statement M
 cut-seams-spec =
@@ -177,23 +163,18 @@ cut-seams-spec =
     slice-reshare-prefix-some-two
     slice-aggregate-some-two
     some-two-requires
+    next-step-requires
+    enum-known-next
     same-length
     same-length-2
     same-length-3
     returns
+    enum-told
+    cut-front-requires
     same-length-4
     same-length-5
     same-length-6
     returns-2
-    same-length-7
-    same-length-8
-    same-length-9
-    returns-3
-    cut-front-requires
-    same-length-10
-    same-length-11
-    same-length-12
-    returns-4
     sub-width
     add-count
     loop-less

@@ -1,4 +1,4 @@
--- `seam_objects::remove` meets its contract.
+-- `seam_objects::remove` meets its contract: `judge_marked` gives the number, and where it is 0, `cut_seams` the ending.
 use mathlib.Core.Path.{_≡_, sym, ap, _∙_}
 use Prim.Native.Nat.{ℕ}
 use borrow.Author.Needs.{needs}
@@ -16,21 +16,21 @@ number c =
     let a = c .args in
     refusal (removalRules (a .size) (now (a .picture)) (now (a .marks)) (length (now (a .work))))
 
-judged : (c : tie.After-marked-rooms)
+judged : (c : tie.After-judge-marked)
     → let s = c .before .before .before .before .before in
-    given (c .marked-rooms .result) ≡ number s
+    given (c .judge-marked .result) ≡ number s
 unfolding number
 judged c =
     let a = c .before .before .before .before .before .args in
-    c .marked-rooms .ensures ∙ rooms-rules (a .size) (now (a .picture)) (now (a .marks)) (length (now (a .work)))
+    c .judge-marked .ensures ∙ rooms-rules (a .size) (now (a .picture)) (now (a .marks)) (length (now (a .work)))
 
 nothing : (c : tie.After-enum-told)
     → let s = c .before .before .before .before .before .before .before in
     number s ≡ 0
 nothing c = sym (judged (c .before .before)) ∙ ap given (c .enum-told .given .1)
 
-marked-rooms-requires : tie.Need-marked-rooms-requires
-marked-rooms-requires c κs = search needs
+judge-marked-requires : tie.Need-judge-marked-requires
+judge-marked-requires c κs = search needs
 
 enum-known-fits : tie.Need-enum-known-fits
 enum-known-fits c = search needs
@@ -81,7 +81,7 @@ pub remove-spec : {M : Type 1} → statement M
 remove-spec =
     tie.close
     (tie.spec
-    marked-rooms-requires
+    judge-marked-requires
     enum-known-fits
     same-length
     returns

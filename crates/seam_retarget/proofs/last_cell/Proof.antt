@@ -9,8 +9,8 @@ use lib.ListN.{length, replicate}
 use Rattle.pictures.specs.Refusals.{served}
 use Rattle.pictures.specs.Pictures.{pictureBytes}
 use Rattle.pictures.proofs.Limits.{sides-served}
-use Rattle.seam_retarget.specs.Retargeting.{leftSize}
-use Rattle.seam_retarget.proofs.Slots.{smaller-sides}
+use Rattle.seam_rules.specs.Counts.{leftSize}
+use Rattle.seam_rules.proofs.Left.{smaller-sides}
 use Rattle.seam_retarget.proofs.Answers.{no-totals, LastSure, last-sure, first-needed, below-needed, three-long, part-long, served as answer}
 use Rattle.seam_retarget.proofs.last_cell.Statement.{statement}
 use Rattle.seam_retarget.proofs.last_cell.Tie as tie
@@ -72,10 +72,7 @@ rows-below-requires c κs =
     (below-needed (now (a .picture)) (a .size) (a .rows) (a .columns) (now (a .out)) (now (a .work)) (st .pre) (copy .last .1 .0) (copy .ensures .1) (copy .kept .1 .0) blank (one .last .0) (one .last .1 .1 .1 .1 .0) (no-totals 65) (one .ensures), one .ensures .small)
 
 smaller-requires : tie.Need-smaller-requires
-smaller-requires c κs =
-    let s = c .before .before .before .before .before .before .before .before .before .before .before .before .before .before .before .before .before .before .before in
-    let p = s .pre in
-    (omega (arith, p .rows-left), omega (arith, p .columns-left))
+smaller-requires c κs = search needs
 
 picture-bytes-requires : tie.Need-picture-bytes-requires
 picture-bytes-requires c κs = search needs

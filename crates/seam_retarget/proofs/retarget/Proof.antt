@@ -7,7 +7,8 @@ use lib.ListN.{length, drop, replicate}
 use Rattle.pictures.specs.Refusals.{given, refusal}
 use Rattle.pictures.specs.Pictures.{pictureBytes, bytes}
 use Rattle.pictures.proofs.Rules.{kept-by}
-use Rattle.seam_retarget.specs.Retargeting.{leftSize, cellOf, retargetRules}
+use Rattle.seam_rules.specs.Counts.{leftSize, retargetRules}
+use Rattle.seam_retarget.specs.Retargeting.{cellOf}
 use Rattle.seam_retarget.proofs.Answers.{needed-are}
 use Rattle.seam_retarget.proofs.retarget.Statement.{statement}
 use Rattle.seam_retarget.proofs.retarget.Tie as tie
@@ -17,24 +18,24 @@ none : (c : tie.After-enum-told)
     → let s = c .before .before .before .before .before .before in
     let a = s .args in
     refusal (retargetRules (a .size) (a .rows) (a .columns) (length (now (a .picture))) (length (now (a .out))) (length (now (a .work)))) ≡ 0
-none c = sym (c .before .before .rooms .ensures) ∙ ap given (c .enum-told .given .1)
+none c = sym (c .before .before .judge-retarget .ensures) ∙ ap given (c .enum-told .given .1)
 
-rooms-requires : tie.Need-rooms-requires
-rooms-requires c κs = search needs
+judge-retarget-requires : tie.Need-judge-retarget-requires
+judge-retarget-requires c κs = search needs
 
 enum-known-fits : tie.Need-enum-known-fits
 enum-known-fits c = search needs
 
 returns : tie.Need-returns
 returns c =
-    let at-rooms = c .before .before .before in
-    let s = at-rooms .before .before .before .before in
+    let judged = c .before .before .before in
+    let s = judged .before .before .before .before in
     let a = s .args in
     let why = c .before .fits2 .given in
     let z = a .size in
     let k = cellOf z (now (a .picture)) (a .rows) (a .columns) in
     record {
-      number = sym (ap given (why .1)) ∙ at-rooms .rooms .ensures;
+      number = sym (ap given (why .1)) ∙ judged .judge-retarget .ensures;
       total = kept-by (why .0 .0) (k .total) 0;
       out-given = kept-by (why .0 .0) (bytes (k .picture) ++ drop (pictureBytes (leftSize z (a .rows) (a .columns))) (now (a .out))) (now (a .out));
       work-left = kept-by (why .0 .0) (replicate (length (now (a .work))) 0) (now (a .work));
@@ -66,7 +67,7 @@ pub retarget-spec : {M : Type 1} → statement M
 retarget-spec =
     tie.close
     (tie.spec
-    rooms-requires
+    judge-retarget-requires
     enum-known-fits
     returns
     enum-told

@@ -1,11 +1,11 @@
--- `seam_cut::front::cut_in` meets its contract.
+-- `seam_cut::front::cut_in` meets its contract: where a seam is found it lies inside the picture, so closing it up is served.
 use mathlib.Core.Path.{_≡_, refl, sym, ap, ap₂, _∙_}
-use mathlib.Core.Bool.{true}
+use mathlib.Core.Bool.{true, false}
 use mathlib.Core.List.{List, [], _∷_, _++_}
 use Prim.Native.Nat.{ℕ, _+_, _*_, _≤_, _<_}
 use native.Mathlib.Omega.{arith}
 use borrow.Author.Needs.{needs}
-use borrow.Author.Tests.{eq-eqb, ne-eqb}
+use borrow.Author.Tests.{eqb-false}
 use denote.Ref.{now}
 use lib.Dec.{eqb}
 use lib.ListN.{length, take, drop, replicate}
@@ -32,70 +32,70 @@ use Rattle.seam_cut.proofs.front.cut_in.Tie as tie
 
 -- where a seam was found nothing is refused
 rooms : (c : tie.After-enum-told)
-    → let s = c .before .before .before .before .before .before .before .before .before .before .before .before in
+    → let s = c .before .before .before .before .before .before .before .before .before .before .before .before .before in
     let a = s .args in InRoom (a .size) (length (now (a .space))) (length (now (a .seam)))
 rooms c =
     let at-find-in = c .before .before .before .before .before .before in
-    let s = at-find-in .before .before .before .before .before .before in
+    let s = at-find-in .before .before .before .before .before .before .before in
     let a = s .args in
     in-room (a .size) (length (now (a .space))) (length (now (a .seam))) (sym (at-find-in .find-in .ensures .number) ∙ ap foundNumber (c .enum-told .given .1))
 
 there : (c : tie.After-enum-told)
     → let at-find-in = c .before .before .before .before .before .before in
-    let s = at-find-in .before .before .before .before .before .before in
+    let s = at-find-in .before .before .before .before .before .before .before in
     let a = s .args in FoundThere (now (a .space)) (a .size) (now (a .seam)) (at-find-in .find-in .result) (at-find-in .find-in .last .0) (at-find-in .find-in .last .1 .1 .0)
 there c =
     let at-find-in = c .before .before .before .before .before .before in
-    let s = at-find-in .before .before .before .before .before .before in
+    let s = at-find-in .before .before .before .before .before .before .before in
     let a = s .args in
     find-served (now (a .space)) (a .size) (now (a .seam)) (at-find-in .find-in .result) (at-find-in .find-in .last .0) (at-find-in .find-in .last .1 .1 .0) (at-find-in .find-in .ensures) (rooms c .sides) (rooms c .seam-room) (rooms c .space-room)
 
 -- the seam found, and that it lies inside the picture
 seam : (c : tie.After-enum-told) → List ℕ
 seam c =
-    let s = c .before .before .before .before .before .before .before .before .before .before .before .before in
+    let s = c .before .before .before .before .before .before .before .before .before .before .before .before .before in
     let z = s .args .size in
     seamOf (z .width) (z .height) (pictureIn z (now (s .args .space)))
 
 inside : (c : tie.After-enum-told)
-    → let s = c .before .before .before .before .before .before .before .before .before .before .before .before in
+    → let s = c .before .before .before .before .before .before .before .before .before .before .before .before .before in
     let z = s .args .size in Each (λ k. k < z .width) (z .height) (seam c)
 unfolding seam
 inside c =
-    let start = c .before .before .before .before .before .before .before .before .before .before .before .before in
+    let start = c .before .before .before .before .before .before .before .before .before .before .before .before .before in
     let z = start .args .size in
     let s = sides-are z (rooms c .sides) in
     seam-inside (z .width) (z .height) (pictureIn z (now (start .args .space))) (s .width-some) (s .height-some)
 
 seam-long : (c : tie.After-enum-told)
     → let at-find-in = c .before .before .before .before .before .before in
-    let s = at-find-in .before .before .before .before .before .before in
+    let s = at-find-in .before .before .before .before .before .before .before in
     s .args .size .height ≤ length (at-find-in .find-in .last .1 .1 .0)
 seam-long c = omega (arith, rooms c .seam-room, c .before .before .before .before .before .before .find-in .kept .1 .1 .0)
 
 lent-seam : (c : tie.After-enum-told)
     → let at-find-in = c .before .before .before .before .before .before in
-    let s = at-find-in .before .before .before .before .before .before in
+    let s = at-find-in .before .before .before .before .before .before .before in
     take (s .args .size .height) (at-find-in .find-in .last .1 .1 .0) ≡ seam c
 unfolding seam
 lent-seam c =
-    let s = c .before .before .before .before .before .before .before .before .before .before .before .before in
+    let s = c .before .before .before .before .before .before .before .before .before .before .before .before .before in
     let h = s .args .size .height in
     ap (take h) (there c .seam-given) ∙ take-at (seam c) (drop h (now (s .args .seam))) h (each-length (inside c))
 
 -- the picture's bytes, and the space in front of them and behind
 bytes-are : (c : tie.After-picture-bytes)
-    → let s = c .before .before .before .before .before .before .before .before .before .before .before .before .before in
+    → let s = c .before .before .before .before .before .before .before .before .before .before .before .before .before .before in
     c .picture-bytes .result ≡ pictureBytes (s .args .size)
 bytes-are c =
-    let s = c .before .before .before .before .before .before .before .before .before .before .before .before .before in
+    let s = c .before .before .before .before .before .before .before .before .before .before .before .before .before .before in
     c .picture-bytes .ensures ∙ ap (λ n. served n (pictureBytes (s .args .size)) 0) (rooms (c .before) .sides)
 
 front-long : (c : tie.After-picture-bytes)
-    → let s = c .before .before .before .before .before .before .before .before .before .before .before .before .before in
+    → let s = c .before .before .before .before .before .before .before .before .before .before .before .before .before .before in
     length (take (pictureBytes (s .args .size)) (now (s .args .space))) ≡ pictureBytes (s .args .size)
 front-long c =
-    let s = c .before .before .before .before .before .before .before .before .before .before .before .before .before in
+    let s = c .before .before .before .before .before .before .before .before .before .before .before .before .before .before in
     length-take-le (pictureBytes (s .args .size)) (now (s .args .space)) (omega (arith, rooms (c .before) .space-room))
 
 fits : (c : tie.After-picture-bytes)
@@ -107,10 +107,10 @@ fits c =
 
 lent-front : (c : tie.After-picture-bytes)
     → let at-find-in = c .before .before .before .before .before .before .before in
-    let s = at-find-in .before .before .before .before .before .before in
+    let s = at-find-in .before .before .before .before .before .before .before in
     take (c .picture-bytes .result) (at-find-in .find-in .last .0) ≡ take (pictureBytes (s .args .size)) (now (s .args .space))
 lent-front c =
-    let s = c .before .before .before .before .before .before .before .before .before .before .before .before .before in
+    let s = c .before .before .before .before .before .before .before .before .before .before .before .before .before .before in
     let z = s .args .size in
     let space = now (s .args .space) in
     ap₂ take (bytes-are c) (there (c .before) .space-left)
@@ -118,14 +118,17 @@ lent-front c =
 
 left-behind : (c : tie.After-picture-bytes)
     → let at-find-in = c .before .before .before .before .before .before .before in
-    let s = at-find-in .before .before .before .before .before .before in
+    let s = at-find-in .before .before .before .before .before .before .before in
     let z = s .args .size in drop (c .picture-bytes .result) (at-find-in .find-in .last .0) ≡ replicate (pixels z) 0 ++ drop (pictureBytes z + pixels z) (now (s .args .space))
 left-behind c =
-    let s = c .before .before .before .before .before .before .before .before .before .before .before .before .before in
+    let s = c .before .before .before .before .before .before .before .before .before .before .before .before .before .before in
     let z = s .args .size in
     let space = now (s .args .space) in
     ap₂ drop (bytes-are c) (there (c .before) .space-left)
     ∙ drop-at (take (pictureBytes z) space) (replicate (pixels z) 0 ++ drop (pictureBytes z + pixels z) space) (pictureBytes z) (front-long c)
+
+takes-last-requires : tie.Need-takes-last-requires
+takes-last-requires c κs = search needs
 
 last-in-requires : tie.Need-last-in-requires
 last-in-requires c κs = search needs
@@ -137,7 +140,7 @@ returns : tie.Need-returns
 returns c =
     let at-last-in = c .before .before in
     let at-if1 = at-last-in .before .before in
-    let s = at-if1 .before .before .before in
+    let s = at-if1 .before .before .before .before in
     let a = s .args in
     let z = a .size in
     let space = now (a .space) in
@@ -145,7 +148,7 @@ returns c =
     let p = pictureIn z space in
     let rules = findRules z (length space) (length seam) in
     let g = at-last-in .last-in .ensures in
-    let narrow : eqb (a .size .width) 1 ≡ true = eq-eqb _ _ (at-if1 .if1 .taken) in
+    let narrow : eqb (a .size .width) 1 ≡ true = sym (at-if1 .before .takes-last .ensures) ∙ at-if1 .if1 .taken in
     let n = refusal (findRules z (length space) (length seam) ++ (13 when true ∷ [])) in
     let some = last-some z (length space) (length seam) in
     let rest = replicate (pixels z) 0 ++ drop (pictureBytes z + pixels z) space in
@@ -176,7 +179,7 @@ same-length-3 c = search needs
 returns-2 : tie.Need-returns-2
 returns-2 c =
     let at-find-in = c .before .before .before .before .before .before in
-    let s = at-find-in .before .before .before .before .before .before in
+    let s = at-find-in .before .before .before .before .before .before .before in
     let a = s .args in
     let z = a .size in
     let space = now (a .space) in
@@ -222,7 +225,7 @@ slice-aggregate-close-up-2 : tie.Need-slice-aggregate-close-up-2
 slice-aggregate-close-up-2 c =
     let at-enum-told = c .before .before .before in
     let at-find-in = at-enum-told .before .before .before .before .before .before in
-    let s = at-find-in .before .before .before .before .before .before in
+    let s = at-find-in .before .before .before .before .before .before .before in
     sym (length-take-le (s .args .size .height) (at-find-in .find-in .last .1 .1 .0) (seam-long at-enum-told))
 
 close-up-requires : tie.Need-close-up-requires
@@ -242,16 +245,17 @@ returns-3 c =
     let told = at .before in
     let at-find-in = told .before .before .before .before .before .before in
     let at-if1 = at-find-in .before .before .before in
-    let s = at-if1 .before .before .before in
+    let s = at-if1 .before .before .before .before in
     let a = s .args in
     let z = a .size in
     let f = at-find-in .find-in in
     let space = now (a .space) in
     let room = now (a .seam) in
     let p = pictureIn z space in
-    let two : z .width ≡ 1 → ⊥ = at-if1 .if1 .left in
+    let some : eqb (a .size .width) 1 ≡ false = sym (at-if1 .before .takes-last .ensures) ∙ at-if1 .if1 .left in
+    let two = eqb-false _ _ some in
     let wide : 1 < a .size .width = more-than-one (a .size .width) (sides-are (a .size) (rooms told .sides) .width-some) two in
-    let none = served-first (findRules z (length space) (length room)) (13 when eqb (z .width) 1 ∷ []) refl (sym (f .ensures .number) ∙ there told .number) ∙ ap (λ t. refusal (13 when t ∷ [])) (ne-eqb (z .width) 1 two) in
+    let none = served-first (findRules z (length space) (length room)) (13 when eqb (z .width) 1 ∷ []) refl (sym (f .ensures .number) ∙ there told .number) ∙ ap (λ t. refusal (13 when t ∷ [])) some in
     let k = at-close-up .close-up in
     let back : CloseGiven (take (pictureBytes z) space) z (seam told) (k .result) (k .last .0) = rw (lent-front at, lent-seam told) at (k .ensures) in
     let closed = close-served (take (pictureBytes z) space) z (seam told) (k .last .0) (k .result) back (rw (front-long at) (sized-served z (rooms told .sides))) (inside told) wide in
@@ -267,6 +271,7 @@ pub cut-in-spec : {M : Type 1} → statement M
 cut-in-spec =
     tie.close
     (tie.spec
+    takes-last-requires
     last-in-requires
     same-length
     returns

@@ -1,5 +1,5 @@
--- `seam_retarget::cells::next_cell` meets its contract.
-use mathlib.Core.Path.{refl, _∙_}
+-- `seam_retarget::cells::next_cell` meets its contract: both seams are found, then the one of the smaller total is cut.
+use mathlib.Core.Path.{refl, sym, _∙_}
 use Prim.Native.Nat.{_+_, _*_}
 use native.Mathlib.Omega.{arith}
 use borrow.Author.Needs.{needs}
@@ -7,7 +7,8 @@ use denote.Ref.{now}
 use lib.ListN.{length}
 use Rattle.pictures.proofs.Limits.{sides-are}
 use Rattle.seam_rules.specs.declared.answers.Axis.the-variants.{Vertical, Horizontal}
-use Rattle.seam_retarget.specs.Cells.{smaller}
+use Rattle.seam_rules.specs.Counts.{smaller}
+use Rattle.seam_rules.proofs.Choices.{vertical-taken, horizontal-taken}
 use Rattle.seam_retarget.specs.Kernels.{SeamGiven}
 use Rattle.seam_retarget.proofs.Slots.{Near, near}
 use Rattle.seam_retarget.proofs.Choosing.{seam-vertical, seam-horizontal, cut-vertical, cut-horizontal, given-vertical, given-horizontal}
@@ -39,9 +40,7 @@ add-slot : tie.Need-add-slot
 add-slot c = let p = c .before .pre in omega (arith, p .column)
 
 smaller-requires : tie.Need-smaller-requires
-smaller-requires c κs =
-    let p = c .before .pre in
-    (omega (arith, p .rows-left), omega (arith, p .columns-left))
+smaller-requires c κs = search needs
 
 add-slot-2 : tie.Need-add-slot-2
 add-slot-2 c =
@@ -50,9 +49,7 @@ add-slot-2 c =
     omega (arith, p .rows-left, sides-are (st .args .size) (p .space .sides) .height-most)
 
 smaller-requires-2 : tie.Need-smaller-requires-2
-smaller-requires-2 c κs =
-    let p = c .before .before .pre in
-    (omega (arith, p .rows-left), omega (arith, p .columns-left))
+smaller-requires-2 c κs = search needs
 
 add-slot-3 : tie.Need-add-slot-3
 add-slot-3 c = let p = c .before .before .before .pre in omega (arith, p .column)
@@ -110,12 +107,18 @@ add-by-column c =
     let s = at-seam-at2 .before .before .before .before .before .before .before .before .before .before .before .before in
     omega (arith, second at-seam-at2 .cost-most, s .pre .left-small)
 
+smaller-total-requires : tie.Need-smaller-total-requires
+smaller-total-requires c κs = search needs
+
+enum-told : tie.Need-enum-told
+enum-told c = search needs
+
 slice-aggregate-cut-at : tie.Need-slice-aggregate-cut-at
 slice-aggregate-cut-at c = search needs
 
 cut-at-requires : tie.Need-cut-at-requires
 cut-at-requires c κs =
-    let at-seam-at2 = c .before .before .before .before .before .before in
+    let at-seam-at2 = c .before .before .before .before .before .before .before .before in
     let at-seam-at = at-seam-at2 .before .before .before .before .before .before in
     let at-smaller2 = at-seam-at .before .before .before in
     let st = at-smaller2 .before .before .before in
@@ -131,8 +134,9 @@ same-length c = search needs
 returns : tie.Need-returns
 returns c =
     let at-cut-at = c .before .before in
-    let at-if1 = at-cut-at .before .before .before in
-    let at-seam-at2 = at-if1 .before .before .before .before in
+    let told = at-cut-at .before .before .before in
+    let at-total = told .before .before in
+    let at-seam-at2 = at-total .before .before .before .before in
     let at-seam-at = at-seam-at2 .before .before .before .before .before .before in
     let at-smaller2 = at-seam-at .before .before .before in
     let st = at-smaller2 .before .before .before in
@@ -140,14 +144,17 @@ returns c =
     let one = at-seam-at .seam-at in
     let two = at-seam-at2 .seam-at2 in
     let cut = at-cut-at .cut-at in
-    given-vertical (a .size) (a .whole) (a .rows .0) (a .columns .0) (a .above) (a .left) (now (a .work)) (st .pre) _ (one .last .0) (one .last .1 .1 .1 .1 .1 .0) (one .result) (first at-seam-at) _ (two .last .0) (two .last .1 .1 .1 .1 .1 .0) (two .result) (second at-seam-at2) (cut .last .0) (at-if1 .if1 .taken) (rw (at-smaller2 .smaller2 .ensures) at (cut .ensures))
+    given-vertical (a .size) (a .whole) (a .rows .0) (a .columns .0) (a .above) (a .left) (now (a .work)) (st .pre) _ (one .last .0) (one .last .1 .1 .1 .1 .1 .0) (one .result) (first at-seam-at) _ (two .last .0) (two .last .1 .1 .1 .1 .1 .0) (two .result) (second at-seam-at2) (cut .last .0) (vertical-taken (a .left + two .result) (a .above + one .result) (sym (at-total .smaller-total .ensures) ∙ told .enum-told .given .1)) (rw (at-smaller2 .smaller2 .ensures) at (cut .ensures))
+
+enum-told-2 : tie.Need-enum-told-2
+enum-told-2 c = search needs
 
 slice-aggregate-cut-at-2 : tie.Need-slice-aggregate-cut-at-2
 slice-aggregate-cut-at-2 c = search needs
 
 cut-at-requires-2 : tie.Need-cut-at-requires-2
 cut-at-requires-2 c κs =
-    let at-seam-at2 = c .before .before .before .before .before .before in
+    let at-seam-at2 = c .before .before .before .before .before .before .before .before in
     let at-seam-at = at-seam-at2 .before .before .before .before .before .before in
     let at-smaller = at-seam-at .before .before .before .before in
     let st = at-smaller .before .before in
@@ -163,8 +170,9 @@ same-length-2 c = search needs
 returns-2 : tie.Need-returns-2
 returns-2 c =
     let at-cut-at2 = c .before .before in
-    let at-if1 = at-cut-at2 .before .before .before in
-    let at-seam-at2 = at-if1 .before .before .before .before in
+    let told = at-cut-at2 .before .before .before in
+    let at-total = told .before .before in
+    let at-seam-at2 = at-total .before .before .before .before in
     let at-seam-at = at-seam-at2 .before .before .before .before .before .before in
     let at-smaller = at-seam-at .before .before .before .before in
     let st = at-smaller .before .before in
@@ -172,7 +180,7 @@ returns-2 c =
     let one = at-seam-at .seam-at in
     let two = at-seam-at2 .seam-at2 in
     let cut = at-cut-at2 .cut-at2 in
-    given-horizontal (a .size) (a .whole) (a .rows .0) (a .columns .0) (a .above) (a .left) (now (a .work)) (st .pre) _ (one .last .0) (one .last .1 .1 .1 .1 .1 .0) (one .result) (first at-seam-at) _ (two .last .0) (two .last .1 .1 .1 .1 .1 .0) (two .result) (second at-seam-at2) (cut .last .0) (at-if1 .if1 .left) (rw (at-smaller .smaller .ensures) at (cut .ensures))
+    given-horizontal (a .size) (a .whole) (a .rows .0) (a .columns .0) (a .above) (a .left) (now (a .work)) (st .pre) _ (one .last .0) (one .last .1 .1 .1 .1 .1 .0) (one .result) (first at-seam-at) _ (two .last .0) (two .last .1 .1 .1 .1 .1 .0) (two .result) (second at-seam-at2) (cut .last .0) (horizontal-taken (a .left + two .result) (a .above + one .result) (sym (at-total .smaller-total .ensures) ∙ told .enum-told2 .given .1)) (rw (at-smaller .smaller .ensures) at (cut .ensures))
 
 pub next-cell-spec : {M : Type 1} → statement M
 next-cell-spec =
@@ -193,11 +201,14 @@ next-cell-spec =
     slice-aggregate-seam-at-2
     seam-at-requires-2
     add-by-column
+    smaller-total-requires
+    enum-told
     slice-aggregate-cut-at
     cut-at-requires
-    same-length
-    returns
+    enum-told-2
     slice-aggregate-cut-at-2
     cut-at-requires-2
+    same-length
+    returns
     same-length-2
     returns-2)

@@ -9,8 +9,8 @@ use lib.Seq.{length-take-le}
 use Rattle.pictures.specs.Refusals.{served}
 use Rattle.pictures.specs.Pictures.{pictureBytes}
 use Rattle.seam_close.specs.Closing.{CloseGiven}
-use Rattle.seam_cut.specs.Axes.{turnedSize, narrowed}
-use Rattle.seam_cut.proofs.Turns.{turned-sides}
+use Rattle.seam_rules.specs.Axes.{turnedSize, narrowed}
+use Rattle.seam_rules.proofs.Turns.{turned-sides}
 use Rattle.seam_retarget.proofs.Steps.{sized-at}
 use Rattle.seam_retarget.proofs.Cuts.{cut-sure, back-needed, cut-given}
 use Rattle.seam_retarget.proofs.seams.cut_at.Statement.{statement}
@@ -61,12 +61,7 @@ close-up-requires : tie.Need-close-up-requires
 close-up-requires c κs = search needs
 
 narrower-requires : tie.Need-narrower-requires
-narrower-requires c κs =
-    let at-picture-bytes = c .before .before .before .before .before .before in
-    let at-turned-size = at-picture-bytes .before in
-    let st = at-turned-size .before .before .before in
-    let a = st .args in
-    rw (at-turned-size .turned-size .ensures) (cut-sure (now (a .work)) (a .at) (a .size) (a .axis) (now (a .seam)) (a .to) (st .pre) _ (all-is at-picture-bytes) .some)
+narrower-requires c κs = search needs
 
 -- the part that was closed up
 closed : (c : tie.After-close-up)

@@ -5,7 +5,7 @@ use denote.Ref.{now}
 use Rattle.pictures.specs.Refusals.{served}
 use Rattle.pictures.specs.Pictures.{pictureBytes}
 use Rattle.seam_places.proofs.Served.{exchange-between-served}
-use Rattle.seam_cut.specs.Axes.{turned}
+use Rattle.seam_turn.specs.Axes.{turned}
 use Rattle.seam_retarget.proofs.Steps.{copied-turned}
 use Rattle.seam_retarget.proofs.seams.turn.Statement.{statement}
 use Rattle.seam_retarget.proofs.seams.turn.Tie as tie

@@ -2,10 +2,11 @@
 use mathlib.Core.Path.{_≡_, sym, _∙_}
 use Prim.Native.Nat.{_+_, _-_, _*_}
 use native.Mathlib.Omega.{arith}
+use borrow.Author.Needs.{needs}
 use denote.Ref.{now}
 use lib.ListN.{length}
 use Rattle.seam_rules.specs.declared.answers.Axis.the-variants.{Vertical}
-use Rattle.seam_retarget.specs.Cells.{smaller}
+use Rattle.seam_rules.specs.Counts.{smaller}
 use Rattle.seam_retarget.specs.Kernels.{StepGiven}
 use Rattle.seam_retarget.proofs.Slots.{Near, near}
 use Rattle.seam_retarget.proofs.Sweep.{FirstSoFar, first-start, first-step, first-turn, first-end}
@@ -42,9 +43,7 @@ loop-holds c =
     first-start (a .size) (a .whole) (a .columns .0) (now (a .work)) (now (a .totals)) (st .pre .0) (st .pre .1)
 
 smaller-requires : tie.Need-smaller-requires Inv-loop μ-loop
-smaller-requires c κs =
-    let p = c .before .before .before .before .pre .0 in
-    (omega arith, omega (arith, p .columns-left, c .loop-test .taken))
+smaller-requires c κs = search needs
 
 mul-step : tie.Need-mul-step Inv-loop μ-loop
 mul-step c = let q = close (c .before .before) in omega arith

@@ -6,7 +6,7 @@ use borrow.Author.Needs.{needs}
 use denote.Ref.{now}
 use Rattle.pictures.proofs.Limits.{sides-are}
 use Rattle.seam_rules.specs.declared.answers.Axis.the-variants.{Horizontal}
-use Rattle.seam_retarget.specs.Cells.{smaller}
+use Rattle.seam_rules.specs.Counts.{smaller}
 use Rattle.seam_retarget.specs.Kernels.{StepGiven}
 use Rattle.seam_retarget.proofs.Below.{next-step, next-needed, next-sums, next-given}
 use Rattle.seam_retarget.proofs.table.next_row.Statement.{statement}
@@ -20,7 +20,7 @@ given : (c : tie.After-step)
 given c = rw (c .before .before .smaller .ensures) at (c .step .ensures)
 
 smaller-requires : tie.Need-smaller-requires
-smaller-requires c κs = let p = c .before .before .pre .0 in (omega (arith, p .rows-left), omega arith)
+smaller-requires c κs = search needs
 
 mul-step : tie.Need-mul-step
 mul-step c =

@@ -1,0 +1,216 @@
+-- `seam_cut_marked::cut_marked` meets its contract: `judge_marked` gives the numbers to 8; `last_marked` gives 12 or 13 at the
+-- last column or row, and `cut_marked_along` all else.
+use mathlib.Core.Path.{_≡_, refl, sym, ap, _∙_}
+use mathlib.Core.Bool.{Bool, true, false, cond}
+use mathlib.Core.List.{List, _∷_, _++_}
+use Prim.Native.Nat.{_*_}
+use native.Mathlib.Omega.{arith}
+use borrow.Author.Needs.{needs}
+use denote.Ref.{now}
+use lib.ListN.{length, drop, replicate}
+use Rattle.grids.specs.Rows.{flat}
+use Rattle.pictures.specs.Refusals.{Rule, _when_, given, refusal}
+use Rattle.pictures.specs.Pictures.{channelsOf, sizeRules, picture, bytes, marksOf}
+use Rattle.pictures.proofs.Rules.{served-first, refused-answer, refusal-most}
+use Rattle.pictures.proofs.Limits.{sized-is}
+use Rattle.seam_rules.specs.Axes.{turnedSize}
+use Rattle.seam_cut_marked.specs.Axes.{markedSeamAlong, markedCostAlong, blockedAlong}
+use Rattle.seam_turn.specs.Axes.{cutAlong}
+use Rattle.seam_rules.specs.Cuts.{roomRules, lastAlong, lastRules}
+use Rattle.seam_cut_marked.specs.Marking.{markRules}
+use Rattle.seam_cut_marked.specs.Kernels.{MarkedNeeded}
+use Rattle.seam_cut_marked.proofs.Buffers.{marked-needed, last-kept, last-cleared}
+use Rattle.seam_rules.proofs.Rooms.{left-as-was, work-as-was}
+use Rattle.seam_rules.proofs.Turns.{turned-tall}
+use Rattle.seam_cut_marked.proofs.cut_marked.Statement.{statement}
+use Rattle.seam_cut_marked.proofs.cut_marked.Tie as tie
+
+-- the rules of picture, marks and spaces; whether every seam meets a protected pixel; and the rules of the seam
+first : tie.Start → List Rule
+first c =
+    let a = c .args in
+    sizeRules (a .size) (length (now (a .picture))) ++ (markRules (a .size) (now (a .marks)) ++ roomRules (a .axis) (a .size) (length (now (a .seam))) (length (now (a .work))))
+
+blocked : tie.Start → Bool
+blocked c =
+    let a = c .args in
+    blockedAlong (a .axis) (a .size) (picture (a .size) (now (a .picture))) (marksOf (a .size) (now (a .marks)))
+
+last : tie.Start → List Rule
+last c = 12 when blocked c ∷ lastRules (c .args .axis) (c .args .size)
+
+none : (c : tie.After-enum-told)
+    → let s = c .before .before .before .before .before .before .before .before in
+    refusal (first s) ≡ 0
+unfolding first
+none c = sym (c .before .before .judge-marked .ensures) ∙ ap given (c .enum-told .given .1)
+
+rest : (c : tie.After-enum-told)
+    → let s = c .before .before .before .before .before .before .before .before in
+    refusal (first s ++ last s) ≡ refusal (last s)
+unfolding first
+rest c =
+    let s = c .before .before .before .before .before .before .before .before in
+    served-first (first s) (last s) refl (none c)
+
+needed : (c : tie.After-enum-told)
+    → let s = c .before .before .before .before .before .before .before .before in
+    let a = s .args in MarkedNeeded (now (a .picture)) (now (a .marks)) (a .size) (a .axis) (now (a .seam)) (now (a .work))
+unfolding first
+needed c =
+    let s = c .before .before .before .before .before .before .before .before in
+    let a = s .args in
+    marked-needed (a .axis) (a .size) (now (a .picture)) (now (a .marks)) (now (a .seam)) (now (a .work)) (none c)
+
+judge-marked-requires : tie.Need-judge-marked-requires
+judge-marked-requires c κs = search needs
+
+enum-known-fits : tie.Need-enum-known-fits
+enum-known-fits c = search needs
+
+same-length : tie.Need-same-length
+same-length c = search needs
+
+returns : tie.Need-returns
+unfolding first last blocked
+returns c =
+    let judged = c .before .before .before in
+    let s = judged .before .before .before .before .before .before in
+    let a = s .args in
+    let x = a .axis in
+    let z = a .size in
+    let p = picture z (now (a .picture)) in
+    let m = marksOf z (now (a .marks)) in
+    let h = turnedSize x z .height in
+    let why = c .before .fits2 .given in
+    let told = judged .judge-marked in
+    let n = refusal (first s ++ last s) in
+    let e = sym (ap given (why .1)) ∙ refused-answer (told .result) (why .0 .0) (why .1) (first s) (last s) (told .ensures) in
+    let few = refusal-most 8 (first s) refl in (
+      record {
+        number-is = e;
+        cost-is = left-as-was (why .0 .0) n e (markedCostAlong x z p m) 0;
+        seam-is = left-as-was (why .0 .0) n e (markedSeamAlong x z p m ++ drop h (now (a .seam))) (now (a .seam));
+        work-is = work-as-was (why .0 .0) n e (omega (arith, few, sym (ap given (why .1)) ∙ told .ensures)) (now (a .work));
+      },
+      (
+        record {
+          picture-is = left-as-was (why .0 .0) n e (bytes (cutAlong x z (markedSeamAlong x z p m) p) ++ replicate (h * channelsOf (z .kind)) 0) (now (a .picture));
+        },
+        record {
+          marks-are = left-as-was (why .0 .0) n e (flat (cutAlong x z (markedSeamAlong x z p m) m) ++ replicate h 0) (now (a .marks));
+        },
+      ),
+    )
+
+enum-told : tie.Need-enum-told
+enum-told c = search needs
+
+takes-last-requires : tie.Need-takes-last-requires
+takes-last-requires c κs = search needs
+
+last-marked-requires : tie.Need-last-marked-requires
+last-marked-requires c κs =
+    let at-enum-told = c .before .before .before .before .before in
+    let s = at-enum-told .before .before .before .before .before .before .before .before in
+    let a = s .args in
+    let p = needed at-enum-told in
+    record {
+      sized = p .sized;
+      marked = p .marked;
+      seam-room = turned-tall (a .axis) (a .size) (length (now (a .picture))) (sized-is _ _ (p .sized));
+      work-room = p .work-room;
+    }
+
+same-length-2 : tie.Need-same-length-2
+same-length-2 c = search needs
+
+same-length-3 : tie.Need-same-length-3
+same-length-3 c = search needs
+
+same-length-4 : tie.Need-same-length-4
+same-length-4 c = search needs
+
+returns-2 : tie.Need-returns-2
+unfolding first last blocked
+returns-2 c =
+    let at-last-marked = c .before .before in
+    let at-if1 = at-last-marked .before .before .before .before in
+    let at-takes-last = at-if1 .before in
+    let at-enum-told = at-takes-last .before in
+    let s = at-enum-told .before .before .before .before .before .before .before .before in
+    let a = s .args in
+    let x = a .axis in
+    let z = a .size in
+    let p = picture z (now (a .picture)) in
+    let m = marksOf z (now (a .marks)) in
+    let h = turnedSize x z .height in
+    let t = blocked s in
+    let g = at-last-marked .last-marked .ensures in
+    let narrow : lastAlong (a .axis) (a .size) ≡ true = sym (at-takes-last .takes-last .ensures) ∙ at-if1 .if1 .taken in
+    let e : refusal (first s ++ last s) ≡ cond (blocked s) 12 13 = rest at-enum-told ∙ ap (λ t. cond (blocked s) 12 (cond t 13 0)) narrow in
+    rw e (
+      record {
+        number-is = g .number-is;
+        cost-is = g .cost-is ∙ last-kept t (markedCostAlong x z p m) 0;
+        seam-is = last-kept t (markedSeamAlong x z p m ++ drop h (now (a .seam))) (now (a .seam));
+        work-is = g .work-is ∙ last-cleared t (now (a .work));
+      },
+      (
+        record { picture-is = last-kept t (bytes (cutAlong x z (markedSeamAlong x z p m) p) ++ replicate (h * channelsOf (z .kind)) 0) (now (a .picture)) },
+        record { marks-are = last-kept t (flat (cutAlong x z (markedSeamAlong x z p m) m) ++ replicate h 0) (now (a .marks)) },
+      ),
+    )
+
+cut-marked-along-requires : tie.Need-cut-marked-along-requires
+cut-marked-along-requires c κs =
+    let at-if1 = c .before .before .before .before in
+    let at-takes-last = at-if1 .before in
+    let at-enum-told = at-takes-last .before in
+    (needed at-enum-told, sym (at-takes-last .takes-last .ensures) ∙ at-if1 .if1 .left)
+
+same-length-5 : tie.Need-same-length-5
+same-length-5 c = search needs
+
+same-length-6 : tie.Need-same-length-6
+same-length-6 c = search needs
+
+same-length-7 : tie.Need-same-length-7
+same-length-7 c = search needs
+
+same-length-8 : tie.Need-same-length-8
+same-length-8 c = search needs
+
+returns-3 : tie.Need-returns-3
+unfolding first last blocked
+returns-3 c =
+    let at-cut-marked-along = c .before .before .before .before .before .before .before .before in
+    let at-if1 = at-cut-marked-along .before .before .before .before .before in
+    let at-takes-last = at-if1 .before in
+    let at-enum-told = at-takes-last .before in
+    let s = at-enum-told .before .before .before .before .before .before .before .before in
+    let some : lastAlong (s .args .axis) (s .args .size) ≡ false = sym (at-takes-last .takes-last .ensures) ∙ at-if1 .if1 .left in
+    let e : refusal (first s ++ last s) ≡ cond (blocked s) 12 0 = rest at-enum-told ∙ ap (λ t. cond (blocked s) 12 (cond t 13 0)) some in
+    rw e (at-cut-marked-along .cut-marked-along .ensures)
+
+pub cut-marked-spec : {M : Type 1} → statement M
+cut-marked-spec =
+    tie.close
+    (tie.spec
+    judge-marked-requires
+    enum-known-fits
+    same-length
+    returns
+    enum-told
+    takes-last-requires
+    last-marked-requires
+    same-length-2
+    same-length-3
+    same-length-4
+    returns-2
+    cut-marked-along-requires
+    same-length-5
+    same-length-6
+    same-length-7
+    same-length-8
+    returns-3)

@@ -1,0 +1,108 @@
+-- `seam_rules::cuts::judge_find` meets its contract: each return is the first rule that applies.
+use mathlib.Core.Path.{_≡_, refl, sym, ap, _∙_}
+use mathlib.Core.List.{List, [], _∷_}
+use Prim.Native.Nat.{_*_, _≤_, _<_}
+use native.Mathlib.Nat.{mul-le-mul}
+use native.Mathlib.Omega.{arith}
+use borrow.Author.Needs.{needs}
+use borrow.Author.Tests.{lt-ltb, le-ltb}
+use lib.Dec.{ltb}
+use Rattle.pictures.specs.Refusals.{Rule, _when_, given, refusal}
+use Rattle.pictures.specs.Pictures.{sizeRules, pixels}
+use Rattle.pictures.proofs.Rules.{served-first, refused-answer}
+use Rattle.pictures.proofs.Limits.{sized-is}
+use Rattle.seam_rules.specs.Axes.{turnedSize}
+use Rattle.seam_rules.specs.Cuts.{findRules}
+use Rattle.seam_rules.proofs.cuts.judge_find.Statement.{statement}
+use Rattle.seam_rules.proofs.cuts.judge_find.Tie as tie
+
+more : tie.Start → List Rule
+more c = 8 when ltb (c .args .seam) (turnedSize (c .args .axis) (c .args .size) .height) ∷ 8 when ltb (c .args .work) (32 * pixels (c .args .size)) ∷ []
+
+-- where the picture is served, the rooms decide
+none : (c : tie.After-enum-told)
+    → let s = c .before .before .before in
+    refusal (sizeRules (s .args .size) (s .args .bytes)) ≡ 0
+none c = sym (c .before .before .sized .ensures) ∙ ap given (c .enum-told .given .1)
+
+rest : (c : tie.After-enum-told)
+    → let s = c .before .before .before in
+    let a = s .args in refusal (findRules (a .axis) (a .size) (a .bytes) (a .seam) (a .work)) ≡ refusal (more s)
+unfolding more
+rest c =
+    let s = c .before .before .before in
+    served-first (sizeRules (s .args .size) (s .args .bytes)) (more s) refl (none c)
+
+all-most : (c : tie.After-enum-told) → pixels (c .before .before .before .args .size) ≤ 262144
+all-most c =
+    let start = c .before .before .before in
+    let s = sized-is (start .args .size) (start .args .bytes) (none c) in
+    mul-le-mul (s .height-most) (s .width-most)
+
+sized-requires : tie.Need-sized-requires
+sized-requires c κs = search needs
+
+enum-told : tie.Need-enum-told
+enum-told c = search needs
+
+enum-told-2 : tie.Need-enum-told-2
+enum-told-2 c = search needs
+
+returns : tie.Need-returns
+unfolding more
+returns c =
+    let at-sized = c .before .before in
+    let s = at-sized .before in
+    let a = s .args in
+    let why = c .enum-told2 .given in
+    refused-answer (at-sized .sized .result) (why .0 .0) (why .1) (sizeRules (a .size) (a .bytes)) (more s) (at-sized .sized .ensures)
+
+turned-size-requires : tie.Need-turned-size-requires
+turned-size-requires c κs = search needs
+
+returns-2 : tie.Need-returns-2
+unfolding more
+returns-2 c =
+    let at-turned-size = c .before in
+    let a = at-turned-size .before .before .before .before .args in
+    let short : a .seam < at-turned-size .turned-size .result .height = c .if1 .taken in
+    sym (rest (at-turned-size .before) ∙ simp (lt-ltb _ _ (rw (at-turned-size .turned-size .ensures) at short)))
+
+mul-if2 : tie.Need-mul-if2
+mul-if2 c = omega (arith, all-most (c .before .before))
+
+mul-if2-2 : tie.Need-mul-if2-2
+mul-if2-2 c = omega (arith, all-most (c .before .before))
+
+returns-3 : tie.Need-returns-3
+unfolding more
+returns-3 c =
+    let at-turned-size = c .before .before in
+    let at-enum-told = at-turned-size .before in
+    let long = rw (at-turned-size .turned-size .ensures) at (c .before .if1 .left) in
+    let a = at-enum-told .before .before .before .args in
+    sym (rest at-enum-told ∙ simp (le-ltb _ _ long, lt-ltb (a .work) (32 * pixels (a .size)) (c .if2 .taken)))
+
+returns-4 : tie.Need-returns-4
+unfolding more
+returns-4 c =
+    let at-turned-size = c .before .before in
+    let at-enum-told = at-turned-size .before in
+    let long = rw (at-turned-size .turned-size .ensures) at (c .before .if1 .left) in
+    let a = at-enum-told .before .before .before .args in
+    sym (rest at-enum-told ∙ simp (le-ltb _ _ long, le-ltb (a .work) (32 * pixels (a .size)) (c .if2 .left)))
+
+pub judge-find-spec : {M : Type 1} → statement M
+judge-find-spec =
+    tie.close
+    (tie.spec
+    sized-requires
+    enum-told
+    enum-told-2
+    returns
+    turned-size-requires
+    returns-2
+    mul-if2
+    mul-if2-2
+    returns-3
+    returns-4)

@@ -1,0 +1,63 @@
+-- `seam_rules::cuts::judge_marks` meets its contract: each return is the first rule that applies.
+use mathlib.Core.Path.{_≡_, refl, sym, ap, _∙_}
+use mathlib.Core.List.{_++_}
+use native.Mathlib.Nat.{mul-le-mul}
+use native.Mathlib.Omega.{arith}
+use borrow.Author.Needs.{needs}
+use borrow.Author.Tests.{eq-eqb, ne-eqb}
+use Rattle.pictures.specs.Refusals.{given, refusal}
+use Rattle.pictures.specs.Pictures.{sizeRules, pixels}
+use Rattle.pictures.proofs.Rules.{served-first, refused-answer}
+use Rattle.pictures.proofs.Limits.{sized-is}
+use Rattle.seam_rules.specs.Cuts.{markLengthRules}
+use Rattle.seam_rules.proofs.cuts.judge_marks.Statement.{statement}
+use Rattle.seam_rules.proofs.cuts.judge_marks.Tie as tie
+
+-- where the picture is served, the count of marks decides
+none : (c : tie.After-enum-told)
+    → let s = c .before .before .before in
+    refusal (sizeRules (s .args .size) (s .args .bytes)) ≡ 0
+none c = sym (c .before .before .sized .ensures) ∙ ap given (c .enum-told .given .1)
+
+rest : (c : tie.After-enum-told)
+    → let s = c .before .before .before in
+    let a = s .args in refusal (sizeRules (a .size) (a .bytes) ++ markLengthRules (a .size) (a .marks)) ≡ refusal (markLengthRules (a .size) (a .marks))
+rest c =
+    let a = c .before .before .before .args in
+    served-first (sizeRules (a .size) (a .bytes)) (markLengthRules (a .size) (a .marks)) refl (none c)
+
+sized-requires : tie.Need-sized-requires
+sized-requires c κs = search needs
+
+enum-told : tie.Need-enum-told
+enum-told c = search needs
+
+enum-told-2 : tie.Need-enum-told-2
+enum-told-2 c = search needs
+
+returns : tie.Need-returns
+returns c =
+    let at-sized = c .before .before in
+    let a = at-sized .before .args in
+    let why = c .enum-told2 .given in
+    refused-answer (at-sized .sized .result) (why .0 .0) (why .1) (sizeRules (a .size) (a .bytes)) (markLengthRules (a .size) (a .marks)) (at-sized .sized .ensures)
+
+mul-if1 : tie.Need-mul-if1
+mul-if1 c =
+    let a = c .before .before .before .args in
+    let s = sized-is (a .size) (a .bytes) (none c) in
+    omega (arith, mul-le-mul (s .height-most) (s .width-most))
+
+returns-2 : tie.Need-returns-2
+returns-2 c =
+    let a = c .before .before .before .before .args in
+    sym (rest (c .before) ∙ simp (ne-eqb (a .marks) (pixels (a .size)) (c .if1 .taken)))
+
+returns-3 : tie.Need-returns-3
+returns-3 c =
+    let a = c .before .before .before .before .args in
+    sym (rest (c .before) ∙ simp (eq-eqb (a .marks) (pixels (a .size)) (c .if1 .left)))
+
+pub judge-marks-spec : {M : Type 1} → statement M
+judge-marks-spec =
+    tie.close (tie.spec sized-requires enum-told enum-told-2 returns mul-if1 returns-2 returns-3)

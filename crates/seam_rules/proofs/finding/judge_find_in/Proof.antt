@@ -1,0 +1,120 @@
+-- `seam_rules::finding::judge_find_in` meets its contract: each return is the first rule that applies. No sum overflows, since the
+-- sides are within the limits.
+use mathlib.Core.Path.{_≡_, refl, sym, ap, ap₂, _∙_}
+use mathlib.Core.Bool.{Bool, true, false, cond}
+use mathlib.Core.List.{List, [], _∷_}
+use Prim.Native.Nat.{ℕ, _+_, _≤_}
+use native.Mathlib.Nat.{mul-le-mul}
+use native.Mathlib.Omega.{arith}
+use borrow.Author.Needs.{needs}
+use borrow.Author.Tests.{lt-ltb, le-ltb}
+use lib.Dec.{ltb}
+use Rattle.pictures.specs.Refusals.{Rule, _when_, given, refusal, served}
+use Rattle.pictures.specs.Pictures.{sideRules, pictureBytes, pixels}
+use Rattle.pictures.proofs.Rules.{served-first, refused-answer}
+use Rattle.pictures.proofs.Limits.{Sides, sides-are}
+use Rattle.seam_rules.specs.Spaces.{bytesAfter, spaceRules}
+use Rattle.seam_rules.proofs.finding.judge_find_in.Statement.{statement}
+use Rattle.seam_rules.proofs.finding.judge_find_in.Tie as tie
+
+-- what decides where the sides are served
+abbrev more : tie.Start → List Rule
+more s = 8 when ltb (s .args .seam) (s .args .size .height) ∷ 8 when ltb (s .args .space) (pictureBytes (s .args .size) + bytesAfter (s .args .size) (s .args .marked)) ∷ []
+
+none : (c : tie.After-enum-told) → refusal (sideRules (c .before .before .before .args .size)) ≡ 0
+none c = sym (c .before .before .sides .ensures) ∙ ap given (c .enum-told .given .1)
+
+sure : (c : tie.After-enum-told) → Sides (c .before .before .before .args .size)
+sure c = sides-are _ (none c)
+
+rest : (c : tie.After-enum-told)
+    → let s = c .before .before .before in
+    refusal (spaceRules (s .args .size) (s .args .marked) (s .args .space) (s .args .seam)) ≡ refusal (more s)
+rest c = let s = c .before .before .before in served-first (sideRules (s .args .size)) (more s) refl (none c)
+
+few : (c : tie.After-enum-told) → pixels (c .before .before .before .args .size) ≤ 262144
+few c = mul-le-mul (sure c .height-most) (sure c .width-most)
+
+double : (n : ℕ) (t : Bool) → cond t (n + n) n ≤ n + n
+double n true = omega arith
+double n false = omega arith
+
+bytes-are : (c : tie.After-picture-bytes) → c .picture-bytes .result ≡ pictureBytes (c .before .before .before .before .before .args .size)
+bytes-are c =
+    let z = c .before .before .before .before .before .args .size in
+    c .picture-bytes .ensures ∙ ap (λ n. served n (pictureBytes z) 0) (none (c .before .before))
+
+-- the bytes needed, as the rules say it
+needed-is : (c : tie.After-bytes-after)
+    → let a = c .before .before .before .before .before .before .args in
+    c .before .picture-bytes .result + c .bytes-after .result ≡ pictureBytes (a .size) + bytesAfter (a .size) (a .marked)
+needed-is c = ap₂ _+_ (bytes-are (c .before)) (c .bytes-after .ensures)
+
+sides-requires : tie.Need-sides-requires
+sides-requires c κs = search needs
+
+enum-told : tie.Need-enum-told
+enum-told c = search needs
+
+enum-told-2 : tie.Need-enum-told-2
+enum-told-2 c = search needs
+
+returns : tie.Need-returns
+returns c =
+    let at-sides = c .before .before in
+    let s = at-sides .before in
+    let why = c .enum-told2 .given in
+    refused-answer (at-sides .sides .result) (why .0 .0) (why .1) (sideRules (s .args .size)) (more s) (at-sides .sides .ensures)
+
+returns-2 : tie.Need-returns-2
+returns-2 c =
+    let a = c .before .before .before .before .args in
+    let short : ltb (a .seam) (a .size .height) ≡ true = lt-ltb _ _ (c .if1 .taken) in
+    sym (rest (c .before) ∙ rw short)
+
+picture-bytes-requires : tie.Need-picture-bytes-requires
+picture-bytes-requires c κs = search needs
+
+mul-bytes-after : tie.Need-mul-bytes-after
+mul-bytes-after c = omega (arith, few (c .before .before))
+
+bytes-after-requires : tie.Need-bytes-after-requires
+bytes-after-requires c κs = few (c .before .before)
+
+add-needed : tie.Need-add-needed
+add-needed c =
+    let told = c .before .before .before in
+    let a = told .before .before .before .args in
+    omega (arith, needed-is c, sure told .picture-most, few told, double (pixels (a .size)) (a .marked))
+
+returns-3 : tie.Need-returns-3
+returns-3 c =
+    let at-if1 = c .before .before .before in
+    let a = at-if1 .before .before .before .before .args in
+    let long : ltb (a .seam) (a .size .height) ≡ false = le-ltb _ _ (at-if1 .if1 .left) in
+    let short : ltb (a .space) (pictureBytes (a .size) + bytesAfter (a .size) (a .marked)) ≡ true = lt-ltb _ _ (rw (needed-is (c .before)) at (c .if2 .taken)) in
+    sym (rest (at-if1 .before) ∙ rw (long, short))
+
+returns-4 : tie.Need-returns-4
+returns-4 c =
+    let at-if1 = c .before .before .before in
+    let a = at-if1 .before .before .before .before .args in
+    let long : ltb (a .seam) (a .size .height) ≡ false = le-ltb _ _ (at-if1 .if1 .left) in
+    let room : ltb (a .space) (pictureBytes (a .size) + bytesAfter (a .size) (a .marked)) ≡ false = le-ltb _ _ (rw (needed-is (c .before)) at (c .if2 .left)) in
+    sym (rest (at-if1 .before) ∙ rw (long, room))
+
+pub judge-find-in-spec : {M : Type 1} → statement M
+judge-find-in-spec =
+    tie.close
+    (tie.spec
+    sides-requires
+    enum-told
+    enum-told-2
+    returns
+    returns-2
+    picture-bytes-requires
+    mul-bytes-after
+    bytes-after-requires
+    add-needed
+    returns-3
+    returns-4)
