@@ -34,7 +34,7 @@ fn rooms(picture: &[u8], head: Head, out: usize, work: usize) -> Verdict
     };
     let width = size.width;
     let height = size.height;
-    if map_build::allowed(width, head.depth, head.growth) {
+    if map_rules::allowed(width, head.depth, head.growth) {
         if fitting::file_fits(picture, head, out) {
             if work < 32 * (height * width) {
                 return Verdict::Refused(Refusal::Space);

@@ -46,7 +46,7 @@ pub(crate) fn open(file: &[u8]) -> Checked
     if !counted(facts) {
         return Checked::Refused(Refusal::Length);
     }
-    if !map_build::allowed(size.width, head.depth, head.growth) {
+    if !map_rules::allowed(size.width, head.depth, head.growth) {
         return Checked::Refused(Refusal::Range);
     }
     Checked::Accepted(head)
