@@ -1,78 +1,50 @@
--- `file_build::fitting::maps_left` meets its contract.
-use mathlib.Core.Path.{_≡_}
-use mathlib.Core.Option.{some}
-use Prim.Native.Nat.{_<_}
-use native.Mathlib.Omega.{arith}
-use denote.Ref.{now}
-use lib.ListN.{length}
-use Rattle.text_theory.specs.Files.{mapText}
-use Rattle.text_theory.specs.Lengths.{mapLength}
-use Rattle.text_theory.proofs.Lengths.{map-length}
-use Rattle.text_print.specs.Prints.{less}
-use Rattle.text_print.proofs.Rooms.{less-room}
-use Rattle.file_build.proofs.Fits.{lines-none, line-is, lines-short, lines-room, lines-left}
 use borrow.Author.Needs.{needs}
 use Rattle.file_build.proofs.fitting.maps_left.Statement.{statement}
 use Rattle.file_build.proofs.fitting.maps_left.Tie as tie
+use Rattle.file_build.proofs.fitting.maps_left.Reads as reads
+use Rattle.file_build.proofs.fitting.maps_left.Lts as lts
+use Rattle.file_rules.proofs.lines_fit.Reads as lines-fit-reads
+use Rattle.text_print.proofs.map_left.Reads as map-left-reads
 
-long : (s : tie.Start) → 0 < length (mapText (now (s .args .row)))
-unfolding mapLength
-long s = omega (arith, map-length (now (s .args .row)))
-
--- one line fits
-there : (c : tie.After-after) → let a = c .before .before .before .before .args in some (c .after .given .0 .0) ≡ less (a .room) (length (mapText (now (a .row))))
-there c = rw (c .after .given .1) at (c .before .before .map-left .ensures)
-
+-- src/fitting.rt:54:29
 map-left-requires : tie.Need-map-left-requires
 map-left-requires c κs = search needs
 
+-- src/fitting.rt:54:20
 enum-known-after : tie.Need-enum-known-after
 enum-known-after c = search needs
 
+-- src/fitting.rt:55:9
 enum-told : tie.Need-enum-told
 enum-told c = search needs
 
+-- src/fitting.rt:55:9
 returns : tie.Need-returns
-returns c =
-    let at-map-left = c .before .before in
-    let s = at-map-left .before .before in
-    lines-none (s .args .room) (length (mapText (now (s .args .row)))) (s .args .count) (s .pre) (rw (c .enum-told .given .1) at (at-map-left .map-left .ensures))
+returns c = search needs
 
+-- src/fitting.rt:57:16
 sub-line : tie.Need-sub-line
-sub-line c =
-    let at-after = c .before in
-    let s = at-after .before .before .before .before in
-    omega (arith, less-room (s .args .room) (length (mapText (now (s .args .row)))) (at-after .after .given .0 .0) (there at-after) .1)
+sub-line c = search needs
 
-div-if1 : tie.Need-div-if1
-div-if1 c =
-    let at-after = c .before in
-    let s = at-after .before .before .before .before in
-    omega (arith, line-is (s .args .room) (length (mapText (now (s .args .row)))) (s .args .count) (at-after .after .given .0 .0) (there at-after) (long s), long s)
+-- src/fitting.rt:58:9
+lines-fit-requires : tie.Need-lines-fit-requires
+lines-fit-requires c κs = search needs
 
+-- src/fitting.rt:59:9
 returns-2 : tie.Need-returns-2
-returns-2 c =
-    let at-after = c .before .before in
-    let s = at-after .before .before .before .before in
-    lines-short (s .args .room) (length (mapText (now (s .args .row)))) (s .args .count) (at-after .after .given .0 .0) (there at-after) (long s) (c .if1 .taken)
+returns-2 c = search needs
 
-mul-t7 : tie.Need-mul-t7
-mul-t7 c =
-    let at-after = c .before .before in
-    let s = at-after .before .before .before .before in
-    omega (arith, lines-room (s .args .room) (length (mapText (now (s .args .row)))) (s .args .count) (at-after .after .given .0 .0) (there at-after) (long s) (c .if1 .left))
+-- src/fitting.rt:61:23
+mul-t9 : tie.Need-mul-t9
+mul-t9 c = search needs
 
-sub-t9 : tie.Need-sub-t9
-sub-t9 c =
-    let at-after = c .before .before in
-    let s = at-after .before .before .before .before in
-    omega (arith, lines-room (s .args .room) (length (mapText (now (s .args .row)))) (s .args .count) (at-after .after .given .0 .0) (there at-after) (long s) (c .if1 .left))
+-- src/fitting.rt:61:16
+sub-t10 : tie.Need-sub-t10
+sub-t10 c = search needs
 
+-- src/fitting.rt:50:1
 returns-3 : tie.Need-returns-3
-returns-3 c =
-    let at-after = c .before .before in
-    let s = at-after .before .before .before .before in
-    lines-left (s .args .room) (length (mapText (now (s .args .row)))) (s .args .count) (at-after .after .given .0 .0) (there at-after) (long s) (c .if1 .left)
+returns-3 c = search needs
 
 pub maps-left-spec : {M : Type 1} → statement M
 maps-left-spec =
@@ -83,8 +55,8 @@ maps-left-spec =
     enum-told
     returns
     sub-line
-    div-if1
+    lines-fit-requires
     returns-2
-    mul-t7
-    sub-t9
+    mul-t9
+    sub-t10
     returns-3)
