@@ -23,8 +23,8 @@ pub fn read(file: &[u8], picture: &mut [u8], map: &mut [u16], work: &mut [u8]) -
     ) {
         return Checked::Refused(why);
     }
-    if let Verdict::Refused(why) = checking::judge(file, head, work) {
-        return Checked::Refused(why);
+    if let Verdict::Refused(wrong) = checking::judge(file, head, work) {
+        return Checked::Refused(wrong);
     }
     let rows = opening::first_row(file, head);
     let maps = lines::read_rows(file, head, rows, picture);

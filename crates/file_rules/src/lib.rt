@@ -14,6 +14,7 @@ pub use programs::MOST_INPUT;
 pub use programs::MOST_PIXELS;
 pub use programs::judge_input;
 pub use programs::judge_pixels;
+pub use spaces::WORK_A_PIXEL;
 pub use spaces::judge_build;
 pub use spaces::judge_read_spaces;
 pub use spaces::judge_wanted;

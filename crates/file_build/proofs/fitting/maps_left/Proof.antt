@@ -1,50 +1,79 @@
+-- `file_build::fitting::maps_left` meets its contract: one line fits or none does, and then as many as are asked for or not.
+use mathlib.Core.Path.{_≡_, sym, _∙_}
+use mathlib.Core.Bool.{true}
+use mathlib.Core.Option.{some}
+use Prim.Native.Nat.{ℕ, _-_, _*_, _≤_}
+use native.Mathlib.Omega.{arith}
+use borrow.Author.Tests.{not-true, not-false}
+use denote.Ref.{now}
+use lib.Dec.{leb}
+use lib.ListN.{length}
+use Rattle.text_theory.specs.Files.{mapText}
+use Rattle.text_print.specs.Prints.{less}
+use Rattle.text_print.proofs.Rooms.{less-room}
+use Rattle.file_build.proofs.Fits.{lines-none, lines-short, lines-room, lines-left}
 use borrow.Author.Needs.{needs}
 use Rattle.file_build.proofs.fitting.maps_left.Statement.{statement}
 use Rattle.file_build.proofs.fitting.maps_left.Tie as tie
-use Rattle.file_build.proofs.fitting.maps_left.Reads as reads
-use Rattle.file_build.proofs.fitting.maps_left.Lts as lts
-use Rattle.file_rules.proofs.lines_fit.Reads as lines-fit-reads
-use Rattle.text_print.proofs.map_left.Reads as map-left-reads
 
--- src/fitting.rt:54:29
+-- one line fits
+there : (c : tie.After-after) → let a = c .before .before .before .before .args in some (c .after .given .0 .0) ≡ less (a .room) (length (mapText (now (a .row))))
+there c = rw (c .after .given .1) at (c .before .before .map-left .ensures)
+
+-- as many as are asked for fit
+abbrev first : tie.Else1 → tie.After-after
+first c = c .before .before .before
+
+abbrev start : tie.Else1 → tie.Start
+start c = first c .before .before .before .before
+
+fit : (c : tie.Else1) → let a = start c .args in leb (a .count * (a .room - first c .after .given .0 .0)) (a .room) ≡ true
+fit c = sym (c .before .lines-fit .ensures) ∙ not-false _ (c .if1 .left)
+
+enough : (c : tie.Else1) → let a = start c .args in a .count * (a .room - first c .after .given .0 .0) ≤ a .room
+enough c = let a = start c .args in lines-room (a .room) (length (mapText (now (a .row)))) (a .count) _ (there (first c)) (fit c)
+
 map-left-requires : tie.Need-map-left-requires
 map-left-requires c κs = search needs
 
--- src/fitting.rt:54:20
 enum-known-after : tie.Need-enum-known-after
 enum-known-after c = search needs
 
--- src/fitting.rt:55:9
 enum-told : tie.Need-enum-told
 enum-told c = search needs
 
--- src/fitting.rt:55:9
 returns : tie.Need-returns
-returns c = search needs
+returns c =
+    let at-map-left = c .before .before in
+    let s = at-map-left .before .before in
+    lines-none (s .args .room) (length (mapText (now (s .args .row)))) (s .args .count) (s .pre) (rw (c .enum-told .given .1) at (at-map-left .map-left .ensures))
 
--- src/fitting.rt:57:16
 sub-line : tie.Need-sub-line
-sub-line c = search needs
+sub-line c =
+    let at-after = c .before in
+    let s = at-after .before .before .before .before in
+    omega (arith, less-room (s .args .room) (length (mapText (now (s .args .row)))) (at-after .after .given .0 .0) (there at-after) .1)
 
--- src/fitting.rt:58:9
 lines-fit-requires : tie.Need-lines-fit-requires
 lines-fit-requires c κs = search needs
 
--- src/fitting.rt:59:9
 returns-2 : tie.Need-returns-2
-returns-2 c = search needs
+returns-2 c =
+    let at-after = c .before .before .before in
+    let s = at-after .before .before .before .before in
+    let no = sym (c .before .lines-fit .ensures) ∙ not-true _ (c .if1 .taken) in
+    lines-short (s .args .room) (length (mapText (now (s .args .row)))) (s .args .count) (at-after .after .given .0 .0) (there at-after) no
 
--- src/fitting.rt:61:23
 mul-t9 : tie.Need-mul-t9
-mul-t9 c = search needs
+mul-t9 c = omega (arith, enough c)
 
--- src/fitting.rt:61:16
 sub-t10 : tie.Need-sub-t10
-sub-t10 c = search needs
+sub-t10 c = omega (arith, enough c)
 
--- src/fitting.rt:50:1
 returns-3 : tie.Need-returns-3
-returns-3 c = search needs
+returns-3 c =
+    let s = start c in
+    lines-left (s .args .room) (length (mapText (now (s .args .row)))) (s .args .count) (first c .after .given .0 .0) (there (first c)) (fit c)
 
 pub maps-left-spec : {M : Type 1} → statement M
 maps-left-spec =

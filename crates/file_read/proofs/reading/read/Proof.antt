@@ -73,8 +73,8 @@ judge-requires c κs =
     let at-opened = c .before .before .before .before .before in
     record { opened = is-opened at-opened; room = enough (c .before) .work-room }
 
-enum-known-why-2 : tie.Need-enum-known-why-2
-enum-known-why-2 c = search needs
+enum-known-wrong : tie.Need-enum-known-wrong
+enum-known-wrong c = search needs
 
 same-length : tie.Need-same-length
 same-length c = search needs
@@ -83,7 +83,7 @@ returns-3 : tie.Need-returns-3
 returns-3 c =
     let j = c .before .before .before .before .before in
     let s = j .before .before in
-    read-refused _ _ _ _ _ (is-opened (s .before .before .before .before)) (none s) _ _ (j .judge .ensures) _ (c .before .why2 .given .1)
+    read-refused _ _ _ _ _ (is-opened (s .before .before .before .before)) (none s) _ _ (j .judge .ensures) _ (c .before .wrong .given .1)
 
 enum-told-3 : tie.Need-enum-told-3
 enum-told-3 c = search needs
@@ -135,7 +135,7 @@ read-spec =
     returns-2
     enum-told-2
     judge-requires
-    enum-known-why-2
+    enum-known-wrong
     same-length
     returns-3
     enum-told-3
