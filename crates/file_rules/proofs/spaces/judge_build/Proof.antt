@@ -2,7 +2,7 @@
 use mathlib.Core.Path.{_≡_, refl, sym, ap, _∙_}
 use mathlib.Core.Bool.{not}
 use mathlib.Core.List.{List, [], _∷_}
-use Prim.Native.Nat.{_≤_}
+use Prim.Native.Nat.{_*_, _≤_}
 use native.Mathlib.Omega.{arith}
 use borrow.Author.Needs.{needs}
 use borrow.Author.Tests.{lt-ltb, le-ltb, not-true, not-false}
@@ -36,6 +36,10 @@ rest c = let a = start c .args in served-first (sizeRules (a .head .size) (a .by
 few : (c : tie.After-enum-told) → pixels (start c .args .head .size) ≤ 262144
 few c = let a = start c .args in pixels-few (a .head .size) (sides-served (a .head .size) (a .bytes) (none c))
 
+-- the test of the range
+ranged : (c : tie.After-allowed) → let h = start (c .before) .args .head in c .allowed .result ≡ allowed (h .size .width) (h .depth) (h .growth)
+ranged c = c .allowed .ensures
+
 sized-requires : tie.Need-sized-requires
 sized-requires c κs = search needs
 
@@ -59,7 +63,7 @@ allowed-requires c κs = search needs
 
 returns-2 : tie.Need-returns-2
 unfolding more
-returns-2 c = sym (rest (c .before .before) ∙ simp (sym (c .before .allowed .ensures) ∙ not-true _ (c .if1 .taken)))
+returns-2 c = sym (rest (c .before .before) ∙ simp (sym (ranged (c .before)) ∙ not-true _ (c .if1 .taken)))
 
 mul-if2 : tie.Need-mul-if2
 mul-if2 c = omega (arith, few (c .before .before .before))
@@ -71,13 +75,15 @@ returns-3 : tie.Need-returns-3
 unfolding more
 returns-3 c =
     let k = c .before .before in
-    sym (rest (k .before .before) ∙ simp (sym (k .before .allowed .ensures) ∙ not-false _ (k .if1 .left), lt-ltb _ _ (c .if2 .taken)))
+    let a = start (k .before .before) .args in
+    sym (rest (k .before .before) ∙ simp (sym (ranged (k .before)) ∙ not-false _ (k .if1 .left), lt-ltb (a .work) (32 * pixels (a .head .size)) (c .if2 .taken)))
 
 returns-4 : tie.Need-returns-4
 unfolding more
 returns-4 c =
     let k = c .before .before in
-    sym (rest (k .before .before) ∙ simp (sym (k .before .allowed .ensures) ∙ not-false _ (k .if1 .left), le-ltb _ _ (c .if2 .left)))
+    let a = start (k .before .before) .args in
+    sym (rest (k .before .before) ∙ simp (sym (ranged (k .before)) ∙ not-false _ (k .if1 .left), le-ltb (a .work) (32 * pixels (a .head .size)) (c .if2 .left)))
 
 pub judge-build-spec : {M : Type 1} → statement M
 judge-build-spec =

@@ -1,6 +1,6 @@
 -- `file_rules::spaces::judge_read_spaces` meets its contract: each return is the first rule that applies.
 use mathlib.Core.Path.{_≡_, sym, ap, _∙_}
-use Prim.Native.Nat.{_≤_}
+use Prim.Native.Nat.{_*_, _≤_}
 use native.Mathlib.Omega.{arith}
 use borrow.Author.Needs.{needs}
 use borrow.Author.Tests.{lt-ltb, le-ltb}
@@ -59,8 +59,9 @@ returns-2 c =
 returns-3 : tie.Need-returns-3
 returns-3 c =
     let at-picture-bytes = c .before .before in
+    let a = at-picture-bytes .before .before .before .before .before .args in
     let long = rw (bytes-are at-picture-bytes) at (c .before .if1 .left) in
-    sym (rest (at-picture-bytes .before .before) ∙ simp (le-ltb _ _ long, lt-ltb _ _ (c .if2 .taken)))
+    sym (rest (at-picture-bytes .before .before) ∙ simp (le-ltb _ _ long, lt-ltb (a .map) (pixels (a .size)) (c .if2 .taken)))
 
 mul-if3 : tie.Need-mul-if3
 mul-if3 c = omega (arith, few (c .before .before .before .before))
@@ -68,14 +69,16 @@ mul-if3 c = omega (arith, few (c .before .before .before .before))
 returns-4 : tie.Need-returns-4
 returns-4 c =
     let at-picture-bytes = c .before .before .before in
+    let a = at-picture-bytes .before .before .before .before .before .args in
     let long = rw (bytes-are at-picture-bytes) at (c .before .before .if1 .left) in
-    sym (rest (at-picture-bytes .before .before) ∙ simp (le-ltb _ _ long, le-ltb _ _ (c .before .if2 .left), lt-ltb _ _ (c .if3 .taken)))
+    sym (rest (at-picture-bytes .before .before) ∙ simp (le-ltb _ _ long, le-ltb (a .map) (pixels (a .size)) (c .before .if2 .left), lt-ltb (a .work) (32 * pixels (a .size)) (c .if3 .taken)))
 
 returns-5 : tie.Need-returns-5
 returns-5 c =
     let at-picture-bytes = c .before .before .before in
+    let a = at-picture-bytes .before .before .before .before .before .args in
     let long = rw (bytes-are at-picture-bytes) at (c .before .before .if1 .left) in
-    sym (rest (at-picture-bytes .before .before) ∙ simp (le-ltb _ _ long, le-ltb _ _ (c .before .if2 .left), le-ltb _ _ (c .if3 .left)))
+    sym (rest (at-picture-bytes .before .before) ∙ simp (le-ltb _ _ long, le-ltb (a .map) (pixels (a .size)) (c .before .if2 .left), le-ltb (a .work) (32 * pixels (a .size)) (c .if3 .left)))
 
 pub judge-read-spaces-spec : {M : Type 1} → statement M
 judge-read-spaces-spec =

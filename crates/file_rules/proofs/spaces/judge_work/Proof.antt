@@ -1,7 +1,7 @@
 -- `file_rules::spaces::judge_work` meets its contract: each return is the first rule that applies.
 use mathlib.Core.Path.{_≡_, refl, sym, ap, _∙_}
 use mathlib.Core.List.{[], _∷_}
-use Prim.Native.Nat.{_≤_}
+use Prim.Native.Nat.{_*_, _≤_}
 use native.Mathlib.Omega.{arith}
 use borrow.Author.Needs.{needs}
 use borrow.Author.Tests.{lt-ltb, le-ltb}
@@ -45,13 +45,13 @@ returns-2 : tie.Need-returns-2
 returns-2 c =
     let e = c .before .before in
     let a = e .before .before .before .args in
-    sym (served-first (sideRules (a .size)) (workRule (a .size) (a .work) ∷ []) refl (none e) ∙ simp (lt-ltb _ _ (c .if1 .taken)))
+    sym (served-first (sideRules (a .size)) (workRule (a .size) (a .work) ∷ []) refl (none e) ∙ simp (lt-ltb (a .work) (32 * pixels (a .size)) (c .if1 .taken)))
 
 returns-3 : tie.Need-returns-3
 returns-3 c =
     let e = c .before .before in
     let a = e .before .before .before .args in
-    sym (served-first (sideRules (a .size)) (workRule (a .size) (a .work) ∷ []) refl (none e) ∙ simp (le-ltb _ _ (c .if1 .left)))
+    sym (served-first (sideRules (a .size)) (workRule (a .size) (a .work) ∷ []) refl (none e) ∙ simp (le-ltb (a .work) (32 * pixels (a .size)) (c .if1 .left)))
 
 pub judge-work-spec : {M : Type 1} → statement M
 judge-work-spec =

@@ -77,7 +77,9 @@ returns c =
 
 returns-2 : tie.Need-returns-2
 unfolding more
-returns-2 c = sym (rest (c .before) ∙ simp (le-leb _ _ (c .if1 .taken)))
+returns-2 c =
+    let a = c .before .before .before .before .args in
+    sym (rest (c .before) ∙ simp (le-leb (a .size .width) (a .depth) (c .if1 .taken)))
 
 mul-map : tie.Need-mul-map
 mul-map c = omega (arith, sure (c .before) .width-most)
