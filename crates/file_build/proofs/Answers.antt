@@ -5,7 +5,7 @@ use mathlib.Core.List.{List, [], _∷_, _++_}
 use Prim.Native.Nat.{ℕ, _+_, _-_, _*_, _/_, _≤_, _<_}
 use native.Mathlib.Nat.{mul-comm, mul-assoc, mul-le-mul}
 use native.Mathlib.Omega.{arith}
-use borrow.Author.Tests.{ltb-true, ltb-false, le-ltb, lt-leb, not-false}
+use borrow.Author.Tests.{ltb-true, ltb-false, not-false}
 use lib.Dec.{leb, ltb}
 use lib.ListN.{length, take, drop, replicate}
 use lib.Seq.{take-at, take-length}
@@ -15,8 +15,8 @@ use Rattle.grids.proofs.Parts.{part-length}
 use Rattle.pictures.specs.declared.sizes.Size.{Size}
 use Rattle.pictures.specs.declared.refusals.Verdict.{Verdict}
 use Rattle.pictures.specs.Refusals.{_when_, refusal, served}
-use Rattle.pictures.specs.Pictures.{pictureBytes, sideRules, sizeRules, picture, pixels, pictureIn}
-use Rattle.pictures.proofs.Rules.{both, served-first, served-both, passed}
+use Rattle.pictures.specs.Pictures.{pictureBytes, sizeRules, picture, pixels, pictureIn}
+use Rattle.pictures.proofs.Rules.{both, served-both, passed}
 use Rattle.pictures.proofs.Limits.{Sized, sized-is, sides-served}
 use Rattle.map_theory.specs.Maps.{mapOf}
 use Rattle.map_theory.specs.Widths.{allowed}
@@ -26,7 +26,9 @@ use Rattle.text_theory.specs.Files.{text}
 use Rattle.seam_theory.specs.PictureSeams.{seamOf}
 use Rattle.seam_rules.proofs.Turns.{bytes-few}
 use Rattle.map_build.specs.Numbers.{pairs}
-use Rattle.map_build.specs.Building.{mapBytes, mapAt, mapInRules, mapped, MapGiven}
+use Rattle.map_rules.specs.Spaces.{mapBytes, mapAt, mapSpaceRules}
+use Rattle.map_rules.proofs.Rooms.{room-served}
+use Rattle.map_build.specs.Building.{mapped, MapGiven}
 use Rattle.seam_theory.proofs.Choosing.{seam-chooses}
 use Rattle.map_build.proofs.Steps.{take-map}
 use Rattle.text_print.specs.Prints.{Printed}
@@ -90,12 +92,8 @@ module _ (b : List ℕ) (h : Head) (out work : List ℕ) (needed : BuildNeeded b
         let front : one ≡ b ++ drop (length b) work = copied ∙ ap (_++ drop (length b) work) (take-length b) in
         ap (picture (h .size)) (ap (take (pictureBytes (h .size))) front ∙ take-at b (drop (length b) work) (pictureBytes (h .size)) (r .sure .length-is))
 
-    none : refusal (mapInRules (h .size) (h .depth) (length one)) ≡ 0
-    none =
-        let r = rooms-are in
-        let fits : mapAt (h .size) + mapBytes (h .size) ≤ length one = omega (arith, r .front, one-long) in
-        served-first (sideRules (h .size)) (6 when leb (h .size .width) (h .depth) ∷ 8 when ltb (length one) (mapAt (h .size) + mapBytes (h .size)) ∷ []) refl (sides-served (h .size) (length b) (r .sized))
-        ∙ simp (lt-leb _ _ (r .deep), le-ltb _ _ fits)
+    none : refusal (mapSpaceRules (h .size) (h .depth) (length one) 1) ≡ 0
+    none = let r = rooms-are in room-served (h .size) (h .depth) (length one) 1 (sides-served (h .size) (length b) (r .sized)) (r .deep) (omega (arith, r .front, one-long))
 
     module _ (v : Verdict) (two : List ℕ) (g : MapGiven one (h .size) (h .depth) v two) where
       two-is : two ≡ mapped (h .size) (h .depth) (picture (h .size) b) ++ drop (mapAt (h .size) + mapBytes (h .size)) one

@@ -23,23 +23,23 @@ use Rattle.file_theory.proofs.Lengths.{file-length}
 use Rattle.file_build.specs.Kernels.{FitNeeded}
 use Rattle.file_build.proofs.PictureRows.{of-size}
 
--- So many lines of n bytes, by division: the product of any two numbers could be too large.
-module _ (room n count : ℕ) where
-  pub lines-none : 0 < count → none ≡ less room n → none ≡ less room (count * n)
-  lines-none some-lines e = sym (less-none room (count * n) (omega (arith, less-short room n e, part-end 0 count n some-lines)))
+-- `count` lines of n bytes, of which the first leaves `after`.
+module _ (space n count : ℕ) where
+  pub lines-none : 0 < count → none ≡ less space n → none ≡ less space (count * n)
+  lines-none some-lines e = sym (less-none space (count * n) (omega (arith, less-short space n e, part-end 0 count n some-lines)))
 
-  module _ (after : ℕ) (there : some after ≡ less room n) (long : 0 < n) where
-    pub line-is : room - after ≡ n
-    line-is = omega (arith, less-room room n after there .0, less-room room n after there .1)
+  module _ (after : ℕ) (there : some after ≡ less space n) where
+    line-is : space - after ≡ n
+    line-is = omega (arith, less-room space n after there .0, less-room space n after there .1)
 
-    pub lines-short : room / (room - after) < count → none ≡ less room (count * n)
-    lines-short l = sym (less-none room (count * n) (div-lt-iff-lt-mul long .0 (rw line-is at l)))
+    pub lines-short : leb (count * (space - after)) space ≡ false → none ≡ less space (count * n)
+    lines-short e = sym (less-none space (count * n) (leb-false _ _ (rw line-is at e)))
 
-    pub lines-room : count ≤ room / (room - after) → count * (room - after) ≤ room
-    lines-room l = rw line-is (le-div-iff-mul-le long .0 (rw line-is at l))
+    pub lines-room : leb (count * (space - after)) space ≡ true → count * (space - after) ≤ space
+    lines-room e = leb-true _ _ e
 
-    pub lines-left : count ≤ room / (room - after) → some (room - count * (room - after)) ≡ less room (count * n)
-    lines-left l = rw line-is (sym (less-some room (count * n) (le-div-iff-mul-le long .0 (rw line-is at l))))
+    pub lines-left : leb (count * (space - after)) space ≡ true → some (space - count * (space - after)) ≡ less space (count * n)
+    lines-left e = rw line-is (sym (less-some space (count * n) (leb-true _ _ (rw line-is at e))))
 
 -- The head, the rows, the map lines and the last line, one after the other.
 module _ (b : List ℕ) (h : Head) (needed : FitNeeded b h) (room : ℕ) where

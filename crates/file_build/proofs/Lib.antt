@@ -4,3 +4,4 @@ pub mod MapRows
 pub mod Printing
 pub mod Fits
 pub mod Answers
+pub mod Judged

@@ -16,7 +16,7 @@ ghost use Rattle.text_print.specs.Prints.{leftRead, less};
 ghost use Rattle.file_theory.specs.Contents.{fileOf};
 ghost use Rattle.file_build.specs.Kernels.{OrderNeeded, FitNeeded};
 
-// What is left of a room behind the row lines of a picture.
+// The space left after the row lines of a picture.
 fn rows_left(room: usize, picture: &[u8], size: Size) -> Left
     requires { ⌜ refusal (sizeRules size (length (now picture))) ≡ 0 ⌝ }
     ensures { λ l. ⌜ leftRead l ≡ less room (total (rowLength (size .kind)) (Pictures·picture size (now (picture .entry)))) ⌝ }
@@ -46,7 +46,7 @@ fn put_order(row: &mut [u16], depth: usize)
     }
 }
 
-// What is left of a room behind so many map lines as long as this row's.
+// The space left after `count` map lines, each as long as this row's.
 fn maps_left(room: usize, count: usize, row: &[u16]) -> Left
     requires { ⌜ 0 < count ⌝ }
     ensures { λ l. ⌜ leftRead l ≡ less room (count * length (mapText (now (row .entry)))) ⌝ }
@@ -55,7 +55,7 @@ fn maps_left(room: usize, count: usize, row: &[u16]) -> Left
         return Left::Short;
     };
     let line = room - after;
-    if room / line < count {
+    if !file_rules::lines_fit(room, line, count) {
         return Left::Short;
     }
     Left::Room(room - count * line)

@@ -16,7 +16,7 @@ ghost use Rattle.file_build.specs.Kernels.{BuildNeeded, FileGiven};
 pub fn build(picture: &[u8], head: Head, out: &mut [u8], work: &mut [u8]) -> Built
     ensures { λ b. ⌜ BuildGiven (now (picture .entry)) head (now (out .entry)) (now (work .entry)) b (now (out .exit)) (now (work .exit)) ⌝ }
 {
-    let fits = rooms(picture, head, out.len(), work.len());
+    let fits = judge_buffers(picture, head, out.len(), work.len());
     if let Verdict::Refused(why) = fits {
         return Built::Refused(why);
     }
@@ -24,26 +24,17 @@ pub fn build(picture: &[u8], head: Head, out: &mut [u8], work: &mut [u8]) -> Bui
 }
 
 // Which of 2, 3, 4, 6 and 8 refuses this picture, range and buffers of these lengths, or none.
-fn rooms(picture: &[u8], head: Head, out: usize, work: usize) -> Verdict
+fn judge_buffers(picture: &[u8], head: Head, out: usize, work: usize) -> Verdict
     ensures { λ v. ⌜ given v ≡ refusal (buildRules (now (picture .entry)) head out work) ⌝ }
 {
-    let size = head.size;
-    let fits = pictures::sized(size, picture.len());
+    let fits = file_rules::judge_build(head, picture.len(), work);
     let Verdict::Served = fits else {
         return fits;
     };
-    let width = size.width;
-    let height = size.height;
-    if map_build::allowed(width, head.depth, head.growth) {
-        if fitting::file_fits(picture, head, out) {
-            if work < 32 * (height * width) {
-                return Verdict::Refused(Refusal::Space);
-            }
-            return Verdict::Served;
-        }
+    if !fitting::file_fits(picture, head, out) {
         return Verdict::Refused(Refusal::Space);
     }
-    Verdict::Refused(Refusal::Range)
+    Verdict::Served
 }
 
 // The file where nothing is refused. The map is built in the work space, from a copy of the picture.

@@ -16,7 +16,7 @@ use Rattle.pictures.specs.declared.sizes.Size.{Size}
 use Rattle.pictures.specs.Pictures.{rowBytes, pictureBytes, bytes, pixels}
 use Rattle.pictures.proofs.Buffers.{flats-grid, length-bytes}
 use Rattle.map_build.specs.Numbers.{pairs}
-use Rattle.map_build.specs.Building.{mapBytes}
+use Rattle.map_rules.specs.Spaces.{mapBytes}
 use Rattle.map_build.proofs.Pairs.{pairs-flat, grid-pairs}
 use Rattle.text_theory.specs.declared.Head.{Head}
 use Rattle.text_theory.specs.Decimal.{digits}

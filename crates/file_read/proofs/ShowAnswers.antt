@@ -18,7 +18,8 @@ use Rattle.file_theory.specs.Shows.{sized, showsIn, shows, drawnSize, drawnByte
 use Rattle.file_rules.specs.declared.answers.Checked.the-variants as checks
 use Rattle.file_rules.specs.declared.answers.Shown.the-variants as showings
 use Rattle.file_read.specs.Reading.{ShowGiven}
-use Rattle.file_read.specs.Kernels.{OpenGiven, Open, judgedIn, MapJudged, wantedRules, DrawGiven}
+use Rattle.file_read.specs.Kernels.{OpenGiven, Open, judgedIn, MapJudged, DrawGiven}
+use Rattle.file_rules.specs.Spaces.{offerRules}
 use Rattle.file_read.proofs.Parsed.{opened}
 use Rattle.file_read.proofs.Answered.{early-number, early-work, own-number, judged-number, judged-work}
 
@@ -36,22 +37,22 @@ module _ (file : List ℕ) (v : ℕ) (out work : List ℕ) where
   -- 1 to 6.
   pub show-early : (why : Refusal) → OpenGiven file (checks.Refused why) → ShowGiven file v out work (showings.Refused why) out work
   show-early why g =
-      refused why work (early-number file (checks.Refused why) g why refl (λ p. wantedRules (p .head) v (length out) (length work) ++ judgedRules p))
+      refused why work (early-number file (checks.Refused why) g why refl (λ p. offerRules (p .head) v (length out) (length work) ++ judgedRules p))
       (early-work file (checks.Refused why) g why refl (replicate (length work) 0) work)
 
   module _ (h : Head) (o : Open file h) where
     abbrev own : Head → List Rule
-    own x = wantedRules x v (length out) (length work)
+    own x = offerRules x v (length out) (length work)
 
     -- 7 and 8.
-    pub show-short : (d : Verdict) → given d ≡ refusal (wantedRules h v (length out) (length work)) → (why : Refusal) → d ≡ verdicts.Refused why
+    pub show-short : (d : Verdict) → given d ≡ refusal (offerRules h v (length out) (length work)) → (why : Refusal) → d ≡ verdicts.Refused why
         → ShowGiven file v out work (showings.Refused why) out work
     show-short d e why is =
         let number : numberOf why ≡ refusal (own h) = sym (ap given is) ∙ e in
         refused why work (own-number file h o own (numberOf why) number (number-some why))
         (sym (worked-not (numberOf why) (replicate (length work) 0) work (number-some why) (omega (arith, number, refusal-most 8 (own h) refl))))
 
-    module _ (room : refusal (wantedRules h v (length out) (length work)) ≡ 0) where
+    module _ (room : refusal (offerRules h v (length out) (length work)) ≡ 0) where
       -- 9 to 11.
       pub show-refused : (d : Verdict) (why : Refusal) (work′ : List ℕ) → d ≡ verdicts.Refused why → MapJudged file work d work′
           → ShowGiven file v out work (showings.Refused why) out work′

@@ -1,10 +1,10 @@
 -- The picture and the recorded map of a file, standing in the work space where they are judged.
 use mathlib.Core.Path.{_≡_, refl, sym, ap, ap₂, _∙_}
 use mathlib.Core.Bool.{_&&_}
-use mathlib.Core.List.{List, [], _∷_, _++_, append-nil}
+use mathlib.Core.List.{List, [], _++_, append-nil}
 use Prim.Native.Nat.{ℕ, _+_, _-_, _*_, _/_, _≤_, _<_}
 use native.Mathlib.Omega.{arith}
-use borrow.Author.Tests.{ltb-true, lt-leb, le-ltb}
+use borrow.Author.Tests.{ltb-true}
 use borrow.Rule.Slice.PartMut.{putMid, midOf, same-len-mid}
 use lib.Dec.{leb, ltb}
 use lib.ListN.{length, take, drop, replicate, drop-of-length-le}
@@ -13,16 +13,17 @@ use Rattle.grids.specs.Rows.{rowsOf, flat}
 use Rattle.grids.proofs.Rows.{rowsOf-flat, length-flat}
 use Rattle.grids.proofs.Parts.{put-part, part-length}
 use Rattle.pictures.specs.declared.refusals.Verdict.{Verdict}
-use Rattle.pictures.specs.Refusals.{_when_, given, refusal, worked}
-use Rattle.pictures.specs.Pictures.{sideRules, pictureBytes, picture, bytes, pixels, pictureIn}
+use Rattle.pictures.specs.Refusals.{given, refusal, worked}
+use Rattle.pictures.specs.Pictures.{pictureBytes, picture, bytes, pixels, pictureIn}
 use Rattle.pictures.proofs.Rules.{both, served-first}
 use Rattle.pictures.proofs.Buffers.{picture-bytes, length-bytes}
 use Rattle.map_theory.specs.Widths.{allowed}
 use Rattle.seam_rules.proofs.Turns.{bytes-few}
 use Rattle.map_build.specs.Numbers.{pairs}
-use Rattle.map_build.specs.Building.{mapBytes}
+use Rattle.map_rules.specs.Spaces.{mapBytes, mapSpaceRules}
+use Rattle.map_rules.proofs.Rooms.{room-served}
 use Rattle.map_build.proofs.Pairs.{length-pairs}
-use Rattle.map_check.specs.Checking.{numbersIn, recordedAt, recordedIn, judgeInRules, recordedRules, JudgeGiven}
+use Rattle.map_check.specs.Checking.{numbersIn, recordedAt, recordedIn, recordedRules, JudgeGiven}
 use Rattle.map_check.proofs.Recorded.{numbers-pairs}
 use Rattle.map_check.proofs.Answers.{worked-judged}
 use Rattle.text_theory.specs.declared.Head.{Head}
@@ -42,10 +43,8 @@ module _ (file : List ℕ) (h : Head) (k : Parsed file h) (work : List ℕ) (roo
   deep = ltb-true _ _ (both (ltb (h .depth) (h .size .width)) (leb (h .growth) (h .depth) && leb (h .growth) (h .size .width / 2)) (k .range) .0)
 
   -- So nothing up to 8 refuses a space as long as this one.
-  none-refused : (n : ℕ) → n ≡ length work → refusal (judgeInRules (h .size) (h .depth) n) ≡ 0
-  none-refused n e =
-      served-first (sideRules (h .size)) (6 when leb (h .size .width) (h .depth) ∷ 8 when ltb n (recordedAt (h .size) + mapBytes (h .size)) ∷ []) refl (k .sides-served)
-      ∙ simp (lt-leb _ _ deep, le-ltb n (recordedAt (h .size) + mapBytes (h .size)) (omega (arith, judge-room, map-bytes (h .size))))
+  none-refused : (n : ℕ) → n ≡ length work → refusal (mapSpaceRules (h .size) (h .depth) n 2) ≡ 0
+  none-refused n e = room-served (h .size) (h .depth) n 2 (k .sides-served) deep (omega (arith, judge-room, map-bytes (h .size)))
 
   -- The picture at the front, and the recorded map in its part of the space.
   module _ (first : List ℕ) (as-long : length first ≡ length work) (is : first ≡ bytes (rowsIn (parse file)) ++ drop (pictureBytes (h .size)) work)
@@ -97,7 +96,7 @@ module _ (file : List ℕ) (h : Head) (k : Parsed file h) (work : List ℕ) (roo
         let same : length whole ≡ length work = same-len-mid at (e - at) first new kept ∙ as-long in
         let number : given v ≡ refusal (recordedRules (h .size) (h .depth) (pictureIn (h .size) whole) (recordedIn (h .size) whole)) =
         g .number-is
-        ∙ served-first (judgeInRules (h .size) (h .depth) (length whole)) (recordedRules (h .size) (h .depth) (pictureIn (h .size) whole) (recordedIn (h .size) whole)) refl (none-refused (length whole) same) in
+        ∙ served-first (mapSpaceRules (h .size) (h .depth) (length whole) 2) (recordedRules (h .size) (h .depth) (pictureIn (h .size) whole) (recordedIn (h .size) whole)) refl (none-refused (length whole) same) in
         record {
           number = number ∙ ap₂ (λ p m. refusal (recordedRules (h .size) (h .depth) p m)) picture-there maps-there ∙ sym (ap (λ q. refusal (judgedIn q)) (k .parsed));
           work-left =

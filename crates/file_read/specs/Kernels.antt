@@ -1,22 +1,19 @@
 -- What the private functions of this crate ask and promise. No public promise cites it.
 use mathlib.Core.Path.{_≡_}
-use mathlib.Core.Bool.{true, not}
 use mathlib.Core.Option.{Option, none, some}
-use mathlib.Core.List.{List, [], _∷_, _++_}
+use mathlib.Core.List.{List, [], _++_}
 use Prim.Native.Nat.{ℕ, _*_, _≤_}
-use lib.Dec.{ltb}
 use lib.ListN.{length, take, drop, replicate}
-use Rattle.pictures.specs.declared.sizes.Size.{Size}
 use Rattle.pictures.specs.declared.refusals.Verdict.{Verdict}
-use Rattle.pictures.specs.Refusals.{Rule, _when_, given, refusal, served}
-use Rattle.pictures.specs.Pictures.{channelsOf, sideRules, pictureBytes, bytes, pixels}
-use Rattle.map_theory.specs.Widths.{allowed, offered}
+use Rattle.pictures.specs.Refusals.{Rule, given, refusal, served}
+use Rattle.pictures.specs.Pictures.{pictureBytes, bytes, pixels}
 use Rattle.text_theory.specs.declared.Head.{Head}
 use Rattle.text_theory.specs.Decimal.{digits}
 use Rattle.text_theory.specs.Files.{Parts, parse, each, rowWord, mapWord, lineText, pixelText, closed}
-use Rattle.file_theory.specs.Rules.{partRules, judgedRules, formRules, workRule}
+use Rattle.file_theory.specs.Rules.{partRules, judgedRules, formRules}
 use Rattle.file_theory.specs.Shows.{headIn, rowsIn, shows, drawnBytes}
 use Rattle.file_rules.specs.declared.answers.Checked.{Checked}
+use Rattle.file_rules.specs.Spaces.{offerRules}
 use Rattle.file_rules.specs.Answers.{checkedNumber, checkedHead}
 
 -- What stands in a text from its row lines on, and from its map lines on.
@@ -69,28 +66,11 @@ pub record MapJudged (file work : List ℕ) (answer : Verdict) (work′ : List �
   pub number : given answer ≡ refusal (judgedIn (parse file))
   pub work-left : work′ ≡ replicate (length work) 0
 
--- What 8 says of the spaces for reading.
-abbrev pub spaceRules : Size → ℕ → ℕ → ℕ → List Rule
-spaceRules z picture map work = 8 when ltb picture (pictureBytes z) ∷ 8 when ltb map (pixels z) ∷ workRule z work ∷ []
-
--- What 7 and 8 say of a wanted width.
-abbrev pub wantedRules : Head → ℕ → ℕ → ℕ → List Rule
-wantedRules h v out work =
-    7 when not (offered (h .size .width) (h .depth) (h .growth) v)
-    ∷ 8 when ltb out (h .size .height * (v * channelsOf (h .size .kind)))
-    ∷ workRule (h .size) work
-    ∷ []
-
--- Size and range that are allowed.
-pub record Sound (h : Head) : Type 0 where
-  pub sides : refusal (sideRules (h .size)) ≡ 0
-  pub range : allowed (h .size .width) (h .depth) (h .growth) ≡ true
-
 -- A file that is accepted, a width that it offers, and room for what is shown.
 pub record DrawNeeded (file : List ℕ) (h : Head) (v out work : ℕ) : Type 0 where
   pub opened : Open file h
   pub accepted : refusal (judgedIn (parse file)) ≡ 0
-  pub room : refusal (wantedRules h v out work) ≡ 0
+  pub room : refusal (offerRules h v out work) ≡ 0
 
 -- What is shown, at the front of the space.
 pub record DrawGiven (file : List ℕ) (v : ℕ) (out out′ : List ℕ) : Type 0 where

@@ -2,7 +2,6 @@
 use crate::lines;
 use crate::opening;
 use file_rules::Checked;
-use pictures::Refusal;
 use pictures::Verdict;
 use text_theory::Head;
 ghost use lib.ListN.{length};
@@ -18,9 +17,8 @@ pub fn check(file: &[u8], work: &mut [u8]) -> Checked
     let Checked::Accepted(head) = opened else {
         return opened;
     };
-    let size = head.size;
-    if work.len() < 32 * (size.height * size.width) {
-        return Checked::Refused(Refusal::Space);
+    if let Verdict::Refused(why) = file_rules::judge_work(head.size, work.len()) {
+        return Checked::Refused(why);
     }
     match judge(file, head, work) {
         Verdict::Served => opened,

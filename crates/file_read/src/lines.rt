@@ -9,7 +9,7 @@ ghost use lib.ListN.{length, drop};
 ghost use Rattle.grids.specs.Rows.{flat};
 ghost use Rattle.pictures.specs.Pictures.{pixels};
 ghost use Rattle.map_build.specs.Numbers.{pairs};
-ghost use Rattle.map_build.specs.Building.{mapBytes};
+ghost use Rattle.map_rules.specs.Spaces.{mapBytes};
 ghost use Rattle.text_theory.specs.Files.{parse};
 ghost use Rattle.file_theory.specs.Shows.{mapsIn};
 ghost use Rattle.file_read.specs.Kernels.{RowsNeeded, RowsRead, MapsNeeded};

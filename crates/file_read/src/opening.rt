@@ -3,33 +3,13 @@ use file_rules::Checked;
 use pictures::Refusal;
 use pictures::Verdict;
 use text_read::Cursor;
-use text_read::Facts;
 use text_read::HeadRead;
 use text_read::Scanned;
 use text_theory::Head;
 ghost use mathlib.Core.Path.{_≡_};
-ghost use mathlib.Core.Bool.{_&&_};
-ghost use Prim.Native.Nat.{_≤_};
-ghost use lib.Dec.{eqb};
 ghost use lib.ListN.{drop};
 ghost use Rattle.text_theory.specs.Files.{parse};
 ghost use Rattle.file_read.specs.Kernels.{OpenGiven, Open, rowLines};
-
-// Whether there are as many row lines and map lines as the size says, each as wide as it says.
-fn counted(facts: Facts) -> bool
-    ensures { λ r. ⌜ r ≡ (eqb (facts .rows) (facts .head .size .height) && (eqb (facts .maps) (facts .head .size .height) && facts .full)) ⌝ }
-{
-    let head = facts.head;
-    let size = head.size;
-    let height = size.height;
-    if facts.rows != height {
-        return false;
-    }
-    if facts.maps != height {
-        return false;
-    }
-    facts.full
-}
 
 // Which of 1 to 6 refuses a file; else its size and range.
 pub(crate) fn open(file: &[u8]) -> Checked
@@ -43,10 +23,10 @@ pub(crate) fn open(file: &[u8]) -> Checked
     if let Verdict::Refused(why) = pictures::sides(size) {
         return Checked::Refused(why);
     }
-    if !counted(facts) {
+    if !file_rules::counted(size.height, facts.rows, facts.maps, facts.full) {
         return Checked::Refused(Refusal::Length);
     }
-    if !map_build::allowed(size.width, head.depth, head.growth) {
+    if !map_rules::allowed(size.width, head.depth, head.growth) {
         return Checked::Refused(Refusal::Range);
     }
     Checked::Accepted(head)

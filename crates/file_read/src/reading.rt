@@ -3,14 +3,8 @@ use crate::checking;
 use crate::lines;
 use crate::opening;
 use file_rules::Checked;
-use pictures::Refusal;
-use pictures::Size;
 use pictures::Verdict;
-ghost use mathlib.Core.Path.{_≡_};
-ghost use Rattle.pictures.specs.Refusals.{given, refusal};
-ghost use Rattle.pictures.specs.Pictures.{sideRules};
 ghost use Rattle.file_read.specs.Reading.{ReadGiven};
-ghost use Rattle.file_read.specs.Kernels.{spaceRules};
 
 // The picture of a file into the front of one space, its map into the front of another, and its size and range. Refused by
 // what checking refuses, and by 8 where a space is shorter than what it takes.
@@ -21,32 +15,19 @@ pub fn read(file: &[u8], picture: &mut [u8], map: &mut [u16], work: &mut [u8]) -
     let Checked::Accepted(head) = opened else {
         return opened;
     };
-    if let Verdict::Refused(why) = rooms(head.size, picture.len(), map.len(), work.len()) {
+    if let Verdict::Refused(why) = file_rules::judge_read_spaces(
+        head.size,
+        picture.len(),
+        map.len(),
+        work.len(),
+    ) {
         return Checked::Refused(why);
     }
-    if let Verdict::Refused(why) = checking::judge(file, head, work) {
-        return Checked::Refused(why);
+    if let Verdict::Refused(wrong) = checking::judge(file, head, work) {
+        return Checked::Refused(wrong);
     }
     let rows = opening::first_row(file, head);
     let maps = lines::read_rows(file, head, rows, picture);
     lines::read_maps(file, head, maps, map);
     opened
-}
-
-// Whether 8 refuses spaces of these lengths.
-fn rooms(size: Size, picture: usize, map: usize, work: usize) -> Verdict
-    requires { ⌜ refusal (sideRules size) ≡ 0 ⌝ }
-    ensures { λ v. ⌜ given v ≡ refusal (spaceRules size picture map work) ⌝ }
-{
-    let pixels = size.height * size.width;
-    if picture < pictures::picture_bytes(size) {
-        return Verdict::Refused(Refusal::Space);
-    }
-    if map < pixels {
-        return Verdict::Refused(Refusal::Space);
-    }
-    if work < 32 * pixels {
-        return Verdict::Refused(Refusal::Space);
-    }
-    Verdict::Served
 }

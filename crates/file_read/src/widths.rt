@@ -4,7 +4,6 @@ use crate::lines;
 use crate::opening;
 use file_rules::Checked;
 use file_rules::Shown;
-use pictures::Refusal;
 use pictures::Size;
 use pictures::Verdict;
 use text_read::Cursor;
@@ -12,9 +11,8 @@ use text_read::Read;
 use text_theory::Head;
 ghost use mathlib.Core.Path.{_≡_};
 ghost use lib.ListN.{length, replicate};
-ghost use Rattle.pictures.specs.Refusals.{given, refusal};
 ghost use Rattle.file_read.specs.Reading.{ShowGiven};
-ghost use Rattle.file_read.specs.Kernels.{wantedRules, Sound, DrawNeeded, DrawGiven, LinesNeeded};
+ghost use Rattle.file_read.specs.Kernels.{DrawNeeded, DrawGiven, LinesNeeded};
 
 // The picture that a file shows at the wanted width, put into the front of out, and its size. Refused by what checking
 // refuses, by 7 where the width isn't offered, and by 8 where out is shorter than the picture.
@@ -25,7 +23,7 @@ pub fn show(file: &[u8], wanted: usize, out: &mut [u8], work: &mut [u8]) -> Show
         Checked::Accepted(head) => head,
         Checked::Refused(why) => return Shown::Refused(why),
     };
-    if let Verdict::Refused(why) = rooms(head, wanted, out.len(), work.len()) {
+    if let Verdict::Refused(why) = file_rules::judge_wanted(head, wanted, out.len(), work.len()) {
         return Shown::Refused(why);
     }
     if let Verdict::Refused(why) = checking::judge(file, head, work) {
@@ -39,30 +37,6 @@ pub fn show(file: &[u8], wanted: usize, out: &mut [u8], work: &mut [u8]) -> Show
         height: size.height,
         kind,
     })
-}
-
-// Which of 7 and 8 refuses the wanted width in spaces of these lengths, or none.
-fn rooms(head: Head, wanted: usize, out: usize, work: usize) -> Verdict
-    requires { ⌜ Sound head ⌝ }
-    ensures { λ v. ⌜ given v ≡ refusal (wantedRules head wanted out work) ⌝ }
-{
-    let size = head.size;
-    let width = size.width;
-    let height = size.height;
-    let kind = size.kind;
-    if wanted < width - head.depth {
-        return Verdict::Refused(Refusal::Wanted);
-    }
-    if width + head.growth < wanted {
-        return Verdict::Refused(Refusal::Wanted);
-    }
-    if out < height * (wanted * pictures::channels(kind)) {
-        return Verdict::Refused(Refusal::Space);
-    }
-    if work < 32 * (height * width) {
-        return Verdict::Refused(Refusal::Space);
-    }
-    Verdict::Served
 }
 
 // Puts what an accepted file shows into the front of out. The picture stands in the work space meanwhile.

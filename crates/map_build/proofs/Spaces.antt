@@ -1,57 +1,29 @@
--- What it says of a space that nothing refuses, and the space before the first seam.
-use mathlib.Core.Path.{_≡_, refl, sym, ap, _∙_}
-use mathlib.Core.Bool.{cond}
-use mathlib.Core.List.{List, [], _∷_, _++_, append-assoc}
-use Prim.Native.Nat.{ℕ, _+_, _-_, _*_, _≤_, _<_}
-use native.Mathlib.Nat.{mul-le-mul, mul-le-mul-left, mul-le-mul-right}
+-- A space that nothing refuses: each seam can be cut in it; and the space before the first seam.
+use mathlib.Core.Path.{_≡_, sym, ap, _∙_}
+use mathlib.Core.List.{List, _++_, append-assoc}
+use Prim.Native.Nat.{ℕ, _+_, _-_, _≤_, _<_}
+use native.Mathlib.Nat.{mul-le-mul-left, mul-le-mul-right}
 use native.Mathlib.Omega.{arith}
-use borrow.Author.Tests.{leb-false, ltb-false}
 use borrow.Rule.Slice.PartMut.{putMid, midOf, mid-len}
-use lib.Dec.{leb, ltb}
 use lib.ListN.{length, take, drop, replicate, length-append, length-replicate, length-drop}
 use lib.Seq.{take-at, drop-at, length-take-le}
 use Rattle.grids.proofs.Parts.{put-part}
 use Rattle.pictures.specs.declared.sizes.Size.{Size}
-use Rattle.pictures.specs.Refusals.{_when_, refusal}
-use Rattle.pictures.specs.Pictures.{channelsOf, sideRules, pictureBytes, picture, OfSize, pixels, pictureIn}
-use Rattle.pictures.proofs.Rules.{served-both, passed}
-use Rattle.pictures.proofs.Limits.{Sides, sides-are}
+use Rattle.pictures.specs.Pictures.{channelsOf, pictureBytes, picture, OfSize, pixels, pictureIn}
 use Rattle.pictures.proofs.Buffers.{picture-ofSize}
 use Rattle.seam_rules.proofs.Turns.{sides-of}
-use Rattle.map_build.specs.Building.{mapBytes, mapAt, mapInRules, mapped}
+use Rattle.map_rules.specs.Spaces.{mapBytes, mapAt}
+use Rattle.map_rules.proofs.Rooms.{Room}
+use Rattle.map_build.specs.Building.{mapped}
 use Rattle.map_build.specs.Kernels.{NextNeeded}
 use Rattle.map_build.proofs.Steps.{leftSize, first-mapped}
-
-pub record Room (z : Size) (depth space : ℕ) : Type 0 where
-  pub served : refusal (sideRules z) ≡ 0
-  pub sides : Sides z
-  pub deep : depth < z .width
-  pub long : mapAt z + mapBytes z ≤ space
-  pub pixels-most : pixels z ≤ 262144
-  pub map-most : mapBytes z ≤ 524288
-
-pub room-is : (z : Size) (depth space : ℕ) → refusal (mapInRules z depth space) ≡ 0 → Room z depth space
-room-is z depth space e =
-    let parts = served-both (sideRules z) (6 when leb (z .width) depth ∷ 8 when ltb space (mapAt z + mapBytes z) ∷ []) refl e in
-    let first = passed (leb (z .width) depth) 5 (cond (ltb space (mapAt z + mapBytes z)) 8 0) (parts .1) in
-    let second = passed (ltb space (mapAt z + mapBytes z)) 7 0 (first .1) in
-    let sides = sides-are z (parts .0) in
-    let two : 2 * z .width ≤ 1024 = omega (arith, sides .width-most) in
-    record {
-      served = parts .0;
-      sides = sides;
-      deep = leb-false _ _ (first .0);
-      long = ltb-false _ _ (second .0);
-      pixels-most = mul-le-mul (sides .height-most) (sides .width-most);
-      map-most = mul-le-mul (sides .height-most) two;
-    }
 
 -- The picture that stands there is of its size.
 pub there-ofSize : (z : Size) (space : List ℕ) → pictureBytes z ≤ length space → OfSize z (pictureIn z space)
 there-ofSize z space l = picture-ofSize z (take (pictureBytes z) space) (length-take-le (pictureBytes z) space l)
 
 -- The next seam can be cut.
-pub next-needed : (z : Size) (depth space t : ℕ) → Room z depth space → t < depth → NextNeeded (leftSize z t) (z .width) (mapAt z) (t + 1) space
+pub next-needed : (z : Size) (depth space t : ℕ) → Room z depth space 1 → t < depth → NextNeeded (leftSize z t) (z .width) (mapAt z) (t + 1) space
 next-needed z depth space t r l =
     let less : z .width - t ≤ z .width = omega arith in
     record {

@@ -19,8 +19,10 @@ use Rattle.map_theory.specs.Maps.{carve, mapOf}
 use Rattle.map_theory.proofs.Maps.{carve-next, map-grid, map-next, carve-each}
 use Rattle.seam_theory.specs.PictureSeams.{seamOf}
 use Rattle.map_build.specs.Numbers.{pairs}
-use Rattle.map_build.specs.Building.{mapBytes, mapAt, mapped}
-use Rattle.map_build.specs.Kernels.{writePair, writeRows, NextGiven}
+use Rattle.map_rules.specs.Spaces.{mapBytes, mapAt}
+use Rattle.map_build.specs.Building.{mapped}
+use Rattle.map_rows.specs.Marks.{writePair}
+use Rattle.map_build.specs.Kernels.{writeRows, NextGiven}
 use Rattle.map_build.proofs.Pairs.{pairs-flat, grid-pairs, pairs-zeros, write-all-pairs}
 use Rattle.map_build.proofs.Lists.{drop-replicate}
 use Rattle.seam_theory.proofs.Choosing.{seam-chooses}

@@ -1,7 +1,7 @@
 -- What the private functions of this crate ask and promise. No public promise cites it.
 use mathlib.Core.Path.{_≡_}
-use mathlib.Core.List.{List, [], _∷_, _++_, zipWith}
-use Prim.Native.Nat.{ℕ, zero, suc, _+_, _*_, _/_, _%_, _≤_, _<_}
+use mathlib.Core.List.{List, _++_, zipWith}
+use Prim.Native.Nat.{ℕ, _+_, _*_, _/_, _%_, _≤_, _<_}
 use lib.ListN.{length, take, drop, replicate}
 use Rattle.grids.specs.Rows.{rowsOf, flat}
 use Rattle.grids.specs.Cut.{cut}
@@ -9,31 +9,11 @@ use Rattle.pictures.specs.declared.sizes.Size.{Size}
 use Rattle.pictures.specs.Refusals.{refusal}
 use Rattle.pictures.specs.Pictures.{channelsOf, sideRules, pictureBytes, bytes, pixels, pictureIn}
 use Rattle.seam_theory.specs.PictureSeams.{seamOf}
-use Rattle.map_build.specs.Building.{mapBytes, mapAt, mapInRules, mapped}
+use Rattle.map_rows.specs.Marks.{writePair}
+use Rattle.map_rules.specs.Spaces.{mapBytes, mapAt, mapSpaceRules}
+use Rattle.map_build.specs.Building.{mapped}
 
--- The two bytes written over the s-th number that is 0, both its bytes being 0.
-abbrev pub writePair : ℕ → ℕ → ℕ → List ℕ → List ℕ
-writePair low high s [] = []
-writePair low high s (a ∷ []) = a ∷ []
-writePair low high s (suc a ∷ b ∷ r) = suc a ∷ b ∷ writePair low high s r
-writePair low high s (zero ∷ suc b ∷ r) = zero ∷ suc b ∷ writePair low high s r
-writePair low high zero (zero ∷ zero ∷ r) = low ∷ high ∷ r
-writePair low high (suc s) (zero ∷ zero ∷ r) = zero ∷ zero ∷ writePair low high s r
-
--- How many numbers of two bytes are 0.
-abbrev pub zeroPairs : List ℕ → ℕ
-zeroPairs [] = 0
-zeroPairs (a ∷ []) = 0
-zeroPairs (suc a ∷ b ∷ r) = zeroPairs r
-zeroPairs (zero ∷ suc b ∷ r) = zeroPairs r
-zeroPairs (zero ∷ zero ∷ r) = suc (zeroPairs r)
-
--- A place in a row before which nothing is written: over the s-th 0 of the row is over that 0 of the rest.
-pub record SkipGiven (row : List ℕ) (s at zeros : ℕ) : Type 0 where
-  pub within : at ≤ length row
-  pub written : (low high : ℕ) → take at row ++ writePair low high zeros (drop at row) ≡ writePair low high s row
-
--- The number written in each row of a map of w columns, where the seam counts out.
+-- The number written in each row of a map of w columns, over the s-th zero of the row, s being the seam's column.
 abbrev pub writeRows : ℕ → ℕ → List ℕ → List ℕ → List ℕ
 writeRows v w s map = flat (zipWith (writePair (v % 256) (v / 256)) s (rowsOf (2 * w) (length s) map))
 
@@ -62,7 +42,7 @@ pub record NextGiven (z : Size) (w at number : ℕ) (space space′ : List ℕ) 
 
 -- A space that nothing refuses.
 pub record SeamsNeeded (z : Size) (depth space : ℕ) : Type 0 where
-  pub served : refusal (mapInRules z depth space) ≡ 0
+  pub served : refusal (mapSpaceRules z depth space 1) ≡ 0
 
 -- And the map in it.
 pub record SeamsGiven (z : Size) (depth : ℕ) (space space′ : List ℕ) : Type 0 where

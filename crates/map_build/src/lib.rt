@@ -1,60 +1,24 @@
 // The map of a picture, built in a space.
 mod rows;
 
-use pictures::Refusal;
 use pictures::Size;
 use pictures::Verdict;
-ghost use mathlib.Core.Path.{_≡_};
 ghost use lib.ListN.{length};
-ghost use Rattle.pictures.specs.Refusals.{given, refusal};
-ghost use Rattle.map_theory.specs.Widths.{allowed as Widths·allowed};
-ghost use Rattle.map_build.specs.Building.{mapInRules, MapGiven};
+ghost use Rattle.map_build.specs.Building.{MapGiven};
 ghost use Rattle.map_build.specs.Kernels.{NextNeeded, NextGiven, SeamsNeeded, SeamsGiven};
 
-// The map of this depth of the picture at the front of the space. Behind the picture stand a byte for each pixel, for work,
+// The map of this depth of the picture at the front of the space. After the picture stand a byte for each pixel, for work,
 // and two bytes for each pixel, for the map. The picture is left without its first `depth` seams, packed at the front, and
 // the freed bytes and those for work are 0. Refused by 2, 3, 6 and 8.
 pub fn map_in(space: &mut [u8], size: Size, depth: usize) -> Verdict
     ensures { λ v. ⌜ MapGiven (now (space .entry)) size depth v (now (space .exit)) ⌝ }
 {
-    let fits = rooms(size, depth, space.len());
+    let fits = map_rules::judge_map_space(size, depth, space.len(), 1);
     let Verdict::Served = fits else {
         return fits;
     };
     cut_seams(space, size, depth);
     fits
-}
-
-// Whether a depth and a growth are allowed at this width.
-pub fn allowed(width: usize, depth: usize, growth: usize) -> bool
-    ensures { λ t. ⌜ t ≡ Widths·allowed width depth growth ⌝ }
-{
-    if depth >= width {
-        return false;
-    }
-    if depth < growth {
-        return false;
-    }
-    growth <= width / 2
-}
-
-// Which of 2, 3, 6 and 8 refuses a map of this depth in a space of this length, or none.
-fn rooms(size: Size, depth: usize, space: usize) -> Verdict
-    ensures { λ v. ⌜ given v ≡ refusal (mapInRules size depth space) ⌝ }
-{
-    let fits = pictures::sides(size);
-    let Verdict::Served = fits else {
-        return fits;
-    };
-    let width = size.width;
-    let height = size.height;
-    if width <= depth {
-        return Verdict::Refused(Refusal::Range);
-    }
-    if space < pictures::picture_bytes(size) + height * width + height * (2 * width) {
-        return Verdict::Refused(Refusal::Space);
-    }
-    Verdict::Served
 }
 
 // The map where nothing is refused.

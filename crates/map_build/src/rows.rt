@@ -1,89 +1,6 @@
 // A number written into the rows of a map.
 ghost use mathlib.Core.Path.{_≡_};
-ghost use Prim.Native.Nat.{_+_, _*_};
-ghost use lib.ListN.{length};
-ghost use Rattle.map_build.specs.Kernels.{zeroPairs, writePair, SkipGiven, writeRows, RowsNeeded};
-
-// The number of two bytes.
-fn number(low: u8, high: u8) -> usize
-    ensures { λ n. ⌜ n ≡ low + 256 * high ⌝ }
-{
-    wide(low) + 256 * wide(high)
-}
-
-// A byte as a number to count with.
-fn wide(b: u8) -> usize
-    ensures { λ n. ⌜ n ≡ b ⌝ }
-{
-    b as usize
-}
-
-// How many of the 16 numbers in these bytes are 0. One test for both bytes of a number, not one for each, so that the loop
-// compiles to operations on all 16 at once.
-fn zeros_in(block: &[u8]) -> usize
-    requires { ⌜ length (now block) ≡ 32 ⌝ }
-    ensures { λ n. ⌜ n ≡ zeroPairs (now (block .entry)) ⌝ }
-{
-    let mut n = 0u8;
-    for i in 0..16 {
-        if number(block[2 * i], block[2 * i + 1]) == 0 {
-            n += 1;
-        }
-    }
-    wide(n)
-}
-
-// A place in a row, and how many zeros are to be passed from there on.
-struct Skipped {
-    at: usize,
-    zeros: usize,
-}
-
-// Passes blocks of 16 numbers as long as the s-th number that is 0 stands behind them.
-fn skip(row: &[u8], s: usize) -> Skipped
-    ensures { λ k. ⌜ SkipGiven (now (row .entry)) s (k .at) (k .zeros) ⌝ }
-{
-    let mut zeros = s;
-    let mut at = 0;
-    while at + 32 <= row.len() {
-        let end = at + 32;
-        let n = zeros_in(&row[at..end]);
-        if zeros < n {
-            return Skipped { at, zeros };
-        }
-        zeros -= n;
-        at += 32;
-    }
-    Skipped { at, zeros }
-}
-
-// Writes the two bytes over the s-th number that is 0.
-fn mark_row(row: &mut [u8], s: usize, low: u8, high: u8)
-    ensures { λ _. ⌜ now (row .exit) ≡ writePair low high s (now (row .entry)) ⌝ }
-{
-    let skipped = skip(row, s);
-    let at = skipped.at;
-    mark_rest(&mut row[at..], skipped.zeros, low, high);
-}
-
-// The same, number by number: for the block in which that 0 stands, or the end of the row.
-fn mark_rest(row: &mut [u8], s: usize, low: u8, high: u8)
-    ensures { λ _. ⌜ now (row .exit) ≡ writePair low high s (now (row .entry)) ⌝ }
-{
-    let mut zeros = s;
-    let mut c = 0;
-    while c + 1 < row.len() {
-        if number(row[c], row[c + 1]) == 0 {
-            if zeros == 0 {
-                row[c] = low;
-                row[c + 1] = high;
-                return;
-            }
-            zeros -= 1;
-        }
-        c += 2;
-    }
-}
+ghost use Rattle.map_build.specs.Kernels.{writeRows, RowsNeeded};
 
 // A seam's column as a number to count with.
 fn column(c: u16) -> usize
@@ -92,7 +9,7 @@ fn column(c: u16) -> usize
     c as usize
 }
 
-// Writes the number, in each row of a map of so many columns, over the 0 that the seam counts out.
+// Writes the number, in each row of a map of `width` columns, over the s-th zero of the row, s being the seam's column.
 pub(crate) fn mark_rows(map: &mut [u8], width: usize, seam: &[u16], number: usize)
     requires { ⌜ RowsNeeded (now map) width (now seam) number ⌝ }
     ensures { λ _. ⌜ now (map .exit) ≡ writeRows number width (now (seam .entry)) (now (map .entry)) ⌝ }
@@ -105,7 +22,7 @@ pub(crate) fn mark_rows(map: &mut [u8], width: usize, seam: &[u16], number: usiz
         let a = r * (2 * width);
         let e = a + 2 * width;
         let s = column(seam[r]);
-        mark_row(&mut map[a..e], s, low, high);
+        map_rows::mark_row(&mut map[a..e], s, low, high);
         r += 1;
     }
 }

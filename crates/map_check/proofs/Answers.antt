@@ -5,8 +5,6 @@ use mathlib.Core.List.{List, [], _∷_, _++_, append-nil}
 use Prim.Native.Nat.{ℕ, _+_, _-_, _*_}
 use native.Mathlib.Nat.{mul-assoc, mul-comm}
 use native.Mathlib.Omega.{arith}
-use borrow.Author.Tests.{le-ltb, lt-leb}
-use lib.Dec.{leb, ltb}
 use lib.ListN.{length, take, drop, length-drop, drop-of-length-le}
 use lib.Seq.{take-all, take-at, drop-at, take-take, take-append-add, length-take-le}
 use Rattle.grids.specs.Each.{Grid}
@@ -17,8 +15,7 @@ use Rattle.seam_theory.specs.Paths.{beside}
 use Rattle.pictures.specs.declared.sizes.Size.{Size}
 use Rattle.pictures.specs.declared.refusals.Verdict.{Verdict}
 use Rattle.pictures.specs.Refusals.{_when_, given, refusal, served, worked}
-use Rattle.pictures.specs.Pictures.{Picture, sideRules, pictureBytes, picture, pixels, pictureIn}
-use Rattle.pictures.proofs.Rules.{served-first}
+use Rattle.pictures.specs.Pictures.{Picture, pictureBytes, picture, pixels, pictureIn}
 use Rattle.map_theory.specs.Maps.{mapOf}
 use Rattle.map_theory.specs.Judged.{every, same, numbers, connected, found}
 use Rattle.map_theory.proofs.Tests.{same-is}
@@ -27,7 +24,9 @@ use Rattle.map_theory.proofs.Judged.{judged-map}
 use Rattle.map_theory.proofs.Building.{flat-same, judged-rebuilt}
 use Rattle.seam_theory.specs.PictureSeams.{seamOf}
 use Rattle.map_build.specs.Numbers.{pairs}
-use Rattle.map_build.specs.Building.{mapBytes, mapAt, mapInRules, mapped, MapGiven}
+use Rattle.map_rules.specs.Spaces.{mapBytes, mapAt, mapSpaceRules}
+use Rattle.map_rules.proofs.Rooms.{room-served}
+use Rattle.map_build.specs.Building.{mapped, MapGiven}
 use Rattle.seam_theory.proofs.Choosing.{seam-chooses}
 use Rattle.map_build.proofs.Spaces.{there-ofSize}
 use Rattle.map_build.proofs.Steps.{map-long, drop-front}
@@ -105,11 +104,8 @@ module _ (z : Size) (depth : ℕ) (space : List ℕ) (fits : Fits z depth (lengt
   front-long : length (take (recordedAt z) space) ≡ recordedAt z
   front-long = length-take-le (recordedAt z) space (omega (arith, fits .long))
 
-  front-served : refusal (mapInRules z depth (length (take (recordedAt z) space))) ≡ 0
-  front-served =
-      rw front-long
-      (served-first (sideRules z) (6 when leb (z .width) depth ∷ 8 when ltb (recordedAt z) (mapAt z + mapBytes z) ∷ []) refl (fits .room .served)
-      ∙ simp (lt-leb _ _ (fits .room .deep), le-ltb _ _ (fits .room .long)))
+  front-served : refusal (mapSpaceRules z depth (length (take (recordedAt z) space)) 1) ≡ 0
+  front-served = rw front-long (room-served z depth (recordedAt z) 1 (fits .room .served) (fits .room .deep) (fits .room .long))
 
   module _ (answer : Verdict) (front : List ℕ) (g : MapGiven (take (recordedAt z) space) z depth answer front) where
     -- it is then the picture that is left and the map,
@@ -121,7 +117,7 @@ module _ (z : Size) (depth : ℕ) (space : List ℕ) (fits : Fits z depth (lengt
         g .space-is ∙ ap (λ n. served n (mapped z depth (pictureIn z (take (recordedAt z) space)) ++ drop (mapAt z + mapBytes z) (take (recordedAt z) space)) (take (recordedAt z) space)) none
         ∙ ap₂ (λ q r. mapped z depth q ++ r) same-picture nothing ∙ append-nil (mapped z depth p)
 
-    -- and the two maps stand one behind the other.
+    -- and the two maps stand one after the other.
     maps-are : take (mapBytes z + mapBytes z) (drop (mapAt z) (front ++ drop (recordedAt z) space)) ≡ pairs (flat new) ++ recorded
     maps-are =
         let o = there-ofSize z space (omega (arith, fits .long)) in

@@ -10,7 +10,7 @@ use Rattle.grids.specs.Rows.{rowsOf, flat, rowAt}
 use Rattle.grids.proofs.Rows.{rowsOf-flat}
 use Rattle.pictures.specs.declared.sizes.Size.{Size}
 use Rattle.map_build.specs.Numbers.{pairs}
-use Rattle.map_build.specs.Building.{mapBytes}
+use Rattle.map_rules.specs.Spaces.{mapBytes}
 use Rattle.map_check.specs.Checking.{numbersIn, recordedAt, recordedIn}
 
 -- The numbers of their bytes, and the bytes of their numbers.

@@ -2,17 +2,16 @@
 use mathlib.Core.Path.{_≡_}
 use mathlib.Core.List.{List, [], _∷_, _++_}
 use Prim.Native.Nat.{ℕ, _+_, _*_}
-use lib.Dec.{leb, ltb}
 use lib.ListN.{length, take, drop, replicate}
 use Rattle.grids.specs.Rows.{rowsOf}
 use Rattle.seam_theory.specs.Paths.{beside}
 use Rattle.pictures.specs.declared.sizes.Size.{Size}
 use Rattle.pictures.specs.declared.refusals.Verdict.{Verdict}
-use Rattle.pictures.specs.Refusals.{Rule, _when_, given, refusal, worked}
-use Rattle.pictures.specs.Pictures.{Picture, sideRules, pictureIn}
+use Rattle.pictures.specs.Refusals.{Rule, given, refusal, worked}
+use Rattle.pictures.specs.Pictures.{Picture, pictureIn}
 use Rattle.map_theory.specs.Judged.{mapRules}
 use Rattle.seam_theory.specs.PictureSeams.{seamOf}
-use Rattle.map_build.specs.Building.{mapBytes, mapAt}
+use Rattle.map_rules.specs.Spaces.{mapBytes, mapAt, mapSpaceRules}
 
 -- The numbers in bytes, two a number, the low byte first. A last byte that makes no number is left out.
 abbrev pub numbersIn : List ℕ → List ℕ
@@ -20,7 +19,7 @@ numbersIn [] = []
 numbersIn (a ∷ []) = []
 numbersIn (a ∷ b ∷ r) = (a + 256 * b) ∷ numbersIn r
 
--- In the space stand, one behind the other: the picture, a byte for each pixel and two bytes for each pixel for work, and the
+-- In the space stand, one after the other: the picture, a byte for each pixel and two bytes for each pixel for work, and the
 -- recorded map.
 abbrev pub recordedAt : Size → ℕ
 recordedAt z = mapAt z + mapBytes z
@@ -28,16 +27,13 @@ recordedAt z = mapAt z + mapBytes z
 abbrev pub recordedIn : Size → List ℕ → List (List ℕ)
 recordedIn z space = rowsOf (z .width) (z .height) (numbersIn (take (mapBytes z) (drop (recordedAt z) space)))
 
--- Refused by 2 and 3, by 6 where the depth isn't below the width, and by 8 where the space is shorter than all that.
-abbrev pub judgeInRules : Size → ℕ → ℕ → List Rule
-judgeInRules z depth space = sideRules z ++ (6 when leb (z .width) depth ∷ 8 when ltb space (recordedAt z + mapBytes z) ∷ [])
-
 -- 9, 10 and 11: a map judged for a picture. A step of a seam goes to a column that differs by at most 1.
 abbrev pub recordedRules : Size → ℕ → Picture → List (List ℕ) → List Rule
 recordedRules z depth p m = mapRules (λ w. beside) seamOf (z .width) (z .height) depth p m
 
+-- Before them, what is refused of a space for two maps.
 abbrev pub judgeRules : Size → ℕ → List ℕ → List Rule
-judgeRules z depth space = judgeInRules z depth (length space) ++ recordedRules z depth (pictureIn z space) (recordedIn z space)
+judgeRules z depth space = mapSpaceRules z depth (length space) 2 ++ recordedRules z depth (pictureIn z space) (recordedIn z space)
 
 -- The number, and the space: all 0 after success and after 9, 10 and 11, else as it was.
 pub record JudgeGiven (space : List ℕ) (z : Size) (depth : ℕ) (answer : Verdict) (space′ : List ℕ) : Type 0 where

@@ -10,7 +10,8 @@ use Rattle.seam_theory.specs.Paths.{beside}
 use Rattle.pictures.specs.declared.sizes.Size.{Size}
 use Rattle.pictures.specs.Refusals.{refusal}
 use Rattle.map_theory.specs.Judged.{every, same, count, columnOf, connected}
-use Rattle.map_check.specs.Checking.{numbersIn, judgeInRules}
+use Rattle.map_rules.specs.Spaces.{mapSpaceRules}
+use Rattle.map_check.specs.Checking.{numbersIn}
 
 -- A row of a map in bytes, judged at depth k.
 pub record RowNeeded (row : List ℕ) (k : ℕ) : Type 0 where
@@ -45,7 +46,7 @@ pub record ColumnGiven (map : List ℕ) (w r t c : ℕ) : Type 0 where
   pub is : c ≡ columnOf t (rowAt w r (numbersIn map))
   pub most : c ≤ w
 
--- Two maps, one behind the other.
+-- Two maps, one after the other.
 pub record MapsNeeded (maps : List ℕ) (w h k : ℕ) : Type 0 where
   pub long : length maps ≡ h * (2 * w) + h * (2 * w)
   pub wide : w ≤ 512
@@ -61,4 +62,4 @@ besideBuilt maps w h k =
 
 -- A space that nothing up to 8 refuses.
 pub record JudgeNeeded (z : Size) (depth space : ℕ) : Type 0 where
-  pub served : refusal (judgeInRules z depth space) ≡ 0
+  pub served : refusal (mapSpaceRules z depth space 2) ≡ 0

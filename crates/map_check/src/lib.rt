@@ -9,42 +9,22 @@ ghost use mathlib.Core.Path.{_≡_};
 ghost use lib.ListN.{length};
 ghost use Rattle.pictures.specs.Refusals.{given, refusal};
 ghost use Rattle.pictures.specs.Pictures.{pictureIn};
-ghost use Rattle.map_check.specs.Checking.{recordedIn, judgeInRules, recordedRules, JudgeGiven};
+ghost use Rattle.map_check.specs.Checking.{recordedIn, recordedRules, JudgeGiven};
 ghost use Rattle.map_check.specs.Kernels.{JudgeNeeded, MapsNeeded, besideBuilt};
 
-// Judges the map recorded in the space for the picture at its front. In the space stand, one behind the other: the picture, a
+// Judges the map recorded in the space for the picture at its front. In the space stand, one after the other: the picture, a
 // byte for each pixel and two bytes for each pixel for work, and the recorded map, two bytes a number, the low byte first.
 // Refused by 2, 3, 6 and 8; then by 9, 10 and 11. The space is all 0 after success and after 9, 10 and 11, else as it was.
 pub fn judge_in(space: &mut [u8], size: Size, depth: usize) -> Verdict
     ensures { λ v. ⌜ JudgeGiven (now (space .entry)) size depth v (now (space .exit)) ⌝ }
 {
-    let fits = rooms(size, depth, space.len());
+    let fits = map_rules::judge_map_space(size, depth, space.len(), 2);
     let Verdict::Served = fits else {
         return fits;
     };
     let answer = judge_rows(space, size, depth);
     spaces::clear(space);
     answer
-}
-
-// Which of 2, 3, 6 and 8 refuses a map of this depth in a space of this length, or none.
-fn rooms(size: Size, depth: usize, space: usize) -> Verdict
-    ensures { λ v. ⌜ given v ≡ refusal (judgeInRules size depth space) ⌝ }
-{
-    let fits = pictures::sides(size);
-    let Verdict::Served = fits else {
-        return fits;
-    };
-    let width = size.width;
-    let height = size.height;
-    if width <= depth {
-        return Verdict::Refused(Refusal::Range);
-    }
-    let map = height * (2 * width);
-    if space < pictures::picture_bytes(size) + height * width + map + map {
-        return Verdict::Refused(Refusal::Space);
-    }
-    Verdict::Served
 }
 
 // 9 where a row isn't a numbering; else the map is built in front of the recorded one, and they are compared.
@@ -65,7 +45,7 @@ fn judge_rows(space: &mut [u8], size: Size, depth: usize) -> Verdict
     judge_seams(&space[built..end], width, height, depth)
 }
 
-// Of two maps, one behind the other, the first is the one built. Where the second differs, 10 if a seam of it isn't
+// Of two maps, one after the other, the first is the one built. Where the second differs, 10 if a seam of it isn't
 // connected, else 11.
 fn judge_seams(maps: &[u8], width: usize, height: usize, depth: usize) -> Verdict
     requires { ⌜ MapsNeeded (now maps) width height depth ⌝ }

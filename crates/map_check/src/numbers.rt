@@ -59,7 +59,7 @@ fn each_once(seen: &[u16], depth: usize) -> bool
     ensures { λ t. ⌜ t ≡ every (λ v. eqb (getD (now (seen .entry)) v 0) 1) (run 1 depth) ⌝ }
 {
     for t in 0..depth {
-        if seen[t + 1] != 1 {
+        if !map_rules::once(seen[t + 1]) {
             return false;
         }
     }

@@ -1,19 +1,13 @@
 // The seams that a map records, judged by 10.
 use crate::numbers;
+use map_rules::beside;
+use map_rules::remains;
 ghost use mathlib.Core.Path.{_≡_};
-ghost use Prim.Native.Nat.{_≤_};
 ghost use Rattle.grids.specs.Rows.{rowsOf};
-ghost use Rattle.seam_theory.specs.Paths.{beside};
-ghost use Rattle.map_theory.specs.Judged.{remains, columnOf, connected};
+ghost use Rattle.seam_theory.specs.Paths.{beside as Paths·beside};
+ghost use Rattle.map_theory.specs.Judged.{columnOf, connected};
 ghost use Rattle.map_check.specs.Checking.{numbersIn};
 ghost use Rattle.map_check.specs.Kernels.{ColumnNeeded, ColumnGiven, MapNeeded};
-
-// Whether a pixel numbered v is left before seam t.
-fn remains(t: usize, v: usize) -> bool
-    ensures { λ b. ⌜ b ≡ remains t v ⌝ }
-{
-    if v == 0 { true } else { t <= v }
-}
 
 // The column of number t in what is left of a row before seam t.
 fn column_of(row: &[u8], t: usize) -> usize
@@ -42,18 +36,10 @@ fn column_at(map: &[u8], width: usize, r: usize, t: usize) -> usize
     column_of(&map[a..e], t)
 }
 
-// Whether two columns differ by at most 1.
-fn beside(c: usize, d: usize) -> bool
-    requires { ⌜ (c ≤ 512) × (d ≤ 512) ⌝ }
-    ensures { λ b. ⌜ b ≡ beside c d ⌝ }
-{
-    if d <= c + 1 { c <= d + 1 } else { false }
-}
-
 // Whether each seam that a map records is connected in the picture left before it.
 pub(crate) fn connected(map: &[u8], width: usize, height: usize, depth: usize) -> bool
     requires { ⌜ MapNeeded (now map) width height depth ⌝ }
-    ensures { λ b. ⌜ b ≡ connected (λ w. beside) width depth (rowsOf width height (numbersIn (now (map .entry)))) ⌝ }
+    ensures { λ b. ⌜ b ≡ connected (λ w. Paths·beside) width depth (rowsOf width height (numbersIn (now (map .entry)))) ⌝ }
 {
     let mut good = true;
     let mut t = 0;

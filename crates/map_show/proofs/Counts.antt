@@ -1,39 +1,20 @@
--- The tests of a number, the loop that counts the numbers 1 to u, and how many pixels a row shows.
+-- The loop that counts the numbers 1 to u, and how many pixels a row shows.
 use mathlib.Core.Path.{_≡_, refl, ap, _∙_}
 use mathlib.Core.Logic.{⊎-elim}
 use mathlib.Core.Bool.{true, false}
 use mathlib.Core.List.{List, [], _∷_}
-use Prim.Native.Nat.{ℕ, zero, suc, _+_, _-_, _≤_, _<_}
+use Prim.Native.Nat.{ℕ, suc, _+_, _-_, _≤_, _<_}
 use native.Mathlib.Numerals.{add-one}
 use native.Mathlib.Omega.{arith}
-use borrow.Author.Tests.{le-leb, lt-leb, eq-eqb, ne-eqb}
-use lib.Dec.{leb, ltb, leb·suc-suc, leb·zero}
+use borrow.Author.Tests.{le-leb, lt-leb}
 use lib.ListN.{length, getD, drop, drop-of-length-le}
 use lib.Seq.{drop-cons}
 use Rattle.grids.proofs.Orders.{le-or-lt}
-use Rattle.map_theory.specs.Widths.{stays, doubled, keepRow, rowAtWidth}
+use Rattle.map_theory.specs.Widths.{doubled, keepRow, rowAtWidth}
 use Rattle.map_theory.specs.Judged.{tick}
 use Rattle.map_theory.proofs.Doubled as maps
 use Rattle.map_theory.proofs.Widths.{length-consIf, length-keep, length-grow, at-narrow, at-wide}
 use Rattle.map_show.specs.Kernels.{doubledIn, pixelsAt}
-
--- The tests of a number, as code makes them.
-pub stays-none : (t v : ℕ) → v ≡ 0 → true ≡ stays t v
-unfolding stays
-stays-none t v e = rw (eq-eqb v 0 e)
-
-pub stays-some : (t v : ℕ) → (v ≡ 0 → ⊥) → ltb t v ≡ stays t v
-unfolding stays
-stays-some t v d = rw (ne-eqb v 0 d)
-
-pub doubled-none : (u v : ℕ) → v ≡ 0 → false ≡ doubled u v
-unfolding doubled
-doubled-none u v e = rw e
-
-pub doubled-some : (u v : ℕ) → (v ≡ 0 → ⊥) → leb v u ≡ doubled u v
-unfolding doubled
-doubled-some u zero d = absurd (d refl)
-doubled-some u (suc v) d = rw (leb·suc-suc 0 v, leb·zero v)
 
 -- The loop that counts the numbers 1 to u: what was counted and what is to come.
 module _ (u : ℕ) (ys : List ℕ) (c n all : ℕ) where
@@ -78,13 +59,3 @@ pixels-shown mean xs ys v e = ⊎-elim narrow wide (le-or-lt v (length ys))
 
     wide : length ys < v → length (rowAtWidth mean (length ys) v xs ys) ≡ pixelsAt ys v
     wide h = rw (at-wide mean (length ys) v xs ys h, lt-leb v (length ys) h, counted (v - length ys) ys) (length-grow mean (v - length ys) xs ys e ∙ rw e)
-
-pub pixels-most : (ys : List ℕ) (v : ℕ) → pixelsAt ys v ≤ length ys + length ys
-unfolding pixelsAt
-pixels-most ys v = ⊎-elim narrow wide (le-or-lt v (length ys))
-  where
-    narrow : v ≤ length ys → pixelsAt ys v ≤ length ys + length ys
-    narrow h = rw (le-leb v (length ys) h) (omega arith)
-
-    wide : length ys < v → pixelsAt ys v ≤ length ys + length ys
-    wide h = rw (lt-leb v (length ys) h) (omega (arith, doubled-most (v - length ys) ys))

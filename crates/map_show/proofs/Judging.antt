@@ -1,8 +1,10 @@
 -- When a row is refused, in the terms of the code; and what a caller knows where nothing is refused.
 use mathlib.Core.Path.{_≡_, sym, ap, _∙_}
+use mathlib.Core.Bool.{false}
 use mathlib.Core.List.{List, _++_}
 use Prim.Native.Nat.{ℕ, _-_, _*_, _≤_, _<_}
-use borrow.Author.Tests.{eq-eqb, ne-eqb, lt-ltb, le-ltb}
+use borrow.Author.Tests.{eq-eqb, lt-ltb, le-ltb}
+use lib.Dec.{eqb}
 use lib.ListN.{length, drop}
 use Rattle.pictures.specs.declared.sizes.Kind.{Kind}
 use Rattle.pictures.specs.declared.refusals.Verdict.{Verdict}
@@ -13,8 +15,8 @@ use Rattle.map_show.specs.Kernels.{pixelsAt, kept, grown, RowNeeded}
 use Rattle.map_show.proofs.Lengths.{length-shown, narrow-is, wide-is}
 
 module _ (k : Kind) (samples ys : List ℕ) (v : ℕ) (out : List ℕ) where
-  pub refused-length : {n : ℕ} → n ≡ channelsOf k → (length samples ≡ length ys * n → ⊥) → 4 ≡ refusal (rowRules k samples ys v (length out))
-  refused-length e d = rw (ne-eqb (length samples) (length ys * channelsOf k) (λ q. d (q ∙ ap (length ys *_) (sym e))))
+  pub refused-length : eqb (length samples) (length ys * channelsOf k) ≡ false → 4 ≡ refusal (rowRules k samples ys v (length out))
+  refused-length e = rw e
 
   module _ (whole : length samples ≡ length ys * channelsOf k) where
     pub refused-space : length out < pixelsAt ys v * channelsOf k → 8 ≡ refusal (rowRules k samples ys v (length out))

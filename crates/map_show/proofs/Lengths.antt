@@ -3,8 +3,7 @@ use mathlib.Core.Path.{_≡_, ap, _∙_}
 use mathlib.Core.Logic.{⊎-elim}
 use mathlib.Core.Bool.{Bool, true, false}
 use mathlib.Core.List.{List, [], _∷_}
-use Prim.Native.Nat.{ℕ, _+_, _-_, _*_, _≤_, _<_}
-use native.Mathlib.Nat.{mul-le-mul-right, add-mul}
+use Prim.Native.Nat.{ℕ, _-_, _*_, _≤_, _<_}
 use native.Mathlib.Omega.{arith}
 use borrow.Author.Tests.{le-leb, lt-leb}
 use lib.ListN.{length}
@@ -13,14 +12,13 @@ use Rattle.grids.proofs.Orders.{le-or-lt}
 use Rattle.grids.proofs.Rows.{length-rowsOf, grid-rowsOf, length-flat}
 use Rattle.seam_theory.specs.Paths.{consIf}
 use Rattle.pictures.specs.declared.sizes.Kind.{Kind}
-use Rattle.pictures.specs.declared.sizes.Kind.the-variants.{Grey, Rgb}
 use Rattle.pictures.specs.Pictures.{channelsOf}
 use Rattle.map_theory.specs.Widths.{doubled, keepRow, growFrom, growRow, rowAtWidth, average}
 use Rattle.map_theory.proofs.Widths.{at-narrow, at-wide}
 use Rattle.map_show.specs.Showing.{rowShown}
 use Rattle.map_show.specs.Kernels.{pixelsAt, pixels, kept, grown}
 use Rattle.map_show.proofs.Samples.{length-average}
-use Rattle.map_show.proofs.Counts.{pixels-shown, pixels-most}
+use Rattle.map_show.proofs.Counts.{pixels-shown}
 
 -- What is shown has the property of all pixels, where means have it too.
 module _ {A : Type 0} {P : A → Type 0} (mean : A → A → A) (closed : (x y : A) → P x → P y → P (mean x y)) where
@@ -66,15 +64,6 @@ module _ (k : Kind) (samples ys : List ℕ) (v : ℕ) (whole : length samples �
       let xs = pixels k samples ys in
       length-flat (each-shown {P = λ x. length x ≡ ch} average (λ x y p q. length-average ch x y p q) (length ys) v ys (grid-rowsOf ch (length ys) samples (omega arith)))
       ∙ ap (_* ch) (pixels-shown average xs ys v (length-rowsOf ch (length ys) samples))
-
-  -- No more than twice the row.
-  pub shown-most : pixelsAt ys v * channelsOf k ≤ length samples + length samples
-  shown-most = rw (whole, ← add-mul) (mul-le-mul-right (channelsOf k) (pixels-most ys v))
-
--- A number of pixels in bytes.
-pub channels-most : (k : Kind) (n : ℕ) → n * channelsOf k ≤ n * 3
-channels-most Grey n = omega arith
-channels-most Rgb n = omega arith
 
 pub narrow-is : (k : Kind) (samples ys : List ℕ) (v : ℕ) → v ≤ length ys → rowShown k samples ys v ≡ kept k samples ys (length ys - v)
 unfolding rowShown kept rowAtWidth

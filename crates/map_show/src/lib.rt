@@ -14,11 +14,10 @@ pub fn row_at(kind: Kind, samples: &[u8], numbers: &[u16], wanted: usize, out: &
     ensures { λ v. ⌜ RowShown kind (now (samples .entry)) (now (numbers .entry)) wanted (now (out .entry)) v (now (out .exit)) ⌝ }
 {
     let width = numbers.len();
-    let n = pictures::channels(kind);
-    if samples.len() != width * n {
+    if !map_rules::has_pixels(kind, samples.len(), width) {
         return Verdict::Refused(Refusal::Length);
     }
-    if out.len() < rows::pixels_at(numbers, wanted) * n {
+    if !map_rules::holds_pixels(kind, out.len(), rows::pixels_at(numbers, wanted)) {
         return Verdict::Refused(Refusal::Space);
     }
     if wanted <= width {

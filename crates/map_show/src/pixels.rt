@@ -1,8 +1,8 @@
 // A pixel put into a row, as it is or as the mean of two. One function for each number of channels, with one contract: three
 // channels written out are much faster than a loop over them.
+use map_rules::mean;
 use pictures::Kind;
 ghost use mathlib.Core.Path.{_≡_};
-ghost use Prim.Native.Nat.{_+_, _/_, _<_};
 ghost use lib.Seq.{sets};
 ghost use Rattle.grids.specs.Rows.{rowAt};
 ghost use Rattle.pictures.specs.Pictures.{channelsOf};
@@ -35,20 +35,6 @@ fn rgb_pixel(samples: &[u8], c: usize, out: &mut [u8], at: usize)
     out[at] = samples[i];
     out[at + 1] = samples[i + 1];
     out[at + 2] = samples[i + 2];
-}
-
-// A sample as a number to add.
-fn wide(sample: u8) -> u32
-    ensures { λ n. ⌜ (n ≡ sample) × (n < 256) ⌝ }
-{
-    sample as u32
-}
-
-// The mean of two samples, rounded down.
-fn mean(a: u8, b: u8) -> u8
-    ensures { λ n. ⌜ n ≡ (a + b) / 2 ⌝ }
-{
-    ((wide(a) + wide(b)) / 2) as u8
 }
 
 // The mean of pixels c and d, at the place.

@@ -1,14 +1,15 @@
 // A row of pixels kept or grown by the numbers of its row of the map.
 use crate::pixels::put_mean;
 use crate::pixels::put_pixel;
+use map_rules::doubled;
+use map_rules::left_of;
+use map_rules::stays;
 use pictures::Kind;
 use pictures::channels;
 ghost use mathlib.Core.Path.{_≡_};
 ghost use mathlib.Core.List.{_++_};
-ghost use Prim.Native.Nat.{_-_};
 ghost use lib.ListN.{length, drop};
 ghost use lib.Seq.{sets};
-ghost use Rattle.map_theory.specs.Widths.{stays as Widths·stays, doubled as Widths·doubled};
 ghost use Rattle.map_show.specs.Kernels.{doubledIn, pixelsAt, kept, grown, lastPixels, RowNeeded, LastNeeded};
 
 // A number of the map to count with.
@@ -16,20 +17,6 @@ fn wide(number: u16) -> usize
     ensures { λ n. ⌜ n ≡ number ⌝ }
 {
     number as usize
-}
-
-// Whether a pixel of this number is shown with t columns less.
-fn stays(t: usize, number: usize) -> bool
-    ensures { λ b. ⌜ b ≡ Widths·stays t number ⌝ }
-{
-    if number == 0 { true } else { t < number }
-}
-
-// Whether a new pixel is shown for a pixel of this number with u columns more.
-fn doubled(u: usize, number: usize) -> bool
-    ensures { λ b. ⌜ b ≡ Widths·doubled u number ⌝ }
-{
-    if number == 0 { false } else { number <= u }
 }
 
 // How many of the numbers are 1 to u.
@@ -99,13 +86,6 @@ pub(crate) fn grow_row(kind: Kind, samples: &[u8], numbers: &[u16], u: usize, ou
         out,
         at,
     );
-}
-
-// The left neighbour's column; of the first pixel, its own.
-fn left_of(c: usize) -> usize
-    ensures { λ l. ⌜ l ≡ c - 1 ⌝ }
-{
-    if c == 0 { 0 } else { c - 1 }
 }
 
 // The pixel of the last column, with its new pixel to the left of it.

@@ -15,23 +15,23 @@ use Rattle.file_build.proofs.build.Tie as tie
 none : (c : tie.After-enum-told)
     → let s = c .before .before .before .before .before .before in
     let a = s .args in refusal (buildRules (now (a .picture)) (a .head) (length (now (a .out))) (length (now (a .work)))) ≡ 0
-none c = sym (c .before .before .rooms .ensures) ∙ ap given (c .enum-told .given .1)
+none c = sym (c .before .before .judge-buffers .ensures) ∙ ap given (c .enum-told .given .1)
 
-rooms-requires : tie.Need-rooms-requires
-rooms-requires c κs = search needs
+judge-buffers-requires : tie.Need-judge-buffers-requires
+judge-buffers-requires c κs = search needs
 
 enum-known-fits : tie.Need-enum-known-fits
 enum-known-fits c = search needs
 
 returns : tie.Need-returns
 returns c =
-    let at-rooms = c .before .before .before in
-    let s = at-rooms .before .before .before .before in
+    let at-judge = c .before .before .before in
+    let s = at-judge .before .before .before .before in
     let a = s .args in
     let why = c .before .fits2 .given in
     let file = fileIn (a .head) (now (a .picture)) in
     record {
-      number = sym (ap given (why .1)) ∙ at-rooms .rooms .ensures;
+      number = sym (ap given (why .1)) ∙ at-judge .judge-buffers .ensures;
       length-is = kept-by (why .0 .0) (length file) 0;
       out-given = kept-by (why .0 .0) (file ++ drop (length file) (now (a .out))) (now (a .out));
       work-left = kept-by (why .0 .0) (replicate (length (now (a .work))) 0) (now (a .work));
@@ -60,7 +60,7 @@ pub build-spec : {M : Type 1} → statement M
 build-spec =
     tie.close
     (tie.spec
-    rooms-requires
+    judge-buffers-requires
     enum-known-fits
     returns
     enum-told

@@ -10,9 +10,11 @@ use lib.ListN.{length, drop}
 use Rattle.pictures.specs.declared.sizes.Size.{Size}
 use Rattle.pictures.specs.Refusals.{served}
 use Rattle.pictures.specs.Pictures.{pictureBytes, pictureIn}
-use Rattle.map_build.specs.Building.{mapBytes, mapAt, mapped}
+use Rattle.map_rules.specs.Spaces.{mapBytes, mapAt}
+use Rattle.map_build.specs.Building.{mapped}
 use Rattle.map_build.proofs.Steps.{next-mapped}
-use Rattle.map_build.proofs.Spaces.{Room, room-is, there-ofSize, next-needed, First, first-is}
+use Rattle.map_rules.proofs.Rooms.{Room, room-is}
+use Rattle.map_build.proofs.Spaces.{there-ofSize, next-needed, First, first-is}
 use Rattle.map_build.proofs.cut_seams.Statement.{statement}
 use Rattle.map_build.proofs.cut_seams.Tie as tie
 
@@ -24,8 +26,8 @@ Inv-loop space₀ depth width height kind bytes at end t₀ space t =
 abbrev μ-loop : tie.MeasureT-loop
 μ-loop space₀ depth width height kind bytes at end t₀ space t = depth - t
 
-room : (s : tie.Start Inv-loop μ-loop) → Room (s .args .size) (s .args .depth) (length (now (s .args .space)))
-room s = room-is (s .args .size) (s .args .depth) (length (now (s .args .space))) (s .pre .served)
+room : (s : tie.Start Inv-loop μ-loop) → Room (s .args .size) (s .args .depth) (length (now (s .args .space))) 1
+room s = room-is (s .args .size) (s .args .depth) (length (now (s .args .space))) 1 (s .pre .served)
 
 bytes-are : (c : tie.After-picture-bytes Inv-loop μ-loop) → c .picture-bytes .result ≡ pictureBytes (c .before .before .args .size)
 bytes-are c =

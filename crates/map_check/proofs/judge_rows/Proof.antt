@@ -15,7 +15,7 @@ use Rattle.map_theory.specs.Maps.{mapOf}
 use Rattle.map_theory.specs.Judged.{every, numbers}
 use Rattle.seam_theory.specs.PictureSeams.{seamOf}
 use Rattle.map_build.specs.Numbers.{pairs}
-use Rattle.map_build.specs.Building.{mapBytes}
+use Rattle.map_rules.specs.Spaces.{mapBytes}
 use Rattle.map_check.specs.Checking.{recordedAt, recordedIn}
 use Rattle.map_check.proofs.Spaces.{Fits, fits-is}
 use Rattle.map_check.proofs.Answers.{nine, compared-is, maps-at}

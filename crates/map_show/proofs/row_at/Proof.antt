@@ -1,12 +1,13 @@
 -- `map_show::row_at` meets its contract: each return is the first rule that applies.
-use mathlib.Core.Path.{_≡_, refl, ap, _∙_}
-use Prim.Native.Nat.{_*_, _≤_}
-use native.Mathlib.Omega.{arith}
+use mathlib.Core.Path.{_≡_, refl, sym, _∙_}
+use Prim.Native.Nat.{_*_, _≤_, _<_}
+use borrow.Author.Tests.{eqb-true, leb-true, leb-false, not-true, not-false}
 use denote.Ref.{now}
 use lib.ListN.{length}
 use Rattle.pictures.specs.Pictures.{channelsOf}
 use Rattle.map_show.specs.Showing.{rowShown}
-use Rattle.map_show.proofs.Lengths.{channels-most, shown-most, narrow-is, wide-is}
+use Rattle.map_show.specs.Kernels.{pixelsAt}
+use Rattle.map_show.proofs.Lengths.{narrow-is, wide-is}
 use Rattle.map_show.proofs.Judging.{refused-length, refused-space, nothing-refused, shown-room, keep-ready, grow-ready}
 use borrow.Author.Needs.{needs}
 use Rattle.map_show.proofs.row_at.Statement.{statement}
@@ -16,58 +17,49 @@ use Rattle.map_show.proofs.row_at.Tie as tie
 whole : (c : tie.Else1)
     → let s = c .before .before .before .before .before in
     let a = s .args in length (now (a .samples)) ≡ length (now (a .numbers)) * channelsOf (a .kind)
-whole c =
-    let s = c .before .before .before .before .before in
-    let a = s .args in
-    c .if1 .left ∙ ap (length (now (a .numbers)) *_) (c .before .channels .ensures)
+whole c = eqb-true _ _ (sym (c .before .has-pixels .ensures) ∙ not-false _ (c .if1 .left))
 
 -- past the second, there is room for what is shown
 room : (c : tie.Else2)
-    → let s = c .before .before .before .before .before .before .before in
+    → let s = c .before .before .before .before .before .before .before .before in
     let a = s .args in length (rowShown (a .kind) (now (a .samples)) (now (a .numbers)) (a .wanted)) ≤ length (now (a .out))
 room c =
-    let at-if1 = c .before .before in
-    let at-channels = at-if1 .before in
-    let s = at-channels .before .before .before .before in
-    let a = s .args in
-    shown-room (a .kind) (now (a .samples)) (now (a .numbers)) (a .wanted) (now (a .out)) (whole at-if1) (rw (c .before .pixels-at .ensures, at-channels .channels .ensures) at (c .if2 .left))
+    let at-if1 = c .before .before .before in
+    let a = at-if1 .before .before .before .before .before .args in
+    let long : pixelsAt (now (a .numbers)) (a .wanted) * channelsOf (a .kind) ≤ length (now (a .out)) =
+    leb-true _ _ (sym (rw (c .before .before .pixels-at .ensures) at (c .before .holds-pixels .ensures)) ∙ not-false _ (c .if2 .left)) in
+    shown-room (a .kind) (now (a .samples)) (now (a .numbers)) (a .wanted) (now (a .out)) (whole at-if1) long
 
-channels-requires : tie.Need-channels-requires
-channels-requires c κs = search needs
-
-mul-if1 : tie.Need-mul-if1
-mul-if1 c =
-    let a = c .before .before .before .before .args in
-    rw (c .channels .ensures) (omega (arith, channels-most (a .kind) (length (now (a .numbers)))))
+has-pixels-requires : tie.Need-has-pixels-requires
+has-pixels-requires c κs = search needs
 
 returns : tie.Need-returns
 returns c =
-    let s = c .before .before .before .before .before in
-    let a = s .args in
-    record { number-is = refused-length (a .kind) (now (a .samples)) (now (a .numbers)) (a .wanted) (now (a .out)) (c .before .channels .ensures) (c .if1 .taken); out-is = refl }
+    let a = c .before .before .before .before .before .args in
+    record {
+      number-is = refused-length (a .kind) (now (a .samples)) (now (a .numbers)) (a .wanted) (now (a .out)) (sym (c .before .has-pixels .ensures) ∙ not-true _ (c .if1 .taken));
+      out-is = refl;
+    }
 
 pixels-at-requires : tie.Need-pixels-at-requires
 pixels-at-requires c κs = search needs
 
-mul-if2 : tie.Need-mul-if2
-mul-if2 c =
-    let at-channels = c .before .before in
-    let s = at-channels .before .before .before .before in
-    let a = s .args in
-    let most = shown-most (a .kind) (now (a .samples)) (now (a .numbers)) (a .wanted) (whole (c .before)) in
-    rw (c .pixels-at .ensures, at-channels .channels .ensures) (omega (arith, most))
+holds-pixels-requires : tie.Need-holds-pixels-requires
+holds-pixels-requires c κs = search needs
 
 returns-2 : tie.Need-returns-2
 returns-2 c =
-    let u = c .before in
-    let a = u .before .before .before .before .before .before .args in
-    record { number-is = refused-space (a .kind) (now (a .samples)) (now (a .numbers)) (a .wanted) (now (a .out)) (whole (u .before)) (rw (u .pixels-at .ensures, u .before .before .channels .ensures) at (c .if2 .taken)); out-is = refl }
+    let at-if1 = c .before .before .before in
+    let a = at-if1 .before .before .before .before .before .args in
+    let short : length (now (a .out)) < pixelsAt (now (a .numbers)) (a .wanted) * channelsOf (a .kind) =
+    leb-false _ _ (sym (rw (c .before .before .pixels-at .ensures) at (c .before .holds-pixels .ensures)) ∙ not-true _ (c .if2 .taken)) in
+    record { number-is = refused-space (a .kind) (now (a .samples)) (now (a .numbers)) (a .wanted) (now (a .out)) (whole at-if1) short; out-is = refl }
 
 keep-row-requires : tie.Need-keep-row-requires
 keep-row-requires c κs =
     let u = c .before .before in
-    let a = u .before .before .before .before .before .before .before .args in
-    keep-ready (a .kind) (now (a .samples)) (now (a .numbers)) (a .wanted) (now (a .out)) (whole (u .before .before)) (c .before .if3 .taken) (room u)
+    let a = u .before .before .before .before .before .before .before .before .args in
+    keep-ready (a .kind) (now (a .samples)) (now (a .numbers)) (a .wanted) (now (a .out)) (whole (u .before .before .before)) (c .before .if3 .taken) (room u)
 
 same-length : tie.Need-same-length
 same-length c = search needs
@@ -77,9 +69,9 @@ returns-3 c =
     let at-keep-row = c .before .before in
     let at-if3 = at-keep-row .before .before in
     let u = at-if3 .before in
-    let a = u .before .before .before .before .before .before .before .args in
+    let a = u .before .before .before .before .before .before .before .before .args in
     record {
-      number-is = nothing-refused (a .kind) (now (a .samples)) (now (a .numbers)) (a .wanted) (now (a .out)) (whole (u .before .before)) (room u);
+      number-is = nothing-refused (a .kind) (now (a .samples)) (now (a .numbers)) (a .wanted) (now (a .out)) (whole (u .before .before .before)) (room u);
       out-is = rw (narrow-is (a .kind) (now (a .samples)) (now (a .numbers)) (a .wanted) (at-if3 .if3 .taken)) (at-keep-row .keep-row .ensures);
     }
 
@@ -89,8 +81,8 @@ sub-grow-row c = search needs
 grow-row-requires : tie.Need-grow-row-requires
 grow-row-requires c κs =
     let u = c .before .before in
-    let a = u .before .before .before .before .before .before .before .args in
-    grow-ready (a .kind) (now (a .samples)) (now (a .numbers)) (a .wanted) (now (a .out)) (whole (u .before .before)) (c .before .if3 .left) (room u)
+    let a = u .before .before .before .before .before .before .before .before .args in
+    grow-ready (a .kind) (now (a .samples)) (now (a .numbers)) (a .wanted) (now (a .out)) (whole (u .before .before .before)) (c .before .if3 .left) (room u)
 
 same-length-2 : tie.Need-same-length-2
 same-length-2 c = search needs
@@ -100,9 +92,9 @@ returns-4 c =
     let at-grow-row = c .before .before in
     let at-if3 = at-grow-row .before .before in
     let u = at-if3 .before in
-    let a = u .before .before .before .before .before .before .before .args in
+    let a = u .before .before .before .before .before .before .before .before .args in
     record {
-      number-is = nothing-refused (a .kind) (now (a .samples)) (now (a .numbers)) (a .wanted) (now (a .out)) (whole (u .before .before)) (room u);
+      number-is = nothing-refused (a .kind) (now (a .samples)) (now (a .numbers)) (a .wanted) (now (a .out)) (whole (u .before .before .before)) (room u);
       out-is = rw (wide-is (a .kind) (now (a .samples)) (now (a .numbers)) (a .wanted) (at-if3 .if3 .left)) (at-grow-row .grow-row .ensures);
     }
 
@@ -110,11 +102,10 @@ pub row-at-spec : {M : Type 1} → statement M
 row-at-spec =
     tie.close
     (tie.spec
-    channels-requires
-    mul-if1
+    has-pixels-requires
     returns
     pixels-at-requires
-    mul-if2
+    holds-pixels-requires
     returns-2
     keep-row-requires
     same-length

@@ -4,7 +4,9 @@ use native.Mathlib.Omega.{arith}
 use denote.Ref.{now}
 use lib.ListN.{length}
 use Rattle.pictures.specs.Refusals.{given, refusal}
-use Rattle.file_read.specs.Kernels.{Open, spaceRules}
+use Rattle.file_rules.proofs.Ranges.{read-own}
+use Rattle.file_read.specs.Kernels.{Open}
+use Rattle.file_rules.specs.Spaces.{spaceRules}
 use Rattle.file_read.proofs.Parsed.{opened}
 use Rattle.file_read.proofs.Answered.{is-open}
 use Rattle.file_read.proofs.ReadAnswers.{Roomy, roomy, read-early, read-short, read-refused, read-accepted}
@@ -18,11 +20,22 @@ is-opened : (c : tie.After-opened)
     Open (now (s .args .file)) (c .opened .given .0 .0)
 is-opened c = is-open _ (c .before .before .«open» .result) (c .before .before .«open» .ensures) (c .opened .given .0 .0) (c .opened .given .1)
 
+-- so 8 alone decides
+judged : (c : tie.After-judge-read-spaces)
+    → let o = c .before .before in
+    let a = o .before .before .before .before .before .before .before .args in
+    given (c .judge-read-spaces .result) ≡ refusal (spaceRules (o .opened .given .0 .0 .size) (length (now (a .picture))) (length (now (a .map))) (length (now (a .work))))
+judged c =
+    let o = c .before .before in
+    let a = o .before .before .before .before .before .before .before .args in
+    c .judge-read-spaces .ensures ∙ read-own (o .opened .given .0 .0 .size) (length (now (a .picture))) (length (now (a .map))) (length (now (a .work))) (opened _ _ (is-opened o) .sides-served)
+
 -- and the spaces are long enough
 none : (c : tie.After-enum-told2) → let o = c .before .before .before .before in
     let a = o .before .before .before .before .before .before .before .args in
     refusal (spaceRules (o .opened .given .0 .0 .size) (length (now (a .picture))) (length (now (a .map))) (length (now (a .work)))) ≡ 0
-none c = sym (c .before .before .rooms .ensures) ∙ ap given (c .enum-told2 .given .1)
+none c =
+    sym (judged (c .before .before)) ∙ ap given (c .enum-told2 .given .1)
 
 enough : (c : tie.After-enum-told2) → let o = c .before .before .before .before in
     let a = o .before .before .before .before .before .before .before .args in
@@ -41,8 +54,8 @@ enum-told c = search needs
 returns : tie.Need-returns
 returns c = read-early _ _ _ _ _ (c .before .before .«open» .ensures) (c .enum-told .given .0 .0) (c .enum-told .given .1)
 
-rooms-requires : tie.Need-rooms-requires
-rooms-requires c κs = opened _ _ (is-opened (c .before)) .sides-served
+judge-read-spaces-requires : tie.Need-judge-read-spaces-requires
+judge-read-spaces-requires c κs = search needs
 
 enum-known-why : tie.Need-enum-known-why
 enum-known-why c = search needs
@@ -50,7 +63,7 @@ enum-known-why c = search needs
 returns-2 : tie.Need-returns-2
 returns-2 c =
     let r = c .before .before .before in
-    read-short _ _ _ _ _ (is-opened (r .before .before)) (r .rooms .result) (r .rooms .ensures) _ (c .before .why .given .1)
+    read-short _ _ _ _ _ (is-opened (r .before .before)) (r .judge-read-spaces .result) (judged r) _ (c .before .why .given .1)
 
 enum-told-2 : tie.Need-enum-told-2
 enum-told-2 c = search needs
@@ -60,8 +73,8 @@ judge-requires c κs =
     let at-opened = c .before .before .before .before .before in
     record { opened = is-opened at-opened; room = enough (c .before) .work-room }
 
-enum-known-why-2 : tie.Need-enum-known-why-2
-enum-known-why-2 c = search needs
+enum-known-wrong : tie.Need-enum-known-wrong
+enum-known-wrong c = search needs
 
 same-length : tie.Need-same-length
 same-length c = search needs
@@ -70,7 +83,7 @@ returns-3 : tie.Need-returns-3
 returns-3 c =
     let j = c .before .before .before .before .before in
     let s = j .before .before in
-    read-refused _ _ _ _ _ (is-opened (s .before .before .before .before)) (none s) _ _ (j .judge .ensures) _ (c .before .why2 .given .1)
+    read-refused _ _ _ _ _ (is-opened (s .before .before .before .before)) (none s) _ _ (j .judge .ensures) _ (c .before .wrong .given .1)
 
 enum-told-3 : tie.Need-enum-told-3
 enum-told-3 c = search needs
@@ -117,12 +130,12 @@ read-spec =
     enum-known-opened
     enum-told
     returns
-    rooms-requires
+    judge-read-spaces-requires
     enum-known-why
     returns-2
     enum-told-2
     judge-requires
-    enum-known-why-2
+    enum-known-wrong
     same-length
     returns-3
     enum-told-3

@@ -4,7 +4,9 @@ use denote.Ref.{now}
 use lib.ListN.{length, length-replicate, replicate}
 use Rattle.pictures.specs.Refusals.{given, refusal}
 use Rattle.text_theory.specs.Files.{parse}
-use Rattle.file_read.specs.Kernels.{Open, wantedRules, judgedIn}
+use Rattle.file_rules.proofs.Ranges.{wanted-own}
+use Rattle.file_read.specs.Kernels.{Open, judgedIn}
+use Rattle.file_rules.specs.Spaces.{offerRules}
 use Rattle.file_read.proofs.Parsed.{opened}
 use Rattle.file_read.proofs.Offered.{sound, roomy}
 use Rattle.file_read.proofs.Answered.{is-open}
@@ -23,12 +25,20 @@ is-opened c =
     let o = at-open .«open» in
     is-open _ (o .result) (o .ensures) (at-head .head .given .0 .0) (at-head .head .given .1)
 
+-- so 7 and 8 decide
+judged : (c : tie.After-judge-wanted)
+    → let at-head = c .before .before in
+    let s = at-head .before .before .before .before .before .before in
+    let a = s .args in
+    given (c .judge-wanted .result) ≡ refusal (offerRules (at-head .head .given .0 .0) (a .wanted) (length (now (a .out))) (length (now (a .work))))
+judged c = c .judge-wanted .ensures ∙ wanted-own _ _ _ _ (sound (opened _ _ (is-opened (c .before))))
+
 -- neither 7 nor 8 is given
 fits : (c : tie.After-enum-told)
     → let at-head = c .before .before .before .before in
     let s = at-head .before .before .before .before .before .before in
-    let a = s .args in refusal (wantedRules (at-head .head .given .0 .0) (a .wanted) (length (now (a .out))) (length (now (a .work)))) ≡ 0
-fits c = sym (c .before .before .rooms .ensures) ∙ ap given (c .enum-told .given .1)
+    let a = s .args in refusal (offerRules (at-head .head .given .0 .0) (a .wanted) (length (now (a .out))) (length (now (a .work)))) ≡ 0
+fits c = sym (judged (c .before .before)) ∙ ap given (c .enum-told .given .1)
 
 -- nor is the map refused, and the work space is as long as it was
 accepted : (c : tie.After-enum-told2)
@@ -51,17 +61,16 @@ enum-known-why c = search needs
 returns : tie.Need-returns
 returns c = show-early _ _ _ _ _ (rw (c .before .why .given .1) at (c .before .before .before .«open» .ensures))
 
-rooms-requires : tie.Need-rooms-requires
-rooms-requires c κs = sound (opened _ _ (is-opened c))
+judge-wanted-requires : tie.Need-judge-wanted-requires
+judge-wanted-requires c κs = search needs
 
 enum-known-why-2 : tie.Need-enum-known-why-2
 enum-known-why-2 c = search needs
 
 returns-2 : tie.Need-returns-2
 returns-2 c =
-    let at-rooms = c .before .before .before in
-    let at-known-told = at-rooms .before in
-    show-short _ _ _ _ _ (is-opened at-known-told) _ (at-rooms .rooms .ensures) _ (c .before .why2 .given .1)
+    let at-judge-wanted = c .before .before .before in
+    show-short _ _ _ _ _ (is-opened (at-judge-wanted .before)) _ (judged at-judge-wanted) _ (c .before .why2 .given .1)
 
 enum-told : tie.Need-enum-told
 enum-told c = search needs
@@ -120,7 +129,7 @@ show-spec =
     enum-known-head
     enum-known-why
     returns
-    rooms-requires
+    judge-wanted-requires
     enum-known-why-2
     returns-2
     enum-told

@@ -1,9 +1,9 @@
 -- `map_check::numbers::each_once` meets its contract. The invariant: the numbers passed stand once.
-use mathlib.Core.Path.{sym}
+use mathlib.Core.Path.{_≡_, sym, _∙_}
 use Prim.Native.Nat.{_+_, _-_, _≤_}
 use native.Mathlib.Omega.{arith}
 use borrow.Author.Needs.{needs}
-use borrow.Author.Tests.{eq-eqb, ne-eqb}
+use borrow.Author.Tests.{not-true, not-false}
 use lib.Dec.{eqb}
 use lib.ListN.{getD}
 use Rattle.map_theory.proofs.Tests.{every-run}
@@ -20,22 +20,30 @@ abbrev μ-loop : tie.MeasureT-loop
 loop-holds : tie.Need-loop-holds Inv-loop μ-loop
 loop-holds c = (omega arith, λ q l h. absurd (omega arith))
 
-add-if1 : tie.Need-add-if1 Inv-loop μ-loop
-add-if1 c = search needs
+-- the test of the count of t + 1
+told : (c : tie.After-once Inv-loop μ-loop)
+    → let at-loop = c .before .before .before in
+    let a = at-loop .before .before .args in eqb (getD (a .seen .now) (at-loop .loop .t + 1) 0) 1 ≡ c .once .result
+told c = sym (c .once .ensures)
 
-mul-if1 : tie.Need-mul-if1 Inv-loop μ-loop
-mul-if1 c = search needs
+add-once : tie.Need-add-once Inv-loop μ-loop
+add-once c = search needs
 
-shared-slice-read-if1 : tie.Need-shared-slice-read-if1 Inv-loop μ-loop
-shared-slice-read-if1 c = search needs
+mul-once : tie.Need-mul-once Inv-loop μ-loop
+mul-once c = search needs
+
+shared-slice-read-once : tie.Need-shared-slice-read-once Inv-loop μ-loop
+shared-slice-read-once c = search needs
+
+once-requires : tie.Need-once-requires Inv-loop μ-loop
+once-requires c κs = search needs
 
 returns : tie.Need-returns Inv-loop μ-loop
 returns c =
-    let at-loop = c .before .before .before in
-    let s = at-loop .before in
+    let at-loop = c .before .before .before .before in
     let at = at-loop .loop in
-    let a = s .args in
-    sym (run-bad (λ v. eqb (getD (a .seen .now) v 0) 1) (a .depth) (at .t + 1) (omega arith) (omega arith) (ne-eqb (getD (a .seen .now) (at .t + 1) 0) 1 (c .if1 .taken)))
+    let a = at-loop .before .before .args in
+    sym (run-bad (λ v. eqb (getD (a .seen .now) v 0) 1) (a .depth) (at .t + 1) (omega arith) (omega arith) (told (c .before) ∙ not-true _ (c .if1 .taken)))
 
 add-t : tie.Need-add-t Inv-loop μ-loop
 add-t c = search needs
@@ -45,16 +53,15 @@ loop-less c = search needs
 
 loop-again : tie.Need-loop-again Inv-loop μ-loop
 loop-again c =
-    let at-loop = c .before .before .before in
-    let s = at-loop .before in
+    let at-loop = c .before .before .before .before in
     let at = at-loop .loop in
-    let a = s .args in
-    (omega arith, passed-more (λ v. eqb (getD (a .seen .now) v 0) 1) (at .t) (eq-eqb (getD (a .seen .now) (at .t + 1) 0) 1 (c .if1 .left)) (at .inv .1))
+    let a = at-loop .before .before .args in
+    (omega arith, passed-more (λ v. eqb (getD (a .seen .now) v 0) 1) (at .t) (told (c .before) ∙ not-false _ (c .if1 .left)) (at .inv .1))
 
 returns-2 : tie.Need-returns-2 Inv-loop μ-loop
 returns-2 c =
     let at = c .before .loop in
-    let a = c .before .before .args in
+    let a = c .before .before .before .args in
     sym (every-run (λ v. eqb (getD (a .seen .now) v 0) 1) (a .depth) .1 (λ q l h. at .inv .1 q l (omega arith)))
 
 pub each-once-spec : {M : Type 1} → statement M
@@ -64,9 +71,10 @@ each-once-spec =
     Inv-loop
     μ-loop
     loop-holds
-    add-if1
-    mul-if1
-    shared-slice-read-if1
+    add-once
+    mul-once
+    shared-slice-read-once
+    once-requires
     returns
     add-t
     loop-less

@@ -101,10 +101,7 @@ column-at-requires-2 c κs =
     record { inside = row-in s (c .before .loop .r + 1) (c .loop-test .taken) }
 
 beside-requires : tie.Need-beside-requires Inv-loop μ-loop Inv-seams μ-seams
-beside-requires c κs =
-    let at-loop = c .before .before in
-    let s = at-loop .before .before .before .before .before in
-    (omega (arith, at-loop .loop .inv .2, s .pre .wide), omega (arith, c .column-at2 .ensures .most, s .pre .wide))
+beside-requires c κs = search needs
 
 add-r : tie.Need-add-r Inv-loop μ-loop Inv-seams μ-seams
 add-r c = search needs

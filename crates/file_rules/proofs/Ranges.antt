@@ -1,0 +1,53 @@
+-- Size and range that are allowed: what they bound, and which rules are then left to decide.
+use mathlib.Core.Path.{_≡_, refl, _∙_}
+use mathlib.Core.Bool.{true, not}
+use mathlib.Core.List.{_∷_}
+use Prim.Native.Nat.{ℕ, _+_, _*_, _≤_}
+use native.Mathlib.Nat.{mul-le-mul}
+use native.Mathlib.Omega.{arith}
+use Rattle.pictures.specs.declared.sizes.Size.{Size}
+use Rattle.pictures.specs.Refusals.{_when_, refusal}
+use Rattle.pictures.specs.Pictures.{channelsOf, sideRules, pixels}
+use Rattle.pictures.proofs.Rules.{served-first}
+use Rattle.pictures.proofs.Limits.{sides-are}
+use Rattle.map_theory.specs.Widths.{allowed}
+use Rattle.map_theory.proofs.Shown.{allowed-is}
+use Rattle.text_theory.specs.declared.Head.{Head}
+use Rattle.file_rules.specs.Spaces.{spaceRules, readSpaceRules, offerRules, wantedRules}
+
+-- Sides that are served bound the pixels.
+pub pixels-few : (z : Size) → refusal (sideRules z) ≡ 0 → pixels z ≤ 262144
+pixels-few z e = let s = sides-are z e in mul-le-mul (s .height-most) (s .width-most)
+
+-- Where they are served, 8 alone is left of what reading refuses.
+pub read-own : (z : Size) (picture map work : ℕ) → refusal (sideRules z) ≡ 0 → refusal (readSpaceRules z picture map work) ≡ refusal (spaceRules z picture map work)
+read-own z picture map work e = served-first (sideRules z) (spaceRules z picture map work) refl e
+
+-- Size and range that are allowed.
+pub record Sound (h : Head) : Type 0 where
+  pub sides : refusal (sideRules (h .size)) ≡ 0
+  pub range : allowed (h .size .width) (h .depth) (h .growth) ≡ true
+
+-- Then 7 and 8 are left of what showing refuses.
+pub wanted-own : (h : Head) (v out work : ℕ) → Sound h → refusal (wantedRules h v out work) ≡ refusal (offerRules h v out work)
+wanted-own h v out work s =
+    served-first (sideRules (h .size)) (6 when not (allowed (h .size .width) (h .depth) (h .growth)) ∷ offerRules h v out work) refl (s .sides)
+    ∙ rw (s .range)
+
+-- A width of at most m + g, and the bytes of a row and of a picture that wide.
+pub record Bounded (h : Head) (v : ℕ) : Type 0 where
+  pub width-most : v ≤ 768
+  pub row-most : v * channelsOf (h .size .kind) ≤ 2304
+  pub shown-most : h .size .height * (v * channelsOf (h .size .kind)) ≤ 1179648
+
+pub growth-most : (h : Head) → Sound h → h .growth ≤ 256
+growth-most h s =
+    let a = allowed-is (h .size .width) (h .depth) (h .growth) .0 (s .range) .2 in
+    omega (arith, sides-are (h .size) (s .sides) .width-most)
+
+pub bounded : (h : Head) (v : ℕ) → Sound h → v ≤ h .size .width + h .growth → Bounded h v
+bounded h v s l =
+    let z = sides-are (h .size) (s .sides) in
+    let wide : v ≤ 768 = omega (arith, growth-most h s, z .width-most) in
+    let row : v * channelsOf (h .size .kind) ≤ 2304 = mul-le-mul wide (z .channels-most) in
+    record { width-most = wide; row-most = row; shown-most = mul-le-mul (z .height-most) row }

@@ -1,0 +1,101 @@
+-- `file_rules::spaces::judge_build` meets its contract: each return is the first rule that applies.
+use mathlib.Core.Path.{_≡_, refl, sym, ap, _∙_}
+use mathlib.Core.Bool.{not}
+use mathlib.Core.List.{List, [], _∷_}
+use Prim.Native.Nat.{_*_, _≤_}
+use native.Mathlib.Omega.{arith}
+use borrow.Author.Needs.{needs}
+use borrow.Author.Tests.{lt-ltb, le-ltb, not-true, not-false}
+use Rattle.pictures.specs.Refusals.{Rule, _when_, given, refusal}
+use Rattle.pictures.specs.Pictures.{sizeRules, pixels}
+use Rattle.pictures.proofs.Rules.{served-first, refused-answer}
+use Rattle.pictures.proofs.Limits.{sides-served}
+use Rattle.map_theory.specs.Widths.{allowed}
+use Rattle.file_theory.specs.Rules.{workRule}
+use Rattle.file_rules.specs.Spaces.{buildSpaceRules}
+use Rattle.file_rules.proofs.Ranges.{pixels-few}
+use Rattle.file_rules.proofs.spaces.judge_build.Statement.{statement}
+use Rattle.file_rules.proofs.spaces.judge_build.Tie as tie
+
+-- where the picture is served, the range and the work space decide
+more : tie.Start → List Rule
+more s =
+    let a = s .args in
+    6 when not (allowed (a .head .size .width) (a .head .depth) (a .head .growth)) ∷ workRule (a .head .size) (a .work) ∷ []
+
+abbrev start : tie.After-enum-told → tie.Start
+start c = c .before .before .before .before
+
+none : (c : tie.After-enum-told) → let a = start c .args in refusal (sizeRules (a .head .size) (a .bytes)) ≡ 0
+none c = sym (c .before .before .sized .ensures) ∙ ap given (c .enum-told .given .1)
+
+rest : (c : tie.After-enum-told) → let a = start c .args in refusal (buildSpaceRules (a .head) (a .bytes) (a .work)) ≡ refusal (more (start c))
+unfolding more
+rest c = let a = start c .args in served-first (sizeRules (a .head .size) (a .bytes)) (more (start c)) refl (none c)
+
+few : (c : tie.After-enum-told) → pixels (start c .args .head .size) ≤ 262144
+few c = let a = start c .args in pixels-few (a .head .size) (sides-served (a .head .size) (a .bytes) (none c))
+
+-- the test of the range
+ranged : (c : tie.After-allowed) → let h = start (c .before) .args .head in c .allowed .result ≡ allowed (h .size .width) (h .depth) (h .growth)
+ranged c = c .allowed .ensures
+
+sized-requires : tie.Need-sized-requires
+sized-requires c κs = search needs
+
+enum-told : tie.Need-enum-told
+enum-told c = search needs
+
+enum-told-2 : tie.Need-enum-told-2
+enum-told-2 c = search needs
+
+returns : tie.Need-returns
+unfolding more
+returns c =
+    let at-sized = c .before .before in
+    let s = at-sized .before .before in
+    let a = s .args in
+    let why = c .enum-told2 .given in
+    refused-answer (at-sized .sized .result) (why .0 .0) (why .1) (sizeRules (a .head .size) (a .bytes)) (more s) (at-sized .sized .ensures)
+
+allowed-requires : tie.Need-allowed-requires
+allowed-requires c κs = search needs
+
+returns-2 : tie.Need-returns-2
+unfolding more
+returns-2 c = sym (rest (c .before .before) ∙ simp (sym (ranged (c .before)) ∙ not-true _ (c .if1 .taken)))
+
+mul-if2 : tie.Need-mul-if2
+mul-if2 c = omega (arith, few (c .before .before .before))
+
+mul-if2-2 : tie.Need-mul-if2-2
+mul-if2-2 c = omega (arith, few (c .before .before .before))
+
+returns-3 : tie.Need-returns-3
+unfolding more
+returns-3 c =
+    let k = c .before .before in
+    let a = start (k .before .before) .args in
+    sym (rest (k .before .before) ∙ simp (sym (ranged (k .before)) ∙ not-false _ (k .if1 .left), lt-ltb (a .work) (32 * pixels (a .head .size)) (c .if2 .taken)))
+
+returns-4 : tie.Need-returns-4
+unfolding more
+returns-4 c =
+    let k = c .before .before in
+    let a = start (k .before .before) .args in
+    sym (rest (k .before .before) ∙ simp (sym (ranged (k .before)) ∙ not-false _ (k .if1 .left), le-ltb (a .work) (32 * pixels (a .head .size)) (c .if2 .left)))
+
+pub judge-build-spec : {M : Type 1} → statement M
+judge-build-spec =
+    tie.close
+    (tie.spec
+    sized-requires
+    enum-told
+    enum-told-2
+    returns
+    allowed-requires
+    returns-2
+    mul-if2
+    mul-if2-2
+    returns-3
+    returns-4)

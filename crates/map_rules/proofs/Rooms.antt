@@ -1,0 +1,57 @@
+-- What it says of a space that nothing refuses: the sides are within the limits, and the maps end in it.
+use mathlib.Core.Path.{_≡_, refl, _∙_}
+use mathlib.Core.Bool.{cond}
+use mathlib.Core.List.{[], _∷_}
+use Prim.Native.Nat.{ℕ, zero, suc, _+_, _*_, _≤_, _<_}
+use native.Mathlib.Nat.{mul-le-mul, suc-mul}
+use native.Mathlib.Omega.{arith}
+use borrow.Author.Tests.{leb-false, ltb-false, lt-leb, le-ltb}
+use lib.Dec.{leb, ltb}
+use Rattle.pictures.specs.declared.sizes.Size.{Size}
+use Rattle.pictures.specs.Refusals.{_when_, refusal}
+use Rattle.pictures.specs.Pictures.{sideRules, pixels}
+use Rattle.pictures.proofs.Rules.{served-first, served-both, passed}
+use Rattle.pictures.proofs.Limits.{Sides, sides-are}
+use Rattle.map_rules.specs.Spaces.{mapBytes, mapAt, mapsEnd, mapSpaceRules}
+
+-- The maps end after as many times the bytes of one.
+pub maps-end : (z : Size) (n : ℕ) → mapsEnd z n ≡ mapAt z + n * mapBytes z
+maps-end z zero = omega arith
+maps-end z (suc n) = omega (arith, maps-end z n, suc-mul n (mapBytes z))
+
+-- Sides that are served bound the pixels and the bytes of a map.
+pub pixels-few : (z : Size) → Sides z → pixels z ≤ 262144
+pixels-few z s = mul-le-mul (s .height-most) (s .width-most)
+
+pub map-few : (z : Size) → Sides z → mapBytes z ≤ 524288
+map-few z s = let two : 2 * z .width ≤ 1024 = omega (arith, s .width-most) in mul-le-mul (s .height-most) two
+
+pub record Room (z : Size) (depth space maps : ℕ) : Type 0 where
+  pub served : refusal (sideRules z) ≡ 0
+  pub sides : Sides z
+  pub deep : depth < z .width
+  pub long : mapsEnd z maps ≤ space
+  pub pixels-most : pixels z ≤ 262144
+  pub map-most : mapBytes z ≤ 524288
+
+pub room-is : (z : Size) (depth space maps : ℕ) → refusal (mapSpaceRules z depth space maps) ≡ 0 → Room z depth space maps
+room-is z depth space maps e =
+    let parts = served-both (sideRules z) (6 when leb (z .width) depth ∷ 8 when ltb space (mapsEnd z maps) ∷ []) refl e in
+    let first = passed (leb (z .width) depth) 5 (cond (ltb space (mapsEnd z maps)) 8 0) (parts .1) in
+    let second = passed (ltb space (mapsEnd z maps)) 7 0 (first .1) in
+    let sides = sides-are z (parts .0) in
+    record {
+      served = parts .0;
+      sides = sides;
+      deep = leb-false _ _ (first .0);
+      long = ltb-false _ _ (second .0);
+      pixels-most = pixels-few z sides;
+      map-most = map-few z sides;
+    }
+
+-- And where the sides are served, the depth is below the width and the maps end in the space, nothing is refused.
+pub room-served : (z : Size) (depth space maps : ℕ) → refusal (sideRules z) ≡ 0 → depth < z .width → mapsEnd z maps ≤ space
+    → refusal (mapSpaceRules z depth space maps) ≡ 0
+room-served z depth space maps e deep long =
+    served-first (sideRules z) (6 when leb (z .width) depth ∷ 8 when ltb space (mapsEnd z maps) ∷ []) refl e
+    ∙ simp (lt-leb _ _ deep, le-ltb _ _ long)

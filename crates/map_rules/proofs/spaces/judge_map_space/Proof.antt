@@ -1,0 +1,142 @@
+-- `map_rules::spaces::judge_map_space` meets its contract: each return is the first rule that applies.
+use mathlib.Core.Path.{_≡_, refl, sym, ap, _∙_}
+use mathlib.Core.List.{List, [], _∷_}
+use Prim.Native.Nat.{_+_, _*_, _≤_}
+use native.Mathlib.Nat.{mul-le-mul}
+use native.Mathlib.Omega.{arith}
+use borrow.Author.Needs.{needs}
+use borrow.Author.Tests.{lt-ltb, le-ltb, le-leb, lt-leb}
+use lib.Dec.{leb, ltb}
+use Rattle.pictures.specs.Refusals.{Rule, _when_, given, refusal, served}
+use Rattle.pictures.specs.Pictures.{pictureBytes, sideRules}
+use Rattle.pictures.proofs.Rules.{served-first, refused-answer}
+use Rattle.pictures.proofs.Limits.{Sides, sides-are}
+use Rattle.map_rules.specs.Spaces.{mapBytes, mapsEnd, mapSpaceRules}
+use Rattle.map_rules.proofs.Rooms.{maps-end, pixels-few, map-few}
+use Rattle.map_rules.proofs.spaces.judge_map_space.Statement.{statement}
+use Rattle.map_rules.proofs.spaces.judge_map_space.Tie as tie
+
+-- where the sides are served, the depth and the space decide
+more : tie.Start → List Rule
+more c =
+    let a = c .args in
+    6 when leb (a .size .width) (a .depth) ∷ 8 when ltb (a .space) (mapsEnd (a .size) (a .maps)) ∷ []
+
+none : (c : tie.After-enum-told) → refusal (sideRules (c .before .before .before .args .size)) ≡ 0
+none c = sym (c .before .before .sides .ensures) ∙ ap given (c .enum-told .given .1)
+
+rest : (c : tie.After-enum-told) → let a = c .before .before .before .args in
+    refusal (mapSpaceRules (a .size) (a .depth) (a .space) (a .maps)) ≡ refusal (more (c .before .before .before))
+unfolding more
+rest c =
+    let s = c .before .before .before in
+    let a = s .args in
+    served-first (sideRules (a .size)) (more s) refl (none c)
+
+sure : (c : tie.After-enum-told) → Sides (c .before .before .before .args .size)
+sure c = sides-are (c .before .before .before .args .size) (none c)
+
+bytes-are : (c : tie.After-picture-bytes) → c .picture-bytes .result ≡ pictureBytes (c .before .before .before .before .before .args .size)
+bytes-are c =
+    let at-enum-told = c .before .before in
+    let z = at-enum-told .before .before .before .args .size in
+    c .picture-bytes .ensures ∙ ap (λ n. served n (pictureBytes z) 0) (none at-enum-told)
+
+-- 255 maps at most
+maps-most : (c : tie.After-wide) → let z = c .before .before .before .before .before .before .args .size in c .wide .result * mapBytes z ≤ 133693440
+maps-most c =
+    let few : c .wide .result ≤ 255 = omega (arith, c .wide .ensures .1) in
+    mul-le-mul few (map-few _ (sure (c .before .before .before)))
+
+-- what the space is compared with
+all-are : (c : tie.After-wide) → let s = c .before .before .before .before .before .before in
+    let z = s .args .size in
+    c .before .picture-bytes .result + z .height * z .width + c .wide .result * mapBytes z ≡ mapsEnd z (s .args .maps)
+all-are c =
+    let s = c .before .before .before .before .before .before in
+    let z = s .args .size in
+    rw (c .wide .ensures .0, bytes-are (c .before)) (sym (maps-end z (s .args .maps)))
+
+sides-requires : tie.Need-sides-requires
+sides-requires c κs = search needs
+
+enum-told : tie.Need-enum-told
+enum-told c = search needs
+
+enum-told-2 : tie.Need-enum-told-2
+enum-told-2 c = search needs
+
+returns : tie.Need-returns
+unfolding more
+returns c =
+    let at-sides = c .before .before in
+    let s = at-sides .before in
+    let a = s .args in
+    let why = c .enum-told2 .given in
+    refused-answer (at-sides .sides .result) (why .0 .0) (why .1) (sideRules (a .size)) (more s) (at-sides .sides .ensures)
+
+returns-2 : tie.Need-returns-2
+unfolding more
+returns-2 c =
+    let a = c .before .before .before .before .args in
+    sym (rest (c .before) ∙ simp (le-leb (a .size .width) (a .depth) (c .if1 .taken)))
+
+mul-map : tie.Need-mul-map
+mul-map c = omega (arith, sure (c .before) .width-most)
+
+mul-map-2 : tie.Need-mul-map-2
+mul-map-2 c = omega (arith, map-few _ (sure (c .before)))
+
+picture-bytes-requires : tie.Need-picture-bytes-requires
+picture-bytes-requires c κs = search needs
+
+mul-if2 : tie.Need-mul-if2
+mul-if2 c = omega (arith, pixels-few _ (sure (c .before .before)))
+
+add-if2 : tie.Need-add-if2
+add-if2 c = omega (arith, pixels-few _ (sure (c .before .before)), bytes-are c, sure (c .before .before) .picture-most)
+
+wide-requires : tie.Need-wide-requires
+wide-requires c κs = search needs
+
+mul-if2-2 : tie.Need-mul-if2-2
+mul-if2-2 c = omega (arith, maps-most c)
+
+add-if2-2 : tie.Need-add-if2-2
+add-if2-2 c =
+    let at-enum-told = c .before .before .before in
+    omega (arith, pixels-few _ (sure at-enum-told), bytes-are (c .before), sure at-enum-told .picture-most, maps-most c)
+
+returns-3 : tie.Need-returns-3
+unfolding more
+returns-3 c =
+    let at-if1 = c .before .before .before in
+    let short = rw (all-are (c .before)) at (c .if2 .taken) in
+    sym (rest (at-if1 .before) ∙ simp (lt-leb _ _ (at-if1 .if1 .left), lt-ltb _ _ short))
+
+returns-4 : tie.Need-returns-4
+unfolding more
+returns-4 c =
+    let at-if1 = c .before .before .before in
+    let long = rw (all-are (c .before)) at (c .if2 .left) in
+    sym (rest (at-if1 .before) ∙ simp (lt-leb _ _ (at-if1 .if1 .left), le-ltb _ _ long))
+
+pub judge-map-space-spec : {M : Type 1} → statement M
+judge-map-space-spec =
+    tie.close
+    (tie.spec
+    sides-requires
+    enum-told
+    enum-told-2
+    returns
+    returns-2
+    mul-map
+    mul-map-2
+    picture-bytes-requires
+    mul-if2
+    add-if2
+    wide-requires
+    mul-if2-2
+    add-if2-2
+    returns-3
+    returns-4)

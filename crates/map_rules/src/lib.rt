@@ -1,0 +1,16 @@
+// What the operations on maps decide, as pure functions of numbers.
+pub mod recorded;
+pub mod spaces;
+pub mod widths;
+
+pub use recorded::beside;
+pub use recorded::once;
+pub use recorded::remains;
+pub use spaces::has_pixels;
+pub use spaces::holds_pixels;
+pub use spaces::judge_map_space;
+pub use widths::allowed;
+pub use widths::doubled;
+pub use widths::left_of;
+pub use widths::mean;
+pub use widths::stays;
