@@ -1,4 +1,3 @@
-pub mod Named
 pub mod Answers
 pub mod Objects
 pub mod Files

@@ -12,10 +12,10 @@ use Rattle.seam_rules.specs.declared.answers.Found.{Found}
 use Rattle.seam_rules.specs.declared.answers.Axis.{Axis}
 use Rattle.seam_cut.specs.Axes.{turnedSize}
 use Rattle.seam_cut.specs.Cutting.{SeamGiven, SeamCut, MarksCut}
-use Rattle.export_answers.specs.declared.named.Sizing.{Sizing}
-use Rattle.export_answers.specs.declared.named.Sizing.the-variants.{Of, Unknown}
-use Rattle.export_answers.specs.declared.named.Turning.{Turning}
-use Rattle.export_answers.specs.declared.named.Turning.the-variants.{Along, Nowhere}
+use Rattle.export_names.specs.declared.Sizing.{Sizing}
+use Rattle.export_names.specs.declared.Sizing.the-variants.{Of, Unknown}
+use Rattle.export_names.specs.declared.Turning.{Turning}
+use Rattle.export_names.specs.declared.Turning.the-variants.{Along, Nowhere}
 use Rattle.export_answers.specs.Answers.{refusedBy, rowRules, replyOf}
 use Rattle.exports.specs.Hosts.{HostRow}
 use Rattle.exports.specs.Seams.{HostSeam, HostCut, HostMarksCut}

@@ -1,4 +1,4 @@
-// What hosts name by numbers.
+// What hosts in C and Rust name by numbers, as pure functions.
 use pictures::Kind;
 use pictures::Size;
 use seam_rules::Axis;
@@ -6,7 +6,7 @@ use seam_rules::Columns;
 use seam_rules::Rows;
 use text_theory::Head;
 ghost use mathlib.Core.Path.{_≡_};
-ghost use Rattle.export_answers.specs.Named.{sizingOf, turningOf, headNamed, countsNamed};
+ghost use Rattle.export_names.specs.Named.{sizingOf, turningOf, headNamed, countsNamed};
 
 // The size that a host names by numbers.
 pub enum Sizing {

@@ -1,8 +1,8 @@
--- `export_answers::named::size_named` meets its contract.
+-- `export_names::size_named` meets its contract.
 use borrow.Author.Tests.{eq-eqb, ne-eqb}
-use Rattle.export_answers.specs.Named.{sizingOf}
-use Rattle.export_answers.proofs.named.size_named.Statement.{statement}
-use Rattle.export_answers.proofs.named.size_named.Tie as tie
+use Rattle.export_names.specs.Named.{sizingOf}
+use Rattle.export_names.proofs.size_named.Statement.{statement}
+use Rattle.export_names.proofs.size_named.Tie as tie
 
 returns : tie.Need-returns
 unfolding sizingOf

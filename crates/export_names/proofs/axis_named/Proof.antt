@@ -1,8 +1,8 @@
--- `export_answers::named::axis_named` meets its contract.
+-- `export_names::axis_named` meets its contract.
 use borrow.Author.Tests.{eq-eqb, ne-eqb}
-use Rattle.export_answers.specs.Named.{turningOf}
-use Rattle.export_answers.proofs.named.axis_named.Statement.{statement}
-use Rattle.export_answers.proofs.named.axis_named.Tie as tie
+use Rattle.export_names.specs.Named.{turningOf}
+use Rattle.export_names.proofs.axis_named.Statement.{statement}
+use Rattle.export_names.proofs.axis_named.Tie as tie
 
 returns : tie.Need-returns
 unfolding turningOf

@@ -10,11 +10,11 @@ use Rattle.seam_rules.specs.declared.answers.Axis.the-variants.{Vertical, Horiz
 use Rattle.seam_rules.specs.declared.answers.Rows.{Rows}
 use Rattle.seam_rules.specs.declared.answers.Columns.{Columns}
 use Rattle.text_theory.specs.declared.Head.{Head}
-use Rattle.export_answers.specs.declared.named.Sizing.{Sizing}
-use Rattle.export_answers.specs.declared.named.Sizing.the-variants.{Of, Unknown}
-use Rattle.export_answers.specs.declared.named.Turning.{Turning}
-use Rattle.export_answers.specs.declared.named.Turning.the-variants.{Along, Nowhere}
-use Rattle.export_answers.specs.declared.named.Counts.{Counts}
+use Rattle.export_names.specs.declared.Sizing.{Sizing}
+use Rattle.export_names.specs.declared.Sizing.the-variants.{Of, Unknown}
+use Rattle.export_names.specs.declared.Turning.{Turning}
+use Rattle.export_names.specs.declared.Turning.the-variants.{Along, Nowhere}
+use Rattle.export_names.specs.declared.Counts.{Counts}
 
 -- The size that a host names: kind 0 is grey, 1 is rgb.
 unfoldable pub sizingOf : ℕ → ℕ → ℕ → Sizing
