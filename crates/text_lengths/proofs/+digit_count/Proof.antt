@@ -3,7 +3,7 @@ use native.Mathlib.Omega.{arith}
 use mathlib.Core.Path.{sym}
 use Rattle.text_theory.proofs.Decimals.{tenth, length-small, length-large}
 use borrow.Author.Needs.{needs}
-use Prim.Native.Nat.{ℕ}
+use Prim.Native.Nat.{ℕ, _<_}
 use borrow.Fn.Kinds.{In}
 use borrow.Fn.PlainCycle.{Measures, is, falls, and}
 use Rattle.text_lengths.proofs.digit_count.Reads as reads

@@ -4,7 +4,7 @@ use mathlib.Core.Path.{sym}
 use Rattle.text_theory.proofs.Decimals.{tenth, length-small, length-large}
 use Rattle.text_print.proofs.Written.{sets-small, sets-digit}
 use borrow.Author.Needs.{needs}
-use Prim.Native.Nat.{ℕ}
+use Prim.Native.Nat.{ℕ, _<_}
 use borrow.Fn.Kinds.{In}
 use borrow.Fn.PlainCycle.{Measures, is, falls, and}
 use Rattle.text_print.proofs.lines.put_number.Reads as reads
