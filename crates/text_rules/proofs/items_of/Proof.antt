@@ -1,8 +1,8 @@
--- `text_read::scanning::items_of` meets its contract.
-use Rattle.text_read.specs.Kernels.{itemsOf}
+-- `text_rules::items_of` meets its contract.
+use Rattle.text_rules.specs.Items.{itemsOf}
 use borrow.Author.Needs.{needs}
-use Rattle.text_read.proofs.scanning.items_of.Statement.{statement}
-use Rattle.text_read.proofs.scanning.items_of.Tie as tie
+use Rattle.text_rules.proofs.items_of.Statement.{statement}
+use Rattle.text_rules.proofs.items_of.Tie as tie
 
 enum-told : tie.Need-enum-told
 enum-told c = search needs
