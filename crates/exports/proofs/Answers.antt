@@ -1,20 +1,35 @@
 -- What hosts see, from what the operations promise: said once for finding and cutting, without marks and with them.
-use mathlib.Core.Path.{refl}
-use mathlib.Core.List.{List}
-use Prim.Native.Nat.{ℕ}
+use mathlib.Core.Path.{_≡_, refl, sym}
+use mathlib.Core.List.{List, _++_}
+use Prim.Native.Nat.{ℕ, _<_}
+use native.Mathlib.Omega.{arith}
+use lib.ListN.{length, drop}
 use Rattle.pictures.specs.declared.sizes.Size.{Size}
 use Rattle.pictures.specs.Refusals.{Rule, refusal}
+use Rattle.pictures.specs.Pictures.{rowOf}
+use Rattle.pictures.proofs.Rules.{served-not}
 use Rattle.seam_rules.specs.declared.answers.Found.{Found}
 use Rattle.seam_rules.specs.declared.answers.Axis.{Axis}
 use Rattle.seam_rules.specs.Axes.{turnedSize}
 use Rattle.seam_cut.specs.Cutting.{SeamGiven, SeamCut}
 use Rattle.seam_cut_marked.specs.Marking.{MarksCut}
-use Rattle.exports.specs.declared.Sizing.{Sizing}
-use Rattle.exports.specs.declared.Sizing.the-variants.{Of, Unknown}
-use Rattle.exports.specs.declared.Turning.{Turning}
-use Rattle.exports.specs.declared.Turning.the-variants.{Along, Nowhere}
-use Rattle.exports.specs.Hosts.{refusedBy}
-use Rattle.exports.specs.Seams.{replyOf, HostSeam, HostCut, HostMarksCut}
+use Rattle.export_names.specs.declared.Sizing.{Sizing}
+use Rattle.export_names.specs.declared.Sizing.the-variants.{Of, Unknown}
+use Rattle.export_names.specs.declared.Turning.{Turning}
+use Rattle.export_names.specs.declared.Turning.the-variants.{Along, Nowhere}
+use Rattle.export_answers.specs.Answers.{refusedBy, rowRules, replyOf}
+use Rattle.exports.specs.Hosts.{HostRow}
+use Rattle.exports.specs.Seams.{HostSeam, HostCut, HostMarksCut}
+
+-- A row that is refused for want of space.
+pub refused-row : {b : List ℕ} {z : Size} {r : ℕ} {out : List ℕ} {n : ℕ} → n ≡ refusal (rowRules (length (rowOf z b r)) (length out)) → (n ≡ 0 → ⊥) → HostRow b (Of z) r out (refusedBy n) out
+refused-row {b} {z} {r} {out} {n} e h =
+    let some : 0 < n = omega (arith, h) in
+    record {
+      answer = e;
+      value = sym (served-not n (length (rowOf z b r)) 0 some);
+      space = sym (served-not n (rowOf z b r ++ drop (length (rowOf z b r)) out) out some);
+    }
 
 -- A size or an axis that no number names.
 pub data Unnamed : Sizing → Turning → Type 0 where

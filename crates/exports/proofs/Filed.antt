@@ -9,7 +9,8 @@ use Rattle.file_rules.specs.declared.answers.Checked.{Checked}
 use Rattle.file_rules.specs.declared.answers.Shown.{Shown}
 use Rattle.file_rules.specs.Answers.{checkedNumber, checkedHead, shownNumber, shownSize}
 use Rattle.file_read.specs.Reading.{CheckGiven, ReadGiven, ShowGiven}
-use Rattle.exports.specs.Files.{headed, framed, headOf, sizeOf, HostChecked, HostRead, HostShown}
+use Rattle.export_answers.specs.Files.{headed, framed, headOf, sizeOf}
+use Rattle.exports.specs.Files.{HostChecked, HostRead, HostShown}
 
 -- the number that stands in an answer
 headed-number : (n : ℕ) (h : Option Head) → headed n h .number ≡ n

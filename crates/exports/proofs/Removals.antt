@@ -7,10 +7,11 @@ use lib.ListN.{length, replicate}
 use Rattle.pictures.specs.declared.sizes.Size.{Size}
 use Rattle.pictures.specs.Refusals.{refusal, served}
 use Rattle.seam_rules.specs.declared.answers.Removal.{Removal}
-use Rattle.seam_objects.specs.Objects.{Ending}
+use Rattle.seam_rules.specs.Answers.{Ending}
 use Rattle.seam_objects.specs.Removing.{removalRules, ObjectRemoved}
-use Rattle.exports.specs.declared.Sizing.the-variants.{Of, Unknown}
-use Rattle.exports.specs.Objects.{endingNumber, someNumber, stoppedBy, endedOf, removed, HostRemoved}
+use Rattle.export_names.specs.declared.Sizing.the-variants.{Of, Unknown}
+use Rattle.export_answers.specs.Objects.{endingNumber, someNumber, stoppedBy, endedOf}
+use Rattle.exports.specs.Objects.{removed, HostRemoved}
 
 -- the number of an ending that is given or not
 ending-served : (n : ℕ) (e : Ending) → someNumber (served n (some e) none) ≡ served n (endingNumber e) 0

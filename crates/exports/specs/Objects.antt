@@ -1,6 +1,5 @@
 -- What hosts see of an object removed: the number, the ending as a number, the count of seams cut, and the buffers.
 use mathlib.Core.Path.{_≡_}
-use mathlib.Core.Option.{Option, none, some}
 use mathlib.Core.List.{List, _++_}
 use Prim.Native.Nat.{ℕ, _*_}
 use lib.ListN.{length, replicate}
@@ -8,34 +7,12 @@ use Rattle.grids.specs.Rows.{flat}
 use Rattle.pictures.specs.declared.sizes.Size.{Size}
 use Rattle.pictures.specs.Refusals.{refusal, served}
 use Rattle.pictures.specs.Pictures.{channelsOf, bytes}
-use Rattle.seam_rules.specs.declared.answers.Removal.{Removal}
-use Rattle.seam_objects.specs.Objects.{Ending, done, narrow, spent, blocked, Removed, removal}
-use Rattle.seam_rules.specs.Answers.{removalNumber, removalCount}
-use Rattle.seam_objects.specs.Removing.{removalEnding, removalRules, markedPicture}
-use Rattle.exports.specs.declared.Sizing.{Sizing}
-use Rattle.exports.specs.declared.objects.Ended.{Ended}
-use Rattle.exports.specs.Hosts.{known}
-
--- The number of an ending; 0 where there is none.
-abbrev pub endingNumber : Ending → ℕ
-endingNumber done = 1
-endingNumber narrow = 2
-endingNumber spent = 3
-endingNumber blocked = 4
-
-abbrev pub someNumber : Option Ending → ℕ
-someNumber none = 0
-someNumber (some e) = endingNumber e
-
--- The answer as three numbers, refused by one of them or not.
-abbrev pub stoppedBy : ℕ → Ended
-stoppedBy n = record { number = n; ending = 0; count = 0 }
-
-abbrev pub endedAs : ℕ → ℕ → Ended
-endedAs e n = record { number = 0; ending = e; count = n }
-
-abbrev pub endedOf : Removal → Ended
-endedOf r = record { number = removalNumber r; ending = someNumber (removalEnding r); count = removalCount r }
+use Rattle.seam_objects.specs.Objects.{Removed, removal}
+use Rattle.seam_objects.specs.Removing.{removalRules, markedPicture}
+use Rattle.export_names.specs.declared.Sizing.{Sizing}
+use Rattle.export_answers.specs.declared.objects.Ended.{Ended}
+use Rattle.export_names.specs.Named.{known}
+use Rattle.export_answers.specs.Objects.{endingNumber}
 
 -- The removal of what is marked 2 in lent buffers, by at most so many cuts.
 abbrev pub removed : List ℕ → List ℕ → ℕ → Size → Removed

@@ -5,26 +5,11 @@ use Prim.Native.Nat.{ℕ}
 use lib.ListN.{length, drop, replicate}
 use Rattle.pictures.specs.Refusals.{refusal, served}
 use Rattle.pictures.specs.Pictures.{pictureBytes, bytes}
-use Rattle.seam_rules.specs.declared.answers.Rows.{Rows}
-use Rattle.seam_rules.specs.declared.answers.Columns.{Columns}
-use Rattle.seam_rules.specs.declared.answers.Retargeted.{Retargeted}
-use Rattle.seam_rules.specs.Answers.{retargetedNumber, retargetedTotal}
 use Rattle.seam_rules.specs.Counts.{leftSize, retargetRules}
 use Rattle.seam_retarget.specs.Retargeting.{cellOf}
-use Rattle.exports.specs.declared.Answer.{Answer}
-use Rattle.exports.specs.declared.Sizing.{Sizing}
-use Rattle.exports.specs.Hosts.{known}
-
--- The answer as two numbers.
-abbrev pub totalOf : Retargeted → Answer
-totalOf t = record { number = retargetedNumber t; value = retargetedTotal t }
-
--- The counts that a host names by numbers.
-abbrev pub rowCount : ℕ → Rows
-rowCount n = record { 0 = n }
-
-abbrev pub columnCount : ℕ → Columns
-columnCount n = record { 0 = n }
+use Rattle.export_answers.specs.declared.answers.Answer.{Answer}
+use Rattle.export_names.specs.declared.Sizing.{Sizing}
+use Rattle.export_names.specs.Named.{known, rowCount, columnCount}
 
 -- The total, the picture of the cell at the front of the output space, and the work space.
 pub record HostRetargeted (b : List ℕ) (s : Sizing) (rows columns : ℕ) (out work : List ℕ) (a : Answer) (out′ work′ : List ℕ) : Type 0 where

@@ -7,22 +7,16 @@ use Rattle.grids.specs.Rows.{flat}
 use Rattle.pictures.specs.declared.sizes.Size.{Size}
 use Rattle.pictures.specs.Refusals.{Rule, refusal, served}
 use Rattle.pictures.specs.Pictures.{channelsOf, picture, bytes, marksOf}
-use Rattle.seam_rules.specs.declared.answers.Found.{Found}
-use Rattle.seam_rules.specs.Answers.{foundNumber, foundCost}
 use Rattle.seam_rules.specs.declared.answers.Axis.{Axis}
 use Rattle.seam_rules.specs.Axes.{turnedSize}
 use Rattle.seam_cut.specs.Axes.{seamAlong, costAlong}
 use Rattle.seam_cut_marked.specs.Axes.{markedSeamAlong, markedCostAlong}
 use Rattle.seam_turn.specs.Axes.{cutAlong}
 use Rattle.seam_rules.specs.Cuts.{cleared}
-use Rattle.exports.specs.declared.Answer.{Answer}
-use Rattle.exports.specs.declared.Sizing.{Sizing}
-use Rattle.exports.specs.declared.Turning.{Turning}
-use Rattle.exports.specs.Hosts.{both}
-
--- The answer as two numbers.
-abbrev pub replyOf : Found → Answer
-replyOf f = record { number = foundNumber f; value = foundCost f }
+use Rattle.export_answers.specs.declared.answers.Answer.{Answer}
+use Rattle.export_names.specs.declared.Sizing.{Sizing}
+use Rattle.export_names.specs.declared.Turning.{Turning}
+use Rattle.export_names.specs.Named.{both}
 
 -- A seam along an axis, its cost, and the spaces; what refuses it, the seam and the cost go by the size and the axis.
 pub record HostSeam (rules : Axis → Size → List Rule) (found : Axis → Size → List ℕ) (cost : Axis → Size → ℕ) (s : Sizing) (t : Turning) (seam work : List ℕ) (a : Answer) (seam′ work′ : List ℕ) : Type 0 where

@@ -1,28 +1,14 @@
 // Rows and columns removed together, for hosts.
-use crate::Answer;
-use crate::Sizing;
-use crate::refused;
-use crate::size_named;
-use seam_rules::Columns;
-use seam_rules::Retargeted;
-use seam_rules::Rows;
-ghost use mathlib.Core.Path.{_≡_};
-ghost use Rattle.exports.specs.Hosts.{sizingOf};
-ghost use Rattle.exports.specs.Retargets.{totalOf, HostRetargeted};
+use export_answers::Answer;
+use export_answers::refused;
+use export_answers::total_reply;
+use export_names::Sizing;
+use export_names::counts_named;
+use export_names::size_named;
+ghost use Rattle.export_names.specs.Named.{sizingOf};
+ghost use Rattle.exports.specs.Retargets.{HostRetargeted};
 
-fn reply(given: Retargeted) -> Answer
-    ensures { λ a. ⌜ a ≡ totalOf given ⌝ }
-{
-    match given {
-        Retargeted::Total(total) => Answer {
-            number: 0,
-            value: total,
-        },
-        Retargeted::Refused(why) => refused(pictures::number(why)),
-    }
-}
-
-// The picture with so many rows and so many columns less, put into the front of out; the value is the total of its seams.
+// The picture with `rows` rows and `columns` columns less, put into the front of out; the value is the total of its seams.
 #[no_mangle]
 pub extern "C" fn multisize_retarget(
     picture: &[u8],
@@ -39,5 +25,6 @@ pub extern "C" fn multisize_retarget(
     let Sizing::Of(size) = size_named(width, height, kind) else {
         return refused(1);
     };
-    reply(seam_retarget::retarget(picture, size, Rows(rows), Columns(columns), out, work))
+    let counts = counts_named(rows, columns);
+    total_reply(seam_retarget::retarget(picture, size, counts.rows, counts.columns, out, work))
 }

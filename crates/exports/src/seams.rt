@@ -1,28 +1,15 @@
 // One seam of a lent picture, for hosts: found or cut, without marks and with them.
-use crate::Answer;
-use crate::Sizing;
-use crate::Turning;
-use crate::axis_named;
-use crate::refused;
-use crate::size_named;
-use seam_rules::Found;
-ghost use mathlib.Core.Path.{_≡_};
+use export_answers::Answer;
+use export_answers::refused;
+use export_answers::seam_reply;
+use export_names::Sizing;
+use export_names::Turning;
+use export_names::axis_named;
+use export_names::size_named;
 ghost use Rattle.seam_rules.specs.Cuts.{findRules, cutRules};
 ghost use Rattle.seam_cut_marked.specs.Marking.{markedFindRules, markedCutRules};
-ghost use Rattle.exports.specs.Hosts.{sizingOf, turningOf};
-ghost use Rattle.exports.specs.Seams.{replyOf, HostFound, HostPictureCut, HostMarkedFound, HostMarkedPictureCut, HostMarkedMarksCut};
-
-fn reply(found: Found) -> Answer
-    ensures { λ a. ⌜ a ≡ replyOf found ⌝ }
-{
-    match found {
-        Found::Seam(cost) => Answer {
-            number: 0,
-            value: cost,
-        },
-        Found::Refused(why) => refused(pictures::number(why)),
-    }
-}
+ghost use Rattle.export_names.specs.Named.{sizingOf, turningOf};
+ghost use Rattle.exports.specs.Seams.{HostFound, HostPictureCut, HostMarkedFound, HostMarkedPictureCut, HostMarkedMarksCut};
 
 // The seam along the axis, put into the front of seam from the top or the left; the value is its cost.
 #[no_mangle]
@@ -43,7 +30,7 @@ pub extern "C" fn multisize_find(
     let Turning::Along(turned) = axis_named(axis) else {
         return refused(1);
     };
-    reply(seam_cut::find(picture, size, turned, seam, work))
+    seam_reply(seam_cut::find(picture, size, turned, seam, work))
 }
 
 // Cuts the seam along the axis out of the picture and gives it as multisize_find does. The rows then lie packed at the
@@ -67,7 +54,7 @@ pub extern "C" fn multisize_cut(
     let Turning::Along(turned) = axis_named(axis) else {
         return refused(1);
     };
-    reply(seam_cut::cut(picture, size, turned, seam, work))
+    seam_reply(seam_cut::cut(picture, size, turned, seam, work))
 }
 
 // The seam along the axis by the marks, one byte a pixel: 0 plain, 1 protected, 2 to be removed.
@@ -90,7 +77,7 @@ pub extern "C" fn multisize_find_marked(
     let Turning::Along(turned) = axis_named(axis) else {
         return refused(1);
     };
-    reply(seam_cut_marked::find_marked(picture, marks, size, turned, seam, work))
+    seam_reply(seam_cut_marked::find_marked(picture, marks, size, turned, seam, work))
 }
 
 // Cuts that seam out of the picture and the marks and gives it as multisize_find_marked does.
@@ -115,5 +102,5 @@ pub extern "C" fn multisize_cut_marked(
     let Turning::Along(turned) = axis_named(axis) else {
         return refused(1);
     };
-    reply(seam_cut_marked::cut_marked(picture, marks, size, turned, seam, work))
+    seam_reply(seam_cut_marked::cut_marked(picture, marks, size, turned, seam, work))
 }

@@ -16,8 +16,8 @@ use Rattle.text_theory.specs.declared.Head.{Head}
 use Rattle.text_theory.specs.Files.{headText}
 use Rattle.text_theory.specs.Lengths.{total, spaced, rowLength}
 use Rattle.text_theory.proofs.Lengths.{head-length}
-use Rattle.text_print.specs.Prints.{less}
-use Rattle.text_print.proofs.Rooms.{less-some, less-none, less-room, less-short}
+use Rattle.text_lengths.specs.Rooms.{less}
+use Rattle.text_lengths.proofs.Rooms.{less-some, less-none, less-room, less-short}
 use Rattle.file_theory.specs.Contents.{fileOf}
 use Rattle.file_theory.proofs.Lengths.{file-length}
 use Rattle.file_build.specs.Kernels.{FitNeeded}

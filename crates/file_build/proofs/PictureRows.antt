@@ -16,7 +16,7 @@ use Rattle.pictures.proofs.Buffers.{picture-ofSize, row-is}
 use Rattle.text_theory.specs.Files.{rowWord, pixelText, lineText, rowText}
 use Rattle.text_theory.specs.Lengths.{rowLength}
 use Rattle.text_theory.proofs.Lengths.{row-length}
-use Rattle.text_print.specs.Prints.{pixelsOf}
+use Rattle.text_lengths.specs.Rooms.{pixelsOf}
 use Rattle.file_theory.proofs.Shapes.{all-each}
 
 module _ (z : Size) (b : List ℕ) (sized : refusal (sizeRules z (length b)) ≡ 0) where

@@ -1,6 +1,6 @@
 // Whether the file fits a room: decided from sizes and samples, without the map.
 use pictures::Size;
-use text_print::Left;
+use text_lengths::Left;
 use text_theory::Head;
 ghost use mathlib.Core.Path.{_≡_};
 ghost use mathlib.Core.List.{_++_};
@@ -12,7 +12,7 @@ ghost use Rattle.pictures.specs.Refusals.{refusal};
 ghost use Rattle.pictures.specs.Pictures.{sizeRules, picture as Pictures·picture};
 ghost use Rattle.text_theory.specs.Files.{mapText};
 ghost use Rattle.text_theory.specs.Lengths.{total, rowLength};
-ghost use Rattle.text_print.specs.Prints.{leftRead, less};
+ghost use Rattle.text_lengths.specs.Rooms.{leftRead, less};
 ghost use Rattle.file_theory.specs.Contents.{fileOf};
 ghost use Rattle.file_build.specs.Kernels.{OrderNeeded, FitNeeded};
 
@@ -26,7 +26,7 @@ fn rows_left(room: usize, picture: &[u8], size: Size) -> Left
     let mut left = room;
     let mut r: usize = 0;
     while r < height {
-        let Left::Room(next) = text_print::row_left(left, kind, pictures::row(picture, size, r))
+        let Left::Room(next) = text_lengths::row_left(left, kind, pictures::row(picture, size, r))
         else {
             return Left::Short;
         };
@@ -51,7 +51,7 @@ fn maps_left(room: usize, count: usize, row: &[u16]) -> Left
     requires { ⌜ 0 < count ⌝ }
     ensures { λ l. ⌜ leftRead l ≡ less room (count * length (mapText (now (row .entry)))) ⌝ }
 {
-    let Left::Room(after) = text_print::map_left(room, row) else {
+    let Left::Room(after) = text_lengths::map_left(room, row) else {
         return Left::Short;
     };
     let line = room - after;
@@ -69,7 +69,7 @@ pub(crate) fn file_fits(picture: &[u8], head: Head, room: usize) -> bool
 {
     let size = head.size;
     let width = size.width;
-    let Left::Room(lines) = text_print::head_left(room, head) else {
+    let Left::Room(lines) = text_lengths::head_left(room, head) else {
         return false;
     };
     let Left::Room(maps) = rows_left(lines, picture, size) else {

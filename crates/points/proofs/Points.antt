@@ -22,7 +22,8 @@ use Rattle.text_theory.specs.Decimal.{digitsUpTo, digits, isDigit, further, upT
 use Rattle.text_theory.specs.Files.{lineEnd, blank, opening, closing, start, range, closed, rowWord, mapWord, greyWord, rgbWord, each, joined, kindText, pixelText, lineText, headText, text, kindGet, items, three, pixel, line, headGet, file, whole, parse}
 use Rattle.text_theory.proofs.Points.{shownText}
 use Rattle.seam_theory.specs.PictureSeams.{seamOf, costOf}
-use Rattle.seam_objects.specs.Objects.{Ending, done, narrow, spent, blocked, Removed, someTwo, removal}
+use Rattle.seam_rules.specs.Answers.{Ending, done, narrow, spent, blocked}
+use Rattle.seam_objects.specs.Objects.{Removed, someTwo, removal}
 use Rattle.seam_objects.specs.Removing.{markedPicture}
 use Rattle.file_theory.specs.Contents.{partsOf, fileOf}
 use Rattle.file_theory.specs.Rules.{filled, checkRules, showRules}

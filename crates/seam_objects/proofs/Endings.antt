@@ -4,7 +4,8 @@ use mathlib.Core.Bool.{Bool, true, false}
 use Prim.Native.Nat.{ℕ, zero, suc}
 use lib.Dec.{eqb}
 use borrow.Author.Tests.{eq-eqb, ne-eqb, eqb-true, eqb-false}
-use Rattle.seam_objects.specs.Objects.{MarkedPicture, toRemove, noSeam, cutOnce, done, narrow, spent, blocked, Removed, ends, removal}
+use Rattle.seam_objects.specs.Objects.{MarkedPicture, toRemove, noSeam, cutOnce, Removed, ends, removal}
+use Rattle.seam_rules.specs.Answers.{done, narrow, spent, blocked}
 
 -- The steps, one law each.
 module _ (n : ℕ) (s : MarkedPicture) where

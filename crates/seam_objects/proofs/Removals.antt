@@ -6,7 +6,8 @@ use Prim.Native.Nat.{ℕ, zero, suc, _+_, _-_, _≤_, _<_}
 use native.Mathlib.Nat.{eq-or-lt-of-le}
 use native.Mathlib.Omega.{arith}
 use Rattle.grids.proofs.Orders.{more-than-one}
-use Rattle.seam_objects.specs.Objects.{MarkedPicture, toRemove, noSeam, cutOnce, carved, Ending, done, narrow, spent, blocked, Removed, removal}
+use Rattle.seam_objects.specs.Objects.{MarkedPicture, toRemove, noSeam, cutOnce, carved, Removed, removal}
+use Rattle.seam_rules.specs.Answers.{Ending, done, narrow, spent, blocked}
 use Rattle.seam_objects.proofs.Shapes.{Shaped, shaped-cut}
 use Rattle.seam_objects.proofs.Endings.{by-steps}
 

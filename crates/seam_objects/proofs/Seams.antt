@@ -22,12 +22,12 @@ use Rattle.seam_rules.proofs.Turns.{sides-of}
 use Rattle.grids.proofs.Orders.{more-than-one}
 use Rattle.seam_rules.specs.declared.answers.Removal.{Removal}
 use Rattle.seam_rules.specs.declared.answers.Removal.the-variants.{Done, Narrow, Spent, Blocked}
-use Rattle.seam_objects.specs.Objects.{MarkedPicture, someTwo, toRemove, noSeam, cutOnce, carved, Ending, done, narrow, spent, blocked, ends, removal}
-use Rattle.seam_rules.specs.Answers.{removalNumber, removalCount}
+use Rattle.seam_objects.specs.Objects.{MarkedPicture, someTwo, toRemove, noSeam, cutOnce, carved, ends, removal}
+use Rattle.seam_rules.specs.Answers.{Ending, done, narrow, spent, blocked, removalNumber, removalCount, removalEnding}
+use Rattle.seam_objects.specs.Removing.{markedPicture, ObjectRemoved}
 use Rattle.seam_rules.specs.declared.endings.Next.the-variants.{Ended}
 use Rattle.seam_rules.specs.Endings.{nextStep}
 use Rattle.seam_rules.proofs.Choices.{step-ended}
-use Rattle.seam_objects.specs.Removing.{removalEnding, markedPicture, ObjectRemoved}
 use Rattle.seam_objects.specs.Kernels.{SeamsNeeded, FrontNeeded, front, FrontCut}
 use Rattle.seam_objects.proofs.Shapes.{flat-inside, shaped-start, shaped-cut}
 use Rattle.seam_objects.proofs.Standing.{Standing, front-marks, front-is, behind-bytes, behind-marks, bytes-there, marks-there}

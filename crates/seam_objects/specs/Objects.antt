@@ -6,6 +6,7 @@ use lib.Dec.{eqb}
 use Rattle.grids.specs.Rows.{flat}
 use Rattle.grids.specs.Cut.{cut}
 use Rattle.pictures.specs.Pictures.{Picture}
+use Rattle.seam_rules.specs.Answers.{Ending, done, narrow, spent, blocked}
 use Rattle.seam_theory.specs.PictureSeams.{markedUp, markedSeamOf, isNone}
 
 -- A picture and its marks, with their width and height.
@@ -43,13 +44,6 @@ cutOnce s = record {
 unfoldable pub carved : ℕ → MarkedPicture → MarkedPicture
 carved zero s = s
 carved (suc n) s = cutOnce (carved n s)
-
--- The four endings.
-pub data Ending : Type 0 where
-  done : Ending
-  narrow : Ending
-  spent : Ending
-  blocked : Ending
 
 -- "Each ending carries the count of seams cut, and the buffers hold the picture and marks after that many."
 pub record Removed : Type 0 where

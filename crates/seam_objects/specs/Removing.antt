@@ -11,17 +11,8 @@ use Rattle.pictures.specs.Refusals.{Rule, _when_, served}
 use Rattle.pictures.specs.Pictures.{channelsOf, sizeRules, picture, bytes, pixels, marksOf}
 use Rattle.seam_cut_marked.specs.Marking.{markRules}
 use Rattle.seam_rules.specs.declared.answers.Removal.{Removal}
-use Rattle.seam_rules.specs.declared.answers.Removal.the-variants.{Done, Narrow, Spent, Blocked, Refused}
-use Rattle.seam_rules.specs.Answers.{removalNumber, removalCount}
-use Rattle.seam_objects.specs.Objects.{MarkedPicture, Ending, done, narrow, spent, blocked, Removed, removal}
-
--- How a removal ended; none where it is refused.
-abbrev pub removalEnding : Removal → Option Ending
-removalEnding (Done n) = some done
-removalEnding (Narrow n) = some narrow
-removalEnding (Spent n) = some spent
-removalEnding (Blocked n) = some blocked
-removalEnding (Refused why) = none
+use Rattle.seam_rules.specs.Answers.{removalNumber, removalEnding, removalCount}
+use Rattle.seam_objects.specs.Objects.{MarkedPicture, Removed, removal}
 
 -- Refused as picture and marks are, and by 8 where the work space has less than 32 bytes a pixel.
 abbrev pub removalRules : Size → List ℕ → List ℕ → ℕ → List Rule

@@ -1,4 +1,5 @@
--- The numbers in the answers of the operations on seams.
+-- The numbers in the answers of the operations on seams, and how a removal ends.
+use mathlib.Core.Option.{Option, none, some}
 use Prim.Native.Nat.{ℕ}
 use Rattle.pictures.specs.Refusals.{numberOf}
 use Rattle.seam_rules.specs.declared.answers.Found.{Found}
@@ -16,6 +17,21 @@ foundNumber (founds.Refused why) = numberOf why
 abbrev pub foundCost : Found → ℕ
 foundCost (founds.Seam cost) = cost
 foundCost (founds.Refused why) = 0
+
+-- The four endings of a removal.
+pub data Ending : Type 0 where
+  done : Ending
+  narrow : Ending
+  spent : Ending
+  blocked : Ending
+
+-- How a removal ended; none where it is refused.
+abbrev pub removalEnding : Removal → Option Ending
+removalEnding (removals.Done n) = some done
+removalEnding (removals.Narrow n) = some narrow
+removalEnding (removals.Spent n) = some spent
+removalEnding (removals.Blocked n) = some blocked
+removalEnding (removals.Refused why) = none
 
 -- The number that a removal is refused by, 0 where it has ended; and the count of seams cut.
 abbrev pub removalNumber : Removal → ℕ

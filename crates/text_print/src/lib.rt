@@ -1,11 +1,6 @@
-// The text of a multi-size file, printed: how long its lines are, and the lines written into a lent space.
-pub mod lengths;
+// The text of a multi-size file, printed: its lines, written into a lent space.
 pub mod lines;
 
-pub use lengths::Left;
-pub use lengths::head_left;
-pub use lengths::map_left;
-pub use lengths::row_left;
 pub use lines::Place;
 pub use lines::print_bytes;
 pub use lines::print_end;

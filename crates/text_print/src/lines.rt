@@ -1,7 +1,6 @@
 // Lines printed into a lent space, at a place of it.
-use crate::lengths;
-use crate::lengths::Left;
 use pictures::Kind;
+use text_lengths::Left;
 use text_theory::Head;
 ghost use mathlib.Core.List.{_++_};
 ghost use Prim.Native.Nat.{_+_, _*_, _≤_};
@@ -10,7 +9,8 @@ ghost use Rattle.text_theory.specs.Decimal.{digits};
 ghost use Rattle.text_theory.specs.Files.{blank, closed, each, pixelText, kindText, headText, rowText, mapText};
 ghost use Rattle.pictures.specs.Pictures.{channelsOf};
 ghost use Rattle.grids.specs.Rows.{rowsOf, rowAt};
-ghost use Rattle.text_print.specs.Prints.{Put, pixelsOf, Printed};
+ghost use Rattle.text_print.specs.Prints.{Put, Printed};
+ghost use Rattle.text_lengths.specs.Rooms.{pixelsOf};
 ghost use Rattle.text_print.specs.Kernels.{pairText, PixelNeeded, PixelsNeeded};
 
 // The place behind what was printed; or the space is too short, and nothing was printed.
@@ -55,7 +55,7 @@ fn put_numbers(out: &mut [u8], at: usize, row: &[u16]) -> usize
     let mut i: usize = 0;
     let mut end = at;
     while i < row.len() {
-        let n = lengths::wide(row[i]);
+        let n = text_lengths::wide(row[i]);
         let next = put_bytes(out, end, b" ");
         end = put_number(out, next, n);
         i += 1;
@@ -80,7 +80,7 @@ pub fn print_map(out: &mut [u8], at: usize, row: &[u16]) -> Place
     if len < at {
         return Place::Short;
     }
-    let Left::Room(_) = lengths::map_left(len - at, row) else {
+    let Left::Room(_) = text_lengths::map_left(len - at, row) else {
         return Place::Short;
     };
     Place::Next(put_map(out, at, row))
@@ -128,7 +128,7 @@ pub fn print_head(out: &mut [u8], at: usize, head: Head) -> Place
     if len < at {
         return Place::Short;
     }
-    let Left::Room(_) = lengths::head_left(len - at, head) else {
+    let Left::Room(_) = text_lengths::head_left(len - at, head) else {
         return Place::Short;
     };
     Place::Next(put_head(out, at, head))
@@ -163,7 +163,7 @@ pub fn print_number(out: &mut [u8], at: usize, n: usize) -> Place
     if len < at {
         return Place::Short;
     }
-    if len - at < lengths::digit_count(n) {
+    if len - at < text_lengths::digit_count(n) {
         return Place::Short;
     }
     Place::Next(put_number(out, at, n))
@@ -176,15 +176,15 @@ fn put_pixel(out: &mut [u8], at: usize, kind: Kind, samples: &[u8], i: usize) ->
 {
     match kind {
         Kind::Grey => {
-            let n = lengths::sample(samples[i]);
+            let n = text_lengths::sample(samples[i]);
             let a = put_bytes(out, at, b" ");
             put_number(out, a, n)
         }
         Kind::Rgb => {
             let j = i * 3;
-            let red = lengths::sample(samples[j]);
-            let green = lengths::sample(samples[j + 1]);
-            let blue = lengths::sample(samples[j + 2]);
+            let red = text_lengths::sample(samples[j]);
+            let green = text_lengths::sample(samples[j + 1]);
+            let blue = text_lengths::sample(samples[j + 2]);
             let a = put_pair(out, at, b" (", red, green);
             let b = put_bytes(out, a, b" ");
             let c = put_number(out, b, blue);
@@ -225,7 +225,7 @@ pub fn print_row(out: &mut [u8], at: usize, kind: Kind, samples: &[u8]) -> Place
     if len < at {
         return Place::Short;
     }
-    let Left::Room(_) = lengths::row_left(len - at, kind, samples) else {
+    let Left::Room(_) = text_lengths::row_left(len - at, kind, samples) else {
         return Place::Short;
     };
     Place::Next(put_row(out, at, kind, samples))

@@ -13,8 +13,8 @@ use Rattle.text_theory.specs.Readers.{Get, give, on, _▷_, strip, behind, afte
 use Rattle.text_theory.specs.Decimal.{number}
 use Rattle.pictures.specs.declared.sizes.Kind.the-variants.{Rgb}
 use Rattle.text_theory.specs.Files.{blank, opening, closing, items, three, pixel}
-use Rattle.text_read.specs.declared.forms.Items.{Items}
-use Rattle.text_read.specs.declared.forms.Items.the-variants.{Samples, Pixels, Numbers}
+use Rattle.text_rules.specs.declared.Items.{Items}
+use Rattle.text_rules.specs.declared.Items.the-variants.{Samples, Pixels, Numbers}
 use Rattle.text_read.specs.Answers.{Told, counted, itemOf, formOf}
 use Rattle.text_theory.proofs.Pairs.{front, Reads, short}
 use Rattle.text_theory.proofs.Many.{many-next}

@@ -8,8 +8,8 @@ use native.Mathlib.Nat.{add-zero, zero-add}
 use native.Mathlib.Omega.{arith}
 use lib.Dec.{eqb}
 use lib.ListN.{length, drop}
-use Rattle.text_read.specs.declared.forms.Items.{Items}
-use Rattle.text_read.specs.declared.forms.Items.the-variants.{Samples, Pixels, Numbers}
+use Rattle.text_rules.specs.declared.Items.{Items}
+use Rattle.text_rules.specs.declared.Items.the-variants.{Samples, Pixels, Numbers}
 use Rattle.text_theory.specs.Readers.{Get, give, on, _▷_, strip, behind, after, next, many}
 use Rattle.text_theory.specs.Decimal.{number}
 use Rattle.pictures.specs.declared.sizes.Kind.the-variants.{Grey, Rgb}
@@ -193,7 +193,3 @@ module _ {word : List ℕ} {w : Items} {width : ℕ} {text : List ℕ} {from : �
           go : (o : Option ((ℕ × Bool) × List ℕ)) → on (on o (one (eqb m width))) (grown n even) ≡ on o (grown (n + 1) (even && eqb m width))
           go none = refl
           go (some q) = let z : n + suc (q .0 .0) ≡ n + 1 + q .0 .0 = omega arith in rw (z, and-assoc)
-
-pub and-false : (x : Bool) → x && false ≡ false
-and-false true = refl
-and-false false = refl

@@ -6,8 +6,8 @@ use mathlib.Core.List.{List, [], _∷_, map}
 use Prim.Native.Nat.{ℕ, zero, suc, _≤_, _<_}
 use native.Mathlib.Omega.{arith}
 use lib.ListN.{length, length-map, drop-of-length-le}
-use Rattle.text_read.specs.declared.forms.Items.{Items}
-use Rattle.text_read.specs.declared.forms.Items.the-variants.{Numbers}
+use Rattle.text_rules.specs.declared.Items.{Items}
+use Rattle.text_rules.specs.declared.Items.the-variants.{Numbers}
 use Rattle.text_theory.specs.Readers.{Get, give, on, _▷_, strip, behind, after, next, manyUpTo, many}
 use Rattle.text_theory.specs.Decimal.{number}
 use Rattle.pictures.specs.declared.sizes.Kind.{Kind}
@@ -16,7 +16,8 @@ use Rattle.text_theory.specs.declared.Head.{Head}
 use Rattle.text_theory.specs.Files.{Parts, lineEnd, blank, closing, closed, rowWord, mapWord, items, pixel, line, headGet, file, ended, whole, parse}
 use Rattle.text_read.specs.declared.scanning.Facts.{Facts}
 use Rattle.text_read.specs.Answers.{Told, counted, formOf, evenly, factsOf, factsIn}
-use Rattle.text_read.specs.Kernels.{lineRest, Reached, linesOf, itemsOf, scanOf}
+use Rattle.text_read.specs.Kernels.{lineRest, Reached, linesOf, scanOf}
+use Rattle.text_rules.specs.Items.{itemsOf}
 use Rattle.text_theory.proofs.Pairs.{front}
 use Rattle.text_read.proofs.Onward.{Left, tally}
 

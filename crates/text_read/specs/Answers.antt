@@ -20,8 +20,8 @@ use Rattle.text_read.specs.declared.words.Word.{Word}
 use Rattle.text_read.specs.declared.words.Word.the-variants as words
 use Rattle.text_read.specs.declared.words.KindRead.{KindRead}
 use Rattle.text_read.specs.declared.words.KindRead.the-variants.{Named, Unnamed}
-use Rattle.text_read.specs.declared.forms.Items.{Items}
-use Rattle.text_read.specs.declared.forms.Items.the-variants.{Samples, Pixels, Numbers}
+use Rattle.text_rules.specs.declared.Items.{Items}
+use Rattle.text_rules.specs.declared.Items.the-variants.{Samples, Pixels, Numbers}
 use Rattle.text_read.specs.declared.scanning.Facts.{Facts}
 use Rattle.text_read.specs.declared.scanning.HeadRead.{HeadRead}
 use Rattle.text_read.specs.declared.scanning.HeadRead.the-variants.{Begun, Unbegun}

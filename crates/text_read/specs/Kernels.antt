@@ -6,13 +6,12 @@ use mathlib.Core.List.{List, [], _∷_}
 use Prim.Native.Nat.{ℕ, zero, suc, _≤_}
 use lib.Dec.{ltb}
 use lib.ListN.{length, drop}
-use Rattle.pictures.specs.declared.sizes.Kind.{Kind}
-use Rattle.pictures.specs.declared.sizes.Kind.the-variants.{Grey, Rgb}
 use Rattle.text_theory.specs.Readers.{Get, give, _▷_, after, many}
 use Rattle.text_theory.specs.Decimal.{number, isDigit}
 use Rattle.text_theory.specs.Files.{lineEnd, closed, rowWord, mapWord, headGet}
-use Rattle.text_read.specs.declared.forms.Items.{Items}
-use Rattle.text_read.specs.declared.forms.Items.the-variants.{Samples, Pixels, Numbers}
+use Rattle.text_rules.specs.declared.Items.{Items}
+use Rattle.text_rules.specs.Items.{itemsOf}
+use Rattle.text_rules.specs.declared.Items.the-variants.{Numbers}
 use Rattle.text_read.specs.declared.scanning.Facts.{Facts}
 use Rattle.text_read.specs.declared.scanning.Lines.{Lines}
 use Rattle.text_read.specs.declared.scanning.Lines.the-variants.{Counted, Torn}
@@ -50,10 +49,6 @@ linesOf word w width = many word (lineRest w) ▷ λ ns. give (length ns, evenly
 abbrev pub linesRead : Lines → Option ((ℕ × Bool) × ℕ)
 linesRead (Counted n full c) = some ((n, full), c .at)
 linesRead Torn = none
-
-unfoldable pub itemsOf : Kind → Items
-itemsOf Grey = Samples
-itemsOf Rgb = Pixels
 
 -- A whole text, its lines counted.
 unfoldable pub scanOf : Get Facts

@@ -3,16 +3,9 @@ use crate::cursor::Class;
 use crate::cursor::Cursor;
 use crate::cursor::Read;
 use crate::cursor::class_of;
+use text_rules::Items;
 ghost use Rattle.text_read.specs.Answers.{Told, read, itemOf, formOf};
 ghost use Rattle.text_read.specs.Kernels.{lineRest};
-
-// What the items of a form are: words, or forms of words. The form of a line stands in the form of the file, so forms are
-// nested at most three deep.
-pub enum Items {
-    Samples,
-    Pixels,
-    Numbers,
-}
 
 impl Cursor {
     // The items of a form, each behind a blank, up to the closing bracket: how many there are.

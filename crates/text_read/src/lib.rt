@@ -9,7 +9,6 @@ pub use cursor::Class;
 pub use cursor::Cursor;
 pub use cursor::Read;
 pub use cursor::class_of;
-pub use forms::Items;
 pub use scanning::Facts;
 pub use scanning::HeadRead;
 pub use scanning::Scanned;

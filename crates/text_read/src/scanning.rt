@@ -1,19 +1,19 @@
 // A whole text read for its form and its counts.
 use crate::cursor::Cursor;
 use crate::cursor::Read;
-use crate::forms::Items;
 use crate::words::KindRead;
-use pictures::Kind;
 use pictures::Size;
+use text_rules::Items;
+use text_rules::both_full;
+use text_rules::items_of;
+use text_rules::still_full;
 use text_theory::Head;
 ghost use mathlib.Core.Path.{_≡_};
-ghost use mathlib.Core.Bool.{_&&_};
 ghost use Prim.Native.Nat.{_≤_, _<_};
-ghost use lib.Dec.{eqb};
 ghost use lib.ListN.{length};
 ghost use Rattle.text_theory.specs.Files.{headGet, parse};
 ghost use Rattle.text_read.specs.Answers.{Told, headRead, scanRead, factsIn};
-ghost use Rattle.text_read.specs.Kernels.{Reached, linesOf, linesRead, itemsOf};
+ghost use Rattle.text_read.specs.Kernels.{Reached, linesOf, linesRead};
 
 pub enum HeadRead {
     Begun(Head, Cursor),
@@ -38,28 +38,6 @@ pub struct Facts {
 pub enum Scanned {
     Formed(Facts),
     Broken,
-}
-
-pub(crate) fn items_of(kind: Kind) -> Items
-    ensures { λ r. ⌜ r ≡ itemsOf kind ⌝ }
-{
-    match kind {
-        Kind::Grey => Items::Samples,
-        Kind::Rgb => Items::Pixels,
-    }
-}
-
-fn both(a: bool, b: bool) -> bool
-    ensures { λ r. ⌜ r ≡ a && b ⌝ }
-{
-    if a { b } else { false }
-}
-
-// Whether still all lines are of the width, with one more of m items.
-fn still(full: bool, m: usize, width: usize) -> bool
-    ensures { λ r. ⌜ r ≡ full && eqb m width ⌝ }
-{
-    if m == width { full } else { false }
 }
 
 impl Cursor {
@@ -120,7 +98,7 @@ impl Cursor {
                 return Lines::Torn;
             };
             n += 1;
-            full = still(full, m, width);
+            full = still_full(full, m, width);
             at = d.at;
         }
     }
@@ -154,6 +132,6 @@ pub fn scan(text: &[u8]) -> Scanned
         head,
         rows,
         maps,
-        full: both(wide, filled),
+        full: both_full(wide, filled),
     })
 }

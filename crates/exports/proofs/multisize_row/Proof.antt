@@ -1,11 +1,13 @@
--- `exports::multisize_row` meets its contract.
+-- `exports::multisize_row` meets its contract: a row that nothing refuses fits the space, and is copied whole.
 use mathlib.Core.Path.{refl, sym, ap, _∙_}
 use mathlib.Core.List.{_++_}
+use Prim.Native.Nat.{_≤_}
 use borrow.Author.Needs.{needs}
 use denote.Ref.{now}
 use lib.ListN.{length, drop}
 use lib.Seq.{take-length}
-use borrow.Author.Tests.{lt-ltb, le-ltb}
+use Rattle.export_answers.proofs.Rows.{row-fits}
+use Rattle.exports.proofs.Answers.{refused-row}
 use Rattle.exports.proofs.multisize_row.Statement.{statement}
 use Rattle.exports.proofs.multisize_row.Tie as tie
 
@@ -27,20 +29,31 @@ returns c = rw (sym (c .before .before .before .size-named .ensures) ∙ c .befo
 row-requires : tie.Need-row-requires
 row-requires c κs = search needs
 
+judge-row-requires : tie.Need-judge-row-requires
+judge-row-requires c κs = search needs
+
 refused-requires-2 : tie.Need-refused-requires-2
 refused-requires-2 c κs = search needs
 
 returns-2 : tie.Need-returns-2
 returns-2 c =
-    let at-row = c .before .before in
+    let at-judge = c .before .before in
+    let at-row = at-judge .before in
     let at-size = at-row .before .before in
     let at-size-named = at-size .before .before in
-    let short = rw (at-row .row .ensures) at (c .before .if1 .taken) in
+    let is = rw (at-row .row .ensures) at (at-judge .judge-row .ensures) in
     rw (sym (at-size-named .size-named .ensures) ∙ at-size .size .given .1, c .refused2 .ensures)
-    (record { answer = simp (lt-ltb _ _ short); value = refl; space = refl })
+    (refused-row is (c .before .if1 .taken))
 
 copy-requires : tie.Need-copy-requires
-copy-requires c κs = search needs
+copy-requires c κs =
+    let at-if1 = c .before in
+    let at-judge = at-if1 .before in
+    let at-row = at-judge .before in
+    let s = at-row .before .before .before .before .before .before .before in
+    let fits : length (now (at-row .row .result)) ≤ length (now (s .args .out)) =
+    row-fits (length (now (at-row .row .result))) (length (now (s .args .out))) (sym (at-judge .judge-row .ensures) ∙ at-if1 .if1 .left) in
+    search needs
 
 same-length : tie.Need-same-length
 same-length c = search needs
@@ -49,16 +62,17 @@ returns-3 : tie.Need-returns-3
 returns-3 c =
     let at-copy = c .before .before in
     let at-if1 = at-copy .before .before in
-    let at-row = at-if1 .before in
+    let at-judge = at-if1 .before in
+    let at-row = at-judge .before in
     let at-size = at-row .before .before in
     let at-size-named = at-size .before .before in
     let s = at-size-named .before .before .before in
     let row = at-row .row in
     let out = now (s .args .out) in
-    let room = rw (row .ensures) at (at-if1 .if1 .left) in
+    let is = rw (row .ensures) at (sym (at-if1 .if1 .left) ∙ at-judge .judge-row .ensures) in
     rw (sym (at-size-named .size-named .ensures) ∙ at-size .size .given .1)
     (record {
-      answer = simp (le-ltb _ _ room);
+      answer = is;
       value = at-copy .copy .ensures .0 ∙ ap length (row .ensures);
       space =
           at-copy .copy .ensures .1
@@ -76,6 +90,7 @@ multisize-row-spec =
     refused-requires
     returns
     row-requires
+    judge-row-requires
     refused-requires-2
     returns-2
     copy-requires

@@ -21,6 +21,9 @@ returns c =
     rw (sym (c .before .before .before .size-named .ensures) ∙ c .before .enum-told .given .1, c .refused .ensures)
     (record { answer = refl; value = refl; out-given = refl; work-left = refl })
 
+head-named-requires : tie.Need-head-named-requires
+head-named-requires c κs = search needs
+
 build-requires : tie.Need-build-requires
 build-requires c κs = search needs
 
@@ -36,9 +39,10 @@ same-length-2 c = search needs
 returns-2 : tie.Need-returns-2
 returns-2 c =
     let at-build = c .before .before .before .before .before in
-    let at-size = at-build .before .before .before .before in
+    let at-head = at-build .before .before .before in
+    let at-size = at-head .before .before in
     let at-size-named = at-size .before .before in
-    let g = at-build .build .ensures in
+    let g = rw (at-head .head-named .ensures) at (at-build .build .ensures) in
     rw (sym (at-size-named .size-named .ensures) ∙ at-size .size .given .1, c .length-reply .ensures)
     (record { answer = g .number; value = g .length-is; out-given = g .out-given; work-left = g .work-left })
 
@@ -51,6 +55,7 @@ multisize-build-spec =
     enum-told
     refused-requires
     returns
+    head-named-requires
     build-requires
     length-reply-requires
     same-length

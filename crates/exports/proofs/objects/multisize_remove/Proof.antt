@@ -23,8 +23,8 @@ returns c = rw (sym (c .before .before .before .size-named .ensures) ∙ c .befo
 remove-requires : tie.Need-remove-requires
 remove-requires c κs = search needs
 
-reply-requires : tie.Need-reply-requires
-reply-requires c κs = search needs
+removal-reply-requires : tie.Need-removal-reply-requires
+removal-reply-requires c κs = search needs
 
 same-length : tie.Need-same-length
 same-length c = search needs
@@ -41,7 +41,7 @@ returns-2 c =
     let at-size = at-remove .before .before .before .before .before in
     let at-size-named = at-size .before .before in
     let g = at-remove .remove .ensures in
-    rw (sym (at-size-named .size-named .ensures) ∙ at-size .size .given .1, c .reply .ensures) (named-removal (g .0) (g .1))
+    rw (sym (at-size-named .size-named .ensures) ∙ at-size .size .given .1, c .removal-reply .ensures) (named-removal (g .0) (g .1))
 
 pub multisize-remove-spec : {M : Type 1} → statement M
 multisize-remove-spec =
@@ -53,7 +53,7 @@ multisize-remove-spec =
     stopped-requires
     returns
     remove-requires
-    reply-requires
+    removal-reply-requires
     same-length
     same-length-2
     same-length-3

@@ -21,11 +21,14 @@ returns c =
     rw (sym (c .before .before .before .size-named .ensures) ∙ c .before .enum-told .given .1, c .refused .ensures)
     (record { answer = refl; value = refl; out-given = refl; work-left = refl })
 
+counts-named-requires : tie.Need-counts-named-requires
+counts-named-requires c κs = search needs
+
 retarget-requires : tie.Need-retarget-requires
 retarget-requires c κs = search needs
 
-reply-requires : tie.Need-reply-requires
-reply-requires c κs = search needs
+total-reply-requires : tie.Need-total-reply-requires
+total-reply-requires c κs = search needs
 
 same-length : tie.Need-same-length
 same-length c = search needs
@@ -36,10 +39,11 @@ same-length-2 c = search needs
 returns-2 : tie.Need-returns-2
 returns-2 c =
     let at-retarget = c .before .before .before .before .before in
-    let at-size = at-retarget .before .before .before .before in
+    let at-counts = at-retarget .before .before .before in
+    let at-size = at-counts .before .before in
     let at-size-named = at-size .before .before in
-    let g = at-retarget .retarget .ensures in
-    rw (sym (at-size-named .size-named .ensures) ∙ at-size .size .given .1, c .reply .ensures)
+    let g = rw (at-counts .counts-named .ensures) at (at-retarget .retarget .ensures) in
+    rw (sym (at-size-named .size-named .ensures) ∙ at-size .size .given .1, c .total-reply .ensures)
     (record { answer = g .number; value = g .total; out-given = g .out-given; work-left = g .work-left })
 
 pub multisize-retarget-spec : {M : Type 1} → statement M
@@ -51,8 +55,9 @@ multisize-retarget-spec =
     enum-told
     refused-requires
     returns
+    counts-named-requires
     retarget-requires
-    reply-requires
+    total-reply-requires
     same-length
     same-length-2
     returns-2)

@@ -47,8 +47,8 @@ returns-2 c =
 cut-requires : tie.Need-cut-requires
 cut-requires c κs = search needs
 
-reply-requires : tie.Need-reply-requires
-reply-requires c κs = search needs
+seam-reply-requires : tie.Need-seam-reply-requires
+seam-reply-requires c κs = search needs
 
 same-length : tie.Need-same-length
 same-length c = search needs
@@ -70,7 +70,7 @@ returns-3 c =
     rw (
       sym (at-size-named .size-named .ensures) ∙ at-size .size .given .1,
       sym (at-axis-named .axis-named .ensures) ∙ at-turned .turned .given .1,
-      c .reply .ensures,
+      c .seam-reply .ensures,
     )
     (named-seam (g .0), rw (g .0 .number-is) (named-cut (g .1)))
 
@@ -89,7 +89,7 @@ multisize-cut-spec =
     refused-requires-2
     returns-2
     cut-requires
-    reply-requires
+    seam-reply-requires
     same-length
     same-length-2
     same-length-3

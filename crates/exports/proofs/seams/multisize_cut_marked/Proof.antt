@@ -47,8 +47,8 @@ returns-2 c =
 cut-marked-requires : tie.Need-cut-marked-requires
 cut-marked-requires c κs = search needs
 
-reply-requires : tie.Need-reply-requires
-reply-requires c κs = search needs
+seam-reply-requires : tie.Need-seam-reply-requires
+seam-reply-requires c κs = search needs
 
 same-length : tie.Need-same-length
 same-length c = search needs
@@ -73,7 +73,7 @@ returns-3 c =
     rw (
       sym (at-size-named .size-named .ensures) ∙ at-size .size .given .1,
       sym (at-axis-named .axis-named .ensures) ∙ at-turned .turned .given .1,
-      c .reply .ensures,
+      c .seam-reply .ensures,
     )
     (named-seam (g .0), (rw (g .0 .number-is) (named-cut (g .1 .0)), rw (g .0 .number-is) (named-marks (g .1 .1))))
 
@@ -92,7 +92,7 @@ multisize-cut-marked-spec =
     refused-requires-2
     returns-2
     cut-marked-requires
-    reply-requires
+    seam-reply-requires
     same-length
     same-length-2
     same-length-3

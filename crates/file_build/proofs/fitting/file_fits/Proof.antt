@@ -11,7 +11,7 @@ use Rattle.pictures.specs.Pictures.{picture}
 use Rattle.pictures.proofs.Limits.{Sized, sized-is}
 use Rattle.text_theory.specs.Files.{headText, mapText}
 use Rattle.text_theory.specs.Lengths.{total, spaced, rowLength}
-use Rattle.text_print.specs.Prints.{less}
+use Rattle.text_lengths.specs.Rooms.{less}
 use Rattle.file_build.proofs.MapRows.{order-long}
 use Rattle.file_build.proofs.Fits.{no-head, no-rows, no-maps, whole-fits}
 use borrow.Author.Needs.{needs}

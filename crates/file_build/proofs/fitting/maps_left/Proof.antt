@@ -9,8 +9,8 @@ use denote.Ref.{now}
 use lib.Dec.{leb}
 use lib.ListN.{length}
 use Rattle.text_theory.specs.Files.{mapText}
-use Rattle.text_print.specs.Prints.{less}
-use Rattle.text_print.proofs.Rooms.{less-room}
+use Rattle.text_lengths.specs.Rooms.{less}
+use Rattle.text_lengths.proofs.Rooms.{less-room}
 use Rattle.file_build.proofs.Fits.{lines-none, lines-short, lines-room, lines-left}
 use borrow.Author.Needs.{needs}
 use Rattle.file_build.proofs.fitting.maps_left.Statement.{statement}

@@ -8,8 +8,8 @@ use lib.ListN.{length, getD}
 use Rattle.pictures.specs.Pictures.{picture as Pictures·picture}
 use Rattle.text_theory.specs.Files.{rowText}
 use Rattle.text_theory.specs.Lengths.{rowLength}
-use Rattle.text_print.specs.Prints.{pixelsOf}
-use Rattle.text_print.proofs.Rooms.{Leaving, leaving-first, leaving-next, leaving-short, leaving-end}
+use Rattle.text_lengths.specs.Rooms.{pixelsOf}
+use Rattle.text_lengths.proofs.Rooms.{Leaving, leaving-first, leaving-next, leaving-short, leaving-end}
 use Rattle.file_build.proofs.PictureRows.{rows-many, row-long}
 use borrow.Author.Needs.{needs}
 use Rattle.file_build.proofs.fitting.rows_left.Statement.{statement}

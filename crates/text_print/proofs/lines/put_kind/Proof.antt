@@ -1,6 +1,6 @@
 -- `text_print::lines::put_kind` meets its contract.
 use Rattle.text_theory.specs.Files.{kindText, greyWord, rgbWord}
-use Rattle.text_print.proofs.Rooms.{kind-grey, kind-rgb}
+use Rattle.text_lengths.proofs.Rooms.{kind-grey, kind-rgb}
 use borrow.Author.Needs.{needs}
 use Rattle.text_print.proofs.lines.put_kind.Statement.{statement}
 use Rattle.text_print.proofs.lines.put_kind.Tie as tie

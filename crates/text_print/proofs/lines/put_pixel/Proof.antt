@@ -5,7 +5,8 @@ use Prim.Native.Nat.{ℕ}
 use lib.ListN.{length}
 use Rattle.text_theory.specs.Decimal.{digits}
 use Rattle.text_print.proofs.Written.{printed-length}
-use Rattle.text_print.proofs.PixelRows.{grey-inside, rgb-inside, grey-room, rgb-room, grey-printed, rgb-printed, pair-same}
+use Rattle.text_lengths.proofs.PixelRows.{grey-inside, rgb-inside}
+use Rattle.text_print.proofs.PixelRows.{grey-room, rgb-room, grey-printed, rgb-printed, pair-same}
 use borrow.Author.Needs.{needs}
 use Rattle.text_print.proofs.lines.put_pixel.Statement.{statement}
 use Rattle.text_print.proofs.lines.put_pixel.Tie as tie

@@ -7,7 +7,8 @@ use Rattle.pictures.specs.Pictures.{channelsOf}
 use Rattle.text_theory.specs.Files.{blank, each, pixelText}
 use Rattle.text_print.specs.Prints.{Printed}
 use Rattle.text_print.proofs.Written.{printed-length}
-use Rattle.text_print.proofs.PixelRows.{pixel-inside, pixels-none, pixels-next, pixels-room, pixels-all}
+use Rattle.text_lengths.proofs.PixelRows.{pixel-inside}
+use Rattle.text_print.proofs.PixelRows.{pixels-none, pixels-next, pixels-room, pixels-all}
 use borrow.Author.Needs.{needs}
 use Rattle.text_print.proofs.lines.put_pixels.Statement.{statement}
 use Rattle.text_print.proofs.lines.put_pixels.Tie as tie

@@ -5,10 +5,11 @@ use lib.ListN.{length}
 use Rattle.grids.specs.Rows.{rowsOf}
 use Rattle.pictures.specs.Pictures.{channelsOf}
 use Rattle.text_theory.specs.Files.{blank, each, pixelText}
-use Rattle.text_print.specs.Prints.{pixelsOf}
+use Rattle.text_lengths.specs.Rooms.{pixelsOf}
 use Rattle.text_print.proofs.Written.{printed-length}
 use Rattle.pictures.proofs.Limits.{channels-some}
-use Rattle.text_print.proofs.PixelRows.{whole-by, row-parts, row-all}
+use Rattle.text_lengths.proofs.PixelRows.{whole-by}
+use Rattle.text_print.proofs.PixelRows.{row-parts, row-all}
 use borrow.Author.Needs.{needs}
 use Rattle.text_print.proofs.lines.put_row.Statement.{statement}
 use Rattle.text_print.proofs.lines.put_row.Tie as tie

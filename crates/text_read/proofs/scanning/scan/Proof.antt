@@ -117,8 +117,8 @@ returns-5 c =
     let at-header = at-head .before .before in
     sym (scan-more (left-past closed (left-reach _ (left-reach _ (left-then _ left-start (rw (at-head .head .given .1) at (at-header .header .ensures))) (rw (at-rows .rows .given .1, at-items-of .items-of .ensures) at (at-lines .lines .ensures))) (rw (at-maps .maps .given .1) at (at-lines2 .lines2 .ensures))) (rw (at-f .f .given .1) at (at-past .past .ensures))) (c .if1 .taken))
 
-both-requires : tie.Need-both-requires
-both-requires c κs = search needs
+both-full-requires : tie.Need-both-full-requires
+both-full-requires c κs = search needs
 
 returns-6 : tie.Need-returns-6
 unfolding scanOf rowWord mapWord closed
@@ -132,7 +132,7 @@ returns-6 c =
     let at-items-of = at-lines .before in
     let at-head = at-items-of .before .before .before .before in
     let at-header = at-head .before .before in
-    rw (c .both .ensures) (sym (scan-end (left-past closed (left-reach _ (left-reach _ (left-then _ left-start (rw (at-head .head .given .1) at (at-header .header .ensures))) (rw (at-rows .rows .given .1, at-items-of .items-of .ensures) at (at-lines .lines .ensures))) (rw (at-maps .maps .given .1) at (at-lines2 .lines2 .ensures))) (rw (at-f .f .given .1) at (at-past .past .ensures))) (c .before .if1 .left)))
+    rw (c .both-full .ensures) (sym (scan-end (left-past closed (left-reach _ (left-reach _ (left-then _ left-start (rw (at-head .head .given .1) at (at-header .header .ensures))) (rw (at-rows .rows .given .1, at-items-of .items-of .ensures) at (at-lines .lines .ensures))) (rw (at-maps .maps .given .1) at (at-lines2 .lines2 .ensures))) (rw (at-f .f .given .1) at (at-past .past .ensures))) (c .before .if1 .left)))
 
 pub scan-spec : {M : Type 1} → statement M
 scan-spec =
@@ -159,5 +159,5 @@ scan-spec =
     enum-told-4
     returns-4
     returns-5
-    both-requires
+    both-full-requires
     returns-6)

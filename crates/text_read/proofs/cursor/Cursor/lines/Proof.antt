@@ -51,8 +51,8 @@ returns-2 c =
 add-n : tie.Need-add-n Inv-loop μ-loop
 add-n c = search needs
 
-still-requires : tie.Need-still-requires Inv-loop μ-loop
-still-requires c κs = search needs
+still-full-requires : tie.Need-still-full-requires Inv-loop μ-loop
+still-full-requires c κs = search needs
 
 loop-less : tie.Need-loop-less Inv-loop μ-loop
 loop-less c =
@@ -71,7 +71,7 @@ loop-again c =
     let at-c = at-rest .before .before in
     let at-past = at-c .before .before in
     let at-loop = at-past .before in
-    lining-next (search needs) (at-loop .loop .inv) (rw (at-c .c .given .1) at (at-past .past .ensures)) (rw (at-m .m .given .1) at (at-rest .rest .ensures)) (c .still .ensures)
+    lining-next (search needs) (at-loop .loop .inv) (rw (at-c .c .given .1) at (at-past .past .ensures)) (rw (at-m .m .given .1) at (at-rest .rest .ensures)) (c .still-full .ensures)
 
 pub lines-spec : {M : Type 1} → statement M
 lines-spec =
@@ -89,6 +89,6 @@ lines-spec =
     enum-told-2
     returns-2
     add-n
-    still-requires
+    still-full-requires
     loop-less
     loop-again)

@@ -1,2 +1,0 @@
-pub mod Filters
-pub mod Kernels

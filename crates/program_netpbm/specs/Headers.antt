@@ -1,0 +1,11 @@
+-- What is read of a Netpbm header.
+use mathlib.Core.Option.{Option, none, some}
+use Prim.Native.Nat.{ℕ}
+use Rattle.pictures.specs.declared.sizes.Size.{Size}
+use Rattle.program_netpbm.specs.declared.netpbm.Header.{Header}
+use Rattle.program_netpbm.specs.declared.netpbm.Header.the-variants as headers
+
+-- The size that a header says, and the place after it.
+abbrev pub headerRead : Header → Option (Size × ℕ)
+headerRead (headers.Sized z at) = some (z, at)
+headerRead headers.Broken = none

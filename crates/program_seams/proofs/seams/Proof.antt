@@ -1,0 +1,19 @@
+-- `program_seams::seams` meets its contract.
+use Rattle.program_theory.specs.Programs.{seams}
+use Rattle.program_netpbm.proofs.Outputs.{wrote}
+use borrow.Author.Needs.{needs}
+use Rattle.program_seams.proofs.seams.Statement.{statement}
+use Rattle.program_seams.proofs.seams.Tie as tie
+
+build-requires : tie.Need-build-requires
+build-requires c κs = search needs
+
+finish-requires : tie.Need-finish-requires
+finish-requires c κs = search needs
+
+returns : tie.Need-returns
+unfolding seams
+returns c = wrote (c .before .before .build .ensures) (c .finish .ensures)
+
+pub seams-spec : {M : Type 1} → statement M
+seams-spec = tie.close (tie.spec build-requires finish-requires returns)

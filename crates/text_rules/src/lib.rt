@@ -1,0 +1,38 @@
+// What reading a multi-size file decides without looking at its text.
+use pictures::Kind;
+ghost use mathlib.Core.Path.{_≡_};
+ghost use mathlib.Core.Bool.{_&&_};
+ghost use lib.Dec.{eqb};
+ghost use Rattle.text_rules.specs.Items.{itemsOf};
+
+// What the items of a form are: words, or forms of words. The form of a line stands in the form of the file, so forms are
+// nested at most three deep.
+pub enum Items {
+    Samples,
+    Pixels,
+    Numbers,
+}
+
+// The items of a row line.
+pub fn items_of(kind: Kind) -> Items
+    ensures { λ r. ⌜ r ≡ itemsOf kind ⌝ }
+{
+    match kind {
+        Kind::Grey => Items::Samples,
+        Kind::Rgb => Items::Pixels,
+    }
+}
+
+// Whether row lines and map lines are all full.
+pub fn both_full(rows: bool, maps: bool) -> bool
+    ensures { λ r. ⌜ r ≡ rows && maps ⌝ }
+{
+    if rows { maps } else { false }
+}
+
+// Whether all lines are still full, with one more of `count` items.
+pub fn still_full(full: bool, count: usize, width: usize) -> bool
+    ensures { λ r. ⌜ r ≡ full && eqb count width ⌝ }
+{
+    if count == width { full } else { false }
+}
