@@ -1,3 +1,4 @@
+pub mod Named
 pub mod Answers
 pub mod Objects
 pub mod Files

@@ -9,7 +9,7 @@ use Rattle.pictures.specs.Refusals.{refusal, served}
 use Rattle.seam_rules.specs.declared.answers.Removal.{Removal}
 use Rattle.seam_rules.specs.Answers.{Ending}
 use Rattle.seam_objects.specs.Removing.{removalRules, ObjectRemoved}
-use Rattle.export_names.specs.declared.Sizing.the-variants.{Of, Unknown}
+use Rattle.export_answers.specs.declared.names.Sizing.the-variants.{Of, Unknown}
 use Rattle.export_answers.specs.Objects.{endingNumber, someNumber, stoppedBy, endedOf}
 use Rattle.exports.specs.Objects.{removed, HostRemoved}
 

@@ -12,10 +12,10 @@ use Rattle.file_theory.specs.Contents.{fileOf}
 use Rattle.file_theory.specs.Rules.{checkRules, readRules, showRules, buildRules}
 use Rattle.file_theory.specs.Shows.{headIn, rowsIn, mapsIn, shows, drawnSize, drawnBytes}
 use Rattle.export_answers.specs.declared.answers.Answer.{Answer}
-use Rattle.export_names.specs.declared.Sizing.{Sizing}
+use Rattle.export_answers.specs.declared.names.Sizing.{Sizing}
 use Rattle.export_answers.specs.declared.files.FileAnswer.{FileAnswer}
 use Rattle.export_answers.specs.declared.files.SizeAnswer.{SizeAnswer}
-use Rattle.export_names.specs.Named.{known, headNamed}
+use Rattle.export_answers.specs.Named.{known, headNamed}
 use Rattle.export_answers.specs.Files.{headed, framed}
 
 -- The length, the file at the front of the output space, and the work space.

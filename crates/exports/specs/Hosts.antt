@@ -7,8 +7,8 @@ use Rattle.pictures.specs.Refusals.{refusal, served}
 use Rattle.pictures.specs.Pictures.{picture, rowOf}
 use Rattle.energy.specs.Energy.{energies, energiesRules}
 use Rattle.export_answers.specs.declared.answers.Answer.{Answer}
-use Rattle.export_names.specs.declared.Sizing.{Sizing}
-use Rattle.export_names.specs.Named.{known}
+use Rattle.export_answers.specs.declared.names.Sizing.{Sizing}
+use Rattle.export_answers.specs.Named.{known}
 use Rattle.export_answers.specs.Answers.{rowRules}
 
 -- The energies of a row.

@@ -9,9 +9,9 @@ use Rattle.pictures.specs.Refusals.{refusal, served}
 use Rattle.pictures.specs.Pictures.{channelsOf, bytes}
 use Rattle.seam_objects.specs.Objects.{Removed, removal}
 use Rattle.seam_objects.specs.Removing.{removalRules, markedPicture}
-use Rattle.export_names.specs.declared.Sizing.{Sizing}
+use Rattle.export_answers.specs.declared.names.Sizing.{Sizing}
 use Rattle.export_answers.specs.declared.objects.Ended.{Ended}
-use Rattle.export_names.specs.Named.{known}
+use Rattle.export_answers.specs.Named.{known}
 use Rattle.export_answers.specs.Objects.{endingNumber}
 
 -- The removal of what is marked 2 in lent buffers, by at most so many cuts.

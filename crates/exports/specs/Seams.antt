@@ -14,9 +14,9 @@ use Rattle.seam_cut_marked.specs.Axes.{markedSeamAlong, markedCostAlong}
 use Rattle.seam_turn.specs.Axes.{cutAlong}
 use Rattle.seam_rules.specs.Cuts.{cleared}
 use Rattle.export_answers.specs.declared.answers.Answer.{Answer}
-use Rattle.export_names.specs.declared.Sizing.{Sizing}
-use Rattle.export_names.specs.declared.Turning.{Turning}
-use Rattle.export_names.specs.Named.{both}
+use Rattle.export_answers.specs.declared.names.Sizing.{Sizing}
+use Rattle.export_answers.specs.declared.names.Turning.{Turning}
+use Rattle.export_answers.specs.Named.{both}
 
 -- A seam along an axis, its cost, and the spaces; what refuses it, the seam and the cost go by the size and the axis.
 pub record HostSeam (rules : Axis → Size → List Rule) (found : Axis → Size → List ℕ) (cost : Axis → Size → ℕ) (s : Sizing) (t : Turning) (seam work : List ℕ) (a : Answer) (seam′ work′ : List ℕ) : Type 0 where

@@ -5,11 +5,11 @@ mod retargets;
 mod seams;
 
 use export_answers::Answer;
+use export_answers::Sizing;
 use export_answers::judge_row;
 use export_answers::refused;
-use export_names::Sizing;
-use export_names::size_named;
-ghost use Rattle.export_names.specs.Named.{sizingOf};
+use export_answers::size_named;
+ghost use Rattle.export_answers.specs.Named.{sizingOf};
 ghost use Rattle.exports.specs.Hosts.{HostEnergies, HostRow};
 
 // The energies of row r, put into the front of out; gives the number that is refused by, or 0.

@@ -2,14 +2,14 @@
 use export_answers::Answer;
 use export_answers::FileAnswer;
 use export_answers::SizeAnswer;
+use export_answers::Sizing;
+use export_answers::head_named;
 use export_answers::head_reply;
 use export_answers::length_reply;
 use export_answers::refused;
+use export_answers::size_named;
 use export_answers::size_reply;
-use export_names::Sizing;
-use export_names::head_named;
-use export_names::size_named;
-ghost use Rattle.export_names.specs.Named.{sizingOf};
+ghost use Rattle.export_answers.specs.Named.{sizingOf};
 ghost use Rattle.exports.specs.Files.{HostBuilt, HostChecked, HostRead, HostShown};
 
 // The file of a picture, put into the front of out; the value is its length.

@@ -1,10 +1,10 @@
 // Objects removed by seams with marks, for hosts.
 use export_answers::Ended;
+use export_answers::Sizing;
 use export_answers::removal_reply;
+use export_answers::size_named;
 use export_answers::stopped;
-use export_names::Sizing;
-use export_names::size_named;
-ghost use Rattle.export_names.specs.Named.{sizingOf};
+ghost use Rattle.export_answers.specs.Named.{sizingOf};
 ghost use Rattle.exports.specs.Objects.{HostRemoved};
 
 // Cuts at most `budget` vertical seams by the marks, until none is 2. The picture and marks left lie packed at the front of

@@ -1,11 +1,11 @@
 // Rows and columns removed together, for hosts.
 use export_answers::Answer;
+use export_answers::Sizing;
+use export_answers::counts_named;
 use export_answers::refused;
+use export_answers::size_named;
 use export_answers::total_reply;
-use export_names::Sizing;
-use export_names::counts_named;
-use export_names::size_named;
-ghost use Rattle.export_names.specs.Named.{sizingOf};
+ghost use Rattle.export_answers.specs.Named.{sizingOf};
 ghost use Rattle.exports.specs.Retargets.{HostRetargeted};
 
 // The picture with `rows` rows and `columns` columns less, put into the front of out; the value is the total of its seams.

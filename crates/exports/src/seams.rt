@@ -1,14 +1,14 @@
 // One seam of a lent picture, for hosts: found or cut, without marks and with them.
 use export_answers::Answer;
+use export_answers::Sizing;
+use export_answers::Turning;
+use export_answers::axis_named;
 use export_answers::refused;
 use export_answers::seam_reply;
-use export_names::Sizing;
-use export_names::Turning;
-use export_names::axis_named;
-use export_names::size_named;
+use export_answers::size_named;
 ghost use Rattle.seam_rules.specs.Cuts.{findRules, cutRules};
 ghost use Rattle.seam_cut_marked.specs.Marking.{markedFindRules, markedCutRules};
-ghost use Rattle.export_names.specs.Named.{sizingOf, turningOf};
+ghost use Rattle.export_answers.specs.Named.{sizingOf, turningOf};
 ghost use Rattle.exports.specs.Seams.{HostFound, HostPictureCut, HostMarkedFound, HostMarkedPictureCut, HostMarkedMarksCut};
 
 // The seam along the axis, put into the front of seam from the top or the left; the value is its cost.

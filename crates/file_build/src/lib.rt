@@ -50,6 +50,6 @@ fn put_file(picture: &[u8], head: Head, out: &mut [u8], work: &mut [u8]) -> usiz
     let at = picture.len() + height * width;
     let end = at + height * (2 * width);
     let length = lines::print_file(picture, head, &work[at..end], out);
-    spaces::clear(work);
+    pictures::clear(work);
     length
 }

@@ -48,7 +48,7 @@ fn draw(file: &[u8], head: Head, wanted: usize, out: &mut [u8], work: &mut [u8])
     let rows = opening::first_row(file, head);
     let maps = lines::read_rows(file, head, rows, work);
     draw_rows(file, head, maps, wanted, work, out);
-    spaces::clear(work);
+    pictures::clear(work);
 }
 
 // The same, the picture standing at the front of a space.

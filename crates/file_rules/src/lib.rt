@@ -1,8 +1,7 @@
-// What the operations on files and the programs decide before they touch a buffer, as pure functions of numbers, and the
-// forms of their answers.
+// What the operations on files decide before they touch a buffer, as pure functions of numbers, and the forms of their
+// answers.
 pub mod answers;
 pub mod counts;
-pub mod programs;
 pub mod spaces;
 
 pub use answers::Built;
@@ -10,10 +9,6 @@ pub use answers::Checked;
 pub use answers::Shown;
 pub use counts::counted;
 pub use counts::lines_fit;
-pub use programs::MOST_INPUT;
-pub use programs::MOST_PIXELS;
-pub use programs::judge_input;
-pub use programs::judge_pixels;
 pub use spaces::WORK_A_PIXEL;
 pub use spaces::judge_build;
 pub use spaces::judge_read_spaces;

@@ -1,4 +1,6 @@
 pub mod Pairs
+pub mod Marking
+pub mod Skipping
 pub mod Turns
 pub mod Lists
 pub mod CutIn

@@ -11,7 +11,7 @@ use Rattle.map_theory.specs.Maps.{zeros}
 use Rattle.map_theory.proofs.Rows.{write}
 use Rattle.map_theory.proofs.Levels.{writeAll}
 use Rattle.map_build.specs.Numbers.{pairs}
-use Rattle.map_rows.specs.Marks.{writePair}
+use Rattle.map_build.specs.Writing.{writePair}
 
 pub length-pairs : (ys : List ℕ) → length (pairs ys) ≡ 2 * length ys
 length-pairs [] = refl

@@ -21,7 +21,7 @@ use Rattle.seam_theory.specs.PictureSeams.{seamOf}
 use Rattle.map_build.specs.Numbers.{pairs}
 use Rattle.map_rules.specs.Spaces.{mapBytes, mapAt}
 use Rattle.map_build.specs.Building.{mapped}
-use Rattle.map_rows.specs.Marks.{writePair}
+use Rattle.map_build.specs.Writing.{writePair}
 use Rattle.map_build.specs.Kernels.{writeRows, NextGiven}
 use Rattle.map_build.proofs.Pairs.{pairs-flat, grid-pairs, pairs-zeros, write-all-pairs}
 use Rattle.map_build.proofs.Lists.{drop-replicate}

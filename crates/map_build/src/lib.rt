@@ -1,4 +1,5 @@
 // The map of a picture, built in a space.
+mod marks;
 mod rows;
 
 use pictures::Size;
@@ -32,7 +33,7 @@ fn cut_seams(space: &mut [u8], size: Size, depth: usize)
     let bytes = pictures::picture_bytes(size);
     let at = bytes + height * width;
     let end = at + height * (2 * width);
-    spaces::clear(&mut space[bytes..end]);
+    pictures::clear(&mut space[bytes..end]);
     for t in 0..depth {
         let left = Size {
             width: width - t,

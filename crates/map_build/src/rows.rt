@@ -1,4 +1,5 @@
 // A number written into the rows of a map.
+use crate::marks;
 ghost use mathlib.Core.Path.{_≡_};
 ghost use Rattle.map_build.specs.Kernels.{writeRows, RowsNeeded};
 
@@ -22,7 +23,7 @@ pub(crate) fn mark_rows(map: &mut [u8], width: usize, seam: &[u16], number: usiz
         let a = r * (2 * width);
         let e = a + 2 * width;
         let s = column(seam[r]);
-        map_rows::mark_row(&mut map[a..e], s, low, high);
+        marks::mark_row(&mut map[a..e], s, low, high);
         r += 1;
     }
 }

@@ -23,7 +23,7 @@ pub fn judge_in(space: &mut [u8], size: Size, depth: usize) -> Verdict
         return fits;
     };
     let answer = judge_rows(space, size, depth);
-    spaces::clear(space);
+    pictures::clear(space);
     answer
 }
 

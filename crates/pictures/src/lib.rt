@@ -1,6 +1,8 @@
-// The lowest layer: pictures in lent buffers, their rows as parts of the buffer, and the numbers of what is refused.
+// The lowest layer: pictures in lent buffers, their rows as parts of the buffer, a space cleared, and the numbers of what is
+// refused.
 pub mod refusals;
 pub mod sizes;
+pub mod spaces;
 
 pub use refusals::Refusal;
 pub use refusals::Verdict;
@@ -13,6 +15,7 @@ pub use sizes::channels;
 pub use sizes::picture_bytes;
 pub use sizes::sides;
 pub use sizes::sized;
+pub use spaces::clear;
 ghost use mathlib.Core.Path.{_≡_};
 ghost use Rattle.pictures.specs.Pictures.{rowOf};
 

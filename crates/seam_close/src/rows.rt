@@ -1,8 +1,8 @@
 // A seam closed up, row by row.
 use pictures::Size;
 use pictures::channels;
+use pictures::clear;
 use seam_rules::is_outside;
-use spaces::clear;
 ghost use mathlib.Core.Path.{_≡_};
 ghost use mathlib.Core.List.{_++_};
 ghost use Prim.Native.Nat.{_-_, _*_};

@@ -36,7 +36,7 @@ pub fn cut(picture: &mut [u8], size: Size, axis: Axis, seam: &mut [u16], work: &
         return Found::Refused(why);
     }
     if seam_rules::takes_last(axis, size) {
-        spaces::clear(work);
+        pictures::clear(work);
         return Found::Refused(Refusal::Last);
     }
     cut_along(picture, size, axis, seam, work)
@@ -50,7 +50,7 @@ fn seam_along(picture: &[u8], size: Size, axis: Axis, seam: &mut [u16], work: &m
     let turned = seam_rules::turned_size(axis, size);
     seam_turn::turn(picture, size, axis, work);
     let found = seam_find::find_in(work, turned, seam);
-    spaces::clear(work);
+    pictures::clear(work);
     found
 }
 

@@ -111,7 +111,7 @@ fn marked_along(
     seam_turn::turn(picture, size, axis, work);
     seam_turn::turn(marks, marked, axis, &mut work[bytes..]);
     let found = seam_find_marked::find_marked_in(work, turned, seam);
-    spaces::clear(work);
+    pictures::clear(work);
     found
 }
 

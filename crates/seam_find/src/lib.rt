@@ -28,7 +28,7 @@ pub fn find_in(space: &mut [u8], size: Size, seam: &mut [u16]) -> Found
     let bottom = bottom32::find_bottom(space, size, bytes);
     let column = bottom.column;
     trace::trace_back(&space[bytes..last], width, height, column, seam);
-    spaces::clear(&mut space[bytes..end]);
+    pictures::clear(&mut space[bytes..end]);
     Found::Seam(wide(bottom.sum))
 }
 

@@ -29,10 +29,10 @@ pub fn find_marked_in(space: &mut [u8], size: Size, seam: &mut [u16]) -> Found
     let column = bottom.column;
     let found = seam_sums::found_by(bottom.sum);
     if let Found::Refused(why) = found {
-        spaces::clear(&mut space[from..end]);
+        pictures::clear(&mut space[from..end]);
         return Found::Refused(why);
     }
     seam_find::trace_back(&space[from..last], width, height, column, seam);
-    spaces::clear(&mut space[from..end]);
+    pictures::clear(&mut space[from..end]);
     found
 }

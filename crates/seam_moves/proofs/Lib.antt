@@ -1,2 +1,4 @@
 pub mod Exchanging
+pub mod Places
+pub mod Relocating
 pub mod Served

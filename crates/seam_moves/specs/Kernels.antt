@@ -6,7 +6,8 @@ use lib.ListN.{length}
 use Rattle.grids.specs.Rows.{rowAt}
 use Rattle.pictures.specs.declared.sizes.Size.{Size}
 use Rattle.pictures.specs.Refusals.{refusal}
-use Rattle.pictures.specs.Pictures.{largestSide, pictureBytes, sizeRules}
+use Rattle.pictures.specs.Pictures.{largestSide, pictureBytes, sizeRules, sideRules}
+use Rattle.seam_rules.specs.Moves.{PlacesApart}
 
 -- The samples of the pixel in column c and row r, from the bytes of a picture of w columns of ch samples.
 abbrev pub samples : ℕ → ℕ → List ℕ → ℕ → ℕ → List ℕ
@@ -23,3 +24,9 @@ pub record ColumnNeeded (ch : ℕ) (b : List ℕ) (width height c : ℕ) (out : 
 pub record ExchangeNeeded (b : List ℕ) (z : Size) (to : List ℕ) : Type 0 where
   pub sized : refusal (sizeRules z (length b)) ≡ 0
   pub room : pictureBytes z ≤ length to
+
+-- A size that is allowed, its bytes, and two places for them that are apart.
+pub record PictureNeeded (space from : ℕ) (z : Size) (all to : ℕ) : Type 0 where
+  pub sides : refusal (sideRules z) ≡ 0
+  pub all-is : all ≡ pictureBytes z
+  pub places : PlacesApart space from to (pictureBytes z)

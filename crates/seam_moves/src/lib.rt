@@ -1,6 +1,10 @@
-// Pictures moved from one lent buffer to another with rows and columns exchanged: the whole picture, or one column.
+// Pictures moved in lent buffers: with rows and columns exchanged, the whole picture or one column, from one buffer to another
+// or from one place of a space to another.
+pub mod between;
 mod columns;
 
+pub use between::copy_between;
+pub use between::exchange_between;
 use pictures::Size;
 use pictures::Verdict;
 use seam_rules::judge_column;

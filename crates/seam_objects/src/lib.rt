@@ -37,7 +37,7 @@ pub fn remove(
         return Removal::Refused(why);
     }
     let ended = cut_seams(picture, marks, size, budget, work);
-    spaces::clear(work);
+    pictures::clear(work);
     ended
 }
 

@@ -17,8 +17,8 @@ use Rattle.pictures.specs.Pictures.{pictureBytes, sizeRules, picture, bytes}
 use Rattle.pictures.proofs.Rules.{served-both, passed}
 use Rattle.pictures.proofs.Limits.{Sized, sized-is, sides-served}
 use Rattle.pictures.proofs.Buffers.{bytes-picture}
-use Rattle.seam_places.specs.Between.{partAt}
-use Rattle.seam_places.proofs.Places.{length-part}
+use Rattle.seam_moves.specs.Between.{partAt}
+use Rattle.seam_moves.proofs.Places.{length-part}
 use Rattle.seam_rules.proofs.Turns.{bytes-few}
 use Rattle.seam_rules.specs.declared.answers.Rows.{Rows}
 use Rattle.seam_rules.specs.declared.answers.Columns.{Columns}

@@ -18,9 +18,9 @@ use Rattle.pictures.specs.Refusals.{refusal}
 use Rattle.pictures.specs.Pictures.{Picture, channelsOf, pictureBytes, sideRules, picture, bytes, OfSize, pixels}
 use Rattle.pictures.proofs.Limits.{Sides, sides-are, sized-served}
 use Rattle.pictures.proofs.Buffers.{picture-bytes, length-bytes}
-use Rattle.seam_places.specs.Between.{partAt, putAt}
+use Rattle.seam_moves.specs.Between.{partAt, putAt}
 use Rattle.seam_close.specs.Closing.{CloseGiven}
-use Rattle.seam_places.proofs.Places.{Kept, kept-part, put-there, put-kept, length-part}
+use Rattle.seam_moves.proofs.Places.{Kept, kept-part, put-there, put-kept, length-part}
 use Rattle.seam_close.proofs.Served.{close-served}
 use Rattle.seam_rules.specs.declared.answers.Axis.{Axis}
 use Rattle.seam_rules.specs.Axes.{turnedSize, narrowed}

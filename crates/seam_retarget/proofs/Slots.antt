@@ -12,7 +12,7 @@ use Rattle.grids.proofs.Rows.{part-end}
 use Rattle.pictures.specs.declared.sizes.Size.{Size}
 use Rattle.pictures.specs.Pictures.{channelsOf, pictureBytes, picture, pixels}
 use Rattle.pictures.proofs.Limits.{sides-are, channels-some}
-use Rattle.seam_places.specs.Between.{partAt}
+use Rattle.seam_moves.specs.Between.{partAt}
 use Rattle.seam_rules.specs.Moves.{PlacesApart}
 use Rattle.seam_rules.specs.declared.answers.Axis.the-variants.{Vertical, Horizontal}
 use Rattle.seam_rules.specs.Counts.{smaller}

@@ -15,9 +15,9 @@ use Rattle.pictures.specs.Refusals.{refusal}
 use Rattle.pictures.specs.Pictures.{pictureBytes, sideRules, picture, bytes, OfSize, pixels}
 use Rattle.pictures.proofs.Limits.{Sized, sides-are, sized-of}
 use Rattle.pictures.proofs.Buffers.{picture-ofSize, bytes-picture, length-bytes}
-use Rattle.seam_places.specs.Between.{partAt, putAt, CopyBetweenGiven}
-use Rattle.seam_places.proofs.Places.{Kept, kept-part, put-kept, length-part}
-use Rattle.seam_places.proofs.Served.{copy-between-served}
+use Rattle.seam_moves.specs.Between.{partAt, putAt, CopyBetweenGiven}
+use Rattle.seam_moves.proofs.Places.{Kept, kept-part, put-kept, length-part}
+use Rattle.seam_moves.proofs.Served.{copy-between-served}
 use Rattle.seam_rules.specs.declared.answers.Found.{Found}
 use Rattle.seam_theory.specs.PictureSeams.{seamOf, costOf}
 use Rattle.seam_rules.specs.Answers.{foundCost}

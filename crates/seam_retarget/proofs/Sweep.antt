@@ -12,7 +12,7 @@ use Rattle.grids.proofs.Orders.{le-or-lt}
 use Rattle.grids.proofs.Rows.{part-end}
 use Rattle.pictures.specs.declared.sizes.Size.{Size}
 use Rattle.pictures.specs.Pictures.{Picture, pictureBytes, picture}
-use Rattle.seam_places.specs.Between.{partAt}
+use Rattle.seam_moves.specs.Between.{partAt}
 use Rattle.seam_rules.specs.declared.answers.Axis.{Axis}
 use Rattle.seam_rules.specs.declared.answers.Axis.the-variants.{Vertical, Horizontal}
 use Rattle.seam_retarget.specs.Cells.{Cell, bySeam, chosen, cell}

@@ -58,6 +58,6 @@ fn last_cell(
     let count = pictures::picture_bytes(seam_rules::smaller(size, rows, columns));
     let at = last * whole;
     bytes::copy(&work[at..at + count], out);
-    spaces::clear(work);
+    pictures::clear(work);
     totals[last]
 }

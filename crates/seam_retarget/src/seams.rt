@@ -7,7 +7,7 @@ use seam_rules::turned_size;
 ghost use mathlib.Core.Path.{_≡_};
 ghost use lib.ListN.{length};
 ghost use Rattle.pictures.specs.Pictures.{pictureBytes, bytes};
-ghost use Rattle.seam_places.specs.Between.{putAt};
+ghost use Rattle.seam_moves.specs.Between.{putAt};
 ghost use Rattle.seam_turn.specs.Axes.{turned};
 ghost use Rattle.seam_retarget.specs.Kernels.{pictureAt, TurnNeeded, SeamNeeded, SeamGiven, CutNeeded, CutGiven, StepNeeded, StepGiven};
 
@@ -19,10 +19,10 @@ fn turn(work: &mut [u8], from: usize, size: Size, axis: Axis, to: usize)
     match axis {
         Axis::Vertical => {
             let all = pictures::picture_bytes(size);
-            seam_places::copy_between(work, from, all, to);
+            seam_moves::copy_between(work, from, all, to);
         }
         Axis::Horizontal => {
-            seam_places::exchange_between(work, from, size, to);
+            seam_moves::exchange_between(work, from, size, to);
         }
     }
 }

@@ -55,13 +55,13 @@ fn close_columns(picture: &mut [u8], size: Size, seam: &[u16], work: &mut [u8]) 
     seam_moves::exchange(picture, size, work);
     let closed = seam_close::close_up(&mut work[..bytes], turned, seam);
     let Verdict::Served = closed else {
-        spaces::clear(work);
+        pictures::clear(work);
         return closed;
     };
     let left = seam_rules::narrower(turned);
     let kept = pictures::picture_bytes(left);
     seam_moves::exchange(&work[..kept], left, picture);
-    spaces::clear(&mut picture[kept..]);
-    spaces::clear(work);
+    pictures::clear(&mut picture[kept..]);
+    pictures::clear(work);
     Verdict::Served
 }

@@ -7,6 +7,6 @@ fn main() {
     let mut input = [0u8; 65537];
     let length = io::read_full(STDIN_FILENO, &mut input);
     let mut output = [0u8; 32768];
-    let written = program_seams::seams(&input[..length], &mut output);
+    let written = program_filters::seams(&input[..length], &mut output);
     io::write_all(STDOUT_FILENO, &output[..written]);
 }

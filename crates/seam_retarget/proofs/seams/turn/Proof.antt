@@ -4,7 +4,7 @@ use borrow.Author.Needs.{needs}
 use denote.Ref.{now}
 use Rattle.pictures.specs.Refusals.{served}
 use Rattle.pictures.specs.Pictures.{pictureBytes}
-use Rattle.seam_places.proofs.Served.{exchange-between-served}
+use Rattle.seam_moves.proofs.Served.{exchange-between-served}
 use Rattle.seam_turn.specs.Axes.{turned}
 use Rattle.seam_retarget.proofs.Steps.{copied-turned}
 use Rattle.seam_retarget.proofs.seams.turn.Statement.{statement}

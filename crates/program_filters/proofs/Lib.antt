@@ -1,0 +1,3 @@
+pub mod FileAnswers
+pub mod Fitted
+pub mod PictureAnswers

@@ -1,2 +1,0 @@
-pub mod Fitted
-pub mod PictureAnswers

@@ -1,3 +1,0 @@
-pub mod Places
-pub mod Relocating
-pub mod Served
