@@ -9,6 +9,7 @@ use lib.ListN.{length, take, drop, replicate}
 use Rattle.pictures.specs.Pictures.{pictureBytes, picture, bytes}
 use Rattle.pictures.proofs.Limits.{Sized, sized-is}
 use Rattle.seam_theory.specs.PictureSeams.{seamOf, costOf}
+use Rattle.seam_find.specs.Finding.{FindGiven}
 use Rattle.seam_rules.specs.Axes.{turnedSize}
 use Rattle.seam_turn.specs.Axes.{turned}
 use Rattle.seam_cut.specs.Axes.{seamAlong, costAlong}
@@ -47,8 +48,9 @@ there c =
     let a = start .args in
     let s = sure start in
     let p = rooms start in
+    let found : FindGiven (at-turn .turn .last .1 .1 .1 .0) (at-turned-size .turned-size .result) (now (a .seam)) (c .find-in .result) (c .find-in .last .0) (c .find-in .last .1 .1 .0) = c .find-in .ensures in
     find-served (at-turn .turn .last .1 .1 .1 .0) (turnedSize (a .axis) (a .size)) (now (a .seam)) (c .find-in .result) (c .find-in .last .0) (c .find-in .last .1 .1 .0)
-    (rw (at-turned-size .turned-size .ensures) at (c .find-in .ensures))
+    (rw (at-turned-size .turned-size .ensures) at found)
     (turned-sides (a .axis) (a .size) (length (now (a .picture))) s) (p .seam-room)
     (omega (arith, turned-bytes (a .axis) (a .size), turned-pixels (a .axis) (a .size), bytes-few (a .size), p .work-room, at-turn .turn .kept .1 .1 .1 .0))
 

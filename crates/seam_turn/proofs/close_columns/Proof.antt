@@ -251,7 +251,8 @@ returns-2 c =
     let pic = x .exchange2 .last .1 .1 .0 in
     let enough : kept ≤ length pic = omega (arith, pic-long x, kept-fits q) in
     let freed : length pic - kept ≡ z .width * channelsOf (z .kind) = omega (arith, pic-long x, kept-fits q) in
-    let back : ExchangeGiven (take kept (closed k)) (narrowed (turnedSize Horizontal z)) b (x .exchange2 .result) pic = rw (left-is (q .before)) at (x .exchange2 .ensures) in
+    let given-back : ExchangeGiven (take kept (closed k)) (q .before .narrower .result) b (x .exchange2 .result) pic = x .exchange2 .ensures in
+    let back : ExchangeGiven (take kept (closed k)) (narrowed (turnedSize Horizontal z)) b (x .exchange2 .result) pic = rw (left-is (q .before)) at given-back in
     record {
       number = sym (ap given (told .enum-told .given .1)) ∙ number-is k;
       picture-left =
