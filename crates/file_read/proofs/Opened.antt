@@ -16,8 +16,8 @@ use Rattle.pictures.proofs.Rules.{served-first, refused-answer, kept-by}
 use Rattle.map_theory.specs.Widths.{allowed}
 use Rattle.map_theory.specs.Judged.{every}
 use Rattle.text_theory.specs.Files.{Parts, parse}
-use Rattle.text_read.specs.declared.scanning.Facts.{Facts}
-use Rattle.text_read.specs.Answers.{evenly, factsOf, factsIn}
+use Rattle.text_scan.specs.declared.Facts.{Facts}
+use Rattle.text_scan.specs.Facts.{evenly, factsOf, factsIn}
 use Rattle.file_theory.specs.Rules.{filled, partRules}
 use Rattle.file_theory.specs.Shows.{headIn}
 use Rattle.file_rules.specs.declared.answers.Checked.the-variants as checks

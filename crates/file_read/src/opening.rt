@@ -4,7 +4,8 @@ use pictures::Refusal;
 use pictures::Verdict;
 use text_read::Cursor;
 use text_read::HeadRead;
-use text_read::Scanned;
+use text_scan::Facts;
+use text_scan::Scanned;
 use text_theory::Head;
 ghost use mathlib.Core.Path.{_≡_};
 ghost use lib.ListN.{drop};
@@ -15,7 +16,7 @@ ghost use Rattle.file_read.specs.Kernels.{OpenGiven, Open, rowLines};
 pub(crate) fn open(file: &[u8]) -> Checked
     ensures { λ c. ⌜ OpenGiven (now (file .entry)) c ⌝ }
 {
-    let Scanned::Formed(facts) = text_read::scan(file) else {
+    let Scanned::Formed(facts) = text_scan::scan(file) else {
         return Checked::Refused(Refusal::Form);
     };
     let head = facts.head;

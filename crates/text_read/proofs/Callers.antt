@@ -17,8 +17,8 @@ use Rattle.text_theory.proofs.Files.{line-reads, pixel-reads, head-reads, clear
 use Rattle.text_read.specs.declared.cursor.Cursor.{Cursor}
 use Rattle.text_read.specs.declared.cursor.Read.{Read}
 use Rattle.text_read.specs.declared.cursor.Read.the-variants as reads
-use Rattle.text_read.specs.declared.scanning.HeadRead.{HeadRead}
-use Rattle.text_read.specs.declared.scanning.HeadRead.the-variants.{Begun, Unbegun}
+use Rattle.text_read.specs.declared.heads.HeadRead.{HeadRead}
+use Rattle.text_read.specs.declared.heads.HeadRead.the-variants.{Begun, Unbegun}
 use Rattle.text_read.specs.Answers.{given, ahead, Told, counted, read, headRead}
 use Rattle.text_read.specs.Lines.{rowLine, mapLine, fitting, Taken}
 

@@ -4,7 +4,7 @@ pub mod FixedBytes
 pub mod WordSteps
 pub mod FormSteps
 pub mod Onward
-pub mod WholeText
+pub mod LineCounts
 pub mod Figures
 pub mod LineSteps
 pub mod LinesTaken

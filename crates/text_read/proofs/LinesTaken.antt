@@ -17,12 +17,12 @@ use Rattle.text_theory.specs.Files.{closed, rowWord, mapWord, pixelText, lineTe
 use Rattle.text_theory.proofs.Decimals.{number-reads}
 use Rattle.text_theory.proofs.Files.{line-reads, pixel-reads, clear-blank, clear-closing, clear-closed}
 use Rattle.text_rules.specs.declared.Items.the-variants.{Numbers}
-use Rattle.text_read.specs.Answers.{Told, counted}
+use Rattle.text_read.specs.Answers.{Told, counted, lineRest}
 use Rattle.text_read.specs.Lines.{rowLine, mapLine, fitting, Taken}
-use Rattle.text_read.specs.Kernels.{passing, lineRest, figures, Coming}
+use Rattle.text_read.specs.Kernels.{passing, figures, Coming}
 use Rattle.text_rules.specs.Items.{itemsOf}
 use Rattle.text_read.proofs.Onward.{passing-some, passing-none}
-use Rattle.text_read.proofs.WholeText.{rest-map, rest-row}
+use Rattle.text_read.proofs.LineCounts.{rest-map, rest-row}
 use Rattle.text_read.proofs.LineSteps.{Stand, stand-coming, stand-figures, numbers-stand, row-stand, row-count}
 
 -- What the first pass knows: m values are read from the place on, and their numbers stand behind the word.

@@ -1,8 +1,8 @@
 -- What reading a text answers, in terms of its definition.
 use mathlib.Core.Path.{_≡_}
-use mathlib.Core.Bool.{Bool, true, _&&_, cond}
+use mathlib.Core.Bool.{Bool, _&&_, cond}
 use mathlib.Core.Option.{Option, none, some}
-use mathlib.Core.List.{List, [], _∷_, map}
+use mathlib.Core.List.{List, [], _∷_}
 use Prim.Native.Nat.{ℕ, _≤_, _<_}
 use lib.Dec.{leb, eqb}
 use lib.ListN.{length, drop}
@@ -11,7 +11,7 @@ use Rattle.pictures.specs.declared.sizes.Kind.the-variants.{Rgb}
 use Rattle.text_theory.specs.declared.Head.{Head}
 use Rattle.text_theory.specs.Readers.{Get, give, _▷_, after}
 use Rattle.text_theory.specs.Decimal.{number, isDigit}
-use Rattle.text_theory.specs.Files.{Parts, either, kindGet, items, pixel}
+use Rattle.text_theory.specs.Files.{lineEnd, either, kindGet, items, pixel}
 use Rattle.text_read.specs.declared.cursor.Class.{Class}
 use Rattle.text_read.specs.declared.cursor.Class.the-variants.{Digit, Letter, Opening, Closing, Blank, LineEnd, Other}
 use Rattle.text_read.specs.declared.cursor.Read.{Read}
@@ -22,11 +22,8 @@ use Rattle.text_read.specs.declared.words.KindRead.{KindRead}
 use Rattle.text_read.specs.declared.words.KindRead.the-variants.{Named, Unnamed}
 use Rattle.text_rules.specs.declared.Items.{Items}
 use Rattle.text_rules.specs.declared.Items.the-variants.{Samples, Pixels, Numbers}
-use Rattle.text_read.specs.declared.scanning.Facts.{Facts}
-use Rattle.text_read.specs.declared.scanning.HeadRead.{HeadRead}
-use Rattle.text_read.specs.declared.scanning.HeadRead.the-variants.{Begun, Unbegun}
-use Rattle.text_read.specs.declared.scanning.Scanned.{Scanned}
-use Rattle.text_read.specs.declared.scanning.Scanned.the-variants as scans
+use Rattle.text_read.specs.declared.heads.HeadRead.{HeadRead}
+use Rattle.text_read.specs.declared.heads.HeadRead.the-variants.{Begun, Unbegun}
 
 -- "Each byte read is a digit, a small letter, a bracket, a blank, a line end or refused."
 unfoldable pub isLetter : ℕ → Bool
@@ -96,29 +93,10 @@ formOf Samples = counted (items (number 255))
 formOf Pixels = counted (items (pixel Rgb))
 formOf Numbers = counted (items (number 65535))
 
+-- The items of a line, the closing bracket, the line end.
+unfoldable pub lineRest : Items → Get ℕ
+lineRest w = formOf w ▷ λ n. after lineEnd (give n)
+
 abbrev pub headRead : HeadRead → Option (Head × ℕ)
 headRead (Begun h c) = some (h, c .at)
 headRead Unbegun = none
-
--- Whether every count is the width.
-unfoldable pub evenly : ℕ → List ℕ → Bool
-evenly width [] = true
-evenly width (n ∷ ns) = eqb n width && evenly width ns
-
--- What is known of a file's parts before its numbers are judged: 4 is "a wrong count of row lines, map lines, pixels in a
--- row or numbers in a map row".
-unfoldable pub factsOf : Parts → Facts
-factsOf p = record {
-  head = p .head;
-  rows = length (p .rows);
-  maps = length (p .maps);
-  full = evenly (p .head .size .width) (map length (p .rows)) && evenly (p .head .size .width) (map length (p .maps));
-}
-
-abbrev pub factsIn : Option Parts → Option Facts
-factsIn none = none
-factsIn (some p) = some (factsOf p)
-
-abbrev pub scanRead : Scanned → Option Facts
-scanRead (scans.Formed f) = some f
-scanRead scans.Broken = none

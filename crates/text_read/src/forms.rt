@@ -4,8 +4,7 @@ use crate::cursor::Cursor;
 use crate::cursor::Read;
 use crate::cursor::class_of;
 use text_rules::Items;
-ghost use Rattle.text_read.specs.Answers.{Told, read, itemOf, formOf};
-ghost use Rattle.text_read.specs.Kernels.{lineRest};
+ghost use Rattle.text_read.specs.Answers.{Told, read, itemOf, formOf, lineRest};
 
 impl Cursor {
     // The items of a form, each behind a blank, up to the closing bracket: how many there are.
@@ -67,7 +66,7 @@ impl Cursor {
     }
 
     // The items of a line, the closing bracket, the line end: how many items there are.
-    pub(crate) fn rest(self, text: &[u8], what: Items) -> Read
+    pub fn rest(self, text: &[u8], what: Items) -> Read
         ensures { λ r. ⌜ Told (lineRest what) (now (text .entry)) (self .at) (read r) ⌝ }
     {
         let Read::Good(n, c) = self.form(text, what) else {

@@ -1,7 +1,7 @@
 -- `text_read::cursor::Cursor::rest` meets its contract.
 use native.Mathlib.Omega.{arith}
 use Rattle.text_theory.specs.Files.{lineEnd}
-use Rattle.text_read.specs.Kernels.{lineRest}
+use Rattle.text_read.specs.Answers.{lineRest}
 use Rattle.text_read.proofs.Onward.{left-start, left-past, left-no-past, left-then, left-no-then, left-give}
 use borrow.Author.Needs.{needs}
 use Rattle.text_read.proofs.cursor.Cursor.rest.Statement.{statement}

@@ -1,78 +1,26 @@
 -- The whole text: counting its lines is counting the lines of its parts.
-use mathlib.Core.Path.{_≡_, refl, sym, _∙_}
+use mathlib.Core.Path.{_≡_, refl, _∙_}
 use mathlib.Core.Bool.{Bool, _&&_}
 use mathlib.Core.Option.{Option, none, some}
 use mathlib.Core.List.{List, [], _∷_, map}
-use Prim.Native.Nat.{ℕ, zero, suc, _≤_, _<_}
+use Prim.Native.Nat.{ℕ, suc, _≤_, _<_}
 use native.Mathlib.Omega.{arith}
 use lib.ListN.{length, length-map, drop-of-length-le}
 use Rattle.text_rules.specs.declared.Items.{Items}
 use Rattle.text_rules.specs.declared.Items.the-variants.{Numbers}
-use Rattle.text_theory.specs.Readers.{Get, give, on, _▷_, strip, behind, after, next, manyUpTo, many}
+use Rattle.text_theory.specs.Readers.{Get, give, on, _▷_, strip, behind, after, manyUpTo, many}
 use Rattle.text_theory.specs.Decimal.{number}
-use Rattle.pictures.specs.declared.sizes.Kind.{Kind}
-use Rattle.pictures.specs.declared.sizes.Kind.the-variants.{Grey, Rgb}
 use Rattle.text_theory.specs.declared.Head.{Head}
-use Rattle.text_theory.specs.Files.{Parts, lineEnd, blank, closing, closed, rowWord, mapWord, items, pixel, line, headGet, file, ended, whole, parse}
-use Rattle.text_read.specs.declared.scanning.Facts.{Facts}
-use Rattle.text_read.specs.Answers.{Told, counted, formOf, evenly, factsOf, factsIn}
-use Rattle.text_read.specs.Kernels.{lineRest, Reached, linesOf, scanOf}
+use Rattle.text_theory.specs.Files.{Parts, closed, rowWord, mapWord, items, pixel, line, headGet, file, ended, whole, parse}
+use Rattle.text_scan.specs.declared.Facts.{Facts}
+use Rattle.text_read.specs.Answers.{Told, counted, lineRest}
+use Rattle.text_scan.specs.Facts.{evenly, factsOf, factsIn}
+use Rattle.text_scan.specs.Kernels.{Reached, linesOf, scanOf}
 use Rattle.text_rules.specs.Items.{itemsOf}
 use Rattle.text_theory.proofs.Pairs.{front}
-use Rattle.text_read.proofs.Onward.{Left, tally}
-
--- A reader of changed values reads the values and changes them.
-many-change : {A B : Type 0} (f : A → B) (g : Get A) (k : Get B) (e : (s : List ℕ) → k s ≡ on (g s) (λ a. give (f a))) (w : List ℕ) (n : ℕ) (s : List ℕ) → manyUpTo n w k s ≡ on (manyUpTo n w g s) (λ xs. give (map f xs))
-unfolding manyUpTo next
-many-change f g k e w zero s = refl
-many-change {A} {B} f g k e w (suc n) s = go (strip w s) (many-change f g k e w n)
-  where
-    last : (x : A) (o : Option (List A × List ℕ)) → on (on o (λ xs. give (map f xs))) (λ xs. give (f x ∷ xs)) ≡ on (on o (λ xs. give (x ∷ xs))) (λ xs. give (map f xs))
-    last x none = refl
-    last x (some r) = refl
-
-    more : (o : Option (A × List ℕ)) → ((s : List ℕ) → manyUpTo n w k s ≡ on (manyUpTo n w g s) (λ xs. give (map f xs)))
-        → on (on o (λ a. give (f a))) (λ x. manyUpTo n w k ▷ λ xs. give (x ∷ xs)) ≡ on (on o (λ x. manyUpTo n w g ▷ λ xs. give (x ∷ xs))) (λ xs. give (map f xs))
-    more none h = refl
-    more (some r) h = rw (h (r .1)) (last (r .0) (manyUpTo n w g (r .1)))
-
-    go : (o : Option (List ℕ)) → ((s : List ℕ) → manyUpTo n w k s ≡ on (manyUpTo n w g s) (λ xs. give (map f xs)))
-        → next o s k (manyUpTo n w k) ≡ on (next o s g (manyUpTo n w g)) (λ xs. give (map f xs))
-    go none h = refl
-    go (some t) h = rw (e t) (more (g t) h)
-
-count-map : {A B : Type 0} (f : A → B) (g : Get A) (s : List ℕ) → counted (items (g ▷ λ a. give (f a))) s ≡ counted (items g) s
-unfolding counted items many
-count-map {A} f g s = rw (many-change f g (g ▷ λ a. give (f a)) (λ t. refl) blank (suc (length s)) s) (go (manyUpTo (suc (length s)) blank g s))
-  where
-    last : (xs : List A) (o : Option (List ℕ)) → on (behind o (give (map f xs))) (λ xs. give (length xs)) ≡ on (behind o (give xs)) (λ xs. give (length xs))
-    last xs none = refl
-    last xs (some t) = rw length-map
-
-    go : (o : Option (List A × List ℕ)) → on (on (on o (λ xs. give (map f xs))) (λ xs. after closing (give xs))) (λ xs. give (length xs)) ≡ on (on o (λ xs. after closing (give xs))) (λ xs. give (length xs))
-    go none = refl
-    go (some r) = last (r .0) (strip closing (r .1))
-
-count-line : {A : Type 0} (g : Get A) (s : List ℕ) → counted (line g) s ≡ on (counted (items g) s) (λ n. after lineEnd (give n))
-unfolding counted line
-count-line {A} g s = go (items g s)
-  where
-    last : (xs : List A) (o : Option (List ℕ)) → on (behind o (give xs)) (λ xs. give (length xs)) ≡ behind o (give (length xs))
-    last xs none = refl
-    last xs (some t) = refl
-
-    go : (o : Option (List A × List ℕ)) → on (on o (λ xs. after lineEnd (give xs))) (λ xs. give (length xs)) ≡ on (on o (λ xs. give (length xs))) (λ n. after lineEnd (give n))
-    go none = refl
-    go (some r) = last (r .0) (strip lineEnd (r .1))
-
-pub rest-map : (s : List ℕ) → lineRest Numbers s ≡ on (line (number 65535) s) (λ xs. give (length xs))
-unfolding lineRest formOf counted
-rest-map s = sym (count-line (number 65535) s)
-
-pub rest-row : (k : Kind) (s : List ℕ) → lineRest (itemsOf k) s ≡ on (line (pixel k) s) (λ xs. give (length xs))
-unfolding lineRest formOf counted itemsOf pixel
-rest-row Grey s = rw (← count-map (λ a. a ∷ []) (number 255) s) (sym (count-line _ s))
-rest-row Rgb s = sym (count-line _ s)
+use Rattle.text_read.proofs.LineCounts.{many-change, rest-map, rest-row}
+use Rattle.text_read.proofs.Onward.{Left}
+use Rattle.text_scan.proofs.Counting.{tally}
 
 abbrev tallyAll : {A : Type 0} → ℕ → List (List A) → Get (ℕ × Bool)
 tallyAll width xss = give (length xss, evenly width (map length xss))

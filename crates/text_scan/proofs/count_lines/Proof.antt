@@ -1,11 +1,12 @@
--- `text_read::cursor::Cursor::lines` meets its contract.
+-- `text_scan::count_lines` meets its contract.
 use Prim.Native.Nat.{_-_}
 use native.Mathlib.Omega.{arith}
 use lib.ListN.{length}
-use Rattle.text_read.proofs.Onward.{Lining, lining-first, lining-stop, lining-torn, lining-next}
+use Rattle.text_read.proofs.FixedBytes.{skipped}
+use Rattle.text_scan.proofs.Counting.{Lining, lining-first, lining-stop, lining-torn, lining-next}
 use borrow.Author.Needs.{needs}
-use Rattle.text_read.proofs.cursor.Cursor.lines.Statement.{statement}
-use Rattle.text_read.proofs.cursor.Cursor.lines.Tie as tie
+use Rattle.text_scan.proofs.count_lines.Statement.{statement}
+use Rattle.text_scan.proofs.count_lines.Tie as tie
 
 abbrev Inv-loop : tie.InvT-loop
 Inv-loop text word what width at₀ n₀ even₀ at n even = Lining word what width text at₀ n even at
@@ -16,8 +17,8 @@ abbrev μ-loop : tie.MeasureT-loop
 loop-holds : tie.Need-loop-holds Inv-loop μ-loop
 loop-holds c = lining-first (search needs)
 
-past-requires : tie.Need-past-requires Inv-loop μ-loop
-past-requires c κs = search needs
+skip-requires : tie.Need-skip-requires Inv-loop μ-loop
+skip-requires c κs = search needs
 
 enum-known-c : tie.Need-enum-known-c Inv-loop μ-loop
 enum-known-c c = search needs
@@ -27,9 +28,9 @@ enum-told c = search needs
 
 returns : tie.Need-returns Inv-loop μ-loop
 returns c =
-    let at-past = c .before .before in
-    let at-loop = at-past .before in
-    lining-stop (search needs) (at-loop .loop .inv) (rw (c .enum-told .given .1) at (at-past .past .ensures))
+    let at-skip = c .before .before in
+    let at-loop = at-skip .before in
+    lining-stop (search needs) (at-loop .loop .inv) (skipped _ (search needs) (rw (c .enum-told .given .1) at (at-skip .skip .ensures)))
 
 rest-requires : tie.Need-rest-requires Inv-loop μ-loop
 rest-requires c κs = search needs
@@ -44,9 +45,9 @@ returns-2 : tie.Need-returns-2 Inv-loop μ-loop
 returns-2 c =
     let at-rest = c .before .before in
     let at-c = at-rest .before .before in
-    let at-past = at-c .before .before in
-    let at-loop = at-past .before in
-    lining-torn (search needs) (at-loop .loop .inv) (rw (at-c .c .given .1) at (at-past .past .ensures)) (rw (c .enum-told2 .given .1) at (at-rest .rest .ensures))
+    let at-skip = at-c .before .before in
+    let at-loop = at-skip .before in
+    lining-torn (search needs) (at-loop .loop .inv) (skipped _ (search needs) (rw (at-c .c .given .1) at (at-skip .skip .ensures))) (rw (c .enum-told2 .given .1) at (at-rest .rest .ensures))
 
 add-n : tie.Need-add-n Inv-loop μ-loop
 add-n c = search needs
@@ -59,8 +60,8 @@ loop-less c =
     let at-m = c .before .before in
     let at-rest = at-m .before .before in
     let at-c = at-rest .before .before in
-    let at-past = at-c .before .before in
-    let a = (rw (at-c .c .given .1) at (at-past .past .ensures)) in
+    let at-skip = at-c .before .before in
+    let a = rw (at-c .c .given .1) at (at-skip .skip .ensures) in
     let b = (rw (at-m .m .given .1) at (at-rest .rest .ensures)) in
     omega (arith, a .moved .0, b .moved .0, b .moved .1)
 
@@ -69,18 +70,18 @@ loop-again c =
     let at-m = c .before .before in
     let at-rest = at-m .before .before in
     let at-c = at-rest .before .before in
-    let at-past = at-c .before .before in
-    let at-loop = at-past .before in
-    lining-next (search needs) (at-loop .loop .inv) (rw (at-c .c .given .1) at (at-past .past .ensures)) (rw (at-m .m .given .1) at (at-rest .rest .ensures)) (c .still-full .ensures)
+    let at-skip = at-c .before .before in
+    let at-loop = at-skip .before in
+    lining-next (search needs) (at-loop .loop .inv) (skipped _ (search needs) (rw (at-c .c .given .1) at (at-skip .skip .ensures))) (rw (at-m .m .given .1) at (at-rest .rest .ensures)) (c .still-full .ensures)
 
-pub lines-spec : {M : Type 1} → statement M
-lines-spec =
+pub count-lines-spec : {M : Type 1} → statement M
+count-lines-spec =
     tie.close
     (tie.spec
     Inv-loop
     μ-loop
     loop-holds
-    past-requires
+    skip-requires
     enum-known-c
     enum-told
     returns

@@ -1,12 +1,14 @@
--- `text_read::scanning::scan` meets its contract.
+-- `text_scan::scan` meets its contract.
 use mathlib.Core.Path.{sym}
 use Rattle.text_theory.specs.Files.{rowWord, mapWord, closed}
-use Rattle.text_read.specs.Kernels.{scanOf}
+use Rattle.text_scan.specs.Kernels.{scanOf}
+use native.Mathlib.Omega.{arith}
+use Rattle.text_read.proofs.FixedBytes.{skipped}
 use Rattle.text_read.proofs.Onward.{left-start, left-past, left-no-past, left-then, left-no-then}
-use Rattle.text_read.proofs.WholeText.{left-reach, left-no-reach, scan-none, scan-more, scan-end}
+use Rattle.text_scan.proofs.WholeText.{left-reach, left-no-reach, scan-none, scan-more, scan-end}
 use borrow.Author.Needs.{needs}
-use Rattle.text_read.proofs.scanning.scan.Statement.{statement}
-use Rattle.text_read.proofs.scanning.scan.Tie as tie
+use Rattle.text_scan.proofs.scan.Statement.{statement}
+use Rattle.text_scan.proofs.scan.Tie as tie
 
 header-requires : tie.Need-header-requires
 header-requires c κs = search needs
@@ -21,14 +23,14 @@ returns : tie.Need-returns
 unfolding scanOf rowWord mapWord closed
 returns c = sym (scan-none (left-no-then _ left-start (rw (c .enum-told .given .1) at (c .before .before .header .ensures))))
 
-slice-aggregate-lines : tie.Need-slice-aggregate-lines
-slice-aggregate-lines c = search needs
+slice-aggregate-count-lines : tie.Need-slice-aggregate-count-lines
+slice-aggregate-count-lines c = search needs
 
 items-of-requires : tie.Need-items-of-requires
 items-of-requires c κs = search needs
 
-lines-requires : tie.Need-lines-requires
-lines-requires c κs =
+count-lines-requires : tie.Need-count-lines-requires
+count-lines-requires c κs =
     let at-head = c .before .before .before .before in
     let at-header = at-head .before .before in
     let a = rw (at-head .head .given .1) at (at-header .header .ensures) in
@@ -48,16 +50,16 @@ returns-2 c =
     let at-items-of = at-lines .before in
     let at-head = at-items-of .before .before .before .before in
     let at-header = at-head .before .before in
-    sym (scan-none (left-no-reach _ (left-then _ left-start (rw (at-head .head .given .1) at (at-header .header .ensures))) (rw (c .enum-told2 .given .1, at-items-of .items-of .ensures) at (at-lines .lines .ensures))))
+    sym (scan-none (left-no-reach _ (left-then _ left-start (rw (at-head .head .given .1) at (at-header .header .ensures))) (rw (c .enum-told2 .given .1, at-items-of .items-of .ensures) at (at-lines .count-lines .ensures))))
 
-slice-aggregate-lines-2 : tie.Need-slice-aggregate-lines-2
-slice-aggregate-lines-2 c = search needs
+slice-aggregate-count-lines-2 : tie.Need-slice-aggregate-count-lines-2
+slice-aggregate-count-lines-2 c = search needs
 
-lines-requires-2 : tie.Need-lines-requires-2
-lines-requires-2 c κs =
+count-lines-requires-2 : tie.Need-count-lines-requires-2
+count-lines-requires-2 c κs =
     let at-rows = c .before .before in
     let at-lines = at-rows .before .before in
-    let a = rw (at-rows .rows .given .1) at (at-lines .lines .ensures) in
+    let a = rw (at-rows .rows .given .1) at (at-lines .count-lines .ensures) in
     let m = a .moved in
     search needs
 
@@ -76,13 +78,13 @@ returns-3 c =
     let at-items-of = at-lines .before in
     let at-head = at-items-of .before .before .before .before in
     let at-header = at-head .before .before in
-    sym (scan-none (left-no-reach _ (left-reach _ (left-then _ left-start (rw (at-head .head .given .1) at (at-header .header .ensures))) (rw (at-rows .rows .given .1, at-items-of .items-of .ensures) at (at-lines .lines .ensures))) (rw (c .enum-told3 .given .1) at (at-lines2 .lines2 .ensures))))
+    sym (scan-none (left-no-reach _ (left-reach _ (left-then _ left-start (rw (at-head .head .given .1) at (at-header .header .ensures))) (rw (at-rows .rows .given .1, at-items-of .items-of .ensures) at (at-lines .count-lines .ensures))) (rw (c .enum-told3 .given .1) at (at-lines2 .count-lines2 .ensures))))
 
-slice-aggregate-past : tie.Need-slice-aggregate-past
-slice-aggregate-past c = search needs
+slice-aggregate-skip : tie.Need-slice-aggregate-skip
+slice-aggregate-skip c = search needs
 
-past-requires : tie.Need-past-requires
-past-requires c κs = search needs
+skip-requires : tie.Need-skip-requires
+skip-requires c κs = search needs
 
 enum-known-f : tie.Need-enum-known-f
 enum-known-f c = search needs
@@ -93,29 +95,29 @@ enum-told-4 c = search needs
 returns-4 : tie.Need-returns-4
 unfolding scanOf rowWord mapWord closed
 returns-4 c =
-    let at-past = c .before .before in
-    let at-maps = at-past .before .before .before in
+    let at-skip = c .before .before in
+    let at-maps = at-skip .before .before .before in
     let at-lines2 = at-maps .before .before in
     let at-rows = at-lines2 .before .before .before in
     let at-lines = at-rows .before .before in
     let at-items-of = at-lines .before in
     let at-head = at-items-of .before .before .before .before in
     let at-header = at-head .before .before in
-    sym (scan-none (left-no-past closed _ (left-reach _ (left-reach _ (left-then _ left-start (rw (at-head .head .given .1) at (at-header .header .ensures))) (rw (at-rows .rows .given .1, at-items-of .items-of .ensures) at (at-lines .lines .ensures))) (rw (at-maps .maps .given .1) at (at-lines2 .lines2 .ensures))) (rw (c .enum-told4 .given .1) at (at-past .past .ensures))))
+    sym (scan-none (left-no-past closed _ (left-reach _ (left-reach _ (left-then _ left-start (rw (at-head .head .given .1) at (at-header .header .ensures))) (rw (at-rows .rows .given .1, at-items-of .items-of .ensures) at (at-lines .count-lines .ensures))) (rw (at-maps .maps .given .1) at (at-lines2 .count-lines2 .ensures))) (skipped closed (omega arith) (rw (c .enum-told4 .given .1) at (at-skip .skip .ensures)))))
 
 returns-5 : tie.Need-returns-5
 unfolding scanOf rowWord mapWord closed
 returns-5 c =
     let at-f = c .before .before in
-    let at-past = at-f .before .before in
-    let at-maps = at-past .before .before .before in
+    let at-skip = at-f .before .before in
+    let at-maps = at-skip .before .before .before in
     let at-lines2 = at-maps .before .before in
     let at-rows = at-lines2 .before .before .before in
     let at-lines = at-rows .before .before in
     let at-items-of = at-lines .before in
     let at-head = at-items-of .before .before .before .before in
     let at-header = at-head .before .before in
-    sym (scan-more (left-past closed (left-reach _ (left-reach _ (left-then _ left-start (rw (at-head .head .given .1) at (at-header .header .ensures))) (rw (at-rows .rows .given .1, at-items-of .items-of .ensures) at (at-lines .lines .ensures))) (rw (at-maps .maps .given .1) at (at-lines2 .lines2 .ensures))) (rw (at-f .f .given .1) at (at-past .past .ensures))) (c .if1 .taken))
+    sym (scan-more (left-past closed (left-reach _ (left-reach _ (left-then _ left-start (rw (at-head .head .given .1) at (at-header .header .ensures))) (rw (at-rows .rows .given .1, at-items-of .items-of .ensures) at (at-lines .count-lines .ensures))) (rw (at-maps .maps .given .1) at (at-lines2 .count-lines2 .ensures))) (skipped closed (omega arith) (rw (at-f .f .given .1) at (at-skip .skip .ensures)))) (c .if1 .taken))
 
 both-full-requires : tie.Need-both-full-requires
 both-full-requires c κs = search needs
@@ -124,15 +126,15 @@ returns-6 : tie.Need-returns-6
 unfolding scanOf rowWord mapWord closed
 returns-6 c =
     let at-f = c .before .before .before in
-    let at-past = at-f .before .before in
-    let at-maps = at-past .before .before .before in
+    let at-skip = at-f .before .before in
+    let at-maps = at-skip .before .before .before in
     let at-lines2 = at-maps .before .before in
     let at-rows = at-lines2 .before .before .before in
     let at-lines = at-rows .before .before in
     let at-items-of = at-lines .before in
     let at-head = at-items-of .before .before .before .before in
     let at-header = at-head .before .before in
-    rw (c .both-full .ensures) (sym (scan-end (left-past closed (left-reach _ (left-reach _ (left-then _ left-start (rw (at-head .head .given .1) at (at-header .header .ensures))) (rw (at-rows .rows .given .1, at-items-of .items-of .ensures) at (at-lines .lines .ensures))) (rw (at-maps .maps .given .1) at (at-lines2 .lines2 .ensures))) (rw (at-f .f .given .1) at (at-past .past .ensures))) (c .before .if1 .left)))
+    rw (c .both-full .ensures) (sym (scan-end (left-past closed (left-reach _ (left-reach _ (left-then _ left-start (rw (at-head .head .given .1) at (at-header .header .ensures))) (rw (at-rows .rows .given .1, at-items-of .items-of .ensures) at (at-lines .count-lines .ensures))) (rw (at-maps .maps .given .1) at (at-lines2 .count-lines2 .ensures))) (skipped closed (omega arith) (rw (at-f .f .given .1) at (at-skip .skip .ensures)))) (c .before .if1 .left)))
 
 pub scan-spec : {M : Type 1} → statement M
 scan-spec =
@@ -142,19 +144,19 @@ scan-spec =
     enum-known-head
     enum-told
     returns
-    slice-aggregate-lines
+    slice-aggregate-count-lines
     items-of-requires
-    lines-requires
+    count-lines-requires
     enum-known-rows
     enum-told-2
     returns-2
-    slice-aggregate-lines-2
-    lines-requires-2
+    slice-aggregate-count-lines-2
+    count-lines-requires-2
     enum-known-maps
     enum-told-3
     returns-3
-    slice-aggregate-past
-    past-requires
+    slice-aggregate-skip
+    skip-requires
     enum-known-f
     enum-told-4
     returns-4
