@@ -25,8 +25,8 @@ use Rattle.pictures.specs.Pictures.{channelsOf, rowBytes, pictureBytes, sizeRul
 use Rattle.pictures.proofs.Rules.{served-both, passed}
 use Rattle.pictures.proofs.Limits.{Sized, sized-is}
 use Rattle.pictures.proofs.Buffers.{picture-ofSize}
-use Rattle.seam_rules.specs.Moves.{closeLengthRules, closeColumnRules, outside}
-use Rattle.seam_rules.proofs.Moving.{inside-each}
+use Rattle.seam_bounds.specs.Moves.{closeLengthRules, closeColumnRules, outside}
+use Rattle.seam_bounds.proofs.Moving.{inside-each}
 use Rattle.seam_close.specs.Kernels.{without, RowNeeded, CloseNeeded}
 use Rattle.grids.proofs.Filled.{map-table, Filled, filled-later, filled-part, filled-rest}
 

@@ -15,8 +15,8 @@ use Rattle.pictures.specs.declared.refusals.Verdict.{Verdict}
 use Rattle.pictures.specs.Refusals.{_when_, refusal, served}
 use Rattle.pictures.specs.Pictures.{channelsOf, sizeRules, picture, bytes}
 use Rattle.pictures.proofs.Rules.{served-first}
-use Rattle.seam_rules.specs.Moves.{outside}
-use Rattle.seam_rules.proofs.Moving.{each-inside}
+use Rattle.seam_bounds.specs.Moves.{outside}
+use Rattle.seam_bounds.proofs.Moving.{each-inside}
 use Rattle.seam_close.specs.Closing.{CloseGiven}
 
 -- A picture of its size with more than one column, and a seam inside it: the picture left stands at the front.

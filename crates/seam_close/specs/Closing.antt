@@ -8,7 +8,7 @@ use Rattle.pictures.specs.declared.sizes.Size.{Size}
 use Rattle.pictures.specs.declared.refusals.Verdict.{Verdict}
 use Rattle.pictures.specs.Refusals.{Rule, given, refusal, served}
 use Rattle.pictures.specs.Pictures.{channelsOf, picture, bytes}
-use Rattle.seam_rules.specs.Moves.{closeLengthRules, closeColumnRules, outside}
+use Rattle.seam_bounds.specs.Moves.{closeLengthRules, closeColumnRules, outside}
 
 -- When closing up is refused: as the picture is, where the seam hasn't one column for each row, where one of them is
 -- outside the picture, and at the last column.

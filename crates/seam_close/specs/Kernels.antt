@@ -7,7 +7,7 @@ use lib.ListN.{length, take, drop}
 use Rattle.pictures.specs.declared.sizes.Size.{Size}
 use Rattle.pictures.specs.Refusals.{refusal}
 use Rattle.pictures.specs.Pictures.{sizeRules}
-use Rattle.seam_rules.specs.Moves.{outside}
+use Rattle.seam_bounds.specs.Moves.{outside}
 
 -- A line of bytes without the n bytes from `gap` on.
 abbrev pub without : ℕ → ℕ → List ℕ → List ℕ

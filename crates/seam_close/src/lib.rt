@@ -3,8 +3,8 @@ mod rows;
 
 use pictures::Size;
 use pictures::Verdict;
-use seam_rules::judge_close_columns;
-use seam_rules::judge_close_lengths;
+use seam_bounds::judge_close_columns;
+use seam_bounds::judge_close_lengths;
 ghost use Rattle.seam_close.specs.Closing.{CloseGiven};
 
 // Takes the seam's pixel out of each row. The rows then lie packed at the front of the picture and the freed bytes are 0.

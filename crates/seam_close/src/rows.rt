@@ -2,14 +2,14 @@
 use pictures::Size;
 use pictures::channels;
 use pictures::clear;
-use seam_rules::is_outside;
+use seam_bounds::is_outside;
 ghost use mathlib.Core.Path.{_≡_};
 ghost use mathlib.Core.List.{_++_};
 ghost use Prim.Native.Nat.{_-_, _*_};
 ghost use lib.ListN.{length, drop, replicate};
 ghost use Rattle.grids.specs.Cut.{cut};
 ghost use Rattle.pictures.specs.Pictures.{picture as Pictures·picture, bytes, channelsOf};
-ghost use Rattle.seam_rules.specs.Moves.{outside as Moves·outside};
+ghost use Rattle.seam_bounds.specs.Moves.{outside as Moves·outside};
 ghost use Rattle.seam_close.specs.Kernels.{without, RowNeeded, CloseNeeded};
 
 // A column as an index.

@@ -12,7 +12,7 @@ use Rattle.pictures.specs.declared.refusals.Refusal.{Refusal}
 use Rattle.pictures.specs.Refusals.{numberOf, refusal, served}
 use Rattle.pictures.specs.Pictures.{sizeRules, pixels}
 use Rattle.pictures.proofs.Rules.{served-first, served-both, passed, number-some}
-use Rattle.seam_rules.specs.Moves.{outside}
+use Rattle.seam_bounds.specs.Moves.{outside}
 use Rattle.seam_rules.specs.declared.answers.Found.{Found}
 use Rattle.seam_rules.specs.declared.answers.Found.the-variants.{Seam, Refused}
 use Rattle.seam_rules.specs.Answers.{foundNumber}

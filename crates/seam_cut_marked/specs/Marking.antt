@@ -7,7 +7,7 @@ use Rattle.grids.specs.Rows.{flat}
 use Rattle.pictures.specs.declared.sizes.Size.{Size}
 use Rattle.pictures.specs.Refusals.{Rule, _when_, served}
 use Rattle.pictures.specs.Pictures.{sizeRules, picture, marksOf}
-use Rattle.seam_rules.specs.Moves.{outside}
+use Rattle.seam_bounds.specs.Moves.{outside}
 use Rattle.seam_rules.specs.declared.answers.Found.{Found}
 use Rattle.seam_rules.specs.declared.answers.Axis.{Axis}
 use Rattle.seam_rules.specs.Axes.{turnedSize}

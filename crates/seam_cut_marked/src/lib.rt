@@ -10,7 +10,7 @@ ghost use mathlib.Core.List.{_++_};
 ghost use lib.ListN.{length, replicate};
 ghost use Rattle.pictures.specs.Refusals.{given, refusal};
 ghost use Rattle.pictures.specs.Pictures.{sizeRules};
-ghost use Rattle.seam_rules.specs.Moves.{outside};
+ghost use Rattle.seam_bounds.specs.Moves.{outside};
 ghost use Rattle.seam_rules.specs.Cuts.{roomRules, lastAlong};
 ghost use Rattle.seam_cut_marked.specs.Marking.{markRules, markedFindRules, markedCutRules, MarkedSeamFound, MarkedPictureCut, MarkedMarksCut};
 ghost use Rattle.seam_cut_marked.specs.Kernels.{blockedNumber, MarkedNeeded, LastGiven};

@@ -9,7 +9,7 @@ use Rattle.pictures.specs.Refusals.{Rule, refusal, served}
 use Rattle.pictures.specs.Pictures.{pictureBytes, pixels, pictureIn}
 use Rattle.seam_rules.specs.declared.answers.Found.{Found}
 use Rattle.seam_rules.specs.Answers.{foundNumber, foundCost}
-use Rattle.seam_rules.specs.Spaces.{spaceRules}
+use Rattle.seam_bounds.specs.Spaces.{spaceRules}
 use Rattle.seam_theory.specs.PictureSeams.{seamOf, costOf}
 
 -- Refused by 2 and 3, and by 8 where the seam's space is shorter than the seam, or the space than the picture and a byte

@@ -9,7 +9,7 @@ use Rattle.pictures.specs.Refusals.{Rule, _when_, refusal, served, worked}
 use Rattle.pictures.specs.Pictures.{pictureBytes, pixels, pictureIn, marksIn}
 use Rattle.seam_rules.specs.declared.answers.Found.{Found}
 use Rattle.seam_rules.specs.Answers.{foundNumber, foundCost}
-use Rattle.seam_rules.specs.Spaces.{spaceRules}
+use Rattle.seam_bounds.specs.Spaces.{spaceRules}
 use Rattle.seam_theory.specs.PictureSeams.{markedUp, markedSeamOf, markedCostOf, isNone}
 
 -- Refused by 2, 3 and 8 as without marks, where the space also has the marks; and by 12 where no seam is allowed.

@@ -26,7 +26,7 @@ use Rattle.pictures.specs.Pictures.{channelsOf, pictureBytes, sizeRules, pictur
 use Rattle.pictures.proofs.Rules.{served-both, passed}
 use Rattle.pictures.proofs.Limits.{Sized, sized-is}
 use Rattle.pictures.proofs.Buffers.{picture-ofSize, pixel-at}
-use Rattle.seam_rules.specs.Moves.{exchangeRules, columnRules}
+use Rattle.seam_bounds.specs.Moves.{exchangeRules, columnRules}
 use Rattle.seam_moves.specs.Moving.{columnBytes}
 use Rattle.seam_moves.specs.Kernels.{samples, ColumnNeeded, ExchangeNeeded}
 use Rattle.grids.proofs.Filled.{map-table, Filled, filled-sets, filled-part}

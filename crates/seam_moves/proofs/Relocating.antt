@@ -19,7 +19,7 @@ use Rattle.pictures.specs.Refusals.{refusal}
 use Rattle.pictures.specs.Pictures.{channelsOf, pictureBytes, sizeRules, picture, bytes}
 use Rattle.pictures.proofs.Limits.{Sides, sides-are, sized-served}
 use Rattle.seam_moves.specs.Between.{partAt, putAt}
-use Rattle.seam_rules.specs.Moves.{PlacesApart}
+use Rattle.seam_bounds.specs.Moves.{PlacesApart}
 use Rattle.seam_moves.specs.Moving.{columnBytes, ColumnGiven}
 use Rattle.seam_moves.specs.Kernels.{PictureNeeded}
 use Rattle.grids.proofs.Filled.{flat-more, filled-length}

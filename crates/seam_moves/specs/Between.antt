@@ -9,7 +9,7 @@ use Rattle.pictures.specs.declared.sizes.Size.{Size}
 use Rattle.pictures.specs.declared.refusals.Verdict.{Verdict}
 use Rattle.pictures.specs.Refusals.{Rule, _when_, given, refusal, served}
 use Rattle.pictures.specs.Pictures.{pictureBytes, sideRules, picture, bytes}
-use Rattle.seam_rules.specs.Moves.{apartIn}
+use Rattle.seam_bounds.specs.Moves.{apartIn}
 
 -- The n bytes at a place of a space.
 abbrev pub partAt : ℕ → ℕ → List ℕ → List ℕ

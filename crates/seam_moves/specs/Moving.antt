@@ -9,7 +9,7 @@ use Rattle.pictures.specs.declared.sizes.Size.{Size}
 use Rattle.pictures.specs.declared.refusals.Verdict.{Verdict}
 use Rattle.pictures.specs.Refusals.{given, refusal, served}
 use Rattle.pictures.specs.Pictures.{channelsOf, pictureBytes, picture, bytes}
-use Rattle.seam_rules.specs.Moves.{exchangeRules, columnRules}
+use Rattle.seam_bounds.specs.Moves.{exchangeRules, columnRules}
 
 -- What an exchange gives: the number, and the space, which keeps what stands after the exchanged picture.
 pub record ExchangeGiven (b : List ℕ) (z : Size) (to : List ℕ) (verdict : Verdict) (to′ : List ℕ) : Type 0 where

@@ -4,13 +4,13 @@ use pictures::Refusal;
 use pictures::Size;
 use pictures::Verdict;
 use pictures::channels;
-use seam_rules::apart_in;
+use seam_bounds::apart_in;
 ghost use mathlib.Core.Path.{_≡_};
 ghost use Prim.Native.Nat.{_+_};
 ghost use lib.ListN.{length};
 ghost use Rattle.grids.specs.Exchange.{exchange};
 ghost use Rattle.pictures.specs.Pictures.{picture, bytes as Pictures·bytes, pictureBytes};
-ghost use Rattle.seam_rules.specs.Moves.{PlacesApart};
+ghost use Rattle.seam_bounds.specs.Moves.{PlacesApart};
 ghost use Rattle.seam_moves.specs.Between.{partAt, putAt, CopyBetweenGiven, ExchangeBetweenGiven};
 ghost use Rattle.seam_moves.specs.Kernels.{PictureNeeded};
 

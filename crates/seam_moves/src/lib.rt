@@ -7,8 +7,8 @@ pub use between::copy_between;
 pub use between::exchange_between;
 use pictures::Size;
 use pictures::Verdict;
-use seam_rules::judge_column;
-use seam_rules::judge_exchange;
+use seam_bounds::judge_column;
+use seam_bounds::judge_exchange;
 ghost use Rattle.seam_moves.specs.Moving.{ExchangeGiven, ColumnGiven};
 
 // The picture with rows and columns exchanged, put into the front of `to`: its width is the height, its height the width.

@@ -13,7 +13,7 @@ use Rattle.pictures.specs.declared.refusals.Refusal.{Refusal}
 use Rattle.pictures.specs.Refusals.{_when_, numberOf, refusal, served}
 use Rattle.pictures.specs.Pictures.{largestSide, channelsOf, sizeRules, bytes, pixels}
 use Rattle.pictures.proofs.Rules.{served-both, passed}
-use Rattle.seam_rules.specs.Moves.{outside}
+use Rattle.seam_bounds.specs.Moves.{outside}
 use Rattle.seam_rules.specs.declared.answers.Axis.the-variants.{Vertical}
 use Rattle.seam_rules.specs.Cuts.{roomRules}
 use Rattle.seam_cut_marked.specs.Marking.{markRules}

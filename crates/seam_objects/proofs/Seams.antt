@@ -17,7 +17,7 @@ use Rattle.pictures.specs.declared.sizes.Size.{Size}
 use Rattle.pictures.specs.Pictures.{channelsOf, picture, bytes, pixels, marksOf}
 use Rattle.pictures.proofs.Limits.{Sides, sides-are, sides-served, sized-is}
 use Rattle.pictures.proofs.Buffers.{bytes-picture}
-use Rattle.seam_rules.specs.Moves.{outside}
+use Rattle.seam_bounds.specs.Moves.{outside}
 use Rattle.seam_rules.proofs.Turns.{sides-of}
 use Rattle.grids.proofs.Orders.{more-than-one}
 use Rattle.seam_rules.specs.declared.answers.Removal.{Removal}

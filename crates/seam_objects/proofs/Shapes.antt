@@ -16,8 +16,8 @@ use Rattle.pictures.specs.declared.sizes.Size.{Size}
 use Rattle.pictures.specs.Pictures.{channelsOf}
 use Rattle.pictures.proofs.Limits.{sized-is}
 use Rattle.pictures.proofs.Buffers.{picture-ofSize}
-use Rattle.seam_rules.specs.Moves.{outside}
-use Rattle.seam_rules.proofs.Moving.{inside-each, each-inside}
+use Rattle.seam_bounds.specs.Moves.{outside}
+use Rattle.seam_bounds.proofs.Moving.{inside-each, each-inside}
 use Rattle.seam_rules.specs.declared.answers.Axis.the-variants.{Vertical}
 use Rattle.seam_turn.specs.Axes.{turned}
 use Rattle.seam_cut_marked.specs.Axes.{markedSeamAlong, blockedAlong}

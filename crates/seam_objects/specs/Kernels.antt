@@ -8,7 +8,7 @@ use Rattle.grids.specs.Rows.{flat}
 use Rattle.pictures.specs.declared.sizes.Size.{Size}
 use Rattle.pictures.specs.Refusals.{refusal}
 use Rattle.pictures.specs.Pictures.{channelsOf, sideRules, sizeRules, pictureBytes, bytes, pixels}
-use Rattle.seam_rules.specs.Moves.{outside}
+use Rattle.seam_bounds.specs.Moves.{outside}
 use Rattle.seam_objects.specs.Objects.{MarkedPicture, noSeam, cutOnce}
 use Rattle.seam_objects.specs.Removing.{markedPicture}
 

@@ -1,5 +1,3 @@
-pub mod Moving
-pub mod Spaces
 pub mod Turns
 pub mod Left
 pub mod Rooms

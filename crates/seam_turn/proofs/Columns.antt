@@ -22,10 +22,10 @@ use Rattle.pictures.specs.Pictures.{Picture, channelsOf, pictureBytes, sideRule
 use Rattle.pictures.proofs.Rules.{served-both, passed}
 use Rattle.pictures.proofs.Limits.{Sized, sized-is, sized-served}
 use Rattle.pictures.proofs.Buffers.{picture-ofSize, picture-bytes, length-bytes}
-use Rattle.seam_rules.specs.Moves.{outside}
+use Rattle.seam_bounds.specs.Moves.{outside}
 use Rattle.seam_moves.specs.Moving.{ExchangeGiven}
 use Rattle.seam_close.specs.Closing.{CloseGiven}
-use Rattle.seam_rules.proofs.Moving.{inside-each}
+use Rattle.seam_bounds.proofs.Moving.{inside-each}
 use Rattle.seam_moves.proofs.Served.{exchange-served}
 use Rattle.seam_close.proofs.Served.{close-served}
 use Rattle.seam_rules.specs.declared.answers.Axis.the-variants.{Horizontal}

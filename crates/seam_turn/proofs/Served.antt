@@ -15,9 +15,9 @@ use Rattle.pictures.specs.declared.refusals.Refusal.{Refusal}
 use Rattle.pictures.specs.Refusals.{_when_, numberOf, given, refusal, served}
 use Rattle.pictures.specs.Pictures.{channelsOf, pictureBytes, sizeRules, picture, bytes}
 use Rattle.pictures.proofs.Rules.{served-first}
-use Rattle.seam_rules.specs.Moves.{outside}
+use Rattle.seam_bounds.specs.Moves.{outside}
 use Rattle.seam_close.specs.Closing.{closeRules}
-use Rattle.seam_rules.proofs.Moving.{each-inside}
+use Rattle.seam_bounds.proofs.Moving.{each-inside}
 use Rattle.seam_rules.specs.declared.answers.Axis.{Axis}
 use Rattle.seam_rules.specs.declared.answers.Axis.the-variants.{Vertical, Horizontal}
 use Rattle.seam_rules.specs.Axes.{turnedSize}

@@ -7,7 +7,7 @@ use Rattle.pictures.specs.declared.sizes.Size.{Size}
 use Rattle.pictures.specs.declared.refusals.Verdict.{Verdict}
 use Rattle.pictures.specs.Refusals.{Rule, _when_, given, refusal, served}
 use Rattle.pictures.specs.Pictures.{channelsOf, pictureBytes, picture, bytes}
-use Rattle.seam_rules.specs.Moves.{outside, exchangeRules}
+use Rattle.seam_bounds.specs.Moves.{outside, exchangeRules}
 use Rattle.seam_rules.specs.declared.answers.Axis.{Axis}
 use Rattle.seam_rules.specs.declared.answers.Axis.the-variants.{Vertical, Horizontal}
 use Rattle.seam_rules.specs.Axes.{turnedSize}

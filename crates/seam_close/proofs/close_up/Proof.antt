@@ -11,7 +11,7 @@ use Rattle.pictures.specs.declared.sizes.Size.{Size}
 use Rattle.pictures.specs.Refusals.{Rule, given, refusal}
 use Rattle.pictures.specs.Pictures.{channelsOf, picture, bytes}
 use Rattle.pictures.proofs.Rules.{served-first, refused-answer, refused-kept}
-use Rattle.seam_rules.specs.Moves.{closeLengthRules, closeColumnRules, outside}
+use Rattle.seam_bounds.specs.Moves.{closeLengthRules, closeColumnRules, outside}
 use Rattle.seam_close.specs.Closing.{closeRules}
 use Rattle.seam_close.proofs.Closing.{close-needed}
 use Rattle.seam_close.proofs.close_up.Statement.{statement}

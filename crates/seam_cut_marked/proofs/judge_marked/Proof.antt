@@ -8,7 +8,7 @@ use lib.ListN.{length}
 use Rattle.pictures.specs.Refusals.{Rule, _when_, given, refusal}
 use Rattle.pictures.specs.Pictures.{sizeRules}
 use Rattle.pictures.proofs.Rules.{served-first, served-both, refused-answer}
-use Rattle.seam_rules.specs.Moves.{outside}
+use Rattle.seam_bounds.specs.Moves.{outside}
 use Rattle.seam_rules.specs.Cuts.{roomRules, markLengthRules}
 use Rattle.seam_cut_marked.proofs.judge_marked.Statement.{statement}
 use Rattle.seam_cut_marked.proofs.judge_marked.Tie as tie

@@ -11,8 +11,8 @@ use borrow.Author.Tests.{not-true, not-false}
 use denote.Ref.{now}
 use lib.ListN.{length, getD, drop}
 use lib.Seq.{drop-length}
-use Rattle.seam_rules.specs.Moves.{outside}
-use Rattle.seam_rules.proofs.Moving.{outside-here, outside-next}
+use Rattle.seam_bounds.specs.Moves.{outside}
+use Rattle.seam_bounds.proofs.Moving.{outside-here, outside-next}
 use Rattle.seam_rules.proofs.Rooms.{mark-below, mark-over}
 use Rattle.seam_cut_marked.proofs.over_two.Statement.{statement}
 use Rattle.seam_cut_marked.proofs.over_two.Tie as tie

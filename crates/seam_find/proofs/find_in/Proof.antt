@@ -16,7 +16,7 @@ use Rattle.pictures.specs.Refusals.{given, refusal, served}
 use Rattle.pictures.specs.Pictures.{pictureBytes, picture, pixels}
 use Rattle.pictures.proofs.Rules.{kept-by}
 use Rattle.pictures.proofs.Limits.{Sized, sides-are, sized-of, sized-served}
-use Rattle.seam_rules.proofs.Spaces.{Rooms, rooms-are}
+use Rattle.seam_bounds.proofs.Spaces.{Rooms, rooms-are}
 use Rattle.seam_theory.specs.PictureSeams.{seamOf, costOf}
 use Rattle.seam_find.specs.Finding.{findRules}
 use Rattle.seam_find.specs.Tracing.{columnsTo}

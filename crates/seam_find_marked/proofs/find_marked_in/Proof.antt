@@ -21,8 +21,8 @@ use Rattle.pictures.proofs.Rules.{refusal-most, number-some, served-first, refu
 use Rattle.pictures.proofs.Limits.{Sized, sides-are, sized-of, sized-served}
 use Rattle.seam_theory.specs.PictureSeams.{markedUp, markedSeamOf, markedCostOf, isNone}
 use Rattle.seam_rules.specs.Answers.{foundNumber}
-use Rattle.seam_rules.specs.Spaces.{spaceRules}
-use Rattle.seam_rules.proofs.Spaces.{Rooms, rooms-are}
+use Rattle.seam_bounds.specs.Spaces.{spaceRules}
+use Rattle.seam_bounds.proofs.Spaces.{Rooms, rooms-are}
 use Rattle.seam_sums.specs.Least.{leastTo}
 use Rattle.seam_sums.specs.Weights.{kept, protected}
 use Rattle.seam_sums.proofs.Meant.{heavy, heavy-number, light, light-cost}

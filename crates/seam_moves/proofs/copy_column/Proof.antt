@@ -9,7 +9,7 @@ use lib.ListN.{length, drop}
 use Rattle.pictures.specs.Refusals.{given, refusal}
 use Rattle.pictures.specs.Pictures.{channelsOf}
 use Rattle.pictures.proofs.Rules.{refused-kept}
-use Rattle.seam_rules.specs.Moves.{columnRules}
+use Rattle.seam_bounds.specs.Moves.{columnRules}
 use Rattle.seam_moves.specs.Moving.{columnBytes}
 use Rattle.seam_moves.specs.Kernels.{ColumnNeeded}
 use Rattle.seam_moves.proofs.Exchanging.{copy-needed, column-is}

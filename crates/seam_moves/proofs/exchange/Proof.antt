@@ -9,7 +9,7 @@ use Rattle.grids.specs.Exchange.{exchange}
 use Rattle.pictures.specs.Refusals.{given, refusal}
 use Rattle.pictures.specs.Pictures.{pictureBytes, picture, bytes}
 use Rattle.pictures.proofs.Rules.{refused-kept}
-use Rattle.seam_rules.specs.Moves.{exchangeRules}
+use Rattle.seam_bounds.specs.Moves.{exchangeRules}
 use Rattle.seam_moves.proofs.Exchanging.{exchange-needed}
 use Rattle.seam_moves.proofs.exchange.Statement.{statement}
 use Rattle.seam_moves.proofs.exchange.Tie as tie

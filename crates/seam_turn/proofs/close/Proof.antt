@@ -10,7 +10,7 @@ use lib.ListN.{length, replicate}
 use Rattle.pictures.specs.Refusals.{Rule, _when_, given, refusal}
 use Rattle.pictures.specs.Pictures.{channelsOf, picture, bytes}
 use Rattle.pictures.proofs.Rules.{refused-answer, refused-kept, refusal-most}
-use Rattle.seam_rules.specs.Moves.{outside}
+use Rattle.seam_bounds.specs.Moves.{outside}
 use Rattle.seam_rules.specs.declared.answers.Axis.the-variants.{Vertical}
 use Rattle.seam_rules.specs.Axes.{turnedSize}
 use Rattle.seam_rules.specs.Cuts.{lastRules, closeAlongLengths}

@@ -14,7 +14,7 @@ use Rattle.pictures.specs.Refusals.{_when_, given, refusal, served}
 use Rattle.pictures.specs.Pictures.{channelsOf, pictureBytes, sizeRules, picture, bytes}
 use Rattle.pictures.proofs.Rules.{served-first, number-some, refused-kept}
 use Rattle.pictures.proofs.Limits.{Sized, sized-is}
-use Rattle.seam_rules.specs.Moves.{outside}
+use Rattle.seam_bounds.specs.Moves.{outside}
 use Rattle.seam_moves.specs.Moving.{ExchangeGiven}
 use Rattle.seam_close.specs.Closing.{CloseGiven}
 use Rattle.seam_rules.specs.declared.answers.Axis.the-variants.{Horizontal}

@@ -12,7 +12,7 @@ use Rattle.pictures.specs.Pictures.{pictureBytes, sizeRules, picture, bytes}
 use Rattle.pictures.proofs.Rules.{served-first, refused-answer, refused-kept}
 use Rattle.pictures.proofs.Limits.{sized-is}
 use Rattle.pictures.proofs.Buffers.{bytes-picture}
-use Rattle.seam_rules.specs.Moves.{exchangeRules}
+use Rattle.seam_bounds.specs.Moves.{exchangeRules}
 use Rattle.seam_turn.specs.Axes.{turned}
 use Rattle.seam_turn.proofs.turn.Statement.{statement}
 use Rattle.seam_turn.proofs.turn.Tie as tie

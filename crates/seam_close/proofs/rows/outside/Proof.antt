@@ -8,8 +8,8 @@ use borrow.Author.Tests.{leb-true, leb-false}
 use denote.Ref.{now}
 use lib.ListN.{length, drop, getD}
 use lib.Seq.{drop-length}
-use Rattle.seam_rules.specs.Moves.{outside}
-use Rattle.seam_rules.proofs.Moving.{outside-here, outside-next}
+use Rattle.seam_bounds.specs.Moves.{outside}
+use Rattle.seam_bounds.proofs.Moving.{outside-here, outside-next}
 use Rattle.seam_close.proofs.rows.outside.Statement.{statement}
 use Rattle.seam_close.proofs.rows.outside.Tie as tie
 

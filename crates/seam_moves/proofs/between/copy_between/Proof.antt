@@ -1,7 +1,7 @@
 -- `seam_moves::between::copy_between` meets its contract.
 use mathlib.Core.Path.{refl, sym, _∙_}
 use borrow.Author.Needs.{needs}
-use Rattle.seam_rules.proofs.Moving.{places-are}
+use Rattle.seam_bounds.proofs.Moving.{places-are}
 use Rattle.seam_moves.proofs.between.copy_between.Statement.{statement}
 use Rattle.seam_moves.proofs.between.copy_between.Tie as tie
 

@@ -8,7 +8,7 @@ use Rattle.pictures.specs.Refusals.{given, refusal, served}
 use Rattle.pictures.specs.Pictures.{sideRules, pictureBytes, picture, bytes}
 use Rattle.pictures.proofs.Rules.{served-first, refused-answer, refused-kept}
 use Rattle.seam_moves.specs.Between.{partAt, putAt, copyBetweenRules, exchangeBetweenRules}
-use Rattle.seam_rules.proofs.Moving.{places-are}
+use Rattle.seam_bounds.proofs.Moving.{places-are}
 use Rattle.seam_moves.proofs.between.exchange_between.Statement.{statement}
 use Rattle.seam_moves.proofs.between.exchange_between.Tie as tie
 

@@ -1,4 +1,4 @@
--- `seam_rules::moves::judge_close_lengths` meets its contract: the picture first, then the seam's length.
+-- `seam_bounds::moves::judge_close_lengths` meets its contract: the picture first, then the seam's length.
 use mathlib.Core.Path.{_≡_, refl, sym, ap, _∙_}
 use mathlib.Core.Bool.{not}
 use mathlib.Core.List.{List, [], _∷_}
@@ -10,9 +10,9 @@ use Rattle.pictures.specs.declared.sizes.Size.{Size}
 use Rattle.pictures.specs.Refusals.{Rule, _when_, given, refusal}
 use Rattle.pictures.specs.Pictures.{sizeRules}
 use Rattle.pictures.proofs.Rules.{served-first, refused-answer}
-use Rattle.seam_rules.specs.Moves.{closeLengthRules}
-use Rattle.seam_rules.proofs.moves.judge_close_lengths.Statement.{statement}
-use Rattle.seam_rules.proofs.moves.judge_close_lengths.Tie as tie
+use Rattle.seam_bounds.specs.Moves.{closeLengthRules}
+use Rattle.seam_bounds.proofs.moves.judge_close_lengths.Statement.{statement}
+use Rattle.seam_bounds.proofs.moves.judge_close_lengths.Tie as tie
 
 -- the rule of the seam's length
 abbrev more : Size → ℕ → List Rule

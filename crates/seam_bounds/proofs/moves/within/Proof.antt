@@ -1,11 +1,11 @@
--- `seam_rules::moves::within` meets its contract.
+-- `seam_bounds::moves::within` meets its contract.
 use mathlib.Core.Path.{sym}
 use Prim.Native.Nat.{_+_}
 use native.Mathlib.Omega.{arith}
 use borrow.Author.Tests.{lt-leb}
-use Rattle.seam_rules.proofs.Moving.{within-is}
-use Rattle.seam_rules.proofs.moves.within.Statement.{statement}
-use Rattle.seam_rules.proofs.moves.within.Tie as tie
+use Rattle.seam_bounds.proofs.Moving.{within-is}
+use Rattle.seam_bounds.proofs.moves.within.Statement.{statement}
+use Rattle.seam_bounds.proofs.moves.within.Tie as tie
 
 returns : tie.Need-returns
 returns c = let a = c .before .args in sym (lt-leb (a .at + a .count) (a .space) (omega arith))

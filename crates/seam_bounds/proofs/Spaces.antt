@@ -9,7 +9,7 @@ use Rattle.pictures.specs.declared.sizes.Size.{Size}
 use Rattle.pictures.specs.Refusals.{_when_, refusal}
 use Rattle.pictures.specs.Pictures.{sideRules, pictureBytes}
 use Rattle.pictures.proofs.Rules.{served-both, passed}
-use Rattle.seam_rules.specs.Spaces.{bytesAfter, spaceRules}
+use Rattle.seam_bounds.specs.Spaces.{bytesAfter, spaceRules}
 
 pub record Rooms (z : Size) (marked : Bool) (space seam : ℕ) : Type 0 where
   pub sides : refusal (sideRules z) ≡ 0

@@ -7,7 +7,7 @@ ghost use mathlib.Core.Bool.{cond};
 ghost use Prim.Native.Nat.{_+_, _*_, _≤_};
 ghost use Rattle.pictures.specs.Pictures.{largestSide};
 ghost use Rattle.pictures.specs.Refusals.{given, refusal};
-ghost use Rattle.seam_rules.specs.Spaces.{spaceRules};
+ghost use Rattle.seam_bounds.specs.Spaces.{spaceRules};
 
 // Whether the seam of a picture of this size can be found in a space of `space` bytes, with the picture's marks if it is
 // marked, and put into a space of `seam` columns; or which of 2, 3 and 8 refuses it.

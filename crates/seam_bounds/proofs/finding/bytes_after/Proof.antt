@@ -1,7 +1,7 @@
--- `seam_rules::finding::bytes_after` meets its contract: each return by its test.
+-- `seam_bounds::finding::bytes_after` meets its contract: each return by its test.
 use borrow.Author.Needs.{needs}
-use Rattle.seam_rules.proofs.finding.bytes_after.Statement.{statement}
-use Rattle.seam_rules.proofs.finding.bytes_after.Tie as tie
+use Rattle.seam_bounds.proofs.finding.bytes_after.Statement.{statement}
+use Rattle.seam_bounds.proofs.finding.bytes_after.Tie as tie
 
 add-result : tie.Need-add-result
 add-result c = search needs

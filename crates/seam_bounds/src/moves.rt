@@ -9,7 +9,7 @@ ghost use mathlib.Core.Path.{_≡_};
 ghost use Prim.Native.Nat.{_+_};
 ghost use lib.Dec.{leb};
 ghost use Rattle.pictures.specs.Refusals.{given, refusal};
-ghost use Rattle.seam_rules.specs.Moves.{exchangeRules, columnRules, closeLengthRules, closeColumnRules, apartIn};
+ghost use Rattle.seam_bounds.specs.Moves.{exchangeRules, columnRules, closeLengthRules, closeColumnRules, apartIn};
 
 // Whether a picture may be put with rows and columns exchanged into a space of `space` bytes. Refused by 2, 3 and 4 as every
 // picture is, and by 8 where the space is shorter than the picture.

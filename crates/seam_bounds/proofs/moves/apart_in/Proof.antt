@@ -1,10 +1,10 @@
--- `seam_rules::moves::apart_in` meets its contract.
+-- `seam_bounds::moves::apart_in` meets its contract.
 use mathlib.Core.Path.{_≡_, sym, _∙_}
 use Prim.Native.Nat.{_+_}
 use lib.Dec.{leb}
 use borrow.Author.Needs.{needs}
-use Rattle.seam_rules.proofs.moves.apart_in.Statement.{statement}
-use Rattle.seam_rules.proofs.moves.apart_in.Tie as tie
+use Rattle.seam_bounds.proofs.moves.apart_in.Statement.{statement}
+use Rattle.seam_bounds.proofs.moves.apart_in.Tie as tie
 
 within-requires : tie.Need-within-requires
 within-requires c κs = search needs

@@ -1,4 +1,4 @@
--- `seam_rules::moves::judge_column` meets its contract: the picture first, then the space, then the column.
+-- `seam_bounds::moves::judge_column` meets its contract: the picture first, then the space, then the column.
 use mathlib.Core.Path.{_≡_, refl, sym, ap, _∙_}
 use mathlib.Core.List.{List, [], _∷_}
 use Prim.Native.Nat.{ℕ, _*_, _≤_, _<_}
@@ -12,9 +12,9 @@ use Rattle.pictures.specs.Refusals.{Rule, _when_, given, refusal}
 use Rattle.pictures.specs.Pictures.{channelsOf, sizeRules}
 use Rattle.pictures.proofs.Rules.{served-first, refused-answer}
 use Rattle.pictures.proofs.Limits.{sized-is}
-use Rattle.seam_rules.specs.Moves.{columnRules}
-use Rattle.seam_rules.proofs.moves.judge_column.Statement.{statement}
-use Rattle.seam_rules.proofs.moves.judge_column.Tie as tie
+use Rattle.seam_bounds.specs.Moves.{columnRules}
+use Rattle.seam_bounds.proofs.moves.judge_column.Statement.{statement}
+use Rattle.seam_bounds.proofs.moves.judge_column.Tie as tie
 
 -- the rules of the space and of the column
 abbrev more : Size → ℕ → ℕ → List Rule

@@ -1,4 +1,4 @@
--- `seam_rules::finding::judge_find_in` meets its contract: each return is the first rule that applies. No sum overflows, since the
+-- `seam_bounds::finding::judge_find_in` meets its contract: each return is the first rule that applies. No sum overflows, since the
 -- sides are within the limits.
 use mathlib.Core.Path.{_≡_, refl, sym, ap, ap₂, _∙_}
 use mathlib.Core.Bool.{Bool, true, false, cond}
@@ -13,9 +13,9 @@ use Rattle.pictures.specs.Refusals.{Rule, _when_, given, refusal, served}
 use Rattle.pictures.specs.Pictures.{sideRules, pictureBytes, pixels}
 use Rattle.pictures.proofs.Rules.{served-first, refused-answer}
 use Rattle.pictures.proofs.Limits.{Sides, sides-are}
-use Rattle.seam_rules.specs.Spaces.{bytesAfter, spaceRules}
-use Rattle.seam_rules.proofs.finding.judge_find_in.Statement.{statement}
-use Rattle.seam_rules.proofs.finding.judge_find_in.Tie as tie
+use Rattle.seam_bounds.specs.Spaces.{bytesAfter, spaceRules}
+use Rattle.seam_bounds.proofs.finding.judge_find_in.Statement.{statement}
+use Rattle.seam_bounds.proofs.finding.judge_find_in.Tie as tie
 
 -- what decides where the sides are served
 abbrev more : tie.Start → List Rule

@@ -1,4 +1,4 @@
--- `seam_rules::moves::judge_exchange` meets its contract: the picture first, whose bytes are then those of its size, then
+-- `seam_bounds::moves::judge_exchange` meets its contract: the picture first, whose bytes are then those of its size, then
 -- the space.
 use mathlib.Core.Path.{_≡_, refl, sym, ap, _∙_}
 use mathlib.Core.List.{List, [], _∷_}
@@ -11,9 +11,9 @@ use Rattle.pictures.specs.Refusals.{Rule, _when_, given, refusal}
 use Rattle.pictures.specs.Pictures.{pictureBytes, sizeRules}
 use Rattle.pictures.proofs.Rules.{served-first, refused-answer}
 use Rattle.pictures.proofs.Limits.{sized-is}
-use Rattle.seam_rules.specs.Moves.{exchangeRules}
-use Rattle.seam_rules.proofs.moves.judge_exchange.Statement.{statement}
-use Rattle.seam_rules.proofs.moves.judge_exchange.Tie as tie
+use Rattle.seam_bounds.specs.Moves.{exchangeRules}
+use Rattle.seam_bounds.proofs.moves.judge_exchange.Statement.{statement}
+use Rattle.seam_bounds.proofs.moves.judge_exchange.Tie as tie
 
 -- the rule of the space
 abbrev more : Size → ℕ → List Rule

@@ -1,8 +1,8 @@
--- `seam_rules::moves::judge_close_columns` meets its contract: each return rewrites the rules by the tests that led there.
+-- `seam_bounds::moves::judge_close_columns` meets its contract: each return rewrites the rules by the tests that led there.
 use borrow.Author.Needs.{needs}
 use borrow.Author.Tests.{eq-eqb, ne-eqb}
-use Rattle.seam_rules.proofs.moves.judge_close_columns.Statement.{statement}
-use Rattle.seam_rules.proofs.moves.judge_close_columns.Tie as tie
+use Rattle.seam_bounds.proofs.moves.judge_close_columns.Statement.{statement}
+use Rattle.seam_bounds.proofs.moves.judge_close_columns.Tie as tie
 
 returns : tie.Need-returns
 returns c = search needs
