@@ -1,7 +1,7 @@
 // Pictures turned so that a seam along an axis is vertical, and closed up along a seam of either axis.
-use pictures::Refusal;
 use pictures::Size;
 use pictures::Verdict;
+use seam_bounds::judge_exchange;
 use seam_rules::Axis;
 ghost use Rattle.seam_rules.specs.declared.answers.Axis.the-variants.{Horizontal};
 ghost use Rattle.seam_turn.specs.Turning.{TurnGiven, CloseAlongGiven};
@@ -14,13 +14,10 @@ pub fn turn(picture: &[u8], size: Size, axis: Axis, to: &mut [u8]) -> Verdict
 {
     match axis {
         Axis::Vertical => {
-            let fits = pictures::sized(size, picture.len());
+            let fits = judge_exchange(size, picture.len(), to.len());
             let Verdict::Served = fits else {
                 return fits;
             };
-            if to.len() < picture.len() {
-                return Verdict::Refused(Refusal::Space);
-            }
             bytes::copy(picture, to);
             Verdict::Served
         }
