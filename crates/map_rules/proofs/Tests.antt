@@ -25,21 +25,6 @@ unfolding doubled
 doubled-some u zero d = absurd (d refl)
 doubled-some u (suc v) d = rw (leb·suc-suc 0 v, leb·zero v)
 
-some-of : (n : ℕ) → (n ≡ 0 → ⊥) → 0 < n
-some-of zero d = absurd (d refl)
-some-of (suc n) d = omega arith
-
--- A count that is 0, and one that isn't.
-pub once-none : (n : ℕ) → n ≡ 0 → false ≡ eqb n 1
-once-none n e = rw e
-
-pub once-some : (n : ℕ) → (n ≡ 0 → ⊥) → leb n 1 ≡ eqb n 1
-once-some n d = go (leb n 1) refl
-  where
-    go : (t : Bool) → leb n 1 ≡ t → t ≡ eqb n 1
-    go true e = let l = leb-true n 1 e in sym (eq-eqb n 1 (omega (arith, some-of n d)))
-    go false e = let l = leb-false n 1 e in sym (ne-eqb n 1 (λ (is : n ≡ 1). omega arith))
-
 -- Two columns, the second to the right of the first, and not.
 pub beside-right : (c d : ℕ) → c < d → leb (d - c) 1 ≡ beside c d
 unfolding beside

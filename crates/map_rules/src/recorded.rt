@@ -8,7 +8,7 @@ ghost use Rattle.map_theory.specs.Judged.{remains as Judged·remains};
 pub fn once(count: u16) -> bool
     ensures { λ t. ⌜ t ≡ eqb count 1 ⌝ }
 {
-    if count == 0 { false } else { count <= 1 }
+    count == 1
 }
 
 // Whether a pixel numbered v is left before seam t.
