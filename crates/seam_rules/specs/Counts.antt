@@ -11,7 +11,7 @@ use Rattle.seam_rules.specs.declared.answers.Axis.the-variants.{Vertical
 use Rattle.seam_rules.specs.declared.answers.Rows.{Rows}
 use Rattle.seam_rules.specs.declared.answers.Columns.{Columns}
 
--- A size with so many rows and so many columns less.
+-- A size with `rows` rows and `columns` columns less.
 abbrev pub smaller : Size → ℕ → ℕ → Size
 smaller z rows columns = record { width = z .width - columns; height = z .height - rows; kind = z .kind }
 

@@ -34,7 +34,7 @@ lastRules x z = 13 when lastAlong x z ∷ []
 abbrev pub cutRules : Axis → Size → ℕ → ℕ → ℕ → List Rule
 cutRules x z bytes seam work = findRules x z bytes seam work ++ lastRules x z
 
--- What 4 says of a buffer of so many marks: one for each pixel.
+-- Refused by 4 unless there is one mark for each pixel.
 abbrev pub markLengthRules : Size → ℕ → List Rule
 markLengthRules z marks = 4 when not (eqb marks (pixels z)) ∷ []
 

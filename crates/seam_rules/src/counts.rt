@@ -13,7 +13,7 @@ ghost use Rattle.seam_rules.specs.Counts.{leftSize, retargetRules, chose
 // The largest count of rows, and of columns, that are removed.
 pub const LARGEST_COUNT: usize = 64;
 
-// The size with so many rows and so many columns less; a side stops at 0.
+// The size with `rows` rows and `columns` columns less; a side stops at 0.
 pub fn smaller(size: Size, rows: Rows, columns: Columns) -> Size
     ensures { λ z. ⌜ z ≡ leftSize size rows columns ⌝ }
 {

@@ -31,7 +31,7 @@ pub fn judge_find(size: Size, axis: Axis, bytes: usize, seam: usize, work: usize
     Verdict::Served
 }
 
-// Which of 2, 3 and 4 refuses a picture of so many bytes with so many marks, or none.
+// Which of 2, 3 and 4 refuses a picture of `bytes` bytes with `marks` marks, or none.
 pub fn judge_marks(size: Size, bytes: usize, marks: usize) -> Verdict
     ensures { λ v. ⌜ given v ≡ refusal (sizeRules size bytes ++ markLengthRules size marks) ⌝ }
 {

@@ -1,4 +1,4 @@
--- `marks::mark_rest` meets its contract. The invariant: the row is as it was, and what was passed and what is to come
+-- `map_build::marks::mark_rest` meets its contract. The invariant: the row is as it was, and what was passed and what is to come
 -- make the answer.
 use mathlib.Core.Path.{_≡_, refl, sym, _∙_}
 use mathlib.Core.Logic.{⊎-elim}

@@ -1,4 +1,4 @@
--- `marks::mark_row` meets its contract: what is passed is as it was, and the rest is marked.
+-- `map_build::marks::mark_row` meets its contract: what is passed is as it was, and the rest is marked.
 use borrow.Author.Needs.{needs}
 use Rattle.map_build.proofs.Skipping.{mark-behind}
 use Rattle.map_build.proofs.marks.mark_row.Statement.{statement}

@@ -1,4 +1,4 @@
--- `marks::skip` meets its contract. The invariant: what was passed and what is to come make the answer.
+-- `map_build::marks::skip` meets its contract. The invariant: what was passed and what is to come make the answer.
 use mathlib.Core.Path.{refl, _∙_}
 use Prim.Native.Nat.{_+_, _-_}
 use native.Mathlib.Omega.{arith}

@@ -1,4 +1,4 @@
--- `marks::zeros_in` meets its contract. The invariant: the zeros counted and those to come make the answer.
+-- `map_build::marks::zeros_in` meets its contract. The invariant: the zeros counted and those to come make the answer.
 use mathlib.Core.Path.{_≡_, sym, ap, _∙_}
 use mathlib.Core.Logic.{⊎-elim}
 use Prim.Native.Nat.{_+_, _-_, _*_, _≤_, _<_}
