@@ -5,7 +5,7 @@ use pictures::Refusal;
 use pictures::Size;
 use pictures::Verdict;
 use pictures::channels;
-use pictures::sized;
+use pictures::judge_picture;
 ghost use Rattle.energy.specs.Energy.{EnergiesGiven, energies as Energy·energies};
 ghost use Rattle.pictures.specs.Pictures.{largestSide, picture as Pictures·picture};
 ghost use Rattle.energy.specs.Kernels.{RowNeeded, lowerRow};
@@ -19,13 +19,13 @@ ghost use lib.ListN.{drop};
 pub fn energies(picture: &[u8], size: Size, r: usize, out: &mut [u32]) -> Verdict
     ensures { λ v. ⌜ EnergiesGiven (now (picture .entry)) size r (now (out .entry)) v (now (out .exit)) ⌝ }
 {
-    let fits = sized(size, picture.len());
+    let fits = judge_picture(size, picture.len());
     let Verdict::Served = fits else {
         return fits;
     };
     let height = size.height;
     if height <= r {
-        return Verdict::Refused(Refusal::Length);
+        return Verdict::Refused(Refusal::Count);
     }
     let width = size.width;
     if out.len() < width {

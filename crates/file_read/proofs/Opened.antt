@@ -7,7 +7,7 @@ use Prim.Native.Nat.{ℕ}
 use lib.Dec.{eqb}
 use lib.ListN.{length}
 use Rattle.pictures.specs.declared.refusals.Refusal.{Refusal}
-use Rattle.pictures.specs.declared.refusals.Refusal.the-variants.{Form, Length, Range}
+use Rattle.pictures.specs.declared.refusals.Refusal.the-variants.{Form, Count, Range}
 use Rattle.pictures.specs.declared.refusals.Verdict.{Verdict}
 use Rattle.pictures.specs.declared.refusals.Verdict.the-variants as verdicts
 use Rattle.pictures.specs.Refusals.{Rule, _when_, numberOf, given, refusal}
@@ -95,8 +95,8 @@ module _ (file : List ℕ) (f : Facts) (told : some f ≡ factsIn (parse file)) 
     range : (t : Bool) → allowed (f .head .size .width) (f .head .depth) (f .head .growth) ≡ t → allowed (parts .head .size .width) (parts .head .depth) (parts .head .growth) ≡ t
     range t e = sym (ap (λ h. allowed (h .size .width) (h .depth) (h .growth)) same-head) ∙ e
 
-    pub open-counts : countsOf f ≡ false → OpenGiven file (checks.Refused Length)
-    open-counts e = refused Length (sym (rest ∙ rw (counts false e)))
+    pub open-counts : countsOf f ≡ false → OpenGiven file (checks.Refused Count)
+    open-counts e = refused Count (sym (rest ∙ rw (counts false e)))
 
     pub open-range : countsOf f ≡ true → allowed (f .head .size .width) (f .head .depth) (f .head .growth) ≡ false → OpenGiven file (checks.Refused Range)
     open-range e a = refused Range (sym (rest ∙ rw (counts true e, range false a)))

@@ -21,11 +21,11 @@ pub(crate) fn open(file: &[u8]) -> Checked
     };
     let head = facts.head;
     let size = head.size;
-    if let Verdict::Refused(why) = pictures::sides(size) {
+    if let Verdict::Refused(why) = pictures::judge_sides(size) {
         return Checked::Refused(why);
     }
     if !file_rules::counted(size.height, facts.rows, facts.maps, facts.full) {
-        return Checked::Refused(Refusal::Length);
+        return Checked::Refused(Refusal::Count);
     }
     if !map_rules::allowed(size.width, head.depth, head.growth) {
         return Checked::Refused(Refusal::Range);

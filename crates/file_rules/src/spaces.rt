@@ -14,7 +14,7 @@ pub const WORK_A_PIXEL: usize = 32;
 pub fn judge_work(size: Size, work: usize) -> Verdict
     ensures { λ v. ⌜ given v ≡ refusal (workRules size work) ⌝ }
 {
-    let fits = pictures::sides(size);
+    let fits = pictures::judge_sides(size);
     let Verdict::Served = fits else {
         return fits;
     };
@@ -28,7 +28,7 @@ pub fn judge_work(size: Size, work: usize) -> Verdict
 pub fn judge_read_spaces(size: Size, picture: usize, map: usize, work: usize) -> Verdict
     ensures { λ v. ⌜ given v ≡ refusal (readSpaceRules size picture map work) ⌝ }
 {
-    let fits = pictures::sides(size);
+    let fits = pictures::judge_sides(size);
     let Verdict::Served = fits else {
         return fits;
     };
@@ -51,7 +51,7 @@ pub fn judge_wanted(head: Head, wanted: usize, out: usize, work: usize) -> Verdi
     ensures { λ v. ⌜ given v ≡ refusal (wantedRules head wanted out work) ⌝ }
 {
     let size = head.size;
-    let fits = pictures::sides(size);
+    let fits = pictures::judge_sides(size);
     let Verdict::Served = fits else {
         return fits;
     };
@@ -62,10 +62,10 @@ pub fn judge_wanted(head: Head, wanted: usize, out: usize, work: usize) -> Verdi
         return Verdict::Refused(Refusal::Range);
     }
     if wanted < width - head.depth {
-        return Verdict::Refused(Refusal::Wanted);
+        return Verdict::Refused(Refusal::NotOffered);
     }
     if width + head.growth < wanted {
-        return Verdict::Refused(Refusal::Wanted);
+        return Verdict::Refused(Refusal::NotOffered);
     }
     if out < height * (wanted * pictures::channels(kind)) {
         return Verdict::Refused(Refusal::Space);
@@ -82,7 +82,7 @@ pub fn judge_build(head: Head, bytes: usize, work: usize) -> Verdict
     ensures { λ v. ⌜ given v ≡ refusal (buildSpaceRules head bytes work) ⌝ }
 {
     let size = head.size;
-    let fits = pictures::sized(size, bytes);
+    let fits = pictures::judge_picture(size, bytes);
     let Verdict::Served = fits else {
         return fits;
     };

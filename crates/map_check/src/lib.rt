@@ -39,7 +39,7 @@ fn judge_rows(space: &mut [u8], size: Size, depth: usize) -> Verdict
     let at = built + map;
     let end = at + map;
     if !numbers::numbered(&space[at..end], width, height, depth) {
-        return Verdict::Refused(Refusal::Numbering);
+        return Verdict::Refused(Refusal::MapRow);
     }
     map_build::map_in(&mut space[..at], size, depth);
     judge_seams(&space[built..end], width, height, depth)
@@ -56,7 +56,7 @@ fn judge_seams(maps: &[u8], width: usize, height: usize, depth: usize) -> Verdic
         return Verdict::Served;
     }
     if seams::connected(&maps[map..], width, height, depth) {
-        return Verdict::Refused(Refusal::Other);
+        return Verdict::Refused(Refusal::OtherSeam);
     }
-    Verdict::Refused(Refusal::Broken)
+    Verdict::Refused(Refusal::BrokenSeam)
 }

@@ -22,7 +22,7 @@ fn wide(maps: u8) -> usize
 pub fn judge_map_space(size: Size, depth: usize, space: usize, maps: u8) -> Verdict
     ensures { λ v. ⌜ given v ≡ refusal (mapSpaceRules size depth space maps) ⌝ }
 {
-    let fits = pictures::sides(size);
+    let fits = pictures::judge_sides(size);
     let Verdict::Served = fits else {
         return fits;
     };

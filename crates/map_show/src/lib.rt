@@ -15,7 +15,7 @@ pub fn row_at(kind: Kind, samples: &[u8], numbers: &[u16], wanted: usize, out: &
 {
     let width = numbers.len();
     if !map_rules::has_pixels(kind, samples.len(), width) {
-        return Verdict::Refused(Refusal::Length);
+        return Verdict::Refused(Refusal::Count);
     }
     if !map_rules::holds_pixels(kind, out.len(), rows::pixels_at(numbers, wanted)) {
         return Verdict::Refused(Refusal::Space);

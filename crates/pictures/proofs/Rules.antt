@@ -8,7 +8,7 @@ use native.Mathlib.Omega.{arith}
 use lib.Dec.{leb, ltb}
 use borrow.Author.Tests.{leb-true, ltb-true}
 use Rattle.pictures.specs.declared.refusals.Refusal.{Refusal}
-use Rattle.pictures.specs.declared.refusals.Refusal.the-variants.{Form, Empty, Large, Length, Mark, Range, Wanted, Space, Numbering, Broken, Other, Protected, Last}
+use Rattle.pictures.specs.declared.refusals.Refusal.the-variants.{Form, ZeroSide, TooLarge, Count, Mark, Range, NotOffered, Space, MapRow, BrokenSeam, OtherSeam, AllProtected, LastLine, Join, Rectangle, RectangleName, StaleSeam, Ranges, GridSide, NotBlocked}
 use Rattle.pictures.specs.declared.refusals.Verdict.{Verdict}
 use Rattle.pictures.specs.declared.refusals.Verdict.the-variants.{Refused}
 use Rattle.pictures.specs.Refusals.{Rule, _when_, numberOf, given, refusal, served}
@@ -94,18 +94,25 @@ given-applies ((n when false) ∷ rules) h = List·Memᴰ·tail (given-applies r
 -- Every refusal has a number above 0, so a number says whether the answer is served.
 pub number-some : (why : Refusal) → 0 < numberOf why
 number-some Form = omega arith
-number-some Empty = omega arith
-number-some Large = omega arith
-number-some Length = omega arith
+number-some ZeroSide = omega arith
+number-some TooLarge = omega arith
+number-some Count = omega arith
 number-some Mark = omega arith
 number-some Range = omega arith
-number-some Wanted = omega arith
+number-some NotOffered = omega arith
 number-some Space = omega arith
-number-some Numbering = omega arith
-number-some Broken = omega arith
-number-some Other = omega arith
-number-some Protected = omega arith
-number-some Last = omega arith
+number-some MapRow = omega arith
+number-some BrokenSeam = omega arith
+number-some OtherSeam = omega arith
+number-some AllProtected = omega arith
+number-some LastLine = omega arith
+number-some Join = omega arith
+number-some Rectangle = omega arith
+number-some RectangleName = omega arith
+number-some StaleSeam = omega arith
+number-some Ranges = omega arith
+number-some GridSide = omega arith
+number-some NotBlocked = omega arith
 
 pub served-not : {A : Type 0} (n : ℕ) (x y : A) → 0 < n → served n x y ≡ y
 served-not zero x y h = absurd (omega arith)

@@ -4,25 +4,32 @@ use mathlib.Core.List.{List, [], _∷_}
 use Prim.Native.Nat.{ℕ, zero, suc}
 use lib.Dec.{eqb, ltb}
 use Rattle.pictures.specs.declared.refusals.Refusal.{Refusal}
-use Rattle.pictures.specs.declared.refusals.Refusal.the-variants.{Form, Empty, Large, Length, Mark, Range, Wanted, Space, Numbering, Broken, Other, Protected, Last}
+use Rattle.pictures.specs.declared.refusals.Refusal.the-variants.{Form, ZeroSide, TooLarge, Count, Mark, Range, NotOffered, Space, MapRow, BrokenSeam, OtherSeam, AllProtected, LastLine, Join, Rectangle, RectangleName, StaleSeam, Ranges, GridSide, NotBlocked}
 use Rattle.pictures.specs.declared.refusals.Verdict.{Verdict}
 use Rattle.pictures.specs.declared.refusals.Verdict.the-variants.{Served, Refused}
 
--- The number of a refusal. 14 to 20 are free.
+-- The number of a refusal. No operation gives 14 to 20 yet.
 abbrev pub numberOf : Refusal → ℕ
 numberOf Form = 1
-numberOf Empty = 2
-numberOf Large = 3
-numberOf Length = 4
+numberOf ZeroSide = 2
+numberOf TooLarge = 3
+numberOf Count = 4
 numberOf Mark = 5
 numberOf Range = 6
-numberOf Wanted = 7
+numberOf NotOffered = 7
 numberOf Space = 8
-numberOf Numbering = 9
-numberOf Broken = 10
-numberOf Other = 11
-numberOf Protected = 12
-numberOf Last = 13
+numberOf MapRow = 9
+numberOf BrokenSeam = 10
+numberOf OtherSeam = 11
+numberOf AllProtected = 12
+numberOf LastLine = 13
+numberOf Join = 14
+numberOf Rectangle = 15
+numberOf RectangleName = 16
+numberOf StaleSeam = 17
+numberOf Ranges = 18
+numberOf GridSide = 19
+numberOf NotBlocked = 20
 
 -- The number that a verdict gives; 0 where nothing is refused.
 abbrev pub given : Verdict → ℕ

@@ -12,9 +12,9 @@ pub use sizes::Kind;
 pub use sizes::LARGEST_SIDE;
 pub use sizes::Size;
 pub use sizes::channels;
+pub use sizes::judge_picture;
+pub use sizes::judge_sides;
 pub use sizes::picture_bytes;
-pub use sizes::sides;
-pub use sizes::sized;
 pub use spaces::clear;
 ghost use mathlib.Core.Path.{_≡_};
 ghost use Rattle.pictures.specs.Pictures.{rowOf};
@@ -23,7 +23,7 @@ ghost use Rattle.pictures.specs.Pictures.{rowOf};
 pub fn row<'a>(picture: &'a [u8], size: Size, r: usize) -> &'a [u8]
     ensures { λ s. ⌜ now s ≡ rowOf size (now (picture .entry)) r ⌝ }
 {
-    let Verdict::Served = sized(size, picture.len()) else {
+    let Verdict::Served = judge_picture(size, picture.len()) else {
         return &picture[..0];
     };
     let height = size.height;

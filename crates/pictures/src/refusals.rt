@@ -2,7 +2,7 @@
 ghost use mathlib.Core.Path.{_≡_};
 ghost use Rattle.pictures.specs.Refusals.{numberOf, given as Refusals·given};
 
-// The refusals of one number each, in the order of their numbers from 1.
+// The refusals, each of one number, in the order of their numbers from 1. No operation gives 14 to 20 yet.
 pub enum Refusal {
     // 1: text or header breaks its form
     Form,
@@ -44,18 +44,25 @@ pub fn number(why: Refusal) -> u64
 {
     match why {
         Refusal::Form => 1,
-        Refusal::Empty => 2,
-        Refusal::Large => 3,
-        Refusal::Length => 4,
+        Refusal::ZeroSide => 2,
+        Refusal::TooLarge => 3,
+        Refusal::Count => 4,
         Refusal::Mark => 5,
         Refusal::Range => 6,
-        Refusal::Wanted => 7,
+        Refusal::NotOffered => 7,
         Refusal::Space => 8,
-        Refusal::Numbering => 9,
-        Refusal::Broken => 10,
-        Refusal::Other => 11,
-        Refusal::Protected => 12,
-        Refusal::Last => 13,
+        Refusal::MapRow => 9,
+        Refusal::BrokenSeam => 10,
+        Refusal::OtherSeam => 11,
+        Refusal::AllProtected => 12,
+        Refusal::LastLine => 13,
+        Refusal::Join => 14,
+        Refusal::Rectangle => 15,
+        Refusal::RectangleName => 16,
+        Refusal::StaleSeam => 17,
+        Refusal::Ranges => 18,
+        Refusal::GridSide => 19,
+        Refusal::NotBlocked => 20,
     }
 }
 

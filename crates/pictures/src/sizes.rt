@@ -41,22 +41,22 @@ pub(crate) fn row_bytes(size: Size) -> usize
 }
 
 // Whether the sides are allowed, or which of 2 and 3 refuses them.
-pub fn sides(size: Size) -> Verdict
+pub fn judge_sides(size: Size) -> Verdict
     ensures { λ v. ⌜ given v ≡ refusal (sideRules size) ⌝ }
 {
     let width = size.width;
     let height = size.height;
     if width == 0 {
-        return Verdict::Refused(Refusal::Empty);
+        return Verdict::Refused(Refusal::ZeroSide);
     }
     if height == 0 {
-        return Verdict::Refused(Refusal::Empty);
+        return Verdict::Refused(Refusal::ZeroSide);
     }
     if LARGEST_SIDE < width {
-        return Verdict::Refused(Refusal::Large);
+        return Verdict::Refused(Refusal::TooLarge);
     }
     if LARGEST_SIDE < height {
-        return Verdict::Refused(Refusal::Large);
+        return Verdict::Refused(Refusal::TooLarge);
     }
     Verdict::Served
 }
@@ -65,7 +65,7 @@ pub fn sides(size: Size) -> Verdict
 pub fn picture_bytes(size: Size) -> usize
     ensures { λ n. ⌜ n ≡ served (refusal (sideRules size)) (pictureBytes size) 0 ⌝ }
 {
-    let Verdict::Served = sides(size) else {
+    let Verdict::Served = judge_sides(size) else {
         return 0;
     };
     let height = size.height;
@@ -73,15 +73,15 @@ pub fn picture_bytes(size: Size) -> usize
 }
 
 // Whether a buffer of so many bytes is a picture of this size, or which of 2, 3 and 4 refuses it.
-pub fn sized(size: Size, bytes: usize) -> Verdict
+pub fn judge_picture(size: Size, bytes: usize) -> Verdict
     ensures { λ v. ⌜ given v ≡ refusal (sizeRules size bytes) ⌝ }
 {
-    let allowed = sides(size);
+    let allowed = judge_sides(size);
     let Verdict::Served = allowed else {
         return allowed;
     };
     if bytes != picture_bytes(size) {
-        return Verdict::Refused(Refusal::Length);
+        return Verdict::Refused(Refusal::Count);
     }
     Verdict::Served
 }

@@ -40,7 +40,7 @@ fn build_file(size: Size, samples: &[u8], out: &mut [u8]) -> Output
     requires { ⌜ outputSpace ≤ length (now out) ⌝ }
     ensures { λ o. ⌜ FileAnswered size (now (samples .entry)) (now (out .entry)) o (now (out .exit)) ⌝ }
 {
-    if let Verdict::Refused(why) = program_rules::judge_picture(size, samples.len()) {
+    if let Verdict::Refused(why) = program_rules::judge_held(size, samples.len()) {
         return Output::Refused(why);
     }
     let width = size.width;

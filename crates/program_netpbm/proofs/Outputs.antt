@@ -27,18 +27,25 @@ use Rattle.program_netpbm.specs.Outputs.{Wrote, outputNumber, outputLeng
 -- A refusal has a number of at most three digits.
 pub number-below : (why : Refusal) → numberOf why < 1000
 number-below refusals.Form = omega arith
-number-below refusals.Empty = omega arith
-number-below refusals.Large = omega arith
-number-below refusals.Length = omega arith
+number-below refusals.ZeroSide = omega arith
+number-below refusals.TooLarge = omega arith
+number-below refusals.Count = omega arith
 number-below refusals.Mark = omega arith
 number-below refusals.Range = omega arith
-number-below refusals.Wanted = omega arith
+number-below refusals.NotOffered = omega arith
 number-below refusals.Space = omega arith
-number-below refusals.Numbering = omega arith
-number-below refusals.Broken = omega arith
-number-below refusals.Other = omega arith
-number-below refusals.Protected = omega arith
-number-below refusals.Last = omega arith
+number-below refusals.MapRow = omega arith
+number-below refusals.BrokenSeam = omega arith
+number-below refusals.OtherSeam = omega arith
+number-below refusals.AllProtected = omega arith
+number-below refusals.LastLine = omega arith
+number-below refusals.Join = omega arith
+number-below refusals.Rectangle = omega arith
+number-below refusals.RectangleName = omega arith
+number-below refusals.StaleSeam = omega arith
+number-below refusals.Ranges = omega arith
+number-below refusals.GridSide = omega arith
+number-below refusals.NotBlocked = omega arith
 
 -- A refusal printed in the answer's place.
 pub finished-refused : (why : Refusal) {out out′ : List ℕ} {n : ℕ} → length (refusedText (numberOf why)) ≤ length out

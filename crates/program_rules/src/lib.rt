@@ -23,10 +23,10 @@ pub fn judge_input(bytes: usize) -> Verdict
 }
 
 // Whether a picture of this size is held that comes in this many bytes, or which of 2, 3, 4 and 8 refuses it.
-pub fn judge_picture(size: Size, bytes: usize) -> Verdict
+pub fn judge_held(size: Size, bytes: usize) -> Verdict
     ensures { λ v. ⌜ given v ≡ refusal (heldRules size bytes) ⌝ }
 {
-    let fits = pictures::sized(size, bytes);
+    let fits = pictures::judge_picture(size, bytes);
     let Verdict::Served = fits else {
         return fits;
     };

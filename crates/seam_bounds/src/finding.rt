@@ -14,7 +14,7 @@ ghost use Rattle.seam_bounds.specs.Spaces.{spaceRules};
 pub fn judge_find_in(size: Size, marked: bool, space: usize, seam: usize) -> Verdict
     ensures { λ v. ⌜ given v ≡ refusal (spaceRules size marked space seam) ⌝ }
 {
-    let allowed = pictures::sides(size);
+    let allowed = pictures::judge_sides(size);
     let Verdict::Served = allowed else {
         return allowed;
     };

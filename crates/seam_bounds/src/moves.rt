@@ -4,7 +4,7 @@ use pictures::Refusal;
 use pictures::Size;
 use pictures::Verdict;
 use pictures::channels;
-use pictures::sized;
+use pictures::judge_picture;
 ghost use mathlib.Core.Path.{_≡_};
 ghost use Prim.Native.Nat.{_+_};
 ghost use lib.Dec.{leb};
@@ -16,7 +16,7 @@ ghost use Rattle.seam_bounds.specs.Moves.{exchangeRules, columnRules, cl
 pub fn judge_exchange(size: Size, bytes: usize, space: usize) -> Verdict
     ensures { λ v. ⌜ given v ≡ refusal (exchangeRules size bytes space) ⌝ }
 {
-    let fits = sized(size, bytes);
+    let fits = judge_picture(size, bytes);
     let Verdict::Served = fits else {
         return fits;
     };
@@ -31,7 +31,7 @@ pub fn judge_exchange(size: Size, bytes: usize, space: usize) -> Verdict
 pub fn judge_column(size: Size, bytes: usize, column: usize, space: usize) -> Verdict
     ensures { λ v. ⌜ given v ≡ refusal (columnRules size bytes column space) ⌝ }
 {
-    let fits = sized(size, bytes);
+    let fits = judge_picture(size, bytes);
     let Verdict::Served = fits else {
         return fits;
     };
@@ -42,7 +42,7 @@ pub fn judge_column(size: Size, bytes: usize, column: usize, space: usize) -> Ve
     }
     let width = size.width;
     if width <= column {
-        return Verdict::Refused(Refusal::Broken);
+        return Verdict::Refused(Refusal::BrokenSeam);
     }
     Verdict::Served
 }
@@ -52,13 +52,13 @@ pub fn judge_column(size: Size, bytes: usize, column: usize, space: usize) -> Ve
 pub fn judge_close_lengths(size: Size, bytes: usize, columns: usize) -> Verdict
     ensures { λ v. ⌜ given v ≡ refusal (closeLengthRules size bytes columns) ⌝ }
 {
-    let fits = sized(size, bytes);
+    let fits = judge_picture(size, bytes);
     let Verdict::Served = fits else {
         return fits;
     };
     let height = size.height;
     if columns != height {
-        return Verdict::Refused(Refusal::Length);
+        return Verdict::Refused(Refusal::Count);
     }
     Verdict::Served
 }
@@ -69,10 +69,10 @@ pub fn judge_close_columns(width: usize, beyond: bool) -> Verdict
     ensures { λ v. ⌜ given v ≡ refusal (closeColumnRules width beyond) ⌝ }
 {
     if beyond {
-        return Verdict::Refused(Refusal::Broken);
+        return Verdict::Refused(Refusal::BrokenSeam);
     }
     if width == 1 {
-        return Verdict::Refused(Refusal::Last);
+        return Verdict::Refused(Refusal::LastLine);
     }
     Verdict::Served
 }

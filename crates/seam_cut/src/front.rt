@@ -41,5 +41,5 @@ fn last_in(space: &mut [u8], size: Size, room: usize) -> Found
     let Found::Seam(_) = found else {
         return found;
     };
-    Found::Refused(Refusal::Last)
+    Found::Refused(Refusal::LastLine)
 }

@@ -37,7 +37,7 @@ pub fn cut(picture: &mut [u8], size: Size, axis: Axis, seam: &mut [u16], work: &
     }
     if seam_rules::takes_last(axis, size) {
         pictures::clear(work);
-        return Found::Refused(Refusal::Last);
+        return Found::Refused(Refusal::LastLine);
     }
     cut_along(picture, size, axis, seam, work)
 }

@@ -125,7 +125,7 @@ fn last_marked(picture: &[u8], marks: &[u8], size: Size, axis: Axis, work: &mut 
     let Found::Seam(_) = found else {
         return found;
     };
-    Found::Refused(Refusal::Last)
+    Found::Refused(Refusal::LastLine)
 }
 
 // The cut where only 12 may refuse it.

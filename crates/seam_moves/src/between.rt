@@ -20,7 +20,7 @@ ghost use Rattle.seam_moves.specs.Kernels.{PictureNeeded};
 pub fn exchange_between(space: &mut [u8], from: usize, size: Size, to: usize) -> Verdict
     ensures { λ v. ⌜ ExchangeBetweenGiven (now (space .entry)) from size to v (now (space .exit)) ⌝ }
 {
-    let allowed = pictures::sides(size);
+    let allowed = pictures::judge_sides(size);
     let Verdict::Served = allowed else {
         return allowed;
     };

@@ -38,23 +38,23 @@ pub fn judge_retarget(
 ) -> Verdict
     ensures { λ v. ⌜ given v ≡ refusal (retargetRules size rows columns bytes out work) ⌝ }
 {
-    let fits = pictures::sized(size, bytes);
+    let fits = pictures::judge_picture(size, bytes);
     let Verdict::Served = fits else {
         return fits;
     };
     if LARGEST_COUNT < rows.0 {
-        return Verdict::Refused(Refusal::Wanted);
+        return Verdict::Refused(Refusal::NotOffered);
     }
     if LARGEST_COUNT < columns.0 {
-        return Verdict::Refused(Refusal::Wanted);
+        return Verdict::Refused(Refusal::NotOffered);
     }
     let width = size.width;
     let height = size.height;
     if height <= rows.0 {
-        return Verdict::Refused(Refusal::Wanted);
+        return Verdict::Refused(Refusal::NotOffered);
     }
     if width <= columns.0 {
-        return Verdict::Refused(Refusal::Wanted);
+        return Verdict::Refused(Refusal::NotOffered);
     }
     if out < pictures::picture_bytes(smaller(size, rows, columns)) {
         return Verdict::Refused(Refusal::Space);

@@ -14,7 +14,7 @@ ghost use Rattle.pictures.specs.Pictures.{sizeRules};
 pub fn judge_find(size: Size, axis: Axis, bytes: usize, seam: usize, work: usize) -> Verdict
     ensures { λ v. ⌜ given v ≡ refusal (findRules axis size bytes seam work) ⌝ }
 {
-    let fits = pictures::sized(size, bytes);
+    let fits = pictures::judge_picture(size, bytes);
     let Verdict::Served = fits else {
         return fits;
     };
@@ -35,14 +35,14 @@ pub fn judge_find(size: Size, axis: Axis, bytes: usize, seam: usize, work: usize
 pub fn judge_marks(size: Size, bytes: usize, marks: usize) -> Verdict
     ensures { λ v. ⌜ given v ≡ refusal (sizeRules size bytes ++ markLengthRules size marks) ⌝ }
 {
-    let fits = pictures::sized(size, bytes);
+    let fits = pictures::judge_picture(size, bytes);
     let Verdict::Served = fits else {
         return fits;
     };
     let width = size.width;
     let height = size.height;
     if marks != height * width {
-        return Verdict::Refused(Refusal::Length);
+        return Verdict::Refused(Refusal::Count);
     }
     Verdict::Served
 }
@@ -58,14 +58,14 @@ pub fn mark_allowed(mark: u8) -> bool
 pub fn judge_close_along(size: Size, axis: Axis, bytes: usize, seam: usize, work: usize) -> Verdict
     ensures { λ v. ⌜ given v ≡ refusal (closeAlongLengths axis size bytes seam work) ⌝ }
 {
-    let fits = pictures::sized(size, bytes);
+    let fits = pictures::judge_picture(size, bytes);
     let Verdict::Served = fits else {
         return fits;
     };
     let turned = turned_size(axis, size);
     let long = turned.height;
     if seam != long {
-        return Verdict::Refused(Refusal::Length);
+        return Verdict::Refused(Refusal::Count);
     }
     if work < bytes {
         return Verdict::Refused(Refusal::Space);

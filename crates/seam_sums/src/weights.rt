@@ -29,7 +29,7 @@ pub fn found_by(weight: u64) -> Found
     ensures { λ f. ⌜ FoundBy weight f ⌝ }
 {
     if PROTECTED <= weight {
-        return Found::Refused(Refusal::Protected);
+        return Found::Refused(Refusal::AllProtected);
     }
     Found::Seam(weight % KEPT)
 }

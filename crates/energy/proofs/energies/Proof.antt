@@ -17,7 +17,7 @@ use Rattle.energy.proofs.energies.Tie as tie
 none : (c : tie.After-enum-told)
     → let s = c .before .before .before .before .before in
     let a = s .args in refusal (sizeRules (a .size) (length (now (a .picture)))) ≡ 0
-none c = sym (c .before .before .sized .ensures) ∙ ap given (c .enum-told .given .1)
+none c = sym (c .before .before .judge-picture .ensures) ∙ ap given (c .enum-told .given .1)
 
 rest : (c : tie.After-enum-told)
     → let s = c .before .before .before .before .before in
@@ -27,8 +27,8 @@ rest c =
     let a = c .before .before .before .before .before .args in
     served-first (sizeRules (a .size) (length (now (a .picture)))) (4 when leb (a .size .height) (a .r) ∷ 8 when ltb (length (now (a .out))) (a .size .width) ∷ []) refl (none c)
 
-sized-requires : tie.Need-sized-requires
-sized-requires c κs = search needs
+judge-picture-requires : tie.Need-judge-picture-requires
+judge-picture-requires c κs = search needs
 
 enum-told : tie.Need-enum-told
 enum-told c = search needs
@@ -38,15 +38,15 @@ enum-told-2 c = search needs
 
 returns : tie.Need-returns
 returns c =
-    let at-sized = c .before .before in
-    let s = at-sized .before .before .before in
+    let at-judge-picture = c .before .before in
+    let s = at-judge-picture .before .before .before in
     let a = s .args in
     let why = c .enum-told2 .given in
     let rules = sizeRules (a .size) (length (now (a .picture))) in
     let more = 4 when leb (a .size .height) (a .r) ∷ 8 when ltb (length (now (a .out))) (a .size .width) ∷ [] in
     record {
-      answer = refused-answer (at-sized .sized .result) (why .0 .0) (why .1) rules more (at-sized .sized .ensures);
-      space = refused-kept (at-sized .sized .result) (why .0 .0) (why .1) (energies (a .size .width) (picture (a .size) (now (a .picture))) (a .r) ++ drop (a .size .width) (now (a .out))) (now (a .out));
+      answer = refused-answer (at-judge-picture .judge-picture .result) (why .0 .0) (why .1) rules more (at-judge-picture .judge-picture .ensures);
+      space = refused-kept (at-judge-picture .judge-picture .result) (why .0 .0) (why .1) (energies (a .size .width) (picture (a .size) (now (a .picture))) (a .r) ++ drop (a .size .width) (now (a .out))) (now (a .out));
     }
 
 returns-2 : tie.Need-returns-2
@@ -79,7 +79,7 @@ pub energies-spec : {M : Type 1} → statement M
 energies-spec =
     tie.close
     (tie.spec
-    sized-requires
+    judge-picture-requires
     enum-told
     enum-told-2
     returns

@@ -17,7 +17,7 @@ use Rattle.pictures.proofs.row.Tie as tie
 
 -- where the picture is served
 none : (c : tie.After-enum-told) → let a = c .before .before .before .before .args in refusal (sizeRules (a .size) (length (now (a .picture)))) ≡ 0
-none c = sym (c .before .before .sized .ensures) ∙ ap given (c .enum-told .given .1)
+none c = sym (c .before .before .judge-picture .ensures) ∙ ap given (c .enum-told .given .1)
 
 sure : (c : tie.After-enum-told) → let a = c .before .before .before .before .args in Sized (a .size) (length (now (a .picture)))
 sure c = sized-is _ _ (none c)
@@ -33,8 +33,8 @@ end c =
     let len = sure at-enum-told .length-is ∙ ap (a .size .height *_) (sym (c .row-bytes .ensures .0)) in
     omega (arith, part-end (a .r) (a .size .height) (c .row-bytes .result) (c .before .if1 .left))
 
-sized-requires : tie.Need-sized-requires
-sized-requires c κs = search needs
+judge-picture-requires : tie.Need-judge-picture-requires
+judge-picture-requires c κs = search needs
 
 enum-told : tie.Need-enum-told
 enum-told c = search needs
@@ -47,11 +47,11 @@ slice-aggregate-result c = search needs
 
 returns : tie.Need-returns
 returns c =
-    let at-sized = c .before .before .before in
-    let s = at-sized .before .before in
+    let at-judge-picture = c .before .before .before in
+    let s = at-judge-picture .before .before in
     let a = s .args in
     let why = c .before .enum-told2 .given in
-    sym (row-refused (a .size) (now (a .picture)) (a .r) _ (sym (at-sized .sized .ensures) ∙ ap given (why .1)) (number-some (why .0 .0)))
+    sym (row-refused (a .size) (now (a .picture)) (a .r) _ (sym (at-judge-picture .judge-picture .ensures) ∙ ap given (why .1)) (number-some (why .0 .0)))
 
 slice-aggregate-result-2 : tie.Need-slice-aggregate-result-2
 slice-aggregate-result-2 c = search needs
@@ -94,7 +94,7 @@ pub row-spec : {M : Type 1} → statement M
 row-spec =
     tie.close
     (tie.spec
-    sized-requires
+    judge-picture-requires
     enum-told
     enum-told-2
     slice-aggregate-result

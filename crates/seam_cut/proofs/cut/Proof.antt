@@ -7,7 +7,7 @@ use native.Mathlib.Omega.{arith}
 use borrow.Author.Needs.{needs}
 use denote.Ref.{now}
 use lib.ListN.{length, drop, replicate}
-use Rattle.pictures.specs.declared.refusals.Refusal.the-variants.{Last}
+use Rattle.pictures.specs.declared.refusals.Refusal.the-variants.{LastLine}
 use Rattle.pictures.specs.Refusals.{Rule, given, refusal}
 use Rattle.pictures.specs.Pictures.{channelsOf, picture, bytes}
 use Rattle.pictures.proofs.Rules.{served-first, refused-answer, refusal-most}
@@ -106,12 +106,12 @@ returns-2 c =
     let e : 13 ≡ number s = sym (rest at-enum-told ∙ ap (λ t. cond t 13 0) narrow) in (
       record {
         number-is = e;
-        cost-is = left-as-was Last n e (costAlong x z p) 0;
-        seam-is = left-as-was Last n e (seamAlong x z p ++ drop (turnedSize x z .height) (now (a .seam))) (now (a .seam));
+        cost-is = left-as-was LastLine n e (costAlong x z p) 0;
+        seam-is = left-as-was LastLine n e (seamAlong x z p ++ drop (turnedSize x z .height) (now (a .seam))) (now (a .seam));
         work-is = at-clear .clear .ensures ∙ ap (λ k. cleared k (now (a .work))) e;
       },
       record {
-        picture-is = left-as-was Last n e (bytes (cutAlong x z (seamAlong x z p) p) ++ replicate (turnedSize x z .height * channelsOf (z .kind)) 0) (now (a .picture));
+        picture-is = left-as-was LastLine n e (bytes (cutAlong x z (seamAlong x z p) p) ++ replicate (turnedSize x z .height * channelsOf (z .kind)) 0) (now (a .picture));
       },
     )
 

@@ -19,19 +19,19 @@ enum-told c = search needs
 returns : tie.Need-returns
 returns c = open-broken _ (rw (c .enum-told .given .1) at (c .before .before .scan .ensures))
 
-sides-requires : tie.Need-sides-requires
-sides-requires c κs = search needs
+judge-sides-requires : tie.Need-judge-sides-requires
+judge-sides-requires c κs = search needs
 
 enum-known-why : tie.Need-enum-known-why
 enum-known-why c = search needs
 
 returns-2 : tie.Need-returns-2
 returns-2 c =
-    let at-sides = c .before .before .before in
-    let at-facts = at-sides .before .before .before .before in
+    let at-judge-sides = c .before .before .before in
+    let at-facts = at-judge-sides .before .before .before .before in
     let at-scan = at-facts .before .before in
     let told = rw (at-facts .facts .given .1) at (at-scan .scan .ensures) in
-    open-sides _ _ told (at-sides .sides .result) _ (c .before .why .given .1) (at-sides .sides .ensures)
+    open-sides _ _ told (at-judge-sides .judge-sides .result) _ (c .before .why .given .1) (at-judge-sides .judge-sides .ensures)
 
 enum-told-2 : tie.Need-enum-told-2
 enum-told-2 c = search needs
@@ -42,11 +42,11 @@ counted-requires c κs = search needs
 returns-3 : tie.Need-returns-3
 returns-3 c =
     let at-enum-told2 = c .before .before in
-    let at-sides = at-enum-told2 .before .before in
-    let at-facts = at-sides .before .before .before .before in
+    let at-judge-sides = at-enum-told2 .before .before in
+    let at-facts = at-judge-sides .before .before .before .before in
     let at-scan = at-facts .before .before in
     let told = rw (at-facts .facts .given .1) at (at-scan .scan .ensures) in
-    let sides = sym (at-sides .sides .ensures) ∙ ap given (at-enum-told2 .enum-told2 .given .1) in
+    let sides = sym (at-judge-sides .judge-sides .ensures) ∙ ap given (at-enum-told2 .enum-told2 .given .1) in
     open-counts _ _ told sides (sym (c .before .counted .ensures) ∙ not-true _ (c .if1 .taken))
 
 allowed-requires : tie.Need-allowed-requires
@@ -57,11 +57,11 @@ returns-4 c =
     let at-if1 = c .before .before in
     let at-counted = at-if1 .before in
     let at-enum-told2 = at-counted .before in
-    let at-sides = at-enum-told2 .before .before in
-    let at-facts = at-sides .before .before .before .before in
+    let at-judge-sides = at-enum-told2 .before .before in
+    let at-facts = at-judge-sides .before .before .before .before in
     let at-scan = at-facts .before .before in
     let told = rw (at-facts .facts .given .1) at (at-scan .scan .ensures) in
-    let sides = sym (at-sides .sides .ensures) ∙ ap given (at-enum-told2 .enum-told2 .given .1) in
+    let sides = sym (at-judge-sides .judge-sides .ensures) ∙ ap given (at-enum-told2 .enum-told2 .given .1) in
     open-range _ _ told sides (sym (at-counted .counted .ensures) ∙ not-false _ (at-if1 .if1 .left)) (sym (c .before .allowed .ensures) ∙ not-true _ (c .if2 .taken))
 
 returns-5 : tie.Need-returns-5
@@ -69,11 +69,11 @@ returns-5 c =
     let at-if1 = c .before .before in
     let at-counted = at-if1 .before in
     let at-enum-told2 = at-counted .before in
-    let at-sides = at-enum-told2 .before .before in
-    let at-facts = at-sides .before .before .before .before in
+    let at-judge-sides = at-enum-told2 .before .before in
+    let at-facts = at-judge-sides .before .before .before .before in
     let at-scan = at-facts .before .before in
     let told = rw (at-facts .facts .given .1) at (at-scan .scan .ensures) in
-    let sides = sym (at-sides .sides .ensures) ∙ ap given (at-enum-told2 .enum-told2 .given .1) in
+    let sides = sym (at-judge-sides .judge-sides .ensures) ∙ ap given (at-enum-told2 .enum-told2 .given .1) in
     open-served _ _ told sides (sym (at-counted .counted .ensures) ∙ not-false _ (at-if1 .if1 .left)) (sym (c .before .allowed .ensures) ∙ not-false _ (c .if2 .left))
 
 pub open-spec : {M : Type 1} → statement M
@@ -84,7 +84,7 @@ open-spec =
     enum-known-facts
     enum-told
     returns
-    sides-requires
+    judge-sides-requires
     enum-known-why
     returns-2
     enum-told-2

@@ -27,7 +27,7 @@ abbrev start : tie.After-enum-told → tie.Start
 start c = c .before .before .before .before
 
 none : (c : tie.After-enum-told) → let a = start c .args in refusal (sizeRules (a .head .size) (a .bytes)) ≡ 0
-none c = sym (c .before .before .sized .ensures) ∙ ap given (c .enum-told .given .1)
+none c = sym (c .before .before .judge-picture .ensures) ∙ ap given (c .enum-told .given .1)
 
 rest : (c : tie.After-enum-told) → let a = start c .args in refusal (buildSpaceRules (a .head) (a .bytes) (a .work)) ≡ refusal (more (start c))
 unfolding more
@@ -40,8 +40,8 @@ few c = let a = start c .args in pixels-few (a .head .size) (sides-served (a .he
 ranged : (c : tie.After-allowed) → let h = start (c .before) .args .head in c .allowed .result ≡ allowed (h .size .width) (h .depth) (h .growth)
 ranged c = c .allowed .ensures
 
-sized-requires : tie.Need-sized-requires
-sized-requires c κs = search needs
+judge-picture-requires : tie.Need-judge-picture-requires
+judge-picture-requires c κs = search needs
 
 enum-told : tie.Need-enum-told
 enum-told c = search needs
@@ -52,11 +52,11 @@ enum-told-2 c = search needs
 returns : tie.Need-returns
 unfolding more
 returns c =
-    let at-sized = c .before .before in
-    let s = at-sized .before .before in
+    let at-judge-picture = c .before .before in
+    let s = at-judge-picture .before .before in
     let a = s .args in
     let why = c .enum-told2 .given in
-    refused-answer (at-sized .sized .result) (why .0 .0) (why .1) (sizeRules (a .head .size) (a .bytes)) (more s) (at-sized .sized .ensures)
+    refused-answer (at-judge-picture .judge-picture .result) (why .0 .0) (why .1) (sizeRules (a .head .size) (a .bytes)) (more s) (at-judge-picture .judge-picture .ensures)
 
 allowed-requires : tie.Need-allowed-requires
 allowed-requires c κs = search needs
@@ -89,7 +89,7 @@ pub judge-build-spec : {M : Type 1} → statement M
 judge-build-spec =
     tie.close
     (tie.spec
-    sized-requires
+    judge-picture-requires
     enum-told
     enum-told-2
     returns

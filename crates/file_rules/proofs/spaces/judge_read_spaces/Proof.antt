@@ -13,7 +13,7 @@ use Rattle.file_rules.proofs.spaces.judge_read_spaces.Statement.{statem
 use Rattle.file_rules.proofs.spaces.judge_read_spaces.Tie as tie
 
 none : (c : tie.After-enum-told) → refusal (sideRules (c .before .before .before .args .size)) ≡ 0
-none c = sym (c .before .before .sides .ensures) ∙ ap given (c .enum-told .given .1)
+none c = sym (c .before .before .judge-sides .ensures) ∙ ap given (c .enum-told .given .1)
 
 -- where the sides are served, the lengths decide
 rest : (c : tie.After-enum-told) → let a = c .before .before .before .args in
@@ -29,8 +29,8 @@ bytes-are c =
 few : (c : tie.After-enum-told) → pixels (c .before .before .before .args .size) ≤ 262144
 few c = pixels-few (c .before .before .before .args .size) (none c)
 
-sides-requires : tie.Need-sides-requires
-sides-requires c κs = search needs
+judge-sides-requires : tie.Need-judge-sides-requires
+judge-sides-requires c κs = search needs
 
 enum-told : tie.Need-enum-told
 enum-told c = search needs
@@ -40,10 +40,10 @@ enum-told-2 c = search needs
 
 returns : tie.Need-returns
 returns c =
-    let at-sides = c .before .before in
-    let a = at-sides .before .args in
+    let at-judge-sides = c .before .before in
+    let a = at-judge-sides .before .args in
     let why = c .enum-told2 .given in
-    refused-answer (at-sides .sides .result) (why .0 .0) (why .1) (sideRules (a .size)) (spaceRules (a .size) (a .picture) (a .map) (a .work)) (at-sides .sides .ensures)
+    refused-answer (at-judge-sides .judge-sides .result) (why .0 .0) (why .1) (sideRules (a .size)) (spaceRules (a .size) (a .picture) (a .map) (a .work)) (at-judge-sides .judge-sides .ensures)
 
 mul-pixels : tie.Need-mul-pixels
 mul-pixels c = omega (arith, few (c .before))
@@ -84,7 +84,7 @@ pub judge-read-spaces-spec : {M : Type 1} → statement M
 judge-read-spaces-spec =
     tie.close
     (tie.spec
-    sides-requires
+    judge-sides-requires
     enum-told
     enum-told-2
     returns

@@ -24,7 +24,7 @@ more s =
     6 when not (allowed (a .head .size .width) (a .head .depth) (a .head .growth)) ∷ offerRules (a .head) (a .wanted) (a .out) (a .work)
 
 none : (c : tie.After-enum-told) → refusal (sideRules (c .before .before .before .before .args .head .size)) ≡ 0
-none c = sym (c .before .before .sides .ensures) ∙ ap given (c .enum-told .given .1)
+none c = sym (c .before .before .judge-sides .ensures) ∙ ap given (c .enum-told .given .1)
 
 -- past the first test size and range are allowed
 abbrev start : tie.Else1 → tie.Start
@@ -53,8 +53,8 @@ few c = pixels-few (start c .args .head .size) (sound c .sides)
 most : (c : tie.Else1) → let h = start c .args .head in h .size .width + h .growth ≤ 768
 most c = let h = start c .args .head in omega (arith, growth-most h (sound c), sides-are (h .size) (sound c .sides) .width-most)
 
-sides-requires : tie.Need-sides-requires
-sides-requires c κs = search needs
+judge-sides-requires : tie.Need-judge-sides-requires
+judge-sides-requires c κs = search needs
 
 enum-told : tie.Need-enum-told
 enum-told c = search needs
@@ -65,10 +65,10 @@ enum-told-2 c = search needs
 returns : tie.Need-returns
 unfolding more
 returns c =
-    let at-sides = c .before .before in
-    let s = at-sides .before .before in
+    let at-judge-sides = c .before .before in
+    let s = at-judge-sides .before .before in
     let why = c .enum-told2 .given in
-    refused-answer (at-sides .sides .result) (why .0 .0) (why .1) (sideRules (s .args .head .size)) (more s) (at-sides .sides .ensures)
+    refused-answer (at-judge-sides .judge-sides .result) (why .0 .0) (why .1) (sideRules (s .args .head .size)) (more s) (at-judge-sides .judge-sides .ensures)
 
 allowed-requires : tie.Need-allowed-requires
 allowed-requires c κs = search needs
@@ -134,7 +134,7 @@ pub judge-wanted-spec : {M : Type 1} → statement M
 judge-wanted-spec =
     tie.close
     (tie.spec
-    sides-requires
+    judge-sides-requires
     enum-told
     enum-told-2
     returns

@@ -14,13 +14,13 @@ use Rattle.file_rules.proofs.spaces.judge_work.Statement.{statement}
 use Rattle.file_rules.proofs.spaces.judge_work.Tie as tie
 
 none : (c : tie.After-enum-told) → refusal (sideRules (c .before .before .before .args .size)) ≡ 0
-none c = sym (c .before .before .sides .ensures) ∙ ap given (c .enum-told .given .1)
+none c = sym (c .before .before .judge-sides .ensures) ∙ ap given (c .enum-told .given .1)
 
 few : (c : tie.After-enum-told) → pixels (c .before .before .before .args .size) ≤ 262144
 few c = pixels-few (c .before .before .before .args .size) (none c)
 
-sides-requires : tie.Need-sides-requires
-sides-requires c κs = search needs
+judge-sides-requires : tie.Need-judge-sides-requires
+judge-sides-requires c κs = search needs
 
 enum-told : tie.Need-enum-told
 enum-told c = search needs
@@ -30,10 +30,10 @@ enum-told-2 c = search needs
 
 returns : tie.Need-returns
 returns c =
-    let at-sides = c .before .before in
-    let a = at-sides .before .args in
+    let at-judge-sides = c .before .before in
+    let a = at-judge-sides .before .args in
     let why = c .enum-told2 .given in
-    refused-answer (at-sides .sides .result) (why .0 .0) (why .1) (sideRules (a .size)) (workRule (a .size) (a .work) ∷ []) (at-sides .sides .ensures)
+    refused-answer (at-judge-sides .judge-sides .result) (why .0 .0) (why .1) (sideRules (a .size)) (workRule (a .size) (a .work) ∷ []) (at-judge-sides .judge-sides .ensures)
 
 mul-if1 : tie.Need-mul-if1
 mul-if1 c = omega (arith, few (c .before))
@@ -57,7 +57,7 @@ pub judge-work-spec : {M : Type 1} → statement M
 judge-work-spec =
     tie.close
     (tie.spec
-    sides-requires
+    judge-sides-requires
     enum-told
     enum-told-2
     returns

@@ -23,7 +23,7 @@ more c =
     6 when leb (a .size .width) (a .depth) ∷ 8 when ltb (a .space) (mapsEnd (a .size) (a .maps)) ∷ []
 
 none : (c : tie.After-enum-told) → refusal (sideRules (c .before .before .before .args .size)) ≡ 0
-none c = sym (c .before .before .sides .ensures) ∙ ap given (c .enum-told .given .1)
+none c = sym (c .before .before .judge-sides .ensures) ∙ ap given (c .enum-told .given .1)
 
 rest : (c : tie.After-enum-told) → let a = c .before .before .before .args in
     refusal (mapSpaceRules (a .size) (a .depth) (a .space) (a .maps)) ≡ refusal (more (c .before .before .before))
@@ -57,8 +57,8 @@ all-are c =
     let z = s .args .size in
     rw (c .wide .ensures .0, bytes-are (c .before)) (sym (maps-end z (s .args .maps)))
 
-sides-requires : tie.Need-sides-requires
-sides-requires c κs = search needs
+judge-sides-requires : tie.Need-judge-sides-requires
+judge-sides-requires c κs = search needs
 
 enum-told : tie.Need-enum-told
 enum-told c = search needs
@@ -69,11 +69,11 @@ enum-told-2 c = search needs
 returns : tie.Need-returns
 unfolding more
 returns c =
-    let at-sides = c .before .before in
-    let s = at-sides .before in
+    let at-judge-sides = c .before .before in
+    let s = at-judge-sides .before in
     let a = s .args in
     let why = c .enum-told2 .given in
-    refused-answer (at-sides .sides .result) (why .0 .0) (why .1) (sideRules (a .size)) (more s) (at-sides .sides .ensures)
+    refused-answer (at-judge-sides .judge-sides .result) (why .0 .0) (why .1) (sideRules (a .size)) (more s) (at-judge-sides .judge-sides .ensures)
 
 returns-2 : tie.Need-returns-2
 unfolding more
@@ -125,7 +125,7 @@ pub judge-map-space-spec : {M : Type 1} → statement M
 judge-map-space-spec =
     tie.close
     (tie.spec
-    sides-requires
+    judge-sides-requires
     enum-told
     enum-told-2
     returns

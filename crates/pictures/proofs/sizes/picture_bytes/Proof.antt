@@ -13,13 +13,13 @@ use Rattle.pictures.proofs.sizes.picture_bytes.Tie as tie
 
 -- where the sides are served
 none : (c : tie.After-enum-told) → refusal (sideRules (c .before .before .before .args .size)) ≡ 0
-none c = sym (c .before .before .sides .ensures) ∙ ap given (c .enum-told .given .1)
+none c = sym (c .before .before .judge-sides .ensures) ∙ ap given (c .enum-told .given .1)
 
 sure : (c : tie.After-enum-told) → Sides (c .before .before .before .args .size)
 sure c = sides-are _ (none c)
 
-sides-requires : tie.Need-sides-requires
-sides-requires c κs = search needs
+judge-sides-requires : tie.Need-judge-sides-requires
+judge-sides-requires c κs = search needs
 
 enum-told : tie.Need-enum-told
 enum-told c = search needs
@@ -29,11 +29,11 @@ enum-told-2 c = search needs
 
 returns : tie.Need-returns
 returns c =
-    let at-sides = c .before .before in
-    let s = at-sides .before in
+    let at-judge-sides = c .before .before in
+    let s = at-judge-sides .before in
     let why = c .enum-told2 .given in
-    refused-kept (at-sides .sides .result) (why .0 .0) (why .1) (pictureBytes (s .args .size)) 0
-    ∙ ap (λ n. served n (pictureBytes (s .args .size)) 0) (at-sides .sides .ensures)
+    refused-kept (at-judge-sides .judge-sides .result) (why .0 .0) (why .1) (pictureBytes (s .args .size)) 0
+    ∙ ap (λ n. served n (pictureBytes (s .args .size)) 0) (at-judge-sides .judge-sides .ensures)
 
 row-bytes-requires : tie.Need-row-bytes-requires
 row-bytes-requires c κs = sure c .width-most
@@ -50,4 +50,4 @@ returns-2 c =
 pub picture-bytes-spec : {M : Type 1} → statement M
 picture-bytes-spec =
     tie.close
-    (tie.spec sides-requires enum-told enum-told-2 returns row-bytes-requires mul-result returns-2)
+    (tie.spec judge-sides-requires enum-told enum-told-2 returns row-bytes-requires mul-result returns-2)

@@ -20,7 +20,7 @@ use Rattle.program_filters.proofs.seams_program.build_file.Tie as tie
 none : (c : tie.After-enum-told)
     → let s = c .before .before .before .before .before in
     let a = s .args in refusal (sizeRules (a .size) (length (now (a .samples))) ++ (pixelsRule (a .size) ∷ [])) ≡ 0
-none c = sym (c .before .before .judge-picture .ensures) ∙ ap given (c .enum-told .given .1)
+none c = sym (c .before .before .judge-held .ensures) ∙ ap given (c .enum-told .given .1)
 
 bytes : (c : tie.After-enum-told)
     → let s = c .before .before .before .before .before in
@@ -30,8 +30,8 @@ bytes c =
     let s = at-shared-slice-known .before in
     all-bytes (now (s .args .samples)) (λ i. omega (arith, at-shared-slice-known .shared-slice-known .given i))
 
-judge-picture-requires : tie.Need-judge-picture-requires
-judge-picture-requires c κs = search needs
+judge-held-requires : tie.Need-judge-held-requires
+judge-held-requires c κs = search needs
 
 enum-known-why : tie.Need-enum-known-why
 enum-known-why c = search needs
@@ -41,7 +41,7 @@ returns c =
     let at-judge = c .before .before .before in
     let s = at-judge .before .before .before in
     let a = s .args in let why = c .before .why .given in
-    refused-so (why .0 .0) (fileAnswer (some (a .size, now (a .samples)))) (now (a .out)) (sym (ap given (why .1)) ∙ at-judge .judge-picture .ensures)
+    refused-so (why .0 .0) (fileAnswer (some (a .size, now (a .samples)))) (now (a .out)) (sym (ap given (why .1)) ∙ at-judge .judge-held .ensures)
 
 enum-told : tie.Need-enum-told
 enum-told c = search needs
@@ -90,7 +90,7 @@ pub build-file-spec : {M : Type 1} → statement M
 build-file-spec =
     tie.close
     (tie.spec
-    judge-picture-requires
+    judge-held-requires
     enum-known-why
     returns
     enum-told

@@ -22,7 +22,7 @@ abbrev more : tie.Start → List Rule
 more s = 8 when ltb (s .args .seam) (s .args .size .height) ∷ 8 when ltb (s .args .space) (pictureBytes (s .args .size) + bytesAfter (s .args .size) (s .args .marked)) ∷ []
 
 none : (c : tie.After-enum-told) → refusal (sideRules (c .before .before .before .args .size)) ≡ 0
-none c = sym (c .before .before .sides .ensures) ∙ ap given (c .enum-told .given .1)
+none c = sym (c .before .before .judge-sides .ensures) ∙ ap given (c .enum-told .given .1)
 
 sure : (c : tie.After-enum-told) → Sides (c .before .before .before .args .size)
 sure c = sides-are _ (none c)
@@ -50,8 +50,8 @@ needed-is : (c : tie.After-bytes-after)
     c .before .picture-bytes .result + c .bytes-after .result ≡ pictureBytes (a .size) + bytesAfter (a .size) (a .marked)
 needed-is c = ap₂ _+_ (bytes-are (c .before)) (c .bytes-after .ensures)
 
-sides-requires : tie.Need-sides-requires
-sides-requires c κs = search needs
+judge-sides-requires : tie.Need-judge-sides-requires
+judge-sides-requires c κs = search needs
 
 enum-told : tie.Need-enum-told
 enum-told c = search needs
@@ -61,10 +61,10 @@ enum-told-2 c = search needs
 
 returns : tie.Need-returns
 returns c =
-    let at-sides = c .before .before in
-    let s = at-sides .before in
+    let at-judge-sides = c .before .before in
+    let s = at-judge-sides .before in
     let why = c .enum-told2 .given in
-    refused-answer (at-sides .sides .result) (why .0 .0) (why .1) (sideRules (s .args .size)) (more s) (at-sides .sides .ensures)
+    refused-answer (at-judge-sides .judge-sides .result) (why .0 .0) (why .1) (sideRules (s .args .size)) (more s) (at-judge-sides .judge-sides .ensures)
 
 returns-2 : tie.Need-returns-2
 returns-2 c =
@@ -107,7 +107,7 @@ pub judge-find-in-spec : {M : Type 1} → statement M
 judge-find-in-spec =
     tie.close
     (tie.spec
-    sides-requires
+    judge-sides-requires
     enum-told
     enum-told-2
     returns

@@ -24,10 +24,10 @@ rest : (c : tie.After-enum-told) → let a = c .before .before .before .args in
 rest c =
     let a = c .before .before .before .args in
     served-first (sizeRules (a .size) (a .bytes)) (more (a .size) (a .columns)) refl
-    (sym (c .before .before .sized .ensures) ∙ ap given (c .enum-told .given .1))
+    (sym (c .before .before .judge-picture .ensures) ∙ ap given (c .enum-told .given .1))
 
-sized-requires : tie.Need-sized-requires
-sized-requires c κs = search needs
+judge-picture-requires : tie.Need-judge-picture-requires
+judge-picture-requires c κs = search needs
 
 enum-told : tie.Need-enum-told
 enum-told c = search needs
@@ -37,10 +37,10 @@ enum-told-2 c = search needs
 
 returns : tie.Need-returns
 returns c =
-    let at-sized = c .before .before in
-    let a = at-sized .before .args in
+    let at-judge-picture = c .before .before in
+    let a = at-judge-picture .before .args in
     let why = c .enum-told2 .given in
-    refused-answer (at-sized .sized .result) (why .0 .0) (why .1) (sizeRules (a .size) (a .bytes)) (more (a .size) (a .columns)) (at-sized .sized .ensures)
+    refused-answer (at-judge-picture .judge-picture .result) (why .0 .0) (why .1) (sizeRules (a .size) (a .bytes)) (more (a .size) (a .columns)) (at-judge-picture .judge-picture .ensures)
 
 returns-2 : tie.Need-returns-2
 returns-2 c = let a = c .before .before .before .before .args in sym (rest (c .before) ∙ simp (ne-eqb (a .columns) (a .size .height) (c .if1 .taken)))
@@ -50,4 +50,4 @@ returns-3 c = let a = c .before .before .before .before .args in sym (rest (c .b
 
 pub judge-close-lengths-spec : {M : Type 1} → statement M
 judge-close-lengths-spec =
-    tie.close (tie.spec sized-requires enum-told enum-told-2 returns returns-2 returns-3)
+    tie.close (tie.spec judge-picture-requires enum-told enum-told-2 returns returns-2 returns-3)

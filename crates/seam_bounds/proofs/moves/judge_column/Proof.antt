@@ -22,7 +22,7 @@ more z c space = 8 when ltb space (z .height * channelsOf (z .kind)) ∷ 10 when
 
 -- where the picture is served, they decide
 none : (c : tie.After-enum-told) → let a = c .before .before .before .args in refusal (sizeRules (a .size) (a .bytes)) ≡ 0
-none c = sym (c .before .before .sized .ensures) ∙ ap given (c .enum-told .given .1)
+none c = sym (c .before .before .judge-picture .ensures) ∙ ap given (c .enum-told .given .1)
 
 rest : (c : tie.After-enum-told) → let a = c .before .before .before .args in
     refusal (columnRules (a .size) (a .bytes) (a .column) (a .space)) ≡ refusal (more (a .size) (a .column) (a .space))
@@ -39,8 +39,8 @@ tall c = ap (c .before .before .before .before .args .size .height *_) (c .chann
 room : (c : tie.Else1) → let a = c .before .before .before .before .before .args in a .size .height * channelsOf (a .size .kind) ≤ a .space
 room c = rw (tall (c .before)) at (c .if1 .left)
 
-sized-requires : tie.Need-sized-requires
-sized-requires c κs = search needs
+judge-picture-requires : tie.Need-judge-picture-requires
+judge-picture-requires c κs = search needs
 
 enum-told : tie.Need-enum-told
 enum-told c = search needs
@@ -50,10 +50,10 @@ enum-told-2 c = search needs
 
 returns : tie.Need-returns
 returns c =
-    let at-sized = c .before .before in
-    let a = at-sized .before .args in
+    let at-judge-picture = c .before .before in
+    let a = at-judge-picture .before .args in
     let why = c .enum-told2 .given in
-    refused-answer (at-sized .sized .result) (why .0 .0) (why .1) (sizeRules (a .size) (a .bytes)) (more (a .size) (a .column) (a .space)) (at-sized .sized .ensures)
+    refused-answer (at-judge-picture .judge-picture .result) (why .0 .0) (why .1) (sizeRules (a .size) (a .bytes)) (more (a .size) (a .column) (a .space)) (at-judge-picture .judge-picture .ensures)
 
 channels-requires : tie.Need-channels-requires
 channels-requires c κs = search needs
@@ -88,7 +88,7 @@ pub judge-column-spec : {M : Type 1} → statement M
 judge-column-spec =
     tie.close
     (tie.spec
-    sized-requires
+    judge-picture-requires
     enum-told
     enum-told-2
     returns

@@ -21,7 +21,7 @@ more z space = 8 when ltb space (pictureBytes z) ∷ []
 
 -- where the picture is served, it decides, and the picture is as long as its size says
 none : (c : tie.After-enum-told) → let a = c .before .before .before .args in refusal (sizeRules (a .size) (a .bytes)) ≡ 0
-none c = sym (c .before .before .sized .ensures) ∙ ap given (c .enum-told .given .1)
+none c = sym (c .before .before .judge-picture .ensures) ∙ ap given (c .enum-told .given .1)
 
 rest : (c : tie.After-enum-told) → let a = c .before .before .before .args in
     refusal (exchangeRules (a .size) (a .bytes) (a .space)) ≡ refusal (more (a .size) (a .space))
@@ -32,8 +32,8 @@ rest c =
 long : (c : tie.After-enum-told) → let a = c .before .before .before .args in a .bytes ≡ pictureBytes (a .size)
 long c = let a = c .before .before .before .args in sized-is (a .size) (a .bytes) (none c) .length-is
 
-sized-requires : tie.Need-sized-requires
-sized-requires c κs = search needs
+judge-picture-requires : tie.Need-judge-picture-requires
+judge-picture-requires c κs = search needs
 
 enum-told : tie.Need-enum-told
 enum-told c = search needs
@@ -43,10 +43,10 @@ enum-told-2 c = search needs
 
 returns : tie.Need-returns
 returns c =
-    let at-sized = c .before .before in
-    let a = at-sized .before .args in
+    let at-judge-picture = c .before .before in
+    let a = at-judge-picture .before .args in
     let why = c .enum-told2 .given in
-    refused-answer (at-sized .sized .result) (why .0 .0) (why .1) (sizeRules (a .size) (a .bytes)) (more (a .size) (a .space)) (at-sized .sized .ensures)
+    refused-answer (at-judge-picture .judge-picture .result) (why .0 .0) (why .1) (sizeRules (a .size) (a .bytes)) (more (a .size) (a .space)) (at-judge-picture .judge-picture .ensures)
 
 returns-2 : tie.Need-returns-2
 returns-2 c =
@@ -62,4 +62,4 @@ returns-3 c =
 
 pub judge-exchange-spec : {M : Type 1} → statement M
 judge-exchange-spec =
-    tie.close (tie.spec sized-requires enum-told enum-told-2 returns returns-2 returns-3)
+    tie.close (tie.spec judge-picture-requires enum-told enum-told-2 returns returns-2 returns-3)

@@ -14,7 +14,7 @@ use Rattle.seam_moves.proofs.between.exchange_between.Tie as tie
 
 -- where the sides are served, the places decide
 none : (c : tie.After-enum-told) → refusal (sideRules (c .before .before .before .before .args .size)) ≡ 0
-none c = sym (c .before .before .sides .ensures) ∙ ap given (c .enum-told .given .1)
+none c = sym (c .before .before .judge-sides .ensures) ∙ ap given (c .enum-told .given .1)
 
 rest : (c : tie.After-enum-told) → let a = c .before .before .before .before .args in
     refusal (exchangeBetweenRules (length (now (a .space))) (a .from) (a .size) (a .to)) ≡ refusal (copyBetweenRules (length (now (a .space))) (a .from) (pictureBytes (a .size)) (a .to))
@@ -29,8 +29,8 @@ bytes-are c =
     let s = c .before .before .before .before .before in
     c .picture-bytes .ensures ∙ ap (λ n. served n (pictureBytes (s .args .size)) 0) (none (c .before))
 
-sides-requires : tie.Need-sides-requires
-sides-requires c κs = search needs
+judge-sides-requires : tie.Need-judge-sides-requires
+judge-sides-requires c κs = search needs
 
 enum-told : tie.Need-enum-told
 enum-told c = search needs
@@ -40,15 +40,15 @@ enum-told-2 c = search needs
 
 returns : tie.Need-returns
 returns c =
-    let at-sides = c .before .before in
-    let s = at-sides .before .before in
+    let at-judge-sides = c .before .before in
+    let s = at-judge-sides .before .before in
     let a = s .args in
     let space = now (a .space) in
     let z = a .size in
     let why = c .enum-told2 .given in
     record {
-      answer = refused-answer (at-sides .sides .result) (why .0 .0) (why .1) (sideRules z) (copyBetweenRules (length space) (a .from) (pictureBytes z) (a .to)) (at-sides .sides .ensures);
-      space-left = refused-kept (at-sides .sides .result) (why .0 .0) (why .1) (putAt (a .to) (pictureBytes z) (bytes (exchange (z .width) (picture z (partAt (a .from) (pictureBytes z) space)))) space) space;
+      answer = refused-answer (at-judge-sides .judge-sides .result) (why .0 .0) (why .1) (sideRules z) (copyBetweenRules (length space) (a .from) (pictureBytes z) (a .to)) (at-judge-sides .judge-sides .ensures);
+      space-left = refused-kept (at-judge-sides .judge-sides .result) (why .0 .0) (why .1) (putAt (a .to) (pictureBytes z) (bytes (exchange (z .width) (picture z (partAt (a .from) (pictureBytes z) space)))) space) space;
     }
 
 picture-bytes-requires : tie.Need-picture-bytes-requires
@@ -86,7 +86,7 @@ pub exchange-between-spec : {M : Type 1} → statement M
 exchange-between-spec =
     tie.close
     (tie.spec
-    sides-requires
+    judge-sides-requires
     enum-told
     enum-told-2
     returns

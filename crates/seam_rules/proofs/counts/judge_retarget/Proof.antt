@@ -26,7 +26,7 @@ more c =
 none : (c : tie.After-enum-told)
     → let s = c .before .before .before in
     refusal (sizeRules (s .args .size) (s .args .bytes)) ≡ 0
-none c = sym (c .before .before .sized .ensures) ∙ ap given (c .enum-told .given .1)
+none c = sym (c .before .before .judge-picture .ensures) ∙ ap given (c .enum-told .given .1)
 
 rest : (c : tie.After-enum-told) → let a = c .before .before .before .args in
     refusal (retargetRules (a .size) (a .rows) (a .columns) (a .bytes) (a .out) (a .work)) ≡ refusal (more (c .before .before .before))
@@ -56,8 +56,8 @@ left-is c =
     ∙ ap (λ n. served n (pictureBytes (leftSize (a .size) (a .rows) (a .columns))) 0)
     (smaller-sides (a .size) (a .rows .0) (a .columns .0) (sides-served (a .size) (a .bytes) (none at-enum-told)) (at-if3 .if3 .left) (at-if4 .if4 .left))
 
-sized-requires : tie.Need-sized-requires
-sized-requires c κs = search needs
+judge-picture-requires : tie.Need-judge-picture-requires
+judge-picture-requires c κs = search needs
 
 enum-told : tie.Need-enum-told
 enum-told c = search needs
@@ -68,11 +68,11 @@ enum-told-2 c = search needs
 returns : tie.Need-returns
 unfolding more
 returns c =
-    let at-sized = c .before .before in
-    let s = at-sized .before in
+    let at-judge-picture = c .before .before in
+    let s = at-judge-picture .before in
     let a = s .args in
     let why = c .enum-told2 .given in
-    refused-answer (at-sized .sized .result) (why .0 .0) (why .1) (sizeRules (a .size) (a .bytes)) (more s) (at-sized .sized .ensures)
+    refused-answer (at-judge-picture .judge-picture .result) (why .0 .0) (why .1) (sizeRules (a .size) (a .bytes)) (more s) (at-judge-picture .judge-picture .ensures)
 
 returns-2 : tie.Need-returns-2
 unfolding more
@@ -169,7 +169,7 @@ pub judge-retarget-spec : {M : Type 1} → statement M
 judge-retarget-spec =
     tie.close
     (tie.spec
-    sized-requires
+    judge-picture-requires
     enum-told
     enum-told-2
     returns

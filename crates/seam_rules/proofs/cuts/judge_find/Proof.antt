@@ -23,7 +23,7 @@ more c = 8 when ltb (c .args .seam) (turnedSize (c .args .axis) (c .args .size) 
 none : (c : tie.After-enum-told)
     → let s = c .before .before .before in
     refusal (sizeRules (s .args .size) (s .args .bytes)) ≡ 0
-none c = sym (c .before .before .sized .ensures) ∙ ap given (c .enum-told .given .1)
+none c = sym (c .before .before .judge-picture .ensures) ∙ ap given (c .enum-told .given .1)
 
 rest : (c : tie.After-enum-told)
     → let s = c .before .before .before in
@@ -39,8 +39,8 @@ all-most c =
     let s = sized-is (start .args .size) (start .args .bytes) (none c) in
     mul-le-mul (s .height-most) (s .width-most)
 
-sized-requires : tie.Need-sized-requires
-sized-requires c κs = search needs
+judge-picture-requires : tie.Need-judge-picture-requires
+judge-picture-requires c κs = search needs
 
 enum-told : tie.Need-enum-told
 enum-told c = search needs
@@ -51,11 +51,11 @@ enum-told-2 c = search needs
 returns : tie.Need-returns
 unfolding more
 returns c =
-    let at-sized = c .before .before in
-    let s = at-sized .before in
+    let at-judge-picture = c .before .before in
+    let s = at-judge-picture .before in
     let a = s .args in
     let why = c .enum-told2 .given in
-    refused-answer (at-sized .sized .result) (why .0 .0) (why .1) (sizeRules (a .size) (a .bytes)) (more s) (at-sized .sized .ensures)
+    refused-answer (at-judge-picture .judge-picture .result) (why .0 .0) (why .1) (sizeRules (a .size) (a .bytes)) (more s) (at-judge-picture .judge-picture .ensures)
 
 turned-size-requires : tie.Need-turned-size-requires
 turned-size-requires c κs = search needs
@@ -96,7 +96,7 @@ pub judge-find-spec : {M : Type 1} → statement M
 judge-find-spec =
     tie.close
     (tie.spec
-    sized-requires
+    judge-picture-requires
     enum-told
     enum-told-2
     returns

@@ -17,7 +17,7 @@ use Rattle.seam_rules.proofs.cuts.judge_marks.Tie as tie
 none : (c : tie.After-enum-told)
     → let s = c .before .before .before in
     refusal (sizeRules (s .args .size) (s .args .bytes)) ≡ 0
-none c = sym (c .before .before .sized .ensures) ∙ ap given (c .enum-told .given .1)
+none c = sym (c .before .before .judge-picture .ensures) ∙ ap given (c .enum-told .given .1)
 
 rest : (c : tie.After-enum-told)
     → let s = c .before .before .before in
@@ -26,8 +26,8 @@ rest c =
     let a = c .before .before .before .args in
     served-first (sizeRules (a .size) (a .bytes)) (markLengthRules (a .size) (a .marks)) refl (none c)
 
-sized-requires : tie.Need-sized-requires
-sized-requires c κs = search needs
+judge-picture-requires : tie.Need-judge-picture-requires
+judge-picture-requires c κs = search needs
 
 enum-told : tie.Need-enum-told
 enum-told c = search needs
@@ -37,10 +37,10 @@ enum-told-2 c = search needs
 
 returns : tie.Need-returns
 returns c =
-    let at-sized = c .before .before in
-    let a = at-sized .before .args in
+    let at-judge-picture = c .before .before in
+    let a = at-judge-picture .before .args in
     let why = c .enum-told2 .given in
-    refused-answer (at-sized .sized .result) (why .0 .0) (why .1) (sizeRules (a .size) (a .bytes)) (markLengthRules (a .size) (a .marks)) (at-sized .sized .ensures)
+    refused-answer (at-judge-picture .judge-picture .result) (why .0 .0) (why .1) (sizeRules (a .size) (a .bytes)) (markLengthRules (a .size) (a .marks)) (at-judge-picture .judge-picture .ensures)
 
 mul-if1 : tie.Need-mul-if1
 mul-if1 c =
@@ -60,4 +60,4 @@ returns-3 c =
 
 pub judge-marks-spec : {M : Type 1} → statement M
 judge-marks-spec =
-    tie.close (tie.spec sized-requires enum-told enum-told-2 returns mul-if1 returns-2 returns-3)
+    tie.close (tie.spec judge-picture-requires enum-told enum-told-2 returns mul-if1 returns-2 returns-3)

@@ -1,4 +1,4 @@
--- `program_rules::judge_picture` meets its contract.
+-- `program_rules::judge_held` meets its contract.
 use mathlib.Core.Path.{_≡_, refl, sym, ap, _∙_}
 use mathlib.Core.List.{[], _∷_, _++_}
 use Prim.Native.Nat.{_≤_}
@@ -11,12 +11,12 @@ use Rattle.pictures.proofs.Rules.{served-first, refused-answer}
 use Rattle.pictures.proofs.Limits.{sized-is}
 use Rattle.program_theory.specs.Programs.{mostPixels, pixelsRule}
 use borrow.Author.Needs.{needs}
-use Rattle.program_rules.proofs.judge_picture.Statement.{statement}
-use Rattle.program_rules.proofs.judge_picture.Tie as tie
+use Rattle.program_rules.proofs.judge_held.Statement.{statement}
+use Rattle.program_rules.proofs.judge_held.Tie as tie
 
 -- where the picture is served, its pixels decide
 none : (c : tie.After-enum-told) → let a = c .before .before .before .args in refusal (sizeRules (a .size) (a .bytes)) ≡ 0
-none c = sym (c .before .before .sized .ensures) ∙ ap given (c .enum-told .given .1)
+none c = sym (c .before .before .judge-picture .ensures) ∙ ap given (c .enum-told .given .1)
 
 rest : (c : tie.After-enum-told) → let a = c .before .before .before .args in refusal (sizeRules (a .size) (a .bytes) ++ (pixelsRule (a .size) ∷ [])) ≡ refusal (pixelsRule (a .size) ∷ [])
 rest c =
@@ -29,8 +29,8 @@ few c =
     let s = sized-is (a .size) (a .bytes) (none c) in
     mul-le-mul (s .height-most) (s .width-most)
 
-sized-requires : tie.Need-sized-requires
-sized-requires c κs = search needs
+judge-picture-requires : tie.Need-judge-picture-requires
+judge-picture-requires c κs = search needs
 
 enum-told : tie.Need-enum-told
 enum-told c = search needs
@@ -40,11 +40,11 @@ enum-told-2 c = search needs
 
 returns : tie.Need-returns
 returns c =
-    let at-sized = c .before .before in
-    let s = at-sized .before in
+    let at-judge-picture = c .before .before in
+    let s = at-judge-picture .before in
     let a = s .args in
     let why = c .enum-told2 .given in
-    refused-answer (at-sized .sized .result) (why .0 .0) (why .1) (sizeRules (a .size) (a .bytes)) (pixelsRule (a .size) ∷ []) (at-sized .sized .ensures)
+    refused-answer (at-judge-picture .judge-picture .result) (why .0 .0) (why .1) (sizeRules (a .size) (a .bytes)) (pixelsRule (a .size) ∷ []) (at-judge-picture .judge-picture .ensures)
 
 mul-if1 : tie.Need-mul-if1
 mul-if1 c = omega (arith, few (c .before))
@@ -61,6 +61,6 @@ returns-3 c =
     let s = at-enum-told .before .before .before in
     ap given (at-enum-told .enum-told .given .1) ∙ sym (rest at-enum-told ∙ rw (le-ltb mostPixels (pixels (s .args .size)) (c .if1 .left)))
 
-pub judge-picture-spec : {M : Type 1} → statement M
-judge-picture-spec =
-    tie.close (tie.spec sized-requires enum-told enum-told-2 returns mul-if1 returns-2 returns-3)
+pub judge-held-spec : {M : Type 1} → statement M
+judge-held-spec =
+    tie.close (tie.spec judge-picture-requires enum-told enum-told-2 returns mul-if1 returns-2 returns-3)

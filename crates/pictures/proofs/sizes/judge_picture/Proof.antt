@@ -1,4 +1,4 @@
--- `pictures::sizes::sized` meets its contract: the sides first, then the length.
+-- `pictures::sizes::judge_picture` meets its contract: the sides first, then the length.
 use mathlib.Core.Path.{_≡_, refl, sym, ap, _∙_}
 use mathlib.Core.Bool.{not}
 use mathlib.Core.List.{[], _∷_}
@@ -8,12 +8,12 @@ use lib.Dec.{eqb}
 use Rattle.pictures.specs.Refusals.{_when_, given, refusal, served}
 use Rattle.pictures.specs.Pictures.{sideRules, sizeRules, pictureBytes}
 use Rattle.pictures.proofs.Rules.{served-first, refused-answer}
-use Rattle.pictures.proofs.sizes.sized.Statement.{statement}
-use Rattle.pictures.proofs.sizes.sized.Tie as tie
+use Rattle.pictures.proofs.sizes.judge_picture.Statement.{statement}
+use Rattle.pictures.proofs.sizes.judge_picture.Tie as tie
 
 -- where the sides are served, the length decides
 none : (c : tie.After-enum-told) → refusal (sideRules (c .before .before .before .args .size)) ≡ 0
-none c = sym (c .before .before .sides .ensures) ∙ ap given (c .enum-told .given .1)
+none c = sym (c .before .before .judge-sides .ensures) ∙ ap given (c .enum-told .given .1)
 
 rest : (c : tie.After-enum-told) → let a = c .before .before .before .args in refusal (sizeRules (a .size) (a .bytes)) ≡ refusal (4 when not (eqb (a .bytes) (pictureBytes (a .size))) ∷ [])
 rest c =
@@ -25,8 +25,8 @@ long c =
     let s = c .before .before .before .before in
     c .picture-bytes .ensures ∙ ap (λ n. served n (pictureBytes (s .args .size)) 0) (none (c .before))
 
-sides-requires : tie.Need-sides-requires
-sides-requires c κs = search needs
+judge-sides-requires : tie.Need-judge-sides-requires
+judge-sides-requires c κs = search needs
 
 enum-told : tie.Need-enum-told
 enum-told c = search needs
@@ -36,11 +36,11 @@ enum-told-2 c = search needs
 
 returns : tie.Need-returns
 returns c =
-    let at-sides = c .before .before in
-    let s = at-sides .before in
+    let at-judge-sides = c .before .before in
+    let s = at-judge-sides .before in
     let a = s .args in
     let why = c .enum-told2 .given in
-    refused-answer (at-sides .sides .result) (why .0 .0) (why .1) (sideRules (a .size)) (4 when not (eqb (a .bytes) (pictureBytes (a .size))) ∷ []) (at-sides .sides .ensures)
+    refused-answer (at-judge-sides .judge-sides .result) (why .0 .0) (why .1) (sideRules (a .size)) (4 when not (eqb (a .bytes) (pictureBytes (a .size))) ∷ []) (at-judge-sides .judge-sides .ensures)
 
 picture-bytes-requires : tie.Need-picture-bytes-requires
 picture-bytes-requires c κs = search needs
@@ -55,11 +55,11 @@ returns-3 c =
     let right = rw (long (c .before)) at (c .if1 .left) in
     sym (rest (c .before .before) ∙ simp (eq-eqb _ _ right))
 
-pub sized-spec : {M : Type 1} → statement M
-sized-spec =
+pub judge-picture-spec : {M : Type 1} → statement M
+judge-picture-spec =
     tie.close
     (tie.spec
-    sides-requires
+    judge-sides-requires
     enum-told
     enum-told-2
     returns

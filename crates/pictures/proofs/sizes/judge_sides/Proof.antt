@@ -1,7 +1,7 @@
--- `pictures::sizes::sides` meets its contract: each return rewrites the rules by the tests that led there.
+-- `pictures::sizes::judge_sides` meets its contract: each return rewrites the rules by the tests that led there.
 use borrow.Author.Tests.{eq-eqb, ne-eqb, lt-ltb, le-ltb}
-use Rattle.pictures.proofs.sizes.sides.Statement.{statement}
-use Rattle.pictures.proofs.sizes.sides.Tie as tie
+use Rattle.pictures.proofs.sizes.judge_sides.Statement.{statement}
+use Rattle.pictures.proofs.sizes.judge_sides.Tie as tie
 
 returns : tie.Need-returns
 returns c = simp (eq-eqb _ _ (c .if1 .taken))
@@ -24,5 +24,5 @@ returns-5 c =
     let at-if1 = at-if2 .before in
     simp (ne-eqb _ _ (at-if1 .if1 .left), ne-eqb _ _ (at-if2 .if2 .left), le-ltb _ _ (c .before .if3 .left), le-ltb _ _ (c .if4 .left))
 
-pub sides-spec : {M : Type 1} → statement M
-sides-spec = tie.close (tie.spec returns returns-2 returns-3 returns-4 returns-5)
+pub judge-sides-spec : {M : Type 1} → statement M
+judge-sides-spec = tie.close (tie.spec returns returns-2 returns-3 returns-4 returns-5)
