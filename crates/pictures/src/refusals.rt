@@ -7,29 +7,43 @@ pub enum Refusal {
     // 1: text or header breaks its form
     Form,
     // 2: width or height 0
-    Empty,
+    ZeroSide,
     // 3: width or height over the largest side
-    Large,
+    TooLarge,
     // 4: a length or a count isn't what the size says
-    Length,
+    Count,
     // 5: a mark over 2
     Mark,
     // 6: depth or growth not allowed
     Range,
     // 7: wanted width not offered, or a retarget too far
-    Wanted,
+    NotOffered,
     // 8: output or work space too short
     Space,
     // 9: a map row is no numbering
-    Numbering,
+    MapRow,
     // 10: a recorded seam isn't connected
-    Broken,
+    BrokenSeam,
     // 11: a recorded seam isn't the one found
-    Other,
+    OtherSeam,
     // 12: every seam meets a protected pixel
-    Protected,
+    AllProtected,
     // 13: a cut of the last column or row
-    Last,
+    LastLine,
+    // 14: a panorama retargeted, or a horizontal seam of one
+    Join,
+    // 15: a rectangle is empty or leaves the picture
+    Rectangle,
+    // 16: a rectangle's name is outside 1 to 64, already laid, or not laid
+    RectangleName,
+    // 17: the columns brought are connected, but aren't the seam now found
+    StaleSeam,
+    // 18: a lowest energy above its highest, or a highest above 1530
+    Ranges,
+    // 19: a side of 7 or more where every path is asked for
+    GridSide,
+    // 20: some path meets no protected pixel
+    NotBlocked,
 }
 
 // The answer of a check, or of an operation that gives nothing by value.
