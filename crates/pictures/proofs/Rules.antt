@@ -11,7 +11,7 @@ use Rattle.pictures.specs.declared.refusals.Refusal.{Refusal}
 use Rattle.pictures.specs.declared.refusals.Refusal.the-variants.{Form, ZeroSide, TooLarge, Count, Mark, Range, NotOffered, Space, MapRow, BrokenSeam, OtherSeam, AllProtected, LastLine, Join, Rectangle, RectangleName, StaleSeam, Ranges, GridSide, NotBlocked}
 use Rattle.pictures.specs.declared.refusals.Verdict.{Verdict}
 use Rattle.pictures.specs.declared.refusals.Verdict.the-variants.{Refused}
-use Rattle.pictures.specs.Refusals.{Rule, _when_, numberOf, given, refusal, served}
+use Rattle.pictures.specs.Refusals.{Rule, _when_, numberOf, given, refusal, SmallestGiven, ascending, served}
 
 -- A conjunction that holds, taken apart.
 pub both : (a b : Bool) → (a && b) ≡ true → (a ≡ true) × (b ≡ true)
@@ -22,11 +22,6 @@ both false b e = (e, cc)
 abbrev pub positive : List Rule → Bool
 positive [] = true
 positive ((n when t) ∷ rules) = ltb 0 n && positive rules
-
--- Every number is at least the one before it, as a test that computes.
-abbrev pub ascending : ℕ → List Rule → Bool
-ascending m [] = true
-ascending m ((n when t) ∷ rules) = leb m n && ascending n rules
 
 -- Where none of the first rules applies, the others decide.
 pub served-first : (rules more : List Rule) → positive rules ≡ true → refusal rules ≡ 0 → refusal (rules ++ more) ≡ refusal more
@@ -90,6 +85,10 @@ pub given-applies : (rules : List Rule) → 0 < refusal rules → List·Memᴰ (
 given-applies [] h = absurd (omega arith)
 given-applies ((n when true) ∷ rules) h = List·Memᴰ·head refl
 given-applies ((n when false) ∷ rules) h = List·Memᴰ·tail (given-applies rules h)
+
+-- So rules in ascending order give the smallest number that applies.
+pub given-smallest : (rules : List Rule) → ascending 1 rules ≡ true → SmallestGiven rules
+given-smallest rules a = record { applies = given-applies rules; least = smallest 1 rules a }
 
 -- Every refusal has a number above 0, so a number says whether the answer is served.
 pub number-some : (why : Refusal) → 0 < numberOf why

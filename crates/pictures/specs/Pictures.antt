@@ -15,7 +15,7 @@ use Rattle.pictures.specs.Refusals.{Rule, _when_, refusal, served}
 abbrev pub Picture : Type 0
 Picture = List (List (List ℕ))
 
--- Width and height are 1 to 512.
+-- "Width and height are 1 to 512."
 abbrev pub largestSide : ℕ
 largestSide = 512
 
@@ -35,14 +35,18 @@ pictureBytes z = z .height * rowBytes z
 abbrev pub pixels : Size → ℕ
 pixels z = z .height * z .width
 
--- What 2 and 3 say of a size.
+-- "Work space": 32 bytes for each pixel of the picture.
+abbrev pub workBytes : Size → ℕ
+workBytes z = 32 * pixels z
+
+-- Refusals 2 and 3 of a size.
 abbrev pub sideRules : Size → List Rule
 sideRules z =
     2 when (eqb (z .width) 0 || eqb (z .height) 0)
     ∷ 3 when (ltb largestSide (z .width) || ltb largestSide (z .height))
     ∷ []
 
--- What 2, 3 and 4 say of a buffer of so many bytes that is brought as a picture.
+-- Refusals 2 to 4 of a picture buffer that is `bytes` long.
 abbrev pub sizeRules : Size → ℕ → List Rule
 sizeRules z bytes = sideRules z ++ (4 when not (eqb bytes (pictureBytes z)) ∷ [])
 

@@ -1,8 +1,8 @@
 -- "When it says no": the refusals, their numbers, and which of several is given.
-use mathlib.Core.Bool.{Bool, cond, _||_}
-use mathlib.Core.List.{List, [], _∷_}
-use Prim.Native.Nat.{ℕ, zero, suc}
-use lib.Dec.{eqb, ltb}
+use mathlib.Core.Bool.{Bool, true, cond, _||_, _&&_}
+use mathlib.Core.List.{List, [], _∷_, List·Memᴰ}
+use Prim.Native.Nat.{ℕ, zero, suc, _≤_, _<_}
+use lib.Dec.{eqb, leb, ltb}
 use Rattle.pictures.specs.declared.refusals.Refusal.{Refusal}
 use Rattle.pictures.specs.declared.refusals.Refusal.the-variants.{Form, ZeroSide, TooLarge, Count, Mark, Range, NotOffered, Space, MapRow, BrokenSeam, OtherSeam, AllProtected, LastLine, Join, Rectangle, RectangleName, StaleSeam, Ranges, GridSide, NotBlocked}
 use Rattle.pictures.specs.declared.refusals.Verdict.{Verdict}
@@ -46,6 +46,17 @@ pub data Rule : Type 0 where
 abbrev pub refusal : List Rule → ℕ
 refusal [] = 0
 refusal ((n when t) ∷ rules) = cond t n (refusal rules)
+
+-- "Of several, the smallest number is given": where one is given, it is that of a rule that applies, and no rule that applies
+-- has a smaller one.
+pub record SmallestGiven (rules : List Rule) : Type 0 where
+  pub applies : 0 < refusal rules → List·Memᴰ (refusal rules when true) rules
+  pub least : (n : ℕ) → List·Memᴰ (n when true) rules → refusal rules ≤ n
+
+-- Every number is at least m and at least the one before it, as a test that computes.
+abbrev pub ascending : ℕ → List Rule → Bool
+ascending m [] = true
+ascending m ((n when t) ∷ rules) = leb m n && ascending n rules
 
 -- The first where nothing is refused, else the second.
 abbrev pub served : {A : Type 0} → ℕ → A → A → A

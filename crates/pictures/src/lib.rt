@@ -15,6 +15,8 @@ pub use sizes::channels;
 pub use sizes::judge_picture;
 pub use sizes::judge_sides;
 pub use sizes::picture_bytes;
+pub use sizes::pixels;
+pub use sizes::work_bytes;
 pub use spaces::clear;
 ghost use mathlib.Core.Path.{_≡_};
 ghost use Rattle.pictures.specs.Pictures.{rowOf};

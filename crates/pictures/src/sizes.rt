@@ -3,11 +3,15 @@ use crate::refusals::Refusal;
 use crate::refusals::Verdict;
 ghost use mathlib.Core.Path.{_≡_};
 ghost use Rattle.pictures.specs.Refusals.{given, refusal, served};
-ghost use Rattle.pictures.specs.Pictures.{largestSide, channelsOf, rowBytes, pictureBytes, sideRules, sizeRules};
-ghost use Prim.Native.Nat.{_*_, _≤_};
+ghost use Rattle.pictures.specs.Limits.{mostSide, mostRow};
+ghost use Rattle.pictures.specs.Pictures.{channelsOf, rowBytes, pictureBytes, pixels as Pictures·pixels, workBytes, sideRules, sizeRules};
+ghost use Prim.Native.Nat.{_≤_};
 
 // The largest width and the largest height of a picture.
 pub const LARGEST_SIDE: usize = 512;
+
+// Bytes of work space for each pixel.
+const WORK_A_PIXEL: usize = 32;
 
 pub enum Kind {
     Grey,
@@ -32,8 +36,8 @@ pub fn channels(kind: Kind) -> usize
 
 // Bytes a row.
 pub(crate) fn row_bytes(size: Size) -> usize
-    requires { ⌜ size .width ≤ largestSide ⌝ }
-    ensures { λ n. ⌜ (n ≡ rowBytes size) × (n ≤ 3 * largestSide) ⌝ }
+    requires { ⌜ size .width ≤ mostSide ⌝ }
+    ensures { λ n. ⌜ (n ≡ rowBytes size) × (n ≤ mostRow) ⌝ }
 {
     let width = size.width;
     let kind = size.kind;
@@ -72,7 +76,24 @@ pub fn picture_bytes(size: Size) -> usize
     height * row_bytes(size)
 }
 
-// Whether a buffer of so many bytes is a picture of this size, or which of 2, 3 and 4 refuses it.
+// Pixels of a picture of this size; 0 where its sides are refused.
+pub fn pixels(size: Size) -> usize
+    ensures { λ n. ⌜ n ≡ served (refusal (sideRules size)) (Pictures·pixels size) 0 ⌝ }
+{
+    let Verdict::Served = judge_sides(size) else {
+        return 0;
+    };
+    size.height * size.width
+}
+
+// Bytes of work space that an operation on a picture of this size asks for; 0 where its sides are refused.
+pub fn work_bytes(size: Size) -> usize
+    ensures { λ n. ⌜ n ≡ served (refusal (sideRules size)) (workBytes size) 0 ⌝ }
+{
+    WORK_A_PIXEL * pixels(size)
+}
+
+// Whether a buffer of this many bytes is a picture of this size, or which of 2, 3 and 4 refuses it.
 pub fn judge_picture(size: Size, bytes: usize) -> Verdict
     ensures { λ v. ⌜ given v ≡ refusal (sizeRules size bytes) ⌝ }
 {

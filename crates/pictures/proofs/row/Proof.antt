@@ -64,7 +64,7 @@ returns-2 c =
     sym (row-past (a .size) (now (a .picture)) (a .r) (none at-enum-told) (c .before .if1 .taken))
 
 row-bytes-requires : tie.Need-row-bytes-requires
-row-bytes-requires c κs = sure (c .before) .width-most
+row-bytes-requires c κs = sure (c .before) .width-small
 
 mul-at : tie.Need-mul-at
 mul-at c = omega (arith, end c)

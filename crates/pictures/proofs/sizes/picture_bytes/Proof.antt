@@ -36,10 +36,10 @@ returns c =
     ∙ ap (λ n. served n (pictureBytes (s .args .size)) 0) (at-judge-sides .judge-sides .ensures)
 
 row-bytes-requires : tie.Need-row-bytes-requires
-row-bytes-requires c κs = sure c .width-most
+row-bytes-requires c κs = sure c .width-small
 
 mul-result : tie.Need-mul-result
-mul-result c = omega (arith, mul-le-mul (sure (c .before) .height-most) (c .row-bytes .ensures .1))
+mul-result c = omega (arith, mul-le-mul (sure (c .before) .height-small) (c .row-bytes .ensures .1))
 
 returns-2 : tie.Need-returns-2
 returns-2 c =
