@@ -17,8 +17,8 @@ use Rattle.grids.proofs.Tables.{table-same}
 use Rattle.grids.proofs.Exchange.{exchange-at, exchange-table}
 use Rattle.pictures.specs.declared.sizes.Size.{Size}
 use Rattle.pictures.specs.Pictures.{Picture, channelsOf, rowBytes, pictureBytes, picture, pixel}
-use Rattle.energy.specs.Energy.{difference, energy, energies}
-use Rattle.energy.specs.Kernels.{between, lowerRow}
+use Rattle.energy.specs.Energy.{difference, energy, energies, energyGrid}
+use Rattle.energy.specs.Inner.{between, lowerRow}
 use Rattle.pictures.proofs.Buffers.{pixel-at, pixel-past}
 
 pub difference-self : (p : List ℕ) → difference p p ≡ 0
@@ -47,10 +47,6 @@ pub energy-exchange : {w n : ℕ} {p : Picture} → Grid w n p → (r c : ℕ) �
 unfolding energy
 energy-exchange {w} {p} g r c =
     simp (exchange-at g r c [], exchange-at g (r + 1) c [], exchange-at g r (c + 1) []) (add-comm _ _)
-
--- All energies of a picture, row by row.
-abbrev pub energyGrid : ℕ → ℕ → Picture → List (List ℕ)
-energyGrid w n p = table (energies w p) n
 
 pub energyGrid-exchange : {w n : ℕ} {p : Picture} → Grid w n p → energyGrid n w (exchange w p) ≡ exchange w (energyGrid w n p)
 energyGrid-exchange {w} {n} {p} g =

@@ -16,7 +16,7 @@ use Rattle.grids.proofs.Rows.{rowAt-past, part-end}
 use Rattle.pictures.specs.declared.sizes.Size.{Size}
 use Rattle.pictures.specs.Pictures.{channelsOf, rowBytes, picture}
 use Rattle.energy.specs.Energy.{apart, difference, energy, energies}
-use Rattle.energy.specs.Kernels.{LinesNeeded, between, lowerRow}
+use Rattle.energy.specs.Inner.{LinesNeeded, between, lowerRow}
 use Rattle.pictures.proofs.Limits.{Sized}
 use Rattle.energy.proofs.Energy.{difference-none, energy-between}
 

@@ -3,11 +3,11 @@ use mathlib.Core.Path.{_≡_}
 use mathlib.Core.List.{List, [], _∷_, _++_}
 use Prim.Native.Nat.{ℕ, _+_, _-_}
 use lib.Dec.{leb, ltb}
-use lib.ListN.{length, getD, drop}
+use lib.ListN.{length, drop}
 use Rattle.grids.specs.Table.{table}
 use Rattle.pictures.specs.declared.sizes.Size.{Size}
 use Rattle.pictures.specs.declared.refusals.Verdict.{Verdict}
-use Rattle.pictures.specs.Refusals.{Rule, _when_, given, refusal, served}
+use Rattle.pictures.specs.Refusals.{Rule, given, refusal, served}
 use Rattle.pictures.specs.Pictures.{Picture, picture, pixel, sizeRules}
 
 -- |a - b|
@@ -28,6 +28,10 @@ energy p r c = difference (pixel p r (c + 1)) (pixel p r c) + difference (pixel 
 -- The energies of row r of a picture of width w.
 abbrev pub energies : ℕ → Picture → ℕ → List ℕ
 energies w p r = table (energy p r) w
+
+-- All energies of a picture, row by row.
+abbrev pub energyGrid : ℕ → ℕ → Picture → List (List ℕ)
+energyGrid w n p = table (energies w p) n
 
 -- When the energies of row r are refused: as the picture is, where there is no such row, and where the space is shorter
 -- than the row.

@@ -1,2 +1,2 @@
 pub mod Energy
-pub mod Kernels
+pub mod Inner

@@ -8,7 +8,7 @@ ghost use lib.ListN.{length, take, drop};
 ghost use Rattle.grids.specs.Table.{table};
 ghost use Rattle.energy.specs.Energy.{apart as Energy·apart, difference};
 ghost use Rattle.pictures.specs.Pictures.{channelsOf};
-ghost use Rattle.energy.specs.Kernels.{LinesNeeded, between};
+ghost use Rattle.energy.specs.Inner.{LinesNeeded, between};
 
 // How far two samples are apart.
 fn apart(a: u8, b: u8) -> u32

@@ -8,7 +8,7 @@ use pictures::channels;
 use pictures::judge_picture;
 ghost use Rattle.energy.specs.Energy.{EnergiesGiven, energies as Energy·energies};
 ghost use Rattle.pictures.specs.Pictures.{largestSide, picture as Pictures·picture};
-ghost use Rattle.energy.specs.Kernels.{RowNeeded, lowerRow};
+ghost use Rattle.energy.specs.Inner.{RowNeeded, lowerRow};
 ghost use mathlib.Core.Path.{_≡_};
 ghost use mathlib.Core.List.{_++_};
 ghost use Prim.Native.Nat.{_*_, _≤_, _<_};

@@ -14,17 +14,16 @@ use Rattle.grids.proofs.Shapes.{grid-of}
 use Rattle.grids.proofs.Parts.{part-length}
 use Rattle.pictures.specs.declared.sizes.Size.{Size}
 use Rattle.pictures.specs.declared.refusals.Verdict.{Verdict}
-use Rattle.pictures.specs.Refusals.{_when_, refusal, served}
+use Rattle.pictures.specs.Refusals.{refusal, served}
 use Rattle.pictures.specs.Pictures.{pictureBytes, sizeRules, picture, pixels, pictureIn}
 use Rattle.pictures.proofs.Rules.{both, served-both, passed}
-use Rattle.pictures.proofs.Limits.{Sized, sized-is, sides-served}
+use Rattle.pictures.proofs.Limits.{Sized, sized-is, sides-served, bytes-few}
 use Rattle.map_theory.specs.Maps.{mapOf}
 use Rattle.map_theory.specs.Widths.{allowed}
 use Rattle.map_theory.proofs.Maps.{map-grid}
 use Rattle.text_theory.specs.declared.Head.{Head}
 use Rattle.text_theory.specs.Files.{text}
 use Rattle.seam_theory.specs.PictureSeams.{seamOf}
-use Rattle.seam_rules.proofs.Turns.{bytes-few}
 use Rattle.map_build.specs.Numbers.{pairs}
 use Rattle.map_rules.specs.Spaces.{mapBytes, mapAt, mapSpaceRules}
 use Rattle.map_rules.proofs.Rooms.{room-served}
@@ -36,7 +35,8 @@ use Rattle.text_print.proofs.Written.{printed-front}
 use Rattle.file_theory.specs.Contents.{fileOf}
 use Rattle.file_theory.specs.Rules.{workRule}
 use Rattle.file_build.specs.Building.{fileIn}
-use Rattle.file_build.specs.Kernels.{mapIn, partsIn, PrintNeeded, BuildNeeded, FileGiven}
+use Rattle.file_build.specs.Inner.Lines.{mapIn, partsIn, PrintNeeded}
+use Rattle.file_build.specs.Inner.Building.{BuildNeeded, FileGiven}
 use Rattle.file_build.proofs.PictureRows.{of-size}
 use Rattle.file_build.proofs.MapRows.{map-back}
 

@@ -3,8 +3,7 @@ use mathlib.Core.Path.{_≡_, refl, sym, ap}
 use mathlib.Core.Bool.{Bool, true, false}
 use mathlib.Core.Option.{none, some}
 use mathlib.Core.List.{List}
-use Prim.Native.Nat.{ℕ, _+_, _-_, _*_, _/_, _≤_, _<_}
-use native.Mathlib.Nat.{div-lt-iff-lt-mul, le-div-iff-mul-le}
+use Prim.Native.Nat.{ℕ, _+_, _-_, _*_, _≤_, _<_}
 use native.Mathlib.Omega.{arith}
 use borrow.Author.Tests.{leb-true, leb-false, le-leb, lt-leb}
 use lib.Dec.{leb}
@@ -20,7 +19,7 @@ use Rattle.text_lengths.specs.Rooms.{less}
 use Rattle.text_lengths.proofs.Rooms.{less-some, less-none, less-room, less-short}
 use Rattle.file_theory.specs.Contents.{fileOf}
 use Rattle.file_theory.proofs.Lengths.{file-length}
-use Rattle.file_build.specs.Kernels.{FitNeeded}
+use Rattle.file_build.specs.Inner.Fitting.{FitNeeded}
 use Rattle.file_build.proofs.PictureRows.{of-size}
 
 -- `count` lines of n bytes, of which the first leaves `after`.

@@ -21,7 +21,7 @@ use Rattle.text_theory.proofs.Lengths.{map-length}
 use Rattle.map_build.specs.Numbers.{pairs}
 use Rattle.map_build.proofs.Lists.{drop-replicate}
 use Rattle.map_build.proofs.Pairs.{pairs-at, pairs-flat, grid-pairs}
-use Rattle.file_build.specs.Kernels.{numberAt, firstNumbers, mapIn}
+use Rattle.file_build.specs.Inner.Lines.{numberAt, firstNumbers, mapIn}
 
 -- A row's numbers from its bytes.
 row-back : (w : ℕ) (ys : List ℕ) → length ys ≡ w → firstNumbers w (pairs ys) ≡ ys

@@ -12,7 +12,7 @@ use Rattle.text_print.specs.declared.lines.Place.{Place}
 use Rattle.text_print.specs.declared.lines.Place.the-variants as places
 use Rattle.text_print.specs.Prints.{Put, Printed}
 use Rattle.text_print.proofs.Written.{printed-more, printed-length, never-short, printed-next}
-use Rattle.file_build.specs.Kernels.{rowLines, mapLines, mapIn, partsIn, RowsNeeded, MapsNeeded, PrintNeeded}
+use Rattle.file_build.specs.Inner.Lines.{rowLines, mapLines, mapIn, partsIn, RowsNeeded, MapsNeeded, PrintNeeded}
 
 module _ (b : List ℕ) (h : Head) (map out : List ℕ) (needed : PrintNeeded b h map out) where
   abbrev rows : List ℕ

@@ -1,2 +1,2 @@
 pub mod Building
-pub mod Kernels
+pub mod Inner

@@ -14,7 +14,7 @@ ghost use Rattle.text_theory.specs.Files.{mapText};
 ghost use Rattle.text_theory.specs.Lengths.{total, rowLength};
 ghost use Rattle.text_lengths.specs.Rooms.{leftRead, less};
 ghost use Rattle.file_theory.specs.Contents.{fileOf};
-ghost use Rattle.file_build.specs.Kernels.{OrderNeeded, FitNeeded};
+ghost use Rattle.file_build.specs.Inner.Fitting.{OrderNeeded, FitNeeded};
 
 // The space left after the row lines of a picture.
 fn rows_left(room: usize, picture: &[u8], size: Size) -> Left

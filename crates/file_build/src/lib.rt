@@ -10,7 +10,7 @@ ghost use mathlib.Core.Path.{_≡_};
 ghost use Rattle.pictures.specs.Refusals.{given, refusal};
 ghost use Rattle.file_theory.specs.Rules.{buildRules};
 ghost use Rattle.file_build.specs.Building.{BuildGiven};
-ghost use Rattle.file_build.specs.Kernels.{BuildNeeded, FileGiven};
+ghost use Rattle.file_build.specs.Inner.Building.{BuildNeeded, FileGiven};
 
 // The multi-size file of a picture, put into the front of out: its length. Refused by 2, 3, 4, 6 and 8.
 pub fn build(picture: &[u8], head: Head, out: &mut [u8], work: &mut [u8]) -> Built

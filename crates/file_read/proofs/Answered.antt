@@ -18,7 +18,8 @@ use Rattle.file_theory.specs.Rules.{partRules, judgedRules, formRules}
 use Rattle.file_rules.specs.declared.answers.Checked.{Checked}
 use Rattle.file_rules.specs.declared.answers.Checked.the-variants as checks
 use Rattle.file_rules.specs.Answers.{checkedNumber}
-use Rattle.file_read.specs.Kernels.{OpenGiven, Open, judgedIn, MapJudged}
+use Rattle.file_read.specs.Inner.Opening.{OpenGiven, Open}
+use Rattle.file_read.specs.Inner.Checking.{judgedIn, MapJudged}
 use Rattle.file_read.proofs.Parsed.{partsWith, opened}
 
 -- What 1 to 6 refuse is refused so, whatever other rules follow.

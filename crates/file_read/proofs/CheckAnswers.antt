@@ -21,7 +21,8 @@ use Rattle.file_rules.specs.declared.answers.Checked.{Checked}
 use Rattle.file_rules.specs.declared.answers.Checked.the-variants as checks
 use Rattle.file_rules.specs.Spaces.{workRules}
 use Rattle.file_read.specs.Reading.{CheckGiven}
-use Rattle.file_read.specs.Kernels.{OpenGiven, MapJudged}
+use Rattle.file_read.specs.Inner.Opening.{OpenGiven}
+use Rattle.file_read.specs.Inner.Checking.{MapJudged}
 use Rattle.file_read.proofs.Parsed.{opened}
 use Rattle.file_read.proofs.Answered.{early-number, early-work, is-open, own-number, judged-number, judged-work}
 

@@ -21,7 +21,7 @@ use Rattle.text_read.specs.Lines.{mapLine, Taken}
 use Rattle.map_show.specs.Showing.{rowShown, RowShown}
 use Rattle.map_show.proofs.Judging.{row-served}
 use Rattle.file_theory.specs.Shows.{rowsIn, mapsIn, shows, drawnBytes}
-use Rattle.file_read.specs.Kernels.{LinesNeeded}
+use Rattle.file_read.specs.Inner.Widths.{LinesNeeded}
 use Rattle.file_read.proofs.Parsed.{Parsed, opened}
 use Rattle.file_read.proofs.Offered.{Roomy, sound, roomy, picture-fits}
 use Rattle.file_read.proofs.Filled.{FilledTo, filled-step, filled-done}

@@ -26,7 +26,9 @@ use Rattle.file_theory.specs.Rules.{judgedRules}
 use Rattle.file_theory.specs.Shows.{rowsIn, mapsIn, sized, showsIn, shows, drawnBytes}
 use Rattle.file_theory.proofs.Shapes.{all-each, each-all}
 use Rattle.file_theory.proofs.Pixels.{average-pixel, all-shown}
-use Rattle.file_read.specs.Kernels.{judgedIn, RowsRead, DrawNeeded, LinesNeeded}
+use Rattle.file_read.specs.Inner.Checking.{judgedIn}
+use Rattle.file_read.specs.Inner.Lines.{RowsRead}
+use Rattle.file_read.specs.Inner.Widths.{DrawNeeded, LinesNeeded}
 use Rattle.file_read.proofs.Parsed.{Parsed, opened, partsWith}
 use Rattle.file_read.proofs.Places.{bytes-long}
 use Rattle.file_read.proofs.Offered.{roomy, picture-fits, sound}

@@ -10,7 +10,7 @@ use Rattle.pictures.specs.declared.sizes.Size.{Size}
 use Rattle.pictures.specs.Refusals.{refusal}
 use Rattle.pictures.specs.Pictures.{channelsOf, pictureBytes, pixels}
 use Rattle.pictures.proofs.Rules.{passed}
-use Rattle.seam_rules.proofs.Turns.{bytes-few}
+use Rattle.pictures.proofs.Limits.{bytes-few}
 use Rattle.map_theory.specs.Widths.{offered}
 use Rattle.map_theory.proofs.Shown.{offered-is}
 use Rattle.text_theory.specs.declared.Head.{Head}

@@ -10,7 +10,7 @@ use Rattle.pictures.specs.declared.refusals.Refusal.{Refusal}
 use Rattle.pictures.specs.declared.refusals.Refusal.the-variants.{Form, Count, Range}
 use Rattle.pictures.specs.declared.refusals.Verdict.{Verdict}
 use Rattle.pictures.specs.declared.refusals.Verdict.the-variants as verdicts
-use Rattle.pictures.specs.Refusals.{Rule, _when_, numberOf, given, refusal}
+use Rattle.pictures.specs.Refusals.{Rule, numberOf, given, refusal}
 use Rattle.pictures.specs.Pictures.{sideRules}
 use Rattle.pictures.proofs.Rules.{served-first, refused-answer, kept-by}
 use Rattle.map_theory.specs.Widths.{allowed}
@@ -21,7 +21,7 @@ use Rattle.text_scan.specs.Facts.{evenly, factsOf, factsIn}
 use Rattle.file_theory.specs.Rules.{filled, partRules}
 use Rattle.file_theory.specs.Shows.{headIn}
 use Rattle.file_rules.specs.declared.answers.Checked.the-variants as checks
-use Rattle.file_read.specs.Kernels.{OpenGiven}
+use Rattle.file_read.specs.Inner.Opening.{OpenGiven}
 
 -- Whether all rows are as long as the width says: said of their lengths, and of the rows.
 even-rows : {A : Type 0} (w : ℕ) (rows : List (List A)) → evenly w (map length rows) ≡ every (λ xs. eqb (length xs) w) rows

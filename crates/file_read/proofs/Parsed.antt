@@ -19,7 +19,7 @@ use Rattle.text_read.proofs.Callers.{head-line}
 use Rattle.file_theory.specs.Rules.{partRules, formRules}
 use Rattle.file_theory.specs.Shows.{headIn, rowsIn, mapsIn}
 use Rattle.file_theory.proofs.Shaped.{shaped-is, shaped-picture, allowed-ofSize}
-use Rattle.file_read.specs.Kernels.{Open, mapLines, rowLines}
+use Rattle.file_read.specs.Inner.Opening.{Open, mapLines, rowLines}
 
 -- The parts of a text, with size and range h.
 abbrev pub partsWith : Head → Option Parts → Parts

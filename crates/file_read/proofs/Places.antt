@@ -28,7 +28,7 @@ use Rattle.text_read.specs.Answers.{read}
 use Rattle.text_read.specs.Lines.{rowLine, mapLine, Taken}
 use Rattle.text_read.proofs.Callers.{LineMet, rows-next, maps-next, taken-row, taken-map}
 use Rattle.file_theory.specs.Shows.{rowsIn, mapsIn}
-use Rattle.file_read.specs.Kernels.{mapLines, rowLines}
+use Rattle.file_read.specs.Inner.Opening.{mapLines, rowLines}
 use Rattle.file_read.proofs.Parsed.{Parsed}
 
 -- The bytes of a map, two a pixel.

@@ -25,7 +25,9 @@ use Rattle.file_theory.specs.Shows.{headIn, rowsIn, mapsIn}
 use Rattle.file_rules.specs.declared.answers.Checked.{Checked}
 use Rattle.file_rules.specs.declared.answers.Checked.the-variants as checks
 use Rattle.file_read.specs.Reading.{ReadGiven}
-use Rattle.file_read.specs.Kernels.{OpenGiven, Open, RowsRead, MapJudged}
+use Rattle.file_read.specs.Inner.Opening.{OpenGiven, Open}
+use Rattle.file_read.specs.Inner.Lines.{RowsRead}
+use Rattle.file_read.specs.Inner.Checking.{MapJudged}
 use Rattle.file_rules.specs.Spaces.{spaceRules}
 use Rattle.file_read.proofs.Parsed.{opened}
 use Rattle.file_read.proofs.Answered.{early-number, early-kept, early-work, own-number, judged-number, judged-work}

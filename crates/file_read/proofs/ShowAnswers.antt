@@ -18,7 +18,9 @@ use Rattle.file_theory.specs.Shows.{sized, showsIn, shows, drawnSize, drawnByte
 use Rattle.file_rules.specs.declared.answers.Checked.the-variants as checks
 use Rattle.file_rules.specs.declared.answers.Shown.the-variants as showings
 use Rattle.file_read.specs.Reading.{ShowGiven}
-use Rattle.file_read.specs.Kernels.{OpenGiven, Open, judgedIn, MapJudged, DrawGiven}
+use Rattle.file_read.specs.Inner.Opening.{OpenGiven, Open}
+use Rattle.file_read.specs.Inner.Checking.{judgedIn, MapJudged}
+use Rattle.file_read.specs.Inner.Widths.{DrawGiven}
 use Rattle.file_rules.specs.Spaces.{offerRules}
 use Rattle.file_read.proofs.Parsed.{opened}
 use Rattle.file_read.proofs.Answered.{early-number, early-work, own-number, judged-number, judged-work}

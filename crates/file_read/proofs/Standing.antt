@@ -18,7 +18,7 @@ use Rattle.pictures.specs.Pictures.{pictureBytes, picture, bytes, pixels, pictu
 use Rattle.pictures.proofs.Rules.{both, served-first}
 use Rattle.pictures.proofs.Buffers.{picture-bytes, length-bytes}
 use Rattle.map_theory.specs.Widths.{allowed}
-use Rattle.seam_rules.proofs.Turns.{bytes-few}
+use Rattle.pictures.proofs.Limits.{bytes-few}
 use Rattle.map_build.specs.Numbers.{pairs}
 use Rattle.map_rules.specs.Spaces.{mapBytes, mapSpaceRules}
 use Rattle.map_rules.proofs.Rooms.{room-served}
@@ -29,7 +29,7 @@ use Rattle.map_check.proofs.Answers.{worked-judged}
 use Rattle.text_theory.specs.declared.Head.{Head}
 use Rattle.text_theory.specs.Files.{parse}
 use Rattle.file_theory.specs.Shows.{rowsIn, mapsIn}
-use Rattle.file_read.specs.Kernels.{judgedIn, MapJudged}
+use Rattle.file_read.specs.Inner.Checking.{judgedIn, MapJudged}
 use Rattle.file_read.proofs.Parsed.{Parsed}
 use Rattle.file_read.proofs.Places.{map-bytes}
 

@@ -6,7 +6,7 @@ use pictures::Verdict;
 use text_theory::Head;
 ghost use lib.ListN.{length};
 ghost use Rattle.file_read.specs.Reading.{CheckGiven};
-ghost use Rattle.file_read.specs.Kernels.{JudgeNeeded, MapJudged};
+ghost use Rattle.file_read.specs.Inner.Checking.{JudgeNeeded, MapJudged};
 
 // Checks a file: whether each seam that its map records is the one found in the picture then left. Refused by 1, 2, 3, 4, 6, 8,
 // 9, 10 and 11.

@@ -12,7 +12,7 @@ ghost use Rattle.map_build.specs.Numbers.{pairs};
 ghost use Rattle.map_rules.specs.Spaces.{mapBytes};
 ghost use Rattle.text_theory.specs.Files.{parse};
 ghost use Rattle.file_theory.specs.Shows.{mapsIn};
-ghost use Rattle.file_read.specs.Kernels.{RowsNeeded, RowsRead, MapsNeeded};
+ghost use Rattle.file_read.specs.Inner.Lines.{RowsNeeded, RowsRead, MapsNeeded};
 
 // Reads the row lines into the front of the space, the picture of the file, and gives the place behind them.
 pub(crate) fn read_rows(file: &[u8], head: Head, rows: Cursor, space: &mut [u8]) -> Cursor

@@ -10,7 +10,7 @@ use text_theory::Head;
 ghost use mathlib.Core.Path.{_≡_};
 ghost use lib.ListN.{drop};
 ghost use Rattle.text_theory.specs.Files.{parse};
-ghost use Rattle.file_read.specs.Kernels.{OpenGiven, Open, rowLines};
+ghost use Rattle.file_read.specs.Inner.Opening.{OpenGiven, Open, rowLines};
 
 // Which of 1 to 6 refuses a file; else its size and range.
 pub(crate) fn open(file: &[u8]) -> Checked

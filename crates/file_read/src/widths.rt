@@ -12,7 +12,7 @@ use text_theory::Head;
 ghost use mathlib.Core.Path.{_≡_};
 ghost use lib.ListN.{length, replicate};
 ghost use Rattle.file_read.specs.Reading.{ShowGiven};
-ghost use Rattle.file_read.specs.Kernels.{DrawNeeded, DrawGiven, LinesNeeded};
+ghost use Rattle.file_read.specs.Inner.Widths.{DrawNeeded, DrawGiven, LinesNeeded};
 
 // The picture that a file shows at the wanted width, put into the front of out, and its size. Refused by what checking
 // refuses, by 7 where the width isn't offered, and by 8 where out is shorter than the picture.

@@ -19,9 +19,9 @@ use Rattle.seam_theory.proofs.Choosing.{seam-chooses}
 use Rattle.file_theory.specs.Contents.{partsOf, fileOf}
 use Rattle.file_theory.specs.Rules.{partRules, judgedRules, workRule}
 use Rattle.file_theory.specs.Shows.{Accepted}
-use Rattle.file_theory.specs.Demands.{AcceptedParts, Built}
+use Rattle.file_theory.specs.Demands.{AcceptedParts, Built, Shaped}
 use Rattle.file_theory.proofs.Checked.{checked, check-some, check-none, checked-work, room, room-not}
-use Rattle.file_theory.proofs.Shaped.{Shaped, shaped-is, shaped-picture, built-shaped, built-within}
+use Rattle.file_theory.proofs.Shaped.{shaped-is, shaped-picture, built-shaped, built-within}
 
 -- Accepted is: the text has its form, and neither the parts nor the map are refused.
 pub accepted-parts : (f : List ℕ) → Accepted f ↔ AcceptedParts f

@@ -4,12 +4,11 @@ use mathlib.Core.Bool.{true}
 use mathlib.Core.Option.{Option, none, some}
 use mathlib.Core.List.{List}
 use Prim.Native.Nat.{ℕ}
-use Rattle.pictures.specs.Refusals.{Rule}
-use Rattle.pictures.proofs.Rules.{ascending, smallest, given-applies}
+use Rattle.pictures.specs.Refusals.{Rule, SmallestGiven, ascending}
+use Rattle.pictures.proofs.Rules.{given-smallest}
 use Rattle.text_theory.specs.declared.Head.{Head}
 use Rattle.text_theory.specs.Files.{Parts, parse}
 use Rattle.file_theory.specs.Rules.{formRules, checkRules, readRules, showRules, buildRules}
-use Rattle.file_theory.specs.Demands.{SmallestGiven}
 
 -- Where the rules of all parts ascend, so do those of a text.
 pub form-ascending : (rules : Parts → List Rule) → ((p : Parts) → ascending 1 (rules p) ≡ true) → (o : Option Parts) → ascending 1 (formRules rules o) ≡ true
@@ -29,9 +28,6 @@ pub build-ascending : (b : List ℕ) (h : Head) (out work : ℕ) → ascending 1
 build-ascending b h out work = refl
 
 -- "Of several, the smallest number is given."
-pub given-smallest : (rules : List Rule) → ascending 1 rules ≡ true → SmallestGiven rules
-given-smallest rules a = record { applies = given-applies rules; least = smallest 1 rules a }
-
 pub check-smallest : (f : List ℕ) (work : ℕ) → SmallestGiven (checkRules f work)
 check-smallest f work = given-smallest (checkRules f work) (check-ascending f work)
 

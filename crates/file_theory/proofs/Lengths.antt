@@ -11,8 +11,8 @@ use Rattle.seam_theory.specs.Paths.{run}
 use Rattle.pictures.specs.declared.sizes.Kind.{Kind}
 use Rattle.pictures.specs.Pictures.{Picture, OfSize}
 use Rattle.map_theory.specs.Maps.{insertAt, later, numberRow, mapOf}
-use Rattle.map_theory.specs.Judged.{columnOf, Numbering}
-use Rattle.map_theory.proofs.Lowered.{lowerRow, number-lower-row, length-lower-row}
+use Rattle.map_theory.specs.Judged.{columnOf, Numbering, lowerRow}
+use Rattle.map_theory.proofs.Lowered.{number-lower-row, length-lower-row}
 use Rattle.map_theory.proofs.Numberings.{numbering-none, numbering-lower}
 use Rattle.map_theory.proofs.Doubled.{zeros-numbering}
 use Rattle.map_theory.proofs.Maps.{map-grid, map-numbered}

@@ -10,7 +10,7 @@ use borrow.Author.Tests.{leb-true, not-false}
 use Rattle.grids.specs.Each.{Each, Grid}
 use Rattle.grids.proofs.Shapes.{each-any, each-weaken, grid-of}
 use Rattle.pictures.specs.declared.sizes.Size.{Size}
-use Rattle.pictures.specs.Refusals.{_when_, refusal}
+use Rattle.pictures.specs.Refusals.{refusal}
 use Rattle.pictures.specs.Pictures.{Picture, sideRules, OfSize}
 use Rattle.pictures.proofs.Rules.{served-first, served-both, passed}
 use Rattle.pictures.proofs.Limits.{sides-are}
@@ -25,15 +25,8 @@ use Rattle.seam_theory.specs.PictureSeams.{seamOf}
 use Rattle.seam_theory.proofs.Choosing.{seam-chooses}
 use Rattle.file_theory.specs.Contents.{partsOf}
 use Rattle.file_theory.specs.Rules.{filled, partRules}
-use Rattle.file_theory.specs.Demands.{AllowedPicture}
+use Rattle.file_theory.specs.Demands.{AllowedPicture, Shaped}
 use Rattle.file_theory.proofs.Shapes.{all-each, each-all, filled-is}
-
--- What it says of parts that 2, 3, 4 and 6 don't refuse them.
-pub record Shaped (p : Parts) : Type 0 where
-  pub sides : refusal (sideRules (p .head .size)) ≡ 0
-  pub rows : Grid (p .head .size .width) (p .head .size .height) (p .rows)
-  pub maps : Grid (p .head .size .width) (p .head .size .height) (p .maps)
-  pub range : allowed (p .head .size .width) (p .head .depth) (p .head .growth) ≡ true
 
 pub shaped-is : (p : Parts) → (refusal (partRules p) ≡ 0) ↔ Shaped p
 shaped-is p = (there, back)

@@ -23,9 +23,9 @@ use Rattle.seam_theory.proofs.Characterised.{seam-is, seam-some}
 use Rattle.seam_theory.proofs.Choosing.{seam-chooses}
 use Rattle.file_theory.specs.Rules.{partRules, judgedRules, checkRules}
 use Rattle.file_theory.specs.Shows.{Accepted}
-use Rattle.file_theory.specs.Demands.{WellFormed, WellFormedParts}
+use Rattle.file_theory.specs.Demands.{WellFormed, WellFormedParts, Shaped}
 use Rattle.file_theory.proofs.Checked.{checked, check-some, check-none, checked-refused, checked-work, room, judged-numbered, zero-or, room-not}
-use Rattle.file_theory.proofs.Shaped.{Shaped, shaped-is}
+use Rattle.file_theory.proofs.Shaped.{shaped-is}
 use Rattle.file_theory.proofs.Accepting.{accepted-parts, accepted-judged, judged-built}
 
 -- Well-formed is the same without 10 and 11.

@@ -3,12 +3,12 @@ use mathlib.Core.Path.{_≡_}
 use mathlib.Core.Logic.{_⊎_}
 use mathlib.Core.Bool.{true}
 use mathlib.Core.Option.{some}
-use mathlib.Core.List.{List, List·Memᴰ}
-use Prim.Native.Nat.{ℕ, _≤_, _<_}
+use mathlib.Core.List.{List}
+use Prim.Native.Nat.{ℕ, _<_}
 use lib.ListN.{length}
-use Rattle.grids.specs.Each.{Each}
+use Rattle.grids.specs.Each.{Each, Grid}
 use Rattle.pictures.specs.declared.sizes.Size.{Size}
-use Rattle.pictures.specs.Refusals.{Rule, _when_, refusal}
+use Rattle.pictures.specs.Refusals.{refusal}
 use Rattle.pictures.specs.Pictures.{Picture, sideRules}
 use Rattle.map_theory.specs.Widths.{allowed, offered}
 use Rattle.map_theory.specs.Judged.{every, numbers}
@@ -18,17 +18,19 @@ use Rattle.file_theory.specs.Contents.{fileOf}
 use Rattle.file_theory.specs.Rules.{partRules, judgedRules, checkRules}
 use Rattle.file_theory.specs.Shows.{Accepted, offers, Drawn, shows, original}
 
--- "Of several, the smallest number is given": where one is given, it is that of a rule that applies, and no rule that applies
--- has a smaller one.
-pub record SmallestGiven (rules : List Rule) : Type 0 where
-  pub applies : 0 < refusal rules → List·Memᴰ (refusal rules when true) rules
-  pub least : (n : ℕ) → List·Memᴰ (n when true) rules → refusal rules ≤ n
-
--- "A picture is allowed when 'Pictures' admits its size and kind": sides of 1 to 512, and as many rows of as many pixels as
+-- "A picture is allowed when 'Pictures' admits its size and kind": sides of 1 to `largestSide`, and as many rows of as many pixels as
 -- they say, each with as many samples as its kind says, each sample a byte.
 pub record AllowedPicture (z : Size) (p : Picture) : Type 0 where
   pub sides : refusal (sideRules z) ≡ 0
   pub pixels : Each (Each (Pixel (z .kind)) (z .width)) (z .height) p
+
+-- Parts that 2, 3, 4 and 6 don't refuse: a size within the limits, as many rows of as many pixels and of as many map numbers
+-- as it says, and a range that is allowed.
+pub record Shaped (p : Parts) : Type 0 where
+  pub sides : refusal (sideRules (p .head .size)) ≡ 0
+  pub rows : Grid (p .head .size .width) (p .head .size .height) (p .rows)
+  pub maps : Grid (p .head .size .width) (p .head .size .height) (p .maps)
+  pub range : allowed (p .head .size .width) (p .head .depth) (p .head .growth) ≡ true
 
 -- "A file is well-formed when none of 1 to 9 is given", in every work space that 8 doesn't refuse.
 abbrev pub WellFormed : List ℕ → Type 0

@@ -5,18 +5,16 @@ use mathlib.Core.List.{List, [], _∷_, _++_}
 use Prim.Native.Nat.{ℕ, _*_}
 use lib.Dec.{eqb, ltb}
 use lib.ListN.{length}
-use Rattle.seam_theory.specs.Paths.{beside}
 use Rattle.pictures.specs.declared.sizes.Size.{Size}
-use Rattle.pictures.specs.Refusals.{Rule, _when_}
-use Rattle.pictures.specs.Pictures.{channelsOf, sideRules, sizeRules, pictureBytes, picture, pixels}
+use Rattle.pictures.specs.Refusals.{Rule}
+use Rattle.pictures.specs.Pictures.{channelsOf, sideRules, sizeRules, pictureBytes, picture, pixels, workBytes}
 use Rattle.map_theory.specs.Widths.{allowed, offered}
 use Rattle.map_theory.specs.Judged.{every, mapRules}
 use Rattle.text_theory.specs.declared.Head.{Head}
 use Rattle.text_theory.specs.Files.{Parts, parse}
-use Rattle.seam_theory.specs.PictureSeams.{seamOf}
-use Rattle.file_theory.specs.Contents.{fileOf}
+use Rattle.file_theory.specs.Contents.{chooseOf, nearOf, fileOf}
 
--- So many rows of so many items.
+-- h rows of w items each.
 unfoldable pub filled : {A : Type 0} → ℕ → ℕ → List (List A) → Bool
 filled w h rows = eqb (length rows) h && every (λ xs. eqb (length xs) w) rows
 
@@ -31,7 +29,7 @@ partRules p =
 
 -- 9, 10 and 11: the map is judged, seam by seam, by the seam found.
 abbrev pub judgedRules : Parts → List Rule
-judgedRules p = mapRules (λ w. beside) seamOf (p .head .size .width) (p .head .size .height) (p .head .depth) (p .rows) (p .maps)
+judgedRules p = mapRules (nearOf (p .head)) (chooseOf (p .head)) (p .head .size .width) (p .head .size .height) (p .head .depth) (p .rows) (p .maps)
 
 -- 1: the text breaks its form; else what is said of its parts.
 abbrev pub formRules : (Parts → List Rule) → Option Parts → List Rule
@@ -40,9 +38,9 @@ formRules rules (some p) = rules p
 
 -- 8: "work space under 32 bytes a pixel".
 abbrev pub workRule : Size → ℕ → Rule
-workRule z work = 8 when ltb work (32 * pixels z)
+workRule z work = 8 when ltb work (workBytes z)
 
--- Checking, in a work space of so many bytes.
+-- Checking, in a work space of `work` bytes.
 abbrev pub checkRules : List ℕ → ℕ → List Rule
 checkRules file work = formRules (λ p. partRules p ++ (workRule (p .head .size) work ∷ judgedRules p)) (parse file)
 

@@ -8,9 +8,10 @@ use lib.ListN.{length}
 use Rattle.pictures.specs.declared.sizes.Size.{Size}
 use Rattle.pictures.specs.Refusals.{refusal}
 use Rattle.pictures.specs.Pictures.{Picture, bytes}
-use Rattle.map_theory.specs.Widths.{offered, shown, average}
+use Rattle.map_theory.specs.Widths.{offered, shown}
 use Rattle.text_theory.specs.declared.Head.{Head}
 use Rattle.text_theory.specs.Files.{Parts, parse}
+use Rattle.file_theory.specs.Contents.{meanOf}
 use Rattle.file_theory.specs.Rules.{checkRules}
 
 -- "a file is any list of bytes, and it is accepted when checking accepts it in every work space that 8 doesn't refuse"
@@ -36,7 +37,7 @@ sized v z = record { width = v; height = z .height; kind = z .kind }
 -- "What it shows at one of them is the picture of its kind that 'The map and the widths' defines."
 abbrev pub showsIn : Option Parts → ℕ → Option Drawn
 showsIn none v = none
-showsIn (some p) v = some (record { size = sized v (p .head .size); rows = shown average (p .head .size .width) v (p .rows) (p .maps) })
+showsIn (some p) v = some (record { size = sized v (p .head .size); rows = shown (meanOf (p .head)) (p .head .size .width) v (p .rows) (p .maps) })
 
 unfoldable pub shows : List ℕ → ℕ → Option Drawn
 shows file v = showsIn (parse file) v

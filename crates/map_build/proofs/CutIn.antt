@@ -11,14 +11,15 @@ use borrow.Rule.Slice.PartMut.{putMid, midOf}
 use Rattle.grids.specs.Cut.{cut}
 use Rattle.grids.proofs.Parts.{put-part}
 use Rattle.pictures.specs.declared.sizes.Size.{Size}
-use Rattle.pictures.specs.Refusals.{_when_, refusal}
+use Rattle.pictures.specs.Refusals.{refusal}
 use Rattle.pictures.specs.Pictures.{channelsOf, sideRules, pictureBytes, bytes, pixels, pictureIn}
 use Rattle.pictures.proofs.Rules.{served-first}
 use Rattle.seam_rules.specs.declared.answers.Found.{Found}
 use Rattle.seam_theory.specs.PictureSeams.{seamOf}
 use Rattle.seam_find.specs.Finding.{findRules}
 use Rattle.seam_cut.specs.Cutting.{cutInRules, CutInGiven}
-use Rattle.map_build.specs.Kernels.{writeRows, NextGiven}
+use Rattle.map_build.specs.Inner.Rows.{writeRows}
+use Rattle.map_build.specs.Inner.Seams.{NextGiven}
 
 module _ (space : List ℕ) (z : Size) (seam : List ℕ) (answer : Found) (space′ seam′ : List ℕ)
     (g : CutInGiven space z seam (refusal (cutInRules z (length space) (length seam))) answer space′ seam′)

@@ -11,11 +11,11 @@ use Rattle.grids.proofs.Parts.{put-part}
 use Rattle.pictures.specs.declared.sizes.Size.{Size}
 use Rattle.pictures.specs.Pictures.{channelsOf, pictureBytes, picture, OfSize, pixels, pictureIn}
 use Rattle.pictures.proofs.Buffers.{picture-ofSize}
-use Rattle.seam_rules.proofs.Turns.{sides-of}
+use Rattle.pictures.proofs.Limits.{sides-of}
 use Rattle.map_rules.specs.Spaces.{mapBytes, mapAt}
 use Rattle.map_rules.proofs.Rooms.{Room}
 use Rattle.map_build.specs.Building.{mapped}
-use Rattle.map_build.specs.Kernels.{NextNeeded}
+use Rattle.map_build.specs.Inner.Seams.{NextNeeded}
 use Rattle.map_build.proofs.Steps.{leftSize, first-mapped}
 
 -- The picture that stands there is of its size.

@@ -22,7 +22,8 @@ use Rattle.map_build.specs.Numbers.{pairs}
 use Rattle.map_rules.specs.Spaces.{mapBytes, mapAt}
 use Rattle.map_build.specs.Building.{mapped}
 use Rattle.map_build.specs.Writing.{writePair}
-use Rattle.map_build.specs.Kernels.{writeRows, NextGiven}
+use Rattle.map_build.specs.Inner.Rows.{writeRows}
+use Rattle.map_build.specs.Inner.Seams.{NextGiven}
 use Rattle.map_build.proofs.Pairs.{pairs-flat, grid-pairs, pairs-zeros, write-all-pairs}
 use Rattle.map_build.proofs.Lists.{drop-replicate}
 use Rattle.seam_theory.proofs.Choosing.{seam-chooses}

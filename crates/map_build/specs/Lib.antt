@@ -1,4 +1,4 @@
 pub mod Numbers
 pub mod Writing
 pub mod Building
-pub mod Kernels
+pub mod Inner

@@ -6,7 +6,7 @@ use pictures::Size;
 use pictures::Verdict;
 ghost use lib.ListN.{length};
 ghost use Rattle.map_build.specs.Building.{MapGiven};
-ghost use Rattle.map_build.specs.Kernels.{NextNeeded, NextGiven, SeamsNeeded, SeamsGiven};
+ghost use Rattle.map_build.specs.Inner.Seams.{NextNeeded, NextGiven, SeamsNeeded, SeamsGiven};
 
 // The map of this depth of the picture at the front of the space. After the picture stand a byte for each pixel, for work,
 // and two bytes for each pixel, for the map. The picture is left without its first `depth` seams, packed at the front, and

@@ -3,7 +3,7 @@ ghost use mathlib.Core.Path.{_≡_};
 ghost use Prim.Native.Nat.{_+_, _*_};
 ghost use lib.ListN.{length};
 ghost use Rattle.map_build.specs.Writing.{writePair};
-ghost use Rattle.map_build.specs.Kernels.{zeroPairs, SkipGiven};
+ghost use Rattle.map_build.specs.Inner.Marks.{zeroPairs, SkipGiven};
 
 // The number of two bytes.
 fn number(low: u8, high: u8) -> usize

@@ -1,7 +1,7 @@
 // A number written into the rows of a map.
 use crate::marks;
 ghost use mathlib.Core.Path.{_≡_};
-ghost use Rattle.map_build.specs.Kernels.{writeRows, RowsNeeded};
+ghost use Rattle.map_build.specs.Inner.Rows.{writeRows, RowsNeeded};
 
 // A seam's column as a number to count with.
 fn column(c: u16) -> usize

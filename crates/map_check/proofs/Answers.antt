@@ -14,7 +14,7 @@ use Rattle.grids.proofs.Shapes.{grid-of}
 use Rattle.seam_theory.specs.Paths.{beside}
 use Rattle.pictures.specs.declared.sizes.Size.{Size}
 use Rattle.pictures.specs.declared.refusals.Verdict.{Verdict}
-use Rattle.pictures.specs.Refusals.{_when_, given, refusal, served, worked}
+use Rattle.pictures.specs.Refusals.{given, refusal, served, worked}
 use Rattle.pictures.specs.Pictures.{Picture, pictureBytes, picture, pixels, pictureIn}
 use Rattle.map_theory.specs.Maps.{mapOf}
 use Rattle.map_theory.specs.Judged.{every, same, numbers, connected, found}
@@ -31,7 +31,7 @@ use Rattle.seam_theory.proofs.Choosing.{seam-chooses}
 use Rattle.map_build.proofs.Spaces.{there-ofSize}
 use Rattle.map_build.proofs.Steps.{map-long, drop-front}
 use Rattle.map_check.specs.Checking.{numbersIn, recordedAt, recordedIn, recordedRules}
-use Rattle.map_check.specs.Kernels.{besideBuilt}
+use Rattle.map_check.specs.Inner.Judging.{besideBuilt}
 use Rattle.map_check.proofs.Recorded.{numbers-pairs, length-numbers}
 use Rattle.map_check.proofs.Spaces.{Fits}
 

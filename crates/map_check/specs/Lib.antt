@@ -1,2 +1,2 @@
 pub mod Checking
-pub mod Kernels
+pub mod Inner

@@ -10,7 +10,7 @@ ghost use lib.ListN.{length};
 ghost use Rattle.pictures.specs.Refusals.{given, refusal};
 ghost use Rattle.pictures.specs.Pictures.{pictureIn};
 ghost use Rattle.map_check.specs.Checking.{recordedIn, recordedRules, JudgeGiven};
-ghost use Rattle.map_check.specs.Kernels.{JudgeNeeded, MapsNeeded, besideBuilt};
+ghost use Rattle.map_check.specs.Inner.Judging.{JudgeNeeded, MapsNeeded, besideBuilt};
 
 // Judges the map recorded in the space for the picture at its front. In the space stand, one after the other: the picture, a
 // byte for each pixel and two bytes for each pixel for work, and the recorded map, two bytes a number, the low byte first.

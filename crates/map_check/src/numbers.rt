@@ -7,7 +7,7 @@ ghost use Rattle.grids.specs.Rows.{rowsOf};
 ghost use Rattle.seam_theory.specs.Paths.{run};
 ghost use Rattle.map_theory.specs.Judged.{every, same, numbers};
 ghost use Rattle.map_check.specs.Checking.{numbersIn};
-ghost use Rattle.map_check.specs.Kernels.{RowNeeded, CountsNeeded, CountsGiven, MapNeeded};
+ghost use Rattle.map_check.specs.Inner.Numbers.{RowNeeded, CountsNeeded, CountsGiven, MapNeeded};
 
 // A byte as a number to count with.
 fn wide(b: u8) -> usize

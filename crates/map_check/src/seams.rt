@@ -7,7 +7,8 @@ ghost use Rattle.grids.specs.Rows.{rowsOf};
 ghost use Rattle.seam_theory.specs.Paths.{beside as Paths·beside};
 ghost use Rattle.map_theory.specs.Judged.{columnOf, connected};
 ghost use Rattle.map_check.specs.Checking.{numbersIn};
-ghost use Rattle.map_check.specs.Kernels.{ColumnNeeded, ColumnGiven, MapNeeded};
+ghost use Rattle.map_check.specs.Inner.Seams.{ColumnNeeded, ColumnGiven};
+ghost use Rattle.map_check.specs.Inner.Numbers.{MapNeeded};
 
 // The column of number t in what is left of a row before seam t.
 fn column_of(row: &[u8], t: usize) -> usize

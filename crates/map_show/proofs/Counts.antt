@@ -14,7 +14,7 @@ use Rattle.map_theory.specs.Widths.{doubled, keepRow, rowAtWidth}
 use Rattle.map_theory.specs.Judged.{tick}
 use Rattle.map_theory.proofs.Doubled as maps
 use Rattle.map_theory.proofs.Widths.{length-consIf, length-keep, length-grow, at-narrow, at-wide}
-use Rattle.map_show.specs.Kernels.{doubledIn, pixelsAt}
+use Rattle.map_show.specs.Inner.Rows.{doubledIn, pixelsAt}
 
 -- The loop that counts the numbers 1 to u: what was counted and what is to come.
 module _ (u : ℕ) (ys : List ℕ) (c n all : ℕ) where

@@ -13,7 +13,8 @@ use Rattle.seam_theory.specs.Paths.{consIf}
 use Rattle.pictures.specs.declared.sizes.Kind.{Kind}
 use Rattle.pictures.specs.Pictures.{channelsOf}
 use Rattle.map_theory.specs.Widths.{doubled, growFrom, growRow, average}
-use Rattle.map_show.specs.Kernels.{pixels, grown, lastPixels, PixelNeeded, MeanNeeded, LastNeeded}
+use Rattle.map_show.specs.Inner.Rows.{pixels, grown, lastPixels, LastNeeded}
+use Rattle.map_show.specs.Inner.Pixels.{PixelNeeded, MeanNeeded}
 use Rattle.map_show.proofs.Filling.{Filling, fill-start, fill-as, fill-room, fill-more, fill-end}
 use Rattle.map_show.proofs.Samples.{length-average}
 use Rattle.map_show.proofs.Places.{pixel-at, below, pixel-end, length-pixel}

@@ -11,7 +11,7 @@ use Rattle.pictures.specs.declared.refusals.Verdict.{Verdict}
 use Rattle.pictures.specs.Refusals.{refusal, served}
 use Rattle.pictures.specs.Pictures.{channelsOf}
 use Rattle.map_show.specs.Showing.{rowShown, rowRules, RowShown}
-use Rattle.map_show.specs.Kernels.{pixelsAt, kept, grown, RowNeeded}
+use Rattle.map_show.specs.Inner.Rows.{pixelsAt, kept, grown, RowNeeded}
 use Rattle.map_show.proofs.Lengths.{length-shown, narrow-is, wide-is}
 
 module _ (k : Kind) (samples ys : List ℕ) (v : ℕ) (out : List ℕ) where

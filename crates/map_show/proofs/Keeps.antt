@@ -12,7 +12,8 @@ use Rattle.seam_theory.specs.Paths.{consIf}
 use Rattle.pictures.specs.declared.sizes.Kind.{Kind}
 use Rattle.pictures.specs.Pictures.{channelsOf}
 use Rattle.map_theory.specs.Widths.{stays, keepRow}
-use Rattle.map_show.specs.Kernels.{pixels, kept, PixelNeeded}
+use Rattle.map_show.specs.Inner.Rows.{pixels, kept}
+use Rattle.map_show.specs.Inner.Pixels.{PixelNeeded}
 use Rattle.map_show.proofs.Filling.{Filling, fill-start, fill-as, fill-room, fill-more, fill-end}
 use Rattle.map_show.proofs.Places.{pixel-at, below, pixel-end, length-pixel}
 

@@ -11,7 +11,8 @@ use Rattle.grids.specs.Rows.{rowAt}
 use Rattle.pictures.specs.declared.sizes.Kind.{Kind}
 use Rattle.pictures.specs.Pictures.{channelsOf}
 use Rattle.map_theory.specs.Widths.{average}
-use Rattle.map_show.specs.Kernels.{lastPixels, PixelNeeded, MeanNeeded, LastNeeded}
+use Rattle.map_show.specs.Inner.Rows.{lastPixels, LastNeeded}
+use Rattle.map_show.specs.Inner.Pixels.{PixelNeeded, MeanNeeded}
 use Rattle.map_show.proofs.Filling.{sets-append}
 use Rattle.map_show.proofs.Samples.{length-average}
 

@@ -20,7 +20,7 @@ use Rattle.map_theory.specs.Judged.{Numbering}
 use Rattle.map_theory.proofs.Widths.{length-at}
 use Rattle.map_theory.proofs.Shown.{allowed-is, offered-is}
 use Rattle.map_show.specs.Showing.{rowShown}
-use Rattle.map_show.specs.Kernels.{pixels}
+use Rattle.map_show.specs.Inner.Rows.{pixels}
 use Rattle.map_show.proofs.Zips.{zipWith-table}
 use Rattle.map_show.proofs.Counts.{pixels-shown}
 use Rattle.map_show.proofs.Lengths.{length-shown}

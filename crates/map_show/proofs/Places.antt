@@ -8,7 +8,7 @@ use Rattle.grids.specs.Rows.{rowAt}
 use Rattle.grids.proofs.Rows.{part-end, length-rowsOf, rowsOf-at, length-rowAt}
 use Rattle.pictures.specs.declared.sizes.Kind.{Kind}
 use Rattle.pictures.specs.Pictures.{channelsOf}
-use Rattle.map_show.specs.Kernels.{pixels}
+use Rattle.map_show.specs.Inner.Rows.{pixels}
 
 module _ (k : Kind) (samples ys : List ℕ) (whole : length samples ≡ length ys * channelsOf k) (c : ℕ) (inside : c < length ys) where
   pub pixel-at : getD (pixels k samples ys) c [] ≡ rowAt (channelsOf k) c samples

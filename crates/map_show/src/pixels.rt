@@ -7,7 +7,7 @@ ghost use lib.Seq.{sets};
 ghost use Rattle.grids.specs.Rows.{rowAt};
 ghost use Rattle.pictures.specs.Pictures.{channelsOf};
 ghost use Rattle.map_theory.specs.Widths.{average};
-ghost use Rattle.map_show.specs.Kernels.{PixelNeeded, MeanNeeded};
+ghost use Rattle.map_show.specs.Inner.Pixels.{PixelNeeded, MeanNeeded};
 
 // The samples of pixel c, at the place.
 pub(crate) fn put_pixel(kind: Kind, samples: &[u8], c: usize, out: &mut [u8], at: usize)

@@ -7,13 +7,13 @@ use Prim.Native.Nat.{ℕ, zero, suc, _+_, _-_, _≤_, _<_}
 use native.Mathlib.Omega.{arith}
 use Rattle.grids.specs.Each.{Each, Grid}
 use Rattle.grids.specs.Cut.{cut}
-use Rattle.pictures.specs.Refusals.{_when_, refusal}
+use Rattle.pictures.specs.Refusals.{refusal}
 use Rattle.seam_theory.specs.Choices.{Choice, Chooses, linked}
 use Rattle.map_theory.specs.Maps.{number, carve, mapOf}
-use Rattle.map_theory.specs.Judged.{every, same, numbers, before, recorded, connected, found, mapRules, Numbering, IsMap}
+use Rattle.map_theory.specs.Judged.{every, same, numbers, before, recorded, connected, found, mapRules, Numbering, IsMap, lower}
 use Rattle.map_theory.proofs.Tests.{every-each, each-every, every-run, same-is}
 use Rattle.map_theory.proofs.Numberings.{numbers-is}
-use Rattle.map_theory.proofs.Levels.{lower, before-number, before-all, grid-cut, grid-lower, recorded-number, recorded-inside, numbered-none, numbered-lower, number-lower}
+use Rattle.map_theory.proofs.Levels.{before-number, before-all, grid-cut, grid-lower, recorded-number, recorded-inside, numbered-none, numbered-lower, number-lower}
 use Rattle.map_theory.proofs.Maps.{carve-grid, map-grid, map-numbered, before-map, recorded-map}
 
 -- Three tests of which none fails.

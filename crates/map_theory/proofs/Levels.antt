@@ -8,9 +8,9 @@ use Rattle.grids.specs.Each.{Each, Grid, none, more}
 use Rattle.grids.specs.Cut.{removeAt, cut}
 use Rattle.grids.proofs.Cut.{length-removeAt}
 use Rattle.map_theory.specs.Maps.{numberRow, number, zeros}
-use Rattle.map_theory.specs.Judged.{before, columnOf, recorded, Numbering}
+use Rattle.map_theory.specs.Judged.{before, lowerRow, lower, columnOf, recorded, Numbering}
 use Rattle.map_theory.proofs.Rows.{length-numberRow, keep-all, keep-number-row, column-first-row, column-number-row, write, write-number-row, write-first-row}
-use Rattle.map_theory.proofs.Lowered.{lowerRow, lower-zero-row, lower-number-row, number-lower-row, length-lower-row, column-inside}
+use Rattle.map_theory.proofs.Lowered.{lower-zero-row, lower-number-row, number-lower-row, length-lower-row, column-inside}
 use Rattle.map_theory.proofs.Numberings.{numbering-number, numbering-zeros, numbering-none, numbering-lower}
 
 -- The columns of a seam through w columns and h rows.
@@ -20,10 +20,6 @@ Columns w h s = Each (λ c. c < w) h s
 -- The number v written in each row over the 0 that the seam counts out.
 unfoldable pub writeAll : ℕ → List ℕ → List (List ℕ) → List (List ℕ)
 writeAll v s m = zipWith (write v) s m
-
--- The map after t seams.
-abbrev pub lower : ℕ → List (List ℕ) → List (List ℕ)
-lower t m = map (lowerRow t) m
 
 -- Laws with no condition on sizes.
 pub before-number : {A : Type 0} (t : ℕ) (s : List ℕ) (p : List (List A)) (m : List (List ℕ)) → before (suc (suc t)) p (number s m) ≡ before (suc t) (cut s p) m

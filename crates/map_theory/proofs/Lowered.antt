@@ -9,13 +9,9 @@ use lib.ListN.{length}
 use Rattle.seam_theory.specs.Paths.{consIf}
 use Rattle.map_theory.specs.Maps.{insertAt, later, numberRow}
 use Rattle.map_theory.specs.Widths.{keepRow}
-use Rattle.map_theory.specs.Judged.{tick, count, remains, columnOf}
+use Rattle.map_theory.specs.Judged.{tick, count, remains, lowerRow, columnOf}
 use Rattle.map_theory.proofs.Numbers.{remains-zero, remains-all, remains-le, remains-later, remains-first, later-less}
 use Rattle.map_theory.proofs.Rows.{length-numberRow}
-
--- A row of the map after t seams: kept numbers fall by t, and 0 stays 0.
-unfoldable pub lowerRow : ℕ → List ℕ → List ℕ
-lowerRow t ys = map (λ v. v - t) (keepRow (remains (suc t)) ys ys)
 
 pub lower-zero-row : (ys : List ℕ) → lowerRow 0 ys ≡ ys
 unfolding lowerRow

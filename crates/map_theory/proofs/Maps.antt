@@ -10,8 +10,8 @@ use Rattle.grids.proofs.Cut.{cut-narrower}
 use Rattle.grids.proofs.Shapes.{grid-of}
 use Rattle.seam_theory.specs.Choices.{Choice, Chooses}
 use Rattle.map_theory.specs.Maps.{number, carve, mapOf}
-use Rattle.map_theory.specs.Judged.{before, recorded, Numbering}
-use Rattle.map_theory.proofs.Levels.{Columns, writeAll, lower, before-number, write-number, lower-zero, grid-cut, grid-number, grid-zeros, before-all, recorded-first, recorded-number, lower-number, write-first, numbered-number, numbered-zeros}
+use Rattle.map_theory.specs.Judged.{before, recorded, Numbering, lower}
+use Rattle.map_theory.proofs.Levels.{Columns, writeAll, before-number, write-number, lower-zero, grid-cut, grid-number, grid-zeros, before-all, recorded-first, recorded-number, lower-number, write-first, numbered-number, numbered-zeros}
 
 module _ {A : Type 0} (choose : Choice A) where
   -- One seam more is cut from what is left.

@@ -10,10 +10,10 @@ use borrow.Author.Tests.{leb-true, leb-false, eqb-true, eq-eqb, ne-eqb}
 use lib.ListN.{length}
 use Rattle.seam_theory.specs.Paths.{run}
 use Rattle.map_theory.specs.Maps.{insertAt, later, numberRow}
-use Rattle.map_theory.specs.Judged.{every, tick, count, columnOf, numbers, Numbering}
+use Rattle.map_theory.specs.Judged.{every, tick, count, columnOf, numbers, Numbering, lowerRow}
 use Rattle.map_theory.proofs.Tests.{and-both, every-run}
 use Rattle.map_theory.proofs.Numbers.{eqb-later, eqb-later-first, eqb-first}
-use Rattle.map_theory.proofs.Lowered.{lowerRow, number-lower-row}
+use Rattle.map_theory.proofs.Lowered.{number-lower-row}
 
 count-self : (v : ℕ) (ys : List ℕ) → count v (v ∷ ys) ≡ suc (count v ys)
 count-self v ys = rw (eq-eqb v v refl)

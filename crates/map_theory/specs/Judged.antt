@@ -6,7 +6,7 @@ use Prim.Native.Nat.{ℕ, suc, _+_, _-_, _≤_, _<_}
 use lib.Dec.{leb, eqb}
 use Rattle.grids.specs.Each.{Each}
 use Rattle.seam_theory.specs.Paths.{run}
-use Rattle.pictures.specs.Refusals.{Rule, _when_}
+use Rattle.pictures.specs.Refusals.{Rule}
 use Rattle.seam_theory.specs.Choices.{Choice, linked}
 use Rattle.map_theory.specs.Widths.{keepRow}
 
@@ -43,6 +43,13 @@ remains t v = eqb v 0 || leb t v
 -- The picture that the map leaves before seam t.
 unfoldable pub before : {A : Type 0} → ℕ → List (List A) → List (List ℕ) → List (List A)
 before t p m = zipWith (keepRow (remains t)) p m
+
+-- A row of the map after t seams: kept numbers fall by t, and 0 stays 0. And the map after t seams.
+unfoldable pub lowerRow : ℕ → List ℕ → List ℕ
+lowerRow t ys = map (λ v. v - t) (keepRow (remains (suc t)) ys ys)
+
+abbrev pub lower : ℕ → List (List ℕ) → List (List ℕ)
+lower t m = map (lowerRow t) m
 
 -- The column of number t in what is left of a row before seam t: how many pixels that are left stand ahead of it.
 abbrev pub columnOf : ℕ → List ℕ → ℕ

@@ -6,7 +6,7 @@ use mathlib.Core.List.{List}
 use Prim.Native.Nat.{ℕ}
 use Rattle.pictures.specs.declared.sizes.Size.{Size}
 use Rattle.energy.specs.Energy.{energiesRules}
-use Rattle.pictures.proofs.Rules.{ascending}
+use Rattle.pictures.specs.Refusals.{ascending}
 use Rattle.seam_rules.specs.declared.answers.Axis.{Axis}
 use Rattle.seam_rules.specs.Cuts.{findRules, cutRules}
 use Rattle.seam_cut_marked.specs.Marking.{markedFindRules, markedCutRules}

@@ -9,7 +9,7 @@ use lib.ListN.{length, getD}
 use borrow.Author.Tests.{ltb-false, le-ltb}
 use Rattle.pictures.specs.declared.sizes.Size.{Size}
 use Rattle.pictures.specs.declared.refusals.Refusal.{Refusal}
-use Rattle.pictures.specs.Refusals.{_when_, refusal}
+use Rattle.pictures.specs.Refusals.{refusal}
 use Rattle.pictures.specs.Pictures.{sizeRules, picture, pixels}
 use Rattle.pictures.proofs.Rules.{served-first, served-both, passed, number-some}
 use Rattle.pictures.proofs.Limits.{Sized, sized-is}
@@ -24,7 +24,7 @@ use Rattle.program_theory.proofs.Lengths.{file-most}
 use Rattle.program_theory.proofs.Files.{full-allowed}
 use Rattle.program_netpbm.specs.declared.output.Output.the-variants as outputs
 use Rattle.program_netpbm.specs.Outputs.{outputSpace}
-use Rattle.program_filters.specs.Kernels.{FileAnswered}
+use Rattle.program_filters.specs.Inner.{FileAnswered}
 
 -- Bytes, place by place and all together.
 pub all-bytes : (b : List ℕ) → ((i : ℕ) → getD b i 0 < 256) → All (λ (a : ℕ). a < 256) b

@@ -12,16 +12,17 @@ use lib.ListN.{length}
 use borrow.Author.Tests.{ltb-true, ltb-false, lt-ltb, le-ltb, not-false}
 use Rattle.pictures.specs.declared.sizes.Kind.{Kind}
 use Rattle.pictures.specs.declared.sizes.Kind.the-variants.{Grey, Rgb}
-use Rattle.pictures.specs.Refusals.{Rule, _when_, refusal}
+use Rattle.pictures.specs.Refusals.{Rule, refusal}
 use Rattle.pictures.specs.Pictures.{channelsOf, pixels}
 use Rattle.pictures.proofs.Rules.{served-both, passed}
 use Rattle.map_theory.specs.Widths.{offered}
 use Rattle.text_theory.specs.Files.{Parts, parse}
 use Rattle.file_theory.specs.Rules.{partRules, judgedRules, formRules, showRules}
 use Rattle.file_theory.specs.Shows.{sized}
-use Rattle.file_theory.proofs.Shaped.{Shaped, shaped-is}
+use Rattle.file_theory.specs.Demands.{Shaped}
+use Rattle.file_theory.proofs.Shaped.{shaped-is}
 use Rattle.program_theory.specs.Programs.{mostPixels, pixelsRule, fittedRules}
-use Rattle.program_filters.specs.Kernels.{DrawNeeded}
+use Rattle.program_filters.specs.Inner.{DrawNeeded}
 
 -- The spaces are just long enough for the most pixels.
 bytes-over : (k : Kind) (n : ℕ) → ltb (mostPixels * channelsOf k) (n * channelsOf k) ≡ ltb mostPixels n

@@ -23,8 +23,7 @@ use Rattle.text_theory.specs.Files.{Parts, parse, Pixel, headGet}
 use Rattle.text_theory.proofs.Files.{parse-head}
 use Rattle.text_read.specs.Answers.{Told}
 use Rattle.file_theory.specs.Shows.{sized, Drawn, showsIn, shows, drawnSize, drawnBytes, offersIn, offers}
-use Rattle.file_theory.specs.Demands.{ShownAt}
-use Rattle.file_theory.proofs.Shaped.{Shaped}
+use Rattle.file_theory.specs.Demands.{ShownAt, Shaped}
 use Rattle.file_theory.proofs.Refused.{show-checked, checked-accepted}
 use Rattle.file_theory.proofs.Demands.{shows-some}
 use Rattle.file_rules.specs.declared.answers.Shown.the-variants as showings
@@ -36,7 +35,7 @@ use Rattle.program_theory.specs.Programs.{fittedRules, drawnText}
 use Rattle.program_theory.proofs.Lengths.{header-most}
 use Rattle.program_netpbm.specs.declared.output.Output.the-variants as outputs
 use Rattle.program_netpbm.specs.Outputs.{outputSpace}
-use Rattle.program_filters.specs.Kernels.{DrawNeeded, PictureAnswered}
+use Rattle.program_filters.specs.Inner.{DrawNeeded, PictureAnswered}
 use Rattle.program_netpbm.proofs.Outputs.{refused-so}
 use Rattle.program_filters.proofs.Fitted.{Fitted, fitted, same-number}
 

@@ -13,7 +13,7 @@ ghost use lib.ListN.{length};
 ghost use Rattle.text_read.specs.Answers.{Told, read};
 ghost use Rattle.program_theory.specs.Programs.{widthGet, pictureAnswer, fitRules, fit as Programs·fit};
 ghost use Rattle.program_netpbm.specs.Outputs.{Wrote, outputSpace, Answered};
-ghost use Rattle.program_filters.specs.Kernels.{DrawNeeded, PictureAnswered};
+ghost use Rattle.program_filters.specs.Inner.{DrawNeeded, PictureAnswered};
 
 // What `fit` writes for an input: the picture that the file shows at the width, or a refusal.
 pub fn fit(input: &[u8], out: &mut [u8; 32768]) -> usize

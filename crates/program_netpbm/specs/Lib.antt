@@ -1,3 +1,3 @@
 pub mod Outputs
 pub mod Headers
-pub mod Kernels
+pub mod Inner

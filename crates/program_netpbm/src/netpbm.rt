@@ -16,7 +16,7 @@ ghost use Rattle.text_lengths.specs.Rooms.{leftRead, less};
 ghost use Rattle.text_print.specs.Prints.{Put, Printed};
 ghost use Rattle.program_theory.specs.Netpbm.{magicText, headerText, magicGet, headerGet};
 ghost use Rattle.program_netpbm.specs.Headers.{headerRead};
-ghost use Rattle.program_netpbm.specs.Kernels.{HeaderNeeded, PictureNeeded};
+ghost use Rattle.program_netpbm.specs.Inner.{HeaderNeeded, PictureNeeded};
 
 // The size that a header says and the place of the samples after it; or the header is broken.
 pub enum Header {

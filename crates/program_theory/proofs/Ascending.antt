@@ -5,10 +5,10 @@ use mathlib.Core.Option.{Option, none, some}
 use mathlib.Core.List.{List}
 use Prim.Native.Nat.{ℕ}
 use Rattle.pictures.specs.declared.sizes.Size.{Size}
-use Rattle.pictures.proofs.Rules.{ascending}
+use Rattle.pictures.specs.Refusals.{ascending, SmallestGiven}
 use Rattle.text_theory.specs.Files.{parse}
-use Rattle.file_theory.specs.Demands.{SmallestGiven}
-use Rattle.file_theory.proofs.Ascending.{form-ascending, given-smallest}
+use Rattle.file_theory.proofs.Ascending.{form-ascending}
+use Rattle.pictures.proofs.Rules.{given-smallest}
 use Rattle.program_theory.specs.Programs.{pictureRules, widthRules}
 
 pub picture-ascending : (o : Option (Size × List ℕ)) → ascending 1 (pictureRules o) ≡ true

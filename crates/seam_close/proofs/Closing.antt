@@ -20,14 +20,14 @@ use Rattle.grids.proofs.Parts.{last-part}
 use Rattle.grids.proofs.Rows.{flat-rowsOf, length-rowAt, rowsOf-at, length-rowsOf, part-end}
 use Rattle.grids.proofs.Cut.{cut-each, cut-table, flat-removeAt}
 use Rattle.pictures.specs.declared.sizes.Size.{Size}
-use Rattle.pictures.specs.Refusals.{_when_, refusal}
+use Rattle.pictures.specs.Refusals.{refusal}
 use Rattle.pictures.specs.Pictures.{channelsOf, rowBytes, pictureBytes, sizeRules, picture, bytes, OfSize}
 use Rattle.pictures.proofs.Rules.{served-both, passed}
 use Rattle.pictures.proofs.Limits.{Sized, sized-is}
 use Rattle.pictures.proofs.Buffers.{picture-ofSize}
 use Rattle.seam_bounds.specs.Moves.{closeLengthRules, closeColumnRules, outside}
 use Rattle.seam_bounds.proofs.Moving.{inside-each}
-use Rattle.seam_close.specs.Kernels.{without, RowNeeded, CloseNeeded}
+use Rattle.seam_close.specs.Inner.{without, RowNeeded, CloseNeeded}
 use Rattle.grids.proofs.Filled.{map-table, Filled, filled-later, filled-part, filled-rest}
 
 -- How long a line is without the bytes of a pixel.

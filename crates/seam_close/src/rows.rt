@@ -10,7 +10,7 @@ ghost use lib.ListN.{length, drop, replicate};
 ghost use Rattle.grids.specs.Cut.{cut};
 ghost use Rattle.pictures.specs.Pictures.{picture as Pictures·picture, bytes, channelsOf};
 ghost use Rattle.seam_bounds.specs.Moves.{outside as Moves·outside};
-ghost use Rattle.seam_close.specs.Kernels.{without, RowNeeded, CloseNeeded};
+ghost use Rattle.seam_close.specs.Inner.{without, RowNeeded, CloseNeeded};
 
 // A column as an index.
 fn wide(column: u16) -> usize

@@ -6,7 +6,7 @@ use seam_rules::Found;
 ghost use lib.ListN.{length};
 ghost use Rattle.pictures.specs.Refusals.{refusal};
 ghost use Rattle.seam_cut.specs.Cutting.{cutInRules, CutInGiven};
-ghost use Rattle.seam_cut.specs.Kernels.{LastInGiven};
+ghost use Rattle.seam_cut.specs.Inner.{LastInGiven};
 
 // Cuts the vertical seam out of the picture at the front of the space and gives it as `seam_find::find_in` does. The rows then
 // lie packed at the front, the freed bytes are 0, and a byte for each pixel after the picture is set to 0. Refused by 2, 3,

@@ -18,10 +18,10 @@ use Rattle.seam_rules.specs.declared.answers.Found.the-variants.{Seam, Refused}
 use Rattle.seam_rules.specs.Answers.{foundNumber}
 use Rattle.seam_rules.specs.Cuts.{cleared, roomRules}
 use Rattle.seam_rules.specs.declared.answers.Axis.{Axis}
-use Rattle.seam_rules.proofs.Turns.{bytes-few}
+use Rattle.pictures.proofs.Limits.{bytes-few}
 use Rattle.seam_rules.proofs.Rooms.{find-room}
 use Rattle.seam_cut_marked.specs.Marking.{markRules}
-use Rattle.seam_cut_marked.specs.Kernels.{MarkedNeeded}
+use Rattle.seam_cut_marked.specs.Inner.{MarkedNeeded}
 
 -- Buffers that nothing is refused of: what finding by them needs of the work space is less than 32 bytes a pixel.
 pub marked-needed : (x : Axis) (z : Size) (b m seam work : List ℕ) → refusal (sizeRules z (length b) ++ (markRules z m ++ roomRules x z (length seam) (length work))) ≡ 0

@@ -1,7 +1,7 @@
 -- Marks moved as a grey picture: what is done to its bytes is done to the rows of marks.
 use mathlib.Core.Path.{_≡_, refl, sym, ap, ap₂, _∙_}
-use mathlib.Core.List.{List, [], _∷_, _++_, map, append-nil, append-assoc}
-use Prim.Native.Nat.{ℕ, _-_, _*_, _≤_}
+use mathlib.Core.List.{List, [], _++_, map, append-nil, append-assoc}
+use Prim.Native.Nat.{ℕ, _-_, _≤_}
 use native.Mathlib.Nat.{mul-one, le-of-eq}
 use lib.ListN.{length, take, drop}
 use lib.Seq.{take-at, drop-at}
@@ -16,13 +16,13 @@ use Rattle.grids.proofs.Maps.{single, cut-map, exchange-map, rowsOf-single, row
 use Rattle.pictures.specs.declared.sizes.Size.{Size}
 use Rattle.pictures.specs.Refusals.{refusal}
 use Rattle.pictures.specs.Pictures.{pictureBytes, sizeRules, picture, bytes, pixels, marksOf, pictureIn, marksIn}
-use Rattle.pictures.proofs.Limits.{Sized, sized-served}
+use Rattle.pictures.proofs.Limits.{Sized, sized-served, sides-of}
 use Rattle.pictures.proofs.Buffers.{picture-ofSize, length-bytes}
 use Rattle.seam_rules.specs.declared.answers.Axis.{Axis}
 use Rattle.seam_rules.specs.declared.answers.Axis.the-variants.{Vertical, Horizontal}
 use Rattle.seam_rules.specs.Axes.{turnedSize, greyOf}
 use Rattle.seam_turn.specs.Axes.{turned, cutAlong}
-use Rattle.seam_rules.proofs.Turns.{sides-of, turned-bytes, turned-pixels}
+use Rattle.seam_rules.proofs.Turns.{turned-bytes, turned-pixels}
 use Rattle.seam_turn.proofs.Turned.{turned-ofSize, turned-picture}
 
 pub grey-bytes : (z : Size) → pictureBytes (greyOf z) ≡ pixels z

@@ -1,3 +1,3 @@
 pub mod Axes
 pub mod Marking
-pub mod Kernels
+pub mod Inner

@@ -13,7 +13,7 @@ ghost use Rattle.pictures.specs.Pictures.{sizeRules};
 ghost use Rattle.seam_bounds.specs.Moves.{outside};
 ghost use Rattle.seam_rules.specs.Cuts.{roomRules, lastAlong};
 ghost use Rattle.seam_cut_marked.specs.Marking.{markRules, markedFindRules, markedCutRules, MarkedSeamFound, MarkedPictureCut, MarkedMarksCut};
-ghost use Rattle.seam_cut_marked.specs.Kernels.{blockedNumber, MarkedNeeded, LastGiven};
+ghost use Rattle.seam_cut_marked.specs.Inner.{blockedNumber, MarkedNeeded, LastGiven};
 
 // The seam along the axis by the marks, put into the front of seam, and its cost. Refused by 2, 3, 4, 5 and 8, and by 12
 // where every seam meets a protected pixel.

@@ -17,7 +17,8 @@ use Rattle.energy.specs.Energy.{energy}
 use Rattle.pictures.proofs.Limits.{Sized}
 use Rattle.energy.proofs.Energy.{buffer-energy-most}
 use Rattle.seam_sums.specs.Least.{leastOf3, sumOf3}
-use Rattle.seam_find.specs.Kernels.{fenced, sumsDown, costsOf}
+use Rattle.seam_find.specs.Inner.Sums.{fenced, sumsDown}
+use Rattle.seam_find.specs.Inner.Down.{costsOf}
 
 -- A byte of a part at the front is a byte.
 pub front-most : (b : List ℕ) (n m : ℕ) → ((i : ℕ) → getD b i 0 ≤ m) → (i : ℕ) → getD (take n b) i 0 ≤ m

@@ -15,7 +15,8 @@ use Rattle.grids.proofs.Rows.{length-flat, flat-snoc}
 use Rattle.grids.proofs.Parts.{put-part, part-length}
 use Rattle.pictures.specs.declared.sizes.Size.{Size}
 use Rattle.seam_sums.specs.Least.{wayOf3, sumOf3}
-use Rattle.seam_find.specs.Kernels.{fenced, sumsDown, waysUp, waysAt, RowGiven, DownGiven}
+use Rattle.seam_find.specs.Inner.Sums.{fenced, sumsDown, waysUp}
+use Rattle.seam_find.specs.Inner.Down.{waysAt, RowGiven, DownGiven}
 use Rattle.seam_find.proofs.Costs.{length-sums, sums-most, fenced-at}
 
 module _ (fence from : ℕ) (z : Size) (costsIn : List ℕ → ℕ → List ℕ) (start : List ℕ) where

@@ -10,7 +10,9 @@ use lib.ListN.{length, getD, take, drop, replicate, length-append, length-replic
 use lib.Seq.{take-at}
 use Rattle.grids.proofs.Parts.{put-part}
 use Rattle.pictures.specs.declared.sizes.Size.{Size}
-use Rattle.seam_find.specs.Kernels.{fenced, sumsDown, DownGiven, BottomGiven}
+use Rattle.seam_find.specs.Inner.Sums.{fenced, sumsDown}
+use Rattle.seam_find.specs.Inner.Down.{DownGiven}
+use Rattle.seam_find.specs.Inner.Bottom.{BottomGiven}
 use Rattle.seam_sums.specs.Least.{leastTo}
 use Rattle.seam_sums.proofs.Turns.{least-inside}
 use Rattle.seam_find.proofs.Costs.{fenced-at, length-sums}

@@ -19,7 +19,7 @@ use Rattle.seam_theory.proofs.Steps.{leastNear, near-beside, near-only, near-le
 use Rattle.seam_theory.proofs.Rows.{from, sumAt, from-beside, sums}
 use Rattle.seam_theory.proofs.Loops.{from-plain, sumAt-plain}
 use Rattle.seam_sums.specs.Least.{leastOf3, wayOf3, sumOf3}
-use Rattle.seam_find.specs.Kernels.{fenced, sumsDown, waysUp}
+use Rattle.seam_find.specs.Inner.Sums.{fenced, sumsDown, waysUp}
 use Rattle.seam_find.proofs.Costs.{fenced-at, length-sums}
 
 -- A number is at most the least of two if it is at most each.

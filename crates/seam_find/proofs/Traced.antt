@@ -15,7 +15,8 @@ use Rattle.pictures.specs.Pictures.{picture}
 use Rattle.energy.specs.Energy.{energy}
 use Rattle.pictures.proofs.Limits.{Sized}
 use Rattle.seam_theory.specs.PictureSeams.{seamUp, seamOf, costOf}
-use Rattle.seam_find.specs.Kernels.{sumsDown, waysUp, costsOf}
+use Rattle.seam_find.specs.Inner.Sums.{sumsDown, waysUp}
+use Rattle.seam_find.specs.Inner.Down.{costsOf}
 use Rattle.seam_find.specs.Tracing.{columnsTo}
 use Rattle.seam_sums.specs.Least.{leastTo}
 use Rattle.seam_find.proofs.Costs.{cost-most, sums-most}

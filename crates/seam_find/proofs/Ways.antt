@@ -27,7 +27,7 @@ use Rattle.seam_theory.proofs.Along.{along-same}
 use Rattle.seam_theory.proofs.Rows.{from-beside, trace, bottom, cheapest-trace}
 use Rattle.seam_theory.proofs.Loops.{starts-at, keeps, moves, bottom-is, bottom-within, cheapest-cost}
 use Rattle.seam_sums.specs.Least.{wayOf3, leastTo}
-use Rattle.seam_find.specs.Kernels.{fenced, sumsDown, waysUp}
+use Rattle.seam_find.specs.Inner.Sums.{fenced, sumsDown, waysUp}
 use Rattle.seam_find.specs.Tracing.{stepBy, columnsTo}
 use Rattle.seam_find.proofs.Link.{costAt, sumsOf, fromOf, sums-link, way-from, way-left}
 use Rattle.seam_find.proofs.Loops.{Traceable, step-inside}

@@ -1,3 +1,3 @@
 pub mod Finding
 pub mod Tracing
-pub mod Kernels
+pub mod Inner

@@ -3,7 +3,8 @@ use crate::down32;
 use pictures::Size;
 use seam_sums::least32;
 ghost use Rattle.pictures.specs.Pictures.{pictureBytes};
-ghost use Rattle.seam_find.specs.Kernels.{costsOf, BottomNeeded, BottomGiven, RowsNeeded};
+ghost use Rattle.seam_find.specs.Inner.Down.{costsOf};
+ghost use Rattle.seam_find.specs.Inner.Bottom.{BottomNeeded, BottomGiven, RowsNeeded};
 
 // The column where the path ends, in the last row, and what the path costs.
 pub(crate) struct Bottom {

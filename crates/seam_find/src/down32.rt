@@ -2,7 +2,7 @@
 use crate::sums32;
 use pictures::Size;
 ghost use Rattle.pictures.specs.Pictures.{pictureBytes};
-ghost use Rattle.seam_find.specs.Kernels.{costsOf, DownNeeded, DownGiven, RowNeeded, RowGiven};
+ghost use Rattle.seam_find.specs.Inner.Down.{costsOf, DownNeeded, DownGiven, RowNeeded, RowGiven};
 
 // A number larger than every sum.
 pub(crate) const FENCE: u32 = 4294967295;

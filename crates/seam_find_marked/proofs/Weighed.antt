@@ -25,11 +25,11 @@ use Rattle.pictures.specs.Pictures.{Picture, pictureBytes, picture, pixels, pic
 use Rattle.energy.specs.Energy.{energy, energies}
 use Rattle.pictures.proofs.Limits.{Sized}
 use Rattle.seam_theory.specs.PictureSeams.{markAt, isMark, markedUp, markedSeamOf, markedCostOf, isNone}
-use Rattle.seam_find.specs.Kernels.{sumsDown, waysUp}
+use Rattle.seam_find.specs.Inner.Sums.{sumsDown, waysUp}
 use Rattle.seam_find.specs.Tracing.{columnsTo}
 use Rattle.seam_sums.specs.Least.{leastTo}
 use Rattle.seam_sums.specs.Weights.{weightOf}
-use Rattle.seam_find_marked.specs.Kernels.{weightIn, weightAt, weightsOf, markedBytes}
+use Rattle.seam_find_marked.specs.Inner.{weightIn, weightAt, weightsOf, markedBytes}
 use Rattle.seam_find.proofs.Costs.{front-most, pixel-most, table-most, sums-most}
 use Rattle.seam_find.proofs.Ways.{FoundFor, found-for, ways-traceable}
 use Rattle.seam_find.proofs.Loops.{Traceable}

@@ -5,8 +5,8 @@ use pictures::Size;
 use seam_sums::least64;
 ghost use mathlib.Core.Path.{_≡_};
 ghost use lib.ListN.{length};
-ghost use Rattle.seam_find_marked.specs.Kernels.{markedBytes, weightsOf};
-ghost use Rattle.seam_find.specs.Kernels.{BottomNeeded, BottomGiven, RowsNeeded};
+ghost use Rattle.seam_find_marked.specs.Inner.{markedBytes, weightsOf};
+ghost use Rattle.seam_find.specs.Inner.Bottom.{BottomNeeded, BottomGiven, RowsNeeded};
 
 // The column where the path ends, in the last row, and what the path weighs.
 pub(crate) struct Bottom {

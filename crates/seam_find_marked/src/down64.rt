@@ -4,8 +4,8 @@ use crate::weights;
 use pictures::Size;
 ghost use mathlib.Core.Path.{_≡_};
 ghost use lib.ListN.{length};
-ghost use Rattle.seam_find_marked.specs.Kernels.{markedBytes, weightsOf};
-ghost use Rattle.seam_find.specs.Kernels.{DownNeeded, DownGiven, RowNeeded, RowGiven};
+ghost use Rattle.seam_find_marked.specs.Inner.{markedBytes, weightsOf};
+ghost use Rattle.seam_find.specs.Inner.Down.{DownNeeded, DownGiven, RowNeeded, RowGiven};
 
 // A number larger than every sum.
 pub(crate) const FENCE: u64 = 18446744073709551615;

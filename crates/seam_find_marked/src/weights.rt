@@ -3,7 +3,7 @@ use pictures::Size;
 ghost use mathlib.Core.Path.{_≡_};
 ghost use lib.ListN.{length};
 ghost use Rattle.grids.specs.Table.{table};
-ghost use Rattle.seam_find_marked.specs.Kernels.{weightIn, weightsOf, WeighNeeded, WeightsNeeded};
+ghost use Rattle.seam_find_marked.specs.Inner.{weightIn, weightsOf, WeighNeeded, WeightsNeeded};
 
 // The weights of a row, from its energies and marks.
 fn weigh(energies: &[u32], marks: &[u8], cost: &mut [u64])

@@ -21,14 +21,14 @@ use Rattle.grids.proofs.Tables.{length-table, table-at, table-same, table-all, 
 use Rattle.grids.proofs.Rows.{length-rowAt, length-flat, rowAt-getD, part-end}
 use Rattle.grids.proofs.Exchange.{exchange-each, exchange-grid, exchange-at, grid-same}
 use Rattle.pictures.specs.declared.sizes.Size.{Size}
-use Rattle.pictures.specs.Refusals.{_when_, refusal}
+use Rattle.pictures.specs.Refusals.{refusal}
 use Rattle.pictures.specs.Pictures.{channelsOf, pictureBytes, sizeRules, picture, bytes, OfSize}
 use Rattle.pictures.proofs.Rules.{served-both, passed}
 use Rattle.pictures.proofs.Limits.{Sized, sized-is}
 use Rattle.pictures.proofs.Buffers.{picture-ofSize, pixel-at}
 use Rattle.seam_bounds.specs.Moves.{exchangeRules, columnRules}
 use Rattle.seam_moves.specs.Moving.{columnBytes}
-use Rattle.seam_moves.specs.Kernels.{samples, ColumnNeeded, ExchangeNeeded}
+use Rattle.seam_moves.specs.Inner.{samples, ColumnNeeded, ExchangeNeeded}
 use Rattle.grids.proofs.Filled.{map-table, Filled, filled-sets, filled-part}
 
 -- The exchanged grid as the table of its rows.

@@ -21,7 +21,7 @@ use Rattle.pictures.proofs.Limits.{Sides, sides-are, sized-served}
 use Rattle.seam_moves.specs.Between.{partAt, putAt}
 use Rattle.seam_bounds.specs.Moves.{PlacesApart}
 use Rattle.seam_moves.specs.Moving.{columnBytes, ColumnGiven}
-use Rattle.seam_moves.specs.Kernels.{PictureNeeded}
+use Rattle.seam_moves.specs.Inner.{PictureNeeded}
 use Rattle.grids.proofs.Filled.{flat-more, filled-length}
 use Rattle.seam_moves.proofs.Places.{Kept, kept-part, kept-wider, put-kept, length-part, append-part}
 use Rattle.seam_moves.proofs.Exchanging.{exchanged-columns, length-columnBytes}

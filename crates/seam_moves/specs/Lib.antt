@@ -1,3 +1,3 @@
 pub mod Moving
 pub mod Between
-pub mod Kernels
+pub mod Inner

@@ -12,7 +12,7 @@ ghost use Rattle.grids.specs.Exchange.{exchange};
 ghost use Rattle.pictures.specs.Pictures.{picture, bytes as Pictures·bytes, pictureBytes};
 ghost use Rattle.seam_bounds.specs.Moves.{PlacesApart};
 ghost use Rattle.seam_moves.specs.Between.{partAt, putAt, CopyBetweenGiven, ExchangeBetweenGiven};
-ghost use Rattle.seam_moves.specs.Kernels.{PictureNeeded};
+ghost use Rattle.seam_moves.specs.Inner.{PictureNeeded};
 
 // The picture that stands at `from`, put with rows and columns exchanged at `to`. The rest of the space is left as it was.
 // Refused by 2 and 3 as every size is, and by 8 where one of the two places reaches past the end of the space, or where

@@ -11,7 +11,7 @@ ghost use Rattle.grids.specs.Table.{table};
 ghost use Rattle.grids.specs.Rows.{flat};
 ghost use Rattle.grids.specs.Exchange.{exchange};
 ghost use Rattle.pictures.specs.Pictures.{picture, bytes, channelsOf, pictureBytes};
-ghost use Rattle.seam_moves.specs.Kernels.{samples, ColumnNeeded, ExchangeNeeded};
+ghost use Rattle.seam_moves.specs.Inner.{samples, ColumnNeeded, ExchangeNeeded};
 
 // Each column of the picture, put into `to` as a row.
 pub(crate) fn exchange_columns(from: &[u8], size: Size, to: &mut [u8])

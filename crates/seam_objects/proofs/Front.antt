@@ -22,7 +22,7 @@ use Rattle.seam_cut_marked.specs.Axes.{markedSeamAlong, blockedAlong}
 use Rattle.seam_cut_marked.specs.Marking.{markedCutRules, MarkedPictureCut, MarkedMarksCut}
 use Rattle.seam_cut_marked.proofs.Buffers.{seam-free, refused-blocked}
 use Rattle.seam_objects.specs.Objects.{noSeam, cutOnce}
-use Rattle.seam_objects.specs.Kernels.{FrontNeeded, front, FrontCut}
+use Rattle.seam_objects.specs.Inner.{FrontNeeded, front, FrontCut}
 
 -- A part at the front as it comes back, with what stood behind it.
 part-back : {A : Type 0} (t : Bool) (n k : ℕ) (x freed b b′ : List A) → n ≡ cond t 12 0 → b′ ≡ served n (x ++ freed) (take k b)

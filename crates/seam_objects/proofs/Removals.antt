@@ -1,14 +1,15 @@
 -- What a removal leaves, after how many cuts, and why it ended.
 use mathlib.Core.Path.{_≡_, refl, ap, _∙_}
 use mathlib.Core.Logic.{⊎-elim}
-use mathlib.Core.Bool.{true, false}
+use mathlib.Core.Bool.{false}
 use Prim.Native.Nat.{ℕ, zero, suc, _+_, _-_, _≤_, _<_}
 use native.Mathlib.Nat.{eq-or-lt-of-le}
 use native.Mathlib.Omega.{arith}
 use Rattle.grids.proofs.Orders.{more-than-one}
-use Rattle.seam_objects.specs.Objects.{MarkedPicture, toRemove, noSeam, cutOnce, carved, Removed, removal}
-use Rattle.seam_rules.specs.Answers.{Ending, done, narrow, spent, blocked}
-use Rattle.seam_objects.proofs.Shapes.{Shaped, shaped-cut}
+use Rattle.seam_objects.specs.Objects.{MarkedPicture, toRemove, cutOnce, carved, removal}
+use Rattle.seam_rules.specs.Answers.{done}
+use Rattle.seam_objects.specs.Endings.{Shaped, Reason, Due}
+use Rattle.seam_objects.proofs.Shapes.{shaped-cut}
 use Rattle.seam_objects.proofs.Endings.{by-steps}
 
 -- "The buffers hold the picture and marks after that many."
@@ -54,13 +55,7 @@ count-width b s h =
     let most = by-steps (λ b n t r. 0 < t .width → r .count < n + t .width) (λ b n t _ h. omega arith) (λ b n t _ _ h. omega arith) (λ n t _ _ h. omega arith) (λ b n t _ _ _ h. omega arith) (λ b n t r _ wide _ next h. let two = more-than-one (t .width) h wide in omega (arith, two, next (omega (arith, two)))) b 0 s h in
     omega (arith, most)
 
--- Why a removal with b seams allowed ended.
-abbrev pub Reason : Ending → ℕ → Removed → Type 0
-Reason done b r = toRemove (r .left) ≡ false
-Reason narrow b r = (toRemove (r .left) ≡ true) × (r .left .width ≡ 1)
-Reason spent b r = (toRemove (r .left) ≡ true) × ((r .left .width ≡ 1 → ⊥) × (r .count ≡ b))
-Reason blocked b r = (toRemove (r .left) ≡ true) × ((r .left .width ≡ 1 → ⊥) × ((r .count < b) × (noSeam (r .left) ≡ true)))
-
+-- The ending is given for its reason.
 pub ending-reason : (b : ℕ) (s : MarkedPicture) → Reason (removal b 0 s .ending) b (removal b 0 s)
 ending-reason b s =
     by-steps
@@ -81,11 +76,6 @@ pub done-clean : (b : ℕ) (s : MarkedPicture) → removal b 0 s .ending ≡ don
 done-clean b s e = rw e at (ending-reason b s)
 
 -- Before each of the cuts none of the endings applied.
-pub record Due (s : MarkedPicture) : Type 0 where
-  pub marked : toRemove s ≡ true
-  pub wide : s .width ≡ 1 → ⊥
-  pub allowed : noSeam s ≡ false
-
 pub cut-due : (b : ℕ) (s : MarkedPicture) (k : ℕ) → k < removal b 0 s .count → Due (carved k s)
 unfolding carved
 cut-due b s k h =

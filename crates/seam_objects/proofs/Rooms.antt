@@ -10,7 +10,7 @@ use lib.ListN.{length, replicate}
 use Rattle.grids.specs.Rows.{flat}
 use Rattle.pictures.specs.declared.sizes.Size.{Size}
 use Rattle.pictures.specs.declared.refusals.Refusal.{Refusal}
-use Rattle.pictures.specs.Refusals.{_when_, numberOf, refusal, served}
+use Rattle.pictures.specs.Refusals.{numberOf, refusal, served}
 use Rattle.pictures.specs.Pictures.{largestSide, channelsOf, sizeRules, bytes, pixels}
 use Rattle.pictures.proofs.Rules.{served-both, passed}
 use Rattle.seam_bounds.specs.Moves.{outside}
@@ -21,7 +21,7 @@ use Rattle.seam_rules.proofs.Rooms.{left-as-was}
 use Rattle.seam_rules.specs.declared.answers.Removal.the-variants.{Refused}
 use Rattle.seam_objects.specs.Objects.{removal}
 use Rattle.seam_objects.specs.Removing.{removalRules, markedPicture, ObjectRemoved}
-use Rattle.seam_objects.specs.Kernels.{SeamsNeeded}
+use Rattle.seam_objects.specs.Inner.{SeamsNeeded}
 use Rattle.seam_objects.proofs.Twos.{or-true}
 
 -- A seam's space as long as the largest side is never too short: 3 is given before that.

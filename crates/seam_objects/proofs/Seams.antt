@@ -15,10 +15,9 @@ use Rattle.grids.specs.Rows.{flat}
 use Rattle.grids.proofs.Rows.{flat-rowsOf}
 use Rattle.pictures.specs.declared.sizes.Size.{Size}
 use Rattle.pictures.specs.Pictures.{channelsOf, picture, bytes, pixels, marksOf}
-use Rattle.pictures.proofs.Limits.{Sides, sides-are, sides-served, sized-is}
+use Rattle.pictures.proofs.Limits.{Sides, sides-are, sides-served, sized-is, sides-of}
 use Rattle.pictures.proofs.Buffers.{bytes-picture}
 use Rattle.seam_bounds.specs.Moves.{outside}
-use Rattle.seam_rules.proofs.Turns.{sides-of}
 use Rattle.grids.proofs.Orders.{more-than-one}
 use Rattle.seam_rules.specs.declared.answers.Removal.{Removal}
 use Rattle.seam_rules.specs.declared.answers.Removal.the-variants.{Done, Narrow, Spent, Blocked}
@@ -28,7 +27,7 @@ use Rattle.seam_objects.specs.Removing.{markedPicture, ObjectRemoved}
 use Rattle.seam_rules.specs.declared.endings.Next.the-variants.{Ended}
 use Rattle.seam_rules.specs.Endings.{nextStep}
 use Rattle.seam_rules.proofs.Choices.{step-ended}
-use Rattle.seam_objects.specs.Kernels.{SeamsNeeded, FrontNeeded, front, FrontCut}
+use Rattle.seam_objects.specs.Inner.{SeamsNeeded, FrontNeeded, front, FrontCut}
 use Rattle.seam_objects.proofs.Shapes.{flat-inside, shaped-start, shaped-cut}
 use Rattle.seam_objects.proofs.Standing.{Standing, front-marks, front-is, behind-bytes, behind-marks, bytes-there, marks-there}
 use Rattle.seam_objects.proofs.Endings.{removal-done, removal-narrow, removal-spent, removal-blocked, removal-cut}

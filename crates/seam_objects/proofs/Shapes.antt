@@ -8,7 +8,7 @@ use native.Mathlib.Omega.{arith}
 use lib.Dec.{leb}
 use lib.ListN.{length, take, drop, length-drop, take-append-drop}
 use lib.Seq.{length-take-le}
-use Rattle.grids.specs.Each.{Each, Grid, none, more}
+use Rattle.grids.specs.Each.{Each, none, more}
 use Rattle.grids.specs.Rows.{rowsOf, flat}
 use Rattle.grids.proofs.Cut.{cut-narrower}
 use Rattle.pictures.specs.declared.sizes.Kind.the-variants.{Grey}
@@ -24,12 +24,8 @@ use Rattle.seam_cut_marked.specs.Axes.{markedSeamAlong, blockedAlong}
 use Rattle.seam_cut_marked.proofs.Marked.{marked-inside}
 use Rattle.seam_objects.specs.Objects.{MarkedPicture, noSeam, seamIn, cutOnce}
 use Rattle.seam_objects.specs.Removing.{markedPicture}
-use Rattle.seam_objects.specs.Kernels.{SeamsNeeded}
-
--- Pixels of ch samples, and marks of which none is over 2, in as many rows and columns as it says.
-pub record Shaped (ch : ℕ) (s : MarkedPicture) : Type 0 where
-  pub picture-of : Each (Grid ch (s .width)) (s .height) (s .picture)
-  pub marks-of : Each (Each (λ v. v < 3) (s .width)) (s .height) (s .marks)
+use Rattle.seam_objects.specs.Inner.{SeamsNeeded}
+use Rattle.seam_objects.specs.Endings.{Shaped}
 
 -- A list of which nothing is outside, taken apart, and put together from rows.
 outside-append : (k : ℕ) (xs ys : List ℕ) → outside k (xs ++ ys) ≡ (outside k xs || outside k ys)

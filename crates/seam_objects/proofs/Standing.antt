@@ -12,8 +12,8 @@ use Rattle.pictures.specs.declared.sizes.Size.{Size}
 use Rattle.pictures.specs.Pictures.{channelsOf, pictureBytes, picture, bytes, OfSize, pixels, marksOf}
 use Rattle.pictures.proofs.Buffers.{picture-bytes, length-bytes}
 use Rattle.seam_objects.specs.Objects.{MarkedPicture}
-use Rattle.seam_objects.specs.Kernels.{front}
-use Rattle.seam_objects.proofs.Shapes.{Shaped}
+use Rattle.seam_objects.specs.Inner.{front}
+use Rattle.seam_objects.specs.Endings.{Shaped}
 
 -- A picture and its marks of this size stand at the front of their buffers, with the freed bytes behind them.
 pub record Standing (z : Size) (s : MarkedPicture) (b m freed unmarked : List ℕ) : Type 0 where

@@ -1,3 +1,4 @@
 pub mod Objects
+pub mod Endings
 pub mod Removing
-pub mod Kernels
+pub mod Inner

@@ -1,14 +1,14 @@
 -- Object removal on lent buffers: when it is refused, and what it gives.
 use mathlib.Core.Path.{_≡_}
-use mathlib.Core.Option.{Option, none, some}
+use mathlib.Core.Option.{none, some}
 use mathlib.Core.List.{List, [], _∷_, _++_}
 use Prim.Native.Nat.{ℕ, _*_}
 use lib.Dec.{ltb}
 use lib.ListN.{length, replicate}
 use Rattle.grids.specs.Rows.{flat}
 use Rattle.pictures.specs.declared.sizes.Size.{Size}
-use Rattle.pictures.specs.Refusals.{Rule, _when_, served}
-use Rattle.pictures.specs.Pictures.{channelsOf, sizeRules, picture, bytes, pixels, marksOf}
+use Rattle.pictures.specs.Refusals.{Rule, served}
+use Rattle.pictures.specs.Pictures.{channelsOf, sizeRules, picture, bytes, workBytes, marksOf}
 use Rattle.seam_cut_marked.specs.Marking.{markRules}
 use Rattle.seam_rules.specs.declared.answers.Removal.{Removal}
 use Rattle.seam_rules.specs.Answers.{removalNumber, removalEnding, removalCount}
@@ -16,7 +16,7 @@ use Rattle.seam_objects.specs.Objects.{MarkedPicture, Removed, removal}
 
 -- Refused as picture and marks are, and by 8 where the work space has less than 32 bytes a pixel.
 abbrev pub removalRules : Size → List ℕ → List ℕ → ℕ → List Rule
-removalRules z b marks work = sizeRules z (length b) ++ (markRules z marks ++ (8 when ltb work (32 * pixels z) ∷ []))
+removalRules z b marks work = sizeRules z (length b) ++ (markRules z marks ++ (8 when ltb work (workBytes z) ∷ []))
 
 -- The picture and the marks in lent buffers.
 abbrev pub markedPicture : Size → List ℕ → List ℕ → MarkedPicture

@@ -11,7 +11,7 @@ ghost use lib.ListN.{length, replicate};
 ghost use Rattle.pictures.specs.Refusals.{refusal, served};
 ghost use Rattle.seam_objects.specs.Objects.{someTwo};
 ghost use Rattle.seam_objects.specs.Removing.{removalRules, ObjectRemoved};
-ghost use Rattle.seam_objects.specs.Kernels.{SeamsNeeded, FrontNeeded, FrontCut};
+ghost use Rattle.seam_objects.specs.Inner.{SeamsNeeded, FrontNeeded, FrontCut};
 
 // Cuts at most `budget` seams by the marks. The picture and marks left lie packed at the front of each buffer and the freed
 // bytes are 0. Refused by 2, 3, 4, 5 and 8.

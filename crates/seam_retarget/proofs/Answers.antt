@@ -12,20 +12,22 @@ use lib.ListN.{length, getD, take, drop, replicate}
 use lib.Seq.{take-at, take-length}
 use Rattle.grids.proofs.Rows.{part-end}
 use Rattle.pictures.specs.declared.sizes.Size.{Size}
-use Rattle.pictures.specs.Refusals.{_when_, refusal}
+use Rattle.pictures.specs.Refusals.{refusal}
 use Rattle.pictures.specs.Pictures.{pictureBytes, sizeRules, picture, bytes}
 use Rattle.pictures.proofs.Rules.{served-both, passed}
-use Rattle.pictures.proofs.Limits.{Sized, sized-is, sides-served}
+use Rattle.pictures.proofs.Limits.{Sized, sized-is, sides-served, bytes-few}
 use Rattle.pictures.proofs.Buffers.{bytes-picture}
 use Rattle.seam_moves.specs.Between.{partAt}
 use Rattle.seam_moves.proofs.Places.{length-part}
-use Rattle.seam_rules.proofs.Turns.{bytes-few}
 use Rattle.seam_rules.specs.declared.answers.Rows.{Rows}
 use Rattle.seam_rules.specs.declared.answers.Columns.{Columns}
-use Rattle.seam_rules.specs.Counts.{smaller, leftSize, workBytes, retargetRules}
+use Rattle.seam_rules.specs.Counts.{smaller, leftSize, retargetBytes, retargetRules}
 use Rattle.seam_retarget.specs.Cells.{cell}
 use Rattle.seam_retarget.specs.Retargeting.{cellOf}
-use Rattle.seam_retarget.specs.Kernels.{pictureAt, SpaceNeeded, held, firstRow, tableRow, RowNeeded, RowGiven, RetargetNeeded, LastGiven}
+use Rattle.seam_retarget.specs.Inner.Seams.{pictureAt}
+use Rattle.seam_retarget.specs.Inner.Cells.{SpaceNeeded}
+use Rattle.seam_retarget.specs.Inner.Table.{held, firstRow, tableRow, RowNeeded, RowGiven}
+use Rattle.seam_retarget.specs.Inner.Retargets.{RetargetNeeded, LastGiven}
 use Rattle.seam_retarget.proofs.Slots.{smaller-few}
 use Rattle.seam_retarget.proofs.Sweep.{first-cells, table-cells}
 
@@ -35,8 +37,8 @@ pub needed-are : (b : List ℕ) (z : Size) (rows : Rows) (columns : Columns) (ou
 needed-are b z rows columns out work e =
     let parts = served-both (sizeRules z (length b))
     (7 when ltb 64 (rows .0) ∷ 7 when ltb 64 (columns .0) ∷ 7 when leb (z .height) (rows .0) ∷ 7 when leb (z .width) (columns .0)
-    ∷ 8 when ltb (length out) (pictureBytes (leftSize z rows columns)) ∷ 8 when ltb (length work) (workBytes z) ∷ []) refl e in
-    let last : ℕ = cond (ltb (length work) (workBytes z)) 8 0 in
+    ∷ 8 when ltb (length out) (pictureBytes (leftSize z rows columns)) ∷ 8 when ltb (length work) (retargetBytes z) ∷ []) refl e in
+    let last : ℕ = cond (ltb (length work) (retargetBytes z)) 8 0 in
     let fifth : ℕ = cond (ltb (length out) (pictureBytes (leftSize z rows columns))) 8 last in
     let fourth : ℕ = cond (leb (z .width) (columns .0)) 7 fifth in
     let third : ℕ = cond (leb (z .height) (rows .0)) 7 fourth in
@@ -46,7 +48,7 @@ needed-are b z rows columns out work e =
     let p3 = passed (leb (z .height) (rows .0)) 6 fourth (p2 .1) in
     let p4 = passed (leb (z .width) (columns .0)) 6 fifth (p3 .1) in
     let p5 = passed (ltb (length out) (pictureBytes (leftSize z rows columns))) 7 last (p4 .1) in
-    let p6 = passed (ltb (length work) (workBytes z)) 7 0 (p5 .1) in
+    let p6 = passed (ltb (length work) (retargetBytes z)) 7 0 (p5 .1) in
     record {
       sized = parts .0;
       rows-few = ltb-false _ _ (p1 .0);

@@ -19,7 +19,8 @@ use Rattle.seam_cut.specs.Axes.{seamAlong, costAlong}
 use Rattle.seam_turn.specs.Axes.{cutAlong}
 use Rattle.seam_retarget.specs.Cells.{Cell, bySeam, chosen}
 use Rattle.seam_rules.specs.Counts.{smaller}
-use Rattle.seam_retarget.specs.Kernels.{pictureAt, leftAlong, SpaceNeeded, SeamNeeded, SeamGiven, CutNeeded, CutGiven, CellNeeded, CellGiven}
+use Rattle.seam_retarget.specs.Inner.Seams.{pictureAt, leftAlong, SeamNeeded, SeamGiven, CutNeeded, CutGiven}
+use Rattle.seam_retarget.specs.Inner.Cells.{SpaceNeeded, CellNeeded, CellGiven}
 use Rattle.seam_retarget.proofs.Cuts.{turned-tall, found-inside, cut-is}
 use Rattle.seam_retarget.proofs.Slots.{smaller-few, less-column, less-row, same-picture, slots-apart, double-few, placed-vertical, placed-horizontal, apart-vertical, apart-horizontal}
 use Rattle.seam_rules.proofs.Left.{smaller-sides}

@@ -16,7 +16,7 @@ use Rattle.pictures.specs.declared.sizes.Size.{Size}
 use Rattle.pictures.specs.declared.refusals.Verdict.{Verdict}
 use Rattle.pictures.specs.Refusals.{refusal}
 use Rattle.pictures.specs.Pictures.{Picture, channelsOf, pictureBytes, sideRules, picture, bytes, OfSize, pixels}
-use Rattle.pictures.proofs.Limits.{Sides, sides-are, sized-served}
+use Rattle.pictures.proofs.Limits.{Sides, sides-are, sized-served, sides-of}
 use Rattle.pictures.proofs.Buffers.{picture-bytes, length-bytes}
 use Rattle.seam_moves.specs.Between.{partAt, putAt}
 use Rattle.seam_close.specs.Closing.{CloseGiven}
@@ -26,10 +26,10 @@ use Rattle.seam_rules.specs.declared.answers.Axis.{Axis}
 use Rattle.seam_rules.specs.Axes.{turnedSize, narrowed}
 use Rattle.seam_turn.specs.Axes.{turned, cutAlong}
 use Rattle.seam_cut.specs.Axes.{seamAlong}
-use Rattle.seam_rules.proofs.Turns.{turned-bytes, turned-sides, sides-of}
+use Rattle.seam_rules.proofs.Turns.{turned-bytes, turned-sides}
 use Rattle.seam_turn.proofs.Turned.{turned-ofSize}
 use Rattle.seam_cut.proofs.Inside.{along-inside}
-use Rattle.seam_retarget.specs.Kernels.{pictureAt, leftAlong, TurnNeeded, SeamNeeded, SeamGiven, CutNeeded, CutGiven, StepNeeded, StepGiven}
+use Rattle.seam_retarget.specs.Inner.Seams.{pictureAt, leftAlong, TurnNeeded, SeamNeeded, SeamGiven, CutNeeded, CutGiven, StepNeeded, StepGiven}
 use Rattle.seam_retarget.proofs.Steps.{sized-at, at-ofSize}
 
 -- The size that a cut leaves takes no more bytes, and is allowed.

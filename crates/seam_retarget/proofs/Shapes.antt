@@ -25,7 +25,7 @@ use Rattle.seam_rules.proofs.Turns.{turned-sides}
 use Rattle.seam_cut.proofs.Inside.{along-inside}
 use Rattle.seam_retarget.specs.Cells.{Cell, bySeam, chosen, cell}
 use Rattle.seam_rules.specs.Counts.{smaller}
-use Rattle.seam_retarget.specs.Kernels.{leftAlong}
+use Rattle.seam_retarget.specs.Inner.Seams.{leftAlong}
 use Rattle.seam_retarget.proofs.Costs.{cost-bound}
 use Rattle.seam_retarget.proofs.Steps.{sized-at}
 use Rattle.seam_rules.proofs.Left.{smaller-sides}

@@ -16,7 +16,8 @@ use Rattle.seam_moves.specs.Between.{partAt}
 use Rattle.seam_bounds.specs.Moves.{PlacesApart}
 use Rattle.seam_rules.specs.declared.answers.Axis.the-variants.{Vertical, Horizontal}
 use Rattle.seam_rules.specs.Counts.{smaller}
-use Rattle.seam_retarget.specs.Kernels.{Apart, pictureAt, leftAlong, SpaceNeeded}
+use Rattle.seam_retarget.specs.Inner.Seams.{Apart, pictureAt, leftAlong}
+use Rattle.seam_retarget.specs.Inner.Cells.{SpaceNeeded}
 
 -- A smaller size takes no more bytes, and a picture at least a byte a pixel.
 pub smaller-few : (z : Size) (r c : ℕ) → pictureBytes (smaller z r c) ≤ pictureBytes z

@@ -32,7 +32,7 @@ use Rattle.seam_rules.proofs.Turns.{turned-bytes, turned-pixels, turned-sides}
 use Rattle.seam_turn.proofs.Turned.{turned-ofSize, turned-picture}
 use Rattle.seam_cut.proofs.FindIn.{FoundThere, find-served}
 use Rattle.seam_cut.proofs.Inside.{along-inside}
-use Rattle.seam_retarget.specs.Kernels.{pictureAt, TurnNeeded, SeamNeeded, SeamGiven}
+use Rattle.seam_retarget.specs.Inner.Seams.{pictureAt, TurnNeeded, SeamNeeded, SeamGiven}
 use Rattle.seam_retarget.proofs.Costs.{cost-small}
 
 -- A size that is allowed, with its bytes.

@@ -17,7 +17,9 @@ use Rattle.seam_rules.specs.declared.answers.Axis.{Axis}
 use Rattle.seam_rules.specs.declared.answers.Axis.the-variants.{Vertical, Horizontal}
 use Rattle.seam_retarget.specs.Cells.{Cell, bySeam, chosen, cell}
 use Rattle.seam_rules.specs.Counts.{smaller}
-use Rattle.seam_retarget.specs.Kernels.{pictureAt, leftAlong, SpaceNeeded, StepNeeded, StepGiven, held, firstRow, alongRow, nextRow, tableRow, RowNeeded, RowGiven}
+use Rattle.seam_retarget.specs.Inner.Seams.{pictureAt, leftAlong, StepNeeded, StepGiven}
+use Rattle.seam_retarget.specs.Inner.Cells.{SpaceNeeded}
+use Rattle.seam_retarget.specs.Inner.Table.{held, firstRow, alongRow, nextRow, tableRow, RowNeeded, RowGiven}
 use Rattle.seam_retarget.proofs.Slots.{smaller-few, less-column, same-picture, slots-apart, placed-vertical}
 use Rattle.seam_rules.proofs.Left.{smaller-sides}
 

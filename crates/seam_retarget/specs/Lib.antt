@@ -1,3 +1,3 @@
 pub mod Cells
 pub mod Retargeting
-pub mod Kernels
+pub mod Inner

@@ -7,7 +7,7 @@ use seam_rules::Columns;
 use seam_rules::Rows;
 use seam_rules::smaller;
 ghost use lib.ListN.{length};
-ghost use Rattle.seam_retarget.specs.Kernels.{CellNeeded, CellGiven};
+ghost use Rattle.seam_retarget.specs.Inner.Cells.{CellNeeded, CellGiven};
 
 // Where the places for work stand, counted in pictures: after the 65 slots, each of two pictures.
 pub(crate) const VERTICAL: usize = 65;

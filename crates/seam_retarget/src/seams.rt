@@ -9,7 +9,7 @@ ghost use lib.ListN.{length};
 ghost use Rattle.pictures.specs.Pictures.{pictureBytes, bytes};
 ghost use Rattle.seam_moves.specs.Between.{putAt};
 ghost use Rattle.seam_turn.specs.Axes.{turned};
-ghost use Rattle.seam_retarget.specs.Kernels.{pictureAt, TurnNeeded, SeamNeeded, SeamGiven, CutNeeded, CutGiven, StepNeeded, StepGiven};
+ghost use Rattle.seam_retarget.specs.Inner.Seams.{pictureAt, TurnNeeded, SeamNeeded, SeamGiven, CutNeeded, CutGiven, StepNeeded, StepGiven};
 
 // The picture at `from`, put turned at `to`.
 fn turn(work: &mut [u8], from: usize, size: Size, axis: Axis, to: usize)

@@ -10,7 +10,7 @@ use seam_rules::Columns;
 use seam_rules::Rows;
 use seam_rules::smaller;
 ghost use Prim.Native.Nat.{_+_};
-ghost use Rattle.seam_retarget.specs.Kernels.{held, firstRow, alongRow, nextRow, tableRow, RowNeeded, RowGiven, NoTotals, Totals, MoreTotals};
+ghost use Rattle.seam_retarget.specs.Inner.Table.{held, firstRow, alongRow, nextRow, tableRow, RowNeeded, RowGiven, NoTotals, Totals, MoreTotals};
 
 // Row 0, from the picture in slot 0.
 pub(crate) fn first_row(

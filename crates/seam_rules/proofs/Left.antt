@@ -5,9 +5,8 @@ use native.Mathlib.Omega.{arith}
 use Rattle.pictures.specs.declared.sizes.Size.{Size}
 use Rattle.pictures.specs.Refusals.{refusal}
 use Rattle.pictures.specs.Pictures.{sideRules}
-use Rattle.pictures.proofs.Limits.{sides-are}
+use Rattle.pictures.proofs.Limits.{sides-are, sides-of}
 use Rattle.seam_rules.specs.Counts.{smaller}
-use Rattle.seam_rules.proofs.Turns.{sides-of}
 
 -- They are allowed as long as a row and a column are left.
 pub smaller-sides : (z : Size) (r c : ℕ) → refusal (sideRules z) ≡ 0 → r < z .height → c < z .width → refusal (sideRules (smaller z r c)) ≡ 0

@@ -4,8 +4,8 @@ use mathlib.Core.List.{List, [], _∷_, _++_}
 use Prim.Native.Nat.{ℕ, _+_, _-_, _*_}
 use lib.Dec.{leb, ltb}
 use Rattle.pictures.specs.declared.sizes.Size.{Size}
-use Rattle.pictures.specs.Refusals.{Rule, _when_}
-use Rattle.pictures.specs.Pictures.{pictureBytes, sizeRules, pixels}
+use Rattle.pictures.specs.Refusals.{Rule}
+use Rattle.pictures.specs.Pictures.{pictureBytes, sizeRules, workBytes}
 use Rattle.seam_rules.specs.declared.answers.Axis.{Axis}
 use Rattle.seam_rules.specs.declared.answers.Axis.the-variants.{Vertical, Horizontal}
 use Rattle.seam_rules.specs.declared.answers.Rows.{Rows}
@@ -24,8 +24,8 @@ abbrev pub leftSize : Size → Rows → Columns → Size
 leftSize z rows columns = smaller z (rows .0) (columns .0)
 
 -- Bytes of work space: "32 bytes a pixel (a retarget: and 66 copies of the picture besides)".
-abbrev pub workBytes : Size → ℕ
-workBytes z = 32 * pixels z + 66 * pictureBytes z
+abbrev pub retargetBytes : Size → ℕ
+retargetBytes z = workBytes z + 66 * pictureBytes z
 
 -- Refused as the picture is; by 7, "a retarget to less than 1 row or column, or by more than 64"; and by 8 where the output
 -- space is shorter than the picture left, or the work space too short.
@@ -37,7 +37,7 @@ retargetRules z rows columns bytes out work =
     ∷ 7 when leb (z .height) (rows .0)
     ∷ 7 when leb (z .width) (columns .0)
     ∷ 8 when ltb out (pictureBytes (leftSize z rows columns))
-    ∷ 8 when ltb work (workBytes z)
+    ∷ 8 when ltb work (retargetBytes z)
     ∷ [])
 
 -- "The smaller total is chosen; on a tie the vertical cut."

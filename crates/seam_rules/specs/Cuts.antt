@@ -1,12 +1,12 @@
 -- When finding, cutting and closing up a seam of a lent picture is refused.
 use mathlib.Core.Bool.{Bool, not}
 use mathlib.Core.List.{List, [], _∷_, _++_}
-use Prim.Native.Nat.{ℕ, _*_}
+use Prim.Native.Nat.{ℕ}
 use lib.Dec.{eqb, leb, ltb}
 use lib.ListN.{length, replicate}
 use Rattle.pictures.specs.declared.sizes.Size.{Size}
-use Rattle.pictures.specs.Refusals.{Rule, _when_, worked}
-use Rattle.pictures.specs.Pictures.{pictureBytes, sizeRules, pixels}
+use Rattle.pictures.specs.Refusals.{Rule, worked}
+use Rattle.pictures.specs.Pictures.{pictureBytes, sizeRules, pixels, workBytes}
 use Rattle.seam_rules.specs.declared.answers.Axis.{Axis}
 use Rattle.seam_rules.specs.Axes.{turnedSize}
 
@@ -17,7 +17,7 @@ cleared n work = worked n (replicate (length work) 0) work
 -- What 8 says of spaces of these lengths for a seam along the axis and for the work: as long as the seam, and 32 bytes a
 -- pixel.
 abbrev pub roomRules : Axis → Size → ℕ → ℕ → List Rule
-roomRules x z seam work = 8 when ltb seam (turnedSize x z .height) ∷ 8 when ltb work (32 * pixels z) ∷ []
+roomRules x z seam work = 8 when ltb seam (turnedSize x z .height) ∷ 8 when ltb work (workBytes z) ∷ []
 
 -- Finding is refused as the picture is, or when a space is too short.
 abbrev pub findRules : Axis → Size → ℕ → ℕ → ℕ → List Rule

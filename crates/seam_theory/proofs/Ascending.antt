@@ -6,13 +6,8 @@ use mathlib.Core.List.{List, [], _∷_, _++_, map, flatMap, List·Memᴰ, List·
 use Prim.Native.Nat.{ℕ, zero, suc, _<_}
 use native.Mathlib.Omega.{arith}
 use Rattle.seam_theory.specs.Paths.{run, consIf, select}
-use Rattle.seam_theory.specs.Seams.{Before}
+use Rattle.seam_theory.specs.Seams.{Before, Ascending}
 use Rattle.seam_theory.proofs.Members.{of-run, of-select, of-flatMap}
-
--- Each is before all that come after it.
-abbrev pub Ascending : {A : Type 0} → (A → A → Type 0) → List A → Type 0
-Ascending R [] = Unit
-Ascending {A} R (x ∷ xs) = ((y : A) → List·Memᴰ y xs → R x y) × Ascending R xs
 
 -- A run ascends.
 pub run-asc : (lo n : ℕ) → Ascending _<_ (run lo n)

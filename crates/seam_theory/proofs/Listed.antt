@@ -7,9 +7,9 @@ use native.Mathlib.Nat.{suc-inj, suc-ne-zero}
 use native.Mathlib.Omega.{arith}
 use lib.ListN.{length}
 use Rattle.seam_theory.specs.Paths.{run, pathsUp, paths, cost}
-use Rattle.seam_theory.specs.Seams.{Before}
+use Rattle.seam_theory.specs.Seams.{Before, Ascending}
 use Rattle.seam_theory.proofs.Members.{of-run, in-run, of-flatMap, in-flatMap}
-use Rattle.seam_theory.proofs.Ascending.{Ascending, run-asc, asc-map, asc-flatMap}
+use Rattle.seam_theory.proofs.Ascending.{run-asc, asc-map, asc-flatMap}
 
 -- A path from column c of row i begins with c and has i more.
 pub record Starts (i c : ℕ) (p : List ℕ) : Type 0 where

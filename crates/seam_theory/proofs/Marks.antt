@@ -11,13 +11,13 @@ use lib.Dec.{leb, eqb}
 use borrow.Author.Tests.{leb-true, leb-false, le-leb, lt-ltb, le-ltb, eqb-true, eq-eqb, ne-eqb}
 use Rattle.seam_theory.specs.Best.{firstBest, least}
 use Rattle.seam_theory.specs.Paths.{select}
-use Rattle.seam_theory.specs.Seams.{preferred, cheapestAllowed, Before, IsPreferred}
+use Rattle.seam_theory.specs.Seams.{preferred, cheapestAllowed, Before, IsPreferred, Ascending}
 use Rattle.seam_theory.proofs.Numbers.{Compared, compared}
 use Rattle.seam_theory.proofs.Best.{best-none, best-same}
 use Rattle.seam_theory.proofs.Ordered.{Order}
 use Rattle.seam_theory.proofs.Least.{byCost}
 use Rattle.seam_theory.proofs.Members.{of-select, in-select, select-all, select-none}
-use Rattle.seam_theory.proofs.Ascending.{Ascending, asc-select}
+use Rattle.seam_theory.proofs.Ascending.{asc-select}
 use Rattle.seam_theory.proofs.Seams.{IsBest, best-is}
 
 module _ (removed price : List ℕ → ℕ) where

@@ -10,9 +10,9 @@ use lib.Dec.{leb}
 use borrow.Author.Tests.{leb-true, le-leb, lt-leb}
 use Rattle.seam_theory.specs.Paths.{run, select, pathsUp, paths, beside, nearby}
 use Rattle.seam_theory.specs.Connected.{Linked, IsPath}
-use Rattle.seam_theory.specs.Seams.{Before}
+use Rattle.seam_theory.specs.Seams.{Before, Ascending}
 use Rattle.seam_theory.proofs.Members.{of-run, in-run, run-append, in-flatMap, of-select, in-select, select-append, select-all, select-none}
-use Rattle.seam_theory.proofs.Ascending.{Ascending, run-asc, asc-select}
+use Rattle.seam_theory.proofs.Ascending.{run-asc, asc-select}
 use Rattle.seam_theory.proofs.Listed.{Joined, Connected, paths-connected, paths-asc}
 
 -- The test, as inequations.

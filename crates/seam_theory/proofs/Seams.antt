@@ -9,12 +9,12 @@ use native.Mathlib.Nat.{le-of-eq, le-antisymm}
 use borrow.Author.Tests.{leb-true, le-leb}
 use Rattle.seam_theory.specs.Best.{firstBest, least}
 use Rattle.seam_theory.specs.Paths.{paths, cost, nearby}
-use Rattle.seam_theory.specs.Seams.{cheapest, Before, IsCheapest}
+use Rattle.seam_theory.specs.Seams.{cheapest, Before, IsCheapest, Ascending}
 use Rattle.seam_theory.proofs.Best.{best-some}
 use Rattle.seam_theory.proofs.Ordered.{Order}
 use Rattle.seam_theory.proofs.First.{First, first-mem, first-le, best-first}
 use Rattle.seam_theory.proofs.Least.{byCost, cost-order}
-use Rattle.seam_theory.proofs.Ascending.{Ascending, asc-after, before-asym}
+use Rattle.seam_theory.proofs.Ascending.{asc-after, before-asym}
 use Rattle.seam_theory.proofs.Nearby.{nearby-paths-asc, some-path}
 
 module _ (le : List ℕ → List ℕ → Bool) where

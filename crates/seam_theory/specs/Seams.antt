@@ -31,6 +31,11 @@ Before [] (y ∷ ys) = Unit
 Before (x ∷ xs) [] = ⊥
 Before (x ∷ xs) (y ∷ ys) = (x < y) ⊎ ((x ≡ y) × Before xs ys)
 
+-- A list in ascending order: each element is before all that come after it.
+abbrev pub Ascending : {A : Type 0} → (A → A → Type 0) → List A → Type 0
+Ascending R [] = Unit
+Ascending {A} R (x ∷ xs) = ((y : A) → List·Memᴰ y xs → R x y) × Ascending R xs
+
 -- What s is, said without an order of listing: one of xs, none is cheaper, and each other of the same price comes after it.
 pub record IsCheapest (price : List ℕ → ℕ) (xs : List (List ℕ)) (s : List ℕ) : Type 0 where
   pub member : List·Memᴰ s xs

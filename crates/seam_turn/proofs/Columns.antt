@@ -17,10 +17,10 @@ use Rattle.grids.proofs.Exchange.{exchange-each}
 use Rattle.grids.proofs.Cut.{cut-narrower}
 use Rattle.pictures.specs.declared.sizes.Size.{Size}
 use Rattle.pictures.specs.declared.refusals.Verdict.{Verdict}
-use Rattle.pictures.specs.Refusals.{_when_, given, refusal}
+use Rattle.pictures.specs.Refusals.{given, refusal}
 use Rattle.pictures.specs.Pictures.{Picture, channelsOf, pictureBytes, sideRules, sizeRules, picture, bytes, OfSize}
 use Rattle.pictures.proofs.Rules.{served-both, passed}
-use Rattle.pictures.proofs.Limits.{Sized, sized-is, sized-served}
+use Rattle.pictures.proofs.Limits.{Sized, sized-is, sized-served, sides-of}
 use Rattle.pictures.proofs.Buffers.{picture-ofSize, picture-bytes, length-bytes}
 use Rattle.seam_bounds.specs.Moves.{outside}
 use Rattle.seam_moves.specs.Moving.{ExchangeGiven}
@@ -30,7 +30,7 @@ use Rattle.seam_moves.proofs.Served.{exchange-served}
 use Rattle.seam_close.proofs.Served.{close-served}
 use Rattle.seam_rules.specs.declared.answers.Axis.the-variants.{Horizontal}
 use Rattle.seam_rules.specs.Axes.{turnedSize, narrowed}
-use Rattle.seam_rules.proofs.Turns.{turned-bytes, turned-sides, sides-of}
+use Rattle.seam_rules.proofs.Turns.{turned-bytes, turned-sides}
 use Rattle.seam_turn.specs.Axes.{turned, cutAlong}
 use Rattle.seam_turn.proofs.Turned.{turned-ofSize}
 

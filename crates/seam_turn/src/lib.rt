@@ -5,7 +5,7 @@ use seam_bounds::judge_exchange;
 use seam_rules::Axis;
 ghost use Rattle.seam_rules.specs.declared.answers.Axis.the-variants.{Horizontal};
 ghost use Rattle.seam_turn.specs.Turning.{TurnGiven, CloseAlongGiven};
-ghost use Rattle.seam_turn.specs.Kernels.{ColumnsNeeded};
+ghost use Rattle.seam_turn.specs.Inner.{ColumnsNeeded};
 
 // Puts the picture, turned for a seam along the axis, into the front of `to`. Refused by 2, 3 and 4 as every picture is, and by
 // 8 where `to` is shorter than the picture.

@@ -11,7 +11,7 @@ ghost use Rattle.pictures.specs.Pictures.{channelsOf};
 ghost use Rattle.grids.specs.Rows.{rowsOf, rowAt};
 ghost use Rattle.text_print.specs.Prints.{Put, Printed};
 ghost use Rattle.text_lengths.specs.Rooms.{pixelsOf};
-ghost use Rattle.text_print.specs.Kernels.{pairText, PixelNeeded, PixelsNeeded};
+ghost use Rattle.text_print.specs.Inner.{pairText, PixelNeeded, PixelsNeeded};
 
 // The place behind what was printed; or the space is too short, and nothing was printed.
 pub enum Place {

@@ -11,7 +11,7 @@ use lib.ListN.{length, getD, drop, drop-of-length-le}
 use borrow.Author.Tests.{le-leb, lt-leb, ltb-true, ltb-false}
 use Rattle.text_theory.specs.Decimal.{isDigit, further, upTo, number}
 use Rattle.text_read.specs.Answers.{Told}
-use Rattle.text_read.specs.Kernels.{within}
+use Rattle.text_read.specs.Inner.{within}
 use Rattle.text_theory.proofs.Pairs.{front}
 use Rattle.text_theory.proofs.Decimals.{is-digit, number-digit}
 

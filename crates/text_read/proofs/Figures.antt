@@ -11,7 +11,7 @@ use lib.Seq.{drop-cons, set-at, append-snoc}
 use Rattle.text_theory.specs.Decimal.{isDigit, number}
 use Rattle.text_theory.proofs.Pairs.{front}
 use Rattle.text_read.specs.Answers.{given, ahead, Told}
-use Rattle.text_read.specs.Kernels.{skipped, figure, figures, Coming}
+use Rattle.text_read.specs.Inner.{skipped, figure, figures, Coming}
 
 skip-gap : (b : ℕ) (s : List ℕ) → isDigit b ≡ false → skipped (b ∷ s) ≡ skipped s
 unfolding skipped

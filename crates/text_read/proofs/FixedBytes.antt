@@ -9,7 +9,7 @@ use borrow.Author.Tests.{eq-eqb, ne-eqb}
 use Rattle.text_theory.specs.Readers.{strip}
 use Rattle.text_theory.proofs.Pairs.{front}
 use Rattle.text_read.specs.Answers.{Told, skipping}
-use Rattle.text_read.specs.Kernels.{passing}
+use Rattle.text_read.specs.Inner.{passing}
 
 -- The state of the loop that compares: i bytes of w were found.
 pub record Matching (w text : List ℕ) (start i at : ℕ) : Type 0 where

@@ -14,7 +14,7 @@ use Rattle.pictures.specs.Pictures.{channelsOf}
 use Rattle.text_theory.specs.Decimal.{digits, isDigit}
 use Rattle.text_theory.specs.Files.{blank, opening, closing, each, joined, pixelText, All, Pixel}
 use Rattle.text_theory.proofs.Decimals.{clear, number-reads}
-use Rattle.text_read.specs.Kernels.{figure, figures, Coming}
+use Rattle.text_read.specs.Inner.{figure, figures, Coming}
 use Rattle.text_read.proofs.Figures.{figure-gap, figure-here}
 
 -- The numbers xs, none over the limit, stand in the bytes one behind the other, and no digit between them.

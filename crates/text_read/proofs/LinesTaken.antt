@@ -19,7 +19,7 @@ use Rattle.text_theory.proofs.Files.{line-reads, pixel-reads, clear-blank, clea
 use Rattle.text_rules.specs.declared.Items.the-variants.{Numbers}
 use Rattle.text_read.specs.Answers.{Told, counted, lineRest}
 use Rattle.text_read.specs.Lines.{rowLine, mapLine, fitting, Taken}
-use Rattle.text_read.specs.Kernels.{passing, figures, Coming}
+use Rattle.text_read.specs.Inner.{passing, figures, Coming}
 use Rattle.text_rules.specs.Items.{itemsOf}
 use Rattle.text_read.proofs.Onward.{passing-some, passing-none}
 use Rattle.text_read.proofs.LineCounts.{rest-map, rest-row}

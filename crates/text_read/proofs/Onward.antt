@@ -10,7 +10,7 @@ use Rattle.text_theory.specs.Decimal.{number}
 use Rattle.pictures.specs.declared.sizes.Kind.the-variants.{Grey, Rgb}
 use Rattle.text_theory.specs.Files.{greyWord, rgbWord, either, kindGet}
 use Rattle.text_read.specs.Answers.{Told}
-use Rattle.text_read.specs.Kernels.{passing, numberedOf}
+use Rattle.text_read.specs.Inner.{passing, numberedOf}
 
 pub passing-some : (w s : List ℕ) (v : ℕ) (t : List ℕ) → passing w s ≡ some (v, t) → strip w s ≡ some t
 passing-some w s v t h = go (strip w s) h

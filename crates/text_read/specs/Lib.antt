@@ -1,3 +1,3 @@
 pub mod Answers
 pub mod Lines
-pub mod Kernels
+pub mod Inner

@@ -4,7 +4,7 @@ ghost use Prim.Native.Nat.{_-_, _≤_, _<_};
 ghost use lib.ListN.{length};
 ghost use Rattle.text_theory.specs.Decimal.{number};
 ghost use Rattle.text_read.specs.Answers.{Told, read, classOf, skipping};
-ghost use Rattle.text_read.specs.Kernels.{passing, within};
+ghost use Rattle.text_read.specs.Inner.{passing, within};
 
 pub struct Cursor {
     pub at: usize,

@@ -12,7 +12,7 @@ ghost use mathlib.Core.List.{_++_};
 ghost use lib.ListN.{drop};
 ghost use Rattle.text_read.specs.Answers.{Told, read};
 ghost use Rattle.text_read.specs.Lines.{rowLine, mapLine, Taken};
-ghost use Rattle.text_read.specs.Kernels.{figure, figures, Fitting};
+ghost use Rattle.text_read.specs.Inner.{figure, figures, Fitting};
 
 impl Cursor {
     // The next number, whatever stands before it: in a line, blanks and brackets.

@@ -9,7 +9,7 @@ ghost use lib.ListN.{length};
 ghost use Rattle.text_theory.specs.Decimal.{number};
 ghost use Rattle.text_theory.specs.Files.{kindGet};
 ghost use Rattle.text_read.specs.Answers.{Told, read, word, wordRead, kindRead};
-ghost use Rattle.text_read.specs.Kernels.{numberedOf};
+ghost use Rattle.text_read.specs.Inner.{numberedOf};
 
 // A word and the place where reading goes on; or there is none.
 pub enum Word {

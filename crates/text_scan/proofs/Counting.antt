@@ -11,13 +11,12 @@ use lib.ListN.{length, drop}
 use Rattle.text_rules.specs.declared.Items.{Items}
 use Rattle.text_rules.specs.declared.Items.the-variants.{Samples, Pixels, Numbers}
 use Rattle.text_theory.specs.Readers.{Get, give, on, strip, after, next, many}
-use Rattle.text_theory.specs.Decimal.{number}
 use Rattle.pictures.specs.declared.sizes.Kind.the-variants.{Rgb}
 use Rattle.text_theory.specs.Files.{lineEnd}
 use Rattle.text_read.specs.Answers.{Told, counted, formOf, lineRest}
 use Rattle.text_scan.specs.Facts.{evenly}
-use Rattle.text_read.specs.Kernels.{passing}
-use Rattle.text_scan.specs.Kernels.{Reached, linesOf}
+use Rattle.text_read.specs.Inner.{passing}
+use Rattle.text_scan.specs.Inner.{Reached, linesOf}
 use Rattle.text_theory.proofs.Pairs.{short, on-inv, after-inv}
 use Rattle.text_theory.proofs.Many.{many-next}
 use Rattle.text_theory.proofs.Decimals.{number-reads}

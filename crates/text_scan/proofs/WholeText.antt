@@ -11,11 +11,11 @@ use Rattle.text_rules.specs.declared.Items.the-variants.{Numbers}
 use Rattle.text_theory.specs.Readers.{Get, give, on, _▷_, strip, behind, after, manyUpTo, many}
 use Rattle.text_theory.specs.Decimal.{number}
 use Rattle.text_theory.specs.declared.Head.{Head}
-use Rattle.text_theory.specs.Files.{Parts, closed, rowWord, mapWord, items, pixel, line, headGet, file, ended, whole, parse}
+use Rattle.text_theory.specs.Files.{Parts, closed, rowWord, mapWord, pixel, line, headGet, file, ended, whole, parse}
 use Rattle.text_scan.specs.declared.Facts.{Facts}
-use Rattle.text_read.specs.Answers.{Told, counted, lineRest}
+use Rattle.text_read.specs.Answers.{Told, lineRest}
 use Rattle.text_scan.specs.Facts.{evenly, factsOf, factsIn}
-use Rattle.text_scan.specs.Kernels.{Reached, linesOf, scanOf}
+use Rattle.text_scan.specs.Inner.{Reached, linesOf, scanOf}
 use Rattle.text_rules.specs.Items.{itemsOf}
 use Rattle.text_theory.proofs.Pairs.{front}
 use Rattle.text_read.proofs.LineCounts.{many-change, rest-map, rest-row}

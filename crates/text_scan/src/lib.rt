@@ -12,7 +12,7 @@ ghost use Prim.Native.Nat.{_≤_, _<_};
 ghost use lib.ListN.{length};
 ghost use Rattle.text_theory.specs.Files.{parse};
 ghost use Rattle.text_scan.specs.Facts.{scanRead, factsIn};
-ghost use Rattle.text_scan.specs.Kernels.{Reached, linesOf, linesRead};
+ghost use Rattle.text_scan.specs.Inner.{Reached, linesOf, linesRead};
 
 // How many lines, whether all have as many items as the width says, and the place after them.
 enum Lines {

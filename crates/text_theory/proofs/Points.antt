@@ -3,17 +3,11 @@ use mathlib.Core.Path.{_≡_, refl}
 use mathlib.Core.Option.{none, some}
 use mathlib.Core.List.{List, [], _∷_, map}
 use Prim.Native.Nat.{ℕ}
-use Rattle.pictures.specs.declared.sizes.Kind.the-variants.{Grey, Rgb}
+use Rattle.pictures.specs.declared.sizes.Kind.the-variants.{Rgb}
 use Rattle.text_theory.specs.Readers.{strip, next, manyUpTo, many}
 use Rattle.text_theory.specs.Decimal.{digitsUpTo, digits, isDigit, further, upTo, number}
+use Rattle.text_theory.specs.Example.{shown, shownText}
 use Rattle.text_theory.specs.Files.{Parts, lineEnd, blank, opening, closing, start, range, closed, rowWord, mapWord, greyWord, rgbWord, each, joined, kindText, pixelText, lineText, headText, text, kindGet, items, three, pixel, line, headGet, file, whole, parse}
-
--- Grey rows 10 10 40 and 10 50 40, in full as the specification writes it.
-abbrev pub shown : Parts
-shown = record { head = record { size = record { width = 3; height = 2; kind = Grey }; depth = 2; growth = 1 }; rows = ((10 ∷ []) ∷ (10 ∷ []) ∷ (40 ∷ []) ∷ []) ∷ ((10 ∷ []) ∷ (50 ∷ []) ∷ (40 ∷ []) ∷ []) ∷ []; maps = (2 ∷ 0 ∷ 1 ∷ []) ∷ (0 ∷ 2 ∷ 1 ∷ []) ∷ [] }
-
-abbrev pub shownText : List ℕ
-shownText = (40 ∷ 109 ∷ 117 ∷ 108 ∷ 116 ∷ 105 ∷ 10 ∷ 40 ∷ 115 ∷ 105 ∷ 122 ∷ 101 ∷ 32 ∷ 51 ∷ 32 ∷ 50 ∷ 32 ∷ 103 ∷ 114 ∷ 101 ∷ 121 ∷ 41 ∷ 10 ∷ 40 ∷ 114 ∷ 97 ∷ 110 ∷ 103 ∷ 101 ∷ 32 ∷ 50 ∷ 32 ∷ 49 ∷ 41 ∷ 10 ∷ 40 ∷ 114 ∷ 111 ∷ 119 ∷ 32 ∷ 49 ∷ 48 ∷ 32 ∷ 49 ∷ 48 ∷ 32 ∷ 52 ∷ 48 ∷ 41 ∷ 10 ∷ 40 ∷ 114 ∷ 111 ∷ 119 ∷ 32 ∷ 49 ∷ 48 ∷ 32 ∷ 53 ∷ 48 ∷ 32 ∷ 52 ∷ 48 ∷ 41 ∷ 10 ∷ 40 ∷ 109 ∷ 97 ∷ 112 ∷ 32 ∷ 50 ∷ 32 ∷ 48 ∷ 32 ∷ 49 ∷ 41 ∷ 10 ∷ 40 ∷ 109 ∷ 97 ∷ 112 ∷ 32 ∷ 48 ∷ 32 ∷ 50 ∷ 32 ∷ 49 ∷ 41 ∷ 10 ∷ 41 ∷ 10 ∷ [])
 
 pub text-shown : text shown ≡ shownText
 unfolding strip next manyUpTo many digitsUpTo digits isDigit further upTo number lineEnd blank opening closing start range closed rowWord mapWord greyWord rgbWord each joined kindText pixelText lineText headText text kindGet items three pixel line headGet file whole parse
@@ -39,8 +33,8 @@ pub parse-bare : parse (40 ∷ 109 ∷ 117 ∷ 108 ∷ 116 ∷ 105 ∷ 10 ∷ 40
 unfolding strip next manyUpTo many digitsUpTo digits isDigit further upTo number lineEnd blank opening closing start range closed rowWord mapWord greyWord rgbWord each joined kindText pixelText lineText headText text kindGet items three pixel line headGet file whole parse
 parse-bare = refl
 
--- Refused: a leading zero, `(row )`, an rgb pixel of two samples, sample 256, number 65536, a byte behind the last line, a last
--- line without its end, a row line behind a map line.
+-- Refused: a leading zero, `(row )`, an rgb pixel of two samples, sample 256, number 65536, a byte after the last line, a last
+-- line without its end, a row line after a map line.
 pub refused : map parse ((40 ∷ 109 ∷ 117 ∷ 108 ∷ 116 ∷ 105 ∷ 10 ∷ 40 ∷ 115 ∷ 105 ∷ 122 ∷ 101 ∷ 32 ∷ 48 ∷ 51 ∷ 32 ∷ 50 ∷ 32 ∷ 103 ∷ 114 ∷ 101 ∷ 121 ∷ 41 ∷ 10 ∷ 40 ∷ 114 ∷ 97 ∷ 110 ∷ 103 ∷ 101 ∷ 32 ∷ 50 ∷ 32 ∷ 49 ∷ 41 ∷ 10 ∷ 41 ∷ 10 ∷ []) ∷ (40 ∷ 109 ∷ 117 ∷ 108 ∷ 116 ∷ 105 ∷ 10 ∷ 40 ∷ 115 ∷ 105 ∷ 122 ∷ 101 ∷ 32 ∷ 51 ∷ 32 ∷ 50 ∷ 32 ∷ 103 ∷ 114 ∷ 101 ∷ 121 ∷ 41 ∷ 10 ∷ 40 ∷ 114 ∷ 97 ∷ 110 ∷ 103 ∷ 101 ∷ 32 ∷ 50 ∷ 32 ∷ 49 ∷ 41 ∷ 10 ∷ 40 ∷ 114 ∷ 111 ∷ 119 ∷ 32 ∷ 41 ∷ 10 ∷ 41 ∷ 10 ∷ []) ∷ (40 ∷ 109 ∷ 117 ∷ 108 ∷ 116 ∷ 105 ∷ 10 ∷ 40 ∷ 115 ∷ 105 ∷ 122 ∷ 101 ∷ 32 ∷ 51 ∷ 32 ∷ 50 ∷ 32 ∷ 114 ∷ 103 ∷ 98 ∷ 41 ∷ 10 ∷ 40 ∷ 114 ∷ 97 ∷ 110 ∷ 103 ∷ 101 ∷ 32 ∷ 50 ∷ 32 ∷ 49 ∷ 41 ∷ 10 ∷ 40 ∷ 114 ∷ 111 ∷ 119 ∷ 32 ∷ 40 ∷ 49 ∷ 32 ∷ 50 ∷ 41 ∷ 41 ∷ 10 ∷ 41 ∷ 10 ∷ []) ∷ (40 ∷ 109 ∷ 117 ∷ 108 ∷ 116 ∷ 105 ∷ 10 ∷ 40 ∷ 115 ∷ 105 ∷ 122 ∷ 101 ∷ 32 ∷ 51 ∷ 32 ∷ 50 ∷ 32 ∷ 103 ∷ 114 ∷ 101 ∷ 121 ∷ 41 ∷ 10 ∷ 40 ∷ 114 ∷ 97 ∷ 110 ∷ 103 ∷ 101 ∷ 32 ∷ 50 ∷ 32 ∷ 49 ∷ 41 ∷ 10 ∷ 40 ∷ 114 ∷ 111 ∷ 119 ∷ 32 ∷ 50 ∷ 53 ∷ 54 ∷ 41 ∷ 10 ∷ 41 ∷ 10 ∷ []) ∷ (40 ∷ 109 ∷ 117 ∷ 108 ∷ 116 ∷ 105 ∷ 10 ∷ 40 ∷ 115 ∷ 105 ∷ 122 ∷ 101 ∷ 32 ∷ 51 ∷ 32 ∷ 50 ∷ 32 ∷ 103 ∷ 114 ∷ 101 ∷ 121 ∷ 41 ∷ 10 ∷ 40 ∷ 114 ∷ 97 ∷ 110 ∷ 103 ∷ 101 ∷ 32 ∷ 50 ∷ 32 ∷ 54 ∷ 53 ∷ 53 ∷ 51 ∷ 54 ∷ 41 ∷ 10 ∷ 41 ∷ 10 ∷ []) ∷ (40 ∷ 109 ∷ 117 ∷ 108 ∷ 116 ∷ 105 ∷ 10 ∷ 40 ∷ 115 ∷ 105 ∷ 122 ∷ 101 ∷ 32 ∷ 51 ∷ 32 ∷ 50 ∷ 32 ∷ 103 ∷ 114 ∷ 101 ∷ 121 ∷ 41 ∷ 10 ∷ 40 ∷ 114 ∷ 97 ∷ 110 ∷ 103 ∷ 101 ∷ 32 ∷ 50 ∷ 32 ∷ 49 ∷ 41 ∷ 10 ∷ 41 ∷ 10 ∷ 32 ∷ []) ∷ (40 ∷ 109 ∷ 117 ∷ 108 ∷ 116 ∷ 105 ∷ 10 ∷ 40 ∷ 115 ∷ 105 ∷ 122 ∷ 101 ∷ 32 ∷ 51 ∷ 32 ∷ 50 ∷ 32 ∷ 103 ∷ 114 ∷ 101 ∷ 121 ∷ 41 ∷ 10 ∷ 40 ∷ 114 ∷ 97 ∷ 110 ∷ 103 ∷ 101 ∷ 32 ∷ 50 ∷ 32 ∷ 49 ∷ 41 ∷ 10 ∷ 41 ∷ []) ∷ (40 ∷ 109 ∷ 117 ∷ 108 ∷ 116 ∷ 105 ∷ 10 ∷ 40 ∷ 115 ∷ 105 ∷ 122 ∷ 101 ∷ 32 ∷ 51 ∷ 32 ∷ 50 ∷ 32 ∷ 103 ∷ 114 ∷ 101 ∷ 121 ∷ 41 ∷ 10 ∷ 40 ∷ 114 ∷ 97 ∷ 110 ∷ 103 ∷ 101 ∷ 32 ∷ 50 ∷ 32 ∷ 49 ∷ 41 ∷ 10 ∷ 40 ∷ 109 ∷ 97 ∷ 112 ∷ 41 ∷ 10 ∷ 40 ∷ 114 ∷ 111 ∷ 119 ∷ 41 ∷ 10 ∷ 41 ∷ 10 ∷ []) ∷ []) ≡ none ∷ none ∷ none ∷ none ∷ none ∷ none ∷ none ∷ none ∷ []
 unfolding strip next manyUpTo many digitsUpTo digits isDigit further upTo number lineEnd blank opening closing start range closed rowWord mapWord greyWord rgbWord each joined kindText pixelText lineText headText text kindGet items three pixel line headGet file whole parse map
 refused = refl

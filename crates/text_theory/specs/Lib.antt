@@ -2,3 +2,4 @@ pub mod Readers
 pub mod Decimal
 pub mod Files
 pub mod Lengths
+pub mod Example

@@ -10,11 +10,10 @@ use lib.Seq.{take-at, length-take-le}
 use Rattle.grids.specs.Each.{Each}
 use Rattle.grids.proofs.Shapes.{each-length}
 use Rattle.pictures.specs.Pictures.{channelsOf, picture, bytes}
-use Rattle.pictures.proofs.Limits.{Sized, sized-is}
+use Rattle.pictures.proofs.Limits.{Sized, sized-is, bytes-few}
 use Rattle.seam_rules.specs.Axes.{turnedSize}
 use Rattle.seam_cut.specs.Axes.{seamAlong}
 use Rattle.seam_turn.specs.Axes.{cutAlong}
-use Rattle.seam_rules.proofs.Turns.{bytes-few}
 use Rattle.seam_rules.proofs.Rooms.{FindRoom, find-room}
 use Rattle.seam_turn.proofs.Served.{close-served}
 use Rattle.seam_cut.proofs.Inside.{along-inside}

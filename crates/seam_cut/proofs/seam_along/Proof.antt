@@ -7,13 +7,13 @@ use borrow.Author.Needs.{needs}
 use denote.Ref.{now}
 use lib.ListN.{length, take, drop, replicate}
 use Rattle.pictures.specs.Pictures.{pictureBytes, picture, bytes}
-use Rattle.pictures.proofs.Limits.{Sized, sized-is}
+use Rattle.pictures.proofs.Limits.{Sized, sized-is, bytes-few}
 use Rattle.seam_theory.specs.PictureSeams.{seamOf, costOf}
 use Rattle.seam_find.specs.Finding.{FindGiven}
 use Rattle.seam_rules.specs.Axes.{turnedSize}
 use Rattle.seam_turn.specs.Axes.{turned}
 use Rattle.seam_cut.specs.Axes.{seamAlong, costAlong}
-use Rattle.seam_rules.proofs.Turns.{turned-bytes, turned-pixels, turned-sides, bytes-few}
+use Rattle.seam_rules.proofs.Turns.{turned-bytes, turned-pixels, turned-sides}
 use Rattle.seam_rules.proofs.Rooms.{FindRoom, find-room}
 use Rattle.seam_turn.proofs.Turned.{turned-picture}
 use Rattle.seam_turn.proofs.Served.{turn-served}

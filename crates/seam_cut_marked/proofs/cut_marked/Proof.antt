@@ -9,7 +9,7 @@ use borrow.Author.Needs.{needs}
 use denote.Ref.{now}
 use lib.ListN.{length, drop, replicate}
 use Rattle.grids.specs.Rows.{flat}
-use Rattle.pictures.specs.Refusals.{Rule, _when_, given, refusal}
+use Rattle.pictures.specs.Refusals.{Rule, given, refusal}
 use Rattle.pictures.specs.Pictures.{channelsOf, sizeRules, picture, bytes, marksOf}
 use Rattle.pictures.proofs.Rules.{served-first, refused-answer, refusal-most}
 use Rattle.pictures.proofs.Limits.{sized-is}
@@ -18,7 +18,7 @@ use Rattle.seam_cut_marked.specs.Axes.{markedSeamAlong, markedCostAlong,
 use Rattle.seam_turn.specs.Axes.{cutAlong}
 use Rattle.seam_rules.specs.Cuts.{roomRules, lastAlong, lastRules}
 use Rattle.seam_cut_marked.specs.Marking.{markRules}
-use Rattle.seam_cut_marked.specs.Kernels.{MarkedNeeded}
+use Rattle.seam_cut_marked.specs.Inner.{MarkedNeeded}
 use Rattle.seam_cut_marked.proofs.Buffers.{marked-needed, last-kept, last-cleared}
 use Rattle.seam_rules.proofs.Rooms.{left-as-was, work-as-was}
 use Rattle.seam_rules.proofs.Turns.{turned-tall}

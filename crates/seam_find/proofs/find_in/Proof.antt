@@ -1,6 +1,6 @@
 -- `seam_find::find_in` meets its contract. Where nothing is refused, the ways stand after the picture, the columns traced back
 -- by them are the seam, and the least sum of the last row is its cost.
-use mathlib.Core.Path.{_≡_, refl, sym, ap, ap₂, _∙_}
+use mathlib.Core.Path.{_≡_, sym, ap, ap₂, _∙_}
 use mathlib.Core.Bool.{false}
 use mathlib.Core.List.{List, _++_}
 use Prim.Native.Nat.{ℕ, _+_, _-_, _*_, _≤_}
@@ -20,7 +20,8 @@ use Rattle.seam_bounds.proofs.Spaces.{Rooms, rooms-are}
 use Rattle.seam_theory.specs.PictureSeams.{seamOf, costOf}
 use Rattle.seam_find.specs.Finding.{findRules}
 use Rattle.seam_find.specs.Tracing.{columnsTo}
-use Rattle.seam_find.specs.Kernels.{costsOf, sumsDown, waysUp}
+use Rattle.seam_find.specs.Inner.Down.{costsOf}
+use Rattle.seam_find.specs.Inner.Sums.{sumsDown, waysUp}
 use Rattle.seam_find.proofs.Costs.{front-most}
 use Rattle.seam_find.proofs.Ways.{ways-long}
 use Rattle.seam_find.proofs.Loops.{traced-is}

@@ -15,7 +15,7 @@ use lib.Seq.{length-take-le}
 use Rattle.grids.specs.Table.{table}
 use Rattle.grids.specs.Rows.{flat}
 use Rattle.pictures.specs.declared.sizes.Size.{Size}
-use Rattle.pictures.specs.Refusals.{Rule, _when_, numberOf, given, refusal, served}
+use Rattle.pictures.specs.Refusals.{numberOf, given, refusal, served}
 use Rattle.pictures.specs.Pictures.{Picture, pictureBytes, pixels, pictureIn, marksIn}
 use Rattle.pictures.proofs.Rules.{refusal-most, number-some, served-first, refused-answer, kept-by}
 use Rattle.pictures.proofs.Limits.{Sized, sides-are, sized-of, sized-served}
@@ -27,12 +27,12 @@ use Rattle.seam_sums.specs.Least.{leastTo}
 use Rattle.seam_sums.specs.Weights.{kept, protected}
 use Rattle.seam_sums.proofs.Meant.{heavy, heavy-number, light, light-cost}
 use Rattle.seam_find.specs.Tracing.{columnsTo}
-use Rattle.seam_find.specs.Kernels.{sumsDown, waysUp}
+use Rattle.seam_find.specs.Inner.Sums.{sumsDown, waysUp}
 use Rattle.seam_find.proofs.Ways.{ways-long}
 use Rattle.seam_find.proofs.Loops.{traced-is}
 use Rattle.seam_find.proofs.Spaces.{space-lent, space-filled, Ends, ends}
 use Rattle.seam_find.proofs.Worked.{worked-not, worked-or}
-use Rattle.seam_find_marked.specs.Kernels.{weightsOf, markedBytes}
+use Rattle.seam_find_marked.specs.Inner.{weightsOf, markedBytes}
 use Rattle.seam_find_marked.proofs.Weighed.{front-picture, front-marks, front-sized, front-bytes, marked-traceable, marked-some, marked-seam, marked-cost, marked-blocked}
 use Rattle.seam_find_marked.proofs.find_marked_in.Statement.{statement}
 use Rattle.seam_find_marked.proofs.find_marked_in.Tie as tie

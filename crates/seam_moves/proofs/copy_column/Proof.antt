@@ -11,7 +11,7 @@ use Rattle.pictures.specs.Pictures.{channelsOf}
 use Rattle.pictures.proofs.Rules.{refused-kept}
 use Rattle.seam_bounds.specs.Moves.{columnRules}
 use Rattle.seam_moves.specs.Moving.{columnBytes}
-use Rattle.seam_moves.specs.Kernels.{ColumnNeeded}
+use Rattle.seam_moves.specs.Inner.{ColumnNeeded}
 use Rattle.seam_moves.proofs.Exchanging.{copy-needed, column-is}
 use Rattle.seam_moves.proofs.copy_column.Statement.{statement}
 use Rattle.seam_moves.proofs.copy_column.Tie as tie

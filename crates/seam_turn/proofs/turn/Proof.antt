@@ -13,7 +13,7 @@ use Rattle.pictures.proofs.Rules.{refused-kept}
 use Rattle.pictures.proofs.Limits.{sized-is}
 use Rattle.pictures.proofs.Buffers.{bytes-picture}
 use Rattle.seam_bounds.specs.Moves.{exchangeRules}
-use Rattle.seam_moves.specs.Kernels.{ExchangeNeeded}
+use Rattle.seam_moves.specs.Inner.{ExchangeNeeded}
 use Rattle.seam_moves.proofs.Exchanging.{exchange-needed}
 use Rattle.seam_turn.specs.Axes.{turned}
 use Rattle.seam_turn.proofs.turn.Statement.{statement}

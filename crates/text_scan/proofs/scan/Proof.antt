@@ -1,7 +1,7 @@
 -- `text_scan::scan` meets its contract.
 use mathlib.Core.Path.{sym}
 use Rattle.text_theory.specs.Files.{rowWord, mapWord, closed}
-use Rattle.text_scan.specs.Kernels.{scanOf}
+use Rattle.text_scan.specs.Inner.{scanOf}
 use native.Mathlib.Omega.{arith}
 use Rattle.text_read.proofs.FixedBytes.{skipped}
 use Rattle.text_read.proofs.Onward.{left-start, left-past, left-no-past, left-then, left-no-then}

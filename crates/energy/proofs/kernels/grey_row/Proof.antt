@@ -8,7 +8,7 @@ use borrow.Author.Needs.{needs}
 use denote.Ref.{now}
 use lib.ListN.{length, drop, length-set}
 use Rattle.grids.specs.Table.{table}
-use Rattle.energy.specs.Kernels.{between}
+use Rattle.energy.specs.Inner.{between}
 use Rattle.energy.proofs.Lines.{line-turn, line-last}
 use Rattle.energy.proofs.kernels.grey_row.Statement.{statement}
 use Rattle.energy.proofs.kernels.grey_row.Tie as tie

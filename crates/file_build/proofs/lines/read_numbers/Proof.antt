@@ -7,7 +7,7 @@ use denote.Ref.{now}
 use lib.ListN.{length, drop, set, length-set}
 use Rattle.grids.specs.Table.{table}
 use Rattle.grids.proofs.Tables.{table-more}
-use Rattle.file_build.specs.Kernels.{numberAt}
+use Rattle.file_build.specs.Inner.Lines.{numberAt}
 use borrow.Author.Needs.{needs}
 use Rattle.file_build.proofs.lines.read_numbers.Statement.{statement}
 use Rattle.file_build.proofs.lines.read_numbers.Tie as tie

@@ -5,7 +5,7 @@ use denote.Ref.{now}
 use lib.ListN.{length}
 use Rattle.pictures.specs.Refusals.{given, refusal}
 use Rattle.file_theory.specs.Rules.{workRule}
-use Rattle.file_read.specs.Kernels.{Open}
+use Rattle.file_read.specs.Inner.Opening.{Open}
 use Rattle.file_read.proofs.Answered.{is-open}
 use Rattle.file_read.proofs.CheckAnswers.{check-early, work-own, check-short, check-room, check-refused, check-accepted}
 use borrow.Author.Needs.{needs}

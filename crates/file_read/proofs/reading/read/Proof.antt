@@ -5,7 +5,7 @@ use denote.Ref.{now}
 use lib.ListN.{length}
 use Rattle.pictures.specs.Refusals.{given, refusal}
 use Rattle.file_rules.proofs.Ranges.{read-own}
-use Rattle.file_read.specs.Kernels.{Open}
+use Rattle.file_read.specs.Inner.Opening.{Open}
 use Rattle.file_rules.specs.Spaces.{spaceRules}
 use Rattle.file_read.proofs.Parsed.{opened}
 use Rattle.file_read.proofs.Answered.{is-open}

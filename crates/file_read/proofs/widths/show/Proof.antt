@@ -5,7 +5,8 @@ use lib.ListN.{length, length-replicate, replicate}
 use Rattle.pictures.specs.Refusals.{given, refusal}
 use Rattle.text_theory.specs.Files.{parse}
 use Rattle.file_rules.proofs.Ranges.{wanted-own}
-use Rattle.file_read.specs.Kernels.{Open, judgedIn}
+use Rattle.file_read.specs.Inner.Opening.{Open}
+use Rattle.file_read.specs.Inner.Checking.{judgedIn}
 use Rattle.file_rules.specs.Spaces.{offerRules}
 use Rattle.file_read.proofs.Parsed.{opened}
 use Rattle.file_read.proofs.Offered.{sound, roomy}

@@ -5,7 +5,7 @@ use native.Mathlib.Omega.{arith}
 use lib.ListN.{length}
 use borrow.Author.Needs.{needs}
 use Rattle.grids.proofs.Parts.{part-length}
-use Rattle.map_build.specs.Kernels.{SkipGiven}
+use Rattle.map_build.specs.Inner.Marks.{SkipGiven}
 use Rattle.map_build.proofs.Skipping.{pass-block}
 use Rattle.map_build.proofs.marks.skip.Statement.{statement}
 use Rattle.map_build.proofs.marks.skip.Tie as tie

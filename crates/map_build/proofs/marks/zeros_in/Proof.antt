@@ -5,7 +5,7 @@ use Prim.Native.Nat.{_+_, _-_, _*_, _≤_, _<_}
 use native.Mathlib.Omega.{arith}
 use lib.ListN.{length, drop, drop-of-length-le}
 use borrow.Author.Needs.{needs}
-use Rattle.map_build.specs.Kernels.{zeroPairs}
+use Rattle.map_build.specs.Inner.Marks.{zeroPairs}
 use Rattle.map_build.proofs.Skipping.{count-zero, count-number}
 use Rattle.map_build.proofs.marks.zeros_in.Statement.{statement}
 use Rattle.map_build.proofs.marks.zeros_in.Tie as tie

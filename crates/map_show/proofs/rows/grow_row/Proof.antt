@@ -8,7 +8,7 @@ use denote.Ref.{now}
 use lib.ListN.{length, getD}
 use Rattle.pictures.specs.Pictures.{channelsOf}
 use Rattle.map_theory.specs.Widths.{doubled}
-use Rattle.map_show.specs.Kernels.{PixelNeeded, MeanNeeded}
+use Rattle.map_show.specs.Inner.Pixels.{PixelNeeded, MeanNeeded}
 use Rattle.map_show.proofs.Filling.{fill-size}
 use Rattle.map_show.proofs.Grows.{Growing, Behind, grow-start, grow-needed, grow-put, new-needed, new-put, new-pass, last-needed, last-put, grow-none}
 use borrow.Author.Needs.{needs}

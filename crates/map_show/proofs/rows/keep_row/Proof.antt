@@ -8,7 +8,7 @@ use denote.Ref.{now}
 use lib.ListN.{length, getD}
 use Rattle.pictures.specs.Pictures.{channelsOf}
 use Rattle.map_theory.specs.Widths.{stays}
-use Rattle.map_show.specs.Kernels.{PixelNeeded}
+use Rattle.map_show.specs.Inner.Pixels.{PixelNeeded}
 use Rattle.map_show.proofs.Filling.{fill-size}
 use Rattle.map_show.proofs.Keeps.{Keeping, keep-start, keep-needed, keep-put, keep-pass, keep-end}
 use borrow.Author.Needs.{needs}

@@ -1,20 +1,20 @@
 -- `seam_find::bottom32::bottom_with` meets its contract.
 use mathlib.Core.Path.{_≡_, sym, ap, _∙_}
-use mathlib.Core.List.{List, _++_, append-nil}
+use mathlib.Core.List.{List, append-nil}
 use Prim.Native.Nat.{ℕ, _+_, _-_, _≤_, _<_}
 use native.Mathlib.Nat.{add-sub-cancel, le-of-eq}
 use native.Mathlib.Omega.{arith}
 use borrow.Author.Needs.{needs}
 use borrow.Rule.Slice.PartMut.{midOf}
 use denote.Ref.{now}
-use lib.ListN.{length, take, drop, length-replicate, drop-of-length-le}
+use lib.ListN.{length, take, length-replicate, drop-of-length-le}
 use lib.Seq.{length-take-le}
 use Rattle.grids.proofs.Tables.{length-table}
 use Rattle.grids.proofs.Parts.{part-length}
 use Rattle.pictures.specs.Pictures.{pictureBytes}
 use Rattle.pictures.proofs.Limits.{Sized, sized-is}
 use Rattle.energy.proofs.Served.{energies-served}
-use Rattle.seam_find.specs.Kernels.{costsOf}
+use Rattle.seam_find.specs.Inner.Down.{costsOf}
 use Rattle.seam_find.proofs.Fences.{first-row, last-long, bottom-inside, bottom-given}
 use Rattle.seam_find.proofs.bottom32.bottom_with.Statement.{statement}
 use Rattle.seam_find.proofs.bottom32.bottom_with.Tie as tie

@@ -11,7 +11,7 @@ use Rattle.grids.proofs.Tables.{length-table}
 use Rattle.pictures.specs.declared.sizes.Size.{Size}
 use Rattle.pictures.specs.Pictures.{pictureBytes}
 use Rattle.pictures.proofs.Limits.{Sized, sized-is}
-use Rattle.seam_find.specs.Kernels.{costsOf}
+use Rattle.seam_find.specs.Inner.Down.{costsOf}
 use Rattle.seam_find.proofs.Costs.{front-most, cost-most}
 use Rattle.seam_find.proofs.Downs.{Downs, down-start, down-turn, down-end, above-long, above-most}
 use Rattle.seam_find.proofs.down32.down.Statement.{statement}

@@ -14,7 +14,7 @@ use Rattle.grids.proofs.Parts.{part-length}
 use Rattle.pictures.specs.Pictures.{pictureBytes}
 use Rattle.pictures.proofs.Limits.{Sized, sized-is}
 use Rattle.energy.proofs.Served.{energies-served}
-use Rattle.seam_find.specs.Kernels.{costsOf}
+use Rattle.seam_find.specs.Inner.Down.{costsOf}
 use Rattle.seam_find.proofs.Costs.{front-most, cost-most}
 use Rattle.seam_find.proofs.Downs.{row-given}
 use Rattle.seam_find.proofs.down32.row_down.Statement.{statement}

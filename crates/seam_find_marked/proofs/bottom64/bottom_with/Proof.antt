@@ -6,13 +6,13 @@ use native.Mathlib.Omega.{arith}
 use borrow.Author.Needs.{needs}
 use borrow.Rule.Slice.PartMut.{midOf}
 use denote.Ref.{now}
-use lib.ListN.{length, take, drop, length-replicate}
+use lib.ListN.{length, take, length-replicate}
 use lib.Seq.{length-take-le}
 use Rattle.grids.proofs.Tables.{length-table}
 use Rattle.grids.proofs.Parts.{part-length}
 use Rattle.pictures.specs.Pictures.{pictureBytes}
 use Rattle.pictures.proofs.Limits.{Sized, sized-is}
-use Rattle.seam_find_marked.specs.Kernels.{weightsOf, markedBytes}
+use Rattle.seam_find_marked.specs.Inner.{weightsOf, markedBytes}
 use Rattle.seam_find.proofs.Fences.{first-row, last-long, bottom-inside, bottom-given}
 use Rattle.seam_find_marked.proofs.bottom64.bottom_with.Statement.{statement}
 use Rattle.seam_find_marked.proofs.bottom64.bottom_with.Tie as tie

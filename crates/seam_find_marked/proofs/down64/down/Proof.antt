@@ -10,7 +10,7 @@ use Rattle.grids.proofs.Tables.{length-table}
 use Rattle.pictures.specs.declared.sizes.Size.{Size}
 use Rattle.pictures.specs.Pictures.{pictureBytes}
 use Rattle.pictures.proofs.Limits.{Sized, sized-is}
-use Rattle.seam_find_marked.specs.Kernels.{weightsOf, markedBytes}
+use Rattle.seam_find_marked.specs.Inner.{weightsOf, markedBytes}
 use Rattle.seam_find.proofs.Downs.{Downs, down-start, down-turn, down-end, above-long, above-most}
 use Rattle.seam_find_marked.proofs.Weighed.{weights-most, front-sized, front-bytes}
 use Rattle.seam_find_marked.proofs.down64.down.Statement.{statement}

@@ -11,7 +11,7 @@ use Rattle.grids.proofs.Tables.{length-table}
 use Rattle.grids.proofs.Rows.{part-end}
 use Rattle.pictures.specs.Pictures.{pictureBytes}
 use Rattle.pictures.proofs.Limits.{Sized, sized-is}
-use Rattle.seam_find_marked.specs.Kernels.{weightsOf, markedBytes}
+use Rattle.seam_find_marked.specs.Inner.{weightsOf, markedBytes}
 use Rattle.seam_find.proofs.Downs.{row-given}
 use Rattle.seam_find_marked.proofs.Weighed.{weights-most, front-sized, front-bytes}
 use Rattle.seam_find_marked.proofs.down64.row_down.Statement.{statement}

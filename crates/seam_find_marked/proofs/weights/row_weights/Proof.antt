@@ -14,7 +14,7 @@ use Rattle.pictures.specs.Pictures.{pictureBytes, picture}
 use Rattle.energy.specs.Energy.{energies}
 use Rattle.pictures.proofs.Limits.{Sized, sized-is}
 use Rattle.energy.proofs.Served.{energies-served}
-use Rattle.seam_find_marked.specs.Kernels.{weightIn}
+use Rattle.seam_find_marked.specs.Inner.{weightIn}
 use Rattle.seam_find_marked.proofs.Weighed.{row-weighed}
 use Rattle.seam_find_marked.proofs.weights.row_weights.Statement.{statement}
 use Rattle.seam_find_marked.proofs.weights.row_weights.Tie as tie

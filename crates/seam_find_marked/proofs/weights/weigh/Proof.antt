@@ -3,7 +3,7 @@ use mathlib.Core.Path.{refl}
 use Prim.Native.Nat.{_-_}
 use denote.Ref.{now}
 use Rattle.grids.proofs.Tables.{Stored, stored-start, stored-turn, stored-end}
-use Rattle.seam_find_marked.specs.Kernels.{weightIn}
+use Rattle.seam_find_marked.specs.Inner.{weightIn}
 use borrow.Author.Needs.{needs}
 use Rattle.seam_find_marked.proofs.weights.weigh.Statement.{statement}
 use Rattle.seam_find_marked.proofs.weights.weigh.Tie as tie

@@ -6,7 +6,7 @@ use native.Mathlib.Omega.{arith}
 use borrow.Author.Needs.{needs}
 use denote.Ref.{now}
 use lib.ListN.{length, length-set}
-use Rattle.seam_moves.specs.Kernels.{samples}
+use Rattle.seam_moves.specs.Inner.{samples}
 use Rattle.grids.proofs.Filled.{Filled, filled-start}
 use Rattle.seam_moves.proofs.Exchanging.{samples-end, grey-turn}
 use Rattle.seam_moves.proofs.columns.grey_column.Statement.{statement}

@@ -9,7 +9,7 @@ use Rattle.pictures.proofs.Limits.{sides-are}
 use Rattle.seam_rules.specs.declared.answers.Axis.the-variants.{Vertical, Horizontal}
 use Rattle.seam_rules.specs.Counts.{smaller}
 use Rattle.seam_rules.proofs.Choices.{vertical-taken, horizontal-taken}
-use Rattle.seam_retarget.specs.Kernels.{SeamGiven}
+use Rattle.seam_retarget.specs.Inner.Seams.{SeamGiven}
 use Rattle.seam_retarget.proofs.Slots.{Near, near}
 use Rattle.seam_retarget.proofs.Choosing.{seam-vertical, seam-horizontal, cut-vertical, cut-horizontal, given-vertical, given-horizontal}
 use Rattle.seam_retarget.proofs.cells.next_cell.Statement.{statement}

@@ -7,7 +7,7 @@ use denote.Ref.{now}
 use lib.ListN.{length}
 use Rattle.seam_rules.specs.declared.answers.Axis.the-variants.{Vertical}
 use Rattle.seam_rules.specs.Counts.{smaller}
-use Rattle.seam_retarget.specs.Kernels.{StepGiven}
+use Rattle.seam_retarget.specs.Inner.Seams.{StepGiven}
 use Rattle.seam_retarget.proofs.Slots.{Near, near}
 use Rattle.seam_retarget.proofs.Sweep.{FirstSoFar, first-start, first-step, first-turn, first-end}
 use Rattle.seam_retarget.proofs.table.first_row.Statement.{statement}

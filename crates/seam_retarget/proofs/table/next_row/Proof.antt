@@ -7,7 +7,7 @@ use denote.Ref.{now}
 use Rattle.pictures.proofs.Limits.{sides-are}
 use Rattle.seam_rules.specs.declared.answers.Axis.the-variants.{Horizontal}
 use Rattle.seam_rules.specs.Counts.{smaller}
-use Rattle.seam_retarget.specs.Kernels.{StepGiven}
+use Rattle.seam_retarget.specs.Inner.Seams.{StepGiven}
 use Rattle.seam_retarget.proofs.Below.{next-step, next-needed, next-sums, next-given}
 use Rattle.seam_retarget.proofs.table.next_row.Statement.{statement}
 use Rattle.seam_retarget.proofs.table.next_row.Tie as tie

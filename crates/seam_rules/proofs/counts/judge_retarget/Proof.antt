@@ -7,11 +7,11 @@ use native.Mathlib.Omega.{arith}
 use borrow.Author.Needs.{needs}
 use borrow.Author.Tests.{lt-ltb, le-ltb, le-leb, lt-leb}
 use lib.Dec.{leb, ltb}
-use Rattle.pictures.specs.Refusals.{Rule, _when_, given, refusal, served}
+use Rattle.pictures.specs.Refusals.{Rule, given, refusal, served}
 use Rattle.pictures.specs.Pictures.{pictureBytes, sizeRules, pixels}
 use Rattle.pictures.proofs.Rules.{served-first, refused-answer}
 use Rattle.pictures.proofs.Limits.{Sized, sized-is, sides-served}
-use Rattle.seam_rules.specs.Counts.{leftSize, workBytes, retargetRules}
+use Rattle.seam_rules.specs.Counts.{leftSize, retargetBytes, retargetRules}
 use Rattle.seam_rules.proofs.Left.{smaller-sides}
 use Rattle.seam_rules.proofs.counts.judge_retarget.Statement.{statement}
 use Rattle.seam_rules.proofs.counts.judge_retarget.Tie as tie
@@ -21,7 +21,7 @@ more : tie.Start → List Rule
 more c =
     let a = c .args in
     7 when ltb 64 (a .rows .0) ∷ 7 when ltb 64 (a .columns .0) ∷ 7 when leb (a .size .height) (a .rows .0) ∷ 7 when leb (a .size .width) (a .columns .0)
-    ∷ 8 when ltb (a .out) (pictureBytes (leftSize (a .size) (a .rows) (a .columns))) ∷ 8 when ltb (a .work) (workBytes (a .size)) ∷ []
+    ∷ 8 when ltb (a .out) (pictureBytes (leftSize (a .size) (a .rows) (a .columns))) ∷ 8 when ltb (a .work) (retargetBytes (a .size)) ∷ []
 
 none : (c : tie.After-enum-told)
     → let s = c .before .before .before in

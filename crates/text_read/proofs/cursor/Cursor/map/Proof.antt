@@ -4,7 +4,7 @@ use native.Mathlib.Omega.{arith}
 use Rattle.text_theory.specs.Files.{mapWord}
 use Rattle.text_read.specs.Answers.{Told}
 use Rattle.text_read.specs.Lines.{mapLine}
-use Rattle.text_read.specs.Kernels.{passing}
+use Rattle.text_read.specs.Inner.{passing}
 use Rattle.text_read.proofs.LinesTaken.{Found, map-no-word, map-torn, map-found, found-coming, found-long, found-fits}
 use borrow.Author.Needs.{needs}
 use Rattle.text_read.proofs.cursor.Cursor.map.Statement.{statement}

@@ -1,6 +1,6 @@
 -- `text_read::cursor::Cursor::numbered` meets its contract.
 use native.Mathlib.Omega.{arith}
-use Rattle.text_read.specs.Kernels.{numberedOf}
+use Rattle.text_read.specs.Inner.{numberedOf}
 use Rattle.text_read.proofs.Onward.{left-start, left-past, left-no-past, left-then, left-no-then, left-give}
 use borrow.Author.Needs.{needs}
 use Rattle.text_read.proofs.cursor.Cursor.numbered.Statement.{statement}

@@ -6,7 +6,7 @@ use Rattle.pictures.proofs.Limits.{channels-some}
 use Rattle.text_theory.specs.Files.{rowWord}
 use Rattle.text_read.specs.Answers.{Told}
 use Rattle.text_read.specs.Lines.{rowLine}
-use Rattle.text_read.specs.Kernels.{passing}
+use Rattle.text_read.specs.Inner.{passing}
 use Rattle.text_read.proofs.LinesTaken.{Found, row-no-word, row-torn, row-found, found-coming, found-long, found-fits, pixels-fit, pixels-over}
 use borrow.Author.Needs.{needs}
 use Rattle.text_read.proofs.cursor.Cursor.row.Statement.{statement}

@@ -1,8 +1,8 @@
--- What the private functions of this crate ask and promise. No public promise cites it.
+-- The lines of a file printed. What private functions ask and promise; no public promise cites it.
 use mathlib.Core.Path.{_≡_}
-use mathlib.Core.List.{List, _++_, map}
-use Prim.Native.Nat.{ℕ, _+_, _*_, _≤_, _<_}
-use lib.ListN.{length, getD, drop, replicate}
+use mathlib.Core.List.{List, map}
+use Prim.Native.Nat.{ℕ, _+_, _*_, _≤_}
+use lib.ListN.{length, getD}
 use Rattle.grids.specs.Table.{table}
 use Rattle.grids.specs.Rows.{rowsOf}
 use Rattle.pictures.specs.declared.sizes.Kind.{Kind}
@@ -12,8 +12,6 @@ use Rattle.pictures.specs.Pictures.{Picture, largestSide, sizeRules, picture}
 use Rattle.text_theory.specs.declared.Head.{Head}
 use Rattle.text_theory.specs.Decimal.{digits}
 use Rattle.text_theory.specs.Files.{Parts, rowWord, mapWord, each, pixelText, lineText, text}
-use Rattle.file_theory.specs.Rules.{buildRules}
-use Rattle.file_build.specs.Building.{fileIn}
 
 -- The row lines of a picture, and the map lines of a map.
 abbrev pub rowLines : Kind → Picture → List ℕ
@@ -35,16 +33,6 @@ mapIn w h b = map (firstNumbers w) (rowsOf (2 * w) h b)
 -- A file's parts from bytes: its picture and its map.
 abbrev pub partsIn : Head → List ℕ → List ℕ → Parts
 partsIn h b m = record { head = h; rows = picture (h .size) b; maps = mapIn (h .size .width) (h .size .height) m }
-
--- A row with places for so many numbers.
-pub record OrderNeeded (row : List ℕ) (depth : ℕ) : Type 0 where
-  pub room : depth ≤ length row
-  pub small : depth ≤ largestSide
-
--- A picture of its size, and a depth below its width.
-pub record FitNeeded (b : List ℕ) (h : Head) : Type 0 where
-  pub sized : refusal (sizeRules (h .size) (length b)) ≡ 0
-  pub deep : h .depth < h .size .width
 
 -- The bytes of w numbers, and places for them.
 pub record NumbersNeeded (map : List ℕ) (w : ℕ) (row : List ℕ) : Type 0 where
@@ -68,13 +56,3 @@ pub record PrintNeeded (b : List ℕ) (h : Head) (map out : List ℕ) : Type 0 w
   pub sized : refusal (sizeRules (h .size) (length b)) ≡ 0
   pub long : length map ≡ h .size .height * (2 * h .size .width)
   pub room : length (text (partsIn h b map)) ≤ length out
-
--- Nothing is refused.
-pub record BuildNeeded (b : List ℕ) (h : Head) (out work : List ℕ) : Type 0 where
-  pub served : refusal (buildRules b h (length out) (length work)) ≡ 0
-
--- The file, its length, and the work space cleared.
-pub record FileGiven (b : List ℕ) (h : Head) (out work : List ℕ) (n : ℕ) (out′ work′ : List ℕ) : Type 0 where
-  pub length-is : n ≡ length (fileIn h b)
-  pub out-is : out′ ≡ fileIn h b ++ drop (length (fileIn h b)) out
-  pub work-is : work′ ≡ replicate (length work) 0

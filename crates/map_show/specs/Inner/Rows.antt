@@ -1,4 +1,4 @@
--- What the private functions of this crate ask and promise. No public promise cites it.
+-- A row with columns less or more. What private functions ask and promise; no public promise cites it.
 use mathlib.Core.Path.{_≡_}
 use mathlib.Core.Bool.{Bool, cond}
 use mathlib.Core.List.{List, [], _∷_}
@@ -35,17 +35,6 @@ grown k samples numbers u = flat (growRow average u (pixels k samples numbers) n
 pub record RowNeeded (k : Kind) (samples numbers shown out : List ℕ) : Type 0 where
   pub whole : length samples ≡ length numbers * channelsOf k
   pub room : length shown ≤ length out
-
--- Pixel c of a row's bytes, of ch samples a pixel, and room for a pixel at a place.
-pub record PixelNeeded (ch : ℕ) (samples : List ℕ) (c : ℕ) (out : List ℕ) (at : ℕ) : Type 0 where
-  pub inside : c * ch + ch ≤ length samples
-  pub room : at + ch ≤ length out
-
--- The same of two pixels and their mean.
-pub record MeanNeeded (ch : ℕ) (samples : List ℕ) (c d : ℕ) (out : List ℕ) (at : ℕ) : Type 0 where
-  pub inside : c * ch + ch ≤ length samples
-  pub beside : d * ch + ch ≤ length samples
-  pub room : at + ch ≤ length out
 
 -- The bytes of the last column's pixel, with those of its new pixel ahead where there is one.
 abbrev pub lastPixels : Kind → List ℕ → ℕ → Bool → List ℕ

@@ -7,7 +7,7 @@ use lib.ListN.{length, take, drop, replicate}
 use Rattle.grids.specs.Rows.{flat}
 use Rattle.pictures.specs.declared.sizes.Size.{Size}
 use Rattle.pictures.specs.Refusals.{refusal}
-use Rattle.pictures.specs.Pictures.{channelsOf, sideRules, sizeRules, pictureBytes, bytes, pixels}
+use Rattle.pictures.specs.Pictures.{channelsOf, sideRules, sizeRules, pictureBytes, bytes, pixels, workBytes}
 use Rattle.seam_bounds.specs.Moves.{outside}
 use Rattle.seam_objects.specs.Objects.{MarkedPicture, noSeam, cutOnce}
 use Rattle.seam_objects.specs.Removing.{markedPicture}
@@ -17,7 +17,7 @@ pub record SeamsNeeded (z : Size) (b m work : List ℕ) : Type 0 where
   pub sized : refusal (sizeRules z (length b)) ≡ 0
   pub marked : length m ≡ pixels z
   pub few : outside 3 m ≡ false
-  pub room : 32 * pixels z ≤ length work
+  pub room : workBytes z ≤ length work
 
 -- A picture and marks of more than one column at the front of their buffers, and room for the work.
 pub record FrontNeeded (z : Size) (b m work : List ℕ) : Type 0 where
@@ -26,7 +26,7 @@ pub record FrontNeeded (z : Size) (b m work : List ℕ) : Type 0 where
   pub picture-there : pictureBytes z ≤ length b
   pub marks-there : pixels z ≤ length m
   pub few : outside 3 (take (pixels z) m) ≡ false
-  pub room : 32 * pixels z ≤ length work
+  pub room : workBytes z ≤ length work
 
 -- What stands at the front.
 abbrev pub front : Size → List ℕ → List ℕ → MarkedPicture

@@ -1,26 +1,16 @@
--- What the private functions of this crate ask and promise. No public promise cites it.
+-- Seams cut and numbered in a space. What private functions ask and promise; no public promise cites it.
 use mathlib.Core.Path.{_≡_}
-use mathlib.Core.List.{List, _++_, zipWith, [], _∷_}
-use Prim.Native.Nat.{ℕ, _+_, _*_, _/_, _%_, _≤_, _<_, zero, suc}
-use lib.ListN.{length, take, drop, replicate}
-use Rattle.grids.specs.Rows.{rowsOf, flat}
+use mathlib.Core.List.{List, _++_}
+use Prim.Native.Nat.{ℕ, _+_, _*_, _≤_, _<_}
+use lib.ListN.{take, drop, replicate}
 use Rattle.grids.specs.Cut.{cut}
 use Rattle.pictures.specs.declared.sizes.Size.{Size}
 use Rattle.pictures.specs.Refusals.{refusal}
 use Rattle.pictures.specs.Pictures.{channelsOf, sideRules, pictureBytes, bytes, pixels, pictureIn}
 use Rattle.seam_theory.specs.PictureSeams.{seamOf}
-use Rattle.map_build.specs.Writing.{writePair}
 use Rattle.map_rules.specs.Spaces.{mapBytes, mapAt, mapSpaceRules}
 use Rattle.map_build.specs.Building.{mapped}
-
--- The number written in each row of a map of w columns, over the s-th zero of the row, s being the seam's column.
-abbrev pub writeRows : ℕ → ℕ → List ℕ → List ℕ → List ℕ
-writeRows v w s map = flat (zipWith (writePair (v % 256) (v / 256)) s (rowsOf (2 * w) (length s) map))
-
--- A map of w columns with a row for each column of the seam, and a number of two bytes.
-pub record RowsNeeded (map : List ℕ) (w : ℕ) (seam : List ℕ) (number : ℕ) : Type 0 where
-  pub long : length map ≡ length seam * (2 * w)
-  pub small : number < 65536
+use Rattle.map_build.specs.Inner.Rows.{writeRows}
 
 -- A picture of its size with more than one column, at the front of a space of which the map stands at `at`, its rows of w
 -- numbers.
@@ -47,16 +37,3 @@ pub record SeamsNeeded (z : Size) (depth space : ℕ) : Type 0 where
 -- And the map in it.
 pub record SeamsGiven (z : Size) (depth : ℕ) (space space′ : List ℕ) : Type 0 where
   pub space-is : space′ ≡ mapped z depth (pictureIn z space) ++ drop (mapAt z + mapBytes z) space
-
--- How many numbers of two bytes are 0.
-abbrev pub zeroPairs : List ℕ → ℕ
-zeroPairs [] = 0
-zeroPairs (a ∷ []) = 0
-zeroPairs (suc a ∷ b ∷ r) = zeroPairs r
-zeroPairs (zero ∷ suc b ∷ r) = zeroPairs r
-zeroPairs (zero ∷ zero ∷ r) = suc (zeroPairs r)
-
--- A place in a row before which nothing is written: over the s-th 0 of the row is over that 0 of the rest.
-pub record SkipGiven (row : List ℕ) (s at zeros : ℕ) : Type 0 where
-  pub within : at ≤ length row
-  pub written : (low high : ℕ) → take at row ++ writePair low high zeros (drop at row) ≡ writePair low high s row

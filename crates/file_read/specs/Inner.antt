@@ -1,0 +1,4 @@
+pub mod Opening
+pub mod Lines
+pub mod Checking
+pub mod Widths

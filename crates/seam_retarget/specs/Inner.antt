@@ -1,0 +1,4 @@
+pub mod Seams
+pub mod Cells
+pub mod Table
+pub mod Retargets

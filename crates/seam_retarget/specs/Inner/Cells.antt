@@ -1,0 +1,47 @@
+-- One cell of the table, in its slot of the work space. What private functions ask and promise; no public promise cites it.
+use mathlib.Core.Path.{_≡_}
+use mathlib.Core.List.{List}
+use Prim.Native.Nat.{ℕ, _+_, _*_, _≤_, _<_}
+use lib.ListN.{length}
+use Rattle.pictures.specs.declared.sizes.Size.{Size}
+use Rattle.pictures.specs.Refusals.{refusal}
+use Rattle.pictures.specs.Pictures.{sideRules, pictureBytes, picture}
+use Rattle.seam_moves.specs.Between.{partAt}
+use Rattle.seam_rules.specs.declared.answers.Axis.the-variants.{Vertical, Horizontal}
+use Rattle.seam_retarget.specs.Cells.{bySeam, chosen}
+use Rattle.seam_rules.specs.Counts.{smaller}
+use Rattle.seam_retarget.specs.Inner.Seams.{pictureAt, largestCost}
+
+-- The work space has 65 slots of one picture each, slot j at j pictures; behind them stand two places for work of two
+-- pictures each, for a vertical seam at 65 pictures and for a horizontal one at 67.
+abbrev pub slots : ℕ
+slots = 65
+
+abbrev pub places : ℕ
+places = 69
+
+-- A size that is allowed, its bytes, and room for the slots and the work.
+pub record SpaceNeeded (z : Size) (whole work : ℕ) : Type 0 where
+  pub sides : refusal (sideRules z) ≡ 0
+  pub whole-is : whole ≡ pictureBytes z
+  pub room : places * whole ≤ work
+
+-- Cell (r + 1, c + 1), given the totals of the cell above it and of the cell to its left, neither of them large.
+pub record CellNeeded (z : Size) (whole r c above left work : ℕ) : Type 0 where
+  pub space : SpaceNeeded z whole work
+  pub rows-left : r + 1 < z .height
+  pub columns-left : c + 1 < z .width
+  pub column : c + 1 < slots
+  pub above-small : above ≤ 200000000
+  pub left-small : left ≤ 200000000
+
+-- The cell in its slot, its total, and every other slot as it was.
+pub record CellGiven (z : Size) (whole r c above left : ℕ) (work : List ℕ) (total : ℕ) (work′ : List ℕ) : Type 0 where
+  pub cell-is :
+      record { picture = pictureAt (smaller z (r + 1) (c + 1)) ((c + 1) * whole) work′; total = total }
+      ≡ chosen
+      (bySeam Vertical (smaller z (r + 1) c) (record { picture = pictureAt (smaller z (r + 1) c) (c * whole) work; total = left }))
+      (bySeam Horizontal (smaller z r (c + 1)) (record { picture = pictureAt (smaller z r (c + 1)) ((c + 1) * whole) work; total = above }))
+  pub small : total ≤ above + largestCost
+  pub long : length work′ ≡ length work
+  pub others : (k : ℕ) → k < slots → (k ≡ c + 1 → ⊥) → partAt (k * whole) whole work′ ≡ partAt (k * whole) whole work
