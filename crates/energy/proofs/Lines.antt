@@ -13,6 +13,7 @@ use Rattle.grids.specs.Table.{table}
 use Rattle.grids.proofs.Tables.{table-part, table-more, table-same}
 use Rattle.grids.proofs.Orders.{le-or-lt}
 use Rattle.grids.proofs.Rows.{rowAt-past, part-end}
+use Rattle.pictures.specs.Limits.{mostPicture}
 use Rattle.pictures.specs.declared.sizes.Size.{Size}
 use Rattle.pictures.specs.Pictures.{channelsOf, rowBytes, picture}
 use Rattle.energy.specs.Energy.{apart, difference, energy, energies}
@@ -65,7 +66,7 @@ lower-end r height stride h =
 -- The two parts of the buffer that are lent to the loop, in its terms: s bytes at r * s, and s bytes at lowerRow.
 module _ (z : Size) (b : List ℕ) (r s lower : ℕ) (sure : Sized z (length b)) (inside : r < z .height) (is : s ≡ rowBytes z) (below : lower ≡ lowerRow r (z .height) s) where
   pub record Ends : Type 0 where
-    pub short : length b ≤ 786432
+    pub short : length b ≤ mostPicture
     pub it : r * s + s ≤ length b
     pub lower-too : lower + s ≤ length b
 

@@ -7,7 +7,7 @@ use lib.ListN.{length, drop}
 use Rattle.grids.specs.Table.{table}
 use Rattle.pictures.specs.declared.sizes.Size.{Size}
 use Rattle.pictures.specs.declared.refusals.Verdict.{Verdict}
-use Rattle.pictures.specs.Refusals.{Rule, given, refusal, served}
+use Rattle.pictures.specs.Refusals.{_when_, Rule, given, refusal, served}
 use Rattle.pictures.specs.Pictures.{Picture, picture, pixel, sizeRules}
 
 -- |a - b|

@@ -1,2 +1,3 @@
 pub mod Energy
+pub mod Bounds
 pub mod Inner

@@ -12,9 +12,10 @@ use lib.Seq.{take-at, take-length}
 use Rattle.grids.specs.Rows.{flat}
 use Rattle.grids.proofs.Shapes.{grid-of}
 use Rattle.grids.proofs.Parts.{part-length}
+use Rattle.pictures.specs.Limits.{mostPixels}
 use Rattle.pictures.specs.declared.sizes.Size.{Size}
 use Rattle.pictures.specs.declared.refusals.Verdict.{Verdict}
-use Rattle.pictures.specs.Refusals.{refusal, served}
+use Rattle.pictures.specs.Refusals.{_when_, refusal, served}
 use Rattle.pictures.specs.Pictures.{pictureBytes, sizeRules, picture, pixels, pictureIn}
 use Rattle.pictures.proofs.Rules.{both, served-both, passed}
 use Rattle.pictures.proofs.Limits.{Sized, sized-is, sides-served, bytes-few}
@@ -57,7 +58,7 @@ module _ (b : List ℕ) (h : Head) (out work : List ℕ) (needed : BuildNeeded b
     pub sure : Sized z (length b)
     pub deep : h .depth < h .size .width
     pub out-room : length (fileIn h b) ≤ length out
-    pub few : pixels (h .size) ≤ 262144
+    pub few : pixels (h .size) ≤ mostPixels
     pub map-is : mapBytes (h .size) ≡ 2 * pixels (h .size)
     pub front : mapAt (h .size) + mapBytes (h .size) ≤ length work
 

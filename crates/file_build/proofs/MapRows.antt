@@ -22,6 +22,7 @@ use Rattle.map_build.specs.Numbers.{pairs}
 use Rattle.map_build.proofs.Lists.{drop-replicate}
 use Rattle.map_build.proofs.Pairs.{pairs-at, pairs-flat, grid-pairs}
 use Rattle.file_build.specs.Inner.Lines.{numberAt, firstNumbers, mapIn}
+use Rattle.pictures.specs.Pictures.{largestSide}
 
 -- A row's numbers from its bytes.
 row-back : (w : ℕ) (ys : List ℕ) → length ys ≡ w → firstNumbers w (pairs ys) ≡ ys
@@ -76,17 +77,17 @@ zeros-total (suc n) zero l = absurd (omega arith)
 zeros-total (suc n) (suc m) l = rw (digits-small 0 (omega arith)) (omega (arith, zeros-total n m (omega arith)))
 
 -- The line of the numbers in their order and zeros behind them.
-pub order-long : (k w : ℕ) (row : List ℕ) → k ≤ w → w ≤ 512 → row ≡ run 1 k ++ drop k (replicate 512 0)
+pub order-long : (k w : ℕ) (row : List ℕ) → k ≤ w → w ≤ largestSide → row ≡ run 1 k ++ drop k (replicate largestSide 0)
     → length (mapText (take w row)) ≡ total spaced (run 1 k) + 2 * (w - k) + 6
 unfolding mapLength
 order-long k w row l m e =
     let long : length (run 1 k) ≡ k = ap length (sym (run-table k)) ∙ length-table (λ t. t + 1) k in
     let split : w ≡ length (run 1 k) + (w - k) = omega (arith, long) in
-    let n : 512 ≡ k + (512 - k) = omega arith in
-    let zeros : List ℕ = replicate (512 - k) 0 in
-    let back : _≡_ {A = List ℕ} (drop k (replicate 512 0)) (replicate (512 - k) 0) = ap (λ i. drop k (replicate i 0)) n ∙ drop-replicate k (512 - k) 0 in
-    let front : take w row ≡ run 1 k ++ take (w - k) (replicate (512 - k) 0) =
+    let n : largestSide ≡ k + (largestSide - k) = omega arith in
+    let zeros : List ℕ = replicate (largestSide - k) 0 in
+    let back : _≡_ {A = List ℕ} (drop k (replicate largestSide 0)) (replicate (largestSide - k) 0) = ap (λ i. drop k (replicate i 0)) n ∙ drop-replicate k (largestSide - k) 0 in
+    let front : take w row ≡ run 1 k ++ take (w - k) (replicate (largestSide - k) 0) =
     ap (take w) (e ∙ ap (run 1 k ++_) back) ∙ ap (λ i. take i (run 1 k ++ zeros)) split ∙ take-append-add (run 1 k) zeros (w - k) in
     map-length (take w row)
     ∙ ap (λ r. total spaced r + 6) front
-    ∙ omega (arith, total-append spaced (run 1 k) (take (w - k) (replicate (512 - k) 0)), zeros-total (w - k) (512 - k) (omega arith))
+    ∙ omega (arith, total-append spaced (run 1 k) (take (w - k) (replicate (largestSide - k) 0)), zeros-total (w - k) (largestSide - k) (omega arith))

@@ -1,4 +1,5 @@
 // Whether the file fits a room: decided from sizes and samples, without the map.
+use pictures::LARGEST_SIDE;
 use pictures::Size;
 use text_lengths::Left;
 use text_theory::Head;
@@ -75,7 +76,7 @@ pub(crate) fn file_fits(picture: &[u8], head: Head, room: usize) -> bool
     let Left::Room(maps) = rows_left(lines, picture, size) else {
         return false;
     };
-    let mut row = [0u16; 512];
+    let mut row = [0u16; LARGEST_SIDE];
     put_order(&mut row, head.depth);
     let Left::Room(end) = maps_left(maps, size.height, &row[..width]) else {
         return false;

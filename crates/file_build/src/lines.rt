@@ -1,4 +1,5 @@
 // The lines of a file, printed one behind the other into a space that has room for them.
+use pictures::LARGEST_SIDE;
 use pictures::Size;
 use text_print::Place;
 use text_theory::Head;
@@ -62,7 +63,7 @@ fn print_maps(out: &mut [u8], at: usize, map: &[u8], width: usize, height: usize
     requires { ⌜ MapsNeeded (now out) at (now map) width height ⌝ }
     ensures { λ n. ⌜ Printed (now (out .entry)) at (mapLines (mapIn width height (now (map .entry)))) (now (out .exit)) n ⌝ }
 {
-    let mut row = [0u16; 512];
+    let mut row = [0u16; LARGEST_SIDE];
     let mut end = at;
     let mut r: usize = 0;
     while r < height {

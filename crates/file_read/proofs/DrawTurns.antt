@@ -10,8 +10,9 @@ use Rattle.grids.specs.Rows.{flat, rowAt}
 use Rattle.grids.proofs.Rows.{part-end, length-flat, length-rowAt}
 use Rattle.grids.proofs.Shapes.{each-at}
 use Rattle.grids.proofs.Parts.{part-length}
+use Rattle.pictures.specs.Limits.{mostPicture}
 use Rattle.pictures.specs.declared.refusals.Verdict.{Verdict}
-use Rattle.pictures.specs.Pictures.{channelsOf, rowBytes, pictureBytes}
+use Rattle.pictures.specs.Pictures.{largestSide, channelsOf, rowBytes, pictureBytes}
 use Rattle.text_theory.specs.declared.Head.{Head}
 use Rattle.text_theory.specs.Files.{parse}
 use Rattle.text_read.specs.declared.cursor.Cursor.{Cursor}
@@ -27,6 +28,7 @@ use Rattle.file_read.proofs.Offered.{Roomy, sound, roomy, picture-fits}
 use Rattle.file_read.proofs.Filled.{FilledTo, filled-step, filled-done}
 use Rattle.file_read.proofs.Places.{MapsLeft, met-place, met-broken, met-filled, map-met, row-of-bytes}
 use Rattle.file_read.proofs.Drawing.{drawn-long, drawn-row}
+use Rattle.map_rules.specs.Bounds.{mostShown}
 
 -- A row of the front of a list is a row of the list.
 front-row : (s r n : ℕ) (b : List ℕ) → r * s + s ≤ n → n ≤ length b → rowAt s r b ≡ rowAt s r (take n b)
@@ -61,13 +63,13 @@ module _ (before : List ℕ) {file : List ℕ} {h : Head} {first v : ℕ} {space
       pub samples-end : r * (h .size .width * n) + h .size .width * n ≤ length space
       samples-end = rw is (omega (arith, part-end r (h .size .height) (h .size .width * channelsOf (h .size .kind)) inside, picture-room))
 
-      pub samples-small : r * (h .size .width * n) + h .size .width * n ≤ 786432
+      pub samples-small : r * (h .size .width * n) + h .size .width * n ≤ mostPicture
       samples-small = rw is (omega (arith, part-end r (h .size .height) (h .size .width * channelsOf (h .size .kind)) inside, known .sides .picture-most))
 
       pub shown-end : r * (v * n) + v * n ≤ length before
       shown-end = rw is (omega (arith, part-end r (h .size .height) (v * channelsOf (h .size .kind)) inside, fits .out-room))
 
-      pub shown-small : r * (v * n) + v * n ≤ 1179648
+      pub shown-small : r * (v * n) + v * n ≤ mostShown
       shown-small = rw is (omega (arith, part-end r (h .size .height) (v * channelsOf (h .size .kind)) inside, fits .bounds .shown-most))
 
       samples-are : midOf (r * (h .size .width * n)) (r * (h .size .width * n) + h .size .width * n - r * (h .size .width * n)) space ≡ flat (getD (rowsIn (parse file)) r [])
@@ -79,7 +81,7 @@ module _ (before : List ℕ) {file : List ℕ} {h : Head} {first v : ℕ} {space
           ∙ ap (rowAt (rowBytes (h .size)) r) (d .picture-is) ∙ row-of-bytes known r inside))
 
     -- Its map line is read into the front of an array.
-    module _ (numbers : List ℕ) (many : length numbers ≡ 512) (at : ℕ) (left : MapsLeft file r at) (got : List ℕ) where
+    module _ (numbers : List ℕ) (many : length numbers ≡ largestSide) (at : ℕ) (left : MapsLeft file r at) (got : List ℕ) where
       long : h .size .width ≡ length (take (h .size .width) numbers)
       long = sym (length-take-le (h .size .width) numbers (omega (arith, known .sides .width-most)))
 
@@ -92,7 +94,7 @@ module _ (before : List ℕ) {file : List ℕ} {h : Head} {first v : ℕ} {space
           let m = map-met known r inside (reads.Good n c) left long t in
           (met-place n c m, met-filled (reads.Good n c) (each-at r [] inside (known .maps-grid) ∙ long) m)
 
-      pub line-long : got ≡ getD (mapsIn (parse file)) r [] → length (got ++ drop (h .size .width) numbers) ≡ 512
+      pub line-long : got ≡ getD (mapsIn (parse file)) r [] → length (got ++ drop (h .size .width) numbers) ≡ largestSide
       line-long e = length-front numbers got (h .size .width) (ap length e ∙ each-at r [] inside (known .maps-grid) ∙ long) ∙ many
 
     -- And the row is shown.

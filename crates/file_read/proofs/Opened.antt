@@ -10,7 +10,7 @@ use Rattle.pictures.specs.declared.refusals.Refusal.{Refusal}
 use Rattle.pictures.specs.declared.refusals.Refusal.the-variants.{Form, Count, Range}
 use Rattle.pictures.specs.declared.refusals.Verdict.{Verdict}
 use Rattle.pictures.specs.declared.refusals.Verdict.the-variants as verdicts
-use Rattle.pictures.specs.Refusals.{Rule, numberOf, given, refusal}
+use Rattle.pictures.specs.Refusals.{_when_, Rule, numberOf, given, refusal}
 use Rattle.pictures.specs.Pictures.{sideRules}
 use Rattle.pictures.proofs.Rules.{served-first, refused-answer, kept-by}
 use Rattle.map_theory.specs.Widths.{allowed}

@@ -11,6 +11,7 @@ use lib.Seq.{drop-cons}
 use Rattle.grids.specs.Rows.{flat, rowAt}
 use Rattle.grids.proofs.Rows.{flat-at, length-flat}
 use Rattle.grids.proofs.Shapes.{each-length, each-at, map-at}
+use Rattle.pictures.specs.Limits.{mostPixels}
 use Rattle.pictures.specs.declared.sizes.Kind.{Kind}
 use Rattle.pictures.specs.declared.sizes.Size.{Size}
 use Rattle.pictures.specs.Pictures.{rowBytes, pictureBytes, bytes, pixels}
@@ -109,7 +110,7 @@ module _ {file : List ℕ} {h : Head} (k : Parsed file h) where
         ∙ flat-at (grid-pairs (k .maps-grid)) r inside ∙ map-at pairs (mapsIn (parse file)) r [] [] (omega (arith, each-length (k .maps-grid)))
 
   -- How many values they have.
-  pub pixels-most : pixels (h .size) ≤ 262144
+  pub pixels-most : pixels (h .size) ≤ mostPixels
   pixels-most = mul-le-mul (k .sides .height-most) (k .sides .width-most)
 
   pub bytes-long : length (bytes (rowsIn (parse file))) ≡ pictureBytes (h .size)

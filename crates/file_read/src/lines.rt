@@ -1,4 +1,5 @@
 // The lines of a file that is opened, read into lent spaces.
+use pictures::LARGEST_SIDE;
 use text_read::Cursor;
 use text_read::Read;
 use text_theory::Head;
@@ -82,7 +83,7 @@ pub(crate) fn record_maps(file: &[u8], head: Head, maps: Cursor, space: &mut [u8
     let size = head.size;
     let height = size.height;
     let width = size.width;
-    let mut numbers = [0u16; 512];
+    let mut numbers = [0u16; LARGEST_SIDE];
     let mut at = maps;
     let mut r: usize = 0;
     while r < height {

@@ -4,6 +4,7 @@ use crate::lines;
 use crate::opening;
 use file_rules::Checked;
 use file_rules::Shown;
+use pictures::LARGEST_SIDE;
 use pictures::Size;
 use pictures::Verdict;
 use text_read::Cursor;
@@ -62,7 +63,7 @@ fn draw_rows(file: &[u8], head: Head, maps: Cursor, wanted: usize, space: &[u8],
     let kind = size.kind;
     let stride = width * pictures::channels(kind);
     let shown = wanted * pictures::channels(kind);
-    let mut numbers = [0u16; 512];
+    let mut numbers = [0u16; LARGEST_SIDE];
     let mut at = maps;
     let mut r: usize = 0;
     while r < height {

@@ -5,6 +5,7 @@ use mathlib.Core.List.{_∷_}
 use Prim.Native.Nat.{ℕ, _+_, _*_, _≤_}
 use native.Mathlib.Nat.{mul-le-mul}
 use native.Mathlib.Omega.{arith}
+use Rattle.pictures.specs.Limits.{mostPixels}
 use Rattle.pictures.specs.declared.sizes.Size.{Size}
 use Rattle.pictures.specs.Refusals.{_when_, refusal}
 use Rattle.pictures.specs.Pictures.{channelsOf, sideRules, pixels}
@@ -14,9 +15,10 @@ use Rattle.map_theory.specs.Widths.{allowed}
 use Rattle.map_theory.proofs.Shown.{allowed-is}
 use Rattle.text_theory.specs.declared.Head.{Head}
 use Rattle.file_rules.specs.Spaces.{spaceRules, readSpaceRules, offerRules, wantedRules}
+use Rattle.map_rules.specs.Bounds.{mostWidth, mostShownRow, mostShown}
 
 -- Sides that are served bound the pixels.
-pub pixels-few : (z : Size) → refusal (sideRules z) ≡ 0 → pixels z ≤ 262144
+pub pixels-few : (z : Size) → refusal (sideRules z) ≡ 0 → pixels z ≤ mostPixels
 pixels-few z e = let s = sides-are z e in mul-le-mul (s .height-most) (s .width-most)
 
 -- Where they are served, 8 alone is left of what reading refuses.
@@ -36,9 +38,9 @@ wanted-own h v out work s =
 
 -- A width of at most m + g, and the bytes of a row and of a picture that wide.
 pub record Bounded (h : Head) (v : ℕ) : Type 0 where
-  pub width-most : v ≤ 768
-  pub row-most : v * channelsOf (h .size .kind) ≤ 2304
-  pub shown-most : h .size .height * (v * channelsOf (h .size .kind)) ≤ 1179648
+  pub width-most : v ≤ mostWidth
+  pub row-most : v * channelsOf (h .size .kind) ≤ mostShownRow
+  pub shown-most : h .size .height * (v * channelsOf (h .size .kind)) ≤ mostShown
 
 pub growth-most : (h : Head) → Sound h → h .growth ≤ 256
 growth-most h s =
@@ -48,6 +50,6 @@ growth-most h s =
 pub bounded : (h : Head) (v : ℕ) → Sound h → v ≤ h .size .width + h .growth → Bounded h v
 bounded h v s l =
     let z = sides-are (h .size) (s .sides) in
-    let wide : v ≤ 768 = omega (arith, growth-most h s, z .width-most) in
-    let row : v * channelsOf (h .size .kind) ≤ 2304 = mul-le-mul wide (z .channels-most) in
+    let wide : v ≤ mostWidth = omega (arith, growth-most h s, z .width-most) in
+    let row : v * channelsOf (h .size .kind) ≤ mostShownRow = mul-le-mul wide (z .channels-most) in
     record { width-most = wide; row-most = row; shown-most = mul-le-mul (z .height-most) row }

@@ -10,7 +10,7 @@ use borrow.Author.Tests.{leb-true, not-false}
 use Rattle.grids.specs.Each.{Each, Grid}
 use Rattle.grids.proofs.Shapes.{each-any, each-weaken, grid-of}
 use Rattle.pictures.specs.declared.sizes.Size.{Size}
-use Rattle.pictures.specs.Refusals.{refusal}
+use Rattle.pictures.specs.Refusals.{_when_, refusal}
 use Rattle.pictures.specs.Pictures.{Picture, sideRules, OfSize}
 use Rattle.pictures.proofs.Rules.{served-first, served-both, passed}
 use Rattle.pictures.proofs.Limits.{sides-are}

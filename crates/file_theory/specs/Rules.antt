@@ -6,7 +6,7 @@ use Prim.Native.Nat.{ℕ, _*_}
 use lib.Dec.{eqb, ltb}
 use lib.ListN.{length}
 use Rattle.pictures.specs.declared.sizes.Size.{Size}
-use Rattle.pictures.specs.Refusals.{Rule}
+use Rattle.pictures.specs.Refusals.{_when_, Rule}
 use Rattle.pictures.specs.Pictures.{channelsOf, sideRules, sizeRules, pictureBytes, picture, pixels, workBytes}
 use Rattle.map_theory.specs.Widths.{allowed, offered}
 use Rattle.map_theory.specs.Judged.{every, mapRules}

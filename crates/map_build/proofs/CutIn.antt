@@ -11,7 +11,7 @@ use borrow.Rule.Slice.PartMut.{putMid, midOf}
 use Rattle.grids.specs.Cut.{cut}
 use Rattle.grids.proofs.Parts.{put-part}
 use Rattle.pictures.specs.declared.sizes.Size.{Size}
-use Rattle.pictures.specs.Refusals.{refusal}
+use Rattle.pictures.specs.Refusals.{_when_, refusal}
 use Rattle.pictures.specs.Pictures.{channelsOf, sideRules, pictureBytes, bytes, pixels, pictureIn}
 use Rattle.pictures.proofs.Rules.{served-first}
 use Rattle.seam_rules.specs.declared.answers.Found.{Found}

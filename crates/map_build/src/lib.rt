@@ -2,6 +2,7 @@
 mod marks;
 mod rows;
 
+use pictures::LARGEST_SIDE;
 use pictures::Size;
 use pictures::Verdict;
 ghost use lib.ListN.{length};
@@ -50,7 +51,7 @@ fn next_seam(space: &mut [u8], size: Size, width: usize, at: usize, number: usiz
     ensures { λ _. ⌜ NextGiven size width at number (now (space .entry)) (now (space .exit)) ⌝ }
 {
     let height = size.height;
-    let mut seam = [0u16; 512];
+    let mut seam = [0u16; LARGEST_SIDE];
     seam_cut::cut_in(&mut space[..at], size, &mut seam);
     let end = at + height * (2 * width);
     rows::mark_rows(&mut space[at..end], width, &seam[..height], number);

@@ -1,4 +1,5 @@
 // Numbers of two bytes: read, compared, and rows of them judged by 9.
+use pictures::LARGEST_SIDE;
 ghost use mathlib.Core.Path.{_≡_};
 ghost use Prim.Native.Nat.{_+_, _*_, _<_};
 ghost use lib.Dec.{eqb};
@@ -71,7 +72,7 @@ fn numbered_row(row: &[u8], depth: usize) -> bool
     requires { ⌜ RowNeeded (now row) depth ⌝ }
     ensures { λ t. ⌜ t ≡ numbers depth (numbersIn (now (row .entry))) ⌝ }
 {
-    let mut seen = [0u16; 512];
+    let mut seen = [0u16; LARGEST_SIDE];
     if !count_numbers(row, depth, &mut seen) {
         return false;
     }

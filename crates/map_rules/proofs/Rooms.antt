@@ -7,11 +7,13 @@ use native.Mathlib.Nat.{mul-le-mul, suc-mul}
 use native.Mathlib.Omega.{arith}
 use borrow.Author.Tests.{leb-false, ltb-false, lt-leb, le-ltb}
 use lib.Dec.{leb, ltb}
+use Rattle.pictures.specs.Limits.{mostPixels}
 use Rattle.pictures.specs.declared.sizes.Size.{Size}
 use Rattle.pictures.specs.Refusals.{_when_, refusal}
 use Rattle.pictures.specs.Pictures.{sideRules, pixels}
 use Rattle.pictures.proofs.Rules.{served-first, served-both, passed}
 use Rattle.pictures.proofs.Limits.{Sides, sides-are}
+use Rattle.map_rules.specs.Bounds.{mostMap}
 use Rattle.map_rules.specs.Spaces.{mapBytes, mapAt, mapsEnd, mapSpaceRules}
 
 -- The maps end after as many times the bytes of one.
@@ -20,10 +22,10 @@ maps-end z zero = omega arith
 maps-end z (suc n) = omega (arith, maps-end z n, suc-mul n (mapBytes z))
 
 -- Sides that are served bound the pixels and the bytes of a map.
-pub pixels-few : (z : Size) → Sides z → pixels z ≤ 262144
+pub pixels-few : (z : Size) → Sides z → pixels z ≤ mostPixels
 pixels-few z s = mul-le-mul (s .height-most) (s .width-most)
 
-pub map-few : (z : Size) → Sides z → mapBytes z ≤ 524288
+pub map-few : (z : Size) → Sides z → mapBytes z ≤ mostMap
 map-few z s = let two : 2 * z .width ≤ 1024 = omega (arith, s .width-most) in mul-le-mul (s .height-most) two
 
 pub record Room (z : Size) (depth space maps : ℕ) : Type 0 where
@@ -31,8 +33,8 @@ pub record Room (z : Size) (depth space maps : ℕ) : Type 0 where
   pub sides : Sides z
   pub deep : depth < z .width
   pub long : mapsEnd z maps ≤ space
-  pub pixels-most : pixels z ≤ 262144
-  pub map-most : mapBytes z ≤ 524288
+  pub pixels-most : pixels z ≤ mostPixels
+  pub map-most : mapBytes z ≤ mostMap
 
 pub room-is : (z : Size) (depth space maps : ℕ) → refusal (mapSpaceRules z depth space maps) ≡ 0 → Room z depth space maps
 room-is z depth space maps e =

@@ -7,7 +7,7 @@ use Prim.Native.Nat.{ℕ, zero, suc, _+_, _-_, _≤_, _<_}
 use native.Mathlib.Omega.{arith}
 use Rattle.grids.specs.Each.{Each, Grid}
 use Rattle.grids.specs.Cut.{cut}
-use Rattle.pictures.specs.Refusals.{refusal}
+use Rattle.pictures.specs.Refusals.{_when_, refusal}
 use Rattle.seam_theory.specs.Choices.{Choice, Chooses, linked}
 use Rattle.map_theory.specs.Maps.{number, carve, mapOf}
 use Rattle.map_theory.specs.Judged.{every, same, numbers, before, recorded, connected, found, mapRules, Numbering, IsMap, lower}

@@ -6,7 +6,7 @@ use Prim.Native.Nat.{ℕ, suc, _+_, _-_, _≤_, _<_}
 use lib.Dec.{leb, eqb}
 use Rattle.grids.specs.Each.{Each}
 use Rattle.seam_theory.specs.Paths.{run}
-use Rattle.pictures.specs.Refusals.{Rule}
+use Rattle.pictures.specs.Refusals.{_when_, Rule}
 use Rattle.seam_theory.specs.Choices.{Choice, linked}
 use Rattle.map_theory.specs.Widths.{keepRow}
 

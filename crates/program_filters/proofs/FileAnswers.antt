@@ -9,7 +9,7 @@ use lib.ListN.{length, getD}
 use borrow.Author.Tests.{ltb-false, le-ltb}
 use Rattle.pictures.specs.declared.sizes.Size.{Size}
 use Rattle.pictures.specs.declared.refusals.Refusal.{Refusal}
-use Rattle.pictures.specs.Refusals.{refusal}
+use Rattle.pictures.specs.Refusals.{_when_, refusal}
 use Rattle.pictures.specs.Pictures.{sizeRules, picture, pixels}
 use Rattle.pictures.proofs.Rules.{served-first, served-both, passed, number-some}
 use Rattle.pictures.proofs.Limits.{Sized, sized-is}
@@ -19,7 +19,7 @@ use Rattle.file_theory.specs.Contents.{fileOf}
 use Rattle.file_theory.specs.Rules.{buildRules, workRule}
 use Rattle.file_rules.specs.declared.answers.Built.the-variants as builts
 use Rattle.file_build.specs.Building.{BuildGiven}
-use Rattle.program_theory.specs.Programs.{mostPixels, pixelsRule, fullRange}
+use Rattle.program_theory.specs.Programs.{heldPixels, pixelsRule, fullRange}
 use Rattle.program_theory.proofs.Lengths.{file-most}
 use Rattle.program_theory.proofs.Files.{full-allowed}
 use Rattle.program_netpbm.specs.declared.output.Output.the-variants as outputs
@@ -38,8 +38,8 @@ module _ (z : Size) (b : List ℕ) (held : refusal (sizeRules z (length b) ++ (p
   pub held-sized : Sized z (length b)
   held-sized = sized-is z (length b) (parts .0)
 
-  held-few : pixels z ≤ mostPixels
-  held-few = ltb-false mostPixels (pixels z) (passed (ltb mostPixels (pixels z)) 7 0 (parts .1) .0)
+  held-few : pixels z ≤ heldPixels
+  held-few = ltb-false heldPixels (pixels z) (passed (ltb heldPixels (pixels z)) 7 0 (parts .1) .0)
 
   module _ (small : All (λ (a : ℕ). a < 256) b) (out work : List ℕ) (room : outputSpace ≤ length out) (work-is : length work ≡ outputSpace) where
     build-none : refusal (buildRules b (fullRange z) (length out) (length work)) ≡ 0

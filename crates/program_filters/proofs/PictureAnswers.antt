@@ -10,6 +10,7 @@ use lib.ListN.{length, take, drop, length-append}
 use lib.Seq.{take-at}
 use Rattle.grids.specs.Each.{Each}
 use Rattle.grids.proofs.Shapes.{each-weaken}
+use Rattle.pictures.specs.Limits.{mostSide}
 use Rattle.pictures.specs.declared.sizes.Size.{Size}
 use Rattle.pictures.specs.declared.refusals.Refusal.{Refusal}
 use Rattle.pictures.specs.declared.refusals.Refusal.the-variants as refusals
@@ -38,6 +39,7 @@ use Rattle.program_netpbm.specs.Outputs.{outputSpace}
 use Rattle.program_filters.specs.Inner.{DrawNeeded, PictureAnswered}
 use Rattle.program_netpbm.proofs.Outputs.{refused-so}
 use Rattle.program_filters.proofs.Fitted.{Fitted, fitted, same-number}
+use Rattle.map_rules.specs.Bounds.{mostWidth, mostShownRow}
 
 -- A text without the lines of a head has no parts, and those of its parts are its head's.
 module _ {file : List ℕ} where
@@ -57,7 +59,7 @@ drawn-length d v e p = length-bytes (d .size) (d .rows) (each-weaken (λ row q. 
 
 -- What is known where the file is shown: its size, and the bytes at the front of the space.
 pub record Drawing (file : List ℕ) (v : ℕ) (z : Size) (picture′ : List ℕ) : Type 0 where
-  pub row-most : z .width * channelsOf (z .kind) ≤ 2304
+  pub row-most : z .width * channelsOf (z .kind) ≤ mostShownRow
   pub few : pictureBytes z ≤ 3072
   pub inside : pictureBytes z ≤ length picture′
   pub text-is : headerText z ++ take (pictureBytes z) picture′ ≡ drawnText (shows file v)
@@ -121,10 +123,10 @@ module _ (file : List ℕ) (v : ℕ) (picture out work : List ℕ) (needed : Dra
         let w = sides-are (h .size) (s .sides) .width-most in
         let g = allowed-is (h .size .width) (h .depth) (h .growth) .0 (s .range) .2 in
         let o = offered-is (h .size .width) (h .depth) (h .growth) v .0 (fit .offers-it) .1 in
-        let wide : v ≤ 768 = omega (arith, w, g, o) in
+        let wide : v ≤ mostWidth = omega (arith, w, g, o) in
         let bytes-few : pictureBytes z ≤ 3072 = rw (known, ← mul-assoc (h .size .height) v k) (mul-le-mul (fit .few) m) in
-        let z-wide : z .width ≤ 768 = rw known wide in
-        let z-high : z .height ≤ 512 = rw known (sides-are (h .size) (s .sides) .height-most) in
+        let z-wide : z .width ≤ mostWidth = rw known wide in
+        let z-high : z .height ≤ mostSide = rw known (sides-are (h .size) (s .sides) .height-small) in
         record {
           row-most = rw known (mul-le-mul wide m);
           few = bytes-few;

@@ -5,7 +5,7 @@ use Prim.Native.Nat.{ℕ, _*_, _≤_}
 use mathlib.Core.Path.{_≡_}
 use lib.ListN.{length}
 use Rattle.pictures.specs.declared.sizes.Size.{Size}
-use Rattle.program_theory.specs.Programs.{pictureRules, fileAnswer, mostPixels, fittedRules, drawnText}
+use Rattle.program_theory.specs.Programs.{pictureRules, fileAnswer, heldPixels, fittedRules, drawnText}
 use Rattle.program_netpbm.specs.declared.output.Output.{Output}
 use Rattle.program_netpbm.specs.Outputs.{Answered, outputSpace}
 use Rattle.pictures.specs.Pictures.{channelsOf}
@@ -18,7 +18,7 @@ FileAnswered z b out o out′ = Answered (pictureRules (some (z, b))) (fileAnswe
 
 -- A space for as many pixels of the file's kind as are held, and room for the output.
 pub record DrawNeeded (file picture out : List ℕ) : Type 0 where
-  pub held : (p : Parts) → parse file ≡ some p → length picture ≡ mostPixels * channelsOf (p .head .size .kind)
+  pub held : (p : Parts) → parse file ≡ some p → length picture ≡ heldPixels * channelsOf (p .head .size .kind)
   pub room : outputSpace ≤ length out
 
 -- The picture that a file shows.

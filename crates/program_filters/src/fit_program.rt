@@ -3,7 +3,7 @@ use file_rules::Shown;
 use pictures::Refusal;
 use pictures::Verdict;
 use program_netpbm::Output;
-use program_rules::MOST_PIXELS;
+use program_rules::HELD_PIXELS;
 use text_print::Place;
 use text_read::Cursor;
 use text_read::HeadRead;
@@ -63,7 +63,7 @@ fn draw_file(file: &[u8], width: usize, out: &mut [u8]) -> Output
     };
     let size = head.size;
     let kind = size.kind;
-    let room = MOST_PIXELS * pictures::channels(kind);
+    let room = HELD_PIXELS * pictures::channels(kind);
     let mut picture = [0u8; 3072];
     draw_in(file, width, &mut picture[..room], out)
 }

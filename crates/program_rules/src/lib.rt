@@ -10,7 +10,7 @@ ghost use Rattle.program_rules.specs.Limits.{lengthRules, heldRules};
 pub const MOST_INPUT: usize = 65536;
 
 // The most pixels of a picture that a program reads or writes.
-pub const MOST_PIXELS: usize = 1024;
+pub const HELD_PIXELS: usize = 1024;
 
 // Whether an input of this many bytes is read, or refused by 8.
 pub fn judge_input(bytes: usize) -> Verdict
@@ -30,7 +30,7 @@ pub fn judge_held(size: Size, bytes: usize) -> Verdict
     let Verdict::Served = fits else {
         return fits;
     };
-    if MOST_PIXELS < size.height * size.width {
+    if HELD_PIXELS < size.height * size.width {
         return Verdict::Refused(Refusal::Space);
     }
     fits

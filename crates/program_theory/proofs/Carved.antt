@@ -9,6 +9,7 @@ use native.Mathlib.Omega.{arith}
 use lib.Dec.{leb}
 use lib.ListN.{length, length-append}
 use borrow.Author.Tests.{le-ltb, leb-true, leb-false, le-leb}
+use Rattle.pictures.specs.Limits.{mostSide}
 use Rattle.pictures.specs.declared.sizes.Size.{Size}
 use Rattle.pictures.specs.Refusals.{Rule, _when_, refusal}
 use Rattle.pictures.specs.Pictures.{sizeRules, picture, pixels}
@@ -25,7 +26,7 @@ use Rattle.file_theory.specs.Shows.{Accepted, sized, shows}
 use Rattle.file_theory.proofs.Accepting.{accepted-shaped, accepted-judged}
 use Rattle.file_theory.proofs.Demands.{shows-cut, shows-grown}
 use Rattle.program_theory.specs.Netpbm.{headerText, netpbm}
-use Rattle.program_theory.specs.Programs.{mostInput, mostPixels, pixelsRule, refusedText, written, fullRange, seams, fittedRules, drawnText, fit, carvedRows, carved}
+use Rattle.program_theory.specs.Programs.{mostInput, heldPixels, pixelsRule, refusedText, written, fullRange, seams, fittedRules, drawnText, fit, carvedRows, carved}
 use Rattle.program_theory.proofs.Header.{width-back}
 use Rattle.program_theory.proofs.Lengths.{number-most, file-most}
 use Rattle.program_theory.proofs.Files.{short-input, full-accepted, full-parsed, seams-served}
@@ -51,7 +52,7 @@ fit-read v l f s =
     rw (width-back v l f) (short-input input (refusal (fittedRules v f)) (drawnText (shows f v)) n)
 
 -- A picture of at most 1,024 pixels, and its file.
-module _ (z : Size) (b : List ℕ) (small : All (λ (a : ℕ). a < 256) b) (fine : refusal (sizeRules z (length b)) ≡ 0) (few : pixels z ≤ mostPixels) where
+module _ (z : Size) (b : List ℕ) (small : All (λ (a : ℕ). a < 256) b) (fine : refusal (sizeRules z (length b)) ≡ 0) (few : pixels z ≤ heldPixels) where
   abbrev file : List ℕ
   file = fileOf (fullRange z) (picture z b)
 
@@ -73,7 +74,7 @@ module _ (z : Size) (b : List ℕ) (small : All (λ (a : ℕ). a < 256) b) (fine
       let o : Rule = 7 when not (offered (z .width) (z .width - 1) (z .width / 2) v) in
       rw parsed
       (served-first (partRules parts) (o ∷ pixelsRule z ∷ pixelsRule (sized v z) ∷ judgedRules parts) refl (accepted-shaped file parts parsed accepted)
-      ∙ rw (le-ltb mostPixels (pixels z) few, accepted-judged file parts parsed accepted))
+      ∙ rw (le-ltb heldPixels (pixels z) few, accepted-judged file parts parsed accepted))
 
   -- What it shows.
   shows-carved : (v : ℕ) → 1 ≤ v → v ≤ z .width + z .width / 2 → shows file v ≡ some (carved v z (picture z b))
@@ -98,7 +99,7 @@ module _ (z : Size) (b : List ℕ) (small : All (λ (a : ℕ). a < 256) b) (fine
   pub fit-seams : (v : ℕ) → 1 ≤ v → v ≤ z .width + z .width / 2
       → fit (digits v ++ (lineEnd ++ seams (headerText z ++ b))) ≡ written (refusal (pixelsRule (sized v z) ∷ [])) (netpbm (carved v z (picture z b)))
   fit-seams v l m =
-      let w : z .width ≤ 512 = sizes .width-most in
+      let w : z .width ≤ mostSide = sizes .width-small in
       fit-file v (omega arith) ∙ rw (file-rules v, full-offered (z .width) v (sizes .width-some) l m, shows-carved v l m)
 
   -- At any other width the refusal 7.
@@ -111,4 +112,4 @@ module _ (z : Size) (b : List ℕ) (small : All (λ (a : ℕ). a < 256) b) (fine
   fit-original =
       let none : z .width - z .width ≡ 0 = omega arith in
       fit-seams (z .width) (sizes .width-some) (omega arith)
-      ∙ rw (le-ltb mostPixels (pixels z) few, le-leb (z .width) (z .width) (omega arith), none, bytes-picture z b (sizes .length-is))
+      ∙ rw (le-ltb heldPixels (pixels z) few, le-leb (z .width) (z .width) (omega arith), none, bytes-picture z b (sizes .length-is))

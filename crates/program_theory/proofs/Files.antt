@@ -10,6 +10,7 @@ use lib.Dec.{ltb}
 use lib.ListN.{length, length-append}
 use lib.Seq.{drop-at}
 use borrow.Author.Tests.{le-ltb}
+use Rattle.pictures.specs.Limits.{mostSide}
 use Rattle.pictures.specs.declared.sizes.Size.{Size}
 use Rattle.pictures.specs.Refusals.{refusal}
 use Rattle.pictures.specs.Pictures.{channelsOf, sizeRules, picture, pixels}
@@ -25,7 +26,7 @@ use Rattle.file_theory.proofs.Accepting.{accepted-built}
 use Rattle.file_theory.proofs.Built.{built-parsed}
 use Rattle.file_theory.proofs.Lent.{all-drop, lent-allowed}
 use Rattle.program_theory.specs.Netpbm.{headerText, headerGet}
-use Rattle.program_theory.specs.Programs.{mostInput, mostPixels, pixelsRule, written, fullRange, pictureRules, fileAnswer, seamsRules, seams}
+use Rattle.program_theory.specs.Programs.{mostInput, heldPixels, pixelsRule, written, fullRange, pictureRules, fileAnswer, seamsRules, seams}
 use Rattle.program_theory.proofs.Header.{header-back, header-reads}
 use Rattle.program_theory.proofs.Lengths.{header-most}
 
@@ -52,18 +53,18 @@ module _ (z : Size) (b : List ℕ) (small : All (λ (a : ℕ). a < 256) b) (fine
   full-parsed = built-parsed full-built
 
 -- `seams` writes it, where the picture has at most 1,024 pixels.
-pub seams-served : (z : Size) (b : List ℕ) → refusal (sizeRules z (length b)) ≡ 0 → pixels z ≤ mostPixels → seams (headerText z ++ b) ≡ fileOf (fullRange z) (picture z b)
+pub seams-served : (z : Size) (b : List ℕ) → refusal (sizeRules z (length b)) ≡ 0 → pixels z ≤ heldPixels → seams (headerText z ++ b) ≡ fileOf (fullRange z) (picture z b)
 unfolding seams
 seams-served z b fine few =
     let s = sized-is z (length b) fine in
-    let w : z .width ≤ 512 = s .width-most in
-    let h : z .height ≤ 512 = s .height-most in
+    let w : z .width ≤ mostSide = s .width-small in
+    let h : z .height ≤ mostSide = s .height-small in
     let c = channelsOf (z .kind) in
     let m : z .height * z .width * c ≤ 1024 * 3 = mul-le-mul few (s .channels-most) in
     let l : length (headerText z ++ b) ≤ mostInput =
     rw length-append (omega (arith, header-most z (omega arith) h, s .length-is, mul-assoc (z .height) (z .width) c, m)) in
     let r : refusal (pictureRules (some (z, b))) ≡ 0 =
-    served-first (sizeRules z (length b)) (pixelsRule z ∷ []) refl fine ∙ rw (le-ltb mostPixels (pixels z) few) in
+    served-first (sizeRules z (length b)) (pixelsRule z ∷ []) refl fine ∙ rw (le-ltb heldPixels (pixels z) few) in
     rw (header-back z (omega arith) (omega arith) b)
     (short-input (headerText z ++ b) (refusal (pictureRules (some (z, b)))) (fileAnswer (some (z, b))) l ∙ rw r)
 

@@ -10,6 +10,7 @@ use lib.ListN.{length, length-append}
 use borrow.Author.Tests.{ltb-true, ltb-false}
 use Rattle.grids.specs.Each.{Each, none, more}
 use Rattle.seam_theory.specs.Paths.{run}
+use Rattle.pictures.specs.Limits.{mostSide}
 use Rattle.pictures.specs.declared.sizes.Kind.{Kind}
 use Rattle.pictures.specs.declared.sizes.Kind.the-variants.{Grey, Rgb}
 use Rattle.pictures.specs.declared.sizes.Size.{Size}
@@ -28,6 +29,7 @@ use Rattle.file_theory.proofs.Lent.{lent-allowed}
 use Rattle.file_theory.proofs.Lengths.{file-length}
 use Rattle.program_theory.specs.Netpbm.{greyMagic, rgbMagic, maxval, magicText, headerText}
 use Rattle.program_theory.specs.Programs.{fullRange, refusedWord, refusedText}
+use Rattle.map_rules.specs.Bounds.{mostWidth}
 
 -- Where the numbers below m have at most c digits, those below ten times m have at most one more.
 one-more : (m c : ℕ) → ((n : ℕ) → n < m → length (digits n) ≤ c) → (n : ℕ) → n < m * 10 → length (digits n) ≤ suc c
@@ -103,8 +105,8 @@ file-most z b a e l =
     let s = sides-are z (sides-served z (length b) e) in
     let w : ℕ = z .width in
     let h : ℕ = z .height in
-    let wm : w ≤ 512 = s .width-most in
-    let hm : h ≤ 512 = s .height-most in
+    let wm : w ≤ mostSide = s .width-small in
+    let hm : h ≤ mostSide = s .height-small in
     let ws : 0 < w = s .width-some in
     let k : ℕ = w - 1 in
     let f = file-length (fullRange z) (picture z b) (allowed-ofSize z (picture z b) p) (omega arith) in
@@ -120,7 +122,7 @@ magic-length Grey = refl
 magic-length Rgb = refl
 
 -- A header, up to the widest picture that is offered.
-pub header-most : (z : Size) → z .width ≤ 768 → z .height ≤ 512 → length (headerText z) ≤ 15
+pub header-most : (z : Size) → z .width ≤ mostWidth → z .height ≤ mostSide → length (headerText z) ≤ 15
 unfolding headerText blank maxval
 header-most z w h = simp length-append (omega (arith, magic-length (z .kind), digits-most (z .width) (omega arith), digits-most (z .height) (omega arith)))
 

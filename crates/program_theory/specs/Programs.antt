@@ -29,11 +29,11 @@ abbrev pub inputRule : List ℕ → Rule
 inputRule input = 8 when ltb mostInput (length input)
 
 -- "The programs hold 1,024 pixels, read or written."
-abbrev pub mostPixels : ℕ
-mostPixels = 1024
+abbrev pub heldPixels : ℕ
+heldPixels = 1024
 
 abbrev pub pixelsRule : Size → Rule
-pixelsRule z = 8 when ltb mostPixels (pixels z)
+pixelsRule z = 8 when ltb heldPixels (pixels z)
 
 -- They "write a refusal as `(refused 8)` and a line end".
 unfoldable pub refusedWord : List ℕ

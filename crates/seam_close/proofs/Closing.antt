@@ -19,8 +19,9 @@ use Rattle.grids.proofs.Tables.{table-same}
 use Rattle.grids.proofs.Parts.{last-part}
 use Rattle.grids.proofs.Rows.{flat-rowsOf, length-rowAt, rowsOf-at, length-rowsOf, part-end}
 use Rattle.grids.proofs.Cut.{cut-each, cut-table, flat-removeAt}
+use Rattle.pictures.specs.Limits.{mostRow, mostPicture}
 use Rattle.pictures.specs.declared.sizes.Size.{Size}
-use Rattle.pictures.specs.Refusals.{refusal}
+use Rattle.pictures.specs.Refusals.{_when_, refusal}
 use Rattle.pictures.specs.Pictures.{channelsOf, rowBytes, pictureBytes, sizeRules, picture, bytes, OfSize}
 use Rattle.pictures.proofs.Rules.{served-both, passed}
 use Rattle.pictures.proofs.Limits.{Sized, sized-is}
@@ -126,8 +127,8 @@ module _ (z : Size) (b s : List ℕ) (n : ℕ) (needed : CloseNeeded b z s) (is 
 
   pub record Sure : Type 0 where
     pub some : n ≤ w * n
-    pub line : w * n ≤ 1536
-    pub short : length b ≤ 786432
+    pub line : w * n ≤ mostRow
+    pub short : length b ≤ mostPicture
     pub length-is : length b ≡ h * (w * n)
     pub freed : h * (w * n - n) + h * n ≡ h * (w * n)
 

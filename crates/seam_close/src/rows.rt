@@ -1,4 +1,5 @@
 // A seam closed up, row by row.
+use pictures::LARGEST_SIDE;
 use pictures::Size;
 use pictures::channels;
 use pictures::clear;
@@ -52,7 +53,7 @@ pub(crate) fn close_rows(picture: &mut [u8], size: Size, seam: &[u16])
     let n = channels(kind);
     let stride = width * n;
     let kept = stride - n;
-    let mut line = [0u8; 1536];
+    let mut line = [0u8; 6 * LARGEST_SIDE];
     for r in 0..height {
         let at = r * stride;
         bytes::copy(&picture[at..at + stride], &mut line);

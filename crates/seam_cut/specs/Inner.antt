@@ -5,7 +5,7 @@ use mathlib.Core.List.{List, [], _∷_, _++_}
 use Prim.Native.Nat.{ℕ, _+_}
 use lib.ListN.{length, take, drop, replicate}
 use Rattle.pictures.specs.declared.sizes.Size.{Size}
-use Rattle.pictures.specs.Refusals.{refusal, worked}
+use Rattle.pictures.specs.Refusals.{_when_, refusal, worked}
 use Rattle.pictures.specs.Pictures.{pictureBytes, pixels}
 use Rattle.seam_rules.specs.declared.answers.Found.{Found}
 use Rattle.seam_rules.specs.Answers.{foundNumber, foundCost}

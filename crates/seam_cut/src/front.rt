@@ -1,4 +1,5 @@
 // The seam of a picture that stands at the front of a space, cut.
+use pictures::LARGEST_SIDE;
 use pictures::Refusal;
 use pictures::Size;
 use seam_rules::Axis;
@@ -32,9 +33,9 @@ pub fn cut_in(space: &mut [u8], size: Size, seam: &mut [u16]) -> Found
 fn last_in(space: &mut [u8], size: Size, room: usize) -> Found
     ensures { λ f. ⌜ LastInGiven (now (space .entry)) size room f (now (space .exit)) ⌝ }
 {
-    let mut spare = [0u16; 512];
-    let mut long = 512;
-    if room < 512 {
+    let mut spare = [0u16; LARGEST_SIDE];
+    let mut long = LARGEST_SIDE;
+    if room < LARGEST_SIDE {
         long = room;
     }
     let found = seam_find::find_in(space, size, &mut spare[..long]);

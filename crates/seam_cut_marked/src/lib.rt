@@ -1,4 +1,5 @@
 // Seams by marks: finding and cutting, along either axis. Marks are turned and closed up as a grey picture is.
+use pictures::LARGEST_SIDE;
 use pictures::Refusal;
 use pictures::Size;
 use pictures::Verdict;
@@ -9,7 +10,7 @@ ghost use mathlib.Core.Bool.{false};
 ghost use mathlib.Core.List.{_++_};
 ghost use lib.ListN.{length, replicate};
 ghost use Rattle.pictures.specs.Refusals.{given, refusal};
-ghost use Rattle.pictures.specs.Pictures.{sizeRules};
+ghost use Rattle.pictures.specs.Pictures.{largestSide, sizeRules};
 ghost use Rattle.seam_bounds.specs.Moves.{outside};
 ghost use Rattle.seam_rules.specs.Cuts.{roomRules, lastAlong};
 ghost use Rattle.seam_cut_marked.specs.Marking.{markRules, markedFindRules, markedCutRules, MarkedSeamFound, MarkedPictureCut, MarkedMarksCut};
@@ -117,10 +118,10 @@ fn marked_along(
 
 // 12 or 13 at the last column or row: the seam itself isn't given.
 fn last_marked(picture: &[u8], marks: &[u8], size: Size, axis: Axis, work: &mut [u8]) -> Found
-    requires { ⌜ MarkedNeeded (now picture) (now marks) size axis (replicate 512 0) (now work) ⌝ }
+    requires { ⌜ MarkedNeeded (now picture) (now marks) size axis (replicate largestSide 0) (now work) ⌝ }
     ensures { λ f. ⌜ LastGiven (now (picture .entry)) (now (marks .entry)) size axis (now (work .entry)) f (now (work .exit)) ⌝ }
 {
-    let mut spare = [0u16; 512];
+    let mut spare = [0u16; LARGEST_SIDE];
     let found = marked_along(picture, marks, size, axis, &mut spare, work);
     let Found::Seam(_) = found else {
         return found;

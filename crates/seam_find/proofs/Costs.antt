@@ -13,6 +13,7 @@ use Rattle.grids.proofs.Orders.{le-or-lt}
 use Rattle.grids.proofs.Tables.{length-table, table-at, table-past}
 use Rattle.pictures.specs.declared.sizes.Size.{Size}
 use Rattle.pictures.specs.Pictures.{picture}
+use Rattle.energy.specs.Bounds.{mostEnergy}
 use Rattle.energy.specs.Energy.{energy}
 use Rattle.pictures.proofs.Limits.{Sized}
 use Rattle.energy.proofs.Energy.{buffer-energy-most}
@@ -32,7 +33,7 @@ front-most b n m h i =
     short l = le-trans (rw (length-take) (min-le-left n (length b))) l
 
 -- An energy is at most 1530: two differences of at most 255 in at most three channels.
-pub pixel-most : (z : Size) (b : List ℕ) → Sized z (length b) → ((i : ℕ) → getD b i 0 ≤ 255) → (r c : ℕ) → energy (picture z b) r c ≤ 1530
+pub pixel-most : (z : Size) (b : List ℕ) → Sized z (length b) → ((i : ℕ) → getD b i 0 ≤ 255) → (r c : ℕ) → energy (picture z b) r c ≤ mostEnergy
 pixel-most z b s h r c = omega (arith, buffer-energy-most z b 255 (s .length-is) h r c, mul-le-mul-right 255 (s .channels-most))
 
 -- A bound of all values is one of a table.
@@ -44,8 +45,8 @@ table-most f n m h k =
     (le-or-lt n k)
 
 -- The costs of a row.
-pub cost-most : (z : Size) (b : List ℕ) → Sized z (length b) → ((i : ℕ) → getD b i 0 ≤ 255) → (i k : ℕ) → getD (costsOf z b i) k 0 ≤ 1530
-cost-most z b s h i = table-most (energy (picture z b) i) (z .width) 1530 (pixel-most z b s h i)
+pub cost-most : (z : Size) (b : List ℕ) → Sized z (length b) → ((i : ℕ) → getD b i 0 ≤ 255) → (i k : ℕ) → getD (costsOf z b i) k 0 ≤ mostEnergy
+cost-most z b s h i = table-most (energy (picture z b) i) (z .width) mostEnergy (pixel-most z b s h i)
 
 -- A column's sum above it, between the fences.
 pub fenced-at : (fence : ℕ) (s : List ℕ) (c : ℕ) → c < length s → getD (fenced fence s) (c + 1) 0 ≡ getD s c 0

@@ -9,6 +9,7 @@ use lib.ListN.{length, take, drop, replicate, length-append}
 use lib.Seq.{take-at, drop-at, drop-drop}
 use Rattle.grids.proofs.Parts.{put-part, part-length}
 use Rattle.grids.proofs.Rows.{part-end}
+use Rattle.pictures.specs.Limits.{mostPixels, mostPicture}
 use Rattle.pictures.specs.declared.sizes.Size.{Size}
 use Rattle.pictures.specs.Pictures.{largestSide, pictureBytes}
 use Rattle.pictures.proofs.Limits.{Sides}
@@ -49,10 +50,10 @@ module _ {A : Type 0} (start front part space : List A) (p n : ℕ) (is : space 
 -- The bounds of what stands after a picture: a byte for each pixel, and one for each pixel of every row but the first.
 pub record Ends (z : Size) : Type 0 where
   pub some : 0 < z .height
-  pub few : (z .height - 1) * z .width ≤ 262144
-  pub all : z .height * z .width ≤ 262144
+  pub few : (z .height - 1) * z .width ≤ mostPixels
+  pub all : z .height * z .width ≤ mostPixels
   pub rows : (z .height - 1) * z .width + z .width ≤ z .height * z .width
-  pub short : pictureBytes z ≤ 786432
+  pub short : pictureBytes z ≤ mostPicture
 
 pub ends : (z : Size) → Sides z → Ends z
 ends z s =

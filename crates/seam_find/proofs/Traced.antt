@@ -10,8 +10,10 @@ use Rattle.seam_theory.specs.Paths.{along}
 use Rattle.grids.specs.Table.{table}
 use Rattle.grids.specs.Rows.{flat}
 use Rattle.grids.proofs.Tables.{length-table, table-at}
+use Rattle.pictures.specs.Limits.{mostSide}
 use Rattle.pictures.specs.declared.sizes.Size.{Size}
 use Rattle.pictures.specs.Pictures.{picture}
+use Rattle.energy.specs.Bounds.{mostEnergy}
 use Rattle.energy.specs.Energy.{energy}
 use Rattle.pictures.proofs.Limits.{Sized}
 use Rattle.seam_theory.specs.PictureSeams.{seamUp, seamOf, costOf}
@@ -30,8 +32,8 @@ module _ (z : Size) (b : List ℕ) (sized : Sized z (length b)) (byte : (i : ℕ
   -- Every sum is below the fence.
   low : (i c : ℕ) → i < z .height - 1 → c < z .width → getD (sumsDown 4294967295 (z .width) (costsOf z b) i) c 0 < 4294967295
   low i c h l =
-      let rows : suc i ≤ 512 = omega (arith, sized .height-most) in
-      omega (arith, sums-most 4294967295 (z .width) 1530 (costsOf z b) (wide 0) (cost-most z b sized byte) i c l, mul-le-mul-right 1530 rows)
+      let rows : suc i ≤ mostSide = omega (arith, sized .height-small) in
+      omega (arith, sums-most 4294967295 (z .width) mostEnergy (costsOf z b) (wide 0) (cost-most z b sized byte) i c l, mul-le-mul-right mostEnergy rows)
 
   pub plain-traceable : (column seam : ℕ) → column < z .width → z .height ≤ seam
       → Traceable (length (flat (table (waysUp 4294967295 (z .width) (costsOf z b)) (z .height - 1)))) (z .width) (z .height) column seam

@@ -1,5 +1,6 @@
 // The end of the cheapest path of a picture without marks.
 use crate::down32;
+use pictures::LARGEST_SIDE;
 use pictures::Size;
 use seam_sums::least32;
 ghost use Rattle.pictures.specs.Pictures.{pictureBytes};
@@ -19,9 +20,9 @@ pub(crate) fn find_bottom(space: &mut [u8], size: Size, bytes: usize) -> Bottom
 {
     let width = size.width;
     let both = width + 2;
-    let mut above = [down32::FENCE; 514];
-    let mut cost = [0u32; 512];
-    let mut next = [0u32; 512];
+    let mut above = [down32::FENCE; LARGEST_SIDE + 2];
+    let mut cost = [0u32; LARGEST_SIDE];
+    let mut next = [0u32; LARGEST_SIDE];
     bottom_with(
         space,
         size,

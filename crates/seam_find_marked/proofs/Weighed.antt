@@ -20,8 +20,10 @@ use Rattle.seam_theory.proofs.Best.{best-mem}
 use Rattle.seam_theory.proofs.Least.{byCost}
 use Rattle.seam_theory.proofs.Nearby.{nearby-paths}
 use Rattle.seam_theory.proofs.Weights.{weight, Weighed, least-along, weight-price, weights-found, weights-blocked}
+use Rattle.pictures.specs.Limits.{mostSide}
 use Rattle.pictures.specs.declared.sizes.Size.{Size}
 use Rattle.pictures.specs.Pictures.{Picture, pictureBytes, picture, pixels, pictureIn, marksIn}
+use Rattle.energy.specs.Bounds.{mostEnergy}
 use Rattle.energy.specs.Energy.{energy, energies}
 use Rattle.pictures.proofs.Limits.{Sized}
 use Rattle.seam_theory.specs.PictureSeams.{markAt, isMark, markedUp, markedSeamOf, markedCostOf, isNone}
@@ -50,7 +52,7 @@ kept-most : (m : List (List ℕ)) (r c : ℕ) → isKept m r c ≤ 1
 kept-most m r c = omega (arith, one-of-two m r c)
 
 -- In a picture of at most 512 rows, with energies of at most 1530.
-module _ (w h : ℕ) (p : Picture) (m : List (List ℕ)) (few : h ≤ 512) (most : (r c : ℕ) → energy p r c ≤ 1530) where
+module _ (w h : ℕ) (p : Picture) (m : List (List ℕ)) (few : h ≤ mostSide) (most : (r c : ℕ) → energy p r c ≤ mostEnergy) where
   abbrev all : List (List ℕ)
   all = paths (nearby w) w h
 
@@ -58,7 +60,7 @@ module _ (w h : ℕ) (p : Picture) (m : List (List ℕ)) (few : h ≤ 512) (most
   weighed : (q : List ℕ) → List·Memᴰ q all → Weighed (along (isKept m)) (along (isMark 2 m)) (along (energy p)) 4294967296 281474976710656 h q
   weighed q i =
       let long = nearby-paths w h q .0 i .size in
-      let dear = along-most (energy p) 1530 q most in
+      let dear = along-most (energy p) mostEnergy q most in
       let kept = along-most (isKept m) 1 q (kept-most m) in
       record {
         pixels = along-split (isKept m) (isMark 2 m) q (one-of-two m) ∙ long;
@@ -93,7 +95,7 @@ module _ (w h : ℕ) (p : Picture) (m : List (List ℕ)) (few : h ≤ 512) (most
         s lightest (rw (summed s) at l)
 
 -- A weight is at most 1530 + 2 ^ 32 + 2 ^ 48.
-weight-most : (e mark : ℕ) → e ≤ 1530 → weightOf e mark ≤ 281479271679482
+weight-most : (e mark : ℕ) → e ≤ mostEnergy → weightOf e mark ≤ 281479271679482
 weight-most e mark l = go (eqb mark 2) (eqb mark 1)
   where
     go : (s t : Bool) → e + (cond s 0 1 * 4294967296 + cond t 1 0 * 281474976710656) ≤ 281479271679482
@@ -110,7 +112,7 @@ module _ (z : Size) (b : List ℕ) (sized : Sized z (length (take (pictureBytes 
   abbrev m : List (List ℕ)
   m = marksIn z b
 
-  energy-most : (r c : ℕ) → energy p r c ≤ 1530
+  energy-most : (r c : ℕ) → energy p r c ≤ mostEnergy
   energy-most = pixel-most z (take (pictureBytes z) b) sized byte
 
   pub weights-most : (i k : ℕ) → getD (weightsOf z b i) k 0 ≤ 281479271679482
@@ -125,7 +127,7 @@ module _ (z : Size) (b : List ℕ) (sized : Sized z (length (take (pictureBytes 
   -- Every sum is below the fence.
   low : (i c : ℕ) → i < z .height - 1 → c < z .width → getD (sumsDown 18446744073709551615 (z .width) (weightsOf z b) i) c 0 < 18446744073709551615
   low i c h l =
-      let rows : suc i ≤ 512 = omega (arith, sized .height-most) in
+      let rows : suc i ≤ mostSide = omega (arith, sized .height-small) in
       omega (arith, sums-most 18446744073709551615 (z .width) 281479271679482 (weightsOf z b) (weights-wide 0) weights-most i c l, mul-le-mul-right 281479271679482 rows)
 
   pub marked-traceable : (column seam : ℕ) → column < z .width → z .height ≤ seam

@@ -1,6 +1,7 @@
 // The end of the path of least weight of a picture with marks.
 use crate::down64;
 use crate::weights;
+use pictures::LARGEST_SIDE;
 use pictures::Size;
 use seam_sums::least64;
 ghost use mathlib.Core.Path.{_≡_};
@@ -22,10 +23,10 @@ pub(crate) fn find_bottom(space: &mut [u8], size: Size, bytes: usize) -> Bottom
 {
     let width = size.width;
     let both = width + 2;
-    let mut above = [down64::FENCE; 514];
-    let mut energies = [0u32; 512];
-    let mut cost = [0u64; 512];
-    let mut next = [0u64; 512];
+    let mut above = [down64::FENCE; LARGEST_SIDE + 2];
+    let mut energies = [0u32; LARGEST_SIDE];
+    let mut cost = [0u64; LARGEST_SIDE];
+    let mut next = [0u64; LARGEST_SIDE];
     bottom_with(
         space,
         size,

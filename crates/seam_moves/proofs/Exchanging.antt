@@ -20,8 +20,9 @@ use Rattle.grids.proofs.Shapes.{grid-of, each-length, each-at}
 use Rattle.grids.proofs.Tables.{length-table, table-at, table-same, table-all, table-part, each-table}
 use Rattle.grids.proofs.Rows.{length-rowAt, length-flat, rowAt-getD, part-end}
 use Rattle.grids.proofs.Exchange.{exchange-each, exchange-grid, exchange-at, grid-same}
+use Rattle.pictures.specs.Limits.{mostPicture}
 use Rattle.pictures.specs.declared.sizes.Size.{Size}
-use Rattle.pictures.specs.Refusals.{refusal}
+use Rattle.pictures.specs.Refusals.{_when_, refusal}
 use Rattle.pictures.specs.Pictures.{channelsOf, pictureBytes, sizeRules, picture, bytes, OfSize}
 use Rattle.pictures.proofs.Rules.{served-both, passed}
 use Rattle.pictures.proofs.Limits.{Sized, sized-is}
@@ -180,7 +181,7 @@ module _ (z : Size) (b space : List ℕ) (s : ℕ) (needed : ExchangeNeeded b z 
 
   pub record ColumnSure (c : ℕ) : Type 0 where
     pub room : c * s + s ≤ length space
-    pub small : c * s + s ≤ 786432
+    pub small : c * s + s ≤ mostPicture
 
   pub column-sure : (c : ℕ) → c < w → ColumnSure c
   column-sure c l =

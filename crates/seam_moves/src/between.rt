@@ -1,5 +1,6 @@
 // A picture, or some bytes, moved from one place of a space to another: two parts of one space can't be lent at once.
 use crate::copy_column;
+use pictures::LARGEST_SIDE;
 use pictures::Refusal;
 use pictures::Size;
 use pictures::Verdict;
@@ -64,7 +65,7 @@ fn exchange_places(space: &mut [u8], from: usize, size: Size, all: usize, to: us
     let kind = size.kind;
     let stride = height * channels(kind);
     let past = from + all;
-    let mut line = [0u8; 1536];
+    let mut line = [0u8; 6 * LARGEST_SIDE];
     for c in 0..width {
         copy_column(&space[from..past], size, c, &mut line);
         let at = to + c * stride;

@@ -10,7 +10,7 @@ use lib.ListN.{length, replicate}
 use Rattle.grids.specs.Rows.{flat}
 use Rattle.pictures.specs.declared.sizes.Size.{Size}
 use Rattle.pictures.specs.declared.refusals.Refusal.{Refusal}
-use Rattle.pictures.specs.Refusals.{numberOf, refusal, served}
+use Rattle.pictures.specs.Refusals.{_when_, numberOf, refusal, served}
 use Rattle.pictures.specs.Pictures.{largestSide, channelsOf, sizeRules, bytes, pixels}
 use Rattle.pictures.proofs.Rules.{served-both, passed}
 use Rattle.seam_bounds.specs.Moves.{outside}

@@ -7,7 +7,7 @@ use lib.Dec.{ltb}
 use lib.ListN.{length, replicate}
 use Rattle.grids.specs.Rows.{flat}
 use Rattle.pictures.specs.declared.sizes.Size.{Size}
-use Rattle.pictures.specs.Refusals.{Rule, served}
+use Rattle.pictures.specs.Refusals.{_when_, Rule, served}
 use Rattle.pictures.specs.Pictures.{channelsOf, sizeRules, picture, bytes, workBytes, marksOf}
 use Rattle.seam_cut_marked.specs.Marking.{markRules}
 use Rattle.seam_rules.specs.declared.answers.Removal.{Removal}

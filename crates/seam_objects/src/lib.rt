@@ -87,7 +87,7 @@ fn cut_front(picture: &mut [u8], marks: &mut [u8], size: Size, work: &mut [u8]) 
     let bytes = pictures::picture_bytes(size);
     let pixels = height * width;
     let room = 32 * pixels;
-    let mut seam = [0u16; 512];
+    let mut seam = [0u16; LARGEST_SIDE];
     let found = seam_cut_marked::cut_marked(
         &mut picture[..bytes],
         &mut marks[..pixels],

@@ -11,8 +11,9 @@ use borrow.Rule.Slice.PartMut.{midOf}
 use lib.ListN.{length, getD, take, drop, replicate}
 use lib.Seq.{take-at, take-length}
 use Rattle.grids.proofs.Rows.{part-end}
+use Rattle.pictures.specs.Limits.{mostPicture}
 use Rattle.pictures.specs.declared.sizes.Size.{Size}
-use Rattle.pictures.specs.Refusals.{refusal}
+use Rattle.pictures.specs.Refusals.{_when_, refusal}
 use Rattle.pictures.specs.Pictures.{pictureBytes, sizeRules, picture, bytes}
 use Rattle.pictures.proofs.Rules.{served-both, passed}
 use Rattle.pictures.proofs.Limits.{Sized, sized-is, sides-served, bytes-few}
@@ -88,7 +89,7 @@ module _ (b : List ℕ) (z : Size) (rows : Rows) (columns : Columns) (out work :
     pub fits : length b ≤ length work
     pub slot : c * length b + length b ≤ 65 * length b
     pub count-most : count ≤ length b
-    pub whole-most : length b ≤ 786432
+    pub whole-most : length b ≤ mostPicture
     pub inside : c * length b + count ≤ length work
 
   pub last-sure : (count : ℕ) → count ≡ pictureBytes (leftSize z rows columns) → LastSure count

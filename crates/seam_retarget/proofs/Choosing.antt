@@ -11,7 +11,7 @@ use lib.ListN.{length}
 use Rattle.grids.proofs.Rows.{part-end}
 use Rattle.pictures.specs.declared.sizes.Size.{Size}
 use Rattle.pictures.specs.Refusals.{refusal}
-use Rattle.pictures.specs.Pictures.{pictureBytes, sideRules, picture}
+use Rattle.pictures.specs.Pictures.{largestSide, pictureBytes, sideRules, picture}
 use Rattle.seam_moves.specs.Between.{partAt}
 use Rattle.seam_rules.specs.declared.answers.Axis.{Axis}
 use Rattle.seam_rules.specs.declared.answers.Axis.the-variants.{Vertical, Horizontal}
@@ -26,7 +26,7 @@ use Rattle.seam_retarget.proofs.Slots.{smaller-few, less-column, less-r
 use Rattle.seam_rules.proofs.Left.{smaller-sides}
 
 -- A seam found with a seam's space of 512.
-module _ (z : Size) (whole work : ℕ) (needed : SpaceNeeded z whole work) (k r c n : ℕ) (slot : k < 65) (rows : r < z .height) (columns : c < z .width) (many : n ≡ 512) where
+module _ (z : Size) (whole work : ℕ) (needed : SpaceNeeded z whole work) (k r c n : ℕ) (slot : k < 65) (rows : r < z .height) (columns : c < z .width) (many : n ≡ largestSide) where
   sides : refusal (sideRules (smaller z r c)) ≡ 0
   sides = smaller-sides z r c (needed .sides) rows columns
 
@@ -86,7 +86,7 @@ module _ (z : Size) (whole r c above left : ℕ) (work : List ℕ) (needed : Cel
   source₂ : c * whole + pictureBytes beside ≤ length one
   source₂ = rw (first .long) (placed-vertical z whole (length work) (needed .space) c (r + 1) c column .here .from-inside)
 
-  pub cut-vertical : length down ≡ 512 → CutNeeded (length two) (65 * whole) beside Vertical down slot
+  pub cut-vertical : length down ≡ largestSide → CutNeeded (length two) (65 * whole) beside Vertical down slot
   cut-vertical many = record {
     sides = beside-sides;
     wide = omega (arith, needed .columns-left);
@@ -95,7 +95,7 @@ module _ (z : Size) (whole r c above left : ℕ) (work : List ℕ) (needed : Cel
     places = rw both-long (placed-vertical z whole (length work) (needed .space) (c + 1) (r + 1) c (needed .column) .there);
   }
 
-  pub cut-horizontal : length across ≡ 512 → CutNeeded (length two) (67 * whole) upper Horizontal across slot
+  pub cut-horizontal : length across ≡ largestSide → CutNeeded (length two) (67 * whole) upper Horizontal across slot
   cut-horizontal many = record {
     sides = upper-sides;
     wide = omega (arith, needed .rows-left);

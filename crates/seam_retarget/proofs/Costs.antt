@@ -7,8 +7,10 @@ use native.Mathlib.Omega.{arith}
 use lib.ListN.{length, getD, take}
 use lib.Seq.{length-take-le}
 use Rattle.seam_theory.proofs.Along.{along-most}
+use Rattle.pictures.specs.Limits.{mostSide}
 use Rattle.pictures.specs.declared.sizes.Size.{Size}
 use Rattle.pictures.specs.Pictures.{Picture, pictureBytes, pictureIn}
+use Rattle.energy.specs.Bounds.{mostEnergy, mostCost}
 use Rattle.energy.specs.Energy.{energy}
 use Rattle.pictures.proofs.Limits.{Sides, Sized, sized-of}
 use Rattle.seam_theory.specs.PictureSeams.{costOf}
@@ -16,19 +18,19 @@ use Rattle.seam_find.proofs.Costs.{front-most, pixel-most}
 use Rattle.seam_theory.proofs.Characterised.{seam-some}
 
 -- At most 512 energies of at most 1530.
-pub cost-bound : (w h : ℕ) (p : Picture) → 0 < w → 0 < h → h ≤ 512 → ((r c : ℕ) → energy p r c ≤ 1530) → costOf w h p ≤ 783360
+pub cost-bound : (w h : ℕ) (p : Picture) → 0 < w → 0 < h → h ≤ mostSide → ((r c : ℕ) → energy p r c ≤ mostEnergy) → costOf w h p ≤ mostCost
 unfolding costOf
 cost-bound w h p some-column some-row most each =
     let found = seam-some w h p some-column some-row in
-    let sum = along-most (energy p) 1530 (found .0) each in
+    let sum = along-most (energy p) mostEnergy (found .0) each in
     let long : length (found .0) ≡ h = found .2 .path .size in
-    let tall : length (found .0) ≤ 512 = rw long most in
-    let few : length (found .0) * 1530 ≤ 512 * 1530 = mul-le-mul-right 1530 tall in
+    let tall : length (found .0) ≤ mostSide = rw long most in
+    let few : length (found .0) * mostEnergy ≤ mostSide * mostEnergy = mul-le-mul-right mostEnergy tall in
     rw (found .1) (omega arith)
 
 -- The picture at the front of a space of bytes.
 pub cost-small : (z : Size) (space : List ℕ) → Sides z → pictureBytes z ≤ length space → ((i : ℕ) → getD space i 0 ≤ 255)
-    → costOf (z .width) (z .height) (pictureIn z space) ≤ 783360
+    → costOf (z .width) (z .height) (pictureIn z space) ≤ mostCost
 cost-small z space s room small =
     let sized : Sized z (length (take (pictureBytes z) space)) = sized-of z (length (take (pictureBytes z) space)) s (length-take-le (pictureBytes z) space room) in
     cost-bound (z .width) (z .height) (pictureIn z space) (s .width-some) (s .height-some) (s .height-most)

@@ -15,7 +15,7 @@ use Rattle.grids.proofs.Parts.{put-part}
 use Rattle.pictures.specs.declared.sizes.Size.{Size}
 use Rattle.pictures.specs.declared.refusals.Verdict.{Verdict}
 use Rattle.pictures.specs.Refusals.{refusal}
-use Rattle.pictures.specs.Pictures.{Picture, channelsOf, pictureBytes, sideRules, picture, bytes, OfSize, pixels}
+use Rattle.pictures.specs.Pictures.{largestSide, Picture, channelsOf, pictureBytes, sideRules, picture, bytes, OfSize, pixels}
 use Rattle.pictures.proofs.Limits.{Sides, sides-are, sized-served, sides-of}
 use Rattle.pictures.proofs.Buffers.{picture-bytes, length-bytes}
 use Rattle.seam_moves.specs.Between.{partAt, putAt}
@@ -45,7 +45,7 @@ left-ofSize : (t : Size) (s : List ℕ) (q : Picture) → 1 < t .width → Each 
 left-ofSize t s q wide inside o = cut-narrower (t .width) wide inside o
 
 -- A seam has at most 512 columns or rows.
-pub turned-tall : (x : Axis) (z : Size) → refusal (sideRules z) ≡ 0 → turnedSize x z .height ≤ 512
+pub turned-tall : (x : Axis) (z : Size) → refusal (sideRules z) ≡ 0 → turnedSize x z .height ≤ largestSide
 turned-tall x z s = sides-are (turnedSize x z) (turned-sides x z (pictureBytes z) (sized-at z s)) .height-most
 
 -- The cut at a place. `closed` is the part that comes back, `two` the space after the turn.
@@ -184,7 +184,7 @@ module _ (work : List ℕ) (from : ℕ) (z : Size) (x : Axis) (at : ℕ) (seam :
 
 -- Both, one after the other.
 module _ (work : List ℕ) (from : ℕ) (z : Size) (x : Axis) (at to : ℕ) (needed : StepNeeded (length work) from z x at to) where
-  pub step-seam : (n : ℕ) → n ≡ 512 → SeamNeeded (length work) from z x at n
+  pub step-seam : (n : ℕ) → n ≡ largestSide → SeamNeeded (length work) from z x at n
   step-seam n is = record {
     sides = needed .sides;
     places = needed .source;
@@ -192,7 +192,7 @@ module _ (work : List ℕ) (from : ℕ) (z : Size) (x : Axis) (at to : ℕ) (nee
     seam-room = rw is (turned-tall x z (needed .sides));
   }
 
-  module _ (seam : List ℕ) (cost : ℕ) (one seam′ : List ℕ) (found : SeamGiven work from z x at seam cost one seam′) (many : length seam ≡ 512) where
+  module _ (seam : List ℕ) (cost : ℕ) (one seam′ : List ℕ) (found : SeamGiven work from z x at seam cost one seam′) (many : length seam ≡ largestSide) where
     pub step-cut : CutNeeded (length one) at z x seam′ to
     step-cut = record {
       sides = needed .sides;

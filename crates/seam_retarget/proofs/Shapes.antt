@@ -15,6 +15,7 @@ use Rattle.pictures.specs.declared.sizes.Size.{Size}
 use Rattle.pictures.specs.Refusals.{refusal}
 use Rattle.pictures.specs.Pictures.{Picture, channelsOf, pictureBytes, sideRules, OfSize, pixel}
 use Rattle.pictures.proofs.Limits.{Sides, sides-are}
+use Rattle.energy.specs.Bounds.{mostCost}
 use Rattle.energy.proofs.Energy.{energy-most}
 use Rattle.seam_rules.specs.declared.answers.Axis.{Axis}
 use Rattle.seam_rules.specs.declared.answers.Axis.the-variants.{Vertical, Horizontal}
@@ -107,7 +108,7 @@ pixel-bytes ch z p o r c =
     blank = record { many = omega arith; small = λ k. omega arith }
 
 -- The cost of a seam along either axis.
-cost-most : (ch : ℕ) → ch ≤ 3 → (x : Axis) (z : Size) (p : Picture) → refusal (sideRules z) ≡ 0 → Of (Bytes ch) z p → costAlong x z p ≤ 783360
+cost-most : (ch : ℕ) → ch ≤ 3 → (x : Axis) (z : Size) (p : Picture) → refusal (sideRules z) ≡ 0 → Of (Bytes ch) z p → costAlong x z p ≤ mostCost
 unfolding costAlong
 cost-most ch few x z p s o =
     let t = turnedSize x z in
@@ -119,24 +120,24 @@ cost-most ch few x z p s o =
 
 -- The total of r + c seams: at most 128 of them, it fits 64 bits.
 module _ (z : Size) (p : Picture) (s : refusal (sideRules z) ≡ 0) (ch : ℕ) (few : ch ≤ 3) (o : Of (Bytes ch) z p) where
-  by-most : (x : Axis) (r c m : ℕ) → r < z .height → c < z .width → cell z p r c .total ≤ m → bySeam x (smaller z r c) (cell z p r c) .total ≤ m + 783360
+  by-most : (x : Axis) (r c m : ℕ) → r < z .height → c < z .width → cell z p r c .total ≤ m → bySeam x (smaller z r c) (cell z p r c) .total ≤ m + mostCost
   unfolding bySeam
   by-most x r c m h w l = omega (arith, cost-most ch few x (smaller z r c) (cell z p r c .picture) (smaller-sides z r c s h w) (cell-of (Bytes ch) z p s o r c h w))
 
-  pub total-most : (r c : ℕ) → r < z .height → c < z .width → cell z p r c .total ≤ (r + c) * 783360
+  pub total-most : (r c : ℕ) → r < z .height → c < z .width → cell z p r c .total ≤ (r + c) * mostCost
   unfolding cell chosen
   total-most zero zero h w = omega arith
-  total-most zero (suc c) h w = omega (arith, by-most Vertical 0 c ((0 + c) * 783360) h (omega arith) (total-most 0 c h (omega arith)))
-  total-most (suc r) zero h w = omega (arith, by-most Horizontal r 0 ((r + 0) * 783360) (omega arith) w (total-most r 0 (omega arith) w))
+  total-most zero (suc c) h w = omega (arith, by-most Vertical 0 c ((0 + c) * mostCost) h (omega arith) (total-most 0 c h (omega arith)))
+  total-most (suc r) zero h w = omega (arith, by-most Horizontal r 0 ((r + 0) * mostCost) (omega arith) w (total-most r 0 (omega arith) w))
   total-most (suc r) (suc c) h w =
       less (bySeam Vertical (smaller z (suc r) c) (cell z p (suc r) c)) (bySeam Horizontal (smaller z r (suc c)) (cell z p r (suc c)))
-      (omega (arith, by-most Vertical (suc r) c ((suc r + c) * 783360) h (omega arith) (total-most (suc r) c h (omega arith))))
-      (omega (arith, by-most Horizontal r (suc c) ((r + suc c) * 783360) (omega arith) w (total-most r (suc c) (omega arith) w)))
+      (omega (arith, by-most Vertical (suc r) c ((suc r + c) * mostCost) h (omega arith) (total-most (suc r) c h (omega arith))))
+      (omega (arith, by-most Horizontal r (suc c) ((r + suc c) * mostCost) (omega arith) w (total-most r (suc c) (omega arith) w)))
     where
-      less : (u v : Cell) → u .total ≤ (suc r + suc c) * 783360 → v .total ≤ (suc r + suc c) * 783360 → chosen u v .total ≤ (suc r + suc c) * 783360
+      less : (u v : Cell) → u .total ≤ (suc r + suc c) * mostCost → v .total ≤ (suc r + suc c) * mostCost → chosen u v .total ≤ (suc r + suc c) * mostCost
       less u v a b = go (leb (u .total) (v .total))
         where
-          go : (t : Bool) → cond t u v .total ≤ (suc r + suc c) * 783360
+          go : (t : Bool) → cond t u v .total ≤ (suc r + suc c) * mostCost
           go true = a
           go false = b
 

@@ -9,6 +9,7 @@ use lib.ListN.{take, drop}
 use lib.Seq.{take-take}
 use Rattle.grids.proofs.Orders.{le-or-lt}
 use Rattle.grids.proofs.Rows.{part-end}
+use Rattle.pictures.specs.Limits.{mostPicture}
 use Rattle.pictures.specs.declared.sizes.Size.{Size}
 use Rattle.pictures.specs.Pictures.{channelsOf, pictureBytes, picture, pixels}
 use Rattle.pictures.proofs.Limits.{sides-are, channels-some}
@@ -102,7 +103,7 @@ module _ (z : Size) (whole work : ℕ) (needed : SpaceNeeded z whole work) (k r 
 
 -- No place is far away.
 pub record Near (whole c : ℕ) : Type 0 where
-  pub most : whole ≤ 786432
+  pub most : whole ≤ mostPicture
   pub left : c * whole + whole ≤ 65 * whole
   pub here : (c + 1) * whole + whole ≤ 65 * whole
 

@@ -22,6 +22,7 @@ use Rattle.seam_retarget.specs.Inner.Cells.{SpaceNeeded}
 use Rattle.seam_retarget.specs.Inner.Table.{held, firstRow, alongRow, nextRow, tableRow, RowNeeded, RowGiven}
 use Rattle.seam_retarget.proofs.Slots.{smaller-few, less-column, same-picture, slots-apart, placed-vertical}
 use Rattle.seam_rules.proofs.Left.{smaller-sides}
+use Rattle.energy.specs.Bounds.{mostCost}
 
 -- The rows are those of the table of cells.
 pub first-cells : (z : Size) (p : Picture) (c : ℕ) → firstRow z (cell z p 0 0) c ≡ cell z p 0 c
@@ -103,7 +104,7 @@ pub record FirstSoFar (z : Size) (whole c : ℕ) (work₀ totals₀ : List ℕ) 
   pub long : length work ≡ length work₀
   pub totals-long : length totals ≡ 65
   pub cells-are : (k : ℕ) → k ≤ j → held z whole 0 work totals k ≡ firstRow z (held z whole 0 work₀ totals₀ 0) k
-  pub small : (k : ℕ) → getD totals k 0 ≤ j * 783360
+  pub small : (k : ℕ) → getD totals k 0 ≤ j * mostCost
 
 -- An index up to one more is the one more or is not.
 pub up-to : {P : ℕ → Type 0} (j : ℕ) → ((k : ℕ) → k ≤ j → P k) → P (j + 1) → (k : ℕ) → k ≤ j + 1 → P k
@@ -157,7 +158,7 @@ module _ (z : Size) (whole c : ℕ) (work₀ totals₀ : List ℕ) (needed : Row
               ∙ step-cell work (j * whole) (smaller z 0 j) Vertical (65 * whole) ((j + 1) * whole) cost work′ (getD totals j 0) g
               ∙ ap (bySeam Vertical (smaller z 0 j)) (so-far .cells-are j (omega arith))
               ∙ ap (firstRow z (held z whole 0 work₀ totals₀ 0)) (sym (add-one j)));
-          small = set-small totals (j + 1) v ((j + 1) * 783360) (λ k. omega (arith, so-far .small k)) (omega (arith, so-far .small j, g .cost-most));
+          small = set-small totals (j + 1) v ((j + 1) * mostCost) (λ k. omega (arith, so-far .small k)) (omega (arith, so-far .small j, g .cost-most));
         }
 
   pub first-end : (work totals : List ℕ) → FirstSoFar z whole c work₀ totals₀ c work totals → RowGiven z whole 0 c (firstRow z (held z whole 0 work₀ totals₀ 0)) work₀ work totals

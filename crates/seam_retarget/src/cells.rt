@@ -1,6 +1,7 @@
 // One cell of the table, where two ways lead to it.
 use crate::seams::cut_at;
 use crate::seams::seam_at;
+use pictures::LARGEST_SIDE;
 use pictures::Size;
 use seam_rules::Axis;
 use seam_rules::Columns;
@@ -35,8 +36,8 @@ pub(crate) fn next_cell(
     let slot = (c + 1) * whole;
     let vertical = VERTICAL * whole;
     let horizontal = HORIZONTAL * whole;
-    let mut across = [0u16; 512];
-    let mut down = [0u16; 512];
+    let mut across = [0u16; LARGEST_SIDE];
+    let mut down = [0u16; LARGEST_SIDE];
     let by_row = above + seam_at(work, slot, upper, Axis::Horizontal, horizontal, &mut across);
     let by_column = left + seam_at(work, c * whole, beside, Axis::Vertical, vertical, &mut down);
     let taken = seam_rules::smaller_total(by_column, by_row);

@@ -1,4 +1,5 @@
 // One seam of a picture that stands at a place of the work space: found, and cut.
+use pictures::LARGEST_SIDE;
 use pictures::Size;
 use seam_rules::Axis;
 use seam_rules::Found;
@@ -75,7 +76,7 @@ pub(crate) fn step(
     requires { ⌜ StepNeeded (length (now work)) from size axis at to ⌝ }
     ensures { λ n. ⌜ StepGiven (now (work .entry)) from size axis at to n (now (work .exit)) ⌝ }
 {
-    let mut seam = [0u16; 512];
+    let mut seam = [0u16; LARGEST_SIDE];
     let cost = seam_at(work, from, size, axis, at, &mut seam);
     cut_at(work, at, size, axis, &seam, to);
     cost

@@ -17,7 +17,7 @@ use Rattle.grids.proofs.Exchange.{exchange-each}
 use Rattle.grids.proofs.Cut.{cut-narrower}
 use Rattle.pictures.specs.declared.sizes.Size.{Size}
 use Rattle.pictures.specs.declared.refusals.Verdict.{Verdict}
-use Rattle.pictures.specs.Refusals.{given, refusal}
+use Rattle.pictures.specs.Refusals.{_when_, given, refusal}
 use Rattle.pictures.specs.Pictures.{Picture, channelsOf, pictureBytes, sideRules, sizeRules, picture, bytes, OfSize}
 use Rattle.pictures.proofs.Rules.{served-both, passed}
 use Rattle.pictures.proofs.Limits.{Sized, sized-is, sized-served, sides-of}

@@ -6,6 +6,7 @@ use borrow.Author.Needs.{needs}
 use borrow.Author.Tests.{lt-ltb, le-ltb}
 use Rattle.energy.proofs.lower_row.Statement.{statement}
 use Rattle.energy.proofs.lower_row.Tie as tie
+use Rattle.pictures.specs.Limits.{mostSide}
 
 add-if1 : tie.Need-add-if1
 add-if1 c = search needs
@@ -16,13 +17,13 @@ add-result c = search needs
 mul-result : tie.Need-mul-result
 mul-result c =
     let a = c .before .args in
-    let h : a .r + 1 ≤ 512 = omega arith in
+    let h : a .r + 1 ≤ mostSide = omega arith in
     omega (arith, mul-le-mul h (c .before .pre .2))
 
 mul-result-2 : tie.Need-mul-result-2
 mul-result-2 c =
     let a = c .before .args in
-    let h : a .r ≤ 512 = omega arith in
+    let h : a .r ≤ mostSide = omega arith in
     omega (arith, mul-le-mul h (c .before .pre .2))
 
 returns : tie.Need-returns

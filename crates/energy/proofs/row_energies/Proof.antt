@@ -7,6 +7,7 @@ use native.Mathlib.Omega.{arith}
 use borrow.Author.Needs.{needs}
 use denote.Ref.{now}
 use lib.ListN.{length, drop}
+use Rattle.pictures.specs.Limits.{mostSide, mostRow}
 use Rattle.pictures.specs.Pictures.{rowBytes}
 use Rattle.pictures.proofs.Limits.{Sized, sized-is}
 use Rattle.energy.proofs.Lines.{Ends, ends, lines-needed, lines-are}
@@ -27,7 +28,7 @@ sure c = sized-is _ _ (start c .pre .sized)
 stride-is : (c : tie.After-channels) → stride c ≡ rowBytes (start c .args .size)
 stride-is c = ap (start c .args .size .width *_) (c .channels .ensures)
 
-stride-most : (c : tie.After-channels) → stride c ≤ 1536
+stride-most : (c : tie.After-channels) → stride c ≤ mostRow
 stride-most c = omega (arith, stride-is c, sure c .row-most)
 
 -- both rows end within the picture
@@ -47,7 +48,7 @@ mul-stride c = omega (arith, stride-most c)
 
 mul-at : tie.Need-mul-at
 mul-at c =
-    let most : start c .args .r ≤ 512 = omega (arith, sure c .height-most, start c .pre .inside) in
+    let most : start c .args .r ≤ mostSide = omega (arith, sure c .height-small, start c .pre .inside) in
     omega (arith, mul-le-mul most (stride-most c))
 
 lower-row-requires : tie.Need-lower-row-requires

@@ -11,7 +11,7 @@ use lib.Seq.{take-at, length-take-le}
 use Rattle.grids.specs.Cut.{cut}
 use Rattle.grids.proofs.Shapes.{each-length}
 use Rattle.grids.proofs.Rows.{part-end}
-use Rattle.pictures.specs.Pictures.{channelsOf, pictureBytes, bytes, pixels, pictureIn}
+use Rattle.pictures.specs.Pictures.{largestSide, channelsOf, pictureBytes, bytes, pixels, pictureIn}
 use Rattle.pictures.proofs.Limits.{sides-are}
 use Rattle.seam_theory.specs.PictureSeams.{seamOf}
 use Rattle.seam_cut.proofs.Inside.{seam-inside}
@@ -22,7 +22,7 @@ use Rattle.map_build.proofs.next_seam.Tie as tie
 abbrev start : tie.After-cut-in → tie.Start
 start c = c .before .before .before .before
 
-tall : (s : tie.Start) → s .args .size .height ≤ 512
+tall : (s : tie.Start) → s .args .size .height ≤ largestSide
 tall s = sides-are (s .args .size) (s .pre .sides) .height-most
 
 row-some : (s : tie.Start) → 2 * s .args .width ≤ s .args .size .height * (2 * s .args .width)
@@ -37,8 +37,8 @@ found-space : (c : tie.After-cut-in) → let a = start c .args in let z = a .siz
 found-space c =
     let s = start c in
     let a = s .args in
-    cut-space (take (a .at) (now (a .space))) (a .size) (replicate 512 0) (c .cut-in .result) (c .cut-in .last .0) (c .cut-in .last .1 .1 .0) (c .cut-in .ensures) (s .pre .sides)
-    (omega (arith, tall s, length-replicate {A = ℕ} 512 0)) (omega (arith, front-long s, s .pre .work-room)) (s .pre .wide)
+    cut-space (take (a .at) (now (a .space))) (a .size) (replicate largestSide 0) (c .cut-in .result) (c .cut-in .last .0) (c .cut-in .last .1 .1 .0) (c .cut-in .ensures) (s .pre .sides)
+    (omega (arith, tall s, length-replicate {A = ℕ} largestSide 0)) (omega (arith, front-long s, s .pre .work-room)) (s .pre .wide)
 
 found-seam : (c : tie.After-cut-in) → let a = start c .args in let z = a .size in
     take (z .height) (c .cut-in .last .1 .1 .0) ≡ seamOf (z .width) (z .height) (pictureIn z (take (a .at) (now (a .space))))
@@ -49,15 +49,15 @@ found-seam c =
     let sides = sides-are (a .size) (s .pre .sides) in
     let q = pictureIn z (take (a .at) (now (a .space))) in
     ap (take (z .height))
-    (cut-seam (take (a .at) (now (a .space))) (a .size) (replicate 512 0) (c .cut-in .result) (c .cut-in .last .0) (c .cut-in .last .1 .1 .0) (c .cut-in .ensures) (s .pre .sides)
-    (omega (arith, tall s, length-replicate {A = ℕ} 512 0)) (omega (arith, front-long s, s .pre .work-room)) (s .pre .wide))
-    ∙ take-at (seamOf (z .width) (z .height) q) (drop (z .height) (replicate 512 0)) (z .height) (each-length (seam-inside (z .width) (z .height) q (sides .width-some) (sides .height-some)))
+    (cut-seam (take (a .at) (now (a .space))) (a .size) (replicate largestSide 0) (c .cut-in .result) (c .cut-in .last .0) (c .cut-in .last .1 .1 .0) (c .cut-in .ensures) (s .pre .sides)
+    (omega (arith, tall s, length-replicate {A = ℕ} largestSide 0)) (omega (arith, front-long s, s .pre .work-room)) (s .pre .wide))
+    ∙ take-at (seamOf (z .width) (z .height) q) (drop (z .height) (replicate largestSide 0)) (z .height) (each-length (seam-inside (z .width) (z .height) q (sides .width-some) (sides .height-some)))
 
 left-long : (c : tie.After-cut-in) → length (c .cut-in .last .0) ≡ start c .args .at
 left-long c = c .cut-in .kept .0 ∙ front-long (start c)
 
-seam-long : (c : tie.After-cut-in) → length (c .cut-in .last .1 .1 .0) ≡ 512
-seam-long c = c .cut-in .kept .1 .1 .0 ∙ length-replicate {A = ℕ} 512 0
+seam-long : (c : tie.After-cut-in) → length (c .cut-in .last .1 .1 .0) ≡ largestSide
+seam-long c = c .cut-in .kept .1 .1 .0 ∙ length-replicate {A = ℕ} largestSide 0
 
 slice-relend-prefix-cut-in : tie.Need-slice-relend-prefix-cut-in
 slice-relend-prefix-cut-in c = search needs

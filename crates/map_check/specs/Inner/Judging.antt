@@ -6,6 +6,7 @@ use Prim.Native.Nat.{ℕ, _+_, _*_, _≤_, _<_}
 use lib.ListN.{length, take, drop}
 use Rattle.grids.specs.Rows.{rowsOf}
 use Rattle.seam_theory.specs.Paths.{beside}
+use Rattle.pictures.specs.Pictures.{largestSide}
 use Rattle.pictures.specs.declared.sizes.Size.{Size}
 use Rattle.pictures.specs.Refusals.{refusal}
 use Rattle.map_theory.specs.Judged.{same, connected}
@@ -15,8 +16,8 @@ use Rattle.map_check.specs.Checking.{numbersIn}
 -- Two maps, one after the other.
 pub record MapsNeeded (maps : List ℕ) (w h k : ℕ) : Type 0 where
   pub long : length maps ≡ h * (2 * w) + h * (2 * w)
-  pub wide : w ≤ 512
-  pub tall : h ≤ 512
+  pub wide : w ≤ largestSide
+  pub tall : h ≤ largestSide
   pub some : 0 < h
   pub deep : k < w
 

@@ -7,27 +7,28 @@ use lib.Dec.{leb}
 use lib.ListN.{length, getD, replicate}
 use Rattle.map_theory.specs.Judged.{every, count}
 use Rattle.map_check.specs.Checking.{numbersIn}
+use Rattle.pictures.specs.Pictures.{largestSide}
 
 -- A row of a map in bytes, judged at depth k.
 pub record RowNeeded (row : List ℕ) (k : ℕ) : Type 0 where
-  pub short : length row ≤ 1024
-  pub deep : k < 512
+  pub short : length row ≤ 2 * largestSide
+  pub deep : k < largestSide
 
 -- The same, and counts that are all 0.
 pub record CountsNeeded (row : List ℕ) (k : ℕ) (seen : List ℕ) : Type 0 where
-  pub short : length row ≤ 1024
-  pub deep : k < 512
-  pub blank : seen ≡ replicate 512 0
+  pub short : length row ≤ 2 * largestSide
+  pub deep : k < largestSide
+  pub blank : seen ≡ replicate largestSide 0
 
 -- Whether no number is over k; and where none is, how often each stands in the row.
 pub record CountsGiven (row : List ℕ) (k : ℕ) (answer : Bool) (seen : List ℕ) : Type 0 where
   pub most : answer ≡ every (λ v. leb v k) (numbersIn row)
-  pub counts : answer ≡ true → (v : ℕ) → v < 512 → getD seen v 0 ≡ count v (numbersIn row)
+  pub counts : answer ≡ true → (v : ℕ) → v < largestSide → getD seen v 0 ≡ count v (numbersIn row)
 
 -- A map of h rows of w numbers in bytes, judged at depth k.
 pub record MapNeeded (map : List ℕ) (w h k : ℕ) : Type 0 where
   pub long : length map ≡ h * (2 * w)
-  pub wide : w ≤ 512
-  pub tall : h ≤ 512
+  pub wide : w ≤ largestSide
+  pub tall : h ≤ largestSide
   pub some : 0 < h
   pub deep : k < w

@@ -2,14 +2,14 @@
 use mathlib.Core.Path.{_≡_, refl, sym, ap, _∙_}
 use mathlib.Core.List.{[], _∷_, _++_}
 use Prim.Native.Nat.{_≤_}
-use native.Mathlib.Nat.{mul-le-mul}
 use native.Mathlib.Omega.{arith}
 use borrow.Author.Tests.{lt-ltb, le-ltb}
 use Rattle.pictures.specs.Refusals.{given, refusal}
+use Rattle.pictures.specs.Limits.{mostPixels}
 use Rattle.pictures.specs.Pictures.{sizeRules, pixels}
 use Rattle.pictures.proofs.Rules.{served-first, refused-answer}
 use Rattle.pictures.proofs.Limits.{sized-is}
-use Rattle.program_theory.specs.Programs.{mostPixels, pixelsRule}
+use Rattle.program_theory.specs.Programs.{heldPixels, pixelsRule}
 use borrow.Author.Needs.{needs}
 use Rattle.program_rules.proofs.judge_held.Statement.{statement}
 use Rattle.program_rules.proofs.judge_held.Tie as tie
@@ -23,11 +23,11 @@ rest c =
     let a = c .before .before .before .args in
     served-first (sizeRules (a .size) (a .bytes)) (pixelsRule (a .size) ∷ []) refl (none c)
 
-few : (c : tie.After-enum-told) → pixels (c .before .before .before .args .size) ≤ 262144
+few : (c : tie.After-enum-told) → pixels (c .before .before .before .args .size) ≤ mostPixels
 few c =
     let a = c .before .before .before .args in
     let s = sized-is (a .size) (a .bytes) (none c) in
-    mul-le-mul (s .height-most) (s .width-most)
+    s .pixels-most
 
 judge-picture-requires : tie.Need-judge-picture-requires
 judge-picture-requires c κs = search needs
@@ -53,13 +53,13 @@ returns-2 : tie.Need-returns-2
 returns-2 c =
     let at-enum-told = c .before .before in
     let s = at-enum-told .before .before .before in
-    sym (rest at-enum-told ∙ rw (lt-ltb mostPixels (pixels (s .args .size)) (c .if1 .taken)))
+    sym (rest at-enum-told ∙ rw (lt-ltb heldPixels (pixels (s .args .size)) (c .if1 .taken)))
 
 returns-3 : tie.Need-returns-3
 returns-3 c =
     let at-enum-told = c .before .before in
     let s = at-enum-told .before .before .before in
-    ap given (at-enum-told .enum-told .given .1) ∙ sym (rest at-enum-told ∙ rw (le-ltb mostPixels (pixels (s .args .size)) (c .if1 .left)))
+    ap given (at-enum-told .enum-told .given .1) ∙ sym (rest at-enum-told ∙ rw (le-ltb heldPixels (pixels (s .args .size)) (c .if1 .left)))
 
 pub judge-held-spec : {M : Type 1} → statement M
 judge-held-spec =

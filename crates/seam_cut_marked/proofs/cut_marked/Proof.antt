@@ -9,7 +9,7 @@ use borrow.Author.Needs.{needs}
 use denote.Ref.{now}
 use lib.ListN.{length, drop, replicate}
 use Rattle.grids.specs.Rows.{flat}
-use Rattle.pictures.specs.Refusals.{Rule, given, refusal}
+use Rattle.pictures.specs.Refusals.{_when_, Rule, given, refusal}
 use Rattle.pictures.specs.Pictures.{channelsOf, sizeRules, picture, bytes, marksOf}
 use Rattle.pictures.proofs.Rules.{served-first, refused-answer, refusal-most}
 use Rattle.pictures.proofs.Limits.{sized-is}

@@ -15,7 +15,7 @@ use lib.Seq.{length-take-le}
 use Rattle.grids.specs.Table.{table}
 use Rattle.grids.specs.Rows.{flat}
 use Rattle.pictures.specs.declared.sizes.Size.{Size}
-use Rattle.pictures.specs.Refusals.{numberOf, given, refusal, served}
+use Rattle.pictures.specs.Refusals.{_when_, numberOf, given, refusal, served}
 use Rattle.pictures.specs.Pictures.{Picture, pictureBytes, pixels, pictureIn, marksIn}
 use Rattle.pictures.proofs.Rules.{refusal-most, number-some, served-first, refused-answer, kept-by}
 use Rattle.pictures.proofs.Limits.{Sized, sides-are, sized-of, sized-served}

@@ -6,7 +6,7 @@ use native.Mathlib.Omega.{arith}
 use borrow.Author.Needs.{needs}
 use lib.Seq.{length-take-le}
 use Rattle.pictures.specs.Refusals.{served}
-use Rattle.pictures.specs.Pictures.{pictureBytes, pixels}
+use Rattle.pictures.specs.Pictures.{largestSide, pictureBytes, pixels}
 use Rattle.pictures.proofs.Limits.{sides-are}
 use Rattle.seam_objects.proofs.Front.{front-found, front-refused, front-cut}
 use Rattle.seam_objects.proofs.cut_front.Statement.{statement}
@@ -18,7 +18,7 @@ bytes-are c =
     let z = s .args .size in
     c .picture-bytes .ensures ∙ ap (λ n. served n (pictureBytes z) 0) (s .pre .sides)
 
-tall : (c : tie.Start) → c .args .size .height ≤ 512
+tall : (c : tie.Start) → c .args .size .height ≤ largestSide
 tall c = sides-are (c .args .size) (c .pre .sides) .height-most
 
 picture-bytes-requires : tie.Need-picture-bytes-requires

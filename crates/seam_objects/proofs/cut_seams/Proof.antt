@@ -16,6 +16,7 @@ use Rattle.seam_objects.specs.Removing.{markedPicture}
 use Rattle.seam_objects.proofs.Seams.{Going, going-start, going-marks, going-room, going-less, going-needed, going-ended, going-blocked, going-on}
 use Rattle.seam_objects.proofs.cut_seams.Statement.{statement}
 use Rattle.seam_objects.proofs.cut_seams.Tie as tie
+use Rattle.pictures.specs.Limits.{mostSide, mostPixels}
 
 abbrev Inv-loop : tie.InvT-loop
 Inv-loop picture₀ marks₀ budget work₀ height kind width₀ count₀ picture marks work width count =
@@ -32,10 +33,10 @@ start h = h .before .before .before .before
 going : (h : tie.At-loop Inv-loop μ-loop) → let a = start h .args in Going (a .size) (now (a .picture)) (now (a .marks)) (a .budget) (h .loop .width) (h .loop .count) (h .loop .picture) (h .loop .marks)
 going h = h .loop .inv .0
 
-few : (h : tie.At-loop Inv-loop μ-loop) → start h .args .size .height * h .loop .width ≤ 262144
+few : (h : tie.At-loop Inv-loop μ-loop) → start h .args .size .height * h .loop .width ≤ mostPixels
 few h =
     let g = going h in
-    let w : h .loop .width ≤ 512 = omega (arith, g .sum, g .sides .width-most) in
+    let w : h .loop .width ≤ mostSide = omega (arith, g .sum, g .sides .width-small) in
     mul-le-mul (g .sides .height-most) w
 
 -- whether a mark 2 was found

@@ -6,11 +6,12 @@ use lib.ListN.{length}
 use Rattle.pictures.specs.declared.sizes.Size.{Size}
 use Rattle.pictures.specs.Refusals.{refusal}
 use Rattle.pictures.specs.Pictures.{sideRules, pictureBytes, picture}
+use Rattle.energy.specs.Bounds.{mostCost}
 use Rattle.seam_moves.specs.Between.{partAt}
 use Rattle.seam_rules.specs.declared.answers.Axis.the-variants.{Vertical, Horizontal}
 use Rattle.seam_retarget.specs.Cells.{bySeam, chosen}
-use Rattle.seam_rules.specs.Counts.{smaller}
-use Rattle.seam_retarget.specs.Inner.Seams.{pictureAt, largestCost}
+use Rattle.seam_rules.specs.Counts.{smaller, largestCount}
+use Rattle.seam_retarget.specs.Inner.Seams.{pictureAt}
 
 -- The work space has 65 slots of one picture each, slot j at j pictures; behind them stand two places for work of two
 -- pictures each, for a vertical seam at 65 pictures and for a horizontal one at 67.
@@ -32,8 +33,8 @@ pub record CellNeeded (z : Size) (whole r c above left work : ℕ) : Type 0 wher
   pub rows-left : r + 1 < z .height
   pub columns-left : c + 1 < z .width
   pub column : c + 1 < slots
-  pub above-small : above ≤ 200000000
-  pub left-small : left ≤ 200000000
+  pub above-small : above ≤ 2 * largestCount * mostCost
+  pub left-small : left ≤ 2 * largestCount * mostCost
 
 -- The cell in its slot, its total, and every other slot as it was.
 pub record CellGiven (z : Size) (whole r c above left : ℕ) (work : List ℕ) (total : ℕ) (work′ : List ℕ) : Type 0 where
@@ -42,6 +43,6 @@ pub record CellGiven (z : Size) (whole r c above left : ℕ) (work : List ℕ) (
       ≡ chosen
       (bySeam Vertical (smaller z (r + 1) c) (record { picture = pictureAt (smaller z (r + 1) c) (c * whole) work; total = left }))
       (bySeam Horizontal (smaller z r (c + 1)) (record { picture = pictureAt (smaller z r (c + 1)) ((c + 1) * whole) work; total = above }))
-  pub small : total ≤ above + largestCost
+  pub small : total ≤ above + mostCost
   pub long : length work′ ≡ length work
   pub others : (k : ℕ) → k < slots → (k ≡ c + 1 → ⊥) → partAt (k * whole) whole work′ ≡ partAt (k * whole) whole work

@@ -16,6 +16,7 @@ use Rattle.seam_rules.specs.Axes.{turnedSize, narrowed}
 use Rattle.seam_turn.specs.Axes.{turned, cutAlong}
 use Rattle.seam_cut.specs.Axes.{seamAlong, costAlong}
 use Rattle.seam_retarget.specs.Inner.Cells.{places}
+use Rattle.energy.specs.Bounds.{mostCost}
 
 -- n bytes at a and m bytes at b don't overlap.
 abbrev pub Apart : ℕ → ℕ → ℕ → ℕ → Type 0
@@ -37,14 +38,10 @@ pub record SeamNeeded (work : ℕ) (from : ℕ) (z : Size) (x : Axis) (at seam :
   pub room : at + (pictureBytes z + pixels z) ≤ work
   pub seam-room : turnedSize x z .height ≤ seam
 
--- The cost of a seam is at most this: an energy is at most 1530, and a seam has at most 512 of them.
-abbrev pub largestCost : ℕ
-largestCost = 783360
-
 -- The seam of the picture at `from`, its cost, and the picture turned at `at`; every other place as it was.
 pub record SeamGiven (work : List ℕ) (from : ℕ) (z : Size) (x : Axis) (at : ℕ) (seam : List ℕ) (cost : ℕ) (work′ seam′ : List ℕ) : Type 0 where
   pub cost-is : cost ≡ costAlong x z (pictureAt z from work)
-  pub cost-most : cost ≤ largestCost
+  pub cost-most : cost ≤ mostCost
   pub seam-is : take (turnedSize x z .height) seam′ ≡ seamAlong x z (pictureAt z from work)
   pub seam-long : length seam′ ≡ length seam
   pub turned-is : partAt at (pictureBytes z) work′ ≡ bytes (turned x (z .width) (pictureAt z from work))
@@ -82,7 +79,7 @@ pub record StepNeeded (work : ℕ) (from : ℕ) (z : Size) (x : Axis) (at to : �
 -- The picture without its seam, and the seam's cost; every other place as it was.
 pub record StepGiven (work : List ℕ) (from : ℕ) (z : Size) (x : Axis) (at to cost : ℕ) (work′ : List ℕ) : Type 0 where
   pub cost-is : cost ≡ costAlong x z (pictureAt z from work)
-  pub cost-most : cost ≤ largestCost
+  pub cost-most : cost ≤ mostCost
   pub picture-is : pictureAt (leftAlong x z) to work′ ≡ cutAlong x z (seamAlong x z (pictureAt z from work)) (pictureAt z from work)
   pub long : length work′ ≡ length work
   pub others : (a n : ℕ) → Apart a n at (pictureBytes z + pixels z) → Apart a n to (pictureBytes z) → partAt a n work′ ≡ partAt a n work

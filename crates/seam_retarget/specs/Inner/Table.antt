@@ -5,10 +5,11 @@ use Prim.Native.Nat.{ℕ, zero, suc, _+_, _*_, _≤_, _<_}
 use lib.ListN.{length, getD}
 use Rattle.pictures.specs.declared.sizes.Size.{Size}
 use Rattle.pictures.specs.Pictures.{picture}
+use Rattle.energy.specs.Bounds.{mostCost}
 use Rattle.seam_rules.specs.declared.answers.Axis.the-variants.{Vertical, Horizontal}
 use Rattle.seam_retarget.specs.Cells.{Cell, bySeam, chosen}
 use Rattle.seam_rules.specs.Counts.{smaller}
-use Rattle.seam_retarget.specs.Inner.Seams.{pictureAt, largestCost}
+use Rattle.seam_retarget.specs.Inner.Seams.{pictureAt}
 use Rattle.seam_retarget.specs.Inner.Cells.{slots, SpaceNeeded}
 
 -- The cell of row r that stands in slot j, with its total.
@@ -37,7 +38,7 @@ tableRow z first (suc r) = nextRow z r (tableRow z first r)
 
 -- The totals of row r are not over this: a first row of 64 seams, and r seams down.
 abbrev pub largestTotal : ℕ → ℕ
-largestTotal r = (64 + r) * largestCost
+largestTotal r = (64 + r) * mostCost
 
 -- Columns up to c to be removed from row r of the table.
 pub record RowNeeded (z : Size) (whole r c : ℕ) (work totals : List ℕ) : Type 0 where

@@ -7,7 +7,7 @@ use denote.Ref.{now}
 use lib.ListN.{length, take, length-replicate}
 use lib.Seq.{length-take-le}
 use Rattle.seam_theory.specs.Paths.{run}
-use Rattle.pictures.specs.Pictures.{picture}
+use Rattle.pictures.specs.Pictures.{largestSide, picture}
 use Rattle.pictures.proofs.Limits.{Sized, sized-is}
 use Rattle.text_theory.specs.Files.{headText, mapText}
 use Rattle.text_theory.specs.Lengths.{total, spaced, rowLength}
@@ -34,8 +34,8 @@ second : (c : tie.After-maps)
 second c = rw (c .maps .given .1) at (c .before .before .rows-left .ensures)
 
 -- the row that stands for every row of the map
-row-whole : (c : tie.After-put-order) → length (c .put-order .last .0) ≡ 512
-row-whole c = c .put-order .kept .0 ∙ length-replicate {A = ℕ} 512 0
+row-whole : (c : tie.After-put-order) → length (c .put-order .last .0) ≡ largestSide
+row-whole c = c .put-order .kept .0 ∙ length-replicate {A = ℕ} largestSide 0
 
 line-long : (c : tie.After-put-order)
     → let s = c .before .before .before .before .before .before .before .before .before .before .before .before in
@@ -82,7 +82,7 @@ slice-aggregate-put-order c = search needs
 put-order-requires : tie.Need-put-order-requires
 put-order-requires c κs =
     let s = c .before .before .before .before .before .before .before .before .before .before .before in
-    record { room = omega (arith, sure s .width-most, s .pre .deep, length-replicate {A = ℕ} 512 0); small = omega (arith, sure s .width-most, s .pre .deep) }
+    record { room = omega (arith, sure s .width-most, s .pre .deep, length-replicate {A = ℕ} largestSide 0); small = omega (arith, sure s .width-most, s .pre .deep) }
 
 array-share-prefix-row : tie.Need-array-share-prefix-row
 array-share-prefix-row c =

@@ -19,9 +19,10 @@ use Rattle.file_build.proofs.MapRows.{maps-many, map-line}
 use borrow.Author.Needs.{needs}
 use Rattle.file_build.proofs.lines.print_maps.Statement.{statement}
 use Rattle.file_build.proofs.lines.print_maps.Tie as tie
+use Rattle.pictures.specs.Pictures.{largestSide}
 
 abbrev Inv-loop : tie.InvT-loop
-Inv-loop out₀ at map width height row₀ end₀ r₀ out row end r = (r ≤ height) × (length row ≡ 512) × Printed out₀ at (each mapWord (lineText digits) (take r (mapIn width height map))) out end
+Inv-loop out₀ at map width height row₀ end₀ r₀ out row end r = (r ≤ height) × (length row ≡ largestSide) × Printed out₀ at (each mapWord (lineText digits) (take r (mapIn width height map))) out end
 
 abbrev μ-loop : tie.MeasureT-loop
 μ-loop out₀ at map width height row₀ end₀ r₀ out row end r = height - r
@@ -35,7 +36,7 @@ inside c l =
 below : (s : tie.Start Inv-loop μ-loop) (r : ℕ) → r < s .args .height → r < length (mapIn (s .args .width) (s .args .height) (now (s .args .map)))
 below s r l = omega (arith, maps-many (s .args .width) (s .args .height) (now (s .args .map)))
 
-row-whole : (c : tie.After-read-numbers Inv-loop μ-loop) → length (c .read-numbers .last .1 .1 .0) ≡ 512
+row-whole : (c : tie.After-read-numbers Inv-loop μ-loop) → length (c .read-numbers .last .1 .1 .0) ≡ largestSide
 row-whole c = c .read-numbers .kept .1 .1 .0 ∙ c .before .before .before .before .loop .inv .1
 
 -- the row's line
@@ -74,7 +75,7 @@ next c n e =
 loop-holds : tie.Need-loop-holds Inv-loop μ-loop
 loop-holds c =
     let a = c .before .before .args in
-    (omega arith, length-replicate {A = ℕ} 512 0, lines-none mapWord (lineText digits) (mapIn (a .width) (a .height) (now (a .map))) (now (a .out)) (a .at))
+    (omega arith, length-replicate {A = ℕ} largestSide 0, lines-none mapWord (lineText digits) (mapIn (a .width) (a .height) (now (a .map))) (now (a .out)) (a .at))
 
 mul-a : tie.Need-mul-a Inv-loop μ-loop
 mul-a c = omega (arith, inside (c .before) (c .loop-test .taken))

@@ -5,6 +5,7 @@ use native.Mathlib.Nat.{mul-le-mul}
 use native.Mathlib.Omega.{arith}
 use denote.Ref.{now}
 use lib.ListN.{length}
+use Rattle.pictures.specs.Limits.{mostPixels}
 use Rattle.pictures.specs.Refusals.{served}
 use Rattle.pictures.specs.Pictures.{pictureBytes, pixels}
 use Rattle.file_read.proofs.Parsed.{Parsed, opened}
@@ -20,7 +21,7 @@ known c = opened _ _ (c .pre .opened)
 room : (c : tie.Start) → pictureBytes (c .args .head .size) + 5 * pixels (c .args .head .size) ≤ length (now (c .args .work))
 room c = judge-room _ _ (known c) (now (c .args .work)) (c .pre .room)
 
-all-most : (c : tie.Start) → pixels (c .args .head .size) ≤ 262144
+all-most : (c : tie.Start) → pixels (c .args .head .size) ≤ mostPixels
 all-most c = let s = known c .sides in mul-le-mul (s .height-most) (s .width-most)
 
 bytes-are : (c : tie.After-picture-bytes)

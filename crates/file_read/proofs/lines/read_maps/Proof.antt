@@ -17,6 +17,7 @@ use Rattle.file_read.proofs.Places.{MapsLeft, maps-first, map-long, pix
 use Rattle.file_read.proofs.Turns.{map-there, map-read, map-put}
 use Rattle.file_read.proofs.lines.read_maps.Statement.{statement}
 use Rattle.file_read.proofs.lines.read_maps.Tie as tie
+use Rattle.pictures.specs.Limits.{mostPixels}
 
 abbrev Inv-loop : tie.InvT-loop
 Inv-loop file space₀ height width at₀ r₀ space at r =
@@ -32,7 +33,7 @@ known c =
     opened (s .args .file .now) (s .args .head) (s .pre .opened)
 
 inside : (c : tie.At-loop Inv-loop μ-loop) → let a = c .before .before .before .before .args in c .loop .r < a .head .size .height
-    → (c .loop .r * a .head .size .width + a .head .size .width ≤ length (a .space .now)) × (c .loop .r * a .head .size .width + a .head .size .width ≤ 262144)
+    → (c .loop .r * a .head .size .width + a .head .size .width ≤ length (a .space .now)) × (c .loop .r * a .head .size .width + a .head .size .width ≤ mostPixels)
 inside c l =
     let s = c .before .before .before .before in
     let e = part-end (c .loop .r) (s .args .head .size .height) (s .args .head .size .width) l in

@@ -7,6 +7,7 @@ use borrow.Author.Needs.{needs}
 use borrow.Rule.Slice.PartMut.{midOf, same-len-mid}
 use denote.Ref.{now}
 use Rattle.grids.proofs.Rows.{part-end}
+use Rattle.pictures.specs.Limits.{mostPicture}
 use Rattle.pictures.specs.Pictures.{rowBytes, bytes}
 use Rattle.grids.proofs.Parts.{part-length}
 use Rattle.text_theory.specs.Files.{parse}
@@ -46,7 +47,7 @@ inside : (c : tie.At-loop Inv-loop μ-loop)
     → let at-channels = c .before .before in
     let start = at-channels .before .before .before .before in
     let a = start .args in let s = a .head .size .width * at-channels .channels .result in
-    c .loop .r < a .head .size .height → (c .loop .r * s + s ≤ length (a .space .now)) × (c .loop .r * s + s ≤ 786432)
+    c .loop .r < a .head .size .height → (c .loop .r * s + s ≤ length (a .space .now)) × (c .loop .r * s + s ≤ mostPicture)
 inside c l =
     let s = c .before .before .before .before .before .before in
     let z = s .args .head .size in

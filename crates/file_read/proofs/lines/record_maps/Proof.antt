@@ -20,10 +20,12 @@ use Rattle.file_read.proofs.Places.{MapsLeft, map-bytes, maps-first, pi
 use Rattle.file_read.proofs.Turns.{map-there, map-read, pairs-put}
 use Rattle.file_read.proofs.lines.record_maps.Statement.{statement}
 use Rattle.file_read.proofs.lines.record_maps.Tie as tie
+use Rattle.pictures.specs.Pictures.{largestSide}
+use Rattle.map_rules.specs.Bounds.{mostMap}
 
 abbrev Inv-loop : tie.InvT-loop
 Inv-loop file space₀ height width numbers₀ at₀ r₀ space numbers at r =
-    (r ≤ height) × (length space ≡ length space₀) × (length numbers ≡ 512) × MapsLeft file r (at .at) × FilledTo (pairs (flat (mapsIn (parse file)))) space₀ (2 * width) r space
+    (r ≤ height) × (length space ≡ length space₀) × (length numbers ≡ largestSide) × MapsLeft file r (at .at) × FilledTo (pairs (flat (mapsIn (parse file)))) space₀ (2 * width) r space
 
 abbrev μ-loop : tie.MeasureT-loop
 μ-loop file space₀ height width numbers₀ at₀ r₀ space numbers at r = height - r
@@ -35,7 +37,7 @@ known c =
     opened (s .args .file .now) (s .args .head) (s .pre .opened)
 
 inside : (c : tie.At-loop Inv-loop μ-loop) → let a = c .before .before .before .before .args in let w = 2 * a .head .size .width in
-    c .loop .r < a .head .size .height → (c .loop .r * w + w ≤ length (c .loop .space)) × (c .loop .r * w + w ≤ 524288)
+    c .loop .r < a .head .size .height → (c .loop .r * w + w ≤ length (c .loop .space)) × (c .loop .r * w + w ≤ mostMap)
 inside c l =
     let s = c .before .before .before .before in
     let z = s .args .head .size in
@@ -92,7 +94,7 @@ front c = take-at (numbers c) _ _ (long c)
 whole : (c : tie.After-known-told Inv-loop μ-loop)
     → let at-loop = c .before .before .before .before .before .before .before in
     let h = at-loop in
-    length (numbers c ++ drop (h .before .before .before .before .args .head .size .width) (h .loop .numbers)) ≡ 512
+    length (numbers c ++ drop (h .before .before .before .before .args .head .size .width) (h .loop .numbers)) ≡ largestSide
 whole c =
     let at-map = c .before .before .before .before in
     let h = at-map .before .before .before in
@@ -101,7 +103,7 @@ whole c =
 loop-holds : tie.Need-loop-holds Inv-loop μ-loop
 loop-holds c =
     let s = c .before .before .before in
-    (omega arith, refl, length-replicate {A = ℕ} 512 0, maps-first (opened (s .args .file .now) (s .args .head) (s .pre .opened)) (s .args .maps .at) (s .pre .place), filled-start (pairs (flat (mapsIn (parse (s .args .file .now))))) (s .args .space .now) (2 * s .args .head .size .width))
+    (omega arith, refl, length-replicate {A = ℕ} largestSide 0, maps-first (opened (s .args .file .now) (s .args .head) (s .pre .opened)) (s .args .maps .at) (s .pre .place), filled-start (pairs (flat (mapsIn (parse (s .args .file .now))))) (s .args .space .now) (2 * s .args .head .size .width))
 
 array-borrow-prefix-numbers : tie.Need-array-borrow-prefix-numbers Inv-loop μ-loop
 array-borrow-prefix-numbers c = room (c .before)

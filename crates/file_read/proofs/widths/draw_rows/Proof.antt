@@ -14,10 +14,13 @@ use Rattle.file_read.proofs.DrawTurns.{known, fits, drawn-all, samples-
 use borrow.Author.Needs.{needs}
 use Rattle.file_read.proofs.widths.draw_rows.Statement.{statement}
 use Rattle.file_read.proofs.widths.draw_rows.Tie as tie
+use Rattle.pictures.specs.Limits.{mostPicture}
+use Rattle.pictures.specs.Pictures.{largestSide}
+use Rattle.map_rules.specs.Bounds.{mostShown}
 
 abbrev Inv-loop : tie.InvT-loop
 Inv-loop file wanted space out₀ width height kind stride shown numbers₀ at₀ r₀ out numbers at r =
-    (r ≤ height) × (length out ≡ length out₀) × (length numbers ≡ 512) × MapsLeft file r (at .at) × FilledTo (drawnBytes (shows file wanted)) out₀ shown r out
+    (r ≤ height) × (length out ≡ length out₀) × (length numbers ≡ largestSide) × MapsLeft file r (at .at) × FilledTo (drawnBytes (shows file wanted)) out₀ shown r out
 
 abbrev μ-loop : tie.MeasureT-loop
 μ-loop file wanted space out₀ width height kind stride shown numbers₀ at₀ r₀ out numbers at r = height - r
@@ -81,7 +84,7 @@ row-fits : (c : tie.After-known-told Inv-loop μ-loop)
     let r = c .before .before .before .before .before .before .before .loop .r in
     let s = st .args .head .size .width * c .before .before .before .before .before .before .before .before .before .channels .result in
     let t = st .args .wanted * c .before .before .before .before .before .before .before .before .channels2 .result in
-    (r * s + s ≤ 786432) × (r * t + t ≤ 1179648)
+    (r * s + s ≤ mostPicture) × (r * t + t ≤ mostShown)
 row-fits c =
     let at-loop-test = c .before .before .before .before .before .before in
     let at-loop = at-loop-test .before in
@@ -110,7 +113,7 @@ numbers-long : (c : tie.After-known-told Inv-loop μ-loop)
     → let at-map = c .before .before .before .before in
     let at-loop = at-map .before .before .before in
     let s = at-loop .before .before .before .before .before .before .before in
-    length (at-map .map .last .1 .1 .0 ++ drop (s .args .head .size .width) (at-loop .loop .numbers)) ≡ 512
+    length (at-map .map .last .1 .1 .0 ++ drop (s .args .head .size .width) (at-loop .loop .numbers)) ≡ largestSide
 numbers-long c =
     let at-loop-test = c .before .before .before .before .before .before in
     let at-loop = at-loop-test .before in

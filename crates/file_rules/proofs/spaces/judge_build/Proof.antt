@@ -6,6 +6,7 @@ use Prim.Native.Nat.{_*_, _≤_}
 use native.Mathlib.Omega.{arith}
 use borrow.Author.Needs.{needs}
 use borrow.Author.Tests.{lt-ltb, le-ltb, not-true, not-false}
+use Rattle.pictures.specs.Limits.{mostPixels}
 use Rattle.pictures.specs.Refusals.{Rule, _when_, given, refusal}
 use Rattle.pictures.specs.Pictures.{sizeRules, pixels}
 use Rattle.pictures.proofs.Rules.{served-first, refused-answer}
@@ -33,7 +34,7 @@ rest : (c : tie.After-enum-told) → let a = start c .args in refusal (buildSpac
 unfolding more
 rest c = let a = start c .args in served-first (sizeRules (a .head .size) (a .bytes)) (more (start c)) refl (none c)
 
-few : (c : tie.After-enum-told) → pixels (start c .args .head .size) ≤ 262144
+few : (c : tie.After-enum-told) → pixels (start c .args .head .size) ≤ mostPixels
 few c = let a = start c .args in pixels-few (a .head .size) (sides-served (a .head .size) (a .bytes) (none c))
 
 -- the test of the range

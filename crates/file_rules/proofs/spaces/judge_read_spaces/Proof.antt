@@ -4,6 +4,7 @@ use Prim.Native.Nat.{_*_, _≤_}
 use native.Mathlib.Omega.{arith}
 use borrow.Author.Needs.{needs}
 use borrow.Author.Tests.{lt-ltb, le-ltb}
+use Rattle.pictures.specs.Limits.{mostPixels}
 use Rattle.pictures.specs.Refusals.{given, refusal, served}
 use Rattle.pictures.specs.Pictures.{pictureBytes, sideRules, pixels}
 use Rattle.pictures.proofs.Rules.{refused-answer}
@@ -26,7 +27,7 @@ bytes-are c =
     let z = at-enum-told .before .before .before .args .size in
     c .picture-bytes .ensures ∙ ap (λ n. served n (pictureBytes z) 0) (none at-enum-told)
 
-few : (c : tie.After-enum-told) → pixels (c .before .before .before .args .size) ≤ 262144
+few : (c : tie.After-enum-told) → pixels (c .before .before .before .args .size) ≤ mostPixels
 few c = pixels-few (c .before .before .before .args .size) (none c)
 
 judge-sides-requires : tie.Need-judge-sides-requires

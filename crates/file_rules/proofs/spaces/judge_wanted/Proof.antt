@@ -6,6 +6,7 @@ use Prim.Native.Nat.{_+_, _≤_}
 use native.Mathlib.Omega.{arith}
 use borrow.Author.Needs.{needs}
 use borrow.Author.Tests.{lt-ltb, le-ltb, le-leb, lt-leb, not-true, not-false}
+use Rattle.pictures.specs.Limits.{mostPixels}
 use Rattle.pictures.specs.Refusals.{Rule, _when_, given, refusal}
 use Rattle.pictures.specs.Pictures.{sideRules, pixels}
 use Rattle.pictures.proofs.Rules.{served-first, refused-answer}
@@ -16,6 +17,7 @@ use Rattle.file_rules.specs.Spaces.{offerRules, wantedRules}
 use Rattle.file_rules.proofs.Ranges.{pixels-few, Sound, wanted-own, growth-most, Bounded, bounded}
 use Rattle.file_rules.proofs.spaces.judge_wanted.Statement.{statement}
 use Rattle.file_rules.proofs.spaces.judge_wanted.Tie as tie
+use Rattle.map_rules.specs.Bounds.{mostWidth}
 
 -- where the sides are served, the range and what is offered decide
 more : tie.Start → List Rule
@@ -47,10 +49,10 @@ bounds c = bounded _ _ (sound (ranged c)) (c .if3 .left)
 offers : (c : tie.Else3) → let a = start (ranged c) .args in offered (a .head .size .width) (a .head .depth) (a .head .growth) (a .wanted) ≡ true
 offers c = offered-is _ _ _ _ .1 (c .before .before .if2 .left, c .if3 .left)
 
-few : (c : tie.Else1) → pixels (start c .args .head .size) ≤ 262144
+few : (c : tie.Else1) → pixels (start c .args .head .size) ≤ mostPixels
 few c = pixels-few (start c .args .head .size) (sound c .sides)
 
-most : (c : tie.Else1) → let h = start c .args .head in h .size .width + h .growth ≤ 768
+most : (c : tie.Else1) → let h = start c .args .head in h .size .width + h .growth ≤ mostWidth
 most c = let h = start c .args .head in omega (arith, growth-most h (sound c), sides-are (h .size) (sound c .sides) .width-most)
 
 judge-sides-requires : tie.Need-judge-sides-requires

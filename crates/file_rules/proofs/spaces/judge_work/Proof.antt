@@ -5,6 +5,7 @@ use Prim.Native.Nat.{_*_, _≤_}
 use native.Mathlib.Omega.{arith}
 use borrow.Author.Needs.{needs}
 use borrow.Author.Tests.{lt-ltb, le-ltb}
+use Rattle.pictures.specs.Limits.{mostPixels}
 use Rattle.pictures.specs.Refusals.{given, refusal}
 use Rattle.pictures.specs.Pictures.{sideRules, pixels}
 use Rattle.pictures.proofs.Rules.{served-first, refused-answer}
@@ -16,7 +17,7 @@ use Rattle.file_rules.proofs.spaces.judge_work.Tie as tie
 none : (c : tie.After-enum-told) → refusal (sideRules (c .before .before .before .args .size)) ≡ 0
 none c = sym (c .before .before .judge-sides .ensures) ∙ ap given (c .enum-told .given .1)
 
-few : (c : tie.After-enum-told) → pixels (c .before .before .before .args .size) ≤ 262144
+few : (c : tie.After-enum-told) → pixels (c .before .before .before .args .size) ≤ mostPixels
 few c = pixels-few (c .before .before .before .args .size) (none c)
 
 judge-sides-requires : tie.Need-judge-sides-requires

@@ -12,10 +12,11 @@ use Rattle.map_check.proofs.Turns.{every-ok, every-bad, every-end}
 use Rattle.map_check.proofs.Counting.{count-most, Counted, counted-more, counted-all}
 use Rattle.map_check.proofs.numbers.count_numbers.Statement.{statement}
 use Rattle.map_check.proofs.numbers.count_numbers.Tie as tie
+use Rattle.pictures.specs.Pictures.{largestSide}
 
 abbrev Inv-loop : tie.InvT-loop
 Inv-loop row depth seen₀ i₀ i-end seen i =
-    (i ≤ length row / 2) × (length seen ≡ length seen₀) × (length seen ≡ 512) × Counted 512 seen (numbersIn row) i
+    (i ≤ length row / 2) × (length seen ≡ length seen₀) × (length seen ≡ largestSide) × Counted largestSide seen (numbersIn row) i
     × (every (λ v. leb v depth) (drop i (numbersIn row)) ≡ every (λ v. leb v depth) (numbersIn row))
 
 abbrev μ-loop : tie.MeasureT-loop
@@ -28,8 +29,8 @@ loop-holds : tie.Need-loop-holds Inv-loop μ-loop
 loop-holds c =
     let s = c .before .before in
     let blank = s .pre .blank in
-    let long : length (s .args .seen .now) ≡ 512 = ap length blank ∙ length-replicate {A = ℕ} 512 0 in
-    (omega arith, refl, long, λ v h. ap (λ x. getD x v 0) blank ∙ getD-replicate {A = ℕ} 512 v 0 0 h, refl)
+    let long : length (s .args .seen .now) ≡ largestSide = ap length blank ∙ length-replicate {A = ℕ} largestSide 0 in
+    (omega arith, refl, long, λ v h. ap (λ x. getD x v 0) blank ∙ getD-replicate {A = ℕ} largestSide v 0 0 h, refl)
 
 number-at-requires : tie.Need-number-at-requires Inv-loop μ-loop
 number-at-requires c κs = search needs
@@ -62,7 +63,7 @@ add-seen c =
     let h = at-number-at .before .before in
     let s = h .before .before .before in
     let v = at-number-at .number-at .result in
-    let few : at-number-at .number-at .result < 512 = omega (arith, s .pre .deep) in
+    let few : at-number-at .number-at .result < largestSide = omega (arith, s .pre .deep) in
     omega (arith, h .loop .inv .3 v few, count-most v (take (h .loop .i) (numbersIn (s .args .row .now))), length-take (h .loop .i) (numbersIn (s .args .row .now)), length-numbers (s .args .row .now), s .pre .short)
 
 slice-write-seen : tie.Need-slice-write-seen Inv-loop μ-loop
@@ -87,13 +88,13 @@ loop-again c =
     let v = at-number-at .number-at .result in
     let is = at-number-at .number-at .ensures in
     let within = inside h (at-loop-test .loop-test .taken) in
-    let few : at-number-at .number-at .result < 512 = omega (arith, s .pre .deep) in
+    let few : at-number-at .number-at .result < largestSide = omega (arith, s .pre .deep) in
     let fits = le-leb (getD (numbersIn (a .row .now)) (h .loop .i) 0) (a .depth) (rw is at (c .before .if1 .left)) in
     let same = length-set (h .loop .seen) v (getD (h .loop .seen) v 0 + 1) in (
       omega arith,
       same ∙ h .loop .inv .1,
       same ∙ h .loop .inv .2,
-      counted-more 512 (h .loop .seen) ys (h .loop .i) v is within (h .loop .inv .2) few (h .loop .inv .3),
+      counted-more largestSide (h .loop .seen) ys (h .loop .i) v is within (h .loop .inv .2) few (h .loop .inv .3),
       every-ok (λ v. leb v (a .depth)) ys (h .loop .i) 0 within fits ∙ h .loop .inv .4,
     )
 
@@ -107,7 +108,7 @@ returns-2 c =
     let end : length (numbersIn (a .row .now)) ≤ h .loop .i = omega (arith, length-numbers (a .row .now)) in
     record {
       most = sym (sym (h .loop .inv .4) ∙ every-end (λ v. leb v (a .depth)) (numbersIn (a .row .now)) (h .loop .i) end);
-      counts = λ e. counted-all 512 (h .loop .seen) (numbersIn (a .row .now)) (h .loop .i) end (h .loop .inv .3);
+      counts = λ e. counted-all largestSide (h .loop .seen) (numbersIn (a .row .now)) (h .loop .i) end (h .loop .inv .3);
     }
 
 pub count-numbers-spec : {M : Type 1} → statement M

@@ -9,6 +9,7 @@ use Rattle.map_check.specs.Checking.{numbersIn}
 use Rattle.map_check.proofs.Counting.{counts-judge, numbers-over}
 use Rattle.map_check.proofs.numbers.numbered_row.Statement.{statement}
 use Rattle.map_check.proofs.numbers.numbered_row.Tie as tie
+use Rattle.pictures.specs.Pictures.{largestSide}
 
 slice-aggregate-count-numbers : tie.Need-slice-aggregate-count-numbers
 slice-aggregate-count-numbers c = search needs
@@ -31,7 +32,7 @@ slice-aggregate-each-once c = search needs
 each-once-requires : tie.Need-each-once-requires
 each-once-requires c κs =
     let k = c .before .before .before in
-    let long : length (k .count-numbers .last .1 .1 .0) ≡ 512 = k .count-numbers .kept .1 .1 .0 ∙ length-replicate {A = ℕ} 512 0 in
+    let long : length (k .count-numbers .last .1 .1 .0) ≡ largestSide = k .count-numbers .kept .1 .1 .0 ∙ length-replicate {A = ℕ} largestSide 0 in
     omega (arith, long, k .before .before .before .pre .deep)
 
 returns-2 : tie.Need-returns-2
@@ -41,7 +42,7 @@ returns-2 c =
     let s = k .before .before .before in
     let all : k .count-numbers .result ≡ true = not-false _ (at-if1 .if1 .left) in
     let told = k .count-numbers .ensures in
-    c .each-once .ensures ∙ counts-judge (s .args .depth) 512 (k .count-numbers .last .1 .1 .0) (numbersIn (s .args .row .now)) (s .pre .deep) (told .counts all) (sym (told .most) ∙ all)
+    c .each-once .ensures ∙ counts-judge (s .args .depth) largestSide (k .count-numbers .last .1 .1 .0) (numbersIn (s .args .row .now)) (s .pre .deep) (told .counts all) (sym (told .most) ∙ all)
 
 pub numbered-row-spec : {M : Type 1} → statement M
 numbered-row-spec =

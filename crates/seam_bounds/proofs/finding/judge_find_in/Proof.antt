@@ -9,6 +9,7 @@ use native.Mathlib.Omega.{arith}
 use borrow.Author.Needs.{needs}
 use borrow.Author.Tests.{lt-ltb, le-ltb}
 use lib.Dec.{ltb}
+use Rattle.pictures.specs.Limits.{mostPixels}
 use Rattle.pictures.specs.Refusals.{Rule, _when_, given, refusal, served}
 use Rattle.pictures.specs.Pictures.{sideRules, pictureBytes, pixels}
 use Rattle.pictures.proofs.Rules.{served-first, refused-answer}
@@ -32,7 +33,7 @@ rest : (c : tie.After-enum-told)
     refusal (spaceRules (s .args .size) (s .args .marked) (s .args .space) (s .args .seam)) ≡ refusal (more s)
 rest c = let s = c .before .before .before in served-first (sideRules (s .args .size)) (more s) refl (none c)
 
-few : (c : tie.After-enum-told) → pixels (c .before .before .before .args .size) ≤ 262144
+few : (c : tie.After-enum-told) → pixels (c .before .before .before .args .size) ≤ mostPixels
 few c = mul-le-mul (sure c .height-most) (sure c .width-most)
 
 double : (n : ℕ) (t : Bool) → cond t (n + n) n ≤ n + n

@@ -26,11 +26,11 @@ long : (c : tie.After-find-in-arg)
     ((at-if1 .if1 .long ≡ s .args .room) ⊎ ((largestSide ≤ s .args .room) × (at-if1 .if1 .long ≡ largestSide)))
 long c = ⊎-elim (λ w. inl (w .1)) (λ w. inr (w .0 .left, w .1)) (c .before .if1 .came)
 
-most : (c : tie.After-find-in-arg) → c .before .if1 .long ≤ 512
+most : (c : tie.After-find-in-arg) → c .before .if1 .long ≤ largestSide
 most c = ⊎-elim (λ w. omega (arith, w .0 .taken, w .1)) (λ w. omega (arith, w .1)) (c .before .if1 .came)
 
-lent : (c : tie.After-find-in-arg) → length (take (c .before .if1 .long) (replicate {A = ℕ} 512 0)) ≡ c .before .if1 .long
-lent c = length-take-le (c .before .if1 .long) (replicate {A = ℕ} 512 0) (most c)
+lent : (c : tie.After-find-in-arg) → length (take (c .before .if1 .long) (replicate {A = ℕ} largestSide 0)) ≡ c .before .if1 .long
+lent c = length-take-le (c .before .if1 .long) (replicate {A = ℕ} largestSide 0) (most c)
 
 -- so finding is refused by the same number
 number-is : (c : tie.After-find-in)

@@ -16,6 +16,7 @@ use Rattle.seam_find.proofs.Costs.{front-most, cost-most}
 use Rattle.seam_find.proofs.Downs.{Downs, down-start, down-turn, down-end, above-long, above-most}
 use Rattle.seam_find.proofs.down32.down.Statement.{statement}
 use Rattle.seam_find.proofs.down32.down.Tie as tie
+use Rattle.energy.specs.Bounds.{mostEnergy}
 
 abbrev Inv-loop : tie.InvT-loop
 Inv-loop space₀ size bytes above₀ cost₀ next₀ height i₀ space above cost next i = (0 < i) × ((i ≤ size .height) × (Downs 4294967295 (pictureBytes size) size (costsOf size) space₀ i space above × ((length above ≡ length above₀) × ((length cost ≡ length cost₀) × (length next ≡ length next₀)))))
@@ -49,7 +50,7 @@ small c k l h =
     let b = take (pictureBytes z) (now (a .space)) in
     let s = front-sized start in
     let most = cost-most z b s (front-most (now (a .space)) (pictureBytes z) 255 (byte at-slice-known)) in
-    let m = above-most 4294967295 (pictureBytes z) z (costsOf z) (now (a .space)) (wide z (now (a .space))) 1530 (c .loop .i) (c .loop .space) (c .loop .above) most (c .loop .inv .1 .1 .0) k h in
+    let m = above-most 4294967295 (pictureBytes z) z (costsOf z) (now (a .space)) (wide z (now (a .space))) mostEnergy (c .loop .i) (c .loop .space) (c .loop .above) most (c .loop .inv .1 .1 .0) k h in
     omega (arith, s .height-most)
 
 row-down-requires : tie.Need-row-down-requires Inv-loop μ-loop

@@ -11,6 +11,7 @@ use lib.Seq.{length-take-le, take-at}
 use Rattle.grids.proofs.Tables.{length-table}
 use Rattle.grids.proofs.Rows.{part-end}
 use Rattle.grids.proofs.Parts.{part-length}
+use Rattle.pictures.specs.Limits.{mostSide, mostPixels, mostPicture}
 use Rattle.pictures.specs.Pictures.{pictureBytes}
 use Rattle.pictures.proofs.Limits.{Sized, sized-is}
 use Rattle.energy.proofs.Served.{energies-served}
@@ -25,16 +26,16 @@ sure c = sized-is _ _ (c .pre .sized)
 
 -- row i's ways end within the space
 record Ends (c : tie.Start) : Type 0 where
-  short : c .args .bytes ≤ 786432
+  short : c .args .bytes ≤ mostPicture
   front : c .args .bytes ≤ length (now (c .args .space))
-  few : (c .args .i - 1) * c .args .size .width ≤ 262144
+  few : (c .args .i - 1) * c .args .size .width ≤ mostPixels
   end : c .args .bytes + (c .args .i - 1) * c .args .size .width + c .args .size .width ≤ length (now (c .args .space))
 
 ends : (c : tie.Start) → Ends c
 ends c =
     let p = c .pre in
     let s = sure c in
-    let h : c .args .i - 1 ≤ 512 = omega arith in
+    let h : c .args .i - 1 ≤ mostSide = omega arith in
     let l = part-end (c .args .i - 1) (c .args .size .height - 1) (c .args .size .width) (omega arith) in
     record {
       short = omega arith;

@@ -7,6 +7,7 @@ use borrow.Author.Tests.{le-leb, lt-leb, lt-ltb, le-ltb}
 use Rattle.seam_find.specs.Tracing.{traceable}
 use Rattle.seam_find.proofs.trace.judge_trace.Statement.{statement}
 use Rattle.seam_find.proofs.trace.judge_trace.Tie as tie
+use Rattle.pictures.specs.Limits.{mostSide}
 
 returns : tie.Need-returns
 unfolding traceable
@@ -46,7 +47,7 @@ returns-5 c =
 mul-result : tie.Need-mul-result
 mul-result c =
     let a = c .before .before .before .before .before .args in
-    let h : a .height - 1 ≤ 512 = omega arith in
+    let h : a .height - 1 ≤ mostSide = omega arith in
     omega (arith, mul-le-mul h (c .before .before .if3 .left))
 
 returns-6 : tie.Need-returns-6

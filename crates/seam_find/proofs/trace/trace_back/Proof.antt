@@ -13,6 +13,7 @@ use Rattle.seam_find.specs.Tracing.{columnsTo}
 use Rattle.seam_find.proofs.Loops.{Traceable, traceable-has, traced-is, Back, back-start, back-turn, back-end, length-columns}
 use Rattle.seam_find.proofs.trace.trace_back.Statement.{statement}
 use Rattle.seam_find.proofs.trace.trace_back.Tie as tie
+use Rattle.pictures.specs.Limits.{mostSide, mostPixels}
 
 abbrev Inv-loop : tie.InvT-loop
 Inv-loop ways width height column seam₀ i₀ c₀ seam i c =
@@ -36,11 +37,11 @@ end c = part-end _ _ _ (omega arith)
 
 most : (c : tie.In-loop Inv-loop μ-loop)
     → let a = c .before .before .before .before .before .before .args in
-    (a .height - 1) * a .width ≤ 262144
+    (a .height - 1) * a .width ≤ mostPixels
 most c =
     let a = c .before .before .before .before .before .before .args in
     let t = c .before .loop .inv .0 in
-    let h : a .height - 1 ≤ 512 = omega (arith, t .short) in
+    let h : a .height - 1 ≤ mostSide = omega (arith, t .short) in
     mul-le-mul h (t .narrow)
 
 judge-trace-requires : tie.Need-judge-trace-requires Inv-loop μ-loop

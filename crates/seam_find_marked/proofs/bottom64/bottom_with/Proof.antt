@@ -10,6 +10,7 @@ use lib.ListN.{length, take, length-replicate}
 use lib.Seq.{length-take-le}
 use Rattle.grids.proofs.Tables.{length-table}
 use Rattle.grids.proofs.Parts.{part-length}
+use Rattle.pictures.specs.Limits.{mostPixels, mostPicture}
 use Rattle.pictures.specs.Pictures.{pictureBytes}
 use Rattle.pictures.proofs.Limits.{Sized, sized-is}
 use Rattle.seam_find_marked.specs.Inner.{weightsOf, markedBytes}
@@ -22,8 +23,8 @@ sure c = sized-is _ _ (c .pre .0 .sized)
 
 -- where picture and marks end
 record Ends (c : tie.Start) : Type 0 where
-  short : c .args .bytes ≤ 786432
-  all : c .args .size .height * c .args .size .width ≤ 262144
+  short : c .args .bytes ≤ mostPicture
+  all : c .args .size .height * c .args .size .width ≤ mostPixels
   within : c .args .bytes + c .args .size .height * c .args .size .width ≤ length (now (c .args .space))
 
 ends : (c : tie.Start) → Ends c

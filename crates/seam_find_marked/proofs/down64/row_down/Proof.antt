@@ -9,6 +9,7 @@ use lib.ListN.{length, getD, take}
 use lib.Seq.{length-take-le}
 use Rattle.grids.proofs.Tables.{length-table}
 use Rattle.grids.proofs.Rows.{part-end}
+use Rattle.pictures.specs.Limits.{mostSide, mostPixels, mostPicture}
 use Rattle.pictures.specs.Pictures.{pictureBytes}
 use Rattle.pictures.proofs.Limits.{Sized, sized-is}
 use Rattle.seam_find_marked.specs.Inner.{weightsOf, markedBytes}
@@ -22,9 +23,9 @@ sure c = sized-is _ _ (c .pre .0 .sized)
 
 -- row i's ways end within the space
 record Ends (c : tie.Start) : Type 0 where
-  short : c .args .bytes ≤ 786432
-  all : c .args .size .height * c .args .size .width ≤ 262144
-  few : (c .args .i - 1) * c .args .size .width ≤ 262144
+  short : c .args .bytes ≤ mostPicture
+  all : c .args .size .height * c .args .size .width ≤ mostPixels
+  few : (c .args .i - 1) * c .args .size .width ≤ mostPixels
   within : c .args .bytes + c .args .size .height * c .args .size .width ≤ length (now (c .args .space))
   end : c .args .bytes + c .args .size .height * c .args .size .width + (c .args .i - 1) * c .args .size .width + c .args .size .width ≤ length (now (c .args .space))
 
@@ -32,7 +33,7 @@ ends : (c : tie.Start) → Ends c
 ends c =
     let p = c .pre .0 in
     let s = sure c in
-    let h : c .args .i - 1 ≤ 512 = omega arith in
+    let h : c .args .i - 1 ≤ mostSide = omega arith in
     let l = part-end (c .args .i - 1) (c .args .size .height - 1) (c .args .size .width) (omega arith) in
     record {
       short = omega arith;

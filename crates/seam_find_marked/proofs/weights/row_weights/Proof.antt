@@ -10,6 +10,7 @@ use lib.ListN.{length, take, drop}
 use lib.Seq.{length-take-le}
 use Rattle.grids.specs.Table.{table}
 use Rattle.grids.proofs.Rows.{part-end}
+use Rattle.pictures.specs.Limits.{mostSide, mostPixels, mostPicture}
 use Rattle.pictures.specs.Pictures.{pictureBytes, picture}
 use Rattle.energy.specs.Energy.{energies}
 use Rattle.pictures.proofs.Limits.{Sized, sized-is}
@@ -24,16 +25,16 @@ sure c = sized-is _ _ (c .pre .sized)
 
 -- row i's marks end within the front
 record Ends (c : tie.Start) : Type 0 where
-  short : c .args .bytes ≤ 786432
+  short : c .args .bytes ≤ mostPicture
   within : c .args .bytes ≤ length (now (c .args .front))
-  few : c .args .i * c .args .size .width ≤ 262144
+  few : c .args .i * c .args .size .width ≤ mostPixels
   end : c .args .bytes + c .args .i * c .args .size .width + c .args .size .width ≤ length (now (c .args .front))
 
 ends : (c : tie.Start) → Ends c
 ends c =
     let p = c .pre in
     let s = sure c in
-    let h : c .args .i ≤ 512 = omega arith in
+    let h : c .args .i ≤ mostSide = omega arith in
     let l = part-end (c .args .i) (c .args .size .height) (c .args .size .width) (p .inside) in
     record {
       short = omega arith;

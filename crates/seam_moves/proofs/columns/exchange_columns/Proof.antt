@@ -8,6 +8,7 @@ use borrow.Author.Needs.{needs}
 use borrow.Rule.Slice.PartMut.{same-len-mid}
 use denote.Ref.{now}
 use lib.ListN.{length}
+use Rattle.pictures.specs.Limits.{mostSide}
 use Rattle.pictures.specs.Pictures.{channelsOf}
 use Rattle.pictures.proofs.Limits.{sized-is, channels-most}
 use Rattle.grids.proofs.Filled.{Filled, filled-start}
@@ -40,7 +41,7 @@ mul-stride : tie.Need-mul-stride Inv-loop μ-loop
 mul-stride c =
     let st = c .before .before .before in
     let z = st .args .size in
-    let tall : z .height ≤ 512 = sized-is z (length (now (st .args .from))) (st .pre .sized) .height-most in
+    let tall : z .height ≤ mostSide = sized-is z (length (now (st .args .from))) (st .pre .sized) .height-small in
     let few : channelsOf (z .kind) ≤ 3 = channels-most (z .kind) in
     omega (arith, stride c, mul-le-mul tall few)
 

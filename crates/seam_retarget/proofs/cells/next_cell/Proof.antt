@@ -5,6 +5,7 @@ use native.Mathlib.Omega.{arith}
 use borrow.Author.Needs.{needs}
 use denote.Ref.{now}
 use lib.ListN.{length}
+use Rattle.pictures.specs.Pictures.{largestSide}
 use Rattle.pictures.proofs.Limits.{sides-are}
 use Rattle.seam_rules.specs.declared.answers.Axis.the-variants.{Vertical, Horizontal}
 use Rattle.seam_rules.specs.Counts.{smaller}
@@ -25,13 +26,13 @@ close c =
 first : (c : tie.After-seam-at)
     → let s = c .before .before .before .before .before .before in
     let a = s .args in let r = a .rows .0 in let k = a .columns .0 in
-    SeamGiven (now (a .work)) ((k + 1) * a .whole) (smaller (a .size) r (k + 1)) Horizontal (67 * a .whole) (lib.ListN.replicate 512 0) (c .seam-at .result) (c .seam-at .last .0) (c .seam-at .last .1 .1 .1 .1 .1 .0)
+    SeamGiven (now (a .work)) ((k + 1) * a .whole) (smaller (a .size) r (k + 1)) Horizontal (67 * a .whole) (lib.ListN.replicate largestSide 0) (c .seam-at .result) (c .seam-at .last .0) (c .seam-at .last .1 .1 .1 .1 .1 .0)
 first c = rw (c .before .before .before .before .smaller .ensures) at (c .seam-at .ensures)
 
 second : (c : tie.After-seam-at2)
     → let s = c .before .before .before .before .before .before .before .before .before .before .before .before in
     let a = s .args in let r = a .rows .0 in let k = a .columns .0 in
-    SeamGiven (c .before .before .before .before .before .before .seam-at .last .0) (k * a .whole) (smaller (a .size) (r + 1) k) Vertical (65 * a .whole) (lib.ListN.replicate 512 0) (c .seam-at2 .result) (c .seam-at2 .last .0) (c .seam-at2 .last .1 .1 .1 .1 .1 .0)
+    SeamGiven (c .before .before .before .before .before .before .seam-at .last .0) (k * a .whole) (smaller (a .size) (r + 1) k) Vertical (65 * a .whole) (lib.ListN.replicate largestSide 0) (c .seam-at2 .result) (c .seam-at2 .last .0) (c .seam-at2 .last .1 .1 .1 .1 .1 .0)
 second c =
     let at-smaller2 = c .before .before .before .before .before .before .before .before .before in
     rw (at-smaller2 .smaller2 .ensures) at (c .seam-at2 .ensures)
@@ -73,7 +74,7 @@ seam-at-requires c κs =
     let a = st .args in
     let p = st .pre in
     rw (at-smaller .smaller .ensures)
-    (seam-horizontal (a .size) (a .whole) (length (now (a .work))) (p .space) (a .columns .0 + 1) (a .rows .0) (a .columns .0 + 1) 512 (p .column) (omega (arith, p .rows-left)) (p .columns-left) refl)
+    (seam-horizontal (a .size) (a .whole) (length (now (a .work))) (p .space) (a .columns .0 + 1) (a .rows .0) (a .columns .0 + 1) largestSide (p .column) (omega (arith, p .rows-left)) (p .columns-left) refl)
 
 add-by-row : tie.Need-add-by-row
 add-by-row c =
@@ -99,7 +100,7 @@ seam-at-requires-2 c κs =
     let p = st .pre in
     let long = first at-seam-at .long in
     rw (at-smaller2 .smaller2 .ensures, long)
-    (seam-vertical (a .size) (a .whole) (length (now (a .work))) (p .space) (a .columns .0) (a .rows .0 + 1) (a .columns .0) 512 (omega (arith, p .column)) (p .rows-left) (omega (arith, p .columns-left)) refl)
+    (seam-vertical (a .size) (a .whole) (length (now (a .work))) (p .space) (a .columns .0) (a .rows .0 + 1) (a .columns .0) largestSide (omega (arith, p .column)) (p .rows-left) (omega (arith, p .columns-left)) refl)
 
 add-by-column : tie.Need-add-by-column
 add-by-column c =

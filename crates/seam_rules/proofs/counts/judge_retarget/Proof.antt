@@ -7,7 +7,8 @@ use native.Mathlib.Omega.{arith}
 use borrow.Author.Needs.{needs}
 use borrow.Author.Tests.{lt-ltb, le-ltb, le-leb, lt-leb}
 use lib.Dec.{leb, ltb}
-use Rattle.pictures.specs.Refusals.{Rule, given, refusal, served}
+use Rattle.pictures.specs.Limits.{mostPixels}
+use Rattle.pictures.specs.Refusals.{_when_, Rule, given, refusal, served}
 use Rattle.pictures.specs.Pictures.{pictureBytes, sizeRules, pixels}
 use Rattle.pictures.proofs.Rules.{served-first, refused-answer}
 use Rattle.pictures.proofs.Limits.{Sized, sized-is, sides-served}
@@ -39,7 +40,7 @@ rest c =
 sure : (c : tie.After-enum-told) → let a = c .before .before .before .args in Sized (a .size) (a .bytes)
 sure c = let a = c .before .before .before .args in sized-is (a .size) (a .bytes) (none c)
 
-all-most : (c : tie.After-enum-told) → pixels (c .before .before .before .args .size) ≤ 262144
+all-most : (c : tie.After-enum-told) → pixels (c .before .before .before .args .size) ≤ mostPixels
 all-most c = mul-le-mul (sure c .height-most) (sure c .width-most)
 
 -- the bytes of the picture left

@@ -7,6 +7,7 @@ use native.Mathlib.Omega.{arith}
 use borrow.Author.Needs.{needs}
 use borrow.Author.Tests.{lt-ltb, le-ltb}
 use lib.Dec.{ltb}
+use Rattle.pictures.specs.Limits.{mostPixels}
 use Rattle.pictures.specs.Refusals.{Rule, _when_, given, refusal}
 use Rattle.pictures.specs.Pictures.{sizeRules, pixels}
 use Rattle.pictures.proofs.Rules.{served-first, refused-answer}
@@ -33,7 +34,7 @@ rest c =
     let s = c .before .before .before in
     served-first (sizeRules (s .args .size) (s .args .bytes)) (more s) refl (none c)
 
-all-most : (c : tie.After-enum-told) → pixels (c .before .before .before .args .size) ≤ 262144
+all-most : (c : tie.After-enum-told) → pixels (c .before .before .before .args .size) ≤ mostPixels
 all-most c =
     let start = c .before .before .before in
     let s = sized-is (start .args .size) (start .args .bytes) (none c) in
