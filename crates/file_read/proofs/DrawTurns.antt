@@ -28,7 +28,7 @@ use Rattle.file_read.proofs.Offered.{Roomy, sound, roomy, picture-fits}
 use Rattle.file_read.proofs.Filled.{FilledTo, filled-step, filled-done}
 use Rattle.file_read.proofs.Places.{MapsLeft, met-place, met-broken, met-filled, map-met, row-of-bytes}
 use Rattle.file_read.proofs.Drawing.{drawn-long, drawn-row}
-use Rattle.map_rules.specs.Bounds.{mostShown}
+use Rattle.map_theory.specs.Bounds.{mostShown}
 
 -- A row of the front of a list is a row of the list.
 front-row : (s r n : ℕ) (b : List ℕ) → r * s + s ≤ n → n ≤ length b → rowAt s r b ≡ rowAt s r (take n b)

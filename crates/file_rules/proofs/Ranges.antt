@@ -15,7 +15,7 @@ use Rattle.map_theory.specs.Widths.{allowed}
 use Rattle.map_theory.proofs.Shown.{allowed-is}
 use Rattle.text_theory.specs.declared.Head.{Head}
 use Rattle.file_rules.specs.Spaces.{spaceRules, readSpaceRules, offerRules, wantedRules}
-use Rattle.map_rules.specs.Bounds.{mostWidth, mostShownRow, mostShown}
+use Rattle.map_theory.specs.Bounds.{mostWidth, mostShownRow, mostShown}
 
 -- Sides that are served bound the pixels.
 pub pixels-few : (z : Size) → refusal (sideRules z) ≡ 0 → pixels z ≤ mostPixels

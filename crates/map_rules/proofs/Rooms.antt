@@ -13,7 +13,7 @@ use Rattle.pictures.specs.Refusals.{_when_, refusal}
 use Rattle.pictures.specs.Pictures.{sideRules, pixels}
 use Rattle.pictures.proofs.Rules.{served-first, served-both, passed}
 use Rattle.pictures.proofs.Limits.{Sides, sides-are}
-use Rattle.map_rules.specs.Bounds.{mostMap}
+use Rattle.map_theory.specs.Bounds.{mostMap}
 use Rattle.map_rules.specs.Spaces.{mapBytes, mapAt, mapsEnd, mapSpaceRules}
 
 -- The maps end after as many times the bytes of one.

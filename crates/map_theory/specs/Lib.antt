@@ -1,3 +1,4 @@
 pub mod Maps
 pub mod Widths
 pub mod Judged
+pub mod Bounds

@@ -39,7 +39,7 @@ use Rattle.program_netpbm.specs.Outputs.{outputSpace}
 use Rattle.program_filters.specs.Inner.{DrawNeeded, PictureAnswered}
 use Rattle.program_netpbm.proofs.Outputs.{refused-so}
 use Rattle.program_filters.proofs.Fitted.{Fitted, fitted, same-number}
-use Rattle.map_rules.specs.Bounds.{mostWidth, mostShownRow}
+use Rattle.map_theory.specs.Bounds.{mostWidth, mostShownRow}
 
 -- A text without the lines of a head has no parts, and those of its parts are its head's.
 module _ {file : List ℕ} where

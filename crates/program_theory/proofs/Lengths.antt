@@ -29,7 +29,7 @@ use Rattle.file_theory.proofs.Lent.{lent-allowed}
 use Rattle.file_theory.proofs.Lengths.{file-length}
 use Rattle.program_theory.specs.Netpbm.{greyMagic, rgbMagic, maxval, magicText, headerText}
 use Rattle.program_theory.specs.Programs.{fullRange, refusedWord, refusedText}
-use Rattle.map_rules.specs.Bounds.{mostWidth}
+use Rattle.map_theory.specs.Bounds.{mostWidth}
 
 -- Where the numbers below m have at most c digits, those below ten times m have at most one more.
 one-more : (m c : ℕ) → ((n : ℕ) → n < m → length (digits n) ≤ c) → (n : ℕ) → n < m * 10 → length (digits n) ≤ suc c

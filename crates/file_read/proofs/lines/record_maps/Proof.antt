@@ -21,7 +21,7 @@ use Rattle.file_read.proofs.Turns.{map-there, map-read, pairs-put}
 use Rattle.file_read.proofs.lines.record_maps.Statement.{statement}
 use Rattle.file_read.proofs.lines.record_maps.Tie as tie
 use Rattle.pictures.specs.Pictures.{largestSide}
-use Rattle.map_rules.specs.Bounds.{mostMap}
+use Rattle.map_theory.specs.Bounds.{mostMap}
 
 abbrev Inv-loop : tie.InvT-loop
 Inv-loop file space₀ height width numbers₀ at₀ r₀ space numbers at r =

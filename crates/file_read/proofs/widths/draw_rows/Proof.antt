@@ -16,7 +16,7 @@ use Rattle.file_read.proofs.widths.draw_rows.Statement.{statement}
 use Rattle.file_read.proofs.widths.draw_rows.Tie as tie
 use Rattle.pictures.specs.Limits.{mostPicture}
 use Rattle.pictures.specs.Pictures.{largestSide}
-use Rattle.map_rules.specs.Bounds.{mostShown}
+use Rattle.map_theory.specs.Bounds.{mostShown}
 
 abbrev Inv-loop : tie.InvT-loop
 Inv-loop file wanted space out₀ width height kind stride shown numbers₀ at₀ r₀ out numbers at r =

@@ -17,7 +17,7 @@ use Rattle.file_rules.specs.Spaces.{offerRules, wantedRules}
 use Rattle.file_rules.proofs.Ranges.{pixels-few, Sound, wanted-own, growth-most, Bounded, bounded}
 use Rattle.file_rules.proofs.spaces.judge_wanted.Statement.{statement}
 use Rattle.file_rules.proofs.spaces.judge_wanted.Tie as tie
-use Rattle.map_rules.specs.Bounds.{mostWidth}
+use Rattle.map_theory.specs.Bounds.{mostWidth}
 
 -- where the sides are served, the range and what is offered decide
 more : tie.Start → List Rule
