@@ -8,7 +8,8 @@ use lib.ListN.{length}
 use Rattle.grids.specs.Rows.{rowAt}
 use Rattle.pictures.specs.declared.sizes.Size.{Size}
 use Rattle.pictures.specs.Refusals.{refusal}
-use Rattle.pictures.specs.Pictures.{largestSide, sizeRules}
+use Rattle.pictures.specs.Limits.{mostSide}
+use Rattle.pictures.specs.Pictures.{sizeRules}
 use Rattle.energy.specs.Energy.{difference}
 
 -- A row of a picture of its size, with room for the row's energies.
@@ -20,7 +21,7 @@ pub record RowNeeded (b : List ℕ) (z : Size) (r : ℕ) (out : List ℕ) : Type
 -- The bytes of a row and of the row below it, of `width` pixels of `channels` samples.
 pub record LinesNeeded (channels : ℕ) (it lower : List ℕ) (width : ℕ) (out : List ℕ) : Type 0 where
   pub some : 0 < width
-  pub narrow : width ≤ largestSide
+  pub narrow : width ≤ mostSide
   pub it-is : length it ≡ width * channels
   pub lower-is : length lower ≡ width * channels
   pub room : width ≤ length out

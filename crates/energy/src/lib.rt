@@ -7,11 +7,12 @@ use pictures::Verdict;
 use pictures::channels;
 use pictures::judge_picture;
 ghost use Rattle.energy.specs.Energy.{EnergiesGiven, energies as Energy·energies};
-ghost use Rattle.pictures.specs.Pictures.{largestSide, picture as Pictures·picture};
+ghost use Rattle.pictures.specs.Limits.{mostSide, mostRow};
+ghost use Rattle.pictures.specs.Pictures.{picture as Pictures·picture};
 ghost use Rattle.energy.specs.Inner.{RowNeeded, lowerRow};
 ghost use mathlib.Core.Path.{_≡_};
 ghost use mathlib.Core.List.{_++_};
-ghost use Prim.Native.Nat.{_*_, _≤_, _<_};
+ghost use Prim.Native.Nat.{_≤_, _<_};
 ghost use lib.ListN.{drop};
 
 // The energies of row r, put into the first `width` places of out. Refused by 2, 3 and 4 as every picture is, by 4 where
@@ -37,7 +38,7 @@ pub fn energies(picture: &[u8], size: Size, r: usize, out: &mut [u32]) -> Verdic
 
 // Where the row below row r starts; of the last row, the row itself, to which it has no difference.
 fn lower_row(r: usize, height: usize, stride: usize) -> usize
-    requires { ⌜ (r < height) × (height ≤ largestSide) × (stride ≤ 3 * largestSide) ⌝ }
+    requires { ⌜ (r < height) × (height ≤ mostSide) × (stride ≤ mostRow) ⌝ }
     ensures { λ at. ⌜ at ≡ lowerRow r height stride ⌝ }
 {
     if r + 1 < height {

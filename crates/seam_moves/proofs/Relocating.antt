@@ -13,11 +13,11 @@ use Rattle.grids.specs.Rows.{flat}
 use Rattle.grids.specs.Exchange.{exchange}
 use Rattle.grids.proofs.Parts.{put-part, part-length}
 use Rattle.grids.proofs.Rows.{part-end}
-use Rattle.pictures.specs.Limits.{mostRow, mostPicture}
+use Rattle.pictures.specs.Limits.{mostPicture}
 use Rattle.pictures.specs.declared.sizes.Size.{Size}
 use Rattle.pictures.specs.declared.refusals.Verdict.{Verdict}
 use Rattle.pictures.specs.Refusals.{refusal}
-use Rattle.pictures.specs.Pictures.{channelsOf, pictureBytes, sizeRules, picture, bytes}
+use Rattle.pictures.specs.Pictures.{largestSide, channelsOf, pictureBytes, sizeRules, picture, bytes}
 use Rattle.pictures.proofs.Limits.{Sides, sides-are, sized-served}
 use Rattle.seam_moves.specs.Between.{partAt, putAt}
 use Rattle.seam_bounds.specs.Moves.{PlacesApart}
@@ -101,10 +101,10 @@ module _ (z : Size) (old : List ℕ) (from all to s : ℕ) (needed : PictureNeed
   pub record ColumnAt (c : ℕ) : Type 0 where
     pub room : to + c * s + s ≤ length old
     pub small : c * s + s ≤ mostPicture
-    pub line : s ≤ mostRow
+    pub line : s ≤ 6 * largestSide
 
-  line-most : s ≤ mostRow
-  line-most = rw is (mul-le-mul (sides .height-most) (sides .channels-most))
+  line-most : s ≤ 6 * largestSide
+  line-most = let six : channelsOf (z .kind) ≤ 6 = omega (arith, sides .channels-most) in rw is (omega (arith, mul-le-mul (sides .height-most) six))
 
   pub column-at : (c : ℕ) → c < w → ColumnAt c
   column-at c l =
@@ -137,7 +137,7 @@ module _ (z : Size) (old : List ℕ) (from all to s : ℕ) (needed : PictureNeed
       pub lent : midOf from (from + all - from) now ≡ b
       lent = ap (λ n. midOf from n now) (add-sub-cancel-left from all ∙ needed .all-is) ∙ still
 
-      pub column-turn : (line before new : List ℕ) (v : Verdict) → length before ≡ mostRow
+      pub column-turn : (line before new : List ℕ) (v : Verdict) → length before ≡ 6 * largestSide
           → ColumnGiven (midOf from (from + all - from) now) z c before v line
           → new ≡ take (length (take s line)) (take s line) ++ drop (length (take s line)) (midOf (to + c * s) (to + c * s + s - (to + c * s)) now)
           → Exchanged z from to s old (c + 1) (putMid (to + c * s) (to + c * s + s - (to + c * s)) now new)

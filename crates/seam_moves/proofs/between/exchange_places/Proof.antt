@@ -8,8 +8,7 @@ use borrow.Rule.Slice.PartMut.{same-len-mid, mid-len}
 use denote.Ref.{now}
 use lib.ListN.{length}
 use lib.Seq.{length-take-le}
-use Rattle.pictures.specs.Limits.{mostRow}
-use Rattle.pictures.specs.Pictures.{channelsOf}
+use Rattle.pictures.specs.Pictures.{largestSide, channelsOf}
 use Rattle.pictures.proofs.Limits.{sides-are}
 use Rattle.seam_moves.proofs.Relocating.{Exchanged, exchanged-start, ColumnAt, column-at, column-turn, exchanged-all}
 use Rattle.seam_moves.proofs.between.exchange_places.Statement.{statement}
@@ -17,7 +16,7 @@ use Rattle.seam_moves.proofs.between.exchange_places.Tie as tie
 
 abbrev Inv-loop : tie.InvT-loop
 Inv-loop space₀ from size all to width height stride past line₀ c₀ space line c =
-    (c ≤ width) × ((length space ≡ length space₀) × ((length line ≡ mostRow) × Exchanged size from to stride space₀ c space))
+    (c ≤ width) × ((length space ≡ length space₀) × ((length line ≡ 6 * largestSide) × Exchanged size from to stride space₀ c space))
 
 abbrev μ-loop : tie.MeasureT-loop
 μ-loop space₀ from size all to width height stride past line₀ c₀ space line c = width - c
