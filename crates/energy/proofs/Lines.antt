@@ -83,7 +83,7 @@ module _ (z : Size) (b : List ℕ) (r s lower : ℕ) (sure : Sized z (length b))
       → LinesNeeded (channelsOf (z .kind)) (take (r * s + s - r * s) (drop (r * s) b)) (take (lower + s - lower) (drop lower b)) (z .width) out
   lines-needed out room = record {
     some = sure .width-some;
-    narrow = sure .width-most;
+    narrow = sure .width-small;
     it-is = part-length (r * s) (ends .it);
     lower-is = part-length lower (ends .lower-too);
     room = room;

@@ -80,7 +80,7 @@ module _ (b : List ℕ) (h : Head) (out work : List ℕ) (needed : BuildNeeded b
         sure = s;
         deep = allowed-deep _ _ _ (not-false (allowed (h .size .width) (h .depth) (h .growth)) (p1 .0));
         out-room = ltb-false _ _ (p2 .0);
-        few = mul-le-mul (s .height-most) (s .width-most);
+        few = s .pixels-most;
         map-is = two;
         front = omega (arith, two, room, bytes-few (h .size));
       }

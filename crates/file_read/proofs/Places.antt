@@ -111,7 +111,7 @@ module _ {file : List ℕ} {h : Head} (k : Parsed file h) where
 
   -- How many values they have.
   pub pixels-most : pixels (h .size) ≤ mostPixels
-  pixels-most = mul-le-mul (k .sides .height-most) (k .sides .width-most)
+  pixels-most = k .sides .pixels-most
 
   pub bytes-long : length (bytes (rowsIn (parse file))) ≡ pictureBytes (h .size)
   bytes-long = length-bytes (h .size) (rowsIn (parse file)) (k .of-size)

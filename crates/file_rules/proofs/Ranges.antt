@@ -2,10 +2,10 @@
 use mathlib.Core.Path.{_≡_, refl, _∙_}
 use mathlib.Core.Bool.{true, not}
 use mathlib.Core.List.{_∷_}
-use Prim.Native.Nat.{ℕ, _+_, _*_, _≤_}
+use Prim.Native.Nat.{ℕ, _+_, _*_, _/_, _≤_}
 use native.Mathlib.Nat.{mul-le-mul}
 use native.Mathlib.Omega.{arith}
-use Rattle.pictures.specs.Limits.{mostPixels}
+use Rattle.pictures.specs.Limits.{mostSide, mostPixels}
 use Rattle.pictures.specs.declared.sizes.Size.{Size}
 use Rattle.pictures.specs.Refusals.{_when_, refusal}
 use Rattle.pictures.specs.Pictures.{channelsOf, sideRules, pixels}
@@ -19,7 +19,7 @@ use Rattle.map_theory.specs.Bounds.{mostWidth, mostShownRow, mostShown}
 
 -- Sides that are served bound the pixels.
 pub pixels-few : (z : Size) → refusal (sideRules z) ≡ 0 → pixels z ≤ mostPixels
-pixels-few z e = let s = sides-are z e in mul-le-mul (s .height-most) (s .width-most)
+pixels-few z e = let s = sides-are z e in s .pixels-most
 
 -- Where they are served, 8 alone is left of what reading refuses.
 pub read-own : (z : Size) (picture map work : ℕ) → refusal (sideRules z) ≡ 0 → refusal (readSpaceRules z picture map work) ≡ refusal (spaceRules z picture map work)
@@ -42,14 +42,15 @@ pub record Bounded (h : Head) (v : ℕ) : Type 0 where
   pub row-most : v * channelsOf (h .size .kind) ≤ mostShownRow
   pub shown-most : h .size .height * (v * channelsOf (h .size .kind)) ≤ mostShown
 
-pub growth-most : (h : Head) → Sound h → h .growth ≤ 256
+pub growth-most : (h : Head) → Sound h → h .growth ≤ mostSide / 2
 growth-most h s =
     let a = allowed-is (h .size .width) (h .depth) (h .growth) .0 (s .range) .2 in
-    omega (arith, sides-are (h .size) (s .sides) .width-most)
+    omega (arith, sides-are (h .size) (s .sides) .width-small)
 
 pub bounded : (h : Head) (v : ℕ) → Sound h → v ≤ h .size .width + h .growth → Bounded h v
 bounded h v s l =
     let z = sides-are (h .size) (s .sides) in
     let wide : v ≤ mostWidth = omega (arith, growth-most h s, z .width-most) in
-    let row : v * channelsOf (h .size .kind) ≤ mostShownRow = mul-le-mul wide (z .channels-most) in
-    record { width-most = wide; row-most = row; shown-most = mul-le-mul (z .height-most) row }
+    let six : channelsOf (h .size .kind) ≤ 6 = omega (arith, z .channels-most) in
+    let row : v * channelsOf (h .size .kind) ≤ mostShownRow = mul-le-mul wide six in
+    record { width-most = wide; row-most = row; shown-most = mul-le-mul (z .height-small) row }

@@ -3,7 +3,7 @@ use mathlib.Core.Path.{_≡_, refl, _∙_}
 use mathlib.Core.Bool.{cond}
 use mathlib.Core.List.{[], _∷_}
 use Prim.Native.Nat.{ℕ, zero, suc, _+_, _*_, _≤_, _<_}
-use native.Mathlib.Nat.{mul-le-mul, suc-mul}
+use native.Mathlib.Nat.{mul-left-comm, suc-mul}
 use native.Mathlib.Omega.{arith}
 use borrow.Author.Tests.{leb-false, ltb-false, lt-leb, le-ltb}
 use lib.Dec.{leb, ltb}
@@ -23,10 +23,10 @@ maps-end z (suc n) = omega (arith, maps-end z n, suc-mul n (mapBytes z))
 
 -- Sides that are served bound the pixels and the bytes of a map.
 pub pixels-few : (z : Size) → Sides z → pixels z ≤ mostPixels
-pixels-few z s = mul-le-mul (s .height-most) (s .width-most)
+pixels-few z s = s .pixels-most
 
 pub map-few : (z : Size) → Sides z → mapBytes z ≤ mostMap
-map-few z s = let two : 2 * z .width ≤ 1024 = omega (arith, s .width-most) in mul-le-mul (s .height-most) two
+map-few z s = omega (arith, s .pixels-most, mul-left-comm (z .height) 2 (z .width))
 
 pub record Room (z : Size) (depth space maps : ℕ) : Type 0 where
   pub served : refusal (sideRules z) ≡ 0

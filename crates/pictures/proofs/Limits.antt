@@ -99,6 +99,10 @@ bytes-few z =
     let m = mul-le-mul-left (z .height) (mul-le-mul-left (z .width) (channels-most (z .kind))) in
     omega (arith, mul-assoc (z .height) (z .width) 3, mul-comm (z .height * z .width) 3)
 
+-- A line of n pixels fits six bytes for each pixel of the largest side.
+pub line-fits : (n : ℕ) (k : Kind) → n ≤ largestSide → n * channelsOf k ≤ 6 * largestSide
+line-fits n k l = let six : channelsOf k ≤ 6 = omega (arith, channels-most k) in omega (arith, mul-le-mul l six)
+
 -- The number of pixels that is given out for any size, 0 where it is refused, and a multiple of it.
 pub pixels-few : (z : Size) → served (refusal (sideRules z)) (pixels z) 0 ≤ mostPixels
 pixels-few z = go (refusal (sideRules z)) refl

@@ -4,8 +4,8 @@ use pictures::Size;
 use pictures::Verdict;
 ghost use mathlib.Core.Path.{_≡_};
 ghost use mathlib.Core.Bool.{cond};
-ghost use Prim.Native.Nat.{_+_, _*_, _≤_};
-ghost use Rattle.pictures.specs.Pictures.{largestSide};
+ghost use Prim.Native.Nat.{_+_, _≤_};
+ghost use Rattle.pictures.specs.Limits.{mostPixels};
 ghost use Rattle.pictures.specs.Refusals.{given, refusal};
 ghost use Rattle.seam_bounds.specs.Spaces.{spaceRules};
 
@@ -32,7 +32,7 @@ pub fn judge_find_in(size: Size, marked: bool, space: usize, seam: usize) -> Ver
 
 // The bytes after the picture: one to work in for each pixel, and one for its mark if it has one.
 fn bytes_after(pixels: usize, marked: bool) -> usize
-    requires { ⌜ pixels ≤ largestSide * largestSide ⌝ }
+    requires { ⌜ pixels ≤ mostPixels ⌝ }
     ensures { λ n. ⌜ n ≡ cond marked (pixels + pixels) pixels ⌝ }
 {
     if marked { pixels + pixels } else { pixels }

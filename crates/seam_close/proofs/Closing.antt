@@ -19,12 +19,12 @@ use Rattle.grids.proofs.Tables.{table-same}
 use Rattle.grids.proofs.Parts.{last-part}
 use Rattle.grids.proofs.Rows.{flat-rowsOf, length-rowAt, rowsOf-at, length-rowsOf, part-end}
 use Rattle.grids.proofs.Cut.{cut-each, cut-table, flat-removeAt}
-use Rattle.pictures.specs.Limits.{mostRow, mostPicture}
+use Rattle.pictures.specs.Limits.{mostPicture}
 use Rattle.pictures.specs.declared.sizes.Size.{Size}
 use Rattle.pictures.specs.Refusals.{_when_, refusal}
-use Rattle.pictures.specs.Pictures.{channelsOf, rowBytes, pictureBytes, sizeRules, picture, bytes, OfSize}
+use Rattle.pictures.specs.Pictures.{largestSide, channelsOf, rowBytes, pictureBytes, sizeRules, picture, bytes, OfSize}
 use Rattle.pictures.proofs.Rules.{served-both, passed}
-use Rattle.pictures.proofs.Limits.{Sized, sized-is}
+use Rattle.pictures.proofs.Limits.{line-fits, Sized, sized-is}
 use Rattle.pictures.proofs.Buffers.{picture-ofSize}
 use Rattle.seam_bounds.specs.Moves.{closeLengthRules, closeColumnRules, outside}
 use Rattle.seam_bounds.proofs.Moving.{inside-each}
@@ -127,7 +127,7 @@ module _ (z : Size) (b s : List ℕ) (n : ℕ) (needed : CloseNeeded b z s) (is 
 
   pub record Sure : Type 0 where
     pub some : n ≤ w * n
-    pub line : w * n ≤ mostRow
+    pub line : w * n ≤ 6 * largestSide
     pub short : length b ≤ mostPicture
     pub length-is : length b ≡ h * (w * n)
     pub freed : h * (w * n - n) + h * n ≡ h * (w * n)
@@ -146,7 +146,7 @@ module _ (z : Size) (b s : List ℕ) (n : ℕ) (needed : CloseNeeded b z s) (is 
   sure =
       let q = sized in
       let long : length b ≡ h * (w * n) = rw is (q .length-is) in
-      record { some = one; line = rw is (q .row-most); short = omega (arith, q .length-is, q .picture-most); length-is = long; freed = less h }
+      record { some = one; line = rw is (line-fits (z .width) (z .kind) (q .width-most)); short = omega (arith, q .length-is, q .picture-most); length-is = long; freed = less h }
 
   module _ (r : ℕ) (inside : r < h) where
     pub record RowSure : Type 0 where

@@ -9,7 +9,7 @@ use lib.ListN.{length, take, drop, replicate, length-append}
 use lib.Seq.{take-at, drop-at, drop-drop}
 use Rattle.grids.proofs.Parts.{put-part, part-length}
 use Rattle.grids.proofs.Rows.{part-end}
-use Rattle.pictures.specs.Limits.{mostPixels, mostPicture}
+use Rattle.pictures.specs.Limits.{mostSide, mostPixels, mostPicture}
 use Rattle.pictures.specs.declared.sizes.Size.{Size}
 use Rattle.pictures.specs.Pictures.{largestSide, pictureBytes}
 use Rattle.pictures.proofs.Limits.{Sides}
@@ -57,11 +57,11 @@ pub record Ends (z : Size) : Type 0 where
 
 pub ends : (z : Size) → Sides z → Ends z
 ends z s =
-    let h : z .height - 1 ≤ largestSide = omega (arith, s .height-most) in
+    let h : z .height - 1 ≤ mostSide = omega (arith, s .height-small) in
     record {
       some = s .height-some;
-      few = mul-le-mul h (s .width-most);
-      all = mul-le-mul (s .height-most) (s .width-most);
+      few = mul-le-mul h (s .width-small);
+      all = s .pixels-most;
       rows = part-end (z .height - 1) (z .height) (z .width) (omega (arith, s .height-some));
       short = s .picture-most;
     }

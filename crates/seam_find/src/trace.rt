@@ -2,7 +2,7 @@
 use pictures::LARGEST_SIDE;
 ghost use mathlib.Core.Path.{_≡_};
 ghost use Prim.Native.Nat.{_≤_, _<_};
-ghost use Rattle.pictures.specs.Pictures.{largestSide};
+ghost use Rattle.pictures.specs.Limits.{mostSide};
 ghost use Rattle.seam_find.specs.Tracing.{stepBy, traceable, traced};
 
 // The columns of the path to `column` of the last row, put into the front of seam from the top row. Row i of ways says
@@ -49,7 +49,7 @@ fn judge_trace(ways: usize, width: usize, height: usize, column: usize, seam: us
 
 // The column of the row above to which a way leads; at an edge, the edge.
 fn step(width: usize, column: usize, way: u8) -> usize
-    requires { ⌜ width ≤ largestSide ⌝ }
+    requires { ⌜ width ≤ mostSide ⌝ }
     requires { ⌜ column < width ⌝ }
     ensures { λ n. ⌜ n ≡ stepBy width column way ⌝ }
 {

@@ -99,7 +99,7 @@ copy-needed b z c out e =
     let room = passed short 7 (cond (leb (z .width) c) 10 0) (both .1) in
     let sized = sized-is z (length b) (both .0) in
     record {
-      narrow = sized .width-most;
+      narrow = sized .width-small;
       inside = leb-false (z .width) c (passed (leb (z .width) c) 9 0 (room .1) .0);
       length-is = sized .length-is;
       room = ltb-false (length out) (z .height * channelsOf (z .kind)) (room .0);
@@ -197,7 +197,7 @@ module _ (z : Size) (b space : List ℕ) (s : ℕ) (needed : ExchangeNeeded b z 
     part = mid-len (c * s) (c * s + s) now (omega (arith, column-sure c inside .room)) ∙ add-sub-cancel-left (c * s) s
 
     pub column-needed : ColumnNeeded ch b w h c (midOf (c * s) (c * s + s - c * s) now)
-    column-needed = record { narrow = sized .width-most; inside = inside; length-is = sized .length-is; room = omega (arith, part) }
+    column-needed = record { narrow = sized .width-small; inside = inside; length-is = sized .length-is; room = omega (arith, part) }
 
     pub columns-turn : (new : List ℕ) → Filled (column ch w h b) s space c now
         → new ≡ column ch w h b c ++ drop (h * ch) (midOf (c * s) (c * s + s - c * s) now)

@@ -18,7 +18,7 @@ use Rattle.pictures.specs.declared.sizes.Size.{Size}
 use Rattle.pictures.specs.declared.refusals.Verdict.{Verdict}
 use Rattle.pictures.specs.Refusals.{refusal}
 use Rattle.pictures.specs.Pictures.{largestSide, channelsOf, pictureBytes, sizeRules, picture, bytes}
-use Rattle.pictures.proofs.Limits.{Sides, sides-are, sized-served}
+use Rattle.pictures.proofs.Limits.{line-fits, Sides, sides-are, sized-served}
 use Rattle.seam_moves.specs.Between.{partAt, putAt}
 use Rattle.seam_bounds.specs.Moves.{PlacesApart}
 use Rattle.seam_moves.specs.Moving.{columnBytes, ColumnGiven}
@@ -104,7 +104,7 @@ module _ (z : Size) (old : List ℕ) (from all to s : ℕ) (needed : PictureNeed
     pub line : s ≤ 6 * largestSide
 
   line-most : s ≤ 6 * largestSide
-  line-most = let six : channelsOf (z .kind) ≤ 6 = omega (arith, sides .channels-most) in rw is (omega (arith, mul-le-mul (sides .height-most) six))
+  line-most = rw is (line-fits (z .height) (z .kind) (sides .height-most))
 
   pub column-at : (c : ℕ) → c < w → ColumnAt c
   column-at c l =

@@ -6,7 +6,8 @@ use lib.ListN.{length}
 use Rattle.grids.specs.Rows.{rowAt}
 use Rattle.pictures.specs.declared.sizes.Size.{Size}
 use Rattle.pictures.specs.Refusals.{refusal}
-use Rattle.pictures.specs.Pictures.{largestSide, pictureBytes, sizeRules, sideRules}
+use Rattle.pictures.specs.Limits.{mostSide}
+use Rattle.pictures.specs.Pictures.{pictureBytes, sizeRules, sideRules}
 use Rattle.seam_bounds.specs.Moves.{PlacesApart}
 
 -- The samples of the pixel in column c and row r, from the bytes of a picture of w columns of ch samples.
@@ -15,7 +16,7 @@ samples ch w b c r = rowAt ch c (rowAt (w * ch) r b)
 
 -- A picture's bytes, a column of it, and room for the column's samples.
 pub record ColumnNeeded (ch : ℕ) (b : List ℕ) (width height c : ℕ) (out : List ℕ) : Type 0 where
-  pub narrow : width ≤ largestSide
+  pub narrow : width ≤ mostSide
   pub inside : c < width
   pub length-is : length b ≡ height * (width * ch)
   pub room : height * ch ≤ length out

@@ -52,7 +52,7 @@ mul-at c =
     omega (arith, mul-le-mul most (stride-most c))
 
 lower-row-requires : tie.Need-lower-row-requires
-lower-row-requires c κs = (start c .pre .inside, sure c .height-most, stride-most c)
+lower-row-requires c κs = (start c .pre .inside, sure c .height-small, stride-most c)
 
 add-line-energies : tie.Need-add-line-energies
 add-line-energies c = let e = within c in omega arith

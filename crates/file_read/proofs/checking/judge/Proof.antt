@@ -22,7 +22,7 @@ room : (c : tie.Start) → pictureBytes (c .args .head .size) + 5 * pixels (c .a
 room c = judge-room _ _ (known c) (now (c .args .work)) (c .pre .room)
 
 all-most : (c : tie.Start) → pixels (c .args .head .size) ≤ mostPixels
-all-most c = let s = known c .sides in mul-le-mul (s .height-most) (s .width-most)
+all-most c = let s = known c .sides in s .pixels-most
 
 bytes-are : (c : tie.After-picture-bytes)
     → let s = c .before .before .before .before .before in

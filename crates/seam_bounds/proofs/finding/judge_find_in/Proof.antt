@@ -34,7 +34,7 @@ rest : (c : tie.After-enum-told)
 rest c = let s = c .before .before .before in served-first (sideRules (s .args .size)) (more s) refl (none c)
 
 few : (c : tie.After-enum-told) → pixels (c .before .before .before .args .size) ≤ mostPixels
-few c = mul-le-mul (sure c .height-most) (sure c .width-most)
+few c = sure c .pixels-most
 
 double : (n : ℕ) (t : Bool) → cond t (n + n) n ≤ n + n
 double n true = omega arith

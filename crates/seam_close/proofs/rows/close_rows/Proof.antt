@@ -8,15 +8,15 @@ use borrow.Rule.Slice.PartMut.{same-len-mid, mid-len}
 use denote.Ref.{now}
 use lib.ListN.{length}
 use lib.Seq.{length-take-le}
+use Rattle.pictures.specs.Pictures.{largestSide}
 use Rattle.grids.proofs.Filled.{Filled, filled-start}
 use Rattle.seam_close.proofs.Closing.{closedRow, Sure, sure, RowSure, row-sure, row-turn, rows-end}
 use Rattle.seam_close.proofs.rows.close_rows.Statement.{statement}
 use Rattle.seam_close.proofs.rows.close_rows.Tie as tie
-use Rattle.pictures.specs.Limits.{mostRow}
 
 abbrev Inv-loop : tie.InvT-loop
 Inv-loop picture₀ seam width height n stride kept line₀ r₀ picture line r =
-    (r ≤ height) × ((length picture ≡ length picture₀) × ((length line ≡ mostRow) × Filled (closedRow n stride picture₀ seam) kept picture₀ r picture))
+    (r ≤ height) × ((length picture ≡ length picture₀) × ((length line ≡ 6 * largestSide) × Filled (closedRow n stride picture₀ seam) kept picture₀ r picture))
 
 abbrev μ-loop : tie.MeasureT-loop
 μ-loop picture₀ seam width height n stride kept line₀ r₀ picture line r = height - r

@@ -1,6 +1,6 @@
 -- `seam_find::bottom32::bottom_with` meets its contract.
 use mathlib.Core.Path.{_≡_, sym, ap, _∙_}
-use mathlib.Core.List.{List, append-nil}
+use mathlib.Core.List.{List, _++_, append-nil}
 use Prim.Native.Nat.{ℕ, _+_, _-_, _≤_, _<_}
 use native.Mathlib.Nat.{add-sub-cancel, le-of-eq}
 use native.Mathlib.Omega.{arith}

@@ -40,7 +40,7 @@ ends c =
     record {
       short = omega arith;
       front = omega arith;
-      few = mul-le-mul h (s .width-most);
+      few = mul-le-mul h (s .width-small);
       end = omega arith;
     }
 

@@ -42,7 +42,8 @@ most c =
     let a = c .before .before .before .before .before .before .args in
     let t = c .before .loop .inv .0 in
     let h : a .height - 1 ≤ mostSide = omega (arith, t .short) in
-    mul-le-mul h (t .narrow)
+    let w : a .width ≤ mostSide = omega (arith, t .narrow) in
+    mul-le-mul h w
 
 judge-trace-requires : tie.Need-judge-trace-requires Inv-loop μ-loop
 judge-trace-requires c κs = search needs
@@ -85,7 +86,7 @@ shared-slice-read-step c =
     omega (arith, end (c .before), l .inv .0 .long, l .inv .1 .column)
 
 step-requires : tie.Need-step-requires Inv-loop μ-loop
-step-requires c κs = let l = c .before .before .loop in (l .inv .0 .narrow, l .inv .1 .column)
+step-requires c κs = let l = c .before .before .loop in (omega (arith, l .inv .0 .narrow), l .inv .1 .column)
 
 loop-less : tie.Need-loop-less Inv-loop μ-loop
 loop-less c = search needs

@@ -31,7 +31,7 @@ ends : (c : tie.Start) → Ends c
 ends c =
     let p = c .pre .0 in
     let s = sure c in
-    record { short = omega arith; all = mul-le-mul (s .height-most) (s .width-most); within = omega arith }
+    record { short = omega arith; all = s .pixels-most; within = omega arith }
 
 from-is : (c : tie.Start) → c .args .bytes + c .args .size .height * c .args .size .width ≡ markedBytes (c .args .size)
 from-is c = ap (_+ c .args .size .height * c .args .size .width) (c .pre .0 .bytes-are)

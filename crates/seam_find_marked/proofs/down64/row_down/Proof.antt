@@ -37,8 +37,8 @@ ends c =
     let l = part-end (c .args .i - 1) (c .args .size .height - 1) (c .args .size .width) (omega arith) in
     record {
       short = omega arith;
-      all = mul-le-mul (s .height-most) (s .width-most);
-      few = mul-le-mul h (s .width-most);
+      all = s .pixels-most;
+      few = mul-le-mul h (s .width-small);
       within = omega arith;
       end = omega arith;
     }

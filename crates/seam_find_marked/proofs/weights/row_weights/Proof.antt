@@ -39,7 +39,7 @@ ends c =
     record {
       short = omega arith;
       within = omega arith;
-      few = mul-le-mul h (s .width-most);
+      few = mul-le-mul h (s .width-small);
       end = omega arith;
     }
 

@@ -41,7 +41,7 @@ sure : (c : tie.After-enum-told) → let a = c .before .before .before .args in 
 sure c = let a = c .before .before .before .args in sized-is (a .size) (a .bytes) (none c)
 
 all-most : (c : tie.After-enum-told) → pixels (c .before .before .before .args .size) ≤ mostPixels
-all-most c = mul-le-mul (sure c .height-most) (sure c .width-most)
+all-most c = sure c .pixels-most
 
 -- the bytes of the picture left
 left-is : (c : tie.After-picture-bytes)

@@ -38,7 +38,7 @@ all-most : (c : tie.After-enum-told) → pixels (c .before .before .before .args
 all-most c =
     let start = c .before .before .before in
     let s = sized-is (start .args .size) (start .args .bytes) (none c) in
-    mul-le-mul (s .height-most) (s .width-most)
+    s .pixels-most
 
 judge-picture-requires : tie.Need-judge-picture-requires
 judge-picture-requires c κs = search needs

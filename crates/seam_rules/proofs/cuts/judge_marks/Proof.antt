@@ -46,7 +46,7 @@ mul-if1 : tie.Need-mul-if1
 mul-if1 c =
     let a = c .before .before .before .args in
     let s = sized-is (a .size) (a .bytes) (none c) in
-    omega (arith, mul-le-mul (s .height-most) (s .width-most))
+    omega (arith, s .pixels-most)
 
 returns-2 : tie.Need-returns-2
 returns-2 c =
