@@ -31,7 +31,7 @@ use Rattle.seam_find.specs.Inner.Sums.{sumsDown, waysUp}
 use Rattle.seam_find.specs.Tracing.{columnsTo}
 use Rattle.seam_sums.specs.Least.{leastTo}
 use Rattle.seam_sums.specs.Weights.{weightOf}
-use Rattle.seam_find_marked.specs.Inner.{weightIn, weightAt, weightsOf, markedBytes}
+use Rattle.seam_find_marked.specs.Inner.{mostWeight, weightIn, weightAt, weightsOf, markedBytes}
 use Rattle.seam_find.proofs.Costs.{front-most, pixel-most, table-most, sums-most}
 use Rattle.seam_find.proofs.Ways.{FoundFor, found-for, ways-traceable}
 use Rattle.seam_find.proofs.Loops.{Traceable}
@@ -51,7 +51,7 @@ one-of-two m r c = go (eqb (markAt m r c) 2)
 kept-most : (m : List (List ℕ)) (r c : ℕ) → isKept m r c ≤ 1
 kept-most m r c = omega (arith, one-of-two m r c)
 
--- In a picture of at most 512 rows, with energies of at most 1530.
+-- In a picture with rows and energies within the bounds of the arithmetic.
 module _ (w h : ℕ) (p : Picture) (m : List (List ℕ)) (few : h ≤ mostSide) (most : (r c : ℕ) → energy p r c ≤ mostEnergy) where
   abbrev all : List (List ℕ)
   all = paths (nearby w) w h
@@ -94,11 +94,11 @@ module _ (w h : ℕ) (p : Picture) (m : List (List ℕ)) (few : h ≤ mostSide) 
         weights-blocked (along (isMark 1 m)) (along (isMark 2 m)) (along (energy p)) (along (isKept m)) 4294967296 281474976710656 h all weighed
         s lightest (rw (summed s) at l)
 
--- A weight is at most 1530 + 2 ^ 32 + 2 ^ 48.
-weight-most : (e mark : ℕ) → e ≤ mostEnergy → weightOf e mark ≤ 281479271679482
+-- A weight is at most an energy, 2 ^ 32 and 2 ^ 48.
+weight-most : (e mark : ℕ) → e ≤ mostEnergy → weightOf e mark ≤ mostWeight
 weight-most e mark l = go (eqb mark 2) (eqb mark 1)
   where
-    go : (s t : Bool) → e + (cond s 0 1 * 4294967296 + cond t 1 0 * 281474976710656) ≤ 281479271679482
+    go : (s t : Bool) → e + (cond s 0 1 * 4294967296 + cond t 1 0 * 281474976710656) ≤ mostWeight
     go true true = omega arith
     go true false = omega arith
     go false true = omega arith
@@ -115,8 +115,8 @@ module _ (z : Size) (b : List ℕ) (sized : Sized z (length (take (pictureBytes 
   energy-most : (r c : ℕ) → energy p r c ≤ mostEnergy
   energy-most = pixel-most z (take (pictureBytes z) b) sized byte
 
-  pub weights-most : (i k : ℕ) → getD (weightsOf z b i) k 0 ≤ 281479271679482
-  weights-most i = table-most (weightAt p m i) (z .width) 281479271679482 (λ c. weight-most (energy p i c) (markAt m i c) (energy-most i c))
+  pub weights-most : (i k : ℕ) → getD (weightsOf z b i) k 0 ≤ mostWeight
+  weights-most i = table-most (weightAt p m i) (z .width) mostWeight (λ c. weight-most (energy p i c) (markAt m i c) (energy-most i c))
 
   pub weights-wide : (i : ℕ) → length (weightsOf z b i) ≡ z .width
   weights-wide i = length-table (weightAt p m i) (z .width)
@@ -128,7 +128,7 @@ module _ (z : Size) (b : List ℕ) (sized : Sized z (length (take (pictureBytes 
   low : (i c : ℕ) → i < z .height - 1 → c < z .width → getD (sumsDown 18446744073709551615 (z .width) (weightsOf z b) i) c 0 < 18446744073709551615
   low i c h l =
       let rows : suc i ≤ mostSide = omega (arith, sized .height-small) in
-      omega (arith, sums-most 18446744073709551615 (z .width) 281479271679482 (weightsOf z b) (weights-wide 0) weights-most i c l, mul-le-mul-right 281479271679482 rows)
+      omega (arith, sums-most 18446744073709551615 (z .width) mostWeight (weightsOf z b) (weights-wide 0) weights-most i c l, mul-le-mul-right mostWeight rows)
 
   pub marked-traceable : (column seam : ℕ) → column < z .width → z .height ≤ seam
       → Traceable (length (flat (table (waysUp 18446744073709551615 (z .width) (weightsOf z b)) (z .height - 1)))) (z .width) (z .height) column seam
@@ -146,7 +146,7 @@ module _ (z : Size) (b : List ℕ) (sized : Sized z (length (take (pictureBytes 
     under = rw (found .price) light
 
     marked-found : markedUp (z .width) (z .height) p m ≡ some (found .path)
-    marked-found = light-found (z .width) (z .height) p m (sized .height-most) energy-most (found .path) (found .is) under
+    marked-found = light-found (z .width) (z .height) p m (sized .height-small) energy-most (found .path) (found .is) under
 
     pub marked-some : isNone (markedUp (z .width) (z .height) p m) ≡ false
     marked-some = ap isNone marked-found
@@ -162,11 +162,11 @@ module _ (z : Size) (b : List ℕ) (sized : Sized z (length (take (pictureBytes 
     unfolding markedCostOf
     marked-cost =
         ap (λ n. n % 4294967296) (sym (found .price))
-        ∙ sym (light-cost (z .width) (z .height) p m (sized .height-most) energy-most (found .path) (found .is) under)
+        ∙ sym (light-cost (z .width) (z .height) p m (sized .height-small) energy-most (found .path) (found .is) under)
         ∙ ap (along (energy p)) (sym path-is)
 
   pub marked-blocked : 281474976710656 ≤ getD (sums (z .height - 1)) bottom 0 → isNone (markedUp (z .width) (z .height) p m) ≡ true
-  marked-blocked l = ap isNone (heavy-blocked (z .width) (z .height) p m (sized .height-most) energy-most (found .path) (found .is) (rw (found .price) l))
+  marked-blocked l = ap isNone (heavy-blocked (z .width) (z .height) p m (sized .height-small) energy-most (found .path) (found .is) (rw (found .price) l))
 
 -- The weights of row i, from its energies and the part of the buffer that holds its marks.
 module _ (z : Size) (b : List ℕ) (i : ℕ) (inside : i < z .height) (long : length b ≡ markedBytes z) where

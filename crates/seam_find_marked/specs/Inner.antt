@@ -10,7 +10,12 @@ use Rattle.pictures.specs.Refusals.{refusal}
 use Rattle.pictures.specs.Pictures.{Picture, sizeRules, pictureBytes, pixels, pictureIn, marksIn}
 use Rattle.energy.specs.Energy.{energy}
 use Rattle.seam_theory.specs.PictureSeams.{markAt}
-use Rattle.seam_sums.specs.Weights.{weightOf}
+use Rattle.energy.specs.Bounds.{mostEnergy}
+use Rattle.seam_sums.specs.Weights.{kept, protected, weightOf}
+
+-- A bound for the arithmetic: no pixel weighs more.
+abbrev pub mostWeight : ℕ
+mostWeight = mostEnergy + (kept + protected)
 
 -- The weight at column c of a row, from its energies and marks.
 abbrev pub weightIn : List ℕ → List ℕ → ℕ → ℕ

@@ -17,7 +17,7 @@ use Rattle.seam_theory.specs.PictureSeams.{costOf}
 use Rattle.seam_find.proofs.Costs.{front-most, pixel-most}
 use Rattle.seam_theory.proofs.Characterised.{seam-some}
 
--- At most 512 energies of at most 1530.
+-- At most one energy a row, each within its bound.
 pub cost-bound : (w h : ℕ) (p : Picture) → 0 < w → 0 < h → h ≤ mostSide → ((r c : ℕ) → energy p r c ≤ mostEnergy) → costOf w h p ≤ mostCost
 unfolding costOf
 cost-bound w h p some-column some-row most each =
@@ -33,5 +33,5 @@ pub cost-small : (z : Size) (space : List ℕ) → Sides z → pictureBytes z �
     → costOf (z .width) (z .height) (pictureIn z space) ≤ mostCost
 cost-small z space s room small =
     let sized : Sized z (length (take (pictureBytes z) space)) = sized-of z (length (take (pictureBytes z) space)) s (length-take-le (pictureBytes z) space room) in
-    cost-bound (z .width) (z .height) (pictureIn z space) (s .width-some) (s .height-some) (s .height-most)
+    cost-bound (z .width) (z .height) (pictureIn z space) (s .width-some) (s .height-some) (s .height-small)
     (pixel-most z (take (pictureBytes z) space) sized (front-most space (pictureBytes z) 255 small))

@@ -115,7 +115,7 @@ cost-most ch few x z p s o =
     let q = turned x (z .width) p in
     let sides : Sides (turnedSize x z) = sides-are t (turned-sides x z (pictureBytes z) (sized-at z s)) in
     let b = pixel-bytes ch t q (turned-of (Bytes ch) x z p o) in
-    cost-bound (t .width) (t .height) q (sides .width-some) (sides .height-some) (sides .height-most)
+    cost-bound (t .width) (t .height) q (sides .width-some) (sides .height-some) (sides .height-small)
     (λ r c. omega (arith, energy-most ch 255 q (λ r c. b r c .many) (λ r c. b r c .small) r c, mul-le-mul-right 255 few))
 
 -- The total of r + c seams: at most 128 of them, it fits 64 bits.

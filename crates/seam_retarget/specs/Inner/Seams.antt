@@ -15,7 +15,6 @@ use Rattle.seam_rules.specs.declared.answers.Axis.{Axis}
 use Rattle.seam_rules.specs.Axes.{turnedSize, narrowed}
 use Rattle.seam_turn.specs.Axes.{turned, cutAlong}
 use Rattle.seam_cut.specs.Axes.{seamAlong, costAlong}
-use Rattle.seam_retarget.specs.Inner.Cells.{places}
 use Rattle.energy.specs.Bounds.{mostCost}
 
 -- n bytes at a and m bytes at b don't overlap.

@@ -10,7 +10,7 @@ use Rattle.grids.proofs.Tables.{length-table}
 use Rattle.pictures.specs.declared.sizes.Size.{Size}
 use Rattle.pictures.specs.Pictures.{pictureBytes}
 use Rattle.pictures.proofs.Limits.{Sized, sized-is}
-use Rattle.seam_find_marked.specs.Inner.{weightsOf, markedBytes}
+use Rattle.seam_find_marked.specs.Inner.{mostWeight, weightsOf, markedBytes}
 use Rattle.seam_find.proofs.Downs.{Downs, down-start, down-turn, down-end, above-long, above-most}
 use Rattle.seam_find_marked.proofs.Weighed.{weights-most, front-sized, front-bytes}
 use Rattle.seam_find_marked.proofs.down64.down.Statement.{statement}
@@ -40,7 +40,7 @@ small c k l h =
     let start = now (s .args .space) in
     let b = take (markedBytes z) start in
     let most = weights-most z b (front-sized z start (sure s) (omega (arith, s .pre .0 .room))) (front-bytes z start (byte at-slice-known)) in
-    let m = above-most 18446744073709551615 (markedBytes z) z (weightsOf z) start (wide z start) 281479271679482 (c .loop .i) (c .loop .space) (c .loop .above) most (c .loop .inv .1 .1 .0) k h in
+    let m = above-most 18446744073709551615 (markedBytes z) z (weightsOf z) start (wide z start) mostWeight (c .loop .i) (c .loop .space) (c .loop .above) most (c .loop .inv .1 .1 .0) k h in
     omega (arith, sure s .height-most)
 
 loop-holds : tie.Need-loop-holds Inv-loop μ-loop
