@@ -17,7 +17,8 @@ use Rattle.pictures.specs.declared.sizes.Size.{Size}
 use Rattle.pictures.specs.declared.refusals.Verdict.{Verdict}
 use Rattle.pictures.specs.Refusals.{_when_, refusal, served}
 use Rattle.pictures.specs.Pictures.{pictureBytes, sizeRules, picture, pixels, pictureIn}
-use Rattle.pictures.proofs.Rules.{both, served-both, passed}
+use Rattle.grids.proofs.Bools.{both}
+use Rattle.pictures.proofs.Rules.{served-both, passed}
 use Rattle.pictures.proofs.Limits.{Sized, sized-is, sides-served, bytes-few}
 use Rattle.map_theory.specs.Maps.{mapOf}
 use Rattle.map_theory.specs.Widths.{allowed}

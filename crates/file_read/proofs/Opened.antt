@@ -17,6 +17,7 @@ use Rattle.map_theory.specs.Widths.{allowed}
 use Rattle.map_theory.specs.Judged.{every}
 use Rattle.text_theory.specs.Files.{Parts, parse}
 use Rattle.text_scan.specs.declared.Facts.{Facts}
+use Rattle.grids.proofs.Bools.{and-swap}
 use Rattle.text_scan.specs.Facts.{evenly, factsOf, factsIn}
 use Rattle.file_theory.specs.Rules.{filled, partRules}
 use Rattle.file_theory.specs.Shows.{headIn}
@@ -28,12 +29,6 @@ even-rows : {A : Type 0} (w : ℕ) (rows : List (List A)) → evenly w (map leng
 unfolding evenly
 even-rows w [] = refl
 even-rows w (x ∷ rows) = ap (λ t. eqb (length x) w && t) (even-rows w rows)
-
-mixed : (a b c d : Bool) → a && (b && (c && d)) ≡ (a && c) && (b && d)
-mixed true true c d = refl
-mixed true false true d = refl
-mixed true false false d = refl
-mixed false b c d = refl
 
 -- As many lines as the height says, each as wide as the width says.
 abbrev pub countsOf : Facts → Bool
@@ -47,7 +42,7 @@ unfolding factsOf filled
 counts-filled p =
     let w = p .head .size .width in
     let h = p .head .size .height in
-    rw (even-rows w (p .rows), even-rows w (p .maps)) (mixed (eqb (length (p .rows)) h) (eqb (length (p .maps)) h) (every (λ xs. eqb (length xs) w) (p .rows)) (every (λ xs. eqb (length xs) w) (p .maps)))
+    rw (even-rows w (p .rows), even-rows w (p .maps)) (and-swap (eqb (length (p .rows)) h) (eqb (length (p .maps)) h) (every (λ xs. eqb (length xs) w) (p .rows)) (every (λ xs. eqb (length xs) w) (p .maps)))
 
 -- The parts that a scan has found.
 pub facts-none : (o : Option Parts) → none ≡ factsIn o → o ≡ none

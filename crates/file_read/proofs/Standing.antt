@@ -15,7 +15,8 @@ use Rattle.grids.proofs.Parts.{put-part, part-length}
 use Rattle.pictures.specs.declared.refusals.Verdict.{Verdict}
 use Rattle.pictures.specs.Refusals.{given, refusal, worked}
 use Rattle.pictures.specs.Pictures.{pictureBytes, picture, bytes, pixels, pictureIn}
-use Rattle.pictures.proofs.Rules.{both, served-first}
+use Rattle.grids.proofs.Bools.{both}
+use Rattle.pictures.proofs.Rules.{served-first}
 use Rattle.pictures.proofs.Buffers.{picture-bytes, length-bytes}
 use Rattle.map_theory.specs.Widths.{allowed}
 use Rattle.pictures.proofs.Limits.{bytes-few}

@@ -1,3 +1,4 @@
+pub mod Bools
 pub mod Orders
 pub mod Shapes
 pub mod Tables

@@ -1,6 +1,6 @@
 -- A row judged by counting how often each number stands in it.
 use mathlib.Core.Path.{_≡_, refl, sym, ap, _∙_}
-use mathlib.Core.Bool.{Bool, true, false, _&&_}
+use mathlib.Core.Bool.{Bool, true, false, _&&_, and-true, and-false}
 use mathlib.Core.List.{List, [], _∷_, _++_}
 use Prim.Native.Nat.{ℕ, suc, _+_, _≤_, _<_}
 use native.Mathlib.Numerals.{add-one}
@@ -12,11 +12,6 @@ use lib.Seq.{take-suc, take-all, getD-set-same, getD-set-other}
 use Rattle.seam_theory.specs.Paths.{run}
 use Rattle.map_theory.specs.Judged.{every, tick, count, numbers}
 use Rattle.map_theory.proofs.Tests.{every-run}
-
--- A conjunction whose second part fails.
-and-no : (b : Bool) → (b && false) ≡ false
-and-no true = refl
-and-no false = refl
 
 -- Counting how often each number stands in what was passed.
 count-turn : (v : ℕ) (ys : List ℕ) (c : ℕ) → c < length ys → count v (take (c + 1) ys) ≡ tick (eqb (getD ys c 0) v) (count v (take c ys))
@@ -79,12 +74,8 @@ pub counts-judge : (k n : ℕ) (seen ys : List ℕ) → k < n → ((v : ℕ) →
 unfolding numbers
 counts-judge k n seen ys l h e =
     every-same (λ v. eqb (getD seen v 0) 1) (λ v. eqb (count v ys) 1) k (λ t a b. ap (λ m. eqb m 1) (h t (omega arith)))
-    ∙ sym (ap (every (λ v. eqb (count v ys) 1) (run 1 k) &&_) e ∙ and-yes (every (λ v. eqb (count v ys) 1) (run 1 k)))
-  where
-    and-yes : (b : Bool) → (b && true) ≡ b
-    and-yes true = refl
-    and-yes false = refl
+    ∙ sym (ap (every (λ v. eqb (count v ys) 1) (run 1 k) &&_) e ∙ and-true (every (λ v. eqb (count v ys) 1) (run 1 k)))
 
 pub numbers-over : (k : ℕ) (ys : List ℕ) → every (λ v. leb v k) ys ≡ false → numbers k ys ≡ false
 unfolding numbers
-numbers-over k ys e = ap (every (λ v. eqb (count v ys) 1) (run 1 k) &&_) e ∙ and-no (every (λ v. eqb (count v ys) 1) (run 1 k))
+numbers-over k ys e = ap (every (λ v. eqb (count v ys) 1) (run 1 k) &&_) e ∙ and-false (every (λ v. eqb (count v ys) 1) (run 1 k))

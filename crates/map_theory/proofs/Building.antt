@@ -7,13 +7,14 @@ use native.Mathlib.Omega.{arith}
 use lib.ListN.{length, getD, take, drop}
 use Rattle.grids.specs.Each.{Grid}
 use Rattle.grids.specs.Rows.{rowsOf, flat, rowAt}
+use Rattle.grids.proofs.Bools.{same-test}
 use Rattle.grids.proofs.Shapes.{each-length, zipWith-at}
 use Rattle.grids.proofs.Rows.{rowsOf-flat, flat-at, row-more}
 use Rattle.pictures.specs.Refusals.{_when_, refusal}
 use Rattle.seam_theory.specs.Choices.{Choice, Chooses}
 use Rattle.map_theory.specs.Maps.{carve, mapOf}
 use Rattle.map_theory.specs.Judged.{every, same, numbers, connected, found, mapRules, IsMap}
-use Rattle.map_theory.proofs.Tests.{same-test, same-is, every-each}
+use Rattle.map_theory.proofs.Tests.{same-is, every-each}
 use Rattle.map_theory.proofs.Numberings.{numbers-is}
 use Rattle.map_theory.proofs.Rows.{write}
 use Rattle.map_theory.proofs.Levels.{writeAll}

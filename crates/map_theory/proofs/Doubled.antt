@@ -1,14 +1,14 @@
 -- How many pixels of a row are numbered 1 to u, and how many 0.
 use mathlib.Core.Path.{_≡_, refl, _∙_}
-use mathlib.Core.Bool.{Bool, true, false, not, and-eq-true-iff}
+use mathlib.Core.Bool.{Bool, true, false, not}
 use mathlib.Core.List.{List, [], _∷_}
 use Prim.Native.Nat.{ℕ, zero, suc, _+_, _≤_}
 use native.Mathlib.Omega.{arith}
 use lib.Dec.{leb, eqb, eqb·suc-zero}
 use borrow.Author.Tests.{leb-true, eqb-true}
 use lib.ListN.{length}
-use Rattle.map_theory.specs.Widths.{doubled}
-use Rattle.map_theory.specs.Judged.{every, tick, count, remains, Numbering}
+use Rattle.grids.proofs.Bools.{both}
+use Rattle.map_theory.specs.Judged.{every, tick, count, doubledIn, remains, Numbering}
 use Rattle.map_theory.proofs.Numbers.{remains-zero, remains-all, remains-le, remains-lt, remains-next, doubled-not}
 use Rattle.map_theory.proofs.Numberings.{numbering-most}
 
@@ -47,7 +47,7 @@ zeros-numbering k ys n = omega (arith, rest ys (numbering-most k ys n), doubled-
   where
     rest : (ys : List ℕ) → every (λ v. leb v k) ys ≡ true → count 0 ys + doubledIn k ys ≡ length ys
     rest [] e = refl
-    rest (zero ∷ ys) e = rw (doubled-not k 0, remains-zero (suc k)) (omega (arith, rest ys (and-eq-true-iff (leb 0 k) (every (λ v. leb v k) ys) .0 e .1)))
+    rest (zero ∷ ys) e = rw (doubled-not k 0, remains-zero (suc k)) (omega (arith, rest ys (both (leb 0 k) (every (λ v. leb v k) ys) e .1)))
     rest (suc v ∷ ys) e =
-        let b = and-eq-true-iff (leb (suc v) k) (every (λ v. leb v k) ys) .0 e in
+        let b = both (leb (suc v) k) (every (λ v. leb v k) ys) e in
         rw (eqb·suc-zero v, doubled-not k (suc v), remains-lt (suc k) v (omega (arith, leb-true (suc v) k (b .0)))) (omega (arith, rest ys (b .1)))

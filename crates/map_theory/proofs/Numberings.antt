@@ -1,17 +1,18 @@
 -- Rows that hold each of 1 to k once and nothing above k.
 use mathlib.Core.Path.{_≡_, refl, sym, ap, _∙_}
 use mathlib.Core.Logic.{_↔_}
-use mathlib.Core.Bool.{Bool, true, false, and-eq-true-iff}
+use mathlib.Core.Bool.{Bool, true, false}
 use mathlib.Core.List.{List, [], _∷_, map}
 use Prim.Native.Nat.{ℕ, zero, suc, _≤_, _<_}
 use native.Mathlib.Omega.{arith}
 use lib.Dec.{leb, eqb, eqb·zero-suc}
 use borrow.Author.Tests.{leb-true, leb-false, eqb-true, eq-eqb, ne-eqb}
 use lib.ListN.{length}
+use Rattle.grids.proofs.Bools.{both, and-both}
 use Rattle.seam_theory.specs.Paths.{run}
 use Rattle.map_theory.specs.Maps.{insertAt, later, numberRow}
 use Rattle.map_theory.specs.Judged.{every, tick, count, columnOf, numbers, Numbering, lowerRow}
-use Rattle.map_theory.proofs.Tests.{and-both, every-run}
+use Rattle.map_theory.proofs.Tests.{every-run}
 use Rattle.map_theory.proofs.Numbers.{eqb-later, eqb-later-first, eqb-first}
 use Rattle.map_theory.proofs.Lowered.{number-lower-row}
 
@@ -28,7 +29,7 @@ count-tail v a ys = go (eqb a v)
 most-none : (k : ℕ) (ys : List ℕ) → every (λ v. leb v k) ys ≡ true → (t : ℕ) → k < t → count t ys ≡ 0
 most-none k [] e t h = refl
 most-none k (a ∷ ys) e t h =
-    let b = and-eq-true-iff (leb a k) (every (λ v. leb v k) ys) .0 e in
+    let b = both (leb a k) (every (λ v. leb v k) ys) e in
     rw (ne-eqb a t (λ q. omega (arith, leb-true a k (b .0)))) (most-none k ys (b .1) t h)
 
 none-most : (k : ℕ) (ys : List ℕ) → ((t : ℕ) → k < t → count t ys ≡ 0) → every (λ v. leb v k) ys ≡ true
@@ -44,7 +45,7 @@ none-most k (a ∷ ys) h =
 pub numbers-is : (k : ℕ) (ys : List ℕ) → (numbers k ys ≡ true) ↔ Numbering k ys
 unfolding numbers
 numbers-is k ys = (
-  λ e. let b = and-eq-true-iff (every f (run 1 k)) (every g ys) .0 e in
+  λ e. let b = both (every f (run 1 k)) (every g ys) e in
       record { once = λ t l h. eqb-true (count t ys) 1 (every-run f k .0 (b .0) t l h); none-above = most-none k ys (b .1) },
   λ n. and-both (every f (run 1 k)) (every g ys) (every-run f k .1 (λ t l h. eq-eqb (count t ys) 1 (n .once t l h))) (none-most k ys (n .none-above)),
 )

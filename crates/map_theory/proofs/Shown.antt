@@ -1,7 +1,7 @@
 -- A picture at each width that its map offers.
 use mathlib.Core.Path.{_≡_, refl, ap₂, _∙_}
 use mathlib.Core.Logic.{_↔_}
-use mathlib.Core.Bool.{Bool, true, _&&_, and-eq-true-iff}
+use mathlib.Core.Bool.{Bool, true, _&&_}
 use mathlib.Core.List.{List, [], _∷_, zipWith}
 use Prim.Native.Nat.{ℕ, zero, suc, _+_, _-_, _/_, _≤_, _<_}
 use native.Mathlib.Nat.{le-div-iff-mul-le}
@@ -10,12 +10,12 @@ use lib.Dec.{leb, ltb}
 use lib.ListN.{getD}
 use borrow.Author.Tests.{leb-true, le-leb, ltb-true, lt-ltb}
 use Rattle.grids.specs.Each.{Each, Grid, none, more}
+use Rattle.grids.proofs.Bools.{both, and-both}
 use Rattle.grids.proofs.Shapes.{each-length, zipWith-at}
 use Rattle.seam_theory.specs.Choices.{Choice, Chooses}
 use Rattle.map_theory.specs.Maps.{carve, mapOf}
 use Rattle.map_theory.specs.Widths.{allowed, offered, rowAtWidth, shown, LeftOut}
 use Rattle.map_theory.specs.Judged.{before, Numbering}
-use Rattle.map_theory.proofs.Tests.{and-both}
 use Rattle.map_theory.proofs.Maps.{map-grid, before-map}
 use Rattle.map_theory.proofs.Widths.{at-narrow, at-original, length-at, row-left-out}
 
@@ -24,8 +24,8 @@ pub allowed-is : (m k g : ℕ) → (allowed m k g ≡ true) ↔ ((k < m) × (g �
 unfolding allowed
 allowed-is m k g = (
   λ e.
-      let b = and-eq-true-iff (ltb k m) (leb g k && leb g (m / 2)) .0 e in
-      let c = and-eq-true-iff (leb g k) (leb g (m / 2)) .0 (b .1) in
+      let b = both (ltb k m) (leb g k && leb g (m / 2)) e in
+      let c = both (leb g k) (leb g (m / 2)) (b .1) in
       (ltb-true k m (b .0), leb-true g k (c .0), omega (arith, le-div-iff-mul-le {k = 2} {x = g} {y = m} (omega arith) .0 (leb-true g (m / 2) (c .1)))),
   λ b.
       and-both (ltb k m) (leb g k && leb g (m / 2)) (lt-ltb k m (b .0))
@@ -35,7 +35,7 @@ allowed-is m k g = (
 pub offered-is : (m k g v : ℕ) → (offered m k g v ≡ true) ↔ ((m - k ≤ v) × (v ≤ m + g))
 unfolding offered
 offered-is m k g v = (
-  λ e. let b = and-eq-true-iff (leb (m - k) v) (leb v (m + g)) .0 e in (leb-true (m - k) v (b .0), leb-true v (m + g) (b .1)),
+  λ e. let b = both (leb (m - k) v) (leb v (m + g)) e in (leb-true (m - k) v (b .0), leb-true v (m + g) (b .1)),
   λ b. and-both (leb (m - k) v) (leb v (m + g)) (le-leb (m - k) v (b .0)) (le-leb v (m + g) (b .1)),
 )
 

@@ -1,26 +1,18 @@
 -- Tests that compute, and what they say.
 use mathlib.Core.Path.{_≡_, refl, sym, ap, ap₂, _∙_}
 use mathlib.Core.Logic.{_↔_, ⊎-elim}
-use mathlib.Core.Bool.{Bool, true, false, _&&_, and-eq-true-iff}
+use mathlib.Core.Bool.{Bool, true}
 use mathlib.Core.List.{List, [], _∷_, List·Memᴰ, List·Memᴰ·head, List·Memᴰ·tail, List·Memᴰ·not-nil, List·Memᴰ·cases-cons}
 use Prim.Native.Nat.{ℕ, _≤_}
 use native.Mathlib.Omega.{arith}
 use lib.Dec.{eqb}
 use borrow.Author.Tests.{eqb-true, eq-eqb}
 use Rattle.grids.specs.Each.{Each, none, more}
+use Rattle.grids.proofs.Bools.{both}
+pub use Rattle.grids.proofs.Bools.{and-both}
 use Rattle.seam_theory.specs.Paths.{run}
 use Rattle.seam_theory.proofs.Members.{of-run, in-run}
 use Rattle.map_theory.specs.Judged.{every, same}
-
--- A conjunction of tests that hold.
-pub and-both : (a b : Bool) → a ≡ true → b ≡ true → (a && b) ≡ true
-and-both a b p q = and-eq-true-iff a b .1 (p, q)
-
--- Tests that hold together are the same.
-pub same-test : (a b : Bool) → (a ≡ true → b ≡ true) → (b ≡ true → a ≡ true) → a ≡ b
-same-test true b h k = sym (h refl)
-same-test false true h k = k refl
-same-test false false h k = refl
 
 module _ {A : Type 0} (f : A → Bool) where
   -- Every element passes a test just where each member does.
@@ -30,7 +22,7 @@ module _ {A : Type 0} (f : A → Bool) where
       there : (xs : List A) → every f xs ≡ true → (x : A) → List·Memᴰ x xs → f x ≡ true
       there [] e x m = absurd (List·Memᴰ·not-nil m)
       there (y ∷ xs) e x m =
-          let b = and-eq-true-iff (f y) (every f xs) .0 e in
+          let b = both (f y) (every f xs) e in
           ⊎-elim (λ q. ap f q ∙ b .0) (there xs (b .1) x) (List·Memᴰ·cases-cons m)
 
       back : (xs : List A) → ((x : A) → List·Memᴰ x xs → f x ≡ true) → every f xs ≡ true
@@ -40,7 +32,7 @@ module _ {A : Type 0} (f : A → Bool) where
   -- For rows of a grid, or any elements of a known number.
   pub every-each : {P Q : A → Type 0} {n : ℕ} {xs : List A} → ((x : A) → f x ≡ true → P x) → Each Q n xs → every f xs ≡ true → Each P n xs
   every-each h none e = none
-  every-each h (more {x = x} {xs = xs} q k) e = let b = and-eq-true-iff (f x) (every f xs) .0 e in more (h x (b .0)) (every-each h k (b .1))
+  every-each h (more {x = x} {xs = xs} q k) e = let b = both (f x) (every f xs) e in more (h x (b .0)) (every-each h k (b .1))
 
   pub each-every : {P : A → Type 0} {n : ℕ} {xs : List A} → ((x : A) → P x → f x ≡ true) → Each P n xs → every f xs ≡ true
   each-every h none = refl
@@ -62,7 +54,7 @@ same-is s t = (there s t, λ e. ap (same s) (sym e) ∙ self s)
     there [] (d ∷ t) e = cc
     there (c ∷ s) [] e = cc
     there (c ∷ s) (d ∷ t) e =
-        let b = and-eq-true-iff (eqb c d) (same s t) .0 e in
+        let b = both (eqb c d) (same s t) e in
         ap₂ _∷_ (eqb-true c d (b .0)) (there s t (b .1))
 
     self : (s : List ℕ) → same s s ≡ true

@@ -7,6 +7,7 @@ use native.Mathlib.Nat.{mul-le-mul, mul-le-mul-left, mul-comm, mul-assoc, mul-ze
 use native.Mathlib.Omega.{arith}
 use lib.Dec.{eqb, ltb}
 use borrow.Author.Tests.{ltb-false, le-ltb, eqb-true, eqb-false, ne-eqb, not-false, eq-eqb}
+use Rattle.grids.proofs.Bools.{neither}
 use Rattle.pictures.specs.declared.sizes.Kind.{Kind}
 use Rattle.pictures.specs.declared.sizes.Kind.the-variants.{Grey, Rgb}
 use Rattle.pictures.specs.declared.sizes.Size.{Size}
@@ -51,10 +52,6 @@ channels-some Rgb = omega arith
 pub channels-most : (k : Kind) → channelsOf k ≤ 3
 channels-most Grey = omega arith
 channels-most Rgb = omega arith
-
-neither : (a b : Bool) → (a || b) ≡ false → (a ≡ false) × (b ≡ false)
-neither true b e = (e, cc)
-neither false b e = (refl, e)
 
 pos : (n : ℕ) → eqb n 0 ≡ false → 0 < n
 pos zero e = absurd (eqb-false 0 0 e refl)

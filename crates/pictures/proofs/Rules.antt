@@ -7,16 +7,12 @@ use Prim.Native.Nat.{ℕ, zero, suc, _≤_, _<_}
 use native.Mathlib.Omega.{arith}
 use lib.Dec.{leb, ltb}
 use borrow.Author.Tests.{leb-true, ltb-true}
+use Rattle.grids.proofs.Bools.{both}
 use Rattle.pictures.specs.declared.refusals.Refusal.{Refusal}
 use Rattle.pictures.specs.declared.refusals.Refusal.the-variants.{Form, ZeroSide, TooLarge, Count, Mark, Range, NotOffered, Space, MapRow, BrokenSeam, OtherSeam, AllProtected, LastLine, Join, Rectangle, RectangleName, StaleSeam, Ranges, GridSide, NotBlocked}
 use Rattle.pictures.specs.declared.refusals.Verdict.{Verdict}
 use Rattle.pictures.specs.declared.refusals.Verdict.the-variants.{Refused}
 use Rattle.pictures.specs.Refusals.{Rule, _when_, numberOf, given, refusal, SmallestGiven, ascending, served}
-
--- A conjunction that holds, taken apart.
-pub both : (a b : Bool) → (a && b) ≡ true → (a ≡ true) × (b ≡ true)
-both true b e = (refl, e)
-both false b e = (e, cc)
 
 -- Every number is above 0, as a test that computes.
 abbrev pub positive : List Rule → Bool

@@ -10,7 +10,7 @@ use lib.Seq.{take-suc, set-at, drop-at, length-take-le}
 use native.Mathlib.Numerals.{add-one}
 use borrow.Author.Tests.{lt-ltb, le-leb, eq-eqb, leb-true, ltb-true, eqb-true}
 use Rattle.pictures.specs.Pictures.{largestSide}
-use Rattle.pictures.proofs.Rules.{both}
+use Rattle.grids.proofs.Bools.{both}
 use Rattle.seam_find.specs.Tracing.{stepBy, columnsTo, traceable, traced}
 
 -- A step stays inside the columns,

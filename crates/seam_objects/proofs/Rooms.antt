@@ -1,6 +1,6 @@
 -- What the rules of object removal say of the buffers, and what a refusal leaves.
 use mathlib.Core.Path.{_≡_, refl}
-use mathlib.Core.Bool.{Bool, true, false, not, cond}
+use mathlib.Core.Bool.{Bool, true, false, not, cond, or-true}
 use mathlib.Core.Option.{none, some}
 use mathlib.Core.List.{List, [], _∷_, _++_}
 use Prim.Native.Nat.{ℕ, _*_}
@@ -22,7 +22,6 @@ use Rattle.seam_rules.specs.declared.answers.Removal.the-variants.{Refused}
 use Rattle.seam_objects.specs.Objects.{removal}
 use Rattle.seam_objects.specs.Removing.{removalRules, markedPicture, ObjectRemoved}
 use Rattle.seam_objects.specs.Inner.{SeamsNeeded}
-use Rattle.seam_objects.proofs.Twos.{or-true}
 
 -- A seam's space as long as the largest side is never too short: 3 is given before that.
 pub rooms-rules : (z : Size) (b m : List ℕ) (work : ℕ)

@@ -10,6 +10,7 @@ use lib.ListN.{length, take, drop, length-drop, take-append-drop}
 use lib.Seq.{length-take-le}
 use Rattle.grids.specs.Each.{Each, none, more}
 use Rattle.grids.specs.Rows.{rowsOf, flat}
+use Rattle.grids.proofs.Bools.{neither}
 use Rattle.grids.proofs.Cut.{cut-narrower}
 use Rattle.pictures.specs.declared.sizes.Kind.the-variants.{Grey}
 use Rattle.pictures.specs.declared.sizes.Size.{Size}
@@ -36,10 +37,6 @@ outside-append k (x ∷ xs) ys = go (leb k x) (outside-append k xs ys)
     go : (t : Bool) → outside k (xs ++ ys) ≡ (outside k xs || outside k ys) → (t || outside k (xs ++ ys)) ≡ ((t || outside k xs) || outside k ys)
     go true e = refl
     go false e = e
-
-neither : (a b : Bool) → (a || b) ≡ false → (a ≡ false) × (b ≡ false)
-neither true b e = (e, cc)
-neither false b e = (refl, e)
 
 inside-parts : (k n : ℕ) (b : List ℕ) → outside k b ≡ false → (outside k (take n b) ≡ false) × (outside k (drop n b) ≡ false)
 inside-parts k n b e =

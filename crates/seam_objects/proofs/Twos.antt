@@ -1,6 +1,6 @@
 -- Laws of the search for a mark 2: what was found so far, and the marks still to come.
 use mathlib.Core.Path.{_≡_, refl, sym, ap, _∙_}
-use mathlib.Core.Bool.{Bool, true, false, _||_}
+use mathlib.Core.Bool.{Bool, true, false, _||_, or-true}
 use mathlib.Core.List.{List, []}
 use Prim.Native.Nat.{ℕ, _+_, _<_}
 use native.Mathlib.Numerals.{add-one}
@@ -8,10 +8,6 @@ use lib.Seq.{drop-cons}
 use lib.ListN.{length, getD, drop}
 use borrow.Author.Tests.{eq-eqb, ne-eqb}
 use Rattle.seam_objects.specs.Objects.{someTwo}
-
-pub or-true : (t : Bool) → (t || true) ≡ true
-or-true true = refl
-or-true false = refl
 
 -- One turn of a loop: a mark 2 stands here, or the marks after this one decide.
 pub two-found : (m : List ℕ) (i : ℕ) (t all : Bool) → i < length m → getD m i 0 ≡ 2 → (t || someTwo (drop i m)) ≡ all → (true || someTwo (drop (i + 1) m)) ≡ all

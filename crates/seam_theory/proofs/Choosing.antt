@@ -2,12 +2,13 @@
 -- them.
 use mathlib.Core.Path.{_≡_, refl, subst}
 use mathlib.Core.Logic.{_↔_}
-use mathlib.Core.Bool.{Bool, true, and-eq-true-iff}
+use mathlib.Core.Bool.{Bool, true}
 use mathlib.Core.Option.{Option·getD}
 use mathlib.Core.List.{List, [], _∷_, reverse, reverseAux}
 use Prim.Native.Nat.{ℕ, zero, suc, _<_}
 use native.Mathlib.Omega.{arith}
 use Rattle.grids.specs.Each.{Each, Grid, none}
+use Rattle.grids.proofs.Bools.{both, and-both}
 use Rattle.grids.proofs.Shapes.{each-member, each-reverse}
 use Rattle.pictures.specs.Pictures.{Picture}
 use Rattle.seam_theory.specs.Best.{firstBest}
@@ -25,15 +26,15 @@ linked-is c s = (there c s, back c s)
     there : (c : ℕ) (s : List ℕ) → linked beside (c ∷ s) ≡ true → Linked (c ∷ s)
     there c [] e = tt
     there c (d ∷ s) e =
-        let b = and-eq-true-iff (beside c d) (linked beside (d ∷ s)) .0 e in
+        let b = both (beside c d) (linked beside (d ∷ s)) e in
         let k = beside-is c d .0 (b .0) in
         (k .0, k .1, there d s (b .1))
 
     back : (c : ℕ) (s : List ℕ) → Linked (c ∷ s) → linked beside (c ∷ s) ≡ true
     back c [] l = refl
-    back c (d ∷ s) l = and-eq-true-iff (beside c d) (linked beside (d ∷ s)) .1 (beside-is c d .1 (l .0, l .1), back d s (l .2))
+    back c (d ∷ s) l = and-both (beside c d) (linked beside (d ∷ s)) (beside-is c d .1 (l .0, l .1)) (back d s (l .2))
 
-module _ (near : ℕ → ℕ → Bool) (both : (c d : ℕ) → near c d ≡ true → near d c ≡ true) where
+module _ (near : ℕ → ℕ → Bool) (symmetric : (c d : ℕ) → near c d ≡ true → near d c ≡ true) where
   -- The step from a list turned round to what stands behind it.
   abbrev Meets : List ℕ → List ℕ → Type 0
   Meets [] r = Unit
@@ -46,14 +47,14 @@ module _ (near : ℕ → ℕ → Bool) (both : (c d : ℕ) → near c d ≡ true
 
   linked-cons : (c : ℕ) (s r : List ℕ) → Meets (c ∷ s) r → linked near r ≡ true → linked near (c ∷ r) ≡ true
   linked-cons c s [] j e = refl
-  linked-cons c s (d ∷ r) j e = and-eq-true-iff (near c d) (linked near (d ∷ r)) .1 (j, e)
+  linked-cons c s (d ∷ r) j e = and-both (near c d) (linked near (d ∷ r)) j e
 
   linked-turned : (s r : List ℕ) → linked near s ≡ true → linked near r ≡ true → Meets s r → linked near (reverseAux s r) ≡ true
   linked-turned [] r p q j = q
   linked-turned (c ∷ []) r p q j = linked-cons c [] r j q
   linked-turned (c ∷ a ∷ s) r p q j =
-      let b = and-eq-true-iff (near c a) (linked near (a ∷ s)) .0 p in
-      linked-turned (a ∷ s) (c ∷ r) (b .1) (linked-cons c (a ∷ s) r j q) (both c a (b .0))
+      let b = both (near c a) (linked near (a ∷ s)) p in
+      linked-turned (a ∷ s) (c ∷ r) (b .1) (linked-cons c (a ∷ s) r j q) (symmetric c a (b .0))
 
   -- Connected from the bottom row is connected from the top row, where a step may go both ways.
   pub linked-reverse : (s : List ℕ) → linked near s ≡ true → linked near (reverse s) ≡ true

@@ -1,13 +1,14 @@
 -- Paths whose columns differ by at most 1 from row to row.
 use mathlib.Core.Path.{_≡_, refl, ap, _∙_}
 use mathlib.Core.Logic.{_↔_}
-use mathlib.Core.Bool.{true, false, and-eq-true-iff, and-false}
+use mathlib.Core.Bool.{true, false, and-false}
 use mathlib.Core.List.{List, [], _∷_, _++_, append-nil, List·Memᴰ, List·Memᴰ·head, List·Memᴰ·tail, Memᴰ·map}
 use Prim.Native.Nat.{ℕ, zero, suc, _+_, _-_, _≤_, _<_, min}
 use native.Mathlib.Nat.{zero-add}
 use native.Mathlib.Omega.{arith}
 use lib.Dec.{leb}
 use borrow.Author.Tests.{leb-true, le-leb, lt-leb}
+use Rattle.grids.proofs.Bools.{both}
 use Rattle.seam_theory.specs.Paths.{run, select, pathsUp, paths, beside, nearby}
 use Rattle.seam_theory.specs.Connected.{Linked, IsPath}
 use Rattle.seam_theory.specs.Seams.{Before, Ascending}
@@ -19,7 +20,7 @@ use Rattle.seam_theory.proofs.Listed.{Joined, Connected, paths-connecte
 pub beside-is : (c a : ℕ) → (beside c a ≡ true) ↔ ((a ≤ c + 1) × (c ≤ a + 1))
 unfolding beside
 beside-is c a = (
-  λ e. let b = and-eq-true-iff (leb a (c + 1)) (leb c (a + 1)) .0 e in (leb-true a (c + 1) (b .0), leb-true c (a + 1) (b .1)),
+  λ e. let b = both (leb a (c + 1)) (leb c (a + 1)) e in (leb-true a (c + 1) (b .0), leb-true c (a + 1) (b .1)),
   λ k. rw (le-leb a (c + 1) (k .0), le-leb c (a + 1) (k .1)),
 )
 

@@ -1,6 +1,6 @@
 -- The class of a byte, and the bytes of a class.
 use mathlib.Core.Path.{_≡_, refl, sym, ap, _∙_}
-use mathlib.Core.Bool.{Bool, true, false, _&&_, cond}
+use mathlib.Core.Bool.{Bool, true, false, _&&_, cond, and-false}
 use mathlib.Core.Logic.{_⊎_, inl, inr}
 use mathlib.Core.List.{List, [], _∷_}
 use Prim.Native.Nat.{ℕ, _≤_, _<_}
@@ -31,11 +31,7 @@ class-letter b l u = rw (no-digit b (inr (omega arith)), le-leb 97 b l, le-leb b
 no-letter : (b : ℕ) → (b < 97) ⊎ (123 ≤ b) → isLetter b ≡ false
 unfolding isLetter
 no-letter b (inl h) = rw (lt-leb 97 b h)
-no-letter b (inr h) = rw (lt-leb b 122 h) (go (leb 97 b))
-  where
-    go : (x : Bool) → x && false ≡ false
-    go true = refl
-    go false = refl
+no-letter b (inr h) = rw (lt-leb b 122 h) (and-false (leb 97 b))
 
 pub class-other : (b : ℕ) → (b < 48) ⊎ (58 ≤ b) → (b < 97) ⊎ (123 ≤ b) → (b ≡ 40 → ⊥) → (b ≡ 41 → ⊥) → (b ≡ 32 → ⊥) → (b ≡ 10 → ⊥) → Other ≡ classOf b
 unfolding classOf

@@ -1,6 +1,6 @@
 -- The readers at a place of a text, one step at a time, in the code's terms.
 use mathlib.Core.Path.{_≡_, refl, _∙_}
-use mathlib.Core.Bool.{Bool, true, false, cond}
+use mathlib.Core.Bool.{Bool, true, false, cond, and-false}
 use mathlib.Core.Logic.{_⊎_, inl, inr}
 use mathlib.Core.Option.{none, some}
 use mathlib.Core.List.{List, [], _∷_}
@@ -18,11 +18,7 @@ use Rattle.text_theory.proofs.Decimals.{is-digit, number-digit}
 pub no-digit : (b : ℕ) → (b < 48) ⊎ (58 ≤ b) → isDigit b ≡ false
 unfolding isDigit
 no-digit b (inl h) = rw (lt-leb 48 b h)
-no-digit b (inr h) = rw (lt-leb b 57 h) (go (leb 48 b))
-  where
-    go : (x : Bool) → mathlib.Core.Bool._&&_ x false ≡ false
-    go true = refl
-    go false = refl
+no-digit b (inr h) = rw (lt-leb b 57 h) (and-false (leb 48 b))
 
 further-more : (s : List ℕ) (n : ℕ) → n ≤ further n s .0
 unfolding further

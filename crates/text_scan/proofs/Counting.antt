@@ -1,6 +1,6 @@
 -- Lines counted one by one, as long as their word stands next.
 use mathlib.Core.Path.{_≡_, refl, ap, _∙_}
-use mathlib.Core.Bool.{Bool, true, false, _&&_}
+use mathlib.Core.Bool.{Bool, true, false, _&&_, and-true, and-assoc}
 use mathlib.Core.Option.{Option, none, some}
 use mathlib.Core.List.{List, _∷_}
 use Prim.Native.Nat.{ℕ, suc, _+_, _≤_, _<_}
@@ -44,14 +44,6 @@ rest-short w s r h =
     let q = after-inv lineEnd (give (p .0 .0)) (p .0 .1) r (p .2) in
     let z : r ≡ (p .0 .0, q .0) = cc (q .2) in
     rw z (omega (arith, form-short w s (p .0) (p .1), ap length (q .1)))
-
-pub and-true : (x : Bool) → x && true ≡ x
-and-true true = refl
-and-true false = refl
-
-and-assoc : (x y z : Bool) → x && (y && z) ≡ (x && y) && z
-and-assoc true y z = refl
-and-assoc false y z = refl
 
 abbrev pub tally : ℕ → List ℕ → Get (ℕ × Bool)
 tally width ns = give (length ns, evenly width ns)

@@ -1,12 +1,13 @@
 -- "ASCII text": every byte of a text is below 128.
 use mathlib.Core.Path.{_≡_, refl, sym, _∙_}
-use mathlib.Core.Bool.{Bool, true, false, _&&_, cond, and-assoc, and-eq-true-iff}
+use mathlib.Core.Bool.{Bool, true, false, _&&_, cond, and-assoc}
 use mathlib.Core.List.{List, [], _∷_, _++_}
 use Prim.Native.Nat.{ℕ, zero, suc, _+_, _/_, _%_, _<_}
 use native.Mathlib.Nat.{mod-lt}
 use native.Mathlib.Omega.{arith}
 use lib.Dec.{ltb}
 use borrow.Author.Tests.{ltb-true, lt-ltb}
+use Rattle.grids.proofs.Bools.{both}
 use Rattle.pictures.specs.declared.sizes.Kind.{Kind}
 use Rattle.pictures.specs.declared.sizes.Kind.the-variants.{Grey, Rgb}
 use Rattle.text_theory.specs.declared.Head.{Head}
@@ -80,5 +81,5 @@ text-ascii p = all (text p) (ascii-text p)
     all : (s : List ℕ) → ascii s ≡ true → All (λ (b : ℕ). b < 128) s
     all [] e = tt
     all (b ∷ s) e =
-        let q = and-eq-true-iff (ltb b 128) (ascii s) .0 e in
+        let q = both (ltb b 128) (ascii s) e in
         (ltb-true b 128 (q .0), all s (q .1))

@@ -2,7 +2,7 @@
 -- measure is the count of marks still to come.
 use mathlib.Core.Path.{_≡_, refl, sym, ap, _∙_}
 use mathlib.Core.Logic.{⊎-elim}
-use mathlib.Core.Bool.{Bool, true, false, _||_}
+use mathlib.Core.Bool.{_||_, or-true, or-false}
 use mathlib.Core.List.{[]}
 use Prim.Native.Nat.{_+_, _-_, _≤_}
 use native.Mathlib.Omega.{arith}
@@ -16,14 +16,6 @@ use Rattle.seam_bounds.proofs.Moving.{outside-here, outside-next}
 use Rattle.seam_rules.proofs.Rooms.{mark-below, mark-over}
 use Rattle.seam_cut_marked.proofs.over_two.Statement.{statement}
 use Rattle.seam_cut_marked.proofs.over_two.Tie as tie
-
-or-none : (t : Bool) → (t || false) ≡ t
-or-none true = refl
-or-none false = refl
-
-or-true : (t : Bool) → (t || true) ≡ true
-or-true true = refl
-or-true false = refl
 
 abbrev Inv-loop : tie.InvT-loop
 Inv-loop marks over₀ i₀ i-end over i = (i ≤ i-end) × ((i-end ≡ length marks) × ((over || outside 3 (drop i marks)) ≡ outside 3 marks))
@@ -72,7 +64,7 @@ returns c =
     let a = head .before .before .args in
     let e : head .loop .i ≡ length (now (a .marks)) = omega arith in
     let none : drop (head .loop .i) (now (a .marks)) ≡ [] = rw e (drop-length (now (a .marks))) in
-    sym (or-none (head .loop .over)) ∙ ap (λ r. head .loop .over || outside 3 r) (sym none) ∙ head .loop .inv .1 .1
+    sym (or-false (head .loop .over)) ∙ ap (λ r. head .loop .over || outside 3 r) (sym none) ∙ head .loop .inv .1 .1
 
 pub over-two-spec : {M : Type 1} → statement M
 over-two-spec =
