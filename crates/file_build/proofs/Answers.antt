@@ -3,7 +3,6 @@ use mathlib.Core.Path.{_≡_, refl, sym, ap, _∙_}
 use mathlib.Core.Bool.{true, not, cond, _&&_}
 use mathlib.Core.List.{List, [], _∷_, _++_}
 use Prim.Native.Nat.{ℕ, _+_, _-_, _*_, _/_, _≤_, _<_}
-use native.Mathlib.Nat.{mul-comm, mul-assoc, mul-le-mul}
 use native.Mathlib.Omega.{arith}
 use borrow.Author.Tests.{ltb-true, ltb-false, not-false}
 use lib.Dec.{leb, ltb}
@@ -26,7 +25,8 @@ use Rattle.map_theory.proofs.Maps.{map-grid}
 use Rattle.text_theory.specs.declared.Head.{Head}
 use Rattle.text_theory.specs.Files.{text}
 use Rattle.seam_theory.specs.PictureSeams.{seamOf}
-use Rattle.map_build.specs.Numbers.{pairs}
+use Rattle.pictures.specs.Numbers.{pairs}
+use Rattle.pictures.proofs.TwoBytes.{rows-pairs}
 use Rattle.map_rules.specs.Spaces.{mapBytes, mapAt, mapSpaceRules}
 use Rattle.map_rules.proofs.Rooms.{room-served}
 use Rattle.map_build.specs.Building.{mapped, MapGiven}
@@ -40,7 +40,6 @@ use Rattle.file_build.specs.Building.{fileIn}
 use Rattle.file_build.specs.Inner.Lines.{mapIn, partsIn, PrintNeeded}
 use Rattle.file_build.specs.Inner.Building.{BuildNeeded, FileGiven}
 use Rattle.file_build.proofs.PictureRows.{of-size}
-use Rattle.file_build.proofs.MapRows.{map-back}
 
 -- A depth that is allowed is below the width.
 pub allowed-deep : (m k g : ℕ) → allowed m k g ≡ true → k < m
@@ -73,8 +72,6 @@ module _ (b : List ℕ) (h : Head) (out work : List ℕ) (needed : BuildNeeded b
       let p2 = passed (ltb (length out) (length (fileIn h b))) 7 last (p1 .1) in
       let p3 = passed (ltb (length work) (32 * pixels (h .size))) 7 0 (p2 .1) in
       let s = sized-is (h .size) (length b) (parts .0) in
-      let two : h .size .height * (2 * h .size .width) ≡ 2 * (h .size .height * h .size .width) =
-      sym (mul-assoc (h .size .height) 2 (h .size .width)) ∙ ap (_* h .size .width) (mul-comm (h .size .height) 2) ∙ mul-assoc 2 (h .size .height) (h .size .width) in
       let room : 32 * (h .size .height * h .size .width) ≤ length work = ltb-false _ _ (p3 .0) in
       record {
         sized = parts .0;
@@ -120,7 +117,7 @@ module _ (b : List ℕ) (h : Head) (out work : List ℕ) (needed : BuildNeeded b
             let r = rooms-are in
             let g = map-grid seamOf seam-chooses (h .depth) (h .size .width) (h .size .height) (picture (h .size) b) (grid-of (of-size (h .size) b (r .sized))) (omega (arith, r .deep)) in
             ap (λ q. text (record { head = h; rows = picture (h .size) b; maps = q }))
-            (ap (mapIn (h .size .width) (h .size .height)) part-is ∙ map-back g)
+            (ap (mapIn (h .size .width) (h .size .height)) part-is ∙ rows-pairs g)
 
         module _ (two-long : length two ≡ length one) where
           pub inside : end ≤ length two

@@ -1,16 +1,14 @@
 -- The rows of a map: read from bytes, and how long their lines are.
-use mathlib.Core.Path.{_≡_, refl, sym, ap, ap₂, _∙_}
-use mathlib.Core.List.{List, [], _∷_, _++_, map, append-nil}
+use mathlib.Core.Path.{_≡_, refl, sym, ap, _∙_}
+use mathlib.Core.List.{List, [], _∷_, _++_}
 use Prim.Native.Nat.{ℕ, zero, suc, _+_, _-_, _*_, _≤_, _<_}
 use native.Mathlib.Omega.{arith}
-use lib.ListN.{length, getD, take, drop, replicate, length-map}
-use lib.Seq.{take-append-add, take-at}
-use Rattle.grids.specs.Each.{Grid, none, more}
+use lib.ListN.{length, getD, take, drop, replicate, length-drop}
+use lib.Seq.{take-append-add, take-at, length-take-le}
 use Rattle.grids.specs.Table.{table}
-use Rattle.grids.specs.Rows.{rowsOf, rowAt, flat}
-use Rattle.grids.proofs.Shapes.{map-at}
-use Rattle.grids.proofs.Tables.{length-table, table-same, table-all}
-use Rattle.grids.proofs.Rows.{rowsOf-flat, rowsOf-at, length-rowsOf}
+use Rattle.grids.specs.Rows.{rowAt}
+use Rattle.grids.proofs.Tables.{length-table}
+use Rattle.grids.proofs.Rows.{rowsOf-at, length-rowsOf}
 use Rattle.seam_theory.specs.Paths.{run}
 use Rattle.seam_theory.proofs.Members.{run-append}
 use Rattle.text_theory.specs.Decimal.{digits}
@@ -18,42 +16,26 @@ use Rattle.text_theory.specs.Files.{mapWord, lineText, mapText}
 use Rattle.text_theory.specs.Lengths.{total, spaced, mapLength}
 use Rattle.text_theory.proofs.Decimals.{digits-small}
 use Rattle.text_theory.proofs.Lengths.{map-length}
-use Rattle.map_build.specs.Numbers.{pairs}
+use Rattle.pictures.specs.Numbers.{numbersIn}
+use Rattle.pictures.proofs.TwoBytes.{length-numbers, numbers-row}
 use Rattle.map_build.proofs.Lists.{drop-replicate}
-use Rattle.map_build.proofs.Pairs.{pairs-at, pairs-flat, grid-pairs}
-use Rattle.file_build.specs.Inner.Lines.{numberAt, firstNumbers, mapIn}
+use Rattle.file_build.specs.Inner.Lines.{mapIn}
 use Rattle.pictures.specs.Pictures.{largestSide}
 
--- A row's numbers from its bytes.
-row-back : (w : ℕ) (ys : List ℕ) → length ys ≡ w → firstNumbers w (pairs ys) ≡ ys
-unfolding numberAt
-row-back w ys e =
-    table-same (numberAt (pairs ys)) (λ i. getD ys i 0) w (λ i l. pairs-at ys i) ∙ ap (table (λ i. getD ys i 0)) (sym e) ∙ table-all ys 0
-
-rows-back : {w h : ℕ} {m : List (List ℕ)} → Grid w h m → map (firstNumbers w) (map pairs m) ≡ m
-rows-back none = refl
-rows-back {w} (more {x = y} e g) = ap₂ _∷_ (row-back w y e) (rows-back g)
-
--- A map from its bytes.
-pub map-back : {w h : ℕ} {m : List (List ℕ)} → Grid w h m → mapIn w h (pairs (flat m)) ≡ m
-map-back {w} {h} {m} g =
-    ap (λ b. mapIn w h b) (pairs-flat m ∙ sym (append-nil (flat (map pairs m))))
-    ∙ ap (map (firstNumbers w)) (rowsOf-flat [] (grid-pairs g)) ∙ rows-back g
-
 pub maps-many : (w h : ℕ) (b : List ℕ) → length (mapIn w h b) ≡ h
-maps-many w h b = length-map (rowsOf (2 * w) h b) (firstNumbers w) ∙ length-rowsOf (2 * w) h b
+maps-many w h b = length-rowsOf w h (numbersIn b)
 
 -- The line of row r, its numbers read from the part of the bytes where it stands.
-pub map-line : (w h r : ℕ) (b row rest : List ℕ) → r < h → row ≡ firstNumbers w (take (r * (2 * w) + 2 * w - r * (2 * w)) (drop (r * (2 * w)) b)) ++ rest
+pub map-line : (w h r : ℕ) (b row rest : List ℕ) → r < h → r * (2 * w) + 2 * w ≤ length b → row ≡ numbersIn (take (r * (2 * w) + 2 * w - r * (2 * w)) (drop (r * (2 * w)) b)) ++ rest
     → mapText (take w row) ≡ mapWord ++ lineText digits (getD (mapIn w h b) r [])
 unfolding mapText
-map-line w h r b row rest l e =
+map-line w h r b row rest l fits e =
     let n : r * (2 * w) + 2 * w - r * (2 * w) ≡ 2 * w = omega arith in
-    let below : r < length (rowsOf (2 * w) h b) = rw (length-rowsOf (2 * w) h b) l in
-    let numbers : take w row ≡ firstNumbers w (rowAt (2 * w) r b) =
-    ap (take w) (e ∙ ap (λ k. firstNumbers w (take k (drop (r * (2 * w)) b)) ++ rest) n) ∙ take-at (firstNumbers w (rowAt (2 * w) r b)) rest w (length-table (numberAt (rowAt (2 * w) r b)) w) in
-    ap mapText
-    (numbers ∙ ap (firstNumbers w) (sym (rowsOf-at (2 * w) h b r l)) ∙ sym (map-at (firstNumbers w) (rowsOf (2 * w) h b) r [] [] below))
+    let long : length (rowAt (2 * w) r b) ≡ 2 * w = length-take-le (2 * w) (drop (r * (2 * w)) b) (omega (arith, length-drop (r * (2 * w)) b)) in
+    let many : length (numbersIn (rowAt (2 * w) r b)) ≡ w = omega (arith, length-numbers (rowAt (2 * w) r b), long) in
+    let numbers : take w row ≡ numbersIn (rowAt (2 * w) r b) =
+    ap (take w) (e ∙ ap (λ k. numbersIn (take k (drop (r * (2 * w)) b)) ++ rest) n) ∙ take-at (numbersIn (rowAt (2 * w) r b)) rest w many in
+    ap mapText (numbers ∙ numbers-row w r b ∙ sym (rowsOf-at w h (numbersIn b) r l))
 
 -- The numbers in their order.
 pub run-table : (k : ℕ) → table (λ t. t + 1) k ≡ run 1 k

@@ -1,11 +1,11 @@
 // The lines of a file, printed one behind the other into a space that has room for them.
 use pictures::LARGEST_SIDE;
 use pictures::Size;
+use pictures::numbers::number;
 use text_print::Place;
 use text_theory::Head;
 ghost use mathlib.Core.Path.{_≡_};
 ghost use mathlib.Core.List.{_++_};
-ghost use Prim.Native.Nat.{_+_, _*_};
 ghost use lib.ListN.{drop};
 ghost use Rattle.pictures.specs.Pictures.{picture as Pictures·picture};
 ghost use Rattle.text_theory.specs.Files.{text as Files·text};
@@ -33,28 +33,14 @@ fn print_rows(out: &mut [u8], at: usize, picture: &[u8], size: Size) -> usize
     end
 }
 
-// The number of two bytes.
-fn number(low: u8, high: u8) -> u16
-    ensures { λ n. ⌜ n ≡ low + 256 * high ⌝ }
-{
-    wide(low) + 256 * wide(high)
-}
-
-// A byte as a number to count with.
-fn wide(b: u8) -> u16
-    ensures { λ n. ⌜ n ≡ b ⌝ }
-{
-    b as u16
-}
-
-// The first `width` numbers that stand in these bytes, put into the front of a row.
+// The `width` numbers in these bytes, put into the front of a row.
 fn read_numbers(map: &[u8], width: usize, row: &mut [u16])
     requires { ⌜ NumbersNeeded (now map) width (now row) ⌝ }
-    ensures { λ _. ⌜ now (row .exit) ≡ firstNumbers width (now (map .entry)) ++ drop width (now (row .entry)) ⌝ }
+    ensures { λ _. ⌜ now (row .exit) ≡ numbersIn (now (map .entry)) ++ drop width (now (row .entry)) ⌝ }
 {
     for c in 0..width {
         let i = 2 * c;
-        row[c] = number(map[i], map[i + 1]);
+        row[c] = number(map[i], map[i + 1]) as u16;
     }
 }
 

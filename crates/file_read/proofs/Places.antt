@@ -3,7 +3,7 @@ use mathlib.Core.Path.{_≡_, sym, ap, _∙_}
 use mathlib.Core.Option.{Option·none-ne-some, Option·some-injective}
 use mathlib.Core.List.{List, [], _∷_, _++_, append-nil}
 use Prim.Native.Nat.{ℕ, zero, suc, _+_, _*_, _≤_, _<_}
-use native.Mathlib.Nat.{le-of-suc-le-suc, mul-assoc, mul-comm, mul-le-mul}
+use native.Mathlib.Nat.{le-of-suc-le-suc, mul-le-mul}
 use native.Mathlib.Numerals.{add-one}
 use native.Mathlib.Omega.{arith}
 use lib.ListN.{length, getD, drop, drop-of-length-le}
@@ -18,7 +18,7 @@ use Rattle.pictures.specs.Pictures.{rowBytes, pictureBytes, bytes, pixels}
 use Rattle.pictures.proofs.Buffers.{flats-grid, length-bytes}
 use Rattle.map_build.specs.Numbers.{pairs}
 use Rattle.map_rules.specs.Spaces.{mapBytes}
-use Rattle.map_build.proofs.Pairs.{pairs-flat, grid-pairs}
+use Rattle.pictures.proofs.TwoBytes.{pairs-flat, grid-pairs}
 use Rattle.text_theory.specs.declared.Head.{Head}
 use Rattle.text_theory.specs.Decimal.{digits}
 use Rattle.text_theory.specs.Files.{parse, each, rowWord, mapWord, lineText, pixelText, closed, All, Pixel}

@@ -1,7 +1,7 @@
 -- The picture and the recorded map of a file, standing in the work space where they are judged.
 use mathlib.Core.Path.{_≡_, refl, sym, ap, ap₂, _∙_}
 use mathlib.Core.Bool.{_&&_}
-use mathlib.Core.List.{List, [], _++_, append-nil}
+use mathlib.Core.List.{List, _++_, append-nil}
 use Prim.Native.Nat.{ℕ, _+_, _-_, _*_, _/_, _≤_, _<_}
 use native.Mathlib.Omega.{arith}
 use borrow.Author.Tests.{ltb-true}
@@ -10,7 +10,7 @@ use lib.Dec.{leb, ltb}
 use lib.ListN.{length, take, drop, replicate, drop-of-length-le}
 use lib.Seq.{take-at, drop-at, take-take, take-append-le, length-take-le}
 use Rattle.grids.specs.Rows.{rowsOf, flat}
-use Rattle.grids.proofs.Rows.{rowsOf-flat, length-flat}
+use Rattle.grids.proofs.Rows.{length-flat}
 use Rattle.grids.proofs.Parts.{put-part, part-length}
 use Rattle.pictures.specs.declared.refusals.Verdict.{Verdict}
 use Rattle.pictures.specs.Refusals.{given, refusal, worked}
@@ -87,9 +87,9 @@ module _ (file : List ℕ) (h : Head) (k : Parsed file h) (work : List ℕ) (roo
         let m = mapsIn (parse file) in
         let start : recordedAt (h .size) ≡ at = omega (arith, map-bytes (h .size)) in
         ap (λ b. rowsOf (h .size .width) (h .size .height) (numbersIn b))
-        (ap (take (mapBytes (h .size))) (ap₂ drop start whole-is ∙ drop-at (take at first) (new ++ drop e first) at front)
+        (ap (take (mapBytes (h .size))) (ap₂ drop (sym starts) whole-is ∙ drop-at (take at first) (new ++ drop e first) at front)
         ∙ take-at new (drop e first) (mapBytes (h .size)) new-long ∙ new-is)
-        ∙ ap (rowsOf (h .size .width) (h .size .height)) (numbers-pairs (flat m) ∙ sym (append-nil (flat m))) ∙ rowsOf-flat [] (k .maps-grid)
+        ∙ rows-pairs (k .maps-grid)
 
     -- So judging it there judges the map of the file.
     pub map-judged : (v : Verdict) (work′ : List ℕ) → JudgeGiven whole (h .size) (h .depth) v work′ → MapJudged file work v work′

@@ -8,7 +8,7 @@ use Rattle.grids.specs.Rows.{flat}
 use Rattle.grids.proofs.Rows.{length-flat}
 use Rattle.grids.proofs.Shapes.{each-at}
 use Rattle.pictures.specs.Pictures.{rowBytes, bytes}
-use Rattle.map_build.specs.Numbers.{pairs}
+use Rattle.pictures.specs.Numbers.{pairs}
 use Rattle.text_theory.specs.declared.Head.{Head}
 use Rattle.text_theory.specs.Files.{parse}
 use Rattle.text_read.specs.declared.cursor.Cursor.{Cursor}

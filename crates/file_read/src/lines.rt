@@ -1,5 +1,7 @@
 // The lines of a file that is opened, read into lent spaces.
 use pictures::LARGEST_SIDE;
+use pictures::numbers::high_byte;
+use pictures::numbers::low_byte;
 use text_read::Cursor;
 use text_read::Read;
 use text_theory::Head;
@@ -9,7 +11,7 @@ ghost use Prim.Native.Nat.{_*_, _≤_};
 ghost use lib.ListN.{length, drop};
 ghost use Rattle.grids.specs.Rows.{flat};
 ghost use Rattle.pictures.specs.Pictures.{pixels};
-ghost use Rattle.map_build.specs.Numbers.{pairs};
+ghost use Rattle.pictures.specs.Numbers.{pairs};
 ghost use Rattle.map_rules.specs.Spaces.{mapBytes};
 ghost use Rattle.text_theory.specs.Files.{parse};
 ghost use Rattle.file_theory.specs.Shows.{mapsIn};
@@ -69,8 +71,8 @@ fn record_row(space: &mut [u8], row: &[u16])
     let mut c: usize = 0;
     while c < row.len() {
         let n = row[c];
-        space[2 * c] = (n % 256) as u8;
-        space[2 * c + 1] = (n / 256) as u8;
+        space[2 * c] = low_byte(n);
+        space[2 * c + 1] = high_byte(n);
         c += 1;
     }
 }

@@ -1,7 +1,7 @@
 -- The space after t seams, and after one more.
 use mathlib.Core.Path.{_≡_, refl, sym, ap, ap₂, _∙_}
 use mathlib.Core.List.{List, [], _++_, map, append-assoc, append-nil, zipWith}
-use Prim.Native.Nat.{ℕ, suc, _+_, _-_, _*_, _≤_, _<_, _%_, _/_}
+use Prim.Native.Nat.{ℕ, suc, _+_, _-_, _*_, _≤_, _<_}
 use native.Mathlib.Nat.{suc-mul, zero-mul, mul-add, add-mul, mul-comm, mul-assoc, mul-le-mul-left}
 use native.Mathlib.Numerals.{add-one}
 use native.Mathlib.Omega.{arith}
@@ -14,17 +14,18 @@ use Rattle.grids.proofs.Shapes.{each-length, grid-of}
 use Rattle.grids.proofs.Rows.{rowsOf-flat, length-flat}
 use Rattle.pictures.specs.declared.sizes.Size.{Size}
 use Rattle.pictures.specs.Pictures.{Picture, channelsOf, pictureBytes, picture, bytes, OfSize, pixels, pictureIn}
+use Rattle.pictures.specs.Numbers.{lowByte, highByte, pairs}
 use Rattle.pictures.proofs.Buffers.{picture-ofSize, picture-bytes, bytes-picture, length-bytes}
+use Rattle.pictures.proofs.TwoBytes.{pairs-flat, grid-pairs}
 use Rattle.map_theory.specs.Maps.{carve, mapOf}
 use Rattle.map_theory.proofs.Maps.{carve-next, map-grid, map-next, carve-each}
 use Rattle.seam_theory.specs.PictureSeams.{seamOf}
-use Rattle.map_build.specs.Numbers.{pairs}
 use Rattle.map_rules.specs.Spaces.{mapBytes, mapAt}
 use Rattle.map_build.specs.Building.{mapped}
 use Rattle.map_build.specs.Writing.{writePair}
 use Rattle.map_build.specs.Inner.Rows.{writeRows}
 use Rattle.map_build.specs.Inner.Seams.{NextGiven}
-use Rattle.map_build.proofs.Pairs.{pairs-flat, grid-pairs, pairs-zeros, write-all-pairs}
+use Rattle.map_build.proofs.Pairs.{map-zeros, write-all-pairs}
 use Rattle.map_build.proofs.Lists.{drop-replicate}
 use Rattle.seam_theory.proofs.Choosing.{seam-chooses}
 
@@ -146,7 +147,7 @@ module _ (z : Size) (p : Picture) (o : OfSize z p) (t : ℕ) (deep : t < z .widt
         let g : Grid (2 * z .width) (z .height) (map pairs m) = grid-pairs (map-grid seamOf seam-chooses t (z .width) (z .height) p grid (omega arith)) in
         let rows : rowsOf (2 * z .width) (length s) (pairs (flat m)) ≡ map pairs m =
         ap₂ (λ n b. rowsOf (2 * z .width) n b) seam-long (pairs-flat m ∙ sym (append-nil (flat (map pairs m)))) ∙ rowsOf-flat [] g in
-        ap (λ r. flat (zipWith (writePair (suc t % 256) (suc t / 256)) s r)) rows
+        ap (λ r. flat (zipWith (writePair (lowByte (suc t)) (highByte (suc t))) s r)) rows
         ∙ ap flat (write-all-pairs (suc t) s m ∙ ap (map pairs) (sym (map-next seamOf seam-chooses t (z .width) (z .height) p grid deep)))
         ∙ sym (pairs-flat (mapOf seamOf (suc t) (z .width) (z .height) p))
 
@@ -169,6 +170,6 @@ first-mapped z b rest n e k =
     let zero-few : 0 * (z .height * channelsOf (z .kind)) + pixels z ≡ pixels z = omega (arith, zero-mul (z .height * channelsOf (z .kind))) in
     let zeros : replicate n 0 ≡ replicate (0 * (z .height * channelsOf (z .kind)) + pixels z) 0 ++ pairs (flat (mapOf seamOf 0 (z .width) (z .height) (picture z b))) =
     ap (λ i. replicate i 0) k ∙ sym (replicate-append-replicate (pixels z) (mapBytes z) 0)
-    ∙ sym (ap₂ (λ i r. replicate i 0 ++ r) zero-few (pairs-zeros (grid-of (picture-ofSize z b e)))) in
+    ∙ sym (ap₂ (λ i r. replicate i 0 ++ r) zero-few (map-zeros (grid-of (picture-ofSize z b e)))) in
     ap₂ (λ x r. x ++ (r ++ rest)) (sym (bytes-picture z b e)) zeros
     ∙ sym (append-assoc (bytes (picture z b)) (replicate (0 * (z .height * channelsOf (z .kind)) + pixels z) 0 ++ pairs (flat (mapOf seamOf 0 (z .width) (z .height) (picture z b)))) rest)

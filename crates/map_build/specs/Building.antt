@@ -8,10 +8,10 @@ use Rattle.pictures.specs.declared.sizes.Size.{Size}
 use Rattle.pictures.specs.declared.refusals.Verdict.{Verdict}
 use Rattle.pictures.specs.Refusals.{given, refusal, served}
 use Rattle.pictures.specs.Pictures.{Picture, channelsOf, bytes, pixels, pictureIn}
+use Rattle.pictures.specs.Numbers.{pairs}
 use Rattle.map_theory.specs.Maps.{carve, mapOf}
 use Rattle.seam_theory.specs.PictureSeams.{seamOf}
 use Rattle.map_rules.specs.Spaces.{mapBytes, mapAt, mapSpaceRules}
-use Rattle.map_build.specs.Numbers.{pairs}
 
 -- What stands at the front where nothing is refused: the picture after k seams, the freed bytes and those for work 0, and the map of that
 -- depth, row by row.

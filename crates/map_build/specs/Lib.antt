@@ -1,4 +1,3 @@
-pub mod Numbers
 pub mod Writing
 pub mod Building
 pub mod Inner

@@ -1,23 +1,10 @@
 // A row of a map in bytes, two a number: a number written over the s-th number that is 0.
+use pictures::numbers::number;
+use pictures::numbers::wide;
 ghost use mathlib.Core.Path.{_≡_};
-ghost use Prim.Native.Nat.{_+_, _*_};
 ghost use lib.ListN.{length};
 ghost use Rattle.map_build.specs.Writing.{writePair};
 ghost use Rattle.map_build.specs.Inner.Marks.{zeroPairs, SkipGiven};
-
-// The number of two bytes.
-fn number(low: u8, high: u8) -> usize
-    ensures { λ n. ⌜ n ≡ low + 256 * high ⌝ }
-{
-    wide(low) + 256 * wide(high)
-}
-
-// A byte as a number to count with.
-fn wide(b: u8) -> usize
-    ensures { λ n. ⌜ n ≡ b ⌝ }
-{
-    b as usize
-}
 
 // How many of the 16 numbers in these bytes are 0. One test for both bytes of a number, not one for each, so that the loop
 // compiles to operations on all 16 at once.

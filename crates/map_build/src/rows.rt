@@ -1,5 +1,6 @@
 // A number written into the rows of a map.
 use crate::marks;
+use pictures::numbers;
 ghost use mathlib.Core.Path.{_≡_};
 ghost use Rattle.map_build.specs.Inner.Rows.{writeRows, RowsNeeded};
 
@@ -16,8 +17,9 @@ pub(crate) fn mark_rows(map: &mut [u8], width: usize, seam: &[u16], number: usiz
     ensures { λ _. ⌜ now (map .exit) ≡ writeRows number width (now (seam .entry)) (now (map .entry)) ⌝ }
 {
     let height = seam.len();
-    let low = (number % 256) as u8;
-    let high = (number / 256) as u8;
+    let v = number as u16;
+    let low = numbers::low_byte(v);
+    let high = numbers::high_byte(v);
     let mut r = 0;
     while r < height {
         let a = r * (2 * width);

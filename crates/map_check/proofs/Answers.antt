@@ -3,7 +3,6 @@ use mathlib.Core.Path.{_≡_, refl, sym, ap, ap₂, _∙_}
 use mathlib.Core.Bool.{Bool, true, false, cond, not}
 use mathlib.Core.List.{List, [], _∷_, _++_, append-nil}
 use Prim.Native.Nat.{ℕ, _+_, _-_, _*_}
-use native.Mathlib.Nat.{mul-assoc, mul-comm}
 use native.Mathlib.Omega.{arith}
 use lib.ListN.{length, take, drop, length-drop, drop-of-length-le}
 use lib.Seq.{take-all, take-at, drop-at, take-take, take-append-add, length-take-le}
@@ -32,7 +31,7 @@ use Rattle.map_build.proofs.Spaces.{there-ofSize}
 use Rattle.map_build.proofs.Steps.{map-long, drop-front}
 use Rattle.map_check.specs.Checking.{numbersIn, recordedAt, recordedIn, recordedRules}
 use Rattle.map_check.specs.Inner.Judging.{besideBuilt}
-use Rattle.map_check.proofs.Recorded.{numbers-pairs, length-numbers}
+use Rattle.pictures.proofs.TwoBytes.{numbers-pairs, length-numbers}
 use Rattle.map_check.proofs.Spaces.{Fits}
 
 module _ (z : Size) (depth : ℕ) (space : List ℕ) (fits : Fits z depth (length space)) where

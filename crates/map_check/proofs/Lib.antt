@@ -1,4 +1,3 @@
-pub mod Recorded
 pub mod Turns
 pub mod Counting
 pub mod Columns

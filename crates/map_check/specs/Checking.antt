@@ -1,7 +1,7 @@
 -- The map recorded in a space, judged for the picture at its front: when it is refused, and what it gives.
 use mathlib.Core.Path.{_≡_}
 use mathlib.Core.List.{List, [], _∷_, _++_}
-use Prim.Native.Nat.{ℕ, _+_, _*_}
+use Prim.Native.Nat.{ℕ}
 use lib.ListN.{length, take, drop, replicate}
 use Rattle.grids.specs.Rows.{rowsOf}
 use Rattle.seam_theory.specs.Paths.{beside}
@@ -13,7 +13,7 @@ use Rattle.map_theory.specs.Judged.{mapRules}
 use Rattle.seam_theory.specs.PictureSeams.{seamOf}
 use Rattle.map_rules.specs.Spaces.{mapBytes, mapAt, mapSpaceRules}
 
--- The numbers in bytes, two a number, the low byte first. A last byte that makes no number is left out.
+-- The map recorded in a space.
 abbrev pub numbersIn : List ℕ → List ℕ
 numbersIn [] = []
 numbersIn (a ∷ []) = []

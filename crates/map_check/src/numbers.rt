@@ -1,5 +1,6 @@
 // Numbers of two bytes: read, compared, and rows of them judged by 9.
 use pictures::LARGEST_SIDE;
+use pictures::numbers::number;
 ghost use mathlib.Core.Path.{_≡_};
 ghost use Prim.Native.Nat.{_+_, _*_, _<_};
 ghost use lib.Dec.{eqb};
@@ -7,15 +8,8 @@ ghost use lib.ListN.{length, getD};
 ghost use Rattle.grids.specs.Rows.{rowsOf};
 ghost use Rattle.seam_theory.specs.Paths.{run};
 ghost use Rattle.map_theory.specs.Judged.{every, same, numbers};
-ghost use Rattle.map_check.specs.Checking.{numbersIn};
+ghost use Rattle.pictures.specs.Numbers.{numbersIn};
 ghost use Rattle.map_check.specs.Inner.Numbers.{RowNeeded, CountsNeeded, CountsGiven, MapNeeded};
-
-// A byte as a number to count with.
-fn wide(b: u8) -> usize
-    ensures { λ n. ⌜ (n ≡ b) × (n < 256) ⌝ }
-{
-    b as usize
-}
 
 // The i-th number in bytes.
 pub(crate) fn number_at(bytes: &[u8], i: usize) -> usize
@@ -23,7 +17,7 @@ pub(crate) fn number_at(bytes: &[u8], i: usize) -> usize
     ensures { λ n. ⌜ n ≡ getD (numbersIn (now (bytes .entry))) i 0 ⌝ }
 {
     let at = 2 * i;
-    wide(bytes[at]) + 256 * wide(bytes[at + 1])
+    number(bytes[at], bytes[at + 1])
 }
 
 // Whether the numbers in two parts are the same.

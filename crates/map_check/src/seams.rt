@@ -6,7 +6,7 @@ ghost use mathlib.Core.Path.{_≡_};
 ghost use Rattle.grids.specs.Rows.{rowsOf};
 ghost use Rattle.seam_theory.specs.Paths.{beside as Paths·beside};
 ghost use Rattle.map_theory.specs.Judged.{columnOf, connected};
-ghost use Rattle.map_check.specs.Checking.{numbersIn};
+ghost use Rattle.pictures.specs.Numbers.{numbersIn};
 ghost use Rattle.map_check.specs.Inner.Seams.{ColumnNeeded, ColumnGiven};
 ghost use Rattle.map_check.specs.Inner.Numbers.{MapNeeded};
 

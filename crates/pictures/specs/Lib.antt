@@ -1,3 +1,4 @@
 pub mod Refusals
 pub mod Limits
 pub mod Pictures
+pub mod Numbers

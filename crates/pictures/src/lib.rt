@@ -1,5 +1,6 @@
-// The lowest layer: pictures in lent buffers, their rows as parts of the buffer, a space cleared, and the numbers of what is
-// refused.
+// The lowest layer: pictures in lent buffers, their rows as parts of the buffer, a space cleared, numbers of two bytes, and the
+// numbers of what is refused.
+pub mod numbers;
 pub mod refusals;
 pub mod sizes;
 pub mod spaces;

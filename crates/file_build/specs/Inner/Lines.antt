@@ -1,17 +1,17 @@
 -- The lines of a file printed. What private functions ask and promise; no public promise cites it.
 use mathlib.Core.Path.{_≡_}
-use mathlib.Core.List.{List, map}
+use mathlib.Core.List.{List}
 use Prim.Native.Nat.{ℕ, _+_, _*_, _≤_}
-use lib.ListN.{length, getD}
-use Rattle.grids.specs.Table.{table}
+use lib.ListN.{length}
 use Rattle.grids.specs.Rows.{rowsOf}
-use Rattle.pictures.specs.declared.sizes.Kind.{Kind}
 use Rattle.pictures.specs.declared.sizes.Size.{Size}
 use Rattle.pictures.specs.Refusals.{refusal}
-use Rattle.pictures.specs.Pictures.{Picture, largestSide, sizeRules, picture}
+use Rattle.pictures.specs.Pictures.{largestSide, sizeRules, picture}
+use Rattle.pictures.specs.Numbers.{numbersIn}
 use Rattle.text_theory.specs.declared.Head.{Head}
 use Rattle.text_theory.specs.Decimal.{digits}
 use Rattle.text_theory.specs.Files.{Parts, rowWord, mapWord, each, pixelText, lineText, text}
+-- A map of h rows of w numbers, from its bytes.
 
 -- The row lines of a picture, and the map lines of a map.
 abbrev pub rowLines : Kind → Picture → List ℕ
@@ -27,8 +27,9 @@ numberAt b i = getD b (2 * i) 0 + 256 * getD b (2 * i + 1) 0
 abbrev pub firstNumbers : ℕ → List ℕ → List ℕ
 firstNumbers w b = table (numberAt b) w
 
+-- A map of h rows of w numbers, from its bytes.
 abbrev pub mapIn : ℕ → ℕ → List ℕ → List (List ℕ)
-mapIn w h b = map (firstNumbers w) (rowsOf (2 * w) h b)
+mapIn w h b = rowsOf w h (numbersIn b)
 
 -- A file's parts from bytes: its picture and its map.
 abbrev pub partsIn : Head → List ℕ → List ℕ → Parts
@@ -36,7 +37,7 @@ partsIn h b m = record { head = h; rows = picture (h .size) b; maps = mapIn (h .
 
 -- The bytes of w numbers, and places for them.
 pub record NumbersNeeded (map : List ℕ) (w : ℕ) (row : List ℕ) : Type 0 where
-  pub inside : 2 * w ≤ length map
+  pub long : length map ≡ 2 * w
   pub room : w ≤ length row
   pub narrow : w ≤ largestSide
 

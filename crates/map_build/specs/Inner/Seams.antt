@@ -7,6 +7,7 @@ use Rattle.grids.specs.Cut.{cut}
 use Rattle.pictures.specs.declared.sizes.Size.{Size}
 use Rattle.pictures.specs.Refusals.{refusal}
 use Rattle.pictures.specs.Pictures.{channelsOf, sideRules, pictureBytes, bytes, pixels, pictureIn}
+use Rattle.pictures.specs.Numbers.{largestNumber}
 use Rattle.seam_theory.specs.PictureSeams.{seamOf}
 use Rattle.map_rules.specs.Spaces.{mapBytes, mapAt, mapSpaceRules}
 use Rattle.map_build.specs.Building.{mapped}
@@ -19,7 +20,7 @@ pub record NextNeeded (z : Size) (w at number space : ℕ) : Type 0 where
   pub wide : 1 < z .width
   pub work-room : pictureBytes z + pixels z ≤ at
   pub map-room : at + z .height * (2 * w) ≤ space
-  pub small : number < 65536
+  pub small : number ≤ largestNumber
 
 -- The picture without its seam, and the map with the number written where the seam counts out; the rest as it was.
 pub record NextGiven (z : Size) (w at number : ℕ) (space space′ : List ℕ) : Type 0 where

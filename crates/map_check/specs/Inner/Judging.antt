@@ -11,7 +11,7 @@ use Rattle.pictures.specs.declared.sizes.Size.{Size}
 use Rattle.pictures.specs.Refusals.{refusal}
 use Rattle.map_theory.specs.Judged.{same, connected}
 use Rattle.map_rules.specs.Spaces.{mapSpaceRules}
-use Rattle.map_check.specs.Checking.{numbersIn}
+use Rattle.pictures.specs.Numbers.{numbersIn}
 
 -- Two maps, one after the other.
 pub record MapsNeeded (maps : List ℕ) (w h k : ℕ) : Type 0 where

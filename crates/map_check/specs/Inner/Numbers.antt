@@ -6,7 +6,7 @@ use Prim.Native.Nat.{ℕ, _*_, _≤_, _<_}
 use lib.Dec.{leb}
 use lib.ListN.{length, getD, replicate}
 use Rattle.map_theory.specs.Judged.{every, count}
-use Rattle.map_check.specs.Checking.{numbersIn}
+use Rattle.pictures.specs.Numbers.{numbersIn}
 use Rattle.pictures.specs.Pictures.{largestSide}
 
 -- A row of a map in bytes, judged at depth k.

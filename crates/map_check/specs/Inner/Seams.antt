@@ -5,7 +5,7 @@ use Prim.Native.Nat.{ℕ, _+_, _*_, _≤_}
 use lib.ListN.{length}
 use Rattle.grids.specs.Rows.{rowAt}
 use Rattle.map_theory.specs.Judged.{columnOf}
-use Rattle.map_check.specs.Checking.{numbersIn}
+use Rattle.pictures.specs.Numbers.{numbersIn}
 
 -- Row r of a map of w columns.
 pub record ColumnNeeded (map : List ℕ) (w r : ℕ) : Type 0 where

@@ -50,7 +50,7 @@ line c =
     let s = at-loop .before .before .before in
     let a = s .args in
     let at = at-loop .loop in
-    map-line (a .width) (a .height) (at .r) (now (a .map)) (c .read-numbers .last .1 .1 .0) (drop (a .width) (at .row)) (at-loop-test .loop-test .taken) (c .read-numbers .ensures)
+    map-line (a .width) (a .height) (at .r) (now (a .map)) (c .read-numbers .last .1 .1 .0) (drop (a .width) (at .row)) (at-loop-test .loop-test .taken) (inside at-loop (at-loop-test .loop-test .taken)) (c .read-numbers .ensures)
 
 -- it is printed
 never : (c : tie.After-print-map Inv-loop μ-loop) → c .print-map .result ≡ places.Short → ⊥
@@ -108,7 +108,7 @@ read-numbers-requires c κs =
     let s = at .before .before .before in
     let a = at .loop .r * (2 * s .args .width) in
     let part : length (take (at .loop .r * (2 * s .args .width) + 2 * s .args .width - at .loop .r * (2 * s .args .width)) (drop (at .loop .r * (2 * s .args .width)) (now (s .args .map)))) ≡ at .loop .r * (2 * s .args .width) + 2 * s .args .width - at .loop .r * (2 * s .args .width) = part-length a (a + 2 * s .args .width) (now (s .args .map)) (inside at (at-loop-test .loop-test .taken)) in
-    record { inside = omega (arith, part); room = omega (arith, s .pre .narrow, at .loop .inv .1); narrow = s .pre .narrow }
+    record { long = omega (arith, part); room = omega (arith, s .pre .narrow, at .loop .inv .1); narrow = s .pre .narrow }
 
 array-share-prefix-row : tie.Need-array-share-prefix-row Inv-loop μ-loop
 array-share-prefix-row c =

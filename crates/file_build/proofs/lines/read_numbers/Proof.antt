@@ -1,19 +1,21 @@
--- `file_build::lines::read_numbers` meets its contract. The invariant: the numbers so far, and the rest of the row.
-use mathlib.Core.Path.{_≡_, refl, ap₂, _∙_}
+-- `file_build::lines::read_numbers` meets its contract. The invariant: the numbers so far, and the rest of the row. The
+-- measure is the number of columns left.
+use mathlib.Core.Path.{_≡_, refl, sym, ap, ap₂, _∙_}
 use mathlib.Core.List.{_++_}
 use Prim.Native.Nat.{_-_, _≤_}
 use native.Mathlib.Omega.{arith}
 use denote.Ref.{now}
-use lib.ListN.{length, drop, set, length-set}
+use lib.ListN.{length, getD, drop, set, length-set}
 use Rattle.grids.specs.Table.{table}
-use Rattle.grids.proofs.Tables.{table-more}
-use Rattle.file_build.specs.Inner.Lines.{numberAt}
+use Rattle.grids.proofs.Tables.{table-more, table-all}
+use Rattle.pictures.specs.Numbers.{numbersIn}
+use Rattle.pictures.proofs.TwoBytes.{length-numbers, numbers-at}
 use borrow.Author.Needs.{needs}
 use Rattle.file_build.proofs.lines.read_numbers.Statement.{statement}
 use Rattle.file_build.proofs.lines.read_numbers.Tie as tie
 
 abbrev Inv-loop : tie.InvT-loop
-Inv-loop map width row₀ c₀ row c = (c ≤ width) × (length row ≡ length row₀) × (row ≡ table (numberAt map) c ++ drop c row₀)
+Inv-loop map width row₀ c₀ row c = (c ≤ width) × (length row ≡ length row₀) × (row ≡ table (λ i. getD (numbersIn map) i 0) c ++ drop c row₀)
 
 abbrev μ-loop : tie.MeasureT-loop
 μ-loop map width row₀ c₀ row c = width - c
@@ -24,7 +26,7 @@ loop-holds c = (omega arith, refl, refl)
 mul-i : tie.Need-mul-i Inv-loop μ-loop
 mul-i c =
     let s = c .before .before .before .before in
-    omega (arith, s .pre .inside, c .loop-test .taken, s .pre .narrow)
+    omega (arith, s .pre .long, c .loop-test .taken, s .pre .narrow)
 
 shared-slice-read-number : tie.Need-shared-slice-read-number Inv-loop μ-loop
 shared-slice-read-number c = search needs
@@ -37,6 +39,9 @@ shared-slice-read-number-2 c = search needs
 
 number-requires : tie.Need-number-requires Inv-loop μ-loop
 number-requires c κs = search needs
+
+cast-row : tie.Need-cast-row Inv-loop μ-loop
+cast-row c = omega (arith, c .number .ensures .1)
 
 mul-row : tie.Need-mul-row Inv-loop μ-loop
 mul-row c = search needs
@@ -55,15 +60,15 @@ loop-less : tie.Need-loop-less Inv-loop μ-loop
 loop-less c = search needs
 
 loop-again : tie.Need-loop-again Inv-loop μ-loop
-unfolding numberAt
 loop-again c =
     let at-loop = c .before .before .before .before in
     let s = at-loop .before .before .before in
     let at = at-loop .loop in
-    let map = now (s .args .map) in (
+    let map = now (s .args .map) in
+    let value = c .number .ensures .0 ∙ sym (numbers-at map (at .c) (omega (arith, s .pre .long))) in (
       omega arith,
       length-set (at .row) (at .c) _ ∙ at .inv .1,
-      ap₂ (λ l n. set l (at .c) n) (at .inv .2) (c .number .ensures) ∙ table-more (numberAt map) (now (s .args .row)) (at .c) 0 (omega (arith, s .pre .room)),
+      ap₂ (λ l n. set l (at .c) n) (at .inv .2) value ∙ table-more (λ i. getD (numbersIn map) i 0) (now (s .args .row)) (at .c) 0 (omega (arith, s .pre .room)),
     )
 
 same-length : tie.Need-same-length Inv-loop μ-loop
@@ -74,8 +79,12 @@ returns c =
     let s = c .before .before .before .before in
     let at = c .before .loop in
     let a = s .args in
+    let ys = numbersIn (now (a .map)) in
+    let many : length (numbersIn (now (a .map))) ≡ a .width = omega (arith, length-numbers (now (a .map)), s .pre .long) in
     let last : at .c ≡ a .width = omega arith in
-    at .inv .2 ∙ rw last
+    at .inv .2
+    ∙ ap (λ n. table (λ i. getD ys i 0) n ++ drop n (now (a .row))) last
+    ∙ ap (_++ drop (a .width) (now (a .row))) (ap (table (λ i. getD ys i 0)) (sym many) ∙ table-all ys 0)
 
 pub read-numbers-spec : {M : Type 1} → statement M
 read-numbers-spec =
@@ -89,6 +98,7 @@ read-numbers-spec =
     add-number
     shared-slice-read-number-2
     number-requires
+    cast-row
     mul-row
     slice-write-row
     add-c

@@ -11,7 +11,7 @@ use denote.Ref.{now}
 use Rattle.grids.specs.Rows.{flat}
 use Rattle.grids.proofs.Rows.{part-end}
 use Rattle.grids.proofs.Parts.{part-length}
-use Rattle.map_build.specs.Numbers.{pairs}
+use Rattle.pictures.specs.Numbers.{pairs}
 use Rattle.text_theory.specs.Files.{parse}
 use Rattle.file_theory.specs.Shows.{mapsIn}
 use Rattle.file_read.proofs.Parsed.{Parsed, opened}

@@ -57,7 +57,7 @@ returns c =
     let s = at-loop .before .before in
     let at = at-loop .loop in
     let args = s .args in
-    let told = at-number .number .ensures in
+    let told = at-number .number .ensures .0 in
     put-number (args .low) (args .high) (at .row) _ (at .c) (at .zeros) (at-loop-test .loop-test .taken) (sym told ∙ c .before .if1 .taken) (c .if2 .taken) (at .inv .3) ∙ rw (at .inv .2)
 
 sub-zeros : tie.Need-sub-zeros Inv-loop μ-loop
@@ -76,7 +76,7 @@ loop-again c =
     let s = at-loop .before .before in
     let at = at-loop .loop in
     let args = s .args in
-    let told = c .before .number .ensures in
+    let told = c .before .number .ensures .0 in
     let inside = at-loop-test .loop-test .taken in
     ⊎-elim
     (λ w. (omega arith, at .inv .1, at .inv .2, rw (w .2) (pass-zero (args .low) (args .high) (at .row) _ (at .c) (at .zeros) inside (sym told ∙ w .0 .taken) (omega arith) (at .inv .3))))

@@ -52,7 +52,7 @@ loop-again c =
     let s = at-loop .before .before in
     let at = at-loop .loop in
     let ys = s .args .block .now in
-    let told = c .before .number .ensures in
+    let told = c .before .number .ensures .0 in
     let inside : 2 * at .i + 1 < length ys = omega (arith, s .pre) in
     ⊎-elim
     (λ w. (omega arith, omega (arith, w .1), rw (w .1) (count-zero ys (at .i) (at .n) _ inside (at .inv .2) (sym told ∙ w .0 .taken))))
@@ -68,7 +68,7 @@ returns c =
     let s = at-loop .before .before in
     let at = at-loop .loop in
     let none : zeroPairs (drop (2 * at .i) (s .args .block .now)) ≡ 0 = ap zeroPairs (drop-of-length-le (s .args .block .now) {i = 2 * at .i} (omega (arith, s .pre))) in
-    c .wide .ensures ∙ omega (arith, at .inv .2, none)
+    c .wide .ensures .0 ∙ omega (arith, at .inv .2, none)
 
 pub zeros-in-spec : {M : Type 1} → statement M
 zeros-in-spec =

@@ -1,41 +1,55 @@
--- `map_build::rows::mark_rows` meets its contract. The invariant: the rows done and the rows to come make the answer.
-use mathlib.Core.Path.{_≡_, refl, ap, _∙_}
-use Prim.Native.Nat.{_+_, _-_, _*_, _/_, _%_, _<_, _≤_}
+-- `map_build::rows::mark_rows` meets its contract. The invariant: the rows done and the rows to come make the answer. The
+-- measure is the number of rows left.
+use mathlib.Core.Path.{_≡_, refl, sym, ap, ap₂, _∙_}
+use Prim.Native.Nat.{ℕ, _+_, _-_, _*_, _<_, _≤_}
 use native.Mathlib.Omega.{arith}
 use lib.ListN.{length}
 use borrow.Author.Needs.{needs}
 use borrow.Rule.Slice.PartMut.{midOf, same-len-mid, mid-len}
 use Rattle.grids.proofs.Rows.{part-end}
 use Rattle.map_build.specs.Writing.{writePair}
-use Rattle.map_build.specs.Inner.Rows.{writeRows}
+use Rattle.map_build.specs.Inner.Rows.{writeBytes}
 use Rattle.map_build.proofs.Turns.{RowsSoFar, rows-start, rows-step, rows-done}
 use Rattle.map_build.proofs.rows.mark_rows.Statement.{statement}
 use Rattle.map_build.proofs.rows.mark_rows.Tie as tie
 
 abbrev Inv-loop : tie.InvT-loop
-Inv-loop map₀ width seam number height low high r₀ map r =
+Inv-loop map₀ width seam number height v low high r₀ map r =
     (r ≤ length seam) × (length map ≡ length map₀)
-    × RowsSoFar (writePair (number % 256) (number / 256)) 0 seam (writeRows number width seam map₀) (2 * width) r map
+    × RowsSoFar (writePair low high) 0 seam (writeBytes low high width seam map₀) (2 * width) r map
 
 abbrev μ-loop : tie.MeasureT-loop
-μ-loop map₀ width seam number height low high r₀ map r = length seam - r
+μ-loop map₀ width seam number height v low high r₀ map r = length seam - r
 
-cast-low : tie.Need-cast-low Inv-loop μ-loop
-cast-low c = search needs
+cast-v : tie.Need-cast-v Inv-loop μ-loop
+cast-v c = search needs
 
-cast-high : tie.Need-cast-high Inv-loop μ-loop
-cast-high c = search needs
+low-byte-requires : tie.Need-low-byte-requires Inv-loop μ-loop
+low-byte-requires c κs = search needs
+
+high-byte-requires : tie.Need-high-byte-requires Inv-loop μ-loop
+high-byte-requires c κs = search needs
+
+-- at the loop: the start, and the two bytes written
+abbrev start : tie.At-loop Inv-loop μ-loop → tie.Start Inv-loop μ-loop
+start h = h .before .before .before .before .before
+
+abbrev low : tie.At-loop Inv-loop μ-loop → ℕ
+low h = h .before .before .low-byte .result
+
+abbrev high : tie.At-loop Inv-loop μ-loop → ℕ
+high h = h .before .high-byte .result
 
 -- the row ends within the map
-inside : (c : tie.At-loop Inv-loop μ-loop) → let a = c .before .before .before .args in c .loop .r < length (a .seam .now) → c .loop .r * (2 * a .width) + 2 * a .width ≤ length (a .map .now)
-inside c l =
-    let s = c .before .before .before in
-    omega (arith, part-end (c .loop .r) (length (s .args .seam .now)) (2 * s .args .width) l, s .pre .long)
+inside : (h : tie.At-loop Inv-loop μ-loop) → let a = start h .args in h .loop .r < length (a .seam .now) → h .loop .r * (2 * a .width) + 2 * a .width ≤ length (a .map .now)
+inside h l =
+    let s = start h in
+    omega (arith, part-end (h .loop .r) (length (s .args .seam .now)) (2 * s .args .width) l, s .pre .long)
 
 loop-holds : tie.Need-loop-holds Inv-loop μ-loop
 loop-holds c =
-    let a = c .before .before .args in
-    (omega arith, refl, rows-start (writePair (a .number % 256) (a .number / 256)) 0 (a .seam .now) (2 * a .width) (a .map .now))
+    let a = c .before .before .before .before .args in
+    (omega arith, refl, rows-start (writePair (c .before .low-byte .result) (c .high-byte .result)) 0 (a .seam .now) (2 * a .width) (a .map .now))
 
 mul-a : tie.Need-mul-a Inv-loop μ-loop
 mul-a c = omega (arith, inside (c .before) (c .loop-test .taken))
@@ -86,16 +100,16 @@ loop-again c =
     let at-loop-test = at-column .before .before in
     let h = at-loop-test .before in
     let at = h .loop in
-    let a = h .before .before .before .args in
+    let a = start h .args in
     let m = at-mark-row .mark-row in
     let wide = 2 * a .width in
-    let start = at .r * (2 * a .width) in
+    let from = at .r * (2 * a .width) in
     let end = at .r * (2 * a .width) + 2 * a .width in
     let fits : at .r * (2 * a .width) + 2 * a .width ≤ length (at .map) = omega (arith, inside h (at-loop-test .loop-test .taken), at .inv .1) in
-    let told = m .ensures ∙ ap (λ s. writePair (a .number % 256) (a .number / 256) s (midOf (at .r * (2 * a .width)) (at .r * (2 * a .width) + 2 * a .width - at .r * (2 * a .width)) (at .map))) (at-column .column .ensures) in (
+    let told = m .ensures ∙ ap (λ s. writePair (low h) (high h) s (midOf (at .r * (2 * a .width)) (at .r * (2 * a .width) + 2 * a .width - at .r * (2 * a .width)) (at .map))) (at-column .column .ensures) in (
       omega arith,
-      same-len-mid start (end - start) (at .map) (m .last .0) (m .kept .0) ∙ at .inv .1,
-      rows-step (writePair (a .number % 256) (a .number / 256)) 0 (a .seam .now) _ wide (at .r) start end (at .map) (m .last .0) (omega arith) refl refl fits told (m .kept .0 ∙ mid-len start end (at .map) fits ∙ omega arith) (at .inv .2),
+      same-len-mid from (end - from) (at .map) (m .last .0) (m .kept .0) ∙ at .inv .1,
+      rows-step (writePair (low h) (high h)) 0 (a .seam .now) _ wide (at .r) from end (at .map) (m .last .0) (omega arith) refl refl fits told (m .kept .0 ∙ mid-len from end (at .map) fits ∙ omega arith) (at .inv .2),
     )
 
 same-length : tie.Need-same-length Inv-loop μ-loop
@@ -103,11 +117,14 @@ same-length c = c .before .loop .inv .1
 
 returns : tie.Need-returns Inv-loop μ-loop
 returns c =
-    let s = c .before .before .before .before in
-    let at = c .before .loop in
+    let h = c .before in
+    let s = start h in
+    let at = h .loop in
     let a = s .args in
     let last : at .r ≡ length (a .seam .now) = omega arith in
-    rows-done (writePair (a .number % 256) (a .number / 256)) 0 (a .seam .now) _ (2 * a .width) (at .r) (at .map) (omega arith) (rw last (omega (arith, s .pre .long, at .inv .1))) (at .inv .2)
+    let whole : length (at .map) ≡ at .r * (2 * a .width) = at .inv .1 ∙ s .pre .long ∙ ap (_* (2 * a .width)) (sym last) in
+    rows-done (writePair (low h) (high h)) 0 (a .seam .now) _ (2 * a .width) (at .r) (at .map) (omega arith) (omega (arith, whole)) (at .inv .2)
+    ∙ ap₂ (λ x y. writeBytes x y (a .width) (a .seam .now) (a .map .now)) (h .before .before .low-byte .ensures) (h .before .high-byte .ensures)
 
 pub mark-rows-spec : {M : Type 1} → statement M
 mark-rows-spec =
@@ -115,8 +132,9 @@ mark-rows-spec =
     (tie.spec
     Inv-loop
     μ-loop
-    cast-low
-    cast-high
+    cast-v
+    low-byte-requires
+    high-byte-requires
     loop-holds
     mul-a
     mul-a-2

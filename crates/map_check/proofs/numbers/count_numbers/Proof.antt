@@ -6,8 +6,8 @@ use borrow.Author.Tests.{le-leb, lt-leb}
 use lib.Dec.{leb}
 use lib.ListN.{length, getD, take, drop, length-set, length-take, length-replicate, getD-replicate}
 use Rattle.map_theory.specs.Judged.{every}
-use Rattle.map_check.specs.Checking.{numbersIn}
-use Rattle.map_check.proofs.Recorded.{length-numbers}
+use Rattle.pictures.specs.Numbers.{numbersIn}
+use Rattle.pictures.proofs.TwoBytes.{length-numbers}
 use Rattle.map_check.proofs.Turns.{every-ok, every-bad, every-end}
 use Rattle.map_check.proofs.Counting.{count-most, Counted, counted-more, counted-all}
 use Rattle.map_check.proofs.numbers.count_numbers.Statement.{statement}

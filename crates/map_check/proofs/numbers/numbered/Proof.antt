@@ -8,8 +8,8 @@ use lib.ListN.{length, getD, drop, length-take}
 use Rattle.grids.specs.Rows.{rowsOf}
 use Rattle.grids.proofs.Rows.{part-end, length-rowsOf, rowsOf-at}
 use Rattle.map_theory.specs.Judged.{every, numbers}
-use Rattle.map_check.specs.Checking.{numbersIn}
-use Rattle.map_check.proofs.Recorded.{numbers-row}
+use Rattle.pictures.specs.Numbers.{numbersIn}
+use Rattle.pictures.proofs.TwoBytes.{numbers-row}
 use Rattle.map_check.proofs.Turns.{every-ok, every-bad, every-end}
 use Rattle.map_check.proofs.numbers.numbered.Statement.{statement}
 use Rattle.map_check.proofs.numbers.numbered.Tie as tie

@@ -5,7 +5,7 @@ use native.Mathlib.Omega.{arith}
 use borrow.Author.Needs.{needs}
 use borrow.Author.Tests.{not-true, not-false}
 use lib.ListN.{length, length-replicate}
-use Rattle.map_check.specs.Checking.{numbersIn}
+use Rattle.pictures.specs.Numbers.{numbersIn}
 use Rattle.map_check.proofs.Counting.{counts-judge, numbers-over}
 use Rattle.map_check.proofs.numbers.numbered_row.Statement.{statement}
 use Rattle.map_check.proofs.numbers.numbered_row.Tie as tie

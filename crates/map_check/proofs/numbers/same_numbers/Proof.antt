@@ -5,8 +5,8 @@ use native.Mathlib.Omega.{arith}
 use borrow.Author.Needs.{needs}
 use lib.ListN.{length, drop}
 use Rattle.map_theory.specs.Judged.{same}
-use Rattle.map_check.specs.Checking.{numbersIn}
-use Rattle.map_check.proofs.Recorded.{length-numbers}
+use Rattle.pictures.specs.Numbers.{numbersIn}
+use Rattle.pictures.proofs.TwoBytes.{length-numbers}
 use Rattle.map_check.proofs.Turns.{same-ok, same-bad, same-end}
 use Rattle.map_check.proofs.numbers.same_numbers.Statement.{statement}
 use Rattle.map_check.proofs.numbers.same_numbers.Tie as tie

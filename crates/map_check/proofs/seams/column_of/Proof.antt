@@ -6,8 +6,8 @@ use native.Mathlib.Omega.{arith}
 use borrow.Author.Needs.{needs}
 use lib.ListN.{length, getD, drop}
 use Rattle.map_theory.specs.Judged.{columnOf}
-use Rattle.map_check.specs.Checking.{numbersIn}
-use Rattle.map_check.proofs.Recorded.{length-numbers}
+use Rattle.pictures.specs.Numbers.{numbersIn}
+use Rattle.pictures.proofs.TwoBytes.{length-numbers}
 use Rattle.map_check.proofs.Columns.{column-here, column-left, column-gone, column-end}
 use Rattle.map_check.proofs.seams.column_of.Statement.{statement}
 use Rattle.map_check.proofs.seams.column_of.Tie as tie
