@@ -28,7 +28,7 @@ use Rattle.seam_theory.specs.PictureSeams.{seamOf}
 use Rattle.pictures.specs.Numbers.{pairs}
 use Rattle.pictures.proofs.TwoBytes.{rows-pairs}
 use Rattle.map_rules.specs.Spaces.{mapBytes, mapAt, mapSpaceRules}
-use Rattle.map_rules.proofs.Rooms.{room-served}
+use Rattle.map_rules.proofs.Rooms.{map-bytes, room-served}
 use Rattle.map_build.specs.Building.{mapped, MapGiven}
 use Rattle.seam_theory.proofs.Choosing.{seam-chooses}
 use Rattle.map_build.proofs.Steps.{take-map}
@@ -79,8 +79,8 @@ module _ (b : List ℕ) (h : Head) (out work : List ℕ) (needed : BuildNeeded b
         deep = allowed-deep _ _ _ (not-false (allowed (h .size .width) (h .depth) (h .growth)) (p1 .0));
         out-room = ltb-false _ _ (p2 .0);
         few = s .pixels-most;
-        map-is = two;
-        front = omega (arith, two, room, bytes-few (h .size));
+        map-is = map-bytes (h .size);
+        front = omega (arith, map-bytes (h .size), room, bytes-few (h .size));
       }
 
   -- The copy at the front of the work space, and the map behind it.
@@ -102,13 +102,12 @@ module _ (b : List ℕ) (h : Head) (out work : List ℕ) (needed : BuildNeeded b
           ∙ ap (λ p. mapped (h .size) (h .depth) p ++ drop (mapAt (h .size) + mapBytes (h .size)) one) there
 
       -- The part where the map stands.
-      module _ (at end : ℕ) (at-is : at ≡ length b + h .size .height * h .size .width) (end-is : end ≡ at + h .size .height * (2 * h .size .width)) where
+      module _ (at end : ℕ) (at-is : at ≡ mapAt (h .size)) (end-is : end ≡ at + mapBytes (h .size)) where
         part-is : take (end - at) (drop at two) ≡ pairs (flat m)
         part-is =
             let r = rooms-are in
             let n : end - at ≡ mapBytes (h .size) = omega (arith, end-is) in
-            let a : at ≡ mapAt (h .size) = omega (arith, at-is, r .sure .length-is) in
-            rw (n, a, two-is) (take-map (h .size) (picture (h .size) b) (of-size (h .size) b (r .sized)) (h .depth) (r .deep) (drop (mapAt (h .size) + mapBytes (h .size)) one))
+            rw (n, at-is, two-is) (take-map (h .size) (picture (h .size) b) (of-size (h .size) b (r .sized)) (h .depth) (r .deep) (drop (mapAt (h .size) + mapBytes (h .size)) one))
 
         -- The file printed from it.
         text-is : text (partsIn h b (take (end - at) (drop at two))) ≡ fileIn h b
@@ -121,7 +120,7 @@ module _ (b : List ℕ) (h : Head) (out work : List ℕ) (needed : BuildNeeded b
 
         module _ (two-long : length two ≡ length one) where
           pub inside : end ≤ length two
-          inside = omega (arith, rooms-are .front, one-long, at-is, end-is, rooms-are .sure .length-is)
+          inside = omega (arith, rooms-are .front, one-long, at-is, end-is)
 
           pub print-needed : PrintNeeded b h (take (end - at) (drop at two)) out
           print-needed = record {

@@ -43,12 +43,10 @@ fn put_file(picture: &[u8], head: Head, out: &mut [u8], work: &mut [u8]) -> usiz
     ensures { λ n. ⌜ FileGiven (now (picture .entry)) head (now (out .entry)) (now (work .entry)) n (now (out .exit)) (now (work .exit)) ⌝ }
 {
     let size = head.size;
-    let width = size.width;
-    let height = size.height;
     bytes::copy(picture, work);
     map_build::map_in(work, size, head.depth);
-    let at = picture.len() + height * width;
-    let end = at + height * (2 * width);
+    let at = map_rules::map_at(size);
+    let end = at + map_rules::map_bytes(size);
     let length = lines::print_file(picture, head, &work[at..end], out);
     pictures::clear(work);
     length

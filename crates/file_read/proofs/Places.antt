@@ -32,10 +32,6 @@ use Rattle.file_theory.specs.Shows.{rowsIn, mapsIn}
 use Rattle.file_read.specs.Inner.Opening.{mapLines, rowLines}
 use Rattle.file_read.proofs.Parsed.{Parsed}
 
--- The bytes of a map, two a pixel.
-pub map-bytes : (z : Size) → mapBytes z ≡ 2 * pixels z
-map-bytes z = sym (mul-assoc (z .height) 2 (z .width)) ∙ ap (_* z .width) (mul-comm (z .height) 2) ∙ mul-assoc 2 (z .height) (z .width)
-
 pub all-at : {A : Type 0} (P : A → Type 0) (xs : List A) (r : ℕ) (d : A) → All P xs → r < length xs → P (getD xs r d)
 all-at P [] r d a h = absurd (omega arith)
 all-at P (x ∷ xs) zero d a h = a .0

@@ -20,24 +20,22 @@ use Rattle.pictures.proofs.Rules.{served-first}
 use Rattle.pictures.proofs.Buffers.{picture-bytes, length-bytes}
 use Rattle.map_theory.specs.Widths.{allowed}
 use Rattle.pictures.proofs.Limits.{bytes-few}
-use Rattle.map_build.specs.Numbers.{pairs}
-use Rattle.map_rules.specs.Spaces.{mapBytes, mapSpaceRules}
-use Rattle.map_rules.proofs.Rooms.{room-served}
-use Rattle.map_build.proofs.Pairs.{length-pairs}
-use Rattle.map_check.specs.Checking.{numbersIn, recordedAt, recordedIn, recordedRules, JudgeGiven}
-use Rattle.map_check.proofs.Recorded.{numbers-pairs}
+use Rattle.pictures.specs.Numbers.{pairs, numbersIn}
+use Rattle.pictures.proofs.TwoBytes.{length-pairs, rows-pairs}
+use Rattle.map_rules.specs.Spaces.{mapBytes, mapSpaceRules, recordedAt}
+use Rattle.map_rules.proofs.Rooms.{map-bytes, room-served}
+use Rattle.map_check.specs.Checking.{recordedIn, recordedRules, JudgeGiven}
 use Rattle.map_check.proofs.Answers.{worked-judged}
 use Rattle.text_theory.specs.declared.Head.{Head}
 use Rattle.text_theory.specs.Files.{parse}
 use Rattle.file_theory.specs.Shows.{rowsIn, mapsIn}
 use Rattle.file_read.specs.Inner.Checking.{judgedIn, MapJudged}
 use Rattle.file_read.proofs.Parsed.{Parsed}
-use Rattle.file_read.proofs.Places.{map-bytes}
 
 module _ (file : List ℕ) (h : Head) (k : Parsed file h) (work : List ℕ) (room : 32 * pixels (h .size) ≤ length work) where
-  -- There is room for a picture and five bytes a pixel.
-  pub judge-room : pictureBytes (h .size) + 5 * pixels (h .size) ≤ length work
-  judge-room = omega (arith, bytes-few (h .size))
+  -- There is room for the recorded map, and for what stands before it.
+  pub judge-room : recordedAt (h .size) + mapBytes (h .size) ≤ length work
+  judge-room = omega (arith, bytes-few (h .size), map-bytes (h .size))
 
   deep : h .depth < h .size .width
   unfolding allowed
@@ -45,11 +43,11 @@ module _ (file : List ℕ) (h : Head) (k : Parsed file h) (work : List ℕ) (roo
 
   -- So nothing up to 8 refuses a space as long as this one.
   none-refused : (n : ℕ) → n ≡ length work → refusal (mapSpaceRules (h .size) (h .depth) n 2) ≡ 0
-  none-refused n e = room-served (h .size) (h .depth) n 2 (k .sides-served) deep (omega (arith, judge-room, map-bytes (h .size)))
+  none-refused n e = room-served (h .size) (h .depth) n 2 (k .sides-served) deep (omega (arith, judge-room))
 
   -- The picture at the front, and the recorded map in its part of the space.
   module _ (first : List ℕ) (as-long : length first ≡ length work) (is : first ≡ bytes (rowsIn (parse file)) ++ drop (pictureBytes (h .size)) work)
-      (at e : ℕ) (starts : at ≡ pictureBytes (h .size) + 3 * pixels (h .size)) (ends : e ≡ at + 2 * pixels (h .size))
+      (at e : ℕ) (starts : at ≡ recordedAt (h .size)) (ends : e ≡ at + mapBytes (h .size))
       (new : List ℕ) (kept : length new ≡ length (midOf at (e - at) first)) (recorded : new ≡ pairs (flat (mapsIn (parse file))) ++ drop (mapBytes (h .size)) (midOf at (e - at) first)) where
     abbrev whole : List ℕ
     whole = putMid at (e - at) first new
@@ -84,8 +82,6 @@ module _ (file : List ℕ) (h : Head) (k : Parsed file h) (work : List ℕ) (roo
 
     maps-there : recordedIn (h .size) whole ≡ mapsIn (parse file)
     maps-there =
-        let m = mapsIn (parse file) in
-        let start : recordedAt (h .size) ≡ at = omega (arith, map-bytes (h .size)) in
         ap (λ b. rowsOf (h .size .width) (h .size .height) (numbersIn b))
         (ap (take (mapBytes (h .size))) (ap₂ drop (sym starts) whole-is ∙ drop-at (take at first) (new ++ drop e first) at front)
         ∙ take-at new (drop e first) (mapBytes (h .size)) new-long ∙ new-is)

@@ -32,10 +32,10 @@ pub(crate) fn judge(file: &[u8], head: Head, work: &mut [u8]) -> Verdict
     ensures { λ v. ⌜ MapJudged (now (file .entry)) (now (work .entry)) v (now (work .exit)) ⌝ }
 {
     let size = head.size;
-    let pixels = size.height * size.width;
-    let at = pictures::picture_bytes(size) + 3 * pixels;
+    let at = map_rules::recorded_at(size);
+    let end = at + map_rules::map_bytes(size);
     let rows = opening::first_row(file, head);
     let maps = lines::read_rows(file, head, rows, work);
-    lines::record_maps(file, head, maps, &mut work[at..at + 2 * pixels]);
+    lines::record_maps(file, head, maps, &mut work[at..end]);
     map_check::judge_in(work, size, head.depth)
 }

@@ -5,10 +5,10 @@ use mathlib.Core.List.{_∷_}
 use Prim.Native.Nat.{ℕ, _+_, _*_, _/_, _≤_}
 use native.Mathlib.Nat.{mul-le-mul}
 use native.Mathlib.Omega.{arith}
-use Rattle.pictures.specs.Limits.{mostSide, mostPixels}
+use Rattle.pictures.specs.Limits.{mostSide}
 use Rattle.pictures.specs.declared.sizes.Size.{Size}
 use Rattle.pictures.specs.Refusals.{_when_, refusal}
-use Rattle.pictures.specs.Pictures.{channelsOf, sideRules, pixels}
+use Rattle.pictures.specs.Pictures.{channelsOf, sideRules}
 use Rattle.pictures.proofs.Rules.{served-first}
 use Rattle.pictures.proofs.Limits.{sides-are}
 use Rattle.map_theory.specs.Widths.{allowed}
@@ -16,10 +16,6 @@ use Rattle.map_theory.proofs.Shown.{allowed-is}
 use Rattle.text_theory.specs.declared.Head.{Head}
 use Rattle.file_rules.specs.Spaces.{spaceRules, readSpaceRules, offerRules, wantedRules}
 use Rattle.map_theory.specs.Bounds.{mostWidth, mostShownRow, mostShown}
-
--- Sides that are served bound the pixels.
-pub pixels-few : (z : Size) → refusal (sideRules z) ≡ 0 → pixels z ≤ mostPixels
-pixels-few z e = let s = sides-are z e in s .pixels-most
 
 -- Where they are served, 8 alone is left of what reading refuses.
 pub read-own : (z : Size) (picture map work : ℕ) → refusal (sideRules z) ≡ 0 → refusal (readSpaceRules z picture map work) ≡ refusal (spaceRules z picture map work)

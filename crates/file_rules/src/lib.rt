@@ -9,7 +9,6 @@ pub use answers::Checked;
 pub use answers::Shown;
 pub use counts::counted;
 pub use counts::lines_fit;
-pub use spaces::WORK_A_PIXEL;
 pub use spaces::judge_build;
 pub use spaces::judge_read_spaces;
 pub use spaces::judge_wanted;

@@ -7,9 +7,6 @@ ghost use mathlib.Core.Path.{_≡_};
 ghost use Rattle.pictures.specs.Refusals.{given, refusal};
 ghost use Rattle.file_rules.specs.Spaces.{workRules, readSpaceRules, wantedRules, buildSpaceRules};
 
-// The bytes of work space a pixel.
-pub const WORK_A_PIXEL: usize = 32;
-
 // Which of 2, 3 and 8 refuses a work space of this length for a file of this size, or none.
 pub fn judge_work(size: Size, work: usize) -> Verdict
     ensures { λ v. ⌜ given v ≡ refusal (workRules size work) ⌝ }
@@ -18,7 +15,7 @@ pub fn judge_work(size: Size, work: usize) -> Verdict
     let Verdict::Served = fits else {
         return fits;
     };
-    if work < WORK_A_PIXEL * (size.height * size.width) {
+    if work < pictures::work_bytes(size) {
         return Verdict::Refused(Refusal::Space);
     }
     Verdict::Served
@@ -32,14 +29,14 @@ pub fn judge_read_spaces(size: Size, picture: usize, map: usize, work: usize) ->
     let Verdict::Served = fits else {
         return fits;
     };
-    let pixels = size.height * size.width;
+    let pixels = pictures::pixels(size);
     if picture < pictures::picture_bytes(size) {
         return Verdict::Refused(Refusal::Space);
     }
     if map < pixels {
         return Verdict::Refused(Refusal::Space);
     }
-    if work < WORK_A_PIXEL * pixels {
+    if work < pictures::work_bytes(size) {
         return Verdict::Refused(Refusal::Space);
     }
     Verdict::Served
@@ -70,7 +67,7 @@ pub fn judge_wanted(head: Head, wanted: usize, out: usize, work: usize) -> Verdi
     if out < height * (wanted * pictures::channels(kind)) {
         return Verdict::Refused(Refusal::Space);
     }
-    if work < WORK_A_PIXEL * (height * width) {
+    if work < pictures::work_bytes(size) {
         return Verdict::Refused(Refusal::Space);
     }
     Verdict::Served
@@ -89,7 +86,7 @@ pub fn judge_build(head: Head, bytes: usize, work: usize) -> Verdict
     if !map_rules::allowed(size.width, head.depth, head.growth) {
         return Verdict::Refused(Refusal::Range);
     }
-    if work < WORK_A_PIXEL * (size.height * size.width) {
+    if work < pictures::work_bytes(size) {
         return Verdict::Refused(Refusal::Space);
     }
     Verdict::Served

@@ -23,9 +23,10 @@ pub there-ofSize : (z : Size) (space : List ℕ) → pictureBytes z ≤ length s
 there-ofSize z space l = picture-ofSize z (take (pictureBytes z) space) (length-take-le (pictureBytes z) space l)
 
 -- The next seam can be cut.
-pub next-needed : (z : Size) (depth space t : ℕ) → Room z depth space 1 → t < depth → NextNeeded (leftSize z t) (z .width) (mapAt z) (t + 1) space
-next-needed z depth space t r l =
+pub next-needed : (z : Size) (depth space t at now : ℕ) → at ≡ mapAt z → now ≡ space → Room z depth space 1 → t < depth → NextNeeded (leftSize z t) (z .width) at (t + 1) now
+next-needed z depth space t at now a e r l =
     let less : z .width - t ≤ z .width = omega arith in
+    rw (a, e)
     record {
       sides = sides-of (leftSize z t) (omega (arith, r .deep)) (omega (arith, r .sides .width-most)) (r .sides .height-some) (r .sides .height-most);
       wide = omega (arith, r .deep);
@@ -41,10 +42,10 @@ pub record First (z : Size) (space now : List ℕ) : Type 0 where
   pub same-rest : drop (mapAt z + mapBytes z) now ≡ drop (mapAt z + mapBytes z) space
   pub now-is : now ≡ mapped z 0 (pictureIn z space) ++ drop (mapAt z + mapBytes z) space
 
-pub first-is : (z : Size) (space cleared : List ℕ) → mapAt z + mapBytes z ≤ length space
+first-there : (z : Size) (space cleared : List ℕ) → mapAt z + mapBytes z ≤ length space
     → cleared ≡ replicate (length (midOf (pictureBytes z) (mapAt z + mapBytes z - pictureBytes z) space)) 0
     → First z space (putMid (pictureBytes z) (mapAt z + mapBytes z - pictureBytes z) space cleared)
-first-is z space cleared room e =
+first-there z space cleared room e =
     let b = pictureBytes z in
     let end = mapAt z + mapBytes z in
     let front : length (take (pictureBytes z) space) ≡ pictureBytes z = length-take-le (pictureBytes z) space (omega arith) in
@@ -59,3 +60,8 @@ first-is z space cleared room e =
       same-rest = ap (drop end) split ∙ drop-at (take b space ++ cleared) (drop end space) end both;
       now-is = is ∙ ap (λ r. take b space ++ (r ++ drop end space)) e ∙ first-mapped z (take b space) (drop end space) _ front many;
     }
+
+-- The same with the places as they are given out.
+pub first-is : (z : Size) (space cleared : List ℕ) (b at n : ℕ) → b ≡ pictureBytes z → at ≡ mapAt z → n ≡ mapBytes z → mapAt z + mapBytes z ≤ length space
+    → cleared ≡ replicate (length (midOf b (at + n - b) space)) 0 → First z space (putMid b (at + n - b) space cleared)
+first-is z space cleared b at n be ae ne room e = rw (be, ae, ne) (first-there z space cleared room (rw (be, ae, ne) at e))

@@ -151,8 +151,8 @@ module _ (z : Size) (p : Picture) (o : OfSize z p) (t : ℕ) (deep : t < z .widt
         ∙ ap flat (write-all-pairs (suc t) s m ∙ ap (map pairs) (sym (map-next seamOf seam-chooses t (z .width) (z .height) p grid deep)))
         ∙ sym (pairs-flat (mapOf seamOf (suc t) (z .width) (z .height) p))
 
-    pub next-mapped : (space′ : List ℕ) → NextGiven (leftSize z t) (z .width) (mapAt z) (t + 1) (mapped z t p ++ rest) space′ → space′ ≡ mapped z (t + 1) p ++ rest
-    next-mapped space′ g =
+    next-there : (space′ : List ℕ) → NextGiven (leftSize z t) (z .width) (mapAt z) (t + 1) (mapped z t p ++ rest) space′ → space′ ≡ mapped z (t + 1) p ++ rest
+    next-there space′ g =
         let zeros : List ℕ = replicate (suc t * (z .height * channelsOf (z .kind)) + pixels z) 0 in
         let left = bytes (carve seamOf (suc t) (z .width) (z .height) p) in
         let new = pairs (flat (mapOf seamOf (suc t) (z .width) (z .height) p)) in
@@ -162,6 +162,11 @@ module _ (z : Size) (p : Picture) (o : OfSize z p) (t : ℕ) (deep : t < z .widt
         ∙ append-assoc left zeros (new ++ rest)
         ∙ ap (left ++_) (sym (append-assoc zeros new rest))
         ∙ sym (append-assoc left (zeros ++ new) rest))
+
+    -- The same with the map's place and the space as they are given.
+    pub next-mapped : (at : ℕ) (space space′ : List ℕ) → at ≡ mapAt z → space ≡ mapped z t p ++ rest
+        → NextGiven (leftSize z t) (z .width) at (t + 1) space space′ → space′ ≡ mapped z (t + 1) p ++ rest
+    next-mapped at space space′ a e g = next-there space′ (rw (a, e) at g)
 
 -- The space before the first seam: the picture, and zeros for the work and the map.
 pub first-mapped : (z : Size) (b rest : List ℕ) (n : ℕ) → length b ≡ pictureBytes z → n ≡ pixels z + mapBytes z

@@ -32,8 +32,8 @@ fn cut_seams(space: &mut [u8], size: Size, depth: usize)
     let height = size.height;
     let kind = size.kind;
     let bytes = pictures::picture_bytes(size);
-    let at = bytes + height * width;
-    let end = at + height * (2 * width);
+    let at = map_rules::map_at(size);
+    let end = at + map_rules::map_bytes(size);
     pictures::clear(&mut space[bytes..end]);
     for t in 0..depth {
         let left = Size {

@@ -22,14 +22,14 @@ use Rattle.map_theory.proofs.Maps.{map-grid}
 use Rattle.map_theory.proofs.Judged.{judged-map}
 use Rattle.map_theory.proofs.Building.{flat-same, judged-rebuilt}
 use Rattle.seam_theory.specs.PictureSeams.{seamOf}
-use Rattle.map_build.specs.Numbers.{pairs}
-use Rattle.map_rules.specs.Spaces.{mapBytes, mapAt, mapSpaceRules}
-use Rattle.map_rules.proofs.Rooms.{room-served}
+use Rattle.pictures.specs.Numbers.{pairs, numbersIn}
+use Rattle.map_rules.specs.Spaces.{mapBytes, mapAt, mapSpaceRules, recordedAt}
+use Rattle.map_rules.proofs.Rooms.{map-bytes, room-served}
 use Rattle.map_build.specs.Building.{mapped, MapGiven}
 use Rattle.seam_theory.proofs.Choosing.{seam-chooses}
 use Rattle.map_build.proofs.Spaces.{there-ofSize}
 use Rattle.map_build.proofs.Steps.{map-long, drop-front}
-use Rattle.map_check.specs.Checking.{numbersIn, recordedAt, recordedIn, recordedRules}
+use Rattle.map_check.specs.Checking.{recordedIn, recordedRules}
 use Rattle.map_check.specs.Inner.Judging.{besideBuilt}
 use Rattle.pictures.proofs.TwoBytes.{numbers-pairs, length-numbers}
 use Rattle.map_check.proofs.Spaces.{Fits}
@@ -58,9 +58,7 @@ module _ (z : Size) (depth : ℕ) (space : List ℕ) (fits : Fits z depth (lengt
   recorded-long = length-take-le (mapBytes z) (drop (recordedAt z) space) (omega (arith, length-drop (recordedAt z) space, fits .long))
 
   numbers-long : length (numbersIn recorded) ≡ z .height * z .width
-  numbers-long =
-      let two : z .height * (2 * z .width) ≡ 2 * (z .height * z .width) = sym (mul-assoc (z .height) 2 (z .width)) ∙ ap (_* z .width) (mul-comm (z .height) 2) ∙ mul-assoc 2 (z .height) (z .width) in
-      omega (arith, length-numbers recorded, recorded-long, two)
+  numbers-long = omega (arith, length-numbers recorded, recorded-long, map-bytes z)
 
   grid-p : Grid (z .width) (z .height) p
   grid-p = grid-of (there-ofSize z space (omega (arith, fits .long)))
@@ -126,12 +124,16 @@ module _ (z : Size) (depth : ℕ) (space : List ℕ) (fits : Fits z depth (lengt
         ∙ ap (λ n. take (n + mapBytes z) (pairs (flat new) ++ rest)) (sym (map-long z p o depth (fits .room .deep)))
         ∙ take-append-add (pairs (flat new)) rest (mapBytes z)
 
-  -- The same where the picture's bytes are known by an equation.
-  pub maps-at : (b : ℕ) (answer : Verdict) (front : List ℕ) → b ≡ pictureBytes z → MapGiven (take (b + pixels z + mapBytes z) space) z depth answer front
-      → take (b + pixels z + mapBytes z + mapBytes z - (b + pixels z)) (drop (b + pixels z) (front ++ drop (b + pixels z + mapBytes z) space)) ≡ pairs (flat new) ++ recorded
-  maps-at b answer front e g =
-      let n : recordedAt z + mapBytes z - mapAt z ≡ mapBytes z + mapBytes z = omega arith in
-      rw (e, n) (maps-are answer front (rw e at g))
+  -- The same with the places as they are given out.
+  module _ (at n : ℕ) (at-is : at ≡ recordedAt z) (n-is : n ≡ mapBytes z) where
+    pub rows-at : every (numbers depth) (rowsOf w h (numbersIn (take (at + n - at) (drop at space)))) ≡ every (numbers depth) m
+    rows-at = let one : recordedAt z + mapBytes z - recordedAt z ≡ mapBytes z = omega arith in rw (at-is, n-is, one)
+
+    pub maps-at : (built : ℕ) (answer : Verdict) (front : List ℕ) → built ≡ mapAt z → MapGiven (take at space) z depth answer front
+        → take (at + n - built) (drop built (front ++ drop at space)) ≡ pairs (flat new) ++ recorded
+    maps-at built answer front e g =
+        let two : recordedAt z + mapBytes z - mapAt z ≡ mapBytes z + mapBytes z = omega arith in
+        rw (at-is, n-is, e, two) (maps-are answer front (rw at-is at g))
 
 -- After success and after 9, 10 and 11 it is the first.
 pub worked-judged : {A : Type 0} (z : Size) (depth : ℕ) (p : Picture) (m : List (List ℕ)) (x y : A) → worked (refusal (recordedRules z depth p m)) x y ≡ x

@@ -4,9 +4,8 @@ use Prim.Native.Nat.{ℕ, _+_, _≤_}
 use native.Mathlib.Omega.{arith}
 use Rattle.pictures.specs.declared.sizes.Size.{Size}
 use Rattle.pictures.specs.Refusals.{refusal, served}
-use Rattle.map_rules.specs.Spaces.{mapBytes, mapSpaceRules}
+use Rattle.map_rules.specs.Spaces.{mapBytes, mapSpaceRules, recordedAt}
 use Rattle.map_rules.proofs.Rooms.{Room, room-is}
-use Rattle.map_check.specs.Checking.{recordedAt}
 
 -- There is room for the map, and after it for the recorded one.
 pub record Fits (z : Size) (depth space : ℕ) : Type 0 where

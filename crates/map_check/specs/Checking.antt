@@ -11,19 +11,10 @@ use Rattle.pictures.specs.Refusals.{Rule, given, refusal, worked}
 use Rattle.pictures.specs.Pictures.{Picture, pictureIn}
 use Rattle.map_theory.specs.Judged.{mapRules}
 use Rattle.seam_theory.specs.PictureSeams.{seamOf}
-use Rattle.map_rules.specs.Spaces.{mapBytes, mapAt, mapSpaceRules}
+use Rattle.pictures.specs.Numbers.{numbersIn}
+use Rattle.map_rules.specs.Spaces.{mapBytes, recordedAt, mapSpaceRules}
 
 -- The map recorded in a space.
-abbrev pub numbersIn : List ℕ → List ℕ
-numbersIn [] = []
-numbersIn (a ∷ []) = []
-numbersIn (a ∷ b ∷ r) = (a + 256 * b) ∷ numbersIn r
-
--- In the space stand, one after the other: the picture, a byte for each pixel and two bytes for each pixel for work, and the
--- recorded map.
-abbrev pub recordedAt : Size → ℕ
-recordedAt z = mapAt z + mapBytes z
-
 abbrev pub recordedIn : Size → List ℕ → List (List ℕ)
 recordedIn z space = rowsOf (z .width) (z .height) (numbersIn (take (mapBytes z) (drop (recordedAt z) space)))
 

@@ -34,10 +34,9 @@ fn judge_rows(space: &mut [u8], size: Size, depth: usize) -> Verdict
 {
     let width = size.width;
     let height = size.height;
-    let map = height * (2 * width);
-    let built = pictures::picture_bytes(size) + height * width;
-    let at = built + map;
-    let end = at + map;
+    let built = map_rules::map_at(size);
+    let at = map_rules::recorded_at(size);
+    let end = at + map_rules::map_bytes(size);
     if !numbers::numbered(&space[at..end], width, height, depth) {
         return Verdict::Refused(Refusal::MapRow);
     }

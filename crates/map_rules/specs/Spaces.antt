@@ -13,6 +13,10 @@ mapBytes z = z .height * (2 * z .width)
 abbrev pub mapAt : Size → ℕ
 mapAt z = pictureBytes z + pixels z
 
+-- The recorded map stands after the first.
+abbrev pub recordedAt : Size → ℕ
+recordedAt z = mapAt z + mapBytes z
+
 -- Where the last of n maps ends, one standing after the other.
 abbrev pub mapsEnd : Size → ℕ → ℕ
 mapsEnd z zero = mapAt z

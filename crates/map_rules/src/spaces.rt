@@ -1,20 +1,35 @@
-// Whether buffers are as long as pictures, maps and rows ask.
+// The layout of a space for a picture and its maps, and whether buffers are as long as pictures, maps and rows ask.
 use pictures::Kind;
 use pictures::Refusal;
 use pictures::Size;
 use pictures::Verdict;
+use pictures::numbers::wide;
 ghost use mathlib.Core.Path.{_≡_};
-ghost use Prim.Native.Nat.{_*_, _<_};
+ghost use Prim.Native.Nat.{_*_};
 ghost use lib.Dec.{eqb, leb};
-ghost use Rattle.pictures.specs.Refusals.{given, refusal};
-ghost use Rattle.pictures.specs.Pictures.{channelsOf};
-ghost use Rattle.map_rules.specs.Spaces.{mapSpaceRules};
+ghost use Rattle.pictures.specs.Refusals.{given, refusal, served};
+ghost use Rattle.pictures.specs.Pictures.{channelsOf, sideRules};
+ghost use Rattle.map_rules.specs.Spaces.{mapBytes, mapAt, recordedAt, mapSpaceRules};
 
-// A number of maps to count with.
-fn wide(maps: u8) -> usize
-    ensures { λ n. ⌜ (n ≡ maps) × (n < 256) ⌝ }
+// Bytes of a map of a picture of this size, two a pixel; 0 where its sides are refused.
+pub fn map_bytes(size: Size) -> usize
+    ensures { λ n. ⌜ n ≡ served (refusal (sideRules size)) (mapBytes size) 0 ⌝ }
 {
-    maps as usize
+    2 * pictures::pixels(size)
+}
+
+// Where the first map stands in a space: after the picture and a byte for each pixel; 0 where the sides are refused.
+pub fn map_at(size: Size) -> usize
+    ensures { λ n. ⌜ n ≡ served (refusal (sideRules size)) (mapAt size) 0 ⌝ }
+{
+    pictures::picture_bytes(size) + pictures::pixels(size)
+}
+
+// Where the recorded map stands in a space: after the first; 0 where the sides are refused.
+pub fn recorded_at(size: Size) -> usize
+    ensures { λ n. ⌜ n ≡ served (refusal (sideRules size)) (recordedAt size) 0 ⌝ }
+{
+    map_at(size) + map_bytes(size)
 }
 
 // Which of 2, 3, 6 and 8 refuses a map of this depth in a space of this length, or none. The space holds this number of maps:
@@ -27,12 +42,10 @@ pub fn judge_map_space(size: Size, depth: usize, space: usize, maps: u8) -> Verd
         return fits;
     };
     let width = size.width;
-    let height = size.height;
     if width <= depth {
         return Verdict::Refused(Refusal::Range);
     }
-    let map = height * (2 * width);
-    if space < pictures::picture_bytes(size) + height * width + wide(maps) * map {
+    if space < map_at(size) + wide(maps) * map_bytes(size) {
         return Verdict::Refused(Refusal::Space);
     }
     Verdict::Served

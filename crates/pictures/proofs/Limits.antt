@@ -1,8 +1,8 @@
 -- What it says of a size that 2, 3 and 4 don't refuse a buffer.
-use mathlib.Core.Path.{_≡_, refl, sym, _∙_}
-use mathlib.Core.Bool.{Bool, true, false, cond, not, _||_}
+use mathlib.Core.Path.{_≡_, refl, sym, ap, _∙_}
+use mathlib.Core.Bool.{false, cond, not, _||_}
 use mathlib.Core.List.{[], _∷_}
-use Prim.Native.Nat.{ℕ, zero, suc, _*_, _≤_, _<_}
+use Prim.Native.Nat.{ℕ, zero, suc, _+_, _*_, _≤_, _<_}
 use native.Mathlib.Nat.{mul-le-mul, mul-le-mul-left, mul-comm, mul-assoc, mul-zero}
 use native.Mathlib.Omega.{arith}
 use lib.Dec.{eqb, ltb}
@@ -108,9 +108,17 @@ pixels-few z = go (refusal (sideRules z)) refl
     go zero e = sides-are z e .pixels-most
     go (suc n) e = omega arith
 
+-- What is given out for a size whose sides are served.
+pub given-out : (z : Size) (n x : ℕ) → refusal (sideRules z) ≡ 0 → n ≡ served (refusal (sideRules z)) x 0 → n ≡ x
+given-out z n x e is = is ∙ ap (λ r. served r x 0) e
+
 pub served-times : (n k x : ℕ) → k * served n x 0 ≡ served n (k * x) 0
 served-times zero k x = refl
 served-times (suc n) k x = mul-zero k
+
+pub served-plus : (n x y : ℕ) → served n x 0 + served n y 0 ≡ served n (x + y) 0
+served-plus zero x y = refl
+served-plus (suc n) x y = omega arith
 
 -- A picture that is served has sides that are, and the length that they say.
 pub sides-served : (z : Size) (bytes : ℕ) → refusal (sizeRules z bytes) ≡ 0 → refusal (sideRules z) ≡ 0

@@ -22,8 +22,7 @@ pub fn judge_find_in(size: Size, marked: bool, space: usize, seam: usize) -> Ver
     if seam < height {
         return Verdict::Refused(Refusal::Space);
     }
-    let width = size.width;
-    let needed = pictures::picture_bytes(size) + bytes_after(height * width, marked);
+    let needed = pictures::picture_bytes(size) + bytes_after(pictures::pixels(size), marked);
     if space < needed {
         return Verdict::Refused(Refusal::Space);
     }

@@ -11,7 +11,7 @@ use Rattle.grids.specs.Rows.{flat}
 use Rattle.pictures.specs.declared.sizes.Size.{Size}
 use Rattle.pictures.specs.declared.refusals.Refusal.{Refusal}
 use Rattle.pictures.specs.Refusals.{refusal, served}
-use Rattle.pictures.specs.Pictures.{channelsOf, pictureBytes, bytes, pixels}
+use Rattle.pictures.specs.Pictures.{channelsOf, pictureBytes, bytes, pixels, workBytes}
 use Rattle.pictures.proofs.Limits.{sides-are}
 use Rattle.seam_rules.specs.declared.answers.Found.{Found}
 use Rattle.seam_rules.specs.declared.answers.Found.the-variants.{Seam, Refused}
@@ -33,14 +33,14 @@ part-back false n k x freed b b′ e f = ap (_++ drop k b) (f ∙ ap (λ n. serv
 module _ {z : Size} {b m work : List ℕ} (need : FrontNeeded z b m work) where
   -- Only 12 refuses it.
   front-number : (seam : ℕ) → z .height ≤ seam
-      → refusal (markedCutRules Vertical z (take (pictureBytes z) b) (take (pixels z) m) seam (length (take (32 * pixels z) work))) ≡ cond (noSeam (front z b m)) 12 0
+      → refusal (markedCutRules Vertical z (take (pictureBytes z) b) (take (pixels z) m) seam (length (take (workBytes z) work))) ≡ cond (noSeam (front z b m)) 12 0
   unfolding blockedAlong turned
   front-number seam long =
       let s = sides-are z (need .sides) in
       let w : z .width ≡ 0 → ⊥ = λ e. omega (arith, s .width-some) in
       let h : z .height ≡ 0 → ⊥ = λ e. omega (arith, s .height-some) in
       let one : z .width ≡ 1 → ⊥ = λ e. omega (arith, need .wide) in
-      let room : 32 * pixels z ≤ length (take (32 * pixels z) work) = omega (arith, length-take-le (32 * pixels z) work (need .room)) in
+      let room : workBytes z ≤ length (take (workBytes z) work) = omega (arith, length-take-le (workBytes z) work (need .room)) in
       simp (
         ne-eqb _ _ w,
         ne-eqb _ _ h,
@@ -54,18 +54,18 @@ module _ {z : Size} {b m work : List ℕ} (need : FrontNeeded z b m work) where
         ne-eqb _ _ one,
       )
 
-  -- The number, where k bytes of the picture are lent.
-  abbrev numberAt : ℕ → ℕ → ℕ
-  numberAt k seam = refusal (markedCutRules Vertical z (take k b) (take (pixels z) m) seam (length (take (32 * pixels z) work)))
+  -- The number, where k bytes of the picture, n marks and this room for work are lent.
+  abbrev numberAt : ℕ → ℕ → ℕ → ℕ → ℕ
+  numberAt k n room seam = refusal (markedCutRules Vertical z (take k b) (take n m) seam (length (take room work)))
 
   cut-at : (seam : ℕ) → z .height ≤ seam → (b′ m′ : List ℕ) (t : Bool) → t ≡ not (noSeam (front z b m))
-      → MarkedPictureCut (take (pictureBytes z) b) (take (pixels z) m) z Vertical (numberAt (pictureBytes z) seam) b′
-      → MarkedMarksCut (take (pictureBytes z) b) (take (pixels z) m) z Vertical (numberAt (pictureBytes z) seam) m′
+      → MarkedPictureCut (take (pictureBytes z) b) (take (pixels z) m) z Vertical (numberAt (pictureBytes z) (pixels z) (workBytes z) seam) b′
+      → MarkedMarksCut (take (pictureBytes z) b) (take (pixels z) m) z Vertical (numberAt (pictureBytes z) (pixels z) (workBytes z) seam) m′
       → FrontCut z b m t (b′ ++ drop (pictureBytes z) b) (m′ ++ drop (pixels z) m)
   unfolding markedSeamAlong cutAlong turned cutOnce
   cut-at seam long b′ m′ t is p q =
       let u = noSeam (front z b m) in
-      let n = numberAt (pictureBytes z) seam in
+      let n = numberAt (pictureBytes z) (pixels z) (workBytes z) seam in
       let left = cutOnce (front z b m) in
       let gap : List ℕ = replicate (z .height * channelsOf (z .kind)) 0 in
       record {
@@ -78,21 +78,21 @@ module _ {z : Size} {b m work : List ℕ} (need : FrontNeeded z b m work) where
             ∙ ap (λ t. cond t (flat (left .marks) ++ (replicate (z .height) 0 ++ drop (pixels z) m)) m) (sym is);
       }
 
-  module _ {k : ℕ} (e : k ≡ pictureBytes z) {seam : ℕ} (long : z .height ≤ seam) where
-    number-is : numberAt k seam ≡ cond (noSeam (front z b m)) 12 0
-    number-is = rw e (front-number seam long)
+  module _ {k n room : ℕ} (e : k ≡ pictureBytes z) (f : n ≡ pixels z) (g : room ≡ workBytes z) {seam : ℕ} (long : z .height ≤ seam) where
+    number-is : numberAt k n room seam ≡ cond (noSeam (front z b m)) 12 0
+    number-is = rw (e, f, g) (front-number seam long)
 
     -- The answer says whether there was a seam.
-    module _ (answer : Found) (n : foundNumber answer ≡ numberAt k seam) where
+    module _ (answer : Found) (told : foundNumber answer ≡ numberAt k n room seam) where
       pub front-found : (cost : ℕ) → answer ≡ Seam cost → true ≡ not (noSeam (front z b m))
-      front-found cost is = sym (ap not (seam-free (noSeam (front z b m)) answer (n ∙ number-is) cost is))
+      front-found cost is = sym (ap not (seam-free (noSeam (front z b m)) answer (told ∙ number-is) cost is))
 
       pub front-refused : (why : Refusal) → answer ≡ Refused why → false ≡ not (noSeam (front z b m))
-      front-refused why is = sym (ap not (refused-blocked (noSeam (front z b m)) answer (n ∙ number-is) why is))
+      front-refused why is = sym (ap not (refused-blocked (noSeam (front z b m)) answer (told ∙ number-is) why is))
 
     -- What stands in the buffers then.
     pub front-cut : (b′ m′ : List ℕ) (t : Bool) → t ≡ not (noSeam (front z b m))
-        → MarkedPictureCut (take k b) (take (pixels z) m) z Vertical (numberAt k seam) b′
-        → MarkedMarksCut (take k b) (take (pixels z) m) z Vertical (numberAt k seam) m′
-        → FrontCut z b m t (b′ ++ drop k b) (m′ ++ drop (pixels z) m)
-    front-cut = rw e (cut-at seam long)
+        → MarkedPictureCut (take k b) (take n m) z Vertical (numberAt k n room seam) b′
+        → MarkedMarksCut (take k b) (take n m) z Vertical (numberAt k n room seam) m′
+        → FrontCut z b m t (b′ ++ drop k b) (m′ ++ drop n m)
+    front-cut = rw (e, f, g) (cut-at seam long)

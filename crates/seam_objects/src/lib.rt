@@ -82,11 +82,9 @@ fn cut_front(picture: &mut [u8], marks: &mut [u8], size: Size, work: &mut [u8]) 
     requires { ⌜ FrontNeeded size (now picture) (now marks) (now work) ⌝ }
     ensures { λ t. ⌜ FrontCut size (now (picture .entry)) (now (marks .entry)) t (now (picture .exit)) (now (marks .exit)) ⌝ }
 {
-    let width = size.width;
-    let height = size.height;
     let bytes = pictures::picture_bytes(size);
-    let pixels = height * width;
-    let room = 32 * pixels;
+    let pixels = pictures::pixels(size);
+    let room = pictures::work_bytes(size);
     let mut seam = [0u16; LARGEST_SIDE];
     let found = seam_cut_marked::cut_marked(
         &mut picture[..bytes],

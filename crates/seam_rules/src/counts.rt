@@ -59,7 +59,7 @@ pub fn judge_retarget(
     if out < pictures::picture_bytes(smaller(size, rows, columns)) {
         return Verdict::Refused(Refusal::Space);
     }
-    if work < 32 * (height * width) + 66 * bytes {
+    if work < pictures::work_bytes(size) + 66 * bytes {
         return Verdict::Refused(Refusal::Space);
     }
     Verdict::Served

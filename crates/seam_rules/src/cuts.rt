@@ -18,14 +18,12 @@ pub fn judge_find(size: Size, axis: Axis, bytes: usize, seam: usize, work: usize
     let Verdict::Served = fits else {
         return fits;
     };
-    let width = size.width;
-    let height = size.height;
     let turned = turned_size(axis, size);
-    let long = turned.height;
-    if seam < long {
+    let needed = turned.height;
+    if seam < needed {
         return Verdict::Refused(Refusal::Space);
     }
-    if work < 32 * (height * width) {
+    if work < pictures::work_bytes(size) {
         return Verdict::Refused(Refusal::Space);
     }
     Verdict::Served
@@ -39,9 +37,7 @@ pub fn judge_marks(size: Size, bytes: usize, marks: usize) -> Verdict
     let Verdict::Served = fits else {
         return fits;
     };
-    let width = size.width;
-    let height = size.height;
-    if marks != height * width {
+    if marks != pictures::pixels(size) {
         return Verdict::Refused(Refusal::Count);
     }
     Verdict::Served

@@ -1,7 +1,11 @@
 -- `file_build::put_file` meets its contract.
-use mathlib.Core.Path.{refl}
+use mathlib.Core.Path.{_≡_, ap}
+use Prim.Native.Nat.{_+_}
 use native.Mathlib.Omega.{arith}
 use denote.Ref.{now}
+use lib.ListN.{length}
+use Rattle.pictures.proofs.Limits.{sides-served, given-out}
+use Rattle.map_rules.specs.Spaces.{mapBytes, mapAt}
 use Rattle.file_build.proofs.Answers.{Rooms, rooms-are, inside, print-needed, file-given}
 use borrow.Author.Needs.{needs}
 use Rattle.file_build.proofs.put_file.Statement.{statement}
@@ -9,6 +13,31 @@ use Rattle.file_build.proofs.put_file.Tie as tie
 
 sure : (s : tie.Start) → let a = s .args in Rooms (now (a .picture)) (a .head) (now (a .out)) (now (a .work)) (s .pre)
 sure s = let a = s .args in rooms-are (now (a .picture)) (a .head) (now (a .out)) (now (a .work)) (s .pre)
+
+-- after the map is built: the copy, the map, and where it stands
+abbrev start : tie.After-map-bytes → tie.Start
+start m = m .before .before .before .before .before .before .before .before .before .before .before .before .before .before
+
+abbrev copied : tie.After-map-bytes → tie.After-copy
+copied m = m .before .before .before .before .before .before .before .before
+
+abbrev mapped : tie.After-map-bytes → tie.After-map-in
+mapped m = m .before .before .before .before
+
+at-is : (m : tie.After-map-bytes) → m .before .map-at .result ≡ mapAt (start m .args .head .size)
+at-is m =
+    let s = start m in
+    let z = s .args .head .size in
+    given-out z _ (mapAt z) (sides-served z (length (now (s .args .picture))) (sure s .sized)) (m .before .map-at .ensures)
+
+map-is : (m : tie.After-map-bytes) → m .map-bytes .result ≡ mapBytes (start m .args .head .size)
+map-is m =
+    let s = start m in
+    let z = s .args .head .size in
+    given-out z _ (mapBytes z) (sides-served z (length (now (s .args .picture))) (sure s .sized)) (m .map-bytes .ensures)
+
+end-is : (m : tie.After-map-bytes) → m .before .map-at .result + m .map-bytes .result ≡ m .before .map-at .result + mapBytes (start m .args .head .size)
+end-is m = ap (m .before .map-at .result +_) (map-is m)
 
 copy-requires : tie.Need-copy-requires
 copy-requires c κs =
@@ -18,30 +47,16 @@ copy-requires c κs =
 map-in-requires : tie.Need-map-in-requires
 map-in-requires c κs = search needs
 
-mul-at : tie.Need-mul-at
-mul-at c =
-    let s = c .before .before .before .before .before .before .before .before .before .before .before .before in
-    omega (arith, sure s .few, sure s .map-is, sure s .sure .length-is, sure s .sure .picture-most, sure s .sure .width-most)
+map-at-requires : tie.Need-map-at-requires
+map-at-requires c κs = search needs
 
-add-at : tie.Need-add-at
-add-at c =
-    let s = c .before .before .before .before .before .before .before .before .before .before .before .before in
-    omega (arith, sure s .few, sure s .map-is, sure s .sure .length-is, sure s .sure .picture-most, sure s .sure .width-most)
-
-mul-end : tie.Need-mul-end
-mul-end c =
-    let s = c .before .before .before .before .before .before .before .before .before .before .before .before in
-    omega (arith, sure s .few, sure s .map-is, sure s .sure .length-is, sure s .sure .picture-most, sure s .sure .width-most)
-
-mul-end-2 : tie.Need-mul-end-2
-mul-end-2 c =
-    let s = c .before .before .before .before .before .before .before .before .before .before .before .before in
-    omega (arith, sure s .few, sure s .map-is, sure s .sure .length-is, sure s .sure .picture-most, sure s .sure .width-most)
+map-bytes-requires : tie.Need-map-bytes-requires
+map-bytes-requires c κs = search needs
 
 add-end : tie.Need-add-end
-add-end c =
-    let s = c .before .before .before .before .before .before .before .before .before .before .before .before in
-    omega (arith, sure s .few, sure s .map-is, sure s .sure .length-is, sure s .sure .picture-most, sure s .sure .width-most)
+add-end m =
+    let r = sure (start m) in
+    omega (arith, at-is m, map-is m, r .few, r .map-is, r .sure .picture-most)
 
 sub-print-file : tie.Need-sub-print-file
 sub-print-file c = search needs
@@ -51,19 +66,19 @@ part-print-file-start c = search needs
 
 part-print-file-end : tie.Need-part-print-file-end
 part-print-file-end c =
-    let at-map-in = c .before .before .before in
-    let at-copy = at-map-in .before .before .before .before in
-    let s = at-copy .before .before .before .before .before .before in
-    let a = s .args in
-    inside (now (a .picture)) (a .head) (now (a .out)) (now (a .work)) (s .pre) (at-copy .copy .last .1 .0) (at-copy .copy .ensures .1) (at-copy .copy .kept .1 .0) (at-map-in .map-in .result) (at-map-in .map-in .last .0) (at-map-in .map-in .ensures) _ _ refl refl (at-map-in .map-in .kept .0)
+    let m = c .before in
+    let a = start m .args in
+    let o = copied m .copy in
+    let i = mapped m .map-in in
+    inside (now (a .picture)) (a .head) (now (a .out)) (now (a .work)) (start m .pre) (o .last .1 .0) (o .ensures .1) (o .kept .1 .0) (i .result) (i .last .0) (i .ensures) _ _ (at-is m) (end-is m) (i .kept .0)
 
 print-file-requires : tie.Need-print-file-requires
 print-file-requires c κs =
-    let at-map-in = c .before .before .before .before .before in
-    let at-copy = at-map-in .before .before .before .before in
-    let s = at-copy .before .before .before .before .before .before in
-    let a = s .args in
-    print-needed (now (a .picture)) (a .head) (now (a .out)) (now (a .work)) (s .pre) (at-copy .copy .last .1 .0) (at-copy .copy .ensures .1) (at-copy .copy .kept .1 .0) (at-map-in .map-in .result) (at-map-in .map-in .last .0) (at-map-in .map-in .ensures) _ _ refl refl (at-map-in .map-in .kept .0)
+    let m = c .before .before .before in
+    let a = start m .args in
+    let o = copied m .copy in
+    let i = mapped m .map-in in
+    print-needed (now (a .picture)) (a .head) (now (a .out)) (now (a .work)) (start m .pre) (o .last .1 .0) (o .ensures .1) (o .kept .1 .0) (i .result) (i .last .0) (i .ensures) _ _ (at-is m) (end-is m) (i .kept .0)
 
 clear-requires : tie.Need-clear-requires
 clear-requires c κs = search needs
@@ -78,11 +93,11 @@ returns : tie.Need-returns
 returns c =
     let at-clear = c .before .before in
     let at-print-file = at-clear .before .before .before .before in
-    let at-map-in = at-print-file .before .before .before .before .before .before in
-    let at-copy = at-map-in .before .before .before .before in
-    let s = at-copy .before .before .before .before .before .before in
-    let a = s .args in
-    file-given (now (a .picture)) (a .head) (now (a .out)) (now (a .work)) (s .pre) (at-copy .copy .last .1 .0) (at-copy .copy .ensures .1) (at-copy .copy .kept .1 .0) (at-map-in .map-in .result) (at-map-in .map-in .last .0) (at-map-in .map-in .ensures) _ _ refl refl (at-map-in .map-in .kept .0) _ _ _ (at-print-file .print-file .ensures) (at-clear .clear .ensures)
+    let m = at-print-file .before .before .before .before in
+    let a = start m .args in
+    let o = copied m .copy in
+    let i = mapped m .map-in in
+    file-given (now (a .picture)) (a .head) (now (a .out)) (now (a .work)) (start m .pre) (o .last .1 .0) (o .ensures .1) (o .kept .1 .0) (i .result) (i .last .0) (i .ensures) _ _ (at-is m) (end-is m) (i .kept .0) _ _ _ (at-print-file .print-file .ensures) (at-clear .clear .ensures)
 
 pub put-file-spec : {M : Type 1} → statement M
 put-file-spec =
@@ -90,10 +105,8 @@ put-file-spec =
     (tie.spec
     copy-requires
     map-in-requires
-    mul-at
-    add-at
-    mul-end
-    mul-end-2
+    map-at-requires
+    map-bytes-requires
     add-end
     sub-print-file
     part-print-file-start

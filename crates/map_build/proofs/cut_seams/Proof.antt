@@ -1,15 +1,16 @@
--- `map_build::cut_seams` meets its contract. The invariant: what stands in the space after t seams.
+-- `map_build::cut_seams` meets its contract. The invariant: what stands in the space after t seams. The measure is the number of
+-- seams left.
 use mathlib.Core.Path.{_≡_, refl, sym, ap, ap₂, _∙_}
-use mathlib.Core.List.{_++_}
-use Prim.Native.Nat.{_+_, _-_, _*_, _≤_}
+use mathlib.Core.List.{List, _++_}
+use Prim.Native.Nat.{ℕ, _+_, _-_, _≤_}
 use native.Mathlib.Omega.{arith}
 use borrow.Author.Needs.{needs}
 use borrow.Rule.Slice.PartMut.{putMid}
 use denote.Ref.{now}
 use lib.ListN.{length, drop}
 use Rattle.pictures.specs.declared.sizes.Size.{Size}
-use Rattle.pictures.specs.Refusals.{served}
 use Rattle.pictures.specs.Pictures.{pictureBytes, pictureIn}
+use Rattle.pictures.proofs.Limits.{given-out}
 use Rattle.map_rules.specs.Spaces.{mapBytes, mapAt}
 use Rattle.map_build.specs.Building.{mapped}
 use Rattle.map_build.proofs.Steps.{next-mapped}
@@ -29,58 +30,57 @@ abbrev μ-loop : tie.MeasureT-loop
 room : (s : tie.Start Inv-loop μ-loop) → Room (s .args .size) (s .args .depth) (length (now (s .args .space))) 1
 room s = room-is (s .args .size) (s .args .depth) (length (now (s .args .space))) 1 (s .pre .served)
 
-bytes-are : (c : tie.After-picture-bytes Inv-loop μ-loop) → c .picture-bytes .result ≡ pictureBytes (c .before .before .args .size)
-bytes-are c =
-    let s = c .before .before in
-    c .picture-bytes .ensures ∙ ap (λ n. served n (pictureBytes (s .args .size)) 0) (room s .served)
+-- where the picture ends, and where the map stands and ends
+abbrev start : tie.After-map-bytes Inv-loop μ-loop → tie.Start Inv-loop μ-loop
+start c = c .before .before .before .before
+
+abbrev size : tie.After-map-bytes Inv-loop μ-loop → Size
+size c = start c .args .size
+
+abbrev space₀ : tie.After-map-bytes Inv-loop μ-loop → List ℕ
+space₀ c = now (start c .args .space)
+
+bytes-are : (c : tie.After-map-bytes Inv-loop μ-loop) → c .before .before .picture-bytes .result ≡ pictureBytes (size c)
+bytes-are c = given-out (size c) _ (pictureBytes (size c)) (room (start c) .served) (c .before .before .picture-bytes .ensures)
+
+at-is : (c : tie.After-map-bytes Inv-loop μ-loop) → c .before .map-at .result ≡ mapAt (size c)
+at-is c = given-out (size c) _ (mapAt (size c)) (room (start c) .served) (c .before .map-at .ensures)
+
+map-is : (c : tie.After-map-bytes Inv-loop μ-loop) → c .map-bytes .result ≡ mapBytes (size c)
+map-is c = given-out (size c) _ (mapBytes (size c)) (room (start c) .served) (c .map-bytes .ensures)
 
 -- the space before the first seam
-first : (k : tie.After-clear Inv-loop μ-loop) → let b = k .before .before .picture-bytes .result in let a = k .before .before .before .before .args in
-    First (a .size) (now (a .space)) (putMid b (b + a .size .height * a .size .width + a .size .height * (2 * a .size .width) - b) (now (a .space)) (k .clear .last .0))
+abbrev cleared : tie.After-clear Inv-loop μ-loop → List ℕ
+cleared k =
+    let m = k .before .before in
+    let b = m .before .before .picture-bytes .result in
+    putMid b (m .before .map-at .result + m .map-bytes .result - b) (space₀ m) (k .clear .last .0)
+
+first : (k : tie.After-clear Inv-loop μ-loop) → First (size (k .before .before)) (space₀ (k .before .before)) (cleared k)
 first k =
-    let s = k .before .before .before .before in
-    rw (bytes-are (k .before .before)) (first-is (s .args .size) (now (s .args .space)) (k .clear .last .0) (room s .long) (rw (bytes-are (k .before .before)) at (k .clear .ensures)))
+    let m = k .before .before in
+    first-is (size m) (space₀ m) (k .clear .last .0) _ _ _ (bytes-are m) (at-is m) (map-is m) (room (start m) .long) (k .clear .ensures)
 
 picture-bytes-requires : tie.Need-picture-bytes-requires Inv-loop μ-loop
 picture-bytes-requires c κs = search needs
 
-mul-at : tie.Need-mul-at Inv-loop μ-loop
-mul-at c =
-    let s = c .before .before in
-    omega (arith, bytes-are c, room s .sides .picture-most, room s .sides .width-most, room s .pixels-most, room s .map-most, room s .long)
+map-at-requires : tie.Need-map-at-requires Inv-loop μ-loop
+map-at-requires c κs = search needs
 
-add-at : tie.Need-add-at Inv-loop μ-loop
-add-at c =
-    let s = c .before .before in
-    omega (arith, bytes-are c, room s .sides .picture-most, room s .sides .width-most, room s .pixels-most, room s .map-most, room s .long)
-
-mul-end : tie.Need-mul-end Inv-loop μ-loop
-mul-end c =
-    let s = c .before .before in
-    omega (arith, bytes-are c, room s .sides .picture-most, room s .sides .width-most, room s .pixels-most, room s .map-most, room s .long)
-
-mul-end-2 : tie.Need-mul-end-2 Inv-loop μ-loop
-mul-end-2 c =
-    let s = c .before .before in
-    omega (arith, bytes-are c, room s .sides .picture-most, room s .sides .width-most, room s .pixels-most, room s .map-most, room s .long)
+map-bytes-requires : tie.Need-map-bytes-requires Inv-loop μ-loop
+map-bytes-requires c κs = search needs
 
 add-end : tie.Need-add-end Inv-loop μ-loop
-add-end c =
-    let s = c .before .before in
-    omega (arith, bytes-are c, room s .sides .picture-most, room s .sides .width-most, room s .pixels-most, room s .map-most, room s .long)
+add-end c = let r = room (start c) in omega (arith, at-is c, map-is c, r .sides .picture-most, r .pixels-most, r .map-most)
 
 sub-clear : tie.Need-sub-clear Inv-loop μ-loop
-sub-clear c =
-    let s = c .before .before in
-    omega (arith, bytes-are c, room s .sides .picture-most, room s .sides .width-most, room s .pixels-most, room s .map-most, room s .long)
+sub-clear c = omega (arith, bytes-are c, at-is c)
 
 part-clear-start : tie.Need-part-clear-start Inv-loop μ-loop
-part-clear-start c = search needs
+part-clear-start c = omega (arith, bytes-are c, at-is c)
 
 part-clear-end : tie.Need-part-clear-end Inv-loop μ-loop
-part-clear-end c =
-    let s = c .before .before in
-    omega (arith, bytes-are c, room s .sides .picture-most, room s .sides .width-most, room s .pixels-most, room s .map-most, room s .long)
+part-clear-end c = omega (arith, at-is c, map-is c, room (start c) .long)
 
 clear-requires : tie.Need-clear-requires Inv-loop μ-loop
 clear-requires c κs = search needs
@@ -88,27 +88,29 @@ clear-requires c κs = search needs
 loop-holds : tie.Need-loop-holds Inv-loop μ-loop
 loop-holds c =
     let k = c .before .before in
-    let z = k .before .before .before .before .args .size in
     let f = first k in
-    (omega arith, refl, f .now-is ∙ sym (ap₂ (λ p r. mapped z 0 p ++ r) (f .same-picture) (f .same-rest)))
+    (omega arith, refl, f .now-is ∙ sym (ap₂ (λ p r. mapped (size (k .before .before)) 0 p ++ r) (f .same-picture) (f .same-rest)))
+
+-- at the loop: the space cleared
+abbrev clearing : tie.At-loop Inv-loop μ-loop → tie.After-clear Inv-loop μ-loop
+clearing h = h .before .before .before
+
+abbrev layout : tie.At-loop Inv-loop μ-loop → tie.After-map-bytes Inv-loop μ-loop
+layout h = clearing h .before .before
 
 sub-next-seam : tie.Need-sub-next-seam Inv-loop μ-loop
-sub-next-seam c =
-    let s = c .before .before .before .before .before .before .before .before in
-    omega (arith, room s .deep)
+sub-next-seam c = omega (arith, room (start (layout (c .before))) .deep)
 
 add-next-seam : tie.Need-add-next-seam Inv-loop μ-loop
-add-next-seam c =
-    let s = c .before .before .before .before .before .before .before .before .before in
-    omega (arith, room s .deep, room s .sides .width-most)
+add-next-seam c = let r = room (start (layout (c .before .before))) in omega (arith, r .deep, r .sides .width-most)
 
 next-seam-requires : tie.Need-next-seam-requires Inv-loop μ-loop
 next-seam-requires c κs =
     let h = c .before .before in
-    let k = h .before .before .before in
-    let s = k .before .before .before .before in
-    let long : length (h .loop .space) ≡ length (now (s .args .space)) = h .loop .inv .1 ∙ first k .same-long in
-    rw (long, bytes-are (k .before .before)) (next-needed (s .args .size) (s .args .depth) (length (now (s .args .space))) (h .loop .t) (room s) (c .before .loop-test .taken))
+    let m = layout h in
+    let s = start m in
+    let long : length (h .loop .space) ≡ length (space₀ m) = h .loop .inv .1 ∙ first (clearing h) .same-long in
+    next-needed (size m) (s .args .depth) (length (space₀ m)) (h .loop .t) _ _ (at-is m) long (room s) (c .before .loop-test .taken)
 
 add-t : tie.Need-add-t Inv-loop μ-loop
 add-t c = search needs
@@ -120,18 +122,16 @@ loop-again : tie.Need-loop-again Inv-loop μ-loop
 loop-again c =
     let at-next-seam = c .before .before in
     let h = at-next-seam .before .before .before in
-    let k = h .before .before .before in
-    let s = k .before .before .before .before in
-    let z = s .args .size in
-    let b = k .before .before .picture-bytes .result in
-    let space = putMid b (b + z .height * z .width + z .height * (2 * z .width) - b) (now (s .args .space)) (k .clear .last .0) in
+    let k = clearing h in
+    let m = layout h in
+    let z = size m in
     let n = at-next-seam .next-seam in
     let f = first k in
-    let r = room s in (
+    let r = room (start m) in (
       omega arith,
       n .kept .0 ∙ h .loop .inv .1,
-      next-mapped z (pictureIn z space) (there-ofSize z space (omega (arith, f .same-long, r .long))) (h .loop .t) (omega (arith, r .deep)) (drop (mapAt z + mapBytes z) space) (n .last .0)
-          (rw (bytes-are (k .before .before), h .loop .inv .2) at (n .ensures)),
+      next-mapped z (pictureIn z (cleared k)) (there-ofSize z (cleared k) (omega (arith, f .same-long, r .long))) (h .loop .t) (omega (arith, r .deep)) (drop (mapAt z + mapBytes z) (cleared k)) _ (h .loop .space) (n .last .0)
+          (at-is m) (h .loop .inv .2) (n .ensures),
     )
 
 same-length : tie.Need-same-length Inv-loop μ-loop
@@ -140,11 +140,11 @@ same-length c = search needs
 returns : tie.Need-returns Inv-loop μ-loop
 returns c =
     let h = c .before in
-    let k = h .before .before .before in
-    let z = k .before .before .before .before .args .size in
-    let f = first k in
-    let last : h .loop .t ≡ k .before .before .before .before .args .depth = omega arith in
-    record { space-is = h .loop .inv .2 ∙ ap₂ (λ p r. mapped z (h .loop .t) p ++ r) (f .same-picture) (f .same-rest) ∙ rw last }
+    let m = layout h in
+    let z = size m in
+    let f = first (clearing h) in
+    let last : h .loop .t ≡ start m .args .depth = omega arith in
+    record { space-is = h .loop .inv .2 ∙ ap₂ (λ p r. mapped z (h .loop .t) p ++ r) (f .same-picture) (f .same-rest) ∙ ap (λ t. mapped z t (pictureIn z (space₀ m)) ++ drop (mapAt z + mapBytes z) (space₀ m)) last }
 
 pub cut-seams-spec : {M : Type 1} → statement M
 cut-seams-spec =
@@ -153,10 +153,8 @@ cut-seams-spec =
     Inv-loop
     μ-loop
     picture-bytes-requires
-    mul-at
-    add-at
-    mul-end
-    mul-end-2
+    map-at-requires
+    map-bytes-requires
     add-end
     sub-clear
     part-clear-start

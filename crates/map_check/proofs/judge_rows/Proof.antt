@@ -1,6 +1,7 @@
-use mathlib.Core.Path.{_≡_, sym, ap, _∙_}
+-- `map_check::judge_rows` meets its contract: the rows' answer, then the map built is compared with the recorded one.
+use mathlib.Core.Path.{_≡_, sym, _∙_}
 use mathlib.Core.List.{List, _++_}
-use Prim.Native.Nat.{ℕ, _+_, _-_, _*_, _≤_}
+use Prim.Native.Nat.{ℕ, _+_, _-_, _≤_}
 use native.Mathlib.Omega.{arith}
 use borrow.Author.Needs.{needs}
 use borrow.Author.Tests.{not-true, not-false}
@@ -9,89 +10,85 @@ use lib.ListN.{length, take, drop}
 use lib.Seq.{length-take-le, length-front}
 use Rattle.grids.specs.Rows.{flat}
 use Rattle.grids.proofs.Parts.{part-length}
-use Rattle.pictures.specs.Refusals.{served}
-use Rattle.pictures.specs.Pictures.{pictureBytes, pictureIn}
+use Rattle.pictures.specs.declared.sizes.Size.{Size}
+use Rattle.pictures.specs.Pictures.{pictureIn}
+use Rattle.pictures.proofs.Limits.{given-out}
 use Rattle.map_theory.specs.Maps.{mapOf}
 use Rattle.map_theory.specs.Judged.{every, numbers}
 use Rattle.seam_theory.specs.PictureSeams.{seamOf}
-use Rattle.map_build.specs.Numbers.{pairs}
-use Rattle.map_rules.specs.Spaces.{mapBytes}
-use Rattle.map_check.specs.Checking.{recordedAt, recordedIn}
+use Rattle.pictures.specs.Numbers.{pairs}
+use Rattle.map_rules.specs.Spaces.{mapBytes, mapAt, recordedAt}
+use Rattle.map_check.specs.Checking.{recordedIn}
 use Rattle.map_check.proofs.Spaces.{Fits, fits-is}
-use Rattle.map_check.proofs.Answers.{nine, compared-is, maps-at}
+use Rattle.map_check.proofs.Answers.{nine, compared-is, rows-at, maps-at}
 use Rattle.map_check.proofs.judge_rows.Statement.{statement}
 use Rattle.map_check.proofs.judge_rows.Tie as tie
 
 fits : (s : tie.Start) → Fits (s .args .size) (s .args .depth) (length (now (s .args .space)))
 fits s = fits-is (s .args .size) (s .args .depth) (length (now (s .args .space))) (s .pre .served)
 
-bytes-are : (c : tie.After-picture-bytes) → c .picture-bytes .result ≡ pictureBytes (c .before .before .args .size)
-bytes-are c =
-    let s = c .before .before in
-    c .picture-bytes .ensures ∙ ap (λ n. served n (pictureBytes (s .args .size)) 0) (fits s .room .served)
+-- where the two maps stand, and the bytes of one
+abbrev start : tie.After-map-bytes → tie.Start
+start m = m .before .before .before .before
 
--- where the two maps stand
-abbrev built : tie.After-picture-bytes → ℕ
-built c = let z = c .before .before .args .size in c .picture-bytes .result + z .height * z .width
+abbrev size : tie.After-map-bytes → Size
+size m = start m .args .size
 
-abbrev at : tie.After-picture-bytes → ℕ
-at c =
-    let z = c .before .before .args .size in
-    c .picture-bytes .result + z .height * z .width + z .height * (2 * z .width)
+abbrev space : tie.After-map-bytes → List ℕ
+space m = now (start m .args .space)
 
-abbrev end : tie.After-picture-bytes → ℕ
-end c =
-    let z = c .before .before .args .size in
-    c .picture-bytes .result + z .height * z .width + z .height * (2 * z .width) + z .height * (2 * z .width)
+abbrev built : tie.After-map-bytes → ℕ
+built m = m .before .before .map-at .result
 
-ends : (c : tie.After-picture-bytes) → end c ≤ length (now (c .before .before .args .space))
-ends c = omega (arith, bytes-are c, fits (c .before .before) .long)
+abbrev at : tie.After-map-bytes → ℕ
+at m = m .before .recorded-at .result
+
+abbrev end : tie.After-map-bytes → ℕ
+end m = m .before .recorded-at .result + m .map-bytes .result
+
+built-is : (m : tie.After-map-bytes) → built m ≡ mapAt (size m)
+built-is m = given-out (size m) _ (mapAt (size m)) (fits (start m) .room .served) (m .before .before .map-at .ensures)
+
+at-is : (m : tie.After-map-bytes) → at m ≡ recordedAt (size m)
+at-is m = given-out (size m) _ (recordedAt (size m)) (fits (start m) .room .served) (m .before .recorded-at .ensures)
+
+map-is : (m : tie.After-map-bytes) → m .map-bytes .result ≡ mapBytes (size m)
+map-is m = given-out (size m) _ (mapBytes (size m)) (fits (start m) .room .served) (m .map-bytes .ensures)
+
+ends : (m : tie.After-map-bytes) → end m ≤ length (space m)
+ends m = omega (arith, at-is m, map-is m, fits (start m) .long)
 
 -- what the rows' answer says
-rows-told : (c : tie.After-numbered)
-    → let start = c .before .before .before .before .before in
-    let s = start in c .numbered .result ≡ every (numbers (s .args .depth)) (recordedIn (s .args .size) (now (s .args .space)))
+rows-told : (c : tie.After-numbered) → let m = c .before .before .before in c .numbered .result ≡ every (numbers (start m .args .depth)) (recordedIn (size m) (space m))
 rows-told c =
-    let k = c .before .before .before in
-    let z = k .before .before .args .size in
-    let n : recordedAt z + mapBytes z - recordedAt z ≡ mapBytes z = omega arith in
-    rw (bytes-are k, n) at (c .numbered .ensures)
+    let m = c .before .before .before in
+    c .numbered .ensures ∙ rows-at (size m) (start m .args .depth) (space m) (fits (start m)) _ _ (at-is m) (map-is m)
 
 -- the space with the map built
-abbrev bytes : tie.After-map-in → tie.After-picture-bytes
-bytes c = c .before .before .before .before .before .before
+abbrev layout : tie.After-map-in → tie.After-map-bytes
+layout c = c .before .before .before .before .before .before
 
 abbrev whole : tie.After-map-in → List ℕ
-whole c = c .map-in .last .0 ++ drop (at (bytes c)) (now (bytes c .before .before .args .space))
+whole c = c .map-in .last .0 ++ drop (at (layout c)) (space (layout c))
 
-whole-long : (c : tie.After-map-in) → length (whole c) ≡ length (now (bytes c .before .before .args .space))
-whole-long c = length-front (now (bytes c .before .before .args .space)) (c .map-in .last .0) (at (bytes c)) (c .map-in .kept .0)
+whole-long : (c : tie.After-map-in) → length (whole c) ≡ length (space (layout c))
+whole-long c = length-front (space (layout c)) (c .map-in .last .0) (at (layout c)) (c .map-in .kept .0)
 
-maps-told : (c : tie.After-map-in) → let s = bytes c .before .before in let z = s .args .size in
-    take (end (bytes c) - built (bytes c)) (drop (built (bytes c)) (whole c))
-    ≡ pairs (flat (mapOf seamOf (s .args .depth) (z .width) (z .height) (pictureIn z (now (s .args .space))))) ++ take (mapBytes z) (drop (recordedAt z) (now (s .args .space)))
+maps-told : (c : tie.After-map-in) → let m = layout c in let z = size m in
+    take (end m - built m) (drop (built m) (whole c))
+    ≡ pairs (flat (mapOf seamOf (start m .args .depth) (z .width) (z .height) (pictureIn z (space m)))) ++ take (mapBytes z) (drop (recordedAt z) (space m))
 maps-told c =
-    let s = bytes c .before .before in
-    let z = s .args .size in
-    maps-at z (s .args .depth) (now (s .args .space)) (fits s) (bytes c .picture-bytes .result) (c .map-in .result) (c .map-in .last .0) (bytes-are (bytes c)) (c .map-in .ensures)
+    let m = layout c in
+    maps-at (size m) (start m .args .depth) (space m) (fits (start m)) _ _ (at-is m) (map-is m) _ (c .map-in .result) (c .map-in .last .0) (built-is m) (c .map-in .ensures)
 
-mul-map : tie.Need-mul-map
-mul-map c = omega (arith, fits (c .before) .room .sides .width-most)
+map-at-requires : tie.Need-map-at-requires
+map-at-requires c κs = search needs
 
-mul-map-2 : tie.Need-mul-map-2
-mul-map-2 c = omega (arith, fits (c .before) .room .map-most)
+recorded-at-requires : tie.Need-recorded-at-requires
+recorded-at-requires c κs = search needs
 
-picture-bytes-requires : tie.Need-picture-bytes-requires
-picture-bytes-requires c κs = search needs
-
-mul-built : tie.Need-mul-built
-mul-built c = omega (arith, fits (c .before .before) .room .pixels-most)
-
-add-built : tie.Need-add-built
-add-built c = omega (arith, ends c)
-
-add-at : tie.Need-add-at
-add-at c = omega (arith, ends c)
+map-bytes-requires : tie.Need-map-bytes-requires
+map-bytes-requires c κs = search needs
 
 add-end : tie.Need-add-end
 add-end c = omega (arith, ends c)
@@ -107,12 +104,11 @@ part-numbered-end c = omega (arith, ends (c .before))
 
 numbered-requires : tie.Need-numbered-requires
 numbered-requires c κs =
-    let k = c .before .before in
-    let s = k .before .before in
-    let f = fits s in
-    let n : at k + s .args .size .height * (2 * s .args .size .width) - at k ≡ s .args .size .height * (2 * s .args .size .width) = omega arith in
+    let m = c .before .before in
+    let f = fits (start m) in
+    let n : end m - at m ≡ mapBytes (size m) = omega (arith, map-is m) in
     record {
-      long = part-length (at k) (end k) (now (s .args .space)) (ends k) ∙ n;
+      long = part-length (at m) (end m) (space m) (ends m) ∙ n;
       wide = f .room .sides .width-most;
       tall = f .room .sides .height-most;
       some = f .room .sides .height-some;
@@ -125,7 +121,7 @@ same-length c = search needs
 returns : tie.Need-returns
 returns c =
     let k = c .before in
-    let s = k .before .before .before .before .before in
+    let s = start (k .before .before .before) in
     nine (s .args .size) (s .args .depth) (now (s .args .space)) (fits s) (sym (rows-told k) ∙ not-true _ (c .if1 .taken))
 
 slice-relend-prefix-map-in : tie.Need-slice-relend-prefix-map-in
@@ -133,30 +129,30 @@ slice-relend-prefix-map-in c = omega (arith, ends (c .before .before .before .be
 
 slice-aggregate-map-in : tie.Need-slice-aggregate-map-in
 slice-aggregate-map-in c =
-    let k = c .before .before .before .before .before in
-    sym (length-take-le (at k) (now (k .before .before .args .space)) (omega (arith, ends k)))
+    let m = c .before .before .before .before .before in
+    sym (length-take-le (at m) (space m) (omega (arith, ends m)))
 
 map-in-requires : tie.Need-map-in-requires
 map-in-requires c κs = search needs
 
 sub-judge-seams : tie.Need-sub-judge-seams
-sub-judge-seams c = search needs
+sub-judge-seams c = let m = layout (c .before .before) in omega (arith, built-is m, at-is m)
 
 part-judge-seams-start : tie.Need-part-judge-seams-start
-part-judge-seams-start c = search needs
+part-judge-seams-start c = let m = layout (c .before .before .before) in omega (arith, built-is m, at-is m)
 
 part-judge-seams-end : tie.Need-part-judge-seams-end
-part-judge-seams-end c = let k = c .before .before .before in omega (arith, ends (bytes k), whole-long k)
+part-judge-seams-end c = let k = c .before .before .before in omega (arith, ends (layout k), whole-long k)
 
 judge-seams-requires : tie.Need-judge-seams-requires
 judge-seams-requires c κs =
     let k = c .before .before .before .before in
-    let s = bytes k .before .before in
-    let f = fits s in
-    let fit : end (bytes k) ≤ length (whole k) = omega (arith, ends (bytes k), whole-long k) in
-    let n : end (bytes k) - built (bytes k) ≡ s .args .size .height * (2 * s .args .size .width) + s .args .size .height * (2 * s .args .size .width) = omega arith in
+    let m = layout k in
+    let f = fits (start m) in
+    let fit : end (layout k) ≤ length (whole k) = omega (arith, ends (layout k), whole-long k) in
+    let n : end m - built m ≡ mapBytes (size m) + mapBytes (size m) = omega (arith, built-is m, at-is m, map-is m) in
     record {
-      long = part-length (built (bytes k)) (end (bytes k)) (whole k) fit ∙ n;
+      long = part-length (built m) (end m) (whole k) fit ∙ n;
       wide = f .room .sides .width-most;
       tall = f .room .sides .height-most;
       some = f .room .sides .height-some;
@@ -169,21 +165,18 @@ same-length-2 c = search needs
 returns-2 : tie.Need-returns-2
 returns-2 c =
     let k = c .before .before .before .before .before in
-    let s = bytes k .before .before in
+    let m = layout k in
     c .judge-seams .ensures
-    ∙ compared-is (s .args .size) (s .args .depth) (now (s .args .space)) (fits s) (take (end (bytes k) - built (bytes k)) (drop (built (bytes k)) (whole k)))
+    ∙ compared-is (size m) (start m .args .depth) (space m) (fits (start m)) (take (end m - built m) (drop (built m) (whole k)))
     (sym (rows-told (k .before .before .before)) ∙ not-false _ (k .before .before .if1 .left)) (maps-told k)
 
 pub judge-rows-spec : {M : Type 1} → statement M
 judge-rows-spec =
     tie.close
     (tie.spec
-    mul-map
-    mul-map-2
-    picture-bytes-requires
-    mul-built
-    add-built
-    add-at
+    map-at-requires
+    recorded-at-requires
+    map-bytes-requires
     add-end
     sub-numbered
     part-numbered-start

@@ -14,9 +14,10 @@ use Rattle.grids.proofs.Parts.{part-length}
 use Rattle.pictures.specs.Numbers.{pairs}
 use Rattle.text_theory.specs.Files.{parse}
 use Rattle.file_theory.specs.Shows.{mapsIn}
+use Rattle.map_rules.proofs.Rooms.{map-bytes}
 use Rattle.file_read.proofs.Parsed.{Parsed, opened}
 use Rattle.file_read.proofs.Filled.{FilledTo, filled-start, filled-done}
-use Rattle.file_read.proofs.Places.{MapsLeft, map-bytes, maps-first, pixels-most, pairs-long}
+use Rattle.file_read.proofs.Places.{MapsLeft, maps-first, pixels-most, pairs-long}
 use Rattle.file_read.proofs.Turns.{map-there, map-read, pairs-put}
 use Rattle.file_read.proofs.lines.record_maps.Statement.{statement}
 use Rattle.file_read.proofs.lines.record_maps.Tie as tie

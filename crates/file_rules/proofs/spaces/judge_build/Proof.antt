@@ -2,19 +2,15 @@
 use mathlib.Core.Path.{_≡_, refl, sym, ap, _∙_}
 use mathlib.Core.Bool.{not}
 use mathlib.Core.List.{List, [], _∷_}
-use Prim.Native.Nat.{_*_, _≤_}
-use native.Mathlib.Omega.{arith}
 use borrow.Author.Needs.{needs}
 use borrow.Author.Tests.{lt-ltb, le-ltb, not-true, not-false}
-use Rattle.pictures.specs.Limits.{mostPixels}
 use Rattle.pictures.specs.Refusals.{Rule, _when_, given, refusal}
-use Rattle.pictures.specs.Pictures.{sizeRules, pixels}
+use Rattle.pictures.specs.Pictures.{sizeRules, workBytes}
 use Rattle.pictures.proofs.Rules.{served-first, refused-answer}
-use Rattle.pictures.proofs.Limits.{sides-served}
+use Rattle.pictures.proofs.Limits.{sides-served, given-out}
 use Rattle.map_theory.specs.Widths.{allowed}
 use Rattle.file_theory.specs.Rules.{workRule}
 use Rattle.file_rules.specs.Spaces.{buildSpaceRules}
-use Rattle.file_rules.proofs.Ranges.{pixels-few}
 use Rattle.file_rules.proofs.spaces.judge_build.Statement.{statement}
 use Rattle.file_rules.proofs.spaces.judge_build.Tie as tie
 
@@ -34,8 +30,12 @@ rest : (c : tie.After-enum-told) → let a = start c .args in refusal (buildSpac
 unfolding more
 rest c = let a = start c .args in served-first (sizeRules (a .head .size) (a .bytes)) (more (start c)) refl (none c)
 
-few : (c : tie.After-enum-told) → pixels (start c .args .head .size) ≤ mostPixels
-few c = let a = start c .args in pixels-few (a .head .size) (sides-served (a .head .size) (a .bytes) (none c))
+-- the bytes of work space
+work-is : (c : tie.After-work-bytes) → c .work-bytes .result ≡ workBytes (start (c .before .before .before) .args .head .size)
+work-is c =
+    let e = c .before .before .before in
+    let a = start e .args in
+    given-out (a .head .size) _ (workBytes (a .head .size)) (sides-served (a .head .size) (a .bytes) (none e)) (c .work-bytes .ensures)
 
 -- the test of the range
 ranged : (c : tie.After-allowed) → let h = start (c .before) .args .head in c .allowed .result ≡ allowed (h .size .width) (h .depth) (h .growth)
@@ -66,25 +66,22 @@ returns-2 : tie.Need-returns-2
 unfolding more
 returns-2 c = sym (rest (c .before .before) ∙ simp (sym (ranged (c .before)) ∙ not-true _ (c .if1 .taken)))
 
-mul-if2 : tie.Need-mul-if2
-mul-if2 c = omega (arith, few (c .before .before .before))
-
-mul-if2-2 : tie.Need-mul-if2-2
-mul-if2-2 c = omega (arith, few (c .before .before .before))
+work-bytes-requires : tie.Need-work-bytes-requires
+work-bytes-requires c κs = search needs
 
 returns-3 : tie.Need-returns-3
 unfolding more
 returns-3 c =
     let k = c .before .before in
-    let a = start (k .before .before) .args in
-    sym (rest (k .before .before) ∙ simp (sym (ranged (k .before)) ∙ not-false _ (k .if1 .left), lt-ltb (a .work) (32 * pixels (a .head .size)) (c .if2 .taken)))
+    let short = rw (work-is (c .before)) at (c .if2 .taken) in
+    sym (rest (k .before .before) ∙ simp (sym (ranged (k .before)) ∙ not-false _ (k .if1 .left), lt-ltb _ _ short))
 
 returns-4 : tie.Need-returns-4
 unfolding more
 returns-4 c =
     let k = c .before .before in
-    let a = start (k .before .before) .args in
-    sym (rest (k .before .before) ∙ simp (sym (ranged (k .before)) ∙ not-false _ (k .if1 .left), le-ltb (a .work) (32 * pixels (a .head .size)) (c .if2 .left)))
+    let room = rw (work-is (c .before)) at (c .if2 .left) in
+    sym (rest (k .before .before) ∙ simp (sym (ranged (k .before)) ∙ not-false _ (k .if1 .left), le-ltb _ _ room))
 
 pub judge-build-spec : {M : Type 1} → statement M
 judge-build-spec =
@@ -96,7 +93,6 @@ judge-build-spec =
     returns
     allowed-requires
     returns-2
-    mul-if2
-    mul-if2-2
+    work-bytes-requires
     returns-3
     returns-4)

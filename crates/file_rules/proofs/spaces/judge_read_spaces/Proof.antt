@@ -1,15 +1,13 @@
 -- `file_rules::spaces::judge_read_spaces` meets its contract: each return is the first rule that applies.
 use mathlib.Core.Path.{_≡_, sym, ap, _∙_}
-use Prim.Native.Nat.{_*_, _≤_}
-use native.Mathlib.Omega.{arith}
 use borrow.Author.Needs.{needs}
 use borrow.Author.Tests.{lt-ltb, le-ltb}
-use Rattle.pictures.specs.Limits.{mostPixels}
-use Rattle.pictures.specs.Refusals.{given, refusal, served}
-use Rattle.pictures.specs.Pictures.{pictureBytes, sideRules, pixels}
+use Rattle.pictures.specs.Refusals.{given, refusal}
+use Rattle.pictures.specs.Pictures.{pictureBytes, sideRules, pixels, workBytes}
 use Rattle.pictures.proofs.Rules.{refused-answer}
+use Rattle.pictures.proofs.Limits.{given-out}
 use Rattle.file_rules.specs.Spaces.{spaceRules, readSpaceRules}
-use Rattle.file_rules.proofs.Ranges.{pixels-few, read-own}
+use Rattle.file_rules.proofs.Ranges.{read-own}
 use Rattle.file_rules.proofs.spaces.judge_read_spaces.Statement.{statement}
 use Rattle.file_rules.proofs.spaces.judge_read_spaces.Tie as tie
 
@@ -21,14 +19,18 @@ rest : (c : tie.After-enum-told) → let a = c .before .before .before .args in
     refusal (readSpaceRules (a .size) (a .picture) (a .map) (a .work)) ≡ refusal (spaceRules (a .size) (a .picture) (a .map) (a .work))
 rest c = let a = c .before .before .before .args in read-own (a .size) (a .picture) (a .map) (a .work) (none c)
 
-bytes-are : (c : tie.After-picture-bytes) → c .picture-bytes .result ≡ pictureBytes (c .before .before .before .before .before .args .size)
-bytes-are c =
-    let at-enum-told = c .before .before in
-    let z = at-enum-told .before .before .before .args .size in
-    c .picture-bytes .ensures ∙ ap (λ n. served n (pictureBytes z) 0) (none at-enum-told)
+-- what they are compared with
+pixels-are : (c : tie.After-pixels) → c .pixels .result ≡ pixels (c .before .before .before .before .args .size)
+pixels-are c = let z = c .before .before .before .before .args .size in given-out z _ (pixels z) (none (c .before)) (c .pixels .ensures)
 
-few : (c : tie.After-enum-told) → pixels (c .before .before .before .args .size) ≤ mostPixels
-few c = pixels-few (c .before .before .before .args .size) (none c)
+bytes-are : (c : tie.After-picture-bytes) → c .picture-bytes .result ≡ pictureBytes (c .before .before .before .before .before .args .size)
+bytes-are c = let z = c .before .before .before .before .before .args .size in given-out z _ (pictureBytes z) (none (c .before .before)) (c .picture-bytes .ensures)
+
+abbrev measured : tie.After-work-bytes → tie.After-picture-bytes
+measured c = c .before .before .before
+
+work-is : (c : tie.After-work-bytes) → c .work-bytes .result ≡ workBytes (measured c .before .before .before .before .before .args .size)
+work-is c = let z = measured c .before .before .before .before .before .args .size in given-out z _ (workBytes z) (none (measured c .before .before)) (c .work-bytes .ensures)
 
 judge-sides-requires : tie.Need-judge-sides-requires
 judge-sides-requires c κs = search needs
@@ -46,8 +48,8 @@ returns c =
     let why = c .enum-told2 .given in
     refused-answer (at-judge-sides .judge-sides .result) (why .0 .0) (why .1) (sideRules (a .size)) (spaceRules (a .size) (a .picture) (a .map) (a .work)) (at-judge-sides .judge-sides .ensures)
 
-mul-pixels : tie.Need-mul-pixels
-mul-pixels c = omega (arith, few (c .before))
+pixels-requires : tie.Need-pixels-requires
+pixels-requires c κs = search needs
 
 picture-bytes-requires : tie.Need-picture-bytes-requires
 picture-bytes-requires c κs = search needs
@@ -59,27 +61,29 @@ returns-2 c =
 
 returns-3 : tie.Need-returns-3
 returns-3 c =
-    let at-picture-bytes = c .before .before in
-    let a = at-picture-bytes .before .before .before .before .before .args in
-    let long = rw (bytes-are at-picture-bytes) at (c .before .if1 .left) in
-    sym (rest (at-picture-bytes .before .before) ∙ simp (le-ltb _ _ long, lt-ltb (a .map) (pixels (a .size)) (c .if2 .taken)))
+    let m = c .before .before in
+    let long = rw (bytes-are m) at (c .before .if1 .left) in
+    let short = rw (pixels-are (m .before)) at (c .if2 .taken) in
+    sym (rest (m .before .before) ∙ simp (le-ltb _ _ long, lt-ltb _ _ short))
 
-mul-if3 : tie.Need-mul-if3
-mul-if3 c = omega (arith, few (c .before .before .before .before))
+work-bytes-requires : tie.Need-work-bytes-requires
+work-bytes-requires c κs = search needs
 
 returns-4 : tie.Need-returns-4
 returns-4 c =
-    let at-picture-bytes = c .before .before .before in
-    let a = at-picture-bytes .before .before .before .before .before .args in
-    let long = rw (bytes-are at-picture-bytes) at (c .before .before .if1 .left) in
-    sym (rest (at-picture-bytes .before .before) ∙ simp (le-ltb _ _ long, le-ltb (a .map) (pixels (a .size)) (c .before .if2 .left), lt-ltb (a .work) (32 * pixels (a .size)) (c .if3 .taken)))
+    let m = measured (c .before) in
+    let long = rw (bytes-are m) at (c .before .before .before .if1 .left) in
+    let roomy = rw (pixels-are (m .before)) at (c .before .before .if2 .left) in
+    let short = rw (work-is (c .before)) at (c .if3 .taken) in
+    sym (rest (m .before .before) ∙ simp (le-ltb _ _ long, le-ltb _ _ roomy, lt-ltb _ _ short))
 
 returns-5 : tie.Need-returns-5
 returns-5 c =
-    let at-picture-bytes = c .before .before .before in
-    let a = at-picture-bytes .before .before .before .before .before .args in
-    let long = rw (bytes-are at-picture-bytes) at (c .before .before .if1 .left) in
-    sym (rest (at-picture-bytes .before .before) ∙ simp (le-ltb _ _ long, le-ltb (a .map) (pixels (a .size)) (c .before .if2 .left), le-ltb (a .work) (32 * pixels (a .size)) (c .if3 .left)))
+    let m = measured (c .before) in
+    let long = rw (bytes-are m) at (c .before .before .before .if1 .left) in
+    let roomy = rw (pixels-are (m .before)) at (c .before .before .if2 .left) in
+    let room = rw (work-is (c .before)) at (c .if3 .left) in
+    sym (rest (m .before .before) ∙ simp (le-ltb _ _ long, le-ltb _ _ roomy, le-ltb _ _ room))
 
 pub judge-read-spaces-spec : {M : Type 1} → statement M
 judge-read-spaces-spec =
@@ -89,10 +93,10 @@ judge-read-spaces-spec =
     enum-told
     enum-told-2
     returns
-    mul-pixels
+    pixels-requires
     picture-bytes-requires
     returns-2
     returns-3
-    mul-if3
+    work-bytes-requires
     returns-4
     returns-5)

@@ -6,15 +6,14 @@ use Prim.Native.Nat.{_+_, _≤_}
 use native.Mathlib.Omega.{arith}
 use borrow.Author.Needs.{needs}
 use borrow.Author.Tests.{lt-ltb, le-ltb, le-leb, lt-leb, not-true, not-false}
-use Rattle.pictures.specs.Limits.{mostPixels}
 use Rattle.pictures.specs.Refusals.{Rule, _when_, given, refusal}
-use Rattle.pictures.specs.Pictures.{sideRules, pixels}
+use Rattle.pictures.specs.Pictures.{sideRules, workBytes}
 use Rattle.pictures.proofs.Rules.{served-first, refused-answer}
-use Rattle.pictures.proofs.Limits.{sides-are}
+use Rattle.pictures.proofs.Limits.{sides-are, given-out}
 use Rattle.map_theory.specs.Widths.{allowed, offered}
 use Rattle.map_theory.proofs.Shown.{allowed-is, offered-is}
 use Rattle.file_rules.specs.Spaces.{offerRules, wantedRules}
-use Rattle.file_rules.proofs.Ranges.{pixels-few, Sound, wanted-own, growth-most, Bounded, bounded}
+use Rattle.file_rules.proofs.Ranges.{Sound, wanted-own, growth-most, Bounded, bounded}
 use Rattle.file_rules.proofs.spaces.judge_wanted.Statement.{statement}
 use Rattle.file_rules.proofs.spaces.judge_wanted.Tie as tie
 use Rattle.map_theory.specs.Bounds.{mostWidth}
@@ -49,8 +48,12 @@ bounds c = bounded _ _ (sound (ranged c)) (c .if3 .left)
 offers : (c : tie.Else3) → let a = start (ranged c) .args in offered (a .head .size .width) (a .head .depth) (a .head .growth) (a .wanted) ≡ true
 offers c = offered-is _ _ _ _ .1 (c .before .before .if2 .left, c .if3 .left)
 
-few : (c : tie.Else1) → pixels (start c .args .head .size) ≤ mostPixels
-few c = pixels-few (start c .args .head .size) (sound c .sides)
+-- the bytes of work space
+work-is : (c : tie.After-work-bytes) → c .work-bytes .result ≡ workBytes (start (ranged (c .before .before .before)) .args .head .size)
+work-is c =
+    let e = ranged (c .before .before .before) in
+    let z = start e .args .head .size in
+    given-out z _ (workBytes z) (sound e .sides) (c .work-bytes .ensures)
 
 most : (c : tie.Else1) → let h = start c .args .head in h .size .width + h .growth ≤ mostWidth
 most c = let h = start c .args .head in omega (arith, growth-most h (sound c), sides-are (h .size) (sound c .sides) .width-most)
@@ -114,23 +117,22 @@ returns-5 c =
     let short = lt-ltb _ _ (rw (c .before .channels .ensures) at (c .if4 .taken)) in
     sym (rest (ranged o) ∙ rw (offers o, short))
 
-mul-if5 : tie.Need-mul-if5
-mul-if5 c = omega (arith, few (ranged (c .before .before)))
-
-mul-if5-2 : tie.Need-mul-if5-2
-mul-if5-2 c = omega (arith, few (ranged (c .before .before)))
+work-bytes-requires : tie.Need-work-bytes-requires
+work-bytes-requires c κs = search needs
 
 returns-6 : tie.Need-returns-6
 returns-6 c =
-    let o = c .before .before .before in
-    let long = le-ltb _ _ (rw (c .before .before .channels .ensures) at (c .before .if4 .left)) in
-    sym (rest (ranged o) ∙ rw (offers o, long, lt-ltb _ _ (c .if5 .taken)))
+    let o = c .before .before .before .before in
+    let long = le-ltb _ _ (rw (c .before .before .before .channels .ensures) at (c .before .before .if4 .left)) in
+    let short = rw (work-is (c .before)) at (c .if5 .taken) in
+    sym (rest (ranged o) ∙ rw (offers o, long, lt-ltb _ _ short))
 
 returns-7 : tie.Need-returns-7
 returns-7 c =
-    let o = c .before .before .before in
-    let long = le-ltb _ _ (rw (c .before .before .channels .ensures) at (c .before .if4 .left)) in
-    sym (rest (ranged o) ∙ rw (offers o, long, le-ltb _ _ (c .if5 .left)))
+    let o = c .before .before .before .before in
+    let long = le-ltb _ _ (rw (c .before .before .before .channels .ensures) at (c .before .before .if4 .left)) in
+    let room = rw (work-is (c .before)) at (c .if5 .left) in
+    sym (rest (ranged o) ∙ rw (offers o, long, le-ltb _ _ room))
 
 pub judge-wanted-spec : {M : Type 1} → statement M
 judge-wanted-spec =
@@ -150,7 +152,6 @@ judge-wanted-spec =
     mul-if4
     mul-if4-2
     returns-5
-    mul-if5
-    mul-if5-2
+    work-bytes-requires
     returns-6
     returns-7)

@@ -1,24 +1,22 @@
 -- `file_rules::spaces::judge_work` meets its contract: each return is the first rule that applies.
 use mathlib.Core.Path.{_≡_, refl, sym, ap, _∙_}
 use mathlib.Core.List.{[], _∷_}
-use Prim.Native.Nat.{_*_, _≤_}
-use native.Mathlib.Omega.{arith}
 use borrow.Author.Needs.{needs}
 use borrow.Author.Tests.{lt-ltb, le-ltb}
-use Rattle.pictures.specs.Limits.{mostPixels}
 use Rattle.pictures.specs.Refusals.{given, refusal}
-use Rattle.pictures.specs.Pictures.{sideRules, pixels}
+use Rattle.pictures.specs.Pictures.{sideRules, workBytes}
 use Rattle.pictures.proofs.Rules.{served-first, refused-answer}
+use Rattle.pictures.proofs.Limits.{given-out}
 use Rattle.file_theory.specs.Rules.{workRule}
-use Rattle.file_rules.proofs.Ranges.{pixels-few}
 use Rattle.file_rules.proofs.spaces.judge_work.Statement.{statement}
 use Rattle.file_rules.proofs.spaces.judge_work.Tie as tie
 
 none : (c : tie.After-enum-told) → refusal (sideRules (c .before .before .before .args .size)) ≡ 0
 none c = sym (c .before .before .judge-sides .ensures) ∙ ap given (c .enum-told .given .1)
 
-few : (c : tie.After-enum-told) → pixels (c .before .before .before .args .size) ≤ mostPixels
-few c = pixels-few (c .before .before .before .args .size) (none c)
+-- the bytes of work space
+work-is : (c : tie.After-work-bytes) → c .work-bytes .result ≡ workBytes (c .before .before .before .before .args .size)
+work-is c = let z = c .before .before .before .before .args .size in given-out z _ (workBytes z) (none (c .before)) (c .work-bytes .ensures)
 
 judge-sides-requires : tie.Need-judge-sides-requires
 judge-sides-requires c κs = search needs
@@ -36,23 +34,20 @@ returns c =
     let why = c .enum-told2 .given in
     refused-answer (at-judge-sides .judge-sides .result) (why .0 .0) (why .1) (sideRules (a .size)) (workRule (a .size) (a .work) ∷ []) (at-judge-sides .judge-sides .ensures)
 
-mul-if1 : tie.Need-mul-if1
-mul-if1 c = omega (arith, few (c .before))
-
-mul-if1-2 : tie.Need-mul-if1-2
-mul-if1-2 c = omega (arith, few (c .before))
+work-bytes-requires : tie.Need-work-bytes-requires
+work-bytes-requires c κs = search needs
 
 returns-2 : tie.Need-returns-2
 returns-2 c =
     let e = c .before .before in
     let a = e .before .before .before .args in
-    sym (served-first (sideRules (a .size)) (workRule (a .size) (a .work) ∷ []) refl (none e) ∙ simp (lt-ltb (a .work) (32 * pixels (a .size)) (c .if1 .taken)))
+    sym (served-first (sideRules (a .size)) (workRule (a .size) (a .work) ∷ []) refl (none e) ∙ simp (lt-ltb _ _ (rw (work-is (c .before)) at (c .if1 .taken))))
 
 returns-3 : tie.Need-returns-3
 returns-3 c =
     let e = c .before .before in
     let a = e .before .before .before .args in
-    sym (served-first (sideRules (a .size)) (workRule (a .size) (a .work) ∷ []) refl (none e) ∙ simp (le-ltb (a .work) (32 * pixels (a .size)) (c .if1 .left)))
+    sym (served-first (sideRules (a .size)) (workRule (a .size) (a .work) ∷ []) refl (none e) ∙ simp (le-ltb _ _ (rw (work-is (c .before)) at (c .if1 .left))))
 
 pub judge-work-spec : {M : Type 1} → statement M
 judge-work-spec =
@@ -62,7 +57,6 @@ judge-work-spec =
     enum-told
     enum-told-2
     returns
-    mul-if1
-    mul-if1-2
+    work-bytes-requires
     returns-2
     returns-3)

@@ -7,12 +7,13 @@ use native.Mathlib.Omega.{arith}
 use borrow.Author.Needs.{needs}
 use borrow.Author.Tests.{lt-ltb, le-ltb, le-leb, lt-leb}
 use lib.Dec.{leb, ltb}
-use Rattle.pictures.specs.Refusals.{Rule, _when_, given, refusal, served}
-use Rattle.pictures.specs.Pictures.{pictureBytes, sideRules}
+use Rattle.pictures.specs.Refusals.{Rule, _when_, given, refusal}
+use Rattle.pictures.specs.Pictures.{sideRules}
 use Rattle.pictures.proofs.Rules.{served-first, refused-answer}
-use Rattle.pictures.proofs.Limits.{Sides, sides-are}
-use Rattle.map_rules.specs.Spaces.{mapBytes, mapsEnd, mapSpaceRules}
-use Rattle.map_rules.proofs.Rooms.{maps-end, pixels-few, map-few}
+use Rattle.pictures.proofs.Limits.{Sides, sides-are, given-out}
+use Rattle.map_theory.specs.Bounds.{mostMap}
+use Rattle.map_rules.specs.Spaces.{mapBytes, mapAt, mapsEnd, mapSpaceRules}
+use Rattle.map_rules.proofs.Rooms.{maps-end, map-few}
 use Rattle.map_rules.proofs.spaces.judge_map_space.Statement.{statement}
 use Rattle.map_rules.proofs.spaces.judge_map_space.Tie as tie
 
@@ -36,26 +37,32 @@ rest c =
 sure : (c : tie.After-enum-told) → Sides (c .before .before .before .args .size)
 sure c = sides-are (c .before .before .before .args .size) (none c)
 
-bytes-are : (c : tie.After-picture-bytes) → c .picture-bytes .result ≡ pictureBytes (c .before .before .before .before .before .args .size)
-bytes-are c =
-    let at-enum-told = c .before .before in
-    let z = at-enum-told .before .before .before .args .size in
-    c .picture-bytes .ensures ∙ ap (λ n. served n (pictureBytes z) 0) (none at-enum-told)
+-- where the first map stands, and the bytes of one
+at-is : (c : tie.After-map-at) → c .map-at .result ≡ mapAt (c .before .before .before .before .before .args .size)
+at-is c =
+    let told = c .before .before in
+    let z = told .before .before .before .args .size in
+    given-out z (c .map-at .result) (mapAt z) (none told) (c .map-at .ensures)
+
+map-is : (c : tie.After-map-bytes) → c .map-bytes .result ≡ mapBytes (c .before .before .before .before .before .before .before .args .size)
+map-is c =
+    let told = c .before .before .before .before in
+    let z = told .before .before .before .args .size in
+    given-out z (c .map-bytes .result) (mapBytes z) (none told) (c .map-bytes .ensures)
 
 -- 255 maps at most
-maps-most : (c : tie.After-wide) → let z = c .before .before .before .before .before .before .args .size in c .wide .result * mapBytes z ≤ 133693440
+maps-most : (c : tie.After-map-bytes) → c .before .wide .result * c .map-bytes .result ≤ 255 * mostMap
 maps-most c =
-    let few : c .wide .result ≤ 255 = omega (arith, c .wide .ensures .1) in
-    mul-le-mul few (map-few _ (sure (c .before .before .before)))
+    let few : c .before .wide .result ≤ 255 = omega (arith, c .before .wide .ensures .1) in
+    let map : c .map-bytes .result ≤ mostMap = rw (map-is c) (map-few _ (sure (c .before .before .before .before))) in
+    mul-le-mul few map
 
 -- what the space is compared with
-all-are : (c : tie.After-wide) → let s = c .before .before .before .before .before .before in
-    let z = s .args .size in
-    c .before .picture-bytes .result + z .height * z .width + c .wide .result * mapBytes z ≡ mapsEnd z (s .args .maps)
+all-are : (c : tie.After-map-bytes) → let s = c .before .before .before .before .before .before .before in
+    c .before .before .map-at .result + c .before .wide .result * c .map-bytes .result ≡ mapsEnd (s .args .size) (s .args .maps)
 all-are c =
-    let s = c .before .before .before .before .before .before in
-    let z = s .args .size in
-    rw (c .wide .ensures .0, bytes-are (c .before)) (sym (maps-end z (s .args .maps)))
+    let s = c .before .before .before .before .before .before .before in
+    rw (c .before .wide .ensures .0, at-is (c .before .before), map-is c) (sym (maps-end (s .args .size) (s .args .maps)))
 
 judge-sides-requires : tie.Need-judge-sides-requires
 judge-sides-requires c κs = search needs
@@ -81,43 +88,34 @@ returns-2 c =
     let a = c .before .before .before .before .args in
     sym (rest (c .before) ∙ simp (le-leb (a .size .width) (a .depth) (c .if1 .taken)))
 
-mul-map : tie.Need-mul-map
-mul-map c = omega (arith, sure (c .before) .width-most)
-
-mul-map-2 : tie.Need-mul-map-2
-mul-map-2 c = omega (arith, map-few _ (sure (c .before)))
-
-picture-bytes-requires : tie.Need-picture-bytes-requires
-picture-bytes-requires c κs = search needs
-
-mul-if2 : tie.Need-mul-if2
-mul-if2 c = omega (arith, pixels-few _ (sure (c .before .before)))
-
-add-if2 : tie.Need-add-if2
-add-if2 c = omega (arith, pixels-few _ (sure (c .before .before)), bytes-are c, sure (c .before .before) .picture-most)
+map-at-requires : tie.Need-map-at-requires
+map-at-requires c κs = search needs
 
 wide-requires : tie.Need-wide-requires
 wide-requires c κs = search needs
 
-mul-if2-2 : tie.Need-mul-if2-2
-mul-if2-2 c = omega (arith, maps-most c)
+map-bytes-requires : tie.Need-map-bytes-requires
+map-bytes-requires c κs = search needs
 
-add-if2-2 : tie.Need-add-if2-2
-add-if2-2 c =
-    let at-enum-told = c .before .before .before in
-    omega (arith, pixels-few _ (sure at-enum-told), bytes-are (c .before), sure at-enum-told .picture-most, maps-most c)
+mul-if2 : tie.Need-mul-if2
+mul-if2 c = omega (arith, maps-most c)
+
+add-if2 : tie.Need-add-if2
+add-if2 c =
+    let s = sure (c .before .before .before .before) in
+    omega (arith, at-is (c .before .before), s .picture-most, s .pixels-most, maps-most c)
 
 returns-3 : tie.Need-returns-3
 unfolding more
 returns-3 c =
-    let at-if1 = c .before .before .before in
+    let at-if1 = c .before .before .before .before in
     let short = rw (all-are (c .before)) at (c .if2 .taken) in
     sym (rest (at-if1 .before) ∙ simp (lt-leb _ _ (at-if1 .if1 .left), lt-ltb _ _ short))
 
 returns-4 : tie.Need-returns-4
 unfolding more
 returns-4 c =
-    let at-if1 = c .before .before .before in
+    let at-if1 = c .before .before .before .before in
     let long = rw (all-are (c .before)) at (c .if2 .left) in
     sym (rest (at-if1 .before) ∙ simp (lt-leb _ _ (at-if1 .if1 .left), le-ltb _ _ long))
 
@@ -130,13 +128,10 @@ judge-map-space-spec =
     enum-told-2
     returns
     returns-2
-    mul-map
-    mul-map-2
-    picture-bytes-requires
+    map-at-requires
+    wide-requires
+    map-bytes-requires
     mul-if2
     add-if2
-    wide-requires
-    mul-if2-2
-    add-if2-2
     returns-3
     returns-4)

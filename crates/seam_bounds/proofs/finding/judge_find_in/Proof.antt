@@ -10,10 +10,10 @@ use borrow.Author.Needs.{needs}
 use borrow.Author.Tests.{lt-ltb, le-ltb}
 use lib.Dec.{ltb}
 use Rattle.pictures.specs.Limits.{mostPixels}
-use Rattle.pictures.specs.Refusals.{Rule, _when_, given, refusal, served}
+use Rattle.pictures.specs.Refusals.{Rule, _when_, given, refusal}
 use Rattle.pictures.specs.Pictures.{sideRules, pictureBytes, pixels}
 use Rattle.pictures.proofs.Rules.{served-first, refused-answer}
-use Rattle.pictures.proofs.Limits.{Sides, sides-are}
+use Rattle.pictures.proofs.Limits.{Sides, sides-are, given-out}
 use Rattle.seam_bounds.specs.Spaces.{bytesAfter, spaceRules}
 use Rattle.seam_bounds.proofs.finding.judge_find_in.Statement.{statement}
 use Rattle.seam_bounds.proofs.finding.judge_find_in.Tie as tie
@@ -43,13 +43,20 @@ double n false = omega arith
 bytes-are : (c : tie.After-picture-bytes) → c .picture-bytes .result ≡ pictureBytes (c .before .before .before .before .before .args .size)
 bytes-are c =
     let z = c .before .before .before .before .before .args .size in
-    c .picture-bytes .ensures ∙ ap (λ n. served n (pictureBytes z) 0) (none (c .before .before))
+    given-out z (c .picture-bytes .result) (pictureBytes z) (none (c .before .before)) (c .picture-bytes .ensures)
+
+pixels-are : (c : tie.After-pixels) → c .pixels .result ≡ pixels (c .before .before .before .before .before .before .args .size)
+pixels-are c =
+    let z = c .before .before .before .before .before .before .args .size in
+    given-out z (c .pixels .result) (pixels z) (none (c .before .before .before)) (c .pixels .ensures)
 
 -- the bytes needed, as the rules say it
 needed-is : (c : tie.After-bytes-after)
-    → let a = c .before .before .before .before .before .before .args in
-    c .before .picture-bytes .result + c .bytes-after .result ≡ pictureBytes (a .size) + bytesAfter (a .size) (a .marked)
-needed-is c = ap₂ _+_ (bytes-are (c .before)) (c .bytes-after .ensures)
+    → let a = c .before .before .before .before .before .before .before .args in
+    c .before .before .picture-bytes .result + c .bytes-after .result ≡ pictureBytes (a .size) + bytesAfter (a .size) (a .marked)
+needed-is c =
+    let a = c .before .before .before .before .before .before .before .args in
+    ap₂ _+_ (bytes-are (c .before .before)) (c .bytes-after .ensures ∙ ap (λ n. cond (a .marked) (n + n) n) (pixels-are (c .before)))
 
 judge-sides-requires : tie.Need-judge-sides-requires
 judge-sides-requires c κs = search needs
@@ -76,21 +83,21 @@ returns-2 c =
 picture-bytes-requires : tie.Need-picture-bytes-requires
 picture-bytes-requires c κs = search needs
 
-mul-bytes-after : tie.Need-mul-bytes-after
-mul-bytes-after c = omega (arith, few (c .before .before))
+pixels-requires : tie.Need-pixels-requires
+pixels-requires c κs = search needs
 
 bytes-after-requires : tie.Need-bytes-after-requires
-bytes-after-requires c κs = few (c .before .before)
+bytes-after-requires c κs = rw (pixels-are c) (few (c .before .before .before))
 
 add-needed : tie.Need-add-needed
 add-needed c =
-    let told = c .before .before .before in
+    let told = c .before .before .before .before in
     let a = told .before .before .before .args in
     omega (arith, needed-is c, sure told .picture-most, few told, double (pixels (a .size)) (a .marked))
 
 returns-3 : tie.Need-returns-3
 returns-3 c =
-    let at-if1 = c .before .before .before in
+    let at-if1 = c .before .before .before .before in
     let a = at-if1 .before .before .before .before .args in
     let long : ltb (a .seam) (a .size .height) ≡ false = le-ltb _ _ (at-if1 .if1 .left) in
     let short : ltb (a .space) (pictureBytes (a .size) + bytesAfter (a .size) (a .marked)) ≡ true = lt-ltb _ _ (rw (needed-is (c .before)) at (c .if2 .taken)) in
@@ -98,7 +105,7 @@ returns-3 c =
 
 returns-4 : tie.Need-returns-4
 returns-4 c =
-    let at-if1 = c .before .before .before in
+    let at-if1 = c .before .before .before .before in
     let a = at-if1 .before .before .before .before .args in
     let long : ltb (a .seam) (a .size .height) ≡ false = le-ltb _ _ (at-if1 .if1 .left) in
     let room : ltb (a .space) (pictureBytes (a .size) + bytesAfter (a .size) (a .marked)) ≡ false = le-ltb _ _ (rw (needed-is (c .before)) at (c .if2 .left)) in
@@ -114,7 +121,7 @@ judge-find-in-spec =
     returns
     returns-2
     picture-bytes-requires
-    mul-bytes-after
+    pixels-requires
     bytes-after-requires
     add-needed
     returns-3

@@ -9,9 +9,9 @@ use borrow.Author.Tests.{lt-ltb, le-ltb, le-leb, lt-leb}
 use lib.Dec.{leb, ltb}
 use Rattle.pictures.specs.Limits.{mostPixels}
 use Rattle.pictures.specs.Refusals.{_when_, Rule, given, refusal, served}
-use Rattle.pictures.specs.Pictures.{pictureBytes, sizeRules, pixels}
+use Rattle.pictures.specs.Pictures.{pictureBytes, sizeRules, pixels, workBytes}
 use Rattle.pictures.proofs.Rules.{served-first, refused-answer}
-use Rattle.pictures.proofs.Limits.{Sized, sized-is, sides-served}
+use Rattle.pictures.proofs.Limits.{Sized, sized-is, sides-served, given-out}
 use Rattle.seam_rules.specs.Counts.{leftSize, retargetBytes, retargetRules}
 use Rattle.seam_rules.proofs.Left.{smaller-sides}
 use Rattle.seam_rules.proofs.counts.judge_retarget.Statement.{statement}
@@ -56,6 +56,14 @@ left-is c =
     rw (c .before .smaller .ensures) at (c .picture-bytes .ensures)
     ∙ ap (λ n. served n (pictureBytes (leftSize (a .size) (a .rows) (a .columns))) 0)
     (smaller-sides (a .size) (a .rows .0) (a .columns .0) (sides-served (a .size) (a .bytes) (none at-enum-told)) (at-if3 .if3 .left) (at-if4 .if4 .left))
+
+-- the bytes of work space
+work-is : (c : tie.After-work-bytes)
+    → c .work-bytes .result ≡ workBytes (c .before .before .before .before .before .before .before .before .before .before .before .before .before .before .before .args .size)
+work-is c =
+    let told = c .before .before .before .before .before .before .before .before .before .before .before .before in
+    let a = told .before .before .before .args in
+    given-out (a .size) (c .work-bytes .result) (workBytes (a .size)) (sides-served (a .size) (a .bytes) (none told)) (c .work-bytes .ensures)
 
 judge-picture-requires : tie.Need-judge-picture-requires
 judge-picture-requires c κs = search needs
@@ -120,50 +128,45 @@ returns-6 c =
     let short = rw (left-is (c .before)) at (c .if5 .taken) in
     sym (rest at-enum-told ∙ simp (le-ltb _ _ (at-if1 .if1 .left), le-ltb _ _ (at-if2 .if2 .left), lt-leb _ _ (at-if3 .if3 .left), lt-leb _ _ (at-if4 .if4 .left), lt-ltb _ _ short))
 
+work-bytes-requires : tie.Need-work-bytes-requires
+work-bytes-requires c κs = search needs
+
 mul-if6 : tie.Need-mul-if6
 mul-if6 c =
-    let at-enum-told = c .before .before .before .before .before .before .before .before .before .before .before in
-    omega (arith, all-most at-enum-told)
-
-mul-if6-2 : tie.Need-mul-if6-2
-mul-if6-2 c =
-    let at-enum-told = c .before .before .before .before .before .before .before .before .before .before .before in
-    omega (arith, all-most at-enum-told)
-
-mul-if6-3 : tie.Need-mul-if6-3
-mul-if6-3 c =
-    let at-enum-told = c .before .before .before .before .before .before .before .before .before .before .before in
+    let at-enum-told = c .before .before .before .before .before .before .before .before .before .before .before .before in
     omega (arith, sure at-enum-told .length-is, sure at-enum-told .picture-most)
 
 add-if6 : tie.Need-add-if6
 add-if6 c =
-    let at-enum-told = c .before .before .before .before .before .before .before .before .before .before .before in
-    omega (arith, all-most at-enum-told, sure at-enum-told .length-is, sure at-enum-told .picture-most)
+    let at-enum-told = c .before .before .before .before .before .before .before .before .before .before .before .before in
+    omega (arith, work-is c, all-most at-enum-told, sure at-enum-told .length-is, sure at-enum-told .picture-most)
 
 returns-7 : tie.Need-returns-7
 unfolding more
 returns-7 c =
-    let at-picture-bytes = c .before .before in
+    let at-if5 = c .before .before in
+    let at-picture-bytes = at-if5 .before in
     let at-if4 = at-picture-bytes .before .before in
     let at-if3 = at-if4 .before .before in
     let at-if2 = at-if3 .before .before in
     let at-if1 = at-if2 .before .before in
     let at-enum-told = at-if1 .before .before in
-    let long = rw (left-is at-picture-bytes) at (c .before .if5 .left) in
-    let short = rw (sure at-enum-told .length-is) at (c .if6 .taken) in
+    let long = rw (left-is at-picture-bytes) at (at-if5 .if5 .left) in
+    let short = rw (work-is (c .before), sure at-enum-told .length-is) at (c .if6 .taken) in
     sym (rest at-enum-told ∙ simp (le-ltb _ _ (at-if1 .if1 .left), le-ltb _ _ (at-if2 .if2 .left), lt-leb _ _ (at-if3 .if3 .left), lt-leb _ _ (at-if4 .if4 .left), le-ltb _ _ long, lt-ltb _ _ short))
 
 returns-8 : tie.Need-returns-8
 unfolding more
 returns-8 c =
-    let at-picture-bytes = c .before .before in
+    let at-if5 = c .before .before in
+    let at-picture-bytes = at-if5 .before in
     let at-if4 = at-picture-bytes .before .before in
     let at-if3 = at-if4 .before .before in
     let at-if2 = at-if3 .before .before in
     let at-if1 = at-if2 .before .before in
     let at-enum-told = at-if1 .before .before in
-    let long = rw (left-is at-picture-bytes) at (c .before .if5 .left) in
-    let wide = rw (sure at-enum-told .length-is) at (c .if6 .left) in
+    let long = rw (left-is at-picture-bytes) at (at-if5 .if5 .left) in
+    let wide = rw (work-is (c .before), sure at-enum-told .length-is) at (c .if6 .left) in
     sym (rest at-enum-told ∙ simp (le-ltb _ _ (at-if1 .if1 .left), le-ltb _ _ (at-if2 .if2 .left), lt-leb _ _ (at-if3 .if3 .left), lt-leb _ _ (at-if4 .if4 .left), le-ltb _ _ long, le-ltb _ _ wide))
 
 pub judge-retarget-spec : {M : Type 1} → statement M
@@ -181,9 +184,8 @@ judge-retarget-spec =
     smaller-requires
     picture-bytes-requires
     returns-6
+    work-bytes-requires
     mul-if6
-    mul-if6-2
-    mul-if6-3
     add-if6
     returns-7
     returns-8)

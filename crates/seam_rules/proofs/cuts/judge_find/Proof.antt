@@ -1,24 +1,21 @@
 -- `seam_rules::cuts::judge_find` meets its contract: each return is the first rule that applies.
 use mathlib.Core.Path.{_≡_, refl, sym, ap, _∙_}
 use mathlib.Core.List.{List, [], _∷_}
-use Prim.Native.Nat.{_*_, _≤_, _<_}
-use native.Mathlib.Nat.{mul-le-mul}
-use native.Mathlib.Omega.{arith}
+use Prim.Native.Nat.{_<_}
 use borrow.Author.Needs.{needs}
 use borrow.Author.Tests.{lt-ltb, le-ltb}
 use lib.Dec.{ltb}
-use Rattle.pictures.specs.Limits.{mostPixels}
 use Rattle.pictures.specs.Refusals.{Rule, _when_, given, refusal}
-use Rattle.pictures.specs.Pictures.{sizeRules, pixels}
+use Rattle.pictures.specs.Pictures.{sizeRules, workBytes}
 use Rattle.pictures.proofs.Rules.{served-first, refused-answer}
-use Rattle.pictures.proofs.Limits.{sized-is}
+use Rattle.pictures.proofs.Limits.{sides-served, given-out}
 use Rattle.seam_rules.specs.Axes.{turnedSize}
 use Rattle.seam_rules.specs.Cuts.{findRules}
 use Rattle.seam_rules.proofs.cuts.judge_find.Statement.{statement}
 use Rattle.seam_rules.proofs.cuts.judge_find.Tie as tie
 
 more : tie.Start → List Rule
-more c = 8 when ltb (c .args .seam) (turnedSize (c .args .axis) (c .args .size) .height) ∷ 8 when ltb (c .args .work) (32 * pixels (c .args .size)) ∷ []
+more c = 8 when ltb (c .args .seam) (turnedSize (c .args .axis) (c .args .size) .height) ∷ 8 when ltb (c .args .work) (workBytes (c .args .size)) ∷ []
 
 -- where the picture is served, the rooms decide
 none : (c : tie.After-enum-told)
@@ -34,11 +31,12 @@ rest c =
     let s = c .before .before .before in
     served-first (sizeRules (s .args .size) (s .args .bytes)) (more s) refl (none c)
 
-all-most : (c : tie.After-enum-told) → pixels (c .before .before .before .args .size) ≤ mostPixels
-all-most c =
-    let start = c .before .before .before in
-    let s = sized-is (start .args .size) (start .args .bytes) (none c) in
-    s .pixels-most
+-- the bytes of work space
+work-is : (c : tie.After-work-bytes) → c .work-bytes .result ≡ workBytes (c .before .before .before .before .before .before .args .size)
+work-is c =
+    let told = c .before .before .before in
+    let a = told .before .before .before .args in
+    given-out (a .size) (c .work-bytes .result) (workBytes (a .size)) (sides-served (a .size) (a .bytes) (none told)) (c .work-bytes .ensures)
 
 judge-picture-requires : tie.Need-judge-picture-requires
 judge-picture-requires c κs = search needs
@@ -69,29 +67,26 @@ returns-2 c =
     let short : a .seam < at-turned-size .turned-size .result .height = c .if1 .taken in
     sym (rest (at-turned-size .before) ∙ simp (lt-ltb _ _ (rw (at-turned-size .turned-size .ensures) at short)))
 
-mul-if2 : tie.Need-mul-if2
-mul-if2 c = omega (arith, all-most (c .before .before))
-
-mul-if2-2 : tie.Need-mul-if2-2
-mul-if2-2 c = omega (arith, all-most (c .before .before))
+work-bytes-requires : tie.Need-work-bytes-requires
+work-bytes-requires c κs = search needs
 
 returns-3 : tie.Need-returns-3
 unfolding more
 returns-3 c =
-    let at-turned-size = c .before .before in
-    let at-enum-told = at-turned-size .before in
-    let long = rw (at-turned-size .turned-size .ensures) at (c .before .if1 .left) in
-    let a = at-enum-told .before .before .before .args in
-    sym (rest at-enum-told ∙ simp (le-ltb _ _ long, lt-ltb (a .work) (32 * pixels (a .size)) (c .if2 .taken)))
+    let at-if1 = c .before .before in
+    let at-turned-size = at-if1 .before in
+    let long = rw (at-turned-size .turned-size .ensures) at (at-if1 .if1 .left) in
+    let short = rw (work-is (c .before)) at (c .if2 .taken) in
+    sym (rest (at-turned-size .before) ∙ simp (le-ltb _ _ long, lt-ltb _ _ short))
 
 returns-4 : tie.Need-returns-4
 unfolding more
 returns-4 c =
-    let at-turned-size = c .before .before in
-    let at-enum-told = at-turned-size .before in
-    let long = rw (at-turned-size .turned-size .ensures) at (c .before .if1 .left) in
-    let a = at-enum-told .before .before .before .args in
-    sym (rest at-enum-told ∙ simp (le-ltb _ _ long, le-ltb (a .work) (32 * pixels (a .size)) (c .if2 .left)))
+    let at-if1 = c .before .before in
+    let at-turned-size = at-if1 .before in
+    let long = rw (at-turned-size .turned-size .ensures) at (at-if1 .if1 .left) in
+    let room = rw (work-is (c .before)) at (c .if2 .left) in
+    sym (rest (at-turned-size .before) ∙ simp (le-ltb _ _ long, le-ltb _ _ room))
 
 pub judge-find-spec : {M : Type 1} → statement M
 judge-find-spec =
@@ -103,7 +98,6 @@ judge-find-spec =
     returns
     turned-size-requires
     returns-2
-    mul-if2
-    mul-if2-2
+    work-bytes-requires
     returns-3
     returns-4)
