@@ -16,7 +16,7 @@ use Rattle.pictures.specs.declared.sizes.Kind.{Kind}
 use Rattle.pictures.specs.declared.sizes.Size.{Size}
 use Rattle.pictures.specs.Pictures.{rowBytes, pictureBytes, bytes, pixels}
 use Rattle.pictures.proofs.Buffers.{flats-grid, length-bytes}
-use Rattle.map_build.specs.Numbers.{pairs}
+use Rattle.pictures.specs.Numbers.{largestNumber, pairs}
 use Rattle.map_rules.specs.Spaces.{mapBytes}
 use Rattle.pictures.proofs.TwoBytes.{pairs-flat, grid-pairs}
 use Rattle.text_theory.specs.declared.Head.{Head}
@@ -88,7 +88,7 @@ module _ {file : List ℕ} {h : Head} (k : Parsed file h) where
         let there : r < length (mapsIn (parse file)) = omega (arith, each-length (k .maps-grid)) in
         taken-map (getD maps r []) a t
         (p ∙ rw (drop-cons maps r [] there, add-one r) (maps-next (getD maps r []) (drop (suc r) maps) closed))
-        (all-at (All (λ (v : ℕ). v ≤ 65535)) maps r [] (k .within .maps) there)
+        (all-at (All (λ (v : ℕ). v ≤ largestNumber)) maps r [] (k .within .maps) there)
         (omega (arith, each-at r [] inside (k .maps-grid)))
 
     -- Row r of the picture's bytes, of the map, and of the map's bytes.

@@ -38,7 +38,7 @@ pub enum Refusal {
     RectangleName,
     // 17: the columns brought are connected, but aren't the seam now found
     StaleSeam,
-    // 18: a lowest energy above its highest, or a highest above 1530
+    // 18: a lowest energy above its highest, or a highest above the largest energy
     Ranges,
     // 19: a side of 7 or more where every path is asked for
     GridSide,

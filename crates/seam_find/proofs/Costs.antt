@@ -32,7 +32,7 @@ front-most b n m h i =
     short : n ≤ i → length (take n b) ≤ i
     short l = le-trans (rw (length-take) (min-le-left n (length b))) l
 
--- An energy is at most 1530: two differences of at most 255 in at most three channels.
+-- An energy is two differences of at most 255 in at most three channels.
 pub pixel-most : (z : Size) (b : List ℕ) → Sized z (length b) → ((i : ℕ) → getD b i 0 ≤ 255) → (r c : ℕ) → energy (picture z b) r c ≤ mostEnergy
 pixel-most z b s h r c = omega (arith, buffer-energy-most z b 255 (s .length-is) h r c, mul-le-mul-right 255 (s .channels-most))
 

@@ -17,6 +17,7 @@ use Rattle.energy.specs.Bounds.{mostEnergy}
 use Rattle.energy.specs.Energy.{energy}
 use Rattle.pictures.proofs.Limits.{Sized}
 use Rattle.seam_theory.specs.PictureSeams.{seamUp, seamOf, costOf}
+use Rattle.seam_sums.specs.Fences.{fence32}
 use Rattle.seam_find.specs.Inner.Sums.{sumsDown, waysUp}
 use Rattle.seam_find.specs.Inner.Down.{costsOf}
 use Rattle.seam_find.specs.Tracing.{columnsTo}
@@ -30,28 +31,28 @@ module _ (z : Size) (b : List ℕ) (sized : Sized z (length b)) (byte : (i : ℕ
   wide i = length-table (energy (picture z b) i) (z .width)
 
   -- Every sum is below the fence.
-  low : (i c : ℕ) → i < z .height - 1 → c < z .width → getD (sumsDown 4294967295 (z .width) (costsOf z b) i) c 0 < 4294967295
+  low : (i c : ℕ) → i < z .height - 1 → c < z .width → getD (sumsDown fence32 (z .width) (costsOf z b) i) c 0 < fence32
   low i c h l =
       let rows : suc i ≤ mostSide = omega (arith, sized .height-small) in
-      omega (arith, sums-most 4294967295 (z .width) mostEnergy (costsOf z b) (wide 0) (cost-most z b sized byte) i c l, mul-le-mul-right mostEnergy rows)
+      omega (arith, sums-most fence32 (z .width) mostEnergy (costsOf z b) (wide 0) (cost-most z b sized byte) i c l, mul-le-mul-right mostEnergy rows)
 
   pub plain-traceable : (column seam : ℕ) → column < z .width → z .height ≤ seam
-      → Traceable (length (flat (table (waysUp 4294967295 (z .width) (costsOf z b)) (z .height - 1)))) (z .width) (z .height) column seam
-  plain-traceable = ways-traceable 4294967295 (z .width) (z .height) (costsOf z b) (sized .height-some) (sized .height-most) (sized .width-most)
+      → Traceable (length (flat (table (waysUp fence32 (z .width) (costsOf z b)) (z .height - 1)))) (z .width) (z .height) column seam
+  plain-traceable = ways-traceable fence32 (z .width) (z .height) (costsOf z b) (sized .height-some) (sized .height-most) (sized .width-most)
 
-  found : FoundFor 4294967295 (z .width) (z .height) (costsOf z b) (energy (picture z b))
-  found = found-for 4294967295 (z .width) (z .height) (costsOf z b) (energy (picture z b)) (sized .width-some) (sized .height-some) wide low (λ i c l. table-at (energy (picture z b) i) (z .width) c 0 l)
+  found : FoundFor fence32 (z .width) (z .height) (costsOf z b) (energy (picture z b))
+  found = found-for fence32 (z .width) (z .height) (costsOf z b) (energy (picture z b)) (sized .width-some) (sized .height-some) wide low (λ i c l. table-at (energy (picture z b) i) (z .width) c 0 l)
 
   abbrev bottom : ℕ
-  bottom = leastTo (sumsDown 4294967295 (z .width) (costsOf z b) (z .height - 1)) (z .width - 1)
+  bottom = leastTo (sumsDown fence32 (z .width) (costsOf z b) (z .height - 1)) (z .width - 1)
 
   path-is : Option·getD (seamUp (z .width) (z .height) (picture z b)) [] ≡ found .path
   path-is = ap (λ o. Option·getD o []) (found .is)
 
-  pub seam-traced : columnsTo (flat (table (waysUp 4294967295 (z .width) (costsOf z b)) (z .height - 1))) (z .width) (z .height - 1) bottom ≡ seamOf (z .width) (z .height) (picture z b)
+  pub seam-traced : columnsTo (flat (table (waysUp fence32 (z .width) (costsOf z b)) (z .height - 1))) (z .width) (z .height - 1) bottom ≡ seamOf (z .width) (z .height) (picture z b)
   unfolding seamOf
   seam-traced = found .columns ∙ ap reverse (sym path-is)
 
-  pub cost-summed : getD (sumsDown 4294967295 (z .width) (costsOf z b) (z .height - 1)) bottom 0 ≡ costOf (z .width) (z .height) (picture z b)
+  pub cost-summed : getD (sumsDown fence32 (z .width) (costsOf z b) (z .height - 1)) bottom 0 ≡ costOf (z .width) (z .height) (picture z b)
   unfolding costOf
   cost-summed = sym (found .price) ∙ ap (along (energy (picture z b))) (sym path-is)

@@ -4,6 +4,7 @@ use pictures::LARGEST_SIDE;
 use pictures::Size;
 use seam_sums::least32;
 ghost use Rattle.pictures.specs.Pictures.{pictureBytes};
+ghost use Rattle.seam_sums.specs.Fences.{fence32};
 ghost use Rattle.seam_find.specs.Inner.Down.{costsOf};
 ghost use Rattle.seam_find.specs.Inner.Bottom.{BottomNeeded, BottomGiven, RowsNeeded};
 
@@ -16,7 +17,7 @@ pub(crate) struct Bottom {
 // Works out all sums of the picture at the front of the space. After it is written where each column of a row comes from.
 pub(crate) fn find_bottom(space: &mut [u8], size: Size, bytes: usize) -> Bottom
     requires { ⌜ BottomNeeded (pictureBytes size) size bytes (now space) ⌝ }
-    ensures { λ r. ⌜ BottomGiven 4294967295 (pictureBytes size) size (costsOf size) (now (space .entry)) (now (space .exit)) (r .column) (r .sum) ⌝ }
+    ensures { λ r. ⌜ BottomGiven fence32 (pictureBytes size) size (costsOf size) (now (space .entry)) (now (space .exit)) (r .column) (r .sum) ⌝ }
 {
     let width = size.width;
     let both = width + 2;
@@ -43,8 +44,8 @@ fn bottom_with(
     next: &mut [u32],
 ) -> Bottom
     requires { ⌜ BottomNeeded (pictureBytes size) size bytes (now space) ⌝ }
-    requires { ⌜ RowsNeeded 4294967295 size (now above) (now cost) (now next) ⌝ }
-    ensures { λ r. ⌜ BottomGiven 4294967295 (pictureBytes size) size (costsOf size) (now (space .entry)) (now (space .exit)) (r .column) (r .sum) ⌝ }
+    requires { ⌜ RowsNeeded fence32 size (now above) (now cost) (now next) ⌝ }
+    ensures { λ r. ⌜ BottomGiven fence32 (pictureBytes size) size (costsOf size) (now (space .entry)) (now (space .exit)) (r .column) (r .sum) ⌝ }
 {
     let width = size.width;
     let side = width + 1;

@@ -2,6 +2,7 @@
 use crate::sums32;
 use pictures::Size;
 ghost use Rattle.pictures.specs.Pictures.{pictureBytes};
+ghost use Rattle.seam_sums.specs.Fences.{fence32, sumLimit32};
 ghost use Rattle.seam_find.specs.Inner.Down.{costsOf, DownNeeded, DownGiven, RowNeeded, RowGiven};
 
 // A number larger than every sum.
@@ -17,8 +18,8 @@ pub(crate) fn down(
     cost: &mut [u32],
     next: &mut [u32],
 )
-    requires { ⌜ DownNeeded 4294967295 (pictureBytes size) size (costsOf size) bytes (now space) (now above) (now cost) (now next) ⌝ }
-    ensures { λ _. ⌜ DownGiven 4294967295 (pictureBytes size) size (costsOf size) (now (space .entry)) (now (space .exit)) (now (above .exit)) ⌝ }
+    requires { ⌜ DownNeeded fence32 (pictureBytes size) size (costsOf size) bytes (now space) (now above) (now cost) (now next) ⌝ }
+    ensures { λ _. ⌜ DownGiven fence32 (pictureBytes size) size (costsOf size) (now (space .entry)) (now (space .exit)) (now (above .exit)) ⌝ }
 {
     let height = size.height;
     for i in 1..height {
@@ -36,7 +37,7 @@ fn row_down(
     cost: &mut [u32],
     next: &mut [u32],
 )
-    requires { ⌜ RowNeeded 2147483648 (pictureBytes size) size bytes i (now space) (now above) (now cost) (now next) ⌝ }
+    requires { ⌜ RowNeeded sumLimit32 (pictureBytes size) size bytes i (now space) (now above) (now cost) (now next) ⌝ }
     ensures { λ _. ⌜ RowGiven (pictureBytes size) size (costsOf size) i (now (space .entry)) (now (above .entry)) (now (space .exit)) (now (above .exit)) ⌝ }
 {
     let width = size.width;

@@ -1,15 +1,15 @@
 // Rows of sums of 32 bits, without marks. Each loop is written so that it can be vectorized: no edge, no branch.
 use seam_sums::least32;
 ghost use mathlib.Core.Path.{_≡_};
-ghost use Prim.Native.Nat.{_^_};
 ghost use lib.ListN.{length};
 ghost use Rattle.grids.specs.Table.{table};
+ghost use Rattle.seam_sums.specs.Fences.{sumLimit32};
 ghost use Rattle.seam_find.specs.Inner.Sums.{SumsNeeded};
 ghost use Rattle.seam_sums.specs.Least.{wayOf3, sumOf3};
 
 // The sums of a row and where each comes from, from the row of sums above it and the row's costs.
 pub(crate) fn next_row(above: &[u32], cost: &[u32], next: &mut [u32], ways: &mut [u8])
-    requires { ⌜ SumsNeeded (2 ^ 31) (now above) (now cost) (now next) ⌝ }
+    requires { ⌜ SumsNeeded sumLimit32 (now above) (now cost) (now next) ⌝ }
     requires { ⌜ length (now ways) ≡ length (now next) ⌝ }
     ensures { λ _. ⌜ now (next .exit) ≡ table (sumOf3 (now (above .entry)) (now (cost .entry))) (length (now (next .entry))) ⌝ }
     ensures { λ _. ⌜ now (ways .exit) ≡ table (wayOf3 (now (above .entry))) (length (now (ways .entry))) ⌝ }

@@ -1,4 +1,4 @@
--- Paths by weight: the first of least weight is the seam found with marks, and weighs 2 ^ 48 or more where there is none.
+-- Paths by weight: the first of least weight is the seam found with marks, and weighs `protected` or more where there is none.
 use mathlib.Core.Path.{_≡_, refl, sym, ap, ap₂, _∙_}
 use mathlib.Core.Bool.{Bool, true, false, cond}
 use mathlib.Core.Option.{Option·getD, none, some}
@@ -30,7 +30,8 @@ use Rattle.seam_theory.specs.PictureSeams.{markAt, isMark, markedUp, markedSeam
 use Rattle.seam_find.specs.Inner.Sums.{sumsDown, waysUp}
 use Rattle.seam_find.specs.Tracing.{columnsTo}
 use Rattle.seam_sums.specs.Least.{leastTo}
-use Rattle.seam_sums.specs.Weights.{weightOf}
+use Rattle.seam_sums.specs.Weights.{weightOf, kept, protected}
+use Rattle.seam_sums.specs.Fences.{fence64}
 use Rattle.seam_find_marked.specs.Inner.{mostWeight, weightIn, weightAt, weightsOf, markedBytes}
 use Rattle.seam_find.proofs.Costs.{front-most, pixel-most, table-most, sums-most}
 use Rattle.seam_find.proofs.Ways.{FoundFor, found-for, ways-traceable}
@@ -57,7 +58,7 @@ module _ (w h : ℕ) (p : Picture) (m : List (List ℕ)) (few : h ≤ mostSide) 
   all = paths (nearby w) w h
 
   -- The weights are large enough.
-  weighed : (q : List ℕ) → List·Memᴰ q all → Weighed (along (isKept m)) (along (isMark 2 m)) (along (energy p)) 4294967296 281474976710656 h q
+  weighed : (q : List ℕ) → List·Memᴰ q all → Weighed (along (isKept m)) (along (isMark 2 m)) (along (energy p)) kept protected h q
   weighed q i =
       let long = nearby-paths w h q .0 i .size in
       let dear = along-most (energy p) mostEnergy q most in
@@ -68,37 +69,37 @@ module _ (w h : ℕ) (p : Picture) (m : List (List ℕ)) (few : h ≤ mostSide) 
         light = omega arith;
       }
 
-  summed : (q : List ℕ) → along (weightAt p m) q ≡ weight (along (isMark 1 m)) (along (isKept m)) (along (energy p)) 4294967296 281474976710656 q
-  summed q = along-weight (energy p) (isKept m) (isMark 1 m) 4294967296 281474976710656 q
+  summed : (q : List ℕ) → along (weightAt p m) q ≡ weight (along (isMark 1 m)) (along (isKept m)) (along (energy p)) kept protected q
+  summed q = along-weight (energy p) (isKept m) (isMark 1 m) kept protected q
 
   module _ (s : List ℕ) (is : least (along (weightAt p m)) (paths (nearby w) w h) ≡ some s) where
-    lightest : least (weight (along (isMark 1 m)) (along (isKept m)) (along (energy p)) 4294967296 281474976710656) all ≡ some s
-    lightest = sym (least-along (energy p) (isKept m) (isMark 1 m) 4294967296 281474976710656 all) ∙ is
+    lightest : least (weight (along (isMark 1 m)) (along (isKept m)) (along (energy p)) kept protected) all ≡ some s
+    lightest = sym (least-along (energy p) (isKept m) (isMark 1 m) kept protected all) ∙ is
 
-    -- A path of least weight below 2 ^ 48 is the seam,
-    pub light-found : along (weightAt p m) s < 281474976710656 → markedUp w h p m ≡ some s
+    -- A path of least weight below `protected` is the seam,
+    pub light-found : along (weightAt p m) s < protected → markedUp w h p m ≡ some s
     light-found l =
-        weights-found (along (isMark 1 m)) (along (isMark 2 m)) (along (energy p)) (along (isKept m)) 4294967296 281474976710656 h all weighed
+        weights-found (along (isMark 1 m)) (along (isMark 2 m)) (along (energy p)) (along (isKept m)) kept protected h all weighed
         s lightest (rw (summed s) at l)
 
     -- and its cost is a remainder of its weight.
-    pub light-cost : along (weightAt p m) s < 281474976710656 → along (energy p) s ≡ along (weightAt p m) s % 4294967296
+    pub light-cost : along (weightAt p m) s < protected → along (energy p) s ≡ along (weightAt p m) s % kept
     light-cost l =
         rw (summed s)
-        (weight-price (along (isMark 1 m)) (along (isMark 2 m)) (along (energy p)) (along (isKept m)) 4294967296 281474976710656 h all weighed
+        (weight-price (along (isMark 1 m)) (along (isMark 2 m)) (along (energy p)) (along (isKept m)) kept protected h all weighed
         s (best-mem (byCost (along (weightAt p m))) all s is) (rw (summed s) at l))
 
     -- If it weighs more there is none.
-    pub heavy-blocked : 281474976710656 ≤ along (weightAt p m) s → markedUp w h p m ≡ none
+    pub heavy-blocked : protected ≤ along (weightAt p m) s → markedUp w h p m ≡ none
     heavy-blocked l =
-        weights-blocked (along (isMark 1 m)) (along (isMark 2 m)) (along (energy p)) (along (isKept m)) 4294967296 281474976710656 h all weighed
+        weights-blocked (along (isMark 1 m)) (along (isMark 2 m)) (along (energy p)) (along (isKept m)) kept protected h all weighed
         s lightest (rw (summed s) at l)
 
--- A weight is at most an energy, 2 ^ 32 and 2 ^ 48.
+-- A weight is at most an energy, `kept` and `protected`.
 weight-most : (e mark : ℕ) → e ≤ mostEnergy → weightOf e mark ≤ mostWeight
 weight-most e mark l = go (eqb mark 2) (eqb mark 1)
   where
-    go : (s t : Bool) → e + (cond s 0 1 * 4294967296 + cond t 1 0 * 281474976710656) ≤ mostWeight
+    go : (s t : Bool) → e + (cond s 0 1 * kept + cond t 1 0 * protected) ≤ mostWeight
     go true true = omega arith
     go true false = omega arith
     go false true = omega arith
@@ -122,27 +123,27 @@ module _ (z : Size) (b : List ℕ) (sized : Sized z (length (take (pictureBytes 
   weights-wide i = length-table (weightAt p m i) (z .width)
 
   abbrev sums : ℕ → List ℕ
-  sums = sumsDown 18446744073709551615 (z .width) (weightsOf z b)
+  sums = sumsDown fence64 (z .width) (weightsOf z b)
 
   -- Every sum is below the fence.
-  low : (i c : ℕ) → i < z .height - 1 → c < z .width → getD (sumsDown 18446744073709551615 (z .width) (weightsOf z b) i) c 0 < 18446744073709551615
+  low : (i c : ℕ) → i < z .height - 1 → c < z .width → getD (sumsDown fence64 (z .width) (weightsOf z b) i) c 0 < fence64
   low i c h l =
       let rows : suc i ≤ mostSide = omega (arith, sized .height-small) in
-      omega (arith, sums-most 18446744073709551615 (z .width) mostWeight (weightsOf z b) (weights-wide 0) weights-most i c l, mul-le-mul-right mostWeight rows)
+      omega (arith, sums-most fence64 (z .width) mostWeight (weightsOf z b) (weights-wide 0) weights-most i c l, mul-le-mul-right mostWeight rows)
 
   pub marked-traceable : (column seam : ℕ) → column < z .width → z .height ≤ seam
-      → Traceable (length (flat (table (waysUp 18446744073709551615 (z .width) (weightsOf z b)) (z .height - 1)))) (z .width) (z .height) column seam
-  marked-traceable = ways-traceable 18446744073709551615 (z .width) (z .height) (weightsOf z b) (sized .height-some) (sized .height-most) (sized .width-most)
+      → Traceable (length (flat (table (waysUp fence64 (z .width) (weightsOf z b)) (z .height - 1)))) (z .width) (z .height) column seam
+  marked-traceable = ways-traceable fence64 (z .width) (z .height) (weightsOf z b) (sized .height-some) (sized .height-most) (sized .width-most)
 
-  found : FoundFor 18446744073709551615 (z .width) (z .height) (weightsOf z b) (weightAt p m)
-  found = found-for 18446744073709551615 (z .width) (z .height) (weightsOf z b) (weightAt p m) (sized .width-some) (sized .height-some) weights-wide low (λ i c l. table-at (weightAt p m i) (z .width) c 0 l)
+  found : FoundFor fence64 (z .width) (z .height) (weightsOf z b) (weightAt p m)
+  found = found-for fence64 (z .width) (z .height) (weightsOf z b) (weightAt p m) (sized .width-some) (sized .height-some) weights-wide low (λ i c l. table-at (weightAt p m i) (z .width) c 0 l)
 
   abbrev bottom : ℕ
-  bottom = leastTo (sumsDown 18446744073709551615 (z .width) (weightsOf z b) (z .height - 1)) (z .width - 1)
+  bottom = leastTo (sumsDown fence64 (z .width) (weightsOf z b) (z .height - 1)) (z .width - 1)
 
-  -- What is found in the last row: below 2 ^ 48 the seam and its cost, else none.
-  module _ (light : getD (sums (z .height - 1)) bottom 0 < 281474976710656) where
-    under : along (weightAt p m) (found .path) < 281474976710656
+  -- What is found in the last row: below `protected` the seam and its cost, else none.
+  module _ (light : getD (sums (z .height - 1)) bottom 0 < protected) where
+    under : along (weightAt p m) (found .path) < protected
     under = rw (found .price) light
 
     marked-found : markedUp (z .width) (z .height) p m ≡ some (found .path)
@@ -154,18 +155,18 @@ module _ (z : Size) (b : List ℕ) (sized : Sized z (length (take (pictureBytes 
     path-is : Option·getD (markedUp (z .width) (z .height) p m) [] ≡ found .path
     path-is = ap (λ o. Option·getD o []) marked-found
 
-    pub marked-seam : columnsTo (flat (table (waysUp 18446744073709551615 (z .width) (weightsOf z b)) (z .height - 1))) (z .width) (z .height - 1) bottom ≡ markedSeamOf (z .width) (z .height) p m
+    pub marked-seam : columnsTo (flat (table (waysUp fence64 (z .width) (weightsOf z b)) (z .height - 1))) (z .width) (z .height - 1) bottom ≡ markedSeamOf (z .width) (z .height) p m
     unfolding markedSeamOf
     marked-seam = found .columns ∙ ap reverse (sym path-is)
 
-    pub marked-cost : getD (sums (z .height - 1)) bottom 0 % 4294967296 ≡ markedCostOf (z .width) (z .height) p m
+    pub marked-cost : getD (sums (z .height - 1)) bottom 0 % kept ≡ markedCostOf (z .width) (z .height) p m
     unfolding markedCostOf
     marked-cost =
-        ap (λ n. n % 4294967296) (sym (found .price))
+        ap (λ n. n % kept) (sym (found .price))
         ∙ sym (light-cost (z .width) (z .height) p m (sized .height-small) energy-most (found .path) (found .is) under)
         ∙ ap (along (energy p)) (sym path-is)
 
-  pub marked-blocked : 281474976710656 ≤ getD (sums (z .height - 1)) bottom 0 → isNone (markedUp (z .width) (z .height) p m) ≡ true
+  pub marked-blocked : protected ≤ getD (sums (z .height - 1)) bottom 0 → isNone (markedUp (z .width) (z .height) p m) ≡ true
   marked-blocked l = ap isNone (heavy-blocked (z .width) (z .height) p m (sized .height-small) energy-most (found .path) (found .is) (rw (found .price) l))
 
 -- The weights of row i, from its energies and the part of the buffer that holds its marks.

@@ -6,6 +6,7 @@ use pictures::Size;
 use seam_sums::least64;
 ghost use mathlib.Core.Path.{_≡_};
 ghost use lib.ListN.{length};
+ghost use Rattle.seam_sums.specs.Fences.{fence64};
 ghost use Rattle.seam_find_marked.specs.Inner.{markedBytes, weightsOf};
 ghost use Rattle.seam_find.specs.Inner.Bottom.{BottomNeeded, BottomGiven, RowsNeeded};
 
@@ -19,7 +20,7 @@ pub(crate) struct Bottom {
 // column of a row comes from.
 pub(crate) fn find_bottom(space: &mut [u8], size: Size, bytes: usize) -> Bottom
     requires { ⌜ BottomNeeded (markedBytes size) size bytes (now space) ⌝ }
-    ensures { λ r. ⌜ BottomGiven 18446744073709551615 (markedBytes size) size (weightsOf size) (now (space .entry)) (now (space .exit)) (r .column) (r .sum) ⌝ }
+    ensures { λ r. ⌜ BottomGiven fence64 (markedBytes size) size (weightsOf size) (now (space .entry)) (now (space .exit)) (r .column) (r .sum) ⌝ }
 {
     let width = size.width;
     let both = width + 2;
@@ -49,9 +50,9 @@ fn bottom_with(
     next: &mut [u64],
 ) -> Bottom
     requires { ⌜ BottomNeeded (markedBytes size) size bytes (now space) ⌝ }
-    requires { ⌜ RowsNeeded 18446744073709551615 size (now above) (now cost) (now next) ⌝ }
+    requires { ⌜ RowsNeeded fence64 size (now above) (now cost) (now next) ⌝ }
     requires { ⌜ length (now energies) ≡ size .width ⌝ }
-    ensures { λ r. ⌜ BottomGiven 18446744073709551615 (markedBytes size) size (weightsOf size) (now (space .entry)) (now (space .exit)) (r .column) (r .sum) ⌝ }
+    ensures { λ r. ⌜ BottomGiven fence64 (markedBytes size) size (weightsOf size) (now (space .entry)) (now (space .exit)) (r .column) (r .sum) ⌝ }
 {
     let width = size.width;
     let height = size.height;

@@ -4,6 +4,7 @@ use crate::weights;
 use pictures::Size;
 ghost use mathlib.Core.Path.{_≡_};
 ghost use lib.ListN.{length};
+ghost use Rattle.seam_sums.specs.Fences.{fence64, sumLimit64};
 ghost use Rattle.seam_find_marked.specs.Inner.{markedBytes, weightsOf};
 ghost use Rattle.seam_find.specs.Inner.Down.{DownNeeded, DownGiven, RowNeeded, RowGiven};
 
@@ -22,9 +23,9 @@ pub(crate) fn down(
     cost: &mut [u64],
     next: &mut [u64],
 )
-    requires { ⌜ DownNeeded 18446744073709551615 (markedBytes size) size (weightsOf size) bytes (now space) (now above) (now cost) (now next) ⌝ }
+    requires { ⌜ DownNeeded fence64 (markedBytes size) size (weightsOf size) bytes (now space) (now above) (now cost) (now next) ⌝ }
     requires { ⌜ length (now energies) ≡ size .width ⌝ }
-    ensures { λ _. ⌜ DownGiven 18446744073709551615 (markedBytes size) size (weightsOf size) (now (space .entry)) (now (space .exit)) (now (above .exit)) ⌝ }
+    ensures { λ _. ⌜ DownGiven fence64 (markedBytes size) size (weightsOf size) (now (space .entry)) (now (space .exit)) (now (above .exit)) ⌝ }
 {
     let height = size.height;
     for i in 1..height {
@@ -43,7 +44,7 @@ fn row_down(
     cost: &mut [u64],
     next: &mut [u64],
 )
-    requires { ⌜ RowNeeded 9223372036854775808 (markedBytes size) size bytes i (now space) (now above) (now cost) (now next) ⌝ }
+    requires { ⌜ RowNeeded sumLimit64 (markedBytes size) size bytes i (now space) (now above) (now cost) (now next) ⌝ }
     requires { ⌜ length (now energies) ≡ size .width ⌝ }
     ensures { λ _. ⌜ RowGiven (markedBytes size) size (weightsOf size) i (now (space .entry)) (now (above .entry)) (now (space .exit)) (now (above .exit)) ⌝ }
 {

@@ -1,15 +1,16 @@
 // Rows of sums of 64 bits, with marks. Each loop is written so that it can be vectorized: no edge, no branch.
 use seam_sums::least64;
 ghost use mathlib.Core.Path.{_≡_};
-ghost use Prim.Native.Nat.{_+_, _^_};
+ghost use Prim.Native.Nat.{_+_};
 ghost use lib.ListN.{length};
 ghost use Rattle.grids.specs.Table.{table};
 ghost use Rattle.seam_find.specs.Inner.Sums.{SumsNeeded};
 ghost use Rattle.seam_sums.specs.Least.{wayOf3, sumOf3};
+ghost use Rattle.seam_sums.specs.Fences.{sumLimit64};
 
 // The sums of a row, from the row of sums above it and the row's costs.
 pub(crate) fn next_sums(above: &[u64], cost: &[u64], next: &mut [u64])
-    requires { ⌜ SumsNeeded (2 ^ 63) (now above) (now cost) (now next) ⌝ }
+    requires { ⌜ SumsNeeded sumLimit64 (now above) (now cost) (now next) ⌝ }
     ensures { λ _. ⌜ now (next .exit) ≡ table (sumOf3 (now (above .entry)) (now (cost .entry))) (length (now (next .entry))) ⌝ }
 {
     for c in 0..next.len() {

@@ -25,7 +25,7 @@ use Rattle.seam_retarget.proofs.Cuts.{turned-tall, found-inside, cut-is
 use Rattle.seam_retarget.proofs.Slots.{smaller-few, less-column, less-row, same-picture, slots-apart, double-few, placed-vertical, placed-horizontal, apart-vertical, apart-horizontal}
 use Rattle.seam_rules.proofs.Left.{smaller-sides}
 
--- A seam found with a seam's space of 512.
+-- A seam found with a seam's space as long as the largest side.
 module _ (z : Size) (whole work : ℕ) (needed : SpaceNeeded z whole work) (k r c n : ℕ) (slot : k < 65) (rows : r < z .height) (columns : c < z .width) (many : n ≡ largestSide) where
   sides : refusal (sideRules (smaller z r c)) ≡ 0
   sides = smaller-sides z r c (needed .sides) rows columns

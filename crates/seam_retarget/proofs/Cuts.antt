@@ -44,7 +44,7 @@ left-sides t s wide = sides-of (narrowed t) (omega arith) (omega (arith, s .widt
 left-ofSize : (t : Size) (s : List ℕ) (q : Picture) → 1 < t .width → Each (λ c. c < t .width) (t .height) s → OfSize t q → OfSize (narrowed t) (cut s q)
 left-ofSize t s q wide inside o = cut-narrower (t .width) wide inside o
 
--- A seam has at most 512 columns or rows.
+-- A seam has at most as many columns or rows as the largest side.
 pub turned-tall : (x : Axis) (z : Size) → refusal (sideRules z) ≡ 0 → turnedSize x z .height ≤ largestSide
 turned-tall x z s = sides-are (turnedSize x z) (turned-sides x z (pictureBytes z) (sized-at z s)) .height-most
 

@@ -7,6 +7,7 @@ use lib.ListN.{length, drop}
 use borrow.Author.Tests.{le-leb}
 use Rattle.grids.specs.Rows.{flat}
 use Rattle.pictures.specs.declared.sizes.Kind.{Kind}
+use Rattle.pictures.specs.Numbers.{largestNumber}
 use Rattle.text_theory.specs.declared.Head.{Head}
 use Rattle.text_theory.specs.Readers.{Get}
 use Rattle.text_theory.specs.Decimal.{digits}
@@ -27,9 +28,9 @@ pub row-line : (k : Kind) (row : List (List ℕ)) (rest : List ℕ) → All (Pix
 unfolding rowLine rowText
 row-line k row rest h = rw (append-assoc, strip-back, line-reads (pixel-reads k) clear-blank clear-closing .back row h rest tt)
 
-pub map-line : (row rest : List ℕ) → All (λ (a : ℕ). a ≤ 65535) row → mapLine (mapText row ++ rest) ≡ some (row, rest)
+pub map-line : (row rest : List ℕ) → All (λ (a : ℕ). a ≤ largestNumber) row → mapLine (mapText row ++ rest) ≡ some (row, rest)
 unfolding mapLine mapText
-map-line row rest h = rw (append-assoc, strip-back) (line-reads (number-reads 65535) clear-blank clear-closing .back row h rest tt)
+map-line row rest h = rw (append-assoc, strip-back) (line-reads (number-reads largestNumber) clear-blank clear-closing .back row h rest tt)
 
 pub head-line : (h : Head) (rest : List ℕ) → Numbers h → headGet (headText h ++ rest) ≡ some (h, rest)
 head-line h rest n = head-reads .back h n rest tt
@@ -79,7 +80,7 @@ module _ {text : List ℕ} {at : ℕ} where
   taken-row k row {rest} r T e a h = taken-line r T (ap (rowLine k) e ∙ row-line k row rest a) h
 
   pub taken-map : (row : List ℕ) {rest out : List ℕ} (r : Read) {out′ : List ℕ}
-      → Taken mapLine text at out (read r) out′ → drop at text ≡ mapText row ++ rest → All (λ (a : ℕ). a ≤ 65535) row → length row ≤ length out → LineMet text at row rest out r out′
+      → Taken mapLine text at out (read r) out′ → drop at text ≡ mapText row ++ rest → All (λ (a : ℕ). a ≤ largestNumber) row → length row ≤ length out → LineMet text at row rest out r out′
   taken-map row {rest} r T e a h = taken-line r T (ap mapLine e ∙ map-line row rest a) h
 
 -- A head was read.

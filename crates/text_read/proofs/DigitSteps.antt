@@ -9,6 +9,7 @@ use native.Mathlib.Omega.{arith}
 use lib.Dec.{leb, ltb}
 use lib.ListN.{length, getD, drop, drop-of-length-le}
 use borrow.Author.Tests.{le-leb, lt-leb, ltb-true, ltb-false}
+use Rattle.pictures.specs.Numbers.{largestNumber}
 use Rattle.text_theory.specs.Decimal.{isDigit, further, upTo, number}
 use Rattle.text_read.specs.Answers.{Told}
 use Rattle.text_read.specs.Inner.{within}
@@ -34,7 +35,7 @@ pub record Reading (limit : ℕ) (text : List ℕ) (start n at : ℕ) : Type 0 w
   pub same : number limit (drop start text) ≡ upTo limit (further n (drop at text))
   pub there : start < at
   pub inside : at ≤ length text
-  pub small : n ≤ 655359
+  pub small : n ≤ 10 * largestNumber + 9
 
 module _ (limit : ℕ) {text : List ℕ} {start : ℕ} where
   pub number-end : length text ≤ start → Told (number limit) text start none
@@ -59,7 +60,7 @@ module _ {limit : ℕ} {text : List ℕ} {start : ℕ} where
   }
 
   module _ {n at : ℕ} (R : Reading limit text start n at) where
-    pub reading-next : {d : ℕ} → limit ≤ 65535 → n ≤ limit → at < length text → (48 ≤ getD text at 0) × (getD text at 0 ≤ 57) → d ≡ getD text at 0 - 48 → Reading limit text start (n * 10 + d) (at + 1)
+    pub reading-next : {d : ℕ} → limit ≤ largestNumber → n ≤ limit → at < length text → (48 ≤ getD text at 0) × (getD text at 0 ≤ 57) → d ≡ getD text at 0 - 48 → Reading limit text start (n * 10 + d) (at + 1)
     unfolding further
     reading-next m k h b e = record {
       same = R .same ∙ rw (front text at h, is-digit (getD text at 0) (b .0) (b .1), e);

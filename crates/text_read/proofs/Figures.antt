@@ -8,6 +8,7 @@ use native.Mathlib.Numerals.{add-one}
 use native.Mathlib.Omega.{arith}
 use lib.ListN.{length, getD, drop, set, drop-of-length-le, length-append, length-set}
 use lib.Seq.{drop-cons, set-at, append-snoc}
+use Rattle.pictures.specs.Numbers.{largestNumber}
 use Rattle.text_theory.specs.Decimal.{isDigit, number}
 use Rattle.text_theory.proofs.Pairs.{front}
 use Rattle.text_read.specs.Answers.{given, ahead, Told}
@@ -26,12 +27,12 @@ unfolding figure
 figure-gap b s h = rw (skip-gap b s h)
 
 -- Where a number stands, nothing is skipped.
-pub figure-here : (s : List ℕ) (r : ℕ × List ℕ) → number 65535 s ≡ some r → figure s ≡ some r
+pub figure-here : (s : List ℕ) (r : ℕ × List ℕ) → number largestNumber s ≡ some r → figure s ≡ some r
 unfolding figure number
 figure-here [] r h = absurd (Option·none-ne-some _ h)
 figure-here (b ∷ s) r h = go (isDigit b) refl h
   where
-    go : (x : Bool) → isDigit b ≡ x → number 65535 (b ∷ s) ≡ some r → number 65535 (skipped (b ∷ s)) ≡ some r
+    go : (x : Bool) → isDigit b ≡ x → number largestNumber (b ∷ s) ≡ some r → number largestNumber (skipped (b ∷ s)) ≡ some r
     go true e h = rw (skip-digit b s e) h
     go false e h = absurd (Option·none-ne-some _ (rw e at h))
 
@@ -48,7 +49,7 @@ module _ {text : List ℕ} {from : ℕ} where
     pub skipping-next : at < length text → isDigit (getD text at 0) ≡ false → Skipping text from (at + 1)
     skipping-next h d = record { same = S .same ∙ rw (front text at h, skip-gap (getD text at 0) (drop (at + 1) text) d); there = omega (arith, S .there) }
 
-    pub skipping-found : {r : Option (ℕ × ℕ)} → at < length text → isDigit (getD text at 0) ≡ true → Told (number 65535) text at r → Told figure text from r
+    pub skipping-found : {r : Option (ℕ × ℕ)} → at < length text → isDigit (getD text at 0) ≡ true → Told (number largestNumber) text at r → Told figure text from r
     unfolding figure
     skipping-found {r} h d t = record { same = same; moved = further r (t .moved) }
       where

@@ -12,6 +12,7 @@ use borrow.Author.Tests.{eqb-true, ne-eqb}
 use Rattle.text_theory.specs.Readers.{Get, give, on, _▷_, strip, behind, after, next, many}
 use Rattle.text_theory.specs.Decimal.{number}
 use Rattle.pictures.specs.declared.sizes.Kind.the-variants.{Rgb}
+use Rattle.pictures.specs.Numbers.{largestNumber}
 use Rattle.text_theory.specs.Files.{blank, opening, closing, items, three, pixel}
 use Rattle.text_rules.specs.declared.Items.{Items}
 use Rattle.text_rules.specs.declared.Items.the-variants.{Samples, Pixels, Numbers}
@@ -58,19 +59,19 @@ form-nil : (w : Items) → formOf w [] ≡ none
 unfolding formOf
 form-nil Samples = count-nil (number-reads 255)
 form-nil Pixels = count-nil (pixel-reads Rgb)
-form-nil Numbers = count-nil (number-reads 65535)
+form-nil Numbers = count-nil (number-reads largestNumber)
 
 form-close : (w : Items) (t : List ℕ) → formOf w (41 ∷ t) ≡ some (0, t)
 unfolding formOf
 form-close Samples = count-close (number-reads 255)
 form-close Pixels = count-close (pixel-reads Rgb)
-form-close Numbers = count-close (number-reads 65535)
+form-close Numbers = count-close (number-reads largestNumber)
 
 form-other : (w : Items) (b : ℕ) (t : List ℕ) → (b ≡ 41 → ⊥) → (b ≡ 32 → ⊥) → formOf w (b ∷ t) ≡ none
 unfolding formOf
 form-other Samples = count-other (number-reads 255)
 form-other Pixels = count-other (pixel-reads Rgb)
-form-other Numbers = count-other (number-reads 65535)
+form-other Numbers = count-other (number-reads largestNumber)
 
 form-blank : (w : Items) (t : List ℕ) → formOf w (32 ∷ t) ≡ on (itemOf w t) (λ x. formOf w ▷ λ n. give (suc n))
 unfolding formOf itemOf counted
@@ -80,7 +81,7 @@ form-blank Pixels t = count-blank (pixel-reads Rgb) t ∙ go (pixel Rgb t)
     go : (o : Option (List ℕ × List ℕ)) → on o (λ x. counted (items (pixel Rgb)) ▷ λ n. give (suc n)) ≡ on (on o (λ xs. give (length xs))) (λ x. counted (items (pixel Rgb)) ▷ λ n. give (suc n))
     go none = refl
     go (some r) = refl
-form-blank Numbers t = count-blank (number-reads 65535) t
+form-blank Numbers t = count-blank (number-reads largestNumber) t
 
 -- The state of the form's loop: n items stand between from and at.
 pub record Counting (w : Items) (text : List ℕ) (from n at : ℕ) : Type 0 where
@@ -166,6 +167,6 @@ pub item-samples : {text : List ℕ} {at : ℕ} {r : Option (ℕ × ℕ)} → To
 unfolding itemOf
 item-samples t = t
 
-pub item-numbers : {text : List ℕ} {at : ℕ} {r : Option (ℕ × ℕ)} → Told (number 65535) text at r → Told (itemOf Numbers) text at r
+pub item-numbers : {text : List ℕ} {at : ℕ} {r : Option (ℕ × ℕ)} → Told (number largestNumber) text at r → Told (itemOf Numbers) text at r
 unfolding itemOf
 item-numbers t = t

@@ -9,6 +9,7 @@ use Rattle.text_theory.specs.Readers.{Get, give, on, _▷_, strip, behind, afte
 use Rattle.text_theory.specs.Decimal.{number}
 use Rattle.pictures.specs.declared.sizes.Kind.{Kind}
 use Rattle.pictures.specs.declared.sizes.Kind.the-variants.{Grey, Rgb}
+use Rattle.pictures.specs.Numbers.{largestNumber}
 use Rattle.text_theory.specs.Files.{lineEnd, blank, closing, items, pixel, line}
 use Rattle.text_read.specs.Answers.{counted, formOf, lineRest}
 use Rattle.text_rules.specs.Items.{itemsOf}
@@ -57,9 +58,9 @@ count-line {A} g s = go (items g s)
     go none = refl
     go (some r) = last (r .0) (strip lineEnd (r .1))
 
-pub rest-map : (s : List ℕ) → lineRest Numbers s ≡ on (line (number 65535) s) (λ xs. give (length xs))
+pub rest-map : (s : List ℕ) → lineRest Numbers s ≡ on (line (number largestNumber) s) (λ xs. give (length xs))
 unfolding lineRest formOf counted
-rest-map s = sym (count-line (number 65535) s)
+rest-map s = sym (count-line (number largestNumber) s)
 
 pub rest-row : (k : Kind) (s : List ℕ) → lineRest (itemsOf k) s ≡ on (line (pixel k) s) (λ xs. give (length xs))
 unfolding lineRest formOf counted itemsOf pixel

@@ -11,6 +11,7 @@ use Rattle.grids.specs.Rows.{flat}
 use Rattle.pictures.specs.declared.sizes.Kind.{Kind}
 use Rattle.pictures.specs.declared.sizes.Kind.the-variants.{Grey, Rgb}
 use Rattle.pictures.specs.Pictures.{channelsOf}
+use Rattle.pictures.specs.Numbers.{largestNumber}
 use Rattle.text_theory.specs.Decimal.{digits, isDigit}
 use Rattle.text_theory.specs.Files.{blank, opening, closing, each, joined, pixelText, All, Pixel}
 use Rattle.text_theory.proofs.Decimals.{clear, number-reads}
@@ -33,9 +34,9 @@ module _ (limit : ℕ) where
   figures-gap zero b s h = refl
   figures-gap (suc n) b s h = rw (figure-gap b s h)
 
-  module _ (small : limit ≤ 65535) where
+  module _ (small : limit ≤ largestNumber) where
     next-figure : (x : ℕ) (s : List ℕ) → x ≤ limit → clear s → figure (digits x ++ s) ≡ some (x, s)
-    next-figure x s h c = figure-here (digits x ++ s) (x, s) (number-reads 65535 .back x (omega arith) s c)
+    next-figure x s h c = figure-here (digits x ++ s) (x, s) (number-reads largestNumber .back x (omega arith) s c)
 
     pub stand-coming : {xs s : List ℕ} → Stand limit xs s → Coming limit (length xs) s
     stand-coming end = tt

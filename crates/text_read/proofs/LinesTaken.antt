@@ -11,6 +11,7 @@ use Rattle.grids.specs.Rows.{flat}
 use Rattle.pictures.specs.declared.sizes.Kind.{Kind}
 use Rattle.pictures.specs.declared.sizes.Kind.the-variants.{Grey, Rgb}
 use Rattle.pictures.specs.Pictures.{channelsOf}
+use Rattle.pictures.specs.Numbers.{largestNumber}
 use Rattle.text_theory.specs.Readers.{Get, give, on}
 use Rattle.text_theory.specs.Decimal.{digits, number}
 use Rattle.text_theory.specs.Files.{closed, rowWord, mapWord, pixelText, lineText, pixel, line, All, Pixel}
@@ -45,14 +46,14 @@ module _ {get : Get (List ℕ)} {text : List ℕ} {at : ℕ} {out : List ℕ} wh
         let l = lt-leb (length (F .values)) (length out) (omega (arith, F .count)) in
         record { told = record { same = rw (F .same, l); moved = tt }; space = rw (F .same, l) }
 
-    pub found-fits : limit ≤ 65535 → m ≤ length out → {out′ : List ℕ} → out′ ≡ figures m (drop word text) ++ drop m out → Taken get text at out (some (m, end)) out′
+    pub found-fits : limit ≤ largestNumber → m ≤ length out → {out′ : List ℕ} → out′ ≡ figures m (drop word text) ++ drop m out → Taken get text at out (some (m, end)) out′
     unfolding fitting counted
     found-fits small h e =
         let l = le-leb (length (F .values)) (length out) (omega (arith, F .count)) in
         let f = stand-figures limit small (F .stand) in
         record { told = record { same = rw (F .same, l, F .count); moved = F .moved }; space = e ∙ rw (F .same, l, ← F .count, f) }
 
-pub found-coming : {get : Get (List ℕ)} {limit : ℕ} {text : List ℕ} {at word m end : ℕ} → Found get limit text at word m end → limit ≤ 65535 → Coming limit m (drop word text)
+pub found-coming : {get : Get (List ℕ)} {limit : ℕ} {text : List ℕ} {at word m end : ℕ} → Found get limit text at word m end → limit ≤ largestNumber → Coming limit m (drop word text)
 found-coming {limit = limit} F small = rw (F .count) at (stand-coming limit small (F .stand))
 
 -- What is counted is read.
@@ -100,20 +101,20 @@ module _ {text : List ℕ} {at : ℕ} where
   module _ {v c : ℕ} (t : Told (passing mapWord) text at (some (v, c))) where
     pub map-torn : {out : List ℕ} → Told (lineRest Numbers) text c none → Taken mapLine text at out none out
     unfolding mapLine
-    map-torn r = torn (rw (passing-some mapWord (drop at text) v (drop c text) (t .same)) (none-inv (line (number 65535) (drop c text)) (sym (rest-map (drop c text)) ∙ r .same)))
+    map-torn r = torn (rw (passing-some mapWord (drop at text) v (drop c text) (t .same)) (none-inv (line (number largestNumber) (drop c text)) (sym (rest-map (drop c text)) ∙ r .same)))
 
-    pub map-found : {n d : ℕ} → Told (lineRest Numbers) text c (some (n, d)) → Found mapLine 65535 text at c n d
+    pub map-found : {n d : ℕ} → Told (lineRest Numbers) text c (some (n, d)) → Found mapLine largestNumber text at c n d
     unfolding mapLine lineText
     map-found {n} {d} r =
-        let p = counted-inv (line (number 65535) (drop c text)) n (drop d text) (sym (rest-map (drop c text)) ∙ r .same) in
-        go (p .0) (p .1) (p .2) (line-reads (number-reads 65535) clear-blank clear-closing .sound (drop c text) (p .0, drop d text) (p .1))
+        let p = counted-inv (line (number largestNumber) (drop c text)) n (drop d text) (sym (rest-map (drop c text)) ∙ r .same) in
+        go (p .0) (p .1) (p .2) (line-reads (number-reads largestNumber) clear-blank clear-closing .sound (drop c text) (p .0, drop d text) (p .1))
       where
-        go : (row : List ℕ) → line (number 65535) (drop c text) ≡ some (row, drop d text) → length row ≡ n
-            → (drop c text ≡ lineText digits row ++ drop d text) × All (λ (a : ℕ). a ≤ 65535) row → Found mapLine 65535 text at c n d
+        go : (row : List ℕ) → line (number largestNumber) (drop c text) ≡ some (row, drop d text) → length row ≡ n
+            → (drop c text ≡ lineText digits row ++ drop d text) × All (λ (a : ℕ). a ≤ largestNumber) row → Found mapLine largestNumber text at c n d
         go row e l s = record {
           values = row;
           same = rw (passing-some mapWord (drop at text) v (drop c text) (t .same)) e;
-          stand = rw (s .0, append-assoc) (numbers-stand 65535 row (closed ++ drop d text) (s .1) (clear-closed (drop d text)));
+          stand = rw (s .0, append-assoc) (numbers-stand largestNumber row (closed ++ drop d text) (s .1) (clear-closed (drop d text)));
           count = l;
           moved = (omega (arith, t .moved .0, r .moved .0), r .moved .1);
         }

@@ -10,6 +10,7 @@ use lib.ListN.{length, getD, drop, drop-of-length-le}
 use borrow.Author.Tests.{ne-eqb, leb-true, leb-false, le-ltb, lt-ltb}
 use Rattle.pictures.specs.declared.sizes.Kind.{Kind}
 use Rattle.pictures.specs.declared.sizes.Kind.the-variants.{Grey}
+use Rattle.pictures.specs.Numbers.{largestNumber}
 use Rattle.text_theory.specs.Readers.{give, on, strip}
 use Rattle.text_theory.specs.Decimal.{isDigit, further, upTo, number}
 use Rattle.text_theory.specs.Files.{greyWord, rgbWord, either, kindGet}
@@ -38,29 +39,29 @@ kind-digit : (b : ℕ) (s : List ℕ) → isDigit b ≡ true → kindGet (b ∷ 
 kind-digit b s h = let d = digit-true b h in kind-other b s (λ e. omega arith) (λ e. omega arith)
 
 -- What is a number is no name.
-number-kind : (s : List ℕ) (r : ℕ × List ℕ) → number 65535 s ≡ some r → kindGet s ≡ none
+number-kind : (s : List ℕ) (r : ℕ × List ℕ) → number largestNumber s ≡ some r → kindGet s ≡ none
 number-kind [] r h = kind-nil
 number-kind (b ∷ s) r h = go (isDigit b) refl
   where
     go : (x : Bool) → isDigit b ≡ x → kindGet (b ∷ s) ≡ none
     go true e = kind-digit b s e
-    go false e = absurd (Option·none-ne-some _ (sym (number-other 65535 b s e) ∙ h))
+    go false e = absurd (Option·none-ne-some _ (sym (number-other largestNumber b s e) ∙ h))
 
 -- A smaller limit.
-number-limit : (limit : ℕ) → limit ≤ 65535 → (s : List ℕ) → number limit s ≡ on (number 65535 s) (λ n. cond (ltb limit n) (λ t. none) (give n))
+number-limit : (limit : ℕ) → limit ≤ largestNumber → (s : List ℕ) → number limit s ≡ on (number largestNumber s) (λ n. cond (ltb limit n) (λ t. none) (give n))
 unfolding number upTo
 number-limit limit l [] = refl
 number-limit limit l (b ∷ s) = go (isDigit b) (eqb b 48)
   where
-    last : (r : ℕ × List ℕ) (x y : Bool) → leb (r .0) limit ≡ x → leb (r .0) 65535 ≡ y
+    last : (r : ℕ × List ℕ) (x y : Bool) → leb (r .0) limit ≡ x → leb (r .0) largestNumber ≡ y
         → cond x (some r) none ≡ on (cond y (some r) none) (λ n. cond (ltb limit n) (λ t. none) (give n))
     last r true true e f = rw (le-ltb limit (r .0) (leb-true (r .0) limit e))
-    last r true false e f = absurd (omega (arith, l, leb-true (r .0) limit e, leb-false (r .0) 65535 f))
+    last r true false e f = absurd (omega (arith, l, leb-true (r .0) limit e, leb-false (r .0) largestNumber f))
     last r false true e f = rw (lt-ltb limit (r .0) (leb-false (r .0) limit e))
     last r false false e f = refl
 
     go : (x y : Bool) → cond x (cond y (some (0, s)) (cond (leb (further (b - 48) s .0) limit) (some (further (b - 48) s)) none)) none
-        ≡ on (cond x (cond y (some (0, s)) (cond (leb (further (b - 48) s .0) 65535) (some (further (b - 48) s)) none)) none) (λ n. cond (ltb limit n) (λ t. none) (give n))
+        ≡ on (cond x (cond y (some (0, s)) (cond (leb (further (b - 48) s .0) largestNumber) (some (further (b - 48) s)) none)) none) (λ n. cond (ltb limit n) (λ t. none) (give n))
     go true true = rw (le-ltb limit 0 (omega arith))
     go true false = last (further (b - 48) s) _ _ refl refl
     go false y = refl
@@ -85,27 +86,27 @@ same-tag : (v w : Written) (s t : List ℕ) → _≡_ {A = Option (Written × Li
 same-tag v w s t h = ap (λ (r : Written × List ℕ). tag (r .0)) (Option·some-injective (v, s) (w, t) h)
 
 module _ (s : List ℕ) where
-  word-numeral : (n : ℕ) (t : List ℕ) → word s ≡ some (numeral n, t) → number 65535 s ≡ some (n, t)
+  word-numeral : (n : ℕ) (t : List ℕ) → word s ≡ some (numeral n, t) → number largestNumber s ≡ some (n, t)
   unfolding word
-  word-numeral n t h = go (number 65535 s) (kindGet s) h
+  word-numeral n t h = go (number largestNumber s) (kindGet s) h
     where
       go : (o : Option (ℕ × List ℕ)) (k : Option (Kind × List ℕ)) → either-word o k ≡ some (numeral n, t) → o ≡ some (n, t)
       go none none h = absurd (Option·none-ne-some _ h)
       go none (some q) h = absurd (let z = same-tag (name (q .0)) (numeral n) (q .1) t h in omega arith)
       go (some r) k h = ap (λ (q : Written × List ℕ). some (number-in (q .0), q .1)) (Option·some-injective (numeral (r .0), r .1) (numeral n, t) h)
 
-  word-name : (k : Kind) (t : List ℕ) → word s ≡ some (name k, t) → (number 65535 s ≡ none) × (kindGet s ≡ some (k, t))
+  word-name : (k : Kind) (t : List ℕ) → word s ≡ some (name k, t) → (number largestNumber s ≡ none) × (kindGet s ≡ some (k, t))
   unfolding word
-  word-name k t h = go (number 65535 s) (kindGet s) h
+  word-name k t h = go (number largestNumber s) (kindGet s) h
     where
       go : (o : Option (ℕ × List ℕ)) (p : Option (Kind × List ℕ)) → either-word o p ≡ some (name k, t) → (o ≡ none) × (p ≡ some (k, t))
       go none none h = absurd (Option·none-ne-some _ h)
       go none (some q) h = (refl, ap (λ (q : Written × List ℕ). some (kind-in (q .0), q .1)) (Option·some-injective (name (q .0), q .1) (name k, t) h))
       go (some r) p h = absurd (let z = same-tag (numeral (r .0)) (name k) (r .1) t h in omega arith)
 
-  word-none : word s ≡ none → (number 65535 s ≡ none) × (kindGet s ≡ none)
+  word-none : word s ≡ none → (number largestNumber s ≡ none) × (kindGet s ≡ none)
   unfolding word
-  word-none h = go (number 65535 s) (kindGet s) h
+  word-none h = go (number largestNumber s) (kindGet s) h
     where
       go : (o : Option (ℕ × List ℕ)) (k : Option (Kind × List ℕ)) → either-word o k ≡ none → (o ≡ none) × (k ≡ none)
       go none none h = (refl, refl)
@@ -117,31 +118,31 @@ module _ {text : List ℕ} {at : ℕ} where
   unfolding word
   told-word-end h = record { same = rw (drop-of-length-le text h, number-nil, kind-nil); moved = tt }
 
-  pub told-word-number : {n c : ℕ} → Told (number 65535) text at (some (n, c)) → Told word text at (some (numeral n, c))
+  pub told-word-number : {n c : ℕ} → Told (number largestNumber) text at (some (n, c)) → Told word text at (some (numeral n, c))
   unfolding word
   told-word-number t = record { same = rw (t .same); moved = t .moved }
 
   module _ (h : at < length text) where
-    pub told-word-no-number : isDigit (getD text at 0) ≡ true → Told (number 65535) text at none → Told word text at none
+    pub told-word-no-number : isDigit (getD text at 0) ≡ true → Told (number largestNumber) text at none → Told word text at none
     unfolding word
     told-word-no-number d t = record { same = rw (t .same, front text at h, kind-digit (getD text at 0) (drop (at + 1) text) d); moved = tt }
 
     pub told-word-name : {k : Kind} {c : ℕ} → isDigit (getD text at 0) ≡ false → Told kindGet text at (some (k, c)) → Told word text at (some (name k, c))
     unfolding word
     told-word-name d t =
-        let n = number-other 65535 (getD text at 0) (drop (at + 1) text) d in
+        let n = number-other largestNumber (getD text at 0) (drop (at + 1) text) d in
         record { same = rw (t .same, front text at h, n); moved = t .moved }
 
     pub told-word-no-name : isDigit (getD text at 0) ≡ false → Told kindGet text at none → Told word text at none
     unfolding word
     told-word-no-name d t =
-        let n = number-other 65535 (getD text at 0) (drop (at + 1) text) d in
+        let n = number-other largestNumber (getD text at 0) (drop (at + 1) text) d in
         record { same = rw (t .same, front text at h, n); moved = tt }
 
     pub told-word-other : isDigit (getD text at 0) ≡ false → (getD text at 0 ≡ 103 → ⊥) → (getD text at 0 ≡ 114 → ⊥) → Told word text at none
     told-word-other d p q = told-word-no-name d (record { same = rw (front text at h, kind-other (getD text at 0) (drop (at + 1) text) p q); moved = tt })
 
-  module _ (limit : ℕ) (l : limit ≤ 65535) where
+  module _ (limit : ℕ) (l : limit ≤ largestNumber) where
     pub told-number : {n c : ℕ} → Told word text at (some (numeral n, c)) → n ≤ limit → Told (number limit) text at (some (n, c))
     told-number {n} {c} t h = record { same = rw (number-limit limit l (drop at text), word-numeral (drop at text) n (drop c text) (t .same), le-ltb limit n h); moved = t .moved }
 

@@ -8,6 +8,7 @@ use lib.Dec.{leb, eqb}
 use lib.ListN.{length, drop}
 use Rattle.pictures.specs.declared.sizes.Kind.{Kind}
 use Rattle.pictures.specs.declared.sizes.Kind.the-variants.{Rgb}
+use Rattle.pictures.specs.Numbers.{largestNumber}
 use Rattle.text_theory.specs.declared.Head.{Head}
 use Rattle.text_theory.specs.Readers.{Get, give, _▷_, after}
 use Rattle.text_theory.specs.Decimal.{number, isDigit}
@@ -65,7 +66,7 @@ pub data Written : Type 0 where
 
 -- "Reading a word gives the word and the place where reading goes on."
 unfoldable pub word : Get Written
-word s = either ((number 65535 ▷ λ n. give (numeral n)) s) ((kindGet ▷ λ k. give (name k)) s)
+word s = either ((number largestNumber ▷ λ n. give (numeral n)) s) ((kindGet ▷ λ k. give (name k)) s)
 
 abbrev pub wordRead : Word → Option (Written × ℕ)
 wordRead (words.Number n c) = some (numeral n, c .at)
@@ -86,12 +87,12 @@ counted g = g ▷ λ xs. give (length xs)
 unfoldable pub itemOf : Items → Get ℕ
 itemOf Samples = number 255
 itemOf Pixels = counted (pixel Rgb)
-itemOf Numbers = number 65535
+itemOf Numbers = number largestNumber
 
 unfoldable pub formOf : Items → Get ℕ
 formOf Samples = counted (items (number 255))
 formOf Pixels = counted (items (pixel Rgb))
-formOf Numbers = counted (items (number 65535))
+formOf Numbers = counted (items (number largestNumber))
 
 -- The items of a line, the closing bracket, the line end.
 unfoldable pub lineRest : Items → Get ℕ

@@ -6,6 +6,7 @@ use mathlib.Core.List.{List, [], _∷_}
 use Prim.Native.Nat.{ℕ, zero, suc, _≤_}
 use lib.Dec.{ltb}
 use lib.ListN.{length, drop}
+use Rattle.pictures.specs.Numbers.{largestNumber}
 use Rattle.text_theory.specs.Readers.{Get, give, _▷_, after}
 use Rattle.text_theory.specs.Decimal.{number, isDigit}
 
@@ -19,7 +20,7 @@ passing w = after w (give 0)
 
 -- A number and the bytes behind it.
 unfoldable pub numberedOf : List ℕ → Get ℕ
-numberedOf w = number 65535 ▷ λ n. after w (give n)
+numberedOf w = number largestNumber ▷ λ n. after w (give n)
 
 -- The bytes from the first digit on.
 unfoldable pub skipped : List ℕ → List ℕ
@@ -28,7 +29,7 @@ skipped (b ∷ s) = cond (isDigit b) (b ∷ s) (skipped s)
 
 -- The next number, whatever stands before it; and the next n numbers.
 unfoldable pub figure : Get ℕ
-figure s = number 65535 (skipped s)
+figure s = number largestNumber (skipped s)
 
 abbrev pub also : Option (ℕ × List ℕ) → (List ℕ → List ℕ) → List ℕ
 also none f = []

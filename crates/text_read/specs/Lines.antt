@@ -8,6 +8,7 @@ use lib.Dec.{leb}
 use lib.ListN.{length, drop}
 use Rattle.grids.specs.Rows.{flat}
 use Rattle.pictures.specs.declared.sizes.Kind.{Kind}
+use Rattle.pictures.specs.Numbers.{largestNumber}
 use Rattle.text_theory.specs.Readers.{Get, give, _▷_, after}
 use Rattle.text_theory.specs.Decimal.{number}
 use Rattle.text_theory.specs.Files.{rowWord, mapWord, pixel, line}
@@ -18,7 +19,7 @@ unfoldable pub rowLine : Kind → Get (List ℕ)
 rowLine k = after rowWord (line (pixel k) ▷ λ row. give (flat row))
 
 unfoldable pub mapLine : Get (List ℕ)
-mapLine = after mapWord (line (number 65535))
+mapLine = after mapWord (line (number largestNumber))
 
 -- What a reader gives, if it has at most n values.
 unfoldable pub fitting : ℕ → Get (List ℕ) → Get (List ℕ)

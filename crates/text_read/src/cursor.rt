@@ -1,7 +1,9 @@
 // A place of a text, by value: its methods take it and hand back the moved one.
+use pictures::numbers::LARGEST_NUMBER;
 ghost use mathlib.Core.Path.{_≡_};
 ghost use Prim.Native.Nat.{_-_, _≤_, _<_};
 ghost use lib.ListN.{length};
+ghost use Rattle.pictures.specs.Numbers.{largestNumber};
 ghost use Rattle.text_theory.specs.Decimal.{number};
 ghost use Rattle.text_read.specs.Answers.{Told, read, classOf, skipping};
 ghost use Rattle.text_read.specs.Inner.{passing, within};
@@ -50,9 +52,9 @@ fn digit(b: u8) -> usize
 
 // The number n and the place behind it, if it isn't too large.
 fn judged(n: usize, at: usize) -> Read
-    ensures { λ r. ⌜ read r ≡ within 65535 n at ⌝ }
+    ensures { λ r. ⌜ read r ≡ within largestNumber n at ⌝ }
 {
-    if 65535 < n {
+    if LARGEST_NUMBER < n {
         Read::Broken
     } else {
         Read::Good(n, Cursor { at })
@@ -60,9 +62,9 @@ fn judged(n: usize, at: usize) -> Read
 }
 
 impl Cursor {
-    // A number without leading zeros, up to 65535. It is too large as soon as its first digits are.
+    // A number without leading zeros, up to the largest. It is too large as soon as its first digits are.
     pub fn digits(self, text: &[u8]) -> Read
-        ensures { λ r. ⌜ Told (number 65535) (now (text .entry)) (self .at) (read r) ⌝ }
+        ensures { λ r. ⌜ Told (number largestNumber) (now (text .entry)) (self .at) (read r) ⌝ }
     {
         let start = self.at;
         if text.len() <= start {
@@ -82,7 +84,7 @@ impl Cursor {
             let Class::Digit = class_of(b) else {
                 return judged(n, at);
             };
-            if 65535 < n {
+            if LARGEST_NUMBER < n {
                 return Read::Broken;
             }
             n = n * 10 + digit(b);

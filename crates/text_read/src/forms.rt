@@ -3,6 +3,7 @@ use crate::cursor::Class;
 use crate::cursor::Cursor;
 use crate::cursor::Read;
 use crate::cursor::class_of;
+use pictures::numbers::LARGEST_NUMBER;
 use text_rules::Items;
 ghost use Rattle.text_read.specs.Answers.{Told, read, itemOf, formOf, lineRest};
 
@@ -38,7 +39,7 @@ impl Cursor {
     {
         match what {
             Items::Samples => self.number(text, 255),
-            Items::Numbers => self.number(text, 65535),
+            Items::Numbers => self.number(text, LARGEST_NUMBER),
             Items::Pixels => {
                 let at = self.at;
                 if text.len() <= at {

@@ -10,6 +10,7 @@ use text_rules::items_of;
 ghost use mathlib.Core.Path.{_≡_};
 ghost use mathlib.Core.List.{_++_};
 ghost use lib.ListN.{drop};
+ghost use Rattle.pictures.specs.Numbers.{largestNumber};
 ghost use Rattle.text_read.specs.Answers.{Told, read};
 ghost use Rattle.text_read.specs.Lines.{rowLine, mapLine, Taken};
 ghost use Rattle.text_read.specs.Inner.{figure, figures, Fitting};
@@ -50,7 +51,7 @@ impl Cursor {
 
     // Writes the next n numbers.
     fn numbers(self, text: &[u8], n: usize, out: &mut [u16])
-        requires { ⌜ Fitting 65535 n (now text) (self .at) (now out) ⌝ }
+        requires { ⌜ Fitting largestNumber n (now text) (self .at) (now out) ⌝ }
         ensures { λ _. ⌜ now (out .exit) ≡ figures n (drop (self .at) (now (text .entry))) ++ drop n (now (out .entry)) ⌝ }
     {
         let mut at = self.at;

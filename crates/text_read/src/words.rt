@@ -4,8 +4,10 @@ use crate::cursor::Cursor;
 use crate::cursor::Read;
 use crate::cursor::class_of;
 use pictures::Kind;
+use pictures::numbers::LARGEST_NUMBER;
 ghost use Prim.Native.Nat.{_≤_, _<_};
 ghost use lib.ListN.{length};
+ghost use Rattle.pictures.specs.Numbers.{largestNumber};
 ghost use Rattle.text_theory.specs.Decimal.{number};
 ghost use Rattle.text_theory.specs.Files.{kindGet};
 ghost use Rattle.text_read.specs.Answers.{Told, read, word, wordRead, kindRead};
@@ -65,7 +67,7 @@ impl Cursor {
 
     // A word that is a number up to the limit.
     pub(crate) fn number(self, text: &[u8], limit: usize) -> Read
-        requires { ⌜ limit ≤ 65535 ⌝ }
+        requires { ⌜ limit ≤ largestNumber ⌝ }
         ensures { λ r. ⌜ Told (number limit) (now (text .entry)) (self .at) (read r) ⌝ }
     {
         match self.word(text) {
@@ -97,7 +99,7 @@ impl Cursor {
         requires { ⌜ 0 < length (now w) ⌝ }
         ensures { λ r. ⌜ Told (numberedOf (now (w .entry))) (now (text .entry)) (self .at) (read r) ⌝ }
     {
-        let Read::Good(n, c) = self.number(text, 65535) else {
+        let Read::Good(n, c) = self.number(text, LARGEST_NUMBER) else {
             return Read::Broken;
         };
         let Read::Good(_, d) = c.past(text, w) else {

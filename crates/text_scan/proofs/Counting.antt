@@ -12,6 +12,7 @@ use Rattle.text_rules.specs.declared.Items.{Items}
 use Rattle.text_rules.specs.declared.Items.the-variants.{Samples, Pixels, Numbers}
 use Rattle.text_theory.specs.Readers.{Get, give, on, strip, after, next, many}
 use Rattle.pictures.specs.declared.sizes.Kind.the-variants.{Rgb}
+use Rattle.pictures.specs.Numbers.{largestNumber}
 use Rattle.text_theory.specs.Files.{lineEnd}
 use Rattle.text_read.specs.Answers.{Told, counted, formOf, lineRest}
 use Rattle.text_scan.specs.Facts.{evenly}
@@ -35,7 +36,7 @@ form-short : (w : Items) (s : List ℕ) (r : ℕ × List ℕ) → formOf w s ≡
 unfolding formOf
 form-short Samples = count-short _ (short (items-reads (number-reads 255) clear-blank clear-closing))
 form-short Pixels = count-short _ (short (items-reads (pixel-reads Rgb) clear-blank clear-closing))
-form-short Numbers = count-short _ (short (items-reads (number-reads 65535) clear-blank clear-closing))
+form-short Numbers = count-short _ (short (items-reads (number-reads largestNumber) clear-blank clear-closing))
 
 rest-short : (w : Items) (s : List ℕ) (r : ℕ × List ℕ) → lineRest w s ≡ some r → length (r .1) ≤ length s
 unfolding lineRest lineEnd

@@ -6,6 +6,7 @@ use mathlib.Core.List.{List, [], _∷_, map}
 use Prim.Native.Nat.{ℕ, suc, _≤_, _<_}
 use native.Mathlib.Omega.{arith}
 use lib.ListN.{length, length-map, drop-of-length-le}
+use Rattle.pictures.specs.Numbers.{largestNumber}
 use Rattle.text_rules.specs.declared.Items.{Items}
 use Rattle.text_rules.specs.declared.Items.the-variants.{Numbers}
 use Rattle.text_theory.specs.Readers.{Get, give, on, _▷_, strip, behind, after, manyUpTo, many}
@@ -53,13 +54,13 @@ scan-file s = go (headGet s)
 
     rows-step : (h : Head) (o : Option (List (List (List ℕ)) × List ℕ))
         → on (on o (tallyAll (h .size .width))) (λ r. linesOf mapWord Numbers (h .size .width) ▷ λ m. after closed (give (record { head = h; rows = r .0; maps = m .0; full = r .1 && m .1 })))
-        ≡ on (on o (λ rows. many mapWord (line (number 65535)) ▷ λ maps. after closed (give (record { head = h; rows = rows; maps = maps })))) (λ p. give (factsOf p))
+        ≡ on (on o (λ rows. many mapWord (line (number largestNumber)) ▷ λ maps. after closed (give (record { head = h; rows = rows; maps = maps })))) (λ p. give (factsOf p))
     rows-step h none = refl
-    rows-step h (some r) = rw (lines-read mapWord Numbers (line (number 65535)) (h .size .width) rest-map (r .1)) (maps-step h (r .0) (many mapWord (line (number 65535)) (r .1)))
+    rows-step h (some r) = rw (lines-read mapWord Numbers (line (number largestNumber)) (h .size .width) rest-map (r .1)) (maps-step h (r .0) (many mapWord (line (number largestNumber)) (r .1)))
 
     go : (o : Option (Head × List ℕ))
         → on o (λ h. linesOf rowWord (itemsOf (h .size .kind)) (h .size .width) ▷ λ r. linesOf mapWord Numbers (h .size .width) ▷ λ m. after closed (give (record { head = h; rows = r .0; maps = m .0; full = r .1 && m .1 })))
-        ≡ on (on o (λ h. many rowWord (line (pixel (h .size .kind))) ▷ λ rows. many mapWord (line (number 65535)) ▷ λ maps. after closed (give (record { head = h; rows = rows; maps = maps })))) (λ p. give (factsOf p))
+        ≡ on (on o (λ h. many rowWord (line (pixel (h .size .kind))) ▷ λ rows. many mapWord (line (number largestNumber)) ▷ λ maps. after closed (give (record { head = h; rows = rows; maps = maps })))) (λ p. give (factsOf p))
     go none = refl
     go (some r) = rw (lines-read rowWord (itemsOf (r .0 .size .kind)) (line (pixel (r .0 .size .kind))) (r .0 .size .width) (rest-row (r .0 .size .kind)) (r .1)) (rows-step (r .0) (many rowWord (line (pixel (r .0 .size .kind))) (r .1)))
 

@@ -13,6 +13,7 @@ use Rattle.text_theory.specs.Decimal.{digits, isDigit, number}
 use Rattle.grids.proofs.Shapes.{Any}
 use Rattle.pictures.specs.declared.sizes.Kind.{Kind}
 use Rattle.pictures.specs.declared.sizes.Kind.the-variants.{Grey, Rgb}
+use Rattle.pictures.specs.Numbers.{largestNumber}
 use Rattle.text_theory.specs.declared.Head.{Head}
 use Rattle.text_theory.specs.Files.{Parts, lineEnd, blank, opening, closing, start, range, closed, rowWord, mapWord, greyWord, rgbWord, each, joined, kindText, pixelText, lineText, headText, text, either, kindGet, items, three, pixel, line, headGet, file, ended, whole, parse, All, Pixel, Numbers, Within}
 use Rattle.text_theory.proofs.Pairs.{Reads, strip-back, on-inv, after-inv, Sounds, give-sounds, after-sounds, then-sounds, soundly}
@@ -137,9 +138,9 @@ pub rows-reads : (k : Kind) → Reads (All (All (Pixel k))) (each rowWord (lineT
 unfolding rowWord
 rows-reads k = many-reads (line-reads (pixel-reads k) clear-blank clear-closing) rowWord (omega arith) (λ t. tt)
 
-pub maps-reads : Reads (All (All (λ (a : ℕ). a ≤ 65535))) (each mapWord (lineText digits)) (λ t. (strip mapWord t ≡ none) × Unit) (many mapWord (line (number 65535)))
+pub maps-reads : Reads (All (All (λ (a : ℕ). a ≤ largestNumber))) (each mapWord (lineText digits)) (λ t. (strip mapWord t ≡ none) × Unit) (many mapWord (line (number largestNumber)))
 unfolding mapWord
-maps-reads = many-reads (line-reads (number-reads 65535) clear-blank clear-closing) mapWord (omega arith) (λ t. tt)
+maps-reads = many-reads (line-reads (number-reads largestNumber) clear-blank clear-closing) mapWord (omega arith) (λ t. tt)
 
 no-map : (t : List ℕ) → strip mapWord (closed ++ t) ≡ none
 unfolding mapWord closed strip
@@ -162,7 +163,7 @@ clear-closed t = refl
 head-back : (h : Head) → Numbers h → (t : List ℕ) → headGet (headText h ++ t) ≡ some (h, t)
 unfolding headGet headText
 head-back h b t =
-    let n = number-reads 65535 in
+    let n = number-reads largestNumber in
     simp append-assoc
     (rw (
       strip-back,
@@ -181,7 +182,7 @@ head-back h b t =
 head-sounds : Sounds Numbers headText [] headGet
 unfolding headGet headText
 head-sounds =
-    let n = number-reads 65535 in
+    let n = number-reads largestNumber in
     after-sounds start (then-sounds n λ w hw. after-sounds blank (then-sounds n λ h hh. after-sounds blank (then-sounds kind-reads λ k hk.
     after-sounds range (then-sounds n λ d hd. after-sounds blank (then-sounds n λ g hg. after-sounds closed (
     give-sounds _ (simp append-assoc) (record { width = hw; height = hh; depth = hd; growth = hg })))))))

@@ -9,6 +9,7 @@ use lib.ListN.{length}
 use Rattle.pictures.specs.declared.sizes.Kind.{Kind}
 use Rattle.pictures.specs.declared.sizes.Kind.the-variants.{Grey, Rgb}
 use Rattle.pictures.specs.Pictures.{Picture, channelsOf}
+use Rattle.pictures.specs.Numbers.{largestNumber}
 use Rattle.text_theory.specs.declared.Head.{Head}
 use Rattle.text_theory.specs.Readers.{Get, give, _▷_, after, many}
 use Rattle.text_theory.specs.Decimal.{digits, number}
@@ -123,15 +124,15 @@ line g = items g ▷ λ xs. after lineEnd (give xs)
 
 unfoldable pub headGet : Get Head
 headGet =
-    after start (number 65535 ▷ λ w. after blank (number 65535 ▷ λ h. after blank (kindGet ▷ λ k.
-    after range (number 65535 ▷ λ d. after blank (number 65535 ▷ λ g. after closed (
+    after start (number largestNumber ▷ λ w. after blank (number largestNumber ▷ λ h. after blank (kindGet ▷ λ k.
+    after range (number largestNumber ▷ λ d. after blank (number largestNumber ▷ λ g. after closed (
     give (record { size = record { width = w; height = h; kind = k }; depth = d; growth = g })))))))
 
 unfoldable pub file : Get Parts
 file =
     headGet ▷ λ h.
     many rowWord (line (pixel (h .size .kind))) ▷ λ rows.
-    many mapWord (line (number 65535)) ▷ λ maps.
+    many mapWord (line (number largestNumber)) ▷ λ maps.
     after closed (give (record { head = h; rows = rows; maps = maps }))
 
 -- "nothing after the last"
@@ -158,12 +159,12 @@ pub record Pixel (k : Kind) (px : List ℕ) : Type 0 where
   pub small : All (λ (a : ℕ). a ≤ 255) px
 
 pub record Numbers (h : Head) : Type 0 where
-  pub width : h .size .width ≤ 65535
-  pub height : h .size .height ≤ 65535
-  pub depth : h .depth ≤ 65535
-  pub growth : h .growth ≤ 65535
+  pub width : h .size .width ≤ largestNumber
+  pub height : h .size .height ≤ largestNumber
+  pub depth : h .depth ≤ largestNumber
+  pub growth : h .growth ≤ largestNumber
 
 pub record Within (p : Parts) : Type 0 where
   pub head : Numbers (p .head)
   pub rows : All (All (Pixel (p .head .size .kind))) (p .rows)
-  pub maps : All (All (λ (a : ℕ). a ≤ 65535)) (p .maps)
+  pub maps : All (All (λ (a : ℕ). a ≤ largestNumber)) (p .maps)

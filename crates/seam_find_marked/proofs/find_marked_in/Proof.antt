@@ -32,6 +32,7 @@ use Rattle.seam_find.proofs.Ways.{ways-long}
 use Rattle.seam_find.proofs.Loops.{traced-is}
 use Rattle.seam_find.proofs.Spaces.{space-lent, space-filled, Ends, ends}
 use Rattle.seam_find.proofs.Worked.{worked-not, worked-or}
+use Rattle.seam_sums.specs.Fences.{fence64}
 use Rattle.seam_find_marked.specs.Inner.{weightsOf, markedBytes}
 use Rattle.seam_find_marked.proofs.Weighed.{front-picture, front-marks, front-sized, front-bytes, marked-traceable, marked-some, marked-seam, marked-cost, marked-blocked}
 use Rattle.seam_find_marked.proofs.find_marked_in.Statement.{statement}
@@ -115,7 +116,7 @@ same c f = ap₂ f (front-picture (size c) (space c)) (front-marks (size c) (spa
 
 -- the ways between the rows, which stand after them
 ways : (c : tie.After-picture-bytes) → List ℕ
-ways c = flat (table (waysUp 18446744073709551615 (size c .width) (weightsOf (size c) (front c))) (size c .height - 1))
+ways c = flat (table (waysUp fence64 (size c .width) (weightsOf (size c) (front c))) (size c .height - 1))
 
 ways-are : (c : tie.After-find-bottom)
     → let p = c .before .before in
@@ -125,7 +126,7 @@ ways-are c = c .find-bottom .ensures .ways
 
 ways-wide : (c : tie.After-picture-bytes) → length (ways c) ≡ (size c .height - 1) * size c .width
 unfolding ways
-ways-wide c = ways-long 18446744073709551615 (size c .width) (size c .height - 1) (weightsOf (size c) (front c))
+ways-wide c = ways-long fence64 (size c .width) (size c .height - 1) (weightsOf (size c) (front c))
 
 ways-lent : (c : tie.After-find-bottom)
     → let p = c .before .before in
@@ -152,7 +153,7 @@ cleared c filled f =
 -- the least weight of the last row
 weight : (c : tie.After-picture-bytes) → ℕ
 weight c =
-    let sums = sumsDown 18446744073709551615 (size c .width) (weightsOf (size c) (front c)) (size c .height - 1) in
+    let sums = sumsDown fence64 (size c .width) (weightsOf (size c) (front c)) (size c .height - 1) in
     getD sums (leastTo sums (size c .width - 1)) 0
 
 weight-is : (c : tie.After-find-bottom) → c .find-bottom .result .sum ≡ weight (c .before .before)
@@ -160,7 +161,7 @@ unfolding front weight
 weight-is c =
     let p = c .before .before in
     let g = c .find-bottom .ensures in
-    g .sum-is ∙ ap (λ k. getD (sumsDown 18446744073709551615 (size p .width) (weightsOf (size p) (front p)) (size p .height - 1)) k 0) (g .column-is)
+    g .sum-is ∙ ap (λ k. getD (sumsDown fence64 (size p .width) (weightsOf (size p) (front p)) (size p .height - 1)) k 0) (g .column-is)
 
 judge-find-in-requires : tie.Need-judge-find-in-requires
 judge-find-in-requires c κs = search needs

@@ -14,6 +14,7 @@ use Rattle.grids.proofs.Parts.{part-length}
 use Rattle.pictures.specs.Pictures.{pictureBytes}
 use Rattle.pictures.proofs.Limits.{Sized, sized-is}
 use Rattle.energy.proofs.Served.{energies-served}
+use Rattle.seam_sums.specs.Fences.{fence32}
 use Rattle.seam_find.specs.Inner.Down.{costsOf}
 use Rattle.seam_find.proofs.Fences.{first-row, last-long, bottom-inside, bottom-given}
 use Rattle.seam_find.proofs.bottom32.bottom_with.Statement.{statement}
@@ -29,7 +30,7 @@ front-long : (c : tie.Start) → length (take (c .args .bytes) (now (c .args .sp
 front-long c = length-take-le _ _ (front-room c) ∙ c .pre .0 .bytes-are
 
 above-long : (c : tie.Start) → length (now (c .args .above)) ≡ c .args .size .width + 2
-above-long c = ap length (c .pre .1 .fences) ∙ length-replicate (c .args .size .width + 2) 4294967295
+above-long c = ap length (c .pre .1 .fences) ∙ length-replicate (c .args .size .width + 2) fence32
 
 mid-long : (c : tie.Start) → length (midOf 1 (c .args .size .width + 1 - 1) (now (c .args .above))) ≡ c .args .size .width
 mid-long c = part-length 1 (c .args .size .width + 1) (now (c .args .above)) (omega (arith, above-long c)) ∙ add-sub-cancel (c .args .size .width) 1
@@ -62,7 +63,7 @@ all-long : (c : tie.After-down)
 all-long c =
     let s = c .before .before .before .before .before .before .before .before .before .before .before .before .before .before in
     let a = s .args in
-    last-long 4294967295 (pictureBytes (a .size)) (a .size) (costsOf (a .size)) (now (a .space)) (c .down .last .0) (c .down .last .1 .1 .1 .0) (wide s) (c .down .ensures)
+    last-long fence32 (pictureBytes (a .size)) (a .size) (costsOf (a .size)) (now (a .space)) (c .down .last .0) (c .down .last .1 .1 .1 .0) (wide s) (c .down .ensures)
 
 -- the first of the least sums is one of its columns
 inside : (c : tie.After-first-least) → c .first-least .result < c .before .before .before .before .before .before .before .before .before .before .before .before .before .before .before .before .before .before .before .before .before .before .before .before .before .args .size .width
@@ -70,7 +71,7 @@ inside c =
     let d = c .before .before .before .before .before .before .before .before .before .before .before in
     let s = d .before .before .before .before .before .before .before .before .before .before .before .before .before .before in
     let a = s .args in
-    bottom-inside 4294967295 (pictureBytes (a .size)) (a .size) (costsOf (a .size)) (now (a .space)) (d .down .last .0) (d .down .last .1 .1 .1 .0) (wide s) (d .down .ensures) (c .first-least .result) (sure s .width-some) (c .first-least .ensures)
+    bottom-inside fence32 (pictureBytes (a .size)) (a .size) (costsOf (a .size)) (now (a .space)) (d .down .last .0) (d .down .last .1 .1 .1 .0) (wide s) (d .down .ensures) (c .first-least .result) (sure s .width-some) (c .first-least .ensures)
 
 add-side : tie.Need-add-side
 add-side c = search needs
@@ -104,7 +105,7 @@ down-requires c κs =
       bytes-are = p .0 .bytes-are;
       sized = p .0 .sized;
       room = p .0 .room;
-      first = first-row 4294967295 (a .size .width) (now (a .above)) _ (costsOf (a .size) (take (pictureBytes (a .size)) (now (a .space))) 0) (p .1 .fences) (row-0 at-energies);
+      first = first-row fence32 (a .size .width) (now (a .above)) _ (costsOf (a .size) (take (pictureBytes (a .size)) (now (a .space))) 0) (p .1 .fences) (row-0 at-energies);
       cost-room = p .1 .cost-room;
       next-room = p .1 .next-room;
     }
@@ -149,7 +150,7 @@ returns c =
     let d = c .before .before .before .before .before .before .before .before .before .before .before .before in
     let a = d .before .before .before .before .before .before .before .before .before .before .before .before .before .before .args in
     let f = c .before .first-least in
-    bottom-given 4294967295 (pictureBytes (a .size)) (a .size) (costsOf (a .size)) (now (a .space)) (d .down .last .0) (d .down .last .1 .1 .1 .0) (wide (d .before .before .before .before .before .before .before .before .before .before .before .before .before .before)) (d .down .ensures) (f .result) (f .ensures) (inside (c .before))
+    bottom-given fence32 (pictureBytes (a .size)) (a .size) (costsOf (a .size)) (now (a .space)) (d .down .last .0) (d .down .last .1 .1 .1 .0) (wide (d .before .before .before .before .before .before .before .before .before .before .before .before .before .before)) (d .down .ensures) (f .result) (f .ensures) (inside (c .before))
 
 pub bottom-with-spec : {M : Type 1} → statement M
 bottom-with-spec =

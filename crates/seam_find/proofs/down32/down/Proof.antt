@@ -11,6 +11,7 @@ use Rattle.grids.proofs.Tables.{length-table}
 use Rattle.pictures.specs.declared.sizes.Size.{Size}
 use Rattle.pictures.specs.Pictures.{pictureBytes}
 use Rattle.pictures.proofs.Limits.{Sized, sized-is}
+use Rattle.seam_sums.specs.Fences.{fence32, sumLimit32}
 use Rattle.seam_find.specs.Inner.Down.{costsOf}
 use Rattle.seam_find.proofs.Costs.{front-most, cost-most}
 use Rattle.seam_find.proofs.Downs.{Downs, down-start, down-turn, down-end, above-long, above-most}
@@ -19,7 +20,7 @@ use Rattle.seam_find.proofs.down32.down.Tie as tie
 use Rattle.energy.specs.Bounds.{mostEnergy}
 
 abbrev Inv-loop : tie.InvT-loop
-Inv-loop space₀ size bytes above₀ cost₀ next₀ height i₀ space above cost next i = (0 < i) × ((i ≤ size .height) × (Downs 4294967295 (pictureBytes size) size (costsOf size) space₀ i space above × ((length above ≡ length above₀) × ((length cost ≡ length cost₀) × (length next ≡ length next₀)))))
+Inv-loop space₀ size bytes above₀ cost₀ next₀ height i₀ space above cost next i = (0 < i) × ((i ≤ size .height) × (Downs fence32 (pictureBytes size) size (costsOf size) space₀ i space above × ((length above ≡ length above₀) × ((length cost ≡ length cost₀) × (length next ≡ length next₀)))))
 
 abbrev μ-loop : tie.MeasureT-loop
 μ-loop space₀ size bytes above₀ cost₀ next₀ height i₀ space above cost next i = height - i
@@ -32,7 +33,7 @@ loop-holds c =
     let s = c .before .before .before .before in
     let a = s .args in
     let p = s .pre in
-    (omega arith, (omega (arith, sized-is (a .size) (pictureBytes (a .size)) (p .sized) .height-some), (down-start 4294967295 (pictureBytes (a .size)) (a .size) (costsOf (a .size)) (now (a .space)) (wide (a .size) (now (a .space))) (p .room) (now (a .above)) (p .first), (refl, (refl, refl)))))
+    (omega arith, (omega (arith, sized-is (a .size) (pictureBytes (a .size)) (p .sized) .height-some), (down-start fence32 (pictureBytes (a .size)) (a .size) (costsOf (a .size)) (now (a .space)) (wide (a .size) (now (a .space))) (p .room) (now (a .above)) (p .first), (refl, (refl, refl)))))
 
 front-sized : (c : tie.Start Inv-loop μ-loop) → Sized (c .args .size) (length (take (pictureBytes (c .args .size)) (now (c .args .space))))
 front-sized c = rw (length-take-le (pictureBytes (c .args .size)) (now (c .args .space)) (omega (arith, c .pre .room))) (sized-is _ _ (c .pre .sized))
@@ -41,7 +42,7 @@ byte : (c : tie.After-slice-known Inv-loop μ-loop) (i : ℕ) → getD (now (c .
 byte c i = omega (arith, c .slice-known .given i)
 
 -- in a turn, the sums above are small
-small : (c : tie.At-loop Inv-loop μ-loop) (k : ℕ) → c .loop .i < c .before .before .before .before .before .args .size .height → k < c .before .before .before .before .before .args .size .width → getD (c .loop .above) (k + 1) 0 < 2147483648
+small : (c : tie.At-loop Inv-loop μ-loop) (k : ℕ) → c .loop .i < c .before .before .before .before .before .args .size .height → k < c .before .before .before .before .before .args .size .width → getD (c .loop .above) (k + 1) 0 < sumLimit32
 small c k l h =
     let at-slice-known = c .before .before .before .before in
     let start = at-slice-known .before in
@@ -50,7 +51,7 @@ small c k l h =
     let b = take (pictureBytes z) (now (a .space)) in
     let s = front-sized start in
     let most = cost-most z b s (front-most (now (a .space)) (pictureBytes z) 255 (byte at-slice-known)) in
-    let m = above-most 4294967295 (pictureBytes z) z (costsOf z) (now (a .space)) (wide z (now (a .space))) mostEnergy (c .loop .i) (c .loop .space) (c .loop .above) most (c .loop .inv .1 .1 .0) k h in
+    let m = above-most fence32 (pictureBytes z) z (costsOf z) (now (a .space)) (wide z (now (a .space))) mostEnergy (c .loop .i) (c .loop .space) (c .loop .above) most (c .loop .inv .1 .1 .0) k h in
     omega (arith, s .height-most)
 
 row-down-requires : tie.Need-row-down-requires Inv-loop μ-loop
@@ -68,7 +69,7 @@ row-down-requires c κs =
       later = inv .0;
       inside = l;
       room = rw (inv .1 .1 .0 .long) (p .room);
-      long = above-long 4294967295 (pictureBytes (a .size)) (a .size) (costsOf (a .size)) (now (a .space)) (wide (a .size) (now (a .space))) (u .loop .i) (u .loop .space) (u .loop .above) (inv .1 .1 .0);
+      long = above-long fence32 (pictureBytes (a .size)) (a .size) (costsOf (a .size)) (now (a .space)) (wide (a .size) (now (a .space))) (u .loop .i) (u .loop .space) (u .loop .above) (inv .1 .1 .0);
       small = λ k h. small u k l h;
       cost-room = omega (arith, p .cost-room, inv .1 .1 .1 .1 .0);
       next-room = inv .1 .1 .1 .1 .1 ∙ p .next-room;
@@ -93,7 +94,7 @@ loop-again c =
       (
         omega (arith, at-loop-test .loop-test .taken),
         (
-          down-turn 4294967295 (pictureBytes (a .size)) (a .size) (costsOf (a .size)) (now (a .space)) (wide (a .size) (now (a .space))) (s .pre .room) (u .loop .i) (u .loop .space) (u .loop .above) _ _ (inv .0) (at-loop-test .loop-test .taken) (inv .1 .1 .0) (at-row-down .row-down .ensures),
+          down-turn fence32 (pictureBytes (a .size)) (a .size) (costsOf (a .size)) (now (a .space)) (wide (a .size) (now (a .space))) (s .pre .room) (u .loop .i) (u .loop .space) (u .loop .above) _ _ (inv .0) (at-loop-test .loop-test .taken) (inv .1 .1 .0) (at-row-down .row-down .ensures),
           (kept .1 .1 .1 .1 .0 ∙ inv .1 .1 .1 .0, (kept .1 .1 .1 .1 .1 .0 ∙ inv .1 .1 .1 .1 .0, kept .1 .1 .1 .1 .1 .1 .0 ∙ inv .1 .1 .1 .1 .1)),
         ),
       ),
@@ -116,7 +117,7 @@ returns c =
     let s = c .before .before .before .before .before .before in
     let a = s .args in
     let l = c .before .loop in
-    down-end 4294967295 (pictureBytes (a .size)) (a .size) (costsOf (a .size)) (now (a .space)) (wide (a .size) (now (a .space))) (s .pre .room) (l .i) (l .space) (l .above) (omega arith) (l .inv .1 .1 .0)
+    down-end fence32 (pictureBytes (a .size)) (a .size) (costsOf (a .size)) (now (a .space)) (wide (a .size) (now (a .space))) (s .pre .room) (l .i) (l .space) (l .above) (omega arith) (l .inv .1 .1 .0)
 
 pub down-spec : {M : Type 1} → statement M
 down-spec =

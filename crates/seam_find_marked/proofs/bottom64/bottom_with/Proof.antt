@@ -13,6 +13,7 @@ use Rattle.grids.proofs.Parts.{part-length}
 use Rattle.pictures.specs.Limits.{mostPixels, mostPicture}
 use Rattle.pictures.specs.Pictures.{pictureBytes}
 use Rattle.pictures.proofs.Limits.{Sized, sized-is}
+use Rattle.seam_sums.specs.Fences.{fence64}
 use Rattle.seam_find_marked.specs.Inner.{weightsOf, markedBytes}
 use Rattle.seam_find.proofs.Fences.{first-row, last-long, bottom-inside, bottom-given}
 use Rattle.seam_find_marked.proofs.bottom64.bottom_with.Statement.{statement}
@@ -37,7 +38,7 @@ from-is : (c : tie.Start) → c .args .bytes + c .args .size .height * c .args .
 from-is c = ap (_+ c .args .size .height * c .args .size .width) (c .pre .0 .bytes-are)
 
 above-long : (c : tie.Start) → length (now (c .args .above)) ≡ c .args .size .width + 2
-above-long c = ap length (c .pre .1 .0 .fences) ∙ length-replicate (c .args .size .width + 2) 18446744073709551615
+above-long c = ap length (c .pre .1 .0 .fences) ∙ length-replicate (c .args .size .width + 2) fence64
 
 mid-long : (c : tie.Start) → length (midOf 1 (c .args .size .width + 1 - 1) (now (c .args .above))) ≡ c .args .size .width
 mid-long c = part-length 1 (c .args .size .width + 1) (now (c .args .above)) (omega (arith, above-long c)) ∙ add-sub-cancel (c .args .size .width) 1
@@ -60,7 +61,7 @@ all-long : (c : tie.After-down)
 all-long c =
     let s = c .before .before .before .before .before .before .before .before .before .before .before .before .before .before .before .before .before .before .before in
     let a = s .args in
-    last-long 18446744073709551615 (markedBytes (a .size)) (a .size) (weightsOf (a .size)) (now (a .space)) (c .down .last .0) (c .down .last .1 .1 .1 .0) (wide s) (c .down .ensures)
+    last-long fence64 (markedBytes (a .size)) (a .size) (weightsOf (a .size)) (now (a .space)) (c .down .last .0) (c .down .last .1 .1 .1 .0) (wide s) (c .down .ensures)
 
 -- the first of the least sums is one of its columns
 inside : (c : tie.After-first-least) → c .first-least .result < c .before .before .before .before .before .before .before .before .before .before .before .before .before .before .before .before .before .before .before .before .before .before .before .before .before .before .before .before .before .before .before .before .args .size .width
@@ -68,7 +69,7 @@ inside c =
     let d = c .before .before .before .before .before .before .before .before .before .before .before .before .before in
     let s = d .before .before .before .before .before .before .before .before .before .before .before .before .before .before .before .before .before .before .before in
     let a = s .args in
-    bottom-inside 18446744073709551615 (markedBytes (a .size)) (a .size) (weightsOf (a .size)) (now (a .space)) (d .down .last .0) (d .down .last .1 .1 .1 .0) (wide s) (d .down .ensures) (c .first-least .result) (sure s .width-some) (c .first-least .ensures)
+    bottom-inside fence64 (markedBytes (a .size)) (a .size) (weightsOf (a .size)) (now (a .space)) (d .down .last .0) (d .down .last .1 .1 .1 .0) (wide s) (d .down .ensures) (c .first-least .result) (sure s .width-some) (c .first-least .ensures)
 
 add-side : tie.Need-add-side
 add-side c = omega (arith, sure (c .before .before .before .before .before) .width-most)
@@ -118,7 +119,7 @@ down-requires c κs =
         bytes-are = p .0 .bytes-are;
         sized = p .0 .sized;
         room = p .0 .room;
-        first = first-row 18446744073709551615 (z .width) (now (s .args .above)) _ (weightsOf z (take (markedBytes z) (now (s .args .space))) 0) (p .1 .0 .fences) (row-0 r);
+        first = first-row fence64 (z .width) (now (s .args .above)) _ (weightsOf z (take (markedBytes z) (now (s .args .space))) 0) (p .1 .0 .fences) (row-0 r);
         cost-room = p .1 .0 .cost-room;
         next-room = p .1 .0 .next-room;
       },
@@ -169,7 +170,7 @@ returns c =
     let s = d .before .before .before .before .before .before .before .before .before .before .before .before .before .before .before .before .before .before .before in
     let z = s .args .size in
     let f = c .before .first-least in
-    bottom-given 18446744073709551615 (markedBytes z) z (weightsOf z) (now (s .args .space)) (d .down .last .0) (d .down .last .1 .1 .1 .0) (wide s) (d .down .ensures) (f .result) (f .ensures) (inside (c .before))
+    bottom-given fence64 (markedBytes z) z (weightsOf z) (now (s .args .space)) (d .down .last .0) (d .down .last .1 .1 .1 .0) (wide s) (d .down .ensures) (f .result) (f .ensures) (inside (c .before))
 
 pub bottom-with-spec : {M : Type 1} → statement M
 bottom-with-spec =

@@ -10,6 +10,7 @@ use Rattle.grids.proofs.Tables.{length-table}
 use Rattle.pictures.specs.declared.sizes.Size.{Size}
 use Rattle.pictures.specs.Pictures.{pictureBytes}
 use Rattle.pictures.proofs.Limits.{Sized, sized-is}
+use Rattle.seam_sums.specs.Fences.{fence64, sumLimit64}
 use Rattle.seam_find_marked.specs.Inner.{mostWeight, weightsOf, markedBytes}
 use Rattle.seam_find.proofs.Downs.{Downs, down-start, down-turn, down-end, above-long, above-most}
 use Rattle.seam_find_marked.proofs.Weighed.{weights-most, front-sized, front-bytes}
@@ -17,7 +18,7 @@ use Rattle.seam_find_marked.proofs.down64.down.Statement.{statement}
 use Rattle.seam_find_marked.proofs.down64.down.Tie as tie
 
 abbrev Inv-loop : tie.InvT-loop
-Inv-loop space₀ size bytes above₀ energies₀ cost₀ next₀ height i₀ space above energies cost next i = (0 < i) × ((i ≤ size .height) × (Downs 18446744073709551615 (markedBytes size) size (weightsOf size) space₀ i space above × ((length above ≡ length above₀) × ((length energies ≡ length energies₀) × ((length cost ≡ length cost₀) × (length next ≡ length next₀))))))
+Inv-loop space₀ size bytes above₀ energies₀ cost₀ next₀ height i₀ space above energies cost next i = (0 < i) × ((i ≤ size .height) × (Downs fence64 (markedBytes size) size (weightsOf size) space₀ i space above × ((length above ≡ length above₀) × ((length energies ≡ length energies₀) × ((length cost ≡ length cost₀) × (length next ≡ length next₀))))))
 
 abbrev μ-loop : tie.MeasureT-loop
 μ-loop space₀ size bytes above₀ energies₀ cost₀ next₀ height i₀ space above energies cost next i = height - i
@@ -32,7 +33,7 @@ byte : (c : tie.After-slice-known Inv-loop μ-loop) (i : ℕ) → getD (now (c .
 byte c i = omega (arith, c .slice-known .given i)
 
 -- in a turn, the sums above are small
-small : (c : tie.At-loop Inv-loop μ-loop) (k : ℕ) → c .loop .i < c .before .before .before .before .before .before .args .size .height → k < c .before .before .before .before .before .before .args .size .width → getD (c .loop .above) (k + 1) 0 < 9223372036854775808
+small : (c : tie.At-loop Inv-loop μ-loop) (k : ℕ) → c .loop .i < c .before .before .before .before .before .before .args .size .height → k < c .before .before .before .before .before .before .args .size .width → getD (c .loop .above) (k + 1) 0 < sumLimit64
 small c k l h =
     let at-slice-known = c .before .before .before .before .before in
     let s = at-slice-known .before in
@@ -40,7 +41,7 @@ small c k l h =
     let start = now (s .args .space) in
     let b = take (markedBytes z) start in
     let most = weights-most z b (front-sized z start (sure s) (omega (arith, s .pre .0 .room))) (front-bytes z start (byte at-slice-known)) in
-    let m = above-most 18446744073709551615 (markedBytes z) z (weightsOf z) start (wide z start) mostWeight (c .loop .i) (c .loop .space) (c .loop .above) most (c .loop .inv .1 .1 .0) k h in
+    let m = above-most fence64 (markedBytes z) z (weightsOf z) start (wide z start) mostWeight (c .loop .i) (c .loop .space) (c .loop .above) most (c .loop .inv .1 .1 .0) k h in
     omega (arith, sure s .height-most)
 
 loop-holds : tie.Need-loop-holds Inv-loop μ-loop
@@ -48,7 +49,7 @@ loop-holds c =
     let s = c .before .before .before .before .before in
     let z = s .args .size in
     let start = now (s .args .space) in
-    (omega arith, (omega (arith, sure s .height-some), (down-start 18446744073709551615 (markedBytes z) z (weightsOf z) start (wide z start) (s .pre .0 .room) (now (s .args .above)) (s .pre .0 .first), (refl, (refl, (refl, refl))))))
+    (omega arith, (omega (arith, sure s .height-some), (down-start fence64 (markedBytes z) z (weightsOf z) start (wide z start) (s .pre .0 .room) (now (s .args .above)) (s .pre .0 .first), (refl, (refl, (refl, refl))))))
 
 row-down-requires : tie.Need-row-down-requires Inv-loop μ-loop
 row-down-requires c κs =
@@ -66,7 +67,7 @@ row-down-requires c κs =
         later = inv .0;
         inside = l;
         room = rw (inv .1 .1 .0 .long) (p .room);
-        long = above-long 18446744073709551615 (markedBytes z) z (weightsOf z) start (wide z start) (u .loop .i) (u .loop .space) (u .loop .above) (inv .1 .1 .0);
+        long = above-long fence64 (markedBytes z) z (weightsOf z) start (wide z start) (u .loop .i) (u .loop .space) (u .loop .above) (inv .1 .1 .0);
         small = λ k h. small u k l h;
         cost-room = inv .1 .1 .1 .1 .1 .0 ∙ p .cost-room;
         next-room = inv .1 .1 .1 .1 .1 .1 ∙ p .next-room;
@@ -96,7 +97,7 @@ loop-again c =
       (
         omega arith,
         (
-          down-turn 18446744073709551615 (markedBytes z) z (weightsOf z) start (wide z start) (s .pre .0 .room) (u .loop .i) (u .loop .space) (u .loop .above) _ _ (inv .0) l (inv .1 .1 .0) (r .ensures),
+          down-turn fence64 (markedBytes z) z (weightsOf z) start (wide z start) (s .pre .0 .room) (u .loop .i) (u .loop .space) (u .loop .above) _ _ (inv .0) l (inv .1 .1 .0) (r .ensures),
           (
             kept .1 .1 .1 .1 .0 ∙ inv .1 .1 .1 .0,
             (kept .1 .1 .1 .1 .1 .0 ∙ inv .1 .1 .1 .1 .0, (kept .1 .1 .1 .1 .1 .1 .0 ∙ inv .1 .1 .1 .1 .1 .0, kept .1 .1 .1 .1 .1 .1 .1 .0 ∙ inv .1 .1 .1 .1 .1 .1)),
@@ -126,7 +127,7 @@ returns c =
     let z = s .args .size in
     let start = now (s .args .space) in
     let l = c .before .loop in
-    down-end 18446744073709551615 (markedBytes z) z (weightsOf z) start (wide z start) (s .pre .0 .room) (l .i) (l .space) (l .above) (omega arith) (l .inv .1 .1 .0)
+    down-end fence64 (markedBytes z) z (weightsOf z) start (wide z start) (s .pre .0 .room) (l .i) (l .space) (l .above) (omega arith) (l .inv .1 .1 .0)
 
 pub down-spec : {M : Type 1} → statement M
 down-spec =

@@ -2,6 +2,7 @@
 use Prim.Native.Nat.{_-_}
 use native.Mathlib.Omega.{arith}
 use lib.ListN.{length, getD}
+use Rattle.pictures.specs.Numbers.{largestNumber}
 use Rattle.text_read.proofs.ByteClasses.{digit-byte, arm-no-digit}
 use Rattle.text_read.proofs.DigitSteps.{Reading, number-end, number-none, number-zero, reading-first, reading-next, reading-over, reading-stop, reading-end}
 use borrow.Author.Needs.{needs}
@@ -9,13 +10,13 @@ use Rattle.text_read.proofs.cursor.Cursor.digits.Statement.{statement}
 use Rattle.text_read.proofs.cursor.Cursor.digits.Tie as tie
 
 abbrev Inv-loop : tie.InvT-loop
-Inv-loop text start first n₀ at₀ n at = Reading 65535 text start n at
+Inv-loop text start first n₀ at₀ n at = Reading largestNumber text start n at
 
 abbrev μ-loop : tie.MeasureT-loop
 μ-loop text start first n₀ at₀ n at = length text - at
 
 returns : tie.Need-returns Inv-loop μ-loop
-returns c = number-end 65535 (c .if1 .taken)
+returns c = number-end largestNumber (c .if1 .taken)
 
 shared-slice-read-first : tie.Need-shared-slice-read-first Inv-loop μ-loop
 shared-slice-read-first c = search needs
@@ -30,13 +31,13 @@ returns-2 : tie.Need-returns-2 Inv-loop μ-loop
 returns-2 c =
     let at-if1 = c .before .before .before in
     let s = at-if1 .before .before in
-    number-none 65535 (at-if1 .if1 .left) (arm-no-digit (getD (s .args .text .now) (s .args .self .at) 0) (c .before .class-of .ensures) (c .match .keys2))
+    number-none largestNumber (at-if1 .if1 .left) (arm-no-digit (getD (s .args .text .now) (s .args .self .at) 0) (c .before .class-of .ensures) (c .match .keys2))
 
 add-t13 : tie.Need-add-t13 Inv-loop μ-loop
 add-t13 c = search needs
 
 returns-3 : tie.Need-returns-3 Inv-loop μ-loop
-returns-3 c = number-zero 65535 (c .before .before .before .before .before .if1 .left) (c .if2 .taken)
+returns-3 c = number-zero largestNumber (c .before .before .before .before .before .if1 .left) (c .if2 .taken)
 
 digit-requires : tie.Need-digit-requires Inv-loop μ-loop
 digit-requires c κs =

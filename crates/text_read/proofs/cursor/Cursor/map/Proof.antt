@@ -1,6 +1,7 @@
 -- `text_read::cursor::Cursor::map` meets its contract.
 use mathlib.Core.Option.{some}
 use native.Mathlib.Omega.{arith}
+use Rattle.pictures.specs.Numbers.{largestNumber}
 use Rattle.text_theory.specs.Files.{mapWord}
 use Rattle.text_read.specs.Answers.{Told}
 use Rattle.text_read.specs.Lines.{mapLine}
@@ -21,7 +22,7 @@ begun c = rw (c .c .given .1) at (c .before .before .past .ensures)
 found : (c : tie.After-n)
     → let at-c = c .before .before .before .before in
     let s = at-c .before .before .before .before .before .before in
-    let a = s .args in Found mapLine 65535 (a .text .now) (a .self .at) (at-c .c .given .0 .1 .0 .at) (c .n .given .0 .0) (c .n .given .0 .1 .0 .at)
+    let a = s .args in Found mapLine largestNumber (a .text .now) (a .self .at) (at-c .c .given .0 .1 .0 .at) (c .n .given .0 .0) (c .n .given .0 .1 .0 .at)
 found c =
     let at-rest = c .before .before in
     let at-c = at-rest .before .before in

@@ -1,13 +1,14 @@
 -- `text_read::cursor::Cursor::numbers` meets its contract.
 use Prim.Native.Nat.{_-_}
 use native.Mathlib.Omega.{arith}
+use Rattle.pictures.specs.Numbers.{largestNumber}
 use Rattle.text_read.proofs.Figures.{Writing, writing-first, writing-some, writing-small, writing-next, writing-end}
 use borrow.Author.Needs.{needs}
 use Rattle.text_read.proofs.cursor.Cursor.numbers.Statement.{statement}
 use Rattle.text_read.proofs.cursor.Cursor.numbers.Tie as tie
 
 abbrev Inv-loop : tie.InvT-loop
-Inv-loop text n out₀ at₀ i₀ out at i = Writing 65535 n text at₀ out₀ i at out
+Inv-loop text n out₀ at₀ i₀ out at i = Writing largestNumber n text at₀ out₀ i at out
 
 abbrev μ-loop : tie.MeasureT-loop
 μ-loop text n out₀ at₀ i₀ out at i = n - i
