@@ -7,12 +7,12 @@ use lib.ListN.{length, length-append}
 use Rattle.pictures.specs.Pictures.{picture}
 use Rattle.pictures.proofs.Limits.{sized-is}
 use Rattle.text_theory.specs.declared.Head.{Head}
-use Rattle.text_theory.specs.Files.{closed, headText, text}
+use Rattle.text_theory.specs.Files.{closed, headText, rowLines, mapLines, text}
 use Rattle.text_print.specs.declared.lines.Place.{Place}
 use Rattle.text_print.specs.declared.lines.Place.the-variants as places
 use Rattle.text_print.specs.Prints.{Put, Printed}
 use Rattle.text_print.proofs.Written.{printed-more, printed-length, never-short, printed-next}
-use Rattle.file_build.specs.Inner.Lines.{rowLines, mapLines, mapIn, partsIn, RowsNeeded, MapsNeeded, PrintNeeded}
+use Rattle.file_build.specs.Inner.Lines.{mapIn, partsIn, RowsNeeded, MapsNeeded, PrintNeeded}
 
 module _ (b : List ℕ) (h : Head) (map out : List ℕ) (needed : PrintNeeded b h map out) where
   abbrev rows : List ℕ

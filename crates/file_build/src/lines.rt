@@ -8,9 +8,10 @@ ghost use mathlib.Core.Path.{_≡_};
 ghost use mathlib.Core.List.{_++_};
 ghost use lib.ListN.{drop};
 ghost use Rattle.pictures.specs.Pictures.{picture as Pictures·picture};
-ghost use Rattle.text_theory.specs.Files.{text as Files·text};
+ghost use Rattle.pictures.specs.Numbers.{numbersIn};
+ghost use Rattle.text_theory.specs.Files.{rowLines, mapLines, text as Files·text};
 ghost use Rattle.text_print.specs.Prints.{Printed};
-ghost use Rattle.file_build.specs.Inner.Lines.{rowLines, mapLines, firstNumbers, mapIn, partsIn, NumbersNeeded, RowsNeeded, MapsNeeded, PrintNeeded};
+ghost use Rattle.file_build.specs.Inner.Lines.{mapIn, partsIn, NumbersNeeded, RowsNeeded, MapsNeeded, PrintNeeded};
 
 // Prints the row lines of a picture, and gives the place behind them.
 fn print_rows(out: &mut [u8], at: usize, picture: &[u8], size: Size) -> usize

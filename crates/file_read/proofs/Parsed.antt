@@ -19,7 +19,7 @@ use Rattle.text_read.proofs.Callers.{head-line}
 use Rattle.file_theory.specs.Rules.{partRules, formRules}
 use Rattle.file_theory.specs.Shows.{headIn, rowsIn, mapsIn}
 use Rattle.file_theory.proofs.Shaped.{shaped-is, shaped-picture, allowed-ofSize}
-use Rattle.file_read.specs.Inner.Opening.{Open, mapLines, rowLines}
+use Rattle.file_read.specs.Inner.Opening.{Open, fromMaps, fromRows}
 
 -- The parts of a text, with size and range h.
 abbrev pub partsWith : Head → Option Parts → Parts
@@ -37,8 +37,8 @@ pub record Parsed (file : List ℕ) (h : Head) : Type 0 where
   pub of-size : OfSize (h .size) (rowsIn (parse file))
   pub maps-grid : Grid (h .size .width) (h .size .height) (mapsIn (parse file))
   pub range : allowed (h .size .width) (h .depth) (h .growth) ≡ true
-  pub row-lines : rowLines (parse file) ≡ each rowWord (lineText (pixelText (h .size .kind))) (rowsIn (parse file)) ++ mapLines (parse file)
-  pub map-lines : mapLines (parse file) ≡ each mapWord (lineText digits) (mapsIn (parse file)) ++ closed
+  pub row-lines : fromRows (parse file) ≡ each rowWord (lineText (pixelText (h .size .kind))) (rowsIn (parse file)) ++ fromMaps (parse file)
+  pub map-lines : fromMaps (parse file) ≡ each mapWord (lineText digits) (mapsIn (parse file)) ++ closed
 
 pub opened : (file : List ℕ) (h : Head) → Open file h → Parsed file h
 opened file h o =
@@ -70,25 +70,25 @@ opened file h o =
     go none e = absurd (Option·none-ne-some _ e)
     go (some p) e = λ i. some (record { head = same p e i; rows = p .rows; maps = p .maps })
 
-    rows : (q : Option Parts) → headIn q ≡ some h → rowLines q ≡ each rowWord (lineText (pixelText (h .size .kind))) (rowsIn q) ++ mapLines q
+    rows : (q : Option Parts) → headIn q ≡ some h → fromRows q ≡ each rowWord (lineText (pixelText (h .size .kind))) (rowsIn q) ++ fromMaps q
     rows none e = absurd (Option·none-ne-some _ e)
-    rows (some p) e = ap (λ g. each rowWord (lineText (pixelText (g .size .kind))) (p .rows) ++ mapLines (some p)) (same p e)
+    rows (some p) e = ap (λ g. each rowWord (lineText (pixelText (g .size .kind))) (p .rows) ++ fromMaps (some p)) (same p e)
 
-    maps : (q : Option Parts) → headIn q ≡ some h → mapLines q ≡ each mapWord (lineText digits) (mapsIn q) ++ closed
+    maps : (q : Option Parts) → headIn q ≡ some h → fromMaps q ≡ each mapWord (lineText digits) (mapsIn q) ++ closed
     maps none e = absurd (Option·none-ne-some _ e)
     maps (some p) e = refl
 
 -- Behind the head stand the row lines.
 module _ (file : List ℕ) (h : Head) (o : Open file h) where
-  head-read : headGet file ≡ some (h, rowLines (parse file))
+  head-read : headGet file ≡ some (h, fromRows (parse file))
   unfolding text
   head-read =
       let k = opened file h o in
       ap headGet (sym (k .whole) ∙ ap (headText h ++_) (sym (k .row-lines ∙ ap (each rowWord (lineText (pixelText (h .size .kind))) (rowsIn (parse file)) ++_) (k .map-lines))))
-      ∙ head-line h (rowLines (parse file)) (k .within .head)
+      ∙ head-line h (fromRows (parse file)) (k .within .head)
 
-  pub head-place : (g : Head) (c : ℕ) → Told headGet file 0 (some (g, c)) → drop c file ≡ rowLines (parse file)
-  head-place g c t = ap (λ (r : Head × List ℕ). r .1) (Option·some-injective (g, drop c file) (h, rowLines (parse file)) (sym (t .same) ∙ head-read))
+  pub head-place : (g : Head) (c : ℕ) → Told headGet file 0 (some (g, c)) → drop c file ≡ fromRows (parse file)
+  head-place g c t = ap (λ (r : Head × List ℕ). r .1) (Option·some-injective (g, drop c file) (h, fromRows (parse file)) (sym (t .same) ∙ head-read))
 
   pub head-there : Told headGet file 0 none → ⊥
   head-there t = Option·none-ne-some _ (sym (t .same) ∙ head-read)

@@ -29,7 +29,7 @@ use Rattle.text_read.specs.Answers.{read}
 use Rattle.text_read.specs.Lines.{rowLine, mapLine, Taken}
 use Rattle.text_read.proofs.Callers.{LineMet, rows-next, maps-next, taken-row, taken-map}
 use Rattle.file_theory.specs.Shows.{rowsIn, mapsIn}
-use Rattle.file_read.specs.Inner.Opening.{mapLines, rowLines}
+use Rattle.file_read.specs.Inner.Opening.{fromMaps, fromRows}
 use Rattle.file_read.proofs.Parsed.{Parsed}
 
 pub all-at : {A : Type 0} (P : A → Type 0) (xs : List A) (r : ℕ) (d : A) → All P xs → r < length xs → P (getD xs r d)
@@ -52,32 +52,32 @@ module _ {text : List ℕ} {at : ℕ} {values rest out : List ℕ} {out′ : Lis
 
 -- What stands at the place of row line r, and at that of map line r.
 abbrev pub RowsLeft : List ℕ → Kind → ℕ → ℕ → Type 0
-RowsLeft file k r at = drop at file ≡ each rowWord (lineText (pixelText k)) (drop r (rowsIn (parse file))) ++ mapLines (parse file)
+RowsLeft file k r at = drop at file ≡ each rowWord (lineText (pixelText k)) (drop r (rowsIn (parse file))) ++ fromMaps (parse file)
 
 abbrev pub MapsLeft : List ℕ → ℕ → ℕ → Type 0
 MapsLeft file r at = drop at file ≡ each mapWord (lineText digits) (drop r (mapsIn (parse file))) ++ closed
 
 module _ {file : List ℕ} {h : Head} (k : Parsed file h) where
   -- The first line stands behind what comes before, and behind the last row line stand the map lines.
-  pub rows-first : (at : ℕ) → drop at file ≡ rowLines (parse file) → RowsLeft file (h .size .kind) 0 at
+  pub rows-first : (at : ℕ) → drop at file ≡ fromRows (parse file) → RowsLeft file (h .size .kind) 0 at
   rows-first at p = p ∙ k .row-lines
 
-  pub maps-first : (at : ℕ) → drop at file ≡ mapLines (parse file) → MapsLeft file 0 at
+  pub maps-first : (at : ℕ) → drop at file ≡ fromMaps (parse file) → MapsLeft file 0 at
   maps-first at p = p ∙ k .map-lines
 
-  pub rows-end : (r at : ℕ) → h .size .height ≤ r → RowsLeft file (h .size .kind) r at → drop at file ≡ mapLines (parse file)
+  pub rows-end : (r at : ℕ) → h .size .height ≤ r → RowsLeft file (h .size .kind) r at → drop at file ≡ fromMaps (parse file)
   unfolding each
   rows-end r at l p = p ∙ rw (drop-of-length-le (rowsIn (parse file)) {i = r} (omega (arith, each-length (k .of-size))))
 
   -- The line at a place, read into a space that it fits.
   module _ (r : ℕ) (inside : r < h .size .height) where
     pub row-met : {at : ℕ} {out out′ : List ℕ} (a : Read) → RowsLeft file (h .size .kind) r at → rowBytes (h .size) ≡ length out → Taken (rowLine (h .size .kind)) file at out (read a) out′
-        → LineMet file at (flat (getD (rowsIn (parse file)) r [])) (each rowWord (lineText (pixelText (h .size .kind))) (drop (r + 1) (rowsIn (parse file))) ++ mapLines (parse file)) out a out′
+        → LineMet file at (flat (getD (rowsIn (parse file)) r [])) (each rowWord (lineText (pixelText (h .size .kind))) (drop (r + 1) (rowsIn (parse file))) ++ fromMaps (parse file)) out a out′
     row-met a p e t =
         let rows = rowsIn (parse file) in
         let there : r < length (rowsIn (parse file)) = omega (arith, each-length (k .of-size)) in
         taken-row (h .size .kind) (getD rows r []) a t
-        (p ∙ rw (drop-cons rows r [] there, add-one r) (rows-next (h .size .kind) (getD rows r []) (drop (suc r) rows) (mapLines (parse file))))
+        (p ∙ rw (drop-cons rows r [] there, add-one r) (rows-next (h .size .kind) (getD rows r []) (drop (suc r) rows) (fromMaps (parse file))))
         (all-at (All (Pixel (h .size .kind))) rows r [] (k .within .rows) there)
         (omega (arith, length-flat (each-at r [] inside (k .of-size))))
 

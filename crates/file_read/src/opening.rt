@@ -10,7 +10,7 @@ use text_theory::Head;
 ghost use mathlib.Core.Path.{_≡_};
 ghost use lib.ListN.{drop};
 ghost use Rattle.text_theory.specs.Files.{parse};
-ghost use Rattle.file_read.specs.Inner.Opening.{OpenGiven, Open, rowLines};
+ghost use Rattle.file_read.specs.Inner.Opening.{OpenGiven, Open, fromRows};
 
 // Which of 1 to 6 refuses a file; else its size and range.
 pub(crate) fn open(file: &[u8]) -> Checked
@@ -36,7 +36,7 @@ pub(crate) fn open(file: &[u8]) -> Checked
 // The place of the first row line.
 pub(crate) fn first_row(file: &[u8], head: Head) -> Cursor
     requires { ⌜ Open (now file) head ⌝ }
-    ensures { λ c. ⌜ drop (c .at) (now (file .entry)) ≡ rowLines (parse (now (file .entry))) ⌝ }
+    ensures { λ c. ⌜ drop (c .at) (now (file .entry)) ≡ fromRows (parse (now (file .entry))) ⌝ }
 {
     let start = Cursor { at: 0 };
     let HeadRead::Begun(_, c) = start.header(file) else {

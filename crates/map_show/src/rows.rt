@@ -10,7 +10,8 @@ ghost use mathlib.Core.Path.{_≡_};
 ghost use mathlib.Core.List.{_++_};
 ghost use lib.ListN.{length, drop};
 ghost use lib.Seq.{sets};
-ghost use Rattle.map_show.specs.Inner.Rows.{doubledIn, pixelsAt, kept, grown, lastPixels, RowNeeded, LastNeeded};
+ghost use Rattle.map_theory.specs.Judged.{doubledIn};
+ghost use Rattle.map_show.specs.Inner.Rows.{pixelsAt, kept, grown, lastPixels, RowNeeded, LastNeeded};
 
 // A number of the map to count with.
 fn wide(number: u16) -> usize

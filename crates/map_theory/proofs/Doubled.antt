@@ -12,11 +12,6 @@ use Rattle.map_theory.specs.Judged.{every, tick, count, doubledIn, remai
 use Rattle.map_theory.proofs.Numbers.{remains-zero, remains-all, remains-le, remains-lt, remains-next, doubled-not}
 use Rattle.map_theory.proofs.Numberings.{numbering-most}
 
--- How many entries are numbered 1 to u.
-abbrev pub doubledIn : ℕ → List ℕ → ℕ
-doubledIn u [] = 0
-doubledIn u (v ∷ ys) = tick (doubled u v) (doubledIn u ys)
-
 doubled-none : (ys : List ℕ) → doubledIn 0 ys ≡ 0
 doubled-none [] = refl
 doubled-none (v ∷ ys) = rw (doubled-not 0 v, remains-all v) (doubled-none ys)

@@ -10,10 +10,10 @@ use lib.ListN.{length}
 use Rattle.grids.proofs.Orders.{le-or-lt}
 use Rattle.seam_theory.specs.Paths.{consIf}
 use Rattle.map_theory.specs.Widths.{keepRow, doubled, growFrom, growRow, rowAtWidth, LeftOut}
-use Rattle.map_theory.specs.Judged.{tick, remains, Numbering}
+use Rattle.map_theory.specs.Judged.{tick, remains, Numbering, doubledIn}
 use Rattle.map_theory.proofs.Numbers.{stays-remains, remains-earlier, doubled-not, doubled-more}
 use Rattle.map_theory.proofs.Rows.{keep-all}
-use Rattle.map_theory.proofs.Doubled.{doubledIn, doubled-numbering}
+use Rattle.map_theory.proofs.Doubled.{doubled-numbering}
 
 module _ {A : Type 0} where
   consIf-sub : (a b : Bool) (x : A) (xs ys : List A) → (a ≡ true → b ≡ true) → Sublistᴰ xs ys → Sublistᴰ (consIf a x xs) (consIf b x ys)

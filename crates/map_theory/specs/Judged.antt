@@ -8,7 +8,7 @@ use Rattle.grids.specs.Each.{Each}
 use Rattle.seam_theory.specs.Paths.{run}
 use Rattle.pictures.specs.Refusals.{_when_, Rule}
 use Rattle.seam_theory.specs.Choices.{Choice, linked}
-use Rattle.map_theory.specs.Widths.{keepRow}
+use Rattle.map_theory.specs.Widths.{keepRow, doubled}
 
 -- Every element passes a test.
 abbrev pub every : {A : Type 0} → (A → Bool) → List A → Bool
@@ -31,6 +31,11 @@ tick false n = n
 abbrev pub count : ℕ → List ℕ → ℕ
 count v [] = 0
 count v (a ∷ ys) = tick (eqb a v) (count v ys)
+
+-- How many entries are numbered 1 to u.
+abbrev pub doubledIn : ℕ → List ℕ → ℕ
+doubledIn u [] = 0
+doubledIn u (v ∷ ys) = tick (doubled u v) (doubledIn u ys)
 
 -- 9: "a map row lacks one of 1 to k, repeats one, or holds more than k".
 unfoldable pub numbers : ℕ → List ℕ → Bool

@@ -90,13 +90,16 @@ headText h =
     start ++ (digits (h .size .width) ++ (blank ++ (digits (h .size .height) ++ (blank ++ (kindText (h .size .kind)
     ++ (range ++ (digits (h .depth) ++ (blank ++ (digits (h .growth) ++ closed)))))))))
 
+-- The row lines of a picture, and the map lines of a map.
+abbrev pub rowLines : Kind → Picture → List ℕ
+rowLines k rows = each rowWord (lineText (pixelText k)) rows
+
+abbrev pub mapLines : List (List ℕ) → List ℕ
+mapLines maps = each mapWord (lineText digits) maps
+
 -- "ASCII text in the lines and order shown below, each ended by byte 10, nothing after the last."
 unfoldable pub text : Parts → List ℕ
-text p =
-    headText (p .head)
-    ++ (each rowWord (lineText (pixelText (p .head .size .kind))) (p .rows)
-    ++ (each mapWord (lineText digits) (p .maps)
-    ++ closed))
+text p = headText (p .head) ++ (rowLines (p .head .size .kind) (p .rows) ++ (mapLines (p .maps) ++ closed))
 
 -- Readers of the same.
 abbrev pub either : {A : Type 0} → Option A → Option A → Option A

@@ -9,23 +9,7 @@ use Rattle.pictures.specs.Refusals.{refusal}
 use Rattle.pictures.specs.Pictures.{largestSide, sizeRules, picture}
 use Rattle.pictures.specs.Numbers.{numbersIn}
 use Rattle.text_theory.specs.declared.Head.{Head}
-use Rattle.text_theory.specs.Decimal.{digits}
-use Rattle.text_theory.specs.Files.{Parts, rowWord, mapWord, each, pixelText, lineText, text}
--- A map of h rows of w numbers, from its bytes.
-
--- The row lines of a picture, and the map lines of a map.
-abbrev pub rowLines : Kind → Picture → List ℕ
-rowLines k p = each rowWord (lineText (pixelText k)) p
-
-abbrev pub mapLines : List (List ℕ) → List ℕ
-mapLines m = each mapWord (lineText digits) m
-
--- The i-th number in bytes, two a number, the low byte first; the first w of them; a map of h rows of w numbers.
-unfoldable pub numberAt : List ℕ → ℕ → ℕ
-numberAt b i = getD b (2 * i) 0 + 256 * getD b (2 * i + 1) 0
-
-abbrev pub firstNumbers : ℕ → List ℕ → List ℕ
-firstNumbers w b = table (numberAt b) w
+use Rattle.text_theory.specs.Files.{Parts, rowLines, mapLines, text}
 
 -- A map of h rows of w numbers, from its bytes.
 abbrev pub mapIn : ℕ → ℕ → List ℕ → List (List ℕ)

@@ -7,20 +7,20 @@ use Rattle.pictures.specs.Pictures.{pictureBytes, bytes, pixels}
 use Rattle.text_theory.specs.declared.Head.{Head}
 use Rattle.text_theory.specs.Files.{parse}
 use Rattle.file_theory.specs.Shows.{rowsIn}
-use Rattle.file_read.specs.Inner.Opening.{mapLines, rowLines, Open}
+use Rattle.file_read.specs.Inner.Opening.{fromMaps, fromRows, Open}
 
 -- The row lines, from the first one on, and room for the picture.
 pub record RowsNeeded (file : List ℕ) (h : Head) (at space : ℕ) : Type 0 where
   pub opened : Open file h
-  pub place : drop at file ≡ rowLines (parse file)
+  pub place : drop at file ≡ fromRows (parse file)
   pub room : pictureBytes (h .size) ≤ space
 
 pub record RowsRead (file : List ℕ) (h : Head) (space : List ℕ) (at : ℕ) (space′ : List ℕ) : Type 0 where
-  pub place : drop at file ≡ mapLines (parse file)
+  pub place : drop at file ≡ fromMaps (parse file)
   pub space-is : space′ ≡ bytes (rowsIn (parse file)) ++ drop (pictureBytes (h .size)) space
 
 -- The map lines, from the first one on, and room for so many values a pixel.
 pub record MapsNeeded (file : List ℕ) (h : Head) (at values space : ℕ) : Type 0 where
   pub opened : Open file h
-  pub place : drop at file ≡ mapLines (parse file)
+  pub place : drop at file ≡ fromMaps (parse file)
   pub room : values * pixels (h .size) ≤ space

@@ -5,21 +5,20 @@ use mathlib.Core.List.{List, [], _++_}
 use Prim.Native.Nat.{ℕ}
 use Rattle.pictures.specs.Refusals.{refusal, served}
 use Rattle.text_theory.specs.declared.Head.{Head}
-use Rattle.text_theory.specs.Decimal.{digits}
-use Rattle.text_theory.specs.Files.{Parts, parse, each, rowWord, mapWord, lineText, pixelText, closed}
+use Rattle.text_theory.specs.Files.{Parts, parse, rowLines, mapLines, closed}
 use Rattle.file_theory.specs.Rules.{partRules, formRules}
 use Rattle.file_theory.specs.Shows.{headIn}
 use Rattle.file_rules.specs.declared.answers.Checked.{Checked}
 use Rattle.file_rules.specs.Answers.{checkedNumber, checkedHead}
 
 -- What stands in a text from its row lines on, and from its map lines on.
-abbrev pub mapLines : Option Parts → List ℕ
-mapLines none = []
-mapLines (some p) = each mapWord (lineText digits) (p .maps) ++ closed
+abbrev pub fromMaps : Option Parts → List ℕ
+fromMaps none = []
+fromMaps (some p) = mapLines (p .maps) ++ closed
 
-abbrev pub rowLines : Option Parts → List ℕ
-rowLines none = []
-rowLines (some p) = each rowWord (lineText (pixelText (p .head .size .kind))) (p .rows) ++ mapLines (some p)
+abbrev pub fromRows : Option Parts → List ℕ
+fromRows none = []
+fromRows (some p) = rowLines (p .head .size .kind) (p .rows) ++ fromMaps (some p)
 
 -- Which of 1 to 6 is given, and size and range where none is.
 pub record OpenGiven (file : List ℕ) (answer : Checked) : Type 0 where

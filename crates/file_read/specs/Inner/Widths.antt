@@ -9,7 +9,7 @@ use Rattle.text_theory.specs.declared.Head.{Head}
 use Rattle.text_theory.specs.Files.{parse}
 use Rattle.file_theory.specs.Shows.{rowsIn, shows, drawnBytes}
 use Rattle.file_rules.specs.Spaces.{offerRules}
-use Rattle.file_read.specs.Inner.Opening.{mapLines, Open}
+use Rattle.file_read.specs.Inner.Opening.{fromMaps, Open}
 use Rattle.file_read.specs.Inner.Checking.{judgedIn}
 
 -- A file that is accepted, a width that it offers, and room for what is shown.
@@ -25,5 +25,5 @@ pub record DrawGiven (file : List ℕ) (v : ℕ) (out out′ : List ℕ) : Type 
 -- The same from the first map line on, the picture standing at the front of a space.
 pub record LinesNeeded (file : List ℕ) (h : Head) (at v : ℕ) (space : List ℕ) (out : ℕ) : Type 0 where
   pub drawn : DrawNeeded file h v out (length space)
-  pub place : drop at file ≡ mapLines (parse file)
+  pub place : drop at file ≡ fromMaps (parse file)
   pub picture-is : take (pictureBytes (h .size)) space ≡ bytes (rowsIn (parse file))

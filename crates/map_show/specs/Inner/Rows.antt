@@ -9,11 +9,8 @@ use Rattle.grids.specs.Rows.{rowsOf, rowAt, flat}
 use Rattle.seam_theory.specs.Paths.{consIf}
 use Rattle.pictures.specs.declared.sizes.Kind.{Kind}
 use Rattle.pictures.specs.Pictures.{channelsOf}
-use Rattle.map_theory.specs.Widths.{stays, doubled, keepRow, growRow, average}
-
--- How many of the numbers are 1 to u.
-unfoldable pub doubledIn : ℕ → List ℕ → ℕ
-doubledIn u numbers = length (keepRow (doubled u) numbers numbers)
+use Rattle.map_theory.specs.Widths.{stays, keepRow, growRow, average}
+use Rattle.map_theory.specs.Judged.{doubledIn}
 
 -- How many pixels a row with these numbers shows at width v.
 unfoldable pub pixelsAt : List ℕ → ℕ → ℕ

@@ -63,7 +63,7 @@ leftAlong x z = turnedSize x (narrowed (turnedSize x z))
 pub record CutGiven (work : List ℕ) (at : ℕ) (z : Size) (x : Axis) (seam : List ℕ) (to : ℕ) (work′ : List ℕ) : Type 0 where
   pub picture-is :
       partAt to (pictureBytes (leftAlong x z)) work′
-      ≡ bytes (turned x (turnedSize x z .width - 1) (cut (take (turnedSize x z .height) seam) (pictureAt (turnedSize x z) at work)))
+      ≡ bytes (turned x (narrowed (turnedSize x z) .width) (cut (take (turnedSize x z .height) seam) (pictureAt (turnedSize x z) at work)))
   pub long : length work′ ≡ length work
   pub others : (a n : ℕ) → Apart a n at (pictureBytes z) → Apart a n to (pictureBytes z) → partAt a n work′ ≡ partAt a n work
 

@@ -6,7 +6,7 @@ use native.Mathlib.Omega.{arith}
 use denote.Ref.{now}
 use lib.ListN.{length, getD, drop}
 use Rattle.map_theory.specs.Widths.{doubled}
-use Rattle.map_show.specs.Inner.Rows.{doubledIn}
+use Rattle.map_theory.specs.Judged.{doubledIn}
 use Rattle.map_show.proofs.Counts.{count-yes, count-no, count-end}
 use borrow.Author.Needs.{needs}
 use Rattle.map_show.proofs.rows.doubled_in.Statement.{statement}
