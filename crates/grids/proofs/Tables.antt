@@ -85,3 +85,17 @@ module _ {A : Type 0} (f : ℕ → A) (d : List A) (end : ℕ) where
 
   pub stored-end : (n : ℕ) (out : List A) → end ≤ n → Stored f d end n out → out ≡ table f (length d)
   stored-end n out h o = table-end f d out n (o .is) (omega (arith, o .within, o .all))
+
+-- The same where the values are the elements of a list as long as the slice: a copy.
+module _ {A : Type 0} (from d : List A) (z : A) where
+  abbrev pub Copied : ℕ → ℕ → List A → Type 0
+  Copied end n out = Stored (λ i. getD from i z) d end n out
+
+  pub copied-start : Copied (length d) 0 d
+  copied-start = stored-start (λ i. getD from i z) d (length d) refl
+
+  pub copied-turn : (end n : ℕ) (out : List A) → n < end → Copied end n out → Copied end (n + 1) (set out n (getD from n z))
+  copied-turn end n out h o = stored-turn (λ i. getD from i z) d end n out (getD from n z) z h refl o
+
+  pub copied-end : (end n : ℕ) (out : List A) → length d ≡ length from → end ≤ n → Copied end n out → out ≡ from
+  copied-end end n out e h o = stored-end (λ i. getD from i z) d end n out h o ∙ ap (table (λ i. getD from i z)) e ∙ table-all from z

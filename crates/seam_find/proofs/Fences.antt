@@ -1,5 +1,5 @@
 -- Rows of sums between their fences: how they are filled in and read.
-use mathlib.Core.Path.{_≡_, refl, ap, ap₂, _∙_}
+use mathlib.Core.Path.{_≡_, refl, sym, ap, ap₂, _∙_}
 use mathlib.Core.List.{List, [], _∷_, _++_}
 use Prim.Native.Nat.{ℕ, zero, suc, _+_, _-_, _≤_, _<_}
 use native.Mathlib.Nat.{add-sub-cancel, le-of-suc-le-suc}
@@ -10,20 +10,37 @@ use lib.ListN.{length, getD, take, drop, replicate, length-append, length-replic
 use lib.Seq.{take-at}
 use Rattle.grids.proofs.Parts.{put-part}
 use Rattle.pictures.specs.declared.sizes.Size.{Size}
+use Rattle.pictures.specs.Pictures.{largestSide}
 use Rattle.seam_find.specs.Inner.Sums.{fenced, sumsDown}
 use Rattle.seam_find.specs.Inner.Down.{DownGiven}
-use Rattle.seam_find.specs.Inner.Bottom.{BottomGiven}
+use Rattle.seam_find.specs.Inner.Bottom.{BottomGiven, RowsNeeded}
 use Rattle.seam_sums.specs.Least.{leastTo}
 use Rattle.seam_sums.proofs.Turns.{least-inside}
 use Rattle.seam_find.proofs.Costs.{fenced-at, length-sums}
 
-pub take-replicate : {A : Type 0} (n m : ℕ) (a : A) → n ≤ m → take n (replicate m a) ≡ replicate n a
+take-replicate : {A : Type 0} (n m : ℕ) (a : A) → n ≤ m → take n (replicate m a) ≡ replicate n a
 take-replicate zero m a h = refl
 take-replicate (suc n) zero a h = absurd (omega arith)
 take-replicate (suc n) (suc m) a h = ap (a ∷_) (take-replicate n m a (le-of-suc-le-suc h))
 
-pub length-take-replicate : {A : Type 0} (n m : ℕ) (a : A) → n ≤ m → length (take n (replicate m a)) ≡ n
+length-take-replicate : {A : Type 0} (n m : ℕ) (a : A) → n ≤ m → length (take n (replicate m a)) ≡ n
 length-take-replicate n m a h = ap length (take-replicate n m a h) ∙ length-replicate n a
+
+-- The rows of local arrays that are lent for a picture: one that is all fence, and rows of zeros.
+module _ (z : Size) (narrow : z .width ≤ largestSide) where
+  pub fences-lent : (fence : ℕ) → z .width + 2 ≡ length (take (z .width + 2) (replicate (largestSide + 2) fence))
+  fences-lent fence = sym (length-take-replicate {A = ℕ} (z .width + 2) (largestSide + 2) fence (omega (arith, narrow)))
+
+  pub row-lent : z .width ≡ length (take (z .width) (replicate {A = ℕ} largestSide 0))
+  row-lent = sym (length-take-replicate {A = ℕ} (z .width) largestSide 0 narrow)
+
+  pub rows-needed : (fence : ℕ)
+      → RowsNeeded fence z (take (z .width + 2) (replicate (largestSide + 2) fence)) (take (z .width) (replicate {A = ℕ} largestSide 0)) (take (z .width) (replicate {A = ℕ} largestSide 0))
+  rows-needed fence = record {
+    fences = take-replicate {A = ℕ} (z .width + 2) (largestSide + 2) fence (omega (arith, narrow));
+    cost-room = sym row-lent;
+    next-room = sym row-lent;
+  }
 
 last-fence : (w fence : ℕ) → drop w (replicate (suc w) fence) ≡ fence ∷ []
 last-fence zero fence = refl

@@ -3,9 +3,10 @@ use mathlib.Core.Path.{sym}
 use Prim.Native.Nat.{ℕ, _+_}
 use native.Mathlib.Omega.{arith}
 use borrow.Author.Needs.{needs}
-use Rattle.pictures.specs.Pictures.{largestSide, pictureBytes}
+use Rattle.pictures.specs.Pictures.{pictureBytes}
 use Rattle.pictures.proofs.Limits.{Sized, sized-is}
-use Rattle.seam_find.proofs.Fences.{take-replicate, length-take-replicate}
+use Rattle.seam_find.proofs.Fences.{fences-lent, row-lent, rows-needed}
+use Rattle.seam_sums.specs.Fences.{fence64}
 use Rattle.seam_find_marked.proofs.bottom64.find_bottom.Statement.{statement}
 use Rattle.seam_find_marked.proofs.bottom64.find_bottom.Tie as tie
 
@@ -21,7 +22,7 @@ array-borrow-prefix-above c = omega (arith, sure (c .before .before) .width-most
 slice-aggregate-bottom-with : tie.Need-slice-aggregate-bottom-with
 slice-aggregate-bottom-with c =
     let s = c .before .before .before in
-    sym (length-take-replicate {A = ℕ} (s .args .size .width + 2) (largestSide + 2) 18446744073709551615 (omega (arith, sure s .width-most)))
+    fences-lent (s .args .size) (sure s .width-most) fence64
 
 array-borrow-prefix-energies : tie.Need-array-borrow-prefix-energies
 array-borrow-prefix-energies c = sure (c .before .before .before) .width-most
@@ -29,7 +30,7 @@ array-borrow-prefix-energies c = sure (c .before .before .before) .width-most
 slice-aggregate-bottom-with-2 : tie.Need-slice-aggregate-bottom-with-2
 slice-aggregate-bottom-with-2 c =
     let s = c .before .before .before .before in
-    sym (length-take-replicate {A = ℕ} (s .args .size .width) largestSide 0 (sure s .width-most))
+    row-lent (s .args .size) (sure s .width-most)
 
 array-borrow-prefix-cost : tie.Need-array-borrow-prefix-cost
 array-borrow-prefix-cost c = sure (c .before .before .before .before) .width-most
@@ -37,7 +38,7 @@ array-borrow-prefix-cost c = sure (c .before .before .before .before) .width-mos
 slice-aggregate-bottom-with-3 : tie.Need-slice-aggregate-bottom-with-3
 slice-aggregate-bottom-with-3 c =
     let s = c .before .before .before .before .before in
-    sym (length-take-replicate {A = ℕ} (s .args .size .width) largestSide 0 (sure s .width-most))
+    row-lent (s .args .size) (sure s .width-most)
 
 array-borrow-prefix-next : tie.Need-array-borrow-prefix-next
 array-borrow-prefix-next c = sure (c .before .before .before .before .before) .width-most
@@ -45,23 +46,13 @@ array-borrow-prefix-next c = sure (c .before .before .before .before .before) .w
 slice-aggregate-bottom-with-4 : tie.Need-slice-aggregate-bottom-with-4
 slice-aggregate-bottom-with-4 c =
     let s = c .before .before .before .before .before .before in
-    sym (length-take-replicate {A = ℕ} (s .args .size .width) largestSide 0 (sure s .width-most))
+    row-lent (s .args .size) (sure s .width-most)
 
 bottom-with-requires : tie.Need-bottom-with-requires
 bottom-with-requires c κs =
     let s = c .before .before .before .before .before .before in
-    let w = s .args .size .width in
-    let most = sure s .width-most in (
-      s .pre,
-      (
-        record {
-          fences = take-replicate {A = ℕ} (w + 2) (largestSide + 2) 18446744073709551615 (omega arith);
-          cost-room = length-take-replicate {A = ℕ} w largestSide 0 most;
-          next-room = length-take-replicate {A = ℕ} w largestSide 0 most;
-        },
-        length-take-replicate {A = ℕ} w largestSide 0 most,
-      ),
-    )
+    let z = s .args .size in
+    (s .pre, (rows-needed z (sure s .width-most) fence64, sym (row-lent z (sure s .width-most))))
 
 same-length : tie.Need-same-length
 same-length c = c .before .before .before .before .before .space .given

@@ -1,22 +1,19 @@
--- `seam_find_marked::sums64::copy` meets its contract. The loop's invariant: c elements are copied.
-use mathlib.Core.Path.{_≡_, refl, ap, _∙_}
+-- `seam_find_marked::sums64::copy` meets its contract. The loop's invariant: c elements are copied. The measure is the number of elements left.
 use Prim.Native.Nat.{_-_}
 use borrow.Author.Needs.{needs}
 use denote.Ref.{now}
-use lib.ListN.{getD}
-use Rattle.grids.specs.Table.{table}
-use Rattle.grids.proofs.Tables.{table-all, Stored, stored-start, stored-turn, stored-end}
+use Rattle.grids.proofs.Tables.{Copied, copied-start, copied-turn, copied-end}
 use Rattle.seam_find_marked.proofs.sums64.copy.Statement.{statement}
 use Rattle.seam_find_marked.proofs.sums64.copy.Tie as tie
 
 abbrev Inv-loop : tie.InvT-loop
-Inv-loop from to₀ c₀ c-end to c = Stored (λ i. getD from i 0) to₀ c-end c to
+Inv-loop from to₀ c₀ c-end to c = Copied from to₀ 0 c-end c to
 
 abbrev μ-loop : tie.MeasureT-loop
 μ-loop from to₀ c₀ c-end to c = c-end - c
 
 loop-holds : tie.Need-loop-holds Inv-loop μ-loop
-loop-holds c = stored-start _ _ _ refl
+loop-holds c = copied-start (now (c .args .from)) (now (c .args .to)) 0
 
 mul-to : tie.Need-mul-to Inv-loop μ-loop
 mul-to c = search needs
@@ -38,21 +35,18 @@ loop-less c = search needs
 
 loop-again : tie.Need-loop-again Inv-loop μ-loop
 loop-again c =
-    let turn = c .before in
-    let l = turn .before .loop in
-    let a = turn .before .before .args in
-    stored-turn (λ i. getD (now (a .from)) i 0) (now (a .to)) _ (l .c) (l .to) _ 0 (turn .loop-test .taken) refl (l .inv)
+    let head = c .before .before in
+    let a = head .before .args in
+    copied-turn (now (a .from)) (now (a .to)) 0 _ (head .loop .c) (head .loop .to) (c .before .loop-test .taken) (head .loop .inv)
 
 same-length : tie.Need-same-length Inv-loop μ-loop
 same-length c = c .before .loop .inv .long
 
 returns : tie.Need-returns Inv-loop μ-loop
 returns c =
-    let l = c .before .loop in
-    let s = c .before .before in
-    let from = now (s .args .from) in
-    stored-end (λ i. getD from i 0) (now (s .args .to)) _ (l .c) (l .to) (c .loop-test .left) (l .inv)
-    ∙ ap (table (λ i. getD from i 0)) (s .pre) ∙ table-all from 0
+    let head = c .before in
+    let s = head .before in
+    copied-end (now (s .args .from)) (now (s .args .to)) 0 _ (head .loop .c) (head .loop .to) (s .pre) (c .loop-test .left) (head .loop .inv)
 
 pub copy-spec : {M : Type 1} → statement M
 copy-spec =
