@@ -1,4 +1,5 @@
 pub mod Shapes
+pub mod Heads
 pub mod Lengths
 pub mod Shaped
 pub mod Checked

@@ -60,7 +60,7 @@ seams-served z b fine few =
     let w : z .width ≤ mostSide = s .width-small in
     let h : z .height ≤ mostSide = s .height-small in
     let c = channelsOf (z .kind) in
-    let m : z .height * z .width * c ≤ 1024 * 3 = mul-le-mul few (s .channels-most) in
+    let m : z .height * z .width * c ≤ heldPixels * 3 = mul-le-mul few (s .channels-most) in
     let l : length (headerText z ++ b) ≤ mostInput =
     rw length-append (omega (arith, header-most z (omega arith) h, s .length-is, mul-assoc (z .height) (z .width) c, m)) in
     let r : refusal (pictureRules (some (z, b))) ≡ 0 =
