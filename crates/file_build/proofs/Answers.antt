@@ -136,7 +136,7 @@ module _ (b : List ℕ) (h : Head) (out work : List ℕ) (needed : BuildNeeded b
           file-given n out′ work′ p cleared =
               let q : Printed out 0 (fileIn h b) out′ n = rw text-is at p in
               record {
-                length-is = omega (arith, q .behind);
+                length-is = omega (arith, q .end-is);
                 out-is = printed-front (fileIn h b) q (rooms-are .out-room);
                 work-is = cleared ∙ ap (λ k. replicate k 0) (two-long ∙ one-long);
               }

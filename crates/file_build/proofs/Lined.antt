@@ -29,7 +29,7 @@ module _ {A : Type 0} (w : List ℕ) (put : A → List ℕ) (d : A) (xs : List A
     line-room =
         omega (
           arith,
-          so .behind,
+          so .end-is,
           printed-length so,
           each-split,
           ap length (each-next inside),
@@ -46,7 +46,7 @@ module _ {A : Type 0} (w : List ℕ) (put : A → List ℕ) (d : A) (xs : List A
 
 pub lines-none : {A : Type 0} (w : List ℕ) (put : A → List ℕ) (xs : List A) (first : List ℕ) (at : ℕ) → Printed first at (each w put (take 0 xs)) first at
 unfolding each
-lines-none w put xs first at = record { same = refl; behind = omega arith }
+lines-none w put xs first at = record { same = refl; end-is = omega arith }
 
 pub lines-all : {A : Type 0} (w : List ℕ) (put : A → List ℕ) (xs : List A) (i : ℕ) {first : List ℕ} {at : ℕ} {now : List ℕ} {end : ℕ} → length xs ≤ i
     → Printed first at (each w put (take i xs)) now end → Printed first at (each w put xs) now end

@@ -17,7 +17,7 @@ use Rattle.pictures.specs.Pictures.{workBytes}
 use Rattle.file_theory.specs.Contents.{chooseOf, nearOf}
 use Rattle.file_theory.specs.Rules.{partRules, judgedRules, workRule, checkRules}
 
--- Checking parts, in a work space of so many bytes.
+-- Checking parts, in a work space of `work` bytes.
 abbrev pub checked : Parts → ℕ → ℕ
 checked p work = refusal (partRules p ++ (workRule (p .head .size) work ∷ judgedRules p))
 

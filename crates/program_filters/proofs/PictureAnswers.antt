@@ -73,7 +73,7 @@ draw-served {file} {v} D {out} {out′} {n} r P =
     let Q : Printed out 0 (drawnText (shows file v)) out′ n = rw (D .text-is) at P in
     record {
       number = sym (D .served);
-      length-is = omega (arith, Q .behind);
+      length-is = omega (arith, Q .end-is);
       out-given = printed-front (drawnText (shows file v)) Q (omega (arith, r, D .text-most, ap length (D .text-is)));
     }
 

@@ -51,7 +51,7 @@ number-below refusals.NotBlocked = omega arith
 pub finished-refused : (why : Refusal) {out out′ : List ℕ} {n : ℕ} → length (refusedText (numberOf why)) ≤ length out
     → Printed out 0 (refusedText (numberOf why)) out′ n → Finished (outputs.Refused why) out n out′
 finished-refused why {out} {n = n} h P =
-    let long : n ≡ length (refusedText (numberOf why)) = omega (arith, P .behind) in
+    let long : n ≡ length (refusedText (numberOf why)) = omega (arith, P .end-is) in
     record {
       length-is = long ∙ kept-by why 0 (length (refusedText (numberOf why)));
       out-is = printed-front (refusedText (numberOf why)) P h ∙ kept-by why out (refusedText (numberOf why) ++ drop (length (refusedText (numberOf why))) out);

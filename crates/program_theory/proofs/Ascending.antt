@@ -1,4 +1,4 @@
--- The rules of both programs behind the input's 8 stand in ascending order, so the number given is the smallest that applies.
+-- The rules of both programs after the input's 8 stand in ascending order, so the number given is the smallest that applies.
 use mathlib.Core.Path.{_≡_, refl}
 use mathlib.Core.Bool.{true}
 use mathlib.Core.Option.{Option, none, some}

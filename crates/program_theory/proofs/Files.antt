@@ -81,5 +81,5 @@ seams-accepted input small e =
         let s = header-reads .sound input (z, b) h .0 in
         let fine = served-both (sizeRules z (length b)) (pixelsRule z ∷ []) refl r .0 in
         let n : ℕ = length (headerText z) in
-        let behind : All (λ (a : ℕ). a < 256) b = rw (s, drop-at (headerText z) b n refl) at (all-drop (λ (a : ℕ). a < 256) n input small) in
-        rw h (full-accepted z b behind fine)
+        let rest : All (λ (a : ℕ). a < 256) b = rw (s, drop-at (headerText z) b n refl) at (all-drop (λ (a : ℕ). a < 256) n input small) in
+        rw h (full-accepted z b rest fine)

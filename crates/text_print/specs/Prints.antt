@@ -20,7 +20,7 @@ pub record Put (out : List ℕ) (at : ℕ) (bytes : List ℕ) (place : Place) (o
   pub answer : placeRead place ≡ cond (leb (at + length bytes) (length out)) (some (at + length bytes)) none
   pub space : out′ ≡ cond (leb (at + length bytes) (length out)) (take at out ++ (bytes ++ drop (at + length bytes) out)) out
 
--- What was written at a place: the bytes `done`, and the place behind them.
+-- What was written at a place: the bytes `done`, and the place after them.
 pub record Printed (first : List ℕ) (at : ℕ) (done now : List ℕ) (end : ℕ) : Type 0 where
   pub same : now ≡ sets first at done
-  pub behind : end ≡ at + length done
+  pub end-is : end ≡ at + length done
