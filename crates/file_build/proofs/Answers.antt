@@ -29,7 +29,7 @@ use Rattle.map_rules.specs.Spaces.{mapBytes, mapAt, mapSpaceRules}
 use Rattle.map_rules.proofs.Rooms.{room-served}
 use Rattle.map_build.specs.Building.{mapped, MapGiven}
 use Rattle.map_build.proofs.Steps.{take-map}
-use Rattle.text_print.specs.Prints.{Printed}
+use Rattle.text_print.specs.Inner.{Printed}
 use Rattle.text_print.proofs.Written.{printed-front}
 use Rattle.file_theory.specs.Contents.{chooseOf, fileOf}
 use Rattle.file_theory.proofs.Heads.{head-chooses}

@@ -10,7 +10,8 @@ use Rattle.text_theory.specs.declared.Head.{Head}
 use Rattle.text_theory.specs.Files.{closed, headText, text}
 use Rattle.text_print.specs.declared.lines.Place.{Place}
 use Rattle.text_print.specs.declared.lines.Place.the-variants as places
-use Rattle.text_print.specs.Prints.{Put, Printed}
+use Rattle.text_print.specs.Prints.{Put}
+use Rattle.text_print.specs.Inner.{Printed}
 use Rattle.text_print.proofs.Written.{printed-more, printed-length, never-short, printed-next}
 use Rattle.file_build.specs.Inner.Lines.{rowLines, mapLines, mapIn, partsIn, RowsNeeded, MapsNeeded, PrintNeeded}
 

@@ -29,7 +29,7 @@ use Rattle.file_theory.proofs.Refused.{show-checked, checked-accepted}
 use Rattle.file_theory.proofs.Demands.{shows-some}
 use Rattle.file_rules.specs.declared.answers.Shown.the-variants as showings
 use Rattle.file_read.specs.Reading.{ShowGiven}
-use Rattle.text_print.specs.Prints.{Printed}
+use Rattle.text_print.specs.Inner.{Printed}
 use Rattle.text_print.proofs.Written.{printed-front}
 use Rattle.program_theory.specs.Netpbm.{headerText, netpbm}
 use Rattle.program_theory.specs.Programs.{heldPixels, fittedRules, drawnText}

@@ -12,7 +12,8 @@ ghost use Prim.Native.Nat.{_≤_};
 ghost use lib.ListN.{length};
 ghost use Rattle.program_theory.specs.Netpbm.{headerGet};
 ghost use Rattle.program_theory.specs.Programs.{fileAnswer, seamsRules, seams as Programs·seams};
-ghost use Rattle.program_netpbm.specs.Outputs.{Wrote, outputSpace, Answered};
+ghost use Rattle.program_netpbm.specs.Outputs.{Wrote, outputSpace};
+ghost use Rattle.program_netpbm.specs.Inner.{Answered};
 ghost use Rattle.program_filters.specs.Inner.{FileAnswered};
 
 // What `seams` writes for an input: the file of the picture, with depth m - 1 and growth m/2, or a refusal.

@@ -17,12 +17,13 @@ use Rattle.pictures.specs.Refusals.{Rule, _when_, numberOf, given, refusal, ser
 use Rattle.pictures.proofs.Rules.{passed, kept-by, refused-answer}
 use Rattle.text_theory.specs.Readers.{Get}
 use Rattle.text_read.specs.Answers.{Told}
-use Rattle.text_print.specs.Prints.{Printed}
+use Rattle.text_print.specs.Inner.{Printed}
 use Rattle.text_print.proofs.Written.{printed-front}
 use Rattle.program_theory.specs.Programs.{mostInput, inputRule, refusedText, written}
 use Rattle.program_netpbm.specs.declared.output.Output.{Output}
 use Rattle.program_netpbm.specs.declared.output.Output.the-variants as outputs
-use Rattle.program_netpbm.specs.Outputs.{Wrote, outputNumber, outputLength, Answered, Finished}
+use Rattle.program_netpbm.specs.Outputs.{Wrote, outputNumber, outputLength, Finished}
+use Rattle.program_netpbm.specs.Inner.{Answered}
 
 -- A refusal has a number of at most three digits.
 pub number-below : (why : Refusal) → numberOf why < 1000

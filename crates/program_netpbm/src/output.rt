@@ -5,7 +5,7 @@ ghost use Prim.Native.Nat.{_+_, _≤_};
 ghost use lib.ListN.{length};
 ghost use Rattle.pictures.specs.Refusals.{numberOf};
 ghost use Rattle.text_theory.specs.Decimal.{digits};
-ghost use Rattle.text_print.specs.Prints.{Printed};
+ghost use Rattle.text_print.specs.Inner.{Printed};
 ghost use Rattle.program_theory.specs.Programs.{refusedText};
 ghost use Rattle.program_netpbm.specs.Outputs.{outputSpace, Finished};
 

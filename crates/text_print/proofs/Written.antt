@@ -15,8 +15,8 @@ use Rattle.text_theory.specs.Files.{blank, start, range, closed, mapWord, each,
 use Rattle.text_theory.proofs.Decimals.{digits-small, digits-large}
 use Rattle.text_print.specs.declared.lines.Place.{Place}
 use Rattle.text_print.specs.declared.lines.Place.the-variants as places
-use Rattle.text_print.specs.Prints.{placeRead, Put, Printed}
-use Rattle.text_print.specs.Inner.{pairText}
+use Rattle.text_print.specs.Prints.{placeRead, Put}
+use Rattle.text_print.specs.Inner.{Printed, pairText}
 
 sets-append : (vs ws l : List ℕ) (i : ℕ) → sets l i (vs ++ ws) ≡ sets (sets l i vs) (i + length vs) ws
 sets-append [] ws l i = rw add-zero

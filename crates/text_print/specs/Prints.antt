@@ -6,7 +6,6 @@ use mathlib.Core.List.{List, _++_}
 use Prim.Native.Nat.{ℕ, _+_}
 use lib.Dec.{leb}
 use lib.ListN.{length, take, drop}
-use lib.Seq.{sets}
 use Rattle.text_print.specs.declared.lines.Place.{Place}
 use Rattle.text_print.specs.declared.lines.Place.the-variants as places
 
@@ -19,8 +18,3 @@ placeRead places.Short = none
 pub record Put (out : List ℕ) (at : ℕ) (bytes : List ℕ) (place : Place) (out′ : List ℕ) : Type 0 where
   pub answer : placeRead place ≡ cond (leb (at + length bytes) (length out)) (some (at + length bytes)) none
   pub space : out′ ≡ cond (leb (at + length bytes) (length out)) (take at out ++ (bytes ++ drop (at + length bytes) out)) out
-
--- What was written at a place: the bytes `done`, and the place after them.
-pub record Printed (first : List ℕ) (at : ℕ) (done now : List ℕ) (end : ℕ) : Type 0 where
-  pub same : now ≡ sets first at done
-  pub end-is : end ≡ at + length done

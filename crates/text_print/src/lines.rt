@@ -9,9 +9,9 @@ ghost use Rattle.text_theory.specs.Decimal.{digits};
 ghost use Rattle.text_theory.specs.Files.{blank, closed, each, pixelText, kindText, headText, rowText, mapText};
 ghost use Rattle.pictures.specs.Pictures.{channelsOf};
 ghost use Rattle.grids.specs.Rows.{rowsOf, rowAt};
-ghost use Rattle.text_print.specs.Prints.{Put, Printed};
+ghost use Rattle.text_print.specs.Prints.{Put};
+ghost use Rattle.text_print.specs.Inner.{Printed, pairText, PixelNeeded, PixelsNeeded};
 ghost use Rattle.text_lengths.specs.Rooms.{pixelsOf};
-ghost use Rattle.text_print.specs.Inner.{pairText, PixelNeeded, PixelsNeeded};
 
 // The place after what was printed; or the space is too short, and nothing was printed.
 pub enum Place {
