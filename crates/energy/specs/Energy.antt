@@ -21,7 +21,7 @@ difference [] q = 0
 difference (a ∷ p) [] = 0
 difference (a ∷ p) (b ∷ q) = apart a b + difference p q
 
--- "|right neighbour - it| + |lower neighbour - it|. The channels are added."
+-- "|right neighbour − it| + |lower neighbour − it|. [..] The channels are added."
 unfoldable pub energy : Picture → ℕ → ℕ → ℕ
 energy p r c = difference (pixel p r (c + 1)) (pixel p r c) + difference (pixel p (r + 1) c) (pixel p r c)
 

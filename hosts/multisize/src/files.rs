@@ -2,12 +2,12 @@
 
 use crate::archive;
 use crate::carver::Carver;
-use crate::picture::{Kind, Picture, Size};
+use crate::picture::{Kind, Picture, Size, LARGEST_SIDE};
 use crate::refusal::Refusal;
 use std::ops::RangeInclusive;
 
 /// The most pixels of a picture in a file.
-const MOST_PIXELS: usize = 512 * 512;
+const MOST_PIXELS: usize = LARGEST_SIDE * LARGEST_SIDE;
 
 /// How much narrower and wider than its picture a file can be shown.
 #[derive(Clone, Copy, Debug, PartialEq, Eq)]
@@ -94,7 +94,7 @@ impl Carver {
     ///
     /// # Errors
     ///
-    /// Refused by 3 for a picture wider than 512, and by 6 where depth or growth
+    /// Refused by 3 for a picture wider than [`LARGEST_SIDE`], and by 6 where depth or growth
     /// isn't allowed.
     ///
     /// ```

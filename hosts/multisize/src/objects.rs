@@ -65,7 +65,7 @@ impl Carver {
     ///
     /// # Errors
     ///
-    /// Refused by 3 for a picture wider than 512, by 4 unless there is one mark
+    /// Refused by 3 for a picture wider than [`LARGEST_SIDE`](crate::LARGEST_SIDE), by 4 unless there is one mark
     /// a pixel, and by 5 for a mark over 2. Picture and marks are then
     /// unchanged. A blocked removal isn't refused: that is an ending.
     ///

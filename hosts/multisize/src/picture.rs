@@ -3,6 +3,9 @@
 use crate::archive;
 use crate::refusal::Refusal;
 
+/// The largest width and the largest height of a picture.
+pub const LARGEST_SIDE: usize = 512;
+
 /// One byte a pixel, or three with red first. Further kinds may follow.
 #[derive(Clone, Copy, Debug, PartialEq, Eq, Hash)]
 #[non_exhaustive]
@@ -83,7 +86,7 @@ impl Size {
 
 /// A picture. Rows run from the top, pixels from the left, without padding.
 ///
-/// Each side is 1 to 512; only a picture that a file shows may be wider, and
+/// Each side is 1 to [`LARGEST_SIDE`]; only a picture that a file shows may be wider, and
 /// the operations refuse it by 3.
 #[derive(Clone, Debug, PartialEq, Eq)]
 pub struct Picture {
@@ -171,7 +174,7 @@ impl Picture {
     ///
     /// # Errors
     ///
-    /// Refused by 3 for a picture wider than 512, and by 4 where there is no
+    /// Refused by 3 for a picture wider than [`LARGEST_SIDE`], and by 4 where there is no
     /// such row.
     ///
     /// ```

@@ -19,7 +19,7 @@ pub enum Refusal {
     Form = 1,
     /// 2: width or height 0.
     Empty,
-    /// 3: width or height over 512.
+    /// 3: width or height over [`LARGEST_SIDE`](crate::LARGEST_SIDE).
     Large,
     /// 4: a length or a count isn't what the size says.
     Length,
@@ -128,5 +128,11 @@ mod tests {
         assert_eq!(numbers, (1..=13).collect::<Vec<u8>>());
         assert_eq!(Refusal::numbered(0), None);
         assert_eq!(Refusal::numbered(u64::MAX), None);
+    }
+
+    #[test]
+    fn words_name_the_limit() {
+        let limit = crate::LARGEST_SIDE.to_string();
+        assert!(Refusal::Large.meaning().ends_with(&limit));
     }
 }

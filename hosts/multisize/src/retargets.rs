@@ -28,7 +28,7 @@ impl Carver {
     ///
     /// # Errors
     ///
-    /// Refused by 3 for a picture wider than 512, and by 7 where either count is
+    /// Refused by 3 for a picture wider than [`LARGEST_SIDE`](crate::LARGEST_SIDE), and by 7 where either count is
     /// over 64 or no row or column would be left.
     ///
     /// ```

@@ -54,7 +54,7 @@ impl Carver {
     ///
     /// # Errors
     ///
-    /// Refused by 3 for a picture wider than 512.
+    /// Refused by 3 for a picture wider than [`LARGEST_SIDE`](crate::LARGEST_SIDE).
     ///
     /// ```
     /// use multisize::{Axis, Carver, Picture, Size};
@@ -104,7 +104,7 @@ impl Carver {
     ///
     /// # Errors
     ///
-    /// Refused by 3 for a picture wider than 512, by 4 unless there is one mark
+    /// Refused by 3 for a picture wider than [`LARGEST_SIDE`](crate::LARGEST_SIDE), by 4 unless there is one mark
     /// a pixel, by 5 for a mark over 2, and by 12 where every seam meets a
     /// protected pixel.
     ///
