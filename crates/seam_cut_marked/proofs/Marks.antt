@@ -1,6 +1,6 @@
 -- Marks moved as a grey picture: what is done to its bytes is done to the rows of marks.
 use mathlib.Core.Path.{_≡_, refl, sym, ap, ap₂, _∙_}
-use mathlib.Core.List.{List, [], _++_, map, append-nil, append-assoc}
+use mathlib.Core.List.{List, [], _∷_, _++_, map, append-nil, append-assoc}
 use Prim.Native.Nat.{ℕ, _-_, _*_, _≤_}
 use native.Mathlib.Nat.{mul-one, le-of-eq}
 use lib.ListN.{length, take, drop}
