@@ -1,5 +1,5 @@
 pub mod Lengths
 pub mod Header
-pub mod Ascending
+pub mod Smallest
 pub mod Files
 pub mod Carved
