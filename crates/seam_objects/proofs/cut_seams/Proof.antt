@@ -37,7 +37,7 @@ few : (h : tie.At-loop Inv-loop μ-loop) → start h .args .size .height * h .lo
 few h =
     let g = going h in
     let w : h .loop .width ≤ mostSide = omega (arith, g .sum, g .sides .width-small) in
-    mul-le-mul (g .sides .height-most) w
+    mul-le-mul (g .sides .height-small) w
 
 -- whether a mark 2 was found
 found : (c : tie.After-some-two Inv-loop μ-loop) → let h = c .before .before in let a = start h .args in c .some-two .result ≡ toRemove (carved (h .loop .count) (markedPicture (a .size) (now (a .picture)) (now (a .marks))))
