@@ -9,4 +9,5 @@ pub mod Smallest
 pub mod Pixels
 pub mod Built
 pub mod Lent
+pub mod Returned
 pub mod Demands
