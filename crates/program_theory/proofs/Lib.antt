@@ -3,3 +3,4 @@ pub mod Header
 pub mod Smallest
 pub mod Files
 pub mod Carved
+pub mod Fitted
