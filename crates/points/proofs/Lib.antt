@@ -1,2 +1,3 @@
 pub mod Points
 pub mod Cuts
+pub mod AnyPicture
