@@ -8,7 +8,8 @@ use Prim.Native.Nat.{ℕ, _+_, _-_, _≤_, _<_}
 use native.Mathlib.Omega.{arith}
 use lib.ListN.{getD}
 use Rattle.pictures.specs.declared.sizes.Size.{Size}
-use Rattle.pictures.specs.Pictures.{Picture}
+use Rattle.grids.proofs.Shapes.{each-weaken}
+use Rattle.pictures.specs.Pictures.{Picture, OfSize}
 use Rattle.map_theory.specs.Maps.{carve, mapOf}
 use Rattle.map_theory.specs.Widths.{allowed, offered, growRow, shown, LeftOut}
 use Rattle.map_theory.proofs.Shown.{allowed-is, offered-is, shown-carve}
@@ -96,6 +97,13 @@ shows-some f a v o =
       width = refl;
       pixels = built-pixels x v o;
     }
+
+-- of its size, so that its bytes are those of a lent picture;
+pub shown-ofSize : (f : List ℕ) → Accepted f → (v : ℕ) → offers f v ≡ true → (a : Drawn) → shows f v ≡ some a → OfSize (a .size) (a .rows)
+shown-ofSize f h v o a s =
+    let d = shows-some f h v o in
+    let e : a ≡ d .drawn = Option·some-injective _ _ (sym s ∙ d .shown) in
+    rw (e, d .width) (each-weaken (λ row g. each-weaken (λ px q. q .count) g) (d .pixels))
 
 -- all of them of one height and one kind;
 pub shows-alike : (f : List ℕ) (v u : ℕ) (a b : Drawn) → shows f v ≡ some a → shows f u ≡ some b → (a .size .height ≡ b .size .height) × (a .size .kind ≡ b .size .kind)

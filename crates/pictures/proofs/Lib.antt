@@ -1,3 +1,4 @@
 pub mod Rules
 pub mod Limits
 pub mod Buffers
+pub mod Smallest
