@@ -1,19 +1,19 @@
 -- Points marked P that hold of more than the picture which the table takes: of any samples, either kind, any height.
-use mathlib.Core.Path.{_≡_, refl, ap, _∙_}
+use mathlib.Core.Path.{_≡_, refl, ap}
 use mathlib.Core.Logic.{_⊎_, inl, inr}
 use mathlib.Core.Bool.{true}
 use mathlib.Core.Option.{Option·getD}
-use mathlib.Core.List.{List, [], _∷_, map, zipWith, flatMap, reverse}
+use mathlib.Core.List.{List, [], _∷_, zipWith, flatMap, reverse}
 use Prim.Native.Nat.{ℕ, zero, suc, _+_, _<_}
 use native.Mathlib.Omega.{arith}
-use lib.ListN.{length, getD}
+use lib.ListN.{length}
 use Rattle.grids.specs.Cut.{removeAt, cut}
 use Rattle.pictures.specs.declared.sizes.Kind.{Kind}
 use Rattle.pictures.specs.declared.sizes.Kind.the-variants.{Grey, Rgb}
 use Rattle.pictures.specs.declared.sizes.Size.{Size}
 use Rattle.pictures.specs.Refusals.{refusal}
 use Rattle.pictures.specs.Pictures.{Picture, channelsOf, sizeRules, picture, pixel}
-use Rattle.energy.specs.Energy.{apart, difference, energy, energies}
+use Rattle.energy.specs.Energy.{difference, energy, energies}
 use Rattle.seam_theory.specs.Best.{better, firstBest}
 use Rattle.seam_theory.specs.Paths.{run, select, pathsUp, paths, cost, beside, nearby}
 use Rattle.seam_theory.specs.Seams.{cheapest}
@@ -22,7 +22,6 @@ use Rattle.seam_rules.specs.Answers.{spent}
 use Rattle.seam_objects.specs.Objects.{MarkedPicture, toRemove, ends, removal}
 use Rattle.map_theory.specs.Maps.{numberRow, number, mapOf}
 use Rattle.map_theory.specs.Widths.{allowed}
-use Rattle.text_theory.specs.declared.Head.{Head}
 use Rattle.text_theory.specs.Files.{All}
 use Rattle.file_theory.specs.Contents.{partsOf, fileOf}
 use Rattle.file_theory.specs.Shows.{Accepted}

@@ -2,14 +2,14 @@
 -- of the operation `cut`.
 use mathlib.Core.Path.{_≡_, refl, sym, ap, _∙_}
 use mathlib.Core.Option.{some, Option·some-injective}
-use mathlib.Core.List.{List, [], _∷_, _++_}
+use mathlib.Core.List.{List, _++_}
 use Prim.Native.Nat.{ℕ, suc, _-_, _*_, _≤_, _<_}
 use native.Mathlib.Omega.{arith}
 use lib.ListN.{length, replicate}
 use borrow.Author.Tests.{le-ltb, ne-eqb}
 use Rattle.pictures.specs.declared.sizes.Size.{Size}
 use Rattle.pictures.specs.Refusals.{refusal}
-use Rattle.pictures.specs.Pictures.{Picture, OfSize, channelsOf, pictureBytes, sideRules, sizeRules, workBytes, bytes}
+use Rattle.pictures.specs.Pictures.{Picture, OfSize, channelsOf, sideRules, sizeRules, workBytes, bytes}
 use Rattle.pictures.proofs.Rules.{served-first}
 use Rattle.pictures.proofs.Limits.{sides-are, sides-of, sized-served}
 use Rattle.pictures.proofs.Buffers.{picture-bytes, length-bytes}
