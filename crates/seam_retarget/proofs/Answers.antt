@@ -22,11 +22,11 @@ use Rattle.seam_moves.specs.Between.{partAt}
 use Rattle.seam_moves.proofs.Places.{length-part}
 use Rattle.seam_rules.specs.declared.answers.Rows.{Rows}
 use Rattle.seam_rules.specs.declared.answers.Columns.{Columns}
-use Rattle.seam_rules.specs.Counts.{smaller, leftSize, retargetBytes, retargetRules}
+use Rattle.seam_rules.specs.Counts.{rowCount, smaller, leftSize, retargetBytes, retargetRules}
 use Rattle.seam_retarget.specs.Retargeting.{cellOf}
 use Rattle.seam_retarget.specs.Inner.Seams.{pictureAt}
 use Rattle.seam_retarget.specs.Inner.Cells.{SpaceNeeded}
-use Rattle.seam_retarget.specs.Inner.Table.{rowCount, held, firstRow, tableRow, RowNeeded, RowGiven}
+use Rattle.seam_retarget.specs.Inner.Table.{held, firstRow, tableRow, RowNeeded, RowGiven}
 use Rattle.seam_retarget.specs.Inner.Retargets.{RetargetNeeded, LastGiven}
 use Rattle.seam_retarget.proofs.Numbered.{cellAt, cell-numbers}
 use Rattle.seam_retarget.proofs.Slots.{smaller-few}

@@ -12,9 +12,9 @@ use Rattle.pictures.specs.Pictures.{picture}
 use Rattle.seam_moves.specs.Between.{partAt}
 use Rattle.seam_rules.specs.declared.answers.Axis.the-variants.{Vertical, Horizontal}
 use Rattle.seam_retarget.specs.Cells.{Cell, bySeam, chosen}
-use Rattle.seam_rules.specs.Counts.{smaller}
+use Rattle.seam_rules.specs.Counts.{rowCount, columnCount, smaller}
 use Rattle.seam_retarget.specs.Inner.Seams.{pictureAt, StepNeeded, StepGiven}
-use Rattle.seam_retarget.specs.Inner.Table.{rowCount, columnCount, largestTotal, held, alongRow, nextRow, rowBelow, RowNeeded, RowGiven, MoreTotals}
+use Rattle.seam_retarget.specs.Inner.Table.{largestTotal, held, alongRow, nextRow, rowBelow, RowNeeded, RowGiven, MoreTotals}
 use Rattle.seam_retarget.specs.Inner.Cells.{CellNeeded, CellGiven}
 use Rattle.seam_rules.proofs.Left.{smaller-sides}
 use Rattle.seam_retarget.proofs.Slots.{less-row, same-picture, placed-horizontal}

@@ -7,7 +7,7 @@ use Rattle.seam_rules.specs.declared.answers.Axis.the-variants.{Vertical, Horiz
 use Rattle.seam_rules.specs.declared.answers.Rows.{Rows}
 use Rattle.seam_rules.specs.declared.answers.Columns.{Columns}
 use Rattle.seam_rules.specs.Counts.{smaller, leftSize}
-use Rattle.seam_retarget.specs.Cells.{Cell, bySeam, chosen, rowsIn, columnsIn, cellAfter, manyRows, manyColumns, cell}
+use Rattle.seam_retarget.specs.Cells.{Cell, bySeam, chosen, asRows, asColumns, cellAfter, manyRows, manyColumns, cell}
 
 unfoldable pub cellAt : Size → Picture → ℕ → ℕ → Cell
 cellAt z p zero zero = record { picture = p; total = 0 }
@@ -19,15 +19,15 @@ cellAt z p (suc r) (suc c) =
     (bySeam Horizontal (smaller z r (suc c)) (cellAt z p r (suc c)))
 
 -- So many rows are so many, and columns alike.
-rows-in : (r : ℕ) → rowsIn (manyRows r) .0 ≡ r
+rows-in : (r : ℕ) → asRows (manyRows r) .0 ≡ r
 rows-in zero = refl
 rows-in (suc r) = ap suc (rows-in r)
 
-columns-in : (c : ℕ) → columnsIn (manyColumns c) .0 ≡ c
+columns-in : (c : ℕ) → asColumns (manyColumns c) .0 ≡ c
 columns-in zero = refl
 columns-in (suc c) = ap suc (columns-in c)
 
-size-in : (z : Size) (r c : ℕ) → leftSize z (rowsIn (manyRows r)) (columnsIn (manyColumns c)) ≡ smaller z r c
+size-in : (z : Size) (r c : ℕ) → leftSize z (asRows (manyRows r)) (asColumns (manyColumns c)) ≡ smaller z r c
 size-in z r c = ap₂ (smaller z) (rows-in r) (columns-in c)
 
 after-numbers : (z : Size) (p : Picture) (r c : ℕ) → cellAfter z p (manyRows r) (manyColumns c) ≡ cellAt z p r c

@@ -16,10 +16,10 @@ use Rattle.seam_moves.specs.Between.{partAt}
 use Rattle.seam_rules.specs.declared.answers.Axis.{Axis}
 use Rattle.seam_rules.specs.declared.answers.Axis.the-variants.{Vertical, Horizontal}
 use Rattle.seam_retarget.specs.Cells.{Cell, bySeam, chosen}
-use Rattle.seam_rules.specs.Counts.{smaller}
+use Rattle.seam_rules.specs.Counts.{rowCount, columnCount, smaller}
 use Rattle.seam_retarget.specs.Inner.Seams.{pictureAt, leftAlong, StepNeeded, StepGiven}
 use Rattle.seam_retarget.specs.Inner.Cells.{SpaceNeeded}
-use Rattle.seam_retarget.specs.Inner.Table.{rowCount, columnCount, held, firstRow, alongRow, nextRow, rowBelow, RowNeeded, RowGiven}
+use Rattle.seam_retarget.specs.Inner.Table.{held, firstRow, alongRow, nextRow, rowBelow, RowNeeded, RowGiven}
 use Rattle.seam_retarget.proofs.Numbered.{cellAt}
 use Rattle.seam_retarget.proofs.Slots.{smaller-few, less-column, same-picture, slots-apart, placed-vertical}
 use Rattle.seam_rules.proofs.Left.{smaller-sides}

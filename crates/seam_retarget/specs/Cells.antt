@@ -8,7 +8,7 @@ use Rattle.seam_rules.specs.declared.answers.Axis.{Axis}
 use Rattle.seam_rules.specs.declared.answers.Axis.the-variants.{Vertical, Horizontal}
 use Rattle.seam_rules.specs.declared.answers.Rows.{Rows}
 use Rattle.seam_rules.specs.declared.answers.Columns.{Columns}
-use Rattle.seam_rules.specs.Counts.{leftSize}
+use Rattle.seam_rules.specs.Counts.{rowCount, columnCount, leftSize}
 use Rattle.seam_cut.specs.Axes.{seamAlong, costAlong}
 use Rattle.seam_turn.specs.Axes.{cutAlong}
 
@@ -40,26 +40,26 @@ pub data ColumnsRemoved : Type 0 where
   columnAfter : ColumnsRemoved → ColumnsRemoved
 
 -- How many they are.
-abbrev pub rowsIn : RowsRemoved → Rows
-rowsIn noRows = record { 0 = 0 }
-rowsIn (rowAfter r) = record { 0 = suc (rowsIn r .0) }
+abbrev pub asRows : RowsRemoved → Rows
+asRows noRows = rowCount 0
+asRows (rowAfter r) = rowCount (suc (asRows r .0))
 
-abbrev pub columnsIn : ColumnsRemoved → Columns
-columnsIn noColumns = record { 0 = 0 }
-columnsIn (columnAfter c) = record { 0 = suc (columnsIn c .0) }
+abbrev pub asColumns : ColumnsRemoved → Columns
+asColumns noColumns = columnCount 0
+asColumns (columnAfter c) = columnCount (suc (asColumns c .0))
 
 -- "Cell (0,0) is the picture with total 0. Cell (r,c) comes either from (r-1,c) by its horizontal seam or from (r,c-1) by its
 -- vertical seam." On the table's edge there is one way only.
 unfoldable pub cellAfter : Size → Picture → RowsRemoved → ColumnsRemoved → Cell
 cellAfter z p noRows noColumns = record { picture = p; total = 0 }
-cellAfter z p noRows (columnAfter c) = bySeam Vertical (leftSize z (rowsIn noRows) (columnsIn c)) (cellAfter z p noRows c)
-cellAfter z p (rowAfter r) noColumns = bySeam Horizontal (leftSize z (rowsIn r) (columnsIn noColumns)) (cellAfter z p r noColumns)
+cellAfter z p noRows (columnAfter c) = bySeam Vertical (leftSize z (asRows noRows) (asColumns c)) (cellAfter z p noRows c)
+cellAfter z p (rowAfter r) noColumns = bySeam Horizontal (leftSize z (asRows r) (asColumns noColumns)) (cellAfter z p r noColumns)
 cellAfter z p (rowAfter r) (columnAfter c) =
     chosen
-    (bySeam Vertical (leftSize z (rowsIn (rowAfter r)) (columnsIn c)) (cellAfter z p (rowAfter r) c))
-    (bySeam Horizontal (leftSize z (rowsIn r) (columnsIn (columnAfter c))) (cellAfter z p r (columnAfter c)))
+    (bySeam Vertical (leftSize z (asRows (rowAfter r)) (asColumns c)) (cellAfter z p (rowAfter r) c))
+    (bySeam Horizontal (leftSize z (asRows r) (asColumns (columnAfter c))) (cellAfter z p r (columnAfter c)))
 
--- So many rows and columns removed, and the cell of two counts.
+-- n rows removed, n columns removed, and the cell of two counts.
 abbrev pub manyRows : ℕ → RowsRemoved
 manyRows zero = noRows
 manyRows (suc n) = rowAfter (manyRows n)

@@ -9,8 +9,9 @@ use seam_rules::Axis;
 use seam_rules::Columns;
 use seam_rules::Rows;
 use seam_rules::smaller;
+ghost use Rattle.seam_rules.specs.Counts.{rowCount};
 ghost use Rattle.seam_retarget.specs.Inner.Cells.{rowMore};
-ghost use Rattle.seam_retarget.specs.Inner.Table.{rowCount, held, firstRow, alongRow, nextRow, tableRow, RowNeeded, RowGiven, NoTotals, Totals, MoreTotals};
+ghost use Rattle.seam_retarget.specs.Inner.Table.{held, firstRow, alongRow, nextRow, tableRow, RowNeeded, RowGiven, NoTotals, Totals, MoreTotals};
 
 // Row 0, from the picture in slot 0.
 pub(crate) fn first_row(

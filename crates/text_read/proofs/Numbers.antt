@@ -21,7 +21,7 @@ use Rattle.text_read.specs.declared.words.KindRead.the-variants.{Named, 
 use Rattle.text_read.specs.declared.heads.HeadRead.{HeadRead}
 use Rattle.text_read.specs.declared.heads.HeadRead.the-variants.{Begun, Unbegun}
 use Rattle.text_read.specs.Answers.{given, Told, Written, numeral, name, counted, read, kindRead, wordRead, headRead}
-use Rattle.text_read.specs.Numbers.{missing, readNumber, kindNumber, wordNumber, headNumber, unread, readerRules, lineNumber, lineLength, lineRules}
+use Rattle.text_read.specs.Numbers.{missing, readNumber, kindReadNumber, wordNumber, headReadNumber, unread, readerRules, lineNumber, lineLength, lineRules}
 use Rattle.text_read.specs.Lines.{fitting, Taken}
 
 -- What is found is missing just where the reader gives none.
@@ -40,7 +40,7 @@ pub read-number : (get : Get ℕ) (text : List ℕ) (at : ℕ) (r : Read) → To
 read-number get text at (reads.Good n c) t = told-number get text at (some (n, c .at)) t
 read-number get text at reads.Broken t = told-number get text at none t
 
-pub kind-number : (get : Get Kind) (text : List ℕ) (at : ℕ) (r : KindRead) → Told get text at (kindRead r) → kindNumber r ≡ refusal (readerRules get text at)
+pub kind-number : (get : Get Kind) (text : List ℕ) (at : ℕ) (r : KindRead) → Told get text at (kindRead r) → kindReadNumber r ≡ refusal (readerRules get text at)
 kind-number get text at (Named k c) t = told-number get text at (some (k, c .at)) t
 kind-number get text at Unnamed t = told-number get text at none t
 
@@ -49,7 +49,7 @@ word-number get text at (words.Number n c) t = told-number get text at (some (nu
 word-number get text at (words.Name k c) t = told-number get text at (some (name k, c .at)) t
 word-number get text at words.Broken t = told-number get text at none t
 
-pub head-number : (get : Get Head) (text : List ℕ) (at : ℕ) (r : HeadRead) → Told get text at (headRead r) → headNumber r ≡ refusal (readerRules get text at)
+pub head-number : (get : Get Head) (text : List ℕ) (at : ℕ) (r : HeadRead) → Told get text at (headRead r) → headReadNumber r ≡ refusal (readerRules get text at)
 head-number get text at (Begun h c) t = told-number get text at (some (h, c .at)) t
 head-number get text at Unbegun t = told-number get text at none t
 

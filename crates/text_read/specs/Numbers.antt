@@ -20,18 +20,18 @@ abbrev pub readNumber : Read → ℕ
 readNumber (reads.Good n c) = 0
 readNumber reads.Broken = 1
 
-abbrev pub kindNumber : KindRead → ℕ
-kindNumber (Named k c) = 0
-kindNumber Unnamed = 1
+abbrev pub kindReadNumber : KindRead → ℕ
+kindReadNumber (Named k c) = 0
+kindReadNumber Unnamed = 1
 
 abbrev pub wordNumber : Word → ℕ
 wordNumber (words.Number n c) = 0
 wordNumber (words.Name k c) = 0
 wordNumber words.Broken = 1
 
-abbrev pub headNumber : HeadRead → ℕ
-headNumber (Begun h c) = 0
-headNumber Unbegun = 1
+abbrev pub headReadNumber : HeadRead → ℕ
+headReadNumber (Begun h c) = 0
+headReadNumber Unbegun = 1
 
 -- The number of what is found at a place: the same of every reader.
 abbrev pub missing : {A : Type 0} → Option (A × ℕ) → ℕ

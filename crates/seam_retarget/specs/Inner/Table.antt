@@ -10,16 +10,9 @@ use Rattle.seam_rules.specs.declared.answers.Axis.the-variants.{Vertical, Horiz
 use Rattle.seam_retarget.specs.Cells.{Cell, bySeam, chosen}
 use Rattle.seam_rules.specs.declared.answers.Rows.{Rows}
 use Rattle.seam_rules.specs.declared.answers.Columns.{Columns}
-use Rattle.seam_rules.specs.Counts.{leftSize}
+use Rattle.seam_rules.specs.Counts.{rowCount, columnCount, leftSize}
 use Rattle.seam_retarget.specs.Inner.Seams.{pictureAt}
 use Rattle.seam_retarget.specs.Inner.Cells.{slots, slotAt, SpaceNeeded}
-
--- A count of rows, and a count of columns.
-abbrev pub rowCount : ℕ → Rows
-rowCount n = record { 0 = n }
-
-abbrev pub columnCount : ℕ → Columns
-columnCount n = record { 0 = n }
 
 -- The cell of this row of the table that stands in slot j, with its total: j columns are removed from it.
 abbrev pub held : Size → ℕ → Rows → List ℕ → List ℕ → ℕ → Cell

@@ -3,7 +3,8 @@ use mathlib.Core.Path.{_≡_, sym, _∙_}
 use Prim.Native.Nat.{_-_, _≤_}
 use native.Mathlib.Omega.{arith}
 use denote.Ref.{now}
-use Rattle.seam_retarget.specs.Inner.Table.{rowCount, held, tableRow, RowGiven}
+use Rattle.seam_rules.specs.Counts.{rowCount}
+use Rattle.seam_retarget.specs.Inner.Table.{held, tableRow, RowGiven}
 use Rattle.seam_retarget.proofs.Below.{below-start, below-turn}
 use Rattle.seam_retarget.proofs.table.rows_below.Statement.{statement}
 use Rattle.seam_retarget.proofs.table.rows_below.Tie as tie
