@@ -27,7 +27,7 @@ static void full_file(void) { by_file(WIDTH - 1, WIDTH / 2); }
 
 static void file_of_that_depth(void) { by_file(WIDTH - WANTED, 0); }
 
-// No file: so many seams are cut one after the other.
+// No file: WIDTH - WANTED seams are cut one after the other.
 static void cuts(void) {
     uint16_t seam[HEIGHT];
     memcpy(out, picture, BYTES);

@@ -3,15 +3,15 @@
 // What is said here is the contract that crates/exports proves of each function, for all inputs, in words. That these
 // declarations match the archive is tested (examples/test). No function allocates or keeps anything between calls.
 //
-// A buffer is a pointer and the number of its elements. It must be valid for so many elements, also where there are
+// A buffer is a pointer and the number of its elements. It must be valid for that many elements, also where there are
 // none, and no two buffers of a call may overlap. All else the functions judge themselves: any number may be passed.
 //
-// A picture has width and height 1 to 512 and a kind. Rows run from the top, pixels from the left, without padding, and
-// its buffer has exactly the bytes that the size says (multisize_picture_bytes). Marks have one byte a pixel. Output
-// spaces and work spaces may be longer than needed.
+// A picture has width and height 1 to MULTISIZE_LARGEST_SIDE and a kind. Rows run from the top, pixels from the left,
+// without padding, and its buffer has exactly the bytes that the size says (multisize_picture_bytes). Marks have one byte
+// a pixel. Output spaces and work spaces may be longer than needed.
 //
 // What stands in the buffers after a call, by the number that it gives:
-//   0        served: the answer stands at the front of each output space, what lies behind it keeps its elements; the
+//   0        served: the answer stands at the front of each output space, what lies after it keeps its elements; the
 //            work space is zero, all of it
 //   1 to 8   all buffers are unchanged
 //   9 to 13  pictures, marks and output spaces are unchanged; the work space is zero, all of it
@@ -46,77 +46,80 @@ typedef struct multisize_size_answer {
     uint64_t number, width, height, kind;
 } multisize_size_answer;
 
-// The energies of a row: |right neighbour - it| + |lower neighbour - it|, the channels added, nothing past the edge. Gives
-// the number; out then begins with one energy for each column.
+// Works out the energies of a row: |right neighbour - it| + |lower neighbour - it|, the channels added, nothing past the
+// edge. Writes one for each column to the front of out and returns the number.
 // Refused by 1, 2, 3, 4 (also a row not below the height), 8 (out shorter than the width).
 uint64_t multisize_energies(const uint8_t *picture, size_t picture_length, size_t width, size_t height, uint8_t kind,
                             size_t row, uint32_t *out, size_t out_length);
 
-// A row copied to the front of out; the value is its bytes. They are none, and not refused, where there is no such row or
-// where 2, 3 or 4 would refuse the picture. Refused by 1, 8 (out shorter than the row).
+// Copies a row to the front of out and returns the number of its bytes. It has none, and isn't refused, where there is no
+// such row or where 2, 3 or 4 would refuse the picture. Refused by 1, 8 (out shorter than the row).
 multisize_answer multisize_row(const uint8_t *picture, size_t picture_length, size_t width, size_t height, uint8_t kind,
                                size_t row, uint8_t *out, size_t out_length);
 
-// The cheapest seam along the axis; among equals the one whose columns, read from the bottom row upward, come first in
-// dictionary order (of a horizontal seam the rows, read from the right). The value is its cost, the sum of its energies.
-// seam then begins with its columns from the top row, or its rows from the left column (multisize_seam_length).
+// Finds the cheapest seam along the axis; among equals the one whose columns, read from the bottom row upward, come first
+// in dictionary order (of a horizontal seam the rows, read from the right). Writes its columns from the top row, or its
+// rows from the left column, to the front of seam (multisize_seam_length) and returns its cost, the sum of its energies.
 // Refused by 1, 2, 3, 4, 8 (seam too short, work under multisize_work_bytes).
 multisize_answer multisize_find(const uint8_t *picture, size_t picture_length, size_t width, size_t height, uint8_t kind,
                                 uint8_t axis, uint16_t *seam, size_t seam_length, uint8_t *work, size_t work_length);
 
-// The seam that multisize_find gives, cut out. The picture left, one column or row smaller, lies packed at the front of
-// picture, and the bytes freed at its end are 0. Refused as multisize_find, and by 13 at the last column or row.
+// Cuts out the seam that multisize_find gives, and writes and returns what that does. The picture left, one column or row
+// smaller, lies packed at the front of picture, and the bytes freed at its end are 0.
+// Refused as multisize_find, and by 13 at the last column or row.
 multisize_answer multisize_cut(uint8_t *picture, size_t picture_length, size_t width, size_t height, uint8_t kind,
                                uint8_t axis, uint16_t *seam, size_t seam_length, uint8_t *work, size_t work_length);
 
-// The seam by marks: it touches no protected pixel; among those left it has the most pixels marked 2, then the least
-// cost, then it is the first as above. Value and seam as multisize_find.
+// Finds the seam by marks: it touches no protected pixel; among those left it has the most pixels marked 2, then the least
+// cost, then it is the first as above. Writes and returns what multisize_find does.
 // Refused by 1, 2, 3, 4 (picture or marks), 5, 8 as multisize_find, 12.
 multisize_answer multisize_find_marked(const uint8_t *picture, size_t picture_length, const uint8_t *marks,
                                        size_t marks_length, size_t width, size_t height, uint8_t kind, uint8_t axis,
                                        uint16_t *seam, size_t seam_length, uint8_t *work, size_t work_length);
 
-// The seam that multisize_find_marked gives, cut out of the picture and of the marks alike; both are left packed as by
-// multisize_cut. Refused as multisize_find_marked, and by 13 at the last column or row.
+// Cuts the seam that multisize_find_marked gives out of the picture and of the marks alike, and writes and returns what
+// that does; both are left packed as by multisize_cut.
+// Refused as multisize_find_marked, and by 13 at the last column or row.
 multisize_answer multisize_cut_marked(uint8_t *picture, size_t picture_length, uint8_t *marks, size_t marks_length,
                                       size_t width, size_t height, uint8_t kind, uint8_t axis, uint16_t *seam,
                                       size_t seam_length, uint8_t *work, size_t work_length);
 
-// Object removal: vertical seams by marks are cut, at most budget of them, until one of the endings. Picture and marks
-// are left packed as after that many cuts, count columns narrower, and the freed bytes are 0.
+// Removes marked objects: cuts vertical seams by marks, at most budget of them, until one of the endings, and returns the
+// ending and the number of cuts. Picture and marks are left packed as after that many cuts, and the freed bytes are 0.
 // Refused by 1, 2, 3, 4 (picture or marks), 5, 8 (work under multisize_work_bytes). Blocked is an ending, no refusal.
 multisize_ended multisize_remove(uint8_t *picture, size_t picture_length, uint8_t *marks, size_t marks_length,
                                  size_t width, size_t height, uint8_t kind, uint16_t budget, uint8_t *work,
                                  size_t work_length);
 
-// Retargeting: rows and columns removed, each 0 to 64. Of every number of rows and columns less one picture is kept: the
-// one with the smaller total, on a tie the one by the vertical cut. The value is the total of its seams' costs; out then
-// begins with the picture left (multisize_retarget_bytes).
+// Removes rows and columns, each 0 to MULTISIZE_LARGEST_COUNT. Of every number of rows and columns less one picture is
+// kept: the one with the smaller total, on a tie the one by the vertical cut. Writes the picture left to the front of out
+// (multisize_retarget_bytes) and returns the total of its seams' costs; the lent picture stays as it was.
 // Refused by 1, 2, 3, 4, 7, 8 (out too short, work under multisize_retarget_work_bytes).
 multisize_answer multisize_retarget(const uint8_t *picture, size_t picture_length, size_t width, size_t height,
                                     uint8_t kind, size_t rows, size_t columns, uint8_t *out, size_t out_length,
                                     uint8_t *work, size_t work_length);
 
-// The multi-size file of a picture, with its map of depth seams and room to grow by growth columns. Allowed: depth up to
-// width - 1, growth up to the depth and up to half the width. The value is the file's bytes; out then begins with its
-// text. multisize_file_bytes is always enough, and 8 is decided by the file's own length.
+// Builds the multi-size file of a picture, with its map of depth seams and room to grow by growth columns, writes its text
+// to the front of out and returns its length. Allowed: depth up to width - 1, growth up to the depth and up to half the
+// width. multisize_file_bytes is always enough, and 8 is decided by the file's own length.
 // Refused by 1, 2, 3, 4, 6, 8 (out shorter than the file, work under multisize_work_bytes).
 multisize_answer multisize_build(const uint8_t *picture, size_t picture_length, size_t width, size_t height, uint8_t kind,
                                  size_t depth, size_t growth, uint8_t *out, size_t out_length, uint8_t *work,
                                  size_t work_length);
 
-// Checks a file: any bytes. Accepted are the files that multisize_build gives, and no others. Gives size and range.
+// Checks a file, any bytes, and returns its size and range. Accepted are the files that multisize_build gives, and no
+// others.
 // Refused by 1, 2, 3, 4, 6, 8 (work under multisize_work_bytes of the file's size), 9, 10, 11.
 multisize_file_answer multisize_check(const uint8_t *file, size_t file_length, uint8_t *work, size_t work_length);
 
-// Checks a file and reads it: picture then begins with its picture, map with one number a pixel, that of the seam that
-// takes it or 0. Gives size and range.
+// Checks a file and reads it: writes its picture to the front of picture, and to the front of map one number a pixel, that
+// of the seam that takes it or 0. Returns size and range.
 // Refused by 1, 2, 3, 4, 6, 8 (picture, map or work too short), 9, 10, 11.
 multisize_file_answer multisize_read(const uint8_t *file, size_t file_length, uint8_t *picture, size_t picture_length,
                                      uint16_t *map, size_t map_length, uint8_t *work, size_t work_length);
 
-// Checks a file and shows it at the wanted width: out then begins with that picture (multisize_shown_bytes). Gives its
-// size: the wanted width, the file's height and kind.
+// Checks a file and shows it at the wanted width: writes that picture to the front of out (multisize_shown_bytes) and
+// returns its size: the wanted width, the file's height and kind.
 // Refused by 1, 2, 3, 4, 6, 7, 8 (out too short, work under multisize_work_bytes of the file's size), 9, 10, 11.
 multisize_size_answer multisize_show(const uint8_t *file, size_t file_length, size_t wanted, uint8_t *out,
                                      size_t out_length, uint8_t *work, size_t work_length);

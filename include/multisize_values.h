@@ -42,7 +42,7 @@ enum multisize_refusal {
     MULTISIZE_REFUSED_LAST = 13       // a cut of the last column or row
 };
 
-// A number in words, for messages.
+// Returns a number's meaning in words, for messages.
 static inline const char *multisize_words(uint64_t number) {
     switch (number) {
     case MULTISIZE_SERVED: return "served";
@@ -64,7 +64,11 @@ static inline const char *multisize_words(uint64_t number) {
 }
 
 // Limits: a picture's sides, the widest picture shown (a file of the largest side grows by half), a retarget's counts.
-enum { MULTISIZE_LARGEST_SIDE = 512, MULTISIZE_WIDEST_SHOWN = 768, MULTISIZE_LARGEST_COUNT = 64 };
+enum {
+    MULTISIZE_LARGEST_SIDE = 512,
+    MULTISIZE_WIDEST_SHOWN = MULTISIZE_LARGEST_SIDE + MULTISIZE_LARGEST_SIDE / 2,
+    MULTISIZE_LARGEST_COUNT = 64
+};
 
 // Work bytes that serve every file and every picture, except in a retarget: for files whose size isn't known yet.
 #define MULTISIZE_LARGEST_WORK ((size_t)32 * MULTISIZE_LARGEST_SIDE * MULTISIZE_LARGEST_SIDE)
@@ -95,7 +99,7 @@ static inline size_t multisize_retarget_work_bytes(size_t width, size_t height, 
     return multisize_work_bytes(width, height) + 66 * multisize_picture_bytes(width, height, kind);
 }
 
-// Bytes that the picture of a retarget fits in just so: with so many rows and so many columns less.
+// Bytes of the picture that a retarget by this many rows and columns leaves.
 static inline size_t multisize_retarget_bytes(size_t width, size_t height, uint8_t kind, size_t rows, size_t columns) {
     return rows > height || columns > width ? 0 : multisize_picture_bytes(width - columns, height - rows, kind);
 }

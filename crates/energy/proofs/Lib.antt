@@ -1,3 +1,4 @@
 pub mod Energy
 pub mod Lines
 pub mod Served
+pub mod Smallest

@@ -21,7 +21,7 @@ difference [] q = 0
 difference (a ∷ p) [] = 0
 difference (a ∷ p) (b ∷ q) = apart a b + difference p q
 
--- "|right neighbour - it| + |lower neighbour - it|. The channels are added."
+-- "|right neighbour − it| + |lower neighbour − it|. [..] The channels are added."
 unfoldable pub energy : Picture → ℕ → ℕ → ℕ
 energy p r c = difference (pixel p r (c + 1)) (pixel p r c) + difference (pixel p (r + 1) c) (pixel p r c)
 
@@ -38,7 +38,7 @@ energyGrid w n p = table (energies w p) n
 abbrev pub energiesRules : Size → ℕ → ℕ → ℕ → List Rule
 energiesRules z bytes r space = sizeRules z bytes ++ (4 when leb (z .height) r ∷ 8 when ltb space (z .width) ∷ [])
 
--- What the operation gives: the number, and the space, which keeps what stands behind the row's energies.
+-- What the operation gives: the number, and the space, which keeps what stands after the row's energies.
 pub record EnergiesGiven (b : List ℕ) (z : Size) (r : ℕ) (out : List ℕ) (verdict : Verdict) (out′ : List ℕ) : Type 0 where
   pub answer : given verdict ≡ refusal (energiesRules z (length b) r (length out))
   pub space : out′ ≡ served (given verdict) (energies (z .width) (picture z b) r ++ drop (z .width) out) out

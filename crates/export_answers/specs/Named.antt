@@ -7,8 +7,7 @@ use Rattle.pictures.specs.declared.sizes.Kind.the-variants.{Grey, Rgb}
 use Rattle.pictures.specs.declared.sizes.Size.{Size}
 use Rattle.seam_rules.specs.declared.answers.Axis.{Axis}
 use Rattle.seam_rules.specs.declared.answers.Axis.the-variants.{Vertical, Horizontal}
-use Rattle.seam_rules.specs.declared.answers.Rows.{Rows}
-use Rattle.seam_rules.specs.declared.answers.Columns.{Columns}
+use Rattle.seam_rules.specs.Counts.{rowCount, columnCount}
 use Rattle.text_theory.specs.declared.Head.{Head}
 use Rattle.export_answers.specs.declared.names.Sizing.{Sizing}
 use Rattle.export_answers.specs.declared.names.Sizing.the-variants.{Of, Unknown}
@@ -41,11 +40,5 @@ abbrev pub headNamed : Size → ℕ → ℕ → Head
 headNamed z depth growth = record { size = z; depth = depth; growth = growth }
 
 -- The counts that a host names by numbers.
-abbrev pub rowCount : ℕ → Rows
-rowCount n = record { 0 = n }
-
-abbrev pub columnCount : ℕ → Columns
-columnCount n = record { 0 = n }
-
 abbrev pub countsNamed : ℕ → ℕ → Counts
 countsNamed rows columns = record { rows = rowCount rows; columns = columnCount columns }

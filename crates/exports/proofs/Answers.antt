@@ -21,7 +21,7 @@ use Rattle.export_answers.specs.Answers.{refusedBy, rowRules, replyOf}
 use Rattle.exports.specs.Hosts.{HostRow}
 use Rattle.exports.specs.Seams.{HostSeam, HostCut, HostMarksCut}
 
--- A row that is refused for want of space.
+-- A row that is refused because the space is too short.
 pub refused-row : {b : List ℕ} {z : Size} {r : ℕ} {out : List ℕ} {n : ℕ} → n ≡ refusal (rowRules (length (rowOf z b r)) (length out)) → (n ≡ 0 → ⊥) → HostRow b (Of z) r out (refusedBy n) out
 refused-row {b} {z} {r} {out} {n} e h =
     let some : 0 < n = omega (arith, h) in

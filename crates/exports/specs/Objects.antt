@@ -14,7 +14,7 @@ use Rattle.export_answers.specs.declared.objects.Ended.{Ended}
 use Rattle.export_answers.specs.Named.{known}
 use Rattle.export_answers.specs.Objects.{endingNumber}
 
--- The removal of what is marked 2 in lent buffers, by at most so many cuts.
+-- The removal of what is marked 2 in lent buffers, by at most `budget` cuts.
 abbrev pub removed : List ℕ → List ℕ → ℕ → Size → Removed
 removed b m budget z = removal budget 0 (markedPicture z b m)
 

@@ -5,11 +5,11 @@ use Prim.Native.Nat.{ℕ}
 use lib.ListN.{length, drop, replicate}
 use Rattle.pictures.specs.Refusals.{refusal, served}
 use Rattle.pictures.specs.Pictures.{pictureBytes, bytes}
-use Rattle.seam_rules.specs.Counts.{leftSize, retargetRules}
+use Rattle.seam_rules.specs.Counts.{rowCount, columnCount, leftSize, retargetRules}
 use Rattle.seam_retarget.specs.Retargeting.{cellOf}
 use Rattle.export_answers.specs.declared.answers.Answer.{Answer}
 use Rattle.export_answers.specs.declared.names.Sizing.{Sizing}
-use Rattle.export_answers.specs.Named.{known, rowCount, columnCount}
+use Rattle.export_answers.specs.Named.{known}
 
 -- The total, the picture of the cell at the front of the output space, and the work space.
 pub record HostRetargeted (b : List ℕ) (s : Sizing) (rows columns : ℕ) (out work : List ℕ) (a : Answer) (out′ work′ : List ℕ) : Type 0 where

@@ -24,17 +24,16 @@ use Rattle.map_theory.specs.Widths.{allowed}
 use Rattle.map_theory.proofs.Maps.{map-grid}
 use Rattle.text_theory.specs.declared.Head.{Head}
 use Rattle.text_theory.specs.Files.{text}
-use Rattle.seam_theory.specs.PictureSeams.{seamOf}
 use Rattle.pictures.specs.Numbers.{pairs}
 use Rattle.pictures.proofs.TwoBytes.{rows-pairs}
 use Rattle.map_rules.specs.Spaces.{mapBytes, mapAt, mapSpaceRules}
 use Rattle.map_rules.proofs.Rooms.{map-bytes, room-served}
 use Rattle.map_build.specs.Building.{mapped, MapGiven}
-use Rattle.seam_theory.proofs.Choosing.{seam-chooses}
 use Rattle.map_build.proofs.Steps.{take-map}
-use Rattle.text_print.specs.Prints.{Printed}
+use Rattle.text_print.specs.Inner.{Printed}
 use Rattle.text_print.proofs.Written.{printed-front}
-use Rattle.file_theory.specs.Contents.{fileOf}
+use Rattle.file_theory.specs.Contents.{chooseOf, fileOf}
+use Rattle.file_theory.proofs.Heads.{head-chooses}
 use Rattle.file_theory.specs.Rules.{workRule}
 use Rattle.file_build.specs.Building.{fileIn}
 use Rattle.file_build.specs.Inner.Lines.{mapIn, partsIn, PrintNeeded}
@@ -51,7 +50,7 @@ module _ (b : List ℕ) (h : Head) (out work : List ℕ) (needed : BuildNeeded b
   z = h .size
 
   abbrev m : List (List ℕ)
-  m = mapOf seamOf (h .depth) (h .size .width) (h .size .height) (picture (h .size) b)
+  m = mapOf (chooseOf h) (h .depth) (h .size .width) (h .size .height) (picture (h .size) b)
 
   pub record Rooms : Type 0 where
     pub sized : refusal (sizeRules z (length b)) ≡ 0
@@ -114,7 +113,7 @@ module _ (b : List ℕ) (h : Head) (out work : List ℕ) (needed : BuildNeeded b
         unfolding fileOf
         text-is =
             let r = rooms-are in
-            let g = map-grid seamOf seam-chooses (h .depth) (h .size .width) (h .size .height) (picture (h .size) b) (grid-of (of-size (h .size) b (r .sized))) (omega (arith, r .deep)) in
+            let g = map-grid (chooseOf h) (head-chooses h) (h .depth) (h .size .width) (h .size .height) (picture (h .size) b) (grid-of (of-size (h .size) b (r .sized))) (omega (arith, r .deep)) in
             ap (λ q. text (record { head = h; rows = picture (h .size) b; maps = q }))
             (ap (mapIn (h .size .width) (h .size .height)) part-is ∙ rows-pairs g)
 
@@ -134,7 +133,7 @@ module _ (b : List ℕ) (h : Head) (out work : List ℕ) (needed : BuildNeeded b
           file-given n out′ work′ p cleared =
               let q : Printed out 0 (fileIn h b) out′ n = rw text-is at p in
               record {
-                length-is = omega (arith, q .behind);
+                length-is = omega (arith, q .end-is);
                 out-is = printed-front (fileIn h b) q (rooms-are .out-room);
                 work-is = cleared ∙ ap (λ k. replicate k 0) (two-long ∙ one-long);
               }

@@ -9,7 +9,8 @@ use lib.Seq.{take-suc, take-all}
 use Rattle.text_theory.specs.Files.{each}
 use Rattle.text_print.specs.declared.lines.Place.{Place}
 use Rattle.text_print.specs.declared.lines.Place.the-variants as places
-use Rattle.text_print.specs.Prints.{Put, Printed}
+use Rattle.text_print.specs.Prints.{Put}
+use Rattle.text_print.specs.Inner.{Printed}
 use Rattle.text_print.proofs.Written.{printed-more, printed-length, never-short, printed-next, each-append}
 
 module _ {A : Type 0} (w : List ℕ) (put : A → List ℕ) (d : A) (xs : List A) (i : ℕ) where
@@ -29,7 +30,7 @@ module _ {A : Type 0} (w : List ℕ) (put : A → List ℕ) (d : A) (xs : List A
     line-room =
         omega (
           arith,
-          so .behind,
+          so .end-is,
           printed-length so,
           each-split,
           ap length (each-next inside),
@@ -46,7 +47,7 @@ module _ {A : Type 0} (w : List ℕ) (put : A → List ℕ) (d : A) (xs : List A
 
 pub lines-none : {A : Type 0} (w : List ℕ) (put : A → List ℕ) (xs : List A) (first : List ℕ) (at : ℕ) → Printed first at (each w put (take 0 xs)) first at
 unfolding each
-lines-none w put xs first at = record { same = refl; behind = omega arith }
+lines-none w put xs first at = record { same = refl; end-is = omega arith }
 
 pub lines-all : {A : Type 0} (w : List ℕ) (put : A → List ℕ) (xs : List A) (i : ℕ) {first : List ℕ} {at : ℕ} {now : List ℕ} {end : ℕ} → length xs ≤ i
     → Printed first at (each w put (take i xs)) now end → Printed first at (each w put xs) now end

@@ -10,7 +10,8 @@ use Rattle.text_theory.specs.declared.Head.{Head}
 use Rattle.text_theory.specs.Files.{closed, headText, rowLines, mapLines, text}
 use Rattle.text_print.specs.declared.lines.Place.{Place}
 use Rattle.text_print.specs.declared.lines.Place.the-variants as places
-use Rattle.text_print.specs.Prints.{Put, Printed}
+use Rattle.text_print.specs.Prints.{Put}
+use Rattle.text_print.specs.Inner.{Printed}
 use Rattle.text_print.proofs.Written.{printed-more, printed-length, never-short, printed-next}
 use Rattle.file_build.specs.Inner.Lines.{mapIn, partsIn, RowsNeeded, MapsNeeded, PrintNeeded}
 
@@ -44,20 +45,20 @@ module _ (b : List ℕ) (h : Head) (map out : List ℕ) (needed : PrintNeeded b 
 
   module _ {one : List ℕ} {i : ℕ} (A : Printed out 0 (headText h) one i) where
     pub rows-needed : RowsNeeded one i b (h .size)
-    rows-needed = record { sized = needed .sized; room = omega (arith, all-room, A .behind, printed-length A) }
+    rows-needed = record { sized = needed .sized; room = omega (arith, all-room, A .end-is, printed-length A) }
 
     module _ {two : List ℕ} {j : ℕ} (B : Printed one i rows two j) where
       pub maps-needed : MapsNeeded two j map (h .size .width) (h .size .height)
       maps-needed = record {
         long = needed .long;
         narrow = sized-is (h .size) (length b) (needed .sized) .width-most;
-        room = omega (arith, all-room, A .behind, printed-length A, B .behind, printed-length B);
+        room = omega (arith, all-room, A .end-is, printed-length A, B .end-is, printed-length B);
       }
 
       module _ {three : List ℕ} {k : ℕ} (C : Printed two j maps three k) where
         end-room : k + length closed ≤ length three
         unfolding closed
-        end-room = omega (arith, all-room, A .behind, printed-length A, B .behind, printed-length B, C .behind, printed-length C)
+        end-room = omega (arith, all-room, A .end-is, printed-length A, B .end-is, printed-length B, C .end-is, printed-length C)
 
         module _ {place : Place} {last : List ℕ} (D : Put three k closed place last) where
           pub end-never : place ≡ places.Short → ⊥

@@ -10,7 +10,7 @@ ghost use lib.ListN.{drop};
 ghost use Rattle.pictures.specs.Pictures.{picture as Pictures·picture};
 ghost use Rattle.pictures.specs.Numbers.{numbersIn};
 ghost use Rattle.text_theory.specs.Files.{rowLines, mapLines, text as Files·text};
-ghost use Rattle.text_print.specs.Prints.{Printed};
+ghost use Rattle.text_print.specs.Inner.{Printed};
 ghost use Rattle.file_build.specs.Inner.Lines.{mapIn, partsIn, NumbersNeeded, RowsNeeded, MapsNeeded, PrintNeeded};
 
 // Prints the row lines of a picture, and gives the place behind them.

@@ -1,2 +1,3 @@
 pub mod Ranges
 pub mod Fitting
+pub mod Smallest

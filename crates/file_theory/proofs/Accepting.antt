@@ -13,10 +13,9 @@ use Rattle.map_theory.proofs.Judged.{judged-map}
 use Rattle.map_theory.proofs.Shown.{allowed-is}
 use Rattle.text_theory.specs.Files.{Parts, text, parse}
 use Rattle.text_theory.proofs.Files.{parse-text, parse-sound}
-use Rattle.seam_theory.specs.PictureSeams.{seamOf}
 use Rattle.pictures.specs.Pictures.{pixels}
-use Rattle.seam_theory.proofs.Choosing.{seam-chooses}
-use Rattle.file_theory.specs.Contents.{partsOf, fileOf}
+use Rattle.file_theory.specs.Contents.{chooseOf, partsOf, fileOf}
+use Rattle.file_theory.proofs.Heads.{head-chooses}
 use Rattle.file_theory.specs.Rules.{partRules, judgedRules, workRule}
 use Rattle.file_theory.specs.Shows.{Accepted}
 use Rattle.file_theory.specs.Demands.{AcceptedParts, Built, Shaped}
@@ -62,7 +61,7 @@ accepted-judged f p e a =
 pub judged-built : (p : Parts) → Shaped p → (refusal (judgedRules p) ≡ 0) ↔ (p .maps ≡ partsOf (p .head) (p .rows) .maps)
 judged-built p s =
     let d = allowed-is (p .head .size .width) (p .head .depth) (p .head .growth) .0 (s .range) .0 in
-    judged-map seamOf seam-chooses (p .head .size .width) (p .head .size .height) (p .head .depth) (p .rows) (p .maps) (s .rows) (s .maps) (omega arith)
+    judged-map (chooseOf (p .head)) (head-chooses (p .head)) (p .head .size .width) (p .head .size .height) (p .head .depth) (p .rows) (p .maps) (s .rows) (s .maps) (omega arith)
 
 -- Accepted are just the files that are built from an allowed picture and an allowed range.
 pub accepted-built : (f : List ℕ) → Accepted f ↔ Built f

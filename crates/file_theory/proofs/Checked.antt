@@ -4,21 +4,20 @@ use mathlib.Core.Logic.{_↔_, _⊎_, inl, inr, ⊎-elim}
 use mathlib.Core.Bool.{Bool, true, false, not, cond}
 use mathlib.Core.Option.{none, some}
 use mathlib.Core.List.{List, [], _∷_, _++_}
-use Prim.Native.Nat.{ℕ, zero, suc, _*_, _≤_, _<_}
+use Prim.Native.Nat.{ℕ, zero, suc, _≤_, _<_}
 use native.Mathlib.Omega.{arith}
 use lib.Dec.{ltb}
 use lib.ListN.{length, replicate, length-replicate}
 use borrow.Author.Tests.{le-ltb}
-use Rattle.seam_theory.specs.Paths.{beside}
 use Rattle.pictures.specs.Refusals.{_when_, refusal}
 use Rattle.pictures.proofs.Rules.{served-first, refused-first, refusal-most}
 use Rattle.map_theory.specs.Judged.{every, numbers, connected, found}
 use Rattle.text_theory.specs.Files.{Parts, parse}
-use Rattle.seam_theory.specs.PictureSeams.{seamOf}
-use Rattle.pictures.specs.Pictures.{pixels}
+use Rattle.pictures.specs.Pictures.{workBytes}
+use Rattle.file_theory.specs.Contents.{chooseOf, nearOf}
 use Rattle.file_theory.specs.Rules.{partRules, judgedRules, workRule, checkRules}
 
--- Checking parts, in a work space of so many bytes.
+-- Checking parts, in a work space of `work` bytes.
 abbrev pub checked : Parts → ℕ → ℕ
 checked p work = refusal (partRules p ++ (workRule (p .head .size) work ∷ judgedRules p))
 
@@ -34,33 +33,33 @@ checked-refused p work l =
     let e = refused-first (partRules p) (workRule (p .head .size) work ∷ judgedRules p) l in
     (omega (arith, e), omega (arith, e, refusal-most 6 (partRules p) refl))
 
-pub checked-served : (p : Parts) (work : ℕ) → refusal (partRules p) ≡ 0 → checked p work ≡ cond (ltb work (32 * pixels (p .head .size))) 8 (refusal (judgedRules p))
+pub checked-served : (p : Parts) (work : ℕ) → refusal (partRules p) ≡ 0 → checked p work ≡ cond (ltb work (workBytes (p .head .size))) 8 (refusal (judgedRules p))
 checked-served p work z = served-first (partRules p) (workRule (p .head .size) work ∷ judgedRules p) refl z
 
 -- So in a space that 8 doesn't refuse the map decides.
 pub checked-work : (p : Parts) (work : ℕ) → refusal (partRules p) ≡ 0 → (checked p work ≡ 8 → ⊥) → checked p work ≡ refusal (judgedRules p)
-checked-work p work z n = checked-served p work z ∙ go (ltb work (32 * pixels (p .head .size))) refl
+checked-work p work z n = checked-served p work z ∙ go (ltb work (workBytes (p .head .size))) refl
   where
-    go : (t : Bool) → ltb work (32 * pixels (p .head .size)) ≡ t → cond t 8 (refusal (judgedRules p)) ≡ refusal (judgedRules p)
+    go : (t : Bool) → ltb work (workBytes (p .head .size)) ≡ t → cond t 8 (refusal (judgedRules p)) ≡ refusal (judgedRules p)
     go true e = absurd (n (checked-served p work z ∙ rw e))
     go false e = refl
 
 -- There is such a space.
 abbrev pub room : Parts → List ℕ
-room p = replicate (32 * pixels (p .head .size)) 0
+room p = replicate (workBytes (p .head .size)) 0
 
-room-enough : (p : Parts) → ltb (length (room p)) (32 * pixels (p .head .size)) ≡ false
-room-enough p = le-ltb (length (room p)) (32 * pixels (p .head .size)) (omega (arith, length-replicate {A = ℕ} (32 * pixels (p .head .size)) 0))
+room-enough : (p : Parts) → ltb (length (room p)) (workBytes (p .head .size)) ≡ false
+room-enough p = le-ltb (length (room p)) (workBytes (p .head .size)) (omega (arith, length-replicate {A = ℕ} (workBytes (p .head .size)) 0))
 
 -- The tests of a map.
 abbrev numbered : Parts → Bool
 numbered p = every (numbers (p .head .depth)) (p .maps)
 
 abbrev joined : Parts → Bool
-joined p = connected (λ w. beside) (p .head .size .width) (p .head .depth) (p .maps)
+joined p = connected (nearOf (p .head)) (p .head .size .width) (p .head .depth) (p .maps)
 
 abbrev chosen : Parts → Bool
-chosen p = found seamOf (p .head .size .width) (p .head .size .height) (p .head .depth) (p .rows) (p .maps)
+chosen p = found (chooseOf (p .head)) (p .head .size .width) (p .head .size .height) (p .head .depth) (p .rows) (p .maps)
 
 -- A map is refused by 9 and more alone, and by 9 just where a row isn't a numbering.
 pub judged-high : (p : Parts) → refusal (judgedRules p) ≡ 8 → ⊥

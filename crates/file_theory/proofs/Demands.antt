@@ -8,17 +8,17 @@ use Prim.Native.Nat.{ℕ, _+_, _-_, _≤_, _<_}
 use native.Mathlib.Omega.{arith}
 use lib.ListN.{getD}
 use Rattle.pictures.specs.declared.sizes.Size.{Size}
-use Rattle.pictures.specs.Pictures.{Picture}
+use Rattle.grids.proofs.Shapes.{each-weaken}
+use Rattle.pictures.specs.Pictures.{Picture, OfSize}
 use Rattle.map_theory.specs.Maps.{carve, mapOf}
-use Rattle.map_theory.specs.Widths.{allowed, offered, growRow, shown, LeftOut, average}
+use Rattle.map_theory.specs.Widths.{allowed, offered, growRow, shown, LeftOut}
 use Rattle.map_theory.proofs.Shown.{allowed-is, offered-is, shown-carve}
 use Rattle.map_theory.proofs.Grown.{shown-grown}
 use Rattle.text_theory.specs.declared.Head.{Head}
 use Rattle.text_theory.specs.Files.{Parts, parse, text}
 use Rattle.text_theory.proofs.Ascii.{text-ascii}
-use Rattle.seam_theory.specs.PictureSeams.{seamOf}
-use Rattle.seam_theory.proofs.Choosing.{seam-chooses}
-use Rattle.file_theory.specs.Contents.{partsOf, fileOf}
+use Rattle.file_theory.specs.Contents.{chooseOf, meanOf, partsOf, fileOf}
+use Rattle.file_theory.proofs.Heads.{head-chooses}
 use Rattle.file_theory.specs.Shows.{Accepted, offers, Drawn, sized, showsIn, shows, original}
 use Rattle.file_theory.specs.Demands.{AllowedPicture, Built, FileFor, ShownAt}
 use Rattle.file_theory.proofs.Shapes.{all-all}
@@ -92,11 +92,18 @@ pub shows-some : (f : List ℕ) → Accepted f → (v : ℕ) → offers f v ≡ 
 shows-some f a v o =
     let x = accepted-built f .0 a in
     record {
-      drawn = record { size = sized v (x .head .size); rows = shown average (x .head .size .width) v (x .rows) (partsOf (x .head) (x .rows) .maps) };
+      drawn = record { size = sized v (x .head .size); rows = shown (meanOf (x .head)) (x .head .size .width) v (x .rows) (partsOf (x .head) (x .rows) .maps) };
       shown = built-shows x v;
       width = refl;
       pixels = built-pixels x v o;
     }
+
+-- of its size, so that its bytes are those of a lent picture;
+pub shown-ofSize : (f : List ℕ) → Accepted f → (v : ℕ) → offers f v ≡ true → (a : Drawn) → shows f v ≡ some a → OfSize (a .size) (a .rows)
+shown-ofSize f h v o a s =
+    let d = shows-some f h v o in
+    let e : a ≡ d .drawn = Option·some-injective _ _ (sym s ∙ d .shown) in
+    rw (e, d .width) (each-weaken (λ row g. each-weaken (λ px q. q .count) g) (d .pixels))
 
 -- all of them of one height and one kind;
 pub shows-alike : (f : List ℕ) (v u : ℕ) (a b : Drawn) → shows f v ≡ some a → shows f u ≡ some b → (a .size .height ≡ b .size .height) × (a .size .kind ≡ b .size .kind)
@@ -113,12 +120,12 @@ shows-alike f v u a b s t = go (parse f) s t
 -- at width m - t the picture after t cuts of the seam found in what is then left;
 pub shows-cut : (f : List ℕ) (p : Parts) → Accepted f → parse f ≡ some p → (t : ℕ) → t ≤ p .head .depth
     → shows f (p .head .size .width - t)
-    ≡ some (record { size = sized (p .head .size .width - t) (p .head .size); rows = carve seamOf t (p .head .size .width) (p .head .size .height) (p .rows) })
+    ≡ some (record { size = sized (p .head .size .width - t) (p .head .size); rows = carve (chooseOf (p .head)) t (p .head .size .width) (p .head .size .height) (p .rows) })
 unfolding shows
 shows-cut f p a e t l =
     let s = shaped-is p .0 (accepted-shaped f p e a) in
     let d = allowed-is (p .head .size .width) (p .head .depth) (p .head .growth) .0 (s .range) .0 in
-    let c = shown-carve average seamOf seam-chooses t (p .head .depth) (p .head .size .width) (p .head .size .height) (p .rows) (s .rows) l (omega arith) in
+    let c = shown-carve (meanOf (p .head)) (chooseOf (p .head)) (head-chooses (p .head)) t (p .head .depth) (p .head .size .width) (p .head .size .height) (p .rows) (s .rows) l (omega arith) in
     rw (e, judged-built p s .0 (accepted-judged f p e a), c)
 
 -- and at width m + u the original with the first u of these seams doubled.
@@ -127,11 +134,11 @@ pub shows-grown : (f : List ℕ) (p : Parts) → Accepted f → parse f ≡ some
     ≡ some
     (record {
       size = sized (p .head .size .width + u) (p .head .size);
-      rows = zipWith (growRow average u) (p .rows) (mapOf seamOf u (p .head .size .width) (p .head .size .height) (p .rows));
+      rows = zipWith (growRow (meanOf (p .head)) u) (p .rows) (mapOf (chooseOf (p .head)) u (p .head .size .width) (p .head .size .height) (p .rows));
     })
 unfolding shows
 shows-grown f p a e u l g =
     let s = shaped-is p .0 (accepted-shaped f p e a) in
     let d = allowed-is (p .head .size .width) (p .head .depth) (p .head .growth) .0 (s .range) in
-    let c = shown-grown average seamOf seam-chooses u (p .head .depth) (p .head .size .width) (p .head .size .height) (p .rows) (s .rows) l (omega (arith, d .1)) (omega (arith, d .0)) in
+    let c = shown-grown (meanOf (p .head)) (chooseOf (p .head)) (head-chooses (p .head)) u (p .head .depth) (p .head .size .width) (p .head .size .height) (p .rows) (s .rows) l (omega (arith, d .1)) (omega (arith, d .0)) in
     rw (e, judged-built p s .0 (accepted-judged f p e a), c)

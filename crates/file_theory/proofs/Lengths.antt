@@ -22,9 +22,8 @@ use Rattle.text_theory.specs.Files.{closed, rowWord, mapWord, pixelText, lineTe
 use Rattle.text_theory.specs.Lengths.{total, spaced, rowLength, mapLength, headLength}
 use Rattle.text_theory.proofs.Decimals.{digits-small}
 use Rattle.text_theory.proofs.Lengths.{each-length, Counted, row-length, map-length, head-length}
-use Rattle.seam_theory.specs.PictureSeams.{seamOf}
-use Rattle.seam_theory.proofs.Choosing.{seam-chooses}
-use Rattle.file_theory.specs.Contents.{fileOf}
+use Rattle.file_theory.specs.Contents.{chooseOf, fileOf}
+use Rattle.file_theory.proofs.Heads.{head-chooses}
 use Rattle.file_theory.proofs.Shapes.{all-each}
 
 -- Sums over a row with one element more, over changed numbers, and over zeros.
@@ -105,10 +104,10 @@ file-length h p o d =
     let k : ℕ = h .depth in
     let m : ℕ = h .size .width in
     let n : ℕ = h .size .height in
-    let q : List (List ℕ) = mapOf seamOf k m n p in
+    let q : List (List ℕ) = mapOf (chooseOf h) k m n p in
     let g : Grid m n p = grid-of o in
     let c : Kind = h .size .kind in
     let rows = each-length rowWord (lineText (pixelText c)) (rowLength c) (Counted c) (row-line c) p (all-each (λ row e. all-each (λ px l. l) e) o) in
-    let maps = each-length mapWord (lineText digits) mapLength (λ a. Unit) (λ a u. map-line a) q (all-each {Q = λ a. Unit} (λ a e. tt) (map-grid seamOf seam-chooses k m n p g d)) in
+    let maps = each-length mapWord (lineText digits) mapLength (λ a. Unit) (λ a u. map-line a) q (all-each {Q = λ a. Unit} (λ a e. tt) (map-grid (chooseOf h) (head-chooses h) k m n p g d)) in
     simp length-append
-    (omega (arith, head-length h, rows, maps, maps-total (map-grid seamOf seam-chooses k m n p g d) (map-numbered seamOf seam-chooses k m n p g d)))
+    (omega (arith, head-length h, rows, maps, maps-total (map-grid (chooseOf h) (head-chooses h) k m n p g d) (map-numbered (chooseOf h) (head-chooses h) k m n p g d)))

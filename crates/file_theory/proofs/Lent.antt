@@ -1,6 +1,6 @@
 -- A picture in a lent buffer is allowed, and the file that is built from it is accepted.
 use mathlib.Core.Path.{_≡_, refl}
-use mathlib.Core.Bool.{Bool, not}
+use mathlib.Core.Bool.{Bool, true, not}
 use mathlib.Core.List.{List, [], _∷_, map}
 use Prim.Native.Nat.{ℕ, zero, suc, _≤_, _<_}
 use native.Mathlib.Omega.{arith}
@@ -20,7 +20,7 @@ use Rattle.text_theory.specs.Files.{All}
 use Rattle.file_theory.specs.Contents.{fileOf}
 use Rattle.file_theory.specs.Rules.{workRule, buildRules}
 use Rattle.file_theory.specs.Shows.{Accepted}
-use Rattle.file_theory.specs.Demands.{AllowedPicture}
+use Rattle.file_theory.specs.Demands.{AllowedPicture, Built}
 use Rattle.file_theory.proofs.Shapes.{all-all, each-all}
 use Rattle.file_theory.proofs.Accepting.{accepted-built}
 
@@ -55,12 +55,32 @@ lent-allowed z b a e =
       pixels = each-all (λ row g c. each-all (λ px l s. record { count = l; small = s }) g c) (picture-ofSize z b (sized-is z (length b) e .length-is)) all;
     }
 
+-- Building from it isn't refused: then neither the picture nor the range is, and what it gives is a file that is built.
+module _ (b : List ℕ) (h : Head) (out work : ℕ) (e : refusal (buildRules b h out work) ≡ 0) where
+  abbrev ranged : Bool
+  ranged = allowed (h .size .width) (h .depth) (h .growth)
+
+  abbrev rooms : List Rule
+  rooms = 8 when ltb out (length (fileOf h (picture (h .size) b))) ∷ workRule (h .size) work ∷ []
+
+  both : (refusal (sizeRules (h .size) (length b)) ≡ 0) × (refusal (6 when not ranged ∷ rooms) ≡ 0)
+  both = served-both (sizeRules (h .size) (length b)) (6 when not ranged ∷ rooms) refl e
+
+  pub lent-sized : refusal (sizeRules (h .size) (length b)) ≡ 0
+  lent-sized = both .0
+
+  pub lent-ranged : allowed (h .size .width) (h .depth) (h .growth) ≡ true
+  lent-ranged = not-false ranged (passed (not ranged) 5 (refusal rooms) (both .1) .0)
+
+  unfoldable pub lent-built : All (λ (a : ℕ). a < 256) b → Built (fileOf h (picture (h .size) b))
+  lent-built small = record {
+    head = h;
+    rows = picture (h .size) b;
+    picture = lent-allowed (h .size) b small lent-sized;
+    range = lent-ranged;
+    is = refl;
+  }
+
 -- What building gives where nothing is refused is accepted.
 pub build-accepted : (b : List ℕ) (h : Head) (out work : ℕ) → All (λ (a : ℕ). a < 256) b → refusal (buildRules b h out work) ≡ 0 → Accepted (fileOf h (picture (h .size) b))
-build-accepted b h out work a e =
-    let t : Bool = allowed (h .size .width) (h .depth) (h .growth) in
-    let p = picture (h .size) b in
-    let rest : List Rule = 8 when ltb out (length (fileOf h p)) ∷ workRule (h .size) work ∷ [] in
-    let s = served-both (sizeRules (h .size) (length b)) (6 when not t ∷ rest) refl e in
-    accepted-built (fileOf h p) .1
-    (record { head = h; rows = p; picture = lent-allowed (h .size) b a (s .0); range = not-false t (passed (not t) 5 (refusal rest) (s .1) .0); is = refl })
+build-accepted b h out work small e = accepted-built (fileOf h (picture (h .size) b)) .1 (lent-built b h out work e small)

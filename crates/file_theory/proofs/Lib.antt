@@ -1,12 +1,14 @@
 pub mod Shapes
+pub mod Heads
 pub mod Lengths
 pub mod Shaped
 pub mod Checked
 pub mod Accepting
 pub mod WellFormed
 pub mod Refused
-pub mod Ascending
+pub mod Smallest
 pub mod Pixels
 pub mod Built
 pub mod Lent
+pub mod Returned
 pub mod Demands

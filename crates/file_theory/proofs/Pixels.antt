@@ -1,37 +1,11 @@
 -- What is shown at any width has pixels of the picture's kind.
-use mathlib.Core.Path.{_≡_, ap}
 use mathlib.Core.Bool.{Bool, true, false, cond}
 use mathlib.Core.List.{List, [], _∷_, zipWith}
-use Prim.Native.Nat.{ℕ, zero, suc, _+_, _-_, _≤_}
-use native.Mathlib.Nat.{div-add-mod'}
-use native.Mathlib.Omega.{arith}
+use Prim.Native.Nat.{ℕ, _-_}
 use lib.Dec.{leb}
-use lib.ListN.{length}
 use Rattle.seam_theory.specs.Paths.{consIf}
-use Rattle.pictures.specs.declared.sizes.Kind.{Kind}
-use Rattle.pictures.specs.Pictures.{channelsOf}
-use Rattle.map_theory.specs.Widths.{keepRow, stays, doubled, growFrom, growRow, rowAtWidth, shown, average}
-use Rattle.text_theory.specs.Files.{All, Pixel}
-
--- The mean of two pixels is a pixel.
-average-length : (n : ℕ) (p q : List ℕ) → length p ≡ n → length q ≡ n → length (average p q) ≡ n
-unfolding average zipWith
-average-length n [] q e f = e
-average-length n (a ∷ p) [] e f = f
-average-length zero (a ∷ p) (b ∷ q) e f = absurd (omega arith)
-average-length (suc n) (a ∷ p) (b ∷ q) e f = ap suc (average-length n p q (omega arith) (omega arith))
-
-average-small : (p q : List ℕ) → All (λ (a : ℕ). a ≤ 255) p → All (λ (a : ℕ). a ≤ 255) q → All (λ (a : ℕ). a ≤ 255) (average p q)
-unfolding average zipWith
-average-small [] q h k = tt
-average-small (a ∷ p) [] h k = tt
-average-small (a ∷ p) (b ∷ q) h k =
-    let x = h .0 in
-    let y = k .0 in
-    (omega (arith, x, y, div-add-mod' (a + b) 2), average-small p q (h .1) (k .1))
-
-pub average-pixel : (k : Kind) (p q : List ℕ) → Pixel k p → Pixel k q → Pixel k (average p q)
-average-pixel k p q a b = record { count = average-length (channelsOf k) p q (a .count) (b .count); small = average-small p q (a .small) (b .small) }
+use Rattle.map_theory.specs.Widths.{keepRow, stays, doubled, growFrom, growRow, rowAtWidth, shown}
+use Rattle.text_theory.specs.Files.{All}
 
 -- A property of all pixels that the mean keeps.
 module _ {A : Type 0} (P : A → Type 0) where

@@ -19,7 +19,7 @@ use Rattle.file_theory.specs.Demands.{AcceptedParts}
 use Rattle.file_theory.proofs.Checked.{checked, check-some, zero-or}
 use Rattle.file_theory.proofs.Accepting.{accepted-parts}
 
--- An operation on parts, whose own rules stand behind those of the parts and ahead of the others.
+-- An operation on parts, whose own rules stand after those of the parts and before the others.
 abbrev operated : Parts → List Rule → ℕ → ℕ
 operated p own work = refusal (partRules p ++ (own ++ (workRule (p .head .size) work ∷ judgedRules p)))
 

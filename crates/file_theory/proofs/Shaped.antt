@@ -21,9 +21,8 @@ use Rattle.map_theory.proofs.Maps.{map-grid, map-numbered}
 use Rattle.map_theory.proofs.Shown.{allowed-is}
 use Rattle.text_theory.specs.declared.Head.{Head}
 use Rattle.text_theory.specs.Files.{Parts, All, Within}
-use Rattle.seam_theory.specs.PictureSeams.{seamOf}
-use Rattle.seam_theory.proofs.Choosing.{seam-chooses}
-use Rattle.file_theory.specs.Contents.{partsOf}
+use Rattle.file_theory.specs.Contents.{chooseOf, partsOf}
+use Rattle.file_theory.proofs.Heads.{head-chooses}
 use Rattle.file_theory.specs.Rules.{filled, partRules}
 use Rattle.file_theory.specs.Demands.{AllowedPicture, Shaped}
 use Rattle.file_theory.proofs.Shapes.{all-each, each-all, filled-is}
@@ -81,10 +80,10 @@ module _ (h : Head) (p : Picture) (a : AllowedPicture (h .size) p) (range : allo
   built-depth = allowed-is (h .size .width) (h .depth) (h .growth) .0 range .0
 
   pub built-maps : Grid (h .size .width) (h .size .height) (partsOf h p .maps)
-  built-maps = map-grid seamOf seam-chooses (h .depth) (h .size .width) (h .size .height) p built-rows (omega (arith, built-depth))
+  built-maps = map-grid (chooseOf h) (head-chooses h) (h .depth) (h .size .width) (h .size .height) p built-rows (omega (arith, built-depth))
 
   pub built-numbered : Each (Numbering (h .depth)) (h .size .height) (partsOf h p .maps)
-  built-numbered = map-numbered seamOf seam-chooses (h .depth) (h .size .width) (h .size .height) p built-rows (omega (arith, built-depth))
+  built-numbered = map-numbered (chooseOf h) (head-chooses h) (h .depth) (h .size .width) (h .size .height) p built-rows (omega (arith, built-depth))
 
   pub built-shaped : Shaped (partsOf h p)
   built-shaped = record { sides = a .sides; rows = built-rows; maps = built-maps; range = range }

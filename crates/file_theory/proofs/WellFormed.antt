@@ -7,7 +7,6 @@ use mathlib.Core.List.{List, [], reverse, reverse-reverse}
 use Prim.Native.Nat.{ℕ, _+_, _-_, _≤_, _<_}
 use native.Mathlib.Omega.{arith}
 use lib.ListN.{length}
-use Rattle.seam_theory.specs.Paths.{beside}
 use Rattle.pictures.specs.Refusals.{refusal}
 use Rattle.pictures.specs.Pictures.{Picture}
 use Rattle.pictures.proofs.Limits.{sides-are}
@@ -16,14 +15,16 @@ use Rattle.map_theory.proofs.Tests.{every-each}
 use Rattle.map_theory.proofs.Numberings.{numbers-is}
 use Rattle.map_theory.proofs.Judged.{judged-is, chosen-only}
 use Rattle.map_theory.proofs.Shown.{allowed-is}
+use Rattle.text_theory.specs.declared.Head.{Head}
 use Rattle.text_theory.specs.Files.{Parts, parse}
 use Rattle.seam_theory.specs.PictureSeams.{seamUp, seamOf}
 use Rattle.seam_theory.specs.Chosen.{IsSeam}
 use Rattle.seam_theory.proofs.Characterised.{seam-is, seam-some}
-use Rattle.seam_theory.proofs.Choosing.{seam-chooses}
+use Rattle.file_theory.specs.Contents.{chooseOf, nearOf}
 use Rattle.file_theory.specs.Rules.{partRules, judgedRules, checkRules}
 use Rattle.file_theory.specs.Shows.{Accepted}
 use Rattle.file_theory.specs.Demands.{WellFormed, WellFormedParts, Shaped}
+use Rattle.file_theory.proofs.Heads.{head-chooses}
 use Rattle.file_theory.proofs.Checked.{checked, check-some, check-none, checked-refused, checked-work, room, judged-numbered, zero-or, room-not}
 use Rattle.file_theory.proofs.Shaped.{shaped-is}
 use Rattle.file_theory.proofs.Accepting.{accepted-parts, accepted-judged, judged-built}
@@ -68,9 +69,9 @@ accepted-well-formed f a work n = inl (a work n)
 
 -- A seam is the one found just where, read from the bottom row upward, it is a connected path, none is cheaper, and each
 -- other that costs the same comes after it.
-found-cheapest : (w h : ℕ) (p : Picture) (s : List ℕ) → 0 < w → 0 < h → (s ≡ seamOf w h p) ↔ IsSeam w h p (reverse s)
+found-cheapest : (d : Head) (w h : ℕ) (p : Picture) (s : List ℕ) → 0 < w → 0 < h → (s ≡ chooseOf d w h p) ↔ IsSeam w h p (reverse s)
 unfolding seamOf
-found-cheapest w h p s k l = (there, back)
+found-cheapest d w h p s k l = (there, back)
   where
     there : s ≡ reverse (Option·getD (seamUp w h p) []) → IsSeam w h p (reverse s)
     there e =
@@ -108,16 +109,16 @@ module _ (f : List ℕ) (p : Parts) (e : parse f ≡ some p) (u : WellFormed f) 
   deep : k < m
   deep = allowed-is m k (p .head .growth) .0 (s .range) .0
 
-  chosen-accepted : ((t : ℕ) → 1 ≤ t → t ≤ k → recorded t (p .maps) ≡ seamOf (m + 1 - t) n (before t (p .rows) (p .maps))) → Accepted f
+  chosen-accepted : ((t : ℕ) → 1 ≤ t → t ≤ k → recorded t (p .maps) ≡ chooseOf (p .head) (m + 1 - t) n (before t (p .rows) (p .maps))) → Accepted f
   chosen-accepted c =
       let t : every (numbers k) (p .maps) ≡ true = rw q at (r .numbered) in
       let j = every-each (numbers k) (λ y. numbers-is k y .0) (s .maps) t in
       accepted-parts f .1
-      (record { parts = p; parsed = e; shaped = z; judged = judged-built p s .1 (chosen-only seamOf seam-chooses m n k (p .rows) (p .maps) (s .rows) (s .maps) (omega (arith, deep)) j c) })
+      (record { parts = p; parsed = e; shaped = z; judged = judged-built p s .1 (chosen-only (chooseOf (p .head)) (head-chooses (p .head)) m n k (p .rows) (p .maps) (s .rows) (s .maps) (omega (arith, deep)) j c) })
 
   -- It is accepted just where each seam that its map records is the one found in the picture then left,
-  pub accepted-seams : Accepted f ↔ ((t : ℕ) → 1 ≤ t → t ≤ k → recorded t (p .maps) ≡ seamOf (m + 1 - t) n (before t (p .rows) (p .maps)))
-  accepted-seams = (λ a. judged-is (λ w. beside) seamOf m n k (p .rows) (p .maps) (s .maps) .0 (accepted-judged f p e a) .chosen, chosen-accepted)
+  pub accepted-seams : Accepted f ↔ ((t : ℕ) → 1 ≤ t → t ≤ k → recorded t (p .maps) ≡ chooseOf (p .head) (m + 1 - t) n (before t (p .rows) (p .maps)))
+  accepted-seams = (λ a. judged-is (nearOf (p .head)) (chooseOf (p .head)) m n k (p .rows) (p .maps) (s .maps) .0 (accepted-judged f p e a) .chosen, chosen-accepted)
 
   -- that is: for each t from 1 to k the recorded seam t is connected, no connected path through the picture then left is
   -- cheaper, and among equally cheap ones it comes first, read from the bottom row upward.
@@ -127,6 +128,6 @@ module _ (f : List ℕ) (p : Parts) (e : parse f ≡ some p) (u : WellFormed f) 
     λ c. accepted-seams .1 (λ t l h. is t h .1 (c t l h)),
   )
     where
-      is : (t : ℕ) → t ≤ k → (recorded t (p .maps) ≡ seamOf (m + 1 - t) n (before t (p .rows) (p .maps)))
+      is : (t : ℕ) → t ≤ k → (recorded t (p .maps) ≡ chooseOf (p .head) (m + 1 - t) n (before t (p .rows) (p .maps)))
           ↔ IsSeam (m + 1 - t) n (before t (p .rows) (p .maps)) (reverse (recorded t (p .maps)))
-      is t h = found-cheapest (m + 1 - t) n (before t (p .rows) (p .maps)) (recorded t (p .maps)) (omega (arith, deep)) (sides-are (p .head .size) (s .sides) .height-some)
+      is t h = found-cheapest (p .head) (m + 1 - t) n (before t (p .rows) (p .maps)) (recorded t (p .maps)) (omega (arith, deep)) (sides-are (p .head .size) (s .sides) .height-some)

@@ -18,7 +18,7 @@ use Rattle.file_theory.specs.Contents.{chooseOf, nearOf, fileOf}
 unfoldable pub filled : {A : Type 0} → ℕ → ℕ → List (List A) → Bool
 filled w h rows = eqb (length rows) h && every (λ xs. eqb (length xs) w) rows
 
--- 2 and 3 of its size; 4: "the number of rows, samples or map numbers isn't what the size says"; 6: "depth or growth not
+-- 2 and 3 of its size; 4: "the number of rows, samples or map numbers, isn't what the size says"; 6: "depth or growth not
 -- allowed".
 abbrev pub partRules : Parts → List Rule
 partRules p =

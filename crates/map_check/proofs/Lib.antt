@@ -3,3 +3,4 @@ pub mod Counting
 pub mod Columns
 pub mod Spaces
 pub mod Answers
+pub mod Smallest

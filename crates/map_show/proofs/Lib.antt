@@ -9,3 +9,4 @@ pub mod Grows
 pub mod Lasts
 pub mod Judging
 pub mod Pictures
+pub mod Smallest

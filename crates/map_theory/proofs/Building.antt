@@ -38,7 +38,7 @@ module _ {A : Type 0} (choose : Choice A) {near : ℕ → ℕ → ℕ → Bool} 
     abbrev pub newMap : List ℕ
     newMap = flat (mapOf choose (suc t) w h p)
 
-    -- Row r of the new map is that of the old one with t + 1 written at the pixel not yet taken that the seam counts out.
+    -- Row r of the new map is that of the old one with t + 1 written over its s-th zero, s being the seam's column.
     pub build-row : (r : ℕ) → r < h → write (suc t) (getD nextSeam r 0) (rowAt w r oldMap) ≡ rowAt w r newMap
     unfolding writeAll
     build-row r l =

@@ -17,7 +17,7 @@ use Rattle.map_theory.proofs.Numberings.{numbering-number, numbering-ze
 abbrev pub Columns : ℕ → ℕ → List ℕ → Type 0
 Columns w h s = Each (λ c. c < w) h s
 
--- The number v written in each row over the 0 that the seam counts out.
+-- The number v written in each row over the s-th zero of the row, s being the seam's column.
 unfoldable pub writeAll : ℕ → List ℕ → List (List ℕ) → List (List ℕ)
 writeAll v s m = zipWith (write v) s m
 

@@ -12,3 +12,4 @@ pub mod Shown
 pub mod Grown
 pub mod Building
 pub mod Points
+pub mod Smallest

@@ -64,7 +64,7 @@ module _ {A : Type 0} (choose : Choice A) where
     map-numbered (suc k) w h p g l =
         numbered-number (columns (omega arith) g) (map-numbered k (w - 1) h (cut (choose w h p) p) (grid-next (omega arith) g) (omega arith))
 
-    -- The builder's step: to write t + 1 at the pixels not yet taken that the next seam counts out turns the map of depth t
+    -- The builder's step: to write t + 1 over the s-th zero of each row, s being the next seam's column, turns the map of depth t
     -- into that of depth t + 1.
     pub map-next : (t w h : ℕ) (p : List (List A)) → Grid w h p → t < w
         → mapOf choose (suc t) w h p ≡ writeAll (suc t) (choose (w - t) h (carve choose t w h p)) (mapOf choose t w h p)

@@ -4,7 +4,7 @@ use Prim.Native.Nat.{ℕ, zero, suc, _-_}
 use Rattle.grids.specs.Cut.{cut}
 use Rattle.seam_theory.specs.Choices.{Choice}
 
--- The list with a put in as its c-th element; past the end, behind all.
+-- The list with a put in as its c-th element; past the end, at the end.
 abbrev pub insertAt : {A : Type 0} → ℕ → A → List A → List A
 insertAt zero a xs = a ∷ xs
 insertAt (suc c) a [] = a ∷ []

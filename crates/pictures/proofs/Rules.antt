@@ -86,6 +86,18 @@ given-applies ((n when false) ∷ rules) h = List·Memᴰ·tail (given-applies r
 pub given-smallest : (rules : List Rule) → ascending 1 rules ≡ true → SmallestGiven rules
 given-smallest rules a = record { applies = given-applies rules; least = smallest 1 rules a }
 
+-- A rule that doesn't apply changes nothing of that.
+pub smallest-after : (n : ℕ) (t : Bool) (rules : List Rule) → t ≡ false → SmallestGiven rules → SmallestGiven ((n when t) ∷ rules)
+smallest-after n true rules e s = let z : _≡_ {A = ℕ} 0 1 = cc in absurd (omega arith)
+smallest-after n false rules e s = record {
+  applies = λ h. List·Memᴰ·tail (s .applies h);
+  least = λ m mem.
+      ⊎-elim
+      (λ (e : (m when true) ≡ (n when false)). let z : _≡_ {A = ℕ} 0 1 = cc in absurd (omega arith))
+      (s .least m)
+      (List·Memᴰ·cases-cons mem);
+}
+
 -- Every refusal has a number above 0, so a number says whether the answer is served.
 pub number-some : (why : Refusal) → 0 < numberOf why
 number-some Form = omega arith

@@ -15,7 +15,7 @@ use Rattle.pictures.specs.Refusals.{Rule, _when_, refusal, served}
 abbrev pub Picture : Type 0
 Picture = List (List (List ℕ))
 
--- "Width and height are 1 to 512."
+-- "width m and height n, each 1 to 512": the limit, here alone.
 abbrev pub largestSide : ℕ
 largestSide = 512
 

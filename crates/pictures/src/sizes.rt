@@ -80,10 +80,10 @@ pub fn picture_bytes(size: Size) -> usize
 pub fn pixels(size: Size) -> usize
     ensures { λ n. ⌜ n ≡ served (refusal (sideRules size)) (Pictures·pixels size) 0 ⌝ }
 {
-    let Verdict::Served = judge_sides(size) else {
-        return 0;
-    };
-    size.height * size.width
+    match judge_sides(size) {
+        Verdict::Served => size.height * size.width,
+        Verdict::Refused(_) => 0,
+    }
 }
 
 // Bytes of work space that an operation on a picture of this size asks for; 0 where its sides are refused.

@@ -1,2 +1,3 @@
 pub mod Points
-pub mod Ascending
+pub mod Cuts
+pub mod AnyPicture

@@ -29,17 +29,17 @@ bytes-over : (k : Kind) (n : ℕ) → ltb (heldPixels * channelsOf k) (n * chann
 bytes-over k n = go k (ltb heldPixels n) refl
   where
     go : (k : Kind) (t : Bool) → ltb heldPixels n ≡ t → ltb (heldPixels * channelsOf k) (n * channelsOf k) ≡ t
-    go Grey true e = lt-ltb 1024 (n * 1) (omega (arith, ltb-true heldPixels n e))
-    go Grey false e = le-ltb 1024 (n * 1) (omega (arith, ltb-false heldPixels n e))
-    go Rgb true e = lt-ltb 3072 (n * 3) (omega (arith, ltb-true heldPixels n e))
-    go Rgb false e = le-ltb 3072 (n * 3) (omega (arith, ltb-false heldPixels n e))
+    go Grey true e = lt-ltb (heldPixels * 1) (n * 1) (omega (arith, ltb-true heldPixels n e))
+    go Grey false e = le-ltb (heldPixels * 1) (n * 1) (omega (arith, ltb-false heldPixels n e))
+    go Rgb true e = lt-ltb (heldPixels * 3) (n * 3) (omega (arith, ltb-true heldPixels n e))
+    go Rgb false e = le-ltb (heldPixels * 3) (n * 3) (omega (arith, ltb-false heldPixels n e))
 
-work-over : (n : ℕ) → ltb 32768 (32 * n) ≡ ltb heldPixels n
+work-over : (n : ℕ) → ltb (32 * heldPixels) (32 * n) ≡ ltb heldPixels n
 work-over n = go (ltb heldPixels n) refl
   where
-    go : (t : Bool) → ltb heldPixels n ≡ t → ltb 32768 (32 * n) ≡ t
-    go true e = lt-ltb 32768 (32 * n) (omega (arith, ltb-true heldPixels n e))
-    go false e = le-ltb 32768 (32 * n) (omega (arith, ltb-false heldPixels n e))
+    go : (t : Bool) → ltb heldPixels n ≡ t → ltb (32 * heldPixels) (32 * n) ≡ t
+    go true e = lt-ltb (32 * heldPixels) (32 * n) (omega (arith, ltb-true heldPixels n e))
+    go false e = le-ltb (32 * heldPixels) (32 * n) (omega (arith, ltb-false heldPixels n e))
 
 -- Two rules of one number.
 either-order : (a b : Bool) (n m : ℕ) → cond a n (cond b n m) ≡ cond b n (cond a n m)
@@ -49,7 +49,7 @@ either-order false true n m = refl
 either-order false false n m = refl
 
 -- Showing in these spaces refuses what the program refuses.
-pub same-number : (file : List ℕ) (v : ℕ) (picture out work : List ℕ) → DrawNeeded file picture out → length work ≡ 32768
+pub same-number : (file : List ℕ) (v : ℕ) (picture out work : List ℕ) → DrawNeeded file picture out → length work ≡ 32 * heldPixels
     → refusal (showRules file v (length picture) (length work)) ≡ refusal (fittedRules v file)
 same-number file v picture out work needed work-is = go (parse file) refl
   where

@@ -29,10 +29,10 @@ use Rattle.file_theory.proofs.Refused.{show-checked, checked-accepted}
 use Rattle.file_theory.proofs.Demands.{shows-some}
 use Rattle.file_rules.specs.declared.answers.Shown.the-variants as showings
 use Rattle.file_read.specs.Reading.{ShowGiven}
-use Rattle.text_print.specs.Prints.{Printed}
+use Rattle.text_print.specs.Inner.{Printed}
 use Rattle.text_print.proofs.Written.{printed-front}
 use Rattle.program_theory.specs.Netpbm.{headerText, netpbm}
-use Rattle.program_theory.specs.Programs.{fittedRules, drawnText}
+use Rattle.program_theory.specs.Programs.{heldPixels, fittedRules, drawnText}
 use Rattle.program_theory.proofs.Lengths.{header-most}
 use Rattle.program_netpbm.specs.declared.output.Output.the-variants as outputs
 use Rattle.program_netpbm.specs.Outputs.{outputSpace}
@@ -60,7 +60,7 @@ drawn-length d v e p = length-bytes (d .size) (d .rows) (each-weaken (λ row q. 
 -- What is known where the file is shown: its size, and the bytes at the front of the space.
 pub record Drawing (file : List ℕ) (v : ℕ) (z : Size) (picture′ : List ℕ) : Type 0 where
   pub row-most : z .width * channelsOf (z .kind) ≤ mostShownRow
-  pub few : pictureBytes z ≤ 3072
+  pub few : pictureBytes z ≤ 3 * heldPixels
   pub inside : pictureBytes z ≤ length picture′
   pub text-is : headerText z ++ take (pictureBytes z) picture′ ≡ drawnText (shows file v)
   pub text-most : length (headerText z ++ take (pictureBytes z) picture′) ≤ outputSpace
@@ -73,11 +73,11 @@ draw-served {file} {v} D {out} {out′} {n} r P =
     let Q : Printed out 0 (drawnText (shows file v)) out′ n = rw (D .text-is) at P in
     record {
       number = sym (D .served);
-      length-is = omega (arith, Q .behind);
+      length-is = omega (arith, Q .end-is);
       out-given = printed-front (drawnText (shows file v)) Q (omega (arith, r, D .text-most, ap length (D .text-is)));
     }
 
-module _ (file : List ℕ) (v : ℕ) (picture out work : List ℕ) (needed : DrawNeeded file picture out) (work-is : length work ≡ 32768) where
+module _ (file : List ℕ) (v : ℕ) (picture out work : List ℕ) (needed : DrawNeeded file picture out) (work-is : length work ≡ 32 * heldPixels) where
   pub draw-refused : (why : Refusal) {picture′ work′ : List ℕ} → ShowGiven file v picture work (showings.Refused why) picture′ work′ → PictureAnswered file v out (outputs.Refused why) out
   draw-refused why g = refused-so why (drawnText (shows file v)) out (g .number ∙ same-number file v picture out work needed work-is)
 
@@ -124,11 +124,12 @@ module _ (file : List ℕ) (v : ℕ) (picture out work : List ℕ) (needed : Dra
         let g = allowed-is (h .size .width) (h .depth) (h .growth) .0 (s .range) .2 in
         let o = offered-is (h .size .width) (h .depth) (h .growth) v .0 (fit .offers-it) .1 in
         let wide : v ≤ mostWidth = omega (arith, w, g, o) in
-        let bytes-few : pictureBytes z ≤ 3072 = rw (known, ← mul-assoc (h .size .height) v k) (mul-le-mul (fit .few) m) in
+        let bytes-few : pictureBytes z ≤ 3 * heldPixels = rw (known, ← mul-assoc (h .size .height) v k) (mul-le-mul (fit .few) m) in
         let z-wide : z .width ≤ mostWidth = rw known wide in
         let z-high : z .height ≤ mostSide = rw known (sides-are (h .size) (s .sides) .height-small) in
+        let six : k ≤ 6 = omega (arith, m) in
         record {
-          row-most = rw known (mul-le-mul wide m);
+          row-most = rw known (mul-le-mul wide six);
           few = bytes-few;
           inside = omega (arith, long, ap length is, length-append (bytes (at .drawn .rows)) (drop (length (bytes (at .drawn .rows))) picture));
           text-is = ap₂ (λ x y. headerText x ++ y) size-is front ∙ sym (ap drawnText (at .shown));

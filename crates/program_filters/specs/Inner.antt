@@ -7,7 +7,8 @@ use lib.ListN.{length}
 use Rattle.pictures.specs.declared.sizes.Size.{Size}
 use Rattle.program_theory.specs.Programs.{pictureRules, fileAnswer, heldPixels, fittedRules, drawnText}
 use Rattle.program_netpbm.specs.declared.output.Output.{Output}
-use Rattle.program_netpbm.specs.Outputs.{Answered, outputSpace}
+use Rattle.program_netpbm.specs.Outputs.{outputSpace}
+use Rattle.program_netpbm.specs.Inner.{Answered}
 use Rattle.pictures.specs.Pictures.{channelsOf}
 use Rattle.text_theory.specs.Files.{Parts, parse}
 use Rattle.file_theory.specs.Shows.{shows}

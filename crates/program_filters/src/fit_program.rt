@@ -2,6 +2,7 @@
 use file_rules::Shown;
 use pictures::Refusal;
 use pictures::Verdict;
+use program_netpbm::OUTPUT_SPACE;
 use program_netpbm::Output;
 use program_rules::HELD_PIXELS;
 use text_print::Place;
@@ -12,11 +13,12 @@ ghost use Prim.Native.Nat.{_≤_};
 ghost use lib.ListN.{length};
 ghost use Rattle.text_read.specs.Answers.{Told, read};
 ghost use Rattle.program_theory.specs.Programs.{widthGet, pictureAnswer, fitRules, fit as Programs·fit};
-ghost use Rattle.program_netpbm.specs.Outputs.{Wrote, outputSpace, Answered};
+ghost use Rattle.program_netpbm.specs.Outputs.{Wrote, outputSpace};
+ghost use Rattle.program_netpbm.specs.Inner.{Answered};
 ghost use Rattle.program_filters.specs.Inner.{DrawNeeded, PictureAnswered};
 
 // What `fit` writes for an input: the picture that the file shows at the width, or a refusal.
-pub fn fit(input: &[u8], out: &mut [u8; 32768]) -> usize
+pub fn fit(input: &[u8], out: &mut [u8; OUTPUT_SPACE]) -> usize
     ensures { λ n. ⌜ Wrote (Programs·fit (now (input .entry))) (now (out .entry)) n (now (out .exit)) ⌝ }
 {
     let answer = draw(input, out);
@@ -64,7 +66,7 @@ fn draw_file(file: &[u8], width: usize, out: &mut [u8]) -> Output
     let size = head.size;
     let kind = size.kind;
     let room = HELD_PIXELS * pictures::channels(kind);
-    let mut picture = [0u8; 3072];
+    let mut picture = [0u8; 3 * HELD_PIXELS];
     draw_in(file, width, &mut picture[..room], out)
 }
 
@@ -73,7 +75,7 @@ fn draw_in(file: &[u8], width: usize, picture: &mut [u8], out: &mut [u8]) -> Out
     requires { ⌜ DrawNeeded (now file) (now picture) (now out) ⌝ }
     ensures { λ o. ⌜ PictureAnswered (now (file .entry)) width (now (out .entry)) o (now (out .exit)) ⌝ }
 {
-    let mut work = [0u8; 32768];
+    let mut work = [0u8; 32 * HELD_PIXELS];
     match file_read::show(file, width, picture, &mut work) {
         Shown::Size(size) => {
             let kind = size.kind;

@@ -4,17 +4,20 @@ use pictures::Refusal;
 use pictures::Size;
 use pictures::Verdict;
 use program_netpbm::Header;
+use program_netpbm::OUTPUT_SPACE;
 use program_netpbm::Output;
+use program_rules::HELD_PIXELS;
 use text_theory::Head;
 ghost use Prim.Native.Nat.{_≤_};
 ghost use lib.ListN.{length};
 ghost use Rattle.program_theory.specs.Netpbm.{headerGet};
 ghost use Rattle.program_theory.specs.Programs.{fileAnswer, seamsRules, seams as Programs·seams};
-ghost use Rattle.program_netpbm.specs.Outputs.{Wrote, outputSpace, Answered};
+ghost use Rattle.program_netpbm.specs.Outputs.{Wrote, outputSpace};
+ghost use Rattle.program_netpbm.specs.Inner.{Answered};
 ghost use Rattle.program_filters.specs.Inner.{FileAnswered};
 
 // What `seams` writes for an input: the file of the picture, with depth m - 1 and growth m/2, or a refusal.
-pub fn seams(input: &[u8], out: &mut [u8; 32768]) -> usize
+pub fn seams(input: &[u8], out: &mut [u8; OUTPUT_SPACE]) -> usize
     ensures { λ n. ⌜ Wrote (Programs·seams (now (input .entry))) (now (out .entry)) n (now (out .exit)) ⌝ }
 {
     let answer = build(input, out);
@@ -49,7 +52,7 @@ fn build_file(size: Size, samples: &[u8], out: &mut [u8]) -> Output
         depth: width - 1,
         growth: width / 2,
     };
-    let mut work = [0u8; 32768];
+    let mut work = [0u8; 32 * HELD_PIXELS];
     match file_build::build(samples, head, out, &mut work) {
         Built::Length(n) => Output::Length(n),
         Built::Refused(why) => Output::Refused(why),

@@ -16,7 +16,7 @@ use Rattle.text_lengths.proofs.Rooms.{less-then, less-none-then}
 use Rattle.text_read.specs.Answers.{Told, skipping}
 use Rattle.text_read.proofs.FixedBytes.{skipped}
 use Rattle.text_read.proofs.Onward.{word-first, word-second, word-neither}
-use Rattle.text_print.specs.Prints.{Printed}
+use Rattle.text_print.specs.Inner.{Printed}
 use Rattle.text_print.proofs.Written.{printed-more}
 use Rattle.program_theory.specs.Netpbm.{greyMagic, rgbMagic, maxval, magicText, headerText, magicGet}
 

@@ -1,2 +1,3 @@
 pub mod Headers
 pub mod Outputs
+pub mod Numbers

@@ -17,12 +17,13 @@ use Rattle.pictures.specs.Refusals.{Rule, _when_, numberOf, given, refusal, ser
 use Rattle.pictures.proofs.Rules.{passed, kept-by, refused-answer}
 use Rattle.text_theory.specs.Readers.{Get}
 use Rattle.text_read.specs.Answers.{Told}
-use Rattle.text_print.specs.Prints.{Printed}
+use Rattle.text_print.specs.Inner.{Printed}
 use Rattle.text_print.proofs.Written.{printed-front}
 use Rattle.program_theory.specs.Programs.{mostInput, inputRule, refusedText, written}
 use Rattle.program_netpbm.specs.declared.output.Output.{Output}
 use Rattle.program_netpbm.specs.declared.output.Output.the-variants as outputs
-use Rattle.program_netpbm.specs.Outputs.{Wrote, outputNumber, outputLength, Answered, Finished}
+use Rattle.program_netpbm.specs.Outputs.{Wrote, outputNumber, outputLength, Finished}
+use Rattle.program_netpbm.specs.Inner.{Answered}
 
 -- A refusal has a number of at most three digits.
 pub number-below : (why : Refusal) → numberOf why < 1000
@@ -51,7 +52,7 @@ number-below refusals.NotBlocked = omega arith
 pub finished-refused : (why : Refusal) {out out′ : List ℕ} {n : ℕ} → length (refusedText (numberOf why)) ≤ length out
     → Printed out 0 (refusedText (numberOf why)) out′ n → Finished (outputs.Refused why) out n out′
 finished-refused why {out} {n = n} h P =
-    let long : n ≡ length (refusedText (numberOf why)) = omega (arith, P .behind) in
+    let long : n ≡ length (refusedText (numberOf why)) = omega (arith, P .end-is) in
     record {
       length-is = long ∙ kept-by why 0 (length (refusedText (numberOf why)));
       out-is = printed-front (refusedText (numberOf why)) P h ∙ kept-by why out (refusedText (numberOf why) ++ drop (length (refusedText (numberOf why))) out);

@@ -9,3 +9,8 @@ use Rattle.program_netpbm.specs.declared.netpbm.Header.the-variants as h
 abbrev pub headerRead : Header → Option (Size × ℕ)
 headerRead (headers.Sized z at) = some (z, at)
 headerRead headers.Broken = none
+
+-- Its number: 1, "Netpbm header breaks its form", and 0 where it says a size.
+abbrev pub headerNumber : Header → ℕ
+headerNumber (headers.Sized z at) = 0
+headerNumber headers.Broken = 1

@@ -3,7 +3,7 @@ use mathlib.Core.Path.{_≡_}
 use mathlib.Core.List.{List, _++_}
 use Prim.Native.Nat.{ℕ, _≤_}
 use lib.ListN.{length, drop}
-use Rattle.pictures.specs.Refusals.{Rule, numberOf, refusal, served}
+use Rattle.pictures.specs.Refusals.{numberOf, served}
 use Rattle.program_theory.specs.Programs.{refusedText}
 use Rattle.program_netpbm.specs.declared.output.Output.{Output}
 use Rattle.program_netpbm.specs.declared.output.Output.the-variants as outputs
@@ -20,12 +20,6 @@ outputNumber (outputs.Refused why) = numberOf why
 abbrev pub outputLength : Output → ℕ
 outputLength (outputs.Length n) = n
 outputLength (outputs.Refused why) = 0
-
--- An answer at the front of a space, or the number that it is refused by.
-pub record Answered (rules : List Rule) (answer out : List ℕ) (o : Output) (out′ : List ℕ) : Type 0 where
-  pub number : outputNumber o ≡ refusal rules
-  pub length-is : outputLength o ≡ served (outputNumber o) (length answer) 0
-  pub out-given : out′ ≡ served (outputNumber o) (answer ++ drop (length answer) out) out
 
 -- The answer left as it stands, or the refusal in its place.
 pub record Finished (o : Output) (out : List ℕ) (n : ℕ) (out′ : List ℕ) : Type 0 where

@@ -5,5 +5,6 @@ pub mod output;
 pub use netpbm::Header;
 pub use netpbm::print_picture;
 pub use netpbm::read_header;
+pub use output::OUTPUT_SPACE;
 pub use output::Output;
 pub use output::finish;

@@ -5,9 +5,12 @@ ghost use Prim.Native.Nat.{_+_, _≤_};
 ghost use lib.ListN.{length};
 ghost use Rattle.pictures.specs.Refusals.{numberOf};
 ghost use Rattle.text_theory.specs.Decimal.{digits};
-ghost use Rattle.text_print.specs.Prints.{Printed};
+ghost use Rattle.text_print.specs.Inner.{Printed};
 ghost use Rattle.program_theory.specs.Programs.{refusedText};
 ghost use Rattle.program_netpbm.specs.Outputs.{outputSpace, Finished};
+
+// The bytes of the space that a program's output is lent: enough for every output.
+pub const OUTPUT_SPACE: usize = 32768;
 
 // The length of an answer that stands at the front of the output; or why there is none.
 pub enum Output {
@@ -51,7 +54,7 @@ fn put_refusal(out: &mut [u8], why: Refusal) -> usize
 }
 
 // The length of the output: of the answer, or of the refusal, which is then printed.
-pub fn finish(answer: Output, out: &mut [u8; 32768]) -> usize
+pub fn finish(answer: Output, out: &mut [u8; OUTPUT_SPACE]) -> usize
     ensures { λ n. ⌜ Finished answer (now (out .entry)) n (now (out .exit)) ⌝ }
 {
     match answer {

@@ -60,7 +60,7 @@ seams-served z b fine few =
     let w : z .width ≤ mostSide = s .width-small in
     let h : z .height ≤ mostSide = s .height-small in
     let c = channelsOf (z .kind) in
-    let m : z .height * z .width * c ≤ 1024 * 3 = mul-le-mul few (s .channels-most) in
+    let m : z .height * z .width * c ≤ heldPixels * 3 = mul-le-mul few (s .channels-most) in
     let l : length (headerText z ++ b) ≤ mostInput =
     rw length-append (omega (arith, header-most z (omega arith) h, s .length-is, mul-assoc (z .height) (z .width) c, m)) in
     let r : refusal (pictureRules (some (z, b))) ≡ 0 =
@@ -81,5 +81,5 @@ seams-accepted input small e =
         let s = header-reads .sound input (z, b) h .0 in
         let fine = served-both (sizeRules z (length b)) (pixelsRule z ∷ []) refl r .0 in
         let n : ℕ = length (headerText z) in
-        let behind : All (λ (a : ℕ). a < 256) b = rw (s, drop-at (headerText z) b n refl) at (all-drop (λ (a : ℕ). a < 256) n input small) in
-        rw h (full-accepted z b behind fine)
+        let rest : All (λ (a : ℕ). a < 256) b = rw (s, drop-at (headerText z) b n refl) at (all-drop (λ (a : ℕ). a < 256) n input small) in
+        rw h (full-accepted z b rest fine)

@@ -29,7 +29,7 @@ magic-sound = either-sound magicText Grey Rgb
 pub magic-reads : Reads (λ k. Unit) magicText Any magicGet
 magic-reads = record { back = λ k u t v. magic-back k t; sound = λ s r h. (magic-sound s r h, tt) }
 
--- No digit stands behind a number.
+-- No digit stands after a number.
 clear-maxval : (t : List ℕ) → clear (maxval ++ t)
 unfolding maxval isDigit
 clear-maxval t = refl

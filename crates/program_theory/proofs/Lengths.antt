@@ -28,7 +28,7 @@ use Rattle.file_theory.proofs.Shaped.{allowed-ofSize}
 use Rattle.file_theory.proofs.Lent.{lent-allowed}
 use Rattle.file_theory.proofs.Lengths.{file-length}
 use Rattle.program_theory.specs.Netpbm.{greyMagic, rgbMagic, maxval, magicText, headerText}
-use Rattle.program_theory.specs.Programs.{fullRange, refusedWord, refusedText}
+use Rattle.program_theory.specs.Programs.{heldPixels, fullRange, refusedWord, refusedText}
 use Rattle.map_theory.specs.Bounds.{mostWidth}
 
 -- Where the numbers below m have at most c digits, those below ten times m have at most one more.
@@ -98,7 +98,7 @@ head-most h a b c d =
     omega (arith, spaced-most (h .size .width) a, spaced-most (h .size .height) b, spaced-most (h .depth) c, spaced-most (h .growth) d, kind-most (h .size .kind))
 
 -- The file of a picture of at most 1,024 pixels: 18 bytes a pixel, 12 for the two lines of a row, and the other lines.
-pub file-most : (z : Size) (b : List ℕ) → All (λ (a : ℕ). a < 256) b → refusal (sizeRules z (length b)) ≡ 0 → pixels z ≤ 1024
+pub file-most : (z : Size) (b : List ℕ) → All (λ (a : ℕ). a < 256) b → refusal (sizeRules z (length b)) ≡ 0 → pixels z ≤ heldPixels
     → length (fileOf (fullRange z) (picture z b)) ≤ 24640
 file-most z b a e l =
     let p = lent-allowed z b a e in

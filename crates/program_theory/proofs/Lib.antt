@@ -1,5 +1,6 @@
 pub mod Lengths
 pub mod Header
-pub mod Ascending
+pub mod Smallest
 pub mod Files
 pub mod Carved
+pub mod Fitted

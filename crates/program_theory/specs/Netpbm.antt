@@ -1,5 +1,5 @@
--- "a Netpbm picture (P5 or P6, byte 10, width, blank, height, byte 10, 255, byte 10, samples)": its text, and the reader of
--- its header.
+-- "a Netpbm picture (P5 or P6, byte 10, width, blank, height, byte 10, 255, byte 10, samples; [..])": its text, and the
+-- reader of its header.
 use mathlib.Core.List.{List, [], _∷_, _++_}
 use Prim.Native.Nat.{ℕ}
 use Rattle.pictures.specs.declared.sizes.Kind.{Kind}

@@ -9,13 +9,12 @@ use Rattle.pictures.specs.declared.sizes.Size.{Size}
 use Rattle.pictures.specs.Refusals.{Rule, _when_, refusal, served}
 use Rattle.pictures.specs.Pictures.{Picture, sizeRules, picture, pixels}
 use Rattle.map_theory.specs.Maps.{carve, mapOf}
-use Rattle.map_theory.specs.Widths.{offered, growRow, average}
+use Rattle.map_theory.specs.Widths.{offered, growRow}
 use Rattle.text_theory.specs.declared.Head.{Head}
 use Rattle.text_theory.specs.Readers.{Get, give, _▷_, after}
 use Rattle.text_theory.specs.Decimal.{digits, number}
 use Rattle.text_theory.specs.Files.{lineEnd, closed, parse}
-use Rattle.seam_theory.specs.PictureSeams.{seamOf}
-use Rattle.file_theory.specs.Contents.{fileOf}
+use Rattle.file_theory.specs.Contents.{chooseOf, meanOf, fileOf}
 use Rattle.file_theory.specs.Rules.{partRules, judgedRules, formRules}
 use Rattle.file_theory.specs.Shows.{Drawn, sized, shows}
 use Rattle.program_theory.specs.Netpbm.{netpbm, headerGet}
@@ -50,7 +49,7 @@ written n answer = served n answer (refusedText n)
 abbrev pub fullRange : Size → Head
 fullRange z = record { size = z; depth = z .width - 1; growth = z .width / 2 }
 
--- What is refused of the size and the samples behind it; 1 where there is no header.
+-- What is refused of the size and the samples after it; 1 where there is no header.
 abbrev pub pictureRules : Option (Size × List ℕ) → List Rule
 pictureRules none = 1 when true ∷ []
 pictureRules (some r) = sizeRules (r .0) (length (r .1)) ++ (pixelsRule (r .0) ∷ [])
@@ -107,8 +106,8 @@ fit input = written (refusal (fitRules input)) (pictureAnswer (widthGet input))
 unfoldable pub carvedRows : ℕ → Size → Picture → Picture
 carvedRows v z p =
     cond (leb v (z .width))
-    (carve seamOf (z .width - v) (z .width) (z .height) p)
-    (zipWith (growRow average (v - z .width)) p (mapOf seamOf (v - z .width) (z .width) (z .height) p))
+    (carve (chooseOf (fullRange z)) (z .width - v) (z .width) (z .height) p)
+    (zipWith (growRow (meanOf (fullRange z)) (v - z .width)) p (mapOf (chooseOf (fullRange z)) (v - z .width) (z .width) (z .height) p))
 
 abbrev pub carved : ℕ → Size → Picture → Drawn
 carved v z p = record { size = sized v z; rows = carvedRows v z p }

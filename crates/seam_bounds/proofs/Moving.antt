@@ -11,7 +11,8 @@ use lib.Dec.{leb}
 use lib.ListN.{length, getD, drop}
 use lib.Seq.{drop-cons}
 use Rattle.grids.specs.Each.{Each, none, more}
-use Rattle.seam_bounds.specs.Moves.{outside, apartIn, PlacesApart}
+use Rattle.seam_bounds.specs.Moves.{outside, apartIn}
+use Rattle.seam_bounds.specs.Inner.{PlacesApart}
 
 -- A seam of which no column is outside.
 pub inside-each : (w : ℕ) (s : List ℕ) → outside w s ≡ false → Each (λ c. c < w) (length s) s

@@ -1,8 +1,7 @@
 -- When the operations that move a picture's bytes are refused, in terms of numbers and of a seam's columns.
-use mathlib.Core.Logic.{_⊎_}
 use mathlib.Core.Bool.{Bool, false, not, _&&_, _||_}
 use mathlib.Core.List.{List, [], _∷_, _++_}
-use Prim.Native.Nat.{ℕ, _+_, _*_, _≤_}
+use Prim.Native.Nat.{ℕ, _+_, _*_}
 use lib.Dec.{eqb, leb, ltb}
 use Rattle.pictures.specs.declared.sizes.Size.{Size}
 use Rattle.pictures.specs.Refusals.{Rule, _when_}
@@ -34,9 +33,3 @@ outside w (c ∷ s) = leb w c || outside w s
 -- Whether n bytes at `from` and n bytes at `to` lie inside a space of `space` bytes and don't overlap.
 abbrev pub apartIn : ℕ → ℕ → ℕ → ℕ → Bool
 apartIn space from to n = leb (from + n) space && (leb (to + n) space && (leb (from + n) to || leb (to + n) from))
-
--- The same, said of the numbers.
-pub record PlacesApart (space from to n : ℕ) : Type 0 where
-  pub from-inside : from + n ≤ space
-  pub to-inside : to + n ≤ space
-  pub apart : (from + n ≤ to) ⊎ (to + n ≤ from)

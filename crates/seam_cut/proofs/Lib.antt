@@ -1,3 +1,4 @@
 pub mod FindIn
 pub mod Inside
 pub mod Fronts
+pub mod Smallest

@@ -18,7 +18,7 @@ use Rattle.seam_rules.specs.declared.answers.Axis.the-variants.{Vertical}
 use Rattle.seam_turn.specs.Axes.{cutAlong}
 use Rattle.seam_cut.specs.Axes.{seamAlong, costAlong}
 
--- The number, a seam of so many columns or rows and its cost, and the work space; what stands after the seam is kept.
+-- The number, a seam of `long` columns or rows and its cost, and the work space; what stands after the seam is kept.
 pub record SeamGiven (long : ℕ) (found : List ℕ) (cost : ℕ) (seam work : List ℕ) (number : ℕ) (answer : Found) (seam′ work′ : List ℕ) : Type 0 where
   pub number-is : foundNumber answer ≡ number
   pub cost-is : foundCost answer ≡ served number cost 0

@@ -1,3 +1,4 @@
 pub mod Buffers
 pub mod Marked
 pub mod Marks
+pub mod Smallest

@@ -91,13 +91,13 @@ module _ (x : Axis) (z : Size) (m : List ℕ) (e : length m ≡ pixels z) where
       ∙ ap bytes (turned-map single x w (cut s (turned x (z .width) (marksOf z m))))
       ∙ bytes-single (turned x w (cut s (turned x (z .width) (marksOf z m))))
 
--- The turned marks put behind the turned picture: `mid` stood there before.
-pub put-behind : (x : Axis) (z : Size) (b m work space mid marks : List ℕ) → length b ≡ pictureBytes z → length m ≡ pixels z → length b ≤ length space
+-- The turned marks put after the turned picture: `mid` stood there before.
+pub put-after : (x : Axis) (z : Size) (b m work space mid marks : List ℕ) → length b ≡ pictureBytes z → length m ≡ pixels z → length b ≤ length space
     → space ≡ bytes (turned x (z .width) (picture z b)) ++ drop (pictureBytes z) work
     → marks ≡ bytes (turned x (z .width) (picture (greyOf z) m)) ++ drop (pictureBytes (greyOf z)) mid
     → putMid (length b) (length space - length b) space marks
     ≡ bytes (turned x (z .width) (picture z b)) ++ (flat (turned x (z .width) (marksOf z m)) ++ (drop (pictureBytes (greyOf z)) mid ++ drop (length space) space))
-put-behind x z b m work space mid marks is-picture is-marks fits e f =
+put-after x z b m work space mid marks is-picture is-marks fits e f =
     let front = bytes (turned x (z .width) (picture z b)) in
     let more = drop (pictureBytes (greyOf z)) mid in
     let long : length (bytes (turned x (z .width) (picture z b))) ≡ length b = length-bytes (turnedSize x z) (turned x (z .width) (picture z b)) (turned-ofSize x z (picture z b) (picture-ofSize z b is-picture)) ∙ turned-bytes x z ∙ sym is-picture in
@@ -107,7 +107,7 @@ put-behind x z b m work space mid marks is-picture is-marks fits e f =
     (f ∙ ap (_++ more) (marks-turned x z m is-marks))
     ∙ ap (front ++_) (append-assoc (flat (turned x (z .width) (marksOf z m))) more (drop (length space) space))
 
--- A picture and its marks, turned, one behind the other at the front of a space, read back.
+-- A picture and its marks, turned, one after the other at the front of a space, read back.
 module _ (x : Axis) (z : Size) (b m space rest : List ℕ) (is-picture : length b ≡ pictureBytes z) (is-marks : length m ≡ pixels z)
     (stands : space ≡ bytes (turned x (z .width) (picture z b)) ++ (flat (turned x (z .width) (marksOf z m)) ++ rest)) where
   pub picture-there : pictureIn (turnedSize x z) space ≡ turned x (z .width) (picture z b)

@@ -16,7 +16,7 @@ use Rattle.seam_turn.specs.Axes.{cutAlong}
 use Rattle.seam_cut.specs.Cutting.{SeamGiven, SeamCut}
 use Rattle.seam_cut_marked.specs.Axes.{markedSeamAlong, markedCostAlong, blockedAlong}
 
--- What 4 and 5 say of a buffer that is brought as marks: a mark over 2 isn't below 3.
+-- Refusals 4 and 5 of a buffer of marks: a mark over 2 isn't below 3.
 abbrev pub markRules : Size → List ℕ → List Rule
 markRules z marks = markLengthRules z (length marks) ++ (5 when outside 3 marks ∷ [])
 

@@ -7,3 +7,4 @@ pub mod Ways
 pub mod Traced
 pub mod Spaces
 pub mod Worked
+pub mod Smallest

@@ -1,1 +1,2 @@
 pub mod Weighed
+pub mod Smallest

@@ -20,7 +20,7 @@ use Rattle.pictures.specs.Refusals.{refusal}
 use Rattle.pictures.specs.Pictures.{largestSide, channelsOf, pictureBytes, sizeRules, picture, bytes}
 use Rattle.pictures.proofs.Limits.{line-fits, Sides, sides-are, sized-served}
 use Rattle.seam_moves.specs.Between.{partAt, putAt}
-use Rattle.seam_bounds.specs.Moves.{PlacesApart}
+use Rattle.seam_bounds.specs.Inner.{PlacesApart}
 use Rattle.seam_moves.specs.Moving.{columnBytes, ColumnGiven}
 use Rattle.seam_moves.specs.Inner.{PictureNeeded}
 use Rattle.grids.proofs.Filled.{flat-more, filled-length}

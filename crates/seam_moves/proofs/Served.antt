@@ -12,7 +12,7 @@ use Rattle.pictures.specs.Refusals.{_when_, refusal, served}
 use Rattle.pictures.specs.Pictures.{channelsOf, pictureBytes, sizeRules, picture, bytes, sideRules}
 use Rattle.pictures.proofs.Rules.{served-first}
 use Rattle.seam_moves.specs.Moving.{ExchangeGiven, columnBytes, ColumnGiven}
-use Rattle.seam_bounds.specs.Moves.{PlacesApart}
+use Rattle.seam_bounds.specs.Inner.{PlacesApart}
 use Rattle.seam_bounds.proofs.Moving.{are-places}
 use Rattle.seam_moves.specs.Between.{partAt, putAt, copyBetweenRules, CopyBetweenGiven, ExchangeBetweenGiven}
 

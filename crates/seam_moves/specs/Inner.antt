@@ -8,7 +8,7 @@ use Rattle.pictures.specs.declared.sizes.Size.{Size}
 use Rattle.pictures.specs.Refusals.{refusal}
 use Rattle.pictures.specs.Limits.{mostSide}
 use Rattle.pictures.specs.Pictures.{pictureBytes, sizeRules, sideRules}
-use Rattle.seam_bounds.specs.Moves.{PlacesApart}
+use Rattle.seam_bounds.specs.Inner.{PlacesApart}
 
 -- The samples of the pixel in column c and row r, from the bytes of a picture of w columns of ch samples.
 abbrev pub samples : ℕ → ℕ → List ℕ → ℕ → ℕ → List ℕ

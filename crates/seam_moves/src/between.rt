@@ -11,7 +11,7 @@ ghost use Prim.Native.Nat.{_+_};
 ghost use lib.ListN.{length};
 ghost use Rattle.grids.specs.Exchange.{exchange};
 ghost use Rattle.pictures.specs.Pictures.{picture, bytes as Pictures·bytes, pictureBytes};
-ghost use Rattle.seam_bounds.specs.Moves.{PlacesApart};
+ghost use Rattle.seam_bounds.specs.Inner.{PlacesApart};
 ghost use Rattle.seam_moves.specs.Between.{partAt, putAt, CopyBetweenGiven, ExchangeBetweenGiven};
 ghost use Rattle.seam_moves.specs.Inner.{PictureNeeded};
 

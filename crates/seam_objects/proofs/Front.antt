@@ -24,7 +24,7 @@ use Rattle.seam_cut_marked.proofs.Buffers.{seam-free, refused-blocked}
 use Rattle.seam_objects.specs.Objects.{noSeam, cutOnce}
 use Rattle.seam_objects.specs.Inner.{FrontNeeded, front, FrontCut}
 
--- A part at the front as it comes back, with what stood behind it.
+-- A part at the front as it comes back, with what stood after it.
 part-back : {A : Type 0} (t : Bool) (n k : ℕ) (x freed b b′ : List A) → n ≡ cond t 12 0 → b′ ≡ served n (x ++ freed) (take k b)
     → b′ ++ drop k b ≡ cond (not t) (x ++ (freed ++ drop k b)) b
 part-back true n k x freed b b′ e f = ap (_++ drop k b) (f ∙ ap (λ n. served n (x ++ freed) (take k b)) e) ∙ take-append-drop k b

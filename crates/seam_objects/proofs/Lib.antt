@@ -6,3 +6,4 @@ pub mod Front
 pub mod Standing
 pub mod Seams
 pub mod Rooms
+pub mod Smallest

@@ -1,4 +1,4 @@
--- The loop of object removal: what stands in the buffers after so many cuts, and what is still to be done.
+-- The loop of object removal: what stands in the buffers after `count` cuts, and what is still to be done.
 use mathlib.Core.Path.{_≡_, refl, sym, ap, ap₂, _∙_}
 use mathlib.Core.Logic.{⊎-elim}
 use mathlib.Core.Bool.{Bool, true, false, not}
@@ -29,7 +29,7 @@ use Rattle.seam_rules.specs.Endings.{nextStep}
 use Rattle.seam_rules.proofs.Choices.{step-ended}
 use Rattle.seam_objects.specs.Inner.{SeamsNeeded, FrontNeeded, front, FrontCut}
 use Rattle.seam_objects.proofs.Shapes.{flat-inside, shaped-start, shaped-cut}
-use Rattle.seam_objects.proofs.Standing.{Standing, front-marks, front-is, behind-bytes, behind-marks, bytes-there, marks-there}
+use Rattle.seam_objects.proofs.Standing.{Standing, front-marks, front-is, bytes-after, marks-after, bytes-there, marks-there}
 use Rattle.seam_objects.proofs.Endings.{removal-done, removal-narrow, removal-spent, removal-blocked, removal-cut}
 
 -- The size with this width.
@@ -161,11 +161,11 @@ module _ {z : Size} {b m : List ℕ} {budget width count : ℕ} {b′ m′ : Lis
                 shaped = shaped-cut (channelsOf (z .kind)) left (g .stands .shaped) (rw (g .stands .wide) some-left) seam;
                 picture-is =
                     f .picture-is
-                    ∙ ap₂ (λ t r. bytes (cutOnce t .picture) ++ (replicate (z .height * channelsOf (z .kind)) 0 ++ r)) same-front (behind-bytes (g .stands))
+                    ∙ ap₂ (λ t r. bytes (cutOnce t .picture) ++ (replicate (z .height * channelsOf (z .kind)) 0 ++ r)) same-front (bytes-after (g .stands))
                     ∙ ap (bytes (cutOnce left .picture) ++_) (one-more (z .height * channelsOf (z .kind)) count);
                 marks-are =
                     f .marks-are
-                    ∙ ap₂ (λ t r. flat (cutOnce t .marks) ++ (replicate (z .height) 0 ++ r)) same-front (behind-marks (g .stands))
+                    ∙ ap₂ (λ t r. flat (cutOnce t .marks) ++ (replicate (z .height) 0 ++ r)) same-front (marks-after (g .stands))
                     ∙ ap (flat (cutOnce left .marks) ++_) (one-more (z .height) count);
               };
             }

@@ -15,7 +15,7 @@ use Rattle.seam_objects.specs.Objects.{MarkedPicture}
 use Rattle.seam_objects.specs.Inner.{front}
 use Rattle.seam_objects.specs.Endings.{Shaped}
 
--- A picture and its marks of this size stand at the front of their buffers, with the freed bytes behind them.
+-- A picture and its marks of this size stand at the front of their buffers, with the freed bytes after them.
 pub record Standing (z : Size) (s : MarkedPicture) (b m freed unmarked : List ℕ) : Type 0 where
   pub wide : s .width ≡ z .width
   pub high : s .height ≡ z .height
@@ -39,11 +39,11 @@ module _ {z : Size} {s : MarkedPicture} {b m freed unmarked : List ℕ} (there :
   pub front-marks : take (pixels z) m ≡ flat (s .marks)
   front-marks = ap (take (pixels z)) (there .marks-are) ∙ take-at (flat (s .marks)) unmarked (pixels z) marks-long
 
-  pub behind-bytes : drop (pictureBytes z) b ≡ freed
-  behind-bytes = ap (drop (pictureBytes z)) (there .picture-is) ∙ drop-at (bytes (s .picture)) freed (pictureBytes z) long
+  pub bytes-after : drop (pictureBytes z) b ≡ freed
+  bytes-after = ap (drop (pictureBytes z)) (there .picture-is) ∙ drop-at (bytes (s .picture)) freed (pictureBytes z) long
 
-  pub behind-marks : drop (pixels z) m ≡ unmarked
-  behind-marks = ap (drop (pixels z)) (there .marks-are) ∙ drop-at (flat (s .marks)) unmarked (pixels z) marks-long
+  pub marks-after : drop (pixels z) m ≡ unmarked
+  marks-after = ap (drop (pixels z)) (there .marks-are) ∙ drop-at (flat (s .marks)) unmarked (pixels z) marks-long
 
   pub bytes-there : pictureBytes z ≤ length b
   bytes-there = rw (there .picture-is) (omega (arith, length-append (bytes (s .picture)) freed, long))

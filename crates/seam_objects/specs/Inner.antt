@@ -32,7 +32,7 @@ pub record FrontNeeded (z : Size) (b m work : List ℕ) : Type 0 where
 abbrev pub front : Size → List ℕ → List ℕ → MarkedPicture
 front z b m = markedPicture z (take (pictureBytes z) b) (take (pixels z) m)
 
--- Whether a seam was cut out of it; then what is left is packed at the front, the freed bytes are 0, and what stood behind
+-- Whether a seam was cut out of it; then what is left is packed at the front, the freed bytes are 0, and what stood after
 -- is as it was.
 pub record FrontCut (z : Size) (b m : List ℕ) (cut : Bool) (b′ m′ : List ℕ) : Type 0 where
   pub cut-is : cut ≡ not (noSeam (front z b m))

@@ -22,13 +22,13 @@ use Rattle.seam_moves.specs.Between.{partAt}
 use Rattle.seam_moves.proofs.Places.{length-part}
 use Rattle.seam_rules.specs.declared.answers.Rows.{Rows}
 use Rattle.seam_rules.specs.declared.answers.Columns.{Columns}
-use Rattle.seam_rules.specs.Counts.{smaller, leftSize, retargetBytes, retargetRules}
-use Rattle.seam_retarget.specs.Cells.{cell}
+use Rattle.seam_rules.specs.Counts.{rowCount, smaller, leftSize, retargetBytes, retargetRules}
 use Rattle.seam_retarget.specs.Retargeting.{cellOf}
 use Rattle.seam_retarget.specs.Inner.Seams.{pictureAt}
 use Rattle.seam_retarget.specs.Inner.Cells.{SpaceNeeded}
 use Rattle.seam_retarget.specs.Inner.Table.{held, firstRow, tableRow, RowNeeded, RowGiven}
 use Rattle.seam_retarget.specs.Inner.Retargets.{RetargetNeeded, LastGiven}
+use Rattle.seam_retarget.proofs.Numbered.{cellAt, cell-numbers}
 use Rattle.seam_retarget.proofs.Slots.{smaller-few}
 use Rattle.seam_retarget.proofs.Sweep.{first-cells, table-cells}
 
@@ -105,7 +105,7 @@ module _ (b : List ℕ) (z : Size) (rows : Rows) (columns : Columns) (out work :
       }
 
   module _ (one : List ℕ) (copied : one ≡ take (length b) b ++ drop (length b) work) (one-long : length one ≡ length work) where
-    pub first-needed : (totals : List ℕ) → length totals ≡ 65 → RowNeeded z (length b) 0 (columns .0) one totals
+    pub first-needed : (totals : List ℕ) → length totals ≡ 65 → RowNeeded z (length b) (rowCount 0) columns one totals
     first-needed totals many = record {
       space = rw one-long space;
       rows-left = sized .height-some;
@@ -115,8 +115,8 @@ module _ (b : List ℕ) (z : Size) (rows : Rows) (columns : Columns) (out work :
       totals-long = many;
     }
 
-    first-is : (totals : List ℕ) → ((j : ℕ) → getD totals j 0 ≡ 0) → held z (length b) 0 one totals 0 ≡ cell z (picture z b) 0 0
-    unfolding cell
+    first-is : (totals : List ℕ) → ((j : ℕ) → getD totals j 0 ≡ 0) → held z (length b) (rowCount 0) one totals 0 ≡ cellAt z (picture z b) 0 0
+    unfolding cellAt
     first-is totals none =
         let zero-less : smaller z 0 0 ≡ z = ap₂ (λ w h. record { width = w; height = h; kind = z .kind }) (omega arith) (omega arith) in
         let front : take (pictureBytes z) one ≡ b = ap₂ take (sym (sized .length-is)) copied ∙ take-at (take (length b) b) (drop (length b) work) (length b) (ap length (take-length b)) ∙ take-length b in
@@ -125,8 +125,8 @@ module _ (b : List ℕ) (z : Size) (rows : Rows) (columns : Columns) (out work :
         (none 0)
 
     module _ (totals two totals₂ : List ℕ) (none : (j : ℕ) → getD totals j 0 ≡ 0)
-        (row : RowGiven z (length b) 0 (columns .0) (firstRow z (held z (length b) 0 one totals 0)) one two totals₂) where
-      pub below-needed : RowNeeded z (length b) (rows .0) (columns .0) two totals₂
+        (row : RowGiven z (length b) (rowCount 0) columns (firstRow z (held z (length b) (rowCount 0) one totals 0)) one two totals₂) where
+      pub below-needed : RowNeeded z (length b) rows columns two totals₂
       below-needed = record {
         space = rw (row .long ∙ one-long) space;
         rows-left = needed .rows-left;
@@ -136,16 +136,17 @@ module _ (b : List ℕ) (z : Size) (rows : Rows) (columns : Columns) (out work :
         totals-long = row .totals-long;
       }
 
-      module _ (three totals₃ : List ℕ) (last : RowGiven z (length b) (rows .0) (columns .0) (tableRow z (held z (length b) 0 two totals₂) (rows .0)) two three totals₃) where
+      module _ (three totals₃ : List ℕ) (last : RowGiven z (length b) rows columns (tableRow z (held z (length b) (rowCount 0) two totals₂) rows) two three totals₃) where
         pub three-long : length three ≡ length work
         three-long = last .long ∙ row .long ∙ one-long
 
-        cell-is : held z (length b) (rows .0) three totals₃ (columns .0) ≡ cellOf z b rows columns
+        cell-is : held z (length b) rows three totals₃ (columns .0) ≡ cellOf z b rows columns
         cell-is =
             last .cells-are (columns .0) (omega arith)
-            ∙ table-cells z (picture z b) (columns .0) (held z (length b) 0 two totals₂)
+            ∙ table-cells z (picture z b) (columns .0) (held z (length b) (rowCount 0) two totals₂)
             (λ j h. row .cells-are j h ∙ ap (λ k. firstRow z k j) (first-is totals none) ∙ first-cells z (picture z b) j)
             (rows .0) (columns .0) (omega arith)
+            ∙ sym (cell-numbers z (picture z b) rows columns)
 
         module _ (count : ℕ) (count-is : count ≡ pictureBytes (leftSize z rows columns)) where
           abbrev part : List ℕ

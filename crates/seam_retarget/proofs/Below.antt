@@ -12,9 +12,9 @@ use Rattle.pictures.specs.Pictures.{picture}
 use Rattle.seam_moves.specs.Between.{partAt}
 use Rattle.seam_rules.specs.declared.answers.Axis.the-variants.{Vertical, Horizontal}
 use Rattle.seam_retarget.specs.Cells.{Cell, bySeam, chosen}
-use Rattle.seam_rules.specs.Counts.{smaller}
+use Rattle.seam_rules.specs.Counts.{rowCount, columnCount, smaller}
 use Rattle.seam_retarget.specs.Inner.Seams.{pictureAt, StepNeeded, StepGiven}
-use Rattle.seam_retarget.specs.Inner.Table.{largestTotal, held, alongRow, nextRow, tableRow, RowNeeded, RowGiven, MoreTotals}
+use Rattle.seam_retarget.specs.Inner.Table.{largestTotal, held, alongRow, nextRow, rowBelow, RowNeeded, RowGiven, MoreTotals}
 use Rattle.seam_retarget.specs.Inner.Cells.{CellNeeded, CellGiven}
 use Rattle.seam_rules.proofs.Left.{smaller-sides}
 use Rattle.seam_retarget.proofs.Slots.{less-row, same-picture, placed-horizontal}
@@ -25,14 +25,14 @@ pub record RestSoFar (z : Size) (whole r c : ℕ) (work₀ totals₀ : List ℕ)
   pub inside : j ≤ c
   pub long : length work ≡ length work₀
   pub totals-long : length totals ≡ 65
-  pub cells-are : (k : ℕ) → k ≤ j → held z whole (r + 1) work totals k ≡ alongRow z r (held z whole (r + 1) work₀ totals₀ 0) (held z whole r work₀ totals₀) k
+  pub cells-are : (k : ℕ) → k ≤ j → held z whole (rowCount (r + 1)) work totals k ≡ alongRow z (rowCount r) (held z whole (rowCount (r + 1)) work₀ totals₀ 0) (held z whole (rowCount r) work₀ totals₀) k
   pub small : (k : ℕ) → getD totals k 0 ≤ largestTotal (r + 1)
   pub later : (k : ℕ) → j < k → k < 65 → partAt (k * whole) whole work ≡ partAt (k * whole) whole work₀
   pub later-totals : (k : ℕ) → j < k → getD totals k 0 ≡ getD totals₀ k 0
 
-module _ (z : Size) (whole r c : ℕ) (work₀ totals₀ : List ℕ) (needed : RowNeeded z whole (r + 1) c work₀ totals₀) (sums : MoreTotals r totals₀) where
+module _ (z : Size) (whole r c : ℕ) (work₀ totals₀ : List ℕ) (needed : RowNeeded z whole (rowCount (r + 1)) (columnCount c) work₀ totals₀) (sums : MoreTotals (rowCount r) totals₀) where
   abbrev above : ℕ → Cell
-  above = held z whole r work₀ totals₀
+  above = held z whole (rowCount r) work₀ totals₀
 
   all-small : (k : ℕ) → getD totals₀ k 0 ≤ largestTotal (r + 1)
   all-small zero = sums .first
@@ -44,7 +44,7 @@ module _ (z : Size) (whole r c : ℕ) (work₀ totals₀ : List ℕ) (needed : R
     inside = omega arith;
     long = refl;
     totals-long = needed .totals-long;
-    cells-are = λ k h. let e : 0 ≡ k = omega arith in subst (λ i. held z whole (r + 1) work₀ totals₀ i ≡ alongRow z r (held z whole (r + 1) work₀ totals₀ 0) (held z whole r work₀ totals₀) i) e refl;
+    cells-are = λ k h. let e : 0 ≡ k = omega arith in subst (λ i. held z whole (rowCount (r + 1)) work₀ totals₀ i ≡ alongRow z (rowCount r) (held z whole (rowCount (r + 1)) work₀ totals₀ 0) (held z whole (rowCount r) work₀ totals₀) i) e refl;
     small = all-small;
     later = λ k h l. refl;
     later-totals = λ k h. refl;
@@ -54,7 +54,7 @@ module _ (z : Size) (whole r c : ℕ) (work₀ totals₀ : List ℕ) (needed : R
     upper-small : getD totals (j + 1) 0 ≤ largestTotal r
     upper-small = rw (so-far .later-totals (j + 1) (omega arith)) (sums .others (j + 1) (omega arith))
 
-    pub rest-cell : CellNeeded z whole r j (getD totals (j + 1) 0) (getD totals j 0) (length work)
+    pub rest-cell : CellNeeded z whole (rowCount r) (columnCount j) (getD totals (j + 1) 0) (getD totals j 0) (length work)
     rest-cell = record {
       space = rw (so-far .long) (needed .space);
       rows-left = needed .rows-left;
@@ -64,20 +64,20 @@ module _ (z : Size) (whole r c : ℕ) (work₀ totals₀ : List ℕ) (needed : R
       left-small = omega (arith, so-far .small j, needed .row);
     }
 
-    pub rest-turn : (v : ℕ) (work′ : List ℕ) → CellGiven z whole r j (getD totals (j + 1) 0) (getD totals j 0) work v work′
+    pub rest-turn : (v : ℕ) (work′ : List ℕ) → CellGiven z whole (rowCount r) (columnCount j) (getD totals (j + 1) 0) (getD totals j 0) work v work′
         → RestSoFar z whole r c work₀ totals₀ (j + 1) work′ (set totals (j + 1) v)
     unfolding alongRow
     rest-turn v work′ g =
-        let upper : held z whole r work totals (j + 1) ≡ held z whole r work₀ totals₀ (suc j) =
+        let upper : held z whole (rowCount r) work totals (j + 1) ≡ held z whole (rowCount r) work₀ totals₀ (suc j) =
         ap₂ (λ p t. record { picture = p; total = t })
         (same-picture z whole r (j + 1) ((j + 1) * whole) work work₀ (needed .space .whole-is) (so-far .later (j + 1) (omega arith) (omega (arith, needed .column))))
         (so-far .later-totals (j + 1) (omega arith))
-        ∙ ap (held z whole r work₀ totals₀) (add-one j) in
+        ∙ ap (held z whole (rowCount r) work₀ totals₀) (add-one j) in
         record {
           inside = omega arith;
           long = g .long ∙ so-far .long;
           totals-long = length-set totals (j + 1) v ∙ so-far .totals-long;
-          cells-are = up-to {P = λ k. held z whole (r + 1) work′ (set totals (j + 1) v) k ≡ alongRow z r (held z whole (r + 1) work₀ totals₀ 0) (held z whole r work₀ totals₀) k} j
+          cells-are = up-to {P = λ k. held z whole (rowCount (r + 1)) work′ (set totals (j + 1) v) k ≡ alongRow z (rowCount r) (held z whole (rowCount (r + 1)) work₀ totals₀ 0) (held z whole (rowCount r) work₀ totals₀) k} j
               (λ k h.
               held-other z whole (r + 1) (j + 1) v work′ totals work k (needed .space .whole-is) (λ e. omega arith) (g .others k (omega (arith, needed .column)) (λ e. omega arith))
               ∙ so-far .cells-are k h)
@@ -86,14 +86,14 @@ module _ (z : Size) (whole r c : ℕ) (work₀ totals₀ : List ℕ) (needed : R
               ∙ ap₂ chosen
               (ap₂ (λ n (left : Cell). bySeam Vertical (smaller z n j) left) (add-one r) (so-far .cells-are j (omega arith)))
               (ap₂ (λ n (up : Cell). bySeam Horizontal (smaller z r n) up) (add-one j) upper)
-              ∙ ap (alongRow z r (held z whole (r + 1) work₀ totals₀ 0) (held z whole r work₀ totals₀)) (sym (add-one j)));
+              ∙ ap (alongRow z (rowCount r) (held z whole (rowCount (r + 1)) work₀ totals₀ 0) (held z whole (rowCount r) work₀ totals₀)) (sym (add-one j)));
           small = set-small totals (j + 1) v (largestTotal (r + 1)) (so-far .small) (omega (arith, g .small, upper-small));
           later = λ k h l. g .others k l (λ e. omega arith) ∙ so-far .later k (omega arith) l;
           later-totals = λ k h. getD-set-other totals (j + 1) k v 0 (λ e. omega arith) ∙ so-far .later-totals k (omega arith);
         }
 
   pub rest-end : (work totals : List ℕ) → RestSoFar z whole r c work₀ totals₀ c work totals
-      → RowGiven z whole (r + 1) c (alongRow z r (held z whole (r + 1) work₀ totals₀ 0) (held z whole r work₀ totals₀)) work₀ work totals
+      → RowGiven z whole (rowCount (r + 1)) (columnCount c) (alongRow z (rowCount r) (held z whole (rowCount (r + 1)) work₀ totals₀ 0) (held z whole (rowCount r) work₀ totals₀)) work₀ work totals
   rest-end work totals so-far = record {
     cells-are = so-far .cells-are;
     small = so-far .small;
@@ -102,7 +102,7 @@ module _ (z : Size) (whole r c : ℕ) (work₀ totals₀ : List ℕ) (needed : R
   }
 
 -- A row below row r, whose first cell comes by a step from slot 0 to slot 0.
-module _ (z : Size) (whole r c : ℕ) (work totals : List ℕ) (needed : RowNeeded z whole (r + 1) c work totals) (sums : (j : ℕ) → getD totals j 0 ≤ largestTotal r) where
+module _ (z : Size) (whole r c : ℕ) (work totals : List ℕ) (needed : RowNeeded z whole (rowCount (r + 1)) (columnCount c) work totals) (sums : (j : ℕ) → getD totals j 0 ≤ largestTotal r) where
   pub next-step : StepNeeded (length work) 0 (smaller z r 0) Horizontal (67 * whole) 0
   next-step =
       let q = placed-horizontal z whole (length work) (needed .space) 0 r 0 (omega arith) in
@@ -119,7 +119,7 @@ module _ (z : Size) (whole r c : ℕ) (work totals : List ℕ) (needed : RowNeed
     abbrev sums′ : List ℕ
     sums′ = set totals 0 (getD totals 0 0 + cost)
 
-    pub next-needed : RowNeeded z whole (r + 1) c one (set totals 0 (getD totals 0 0 + cost))
+    pub next-needed : RowNeeded z whole (rowCount (r + 1)) (columnCount c) one (set totals 0 (getD totals 0 0 + cost))
     next-needed = record {
       space = rw (g .long) (needed .space);
       rows-left = needed .rows-left;
@@ -129,31 +129,31 @@ module _ (z : Size) (whole r c : ℕ) (work totals : List ℕ) (needed : RowNeed
       totals-long = length-set totals 0 (getD totals 0 0 + cost) ∙ needed .totals-long;
     }
 
-    pub next-sums : MoreTotals r (set totals 0 (getD totals 0 0 + cost))
+    pub next-sums : MoreTotals (rowCount r) (set totals 0 (getD totals 0 0 + cost))
     next-sums = record {
       first = rw (getD-set-same totals 0 (getD totals 0 0 + cost) 0 (omega (arith, needed .totals-long))) (omega (arith, sums 0, g .cost-most));
       others = λ j h. rw (getD-set-other totals 0 j (getD totals 0 0 + cost) 0 (λ e. omega arith)) (sums j);
     }
 
-    first-is : held z whole (r + 1) one (set totals 0 (getD totals 0 0 + cost)) 0 ≡ bySeam Horizontal (smaller z r 0) (held z whole r work totals 0)
+    first-is : held z whole (rowCount (r + 1)) one (set totals 0 (getD totals 0 0 + cost)) 0 ≡ bySeam Horizontal (smaller z r 0) (held z whole (rowCount r) work totals 0)
     first-is =
         held-new z whole (r + 1) 0 (getD totals 0 0 + cost) one totals (omega (arith, needed .totals-long))
         ∙ ap₂ (λ u at. record { picture = pictureAt u at one; total = getD totals 0 0 + cost }) (sym (less-row z r 0)) (zero-mul whole)
         ∙ step-cell work 0 (smaller z r 0) Horizontal (67 * whole) 0 cost one (getD totals 0 0) g
         ∙ ap (λ at. bySeam Horizontal (smaller z r 0) (record { picture = pictureAt (smaller z r 0) at work; total = getD totals 0 0 })) (sym (zero-mul whole))
 
-    others-are : (j : ℕ) → j ≤ c → 0 < j → held z whole r one (set totals 0 (getD totals 0 0 + cost)) j ≡ held z whole r work totals j
+    others-are : (j : ℕ) → j ≤ c → 0 < j → held z whole (rowCount r) one (set totals 0 (getD totals 0 0 + cost)) j ≡ held z whole (rowCount r) work totals j
     others-are j h some =
         held-other z whole r 0 (getD totals 0 0 + cost) one totals work j (needed .space .whole-is) (λ e. omega arith)
         (slot-kept z whole (length work) work one (needed .space) 0 r 0 Horizontal 67 0 cost (omega arith) (subst (λ at. StepGiven work 0 (smaller z r 0) Horizontal (67 * whole) at cost one) (sym (zero-mul whole)) g) j (omega (arith, needed .column)) (λ e. omega arith))
 
     pub next-given : (two totals′ : List ℕ)
-        → RowGiven z whole (r + 1) c (alongRow z r (held z whole (r + 1) one (set totals 0 (getD totals 0 0 + cost)) 0) (held z whole r one (set totals 0 (getD totals 0 0 + cost)))) one two totals′
-        → RowGiven z whole (r + 1) c (nextRow z r (held z whole r work totals)) work two totals′
+        → RowGiven z whole (rowCount (r + 1)) (columnCount c) (alongRow z (rowCount r) (held z whole (rowCount (r + 1)) one (set totals 0 (getD totals 0 0 + cost)) 0) (held z whole (rowCount r) one (set totals 0 (getD totals 0 0 + cost)))) one two totals′
+        → RowGiven z whole (rowCount (r + 1)) (columnCount c) (nextRow z (rowCount r) (held z whole (rowCount r) work totals)) work two totals′
     next-given two totals′ row = record {
       cells-are = λ j h. row .cells-are j h
-          ∙ along-same z r c (held z whole (r + 1) one (set totals 0 (getD totals 0 0 + cost)) 0) (bySeam Horizontal (smaller z r 0) (held z whole r work totals 0))
-          (held z whole r one (set totals 0 (getD totals 0 0 + cost))) (held z whole r work totals) first-is others-are j h;
+          ∙ along-same z r c (held z whole (rowCount (r + 1)) one (set totals 0 (getD totals 0 0 + cost)) 0) (bySeam Horizontal (smaller z r 0) (held z whole (rowCount r) work totals 0))
+          (held z whole (rowCount r) one (set totals 0 (getD totals 0 0 + cost))) (held z whole (rowCount r) work totals) first-is others-are j h;
       small = row .small;
       long = row .long ∙ g .long;
       totals-long = row .totals-long;
@@ -162,19 +162,19 @@ module _ (z : Size) (whole r c : ℕ) (work totals : List ℕ) (needed : RowNeed
 -- Row r from the first row.
 module _ (z : Size) (whole c : ℕ) (work₀ totals₀ : List ℕ) where
   pub below-turn : (r : ℕ) (work totals work′ totals′ : List ℕ)
-      → RowGiven z whole r c (tableRow z (held z whole 0 work₀ totals₀) r) work₀ work totals
-      → RowGiven z whole (r + 1) c (nextRow z r (held z whole r work totals)) work work′ totals′
-      → RowGiven z whole (r + 1) c (tableRow z (held z whole 0 work₀ totals₀) (r + 1)) work₀ work′ totals′
-  unfolding tableRow
+      → RowGiven z whole (rowCount r) (columnCount c) (rowBelow z (held z whole (rowCount 0) work₀ totals₀) r) work₀ work totals
+      → RowGiven z whole (rowCount (r + 1)) (columnCount c) (nextRow z (rowCount r) (held z whole (rowCount r) work totals)) work work′ totals′
+      → RowGiven z whole (rowCount (r + 1)) (columnCount c) (rowBelow z (held z whole (rowCount 0) work₀ totals₀) (r + 1)) work₀ work′ totals′
+  unfolding rowBelow
   below-turn r work totals work′ totals′ so-far row = record {
     cells-are = λ j h. row .cells-are j h
-        ∙ next-same z r c (held z whole r work totals) (tableRow z (held z whole 0 work₀ totals₀) r) (so-far .cells-are) j h
-        ∙ ap (λ n. tableRow z (held z whole 0 work₀ totals₀) n j) (sym (add-one r));
+        ∙ next-same z r c (held z whole (rowCount r) work totals) (rowBelow z (held z whole (rowCount 0) work₀ totals₀) r) (so-far .cells-are) j h
+        ∙ ap (λ n. rowBelow z (held z whole (rowCount 0) work₀ totals₀) n j) (sym (add-one r));
     small = row .small;
     long = row .long ∙ so-far .long;
     totals-long = row .totals-long;
   }
 
-  pub below-start : length totals₀ ≡ 65 → ((j : ℕ) → getD totals₀ j 0 ≤ largestTotal 0) → RowGiven z whole 0 c (tableRow z (held z whole 0 work₀ totals₀) 0) work₀ work₀ totals₀
-  unfolding tableRow
+  pub below-start : length totals₀ ≡ 65 → ((j : ℕ) → getD totals₀ j 0 ≤ largestTotal 0) → RowGiven z whole (rowCount 0) (columnCount c) (rowBelow z (held z whole (rowCount 0) work₀ totals₀) 0) work₀ work₀ totals₀
+  unfolding rowBelow
   below-start many small = record { cells-are = λ j h. refl; small = small; long = refl; totals-long = many }

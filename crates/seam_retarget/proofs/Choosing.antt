@@ -18,7 +18,7 @@ use Rattle.seam_rules.specs.declared.answers.Axis.the-variants.{Vertical, Horiz
 use Rattle.seam_cut.specs.Axes.{seamAlong, costAlong}
 use Rattle.seam_turn.specs.Axes.{cutAlong}
 use Rattle.seam_retarget.specs.Cells.{Cell, bySeam, chosen}
-use Rattle.seam_rules.specs.Counts.{smaller}
+use Rattle.seam_rules.specs.Counts.{rowCount, columnCount, smaller}
 use Rattle.seam_retarget.specs.Inner.Seams.{pictureAt, leftAlong, SeamNeeded, SeamGiven, CutNeeded, CutGiven}
 use Rattle.seam_retarget.specs.Inner.Cells.{SpaceNeeded, CellNeeded, CellGiven}
 use Rattle.seam_retarget.proofs.Cuts.{turned-tall, found-inside, cut-is}
@@ -41,7 +41,7 @@ module _ (z : Size) (whole work : ℕ) (needed : SpaceNeeded z whole work) (k r 
       record { sides = sides; places = q .here; room = q .room; seam-room = rw many (turned-tall Horizontal (smaller z r c) sides) }
 
 -- The space as it is after both seams were found.
-module _ (z : Size) (whole r c above left : ℕ) (work : List ℕ) (needed : CellNeeded z whole r c above left (length work))
+module _ (z : Size) (whole r c above left : ℕ) (work : List ℕ) (needed : CellNeeded z whole (rowCount r) (columnCount c) above left (length work))
     (seam₁ one across : List ℕ) (cost₁ : ℕ) (first : SeamGiven work ((c + 1) * whole) (smaller z r (c + 1)) Horizontal (67 * whole) seam₁ cost₁ one across)
     (seam₂ two down : List ℕ) (cost₂ : ℕ) (second : SeamGiven one (c * whole) (smaller z (r + 1) c) Vertical (65 * whole) seam₂ cost₂ two down) where
   abbrev upper : Size
@@ -130,7 +130,7 @@ module _ (z : Size) (whole r c above left : ℕ) (work : List ℕ) (needed : Cel
       placed-end k l = part-end k 65 whole l
 
   module _ (three : List ℕ) where
-    pub given-vertical : left + cost₂ ≤ above + cost₁ → CutGiven two (65 * whole) beside Vertical down slot three → CellGiven z whole r c above left work (left + cost₂) three
+    pub given-vertical : left + cost₂ ≤ above + cost₁ → CutGiven two (65 * whole) beside Vertical down slot three → CellGiven z whole (rowCount r) (columnCount c) above left work (left + cost₂) three
     unfolding chosen bySeam
     given-vertical less g =
         let cut : pictureAt (leftAlong Vertical beside) slot three ≡ cutAlong Vertical beside (seamAlong Vertical beside (pictureAt beside (c * whole) one)) (pictureAt beside (c * whole) one) =
@@ -145,7 +145,7 @@ module _ (z : Size) (whole r c above left : ℕ) (work : List ℕ) (needed : Cel
           others = others-kept (65 * whole) beside three down Vertical (rw (needed .space .whole-is) (smaller-few z (r + 1) c)) (omega arith) g;
         }
 
-    pub given-horizontal : above + cost₁ < left + cost₂ → CutGiven two (67 * whole) upper Horizontal across slot three → CellGiven z whole r c above left work (above + cost₁) three
+    pub given-horizontal : above + cost₁ < left + cost₂ → CutGiven two (67 * whole) upper Horizontal across slot three → CellGiven z whole (rowCount r) (columnCount c) above left work (above + cost₁) three
     unfolding chosen bySeam
     given-horizontal less g =
         let cut : pictureAt (leftAlong Horizontal upper) slot three ≡ cutAlong Horizontal upper (seamAlong Horizontal upper (pictureAt upper slot work)) (pictureAt upper slot work) =

@@ -1,3 +1,4 @@
+pub mod Numbered
 pub mod Costs
 pub mod Steps
 pub mod Cuts

@@ -1,5 +1,5 @@
 -- What every cell of the table is: a picture of its size, of samples that are bytes, with a total that stays small.
-use mathlib.Core.Path.{_≡_}
+use mathlib.Core.Path.{_≡_, sym, subst}
 use mathlib.Core.Bool.{Bool, true, false, cond}
 use mathlib.Core.List.{List, []}
 use Prim.Native.Nat.{ℕ, zero, suc, _+_, _-_, _*_, _≤_, _<_}
@@ -25,8 +25,11 @@ use Rattle.seam_cut.specs.Axes.{seamAlong, costAlong}
 use Rattle.seam_rules.proofs.Turns.{turned-sides}
 use Rattle.seam_cut.proofs.Inside.{along-inside}
 use Rattle.seam_retarget.specs.Cells.{Cell, bySeam, chosen, cell}
-use Rattle.seam_rules.specs.Counts.{smaller}
+use Rattle.seam_rules.specs.declared.answers.Rows.{Rows}
+use Rattle.seam_rules.specs.declared.answers.Columns.{Columns}
+use Rattle.seam_rules.specs.Counts.{smaller, largestCount, leftSize}
 use Rattle.seam_retarget.specs.Inner.Seams.{leftAlong}
+use Rattle.seam_retarget.proofs.Numbered.{cellAt, cell-numbers}
 use Rattle.seam_retarget.proofs.Costs.{cost-bound}
 use Rattle.seam_retarget.proofs.Steps.{sized-at}
 use Rattle.seam_rules.proofs.Left.{smaller-sides}
@@ -66,28 +69,31 @@ module _ (P : List ℕ → Type 0) where
 
   -- Each cell has the pixels of the picture, r rows and c columns less.
   module _ (z : Size) (p : Picture) (s : refusal (sideRules z) ≡ 0) (o : Of P z p) where
-    pub cell-of : (r c : ℕ) → r < z .height → c < z .width → Of P (smaller z r c) (cell z p r c .picture)
-    unfolding cell
+    pub cell-of : (r c : ℕ) → r < z .height → c < z .width → Of P (smaller z r c) (cellAt z p r c .picture)
+    unfolding cellAt
     cell-of zero zero h w =
         let a : z .width - 0 ≡ z .width = omega arith in
         let b : z .height - 0 ≡ z .height = omega arith in
         rw (a, b) o
     cell-of zero (suc c) h w =
-        less-column-of z 0 c (bySeam Vertical (smaller z 0 c) (cell z p 0 c) .picture)
-        (by-of Vertical (smaller z 0 c) (cell z p 0 c) (smaller-sides z 0 c s h (omega arith)) (omega arith) (cell-of 0 c h (omega arith)))
+        less-column-of z 0 c (bySeam Vertical (smaller z 0 c) (cellAt z p 0 c) .picture)
+        (by-of Vertical (smaller z 0 c) (cellAt z p 0 c) (smaller-sides z 0 c s h (omega arith)) (omega arith) (cell-of 0 c h (omega arith)))
     cell-of (suc r) zero h w =
-        less-row-of z r 0 (bySeam Horizontal (smaller z r 0) (cell z p r 0) .picture)
-        (by-of Horizontal (smaller z r 0) (cell z p r 0) (smaller-sides z r 0 s (omega arith) w) (omega arith) (cell-of r 0 (omega arith) w))
+        less-row-of z r 0 (bySeam Horizontal (smaller z r 0) (cellAt z p r 0) .picture)
+        (by-of Horizontal (smaller z r 0) (cellAt z p r 0) (smaller-sides z r 0 s (omega arith) w) (omega arith) (cell-of r 0 (omega arith) w))
     cell-of (suc r) (suc c) h w =
-        chosen-of (smaller z (suc r) (suc c)) (bySeam Vertical (smaller z (suc r) c) (cell z p (suc r) c)) (bySeam Horizontal (smaller z r (suc c)) (cell z p r (suc c)))
-        (less-column-of z (suc r) c (bySeam Vertical (smaller z (suc r) c) (cell z p (suc r) c) .picture)
-        (by-of Vertical (smaller z (suc r) c) (cell z p (suc r) c) (smaller-sides z (suc r) c s h (omega arith)) (omega arith) (cell-of (suc r) c h (omega arith))))
-        (less-row-of z r (suc c) (bySeam Horizontal (smaller z r (suc c)) (cell z p r (suc c)) .picture)
-        (by-of Horizontal (smaller z r (suc c)) (cell z p r (suc c)) (smaller-sides z r (suc c) s (omega arith) w) (omega arith) (cell-of r (suc c) (omega arith) w)))
+        chosen-of (smaller z (suc r) (suc c)) (bySeam Vertical (smaller z (suc r) c) (cellAt z p (suc r) c)) (bySeam Horizontal (smaller z r (suc c)) (cellAt z p r (suc c)))
+        (less-column-of z (suc r) c (bySeam Vertical (smaller z (suc r) c) (cellAt z p (suc r) c) .picture)
+        (by-of Vertical (smaller z (suc r) c) (cellAt z p (suc r) c) (smaller-sides z (suc r) c s h (omega arith)) (omega arith) (cell-of (suc r) c h (omega arith))))
+        (less-row-of z r (suc c) (bySeam Horizontal (smaller z r (suc c)) (cellAt z p r (suc c)) .picture)
+        (by-of Horizontal (smaller z r (suc c)) (cellAt z p r (suc c)) (smaller-sides z r (suc c) s (omega arith) w) (omega arith) (cell-of r (suc c) (omega arith) w)))
 
 -- "To remove r rows and c columns": the cell's picture has the size m - c by n - r.
-pub cell-ofSize : (z : Size) (p : Picture) → refusal (sideRules z) ≡ 0 → OfSize z p → (r c : ℕ) → r < z .height → c < z .width → OfSize (smaller z r c) (cell z p r c .picture)
-cell-ofSize z p s o r c h w = cell-of (λ x. length x ≡ channelsOf (z .kind)) z p s o r c h w
+pub cell-ofSize : (z : Size) (p : Picture) → refusal (sideRules z) ≡ 0 → OfSize z p → (rows : Rows) (columns : Columns) → rows .0 < z .height → columns .0 < z .width
+    → OfSize (leftSize z rows columns) (cell z p rows columns .picture)
+cell-ofSize z p s o rows columns h w =
+    subst (λ (k : Cell). OfSize (leftSize z rows columns) (k .picture)) (sym (cell-numbers z p rows columns))
+    (cell-of (λ x. length x ≡ channelsOf (z .kind)) z p s o (rows .0) (columns .0) h w)
 
 -- A pixel of so many samples, each a byte.
 pub record Bytes (channels : ℕ) (x : List ℕ) : Type 0 where
@@ -120,17 +126,17 @@ cost-most ch few x z p s o =
 
 -- The total of r + c seams: at most 128 of them, it fits 64 bits.
 module _ (z : Size) (p : Picture) (s : refusal (sideRules z) ≡ 0) (ch : ℕ) (few : ch ≤ 3) (o : Of (Bytes ch) z p) where
-  by-most : (x : Axis) (r c m : ℕ) → r < z .height → c < z .width → cell z p r c .total ≤ m → bySeam x (smaller z r c) (cell z p r c) .total ≤ m + mostCost
+  by-most : (x : Axis) (r c m : ℕ) → r < z .height → c < z .width → cellAt z p r c .total ≤ m → bySeam x (smaller z r c) (cellAt z p r c) .total ≤ m + mostCost
   unfolding bySeam
-  by-most x r c m h w l = omega (arith, cost-most ch few x (smaller z r c) (cell z p r c .picture) (smaller-sides z r c s h w) (cell-of (Bytes ch) z p s o r c h w))
+  by-most x r c m h w l = omega (arith, cost-most ch few x (smaller z r c) (cellAt z p r c .picture) (smaller-sides z r c s h w) (cell-of (Bytes ch) z p s o r c h w))
 
-  pub total-most : (r c : ℕ) → r < z .height → c < z .width → cell z p r c .total ≤ (r + c) * mostCost
-  unfolding cell chosen
+  pub total-most : (r c : ℕ) → r < z .height → c < z .width → cellAt z p r c .total ≤ (r + c) * mostCost
+  unfolding cellAt chosen
   total-most zero zero h w = omega arith
   total-most zero (suc c) h w = omega (arith, by-most Vertical 0 c ((0 + c) * mostCost) h (omega arith) (total-most 0 c h (omega arith)))
   total-most (suc r) zero h w = omega (arith, by-most Horizontal r 0 ((r + 0) * mostCost) (omega arith) w (total-most r 0 (omega arith) w))
   total-most (suc r) (suc c) h w =
-      less (bySeam Vertical (smaller z (suc r) c) (cell z p (suc r) c)) (bySeam Horizontal (smaller z r (suc c)) (cell z p r (suc c)))
+      less (bySeam Vertical (smaller z (suc r) c) (cellAt z p (suc r) c)) (bySeam Horizontal (smaller z r (suc c)) (cellAt z p r (suc c)))
       (omega (arith, by-most Vertical (suc r) c ((suc r + c) * mostCost) h (omega arith) (total-most (suc r) c h (omega arith))))
       (omega (arith, by-most Horizontal r (suc c) ((r + suc c) * mostCost) (omega arith) w (total-most r (suc c) (omega arith) w)))
     where
@@ -141,5 +147,7 @@ module _ (z : Size) (p : Picture) (s : refusal (sideRules z) ≡ 0) (ch : ℕ) (
           go true = a
           go false = b
 
-  pub total-fits : (r c : ℕ) → r < z .height → c < z .width → r ≤ 64 → c ≤ 64 → cell z p r c .total < 18446744073709551616
-  total-fits r c h w k l = omega (arith, total-most r c h w)
+  pub total-fits : (rows : Rows) (columns : Columns) → rows .0 < z .height → columns .0 < z .width → rows .0 ≤ largestCount → columns .0 ≤ largestCount
+      → cell z p rows columns .total < 18446744073709551616
+  total-fits rows columns h w k l =
+      subst (λ (c : Cell). c .total < 18446744073709551616) (sym (cell-numbers z p rows columns)) (omega (arith, total-most (rows .0) (columns .0) h w))

@@ -14,7 +14,7 @@ use Rattle.pictures.specs.declared.sizes.Size.{Size}
 use Rattle.pictures.specs.Pictures.{channelsOf, pictureBytes, picture, pixels}
 use Rattle.pictures.proofs.Limits.{sides-are, channels-some}
 use Rattle.seam_moves.specs.Between.{partAt}
-use Rattle.seam_bounds.specs.Moves.{PlacesApart}
+use Rattle.seam_bounds.specs.Inner.{PlacesApart}
 use Rattle.seam_rules.specs.declared.answers.Axis.the-variants.{Vertical, Horizontal}
 use Rattle.seam_rules.specs.Counts.{smaller}
 use Rattle.seam_retarget.specs.Inner.Seams.{Apart, pictureAt, leftAlong}

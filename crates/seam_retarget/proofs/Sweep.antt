@@ -15,23 +15,24 @@ use Rattle.pictures.specs.Pictures.{Picture, pictureBytes, picture}
 use Rattle.seam_moves.specs.Between.{partAt}
 use Rattle.seam_rules.specs.declared.answers.Axis.{Axis}
 use Rattle.seam_rules.specs.declared.answers.Axis.the-variants.{Vertical, Horizontal}
-use Rattle.seam_retarget.specs.Cells.{Cell, bySeam, chosen, cell}
-use Rattle.seam_rules.specs.Counts.{smaller}
+use Rattle.seam_retarget.specs.Cells.{Cell, bySeam, chosen}
+use Rattle.seam_rules.specs.Counts.{rowCount, columnCount, smaller}
 use Rattle.seam_retarget.specs.Inner.Seams.{pictureAt, leftAlong, StepNeeded, StepGiven}
 use Rattle.seam_retarget.specs.Inner.Cells.{SpaceNeeded}
-use Rattle.seam_retarget.specs.Inner.Table.{held, firstRow, alongRow, nextRow, tableRow, RowNeeded, RowGiven}
+use Rattle.seam_retarget.specs.Inner.Table.{held, firstRow, alongRow, nextRow, rowBelow, RowNeeded, RowGiven}
+use Rattle.seam_retarget.proofs.Numbered.{cellAt}
 use Rattle.seam_retarget.proofs.Slots.{smaller-few, less-column, same-picture, slots-apart, placed-vertical}
 use Rattle.seam_rules.proofs.Left.{smaller-sides}
 use Rattle.energy.specs.Bounds.{mostCost}
 
 -- The rows are those of the table of cells.
-pub first-cells : (z : Size) (p : Picture) (c : ℕ) → firstRow z (cell z p 0 0) c ≡ cell z p 0 c
-unfolding firstRow cell
+pub first-cells : (z : Size) (p : Picture) (c : ℕ) → firstRow z (cellAt z p 0 0) c ≡ cellAt z p 0 c
+unfolding firstRow cellAt
 first-cells z p zero = refl
 first-cells z p (suc c) = ap (bySeam Vertical (smaller z 0 c)) (first-cells z p c)
 
 -- A row depends on the cells up to its column alone.
-pub along-same : (z : Size) (r n : ℕ) (u v : Cell) (f g : ℕ → Cell) → u ≡ v → ((j : ℕ) → j ≤ n → 0 < j → f j ≡ g j) → (c : ℕ) → c ≤ n → alongRow z r u f c ≡ alongRow z r v g c
+pub along-same : (z : Size) (r n : ℕ) (u v : Cell) (f g : ℕ → Cell) → u ≡ v → ((j : ℕ) → j ≤ n → 0 < j → f j ≡ g j) → (c : ℕ) → c ≤ n → alongRow z (rowCount r) u f c ≡ alongRow z (rowCount r) v g c
 unfolding alongRow
 along-same z r n u v f g first same zero h = first
 along-same z r n u v f g first same (suc c) h =
@@ -39,29 +40,29 @@ along-same z r n u v f g first same (suc c) h =
     (ap (bySeam Vertical (smaller z (suc r) c)) (along-same z r n u v f g first same c (omega arith)))
     (ap (bySeam Horizontal (smaller z r (suc c))) (same (suc c) h (omega arith)))
 
-pub next-same : (z : Size) (r n : ℕ) (f g : ℕ → Cell) → ((j : ℕ) → j ≤ n → f j ≡ g j) → (c : ℕ) → c ≤ n → nextRow z r f c ≡ nextRow z r g c
+pub next-same : (z : Size) (r n : ℕ) (f g : ℕ → Cell) → ((j : ℕ) → j ≤ n → f j ≡ g j) → (c : ℕ) → c ≤ n → nextRow z (rowCount r) f c ≡ nextRow z (rowCount r) g c
 next-same z r n f g same = along-same z r n _ _ f g (ap (bySeam Horizontal (smaller z r 0)) (same 0 (omega arith))) (λ j h l. same j h)
 
-along-cells : (z : Size) (p : Picture) (r c : ℕ) → alongRow z r (cell z p (suc r) 0) (cell z p r) c ≡ cell z p (suc r) c
-unfolding alongRow cell
+along-cells : (z : Size) (p : Picture) (r c : ℕ) → alongRow z (rowCount r) (cellAt z p (suc r) 0) (cellAt z p r) c ≡ cellAt z p (suc r) c
+unfolding alongRow cellAt
 along-cells z p r zero = refl
 along-cells z p r (suc c) =
-    ap (λ (left : Cell). chosen (bySeam Vertical (smaller z (suc r) c) left) (bySeam Horizontal (smaller z r (suc c)) (cell z p r (suc c)))) (along-cells z p r c)
+    ap (λ (left : Cell). chosen (bySeam Vertical (smaller z (suc r) c) left) (bySeam Horizontal (smaller z r (suc c)) (cellAt z p r (suc c)))) (along-cells z p r c)
 
-pub table-cells : (z : Size) (p : Picture) (n : ℕ) (first : ℕ → Cell) → ((j : ℕ) → j ≤ n → first j ≡ cell z p 0 j)
-    → (r c : ℕ) → c ≤ n → tableRow z first r c ≡ cell z p r c
-unfolding tableRow cell
+pub table-cells : (z : Size) (p : Picture) (n : ℕ) (first : ℕ → Cell) → ((j : ℕ) → j ≤ n → first j ≡ cellAt z p 0 j)
+    → (r c : ℕ) → c ≤ n → rowBelow z first r c ≡ cellAt z p r c
+unfolding rowBelow cellAt
 table-cells z p n first same zero c h = same c h
 table-cells z p n first same (suc r) c h =
-    next-same z r n (tableRow z first r) (cell z p r) (table-cells z p n first same r) c h ∙ along-cells z p r c
+    next-same z r n (rowBelow z first r) (cellAt z p r) (table-cells z p n first same r) c h ∙ along-cells z p r c
 
 -- A cell written into slot j, with its total; the others are as they were.
 module _ (z : Size) (whole r j v : ℕ) (work′ totals : List ℕ) where
-  pub held-new : j < length totals → held z whole r work′ (set totals j v) j ≡ record { picture = pictureAt (smaller z r j) (j * whole) work′; total = v }
+  pub held-new : j < length totals → held z whole (rowCount r) work′ (set totals j v) j ≡ record { picture = pictureAt (smaller z r j) (j * whole) work′; total = v }
   held-new h = ap (λ t. record { picture = pictureAt (smaller z r j) (j * whole) work′; total = t }) (getD-set-same totals j v 0 h)
 
   pub held-other : (work : List ℕ) (k : ℕ) → whole ≡ pictureBytes z → (k ≡ j → ⊥) → partAt (k * whole) whole work′ ≡ partAt (k * whole) whole work
-      → held z whole r work′ (set totals j v) k ≡ held z whole r work totals k
+      → held z whole (rowCount r) work′ (set totals j v) k ≡ held z whole (rowCount r) work totals k
   held-other work k is other same =
       ap₂ (λ p t. record { picture = p; total = t }) (same-picture z whole r k (k * whole) work′ work is same) (getD-set-other totals j k v 0 other)
 
@@ -103,7 +104,7 @@ pub record FirstSoFar (z : Size) (whole c : ℕ) (work₀ totals₀ : List ℕ) 
   pub inside : j ≤ c
   pub long : length work ≡ length work₀
   pub totals-long : length totals ≡ 65
-  pub cells-are : (k : ℕ) → k ≤ j → held z whole 0 work totals k ≡ firstRow z (held z whole 0 work₀ totals₀ 0) k
+  pub cells-are : (k : ℕ) → k ≤ j → held z whole (rowCount 0) work totals k ≡ firstRow z (held z whole (rowCount 0) work₀ totals₀ 0) k
   pub small : (k : ℕ) → getD totals k 0 ≤ j * mostCost
 
 -- An index up to one more is the one more or is not.
@@ -114,14 +115,14 @@ up-to {P} j earlier last k h =
     (λ (l : j < k). let e : j + 1 ≡ k = omega arith in subst P e last)
     (le-or-lt k j)
 
-module _ (z : Size) (whole c : ℕ) (work₀ totals₀ : List ℕ) (needed : RowNeeded z whole 0 c work₀ totals₀) where
+module _ (z : Size) (whole c : ℕ) (work₀ totals₀ : List ℕ) (needed : RowNeeded z whole (rowCount 0) (columnCount c) work₀ totals₀) where
   pub first-start : ((j : ℕ) → getD totals₀ j 0 ≡ 0) → FirstSoFar z whole c work₀ totals₀ 0 work₀ totals₀
   unfolding firstRow
   first-start none = record {
     inside = omega arith;
     long = refl;
     totals-long = needed .totals-long;
-    cells-are = λ k h. let e : 0 ≡ k = omega arith in subst (λ i. held z whole 0 work₀ totals₀ i ≡ firstRow z (held z whole 0 work₀ totals₀ 0) i) e refl;
+    cells-are = λ k h. let e : 0 ≡ k = omega arith in subst (λ i. held z whole (rowCount 0) work₀ totals₀ i ≡ firstRow z (held z whole (rowCount 0) work₀ totals₀ 0) i) e refl;
     small = λ k. omega (arith, none k);
   }
 
@@ -143,12 +144,12 @@ module _ (z : Size) (whole c : ℕ) (work₀ totals₀ : List ℕ) (needed : Row
     unfolding firstRow
     first-turn cost work′ g =
         let v = getD totals j 0 + cost in
-        let F = firstRow z (held z whole 0 work₀ totals₀ 0) in
+        let F = firstRow z (held z whole (rowCount 0) work₀ totals₀ 0) in
         record {
           inside = omega arith;
           long = g .long ∙ so-far .long;
           totals-long = length-set totals (j + 1) v ∙ so-far .totals-long;
-          cells-are = up-to {P = λ k. held z whole 0 work′ (set totals (j + 1) (getD totals j 0 + cost)) k ≡ firstRow z (held z whole 0 work₀ totals₀ 0) k} j
+          cells-are = up-to {P = λ k. held z whole (rowCount 0) work′ (set totals (j + 1) (getD totals j 0 + cost)) k ≡ firstRow z (held z whole (rowCount 0) work₀ totals₀ 0) k} j
               (λ k h.
               held-other z whole 0 (j + 1) v work′ totals work k (needed .space .whole-is) (λ e. omega arith)
               (slot-kept z whole (length work) work work′ space (j * whole) 0 j Vertical 65 (j + 1) cost (omega arith) g k (omega (arith, needed .column)) (λ e. omega arith))
@@ -157,11 +158,11 @@ module _ (z : Size) (whole c : ℕ) (work₀ totals₀ : List ℕ) (needed : Row
               ∙ ap (λ u. record { picture = pictureAt u ((j + 1) * whole) work′; total = v }) (sym (less-column z 0 j))
               ∙ step-cell work (j * whole) (smaller z 0 j) Vertical (65 * whole) ((j + 1) * whole) cost work′ (getD totals j 0) g
               ∙ ap (bySeam Vertical (smaller z 0 j)) (so-far .cells-are j (omega arith))
-              ∙ ap (firstRow z (held z whole 0 work₀ totals₀ 0)) (sym (add-one j)));
+              ∙ ap (firstRow z (held z whole (rowCount 0) work₀ totals₀ 0)) (sym (add-one j)));
           small = set-small totals (j + 1) v ((j + 1) * mostCost) (λ k. omega (arith, so-far .small k)) (omega (arith, so-far .small j, g .cost-most));
         }
 
-  pub first-end : (work totals : List ℕ) → FirstSoFar z whole c work₀ totals₀ c work totals → RowGiven z whole 0 c (firstRow z (held z whole 0 work₀ totals₀ 0)) work₀ work totals
+  pub first-end : (work totals : List ℕ) → FirstSoFar z whole c work₀ totals₀ c work totals → RowGiven z whole (rowCount 0) (columnCount c) (firstRow z (held z whole (rowCount 0) work₀ totals₀ 0)) work₀ work totals
   first-end work totals so-far = record {
     cells-are = so-far .cells-are;
     small = λ k. omega (arith, so-far .small k, needed .column);

@@ -6,7 +6,9 @@ use Rattle.pictures.specs.declared.sizes.Size.{Size}
 use Rattle.pictures.specs.Pictures.{Picture}
 use Rattle.seam_rules.specs.declared.answers.Axis.{Axis}
 use Rattle.seam_rules.specs.declared.answers.Axis.the-variants.{Vertical, Horizontal}
-use Rattle.seam_rules.specs.Counts.{smaller}
+use Rattle.seam_rules.specs.declared.answers.Rows.{Rows}
+use Rattle.seam_rules.specs.declared.answers.Columns.{Columns}
+use Rattle.seam_rules.specs.Counts.{rowCount, columnCount, leftSize}
 use Rattle.seam_cut.specs.Axes.{seamAlong, costAlong}
 use Rattle.seam_turn.specs.Axes.{cutAlong}
 
@@ -27,13 +29,50 @@ bySeam x z from = record {
 unfoldable pub chosen : Cell → Cell → Cell
 chosen vertical horizontal = cond (leb (vertical .total) (horizontal .total)) vertical horizontal
 
+-- "A count of rows and a count of columns are never given one for the other": rows removed, none or one after others, are of
+-- one type, columns removed of another, so that the table can't be written with one for the other.
+pub data RowsRemoved : Type 0 where
+  noRows : RowsRemoved
+  rowAfter : RowsRemoved → RowsRemoved
+
+pub data ColumnsRemoved : Type 0 where
+  noColumns : ColumnsRemoved
+  columnAfter : ColumnsRemoved → ColumnsRemoved
+
+-- How many they are.
+abbrev pub asRows : RowsRemoved → Rows
+asRows noRows = rowCount 0
+asRows (rowAfter r) = rowCount (suc (asRows r .0))
+
+abbrev pub asColumns : ColumnsRemoved → Columns
+asColumns noColumns = columnCount 0
+asColumns (columnAfter c) = columnCount (suc (asColumns c .0))
+
 -- "Cell (0,0) is the picture with total 0. Cell (r,c) comes either from (r-1,c) by its horizontal seam or from (r,c-1) by its
 -- vertical seam." On the table's edge there is one way only.
-unfoldable pub cell : Size → Picture → ℕ → ℕ → Cell
-cell z p zero zero = record { picture = p; total = 0 }
-cell z p zero (suc c) = bySeam Vertical (smaller z 0 c) (cell z p 0 c)
-cell z p (suc r) zero = bySeam Horizontal (smaller z r 0) (cell z p r 0)
-cell z p (suc r) (suc c) =
+unfoldable pub cellAfter : Size → Picture → RowsRemoved → ColumnsRemoved → Cell
+cellAfter z p noRows noColumns = record { picture = p; total = 0 }
+cellAfter z p noRows (columnAfter c) = bySeam Vertical (leftSize z (asRows noRows) (asColumns c)) (cellAfter z p noRows c)
+cellAfter z p (rowAfter r) noColumns = bySeam Horizontal (leftSize z (asRows r) (asColumns noColumns)) (cellAfter z p r noColumns)
+cellAfter z p (rowAfter r) (columnAfter c) =
     chosen
-    (bySeam Vertical (smaller z (suc r) c) (cell z p (suc r) c))
-    (bySeam Horizontal (smaller z r (suc c)) (cell z p r (suc c)))
+    (bySeam Vertical (leftSize z (asRows (rowAfter r)) (asColumns c)) (cellAfter z p (rowAfter r) c))
+    (bySeam Horizontal (leftSize z (asRows r) (asColumns (columnAfter c))) (cellAfter z p r (columnAfter c)))
+
+-- n rows removed, n columns removed, and the cell of two counts.
+abbrev pub manyRows : ℕ → RowsRemoved
+manyRows zero = noRows
+manyRows (suc n) = rowAfter (manyRows n)
+
+abbrev pub manyColumns : ℕ → ColumnsRemoved
+manyColumns zero = noColumns
+manyColumns (suc n) = columnAfter (manyColumns n)
+
+abbrev pub removeRows : Rows → RowsRemoved
+removeRows rows = manyRows (rows .0)
+
+abbrev pub removeColumns : Columns → ColumnsRemoved
+removeColumns columns = manyColumns (columns .0)
+
+abbrev pub cell : Size → Picture → Rows → Columns → Cell
+cell z p rows columns = cellAfter z p (removeRows rows) (removeColumns columns)

@@ -15,7 +15,7 @@ use Rattle.seam_retarget.specs.Cells.{Cell, cell}
 
 -- The cell of the size that is left.
 abbrev pub cellOf : Size → List ℕ → Rows → Columns → Cell
-cellOf z b rows columns = cell z (picture z b) (rows .0) (columns .0)
+cellOf z b rows columns = cell z (picture z b) rows columns
 
 -- The number, the total, the output space, which keeps what stands after the cell's picture, and the work space.
 pub record RetargetGiven (b : List ℕ) (z : Size) (rows : Rows) (columns : Columns) (out work : List ℕ) (answer : Retargeted) (out′ work′ : List ℕ) : Type 0 where

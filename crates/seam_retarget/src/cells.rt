@@ -26,8 +26,8 @@ pub(crate) fn next_cell(
     above: u64,
     left: u64,
 ) -> u64
-    requires { ⌜ CellNeeded size whole (rows .0) (columns .0) above left (length (now work)) ⌝ }
-    ensures { λ n. ⌜ CellGiven size whole (rows .0) (columns .0) above left (now (work .entry)) n (now (work .exit)) ⌝ }
+    requires { ⌜ CellNeeded size whole rows columns above left (length (now work)) ⌝ }
+    ensures { λ n. ⌜ CellGiven size whole rows columns above left (now (work .entry)) n (now (work .exit)) ⌝ }
 {
     let r = rows.0;
     let c = columns.0;

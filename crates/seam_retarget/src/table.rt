@@ -9,7 +9,8 @@ use seam_rules::Axis;
 use seam_rules::Columns;
 use seam_rules::Rows;
 use seam_rules::smaller;
-ghost use Prim.Native.Nat.{_+_};
+ghost use Rattle.seam_rules.specs.Counts.{rowCount};
+ghost use Rattle.seam_retarget.specs.Inner.Cells.{rowMore};
 ghost use Rattle.seam_retarget.specs.Inner.Table.{held, firstRow, alongRow, nextRow, tableRow, RowNeeded, RowGiven, NoTotals, Totals, MoreTotals};
 
 // Row 0, from the picture in slot 0.
@@ -20,9 +21,9 @@ pub(crate) fn first_row(
     columns: Columns,
     totals: &mut [u64],
 )
-    requires { ⌜ RowNeeded size whole 0 (columns .0) (now work) (now totals) ⌝ }
+    requires { ⌜ RowNeeded size whole (rowCount 0) columns (now work) (now totals) ⌝ }
     requires { ⌜ NoTotals (now totals) ⌝ }
-    ensures { λ _. ⌜ RowGiven size whole 0 (columns .0) (firstRow size (held size whole 0 (now (work .entry)) (now (totals .entry)) 0)) (now (work .entry)) (now (work .exit)) (now (totals .exit)) ⌝ }
+    ensures { λ _. ⌜ RowGiven size whole (rowCount 0) columns (firstRow size (held size whole (rowCount 0) (now (work .entry)) (now (totals .entry)) 0)) (now (work .entry)) (now (work .exit)) (now (totals .exit)) ⌝ }
 {
     let last = columns.0;
     for j in 0..last {
@@ -48,9 +49,9 @@ fn rest_of_row(
     columns: Columns,
     totals: &mut [u64],
 )
-    requires { ⌜ RowNeeded size whole (rows .0 + 1) (columns .0) (now work) (now totals) ⌝ }
-    requires { ⌜ MoreTotals (rows .0) (now totals) ⌝ }
-    ensures { λ _. ⌜ RowGiven size whole (rows .0 + 1) (columns .0) (alongRow size (rows .0) (held size whole (rows .0 + 1) (now (work .entry)) (now (totals .entry)) 0) (held size whole (rows .0) (now (work .entry)) (now (totals .entry)))) (now (work .entry)) (now (work .exit)) (now (totals .exit)) ⌝ }
+    requires { ⌜ RowNeeded size whole (rowMore rows) columns (now work) (now totals) ⌝ }
+    requires { ⌜ MoreTotals rows (now totals) ⌝ }
+    ensures { λ _. ⌜ RowGiven size whole (rowMore rows) columns (alongRow size rows (held size whole (rowMore rows) (now (work .entry)) (now (totals .entry)) 0) (held size whole rows (now (work .entry)) (now (totals .entry)))) (now (work .entry)) (now (work .exit)) (now (totals .exit)) ⌝ }
 {
     let last = columns.0;
     for j in 0..last {
@@ -75,9 +76,9 @@ fn next_row(
     columns: Columns,
     totals: &mut [u64],
 )
-    requires { ⌜ RowNeeded size whole (rows .0 + 1) (columns .0) (now work) (now totals) ⌝ }
-    requires { ⌜ Totals (rows .0) (now totals) ⌝ }
-    ensures { λ _. ⌜ RowGiven size whole (rows .0 + 1) (columns .0) (nextRow size (rows .0) (held size whole (rows .0) (now (work .entry)) (now (totals .entry)))) (now (work .entry)) (now (work .exit)) (now (totals .exit)) ⌝ }
+    requires { ⌜ RowNeeded size whole (rowMore rows) columns (now work) (now totals) ⌝ }
+    requires { ⌜ Totals rows (now totals) ⌝ }
+    ensures { λ _. ⌜ RowGiven size whole (rowMore rows) columns (nextRow size rows (held size whole rows (now (work .entry)) (now (totals .entry)))) (now (work .entry)) (now (work .exit)) (now (totals .exit)) ⌝ }
 {
     let above = smaller(size, rows, Columns(0));
     let cost = step(work, 0, above, Axis::Horizontal, HORIZONTAL * whole, 0);
@@ -94,9 +95,9 @@ pub(crate) fn rows_below(
     columns: Columns,
     totals: &mut [u64],
 )
-    requires { ⌜ RowNeeded size whole (rows .0) (columns .0) (now work) (now totals) ⌝ }
-    requires { ⌜ Totals 0 (now totals) ⌝ }
-    ensures { λ _. ⌜ RowGiven size whole (rows .0) (columns .0) (tableRow size (held size whole 0 (now (work .entry)) (now (totals .entry))) (rows .0)) (now (work .entry)) (now (work .exit)) (now (totals .exit)) ⌝ }
+    requires { ⌜ RowNeeded size whole rows columns (now work) (now totals) ⌝ }
+    requires { ⌜ Totals (rowCount 0) (now totals) ⌝ }
+    ensures { λ _. ⌜ RowGiven size whole rows columns (tableRow size (held size whole (rowCount 0) (now (work .entry)) (now (totals .entry))) rows) (now (work .entry)) (now (work .exit)) (now (totals .exit)) ⌝ }
 {
     let last = rows.0;
     for i in 0..last {

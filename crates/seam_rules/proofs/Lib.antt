@@ -2,3 +2,4 @@ pub mod Turns
 pub mod Left
 pub mod Rooms
 pub mod Choices
+pub mod Smallest

@@ -11,6 +11,13 @@ use Rattle.seam_rules.specs.declared.answers.Axis.the-variants.{Vertical
 use Rattle.seam_rules.specs.declared.answers.Rows.{Rows}
 use Rattle.seam_rules.specs.declared.answers.Columns.{Columns}
 
+-- A count of rows, and a count of columns, of n.
+abbrev pub rowCount : ℕ → Rows
+rowCount n = record { 0 = n }
+
+abbrev pub columnCount : ℕ → Columns
+columnCount n = record { 0 = n }
+
 -- A size with `rows` rows and `columns` columns less.
 abbrev pub smaller : Size → ℕ → ℕ → Size
 smaller z rows columns = record { width = z .width - columns; height = z .height - rows; kind = z .kind }

@@ -38,7 +38,7 @@ cutRules x z bytes seam work = findRules x z bytes seam work ++ lastRules x z
 abbrev pub markLengthRules : Size → ℕ → List Rule
 markLengthRules z marks = 4 when not (eqb marks (pixels z)) ∷ []
 
--- "5: a mark over 2."
+-- 5 refuses "a mark over 2".
 abbrev pub markAllowed : ℕ → Bool
 markAllowed mark = leb mark 2
 

@@ -35,7 +35,7 @@ linked-is c s = (there c s, back c s)
     back c (d ∷ s) l = and-both (beside c d) (linked beside (d ∷ s)) (beside-is c d .1 (l .0, l .1)) (back d s (l .2))
 
 module _ (near : ℕ → ℕ → Bool) (symmetric : (c d : ℕ) → near c d ≡ true → near d c ≡ true) where
-  -- The step from a list turned round to what stands behind it.
+  -- The step from a list turned round to what stands after it.
   abbrev Meets : List ℕ → List ℕ → Type 0
   Meets [] r = Unit
   Meets (c ∷ s) [] = Unit

@@ -11,7 +11,7 @@ use Rattle.seam_theory.proofs.Ordered.{Order, le-self}
 use Rattle.seam_theory.proofs.Members.{of-select, nil-fails}
 
 module _ {A : Type 0} (le : A → A → Bool) where
-  -- m stands in xs behind worse ones and before no better ones.
+  -- m stands in xs after worse ones and before no better ones.
   pub record First (xs : List A) (m : A) : Type 0 where
     pub pre : List A
     pub post : List A

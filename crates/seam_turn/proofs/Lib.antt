@@ -1,3 +1,4 @@
 pub mod Turned
 pub mod Columns
 pub mod Served
+pub mod Smallest

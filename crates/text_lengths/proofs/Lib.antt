@@ -1,2 +1,3 @@
 pub mod Rooms
 pub mod PixelRows
+pub mod Numbers

@@ -11,8 +11,7 @@ use Rattle.pictures.specs.declared.sizes.Kind.the-variants.{Grey, Rgb}
 use Rattle.pictures.specs.Pictures.{channelsOf}
 use Rattle.text_theory.specs.Decimal.{digits}
 use Rattle.text_theory.specs.Files.{blank, opening, closing, closed, rowWord, each, joined, pixelText, lineText, rowText}
-use Rattle.text_print.specs.Prints.{Printed}
-use Rattle.text_print.specs.Inner.{pairText}
+use Rattle.text_print.specs.Inner.{Printed, pairText}
 use Rattle.text_lengths.proofs.PixelRows.{grey-pixel, rgb-pixel, pixel-at, below-rows, all-rows}
 use Rattle.text_print.proofs.Written.{printed-none, printed-more, each-more, each-room}
 

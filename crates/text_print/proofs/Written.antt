@@ -1,4 +1,4 @@
--- Printing: bytes written one behind the other are one text.
+-- Printing: bytes written one after the other are one text.
 use mathlib.Core.Path.{_≡_, refl, sym, ap, _∙_}
 use mathlib.Core.Option.{some, Option·none-ne-some, Option·some-injective}
 use mathlib.Core.List.{List, [], _∷_, _++_, append-assoc, append-nil}
@@ -15,8 +15,8 @@ use Rattle.text_theory.specs.Files.{blank, start, range, closed, mapWord, each,
 use Rattle.text_theory.proofs.Decimals.{digits-small, digits-large}
 use Rattle.text_print.specs.declared.lines.Place.{Place}
 use Rattle.text_print.specs.declared.lines.Place.the-variants as places
-use Rattle.text_print.specs.Prints.{placeRead, Put, Printed}
-use Rattle.text_print.specs.Inner.{pairText}
+use Rattle.text_print.specs.Prints.{placeRead, Put}
+use Rattle.text_print.specs.Inner.{Printed, pairText}
 
 sets-append : (vs ws l : List ℕ) (i : ℕ) → sets l i (vs ++ ws) ≡ sets (sets l i vs) (i + length vs) ws
 sets-append [] ws l i = rw add-zero
@@ -24,7 +24,7 @@ sets-append (a ∷ vs) ws l i =
     let z : i + suc (length vs) ≡ suc i + length vs = omega arith in
     sets-append vs ws (set l i a) (suc i) ∙ rw z
 
--- The last digit behind the others.
+-- The last digit after the others.
 pub sets-digit : (l : List ℕ) (at n : ℕ) → 10 ≤ n → sets l at (digits n) ≡ set (sets l at (digits (n / 10))) (at + length (digits (n / 10))) (48 + n % 10)
 sets-digit l at n h = rw (digits-large n h, sets-append)
 
@@ -55,14 +55,14 @@ bytes-more w l at i h =
     rw (add-one, take-suc w i 0 h, sets-append, n)
 
 pub printed-none : {first : List ℕ} {at : ℕ} → Printed first at [] first at
-printed-none = record { same = refl; behind = omega arith }
+printed-none = record { same = refl; end-is = omega arith }
 
 -- Printing goes on where it stopped.
 pub printed-more : {first : List ℕ} {at : ℕ} {done more now then : List ℕ} {end last : ℕ}
     → Printed first at done now end → Printed now end more then last → Printed first at (done ++ more) then last
 printed-more {first} {at} {done} {more} P Q = record {
-  same = Q .same ∙ rw (P .same, P .behind) (sym (sets-append done more first at));
-  behind = omega (arith, P .behind, Q .behind, length-append done more);
+  same = Q .same ∙ rw (P .same, P .end-is) (sym (sets-append done more first at));
+  end-is = omega (arith, P .end-is, Q .end-is, length-append done more);
 }
 
 pub printed-length : {first : List ℕ} {at : ℕ} {done now : List ℕ} {end : ℕ} → Printed first at done now end → length now ≡ length first
@@ -92,7 +92,7 @@ pub map-parts : (xs : List ℕ) → length (mapText xs) ≡ 4 + length (each bla
 unfolding mapText lineText mapWord closed
 map-parts xs = simp length-append (omega arith)
 
--- Two numbers behind fixed bytes.
+-- Two numbers after fixed bytes.
 pub pair-all : {first : List ℕ} {at : ℕ} (w : List ℕ) (m n : ℕ) {a b c d : List ℕ} {i j k l : ℕ}
     → Printed first at w a i → Printed a i (digits m) b j → Printed b j (32 ∷ []) c k → Printed c k (digits n) d l → Printed first at (pairText w m n) d l
 unfolding pairText blank
@@ -123,7 +123,7 @@ put-short {out} {at} {bytes} h = record { answer = rw (lt-leb (at + length bytes
 
 pub put-done : {out : List ℕ} {at : ℕ} {bytes out′ : List ℕ} {end : ℕ} → at + length bytes ≤ length out → Printed out at bytes out′ end → Put out at bytes (places.Next end) out′
 put-done {out} {at} {bytes} {out′} {end} h P = record {
-  answer = rw (le-leb (at + length bytes) (length out) h, P .behind);
+  answer = rw (le-leb (at + length bytes) (length out) h, P .end-is);
   space = rw (le-leb (at + length bytes) (length out) h) (P .same ∙ sets-eq bytes out at h ∙ append-assoc (take at out) bytes (drop (at + length bytes) out));
 }
 
@@ -143,7 +143,7 @@ module _ {out : List ℕ} {at : ℕ} {bytes : List ℕ} {place : Place} {out′ 
   pub printed-next : {n : ℕ} → place ≡ places.Next n → Printed out at bytes out′ n
   printed-next {n} e = record {
     same = space-is;
-    behind = Option·some-injective n (at + length bytes) (sym (ap placeRead e) ∙ answer-is);
+    end-is = Option·some-injective n (at + length bytes) (sym (ap placeRead e) ∙ answer-is);
   }
 
 -- What is printed at the front of a space.

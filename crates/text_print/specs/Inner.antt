@@ -1,7 +1,9 @@
--- What the functions inside this crate promise each other.
+-- What the private functions of this crate, and of those above that print by it, promise each other. No public promise cites it.
+use mathlib.Core.Path.{_≡_}
 use mathlib.Core.List.{List, _++_}
 use Prim.Native.Nat.{ℕ, _+_, _*_, _≤_}
 use lib.ListN.{length}
+use lib.Seq.{sets}
 use Rattle.pictures.specs.declared.sizes.Kind.{Kind}
 use Rattle.pictures.specs.Pictures.{channelsOf}
 use Rattle.grids.specs.Rows.{rowsOf, rowAt}
@@ -20,3 +22,8 @@ pub record PixelNeeded (out : List ℕ) (at : ℕ) (k : Kind) (b : List ℕ) (i 
 pub record PixelsNeeded (out : List ℕ) (at : ℕ) (k : Kind) (b : List ℕ) (n : ℕ) : Type 0 where
   pub inside : n * channelsOf k ≤ length b
   pub room : at + length (each blank (pixelText k) (rowsOf (channelsOf k) n b)) ≤ length out
+
+-- What was written at a place: the bytes `done`, and the place after them.
+pub record Printed (first : List ℕ) (at : ℕ) (done now : List ℕ) (end : ℕ) : Type 0 where
+  pub same : now ≡ sets first at done
+  pub end-is : end ≡ at + length done

@@ -9,17 +9,17 @@ ghost use Rattle.text_theory.specs.Decimal.{digits};
 ghost use Rattle.text_theory.specs.Files.{blank, closed, each, pixelText, kindText, headText, rowText, mapText};
 ghost use Rattle.pictures.specs.Pictures.{channelsOf};
 ghost use Rattle.grids.specs.Rows.{rowsOf, rowAt};
-ghost use Rattle.text_print.specs.Prints.{Put, Printed};
+ghost use Rattle.text_print.specs.Prints.{Put};
+ghost use Rattle.text_print.specs.Inner.{Printed, pairText, PixelNeeded, PixelsNeeded};
 ghost use Rattle.text_lengths.specs.Rooms.{pixelsOf};
-ghost use Rattle.text_print.specs.Inner.{pairText, PixelNeeded, PixelsNeeded};
 
-// The place behind what was printed; or the space is too short, and nothing was printed.
+// The place after what was printed; or the space is too short, and nothing was printed.
 pub enum Place {
     Next(usize),
     Short,
 }
 
-// Writes n's digits at the place, and gives the place behind them.
+// Writes n's digits at the place, and gives the place after them.
 fn put_number(out: &mut [u8], at: usize, n: usize) -> usize
     requires { ⌜ at + length (digits n) ≤ length (now out) ⌝ }
     ensures { λ r. ⌜ Printed (now (out .entry)) at (digits n) (now (out .exit)) r ⌝ }
@@ -47,7 +47,7 @@ fn put_bytes(out: &mut [u8], at: usize, w: &[u8]) -> usize
     at + i
 }
 
-// Writes the numbers, each behind a blank.
+// Writes the numbers, each after a blank.
 fn put_numbers(out: &mut [u8], at: usize, row: &[u16]) -> usize
     requires { ⌜ at + length (each blank digits (now row)) ≤ length (now out) ⌝ }
     ensures { λ r. ⌜ Printed (now (out .entry)) at (each blank digits (now (row .entry))) (now (out .exit)) r ⌝ }
@@ -169,7 +169,7 @@ pub fn print_number(out: &mut [u8], at: usize, n: usize) -> Place
     Place::Next(put_number(out, at, n))
 }
 
-// Writes pixel i behind a blank.
+// Writes pixel i after a blank.
 fn put_pixel(out: &mut [u8], at: usize, kind: Kind, samples: &[u8], i: usize) -> usize
     requires { ⌜ PixelNeeded (now out) at kind (now samples) i ⌝ }
     ensures { λ r. ⌜ Printed (now (out .entry)) at (blank ++ pixelText kind (rowAt (channelsOf kind) i (now (samples .entry)))) (now (out .exit)) r ⌝ }
@@ -193,7 +193,7 @@ fn put_pixel(out: &mut [u8], at: usize, kind: Kind, samples: &[u8], i: usize) ->
     }
 }
 
-// Writes n pixels, each behind a blank.
+// Writes n pixels, each after a blank.
 fn put_pixels(out: &mut [u8], at: usize, kind: Kind, samples: &[u8], n: usize) -> usize
     requires { ⌜ PixelsNeeded (now out) at kind (now samples) n ⌝ }
     ensures { λ r. ⌜ Printed (now (out .entry)) at (each blank (pixelText kind) (rowsOf (channelsOf kind) n (now (samples .entry)))) (now (out .exit)) r ⌝ }

@@ -1,4 +1,4 @@
--- What a caller knows who meets the text of a head or of a line: the answer, the place behind it, and the space.
+-- What a caller knows who meets the text of a head or of a line: the answer, the place after it, and the space.
 use mathlib.Core.Path.{_≡_, sym, ap, _∙_}
 use mathlib.Core.Option.{some, Option·none-ne-some, Option·some-injective}
 use mathlib.Core.List.{List, _∷_, _++_, append-assoc}
@@ -23,7 +23,7 @@ use Rattle.text_read.specs.declared.heads.HeadRead.the-variants.{Begun, 
 use Rattle.text_read.specs.Answers.{given, ahead, Told, counted, read, headRead}
 use Rattle.text_read.specs.Lines.{rowLine, mapLine, fitting, Taken}
 
--- The text of a line gives its values, the text of a head the head, and what stands behind is left.
+-- The text of a line gives its values, the text of a head the head, and what stands after is left.
 pub row-line : (k : Kind) (row : List (List ℕ)) (rest : List ℕ) → All (Pixel k) row → rowLine k (rowText k row ++ rest) ≡ some (flat row, rest)
 unfolding rowLine rowText
 row-line k row rest h = rw (append-assoc, strip-back, line-reads (pixel-reads k) clear-blank clear-closing .back row h rest tt)
@@ -45,7 +45,7 @@ pub maps-next : (row : List ℕ) (maps : List (List ℕ)) (t : List ℕ) → eac
 unfolding each mapText
 maps-next row maps t = simp append-assoc
 
--- A line was read: its values, the place behind it, and the space.
+-- A line was read: its values, the place after it, and the space.
 pub record LineMet (text : List ℕ) (at : ℕ) (values rest out : List ℕ) (r : Read) (out′ : List ℕ) : Type 0 where
   pub place : Cursor
   pub answer : r ≡ reads.Good (length values) place

@@ -1,4 +1,4 @@
--- Numbers one behind the other, whatever stands between them, and the loop that writes them.
+-- Numbers one after the other, whatever stands between them, and the loop that writes them.
 use mathlib.Core.Path.{_≡_, refl, sym, ap, _∙_}
 use mathlib.Core.Bool.{Bool, true, false}
 use mathlib.Core.Option.{Option, none, some, Option·none-ne-some, Option·some-injective}

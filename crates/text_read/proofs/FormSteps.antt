@@ -9,7 +9,7 @@ use native.Mathlib.Omega.{arith}
 use lib.Dec.{eqb}
 use lib.ListN.{length, getD, drop, drop-of-length-le}
 use borrow.Author.Tests.{eqb-true, ne-eqb}
-use Rattle.text_theory.specs.Readers.{Get, give, on, _▷_, strip, behind, after, next, many}
+use Rattle.text_theory.specs.Readers.{Get, give, on, _▷_, strip, onward, after, next, many}
 use Rattle.text_theory.specs.Decimal.{number}
 use Rattle.pictures.specs.declared.sizes.Kind.the-variants.{Rgb}
 use Rattle.pictures.specs.Numbers.{largestNumber}
@@ -43,7 +43,7 @@ module _ {A : Type 0} {ok : A → Type 0} {put : A → List ℕ} {stop : List �
   unfolding counted items strip blank next
   count-blank t = rw (step (32 ∷ t)) (go (g t))
     where
-      last : (x : A) (xs : List A) (o : Option (List ℕ)) → on (behind o (give (x ∷ xs))) (λ xs. give (length xs)) ≡ on (on (behind o (give xs)) (λ xs. give (length xs))) (λ n. give (suc n))
+      last : (x : A) (xs : List A) (o : Option (List ℕ)) → on (onward o (give (x ∷ xs))) (λ xs. give (length xs)) ≡ on (on (onward o (give xs)) (λ xs. give (length xs))) (λ n. give (suc n))
       last x xs none = refl
       last x xs (some u) = refl
 

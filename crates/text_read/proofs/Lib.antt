@@ -9,3 +9,4 @@ pub mod Figures
 pub mod LineSteps
 pub mod LinesTaken
 pub mod Callers
+pub mod Numbers

@@ -5,7 +5,7 @@ use mathlib.Core.List.{List, [], _∷_, map}
 use Prim.Native.Nat.{ℕ, zero, suc}
 use lib.ListN.{length, length-map}
 use Rattle.text_rules.specs.declared.Items.the-variants.{Numbers}
-use Rattle.text_theory.specs.Readers.{Get, give, on, _▷_, strip, behind, after, next, manyUpTo, many}
+use Rattle.text_theory.specs.Readers.{Get, give, on, _▷_, strip, onward, after, next, manyUpTo, many}
 use Rattle.text_theory.specs.Decimal.{number}
 use Rattle.pictures.specs.declared.sizes.Kind.{Kind}
 use Rattle.pictures.specs.declared.sizes.Kind.the-variants.{Grey, Rgb}
@@ -38,7 +38,7 @@ count-map : {A B : Type 0} (f : A → B) (g : Get A) (s : List ℕ) → counted 
 unfolding counted items many
 count-map {A} f g s = rw (many-change f g (g ▷ λ a. give (f a)) (λ t. refl) blank (suc (length s)) s) (go (manyUpTo (suc (length s)) blank g s))
   where
-    last : (xs : List A) (o : Option (List ℕ)) → on (behind o (give (map f xs))) (λ xs. give (length xs)) ≡ on (behind o (give xs)) (λ xs. give (length xs))
+    last : (xs : List A) (o : Option (List ℕ)) → on (onward o (give (map f xs))) (λ xs. give (length xs)) ≡ on (onward o (give xs)) (λ xs. give (length xs))
     last xs none = refl
     last xs (some t) = rw length-map
 
@@ -50,7 +50,7 @@ count-line : {A : Type 0} (g : Get A) (s : List ℕ) → counted (line g) s ≡ 
 unfolding counted line
 count-line {A} g s = go (items g s)
   where
-    last : (xs : List A) (o : Option (List ℕ)) → on (behind o (give xs)) (λ xs. give (length xs)) ≡ behind o (give (length xs))
+    last : (xs : List A) (o : Option (List ℕ)) → on (onward o (give xs)) (λ xs. give (length xs)) ≡ onward o (give (length xs))
     last xs none = refl
     last xs (some t) = refl
 

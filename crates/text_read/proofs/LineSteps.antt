@@ -1,4 +1,4 @@
--- The numbers of a line stand in its text one behind the other.
+-- The numbers of a line stand in its text one after the other.
 use mathlib.Core.Path.{_≡_, refl, ap, _∙_}
 use mathlib.Core.Bool.{false}
 use mathlib.Core.Option.{some}
@@ -18,7 +18,7 @@ use Rattle.text_theory.proofs.Decimals.{clear, number-reads}
 use Rattle.text_read.specs.Inner.{figure, figures, Coming}
 use Rattle.text_read.proofs.Figures.{figure-gap, figure-here}
 
--- The numbers xs, none over the limit, stand in the bytes one behind the other, and no digit between them.
+-- The numbers xs, none over the limit, stand in the bytes one after the other, and no digit between them.
 pub data Stand (limit : ℕ) : List ℕ → List ℕ → Type 0 where
   end : {s : List ℕ} → Stand limit [] s
   gap : {b : ℕ} {xs s : List ℕ} → isDigit b ≡ false → Stand limit xs s → Stand limit xs (b ∷ s)

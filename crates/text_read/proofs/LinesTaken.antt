@@ -26,7 +26,7 @@ use Rattle.text_read.proofs.Onward.{passing-some, passing-none}
 use Rattle.text_read.proofs.LineCounts.{rest-map, rest-row}
 use Rattle.text_read.proofs.LineSteps.{Stand, stand-coming, stand-figures, numbers-stand, row-stand, row-count}
 
--- What the first pass knows: m values are read from the place on, and their numbers stand behind the word.
+-- What the first pass knows: m values are read from the place on, and their numbers stand after the word.
 pub record Found (get : Get (List ℕ)) (limit : ℕ) (text : List ℕ) (at word m end : ℕ) : Type 0 where
   pub values : List ℕ
   pub same : get (drop at text) ≡ some (values, drop end text)

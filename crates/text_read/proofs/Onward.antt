@@ -5,7 +5,7 @@ use mathlib.Core.List.{List}
 use Prim.Native.Nat.{ℕ, _≤_, _<_}
 use native.Mathlib.Omega.{arith}
 use lib.ListN.{length, drop}
-use Rattle.text_theory.specs.Readers.{Get, give, on, _▷_, strip, behind, after}
+use Rattle.text_theory.specs.Readers.{Get, give, on, _▷_, strip, onward, after}
 use Rattle.text_theory.specs.Decimal.{number}
 use Rattle.pictures.specs.declared.sizes.Kind.the-variants.{Grey, Rgb}
 use Rattle.pictures.specs.Numbers.{largestNumber}
@@ -16,14 +16,14 @@ use Rattle.text_read.specs.Inner.{passing, numberedOf}
 pub passing-some : (w s : List ℕ) (v : ℕ) (t : List ℕ) → passing w s ≡ some (v, t) → strip w s ≡ some t
 passing-some w s v t h = go (strip w s) h
   where
-    go : (o : Option (List ℕ)) → behind o (give 0) ≡ some (v, t) → o ≡ some t
+    go : (o : Option (List ℕ)) → onward o (give 0) ≡ some (v, t) → o ≡ some t
     go none h = absurd (Option·none-ne-some _ h)
     go (some u) h = ap (λ (r : ℕ × List ℕ). some (r .1)) (Option·some-injective (0, u) (v, t) h)
 
 pub passing-none : (w s : List ℕ) → passing w s ≡ none → strip w s ≡ none
 passing-none w s h = go (strip w s) h
   where
-    go : (o : Option (List ℕ)) → behind {A = ℕ} o (give 0) ≡ none → o ≡ none
+    go : (o : Option (List ℕ)) → onward {A = ℕ} o (give 0) ≡ none → o ≡ none
     go none h = refl
     go (some u) h = absurd (Option·none-ne-some _ (sym h))
 
@@ -31,7 +31,7 @@ numbered-step : {B : Type 0} (w : List ℕ) (f : ℕ → Get B) (s : List ℕ) �
 unfolding numberedOf
 numbered-step {B} w f s = go (number largestNumber s)
   where
-    last : (n : ℕ) (o : Option (List ℕ)) → behind o (f n) ≡ on (behind o (give n)) f
+    last : (n : ℕ) (o : Option (List ℕ)) → onward o (f n) ≡ on (onward o (give n)) f
     last n none = refl
     last n (some t) = refl
 

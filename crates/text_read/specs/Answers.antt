@@ -35,7 +35,7 @@ classOf b =
     cond (isDigit b) Digit (cond (isLetter b) Letter (cond (eqb b 40) Opening (cond (eqb b 41) Closing
     (cond (eqb b 32) Blank (cond (eqb b 10) LineEnd Other)))))
 
--- A value and the place behind it, read as a value and the bytes from that place on.
+-- A value and the place after it, read as a value and the bytes from that place on.
 abbrev pub given : {A : Type 0} → List ℕ → Option (A × ℕ) → Option (A × List ℕ)
 given text none = none
 given text (some r) = some (r .0, drop (r .1) text)

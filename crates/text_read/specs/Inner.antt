@@ -18,7 +18,7 @@ within limit n at = cond (ltb limit n) none (some (n, at))
 abbrev pub passing : List ℕ → Get ℕ
 passing w = after w (give 0)
 
--- A number and the bytes behind it.
+-- A number and the bytes after it.
 unfoldable pub numberedOf : List ℕ → Get ℕ
 numberedOf w = number largestNumber ▷ λ n. after w (give n)
 

@@ -25,7 +25,7 @@ mapLine = after mapWord (line (number largestNumber))
 unfoldable pub fitting : ℕ → Get (List ℕ) → Get (List ℕ)
 fitting n get = get ▷ λ xs. cond (leb (length xs) n) (give xs) (λ s. none)
 
--- What was read stands at the front of the space, which keeps what is behind it; where nothing was read, it keeps all.
+-- What was read stands at the front of the space, which keeps what is after it; where nothing was read, it keeps all.
 abbrev pub laid : Option (List ℕ × List ℕ) → List ℕ → List ℕ
 laid none out = out
 laid (some r) out = r .0 ++ drop (length (r .0)) out

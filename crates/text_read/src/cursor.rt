@@ -12,7 +12,7 @@ pub struct Cursor {
     pub at: usize,
 }
 
-// A number and the place behind what was read; or the form is broken.
+// A number and the place after what was read; or the form is broken.
 pub enum Read {
     Good(usize, Cursor),
     Broken,
@@ -50,7 +50,7 @@ fn digit(b: u8) -> usize
     (b - b'0') as usize
 }
 
-// The number n and the place behind it, if it isn't too large.
+// The number n and the place after it, if it isn't too large.
 fn judged(n: usize, at: usize) -> Read
     ensures { λ r. ⌜ read r ≡ within largestNumber n at ⌝ }
 {

@@ -8,7 +8,7 @@ use text_rules::Items;
 ghost use Rattle.text_read.specs.Answers.{Told, read, itemOf, formOf, lineRest};
 
 impl Cursor {
-    // The items of a form, each behind a blank, up to the closing bracket: how many there are.
+    // The items of a form, each after a blank, up to the closing bracket: how many there are.
     pub fn form(self, text: &[u8], what: Items) -> Read
         ensures { λ r. ⌜ Told (formOf what) (now (text .entry)) (self .at) (read r) ⌝ }
     {

@@ -20,7 +20,7 @@ pub enum Word {
     Broken,
 }
 
-// The name of a kind and the place behind it; or there is none.
+// The name of a kind and the place after it; or there is none.
 pub enum KindRead {
     Named(Kind, Cursor),
     Unnamed,
@@ -94,7 +94,7 @@ impl Cursor {
         }
     }
 
-    // A number and the bytes behind it.
+    // A number and the bytes after it.
     pub(crate) fn numbered(self, text: &[u8], w: &[u8]) -> Read
         requires { ⌜ 0 < length (now w) ⌝ }
         ensures { λ r. ⌜ Told (numberedOf (now (w .entry))) (now (text .entry)) (self .at) (read r) ⌝ }

@@ -9,7 +9,7 @@ use lib.ListN.{length, length-map, drop-of-length-le}
 use Rattle.pictures.specs.Numbers.{largestNumber}
 use Rattle.text_rules.specs.declared.Items.{Items}
 use Rattle.text_rules.specs.declared.Items.the-variants.{Numbers}
-use Rattle.text_theory.specs.Readers.{Get, give, on, _▷_, strip, behind, after, manyUpTo, many}
+use Rattle.text_theory.specs.Readers.{Get, give, on, _▷_, strip, onward, after, manyUpTo, many}
 use Rattle.text_theory.specs.Decimal.{number}
 use Rattle.text_theory.specs.declared.Head.{Head}
 use Rattle.text_theory.specs.Files.{Parts, closed, rowWord, mapWord, pixel, line, headGet, file, ended, whole, parse}
@@ -41,8 +41,8 @@ unfolding scanOf file factsOf
 scan-file s = go (headGet s)
   where
     last : (h : Head) (rows : List (List (List ℕ))) (maps : List (List ℕ)) (o : Option (List ℕ))
-        → behind o (give (record { head = h; rows = length rows; maps = length maps; full = evenly (h .size .width) (map length rows) && evenly (h .size .width) (map length maps) }))
-        ≡ on (behind o (give (record { head = h; rows = rows; maps = maps }))) (λ p. give (factsOf p))
+        → onward o (give (record { head = h; rows = length rows; maps = length maps; full = evenly (h .size .width) (map length rows) && evenly (h .size .width) (map length maps) }))
+        ≡ on (onward o (give (record { head = h; rows = rows; maps = maps }))) (λ p. give (factsOf p))
     last h rows maps none = refl
     last h rows maps (some t) = refl
 

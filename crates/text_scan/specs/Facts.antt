@@ -5,7 +5,9 @@ use mathlib.Core.List.{List, [], _∷_, map}
 use Prim.Native.Nat.{ℕ}
 use lib.Dec.{eqb}
 use lib.ListN.{length}
-use Rattle.text_theory.specs.Files.{Parts}
+use Rattle.pictures.specs.Refusals.{Rule, _when_}
+use Rattle.text_theory.specs.Files.{Parts, parse}
+use Rattle.text_read.specs.Numbers.{unread}
 use Rattle.text_scan.specs.declared.Facts.{Facts}
 use Rattle.text_scan.specs.declared.Scanned.{Scanned}
 use Rattle.text_scan.specs.declared.Scanned.the-variants as scans
@@ -32,3 +34,11 @@ factsIn (some p) = some (factsOf p)
 abbrev pub scanRead : Scanned → Option Facts
 scanRead (scans.Formed f) = some f
 scanRead scans.Broken = none
+
+-- Its number: 1, "text .. breaks its form", and 0 where it has it; and the rule that gives it.
+abbrev pub scanNumber : Scanned → ℕ
+scanNumber (scans.Formed f) = 0
+scanNumber scans.Broken = 1
+
+abbrev pub scanRules : List ℕ → List Rule
+scanRules text = 1 when unread (parse text) ∷ []

@@ -33,6 +33,11 @@ abbrev pub linesRead : Lines → Option ((ℕ × Bool) × ℕ)
 linesRead (Counted n full c) = some ((n, full), c .at)
 linesRead Torn = none
 
+-- Its number: 1 where a line breaks its form.
+abbrev pub linesNumber : Lines → ℕ
+linesNumber (Counted n full c) = 0
+linesNumber Torn = 1
+
 -- A whole text, its lines counted.
 unfoldable pub scanOf : Get Facts
 scanOf =

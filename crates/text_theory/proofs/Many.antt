@@ -1,4 +1,4 @@
--- Values one after the other, each behind the same bytes.
+-- Values one after the other, each after the same bytes.
 use mathlib.Core.Path.{_≡_, refl, ap}
 use mathlib.Core.Option.{Option, none, some, Option·none-ne-some}
 use mathlib.Core.List.{List, [], _∷_, _++_, append-assoc}

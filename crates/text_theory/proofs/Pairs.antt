@@ -10,13 +10,13 @@ use lib.Dec.{eqb}
 use lib.ListN.{length, getD, drop, length-append}
 use lib.Seq.{drop-cons}
 use borrow.Author.Tests.{eqb-true, eq-eqb}
-use Rattle.text_theory.specs.Readers.{Get, give, on, _▷_, strip, behind, after}
+use Rattle.text_theory.specs.Readers.{Get, give, on, _▷_, strip, onward, after}
 
--- The byte at a place, and the bytes behind it.
+-- The byte at a place, and the bytes after it.
 pub front : (text : List ℕ) (at : ℕ) → at < length text → drop at text ≡ getD text at 0 ∷ drop (at + 1) text
 front text at h = rw add-one (drop-cons text at 0 h)
 
--- `get` reads what `put` prints, where `stop` holds of what stands behind; and it reads nothing else.
+-- `get` reads what `put` prints, where `stop` holds of what stands after; and it reads nothing else.
 pub record Reads {A : Type 0} (ok : A → Type 0) (put : A → List ℕ) (stop : List ℕ → Type 0) (get : Get A) : Type 0 where
   pub back : (a : A) → ok a → (t : List ℕ) → stop t → get (put a ++ t) ≡ some (a, t)
   pub sound : (s : List ℕ) (r : A × List ℕ) → get s ≡ some r → (s ≡ put (r .0) ++ (r .1)) × ok (r .0)
@@ -58,7 +58,7 @@ module _ {A : Type 0} (w : List ℕ) (g : Get A) where
   pub after-inv : (s : List ℕ) (r : A × List ℕ) → after w g s ≡ some r → (t : List ℕ) × (s ≡ w ++ t) × (g t ≡ some r)
   after-inv s r h = go (strip w s) refl h
     where
-      go : (o : Option (List ℕ)) → strip w s ≡ o → behind o g ≡ some r → (t : List ℕ) × (s ≡ w ++ t) × (g t ≡ some r)
+      go : (o : Option (List ℕ)) → strip w s ≡ o → onward o g ≡ some r → (t : List ℕ) × (s ≡ w ++ t) × (g t ≡ some r)
       go none e h = absurd (Option·none-ne-some _ h)
       go (some t) e h = (t, strip-sound w s t e, h)
 
@@ -66,7 +66,7 @@ module _ {A : Type 0} (w : List ℕ) (g : Get A) where
 pub short : {A : Type 0} {ok : A → Type 0} {put : A → List ℕ} {stop : List ℕ → Type 0} {g : Get A} → Reads ok put stop g → (s : List ℕ) (r : A × List ℕ) → g s ≡ some r → length (r .1) ≤ length s
 short R s r h = omega (arith, simp length-append at (ap length (R .sound s r h .0)))
 
--- What a reader reads behind `done` makes with it what `put` prints of the value read.
+-- What a reader reads after `done` makes with it what `put` prints of the value read.
 pub record Sounds {B : Type 0} (ok : B → Type 0) (put : B → List ℕ) (done : List ℕ) (k : Get B) : Type 0 where
   pub sounds : (s : List ℕ) (r : B × List ℕ) → k s ≡ some r → (done ++ s ≡ put (r .0) ++ (r .1)) × ok (r .0)
 

@@ -25,7 +25,7 @@ further n (b ∷ s) = cond (isDigit b) (further (n * 10 + (b - 48)) s) (n, b ∷
 unfoldable pub upTo : ℕ → ℕ × List ℕ → Option (ℕ × List ℕ)
 upTo limit r = cond (leb (r .0) limit) (some r) none
 
--- A number up to the limit. A 0 stands alone: digits behind it are no part of the number.
+-- A number up to the limit. A 0 stands alone: digits after it are no part of the number.
 unfoldable pub number : ℕ → Get ℕ
 number limit [] = none
 number limit (b ∷ s) = cond (isDigit b) (cond (eqb b 48) (some (0, s)) (upTo limit (further (b - 48) s))) none

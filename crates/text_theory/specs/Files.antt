@@ -56,12 +56,12 @@ greyWord = 103 ∷ 114 ∷ 101 ∷ 121 ∷ []  -- 'grey'
 unfoldable pub rgbWord : List ℕ
 rgbWord = 114 ∷ 103 ∷ 98 ∷ []  -- 'rgb'
 
--- Every value behind the bytes w.
+-- Every value after the bytes w.
 unfoldable pub each : {A : Type 0} → List ℕ → (A → List ℕ) → List A → List ℕ
 each w put [] = []
 each w put (x ∷ xs) = w ++ (put x ++ each w put xs)
 
--- The first number bare, the others behind a blank.
+-- The first number bare, the others after a blank.
 unfoldable pub joined : List ℕ → List ℕ
 joined [] = []
 joined (a ∷ xs) = digits a ++ each blank digits xs
@@ -75,7 +75,7 @@ unfoldable pub pixelText : Kind → List ℕ → List ℕ
 pixelText Grey px = joined px
 pixelText Rgb px = opening ++ (joined px ++ closing)
 
--- The items of a line behind its word, and the line's end.
+-- The items of a line after its word, and the line's end.
 unfoldable pub lineText : {A : Type 0} → (A → List ℕ) → List A → List ℕ
 lineText put xs = each blank put xs ++ closed
 
@@ -109,7 +109,7 @@ either (some a) o = some a
 unfoldable pub kindGet : Get Kind
 kindGet s = either (after greyWord (give Grey) s) (after rgbWord (give Rgb) s)
 
--- Items, each behind a blank, up to the closing bracket.
+-- Items, each after a blank, up to the closing bracket.
 unfoldable pub items : {A : Type 0} → Get A → Get (List A)
 items g = many blank g ▷ λ xs. after closing (give xs)
 

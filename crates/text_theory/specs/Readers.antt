@@ -23,19 +23,20 @@ infixr 20 _▷_
 abbrev pub _▷_ : {A B : Type 0} → Get A → (A → Get B) → Get B
 _▷_ g f s = on (g s) f
 
--- What is left of s behind the bytes w.
+-- What is left of s after the bytes w.
 unfoldable pub strip : List ℕ → List ℕ → Option (List ℕ)
 strip [] s = some s
 strip (b ∷ w) [] = none
 strip (b ∷ w) (c ∷ s) = cond (eqb b c) (strip w s) none
 
-abbrev pub behind : {A : Type 0} → Option (List ℕ) → Get A → Option (A × List ℕ)
-behind none g = none
-behind (some t) g = g t
+-- A reader reads on from what is left; a refusal stays one.
+abbrev pub onward : {A : Type 0} → Option (List ℕ) → Get A → Option (A × List ℕ)
+onward none g = none
+onward (some t) g = g t
 
 -- The bytes w, then a reader.
 abbrev pub after : {A : Type 0} → List ℕ → Get A → Get A
-after w g s = behind (strip w s) g
+after w g s = onward (strip w s) g
 
 -- As long as w stands next: w, then a value.
 unfoldable pub next : {A : Type 0} → Option (List ℕ) → List ℕ → Get A → Get (List A) → Option (List A × List ℕ)

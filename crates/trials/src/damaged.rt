@@ -50,7 +50,7 @@ fn print_exchanged(text: [u8; 512], length: usize)
     }
 }
 
-// The digit at this place exchanged with each one behind it.
+// The digit at this place exchanged with each one after it.
 fn print_exchanged_at(text: [u8; 512], length: usize, place: usize)
     requires { ⌜ (place < length) × (length ≤ 512) ⌝ }
 {

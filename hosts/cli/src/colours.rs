@@ -1,6 +1,6 @@
 //! The seams of a file drawn over its picture.
 
-use multisize::{Contents, Kind, Picture, Refusal, Size};
+use multisize::{Contents, Picture, Refusal, Size};
 
 /// The picture in rgb, with the first seams in colours by their numbers.
 pub fn drawn(contents: &Contents, first: usize) -> Result<Picture, Refusal> {
@@ -14,10 +14,10 @@ pub fn drawn(contents: &Contents, first: usize) -> Result<Picture, Refusal> {
     let samples =
         pixels
             .zip(&contents.map)
-            .flat_map(|(pixel, number)| match (usize::from(*number), kind) {
+            .flat_map(|(pixel, number)| match (usize::from(*number), pixel) {
                 (number, _) if (1..=last).contains(&number) => colour(number, last),
-                (_, Kind::Grey) => [pixel[0]; 3],
-                (_, Kind::Rgb) => [pixel[0], pixel[1], pixel[2]],
+                (_, [red, green, blue]) => [*red, *green, *blue],
+                (_, _) => [pixel[0]; 3],
             });
     Picture::new(Size::rgb(width, height), samples.collect())
 }

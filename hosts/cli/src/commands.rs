@@ -6,7 +6,7 @@ use crate::failure::Failure;
 use crate::places::{print, Input, Output};
 use crate::progress::during;
 use crate::table;
-use multisize::{Carver, Columns, Contents, Head, Kind, Range, Refusal, Rows, Size};
+use multisize::{Carver, Columns, Contents, Head, Range, Refusal, Rows, Size};
 use std::io::{self, Write};
 
 /// Does what the command says.
@@ -69,10 +69,7 @@ fn info(file: &Input) -> Result<(), Failure> {
         height,
         kind,
     } = head.size;
-    let kind = match kind {
-        Kind::Grey => "grey",
-        Kind::Rgb => "rgb",
-    };
+    let kind = kind.word();
     let Range { depth, growth } = head.range;
     let (least, most) = head.widths().into_inner();
     let size = format!("width {width}, height {height}, {kind}");

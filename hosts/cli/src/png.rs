@@ -8,7 +8,7 @@ mod filters;
 mod matches;
 mod symbols;
 
-use multisize::{Kind, Picture, Size};
+use multisize::{Picture, Size};
 
 /// The bytes that every PNG begins with.
 pub const SIGNATURE: [u8; 8] = *b"\x89PNG\r\n\x1a\n";
@@ -28,12 +28,10 @@ pub fn write(picture: &Picture) -> Vec<u8> {
 /// The sides, 8 bits a sample, the kind, and the one way there is to compress, to
 /// filter, and to order the rows without interlacing.
 fn header(size: Size) -> Vec<u8> {
-    let kind = match size.kind {
-        Kind::Grey => 0,
-        Kind::Rgb => 2,
-    };
+    // PNG's colour types: three samples a pixel, or one.
+    let colour = if size.kind.channels() == 3 { 2 } else { 0 };
     let sides = [side(size.width), side(size.height)];
-    [sides.concat().as_slice(), &[8, kind, 0, 0, 0]].concat()
+    [sides.concat().as_slice(), &[8, colour, 0, 0, 0]].concat()
 }
 
 /// A side as four bytes, the highest first. A picture shown is at most 768 wide.

@@ -25,7 +25,7 @@ fn originals(contents: &Contents) -> Vec<u16> {
     for (at, number) in contents.map.iter().enumerate() {
         let (row, column) = (at / size.width, at % size.width);
         if *number > 0 {
-            // A side is at most 512.
+            // A side is at most LARGEST_SIDE, which fits.
             columns[(usize::from(*number) - 1) * size.height + row] = column as u16;
         }
     }

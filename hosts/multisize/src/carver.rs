@@ -28,8 +28,8 @@ impl Carver {
         Carver::default()
     }
 
-    /// So many bytes of work space. An operation clears all that it is lent, so
-    /// it is lent no more than it needs.
+    /// Work space of `bytes` bytes. An operation clears all that it is lent, so it
+    /// is lent no more than it needs.
     pub(crate) fn space(&mut self, bytes: usize) -> &mut [u8] {
         if self.space.len() < bytes {
             self.space.resize(bytes, 0);

@@ -2,12 +2,12 @@
 
 use crate::archive;
 use crate::carver::Carver;
-use crate::picture::{Kind, Picture, Size};
+use crate::picture::{Kind, Picture, Size, LARGEST_SIDE};
 use crate::refusal::Refusal;
 use std::ops::RangeInclusive;
 
 /// The most pixels of a picture in a file.
-const MOST_PIXELS: usize = 512 * 512;
+const MOST_PIXELS: usize = LARGEST_SIDE * LARGEST_SIDE;
 
 /// How much narrower and wider than its picture a file can be shown.
 #[derive(Clone, Copy, Debug, PartialEq, Eq)]
@@ -89,9 +89,13 @@ fn most_shown(file: &[u8]) -> usize {
 }
 
 impl Carver {
-    /// The file of a picture. Refused by 6 where depth or growth isn't allowed:
-    /// depth at most the width less 1, growth at most the depth and half the
-    /// width.
+    /// Builds the file of a picture. The depth is at most the width less 1, the
+    /// growth at most the depth and at most half the width.
+    ///
+    /// # Errors
+    ///
+    /// Refused by 3 for a picture wider than [`LARGEST_SIDE`], and by 6 where depth or growth
+    /// isn't allowed.
     ///
     /// ```
     /// use multisize::{Carver, Picture, Range, Size};
@@ -112,8 +116,12 @@ impl Carver {
         Ok(out)
     }
 
-    /// Checks a file and gives what it says of its picture. Refused by 1 to 4,
-    /// 6, and 9 to 11.
+    /// Checks a file and gives what it says of its picture.
+    ///
+    /// # Errors
+    ///
+    /// Refused by 1 for its form, by 2 and 3 for the sides, by 4 for the counts,
+    /// by 6 for the range, and by 9, 10 and 11 for the map.
     ///
     /// ```
     /// use multisize::{Carver, Refusal, Size};
@@ -128,7 +136,11 @@ impl Carver {
         archive::check(file, self.space(work_of(file)))
     }
 
-    /// Checks a file and gives its picture and map. Refused as checking is.
+    /// Checks a file and gives its picture and map.
+    ///
+    /// # Errors
+    ///
+    /// Refused as [`check`](Carver::check) is.
     ///
     /// ```
     /// use multisize::Carver;
@@ -154,8 +166,12 @@ impl Carver {
         })
     }
 
-    /// What a file shows at a width. Refused as checking is, and by 7 where the
-    /// width isn't offered.
+    /// Checks a file and gives the picture that it shows at a width.
+    ///
+    /// # Errors
+    ///
+    /// Refused as [`check`](Carver::check) is, and by 7 where the width isn't
+    /// offered.
     ///
     /// ```
     /// use multisize::{Carver, Refusal};

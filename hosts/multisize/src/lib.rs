@@ -32,7 +32,7 @@ mod seams;
 pub use carver::Carver;
 pub use files::{Contents, Head, Range};
 pub use objects::{Ending, PLAIN, PROTECTED, REMOVE};
-pub use picture::{Kind, Picture, Size};
+pub use picture::{Kind, Picture, Size, LARGEST_SIDE};
 pub use refusal::Refusal;
 pub use retargets::{Columns, Retargeted, Rows};
 pub use seams::{Axis, Seam};

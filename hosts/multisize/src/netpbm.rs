@@ -4,9 +4,13 @@ use crate::picture::{Kind, Picture, Size};
 use crate::refusal::Refusal;
 
 /// The picture in the bytes of a Netpbm file. In the header any white space and
-/// comments may stand between the numbers, as other tools write them. Refused by
-/// 1 where the header breaks its form or the largest sample isn't 255, by 2 and 3
-/// for the sides, and by 4 where there are more or fewer samples.
+/// comments may stand between the numbers, as other tools write them.
+///
+/// # Errors
+///
+/// Refused by 1 where the header breaks its form or the largest sample isn't
+/// 255, by 2 and 3 for the sides, and by 4 where there are more or fewer samples
+/// than the size says.
 ///
 /// ```
 /// use multisize::{netpbm, Size};
@@ -45,7 +49,7 @@ pub fn write(picture: &Picture) -> Vec<u8> {
     bytes
 }
 
-/// The size that a header gives, and the samples behind it.
+/// The size that a header gives, and the samples after it.
 fn header(bytes: &[u8]) -> Option<(Size, &[u8])> {
     let (magic, rest) = bytes.split_at_checked(2)?;
     let kind = match magic {
@@ -70,21 +74,21 @@ fn white(byte: u8) -> bool {
     byte.is_ascii_whitespace() || byte == 11
 }
 
-/// What stands behind white space and comments, of which there must be some. A
+/// What stands after white space and comments, of which there must be some. A
 /// comment runs to the end of its line.
 fn gap(bytes: &[u8]) -> Option<&[u8]> {
     let mut rest = bytes;
     loop {
         rest = match rest.split_first()? {
             (b'#', comment) => &comment[comment.iter().position(|byte| *byte == b'\n')?..],
-            (byte, behind) if white(*byte) => behind,
+            (byte, after) if white(*byte) => after,
             _ => break,
         };
     }
     (rest.len() < bytes.len()).then_some(rest)
 }
 
-/// A number of 0 to 65535 without leading zeros, and what stands behind it.
+/// A number of 0 to 65535 without leading zeros, and what stands after it.
 fn number(bytes: &[u8]) -> Option<(usize, &[u8])> {
     let digits = bytes.iter().take_while(|byte| byte.is_ascii_digit());
     let (digits, rest) = bytes.split_at(digits.count());

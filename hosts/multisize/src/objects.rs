@@ -13,7 +13,8 @@ pub const PROTECTED: u8 = 1;
 /// The mark of a pixel that is to be removed.
 pub const REMOVE: u8 = 2;
 
-/// How a removal ended, with the count of seams cut.
+/// How a removal ended, with the count of seams cut. There are these four
+/// endings and no others.
 #[derive(Clone, Copy, Debug, PartialEq, Eq)]
 pub enum Ending {
     /// No pixel is marked to be removed any more.
@@ -60,8 +61,13 @@ impl fmt::Display for Ending {
 
 impl Carver {
     /// Cuts at most `budget` vertical seams by the marks, until no pixel is
-    /// marked [`REMOVE`]. Picture and marks are then what is left. Refused by 4
-    /// and 5 for the marks.
+    /// marked [`REMOVE`]. Picture and marks are then what is left.
+    ///
+    /// # Errors
+    ///
+    /// Refused by 3 for a picture wider than [`LARGEST_SIDE`](crate::LARGEST_SIDE), by 4 unless there is one mark
+    /// a pixel, and by 5 for a mark over 2. Picture and marks are then
+    /// unchanged. A blocked removal isn't refused: that is an ending.
     ///
     /// ```
     /// use multisize::{Carver, Ending, Picture, Size};

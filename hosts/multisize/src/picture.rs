@@ -3,8 +3,12 @@
 use crate::archive;
 use crate::refusal::Refusal;
 
-/// One byte a pixel, or three with red first.
+/// The largest width and the largest height of a picture.
+pub const LARGEST_SIDE: usize = 512;
+
+/// One byte a pixel, or three with red first. Further kinds may follow.
 #[derive(Clone, Copy, Debug, PartialEq, Eq, Hash)]
+#[non_exhaustive]
 pub enum Kind {
     /// 1 byte a pixel.
     Grey,
@@ -18,6 +22,18 @@ impl Kind {
         match self {
             Kind::Grey => 1,
             Kind::Rgb => 3,
+        }
+    }
+
+    /// The word that names it in a file.
+    ///
+    /// ```
+    /// assert_eq!(multisize::Kind::Rgb.word(), "rgb");
+    /// ```
+    pub fn word(self) -> &'static str {
+        match self {
+            Kind::Grey => "grey",
+            Kind::Rgb => "rgb",
         }
     }
 }
@@ -70,7 +86,7 @@ impl Size {
 
 /// A picture. Rows run from the top, pixels from the left, without padding.
 ///
-/// Each side is 1 to 512; only a picture that a file shows may be wider, and
+/// Each side is 1 to [`LARGEST_SIDE`]; only a picture that a file shows may be wider, and
 /// the operations refuse it by 3.
 #[derive(Clone, Debug, PartialEq, Eq)]
 pub struct Picture {
@@ -79,8 +95,12 @@ pub struct Picture {
 }
 
 impl Picture {
-    /// A picture of this size. Refused by 2 and 3 for its sides and by 4 where
-    /// there are more or fewer samples than the size says.
+    /// A picture of this size.
+    ///
+    /// # Errors
+    ///
+    /// Refused by 2 and 3 for its sides, and by 4 where there are more or fewer
+    /// samples than the size says.
     ///
     /// ```
     /// use multisize::{Picture, Refusal, Size};
@@ -123,7 +143,7 @@ impl Picture {
         self.size
     }
 
-    /// The samples of all rows, one row behind the other.
+    /// The samples of all rows, one row after the other.
     pub fn samples(&self) -> &[u8] {
         &self.samples
     }
@@ -150,7 +170,11 @@ impl Picture {
         row
     }
 
-    /// The energies of the pixels of row `r`. Refused by 4 where there is no
+    /// The energies of the pixels of row `r`, counted from 0.
+    ///
+    /// # Errors
+    ///
+    /// Refused by 3 for a picture wider than [`LARGEST_SIDE`], and by 4 where there is no
     /// such row.
     ///
     /// ```

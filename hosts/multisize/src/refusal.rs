@@ -4,7 +4,7 @@ use std::error::Error;
 use std::fmt;
 
 /// Why an operation was refused. Of several reasons the one with the smallest
-/// number is given.
+/// number is given. Further numbers may follow.
 ///
 /// ```
 /// use multisize::Refusal;
@@ -13,12 +13,13 @@ use std::fmt;
 /// assert_eq!(Refusal::Mark.to_string(), "refused (5): a mark is over 2");
 /// ```
 #[derive(Clone, Copy, Debug, PartialEq, Eq, Hash)]
+#[non_exhaustive]
 pub enum Refusal {
     /// 1: text or Netpbm header breaks its form.
     Form = 1,
     /// 2: width or height 0.
     Empty,
-    /// 3: width or height over 512.
+    /// 3: width or height over [`LARGEST_SIDE`](crate::LARGEST_SIDE).
     Large,
     /// 4: a length or a count isn't what the size says.
     Length,
@@ -45,7 +46,7 @@ pub enum Refusal {
 
 impl Refusal {
     /// All of them, by ascending number.
-    pub const ALL: [Refusal; 13] = [
+    pub const ALL: &'static [Refusal] = &[
         Refusal::Form,
         Refusal::Empty,
         Refusal::Large,
@@ -61,7 +62,7 @@ impl Refusal {
         Refusal::Last,
     ];
 
-    /// The number, 1 to 13.
+    /// The number.
     pub fn number(self) -> u8 {
         self as u8
     }
@@ -75,9 +76,8 @@ impl Refusal {
     /// assert_eq!(Refusal::numbered(14), None);
     /// ```
     pub fn numbered(number: u64) -> Option<Refusal> {
-        Refusal::ALL
-            .into_iter()
-            .find(|refusal| u64::from(refusal.number()) == number)
+        let mut all = Refusal::ALL.iter().copied();
+        all.find(|refusal| u64::from(refusal.number()) == number)
     }
 
     /// The meaning in words.
@@ -124,9 +124,15 @@ mod tests {
 
     #[test]
     fn numbers_ascend_from_1() {
-        let numbers: Vec<u8> = Refusal::ALL.map(Refusal::number).to_vec();
+        let numbers: Vec<u8> = Refusal::ALL.iter().map(|why| why.number()).collect();
         assert_eq!(numbers, (1..=13).collect::<Vec<u8>>());
         assert_eq!(Refusal::numbered(0), None);
         assert_eq!(Refusal::numbered(u64::MAX), None);
+    }
+
+    #[test]
+    fn words_name_the_limit() {
+        let limit = crate::LARGEST_SIDE.to_string();
+        assert!(Refusal::Large.meaning().ends_with(&limit));
     }
 }

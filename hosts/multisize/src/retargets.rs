@@ -23,9 +23,13 @@ pub struct Retargeted {
 }
 
 impl Carver {
-    /// The picture with so many rows and columns less, in the cheapest order
-    /// that the table of cells finds. Refused by 7 where either count is over
-    /// 64, or no row or column would be left.
+    /// The picture with `rows` rows and `columns` columns less, in the cheapest
+    /// order that the table of cells finds.
+    ///
+    /// # Errors
+    ///
+    /// Refused by 3 for a picture wider than [`LARGEST_SIDE`](crate::LARGEST_SIDE), and by 7 where either count is
+    /// over 64 or no row or column would be left.
     ///
     /// ```
     /// use multisize::{Carver, Columns, Picture, Rows, Size};

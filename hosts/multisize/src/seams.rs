@@ -5,7 +5,7 @@ use crate::carver::Carver;
 use crate::picture::{Picture, Size};
 use crate::refusal::Refusal;
 
-/// Which way a seam runs.
+/// Which way a seam runs: there are these two ways and no others.
 #[derive(Clone, Copy, Debug, PartialEq, Eq, Hash)]
 pub enum Axis {
     /// From the top to the bottom, one column for each row.
@@ -50,7 +50,11 @@ pub struct Seam {
 }
 
 impl Carver {
-    /// The cheapest seam.
+    /// Finds the cheapest seam.
+    ///
+    /// # Errors
+    ///
+    /// Refused by 3 for a picture wider than [`LARGEST_SIDE`](crate::LARGEST_SIDE).
     ///
     /// ```
     /// use multisize::{Axis, Carver, Picture, Size};
@@ -68,8 +72,12 @@ impl Carver {
         Ok(Seam { places, cost })
     }
 
-    /// Cuts that seam out of the picture. Refused by 13 at the last column or
-    /// row.
+    /// Cuts the cheapest seam out of the picture.
+    ///
+    /// # Errors
+    ///
+    /// Refused as [`find`](Carver::find) is, and by 13 at the last column or
+    /// row. The picture is then unchanged.
     ///
     /// ```
     /// use multisize::{Axis, Carver, Picture, Size};
@@ -90,10 +98,15 @@ impl Carver {
         Ok(Seam { places, cost })
     }
 
-    /// The seam by marks, one byte a pixel: of those that touch no pixel marked
-    /// [`PROTECTED`](crate::PROTECTED), the one with the most pixels marked
-    /// [`REMOVE`](crate::REMOVE), then the cheapest. Refused by 4 and 5 for the
-    /// marks and by 12 where every seam meets a protected pixel.
+    /// Finds the seam by marks, one byte a pixel: of those that touch no pixel
+    /// marked [`PROTECTED`](crate::PROTECTED), the one with the most pixels
+    /// marked [`REMOVE`](crate::REMOVE), then the cheapest.
+    ///
+    /// # Errors
+    ///
+    /// Refused by 3 for a picture wider than [`LARGEST_SIDE`](crate::LARGEST_SIDE), by 4 unless there is one mark
+    /// a pixel, by 5 for a mark over 2, and by 12 where every seam meets a
+    /// protected pixel.
     ///
     /// ```
     /// use multisize::{Axis, Carver, Picture, Size};
@@ -118,8 +131,12 @@ impl Carver {
         Ok(Seam { places, cost })
     }
 
-    /// Cuts that seam out of the picture and the marks. Refused as finding it
-    /// is, and by 13 at the last column or row.
+    /// Cuts the seam by marks out of the picture and out of the marks.
+    ///
+    /// # Errors
+    ///
+    /// Refused as [`find_marked`](Carver::find_marked) is, and by 13 at the last
+    /// column or row. Picture and marks are then unchanged.
     ///
     /// ```
     /// use multisize::{Axis, Carver, Picture, Size};

@@ -24,7 +24,7 @@ use Rattle.seam_turn.proofs.Served.{turn-served}
 use Rattle.seam_cut_marked.specs.Axes.{markedSeamAlong, markedCostAlong, blockedAlong}
 use Rattle.seam_rules.proofs.Turns.{turned-bytes, turned-pixels, turned-sides}
 use Rattle.seam_cut_marked.proofs.Marked.{MarkedThere, marked-served}
-use Rattle.seam_cut_marked.proofs.Marks.{grey-bytes, grey-sized, put-behind, picture-there, marks-there}
+use Rattle.seam_cut_marked.proofs.Marks.{grey-bytes, grey-sized, put-after, picture-there, marks-there}
 use Rattle.seam_cut_marked.proofs.marked_along.Statement.{statement}
 use Rattle.seam_cut_marked.proofs.marked_along.Tie as tie
 
@@ -81,7 +81,7 @@ stands c =
     let back = turn-served (now (a .marks)) (greyOf (a .size)) (a .axis) mid (c .turn2 .last .1 .1 .1 .0) (c .turn2 .result) turns
     (grey-sized (a .size) n (now (a .marks)) (sure s) (s .pre .marked))
     (omega (arith, grey-bytes (a .size), part-length n (length w) w (omega arith), fits at-turn)) in
-    put-behind (a .axis) (a .size) (now (a .picture)) (now (a .marks)) (now (a .work)) w mid (c .turn2 .last .1 .1 .1 .0)
+    put-after (a .axis) (a .size) (now (a .picture)) (now (a .marks)) (now (a .work)) w mid (c .turn2 .last .1 .1 .1 .0)
     (sure s .length-is) (s .pre .marked) (omega (arith, fits at-turn)) (turned-is at-turn) back
 
 space-long : (c : tie.After-turn2)

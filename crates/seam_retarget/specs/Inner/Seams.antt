@@ -10,7 +10,7 @@ use Rattle.pictures.specs.declared.sizes.Size.{Size}
 use Rattle.pictures.specs.Refusals.{refusal}
 use Rattle.pictures.specs.Pictures.{Picture, sideRules, pictureBytes, picture, bytes, pixels}
 use Rattle.seam_moves.specs.Between.{partAt}
-use Rattle.seam_bounds.specs.Moves.{PlacesApart}
+use Rattle.seam_bounds.specs.Inner.{PlacesApart}
 use Rattle.seam_rules.specs.declared.answers.Axis.{Axis}
 use Rattle.seam_rules.specs.Axes.{turnedSize, narrowed}
 use Rattle.seam_turn.specs.Axes.{turned, cutAlong}

@@ -159,8 +159,8 @@ pub fn remove(
     })
 }
 
-/// The picture with so many rows and columns less at the front of `out`; gives
-/// the total.
+/// The picture with `rows` rows and `columns` columns less at the front of
+/// `out`; gives the total.
 pub fn retarget(
     picture: &[u8],
     size: Size,

@@ -1,7 +1,7 @@
 -- `file_build::lines::print_file` meets its contract.
 use denote.Ref.{now}
 use Rattle.text_theory.specs.Files.{headText}
-use Rattle.text_print.specs.Prints.{Printed}
+use Rattle.text_print.specs.Inner.{Printed}
 use Rattle.file_build.proofs.Printing.{head-never, head-next, rows-needed, maps-needed, end-never, all-printed}
 use borrow.Author.Needs.{needs}
 use Rattle.file_build.proofs.lines.print_file.Statement.{statement}

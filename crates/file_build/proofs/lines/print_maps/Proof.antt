@@ -11,7 +11,7 @@ use Rattle.grids.proofs.Rows.{part-end}
 use Rattle.text_theory.specs.Decimal.{digits}
 use Rattle.text_theory.specs.Files.{mapWord, each, lineText, mapText}
 use Rattle.text_print.specs.declared.lines.Place.the-variants as places
-use Rattle.text_print.specs.Prints.{Printed}
+use Rattle.text_print.specs.Inner.{Printed}
 use Rattle.text_print.proofs.Written.{printed-length}
 use Rattle.file_build.specs.Inner.Lines.{mapIn}
 use Rattle.file_build.proofs.Lined.{lines-none, line-never, line-next, lines-all}

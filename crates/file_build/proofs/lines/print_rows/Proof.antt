@@ -9,7 +9,7 @@ use Rattle.pictures.specs.Pictures.{picture as Pictures·picture}
 use Rattle.text_theory.specs.Files.{rowWord, each, pixelText, lineText, rowText}
 use Rattle.text_print.specs.declared.lines.Place.the-variants as places
 use Rattle.text_lengths.specs.Rooms.{pixelsOf}
-use Rattle.text_print.specs.Prints.{Printed}
+use Rattle.text_print.specs.Inner.{Printed}
 use Rattle.text_print.proofs.Written.{printed-length}
 use Rattle.file_build.proofs.Lined.{lines-none, line-never, line-next, lines-all}
 use Rattle.file_build.proofs.PictureRows.{rows-many, row-line}

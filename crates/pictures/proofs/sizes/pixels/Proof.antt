@@ -25,22 +25,22 @@ enum-told c = search needs
 enum-told-2 : tie.Need-enum-told-2
 enum-told-2 c = search needs
 
+mul-result : tie.Need-mul-result
+mul-result c = omega (arith, sure (c .before) .pixels-most)
+
 returns : tie.Need-returns
 returns c =
+    let s = c .before .before .before .before in
+    let z = s .args .size in
+    sym (ap (λ n. served n (pixels z) 0) (none (c .before)))
+
+returns-2 : tie.Need-returns-2
+returns-2 c =
     let at-judge-sides = c .before .before in
     let s = at-judge-sides .before in
     let why = c .enum-told2 .given in
     refused-kept (at-judge-sides .judge-sides .result) (why .0 .0) (why .1) (pixels (s .args .size)) 0
     ∙ ap (λ n. served n (pixels (s .args .size)) 0) (at-judge-sides .judge-sides .ensures)
 
-mul-result : tie.Need-mul-result
-mul-result c = omega (arith, sure (c .before) .pixels-most)
-
-returns-2 : tie.Need-returns-2
-returns-2 c =
-    let s = c .before .before .before .before in
-    let z = s .args .size in
-    sym (ap (λ n. served n (pixels z) 0) (none (c .before)))
-
 pub pixels-spec : {M : Type 1} → statement M
-pixels-spec = tie.close (tie.spec judge-sides-requires enum-told enum-told-2 returns mul-result returns-2)
+pixels-spec = tie.close (tie.spec judge-sides-requires enum-told mul-result enum-told-2 returns returns-2)

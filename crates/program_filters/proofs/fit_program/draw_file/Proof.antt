@@ -7,13 +7,14 @@ use lib.Seq.{length-take-le}
 use Rattle.pictures.specs.Pictures.{channelsOf}
 use Rattle.pictures.proofs.Limits.{channels-most}
 use Rattle.text_theory.specs.declared.Head.{Head}
+use Rattle.program_theory.specs.Programs.{heldPixels}
 use Rattle.program_filters.proofs.PictureAnswers.{no-head, same-head}
 use borrow.Author.Needs.{needs}
 use Rattle.program_filters.proofs.fit_program.draw_file.Statement.{statement}
 use Rattle.program_filters.proofs.fit_program.draw_file.Tie as tie
 
 -- the most pixels fit the space
-room-most : (c : tie.After-channels) → 1024 * c .channels .result ≤ 3072
+room-most : (c : tie.After-channels) → heldPixels * c .channels .result ≤ 3 * heldPixels
 room-most c = rw (c .channels .ensures) (omega (arith, channels-most (c .before .before .before .head .given .0 .0 .size .kind)))
 
 header-requires : tie.Need-header-requires
@@ -53,7 +54,7 @@ draw-in-requires c κs =
     record {
       held = λ p e.
           length-take-le _ _ (room-most at-channels)
-          ∙ ap (λ n. 1024 * n) (at-channels .channels .ensures ∙ sym (ap (λ (h : Head). channelsOf (h .size .kind)) (same-head (rw (at-head .head .given .1) at (at-header .header .ensures)) p e)));
+          ∙ ap (λ n. heldPixels * n) (at-channels .channels .ensures ∙ sym (ap (λ (h : Head). channelsOf (h .size .kind)) (same-head (rw (at-head .head .given .1) at (at-header .header .ensures)) p e)));
       room = s .pre;
     }
 

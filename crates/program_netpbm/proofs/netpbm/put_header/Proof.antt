@@ -19,7 +19,7 @@ put-number-requires c κs =
       arith,
       s .pre .room,
       header-parts (s .args .size),
-      at-put-magic .put-magic .ensures .behind,
+      at-put-magic .put-magic .ensures .end-is,
       printed-length (at-put-magic .put-magic .ensures),
     )
 
@@ -35,9 +35,9 @@ put-bytes-requires c κs =
       arith,
       s .pre .room,
       header-parts (s .args .size),
-      at-put-magic .put-magic .ensures .behind,
+      at-put-magic .put-magic .ensures .end-is,
       printed-length (at-put-magic .put-magic .ensures),
-      at-put-number .put-number .ensures .behind,
+      at-put-number .put-number .ensures .end-is,
       printed-length (at-put-number .put-number .ensures),
     )
 
@@ -51,11 +51,11 @@ put-number-requires-2 c κs =
       arith,
       s .pre .room,
       header-parts (s .args .size),
-      at-put-magic .put-magic .ensures .behind,
+      at-put-magic .put-magic .ensures .end-is,
       printed-length (at-put-magic .put-magic .ensures),
-      at-put-number .put-number .ensures .behind,
+      at-put-number .put-number .ensures .end-is,
       printed-length (at-put-number .put-number .ensures),
-      at-put-bytes .put-bytes .ensures .behind,
+      at-put-bytes .put-bytes .ensures .end-is,
       printed-length (at-put-bytes .put-bytes .ensures),
     )
 
@@ -73,13 +73,13 @@ put-bytes-requires-2 c κs =
       arith,
       s .pre .room,
       header-parts (s .args .size),
-      at-put-magic .put-magic .ensures .behind,
+      at-put-magic .put-magic .ensures .end-is,
       printed-length (at-put-magic .put-magic .ensures),
-      at-put-number .put-number .ensures .behind,
+      at-put-number .put-number .ensures .end-is,
       printed-length (at-put-number .put-number .ensures),
-      at-put-bytes .put-bytes .ensures .behind,
+      at-put-bytes .put-bytes .ensures .end-is,
       printed-length (at-put-bytes .put-bytes .ensures),
-      at-put-number2 .put-number2 .ensures .behind,
+      at-put-number2 .put-number2 .ensures .end-is,
       printed-length (at-put-number2 .put-number2 .ensures),
     )
 

@@ -17,7 +17,7 @@ put-bytes-requires : tie.Need-put-bytes-requires
 put-bytes-requires c κs =
     let at-put-header = c .before .before .before in
     let s = at-put-header .before .before .before .before in
-    omega (arith, s .pre .room, length-append (headerText (s .args .size)) (now (s .args .samples)), at-put-header .put-header .ensures .behind, printed-length (at-put-header .put-header .ensures))
+    omega (arith, s .pre .room, length-append (headerText (s .args .size)) (now (s .args .samples)), at-put-header .put-header .ensures .end-is, printed-length (at-put-header .put-header .ensures))
 
 same-length : tie.Need-same-length
 same-length c = search needs

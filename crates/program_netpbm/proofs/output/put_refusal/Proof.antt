@@ -38,7 +38,7 @@ put-number-requires c κs =
     let at-number = at-put-bytes .before .before .before in
     let s = at-number .before .before in
     rw (at-number .number .ensures)
-    (omega (arith, s .pre, digits-most (numberOf (s .args .why)) (number-below (s .args .why)), at-put-bytes .put-bytes .ensures .behind, printed-length (at-put-bytes .put-bytes .ensures)))
+    (omega (arith, s .pre, digits-most (numberOf (s .args .why)) (number-below (s .args .why)), at-put-bytes .put-bytes .ensures .end-is, printed-length (at-put-bytes .put-bytes .ensures)))
 
 slice-aggregate-put-bytes-2 : tie.Need-slice-aggregate-put-bytes-2
 slice-aggregate-put-bytes-2 c = search needs
@@ -52,9 +52,9 @@ put-bytes-requires-2 c κs =
       arith,
       s .pre,
       short at-put-number,
-      at-put-bytes .put-bytes .ensures .behind,
+      at-put-bytes .put-bytes .ensures .end-is,
       printed-length (at-put-bytes .put-bytes .ensures),
-      at-put-number .put-number .ensures .behind,
+      at-put-number .put-number .ensures .end-is,
       printed-length (at-put-number .put-number .ensures),
     )
 

@@ -83,7 +83,7 @@ lent-seam c =
     let h = s .args .size .height in
     ap (take h) (there c .seam-given) ∙ take-at (seam c) (drop h (now (s .args .seam))) h (each-length (inside c))
 
--- the picture's bytes, and the space in front of them and behind
+-- the picture's bytes, and the space in front of them and after
 bytes-are : (c : tie.After-picture-bytes)
     → let s = c .before .before .before .before .before .before .before .before .before .before .before .before .before .before in
     c .picture-bytes .result ≡ pictureBytes (s .args .size)
@@ -116,11 +116,11 @@ lent-front c =
     ap₂ take (bytes-are c) (there (c .before) .space-left)
     ∙ take-at (take (pictureBytes z) space) (replicate (pixels z) 0 ++ drop (pictureBytes z + pixels z) space) (pictureBytes z) (front-long c)
 
-left-behind : (c : tie.After-picture-bytes)
+left-after : (c : tie.After-picture-bytes)
     → let at-find-in = c .before .before .before .before .before .before .before in
     let s = at-find-in .before .before .before .before .before .before .before in
     let z = s .args .size in drop (c .picture-bytes .result) (at-find-in .find-in .last .0) ≡ replicate (pixels z) 0 ++ drop (pictureBytes z + pixels z) (now (s .args .space))
-left-behind c =
+left-after c =
     let s = c .before .before .before .before .before .before .before .before .before .before .before .before .before .before in
     let z = s .args .size in
     let space = now (s .args .space) in
@@ -263,7 +263,7 @@ returns-3 c =
     (record {
       number-is = there told .number;
       cost-is = there told .cost;
-      space-is = ap₂ _++_ closed (left-behind at);
+      space-is = ap₂ _++_ closed (left-after at);
       seam-is = there told .seam-given;
     })
 

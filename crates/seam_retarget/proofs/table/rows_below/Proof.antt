@@ -3,13 +3,14 @@ use mathlib.Core.Path.{_≡_, sym, _∙_}
 use Prim.Native.Nat.{_-_, _≤_}
 use native.Mathlib.Omega.{arith}
 use denote.Ref.{now}
+use Rattle.seam_rules.specs.Counts.{rowCount}
 use Rattle.seam_retarget.specs.Inner.Table.{held, tableRow, RowGiven}
 use Rattle.seam_retarget.proofs.Below.{below-start, below-turn}
 use Rattle.seam_retarget.proofs.table.rows_below.Statement.{statement}
 use Rattle.seam_retarget.proofs.table.rows_below.Tie as tie
 
 abbrev Inv-loop : tie.InvT-loop
-Inv-loop work₀ size whole columns totals₀ last i₀ work totals i = (i ≤ last) × RowGiven size whole i (columns .0) (tableRow size (held size whole 0 work₀ totals₀) i) work₀ work totals
+Inv-loop work₀ size whole columns totals₀ last i₀ work totals i = (i ≤ last) × RowGiven size whole (rowCount i) columns (tableRow size (held size whole (rowCount 0) work₀ totals₀) (rowCount i)) work₀ work totals
 
 abbrev μ-loop : tie.MeasureT-loop
 μ-loop work₀ size whole columns totals₀ last i₀ work totals i = last - i

@@ -65,7 +65,7 @@ module _ (t : ℕ) where
   returns : lts.Need-returns calls here reads.Post
   returns c =
       let l = length-small _ (c .if1 .taken) in
-      record { same = sym (sets-small _ _ _ (c .if1 .taken)); behind = omega arith }
+      record { same = sym (sets-small _ _ _ (c .if1 .taken)); end-is = omega arith }
 
   same-length-2 : lts.Need-same-length-2 calls here reads.Post
   same-length-2 c = search needs
@@ -77,7 +77,7 @@ module _ (t : ℕ) where
       let h = at-if1 .if1 .left in
       let m = length-large _ h in
       let e = at-put-number .put-number .ensures in
-      record { same = rw (e .same, e .behind) (sym (sets-digit _ _ _ h)); behind = omega arith }
+      record { same = rw (e .same, e .end-is) (sym (sets-digit _ _ _ h)); end-is = omega arith }
 
 pub +put-number-spec : {M : Type 1} → statement M
 +put-number-spec =

@@ -45,7 +45,7 @@ same-length c = search needs
 
 returns : tie.Need-returns Inv-loop μ-loop
 returns c = let v = c .before .loop .inv in let l = c .loop-test .left in
-    record { same = v .0 ∙ rw take-all; behind = omega arith }
+    record { same = v .0 ∙ rw take-all; end-is = omega arith }
 
 pub put-bytes-spec : {M : Type 1} → statement M
 put-bytes-spec =

@@ -5,7 +5,7 @@ use native.Mathlib.Omega.{arith}
 use lib.ListN.{length, take}
 use Rattle.text_theory.specs.Decimal.{digits}
 use Rattle.text_theory.specs.Files.{blank, each}
-use Rattle.text_print.specs.Prints.{Printed}
+use Rattle.text_print.specs.Inner.{Printed}
 use Rattle.text_print.proofs.Written.{printed-length, numbers-none, each-room, numbers-next, numbers-all}
 use borrow.Author.Needs.{needs}
 use Rattle.text_print.proofs.lines.put_numbers.Statement.{statement}

@@ -5,7 +5,7 @@ use lib.ListN.{length, take}
 use Rattle.grids.specs.Rows.{rowsOf}
 use Rattle.pictures.specs.Pictures.{channelsOf}
 use Rattle.text_theory.specs.Files.{blank, each, pixelText}
-use Rattle.text_print.specs.Prints.{Printed}
+use Rattle.text_print.specs.Inner.{Printed}
 use Rattle.text_print.proofs.Written.{printed-length}
 use Rattle.text_lengths.proofs.PixelRows.{pixel-inside}
 use Rattle.text_print.proofs.PixelRows.{pixels-none, pixels-next, pixels-room, pixels-all}

@@ -1,0 +1,135 @@
+-- Points marked P that hold of more than the picture which the table takes: of any samples, either kind, any height.
+use mathlib.Core.Path.{_≡_, refl, ap}
+use mathlib.Core.Logic.{_⊎_, inl, inr}
+use mathlib.Core.Bool.{true}
+use mathlib.Core.Option.{Option·getD}
+use mathlib.Core.List.{List, [], _∷_, zipWith, flatMap, reverse}
+use Prim.Native.Nat.{ℕ, zero, suc, _+_, _<_}
+use native.Mathlib.Omega.{arith}
+use lib.ListN.{length}
+use Rattle.grids.specs.Cut.{removeAt, cut}
+use Rattle.pictures.specs.declared.sizes.Kind.{Kind}
+use Rattle.pictures.specs.declared.sizes.Kind.the-variants.{Grey, Rgb}
+use Rattle.pictures.specs.declared.sizes.Size.{Size}
+use Rattle.pictures.specs.Refusals.{refusal}
+use Rattle.pictures.specs.Pictures.{Picture, channelsOf, sizeRules, picture, pixel}
+use Rattle.energy.specs.Energy.{difference, energy, energies}
+use Rattle.seam_theory.specs.Best.{better, firstBest}
+use Rattle.seam_theory.specs.Paths.{run, select, pathsUp, paths, cost, beside, nearby}
+use Rattle.seam_theory.specs.Seams.{cheapest}
+use Rattle.seam_theory.specs.PictureSeams.{seamOf}
+use Rattle.seam_rules.specs.Answers.{spent}
+use Rattle.seam_objects.specs.Objects.{MarkedPicture, toRemove, ends, removal}
+use Rattle.map_theory.specs.Maps.{numberRow, number, mapOf}
+use Rattle.map_theory.specs.Widths.{allowed}
+use Rattle.text_theory.specs.Files.{All}
+use Rattle.file_theory.specs.Contents.{partsOf, fileOf}
+use Rattle.file_theory.specs.Shows.{Accepted}
+use Rattle.file_theory.proofs.Accepting.{accepted-built}
+use Rattle.file_theory.proofs.Lent.{lent-allowed}
+
+-- One pixel of either kind.
+abbrev pub one : Kind → Size
+one k = record { width = 1; height = 1; kind = k }
+
+-- "1 by 1: energy 0", whatever its samples are.
+pub one-energy : (k : Kind) (b : List ℕ) → energies 1 (picture (one k) b) 0 ≡ 0 ∷ []
+unfolding picture energy difference
+one-energy k b = refl
+
+one-sized : (k : Kind) (n : ℕ) → n ≡ channelsOf k → refusal (sizeRules (one k) n) ≡ 0
+one-sized Grey n e = rw e
+one-sized Rgb n e = rw e
+
+-- "1 by 1: range 0 0 accepted", whatever bytes its samples are.
+pub one-accepted : (k : Kind) (b : List ℕ) → length b ≡ channelsOf k → All (λ (a : ℕ). a < 256) b
+    → Accepted (fileOf (record { size = one k; depth = 0; growth = 0 }) (picture (one k) b))
+unfolding allowed
+one-accepted k b long small =
+    accepted-built (fileOf (record { size = one k; depth = 0; growth = 0 }) (picture (one k) b)) .1
+    (record {
+      head = record { size = one k; depth = 0; growth = 0 };
+      rows = picture (one k) b;
+      picture = lent-allowed (one k) b small (one-sized k (length b) long);
+      range = refl;
+      is = refl;
+    })
+
+-- A pixel doesn't differ from itself, nor from what stands past the edge.
+difference-same : (px : List ℕ) → difference px px ≡ 0
+unfolding difference
+difference-same [] = refl
+difference-same (a ∷ px) = omega (arith, difference-same px)
+
+difference-edge : (px : List ℕ) → difference px [] ≡ 0
+unfolding difference
+difference-edge [] = refl
+difference-edge (a ∷ px) = refl
+
+-- A picture all of whose pixels are px.
+abbrev Only : List ℕ → Picture → Type 0
+Only px p = (r c : ℕ) → (pixel p r c ≡ px) ⊎ (pixel p r c ≡ [])
+
+module _ (px : List ℕ) (p : Picture) (only : Only px p) where
+  difference-none : (x y : List ℕ) → (x ≡ px) ⊎ (x ≡ []) → (y ≡ px) ⊎ (y ≡ []) → difference x y ≡ 0
+  unfolding difference
+  difference-none x y (inl e) (inl f) = rw (e, f) (difference-same px)
+  difference-none x y (inl e) (inr f) = rw (e, f) (difference-edge px)
+  difference-none x y (inr e) o = rw e
+
+  -- Its energy is 0 everywhere.
+  energy-none : energy p ≡ (λ r c. 0)
+  unfolding energy
+  energy-none = λ i r c. none r c i
+    where
+      none : (r c : ℕ) → difference (pixel p r (c + 1)) (pixel p r c) + difference (pixel p (r + 1) c) (pixel p r c) ≡ 0
+      none r c = omega (arith, difference-none (pixel p r (c + 1)) (pixel p r c) (only r (c + 1)) (only r c), difference-none (pixel p (r + 1) c) (pixel p r c) (only (r + 1) c) (only r c))
+
+  -- So its seam is that of no energy at all.
+  seam-none : (w h : ℕ) → seamOf w h p ≡ reverse (Option·getD (cheapest (nearby w) (λ c. 0) (λ i a c. 0) w h) [])
+  unfolding seamOf
+  seam-none w h = ap (λ (e : ℕ → ℕ → ℕ). reverse (Option·getD (cheapest (nearby w) (e 0) (λ i a c. e i c) w h) [])) energy-none
+
+-- Two and three equal pixels, in one row.
+module _ (px : List ℕ) where
+  abbrev two : Picture
+  two = (px ∷ px ∷ []) ∷ []
+
+  abbrev three : Picture
+  three = (px ∷ px ∷ px ∷ []) ∷ []
+
+  only-two : Only px two
+  only-two zero zero = inl refl
+  only-two zero (suc zero) = inl refl
+  only-two zero (suc (suc c)) = inr refl
+  only-two (suc r) c = inr refl
+
+  only-three : Only px three
+  only-three zero zero = inl refl
+  only-three zero (suc zero) = inl refl
+  only-three zero (suc (suc zero)) = inl refl
+  only-three zero (suc (suc (suc c))) = inr refl
+  only-three (suc r) c = inr refl
+
+  seam-two : seamOf 2 1 two ≡ 0 ∷ []
+  unfolding paths pathsUp cost nearby beside select run better firstBest flatMap
+  seam-two = seam-none px two only-two 2 1
+
+  seam-three : seamOf 3 1 three ≡ 0 ∷ []
+  unfolding paths pathsUp cost nearby beside select run better firstBest flatMap
+  seam-three = seam-none px three only-three 3 1
+
+  -- "all samples equal, 3 by 1: map 1 2 0 at depth 2", whatever the pixel is.
+  pub equal-map : mapOf seamOf 2 3 1 three ≡ (1 ∷ 2 ∷ 0 ∷ []) ∷ []
+  unfolding removeAt cut zipWith numberRow number
+  equal-map = rw (seam-three, seam-two)
+
+  -- The same in the file of either kind and any growth.
+  pub equal-file : (k : Kind) (g : ℕ)
+      → partsOf (record { size = record { width = 3; height = 1; kind = k }; depth = 2; growth = g }) three .maps ≡ (1 ∷ 2 ∷ 0 ∷ []) ∷ []
+  equal-file k g = equal-map
+
+-- "budget 0 with a mark 2 at width 2: spent, 0", whatever picture, height and marks are; nothing is cut.
+pub spent-none : (s : MarkedPicture) → s .width ≡ 2 → toRemove s ≡ true → removal 0 0 s ≡ ends spent 0 s
+unfolding removal
+spent-none s wide two = rw (two, wide)

@@ -1,0 +1,17 @@
+-- The number of what is read of a header: 1 just where the header breaks its form.
+use mathlib.Core.Path.{_≡_}
+use mathlib.Core.Option.{none, some}
+use mathlib.Core.List.{List}
+use Prim.Native.Nat.{ℕ}
+use Rattle.pictures.specs.Refusals.{refusal}
+use Rattle.text_read.specs.Answers.{Told}
+use Rattle.text_read.specs.Numbers.{readerRules}
+use Rattle.text_read.proofs.Numbers.{told-number}
+use Rattle.program_theory.specs.Netpbm.{headerGet}
+use Rattle.program_netpbm.specs.declared.netpbm.Header.{Header}
+use Rattle.program_netpbm.specs.declared.netpbm.Header.the-variants as headers
+use Rattle.program_netpbm.specs.Headers.{headerRead, headerNumber}
+
+pub header-number : (text : List ℕ) (r : Header) → Told headerGet text 0 (headerRead r) → headerNumber r ≡ refusal (readerRules headerGet text 0)
+header-number text (headers.Sized z at) t = told-number headerGet text 0 (some (z, at)) t
+header-number text headers.Broken t = told-number headerGet text 0 none t
