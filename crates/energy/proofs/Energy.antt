@@ -18,7 +18,7 @@ use Rattle.grids.proofs.Exchange.{exchange-at, exchange-table}
 use Rattle.pictures.specs.declared.sizes.Size.{Size}
 use Rattle.pictures.specs.Pictures.{Picture, channelsOf, rowBytes, pictureBytes, picture, pixel}
 use Rattle.energy.specs.Energy.{difference, energy, energies, energyGrid}
-use Rattle.energy.specs.Inner.{between, lowerRow}
+use Rattle.energy.specs.Inner.{between, lowerLine}
 use Rattle.pictures.proofs.Buffers.{pixel-at, pixel-past}
 
 pub difference-self : (p : List ℕ) → difference p p ≡ 0
@@ -32,7 +32,7 @@ difference-none p = refl
 
 -- The energy of a pixel, from the bytes of its row and of the row below; the last row stands for the row below it.
 pub energy-between : (z : Size) (b : List ℕ) → length b ≡ pictureBytes z → (r c : ℕ) → r < z .height
-    → energy (picture z b) r c ≡ between (channelsOf (z .kind)) (take (rowBytes z) (drop (r * rowBytes z) b)) (take (rowBytes z) (drop (lowerRow r (z .height) (rowBytes z)) b)) c
+    → energy (picture z b) r c ≡ between (channelsOf (z .kind)) (take (rowBytes z) (drop (r * rowBytes z) b)) (take (rowBytes z) (drop (lowerLine r (z .height) (rowBytes z)) b)) c
 unfolding energy between
 energy-between z b e r c h =
     ⊎-elim

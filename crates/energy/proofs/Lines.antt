@@ -17,7 +17,7 @@ use Rattle.pictures.specs.Limits.{mostPicture}
 use Rattle.pictures.specs.declared.sizes.Size.{Size}
 use Rattle.pictures.specs.Pictures.{channelsOf, rowBytes, picture}
 use Rattle.energy.specs.Energy.{apart, difference, energy, energies}
-use Rattle.energy.specs.Inner.{LinesNeeded, between, lowerRow}
+use Rattle.energy.specs.Inner.{LinesNeeded, between, lowerLine}
 use Rattle.pictures.proofs.Limits.{Sized}
 use Rattle.energy.proofs.Energy.{difference-none, energy-between}
 
@@ -56,7 +56,7 @@ module _ (ch : ℕ) (it lower space out : List ℕ) (c i : ℕ) (at : i ≡ c * 
       is = rw (rowAt-past ch width it (c + 1) (omega arith) (omega arith), difference-none, q, at) (omega arith)
 
 -- The row that stands for the row below ends within the picture.
-pub lower-end : (r height stride : ℕ) → r < height → lowerRow r height stride + stride ≤ height * stride
+pub lower-end : (r height stride : ℕ) → r < height → lowerLine r height stride + stride ≤ height * stride
 lower-end r height stride h =
     ⊎-elim
     (λ (l : height ≤ r + 1). rw (le-ltb (r + 1) height l) (part-end r height stride h))
@@ -64,7 +64,7 @@ lower-end r height stride h =
     (le-or-lt height (r + 1))
 
 -- The two parts of the buffer that are lent to the loop, in its terms: s bytes at r * s, and s bytes at lowerRow.
-module _ (z : Size) (b : List ℕ) (r s lower : ℕ) (sure : Sized z (length b)) (inside : r < z .height) (is : s ≡ rowBytes z) (below : lower ≡ lowerRow r (z .height) s) where
+module _ (z : Size) (b : List ℕ) (r s lower : ℕ) (sure : Sized z (length b)) (inside : r < z .height) (is : s ≡ rowBytes z) (below : lower ≡ lowerLine r (z .height) s) where
   pub record Ends : Type 0 where
     pub short : length b ≤ mostPicture
     pub it : r * s + s ≤ length b

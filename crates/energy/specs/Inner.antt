@@ -32,5 +32,5 @@ between channels it lower c =
     difference (rowAt channels (c + 1) it) (rowAt channels c it) + difference (rowAt channels c lower) (rowAt channels c it)
 
 -- Where the row below row r starts; of the last row, the row itself, to which it has no difference.
-abbrev pub lowerRow : ℕ → ℕ → ℕ → ℕ
-lowerRow r height stride = cond (ltb (r + 1) height) ((r + 1) * stride) (r * stride)
+abbrev pub lowerLine : ℕ → ℕ → ℕ → ℕ
+lowerLine r height stride = cond (ltb (r + 1) height) ((r + 1) * stride) (r * stride)

@@ -9,7 +9,7 @@ use pictures::judge_picture;
 ghost use Rattle.energy.specs.Energy.{EnergiesGiven, energies as Energy·energies};
 ghost use Rattle.pictures.specs.Limits.{mostSide, mostRow};
 ghost use Rattle.pictures.specs.Pictures.{picture as Pictures·picture};
-ghost use Rattle.energy.specs.Inner.{RowNeeded, lowerRow};
+ghost use Rattle.energy.specs.Inner.{RowNeeded, lowerLine};
 ghost use mathlib.Core.Path.{_≡_};
 ghost use mathlib.Core.List.{_++_};
 ghost use Prim.Native.Nat.{_≤_, _<_};
@@ -39,7 +39,7 @@ pub fn energies(picture: &[u8], size: Size, r: usize, out: &mut [u32]) -> Verdic
 // Where the row below row r starts; of the last row, the row itself, to which it has no difference.
 fn lower_row(r: usize, height: usize, stride: usize) -> usize
     requires { ⌜ (r < height) × (height ≤ mostSide) × (stride ≤ mostRow) ⌝ }
-    ensures { λ at. ⌜ at ≡ lowerRow r height stride ⌝ }
+    ensures { λ at. ⌜ at ≡ lowerLine r height stride ⌝ }
 {
     if r + 1 < height {
         (r + 1) * stride

@@ -9,6 +9,7 @@ use lib.Dec.{leb}
 use borrow.Author.Tests.{leb-true, not-false}
 use Rattle.grids.specs.Each.{Each, Grid}
 use Rattle.grids.proofs.Shapes.{each-any, each-weaken, grid-of}
+use Rattle.pictures.specs.Numbers.{largestNumber}
 use Rattle.pictures.specs.declared.sizes.Size.{Size}
 use Rattle.pictures.specs.Refusals.{_when_, refusal}
 use Rattle.pictures.specs.Pictures.{Picture, sideRules, OfSize}
@@ -65,7 +66,7 @@ shaped-picture p i s = record {
 pub allowed-ofSize : (z : Size) (p : Picture) → AllowedPicture z p → OfSize z p
 allowed-ofSize z p a = each-weaken (λ row e. each-weaken (λ px q. q .count) e) (a .pixels)
 
-numbers-small : (k : ℕ) (ys : List ℕ) → k ≤ 65535 → every (λ v. leb v k) ys ≡ true → All (λ (v : ℕ). v ≤ 65535) ys
+numbers-small : (k : ℕ) (ys : List ℕ) → k ≤ largestNumber → every (λ v. leb v k) ys ≡ true → All (λ (v : ℕ). v ≤ largestNumber) ys
 numbers-small k [] l e = tt
 numbers-small k (v ∷ ys) l e =
     let b = and-eq-true-iff (leb v k) (every (λ v. leb v k) ys) .0 e in

@@ -16,7 +16,7 @@ use Rattle.pictures.specs.Pictures.{channelsOf, sideRules, pictureBytes, bytes,
 use Rattle.pictures.proofs.Rules.{served-first}
 use Rattle.seam_rules.specs.declared.answers.Found.{Found}
 use Rattle.seam_theory.specs.PictureSeams.{seamOf}
-use Rattle.seam_find.specs.Finding.{findRules}
+use Rattle.seam_find.specs.Finding.{findInRules}
 use Rattle.seam_cut.specs.Cutting.{cutInRules, CutInGiven}
 use Rattle.map_build.specs.Inner.Rows.{writeRows}
 use Rattle.map_build.specs.Inner.Seams.{NextGiven}
@@ -27,7 +27,7 @@ module _ (space : List ℕ) (z : Size) (seam : List ℕ) (answer : Found) (space
   none : refusal (cutInRules z (length space) (length seam)) ≡ 0
   none =
       let last : z .width ≡ 1 → ⊥ = λ e. omega arith in
-      served-first (findRules z (length space) (length seam)) (13 when eqb (z .width) 1 ∷ []) refl
+      served-first (findInRules z (length space) (length seam)) (13 when eqb (z .width) 1 ∷ []) refl
       (served-first (sideRules z) (8 when ltb (length seam) (z .height) ∷ 8 when ltb (length space) (pictureBytes z + pixels z) ∷ []) refl sides
       ∙ simp (le-ltb _ _ tall, le-ltb _ _ room))
       ∙ simp (ne-eqb (z .width) 1 last)

@@ -13,7 +13,7 @@ use Rattle.seam_theory.specs.Paths.{consIf}
 use Rattle.pictures.specs.declared.sizes.Kind.{Kind}
 use Rattle.pictures.specs.Pictures.{channelsOf}
 use Rattle.map_theory.specs.Widths.{doubled, growFrom, growRow, average}
-use Rattle.map_show.specs.Inner.Rows.{pixels, grown, lastPixels, LastNeeded}
+use Rattle.map_show.specs.Inner.Rows.{pixelsIn, grown, lastPixels, LastNeeded}
 use Rattle.map_show.specs.Inner.Pixels.{PixelNeeded, MeanNeeded}
 use Rattle.map_show.proofs.Filling.{Filling, fill-start, fill-as, fill-room, fill-more, fill-end}
 use Rattle.map_show.proofs.Samples.{length-average}
@@ -23,13 +23,13 @@ use Rattle.map_show.proofs.Places.{pixel-at, below, pixel-end, length-p
 abbrev pub Growing : Kind → List ℕ → List ℕ → ℕ → List ℕ → ℕ → List ℕ → ℕ → Type 0
 Growing k samples ys u before c out at =
     Filling before (grown k samples ys u) out at
-    (flat (growFrom average u (rowAt (channelsOf k) (c - 1) samples) (drop c (pixels k samples ys)) (drop c ys)))
+    (flat (growFrom average u (rowAt (channelsOf k) (c - 1) samples) (drop c (pixelsIn k samples ys)) (drop c ys)))
 
 abbrev pub Behind : Kind → List ℕ → List ℕ → ℕ → List ℕ → ℕ → List ℕ → ℕ → Type 0
 Behind k samples ys u before c out at =
     Filling before (grown k samples ys u) out at
     (flat (consIf (doubled u (getD ys c 0)) (average (rowAt (channelsOf k) c samples) (rowAt (channelsOf k) (c + 1) samples))
-    (growFrom average u (rowAt (channelsOf k) c samples) (drop (c + 1) (pixels k samples ys)) (drop (c + 1) ys))))
+    (growFrom average u (rowAt (channelsOf k) c samples) (drop (c + 1) (pixelsIn k samples ys)) (drop (c + 1) ys))))
 
 module _ (k : Kind) (samples ys : List ℕ) (whole : length samples ≡ length ys * channelsOf k) where
   abbrev pixel : ℕ → List ℕ
@@ -41,7 +41,7 @@ module _ (k : Kind) (samples ys : List ℕ) (whole : length samples ≡ length y
     grow-start h room =
         let z : 0 - 1 ≡ 0 = omega arith in
         let first : (xs : List (List ℕ)) → 0 < length xs → growRow average u xs ys ≡ growFrom average u (getD xs 0 []) xs ys = started in
-        rw z (fill-as (ap flat (first (pixels k samples ys) (below k samples ys whole 0 h) ∙ ap (λ l. growFrom average u l (pixels k samples ys) ys) (pixel-at k samples ys whole 0 h))) (fill-start room))
+        rw z (fill-as (ap flat (first (pixelsIn k samples ys) (below k samples ys whole 0 h) ∙ ap (λ l. growFrom average u l (pixelsIn k samples ys) ys) (pixel-at k samples ys whole 0 h))) (fill-start room))
       where
         started : (xs : List (List ℕ)) → 0 < length xs → growRow average u xs ys ≡ growFrom average u (getD xs 0 []) xs ys
         started [] h = absurd (omega arith)
@@ -51,15 +51,15 @@ module _ (k : Kind) (samples ys : List ℕ) (whole : length samples ≡ length y
       here : c < length ys
       here = omega arith
 
-      grow-turn : growFrom average u (pixel (c - 1)) (drop c (pixels k samples ys)) (drop c ys)
-          ≡ pixel c ∷ consIf (doubled u (getD ys c 0)) (average (pixel c) (pixel (c + 1))) (growFrom average u (pixel c) (drop (c + 1) (pixels k samples ys)) (drop (c + 1) ys))
+      grow-turn : growFrom average u (pixel (c - 1)) (drop c (pixelsIn k samples ys)) (drop c ys)
+          ≡ pixel c ∷ consIf (doubled u (getD ys c 0)) (average (pixel c) (pixel (c + 1))) (growFrom average u (pixel c) (drop (c + 1) (pixelsIn k samples ys)) (drop (c + 1) ys))
       grow-turn =
-          let xs = pixels k samples ys in
+          let xs = pixelsIn k samples ys in
           let i : suc c < length ys = omega arith in
           rw (add-one c, drop-cons xs c [] (below k samples ys whole c here), drop-cons xs (suc c) [] (below k samples ys whole (suc c) i), drop-cons ys c 0 here, pixel-at k samples ys whole c here, pixel-at k samples ys whole (suc c) i)
 
       grow-next : Growing k samples ys u before c out at → Filling before (grown k samples ys u) out at
-          (pixel c ++ flat (consIf (doubled u (getD ys c 0)) (average (pixel c) (pixel (c + 1))) (growFrom average u (pixel c) (drop (c + 1) (pixels k samples ys)) (drop (c + 1) ys))))
+          (pixel c ++ flat (consIf (doubled u (getD ys c 0)) (average (pixel c) (pixel (c + 1))) (growFrom average u (pixel c) (drop (c + 1) (pixelsIn k samples ys)) (drop (c + 1) ys))))
       grow-next f = fill-as (ap flat grow-turn) f
 
       pub grow-needed : Growing k samples ys u before c out at → PixelNeeded (channelsOf k) samples c out at
@@ -75,7 +75,7 @@ module _ (k : Kind) (samples ys : List ℕ) (whole : length samples ≡ length y
       new-pass s f = rw next (rw s at f)
 
       new-next : doubled u (getD ys c 0) ≡ true → Behind k samples ys u before c out at
-          → Filling before (grown k samples ys u) out at (average (pixel c) (pixel (c + 1)) ++ flat (growFrom average u (pixel c) (drop (c + 1) (pixels k samples ys)) (drop (c + 1) ys)))
+          → Filling before (grown k samples ys u) out at (average (pixel c) (pixel (c + 1)) ++ flat (growFrom average u (pixel c) (drop (c + 1) (pixelsIn k samples ys)) (drop (c + 1) ys)))
       new-next s f = rw s at f
 
       length-new : length (average (pixel c) (pixel (c + 1))) ≡ channelsOf k
@@ -93,10 +93,10 @@ module _ (k : Kind) (samples ys : List ℕ) (whole : length samples ≡ length y
 
     -- The last pixel, with its new pixel to the left of it.
     module _ (c : ℕ) (out : List ℕ) (at : ℕ) (end : c + 1 ≡ length ys) where
-      last-turn : growFrom average u (pixel (c - 1)) (drop c (pixels k samples ys)) (drop c ys)
+      last-turn : growFrom average u (pixel (c - 1)) (drop c (pixelsIn k samples ys)) (drop c ys)
           ≡ consIf (doubled u (getD ys c 0)) (average (pixel c) (pixel (c - 1))) (pixel c ∷ [])
       last-turn =
-          let xs = pixels k samples ys in
+          let xs = pixelsIn k samples ys in
           let i : c < length ys = omega arith in
           let none : drop (suc c) xs ≡ [] = drop-of-length-le xs {i = suc c} (rw (length-rowsOf (channelsOf k) (length ys) samples) (omega arith)) in
           rw (drop-cons xs c [] (below k samples ys whole c i), none, drop-cons ys c 0 i, pixel-at k samples ys whole c i)

@@ -10,21 +10,21 @@ use Rattle.pictures.specs.declared.sizes.Kind.{Kind}
 use Rattle.pictures.specs.declared.refusals.Verdict.{Verdict}
 use Rattle.pictures.specs.Refusals.{refusal, served}
 use Rattle.pictures.specs.Pictures.{channelsOf}
-use Rattle.map_show.specs.Showing.{rowShown, rowRules, RowShown}
-use Rattle.map_show.specs.Inner.Rows.{pixelsAt, kept, grown, RowNeeded}
+use Rattle.map_show.specs.Showing.{rowShown, rowAtRules, RowShown}
+use Rattle.map_show.specs.Inner.Rows.{pixelsAt, keptPixels, grown, RowNeeded}
 use Rattle.map_show.proofs.Lengths.{length-shown, narrow-is, wide-is}
 
 module _ (k : Kind) (samples ys : List ℕ) (v : ℕ) (out : List ℕ) where
-  pub refused-length : eqb (length samples) (length ys * channelsOf k) ≡ false → 4 ≡ refusal (rowRules k samples ys v (length out))
+  pub refused-length : eqb (length samples) (length ys * channelsOf k) ≡ false → 4 ≡ refusal (rowAtRules k samples ys v (length out))
   refused-length e = rw e
 
   module _ (whole : length samples ≡ length ys * channelsOf k) where
-    pub refused-space : length out < pixelsAt ys v * channelsOf k → 8 ≡ refusal (rowRules k samples ys v (length out))
+    pub refused-space : length out < pixelsAt ys v * channelsOf k → 8 ≡ refusal (rowAtRules k samples ys v (length out))
     refused-space h =
         rw (eq-eqb (length samples) (length ys * channelsOf k) whole, lt-ltb (length out) (length (rowShown k samples ys v)) (rw (length-shown k samples ys v whole) h))
 
     module _ (room : length (rowShown k samples ys v) ≤ length out) where
-      pub nothing-refused : 0 ≡ refusal (rowRules k samples ys v (length out))
+      pub nothing-refused : 0 ≡ refusal (rowAtRules k samples ys v (length out))
       nothing-refused = rw (eq-eqb (length samples) (length ys * channelsOf k) whole, le-ltb (length out) (length (rowShown k samples ys v)) room)
 
       -- As many samples as the numbers say, and room: the row stands at the front of the space.
@@ -37,7 +37,7 @@ module _ (k : Kind) (samples ys : List ℕ) (v : ℕ) (out : List ℕ) where
     pub shown-room : pixelsAt ys v * channelsOf k ≤ length out → length (rowShown k samples ys v) ≤ length out
     shown-room h = rw (length-shown k samples ys v whole) h
 
-    pub keep-ready : v ≤ length ys → length (rowShown k samples ys v) ≤ length out → RowNeeded k samples ys (kept k samples ys (length ys - v)) out
+    pub keep-ready : v ≤ length ys → length (rowShown k samples ys v) ≤ length out → RowNeeded k samples ys (keptPixels k samples ys (length ys - v)) out
     keep-ready h room = record { whole = whole; room = rw (narrow-is k samples ys v h) at room }
 
     pub grow-ready : length ys < v → length (rowShown k samples ys v) ≤ length out → RowNeeded k samples ys (grown k samples ys (v - length ys)) out

@@ -16,7 +16,7 @@ use Rattle.pictures.specs.Pictures.{channelsOf}
 use Rattle.map_theory.specs.Widths.{doubled, keepRow, growFrom, growRow, rowAtWidth, average}
 use Rattle.map_theory.proofs.Widths.{at-narrow, at-wide}
 use Rattle.map_show.specs.Showing.{rowShown}
-use Rattle.map_show.specs.Inner.Rows.{pixelsAt, pixels, kept, grown}
+use Rattle.map_show.specs.Inner.Rows.{pixelsAt, pixelsIn, keptPixels, grown}
 use Rattle.map_show.proofs.Samples.{length-average}
 use Rattle.map_show.proofs.Counts.{pixels-shown}
 
@@ -61,12 +61,12 @@ module _ (k : Kind) (samples ys : List ℕ) (v : ℕ) (whole : length samples �
   unfolding rowShown
   length-shown =
       let ch = channelsOf k in
-      let xs = pixels k samples ys in
+      let xs = pixelsIn k samples ys in
       length-flat (each-shown {P = λ x. length x ≡ ch} average (λ x y p q. length-average ch x y p q) (length ys) v ys (grid-rowsOf ch (length ys) samples (omega arith)))
       ∙ ap (_* ch) (pixels-shown average xs ys v (length-rowsOf ch (length ys) samples))
 
-pub narrow-is : (k : Kind) (samples ys : List ℕ) (v : ℕ) → v ≤ length ys → rowShown k samples ys v ≡ kept k samples ys (length ys - v)
-unfolding rowShown kept rowAtWidth
+pub narrow-is : (k : Kind) (samples ys : List ℕ) (v : ℕ) → v ≤ length ys → rowShown k samples ys v ≡ keptPixels k samples ys (length ys - v)
+unfolding rowShown keptPixels rowAtWidth
 narrow-is k samples ys v h = rw (le-leb v (length ys) h)
 
 pub wide-is : (k : Kind) (samples ys : List ℕ) (v : ℕ) → length ys < v → rowShown k samples ys v ≡ grown k samples ys (v - length ys)

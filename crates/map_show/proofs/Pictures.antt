@@ -20,7 +20,7 @@ use Rattle.map_theory.specs.Judged.{Numbering}
 use Rattle.map_theory.proofs.Widths.{length-at}
 use Rattle.map_theory.proofs.Shown.{allowed-is, offered-is}
 use Rattle.map_show.specs.Showing.{rowShown}
-use Rattle.map_show.specs.Inner.Rows.{pixels}
+use Rattle.map_show.specs.Inner.Rows.{pixelsIn}
 use Rattle.map_show.proofs.Zips.{zipWith-table}
 use Rattle.map_show.proofs.Counts.{pixels-shown}
 use Rattle.map_show.proofs.Lengths.{length-shown}
@@ -30,7 +30,7 @@ pub length-numbered : (k : Kind) (d : ℕ) (samples ys : List ℕ) (v : ℕ) →
     → length (rowShown k samples ys v) ≡ v * channelsOf k
 length-numbered k d samples ys v e n l h =
     let long = length-rowsOf (channelsOf k) (length ys) samples in
-    let xs = pixels k samples ys in
+    let xs = pixelsIn k samples ys in
     length-shown k samples ys v e
     ∙ ap (_* channelsOf k) (sym (pixels-shown average xs ys v long) ∙ length-at average d (length ys) xs ys long refl n v l h)
 

@@ -17,12 +17,12 @@ unfoldable pub rowShown : Kind → List ℕ → List ℕ → ℕ → List ℕ
 rowShown k samples numbers v = flat (rowAtWidth average (length numbers) v (rowsOf (channelsOf k) (length numbers) samples) numbers)
 
 -- When it is refused: where the samples aren't as many as the numbers say, and where the space is shorter than what is shown.
-abbrev pub rowRules : Kind → List ℕ → List ℕ → ℕ → ℕ → List Rule
-rowRules k samples numbers v space =
+abbrev pub rowAtRules : Kind → List ℕ → List ℕ → ℕ → ℕ → List Rule
+rowAtRules k samples numbers v space =
     4 when not (eqb (length samples) (length numbers * channelsOf k)) ∷ 8 when ltb space (length (rowShown k samples numbers v)) ∷ []
 
 -- What showing a row gives: the number, and the space, which keeps what stands behind the row.
 pub record RowShown (k : Kind) (samples numbers : List ℕ) (v : ℕ) (out : List ℕ) (answer : Verdict) (out′ : List ℕ) : Type 0 where
-  pub number-is : given answer ≡ refusal (rowRules k samples numbers v (length out))
+  pub number-is : given answer ≡ refusal (rowAtRules k samples numbers v (length out))
   pub out-is :
       out′ ≡ served (given answer) (rowShown k samples numbers v ++ drop (length (rowShown k samples numbers v)) out) out

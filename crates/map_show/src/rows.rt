@@ -11,7 +11,7 @@ ghost use mathlib.Core.List.{_++_};
 ghost use lib.ListN.{length, drop};
 ghost use lib.Seq.{sets};
 ghost use Rattle.map_theory.specs.Judged.{doubledIn};
-ghost use Rattle.map_show.specs.Inner.Rows.{pixelsAt, kept, grown, lastPixels, RowNeeded, LastNeeded};
+ghost use Rattle.map_show.specs.Inner.Rows.{pixelsAt, keptPixels, grown, lastPixels, RowNeeded, LastNeeded};
 
 // A number of the map to count with.
 fn wide(number: u16) -> usize
@@ -47,8 +47,8 @@ pub(crate) fn pixels_at(numbers: &[u16], wanted: usize) -> usize
 
 // The pixels whose number is 0 or greater than t, put into the front of out.
 pub(crate) fn keep_row(kind: Kind, samples: &[u8], numbers: &[u16], t: usize, out: &mut [u8])
-    requires { ⌜ RowNeeded kind (now samples) (now numbers) (kept kind (now samples) (now numbers) t) (now out) ⌝ }
-    ensures { λ _. ⌜ now (out .exit) ≡ kept kind (now (samples .entry)) (now (numbers .entry)) t ++ drop (length (kept kind (now (samples .entry)) (now (numbers .entry)) t)) (now (out .entry)) ⌝ }
+    requires { ⌜ RowNeeded kind (now samples) (now numbers) (keptPixels kind (now samples) (now numbers) t) (now out) ⌝ }
+    ensures { λ _. ⌜ now (out .exit) ≡ keptPixels kind (now (samples .entry)) (now (numbers .entry)) t ++ drop (length (keptPixels kind (now (samples .entry)) (now (numbers .entry)) t)) (now (out .entry)) ⌝ }
 {
     let n = channels(kind);
     let mut at = 0;

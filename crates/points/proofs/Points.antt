@@ -11,14 +11,14 @@ use Rattle.map_theory.specs.Widths.{allowed, offered, stays, doubled, rowAtWidt
 use Rattle.map_theory.specs.Judged.{numbers, remains, before, connected, found}
 use Rattle.text_theory.specs.Readers.{strip, next, manyUpTo, many}
 use Rattle.text_theory.specs.Decimal.{digitsUpTo, digits, isDigit, further, upTo}
-use Rattle.text_theory.specs.Files.{lineEnd, blank, opening, closing, start, range, closed, rowWord, mapWord, greyWord, rgbWord, each, joined, kindText, pixelText, lineText, headText, text, kindGet, items, three, pixel, line, headGet, file, whole, parse}
+use Rattle.text_theory.specs.Files.{lineEnd, blank, opening, closing, start, range, closed, rowWord, mapWord, greyWord, rgbWord, each, joined, kindText, pixelText, lineText, headText, text, kindGet, items, three, pixelGet, line, headGet, file, whole, parse}
 use Rattle.seam_theory.specs.PictureSeams.{seamOf, costOf}
 use Rattle.seam_objects.specs.Objects.{someTwo, removal}
 use Rattle.file_theory.specs.Contents.{fileOf}
 use Rattle.file_theory.specs.Rules.{filled}
 use Rattle.file_theory.specs.Shows.{shows}
-use Rattle.points.specs.Points.{table}
+use Rattle.points.specs.Points.{pointTable}
 
-pub points : map (λ p. p .got) table ≡ map (λ p. p .expected) table
-unfolding picture energy difference seamOf costOf paths pathsUp cost nearby beside select run better firstBest removeAt cut zipWith flatMap someTwo removal numberRow number allowed offered stays doubled rowAtWidth shown numbers remains before connected found strip next manyUpTo many digitsUpTo digits isDigit further upTo Rattle.text_theory.specs.Decimal.number lineEnd blank opening closing start range closed rowWord mapWord greyWord rgbWord each joined kindText pixelText lineText headText text kindGet items three pixel line headGet file whole parse average fileOf filled shows
+pub points : map (λ p. p .got) pointTable ≡ map (λ p. p .expected) pointTable
+unfolding picture energy difference seamOf costOf paths pathsUp cost nearby beside select run better firstBest removeAt cut zipWith flatMap someTwo removal numberRow number allowed offered stays doubled rowAtWidth shown numbers remains before connected found strip next manyUpTo many digitsUpTo digits isDigit further upTo Rattle.text_theory.specs.Decimal.number lineEnd blank opening closing start range closed rowWord mapWord greyWord rgbWord each joined kindText pixelText lineText headText text kindGet items three pixelGet line headGet file whole parse average fileOf filled shows
 points = refl

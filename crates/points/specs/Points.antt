@@ -73,11 +73,11 @@ placeOf narrow = 2
 placeOf spent = 3
 placeOf blocked = 4
 
-abbrev pub ended : Removed → List ℕ
-ended r = placeOf (r .ending) ∷ r .count ∷ []
+abbrev pub endingRow : Removed → List ℕ
+endingRow r = placeOf (r .ending) ∷ r .count ∷ []
 
-abbrev pub table : List Point
-table =
+abbrev pub pointTable : List Point
+pointTable =
     -- 1 by 1: energy 0
     list (energies 1 (picture (grey 1 1) (7 ∷ [])) 0) (0 ∷ [])
     -- the example's first seam: columns 2, 2, cost 0
@@ -103,7 +103,7 @@ table =
     -- all samples equal, 3 by 1: map 1 2 0 at depth 2
     ∷ record { got = partsOf (greyHead 3 1 2 0) (picture (grey 3 1) (7 ∷ 7 ∷ 7 ∷ [])) .maps; expected = (1 ∷ 2 ∷ 0 ∷ []) ∷ [] }
     -- budget 0 with a mark 2 at width 2: spent, 0
-    ∷ list (ended (removal 0 0 (markedPicture (grey 2 1) (10 ∷ 40 ∷ []) (0 ∷ 2 ∷ [])))) (placeOf spent ∷ 0 ∷ [])
+    ∷ list (endingRow (removal 0 0 (markedPicture (grey 2 1) (10 ∷ 40 ∷ []) (0 ∷ 2 ∷ [])))) (placeOf spent ∷ 0 ∷ [])
     -- the table of refusals, of the example: its own map accepted; `(range 3 1)` at width 3; `(map 2 2 1)`; seam 1 at columns
     -- 0 and 2; maps 1 0 2 and 1 2 0
     ∷ gives (checkRules (recordedFile 2 1 (2 ∷ 0 ∷ 1 ∷ []) (0 ∷ 2 ∷ 1 ∷ [])) 192) 0

@@ -9,6 +9,7 @@ use native.Mathlib.Omega.{arith}
 use lib.Dec.{leb}
 use lib.ListN.{length, length-append}
 use borrow.Author.Tests.{le-ltb, leb-true, leb-false, le-leb}
+use Rattle.pictures.specs.Numbers.{largestNumber}
 use Rattle.pictures.specs.Limits.{mostSide}
 use Rattle.pictures.specs.declared.sizes.Size.{Size}
 use Rattle.pictures.specs.Refusals.{Rule, _when_, refusal}
@@ -44,7 +45,7 @@ full-others m v l h = go (offered m (m - 1) (m / 2) v) refl h
     go false e h = refl
 
 -- What `fit` writes for a width and a file.
-pub fit-read : (v : ℕ) → v ≤ 65535 → (f : List ℕ) → length f ≤ 65530 → fit (digits v ++ (lineEnd ++ f)) ≡ written (refusal (fittedRules v f)) (drawnText (shows f v))
+pub fit-read : (v : ℕ) → v ≤ largestNumber → (f : List ℕ) → length f ≤ 65530 → fit (digits v ++ (lineEnd ++ f)) ≡ written (refusal (fittedRules v f)) (drawnText (shows f v))
 unfolding fit lineEnd
 fit-read v l f s =
     let input : List ℕ = digits v ++ (lineEnd ++ f) in
@@ -92,7 +93,7 @@ module _ (z : Size) (b : List ℕ) (small : All (λ (a : ℕ). a < 256) b) (fine
           rw e (rw back at (shows-grown file parts accepted parsed (v - z .width) (omega arith) (omega arith)))
 
   -- What `fit` writes of it.
-  fit-file : (v : ℕ) → v ≤ 65535 → fit (digits v ++ (lineEnd ++ seams (headerText z ++ b))) ≡ written (refusal (fittedRules v file)) (drawnText (shows file v))
+  fit-file : (v : ℕ) → v ≤ largestNumber → fit (digits v ++ (lineEnd ++ seams (headerText z ++ b))) ≡ written (refusal (fittedRules v file)) (drawnText (shows file v))
   fit-file v l = rw (seams-served z b fine few) (fit-read v l file (omega (arith, file-most z b small fine few)))
 
   -- At each width from 1 to m + m / 2 the picture carved to it, where that has at most 1,024 pixels.
@@ -103,7 +104,7 @@ module _ (z : Size) (b : List ℕ) (small : All (λ (a : ℕ). a < 256) b) (fine
       fit-file v (omega arith) ∙ rw (file-rules v, full-offered (z .width) v (sizes .width-some) l m, shows-carved v l m)
 
   -- At any other width the refusal 7.
-  pub fit-others : (v : ℕ) → v ≤ 65535 → (v ≡ 0) ⊎ (z .width + z .width / 2 < v) → fit (digits v ++ (lineEnd ++ seams (headerText z ++ b))) ≡ refusedText 7
+  pub fit-others : (v : ℕ) → v ≤ largestNumber → (v ≡ 0) ⊎ (z .width + z .width / 2 < v) → fit (digits v ++ (lineEnd ++ seams (headerText z ++ b))) ≡ refusedText 7
   fit-others v l o = fit-file v l ∙ rw (file-rules v, full-others (z .width) v (sizes .width-some) o)
 
   -- At the original width the picture as it was read.

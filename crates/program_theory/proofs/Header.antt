@@ -4,6 +4,7 @@ use mathlib.Core.Option.{some}
 use mathlib.Core.List.{List, [], _++_, append-assoc}
 use Prim.Native.Nat.{ℕ, _≤_}
 use Rattle.grids.proofs.Shapes.{Any}
+use Rattle.pictures.specs.Numbers.{largestNumber}
 use Rattle.pictures.specs.declared.sizes.Kind.{Kind}
 use Rattle.pictures.specs.declared.sizes.Kind.the-variants.{Grey, Rgb}
 use Rattle.pictures.specs.declared.sizes.Size.{Size}
@@ -40,12 +41,12 @@ clear-end t = refl
 
 -- The header, of a size whose numbers have the file's form, as the reader meets it.
 abbrev pub Numbers : Size → Type 0
-Numbers z = (z .width ≤ 65535) × (z .height ≤ 65535)
+Numbers z = (z .width ≤ largestNumber) × (z .height ≤ largestNumber)
 
-pub header-back : (z : Size) → z .width ≤ 65535 → z .height ≤ 65535 → (t : List ℕ) → headerGet (headerText z ++ t) ≡ some (z, t)
+pub header-back : (z : Size) → z .width ≤ largestNumber → z .height ≤ largestNumber → (t : List ℕ) → headerGet (headerText z ++ t) ≡ some (z, t)
 unfolding headerGet headerText
 header-back z w h t =
-    let n = number-reads 65535 in
+    let n = number-reads largestNumber in
     simp append-assoc
     (rw (
       magic-reads .back (z .kind) tt _ tt,
@@ -58,7 +59,7 @@ header-back z w h t =
 header-sounds : Sounds Numbers headerText [] headerGet
 unfolding headerGet headerText
 header-sounds =
-    let n = number-reads 65535 in
+    let n = number-reads largestNumber in
     then-sounds magic-reads λ k hk. then-sounds n λ w hw. after-sounds blank (then-sounds n λ h hh. after-sounds maxval (
     give-sounds _ (simp append-assoc) (hw, hh)))
 
@@ -66,13 +67,13 @@ pub header-reads : Reads Numbers headerText Any headerGet
 header-reads = record { back = λ z b t u. header-back z (b .0) (b .1) t; sound = soundly header-sounds }
 
 -- The line with a width.
-pub width-back : (v : ℕ) → v ≤ 65535 → (t : List ℕ) → widthGet (digits v ++ (lineEnd ++ t)) ≡ some (v, t)
+pub width-back : (v : ℕ) → v ≤ largestNumber → (t : List ℕ) → widthGet (digits v ++ (lineEnd ++ t)) ≡ some (v, t)
 unfolding widthGet
-width-back v l t = rw (number-reads 65535 .back v l (lineEnd ++ t) (clear-end t), strip-back)
+width-back v l t = rw (number-reads largestNumber .back v l (lineEnd ++ t) (clear-end t), strip-back)
 
-width-sounds : Sounds (λ v. v ≤ 65535) (λ v. digits v ++ lineEnd) [] widthGet
+width-sounds : Sounds (λ v. v ≤ largestNumber) (λ v. digits v ++ lineEnd) [] widthGet
 unfolding widthGet
-width-sounds = then-sounds (number-reads 65535) λ v h. after-sounds lineEnd (give-sounds v refl h)
+width-sounds = then-sounds (number-reads largestNumber) λ v h. after-sounds lineEnd (give-sounds v refl h)
 
-pub width-reads : Reads (λ v. v ≤ 65535) (λ v. digits v ++ lineEnd) Any widthGet
+pub width-reads : Reads (λ v. v ≤ largestNumber) (λ v. digits v ++ lineEnd) Any widthGet
 width-reads = record { back = λ v l t u. rw append-assoc (width-back v l t); sound = soundly width-sounds }

@@ -10,6 +10,7 @@ use lib.ListN.{length, length-append}
 use borrow.Author.Tests.{ltb-true, ltb-false}
 use Rattle.grids.specs.Each.{Each, none, more}
 use Rattle.seam_theory.specs.Paths.{run}
+use Rattle.pictures.specs.Numbers.{largestNumber}
 use Rattle.pictures.specs.Limits.{mostSide}
 use Rattle.pictures.specs.declared.sizes.Kind.{Kind}
 use Rattle.pictures.specs.declared.sizes.Kind.the-variants.{Grey, Rgb}
@@ -46,7 +47,7 @@ ten n l = omega (arith, length-small n l)
 pub digits-most : (n : ℕ) → n < 1000 → length (digits n) ≤ 3
 digits-most = one-more 100 2 (one-more 10 1 ten)
 
-pub number-most : (n : ℕ) → n ≤ 65535 → length (digits n) ≤ 5
+pub number-most : (n : ℕ) → n ≤ largestNumber → length (digits n) ≤ 5
 number-most n l = one-more 10000 4 (one-more 1000 3 digits-most) n (omega arith)
 
 spaced-most : (n : ℕ) → n < 1000 → spaced n ≤ 4

@@ -2,12 +2,13 @@
 -- reader of its header.
 use mathlib.Core.List.{List, [], _∷_, _++_}
 use Prim.Native.Nat.{ℕ}
+use Rattle.pictures.specs.Numbers.{largestNumber}
 use Rattle.pictures.specs.declared.sizes.Kind.{Kind}
 use Rattle.pictures.specs.declared.sizes.Kind.the-variants.{Grey, Rgb}
 use Rattle.pictures.specs.declared.sizes.Size.{Size}
 use Rattle.pictures.specs.Pictures.{bytes}
 use Rattle.text_theory.specs.Readers.{Get, give, _▷_, after}
-use Rattle.text_theory.specs.Decimal.{digits, number}
+use Rattle.text_theory.specs.Decimal.{digits, numberGet}
 use Rattle.text_theory.specs.Files.{blank, either}
 use Rattle.file_theory.specs.Shows.{Drawn}
 
@@ -39,5 +40,5 @@ magicGet s = either (after greyMagic (give Grey) s) (after rgbMagic (give Rgb) s
 
 unfoldable pub headerGet : Get Size
 headerGet =
-    magicGet ▷ λ k. number 65535 ▷ λ w. after blank (number 65535 ▷ λ h. after maxval (
+    magicGet ▷ λ k. numberGet largestNumber ▷ λ w. after blank (numberGet largestNumber ▷ λ h. after maxval (
     give (record { width = w; height = h; kind = k })))

@@ -5,6 +5,7 @@ use mathlib.Core.List.{List, [], _∷_, _++_, zipWith}
 use Prim.Native.Nat.{ℕ, _-_, _/_}
 use lib.Dec.{leb, ltb}
 use lib.ListN.{length}
+use Rattle.pictures.specs.Numbers.{largestNumber}
 use Rattle.pictures.specs.declared.sizes.Size.{Size}
 use Rattle.pictures.specs.Refusals.{Rule, _when_, refusal, served}
 use Rattle.pictures.specs.Pictures.{Picture, sizeRules, picture, pixels}
@@ -12,7 +13,7 @@ use Rattle.map_theory.specs.Maps.{carve, mapOf}
 use Rattle.map_theory.specs.Widths.{offered, growRow}
 use Rattle.text_theory.specs.declared.Head.{Head}
 use Rattle.text_theory.specs.Readers.{Get, give, _▷_, after}
-use Rattle.text_theory.specs.Decimal.{digits, number}
+use Rattle.text_theory.specs.Decimal.{digits, numberGet}
 use Rattle.text_theory.specs.Files.{lineEnd, closed, parse}
 use Rattle.file_theory.specs.Contents.{chooseOf, meanOf, fileOf}
 use Rattle.file_theory.specs.Rules.{partRules, judgedRules, formRules}
@@ -67,7 +68,7 @@ seams input = written (refusal (seamsRules input)) (fileAnswer (headerGet input)
 
 -- `fit` "reads a line with a width (a number and byte 10), then a file, checks it and writes P5 or P6".
 unfoldable pub widthGet : Get ℕ
-widthGet = number 65535 ▷ λ v. after lineEnd (give v)
+widthGet = numberGet largestNumber ▷ λ v. after lineEnd (give v)
 
 -- What is refused of a width and a file: what showing refuses, with the 8 of the programs, for the picture read and the
 -- picture written, in place of the 8 of its spaces.

@@ -6,7 +6,7 @@ use Rattle.pictures.specs.declared.sizes.Size.{Size}
 use Rattle.pictures.specs.Refusals.{SmallestGiven}
 use Rattle.pictures.proofs.Rules.{given-smallest}
 use Rattle.seam_bounds.specs.Moves.{exchangeRules, columnRules, closeLengthRules, closeColumnRules}
-use Rattle.seam_bounds.specs.Spaces.{spaceRules}
+use Rattle.seam_bounds.specs.Spaces.{findSpaceRules}
 
 pub exchange-smallest : (z : Size) (bytes space : ℕ) → SmallestGiven (exchangeRules z bytes space)
 exchange-smallest z bytes space = given-smallest _ refl
@@ -20,5 +20,5 @@ close-length-smallest z bytes columns = given-smallest _ refl
 pub close-column-smallest : (w : ℕ) (beyond : Bool) → SmallestGiven (closeColumnRules w beyond)
 close-column-smallest w beyond = given-smallest _ refl
 
-pub space-smallest : (z : Size) (marked : Bool) (space seam : ℕ) → SmallestGiven (spaceRules z marked space seam)
+pub space-smallest : (z : Size) (marked : Bool) (space seam : ℕ) → SmallestGiven (findSpaceRules z marked space seam)
 space-smallest z marked space seam = given-smallest _ refl

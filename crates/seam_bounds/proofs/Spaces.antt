@@ -9,14 +9,14 @@ use Rattle.pictures.specs.declared.sizes.Size.{Size}
 use Rattle.pictures.specs.Refusals.{_when_, refusal}
 use Rattle.pictures.specs.Pictures.{sideRules, pictureBytes}
 use Rattle.pictures.proofs.Rules.{served-both, passed}
-use Rattle.seam_bounds.specs.Spaces.{bytesAfter, spaceRules}
+use Rattle.seam_bounds.specs.Spaces.{bytesAfter, findSpaceRules}
 
 pub record Rooms (z : Size) (marked : Bool) (space seam : ℕ) : Type 0 where
   pub sides : refusal (sideRules z) ≡ 0
   pub seam-room : z .height ≤ seam
   pub room : pictureBytes z + bytesAfter z marked ≤ space
 
-pub rooms-are : (z : Size) (marked : Bool) (space seam : ℕ) → refusal (spaceRules z marked space seam) ≡ 0 → Rooms z marked space seam
+pub rooms-are : (z : Size) (marked : Bool) (space seam : ℕ) → refusal (findSpaceRules z marked space seam) ≡ 0 → Rooms z marked space seam
 rooms-are z marked space seam e =
     let needed = pictureBytes z + bytesAfter z marked in
     let parts = served-both (sideRules z) (8 when ltb seam (z .height) ∷ 8 when ltb space (pictureBytes z + bytesAfter z marked) ∷ []) refl e in

@@ -13,5 +13,5 @@ bytesAfter z marked = cond marked (pixels z + pixels z) (pixels z)
 
 -- Refused by 2 and 3, and by 8 where the seam's space is shorter than the seam, or the space than the picture and the bytes
 -- after it.
-abbrev pub spaceRules : Size → Bool → ℕ → ℕ → List Rule
-spaceRules z marked space seam = sideRules z ++ (8 when ltb seam (z .height) ∷ 8 when ltb space (pictureBytes z + bytesAfter z marked) ∷ [])
+abbrev pub findSpaceRules : Size → Bool → ℕ → ℕ → List Rule
+findSpaceRules z marked space seam = sideRules z ++ (8 when ltb seam (z .height) ∷ 8 when ltb space (pictureBytes z + bytesAfter z marked) ∷ [])

@@ -7,12 +7,12 @@ ghost use mathlib.Core.Bool.{cond};
 ghost use Prim.Native.Nat.{_+_, _≤_};
 ghost use Rattle.pictures.specs.Limits.{mostPixels};
 ghost use Rattle.pictures.specs.Refusals.{given, refusal};
-ghost use Rattle.seam_bounds.specs.Spaces.{spaceRules};
+ghost use Rattle.seam_bounds.specs.Spaces.{findSpaceRules};
 
 // Whether the seam of a picture of this size can be found in a space of `space` bytes, with the picture's marks if it is
 // marked, and put into a space of `seam` columns; or which of 2, 3 and 8 refuses it.
 pub fn judge_find_in(size: Size, marked: bool, space: usize, seam: usize) -> Verdict
-    ensures { λ v. ⌜ given v ≡ refusal (spaceRules size marked space seam) ⌝ }
+    ensures { λ v. ⌜ given v ≡ refusal (findSpaceRules size marked space seam) ⌝ }
 {
     let allowed = pictures::judge_sides(size);
     let Verdict::Served = allowed else {

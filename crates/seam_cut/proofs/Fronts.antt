@@ -13,13 +13,13 @@ use Rattle.pictures.specs.Refusals.{Rule, _when_, refusal}
 use Rattle.pictures.specs.Pictures.{largestSide, sideRules, pictureBytes, pixels}
 use Rattle.pictures.proofs.Rules.{served-first, served-both, refused-first, passed}
 use Rattle.pictures.proofs.Limits.{sides-are}
-use Rattle.seam_find.specs.Finding.{findRules}
+use Rattle.seam_find.specs.Finding.{findInRules}
 
 -- Room for more than the longest seam is as good as room for the longest.
 short : (h long room : ℕ) → h ≤ largestSide → (long ≡ room) ⊎ ((largestSide ≤ room) × (long ≡ largestSide)) → ltb long h ≡ ltb room h
 short h long room most w = ⊎-elim (λ (e : long ≡ room). ap (λ k. ltb k h) e) (λ (e : (largestSide ≤ room) × (long ≡ largestSide)). le-ltb long h (omega arith) ∙ sym (le-ltb room h (omega arith))) w
 
-pub room-same : (z : Size) (n long room : ℕ) → (long ≡ room) ⊎ ((largestSide ≤ room) × (long ≡ largestSide)) → refusal (findRules z n long) ≡ refusal (findRules z n room)
+pub room-same : (z : Size) (n long room : ℕ) → (long ≡ room) ⊎ ((largestSide ≤ room) × (long ≡ largestSide)) → refusal (findInRules z n long) ≡ refusal (findInRules z n room)
 room-same z n long room w =
     ⊎-elim
     (λ (e : refusal (sideRules z) ≡ 0).
@@ -38,7 +38,7 @@ pub record InRoom (z : Size) (n room : ℕ) : Type 0 where
   pub seam-room : z .height ≤ room
   pub space-room : pictureBytes z + pixels z ≤ n
 
-pub in-room : (z : Size) (n room : ℕ) → refusal (findRules z n room) ≡ 0 → InRoom z n room
+pub in-room : (z : Size) (n room : ℕ) → refusal (findInRules z n room) ≡ 0 → InRoom z n room
 in-room z n room e =
     let parts = served-both (sideRules z) (8 when ltb room (z .height) ∷ 8 when ltb n (pictureBytes z + pixels z) ∷ []) refl e in
     let first = passed (ltb room (z .height)) 7 (cond (ltb n (pictureBytes z + pixels z)) 8 0) (parts .1) in
@@ -50,9 +50,9 @@ in-room z n room e =
     }
 
 -- At the last column something is always refused.
-pub last-some : (z : Size) (n room : ℕ) → 0 < refusal (findRules z n room ++ (13 when true ∷ []))
+pub last-some : (z : Size) (n room : ℕ) → 0 < refusal (findInRules z n room ++ (13 when true ∷ []))
 last-some z n room =
     ⊎-elim
-    (λ (e : refusal (findRules z n room) ≡ 0). omega (arith, served-first (findRules z n room) (13 when true ∷ []) refl e))
-    (λ (l : 0 < refusal (findRules z n room)). omega (arith, refused-first (findRules z n room) (13 when true ∷ []) l))
-    (eq-zero-or-pos (refusal (findRules z n room)))
+    (λ (e : refusal (findInRules z n room) ≡ 0). omega (arith, served-first (findInRules z n room) (13 when true ∷ []) refl e))
+    (λ (l : 0 < refusal (findInRules z n room)). omega (arith, refused-first (findInRules z n room) (13 when true ∷ []) l))
+    (eq-zero-or-pos (refusal (findInRules z n room)))

@@ -12,7 +12,7 @@ use Rattle.seam_theory.specs.PictureSeams.{seamOf, costOf}
 use Rattle.seam_rules.specs.Answers.{foundNumber, foundCost}
 use Rattle.seam_rules.specs.Axes.{turnedSize}
 use Rattle.seam_rules.specs.Cuts.{cleared, lastRules}
-use Rattle.seam_find.specs.Finding.{findRules as Finding·findRules}
+use Rattle.seam_find.specs.Finding.{findInRules as Finding·findRules}
 use Rattle.seam_rules.specs.declared.answers.Axis.{Axis}
 use Rattle.seam_rules.specs.declared.answers.Axis.the-variants.{Vertical}
 use Rattle.seam_turn.specs.Axes.{cutAlong}

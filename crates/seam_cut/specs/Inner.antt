@@ -9,11 +9,11 @@ use Rattle.pictures.specs.Refusals.{_when_, refusal, worked}
 use Rattle.pictures.specs.Pictures.{pictureBytes, pixels}
 use Rattle.seam_rules.specs.declared.answers.Found.{Found}
 use Rattle.seam_rules.specs.Answers.{foundNumber, foundCost}
-use Rattle.seam_find.specs.Finding.{findRules}
+use Rattle.seam_find.specs.Finding.{findInRules}
 
 -- What refuses finding with so much room for the seam, else 13; the places after the picture cleared unless 1 to 8 refuse.
 pub record LastInGiven (space : List ℕ) (z : Size) (room : ℕ) (answer : Found) (space′ : List ℕ) : Type 0 where
-  pub number-is : foundNumber answer ≡ refusal (findRules z (length space) room ++ (13 when true ∷ []))
+  pub number-is : foundNumber answer ≡ refusal (findInRules z (length space) room ++ (13 when true ∷ []))
   pub cost-is : foundCost answer ≡ 0
   pub space-is :
       space′ ≡ worked (foundNumber answer)

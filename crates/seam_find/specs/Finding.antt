@@ -9,17 +9,17 @@ use Rattle.pictures.specs.Refusals.{Rule, refusal, served}
 use Rattle.pictures.specs.Pictures.{pictureBytes, pixels, pictureIn}
 use Rattle.seam_rules.specs.declared.answers.Found.{Found}
 use Rattle.seam_rules.specs.Answers.{foundNumber, foundCost}
-use Rattle.seam_bounds.specs.Spaces.{spaceRules}
+use Rattle.seam_bounds.specs.Spaces.{findSpaceRules}
 use Rattle.seam_theory.specs.PictureSeams.{seamOf, costOf}
 
 -- Refused by 2 and 3, and by 8 where the seam's space is shorter than the seam, or the space than the picture and a byte
 -- for each of its pixels.
-abbrev pub findRules : Size → ℕ → ℕ → List Rule
-findRules z space seam = spaceRules z false space seam
+abbrev pub findInRules : Size → ℕ → ℕ → List Rule
+findInRules z space seam = findSpaceRules z false space seam
 
 -- The seam of the picture at the front, and what is left: the picture, zeros for its pixels after it, the rest as it was.
 pub record FindGiven (space : List ℕ) (z : Size) (seam : List ℕ) (answer : Found) (space′ seam′ : List ℕ) : Type 0 where
-  pub number : foundNumber answer ≡ refusal (findRules z (length space) (length seam))
+  pub number : foundNumber answer ≡ refusal (findInRules z (length space) (length seam))
   pub cost : foundCost answer ≡ served (foundNumber answer) (costOf (z .width) (z .height) (pictureIn z space)) 0
   pub space-left :
       space′ ≡ served (foundNumber answer)

@@ -9,12 +9,12 @@ use Rattle.pictures.specs.Refusals.{Rule, _when_, refusal, served, worked}
 use Rattle.pictures.specs.Pictures.{pictureBytes, pixels, pictureIn, marksIn}
 use Rattle.seam_rules.specs.declared.answers.Found.{Found}
 use Rattle.seam_rules.specs.Answers.{foundNumber, foundCost}
-use Rattle.seam_bounds.specs.Spaces.{spaceRules}
+use Rattle.seam_bounds.specs.Spaces.{findSpaceRules}
 use Rattle.seam_theory.specs.PictureSeams.{markedUp, markedSeamOf, markedCostOf, isNone}
 
 -- Refused by 2, 3 and 8 as without marks, where the space also has the marks; and by 12 where no seam is allowed.
 abbrev pub findMarkedRules : Size → ℕ → ℕ → Bool → List Rule
-findMarkedRules z space seam blocked = spaceRules z true space seam ++ (12 when blocked ∷ [])
+findMarkedRules z space seam blocked = findSpaceRules z true space seam ++ (12 when blocked ∷ [])
 
 -- The seam of the picture at the front by the marks after it, and what is left: picture and marks, zeros for its pixels
 -- after them, the rest as it was.

@@ -6,18 +6,18 @@ use Prim.Native.Nat.{ℕ, zero, suc, _+_, _-_, _≤_, _<_}
 use native.Mathlib.Nat.{eq-or-lt-of-le}
 use native.Mathlib.Omega.{arith}
 use Rattle.grids.proofs.Orders.{more-than-one}
-use Rattle.seam_objects.specs.Objects.{MarkedPicture, toRemove, cutOnce, carved, removal}
+use Rattle.seam_objects.specs.Objects.{MarkedPicture, toRemove, cutOnce, afterCuts, removal}
 use Rattle.seam_rules.specs.Answers.{done}
-use Rattle.seam_objects.specs.Endings.{Shaped, Reason, Due}
+use Rattle.seam_objects.specs.Endings.{LeftShaped, Reason, Due}
 use Rattle.seam_objects.proofs.Shapes.{shaped-cut}
 use Rattle.seam_objects.proofs.Endings.{by-steps}
 
 -- "The buffers hold the picture and marks after that many."
-pub left-carved : (b : ℕ) (s : MarkedPicture) → removal b 0 s .left ≡ carved (removal b 0 s .count) s
-unfolding carved
+pub left-carved : (b : ℕ) (s : MarkedPicture) → removal b 0 s .left ≡ afterCuts (removal b 0 s .count) s
+unfolding afterCuts
 left-carved b s =
     by-steps
-    (λ b n t r. t ≡ carved n s → r .left ≡ carved (r .count) s)
+    (λ b n t r. t ≡ afterCuts n s → r .left ≡ afterCuts (r .count) s)
     (λ b n t _ e. e)
     (λ b n t _ _ e. e)
     (λ n t _ _ e. e)
@@ -29,13 +29,13 @@ left-carved b s =
     refl
 
 -- The width left is the width less the count; the height stays.
-pub carved-width : (n : ℕ) (s : MarkedPicture) → carved n s .width ≡ s .width - n
-unfolding carved cutOnce
+pub carved-width : (n : ℕ) (s : MarkedPicture) → afterCuts n s .width ≡ s .width - n
+unfolding afterCuts cutOnce
 carved-width zero s = omega arith
 carved-width (suc n) s = omega (arith, carved-width n s)
 
-pub carved-height : (n : ℕ) (s : MarkedPicture) → carved n s .height ≡ s .height
-unfolding carved cutOnce
+pub carved-height : (n : ℕ) (s : MarkedPicture) → afterCuts n s .height ≡ s .height
+unfolding afterCuts cutOnce
 carved-height zero s = refl
 carved-height (suc n) s = carved-height n s
 
@@ -76,11 +76,11 @@ pub done-clean : (b : ℕ) (s : MarkedPicture) → removal b 0 s .ending ≡ don
 done-clean b s e = rw e at (ending-reason b s)
 
 -- Before each of the cuts none of the endings applied.
-pub cut-due : (b : ℕ) (s : MarkedPicture) (k : ℕ) → k < removal b 0 s .count → Due (carved k s)
-unfolding carved
+pub cut-due : (b : ℕ) (s : MarkedPicture) (k : ℕ) → k < removal b 0 s .count → Due (afterCuts k s)
+unfolding afterCuts
 cut-due b s k h =
     by-steps
-    (λ b n t r. t ≡ carved n s → n ≤ k → k < r .count → Due (carved k s))
+    (λ b n t r. t ≡ afterCuts n s → n ≤ k → k < r .count → Due (afterCuts k s))
     (λ b n t _ e l h. absurd (omega arith))
     (λ b n t _ _ e l h. absurd (omega arith))
     (λ n t _ _ e l h. absurd (omega arith))
@@ -98,11 +98,11 @@ cut-due b s k h =
     h
 
 -- The marks left are marks, and picture and marks have the width left.
-pub left-shaped : (ch b : ℕ) (s : MarkedPicture) → 0 < s .width → Shaped ch s → Shaped ch (removal b 0 s .left)
+pub left-shaped : (ch b : ℕ) (s : MarkedPicture) → 0 < s .width → LeftShaped ch s → LeftShaped ch (removal b 0 s .left)
 unfolding cutOnce
 left-shaped ch b s =
     by-steps
-    (λ b n t r. 0 < t .width → Shaped ch t → Shaped ch (r .left))
+    (λ b n t r. 0 < t .width → LeftShaped ch t → LeftShaped ch (r .left))
     (λ b n t _ h k. k)
     (λ b n t _ _ h k. k)
     (λ n t _ _ h k. k)

@@ -21,7 +21,7 @@ use Rattle.seam_bounds.specs.Moves.{outside}
 use Rattle.grids.proofs.Orders.{more-than-one}
 use Rattle.seam_rules.specs.declared.answers.Removal.{Removal}
 use Rattle.seam_rules.specs.declared.answers.Removal.the-variants.{Done, Narrow, Spent, Blocked}
-use Rattle.seam_objects.specs.Objects.{MarkedPicture, someTwo, toRemove, noSeam, cutOnce, carved, ends, removal}
+use Rattle.seam_objects.specs.Objects.{MarkedPicture, someTwo, toRemove, noSeam, cutOnce, afterCuts, ends, removal}
 use Rattle.seam_rules.specs.Answers.{Ending, done, narrow, spent, blocked, removalNumber, removalCount, removalEnding}
 use Rattle.seam_objects.specs.Removing.{markedPicture, ObjectRemoved}
 use Rattle.seam_rules.specs.declared.endings.Next.the-variants.{Ended}
@@ -38,13 +38,13 @@ sizeAt z w = record { width = w; height = z .height; kind = z .kind }
 
 -- After `count` cuts: what is left of the removal, and the buffers.
 pub record Going (z : Size) (b m : List ℕ) (budget width count : ℕ) (b′ m′ : List ℕ) : Type 0 where
-  pub same : removal budget 0 (markedPicture z b m) ≡ removal (budget - count) count (carved count (markedPicture z b m))
+  pub same : removal budget 0 (markedPicture z b m) ≡ removal (budget - count) count (afterCuts count (markedPicture z b m))
   pub sides : Sides z
   pub most : count ≤ budget
   pub some : 0 < width
   pub sum : width + count ≡ z .width
   pub stands :
-      Standing (sizeAt z width) (carved count (markedPicture z b m)) b′ m′
+      Standing (sizeAt z width) (afterCuts count (markedPicture z b m)) b′ m′
       (replicate (count * (z .height * channelsOf (z .kind))) 0)
       (replicate (count * z .height) 0)
 
@@ -58,7 +58,7 @@ one-more n count =
     replicate-append-replicate n (count * n) 0 ∙ ap (λ k. replicate k 0) e
 
 pub going-start : (z : Size) (b m work : List ℕ) (budget : ℕ) → SeamsNeeded z b m work → Going z b m budget (z .width) 0 b m
-unfolding carved
+unfolding afterCuts
 going-start z b m work budget need =
     let s = sized-is z (length b) (need .sized) in
     let all : budget - 0 ≡ budget = omega arith in
@@ -79,7 +79,7 @@ going-start z b m work budget need =
 
 module _ {z : Size} {b m : List ℕ} {budget width count : ℕ} {b′ m′ : List ℕ} (g : Going z b m budget width count b′ m′) where
   abbrev left : MarkedPicture
-  left = carved count (markedPicture z b m)
+  left = afterCuts count (markedPicture z b m)
 
   -- The marks that are searched.
   pub going-marks : someTwo (take (z .height * width) m′) ≡ toRemove left
@@ -145,7 +145,7 @@ module _ {z : Size} {b m : List ℕ} {budget width count : ℕ} {b′ m′ : Lis
             (ended blocked (Blocked count) refl refl refl (rw rest (removal-blocked count left (sym two) not-one (budget - suc count) none)))
 
         next : FrontCut (sizeAt z width) b′ m′ true b″ m″ → Going z b m budget (width - 1) (suc count) b″ m″
-        unfolding carved cutOnce
+        unfolding afterCuts cutOnce
         next f =
             let seam : noSeam left ≡ false = not-true (noSeam left) (ap (λ t. not (noSeam t)) (sym same-front) ∙ sym (f .cut-is)) in
             let some-left = more-than-one width (g .some) more in
@@ -176,7 +176,7 @@ module _ {z : Size} {b m : List ℕ} {budget width count : ℕ} {b′ m′ : Lis
 
 -- An ending that the step before a cut gives.
 pub going-ended : {z : Size} {b m : List ℕ} {budget width count : ℕ} {b′ m′ : List ℕ} (g : Going z b m budget width count b′ m′) (marked : Bool)
-    → marked ≡ toRemove (carved count (markedPicture z b m)) → (how : Removal) → nextStep marked width count budget ≡ Ended how → ObjectRemoved z b m budget 0 how b′ m′
+    → marked ≡ toRemove (afterCuts count (markedPicture z b m)) → (how : Removal) → nextStep marked width count budget ≡ Ended how → ObjectRemoved z b m budget 0 how b′ m′
 going-ended {z} {b} {m} {budget} {width} {count} {b′} {m′} g marked is =
     step-ended marked width count budget (λ how. ObjectRemoved z b m budget 0 how b′ m′)
     (λ e. going-done g (sym e ∙ is))

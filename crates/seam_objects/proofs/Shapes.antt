@@ -26,7 +26,7 @@ use Rattle.seam_cut_marked.proofs.Marked.{marked-inside}
 use Rattle.seam_objects.specs.Objects.{MarkedPicture, noSeam, seamIn, cutOnce}
 use Rattle.seam_objects.specs.Removing.{markedPicture}
 use Rattle.seam_objects.specs.Inner.{SeamsNeeded}
-use Rattle.seam_objects.specs.Endings.{Shaped}
+use Rattle.seam_objects.specs.Endings.{LeftShaped}
 
 -- A list of which nothing is outside, taken apart, and put together from rows.
 outside-append : (k : ℕ) (xs ys : List ℕ) → outside k (xs ++ ys) ≡ (outside k xs || outside k ys)
@@ -56,7 +56,7 @@ flat-inside none = refl
 flat-inside {k} (more {x = x} {xs = xs} e g) = outside-append k x (flat xs) ∙ rw (each-inside e) (flat-inside g)
 
 -- The picture and marks that are brought.
-pub shaped-start : (z : Size) (b m work : List ℕ) → SeamsNeeded z b m work → Shaped (channelsOf (z .kind)) (markedPicture z b m)
+pub shaped-start : (z : Size) (b m work : List ℕ) → SeamsNeeded z b m work → LeftShaped (channelsOf (z .kind)) (markedPicture z b m)
 shaped-start z b m work s = record {
   picture-of = picture-ofSize z b (sized-is z (length b) (s .sized) .length-is);
   marks-of = rows-inside 3 (z .width) (z .height) m (omega (arith, s .marked)) (s .few);
@@ -68,7 +68,7 @@ unfolding blockedAlong markedSeamAlong turned
 seam-inside s e = marked-inside Vertical (record { width = s .width; height = s .height; kind = Grey }) (s .picture) (s .marks) e
 
 -- What a cut leaves has its shape, so its marks are marks.
-pub shaped-cut : (ch : ℕ) (s : MarkedPicture) → Shaped ch s → 1 < s .width → noSeam s ≡ false → Shaped ch (cutOnce s)
+pub shaped-cut : (ch : ℕ) (s : MarkedPicture) → LeftShaped ch s → 1 < s .width → noSeam s ≡ false → LeftShaped ch (cutOnce s)
 unfolding cutOnce
 shaped-cut ch s k h e = record {
   picture-of = cut-narrower (s .width) h (seam-inside s e) (k .picture-of);

@@ -13,13 +13,13 @@ use Rattle.pictures.specs.Pictures.{channelsOf, pictureBytes, picture, bytes, O
 use Rattle.pictures.proofs.Buffers.{picture-bytes, length-bytes}
 use Rattle.seam_objects.specs.Objects.{MarkedPicture}
 use Rattle.seam_objects.specs.Inner.{front}
-use Rattle.seam_objects.specs.Endings.{Shaped}
+use Rattle.seam_objects.specs.Endings.{LeftShaped}
 
 -- A picture and its marks of this size stand at the front of their buffers, with the freed bytes after them.
 pub record Standing (z : Size) (s : MarkedPicture) (b m freed unmarked : List ℕ) : Type 0 where
   pub wide : s .width ≡ z .width
   pub high : s .height ≡ z .height
-  pub shaped : Shaped (channelsOf (z .kind)) s
+  pub shaped : LeftShaped (channelsOf (z .kind)) s
   pub picture-is : b ≡ bytes (s .picture) ++ freed
   pub marks-are : m ≡ flat (s .marks) ++ unmarked
 

@@ -20,6 +20,6 @@ pub record Due (s : MarkedPicture) : Type 0 where
   pub allowed : noSeam s ≡ false
 
 -- Pixels of ch samples, and marks of which none is over 2, in as many rows and columns as it says.
-pub record Shaped (ch : ℕ) (s : MarkedPicture) : Type 0 where
+pub record LeftShaped (ch : ℕ) (s : MarkedPicture) : Type 0 where
   pub picture-of : Each (Grid ch (s .width)) (s .height) (s .picture)
   pub marks-of : Each (Each (λ v. v < 3) (s .width)) (s .height) (s .marks)

@@ -41,9 +41,9 @@ cutOnce s = record {
 }
 
 -- The picture and marks after n such cuts.
-unfoldable pub carved : ℕ → MarkedPicture → MarkedPicture
-carved zero s = s
-carved (suc n) s = cutOnce (carved n s)
+unfoldable pub afterCuts : ℕ → MarkedPicture → MarkedPicture
+afterCuts zero s = s
+afterCuts (suc n) s = cutOnce (afterCuts n s)
 
 -- "Each ending carries the count of seams cut, and the buffers hold the picture and marks after that many."
 pub record Removed : Type 0 where

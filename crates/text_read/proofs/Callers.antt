@@ -20,7 +20,7 @@ use Rattle.text_read.specs.declared.cursor.Read.{Read}
 use Rattle.text_read.specs.declared.cursor.Read.the-variants as reads
 use Rattle.text_read.specs.declared.heads.HeadRead.{HeadRead}
 use Rattle.text_read.specs.declared.heads.HeadRead.the-variants.{Begun, Unbegun}
-use Rattle.text_read.specs.Answers.{given, ahead, Told, counted, read, headRead}
+use Rattle.text_read.specs.Answers.{readOn, ahead, Told, counted, read, headRead}
 use Rattle.text_read.specs.Lines.{rowLine, mapLine, fitting, Taken}
 
 -- The text of a line gives its values, the text of a head the head, and what stands after is left.
@@ -62,7 +62,7 @@ module _ {text : List ℕ} {at : ℕ} where
       read-there : counted (fitting (length out) get) (drop at text) ≡ some (length values, rest)
       read-there = rw (e, le-leb (length values) (length out) h)
 
-      go : (r : Read) → some (length values, rest) ≡ given text (read r) → ahead (length text) at (read r) → LineMet text at values rest out r out′
+      go : (r : Read) → some (length values, rest) ≡ readOn text (read r) → ahead (length text) at (read r) → LineMet text at values rest out r out′
       go reads.Broken f m = absurd (Option·none-ne-some _ (sym f))
       go (reads.Good n c) f m =
           let q = Option·some-injective (length values, rest) (n, drop (c .at) text) f in
@@ -93,7 +93,7 @@ pub record HeadMet (text : List ℕ) (at : ℕ) (h : Head) (rest : List ℕ) (r 
 pub told-head : {text : List ℕ} {at : ℕ} (h : Head) {rest : List ℕ} (r : HeadRead) → Told headGet text at (headRead r) → drop at text ≡ headText h ++ rest → Numbers h → HeadMet text at h rest r
 told-head {text} {at} h {rest} r T e n = go r (sym (ap headGet e ∙ head-line h rest n) ∙ T .same) (T .moved)
   where
-    go : (r : HeadRead) → some (h, rest) ≡ given text (headRead r) → ahead (length text) at (headRead r) → HeadMet text at h rest r
+    go : (r : HeadRead) → some (h, rest) ≡ readOn text (headRead r) → ahead (length text) at (headRead r) → HeadMet text at h rest r
     go Unbegun f m = absurd (Option·none-ne-some _ (sym f))
     go (Begun g c) f m =
         let q = Option·some-injective (h, rest) (g, drop (c .at) text) f in

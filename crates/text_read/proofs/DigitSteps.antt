@@ -10,7 +10,7 @@ use lib.Dec.{leb, ltb}
 use lib.ListN.{length, getD, drop, drop-of-length-le}
 use borrow.Author.Tests.{le-leb, lt-leb, ltb-true, ltb-false}
 use Rattle.pictures.specs.Numbers.{largestNumber}
-use Rattle.text_theory.specs.Decimal.{isDigit, further, upTo, number}
+use Rattle.text_theory.specs.Decimal.{isDigit, further, upTo, numberGet}
 use Rattle.text_read.specs.Answers.{Told}
 use Rattle.text_read.specs.Inner.{within}
 use Rattle.text_theory.proofs.Pairs.{front}
@@ -32,22 +32,22 @@ further-more (b ∷ s) n = go (isDigit b) (further-more s (n * 10 + (b - 48)))
 
 -- The state of the digits' loop: n is what the digits between start and at say.
 pub record Reading (limit : ℕ) (text : List ℕ) (start n at : ℕ) : Type 0 where
-  pub same : number limit (drop start text) ≡ upTo limit (further n (drop at text))
+  pub same : numberGet limit (drop start text) ≡ upTo limit (further n (drop at text))
   pub there : start < at
   pub inside : at ≤ length text
   pub small : n ≤ 10 * largestNumber + 9
 
 module _ (limit : ℕ) {text : List ℕ} {start : ℕ} where
-  pub number-end : length text ≤ start → Told (number limit) text start none
-  unfolding number
+  pub number-end : length text ≤ start → Told (numberGet limit) text start none
+  unfolding numberGet
   number-end h = record { same = rw (drop-of-length-le text h); moved = tt }
 
-  pub number-none : start < length text → isDigit (getD text start 0) ≡ false → Told (number limit) text start none
-  unfolding number
+  pub number-none : start < length text → isDigit (getD text start 0) ≡ false → Told (numberGet limit) text start none
+  unfolding numberGet
   number-none h d = record { same = rw (front text start h, d); moved = tt }
 
-  pub number-zero : start < length text → getD text start 0 ≡ 48 → Told (number limit) text start (some (0, start + 1))
-  unfolding number isDigit
+  pub number-zero : start < length text → getD text start 0 ≡ 48 → Told (numberGet limit) text start (some (0, start + 1))
+  unfolding numberGet isDigit
   number-zero h e = record { same = rw (front text start h, e); moved = (omega arith, omega arith) }
 
 module _ {limit : ℕ} {text : List ℕ} {start : ℕ} where
@@ -69,24 +69,24 @@ module _ {limit : ℕ} {text : List ℕ} {start : ℕ} where
       small = omega arith;
     }
 
-    pub reading-over : limit < n → Told (number limit) text start none
+    pub reading-over : limit < n → Told (numberGet limit) text start none
     unfolding upTo
     reading-over h =
         let l = further-more (drop at text) n in
         record { same = R .same ∙ rw (lt-leb (further n (drop at text) .0) limit (omega arith)); moved = tt }
 
-    stopped : further n (drop at text) ≡ (n, drop at text) → Told (number limit) text start (within limit n at)
+    stopped : further n (drop at text) ≡ (n, drop at text) → Told (numberGet limit) text start (within limit n at)
     unfolding upTo
     stopped e = go (ltb limit n) refl
       where
-        go : (x : Bool) → ltb limit n ≡ x → Told (number limit) text start (cond x none (some (n, at)))
+        go : (x : Bool) → ltb limit n ≡ x → Told (numberGet limit) text start (cond x none (some (n, at)))
         go true f = record { same = R .same ∙ rw (e, lt-leb n limit (ltb-true limit n f)); moved = tt }
         go false f = record { same = R .same ∙ rw (e, le-leb n limit (ltb-false limit n f)); moved = (R .there, R .inside) }
 
-    pub reading-stop : at < length text → isDigit (getD text at 0) ≡ false → Told (number limit) text start (within limit n at)
+    pub reading-stop : at < length text → isDigit (getD text at 0) ≡ false → Told (numberGet limit) text start (within limit n at)
     unfolding further
     reading-stop h d = stopped (rw (front text at h, d))
 
-    pub reading-end : length text ≤ at → Told (number limit) text start (within limit n at)
+    pub reading-end : length text ≤ at → Told (numberGet limit) text start (within limit n at)
     unfolding further
     reading-end h = stopped (rw (drop-of-length-le text h))

@@ -9,9 +9,9 @@ use native.Mathlib.Omega.{arith}
 use lib.ListN.{length, getD, drop, set, drop-of-length-le, length-append, length-set}
 use lib.Seq.{drop-cons, set-at, append-snoc}
 use Rattle.pictures.specs.Numbers.{largestNumber}
-use Rattle.text_theory.specs.Decimal.{isDigit, number}
+use Rattle.text_theory.specs.Decimal.{isDigit, numberGet}
 use Rattle.text_theory.proofs.Pairs.{front}
-use Rattle.text_read.specs.Answers.{given, ahead, Told}
+use Rattle.text_read.specs.Answers.{readOn, ahead, Told}
 use Rattle.text_read.specs.Inner.{skipped, figure, figures, Coming}
 
 skip-gap : (b : ℕ) (s : List ℕ) → isDigit b ≡ false → skipped (b ∷ s) ≡ skipped s
@@ -27,12 +27,12 @@ unfolding figure
 figure-gap b s h = rw (skip-gap b s h)
 
 -- Where a number stands, nothing is skipped.
-pub figure-here : (s : List ℕ) (r : ℕ × List ℕ) → number largestNumber s ≡ some r → figure s ≡ some r
-unfolding figure number
+pub figure-here : (s : List ℕ) (r : ℕ × List ℕ) → numberGet largestNumber s ≡ some r → figure s ≡ some r
+unfolding figure numberGet
 figure-here [] r h = absurd (Option·none-ne-some _ h)
 figure-here (b ∷ s) r h = go (isDigit b) refl h
   where
-    go : (x : Bool) → isDigit b ≡ x → number largestNumber (b ∷ s) ≡ some r → number largestNumber (skipped (b ∷ s)) ≡ some r
+    go : (x : Bool) → isDigit b ≡ x → numberGet largestNumber (b ∷ s) ≡ some r → numberGet largestNumber (skipped (b ∷ s)) ≡ some r
     go true e h = rw (skip-digit b s e) h
     go false e h = absurd (Option·none-ne-some _ (rw e at h))
 
@@ -49,11 +49,11 @@ module _ {text : List ℕ} {from : ℕ} where
     pub skipping-next : at < length text → isDigit (getD text at 0) ≡ false → Skipping text from (at + 1)
     skipping-next h d = record { same = S .same ∙ rw (front text at h, skip-gap (getD text at 0) (drop (at + 1) text) d); there = omega (arith, S .there) }
 
-    pub skipping-found : {r : Option (ℕ × ℕ)} → at < length text → isDigit (getD text at 0) ≡ true → Told (number largestNumber) text at r → Told figure text from r
+    pub skipping-found : {r : Option (ℕ × ℕ)} → at < length text → isDigit (getD text at 0) ≡ true → Told (numberGet largestNumber) text at r → Told figure text from r
     unfolding figure
     skipping-found {r} h d t = record { same = same; moved = further r (t .moved) }
       where
-        same : figure (drop from text) ≡ given text r
+        same : figure (drop from text) ≡ readOn text r
         same = rw (S .same, front text at h, skip-digit (getD text at 0) (drop (at + 1) text) d, ← front text at h) (t .same)
 
         further : (r : Option (ℕ × ℕ)) → ahead (length text) at r → ahead (length text) from r
@@ -61,7 +61,7 @@ module _ {text : List ℕ} {from : ℕ} where
         further (some q) m = (omega (arith, S .there, m .0), m .1)
 
     pub skipping-end : length text ≤ at → Told figure text from none
-    unfolding figure number skipped
+    unfolding figure numberGet skipped
     skipping-end h = record { same = rw (S .same, drop-of-length-le text h); moved = tt }
 
 -- The state of the loop that writes: i numbers were written, and as many are to come as make n.

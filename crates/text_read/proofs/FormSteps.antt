@@ -10,10 +10,10 @@ use lib.Dec.{eqb}
 use lib.ListN.{length, getD, drop, drop-of-length-le}
 use borrow.Author.Tests.{eqb-true, ne-eqb}
 use Rattle.text_theory.specs.Readers.{Get, give, on, _▷_, strip, onward, after, next, many}
-use Rattle.text_theory.specs.Decimal.{number}
+use Rattle.text_theory.specs.Decimal.{numberGet}
 use Rattle.pictures.specs.declared.sizes.Kind.the-variants.{Rgb}
 use Rattle.pictures.specs.Numbers.{largestNumber}
-use Rattle.text_theory.specs.Files.{blank, opening, closing, items, three, pixel}
+use Rattle.text_theory.specs.Files.{blank, opening, closing, items, three, pixelGet}
 use Rattle.text_rules.specs.declared.Items.{Items}
 use Rattle.text_rules.specs.declared.Items.the-variants.{Samples, Pixels, Numbers}
 use Rattle.text_read.specs.Answers.{Told, counted, itemOf, formOf}
@@ -76,9 +76,9 @@ form-other Numbers = count-other (number-reads largestNumber)
 form-blank : (w : Items) (t : List ℕ) → formOf w (32 ∷ t) ≡ on (itemOf w t) (λ x. formOf w ▷ λ n. give (suc n))
 unfolding formOf itemOf counted
 form-blank Samples t = count-blank (number-reads 255) t
-form-blank Pixels t = count-blank (pixel-reads Rgb) t ∙ go (pixel Rgb t)
+form-blank Pixels t = count-blank (pixel-reads Rgb) t ∙ go (pixelGet Rgb t)
   where
-    go : (o : Option (List ℕ × List ℕ)) → on o (λ x. counted (items (pixel Rgb)) ▷ λ n. give (suc n)) ≡ on (on o (λ xs. give (length xs))) (λ x. counted (items (pixel Rgb)) ▷ λ n. give (suc n))
+    go : (o : Option (List ℕ × List ℕ)) → on o (λ x. counted (items (pixelGet Rgb)) ▷ λ n. give (suc n)) ≡ on (on o (λ xs. give (length xs))) (λ x. counted (items (pixelGet Rgb)) ▷ λ n. give (suc n))
     go none = refl
     go (some r) = refl
 form-blank Numbers t = count-blank (number-reads largestNumber) t
@@ -118,9 +118,9 @@ module _ {w : Items} {text : List ℕ} {from : ℕ} where
     counting-end h = record { same = C .same ∙ rw (drop-of-length-le text h, form-nil); moved = tt }
 
 -- A pixel in brackets: a sample, and a form of two more.
-pixel-step : (t : List ℕ) → itemOf Pixels (40 ∷ t) ≡ (number 255 ▷ λ a. formOf Samples ▷ λ n. cond (eqb n 2) (give 3) (λ s. none)) t
-unfolding itemOf formOf counted pixel opening strip three
-pixel-step t = go (number 255 t)
+pixel-step : (t : List ℕ) → itemOf Pixels (40 ∷ t) ≡ (numberGet 255 ▷ λ a. formOf Samples ▷ λ n. cond (eqb n 2) (give 3) (λ s. none)) t
+unfolding itemOf formOf counted pixelGet opening strip three
+pixel-step t = go (numberGet 255 t)
   where
     last : (a : ℕ) (xs s : List ℕ) (x : Bool) → eqb (length xs) 2 ≡ x → on (cond x (give (a ∷ xs)) (λ s. none) s) (λ xs. give (length xs)) ≡ cond x (give 3) (λ s. none) s
     last a xs s true e = let z = eqb-true (length xs) 2 e in rw z
@@ -130,16 +130,16 @@ pixel-step t = go (number 255 t)
     more a none = refl
     more a (some r) = last a (r .0) (r .1) (eqb (length (r .0)) 2) refl
 
-    go : (o : Option (ℕ × List ℕ)) → on (on o (λ a. items (number 255) ▷ λ xs. cond (eqb (length xs) 2) (give (a ∷ xs)) (λ s. none))) (λ xs. give (length xs)) ≡ on o (λ a. (items (number 255) ▷ λ xs. give (length xs)) ▷ λ n. cond (eqb n 2) (give 3) (λ s. none))
+    go : (o : Option (ℕ × List ℕ)) → on (on o (λ a. items (numberGet 255) ▷ λ xs. cond (eqb (length xs) 2) (give (a ∷ xs)) (λ s. none))) (λ xs. give (length xs)) ≡ on o (λ a. (items (numberGet 255) ▷ λ xs. give (length xs)) ▷ λ n. cond (eqb n 2) (give 3) (λ s. none))
     go none = refl
-    go (some r) = more (r .0) (items (number 255) (r .1))
+    go (some r) = more (r .0) (items (numberGet 255) (r .1))
 
 pixel-nil : itemOf Pixels [] ≡ none
-unfolding itemOf counted pixel opening strip
+unfolding itemOf counted pixelGet opening strip
 pixel-nil = refl
 
 pixel-other : (b : ℕ) (t : List ℕ) → (b ≡ 40 → ⊥) → itemOf Pixels (b ∷ t) ≡ none
-unfolding itemOf counted pixel opening strip
+unfolding itemOf counted pixelGet opening strip
 pixel-other b t p = rw (ne-eqb 40 b (λ e. p (sym e)))
 
 module _ {text : List ℕ} {at : ℕ} where
@@ -150,10 +150,10 @@ module _ {text : List ℕ} {at : ℕ} where
   item-other h p = record { same = rw (front text at h, pixel-other (getD text at 0) (drop (at + 1) text) p); moved = tt }
 
   module _ (h : at < length text) (e : getD text at 0 ≡ 40) where
-    pub item-first : Told (number 255) text (at + 1) none → Told (itemOf Pixels) text at none
+    pub item-first : Told (numberGet 255) text (at + 1) none → Told (itemOf Pixels) text at none
     item-first t = record { same = rw (front text at h, e, pixel-step, t .same); moved = tt }
 
-    module _ {v : ℕ} {c : ℕ} (t : Told (number 255) text (at + 1) (some (v, c))) where
+    module _ {v : ℕ} {c : ℕ} (t : Told (numberGet 255) text (at + 1) (some (v, c))) where
       pub item-rest : Told (formOf Samples) text (c) none → Told (itemOf Pixels) text at none
       item-rest f = record { same = rw (front text at h, e, pixel-step, t .same, f .same); moved = tt }
 
@@ -163,10 +163,10 @@ module _ {text : List ℕ} {at : ℕ} where
       pub item-count : {n : ℕ} {d : ℕ} → Told (formOf Samples) text (c) (some (n, d)) → (n ≡ 2 → ⊥) → Told (itemOf Pixels) text at none
       item-count {n} f p = record { same = rw (front text at h, e, pixel-step, t .same, f .same, ne-eqb n 2 p); moved = tt }
 
-pub item-samples : {text : List ℕ} {at : ℕ} {r : Option (ℕ × ℕ)} → Told (number 255) text at r → Told (itemOf Samples) text at r
+pub item-samples : {text : List ℕ} {at : ℕ} {r : Option (ℕ × ℕ)} → Told (numberGet 255) text at r → Told (itemOf Samples) text at r
 unfolding itemOf
 item-samples t = t
 
-pub item-numbers : {text : List ℕ} {at : ℕ} {r : Option (ℕ × ℕ)} → Told (number largestNumber) text at r → Told (itemOf Numbers) text at r
+pub item-numbers : {text : List ℕ} {at : ℕ} {r : Option (ℕ × ℕ)} → Told (numberGet largestNumber) text at r → Told (itemOf Numbers) text at r
 unfolding itemOf
 item-numbers t = t

@@ -6,11 +6,11 @@ use Prim.Native.Nat.{ℕ, zero, suc}
 use lib.ListN.{length, length-map}
 use Rattle.text_rules.specs.declared.Items.the-variants.{Numbers}
 use Rattle.text_theory.specs.Readers.{Get, give, on, _▷_, strip, onward, after, next, manyUpTo, many}
-use Rattle.text_theory.specs.Decimal.{number}
+use Rattle.text_theory.specs.Decimal.{numberGet}
 use Rattle.pictures.specs.declared.sizes.Kind.{Kind}
 use Rattle.pictures.specs.declared.sizes.Kind.the-variants.{Grey, Rgb}
 use Rattle.pictures.specs.Numbers.{largestNumber}
-use Rattle.text_theory.specs.Files.{lineEnd, blank, closing, items, pixel, line}
+use Rattle.text_theory.specs.Files.{lineEnd, blank, closing, items, pixelGet, line}
 use Rattle.text_read.specs.Answers.{counted, formOf, lineRest}
 use Rattle.text_rules.specs.Items.{itemsOf}
 
@@ -58,11 +58,11 @@ count-line {A} g s = go (items g s)
     go none = refl
     go (some r) = last (r .0) (strip lineEnd (r .1))
 
-pub rest-map : (s : List ℕ) → lineRest Numbers s ≡ on (line (number largestNumber) s) (λ xs. give (length xs))
+pub rest-map : (s : List ℕ) → lineRest Numbers s ≡ on (line (numberGet largestNumber) s) (λ xs. give (length xs))
 unfolding lineRest formOf counted
-rest-map s = sym (count-line (number largestNumber) s)
+rest-map s = sym (count-line (numberGet largestNumber) s)
 
-pub rest-row : (k : Kind) (s : List ℕ) → lineRest (itemsOf k) s ≡ on (line (pixel k) s) (λ xs. give (length xs))
-unfolding lineRest formOf counted itemsOf pixel
-rest-row Grey s = rw (← count-map (λ a. a ∷ []) (number 255) s) (sym (count-line _ s))
+pub rest-row : (k : Kind) (s : List ℕ) → lineRest (itemsOf k) s ≡ on (line (pixelGet k) s) (λ xs. give (length xs))
+unfolding lineRest formOf counted itemsOf pixelGet
+rest-row Grey s = rw (← count-map (λ a. a ∷ []) (numberGet 255) s) (sym (count-line _ s))
 rest-row Rgb s = sym (count-line _ s)

@@ -13,8 +13,8 @@ use Rattle.pictures.specs.declared.sizes.Kind.the-variants.{Grey, Rgb}
 use Rattle.pictures.specs.Pictures.{channelsOf}
 use Rattle.pictures.specs.Numbers.{largestNumber}
 use Rattle.text_theory.specs.Readers.{Get, give, on}
-use Rattle.text_theory.specs.Decimal.{digits, number}
-use Rattle.text_theory.specs.Files.{closed, rowWord, mapWord, pixelText, lineText, pixel, line, All, Pixel}
+use Rattle.text_theory.specs.Decimal.{digits, numberGet}
+use Rattle.text_theory.specs.Files.{closed, rowWord, mapWord, pixelText, lineText, pixelGet, line, All, Pixel}
 use Rattle.text_theory.proofs.Decimals.{number-reads}
 use Rattle.text_theory.proofs.Files.{line-reads, pixel-reads, clear-blank, clear-closing, clear-closed}
 use Rattle.text_rules.specs.declared.Items.the-variants.{Numbers}
@@ -76,15 +76,15 @@ module _ {text : List ℕ} {at : ℕ} where
     module _ {v c : ℕ} (t : Told (passing rowWord) text at (some (v, c))) where
       pub row-torn : {out : List ℕ} → Told (lineRest (itemsOf k)) text c none → Taken (rowLine k) text at out none out
       unfolding rowLine
-      row-torn r = torn (rw (passing-some rowWord (drop at text) v (drop c text) (t .same), none-inv (line (pixel k) (drop c text)) (sym (rest-row k (drop c text)) ∙ r .same)))
+      row-torn r = torn (rw (passing-some rowWord (drop at text) v (drop c text) (t .same), none-inv (line (pixelGet k) (drop c text)) (sym (rest-row k (drop c text)) ∙ r .same)))
 
       pub row-found : {n d ch : ℕ} → Told (lineRest (itemsOf k)) text c (some (n, d)) → ch ≡ channelsOf k → Found (rowLine k) 255 text at c (n * ch) d
       unfolding rowLine lineText
       row-found {n} {d} {ch} r h =
-          let p = counted-inv (line (pixel k) (drop c text)) n (drop d text) (sym (rest-row k (drop c text)) ∙ r .same) in
+          let p = counted-inv (line (pixelGet k) (drop c text)) n (drop d text) (sym (rest-row k (drop c text)) ∙ r .same) in
           go (p .0) (p .1) (p .2) (line-reads (pixel-reads k) clear-blank clear-closing .sound (drop c text) (p .0, drop d text) (p .1))
         where
-          go : (row : List (List ℕ)) → line (pixel k) (drop c text) ≡ some (row, drop d text) → length row ≡ n
+          go : (row : List (List ℕ)) → line (pixelGet k) (drop c text) ≡ some (row, drop d text) → length row ≡ n
               → (drop c text ≡ lineText (pixelText k) row ++ drop d text) × All (Pixel k) row → Found (rowLine k) 255 text at c (n * ch) d
           go row e l s = record {
             values = flat row;
@@ -101,15 +101,15 @@ module _ {text : List ℕ} {at : ℕ} where
   module _ {v c : ℕ} (t : Told (passing mapWord) text at (some (v, c))) where
     pub map-torn : {out : List ℕ} → Told (lineRest Numbers) text c none → Taken mapLine text at out none out
     unfolding mapLine
-    map-torn r = torn (rw (passing-some mapWord (drop at text) v (drop c text) (t .same)) (none-inv (line (number largestNumber) (drop c text)) (sym (rest-map (drop c text)) ∙ r .same)))
+    map-torn r = torn (rw (passing-some mapWord (drop at text) v (drop c text) (t .same)) (none-inv (line (numberGet largestNumber) (drop c text)) (sym (rest-map (drop c text)) ∙ r .same)))
 
     pub map-found : {n d : ℕ} → Told (lineRest Numbers) text c (some (n, d)) → Found mapLine largestNumber text at c n d
     unfolding mapLine lineText
     map-found {n} {d} r =
-        let p = counted-inv (line (number largestNumber) (drop c text)) n (drop d text) (sym (rest-map (drop c text)) ∙ r .same) in
+        let p = counted-inv (line (numberGet largestNumber) (drop c text)) n (drop d text) (sym (rest-map (drop c text)) ∙ r .same) in
         go (p .0) (p .1) (p .2) (line-reads (number-reads largestNumber) clear-blank clear-closing .sound (drop c text) (p .0, drop d text) (p .1))
       where
-        go : (row : List ℕ) → line (number largestNumber) (drop c text) ≡ some (row, drop d text) → length row ≡ n
+        go : (row : List ℕ) → line (numberGet largestNumber) (drop c text) ≡ some (row, drop d text) → length row ≡ n
             → (drop c text ≡ lineText digits row ++ drop d text) × All (λ (a : ℕ). a ≤ largestNumber) row → Found mapLine largestNumber text at c n d
         go row e l s = record {
           values = row;

@@ -20,12 +20,12 @@ use Rattle.text_read.specs.declared.words.KindRead.{KindRead}
 use Rattle.text_read.specs.declared.words.KindRead.the-variants.{Named, Unnamed}
 use Rattle.text_read.specs.declared.heads.HeadRead.{HeadRead}
 use Rattle.text_read.specs.declared.heads.HeadRead.the-variants.{Begun, Unbegun}
-use Rattle.text_read.specs.Answers.{given, Told, Written, numeral, name, counted, read, kindRead, wordRead, headRead}
+use Rattle.text_read.specs.Answers.{readOn, Told, Written, numeral, name, counted, read, kindRead, wordRead, headRead}
 use Rattle.text_read.specs.Numbers.{missing, readNumber, kindReadNumber, wordNumber, headReadNumber, unread, readerRules, lineNumber, lineLength, lineRules}
 use Rattle.text_read.specs.Lines.{fitting, Taken}
 
 -- What is found is missing just where the reader gives none.
-pub missing-number : {A : Type 0} (text : List ℕ) (o : Option (A × List ℕ)) (found : Option (A × ℕ)) → o ≡ given text found → missing found ≡ cond (unread o) 1 0
+pub missing-number : {A : Type 0} (text : List ℕ) (o : Option (A × List ℕ)) (found : Option (A × ℕ)) → o ≡ readOn text found → missing found ≡ cond (unread o) 1 0
 missing-number text none none e = refl
 missing-number text none (some r) e = absurd (Option·none-ne-some _ e)
 missing-number text (some x) none e = absurd (Option·none-ne-some _ (sym e))
@@ -60,11 +60,11 @@ module _ (get : Get (List ℕ)) (text : List ℕ) (at : ℕ) (out : List ℕ) (r
   line-number = go (get (drop at text)) refl
     where
       -- the answer, from what the reader gives if it fits
-      none-is : (r : Read) → none ≡ given text (read r) → r ≡ reads.Broken
+      none-is : (r : Read) → none ≡ readOn text (read r) → r ≡ reads.Broken
       none-is (reads.Good n c) e = absurd (Option·none-ne-some _ e)
       none-is reads.Broken e = refl
 
-      some-is : (x : ℕ × List ℕ) (r : Read) → some x ≡ given text (read r) → (b : Bool) → lineNumber b r ≡ 0
+      some-is : (x : ℕ × List ℕ) (r : Read) → some x ≡ readOn text (read r) → (b : Bool) → lineNumber b r ≡ 0
       some-is x (reads.Good n c) e b = refl
       some-is x reads.Broken e b = absurd (Option·none-ne-some _ (sym e))
 
@@ -74,10 +74,10 @@ module _ (get : Get (List ℕ)) (text : List ℕ) (at : ℕ) (out : List ℕ) (r
         where
           fits : (b : Bool) → leb (length (x .0)) (length out) ≡ b → lineNumber false r ≡ cond (ltb (length out) (length (x .0))) 8 0
           fits true l =
-              let s : some (length (x .0), x .1) ≡ given text (read r) = rw (e, l) at (t .told .same) in
+              let s : some (length (x .0), x .1) ≡ readOn text (read r) = rw (e, l) at (t .told .same) in
               rw (le-ltb (length out) (length (x .0)) (leb-true _ _ l)) (some-is (length (x .0), x .1) r s false)
           fits false l =
-              let s : none ≡ given text (read r) = rw (e, l) at (t .told .same) in
+              let s : none ≡ readOn text (read r) = rw (e, l) at (t .told .same) in
               rw (lt-ltb (length out) (length (x .0)) (leb-false _ _ l), none-is r s)
 
 -- Of several, the smallest is given.

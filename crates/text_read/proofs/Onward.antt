@@ -6,7 +6,7 @@ use Prim.Native.Nat.{ℕ, _≤_, _<_}
 use native.Mathlib.Omega.{arith}
 use lib.ListN.{length, drop}
 use Rattle.text_theory.specs.Readers.{Get, give, on, _▷_, strip, onward, after}
-use Rattle.text_theory.specs.Decimal.{number}
+use Rattle.text_theory.specs.Decimal.{numberGet}
 use Rattle.pictures.specs.declared.sizes.Kind.the-variants.{Grey, Rgb}
 use Rattle.pictures.specs.Numbers.{largestNumber}
 use Rattle.text_theory.specs.Files.{greyWord, rgbWord, either, kindGet}
@@ -27,9 +27,9 @@ passing-none w s h = go (strip w s) h
     go none h = refl
     go (some u) h = absurd (Option·none-ne-some _ (sym h))
 
-numbered-step : {B : Type 0} (w : List ℕ) (f : ℕ → Get B) (s : List ℕ) → (number largestNumber ▷ λ n. after w (f n)) s ≡ (numberedOf w ▷ f) s
+numbered-step : {B : Type 0} (w : List ℕ) (f : ℕ → Get B) (s : List ℕ) → (numberGet largestNumber ▷ λ n. after w (f n)) s ≡ (numberedOf w ▷ f) s
 unfolding numberedOf
-numbered-step {B} w f s = go (number largestNumber s)
+numbered-step {B} w f s = go (numberGet largestNumber s)
   where
     last : (n : ℕ) (o : Option (List ℕ)) → onward o (f n) ≡ on (onward o (give n)) f
     last n none = refl
@@ -60,10 +60,10 @@ module _ {B : Type 0} {whole : Get B} {text : List ℕ} {from : ℕ} where
   pub left-no-then : {A : Type 0} {g : Get A} (f : A → Get B) {at : ℕ} → Left whole text from (g ▷ f) at → Told g text at none → Told whole text from none
   left-no-then f L t = record { same = L .same ∙ rw (t .same); moved = tt }
 
-  pub left-numbered : (w : List ℕ) (f : ℕ → Get B) {at n c : ℕ} → Left whole text from (number largestNumber ▷ λ n. after w (f n)) at → Told (numberedOf w) text at (some (n, c)) → Left whole text from (f n) c
+  pub left-numbered : (w : List ℕ) (f : ℕ → Get B) {at n c : ℕ} → Left whole text from (numberGet largestNumber ▷ λ n. after w (f n)) at → Told (numberedOf w) text at (some (n, c)) → Left whole text from (f n) c
   left-numbered w f {at} L t = record { same = L .same ∙ numbered-step w f (drop at text) ∙ rw (t .same); there = omega (arith, L .there, t .moved .0) }
 
-  pub left-no-numbered : (w : List ℕ) (f : ℕ → Get B) {at : ℕ} → Left whole text from (number largestNumber ▷ λ n. after w (f n)) at → Told (numberedOf w) text at none → Told whole text from none
+  pub left-no-numbered : (w : List ℕ) (f : ℕ → Get B) {at : ℕ} → Left whole text from (numberGet largestNumber ▷ λ n. after w (f n)) at → Told (numberedOf w) text at none → Told whole text from none
   left-no-numbered w f {at} L t = record { same = L .same ∙ numbered-step w f (drop at text) ∙ rw (t .same); moved = tt }
 
   pub left-give : {b : B} {at : ℕ} → from < at → at ≤ length text → Left whole text from (give b) at → Told whole text from (some (b, at))

@@ -12,7 +12,7 @@ use Rattle.pictures.specs.declared.sizes.Kind.{Kind}
 use Rattle.pictures.specs.declared.sizes.Kind.the-variants.{Grey}
 use Rattle.pictures.specs.Numbers.{largestNumber}
 use Rattle.text_theory.specs.Readers.{give, on, strip}
-use Rattle.text_theory.specs.Decimal.{isDigit, further, upTo, number}
+use Rattle.text_theory.specs.Decimal.{isDigit, further, upTo, numberGet}
 use Rattle.text_theory.specs.Files.{greyWord, rgbWord, either, kindGet}
 use Rattle.text_theory.proofs.Decimals.{digit-true}
 use Rattle.text_theory.proofs.Pairs.{front}
@@ -27,19 +27,19 @@ kind-other : (b : ℕ) (s : List ℕ) → (b ≡ 103 → ⊥) → (b ≡ 114 →
 unfolding kindGet greyWord rgbWord strip
 kind-other b s p q = rw (ne-eqb 103 b (λ e. p (sym e)), ne-eqb 114 b (λ e. q (sym e)))
 
-number-nil : (limit : ℕ) → number limit [] ≡ none
-unfolding number
+number-nil : (limit : ℕ) → numberGet limit [] ≡ none
+unfolding numberGet
 number-nil limit = refl
 
-number-other : (limit b : ℕ) (s : List ℕ) → isDigit b ≡ false → number limit (b ∷ s) ≡ none
-unfolding number
+number-other : (limit b : ℕ) (s : List ℕ) → isDigit b ≡ false → numberGet limit (b ∷ s) ≡ none
+unfolding numberGet
 number-other limit b s h = rw h
 
 kind-digit : (b : ℕ) (s : List ℕ) → isDigit b ≡ true → kindGet (b ∷ s) ≡ none
 kind-digit b s h = let d = digit-true b h in kind-other b s (λ e. omega arith) (λ e. omega arith)
 
 -- What is a number is no name.
-number-kind : (s : List ℕ) (r : ℕ × List ℕ) → number largestNumber s ≡ some r → kindGet s ≡ none
+number-kind : (s : List ℕ) (r : ℕ × List ℕ) → numberGet largestNumber s ≡ some r → kindGet s ≡ none
 number-kind [] r h = kind-nil
 number-kind (b ∷ s) r h = go (isDigit b) refl
   where
@@ -48,8 +48,8 @@ number-kind (b ∷ s) r h = go (isDigit b) refl
     go false e = absurd (Option·none-ne-some _ (sym (number-other largestNumber b s e) ∙ h))
 
 -- A smaller limit.
-number-limit : (limit : ℕ) → limit ≤ largestNumber → (s : List ℕ) → number limit s ≡ on (number largestNumber s) (λ n. cond (ltb limit n) (λ t. none) (give n))
-unfolding number upTo
+number-limit : (limit : ℕ) → limit ≤ largestNumber → (s : List ℕ) → numberGet limit s ≡ on (numberGet largestNumber s) (λ n. cond (ltb limit n) (λ t. none) (give n))
+unfolding numberGet upTo
 number-limit limit l [] = refl
 number-limit limit l (b ∷ s) = go (isDigit b) (eqb b 48)
   where
@@ -86,27 +86,27 @@ same-tag : (v w : Written) (s t : List ℕ) → _≡_ {A = Option (Written × Li
 same-tag v w s t h = ap (λ (r : Written × List ℕ). tag (r .0)) (Option·some-injective (v, s) (w, t) h)
 
 module _ (s : List ℕ) where
-  word-numeral : (n : ℕ) (t : List ℕ) → word s ≡ some (numeral n, t) → number largestNumber s ≡ some (n, t)
+  word-numeral : (n : ℕ) (t : List ℕ) → word s ≡ some (numeral n, t) → numberGet largestNumber s ≡ some (n, t)
   unfolding word
-  word-numeral n t h = go (number largestNumber s) (kindGet s) h
+  word-numeral n t h = go (numberGet largestNumber s) (kindGet s) h
     where
       go : (o : Option (ℕ × List ℕ)) (k : Option (Kind × List ℕ)) → either-word o k ≡ some (numeral n, t) → o ≡ some (n, t)
       go none none h = absurd (Option·none-ne-some _ h)
       go none (some q) h = absurd (let z = same-tag (name (q .0)) (numeral n) (q .1) t h in omega arith)
       go (some r) k h = ap (λ (q : Written × List ℕ). some (number-in (q .0), q .1)) (Option·some-injective (numeral (r .0), r .1) (numeral n, t) h)
 
-  word-name : (k : Kind) (t : List ℕ) → word s ≡ some (name k, t) → (number largestNumber s ≡ none) × (kindGet s ≡ some (k, t))
+  word-name : (k : Kind) (t : List ℕ) → word s ≡ some (name k, t) → (numberGet largestNumber s ≡ none) × (kindGet s ≡ some (k, t))
   unfolding word
-  word-name k t h = go (number largestNumber s) (kindGet s) h
+  word-name k t h = go (numberGet largestNumber s) (kindGet s) h
     where
       go : (o : Option (ℕ × List ℕ)) (p : Option (Kind × List ℕ)) → either-word o p ≡ some (name k, t) → (o ≡ none) × (p ≡ some (k, t))
       go none none h = absurd (Option·none-ne-some _ h)
       go none (some q) h = (refl, ap (λ (q : Written × List ℕ). some (kind-in (q .0), q .1)) (Option·some-injective (name (q .0), q .1) (name k, t) h))
       go (some r) p h = absurd (let z = same-tag (numeral (r .0)) (name k) (r .1) t h in omega arith)
 
-  word-none : word s ≡ none → (number largestNumber s ≡ none) × (kindGet s ≡ none)
+  word-none : word s ≡ none → (numberGet largestNumber s ≡ none) × (kindGet s ≡ none)
   unfolding word
-  word-none h = go (number largestNumber s) (kindGet s) h
+  word-none h = go (numberGet largestNumber s) (kindGet s) h
     where
       go : (o : Option (ℕ × List ℕ)) (k : Option (Kind × List ℕ)) → either-word o k ≡ none → (o ≡ none) × (k ≡ none)
       go none none h = (refl, refl)
@@ -118,12 +118,12 @@ module _ {text : List ℕ} {at : ℕ} where
   unfolding word
   told-word-end h = record { same = rw (drop-of-length-le text h, number-nil, kind-nil); moved = tt }
 
-  pub told-word-number : {n c : ℕ} → Told (number largestNumber) text at (some (n, c)) → Told word text at (some (numeral n, c))
+  pub told-word-number : {n c : ℕ} → Told (numberGet largestNumber) text at (some (n, c)) → Told word text at (some (numeral n, c))
   unfolding word
   told-word-number t = record { same = rw (t .same); moved = t .moved }
 
   module _ (h : at < length text) where
-    pub told-word-no-number : isDigit (getD text at 0) ≡ true → Told (number largestNumber) text at none → Told word text at none
+    pub told-word-no-number : isDigit (getD text at 0) ≡ true → Told (numberGet largestNumber) text at none → Told word text at none
     unfolding word
     told-word-no-number d t = record { same = rw (t .same, front text at h, kind-digit (getD text at 0) (drop (at + 1) text) d); moved = tt }
 
@@ -143,16 +143,16 @@ module _ {text : List ℕ} {at : ℕ} where
     told-word-other d p q = told-word-no-name d (record { same = rw (front text at h, kind-other (getD text at 0) (drop (at + 1) text) p q); moved = tt })
 
   module _ (limit : ℕ) (l : limit ≤ largestNumber) where
-    pub told-number : {n c : ℕ} → Told word text at (some (numeral n, c)) → n ≤ limit → Told (number limit) text at (some (n, c))
+    pub told-number : {n c : ℕ} → Told word text at (some (numeral n, c)) → n ≤ limit → Told (numberGet limit) text at (some (n, c))
     told-number {n} {c} t h = record { same = rw (number-limit limit l (drop at text), word-numeral (drop at text) n (drop c text) (t .same), le-ltb limit n h); moved = t .moved }
 
-    pub told-number-over : {n c : ℕ} → Told word text at (some (numeral n, c)) → limit < n → Told (number limit) text at none
+    pub told-number-over : {n c : ℕ} → Told word text at (some (numeral n, c)) → limit < n → Told (numberGet limit) text at none
     told-number-over {n} {c} t h = record { same = rw (number-limit limit l (drop at text), word-numeral (drop at text) n (drop c text) (t .same), lt-ltb limit n h); moved = tt }
 
-    pub told-number-name : {k : Kind} {c : ℕ} → Told word text at (some (name k, c)) → Told (number limit) text at none
+    pub told-number-name : {k : Kind} {c : ℕ} → Told word text at (some (name k, c)) → Told (numberGet limit) text at none
     told-number-name {k} {c} t = record { same = rw (number-limit limit l (drop at text), word-name (drop at text) k (drop c text) (t .same) .0); moved = tt }
 
-    pub told-number-none : Told word text at none → Told (number limit) text at none
+    pub told-number-none : Told word text at none → Told (numberGet limit) text at none
     told-number-none t = record { same = rw (number-limit limit l (drop at text), word-none (drop at text) (t .same) .0); moved = tt }
 
   pub told-kind : {k : Kind} {c : ℕ} → Told word text at (some (name k, c)) → Told kindGet text at (some (k, c))

@@ -11,8 +11,8 @@ use Rattle.pictures.specs.declared.sizes.Kind.the-variants.{Rgb}
 use Rattle.pictures.specs.Numbers.{largestNumber}
 use Rattle.text_theory.specs.declared.Head.{Head}
 use Rattle.text_theory.specs.Readers.{Get, give, _▷_, after}
-use Rattle.text_theory.specs.Decimal.{number, isDigit}
-use Rattle.text_theory.specs.Files.{lineEnd, either, kindGet, items, pixel}
+use Rattle.text_theory.specs.Decimal.{numberGet, isDigit}
+use Rattle.text_theory.specs.Files.{lineEnd, either, kindGet, items, pixelGet}
 use Rattle.text_read.specs.declared.cursor.Class.{Class}
 use Rattle.text_read.specs.declared.cursor.Class.the-variants.{Digit, Letter, Opening, Closing, Blank, LineEnd, Other}
 use Rattle.text_read.specs.declared.cursor.Read.{Read}
@@ -36,9 +36,9 @@ classOf b =
     (cond (eqb b 32) Blank (cond (eqb b 10) LineEnd Other)))))
 
 -- A value and the place after it, read as a value and the bytes from that place on.
-abbrev pub given : {A : Type 0} → List ℕ → Option (A × ℕ) → Option (A × List ℕ)
-given text none = none
-given text (some r) = some (r .0, drop (r .1) text)
+abbrev pub readOn : {A : Type 0} → List ℕ → Option (A × ℕ) → Option (A × List ℕ)
+readOn text none = none
+readOn text (some r) = some (r .0, drop (r .1) text)
 
 -- The place moves on, and stays in the text.
 abbrev pub ahead : {A : Type 0} → ℕ → ℕ → Option (A × ℕ) → Type 0
@@ -47,7 +47,7 @@ ahead len at (some r) = (at < r .1) × (r .1 ≤ len)
 
 -- What is found at the place `at` of the text is what the reader gives there, and "the place where reading goes on".
 pub record Told {A : Type 0} (get : Get A) (text : List ℕ) (at : ℕ) (found : Option (A × ℕ)) : Type 0 where
-  pub same : get (drop at text) ≡ given text found
+  pub same : get (drop at text) ≡ readOn text found
   pub moved : ahead (length text) at found
 
 -- Answers of the code.
@@ -66,7 +66,7 @@ pub data Written : Type 0 where
 
 -- "Reading a word gives the word and the place where reading goes on."
 unfoldable pub word : Get Written
-word s = either ((number largestNumber ▷ λ n. give (numeral n)) s) ((kindGet ▷ λ k. give (name k)) s)
+word s = either ((numberGet largestNumber ▷ λ n. give (numeral n)) s) ((kindGet ▷ λ k. give (name k)) s)
 
 abbrev pub wordRead : Word → Option (Written × ℕ)
 wordRead (words.Number n c) = some (numeral n, c .at)
@@ -85,14 +85,14 @@ counted g = g ▷ λ xs. give (length xs)
 -- "A form is an opening bracket, words or further forms, a closing bracket": an item, and the items up to the closing
 -- bracket, counted.
 unfoldable pub itemOf : Items → Get ℕ
-itemOf Samples = number 255
-itemOf Pixels = counted (pixel Rgb)
-itemOf Numbers = number largestNumber
+itemOf Samples = numberGet 255
+itemOf Pixels = counted (pixelGet Rgb)
+itemOf Numbers = numberGet largestNumber
 
 unfoldable pub formOf : Items → Get ℕ
-formOf Samples = counted (items (number 255))
-formOf Pixels = counted (items (pixel Rgb))
-formOf Numbers = counted (items (number largestNumber))
+formOf Samples = counted (items (numberGet 255))
+formOf Pixels = counted (items (pixelGet Rgb))
+formOf Numbers = counted (items (numberGet largestNumber))
 
 -- The items of a line, the closing bracket, the line end.
 unfoldable pub lineRest : Items → Get ℕ

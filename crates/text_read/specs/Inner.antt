@@ -8,7 +8,7 @@ use lib.Dec.{ltb}
 use lib.ListN.{length, drop}
 use Rattle.pictures.specs.Numbers.{largestNumber}
 use Rattle.text_theory.specs.Readers.{Get, give, _▷_, after}
-use Rattle.text_theory.specs.Decimal.{number, isDigit}
+use Rattle.text_theory.specs.Decimal.{numberGet, isDigit}
 
 -- n at the place, if the limit admits it.
 abbrev pub within : ℕ → ℕ → ℕ → Option (ℕ × ℕ)
@@ -20,7 +20,7 @@ passing w = after w (give 0)
 
 -- A number and the bytes after it.
 unfoldable pub numberedOf : List ℕ → Get ℕ
-numberedOf w = number largestNumber ▷ λ n. after w (give n)
+numberedOf w = numberGet largestNumber ▷ λ n. after w (give n)
 
 -- The bytes from the first digit on.
 unfoldable pub skipped : List ℕ → List ℕ
@@ -29,7 +29,7 @@ skipped (b ∷ s) = cond (isDigit b) (b ∷ s) (skipped s)
 
 -- The next number, whatever stands before it; and the next n numbers.
 unfoldable pub figure : Get ℕ
-figure s = number largestNumber (skipped s)
+figure s = numberGet largestNumber (skipped s)
 
 abbrev pub also : Option (ℕ × List ℕ) → (List ℕ → List ℕ) → List ℕ
 also none f = []

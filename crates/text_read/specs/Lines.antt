@@ -10,16 +10,16 @@ use Rattle.grids.specs.Rows.{flat}
 use Rattle.pictures.specs.declared.sizes.Kind.{Kind}
 use Rattle.pictures.specs.Numbers.{largestNumber}
 use Rattle.text_theory.specs.Readers.{Get, give, _▷_, after}
-use Rattle.text_theory.specs.Decimal.{number}
-use Rattle.text_theory.specs.Files.{rowWord, mapWord, pixel, line}
+use Rattle.text_theory.specs.Decimal.{numberGet}
+use Rattle.text_theory.specs.Files.{rowWord, mapWord, pixelGet, line}
 use Rattle.text_read.specs.Answers.{Told, counted}
 
 -- A row line's samples, and a map line's numbers.
 unfoldable pub rowLine : Kind → Get (List ℕ)
-rowLine k = after rowWord (line (pixel k) ▷ λ row. give (flat row))
+rowLine k = after rowWord (line (pixelGet k) ▷ λ row. give (flat row))
 
 unfoldable pub mapLine : Get (List ℕ)
-mapLine = after mapWord (line (number largestNumber))
+mapLine = after mapWord (line (numberGet largestNumber))
 
 -- What a reader gives, if it has at most n values.
 unfoldable pub fitting : ℕ → Get (List ℕ) → Get (List ℕ)

@@ -4,7 +4,7 @@ ghost use mathlib.Core.Path.{_≡_};
 ghost use Prim.Native.Nat.{_-_, _≤_, _<_};
 ghost use lib.ListN.{length};
 ghost use Rattle.pictures.specs.Numbers.{largestNumber};
-ghost use Rattle.text_theory.specs.Decimal.{number};
+ghost use Rattle.text_theory.specs.Decimal.{numberGet};
 ghost use Rattle.text_read.specs.Answers.{Told, read, classOf, skipping};
 ghost use Rattle.text_read.specs.Inner.{passing, within};
 
@@ -64,7 +64,7 @@ fn judged(n: usize, at: usize) -> Read
 impl Cursor {
     // A number without leading zeros, up to the largest. It is too large as soon as its first digits are.
     pub fn digits(self, text: &[u8]) -> Read
-        ensures { λ r. ⌜ Told (number largestNumber) (now (text .entry)) (self .at) (read r) ⌝ }
+        ensures { λ r. ⌜ Told (numberGet largestNumber) (now (text .entry)) (self .at) (read r) ⌝ }
     {
         let start = self.at;
         if text.len() <= start {

@@ -8,7 +8,7 @@ use pictures::numbers::LARGEST_NUMBER;
 ghost use Prim.Native.Nat.{_≤_, _<_};
 ghost use lib.ListN.{length};
 ghost use Rattle.pictures.specs.Numbers.{largestNumber};
-ghost use Rattle.text_theory.specs.Decimal.{number};
+ghost use Rattle.text_theory.specs.Decimal.{numberGet};
 ghost use Rattle.text_theory.specs.Files.{kindGet};
 ghost use Rattle.text_read.specs.Answers.{Told, read, word, wordRead, kindRead};
 ghost use Rattle.text_read.specs.Inner.{numberedOf};
@@ -66,9 +66,9 @@ impl Cursor {
     }
 
     // A word that is a number up to the limit.
-    pub(crate) fn number(self, text: &[u8], limit: usize) -> Read
+    pub(crate) fn numberGet(self, text: &[u8], limit: usize) -> Read
         requires { ⌜ limit ≤ largestNumber ⌝ }
-        ensures { λ r. ⌜ Told (number limit) (now (text .entry)) (self .at) (read r) ⌝ }
+        ensures { λ r. ⌜ Told (numberGet limit) (now (text .entry)) (self .at) (read r) ⌝ }
     {
         match self.word(text) {
             Word::Number(n, c) => {

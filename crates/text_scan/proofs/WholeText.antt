@@ -10,9 +10,9 @@ use Rattle.pictures.specs.Numbers.{largestNumber}
 use Rattle.text_rules.specs.declared.Items.{Items}
 use Rattle.text_rules.specs.declared.Items.the-variants.{Numbers}
 use Rattle.text_theory.specs.Readers.{Get, give, on, _▷_, strip, onward, after, manyUpTo, many}
-use Rattle.text_theory.specs.Decimal.{number}
+use Rattle.text_theory.specs.Decimal.{numberGet}
 use Rattle.text_theory.specs.declared.Head.{Head}
-use Rattle.text_theory.specs.Files.{Parts, closed, rowWord, mapWord, pixel, line, headGet, file, ended, whole, parse}
+use Rattle.text_theory.specs.Files.{Parts, closed, rowWord, mapWord, pixelGet, line, headGet, file, ended, whole, parse}
 use Rattle.text_scan.specs.declared.Facts.{Facts}
 use Rattle.text_read.specs.Answers.{Told, lineRest}
 use Rattle.text_scan.specs.Facts.{evenly, factsOf, factsIn}
@@ -54,15 +54,15 @@ scan-file s = go (headGet s)
 
     rows-step : (h : Head) (o : Option (List (List (List ℕ)) × List ℕ))
         → on (on o (tallyAll (h .size .width))) (λ r. linesOf mapWord Numbers (h .size .width) ▷ λ m. after closed (give (record { head = h; rows = r .0; maps = m .0; full = r .1 && m .1 })))
-        ≡ on (on o (λ rows. many mapWord (line (number largestNumber)) ▷ λ maps. after closed (give (record { head = h; rows = rows; maps = maps })))) (λ p. give (factsOf p))
+        ≡ on (on o (λ rows. many mapWord (line (numberGet largestNumber)) ▷ λ maps. after closed (give (record { head = h; rows = rows; maps = maps })))) (λ p. give (factsOf p))
     rows-step h none = refl
-    rows-step h (some r) = rw (lines-read mapWord Numbers (line (number largestNumber)) (h .size .width) rest-map (r .1)) (maps-step h (r .0) (many mapWord (line (number largestNumber)) (r .1)))
+    rows-step h (some r) = rw (lines-read mapWord Numbers (line (numberGet largestNumber)) (h .size .width) rest-map (r .1)) (maps-step h (r .0) (many mapWord (line (numberGet largestNumber)) (r .1)))
 
     go : (o : Option (Head × List ℕ))
         → on o (λ h. linesOf rowWord (itemsOf (h .size .kind)) (h .size .width) ▷ λ r. linesOf mapWord Numbers (h .size .width) ▷ λ m. after closed (give (record { head = h; rows = r .0; maps = m .0; full = r .1 && m .1 })))
-        ≡ on (on o (λ h. many rowWord (line (pixel (h .size .kind))) ▷ λ rows. many mapWord (line (number largestNumber)) ▷ λ maps. after closed (give (record { head = h; rows = rows; maps = maps })))) (λ p. give (factsOf p))
+        ≡ on (on o (λ h. many rowWord (line (pixelGet (h .size .kind))) ▷ λ rows. many mapWord (line (numberGet largestNumber)) ▷ λ maps. after closed (give (record { head = h; rows = rows; maps = maps })))) (λ p. give (factsOf p))
     go none = refl
-    go (some r) = rw (lines-read rowWord (itemsOf (r .0 .size .kind)) (line (pixel (r .0 .size .kind))) (r .0 .size .width) (rest-row (r .0 .size .kind)) (r .1)) (rows-step (r .0) (many rowWord (line (pixel (r .0 .size .kind))) (r .1)))
+    go (some r) = rw (lines-read rowWord (itemsOf (r .0 .size .kind)) (line (pixelGet (r .0 .size .kind))) (r .0 .size .width) (rest-row (r .0 .size .kind)) (r .1)) (rows-step (r .0) (many rowWord (line (pixelGet (r .0 .size .kind))) (r .1)))
 
 factsOf-parse : (s : List ℕ) → factsIn (parse s) ≡ whole (scanOf s)
 unfolding parse whole

@@ -10,20 +10,20 @@ use Rattle.text_theory.specs.Files.{closed, rowWord, mapWord, headGet}
 use Rattle.text_rules.specs.declared.Items.{Items}
 use Rattle.text_rules.specs.declared.Items.the-variants.{Numbers}
 use Rattle.text_rules.specs.Items.{itemsOf}
-use Rattle.text_read.specs.Answers.{given, lineRest}
+use Rattle.text_read.specs.Answers.{readOn, lineRest}
 use Rattle.text_scan.specs.declared.Facts.{Facts}
 use Rattle.text_scan.specs.declared.Lines.{Lines}
 use Rattle.text_scan.specs.declared.Lines.the-variants.{Counted, Torn}
 use Rattle.text_scan.specs.Facts.{evenly}
 
 -- Told, where the place may stay.
-abbrev pub stays : {A : Type 0} → ℕ → ℕ → Option (A × ℕ) → Type 0
-stays len at none = Unit
-stays len at (some r) = (at ≤ r .1) × (r .1 ≤ len)
+abbrev pub staysFull : {A : Type 0} → ℕ → ℕ → Option (A × ℕ) → Type 0
+staysFull len at none = Unit
+staysFull len at (some r) = (at ≤ r .1) × (r .1 ≤ len)
 
 pub record Reached {A : Type 0} (get : Get A) (text : List ℕ) (at : ℕ) (found : Option (A × ℕ)) : Type 0 where
-  pub same : get (drop at text) ≡ given text found
-  pub moved : stays (length text) at found
+  pub same : get (drop at text) ≡ readOn text found
+  pub moved : staysFull (length text) at found
 
 -- How many lines begin with the word, and whether all have as many items as the width says.
 unfoldable pub linesOf : List ℕ → Items → ℕ → Get (ℕ × Bool)

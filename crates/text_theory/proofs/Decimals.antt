@@ -1,4 +1,4 @@
--- Decimal numbers: `number` reads what `digits` prints.
+-- Decimal numbers: `numberGet` reads what `digits` prints.
 use mathlib.Core.Path.{_≡_, refl, ap, _∙_}
 use mathlib.Core.Bool.{Bool, true, false, _&&_, cond}
 use mathlib.Core.Option.{none, some, Option·none-ne-some}
@@ -10,7 +10,7 @@ use lib.Arith.{digits-div, digits-mod}
 use lib.Dec.{leb, ltb, eqb}
 use lib.ListN.{length, length-append}
 use borrow.Author.Tests.{ltb-true, ltb-false, lt-ltb, le-ltb, leb-true, le-leb, eqb-true, eqb-false, ne-eqb}
-use Rattle.text_theory.specs.Decimal.{digitsUpTo, digits, isDigit, further, upTo, number}
+use Rattle.text_theory.specs.Decimal.{digitsUpTo, digits, isDigit, further, upTo, numberGet}
 use Rattle.text_theory.proofs.Pairs.{Reads}
 
 -- A number's digits end here.
@@ -90,17 +90,17 @@ further-sound (b ∷ s) n p = go (isDigit b) refl (further-sound s (n * 10 + (b 
         rw (← f (omega arith), digits-step n (b - 48) p (omega arith), append-assoc, c)
     go false e f = refl
 
-pub number-digit : (limit b : ℕ) (s : List ℕ) → isDigit b ≡ true → 48 < b → number limit (b ∷ s) ≡ upTo limit (further (b - 48) s)
-unfolding number
+pub number-digit : (limit b : ℕ) (s : List ℕ) → isDigit b ≡ true → 48 < b → numberGet limit (b ∷ s) ≡ upTo limit (further (b - 48) s)
+unfolding numberGet
 number-digit limit b s h p = rw (h, ne-eqb b 48 (λ e. omega arith))
 
-read-digits : (limit k n : ℕ) (t : List ℕ) → n < k → 0 < n → number limit (digitsUpTo k n ++ t) ≡ upTo limit (further n t)
+read-digits : (limit k n : ℕ) (t : List ℕ) → n < k → 0 < n → numberGet limit (digitsUpTo k n ++ t) ≡ upTo limit (further n t)
 unfolding digitsUpTo
 read-digits limit zero n t p q = absurd (omega arith)
 read-digits limit (suc k) n t p q = go (ltb n 10) refl (read-digits limit k (n / 10) ((48 + n % 10) ∷ t))
   where
-    go : (x : Bool) → ltb n 10 ≡ x → (n / 10 < k → 0 < n / 10 → number limit (digitsUpTo k (n / 10) ++ (48 + n % 10) ∷ t) ≡ upTo limit (further (n / 10) ((48 + n % 10) ∷ t)))
-        → number limit (cond x ((48 + n) ∷ []) (digitsUpTo k (n / 10) ++ (48 + n % 10) ∷ []) ++ t) ≡ upTo limit (further n t)
+    go : (x : Bool) → ltb n 10 ≡ x → (n / 10 < k → 0 < n / 10 → numberGet limit (digitsUpTo k (n / 10) ++ (48 + n % 10) ∷ t) ≡ upTo limit (further (n / 10) ((48 + n % 10) ∷ t)))
+        → numberGet limit (cond x ((48 + n) ∷ []) (digitsUpTo k (n / 10) ++ (48 + n % 10) ∷ []) ++ t) ≡ upTo limit (further n t)
     go true e f =
         let l = ltb-true n 10 e in
         let c : 48 + n - 48 ≡ n = omega arith in
@@ -113,13 +113,13 @@ read-digits limit (suc k) n t p q = go (ltb n 10) refl (read-digits limit k (n /
         rw append-assoc (f (omega arith) (tenth-pos n h) ∙ ap (upTo limit) (further-step (n / 10) (48 + n % 10) t (is-digit (48 + n % 10) (omega arith) (omega arith)) ∙ rw c))
 
 module _ (limit : ℕ) where
-  number-back : (n : ℕ) → n ≤ limit → (t : List ℕ) → clear t → number limit (digits n ++ t) ≡ some (n, t)
-  unfolding digits upTo number digitsUpTo isDigit
+  number-back : (n : ℕ) → n ≤ limit → (t : List ℕ) → clear t → numberGet limit (digits n ++ t) ≡ some (n, t)
+  unfolding digits upTo numberGet digitsUpTo isDigit
   number-back zero h t c = refl
   number-back (suc n) h t c = read-digits limit (suc (suc n)) (suc n) t (omega arith) (omega arith) ∙ rw (further-clear (suc n) t c, le-leb (suc n) limit h)
 
-  number-sound : (s : List ℕ) (r : ℕ × List ℕ) → number limit s ≡ some r → (s ≡ digits (r .0) ++ (r .1)) × (r .0 ≤ limit)
-  unfolding number upTo
+  number-sound : (s : List ℕ) (r : ℕ × List ℕ) → numberGet limit s ≡ some r → (s ≡ digits (r .0) ++ (r .1)) × (r .0 ≤ limit)
+  unfolding numberGet upTo
   number-sound [] r h = absurd (Option·none-ne-some _ h)
   number-sound (b ∷ s) r h = go (isDigit b) (eqb b 48) refl refl h
     where
@@ -139,5 +139,5 @@ module _ (limit : ℕ) where
       go true false e f h = last _ e (eqb-false b 48 f) refl h
       go false y e f h = absurd (Option·none-ne-some _ h)
 
-  pub number-reads : Reads (λ n. n ≤ limit) digits clear (number limit)
+  pub number-reads : Reads (λ n. n ≤ limit) digits clear (numberGet limit)
   number-reads = record { back = number-back; sound = number-sound }

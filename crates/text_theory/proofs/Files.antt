@@ -9,13 +9,13 @@ use lib.Dec.{eqb}
 use lib.ListN.{length}
 use borrow.Author.Tests.{eqb-true, eq-eqb}
 use Rattle.text_theory.specs.Readers.{Get, give, _▷_, strip, after, many}
-use Rattle.text_theory.specs.Decimal.{digits, isDigit, number}
+use Rattle.text_theory.specs.Decimal.{digits, isDigit, numberGet}
 use Rattle.grids.proofs.Shapes.{Any}
 use Rattle.pictures.specs.declared.sizes.Kind.{Kind}
 use Rattle.pictures.specs.declared.sizes.Kind.the-variants.{Grey, Rgb}
 use Rattle.pictures.specs.Numbers.{largestNumber}
 use Rattle.text_theory.specs.declared.Head.{Head}
-use Rattle.text_theory.specs.Files.{Parts, lineEnd, blank, opening, closing, start, range, closed, rowWord, mapWord, greyWord, rgbWord, each, joined, kindText, pixelText, lineText, headText, text, either, kindGet, items, three, pixel, line, headGet, file, ended, whole, parse, All, Pixel, Numbers, Within}
+use Rattle.text_theory.specs.Files.{Parts, lineEnd, blank, opening, closing, start, range, closed, rowWord, mapWord, greyWord, rgbWord, each, joined, kindText, pixelText, lineText, headText, text, either, kindGet, items, three, pixelGet, line, headGet, file, ended, whole, parse, All, Pixel, Numbers, Within}
 use Rattle.text_theory.proofs.Pairs.{Reads, strip-back, on-inv, after-inv, Sounds, give-sounds, after-sounds, then-sounds, soundly}
 use Rattle.text_theory.proofs.Many.{many-reads}
 use Rattle.text_theory.proofs.Decimals.{clear, number-reads}
@@ -55,7 +55,7 @@ pub clear-closing : (t : List ℕ) → clear (closing ++ t)
 unfolding closing isDigit
 clear-closing t = refl
 
-samples-reads : Reads (All (λ (a : ℕ). a ≤ 255)) (λ xs. each blank digits xs ++ closing) Any (items (number 255))
+samples-reads : Reads (All (λ (a : ℕ). a ≤ 255)) (λ xs. each blank digits xs ++ closing) Any (items (numberGet 255))
 samples-reads = items-reads (number-reads 255) clear-blank clear-closing
 
 three-inv : (a : ℕ) (xs s : List ℕ) (r : List ℕ × List ℕ) → three a xs s ≡ some r → (length xs ≡ 2) × (r ≡ (a ∷ xs, s))
@@ -74,39 +74,39 @@ clear-items (a ∷ xs) t = refl
 group : (a b c d t : List ℕ) → (a ++ ((b ++ c) ++ d)) ++ t ≡ a ++ (b ++ ((c ++ d) ++ t))
 group a b c d t = simp append-assoc
 
-grey-back : (px : List ℕ) → Pixel Grey px → (t : List ℕ) → clear t → pixel Grey (pixelText Grey px ++ t) ≡ some (px, t)
-unfolding pixel pixelText joined each
+grey-back : (px : List ℕ) → Pixel Grey px → (t : List ℕ) → clear t → pixelGet Grey (pixelText Grey px ++ t) ≡ some (px, t)
+unfolding pixelGet pixelText joined each
 grey-back [] h t c = let z = h .count in absurd (omega arith)
 grey-back (a ∷ []) h t c = rw (append-assoc, number-reads 255 .back a (h .small .0) t c)
 grey-back (a ∷ b ∷ px) h t c = let z = h .count in absurd (omega arith)
 
-grey-sound : (s : List ℕ) (r : List ℕ × List ℕ) → pixel Grey s ≡ some r → (s ≡ pixelText Grey (r .0) ++ (r .1)) × Pixel Grey (r .0)
-unfolding pixel pixelText joined each
+grey-sound : (s : List ℕ) (r : List ℕ × List ℕ) → pixelGet Grey s ≡ some r → (s ≡ pixelText Grey (r .0) ++ (r .1)) × Pixel Grey (r .0)
+unfolding pixelGet pixelText joined each
 grey-sound s r h =
-    let p = on-inv (number 255 s) (λ a. give (a ∷ [])) r h in
+    let p = on-inv (numberGet 255 s) (λ a. give (a ∷ [])) r h in
     let m = number-reads 255 .sound s (p .0) (p .1) in
     let z : r ≡ (p .0 .0 ∷ [], p .0 .1) = cc (p .2) in
     rw z (rw append-assoc (m .0), record { count = refl; small = (m .1, tt) })
 
-rgb-back : (px : List ℕ) → Pixel Rgb px → (t : List ℕ) → clear t → pixel Rgb (pixelText Rgb px ++ t) ≡ some (px, t)
-unfolding pixel pixelText joined three
+rgb-back : (px : List ℕ) → Pixel Rgb px → (t : List ℕ) → clear t → pixelGet Rgb (pixelText Rgb px ++ t) ≡ some (px, t)
+unfolding pixelGet pixelText joined three
 rgb-back [] h t c = let z = h .count in absurd (omega arith)
 rgb-back (a ∷ px) h t c =
     let z = h .count in
     rw (group, strip-back, number-reads 255 .back a (h .small .0) ((each blank digits px ++ closing) ++ t) (clear-items px t), samples-reads .back px (h .small .1) t tt, eq-eqb (length px) 2 (omega arith))
 
-rgb-sound : (s : List ℕ) (r : List ℕ × List ℕ) → pixel Rgb s ≡ some r → (s ≡ pixelText Rgb (r .0) ++ (r .1)) × Pixel Rgb (r .0)
-unfolding pixel pixelText joined
+rgb-sound : (s : List ℕ) (r : List ℕ × List ℕ) → pixelGet Rgb s ≡ some r → (s ≡ pixelText Rgb (r .0) ++ (r .1)) × Pixel Rgb (r .0)
+unfolding pixelGet pixelText joined
 rgb-sound s r h =
-    let o = after-inv opening (number 255 ▷ λ a. items (number 255) ▷ λ xs. three a xs) s r h in
-    let p = on-inv (number 255 (o .0)) (λ a. items (number 255) ▷ λ xs. three a xs) r (o .2) in
-    let q = on-inv (items (number 255) (p .0 .1)) (λ xs. three (p .0 .0) xs) r (p .2) in
+    let o = after-inv opening (numberGet 255 ▷ λ a. items (numberGet 255) ▷ λ xs. three a xs) s r h in
+    let p = on-inv (numberGet 255 (o .0)) (λ a. items (numberGet 255) ▷ λ xs. three a xs) r (o .2) in
+    let q = on-inv (items (numberGet 255) (p .0 .1)) (λ xs. three (p .0 .0) xs) r (p .2) in
     let n = three-inv (p .0 .0) (q .0 .0) (q .0 .1) r (q .2) in
     let l = number-reads 255 .sound (o .0) (p .0) (p .1) in
     let m = samples-reads .sound (p .0 .1) (q .0) (q .1) in
     rw (n .1) (rw group (cc (o .1, l .0, m .0)), record { count = ap suc (n .0); small = (l .1, m .1) })
 
-pub pixel-reads : (k : Kind) → Reads (Pixel k) (pixelText k) clear (pixel k)
+pub pixel-reads : (k : Kind) → Reads (Pixel k) (pixelText k) clear (pixelGet k)
 pixel-reads Grey = record { back = grey-back; sound = grey-sound }
 pixel-reads Rgb = record { back = rgb-back; sound = rgb-sound }
 
@@ -134,11 +134,11 @@ kind-sound = either-sound kindText Grey Rgb
 pub kind-reads : Reads (λ k. Unit) kindText Any kindGet
 kind-reads = record { back = λ k u t v. kind-back k t; sound = λ s r h. (kind-sound s r h, tt) }
 
-pub rows-reads : (k : Kind) → Reads (All (All (Pixel k))) (each rowWord (lineText (pixelText k))) (λ t. (strip rowWord t ≡ none) × Unit) (many rowWord (line (pixel k)))
+pub rows-reads : (k : Kind) → Reads (All (All (Pixel k))) (each rowWord (lineText (pixelText k))) (λ t. (strip rowWord t ≡ none) × Unit) (many rowWord (line (pixelGet k)))
 unfolding rowWord
 rows-reads k = many-reads (line-reads (pixel-reads k) clear-blank clear-closing) rowWord (omega arith) (λ t. tt)
 
-pub maps-reads : Reads (All (All (λ (a : ℕ). a ≤ largestNumber))) (each mapWord (lineText digits)) (λ t. (strip mapWord t ≡ none) × Unit) (many mapWord (line (number largestNumber)))
+pub maps-reads : Reads (All (All (λ (a : ℕ). a ≤ largestNumber))) (each mapWord (lineText digits)) (λ t. (strip mapWord t ≡ none) × Unit) (many mapWord (line (numberGet largestNumber)))
 unfolding mapWord
 maps-reads = many-reads (line-reads (number-reads largestNumber) clear-blank clear-closing) mapWord (omega arith) (λ t. tt)
 

@@ -26,6 +26,6 @@ unfoldable pub upTo : ℕ → ℕ × List ℕ → Option (ℕ × List ℕ)
 upTo limit r = cond (leb (r .0) limit) (some r) none
 
 -- A number up to the limit. A 0 stands alone: digits after it are no part of the number.
-unfoldable pub number : ℕ → Get ℕ
-number limit [] = none
-number limit (b ∷ s) = cond (isDigit b) (cond (eqb b 48) (some (0, s)) (upTo limit (further (b - 48) s))) none
+unfoldable pub numberGet : ℕ → Get ℕ
+numberGet limit [] = none
+numberGet limit (b ∷ s) = cond (isDigit b) (cond (eqb b 48) (some (0, s)) (upTo limit (further (b - 48) s))) none

@@ -12,7 +12,7 @@ use Rattle.pictures.specs.Pictures.{Picture, channelsOf}
 use Rattle.pictures.specs.Numbers.{largestNumber}
 use Rattle.text_theory.specs.declared.Head.{Head}
 use Rattle.text_theory.specs.Readers.{Get, give, _▷_, after, many}
-use Rattle.text_theory.specs.Decimal.{digits, number}
+use Rattle.text_theory.specs.Decimal.{digits, numberGet}
 
 -- What a file holds: "size: width, height, kind. Range: depth, growth. Then n rows of samples and n rows of map." The
 -- numbers of rows, of pixels in a row and of numbers in a map row are not judged here.
@@ -118,24 +118,24 @@ unfoldable pub three : ℕ → List ℕ → Get (List ℕ)
 three a xs = cond (eqb (length xs) 2) (give (a ∷ xs)) (λ s. none)
 
 -- A pixel: a sample, or three samples in brackets.
-unfoldable pub pixel : Kind → Get (List ℕ)
-pixel Grey = number 255 ▷ λ a. give (a ∷ [])
-pixel Rgb = after opening (number 255 ▷ λ a. items (number 255) ▷ λ xs. three a xs)
+unfoldable pub pixelGet : Kind → Get (List ℕ)
+pixelGet Grey = numberGet 255 ▷ λ a. give (a ∷ [])
+pixelGet Rgb = after opening (numberGet 255 ▷ λ a. items (numberGet 255) ▷ λ xs. three a xs)
 
 unfoldable pub line : {A : Type 0} → Get A → Get (List A)
 line g = items g ▷ λ xs. after lineEnd (give xs)
 
 unfoldable pub headGet : Get Head
 headGet =
-    after start (number largestNumber ▷ λ w. after blank (number largestNumber ▷ λ h. after blank (kindGet ▷ λ k.
-    after range (number largestNumber ▷ λ d. after blank (number largestNumber ▷ λ g. after closed (
+    after start (numberGet largestNumber ▷ λ w. after blank (numberGet largestNumber ▷ λ h. after blank (kindGet ▷ λ k.
+    after range (numberGet largestNumber ▷ λ d. after blank (numberGet largestNumber ▷ λ g. after closed (
     give (record { size = record { width = w; height = h; kind = k }; depth = d; growth = g })))))))
 
 unfoldable pub file : Get Parts
 file =
     headGet ▷ λ h.
-    many rowWord (line (pixel (h .size .kind))) ▷ λ rows.
-    many mapWord (line (number largestNumber)) ▷ λ maps.
+    many rowWord (line (pixelGet (h .size .kind))) ▷ λ rows.
+    many mapWord (line (numberGet largestNumber)) ▷ λ maps.
     after closed (give (record { head = h; rows = rows; maps = maps }))
 
 -- "nothing after the last"

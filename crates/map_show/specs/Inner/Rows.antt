@@ -18,15 +18,15 @@ pixelsAt numbers v =
     cond (leb v (length numbers)) (length numbers - doubledIn (length numbers - v) numbers) (length numbers + doubledIn (v - length numbers) numbers)
 
 -- The pixels of a row's bytes, as many as there are numbers.
-abbrev pub pixels : Kind → List ℕ → List ℕ → List (List ℕ)
-pixels k samples numbers = rowsOf (channelsOf k) (length numbers) samples
+abbrev pub pixelsIn : Kind → List ℕ → List ℕ → List (List ℕ)
+pixelsIn k samples numbers = rowsOf (channelsOf k) (length numbers) samples
 
 -- The bytes of a row with t columns less, and with u columns more.
-unfoldable pub kept : Kind → List ℕ → List ℕ → ℕ → List ℕ
-kept k samples numbers t = flat (keepRow (stays t) (pixels k samples numbers) numbers)
+unfoldable pub keptPixels : Kind → List ℕ → List ℕ → ℕ → List ℕ
+keptPixels k samples numbers t = flat (keepRow (stays t) (pixelsIn k samples numbers) numbers)
 
 unfoldable pub grown : Kind → List ℕ → List ℕ → ℕ → List ℕ
-grown k samples numbers u = flat (growRow average u (pixels k samples numbers) numbers)
+grown k samples numbers u = flat (growRow average u (pixelsIn k samples numbers) numbers)
 
 -- A row's bytes, and room for what is shown of it.
 pub record RowNeeded (k : Kind) (samples numbers shown out : List ℕ) : Type 0 where

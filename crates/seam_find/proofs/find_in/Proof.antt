@@ -19,7 +19,7 @@ use Rattle.pictures.proofs.Limits.{Sized, sides-are, sized-of, sized-served}
 use Rattle.seam_bounds.proofs.Spaces.{Rooms, rooms-are}
 use Rattle.seam_theory.specs.PictureSeams.{seamOf, costOf}
 use Rattle.seam_sums.specs.Fences.{fence32}
-use Rattle.seam_find.specs.Finding.{findRules}
+use Rattle.seam_find.specs.Finding.{findInRules}
 use Rattle.seam_find.specs.Tracing.{columnsTo}
 use Rattle.seam_find.specs.Inner.Down.{costsOf}
 use Rattle.seam_find.specs.Inner.Sums.{sumsDown, waysUp}
@@ -44,7 +44,7 @@ space c = now (start c .args .space)
 abbrev seam : tie.After-picture-bytes → List ℕ
 seam c = now (start c .args .seam)
 
-none : (c : tie.After-picture-bytes) → refusal (findRules (size c) (length (space c)) (length (seam c))) ≡ 0
+none : (c : tie.After-picture-bytes) → refusal (findInRules (size c) (length (space c)) (length (seam c))) ≡ 0
 none c = sym (c .before .before .before .judge-find-in .ensures) ∙ ap given (c .before .enum-told .given .1)
 
 rooms : (c : tie.After-picture-bytes) → Rooms (size c) false (length (space c)) (length (seam c))

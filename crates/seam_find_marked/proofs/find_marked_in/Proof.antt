@@ -21,7 +21,7 @@ use Rattle.pictures.proofs.Rules.{refusal-most, number-some, served-first, refu
 use Rattle.pictures.proofs.Limits.{Sized, sides-are, sized-of, sized-served}
 use Rattle.seam_theory.specs.PictureSeams.{markedUp, markedSeamOf, markedCostOf, isNone}
 use Rattle.seam_rules.specs.Answers.{foundNumber}
-use Rattle.seam_bounds.specs.Spaces.{spaceRules}
+use Rattle.seam_bounds.specs.Spaces.{findSpaceRules}
 use Rattle.seam_bounds.proofs.Spaces.{Rooms, rooms-are}
 use Rattle.seam_sums.specs.Least.{leastTo}
 use Rattle.seam_sums.specs.Weights.{kept, protected}
@@ -64,13 +64,13 @@ space c = now (start c .args .space)
 abbrev seam : tie.After-picture-bytes → List ℕ
 seam c = now (start c .args .seam)
 
-none : (c : tie.After-picture-bytes) → refusal (spaceRules (size c) true (length (space c)) (length (seam c))) ≡ 0
+none : (c : tie.After-picture-bytes) → refusal (findSpaceRules (size c) true (length (space c)) (length (seam c))) ≡ 0
 none c = sym (c .before .before .before .judge-find-in .ensures) ∙ ap given (c .before .enum-told .given .1)
 
 -- then 12 decides
 last-rule : (c : tie.After-picture-bytes)
-    → refusal (spaceRules (size c) true (length (space c)) (length (seam c)) ++ (12 when blocked (start c) ∷ [])) ≡ cond (blocked (start c)) 12 0
-last-rule c = served-first (spaceRules (size c) true (length (space c)) (length (seam c))) (12 when blocked (start c) ∷ []) refl (none c)
+    → refusal (findSpaceRules (size c) true (length (space c)) (length (seam c)) ++ (12 when blocked (start c) ∷ [])) ≡ cond (blocked (start c)) 12 0
+last-rule c = served-first (findSpaceRules (size c) true (length (space c)) (length (seam c))) (12 when blocked (start c) ∷ []) refl (none c)
 
 rooms : (c : tie.After-picture-bytes) → Rooms (size c) true (length (space c)) (length (seam c))
 rooms c = rooms-are (size c) true (length (space c)) (length (seam c)) (none c)
@@ -178,8 +178,8 @@ returns c =
     let seam = now (s .args .seam) in
     let why = c .before .allowed .given in
     let told = at-judge .judge-find-in .ensures in
-    let rules = spaceRules z true (length space) (length seam) in
-    let n : numberOf (why .0 .0) ≡ refusal (spaceRules z true (length space) (length seam)) = sym (ap given (why .1)) ∙ told in
+    let rules = findSpaceRules z true (length space) (length seam) in
+    let n : numberOf (why .0 .0) ≡ refusal (findSpaceRules z true (length space) (length seam)) = sym (ap given (why .1)) ∙ told in
     record {
       number = sym (ap given (why .1)) ∙ refused-answer (at-judge .judge-find-in .result) (why .0 .0) (why .1) rules (12 when blocked s ∷ []) told;
       cost = kept-by (why .0 .0) (markedCostOf (z .width) (z .height) (pictureIn z space) (marksIn z space)) 0;

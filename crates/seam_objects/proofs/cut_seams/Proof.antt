@@ -11,7 +11,7 @@ use denote.Ref.{now}
 use lib.ListN.{length}
 use lib.Seq.{length-take-le}
 use Rattle.seam_rules.proofs.Choices.{GoesOn, step-cut}
-use Rattle.seam_objects.specs.Objects.{toRemove, carved}
+use Rattle.seam_objects.specs.Objects.{toRemove, afterCuts}
 use Rattle.seam_objects.specs.Removing.{markedPicture}
 use Rattle.seam_objects.proofs.Seams.{Going, going-start, going-marks, going-room, going-less, going-needed, going-ended, going-blocked, going-on}
 use Rattle.seam_objects.proofs.cut_seams.Statement.{statement}
@@ -40,7 +40,7 @@ few h =
     mul-le-mul (g .sides .height-small) w
 
 -- whether a mark 2 was found
-found : (c : tie.After-some-two Inv-loop μ-loop) → let h = c .before .before in let a = start h .args in c .some-two .result ≡ toRemove (carved (h .loop .count) (markedPicture (a .size) (now (a .picture)) (now (a .marks))))
+found : (c : tie.After-some-two Inv-loop μ-loop) → let h = c .before .before in let a = start h .args in c .some-two .result ≡ toRemove (afterCuts (h .loop .count) (markedPicture (a .size) (now (a .picture)) (now (a .marks))))
 found c =
     let h = c .before .before in
     let a = start h .args in
@@ -53,7 +53,7 @@ on c =
     let h = p .before .before .before in
     step-cut (p .before .some-two .result) (h .loop .width) (h .loop .count) (start h .args .budget) (sym (p .next-step .ensures) ∙ c .enum-told .given .1)
 
-two : (c : tie.After-enum-told Inv-loop μ-loop) → let h = c .before .before .before .before .before in let a = start h .args in true ≡ toRemove (carved (h .loop .count) (markedPicture (a .size) (now (a .picture)) (now (a .marks))))
+two : (c : tie.After-enum-told Inv-loop μ-loop) → let h = c .before .before .before .before .before in let a = start h .args in true ≡ toRemove (afterCuts (h .loop .count) (markedPicture (a .size) (now (a .picture)) (now (a .marks))))
 two c = sym (on c .some) ∙ found (c .before .before .before)
 
 loop-holds : tie.Need-loop-holds Inv-loop μ-loop

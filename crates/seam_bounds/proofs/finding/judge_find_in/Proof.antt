@@ -14,7 +14,7 @@ use Rattle.pictures.specs.Refusals.{Rule, _when_, given, refusal}
 use Rattle.pictures.specs.Pictures.{sideRules, pictureBytes, pixels}
 use Rattle.pictures.proofs.Rules.{served-first, refused-answer}
 use Rattle.pictures.proofs.Limits.{Sides, sides-are, given-out}
-use Rattle.seam_bounds.specs.Spaces.{bytesAfter, spaceRules}
+use Rattle.seam_bounds.specs.Spaces.{bytesAfter, findSpaceRules}
 use Rattle.seam_bounds.proofs.finding.judge_find_in.Statement.{statement}
 use Rattle.seam_bounds.proofs.finding.judge_find_in.Tie as tie
 
@@ -30,7 +30,7 @@ sure c = sides-are _ (none c)
 
 rest : (c : tie.After-enum-told)
     → let s = c .before .before .before in
-    refusal (spaceRules (s .args .size) (s .args .marked) (s .args .space) (s .args .seam)) ≡ refusal (more s)
+    refusal (findSpaceRules (s .args .size) (s .args .marked) (s .args .space) (s .args .seam)) ≡ refusal (more s)
 rest c = let s = c .before .before .before in served-first (sideRules (s .args .size)) (more s) refl (none c)
 
 few : (c : tie.After-enum-told) → pixels (c .before .before .before .args .size) ≤ mostPixels

@@ -20,7 +20,7 @@ use Rattle.pictures.proofs.Rules.{served-first, refused-first, refusal-most, nu
 use Rattle.pictures.proofs.Limits.{sides-are, sized-served}
 use Rattle.seam_theory.specs.PictureSeams.{seamOf, costOf}
 use Rattle.seam_rules.specs.Answers.{foundNumber, foundCost}
-use Rattle.seam_find.specs.Finding.{findRules}
+use Rattle.seam_find.specs.Finding.{findInRules}
 use Rattle.seam_find.proofs.Worked.{worked-not}
 use Rattle.seam_close.specs.Closing.{CloseGiven}
 use Rattle.seam_close.proofs.Served.{close-served}
@@ -146,10 +146,10 @@ returns c =
     let space = now (a .space) in
     let seam = now (a .seam) in
     let p = pictureIn z space in
-    let rules = findRules z (length space) (length seam) in
+    let rules = findInRules z (length space) (length seam) in
     let g = at-last-in .last-in .ensures in
     let narrow : eqb (a .size .width) 1 ≡ true = sym (at-if1 .before .takes-last .ensures) ∙ at-if1 .if1 .taken in
-    let n = refusal (findRules z (length space) (length seam) ++ (13 when true ∷ [])) in
+    let n = refusal (findInRules z (length space) (length seam) ++ (13 when true ∷ [])) in
     let some = last-some z (length space) (length seam) in
     let rest = replicate (pixels z) 0 ++ drop (pictureBytes z + pixels z) space in
     let closed = bytes (cut (seamOf (z .width) (z .height) p) p) ++ replicate (z .height * channelsOf (z .kind)) 0 in
@@ -185,16 +185,16 @@ returns-2 c =
     let space = now (a .space) in
     let room = now (a .seam) in
     let p = pictureIn z space in
-    let rules = findRules z (length space) (length room) in
+    let rules = findInRules z (length space) (length room) in
     let f = at-find-in .find-in in
     let why = c .enum-told2 .given in
-    let m = refusal (findRules z (length space) (length room)) in
-    let n = refusal (findRules z (length space) (length room) ++ (13 when eqb (z .width) 1 ∷ [])) in
-    let told : numberOf (why .0 .0) ≡ refusal (findRules z (length space) (length room)) = sym (ap foundNumber (why .1)) ∙ f .ensures .number in
-    let some : 0 < refusal (findRules z (length space) (length room)) = omega (arith, number-some (why .0 .0), told) in
-    let e : refusal (findRules z (length space) (length room) ++ (13 when eqb (z .width) 1 ∷ [])) ≡ refusal (findRules z (length space) (length room)) = refused-first rules (13 when eqb (z .width) 1 ∷ []) some in
+    let m = refusal (findInRules z (length space) (length room)) in
+    let n = refusal (findInRules z (length space) (length room) ++ (13 when eqb (z .width) 1 ∷ [])) in
+    let told : numberOf (why .0 .0) ≡ refusal (findInRules z (length space) (length room)) = sym (ap foundNumber (why .1)) ∙ f .ensures .number in
+    let some : 0 < refusal (findInRules z (length space) (length room)) = omega (arith, number-some (why .0 .0), told) in
+    let e : refusal (findInRules z (length space) (length room) ++ (13 when eqb (z .width) 1 ∷ [])) ≡ refusal (findInRules z (length space) (length room)) = refused-first rules (13 when eqb (z .width) 1 ∷ []) some in
     let left = take (pictureBytes z) space ++ (replicate (pixels z) 0 ++ drop (pictureBytes z + pixels z) space) in
-    let number : foundNumber (f .result) ≡ refusal (findRules z (length space) (length room)) = f .ensures .number in
+    let number : foundNumber (f .result) ≡ refusal (findInRules z (length space) (length room)) = f .ensures .number in
     rw e
     (record {
       number-is = f .ensures .number;
@@ -255,7 +255,7 @@ returns-3 c =
     let some : eqb (a .size .width) 1 ≡ false = sym (at-if1 .before .takes-last .ensures) ∙ at-if1 .if1 .left in
     let two = eqb-false _ _ some in
     let wide : 1 < a .size .width = more-than-one (a .size .width) (sides-are (a .size) (rooms told .sides) .width-some) two in
-    let none = served-first (findRules z (length space) (length room)) (13 when eqb (z .width) 1 ∷ []) refl (sym (f .ensures .number) ∙ there told .number) ∙ ap (λ t. refusal (13 when t ∷ [])) some in
+    let none = served-first (findInRules z (length space) (length room)) (13 when eqb (z .width) 1 ∷ []) refl (sym (f .ensures .number) ∙ there told .number) ∙ ap (λ t. refusal (13 when t ∷ [])) some in
     let k = at-close-up .close-up in
     let back : CloseGiven (take (pictureBytes z) space) z (seam told) (k .result) (k .last .0) = rw (lent-front at, lent-seam told) at (k .ensures) in
     let closed = close-served (take (pictureBytes z) space) z (seam told) (k .last .0) (k .result) back (rw (front-long at) (sized-served z (rooms told .sides))) (inside told) wide in

@@ -13,7 +13,7 @@ use Rattle.pictures.specs.Refusals.{_when_, numberOf, refusal}
 use Rattle.pictures.specs.Pictures.{largestSide, pictureBytes, pixels}
 use Rattle.pictures.proofs.Rules.{served-first, refused-first, refusal-most, number-some, served-not}
 use Rattle.seam_rules.specs.Answers.{foundNumber, foundCost}
-use Rattle.seam_find.specs.Finding.{findRules}
+use Rattle.seam_find.specs.Finding.{findInRules}
 use Rattle.seam_find.proofs.Worked.{worked-not}
 use Rattle.seam_cut.proofs.Fronts.{room-same}
 use Rattle.seam_cut.proofs.front.last_in.Statement.{statement}
@@ -35,14 +35,14 @@ lent c = length-take-le (c .before .if1 .long) (replicate {A = ℕ} largestSide 
 -- so finding is refused by the same number
 number-is : (c : tie.After-find-in)
     → let s = c .before .before .before .before .before in
-    let a = s .args in foundNumber (c .find-in .result) ≡ refusal (findRules (a .size) (length (now (a .space))) (a .room))
+    let a = s .args in foundNumber (c .find-in .result) ≡ refusal (findInRules (a .size) (length (now (a .space))) (a .room))
 number-is c =
     let at-find-in-arg = c .before .before in
     let at-if1 = at-find-in-arg .before in
     let s = at-if1 .before .before in
     let a = s .args in
     c .find-in .ensures .number
-    ∙ ap (λ k. refusal (findRules (a .size) (length (now (a .space))) k)) (lent at-find-in-arg)
+    ∙ ap (λ k. refusal (findInRules (a .size) (length (now (a .space))) k)) (lent at-find-in-arg)
     ∙ room-same (a .size) (length (now (a .space))) (at-if1 .if1 .long) (a .room) (long at-find-in-arg)
 
 array-borrow-prefix-spare : tie.Need-array-borrow-prefix-spare
@@ -71,10 +71,10 @@ returns c =
     let z = a .size in
     let space = now (a .space) in
     let why = c .enum-told2 .given in
-    let rules = findRules z (length space) (a .room) in
+    let rules = findInRules z (length space) (a .room) in
     let left = take (pictureBytes z) space ++ (replicate (pixels z) 0 ++ drop (pictureBytes z + pixels z) space) in
     let n : foundNumber (f .find-in .result) ≡ numberOf (why .0 .0) = ap foundNumber (why .1) in
-    let some : 0 < refusal (findRules (a .size) (length (now (a .space))) (a .room)) = omega (arith, number-some (why .0 .0), n, number-is f) in
+    let some : 0 < refusal (findInRules (a .size) (length (now (a .space))) (a .room)) = omega (arith, number-some (why .0 .0), n, number-is f) in
     record {
       number-is = number-is f ∙ sym (refused-first rules (13 when true ∷ []) some);
       cost-is = ap foundCost (why .1);
@@ -95,7 +95,7 @@ returns-2 c =
     let seam = c .enum-told .given in
     let none : foundNumber (f .find-in .result) ≡ 0 = ap foundNumber (seam .1) in
     record {
-      number-is = sym (served-first (findRules (a .size) (length (now (a .space))) (a .room)) (13 when true ∷ []) refl (sym (number-is f) ∙ none));
+      number-is = sym (served-first (findInRules (a .size) (length (now (a .space))) (a .room)) (13 when true ∷ []) refl (sym (number-is f) ∙ none));
       cost-is = refl;
       space-is = rw none at (f .find-in .ensures .space-left);
     }
