@@ -66,7 +66,7 @@ impl Cursor {
     }
 
     // A word that is a number up to the limit.
-    pub(crate) fn numberGet(self, text: &[u8], limit: usize) -> Read
+    pub(crate) fn number(self, text: &[u8], limit: usize) -> Read
         requires { ⌜ limit ≤ largestNumber ⌝ }
         ensures { λ r. ⌜ Told (numberGet limit) (now (text .entry)) (self .at) (read r) ⌝ }
     {
