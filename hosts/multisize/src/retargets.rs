@@ -23,8 +23,11 @@ pub struct Retargeted {
 }
 
 impl Carver {
-    /// The picture with `rows` rows and `columns` columns less, in the cheapest
-    /// order that the table of cells finds.
+    /// The picture with `rows` rows and `columns` columns less. For every smaller
+    /// number of rows and columns one picture is kept, and the next comes from the one
+    /// with a row more or the one with a column more, by the cheapest seam of each:
+    /// the smaller total is chosen, on a tie the vertical cut. Orders that leave the
+    /// pictures kept aren't tried.
     ///
     /// # Errors
     ///
