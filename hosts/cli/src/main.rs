@@ -5,7 +5,6 @@ mod colours;
 mod commands;
 mod failure;
 mod places;
-mod png;
 mod progress;
 mod table;
 mod words;

@@ -1,8 +1,7 @@
 //! Where bytes come from and go to: files, standard input, standard output.
 
 use crate::failure::Failure;
-use crate::png;
-use multisize::{netpbm, Head, Picture, Refusal};
+use multisize::{netpbm, png, Head, Picture, Refusal};
 use std::ffi::OsString;
 use std::fs::{self, File};
 use std::io::{self, Read, Write};
