@@ -35,5 +35,5 @@ pub use files::{Contents, Head, Range, LONGEST_FILE};
 pub use objects::{Ending, PLAIN, PROTECTED, REMOVE};
 pub use picture::{Kind, Picture, Size, LARGEST_SIDE};
 pub use refusal::Refusal;
-pub use retargets::{Columns, Retargeted, Rows};
+pub use retargets::{Columns, Retargeted, Rows, LARGEST_COUNT};
 pub use seams::{Axis, Seam};

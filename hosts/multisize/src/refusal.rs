@@ -144,8 +144,10 @@ mod tests {
     }
 
     #[test]
-    fn words_name_the_limit() {
+    fn words_name_the_limits() {
         let limit = crate::LARGEST_SIDE.to_string();
         assert!(Refusal::Large.meaning().ends_with(&limit));
+        let count = crate::LARGEST_COUNT.to_string();
+        assert!(Refusal::Wanted.meaning().ends_with(&count));
     }
 }

@@ -5,6 +5,9 @@ use crate::carver::Carver;
 use crate::picture::{Picture, Size};
 use crate::refusal::Refusal;
 
+/// The most rows, and the most columns, that a retarget removes.
+pub const LARGEST_COUNT: usize = 64;
+
 /// A count of rows to remove.
 #[derive(Clone, Copy, Debug, PartialEq, Eq)]
 pub struct Rows(pub usize);
@@ -32,7 +35,7 @@ impl Carver {
     /// # Errors
     ///
     /// Refused by 3 for a picture wider than [`LARGEST_SIDE`](crate::LARGEST_SIDE), and by 7 where either count is
-    /// over 64 or no row or column would be left.
+    /// over [`LARGEST_COUNT`] or no row or column would be left.
     ///
     /// ```
     /// use multisize::{Carver, Columns, Picture, Rows, Size};

@@ -1,0 +1,157 @@
+//! Formats of pictures by their first bytes, and how other programs turn them into
+//! what is read.
+
+use multisize::LARGEST_SIDE;
+use std::env;
+use std::ffi::{OsStr, OsString};
+
+/// A format that isn't read.
+pub struct Format {
+    pub name: &'static str,
+    /// The program that turns it into Netpbm, and what it wants after the file's name.
+    program: &'static str,
+    options: &'static str,
+}
+
+/// Where bytes stand that tell a format, these bytes, its name, and the program.
+type Sign = (usize, &'static [u8], &'static str, &'static str);
+
+const SIGNS: [Sign; 19] = [
+    (0, b"\x89PNG\r\n\x1a\n", "PNG", "pngtopnm"),
+    (0, b"\xff\xd8\xff", "JPEG", "jpegtopnm"),
+    (0, b"GIF8", "GIF", "giftopnm"),
+    (0, b"BM", "BMP", "bmptopnm"),
+    (0, b"II*\0", "TIFF", "tifftopnm"),
+    (0, b"MM\0*", "TIFF", "tifftopnm"),
+    (8, b"WEBP", "WebP", "dwebp"),
+    (4, b"ftypavif", "AVIF", "magick"),
+    (4, b"ftyphei", "HEIF", "magick"),
+    (4, b"ftypmif1", "HEIF", "magick"),
+    (0, b"\xff\x0a", "JPEG XL", "magick"),
+    (4, b"JXL \r\n", "JPEG XL", "magick"),
+    (0, b"%PDF", "PDF", "magick"),
+    (0, b"<svg", "SVG", "magick"),
+    (0, b"P1", "Netpbm of another sort (P1)", "pamdepth 255"),
+    (0, b"P2", "Netpbm of another sort (P2)", "pamdepth 255"),
+    (0, b"P3", "Netpbm of another sort (P3)", "pamdepth 255"),
+    (0, b"P4", "Netpbm of another sort (P4)", "pamdepth 255"),
+    (0, b"P7", "Netpbm of another sort (P7)", "pamtopnm"),
+];
+
+/// Netpbm that is read but for its header: most often its samples go past 255.
+pub const DEEP: Format = Format {
+    name: "Netpbm",
+    program: "pamdepth 255",
+    options: "",
+};
+
+/// The format of bytes, where their start tells it.
+pub fn of(bytes: &[u8]) -> Option<Format> {
+    let told = |sign: &&Sign| {
+        bytes
+            .get(sign.0..)
+            .is_some_and(|rest| rest.starts_with(sign.1))
+    };
+    let (_, _, name, program) = *SIGNS.iter().find(told)?;
+    let options = match program {
+        "dwebp" => " -ppm -o -",
+        "magick" => " ppm:-",
+        _ => "",
+    };
+    Some(Format {
+        name,
+        program,
+        options,
+    })
+}
+
+impl Format {
+    /// The pipe that does the same with a file of this format: another program reads
+    /// it, and it is made small enough.
+    pub fn pipe(&self, file: &OsStr) -> String {
+        let Format {
+            program, options, ..
+        } = self;
+        let name = file_word(file, !options.is_empty());
+        format!(
+            "{program}{name}{options} | {}",
+            smaller(OsStr::new("-"), file)
+        )
+    }
+}
+
+/// The pipe that makes a Netpbm picture small enough and does the same with it.
+pub fn smaller(picture: &OsStr, file: &OsStr) -> String {
+    let name = file_word(picture, false);
+    let again = again(env::args_os().skip(1).collect(), file);
+    format!("pamscale -xyfit {LARGEST_SIDE} {LARGEST_SIDE}{name} | multisize {again}")
+}
+
+/// A file's name as a further word. For standard input there is none, unless the
+/// program needs one.
+fn file_word(file: &OsStr, needed: bool) -> String {
+    if file == "-" && !needed {
+        return String::new();
+    }
+    format!(" {}", quoted(file))
+}
+
+/// The words of a command with standard input in the place of a file.
+fn again(words: Vec<OsString>, file: &OsStr) -> String {
+    let place = words.iter().position(|word| word == file);
+    let word = |(at, word): (usize, &OsString)| match place {
+        Some(place) if place == at => "-".to_string(),
+        _ => quoted(word),
+    };
+    let words: Vec<String> = words.iter().enumerate().map(word).collect();
+    words.join(" ")
+}
+
+/// A word as a shell takes it.
+fn quoted(word: &OsStr) -> String {
+    let text = word.to_string_lossy();
+    let plain = |byte: u8| byte.is_ascii_alphanumeric() || b"._/%=:,+-".contains(&byte);
+    if !text.is_empty() && text.bytes().all(plain) {
+        return text.into_owned();
+    }
+    format!("'{}'", text.replace('\'', "'\\''"))
+}
+
+#[cfg(test)]
+mod tests {
+    use super::*;
+
+    fn name(bytes: &[u8]) -> Option<&'static str> {
+        of(bytes).map(|format| format.name)
+    }
+
+    #[test]
+    fn first_bytes_tell_the_format() {
+        assert_eq!(name(b"\xff\xd8\xff\xe0\0\x10JFIF"), Some("JPEG"));
+        assert_eq!(name(b"RIFF\x10\0\0\0WEBPVP8 "), Some("WebP"));
+        assert_eq!(name(b"\0\0\0\x18ftypheic"), Some("HEIF"));
+        for unknown in [&b""[..], b"P5\n1 1\n255\n.", b"P", b"\x89PNG", b"(multi"] {
+            assert_eq!(name(unknown), None);
+        }
+    }
+
+    #[test]
+    fn words_are_quoted_for_a_shell() {
+        assert_eq!(quoted(OsStr::new("a/b-1.png")), "a/b-1.png");
+        assert_eq!(quoted(OsStr::new("my picture.png")), "'my picture.png'");
+        assert_eq!(quoted(OsStr::new("it's")), "'it'\\''s'");
+        assert_eq!(quoted(OsStr::new("")), "''");
+    }
+
+    #[test]
+    fn the_same_command_reads_standard_input() {
+        let words = ["carve", "a b.jpg", "60%", "-o", "out.png"].map(OsString::from);
+        let line = again(words.to_vec(), OsStr::new("a b.jpg"));
+        assert_eq!(line, "carve - 60% -o out.png");
+        let words = ["carve", "-", "300", "-o", "x.png"].map(OsString::from);
+        assert_eq!(
+            again(words.to_vec(), OsStr::new("-")),
+            "carve - 300 -o x.png"
+        );
+    }
+}
