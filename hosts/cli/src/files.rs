@@ -6,7 +6,8 @@ use crate::inputs::Input;
 use crate::outputs::{print, Output};
 use crate::progress::during;
 use crate::table;
-use multisize::{Carver, Contents, Head, Picture, Range, Refusal, Size};
+use multisize::{Axis, Carver, Contents, Head, Picture, Range, Refusal, Size};
+use std::cmp::Reverse;
 
 pub fn build(
     picture: &Input,
@@ -65,15 +66,53 @@ pub fn info(file: &Input, json: bool) -> Result<(), Failure> {
     print(text.as_bytes())
 }
 
-/// Shows a file at widths. All are made before the first is written, so that a refusal
-/// leaves nothing behind.
 pub fn show(file: &Input, shown: &[(usize, Output)]) -> Result<(), Failure> {
     let text = file.file()?;
     let mut carver = Carver::new();
-    let at_width = |(width, _): &(usize, Output)| at_width(file, &text, *width, &mut carver);
-    let pictures: Vec<Picture> = shown.iter().map(at_width).collect::<Result<_, _>>()?;
-    let mut places = shown.iter().zip(&pictures);
-    places.try_for_each(|((_, out), picture)| out.picture(picture))
+    match shown {
+        [(width, out)] => out.picture(&at_width(file, &text, *width, &mut carver)?),
+        _ => show_all(file, &text, shown, &mut carver),
+    }
+}
+
+/// Shows a file at several widths, the widest first. The file is checked once: the
+/// narrower pictures are cut, since a cut leaves what an accepted file shows at the
+/// next smaller width. Each wider one is shown by itself.
+fn show_all(
+    file: &Input,
+    text: &[u8],
+    shown: &[(usize, Output)],
+    carver: &mut Carver,
+) -> Result<(), Failure> {
+    let Contents {
+        mut picture, range, ..
+    } = read_text(file, text, carver)?;
+    let size = picture.size();
+    let head = Head { size, range };
+    let unoffered = |(width, _): &&(usize, Output)| !head.widths().contains(width);
+    if let Some((width, _)) = shown.iter().find(unoffered) {
+        return Err(file.unoffered(*width, Some(head)));
+    }
+    let mut places: Vec<&(usize, Output)> = shown.iter().collect();
+    places.sort_by_key(|(width, _)| Reverse(*width));
+    for (width, out) in places {
+        if *width > size.width {
+            out.picture(&at_width(file, text, *width, carver)?)?;
+            continue;
+        }
+        let cut = during("cutting", || cut_to(&mut picture, *width, carver));
+        cut.map_err(|refusal| file.refused(refusal))?;
+        out.picture(&picture)?;
+    }
+    Ok(())
+}
+
+/// Cuts seams until the picture has this width.
+fn cut_to(picture: &mut Picture, width: usize, carver: &mut Carver) -> Result<(), Refusal> {
+    while picture.size().width > width {
+        carver.cut(picture, Axis::Vertical)?;
+    }
+    Ok(())
 }
 
 fn at_width(
@@ -94,8 +133,11 @@ fn at_width(
 }
 
 fn read(file: &Input, carver: &mut Carver) -> Result<Contents, Failure> {
-    let text = file.file()?;
-    let read = during("checking", || carver.read(&text));
+    read_text(file, &file.file()?, carver)
+}
+
+fn read_text(file: &Input, text: &[u8], carver: &mut Carver) -> Result<Contents, Failure> {
+    let read = during("checking", || carver.read(text));
     read.map_err(|refusal| file.refused(refusal))
 }
 

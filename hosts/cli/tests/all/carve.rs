@@ -1,6 +1,6 @@
 //! Pictures carved in one step, read from PNG and Netpbm.
 
-use crate::helpers::{Folder, PICTURE};
+use crate::helpers::{Folder, FILE, PICTURE};
 use multisize::{netpbm, png, Picture, Size};
 
 /// A picture with slopes in both directions and some noise.
@@ -80,6 +80,39 @@ fn several_widths_are_shown_at_once() {
         "picture.multi",
         "picture.pgm",
     ];
+    assert_eq!(folder.names(), names);
+}
+
+/// Each of them is what showing that width alone gives, in whatever order they are
+/// asked.
+#[test]
+fn widths_shown_together_are_those_shown_alone() {
+    let folder = Folder::new("together");
+    folder.put("a.ppm", &netpbm::write(&slopes(20, 11)));
+    folder.served("build a.ppm -o a.multi");
+    let widths: Vec<String> = (1..=30).map(|at| (at * 7 % 31).to_string()).collect();
+    folder.served(&format!("show a.multi {} -o all-%w.ppm", widths.join(" ")));
+    for width in 1..=30 {
+        folder.served(&format!("show a.multi {width} -o one.ppm"));
+        assert_eq!(
+            folder.get(&format!("all-{width}.ppm")),
+            folder.get("one.ppm")
+        );
+    }
+}
+
+#[test]
+fn a_refused_file_is_shown_at_no_width() {
+    let folder = Folder::worked("refused-all");
+    let text = String::from_utf8(FILE.to_vec()).unwrap();
+    let wrong = text.replace("map 2 0 1", "map 1 0 2");
+    folder.put("wrong.multi", wrong.as_bytes());
+    let ran = folder.run("show wrong.multi 1 2 -o f-%w.pgm");
+    assert_eq!(ran.status, 1);
+    assert!(ran
+        .error
+        .starts_with("multisize: wrong.multi: refused (10): "));
+    let names = ["picture.multi", "picture.pgm", "wrong.multi"];
     assert_eq!(folder.names(), names);
 }
 
