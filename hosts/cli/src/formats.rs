@@ -5,7 +5,7 @@ use multisize::LARGEST_SIDE;
 use std::env;
 use std::ffi::{OsStr, OsString};
 
-/// A format that isn't read.
+/// A format that isn't read as it is.
 pub struct Format {
     pub name: &'static str,
     /// The program that turns it into Netpbm, and what it wants after the file's name.
@@ -38,13 +38,6 @@ const SIGNS: [Sign; 19] = [
     (0, b"P7", "Netpbm of another sort (P7)", "pamtopnm"),
 ];
 
-/// Netpbm that is read but for its header: most often its samples go past 255.
-pub const DEEP: Format = Format {
-    name: "Netpbm",
-    program: "pamdepth 255",
-    options: "",
-};
-
 /// The format of bytes, where their start tells it.
 pub fn of(bytes: &[u8]) -> Option<Format> {
     let told = |sign: &&Sign| {
@@ -66,25 +59,65 @@ pub fn of(bytes: &[u8]) -> Option<Format> {
 }
 
 impl Format {
-    /// The pipe that does the same with a file of this format: another program reads
-    /// it, and it is made small enough.
+    /// The pipe that does the same with a file of this format. Netpbm of another sort
+    /// keeps its size; anything else is made small enough.
     pub fn pipe(&self, file: &OsStr) -> String {
+        let steps = if self.name.starts_with("Netpbm") {
+            vec![]
+        } else {
+            vec![fitted()]
+        };
+        self.pipe_with(file, steps)
+    }
+
+    /// The pipe with these steps between the program that reads it and the command.
+    fn pipe_with(&self, file: &OsStr, steps: Vec<String>) -> String {
         let Format {
             program, options, ..
         } = self;
         let name = file_word(file, !options.is_empty());
-        format!(
-            "{program}{name}{options} | {}",
-            smaller(OsStr::new("-"), file)
-        )
+        let first = format!("{program}{name}{options}");
+        pipe([vec![first], steps].concat(), file)
     }
 }
 
-/// The pipe that makes a Netpbm picture small enough and does the same with it.
-pub fn smaller(picture: &OsStr, file: &OsStr) -> String {
-    let name = file_word(picture, false);
+/// PNG, for those that aren't read.
+const PNG: Format = Format {
+    name: "PNG",
+    program: "pngtopnm",
+    options: "",
+};
+
+/// The pipe for a PNG that is too large.
+pub fn smaller_png(file: &OsStr) -> String {
+    PNG.pipe(file)
+}
+
+/// The pipe for a PNG with 16 bits or transparency.
+pub fn plain_png(file: &OsStr) -> String {
+    PNG.pipe_with(file, vec![EIGHT_BITS.to_string()])
+}
+
+/// The pipe for a Netpbm picture that is too large.
+pub fn smaller(file: &OsStr) -> String {
+    pipe(vec![fitted() + &file_word(file, false)], file)
+}
+
+/// The pipe for a Netpbm picture whose samples go past 255.
+pub fn eight_bits(file: &OsStr) -> String {
+    pipe(vec![EIGHT_BITS.to_string() + &file_word(file, false)], file)
+}
+
+/// The step that makes a picture small enough, and the one that gives it 8 bits.
+fn fitted() -> String {
+    format!("pamscale -xyfit {LARGEST_SIDE} {LARGEST_SIDE}")
+}
+const EIGHT_BITS: &str = "pamdepth 255";
+
+/// These steps, and then the command with standard input in the place of the file.
+fn pipe(steps: Vec<String>, file: &OsStr) -> String {
     let again = again(env::args_os().skip(1).collect(), file);
-    format!("pamscale -xyfit {LARGEST_SIDE} {LARGEST_SIDE}{name} | multisize {again}")
+    format!("{} | multisize {again}", steps.join(" | "))
 }
 
 /// A file's name as a further word. For standard input there is none, unless the

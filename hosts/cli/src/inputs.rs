@@ -66,12 +66,15 @@ impl Input {
         if error == png::Error::Short && bytes.len() > LONGEST_FILE {
             return self.long();
         }
-        let pipe = || formats::of(bytes).map(|format| format.pipe(&self.0));
         let hint = match error {
             png::Error::Sides { .. } if error.refusal() == Refusal::Large => {
-                pipe().map(|pipe| format!("made smaller it is read: {pipe}"))
+                let pipe = formats::smaller_png(&self.0);
+                Some(format!("made smaller it is read: {pipe}"))
             }
-            png::Error::Unread(_) => pipe().map(|pipe| format!("without that it is read: {pipe}")),
+            png::Error::Unread(_) => {
+                let pipe = formats::plain_png(&self.0);
+                Some(format!("without that it is read: {pipe}"))
+            }
             _ => None,
         };
         self.because(error.refusal(), error.to_string(), hint)
@@ -86,7 +89,7 @@ impl Input {
         match refusal {
             Refusal::Large => {
                 let meaning = format!("{}; it is {width} by {height}", refusal.meaning());
-                let hint = formats::smaller(&self.0, &self.0);
+                let hint = formats::smaller(&self.0);
                 let hint = format!("made smaller it is read: {hint}");
                 self.because(refusal, meaning, Some(hint))
             }
@@ -117,7 +120,10 @@ impl Input {
             ),
             None if bytes.starts_with(b"P5") || bytes.starts_with(b"P6") => (
                 "its Netpbm header breaks its form, or its samples aren't up to 255".to_string(),
-                format!("this reads deeper samples: {}", formats::DEEP.pipe(&self.0)),
+                format!(
+                    "this reads deeper samples: {}",
+                    formats::eight_bits(&self.0)
+                ),
             ),
             None if bytes.starts_with(b"(multi") => (
                 "it is a multi-size file".to_string(),
@@ -132,9 +138,17 @@ impl Input {
         self.because(Refusal::Form, meaning, Some(hint))
     }
 
-    /// The failure of an operation on what stands there.
+    /// The failure of an operation on what stands there. Of a meaning with several parts
+    /// the one that a multi-size file has is said.
     pub fn refused(&self, refusal: Refusal) -> Failure {
-        self.because(refusal, refusal.meaning().to_string(), None)
+        let meaning = match refusal {
+            Refusal::Form => "the text breaks its form",
+            Refusal::Length => {
+                "the number of rows, samples or map numbers isn't what the size says"
+            }
+            _ => refusal.meaning(),
+        };
+        self.because(refusal, meaning.to_string(), None)
     }
 
     /// The failure with its cause in numbers.

@@ -59,8 +59,7 @@ fn what_is_no_picture_is_told() {
     assert_eq!(
         carved("deep.pgm"),
         "(1): its Netpbm header breaks its form, or its samples aren't up to 255; this reads \
-         deeper samples: pamdepth 255 deep.pgm | pamscale -xyfit 512 512 | \
-         multisize carve - 1 -o out.pgm"
+         deeper samples: pamdepth 255 deep.pgm | multisize carve - 1 -o out.pgm"
     );
     assert_eq!(
         carved("picture.multi"),
@@ -92,6 +91,40 @@ fn a_picture_over_the_limit_gets_its_size_and_a_pipe() {
         told(&folder, "carve wide.png 60% -o narrow.png", "wide.png"),
         "(3): the PNG is 4000 by 3000, and each side must be 1 to 512; made smaller it is read: \
          pngtopnm wide.png | pamscale -xyfit 512 512 | multisize carve - 60% -o narrow.png"
+    );
+}
+
+/// The head of a PNG with alpha, and a Netpbm bitmap: their pipes keep the size.
+#[test]
+fn what_only_needs_another_depth_keeps_its_size() {
+    let folder = Folder::new("depth");
+    let head = b"\0\0\0\x0dIHDR\0\0\0\x02\0\0\0\x01\x08\x06\0\0\0\xf4\x22\x7f\x8a";
+    folder.put("clear.png", &[png::SIGNATURE.as_slice(), head].concat());
+    assert_eq!(
+        told(&folder, "carve clear.png 1 -o a.png", "clear.png"),
+        "(1): a PNG with alpha isn't read; without that it is read: \
+         pngtopnm clear.png | pamdepth 255 | multisize carve - 1 -o a.png"
+    );
+    folder.put("map.pbm", b"P4\n8 1\n.");
+    assert_eq!(
+        told(&folder, "carve map.pbm 1 -o a.png", "map.pbm"),
+        "(1): it is Netpbm of another sort (P4), which isn't read as a picture; this reads it: \
+         pamdepth 255 map.pbm | multisize carve - 1 -o a.png"
+    );
+}
+
+#[test]
+fn a_file_gets_the_part_of_a_meaning_that_applies() {
+    let folder = Folder::worked("parts");
+    assert_eq!(
+        told(&folder, "check picture.pgm", "picture.pgm"),
+        "(1): the text breaks its form"
+    );
+    let text = String::from_utf8(FILE.to_vec()).unwrap();
+    folder.put("few.multi", text.replace("(row 10 50 40)\n", "").as_bytes());
+    assert_eq!(
+        told(&folder, "info few.multi", "few.multi"),
+        "(4): the number of rows, samples or map numbers isn't what the size says"
     );
 }
 

@@ -11,7 +11,7 @@ const FILTERS: [fn(u8, u8, u8) -> u8; 5] = [
     paeth,
 ];
 
-/// The rows of samples filtered, each behind the number of its filter.
+/// The rows of samples filtered, each after the number of its filter.
 pub fn filtered(samples: &[u8], row: usize, channels: usize) -> Vec<u8> {
     let mut lines = Vec::with_capacity(samples.len() + samples.len() / row);
     let mut above = vec![0; row];
@@ -24,7 +24,7 @@ pub fn filtered(samples: &[u8], row: usize, channels: usize) -> Vec<u8> {
     lines
 }
 
-/// The row through one filter, behind its number. Beyond the edge stand zeros.
+/// The row through one filter, after its number. Beyond the edge stand zeros.
 fn through(number: u8, line: &[u8], above: &[u8], channels: usize) -> Vec<u8> {
     let guess = FILTERS[usize::from(number)];
     let before = |row: &[u8], at: usize| at.checked_sub(channels).map_or(0, |at| row[at]);

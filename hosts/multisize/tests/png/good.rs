@@ -47,8 +47,7 @@ fn what_is_written_is_read() {
     }
 }
 
-/// The course picture as another encoder might have written it doesn't end at its
-/// last part.
+/// Some tools leave bytes after the last part.
 #[test]
 fn what_follows_the_last_part_is_left() {
     let sort = sorts()[0];
