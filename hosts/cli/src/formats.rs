@@ -4,6 +4,7 @@
 use multisize::LARGEST_SIDE;
 use std::env;
 use std::ffi::{OsStr, OsString};
+use std::os::unix::ffi::OsStrExt;
 
 /// A format that isn't read as it is.
 pub struct Format {
@@ -93,9 +94,11 @@ pub fn smaller_png(file: &OsStr) -> String {
     PNG.pipe(file)
 }
 
-/// The pipe for a PNG with 16 bits or transparency.
-pub fn plain_png(file: &OsStr) -> String {
-    PNG.pipe_with(file, vec![EIGHT_BITS.to_string()])
+/// The pipe for a PNG with 16 bits or transparency, and perhaps too large as well.
+pub fn plain_png(file: &OsStr, large: bool) -> String {
+    let mut steps = vec![EIGHT_BITS.to_string()];
+    steps.extend(large.then(fitted));
+    PNG.pipe_with(file, steps)
 }
 
 /// The pipe for a Netpbm picture that is too large.
@@ -129,14 +132,22 @@ fn file_word(file: &OsStr, needed: bool) -> String {
     format!(" {}", quoted(file))
 }
 
-/// The words of a command with standard input in the place of a file.
+/// The words of a command with standard input in the place of a file, which stands
+/// after the command's name, alone or after an option's `=`.
 fn again(words: Vec<OsString>, file: &OsStr) -> String {
-    let place = words.iter().position(|word| word == file);
-    let word = |(at, word): (usize, &OsString)| match place {
-        Some(place) if place == at => "-".to_string(),
-        _ => quoted(word),
+    let mut found = false;
+    let mut word = |(at, word): (usize, &OsString)| {
+        let option = word.as_bytes().strip_suffix(file.as_bytes());
+        let option = option.filter(|option| option.is_empty() || option.ends_with(b"="));
+        match option.filter(|_| at > 0 && !found) {
+            Some(option) => {
+                found = true;
+                format!("{}-", String::from_utf8_lossy(option))
+            }
+            None => quoted(word),
+        }
     };
-    let words: Vec<String> = words.iter().enumerate().map(word).collect();
+    let words: Vec<String> = words.iter().enumerate().map(&mut word).collect();
     words.join(" ")
 }
 
@@ -181,6 +192,12 @@ mod tests {
         let words = ["carve", "a b.jpg", "60%", "-o", "out.png"].map(OsString::from);
         let line = again(words.to_vec(), OsStr::new("a b.jpg"));
         assert_eq!(line, "carve - 60% -o out.png");
+        let words = ["remove", "a", "--take=b", "-o", "c"].map(OsString::from);
+        let line = again(words.to_vec(), OsStr::new("b"));
+        assert_eq!(line, "remove a --take=- -o c");
+        let words = ["carve", "carve", "1", "-o", "c"].map(OsString::from);
+        let line = again(words.to_vec(), OsStr::new("carve"));
+        assert_eq!(line, "carve - 1 -o c");
         let words = ["carve", "-", "300", "-o", "x.png"].map(OsString::from);
         assert_eq!(
             again(words.to_vec(), OsStr::new("-")),

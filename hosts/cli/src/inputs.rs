@@ -2,7 +2,7 @@
 
 use crate::failure::Failure;
 use crate::formats;
-use multisize::{netpbm, png, Head, Picture, Refusal, Size, LONGEST_FILE};
+use multisize::{netpbm, png, Head, Picture, Refusal, Size, LARGEST_SIDE, LONGEST_FILE};
 use std::ffi::OsString;
 use std::fs::File;
 use std::io::{self, Read};
@@ -72,7 +72,9 @@ impl Input {
                 Some(format!("made smaller it is read: {pipe}"))
             }
             png::Error::Unread(_) => {
-                let pipe = formats::plain_png(&self.0);
+                let large = |side: u32| side as usize > LARGEST_SIDE;
+                let large = png::sides(bytes).is_some_and(|(w, h)| large(w) || large(h));
+                let pipe = formats::plain_png(&self.0, large);
                 Some(format!("without that it is read: {pipe}"))
             }
             _ => None,

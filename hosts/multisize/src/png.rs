@@ -19,7 +19,7 @@ mod symbols;
 mod write;
 
 pub use error::Error;
-pub use read::read;
+pub use read::{read, sides};
 pub use write::write;
 
 /// The bytes that every PNG begins with.

@@ -105,6 +105,13 @@ fn what_only_needs_another_depth_keeps_its_size() {
         "(1): a PNG with alpha isn't read; without that it is read: \
          pngtopnm clear.png | pamdepth 255 | multisize carve - 1 -o a.png"
     );
+    let head = b"\0\0\0\x0dIHDR\0\0\x07\x80\0\0\x04\x38\x08\x06\0\0\0\xe8\xd3\xc1\x43";
+    folder.put("screen.png", &[png::SIGNATURE.as_slice(), head].concat());
+    assert_eq!(
+        told(&folder, "carve screen.png 60% -o a.png", "screen.png"),
+        "(1): a PNG with alpha isn't read; without that it is read: pngtopnm screen.png | \
+         pamdepth 255 | pamscale -xyfit 512 512 | multisize carve - 60% -o a.png"
+    );
     folder.put("map.pbm", b"P4\n8 1\n.");
     assert_eq!(
         told(&folder, "carve map.pbm 1 -o a.png", "map.pbm"),

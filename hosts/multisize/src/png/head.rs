@@ -58,7 +58,6 @@ pub fn parse(bytes: &[u8]) -> Result<PngHead, Error> {
     let head: &[u8; 13] = bytes
         .try_into()
         .map_err(|_| Error::Damaged("its head isn't 13 bytes long"))?;
-    let side = |at: usize| u32::from_be_bytes([head[at], head[at + 1], head[at + 2], head[at + 3]]);
     let [depth, colour, compression, filter, interlace] =
         [head[8], head[9], head[10], head[11], head[12]];
     let colour = colour_of(colour, depth)?;
@@ -66,7 +65,7 @@ pub fn parse(bytes: &[u8]) -> Result<PngHead, Error> {
         let how = "its head has a number that PNG doesn't have";
         return Err(Error::Damaged(how));
     }
-    let (width, height) = (side(0), side(4));
+    let (width, height) = sides(head).ok_or(Error::Short)?;
     let allowed = |side: u32| {
         usize::try_from(side)
             .ok()
@@ -82,6 +81,13 @@ pub fn parse(bytes: &[u8]) -> Result<PngHead, Error> {
         colour,
         interlaced: interlace == 1,
     })
+}
+
+/// Width and height, which come first.
+pub fn sides(head: &[u8]) -> Option<(u32, u32)> {
+    let (width, rest) = head.split_first_chunk()?;
+    let (height, _) = rest.split_first_chunk()?;
+    Some((u32::from_be_bytes(*width), u32::from_be_bytes(*height)))
 }
 
 /// The colours by their number, with a depth that they may have.

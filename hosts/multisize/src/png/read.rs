@@ -51,6 +51,22 @@ pub fn read(bytes: &[u8]) -> Result<Picture, Error> {
     Picture::new(size, samples).map_err(|_| Error::Damaged("its size isn't served"))
 }
 
+/// Width and height that the head of a PNG says, also where [`read`] refuses it.
+///
+/// ```
+/// use multisize::{png, Picture, Size};
+///
+/// let picture = Picture::new(Size::grey(2, 1), vec![7, 9])?;
+/// assert_eq!(png::sides(&png::write(&picture)), Some((2, 1)));
+/// assert_eq!(png::sides(b"GIF89a"), None);
+/// # Ok::<(), multisize::Refusal>(())
+/// ```
+pub fn sides(bytes: &[u8]) -> Option<(u32, u32)> {
+    let first = Chunks(bytes.strip_prefix(&SIGNATURE)?).next().ok()?;
+    let head = Some(first).filter(|first| &first.name == b"IHDR")?;
+    head::sides(head.bytes)
+}
+
 /// Takes the parts up to the last one.
 fn parts(bytes: &[u8]) -> Result<Parts, Error> {
     let rest = bytes.strip_prefix(&SIGNATURE).ok_or(Error::Signature)?;
