@@ -36,6 +36,11 @@ pub enum Command {
         file: Input,
         out: Output,
     },
+    Page {
+        file: Input,
+        out: Output,
+        title: Option<OsString>,
+    },
     Remove {
         picture: Input,
         marks: Input,
@@ -67,6 +72,7 @@ pub fn parse(mut words: Vec<OsString>) -> Result<Command, Failure> {
         "show" => show(words),
         "seams" => seams(words),
         "table" => table(words),
+        "page" => page(words),
         "remove" => remove(words),
         "retarget" => retarget(words),
         other => Err(Failure::Usage(format!("there is no command {other}"))),
@@ -132,6 +138,16 @@ fn table(words: Vec<OsString>) -> Result<Command, Failure> {
     Ok(Command::Table {
         file: Input(file),
         out: text("a table", Output(words.option("-o").unwrap_or("-".into())))?,
+    })
+}
+
+fn page(words: Vec<OsString>) -> Result<Command, Failure> {
+    let mut words = Words::of(words, &["-o", "--title"])?;
+    let [file] = words.plain(["the file"])?;
+    Ok(Command::Page {
+        file: Input(file),
+        out: text("a page", out(&mut words)?)?,
+        title: words.option("--title"),
     })
 }
 

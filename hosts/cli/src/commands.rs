@@ -3,10 +3,12 @@
 use crate::arguments::Command;
 use crate::colours;
 use crate::failure::Failure;
+use crate::page;
 use crate::places::{print, Input, Output};
 use crate::progress::during;
 use crate::table;
 use multisize::{Carver, Columns, Contents, Head, Range, Refusal, Rows, Size};
+use std::ffi::OsString;
 use std::io::{self, Write};
 
 /// Does what the command says.
@@ -27,6 +29,7 @@ pub fn run(command: Command) -> Result<(), Failure> {
         Command::Show { file, width, out } => show(&file, width, &out),
         Command::Seams { file, out, first } => seams(&file, &out, first),
         Command::Table { file, out } => table(&file, &out),
+        Command::Page { file, out, title } => page(&file, &out, title),
         Command::Remove {
             picture,
             marks,
@@ -109,6 +112,15 @@ fn table(file: &Input, out: &Output) -> Result<(), Failure> {
     let contents = read(file, &mut carver)?;
     let csv = during("cutting", || table::csv(&contents, &mut carver));
     out.write(csv.map_err(|refusal| file.refused(refusal))?.as_bytes())
+}
+
+fn page(file: &Input, out: &Output, title: Option<OsString>) -> Result<(), Failure> {
+    let text = file.read()?;
+    let checked = during("checking", || Carver::new().check(&text));
+    checked.map_err(|refusal| file.refused(refusal))?;
+    let name = file.stem();
+    let title = title.as_ref().unwrap_or(&name).to_string_lossy();
+    out.write(page::page(&title, &name.to_string_lossy(), &text).as_bytes())
 }
 
 fn remove(picture: &Input, marks: &Input, out: &Output, budget: u16) -> Result<(), Failure> {

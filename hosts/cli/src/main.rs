@@ -4,6 +4,7 @@ mod arguments;
 mod colours;
 mod commands;
 mod failure;
+mod page;
 mod places;
 mod png;
 mod progress;

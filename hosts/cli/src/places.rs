@@ -20,6 +20,12 @@ impl Input {
         self.0.to_string_lossy().into_owned()
     }
 
+    /// Its name without folder and ending.
+    pub fn stem(&self) -> OsString {
+        let stem = Path::new(&self.0).file_stem().filter(|stem| *stem != "-");
+        stem.map_or("picture".into(), |stem| stem.to_owned())
+    }
+
     /// All its bytes.
     pub fn read(&self) -> Result<Vec<u8>, Failure> {
         let mut bytes = Vec::new();

@@ -8,6 +8,8 @@ mod filters;
 mod matches;
 mod symbols;
 
+pub use deflate::zlib;
+
 use multisize::{Picture, Size};
 
 /// The bytes that every PNG begins with.
@@ -20,7 +22,7 @@ pub fn write(picture: &Picture) -> Vec<u8> {
     let lines = filters::filtered(picture.samples(), row, size.kind.channels());
     let mut bytes = SIGNATURE.to_vec();
     put_chunk(&mut bytes, b"IHDR", &header(size));
-    put_chunk(&mut bytes, b"IDAT", &deflate::zlib(&lines));
+    put_chunk(&mut bytes, b"IDAT", &zlib(&lines));
     put_chunk(&mut bytes, b"IEND", &[]);
     bytes
 }

@@ -5,5 +5,6 @@ mod errors;
 mod files;
 mod helpers;
 mod inflate;
+mod page;
 mod pictures;
 mod png;
