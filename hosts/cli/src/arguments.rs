@@ -35,6 +35,7 @@ pub enum Command {
     Table {
         file: Input,
         out: Output,
+        long: bool,
     },
     Page {
         file: Input,
@@ -132,11 +133,20 @@ fn seams(words: Vec<OsString>) -> Result<Command, Failure> {
     })
 }
 
-fn table(words: Vec<OsString>) -> Result<Command, Failure> {
+/// Takes a word out of the words, and says whether it stood there.
+fn flag(words: &mut Vec<OsString>, name: &str) -> bool {
+    let count = words.len();
+    words.retain(|word| word != name);
+    words.len() < count
+}
+
+fn table(mut words: Vec<OsString>) -> Result<Command, Failure> {
+    let long = flag(&mut words, "--long");
     let mut words = Words::of(words, &["-o"])?;
     let [file] = words.plain(["the file"])?;
     Ok(Command::Table {
         file: Input(file),
+        long,
         out: text("a table", Output(words.option("-o").unwrap_or("-".into())))?,
     })
 }

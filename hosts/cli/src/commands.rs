@@ -28,7 +28,7 @@ pub fn run(command: Command) -> Result<(), Failure> {
         Command::Info { file } => info(&file),
         Command::Show { file, width, out } => show(&file, width, &out),
         Command::Seams { file, out, first } => seams(&file, &out, first),
-        Command::Table { file, out } => table(&file, &out),
+        Command::Table { file, out, long } => table(&file, &out, long),
         Command::Page { file, out, title } => page(&file, &out, title),
         Command::Remove {
             picture,
@@ -107,10 +107,11 @@ fn seams(file: &Input, out: &Output, first: Option<usize>) -> Result<(), Failure
     out.picture(&drawn.map_err(|refusal| file.refused(refusal))?)
 }
 
-fn table(file: &Input, out: &Output) -> Result<(), Failure> {
+fn table(file: &Input, out: &Output, long: bool) -> Result<(), Failure> {
     let mut carver = Carver::new();
     let contents = read(file, &mut carver)?;
-    let csv = during("cutting", || table::csv(&contents, &mut carver));
+    let form = if long { table::long } else { table::csv };
+    let csv = during("cutting", || form(&contents, &mut carver));
     out.write(csv.map_err(|refusal| file.refused(refusal))?.as_bytes())
 }
 
