@@ -8,8 +8,6 @@ mod filters;
 mod matches;
 mod symbols;
 
-pub use deflate::zlib;
-
 use multisize::{Picture, Size};
 
 /// The bytes that every PNG begins with.
@@ -22,7 +20,7 @@ pub fn write(picture: &Picture) -> Vec<u8> {
     let lines = filters::filtered(picture.samples(), row, size.kind.channels());
     let mut bytes = SIGNATURE.to_vec();
     put_chunk(&mut bytes, b"IHDR", &header(size));
-    put_chunk(&mut bytes, b"IDAT", &zlib(&lines));
+    put_chunk(&mut bytes, b"IDAT", &deflate::zlib(&lines));
     put_chunk(&mut bytes, b"IEND", &[]);
     bytes
 }
@@ -39,6 +37,11 @@ fn header(size: Size) -> Vec<u8> {
 /// A side as four bytes, the highest first. A picture shown is at most 768 wide.
 fn side(length: usize) -> [u8; 4] {
     (length as u32).to_be_bytes()
+}
+
+/// Any bytes compressed as a PNG's are, a zlib stream.
+pub fn zlib(bytes: &[u8]) -> Vec<u8> {
+    deflate::zlib(bytes)
 }
 
 /// Puts a part of the file: its length, its name and its bytes, and their checksum.
