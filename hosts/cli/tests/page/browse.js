@@ -75,6 +75,8 @@ function compare(name, source, options) {
   check(`${name}: picture`, png.samples.equals(netpbm(source).samples), true);
   check(`${name}: scaled`, found.stretched, [false, found.stretched[2], found.stretched[2]]);
   check(`${name}: play`, [found.playing, found.played.button, found.played.width !== original], ["Stop", "Play", true]);
+  check(`${name}: zoom and window`, found.zooms, Array(4).fill([true, true, true]));
+  check(`${name}: following ends by hand`, found.following, false);
   check(`${name}: link`, found.linked, least);
   check(`${name}: controls without a name`, found.unnamed, 0);
 }

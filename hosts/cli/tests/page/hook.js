@@ -56,6 +56,22 @@
   await wait(400);
   at("play").click();
   found.played = { button: at("play").textContent, width: Number(at("width").value) };
+  // Where the window is followed, the picture has no more room than there is; zoomed, it is shown larger.
+  tick("scaled", false);
+  tick("follow", true);
+  const frame = at("carved").parentElement;
+  const zooms = [];
+  for (const { value } of at("zoom").options) {
+    at("zoom").value = value;
+    at("zoom").dispatchEvent(new Event("change", { bubbles: true }));
+    const width = Number(at("width").value);
+    const wider = (width + 1) * value > at("figures").clientWidth - (frame.offsetWidth - at("carved").offsetWidth);
+    zooms.push([at("carved").offsetWidth === width * value, width === found.range[0] || frame.scrollWidth <= frame.clientWidth,
+      width === found.range[1] || wider]);
+  }
+  found.zooms = zooms;
+  slide(found.range[1]);
+  found.following = at("follow").checked;
   location.hash = `#${found.range[0]}`;
   await wait(50);
   found.linked = Number(at("width").value);
