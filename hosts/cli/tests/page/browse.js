@@ -1,13 +1,14 @@
 "use strict";
-// Opens pages in a headless browser, with hook.js at their end, and judges what that found.
+// Opens pages in a headless browser, runs hook.js in them, presses keys, and judges what is found.
 //   node browse.js MULTISIZE FOLDER BROWSER
 const { execFileSync } = require("node:child_process");
 const fs = require("node:fs");
 const path = require("node:path");
 const { pictures } = require("./pictures.js");
 const { decoded, sumOf } = require("./decode.js");
+const { Browser } = require("./devtools.js");
 
-const [program, folder, browser] = process.argv.slice(2);
+const [program, folder, browserName] = process.argv.slice(2);
 let [passed, failed] = [0, 0];
 
 function check(name, given, wanted) {
@@ -30,18 +31,29 @@ function netpbm(bytes) {
   return { size: size.split(" ").map(Number), samples, rgb };
 }
 
-// What the hook found in the page of a file.
-function browsed(name) {
-  const hook = fs.readFileSync(path.join(__dirname, "hook.js"), "utf8");
-  const page = fs.readFileSync(inFolder(`${name}.html`), "utf8");
-  fs.writeFileSync(inFolder("hooked.html"), page.replace("</body>", () => `<script>\n${hook}</script>\n</body>`));
-  const words = ["--headless", "--no-sandbox", "--disable-gpu", `--user-data-dir=${inFolder("profile")}`];
-  words.push("--virtual-time-budget=20000", "--dump-dom", `file://${inFolder("hooked.html")}`);
-  const options = { maxBuffer: 1 << 28, stdio: ["ignore", "pipe", "ignore"], timeout: 120000 };
-  const dom = execFileSync(browser, words, options).toString();
-  const found = dom.match(/<pre id="found">([^]*?)<\/pre>/);
-  if (!found) throw new Error(`${name}: the page didn't come to its end: ${dom.slice(-500)}`);
-  return JSON.parse(found[1].replace(/&lt;/g, "<").replace(/&gt;/g, ">").replace(/&amp;/g, "&"));
+const hook = fs.readFileSync(path.join(__dirname, "hook.js"), "utf8");
+
+// The keys move the slider, and the tabulator leads through all controls in their order on the page.
+async function pressKeys(name, browser, { width, least, most }) {
+  const told = () => browser.run(`document.getElementById("told").textContent.split(",")[0]`).then(Number);
+  const focus = "document.activeElement";
+  const reached = () => browser.run(`${focus}.id || ${focus}.className || ${focus}.tagName`);
+  await browser.run(`document.getElementById("original").click(), document.getElementById("width").focus()`);
+  await browser.press("ArrowLeft", 37);
+  check(`${name}: left`, await told(), Math.max(width - 1, least));
+  await browser.press("End", 35);
+  check(`${name}: end`, await told(), most);
+  await browser.press("Home", 36);
+  check(`${name}: home`, await told(), least);
+  await browser.press("ArrowRight", 39);
+  check(`${name}: right`, await told(), Math.min(least + 1, most));
+  const order = ["play", "original", "zoom", "seams", "count", "follow", "scaled", "frame", "picture", "file", "SUMMARY"];
+  const met = [];
+  for (const _ of order) {
+    await browser.press("Tab", 9);
+    met.push(await reached());
+  }
+  check(`${name}: tabulator`, met, order);
 }
 
 function words(width, original) {
@@ -50,11 +62,12 @@ function words(width, original) {
   return width > original ? `${width}, ${seams(width - original)} doubled` : `${width}, the original`;
 }
 
-function compare(name, source, options) {
+async function compare(name, source, options, browser) {
   fs.writeFileSync(inFolder(`${name}.netpbm`), source);
   multisize("build", inFolder(`${name}.netpbm`), "-o", inFolder(`${name}.multi`), ...options);
   multisize("page", inFolder(`${name}.multi`), "-o", inFolder(`${name}.html`));
-  const found = browsed(name);
+  await browser.open(`file://${inFolder(`${name}.html`)}`);
+  const found = await browser.run(hook);
   const shown = (width) => netpbm(multisize("show", inFolder(`${name}.multi`), `${width}`, "-o", "-"));
   const [original] = netpbm(source).size;
   const [least, most] = found.range;
@@ -74,21 +87,28 @@ function compare(name, source, options) {
   const png = decoded(Buffer.from(found.saved.picture, "hex"));
   check(`${name}: picture`, png.samples.equals(netpbm(source).samples), true);
   check(`${name}: scaled`, found.stretched, [false, found.stretched[2], found.stretched[2]]);
-  check(`${name}: play`, [found.playing, found.played.button, found.played.width !== original], ["Stop", "Play", true]);
+  check(`${name}: play`, [found.playing, found.played], ["Stop", { button: "Play", several: true, stopped: true }]);
   check(`${name}: zoom and window`, found.zooms, Array(4).fill([true, true, true]));
   check(`${name}: following ends by hand`, found.following, false);
   check(`${name}: link`, found.linked, least);
   check(`${name}: controls without a name`, found.unnamed, 0);
+  await pressKeys(name, browser, { width: original, least, most });
 }
 
-try {
-  const chosen = ["worked", "slope", "noise-grey", "noise-rgb", "shallow"];
-  for (const [name, source, options] of pictures()) {
-    if (chosen.includes(name)) compare(name, source, options);
+async function main() {
+  const browser = new Browser(browserName, inFolder("profile"));
+  try {
+    const chosen = ["worked", "slope", "noise-grey", "noise-rgb", "shallow"];
+    for (const [name, source, options] of pictures()) {
+      if (chosen.includes(name)) await compare(name, source, options, browser);
+    }
+  } catch (error) {
+    failed++;
+    console.log(error);
   }
-} catch (error) {
-  failed++;
-  console.log(error);
+  await browser.close();
+  console.log(`${passed} passed, ${failed} failed`);
+  process.exitCode = failed === 0 ? 0 : 1;
 }
-console.log(`${passed} passed, ${failed} failed`);
-process.exitCode = failed === 0 ? 0 : 1;
+
+main();

@@ -1,6 +1,5 @@
 "use strict";
-// Stands at the end of a page that is tested in a browser: uses its controls and writes what it finds into the page's text,
-// as JSON. The page itself is as the program wrote it.
+// Is run in a page that is tested in a browser: uses its controls and gives what it finds.
 (async () => {
   const found = { widths: {}, saved: {} };
   const wait = (milliseconds) => new Promise((done) => setTimeout(done, milliseconds));
@@ -53,9 +52,16 @@
   found.stretched = [at("plain").hidden, at("stretched").style.width, at("carved").style.width];
   at("play").click();
   found.playing = at("play").textContent;
-  await wait(400);
+  // Playing goes from column to column. It may be back where it began when it is stopped.
+  const seen = new Set();
+  for (let turn = 0; turn < 40; turn++) {
+    await wait(10);
+    seen.add(Number(at("width").value));
+  }
   at("play").click();
-  found.played = { button: at("play").textContent, width: Number(at("width").value) };
+  const stopped = at("width").value;
+  await wait(200);
+  found.played = { button: at("play").textContent, several: seen.size > 1, stopped: at("width").value === stopped };
   // Where the window is followed, the picture has no more room than there is; zoomed, it is shown larger.
   tick("scaled", false);
   tick("follow", true);
@@ -79,8 +85,5 @@
   const named = (control) => control.labels?.length > 0 || control.textContent.trim() !== "";
   const controls = [...document.querySelectorAll("input, select, button")];
   found.unnamed = controls.filter((control) => !named(control) || control.tabIndex < 0).length;
-  const result = document.createElement("pre");
-  result.id = "found";
-  result.textContent = JSON.stringify(found);
-  document.body.append(result);
-})().catch((error) => document.body.append(`hook: ${error.stack}`));
+  return found;
+})();
