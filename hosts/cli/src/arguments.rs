@@ -31,6 +31,7 @@ pub fn parse(mut words: Vec<OsString>) -> Result<Command, Failure> {
         "show" => files::show(words),
         "seams" => files::seams(words),
         "table" => files::table(words),
+        "page" => files::page(words),
         "remove" => pictures::remove(words),
         "retarget" => pictures::retarget(words),
         other => Err(Failure::Usage(format!("there is no command {other}"))),

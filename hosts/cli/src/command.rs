@@ -3,6 +3,7 @@
 use crate::inputs::Input;
 use crate::outputs::Output;
 use multisize::{Columns, Rows};
+use std::ffi::OsString;
 
 /// What is to be done.
 pub enum Command {
@@ -40,6 +41,12 @@ pub enum Command {
     Table {
         file: Input,
         out: Output,
+        long: bool,
+    },
+    Page {
+        file: Input,
+        out: Output,
+        title: Option<OsString>,
     },
     Remove {
         picture: Input,

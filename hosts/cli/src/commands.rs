@@ -27,7 +27,8 @@ pub fn run(command: Command) -> Result<(), Failure> {
         Command::Info { file, json } => files::info(&file, json),
         Command::Show { file, shown } => files::show(&file, &shown),
         Command::Seams { file, out, first } => files::seams(&file, &out, first),
-        Command::Table { file, out } => files::table(&file, &out),
+        Command::Table { file, out, long } => files::table(&file, &out, long),
+        Command::Page { file, out, title } => files::page(&file, &out, title),
         Command::Remove {
             picture,
             marks,

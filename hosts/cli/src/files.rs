@@ -4,10 +4,12 @@ use crate::colours;
 use crate::failure::Failure;
 use crate::inputs::Input;
 use crate::outputs::{print, Output};
+use crate::page;
 use crate::progress::during;
 use crate::table;
 use multisize::{Axis, Carver, Contents, Head, Picture, Range, Refusal, Size};
 use std::cmp::Reverse;
+use std::ffi::OsString;
 
 pub fn build(
     picture: &Input,
@@ -147,9 +149,19 @@ pub fn seams(file: &Input, out: &Output, first: Option<usize>) -> Result<(), Fai
     out.picture(&drawn.map_err(|refusal| file.refused(refusal))?)
 }
 
-pub fn table(file: &Input, out: &Output) -> Result<(), Failure> {
+pub fn table(file: &Input, out: &Output, long: bool) -> Result<(), Failure> {
     let mut carver = Carver::new();
     let contents = read(file, &mut carver)?;
-    let csv = during("cutting", || table::csv(&contents, &mut carver));
+    let form = if long { table::long } else { table::csv };
+    let csv = during("cutting", || form(&contents, &mut carver));
     out.write(csv.map_err(|refusal| file.refused(refusal))?.as_bytes())
+}
+
+pub fn page(file: &Input, out: &Output, title: Option<OsString>) -> Result<(), Failure> {
+    let text = file.file()?;
+    let checked = during("checking", || Carver::new().check(&text));
+    checked.map_err(|refusal| file.refused(refusal))?;
+    let name = file.stem();
+    let title = title.as_ref().unwrap_or(&name).to_string_lossy();
+    out.write(page::page(&title, &name.to_string_lossy(), &text).as_bytes())
 }

@@ -6,6 +6,7 @@ use multisize::{netpbm, png, Head, Picture, Refusal, Size, LARGEST_SIDE, LONGEST
 use std::ffi::OsString;
 use std::fs::File;
 use std::io::{self, Read};
+use std::path::Path;
 
 /// A file to read, or `-` for standard input.
 pub struct Input(pub OsString);
@@ -20,6 +21,12 @@ impl Input {
 
     pub fn is_standard(&self) -> bool {
         self.0 == "-"
+    }
+
+    /// Its name without folder and ending.
+    pub fn stem(&self) -> OsString {
+        let stem = Path::new(&self.0).file_stem().filter(|stem| *stem != "-");
+        stem.map_or("picture".into(), |stem| stem.to_owned())
     }
 
     /// All its bytes, or the first ones where there are more than are ever served: then

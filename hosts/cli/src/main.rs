@@ -11,6 +11,7 @@ mod help;
 mod inputs;
 mod marks;
 mod outputs;
+mod page;
 mod pictures;
 mod progress;
 mod table;

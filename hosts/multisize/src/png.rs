@@ -20,7 +20,7 @@ mod write;
 
 pub use error::Error;
 pub use read::{read, sides};
-pub use write::write;
+pub use write::{write, zlib};
 
 /// The bytes that every PNG begins with.
 pub const SIGNATURE: [u8; 8] = *b"\x89PNG\r\n\x1a\n";

@@ -86,13 +86,26 @@ pub fn seams(words: Vec<OsString>) -> Result<Command, Failure> {
 }
 
 pub fn table(words: Vec<OsString>) -> Result<Command, Failure> {
-    let mut words = Words::of(words, &["-o"], &[])?;
+    let mut words = Words::of(words, &["-o"], &["--long"])?;
     let [file] = words.plain(["the file"])?;
     let file = Input(file);
     let out = Output(words.option("-o").unwrap_or("-".into()));
     Ok(Command::Table {
         out: apart(out.of_text("a table")?, &[&file])?,
         file,
+        long: words.flag("--long"),
+    })
+}
+
+pub fn page(words: Vec<OsString>) -> Result<Command, Failure> {
+    let mut words = Words::of(words, &["-o", "--title"], &[])?;
+    let [file] = words.plain(["the file"])?;
+    let file = Input(file);
+    let out = out(&mut words)?.of_text("a page")?;
+    Ok(Command::Page {
+        out: apart(out, &[&file])?,
+        file,
+        title: words.option("--title"),
     })
 }
 

@@ -8,5 +8,6 @@ mod formats;
 mod helpers;
 mod inflate;
 mod kept;
+mod page;
 mod pictures;
 mod png;

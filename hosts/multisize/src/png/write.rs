@@ -37,6 +37,11 @@ fn side(length: usize) -> [u8; 4] {
     (length as u32).to_be_bytes()
 }
 
+/// Any bytes compressed as a PNG's are, a zlib stream.
+pub fn zlib(bytes: &[u8]) -> Vec<u8> {
+    deflate::zlib(bytes)
+}
+
 /// Puts a part of the file: its length, its name and its bytes, and their checksum.
 fn put_chunk(file: &mut Vec<u8>, name: &[u8; 4], bytes: &[u8]) {
     file.extend((bytes.len() as u32).to_be_bytes());
