@@ -1,8 +1,8 @@
 // Carves a picture to a width: reads a Netpbm file (P5 or P6, samples up to 255), builds its multi-size file, checks
 // it, shows it at the wanted width and writes that as Netpbm.
-//   cc -O2 -Iinclude examples/carve.c target/staticlib/libexports.a -o carve
+//   cc -O2 -Iinclude examples/carve.c lib/x86_64-linux/libmultisize.a -o carve
 //   ./carve picture.ppm 176 carved.ppm
-// The archive is made by `rt staticlib exports`. Exit status: 0 carved, 1 refused or failed, 2 called wrongly.
+// Exit status: 0 carved, 1 refused or failed, 2 called wrongly.
 #include <multisize.h>
 #include <stdio.h>
 #include <stdlib.h>

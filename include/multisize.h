@@ -1,4 +1,4 @@
-// Multi-size course pictures: the functions of target/staticlib/libexports.a (x86-64), for C99 and C++.
+// Multi-size course pictures: the functions of lib/x86_64-linux/libmultisize.a, for C99 and C++.
 //
 // What is said here is the contract that crates/exports proves of each function, for all inputs, in words. That these
 // declarations match the archive is tested (examples/test). No function allocates or keeps anything between calls.

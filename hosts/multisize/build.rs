@@ -4,14 +4,19 @@ use std::env;
 use std::path::Path;
 
 fn main() {
+    let target = |what: &str| env::var(format!("CARGO_CFG_TARGET_{what}")).unwrap_or_default();
+    if (target("ARCH"), target("OS")) != ("x86_64".to_string(), "linux".to_string()) {
+        println!("cargo::error=the archive of the verified library is for Linux on x86-64 alone");
+        return;
+    }
     let package = env::var("CARGO_MANIFEST_DIR").expect("cargo names the package folder");
-    let folder = Path::new(&package).join("../../target/staticlib");
-    let archive = folder.join("libexports.a");
+    let folder = Path::new(&package).join("../../lib/x86_64-linux");
+    let archive = folder.join("libmultisize.a");
     println!("cargo::rerun-if-changed={}", archive.display());
     if !archive.exists() {
-        println!("cargo::error=target/staticlib/libexports.a is missing: run `rt staticlib exports` in the repository's folder first");
+        println!("cargo::error=lib/x86_64-linux/libmultisize.a is missing: run `./carve renew` in the repository's folder first");
         return;
     }
     println!("cargo::rustc-link-search=native={}", folder.display());
-    println!("cargo::rustc-link-lib=static=exports");
+    println!("cargo::rustc-link-lib=static=multisize");
 }

@@ -1,162 +1,65 @@
 //! The command that a command line gives.
 
-use crate::failure::Failure;
-use crate::places::{Input, Output};
-use crate::words::{number, Words};
-use multisize::{Columns, Rows};
-use std::ffi::OsString;
+mod files;
+mod pictures;
 
-/// What is to be done.
-pub enum Command {
-    Help,
-    Version,
-    Build {
-        picture: Input,
-        out: Output,
-        depth: Option<usize>,
-        growth: Option<usize>,
-    },
-    Check {
-        file: Input,
-    },
-    Info {
-        file: Input,
-    },
-    Show {
-        file: Input,
-        width: usize,
-        out: Output,
-    },
-    Seams {
-        file: Input,
-        out: Output,
-        first: Option<usize>,
-    },
-    Table {
-        file: Input,
-        out: Output,
-    },
-    Remove {
-        picture: Input,
-        marks: Input,
-        out: Output,
-        budget: u16,
-    },
-    Retarget {
-        picture: Input,
-        rows: Rows,
-        columns: Columns,
-        out: Output,
-    },
-}
+use crate::command::Command;
+use crate::failure::Failure;
+use crate::inputs::Input;
+use crate::outputs::Output;
+use crate::words::Words;
+use std::ffi::OsString;
 
 /// The command that the words give.
 pub fn parse(mut words: Vec<OsString>) -> Result<Command, Failure> {
     if words.is_empty() {
         return Err(Failure::usage("no command is given"));
     }
-    if words.iter().any(|word| word == "--help" || word == "-h") {
-        return Ok(Command::Help);
+    let name = words.remove(0).to_string_lossy().into_owned();
+    let mut options = words.iter().take_while(|word| *word != "--");
+    if options.any(|word| word == "--help" || word == "-h") {
+        return Ok(Command::Help(Some(name).filter(|name| name != "help")));
     }
-    let name = words.remove(0);
-    match name.to_string_lossy().as_ref() {
+    match name.as_str() {
+        "--help" | "-h" => Ok(Command::Help(None)),
+        "help" => help(words),
         "--version" | "-V" => Ok(Command::Version),
-        "build" => build(words),
-        "check" => one_file(words).map(|file| Command::Check { file }),
-        "info" => one_file(words).map(|file| Command::Info { file }),
-        "show" => show(words),
-        "seams" => seams(words),
-        "table" => table(words),
-        "remove" => remove(words),
-        "retarget" => retarget(words),
+        "carve" => pictures::carve(words),
+        "build" => files::build(words),
+        "check" => files::check(words),
+        "info" => files::info(words),
+        "show" => files::show(words),
+        "seams" => files::seams(words),
+        "table" => files::table(words),
+        "page" => files::page(words),
+        "remove" => pictures::remove(words),
+        "retarget" => pictures::retarget(words),
         other => Err(Failure::Usage(format!("there is no command {other}"))),
     }
 }
 
-/// Where the answer goes.
+fn help(words: Vec<OsString>) -> Result<Command, Failure> {
+    let ([], rest) = Words::of(words, &[], &[])?.plain_and_more([])?;
+    if let Some(extra) = rest.get(1) {
+        let text = format!("{} is too much", extra.to_string_lossy());
+        return Err(Failure::Usage(text));
+    }
+    let name = rest.first().map(|name| name.to_string_lossy().into_owned());
+    Ok(Command::Help(name))
+}
+
+/// Where a picture goes: nowhere where something is read.
+fn picture_out(words: &mut Words, inputs: &[&Input]) -> Result<Output, Failure> {
+    apart(out(words)?.of_picture()?, inputs)
+}
+
 fn out(words: &mut Words) -> Result<Output, Failure> {
     let place = words.option("-o");
     let place = place.ok_or_else(|| Failure::usage("-o with the file to write is missing"))?;
     Ok(Output(place))
 }
 
-/// What a command writes as text, under a name that doesn't promise a picture.
-fn text(what: &str, out: Output) -> Result<Output, Failure> {
-    if out.is_png() {
-        let name = out.0.to_string_lossy();
-        let text = format!("{what} isn't a picture and can't be named {name}");
-        return Err(Failure::Usage(text));
-    }
+fn apart(out: Output, inputs: &[&Input]) -> Result<Output, Failure> {
+    inputs.iter().try_for_each(|input| out.apart_from(input))?;
     Ok(out)
-}
-
-fn one_file(words: Vec<OsString>) -> Result<Input, Failure> {
-    let [file] = Words::of(words, &[])?.plain(["the file"])?;
-    Ok(Input(file))
-}
-
-fn build(words: Vec<OsString>) -> Result<Command, Failure> {
-    let mut words = Words::of(words, &["-o", "--depth", "--growth"])?;
-    let [picture] = words.plain(["the picture"])?;
-    Ok(Command::Build {
-        picture: Input(picture),
-        out: text("a multi-size file", out(&mut words)?)?,
-        depth: words.number("--depth")?,
-        growth: words.number("--growth")?,
-    })
-}
-
-fn show(words: Vec<OsString>) -> Result<Command, Failure> {
-    let mut words = Words::of(words, &["-o"])?;
-    let [file, width] = words.plain(["the file", "the width"])?;
-    Ok(Command::Show {
-        file: Input(file),
-        width: number("the width", width)?,
-        out: out(&mut words)?,
-    })
-}
-
-fn seams(words: Vec<OsString>) -> Result<Command, Failure> {
-    let mut words = Words::of(words, &["-o", "--first"])?;
-    let [file] = words.plain(["the file"])?;
-    Ok(Command::Seams {
-        file: Input(file),
-        out: out(&mut words)?,
-        first: words.number("--first")?,
-    })
-}
-
-fn table(words: Vec<OsString>) -> Result<Command, Failure> {
-    let mut words = Words::of(words, &["-o"])?;
-    let [file] = words.plain(["the file"])?;
-    Ok(Command::Table {
-        file: Input(file),
-        out: text("a table", Output(words.option("-o").unwrap_or("-".into())))?,
-    })
-}
-
-fn remove(words: Vec<OsString>) -> Result<Command, Failure> {
-    let mut words = Words::of(words, &["-o", "--budget"])?;
-    let [picture, marks] = words.plain(["the picture", "the picture of marks"])?;
-    if picture == "-" && marks == "-" {
-        let text = "picture and marks can't both come from standard input";
-        return Err(Failure::usage(text));
-    }
-    Ok(Command::Remove {
-        picture: Input(picture),
-        marks: Input(marks),
-        out: out(&mut words)?,
-        budget: words.number("--budget")?.unwrap_or(u16::MAX),
-    })
-}
-
-fn retarget(words: Vec<OsString>) -> Result<Command, Failure> {
-    let mut words = Words::of(words, &["-o", "--rows", "--columns"])?;
-    let [picture] = words.plain(["the picture"])?;
-    Ok(Command::Retarget {
-        picture: Input(picture),
-        rows: Rows(words.number("--rows")?.unwrap_or(0)),
-        columns: Columns(words.number("--columns")?.unwrap_or(0)),
-        out: out(&mut words)?,
-    })
 }

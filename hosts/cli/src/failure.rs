@@ -1,6 +1,6 @@
 //! Why a command failed.
 
-use multisize::Refusal;
+use multisize::{Refusal, LARGEST_SIDE, LONGEST_FILE};
 use std::fmt;
 use std::io;
 
@@ -11,12 +11,15 @@ pub enum Failure {
     Usage(String),
     /// A file can't be read or written.
     File { name: String, error: io::Error },
-    /// An operation refused what stands in a file. A hint says what is served.
+    /// What stands in a file is refused. A hint says what is served.
     Refused {
         name: String,
         refusal: Refusal,
+        meaning: String,
         hint: Option<String>,
     },
+    /// More is in a file than is ever served.
+    Long { name: String },
 }
 
 impl Failure {
@@ -24,12 +27,19 @@ impl Failure {
         Failure::Usage(text.into())
     }
 
-    /// The status that the program ends with.
+    /// The status that the program ends with. Whoever reads what it writes may stop
+    /// when they have enough: that is no failure.
     pub fn status(&self) -> u8 {
         match self {
-            Failure::Refused { .. } => 1,
+            _ if self.is_closed_pipe() => 0,
+            Failure::Refused { .. } | Failure::Long { .. } => 1,
             Failure::Usage(_) | Failure::File { .. } => 2,
         }
+    }
+
+    /// Whether nobody reads any more what is written.
+    pub fn is_closed_pipe(&self) -> bool {
+        matches!(self, Failure::File { error, .. } if error.kind() == io::ErrorKind::BrokenPipe)
     }
 }
 
@@ -41,10 +51,18 @@ impl fmt::Display for Failure {
             Failure::Refused {
                 name,
                 refusal,
+                meaning,
                 hint,
             } => {
-                write!(f, "{name}: {refusal}")?;
+                write!(f, "{name}: refused ({}): {meaning}", refusal.number())?;
                 hint.iter().try_for_each(|hint| write!(f, "; {hint}"))
+            }
+            Failure::Long { name } => {
+                let longest = format!("a picture of {LARGEST_SIDE} by {LARGEST_SIDE}");
+                write!(
+                    f,
+                    "{name}: refused: it is over {LONGEST_FILE} bytes, longer than any file of {longest}"
+                )
             }
         }
     }

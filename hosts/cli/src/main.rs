@@ -2,10 +2,17 @@
 
 mod arguments;
 mod colours;
+mod command;
 mod commands;
 mod failure;
-mod places;
-mod png;
+mod files;
+mod formats;
+mod help;
+mod inputs;
+mod marks;
+mod outputs;
+mod page;
+mod pictures;
 mod progress;
 mod table;
 mod words;
@@ -19,7 +26,9 @@ fn main() -> ExitCode {
     let Err(failure) = arguments::parse(words).and_then(commands::run) else {
         return ExitCode::SUCCESS;
     };
-    // Where standard error can't be written, the status still tells.
-    let _ = writeln!(io::stderr(), "multisize: {failure}");
+    if !failure.is_closed_pipe() {
+        // Where standard error can't be written, the status still tells.
+        let _ = writeln!(io::stderr(), "multisize: {failure}");
+    }
     ExitCode::from(failure.status())
 }

@@ -9,13 +9,40 @@ pub fn csv(contents: &Contents, carver: &mut Carver) -> Result<String, Refusal> 
     let left = (0..height).map(|row| format!("row_{row}_left"));
     let original = (0..height).map(|row| format!("row_{row}_original"));
     let mut text = line(&"seam", &"cost", left.chain(original));
+    each_seam(contents, carver, |number, seam, original| {
+        text += &line(&number, &seam.cost, seam.places.iter().chain(original));
+    })?;
+    Ok(text)
+}
+
+/// CSV with a line for each seam and row, and so with the same columns for every
+/// picture.
+pub fn long(contents: &Contents, carver: &mut Carver) -> Result<String, Refusal> {
+    let mut text = line(&"seam", &"cost", ["row", "left", "original"].iter());
+    each_seam(contents, carver, |number, seam, original| {
+        for (row, (left, original)) in seam.places.iter().zip(original).enumerate() {
+            let rest = [row, usize::from(*left), usize::from(*original)];
+            text += &line(&number, &seam.cost, rest.iter());
+        }
+    })?;
+    Ok(text)
+}
+
+/// Cuts each seam in turn and hands on its number, the seam, and its columns in the
+/// original.
+fn each_seam(
+    contents: &Contents,
+    carver: &mut Carver,
+    mut hand_on: impl FnMut(usize, &Seam, &[u16]),
+) -> Result<(), Refusal> {
+    let height = contents.picture.size().height;
     let mut picture = contents.picture.clone();
     for (at, original) in originals(contents).chunks(height).enumerate() {
         // An accepted file records just the seams that cutting finds.
-        let Seam { places, cost } = carver.cut(&mut picture, Axis::Vertical)?;
-        text += &line(&(at + 1), &cost, places.iter().chain(original));
+        let seam = carver.cut(&mut picture, Axis::Vertical)?;
+        hand_on(at + 1, &seam, original);
     }
-    Ok(text)
+    Ok(())
 }
 
 /// For each seam its column in each row of the original.

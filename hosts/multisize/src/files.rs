@@ -65,9 +65,13 @@ pub struct Contents {
     pub range: Range,
 }
 
+/// No accepted file is longer, in bytes: that is what one of an rgb picture with
+/// sides of [`LARGEST_SIDE`] can't exceed.
+pub const LONGEST_FILE: usize = longest_file(Size::rgb(LARGEST_SIDE, LARGEST_SIDE));
+
 /// No file of a picture of this size is longer: a number with its blank takes 4
 /// bytes at most, a pixel two brackets more.
-fn longest_file(size: Size) -> usize {
+const fn longest_file(size: Size) -> usize {
     let pixel = match size.kind {
         Kind::Grey => 4,
         Kind::Rgb => 14,

@@ -5,7 +5,7 @@
 //! objects, retargets in both directions, and builds, checks, reads and shows
 //! multi-size files. Each gives its answer or a [`Refusal`] with its number;
 //! after a refusal everything lent is as it was. [`netpbm`] reads and writes
-//! pictures as P5 and P6.
+//! pictures as P5 and P6, [`png`] as PNG.
 //!
 //! ```
 //! use multisize::{Carver, Picture, Range, Size};
@@ -25,14 +25,15 @@ mod files;
 pub mod netpbm;
 mod objects;
 mod picture;
+pub mod png;
 mod refusal;
 mod retargets;
 mod seams;
 
 pub use carver::Carver;
-pub use files::{Contents, Head, Range};
+pub use files::{Contents, Head, Range, LONGEST_FILE};
 pub use objects::{Ending, PLAIN, PROTECTED, REMOVE};
 pub use picture::{Kind, Picture, Size, LARGEST_SIDE};
 pub use refusal::Refusal;
-pub use retargets::{Columns, Retargeted, Rows};
+pub use retargets::{Columns, Retargeted, Rows, LARGEST_COUNT};
 pub use seams::{Axis, Seam};

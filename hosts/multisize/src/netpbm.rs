@@ -21,8 +21,23 @@ use crate::refusal::Refusal;
 /// # Ok::<(), multisize::Refusal>(())
 /// ```
 pub fn read(bytes: &[u8]) -> Result<Picture, Refusal> {
-    let (size, samples) = header(bytes).ok_or(Refusal::Form)?;
+    let (size, samples) = parts(bytes).ok_or(Refusal::Form)?;
     Picture::new(size, samples.to_vec())
+}
+
+/// The size that the header of a Netpbm file says, also where [`read`] refuses it, and
+/// how many bytes stand after the header.
+///
+/// ```
+/// use multisize::{netpbm, Size};
+///
+/// let header = netpbm::header(b"P6 4000 3000 255\nabc");
+/// assert_eq!(header, Some((Size::rgb(4000, 3000), 3)));
+/// assert_eq!(netpbm::header(b"GIF89a"), None);
+/// ```
+pub fn header(bytes: &[u8]) -> Option<(Size, usize)> {
+    let (size, samples) = parts(bytes)?;
+    Some((size, samples.len()))
 }
 
 /// The bytes of a picture's Netpbm file, with the plainest header.
@@ -50,7 +65,7 @@ pub fn write(picture: &Picture) -> Vec<u8> {
 }
 
 /// The size that a header gives, and the samples after it.
-fn header(bytes: &[u8]) -> Option<(Size, &[u8])> {
+fn parts(bytes: &[u8]) -> Option<(Size, &[u8])> {
     let (magic, rest) = bytes.split_at_checked(2)?;
     let kind = match magic {
         b"P5" => Kind::Grey,

@@ -71,7 +71,7 @@ impl Size {
     }
 
     // These are asked only of sizes that a picture has, so nothing overflows.
-    pub(crate) fn pixels(self) -> usize {
+    pub(crate) const fn pixels(self) -> usize {
         self.width * self.height
     }
 

@@ -12,7 +12,7 @@ use std::fmt;
 /// assert_eq!(Refusal::Mark.number(), 5);
 /// assert_eq!(Refusal::Mark.to_string(), "refused (5): a mark is over 2");
 /// ```
-#[derive(Clone, Copy, Debug, PartialEq, Eq, Hash)]
+#[derive(Clone, Copy, PartialEq, Eq, Hash)]
 #[non_exhaustive]
 pub enum Refusal {
     /// 1: text or Netpbm header breaks its form.
@@ -116,6 +116,13 @@ impl fmt::Display for Refusal {
     }
 }
 
+/// The same sentence, since that is what `main` prints of an error.
+impl fmt::Debug for Refusal {
+    fn fmt(&self, f: &mut fmt::Formatter) -> fmt::Result {
+        fmt::Display::fmt(self, f)
+    }
+}
+
 impl Error for Refusal {}
 
 #[cfg(test)]
@@ -131,8 +138,16 @@ mod tests {
     }
 
     #[test]
-    fn words_name_the_limit() {
+    fn main_prints_a_sentence() {
+        let printed = format!("{:?}", Refusal::Mark);
+        assert_eq!(printed, Refusal::Mark.to_string());
+    }
+
+    #[test]
+    fn words_name_the_limits() {
         let limit = crate::LARGEST_SIDE.to_string();
         assert!(Refusal::Large.meaning().ends_with(&limit));
+        let count = crate::LARGEST_COUNT.to_string();
+        assert!(Refusal::Wanted.meaning().ends_with(&count));
     }
 }

@@ -5,6 +5,9 @@ use crate::carver::Carver;
 use crate::picture::{Picture, Size};
 use crate::refusal::Refusal;
 
+/// The most rows, and the most columns, that a retarget removes.
+pub const LARGEST_COUNT: usize = 64;
+
 /// A count of rows to remove.
 #[derive(Clone, Copy, Debug, PartialEq, Eq)]
 pub struct Rows(pub usize);
@@ -23,13 +26,16 @@ pub struct Retargeted {
 }
 
 impl Carver {
-    /// The picture with `rows` rows and `columns` columns less, in the cheapest
-    /// order that the table of cells finds.
+    /// The picture with `rows` rows and `columns` columns less. For every smaller
+    /// number of rows and columns one picture is kept, and the next comes from the one
+    /// with a row more or the one with a column more, by the cheapest seam of each:
+    /// the smaller total is chosen, on a tie the vertical cut. Orders that leave the
+    /// pictures kept aren't tried.
     ///
     /// # Errors
     ///
     /// Refused by 3 for a picture wider than [`LARGEST_SIDE`](crate::LARGEST_SIDE), and by 7 where either count is
-    /// over 64 or no row or column would be left.
+    /// over [`LARGEST_COUNT`] or no row or column would be left.
     ///
     /// ```
     /// use multisize::{Carver, Columns, Picture, Rows, Size};

@@ -1,6 +1,6 @@
 //! Each refusal, and that what was lent stays as it was.
 
-use multisize::{Axis, Carver, Columns, Head, Picture, Range, Refusal, Rows, Size};
+use multisize::{Axis, Carver, Columns, Head, Picture, Range, Refusal, Rows, Size, LARGEST_COUNT};
 
 fn worked() -> Picture {
     Picture::new(Size::grey(3, 2), vec![10, 10, 40, 10, 50, 40]).unwrap()
@@ -79,6 +79,10 @@ fn refused_by_7() {
         let given = Carver::new().retarget(&worked(), Rows(rows), Columns(columns));
         assert_eq!(given, Err(Refusal::Wanted));
     }
+    let high = Picture::new(Size::grey(2, 80), vec![7; 160]).unwrap();
+    let less = |rows| Carver::new().retarget(&high, Rows(rows), Columns(0));
+    assert!(less(LARGEST_COUNT).is_ok());
+    assert_eq!(less(LARGEST_COUNT + 1), Err(Refusal::Wanted));
 }
 
 #[test]

@@ -1,7 +1,7 @@
 //! Refusals, wrong use, and files that can't be read or written.
 
-use crate::helpers::{Folder, FILE};
-use multisize::Refusal;
+use crate::helpers::{Folder, FILE, PICTURE};
+use multisize::{LARGEST_COUNT, LARGEST_SIDE};
 
 #[test]
 fn a_refusal_names_file_number_and_meaning() {
@@ -55,15 +55,15 @@ fn refusals_by_number() {
 fn a_width_not_offered_tells_those_that_are() {
     let folder = Folder::worked("offered");
     let ran = folder.run("show picture.multi 5 -o out.pgm");
-    let line = |file: &str, offered: &str| {
-        let meaning = Refusal::Wanted;
+    let line = |file: &str, width: usize, offered: &str| {
+        let meaning = format!("refused (7): the width {width} isn't offered");
         format!("multisize: {file}: {meaning}; the file offers the {offered}\n")
     };
-    let told = line("picture.multi", "widths 1 to 4");
+    let told = line("picture.multi", 5, "widths 1 to 4");
     assert_eq!((ran.status, ran.error), (1, told));
     folder.served("build picture.pgm --depth 0 -o single.multi");
     let ran = folder.run("show single.multi 2 -o out.pgm");
-    let told = line("single.multi", "width 3 alone");
+    let told = line("single.multi", 2, "width 3 alone");
     assert_eq!((ran.status, ran.error), (1, told));
     // Where the map is wrong too, 7 is still the smallest number.
     let text = String::from_utf8(FILE.to_vec()).unwrap();
@@ -74,33 +74,6 @@ fn a_width_not_offered_tells_those_that_are() {
     assert!(ran
         .error
         .starts_with("multisize: wrong.multi: refused (7): "));
-}
-
-#[test]
-fn a_picture_of_another_form_is_told() {
-    let folder = Folder::worked("forms");
-    folder.served("show picture.multi 3 -o picture.png");
-    folder.put("picture.jpg", b"\xff\xd8\xff\xe0\0\x10JFIF");
-    folder.put("empty.ppm", b"");
-    for (name, form) in [
-        ("picture.png", "PNG"),
-        ("picture.jpg", "JPEG"),
-        ("empty.ppm", "empty"),
-    ] {
-        let hint = format!("it is {form}; Netpbm P5 or P6 is read");
-        let told = format!("multisize: {name}: {}; {hint}\n", Refusal::Form);
-        for line in [
-            format!("build {name} -o out"),
-            format!("retarget {name} -o out"),
-            format!("remove picture.pgm {name} -o out"),
-        ] {
-            let ran = folder.run(&line);
-            assert_eq!((ran.status, &ran.error), (1, &told), "{line}");
-        }
-    }
-    folder.put("other", b"P4\n8 1\n.");
-    let told = format!("multisize: other: {}\n", Refusal::Form);
-    assert_eq!(folder.run("build other -o out").error, told);
 }
 
 #[test]
@@ -158,12 +131,23 @@ fn links_and_devices_stay_what_they_are() {
     assert!(full.error.starts_with("multisize: /dev/full: "));
 }
 
+/// Wrong use ends with status 2 and this text.
+fn told(folder: &Folder, line: &str, text: &str) {
+    let ran = folder.run(line);
+    let told = format!("multisize: {text} (multisize --help says more)\n");
+    assert_eq!((ran.status, ran.error), (2, told), "{line}");
+}
+
 #[test]
 fn wrong_use_is_told() {
     let folder = Folder::worked("usage");
     for (line, text) in [
         ("", "no command is given"),
-        ("carve picture.pgm", "there is no command carve"),
+        ("paint picture.pgm", "there is no command paint"),
+        ("help paint", "there is no command paint"),
+        ("help build check", "check is too much"),
+        ("carve picture.pgm -o a", "the width is missing"),
+        ("carve picture.pgm 6o% -o a", "the percentage can't be 6o"),
         ("check", "the file is missing"),
         (
             "check picture.multi picture.multi",
@@ -184,15 +168,45 @@ fn wrong_use_is_told() {
         ),
         ("show picture.multi -o a", "the width is missing"),
         ("show picture.multi +2 -o a", "the width can't be +2"),
+    ] {
+        told(&folder, line, text);
+    }
+    assert_eq!(folder.names(), ["picture.multi", "picture.pgm"]);
+}
+
+#[test]
+fn wrong_use_of_several_widths_and_pictures_is_told() {
+    let folder = Folder::worked("several-used");
+    for (line, text) in [
+        (
+            "show picture.multi 1 2 -o a",
+            "several widths need %w in the name after -o, where each is put",
+        ),
+        (
+            "show picture.multi 1 2 01 -o a%w",
+            "the width 1 is given twice",
+        ),
+        ("info picture.multi --json=yes", "--json takes no value"),
         ("remove a b -o c --budget 65536", "--budget can't be 65536"),
         (
             "remove - - -o c",
-            "picture and marks can't both come from standard input",
+            "only one picture can come from standard input",
         ),
+        (
+            "remove a --take - --keep - -o c",
+            "only one picture can come from standard input",
+        ),
+        (
+            "remove a --keep b -o c",
+            "the picture of marks, or --take, is missing",
+        ),
+        (
+            "remove a b --keep b -o c",
+            "marks are a picture of 0, 1 and 2, or --take and --keep, not both",
+        ),
+        ("remove a b c -o d", "one picture of marks is enough"),
     ] {
-        let ran = folder.run(line);
-        let told = format!("multisize: {text} (multisize --help says more)\n");
-        assert_eq!((ran.status, ran.error), (2, told), "{line}");
+        told(&folder, line, text);
     }
     assert_eq!(folder.names(), ["picture.multi", "picture.pgm"]);
 }
@@ -201,11 +215,36 @@ fn wrong_use_is_told() {
 fn help_and_version() {
     let folder = Folder::new("help");
     let help = folder.served("--help");
-    for command in [
-        "build", "check", "info", "show", "seams", "table", "remove", "retarget",
-    ] {
-        assert!(help.contains(&format!("multisize {command} ")));
+    let commands = [
+        "carve", "build", "check", "info", "show", "seams", "table", "remove", "retarget",
+    ];
+    for command in commands {
+        let start = format!("  multisize {command} ");
+        assert!(help.contains(&start));
+        let part = folder.served(&format!("help {command}"));
+        assert!(part.starts_with(&start) && help.contains(&part));
+        assert!(part
+            .lines()
+            .all(|line| line.starts_with(&start) || line.starts_with("      ")));
+        assert_eq!(folder.served(&format!("{command} --help")), part);
     }
-    assert_eq!(folder.served("build --help"), help);
+    assert_eq!(folder.served("help remove").matches("multisize").count(), 2);
+    assert_eq!(folder.served("help"), help);
+    assert!(help.contains(&format!("each side is 1 to {LARGEST_SIDE}.")));
+    assert!(help.contains(&format!("each 0 to {LARGEST_COUNT} and")));
     assert_eq!(folder.served("--version"), "multisize 0.1.0\n");
+}
+
+#[test]
+fn two_hyphens_end_the_options() {
+    let folder = Folder::new("hyphens");
+    folder.put("-p.pgm", PICTURE);
+    assert_eq!(
+        folder
+            .served("build --depth=1 -o - -- -p.pgm")
+            .lines()
+            .nth(2),
+        Some("(range 1 1)")
+    );
+    assert_eq!(folder.run("build -p.pgm -o -").status, 2);
 }

@@ -80,6 +80,36 @@ fn table_lists_the_worked_seams() {
     assert_eq!(folder.get("seams.csv"), table.as_bytes());
 }
 
+#[test]
+fn a_long_table_has_a_line_for_each_seam_and_row() {
+    let folder = Folder::worked("long");
+    let table = "seam,cost,row,left,original\n1,0,0,2,2\n1,0,1,2,2\n2,0,0,0,0\n2,0,1,1,1\n";
+    assert_eq!(folder.served("table picture.multi --long"), table);
+    assert_eq!(folder.served("table --long picture.multi -o long.csv"), "");
+    assert_eq!(folder.get("long.csv"), table.as_bytes());
+}
+
+#[test]
+fn both_tables_say_the_same() {
+    let folder = Folder::new("tables");
+    folder.put("large.ppm", &netpbm::write(&slopes(20, 12)));
+    folder.served("build large.ppm -o large.multi");
+    let numbers = |text: String| -> Vec<Vec<usize>> {
+        let numbers = |line: &str| line.split(',').map(|n| n.parse().unwrap()).collect();
+        text.lines().skip(1).map(numbers).collect()
+    };
+    let wide = numbers(folder.served("table large.multi"));
+    let long = numbers(folder.served("table large.multi --long"));
+    assert_eq!(long.len(), 19 * 12);
+    for (at, line) in long.iter().enumerate() {
+        let (seam, row) = (&wide[at / 12], at % 12);
+        assert_eq!(
+            *line,
+            [seam[0], seam[1], row, seam[2 + row], seam[14 + row]]
+        );
+    }
+}
+
 /// A picture with slopes in both directions and some noise.
 fn slopes(width: usize, height: usize) -> Picture {
     let sample = |at: usize| ((at % width) * 5 + (at / width) * 3 + at * at % 23) as u8;

@@ -37,12 +37,16 @@ fn marks_must_fit_the_picture() {
     let error = refused(b"P5\n3 2\n255\n\x00\x02\x03\x00\x00\x00");
     assert_eq!(
         error,
-        "multisize: marks.pgm: refused (5): a mark is over 2\n"
+        "multisize: marks.pgm: refused (5): a mark is over 2; that of column 2 in row 0 is 3; \
+         a picture in black and white goes with --take or --keep\n"
     );
     let turned = refused(b"P5\n2 3\n255\n\x00\x02\x01\x00\x00\x00");
-    assert!(turned.starts_with("multisize: marks.pgm: refused (4): "));
-    let colours = refused(b"P6\n1 2\n255\n\x00\x02\x01\x00\x00\x00");
-    assert!(colours.starts_with("multisize: marks.pgm: refused (4): "));
+    let sizes = "the picture is 3 by 2, and its marks are 2 by 3";
+    let told = format!("multisize: marks.pgm: refused (4): {sizes}\n");
+    assert_eq!(turned, told);
+    let colours = refused(&[b"P6\n3 2\n255\n".as_slice(), &[0; 18]].concat());
+    let told = "multisize: marks.pgm: refused (4): marks are grey, and this picture is rgb";
+    assert!(colours.starts_with(told));
     assert_eq!(
         folder.names(),
         ["marks.pgm", "picture.multi", "picture.pgm"]

@@ -11,7 +11,7 @@ use super::symbols::{self, Symbol, DISTANCES, END, LITERALS};
 const BLOCK: usize = 1 << 15;
 
 /// The order in which the lengths of the code lengths' own codes are written.
-const ORDER: [usize; 19] = [
+pub const ORDER: [usize; 19] = [
     16, 17, 18, 0, 8, 7, 9, 6, 10, 5, 11, 4, 12, 3, 13, 2, 14, 1, 15,
 ];
 

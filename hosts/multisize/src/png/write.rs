@@ -1,19 +1,17 @@
-//! PNG pictures, written: grey and rgb with 8 bits a sample.
+//! A PNG written: grey and rgb with 8 bits a sample.
 
-mod bits;
-mod checksums;
-mod codes;
-mod deflate;
-mod filters;
-mod matches;
-mod symbols;
-
-use multisize::{Picture, Size};
-
-/// The bytes that every PNG begins with.
-pub const SIGNATURE: [u8; 8] = *b"\x89PNG\r\n\x1a\n";
+use super::{checksums, deflate, filters, SIGNATURE};
+use crate::picture::{Picture, Size};
 
 /// The bytes of a picture's PNG.
+///
+/// ```
+/// use multisize::{png, Picture, Size};
+///
+/// let picture = Picture::new(Size::rgb(1, 1), vec![1, 2, 3])?;
+/// assert!(png::write(&picture).starts_with(&png::SIGNATURE));
+/// # Ok::<(), multisize::Refusal>(())
+/// ```
 pub fn write(picture: &Picture) -> Vec<u8> {
     let size = picture.size();
     let row = size.width * size.kind.channels();
@@ -37,6 +35,11 @@ fn header(size: Size) -> Vec<u8> {
 /// A side as four bytes, the highest first. A picture shown is at most 768 wide.
 fn side(length: usize) -> [u8; 4] {
     (length as u32).to_be_bytes()
+}
+
+/// Any bytes compressed as a PNG's are, a zlib stream.
+pub fn zlib(bytes: &[u8]) -> Vec<u8> {
+    deflate::zlib(bytes)
 }
 
 /// Puts a part of the file: its length, its name and its bytes, and their checksum.

@@ -53,9 +53,43 @@ pub fn of_distance(distance: u16) -> Symbol {
     }
 }
 
+/// The least length of a symbol over [`END`], and how many extra bits it has.
+pub fn length_from(symbol: usize) -> Option<(u16, u32)> {
+    let least = *LENGTHS.get(symbol.checked_sub(END + 1)?)?;
+    Some((least, u32::from(of_length(least).count)))
+}
+
+/// The least distance of a symbol, and how many extra bits it has.
+pub fn distance_from(symbol: usize) -> Option<(u16, u32)> {
+    let least = *DISTANCE_FROM.get(symbol)?;
+    Some((least, u32::from(of_distance(least).count)))
+}
+
 #[cfg(test)]
 mod tests {
     use super::*;
+
+    #[test]
+    fn symbols_are_read_as_they_are_written() {
+        for length in 3..=258 {
+            let symbol = of_length(length);
+            let least = length - symbol.extra;
+            assert_eq!(
+                length_from(symbol.number),
+                Some((least, symbol.count.into()))
+            );
+        }
+        for distance in 1..=32768 {
+            let symbol = of_distance(distance);
+            let least = distance - symbol.extra;
+            assert_eq!(
+                distance_from(symbol.number),
+                Some((least, symbol.count.into()))
+            );
+        }
+        assert_eq!((length_from(END), length_from(286)), (None, None));
+        assert_eq!(distance_from(30), None);
+    }
 
     /// The extra bits of each symbol just reach the next.
     #[test]

@@ -1,4 +1,4 @@
-//! Bits written one behind the other, from the lowest of each byte.
+//! Bits written one after the other, from the lowest of each byte.
 
 /// The bytes written so far, and the bits that fill no byte yet.
 #[derive(Default)]

@@ -1,5 +1,5 @@
 //! The filters of PNG: a row is written as its differences from what stands to the
-//! left of each sample and above it.
+//! left of each byte and above it.
 
 /// The five filters, by their numbers: none, from the left, from above, from the
 /// mean of both, from the one nearest to left + above - corner.
@@ -11,7 +11,7 @@ const FILTERS: [fn(u8, u8, u8) -> u8; 5] = [
     paeth,
 ];
 
-/// The rows of samples filtered, each behind the number of its filter.
+/// The rows of samples filtered, each after the number of its filter.
 pub fn filtered(samples: &[u8], row: usize, channels: usize) -> Vec<u8> {
     let mut lines = Vec::with_capacity(samples.len() + samples.len() / row);
     let mut above = vec![0; row];
@@ -24,7 +24,7 @@ pub fn filtered(samples: &[u8], row: usize, channels: usize) -> Vec<u8> {
     lines
 }
 
-/// The row through one filter, behind its number. Beyond the edge stand zeros.
+/// The row through one filter, after its number. Beyond the edge stand zeros.
 fn through(number: u8, line: &[u8], above: &[u8], channels: usize) -> Vec<u8> {
     let guess = FILTERS[usize::from(number)];
     let before = |row: &[u8], at: usize| at.checked_sub(channels).map_or(0, |at| row[at]);
@@ -34,6 +34,18 @@ fn through(number: u8, line: &[u8], above: &[u8], channels: usize) -> Vec<u8> {
     };
     let differences = (0..line.len()).map(difference);
     std::iter::once(number).chain(differences).collect()
+}
+
+/// Takes the filter of a row back, so that differences become what they were taken
+/// from. Gives nothing where no filter has this number.
+pub fn take_back(number: u8, line: &mut [u8], above: &[u8], channels: usize) -> Option<()> {
+    let guess = FILTERS.get(usize::from(number))?;
+    for at in 0..line.len() {
+        let before = |row: &[u8]| at.checked_sub(channels).map_or(0, |at| row[at]);
+        let from = guess(before(line), above[at], before(above));
+        line[at] = line[at].wrapping_add(from);
+    }
+    Some(())
 }
 
 /// How far the differences are from 0 in sum: the less, the better they compress as
@@ -67,6 +79,19 @@ mod tests {
         assert_eq!(by(3), [3, 6, 251, 5]);
         // 10 + 40 - 8 is nearest to 40, 20 + 41 - 40 to 20.
         assert_eq!(by(4), [4, 2, 236, 15]);
+    }
+
+    #[test]
+    fn each_filter_is_taken_back() {
+        let (line, above) = ([10, 200, 35, 0, 255, 7], [8, 40, 41, 250, 1, 9]);
+        for channels in [1, 3] {
+            for number in 0..5 {
+                let mut differences = through(number, &line, &above, channels).split_off(1);
+                let back = take_back(number, &mut differences, &above, channels);
+                assert_eq!((back, differences.as_slice()), (Some(()), line.as_slice()));
+            }
+        }
+        assert_eq!(take_back(5, &mut [0], &[0], 1), None);
     }
 
     #[test]
