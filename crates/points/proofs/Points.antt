@@ -10,7 +10,7 @@ use Rattle.map_theory.specs.Maps.{numberRow, number}
 use Rattle.map_theory.specs.Widths.{allowed, offered, stays, doubled, rowAtWidth, shown, average}
 use Rattle.map_theory.specs.Judged.{numbers, remains, before, connected, found}
 use Rattle.text_theory.specs.Readers.{strip, next, manyUpTo, many}
-use Rattle.text_theory.specs.Decimal.{digitsUpTo, digits, isDigit, further, upTo}
+use Rattle.text_theory.specs.Decimal.{digitsUpTo, digits, isDigit, further, upTo, numberGet}
 use Rattle.text_theory.specs.Files.{lineEnd, blank, opening, closing, start, range, closed, rowWord, mapWord, greyWord, rgbWord, each, joined, kindText, pixelText, lineText, headText, text, kindGet, items, three, pixelGet, line, headGet, file, whole, parse}
 use Rattle.seam_theory.specs.PictureSeams.{seamOf, costOf}
 use Rattle.seam_objects.specs.Objects.{someTwo, removal}
@@ -20,5 +20,5 @@ use Rattle.file_theory.specs.Shows.{shows}
 use Rattle.points.specs.Points.{pointTable}
 
 pub points : map (λ p. p .got) pointTable ≡ map (λ p. p .expected) pointTable
-unfolding picture energy difference seamOf costOf paths pathsUp cost nearby beside select run better firstBest removeAt cut zipWith flatMap someTwo removal numberRow number allowed offered stays doubled rowAtWidth shown numbers remains before connected found strip next manyUpTo many digitsUpTo digits isDigit further upTo Rattle.text_theory.specs.Decimal.number lineEnd blank opening closing start range closed rowWord mapWord greyWord rgbWord each joined kindText pixelText lineText headText text kindGet items three pixelGet line headGet file whole parse average fileOf filled shows
+unfolding picture energy difference seamOf costOf paths pathsUp cost nearby beside select run better firstBest removeAt cut zipWith flatMap someTwo removal numberRow number allowed offered stays doubled rowAtWidth shown numbers remains before connected found strip next manyUpTo many digitsUpTo digits isDigit further upTo numberGet lineEnd blank opening closing start range closed rowWord mapWord greyWord rgbWord each joined kindText pixelText lineText headText text kindGet items three pixelGet line headGet file whole parse average fileOf filled shows
 points = refl
