@@ -6,7 +6,7 @@ use native.Mathlib.Numerals.{add-one}
 use native.Mathlib.Omega.{arith}
 use lib.ListN.{length, getD, take, drop, set, length-append, take-append-drop}
 use lib.Seq.{drop-cons, take-suc, set-at, append-snoc, length-take-le}
-use Rattle.map_build.specs.Writing.{writePair}
+use Rattle.map_build.specs.Inner.Marks.{writePair}
 
 -- The two bytes at c, and what follows them.
 module _ (ys : List ℕ) (c : ℕ) (inside : c + 1 < length ys) where

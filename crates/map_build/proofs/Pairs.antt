@@ -12,7 +12,7 @@ use Rattle.pictures.proofs.TwoBytes.{pairs-append, pairs-zeros}
 use Rattle.map_theory.specs.Maps.{zeros}
 use Rattle.map_theory.proofs.Rows.{write}
 use Rattle.map_theory.proofs.Levels.{writeAll}
-use Rattle.map_build.specs.Writing.{writePair}
+use Rattle.map_build.specs.Inner.Marks.{writePair}
 
 -- A map of zeros.
 pub map-zeros : {A : Type 0} {w h : ℕ} {p : List (List A)} → Grid w h p → pairs (flat (zeros p)) ≡ replicate (h * (2 * w)) 0

@@ -8,8 +8,7 @@ use lib.Seq.{take-add, drop-drop, drop-length}
 use borrow.Rule.Slice.PartAt.{part-to-end}
 use borrow.Rule.Slice.PartMut.{midOf, putMid}
 use Rattle.grids.proofs.Parts.{put-part, part-length}
-use Rattle.map_build.specs.Inner.Marks.{zeroPairs, SkipGiven}
-use Rattle.map_build.specs.Writing.{writePair}
+use Rattle.map_build.specs.Inner.Marks.{zeroPairs, SkipGiven, writePair}
 use Rattle.map_build.proofs.Marking.{drop-two}
 
 -- One turn of the count: a 0, and a number that isn't. t is the count to come of it.

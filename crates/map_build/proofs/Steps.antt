@@ -22,7 +22,7 @@ use Rattle.map_theory.proofs.Maps.{carve-next, map-grid, map-next, carve-each}
 use Rattle.seam_theory.specs.PictureSeams.{seamOf}
 use Rattle.map_rules.specs.Spaces.{mapBytes, mapAt}
 use Rattle.map_build.specs.Building.{mapped}
-use Rattle.map_build.specs.Writing.{writePair}
+use Rattle.map_build.specs.Inner.Marks.{writePair}
 use Rattle.map_build.specs.Inner.Rows.{writeRows}
 use Rattle.map_build.specs.Inner.Seams.{NextGiven}
 use Rattle.map_build.proofs.Pairs.{map-zeros, write-all-pairs}

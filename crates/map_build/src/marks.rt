@@ -3,8 +3,7 @@ use pictures::numbers::number;
 use pictures::numbers::wide;
 ghost use mathlib.Core.Path.{_≡_};
 ghost use lib.ListN.{length};
-ghost use Rattle.map_build.specs.Writing.{writePair};
-ghost use Rattle.map_build.specs.Inner.Marks.{zeroPairs, SkipGiven};
+ghost use Rattle.map_build.specs.Inner.Marks.{writePair, zeroPairs, SkipGiven};
 
 // How many of the 16 numbers in these bytes are 0. One test for both bytes of a number, not one for each, so that the loop
 // compiles to operations on all 16 at once.

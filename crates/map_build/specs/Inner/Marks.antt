@@ -3,7 +3,15 @@ use mathlib.Core.Path.{_≡_}
 use mathlib.Core.List.{List, _++_, [], _∷_}
 use Prim.Native.Nat.{ℕ, _≤_, zero, suc}
 use lib.ListN.{length, take, drop}
-use Rattle.map_build.specs.Writing.{writePair}
+
+-- The two bytes written over the s-th number that is 0, both its bytes being 0.
+abbrev pub writePair : ℕ → ℕ → ℕ → List ℕ → List ℕ
+writePair low high s [] = []
+writePair low high s (a ∷ []) = a ∷ []
+writePair low high s (suc a ∷ b ∷ r) = suc a ∷ b ∷ writePair low high s r
+writePair low high s (zero ∷ suc b ∷ r) = zero ∷ suc b ∷ writePair low high s r
+writePair low high zero (zero ∷ zero ∷ r) = low ∷ high ∷ r
+writePair low high (suc s) (zero ∷ zero ∷ r) = zero ∷ zero ∷ writePair low high s r
 
 -- How many numbers of two bytes are 0.
 abbrev pub zeroPairs : List ℕ → ℕ

@@ -5,7 +5,7 @@ use Prim.Native.Nat.{ℕ, _*_, _≤_}
 use lib.ListN.{length}
 use Rattle.grids.specs.Rows.{rowsOf, flat}
 use Rattle.pictures.specs.Numbers.{largestNumber, lowByte, highByte}
-use Rattle.map_build.specs.Writing.{writePair}
+use Rattle.map_build.specs.Inner.Marks.{writePair}
 
 -- Two bytes written in each row of a map of w columns, over the s-th zero of the row, s being the seam's column; and the bytes of
 -- a number.

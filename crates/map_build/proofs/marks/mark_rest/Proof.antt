@@ -7,7 +7,7 @@ use Prim.Native.Nat.{_-_, _≤_}
 use native.Mathlib.Omega.{arith}
 use lib.ListN.{length, drop, take}
 use borrow.Author.Needs.{needs}
-use Rattle.map_build.specs.Writing.{writePair}
+use Rattle.map_build.specs.Inner.Marks.{writePair}
 use Rattle.map_build.proofs.Marking.{pass-number, pass-zero, put-number, row-end}
 use Rattle.map_build.proofs.marks.mark_rest.Statement.{statement}
 use Rattle.map_build.proofs.marks.mark_rest.Tie as tie

@@ -7,7 +7,7 @@ use lib.ListN.{length}
 use borrow.Author.Needs.{needs}
 use borrow.Rule.Slice.PartMut.{midOf, same-len-mid, mid-len}
 use Rattle.grids.proofs.Rows.{part-end}
-use Rattle.map_build.specs.Writing.{writePair}
+use Rattle.map_build.specs.Inner.Marks.{writePair}
 use Rattle.map_build.specs.Inner.Rows.{writeBytes}
 use Rattle.map_build.proofs.Turns.{RowsSoFar, rows-start, rows-step, rows-done}
 use Rattle.map_build.proofs.rows.mark_rows.Statement.{statement}
