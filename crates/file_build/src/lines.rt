@@ -41,7 +41,7 @@ fn read_numbers(map: &[u8], width: usize, row: &mut [u16])
 {
     for c in 0..width {
         let i = 2 * c;
-        row[c] = number(map[i], map[i + 1]) as u16;
+        row[c] = number(map[i], map[i + 1]);
     }
 }
 

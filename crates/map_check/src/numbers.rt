@@ -17,7 +17,7 @@ pub(crate) fn number_at(bytes: &[u8], i: usize) -> usize
     ensures { λ n. ⌜ n ≡ getD (numbersIn (now (bytes .entry))) i 0 ⌝ }
 {
     let at = 2 * i;
-    number(bytes[at], bytes[at + 1])
+    number(bytes[at], bytes[at + 1]) as usize
 }
 
 // Whether the numbers in two parts are the same.

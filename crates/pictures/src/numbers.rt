@@ -13,11 +13,18 @@ pub fn wide(b: u8) -> usize
     b as usize
 }
 
-// The number of two bytes.
-pub fn number(low: u8, high: u8) -> usize
+// A byte as a number of two bytes.
+fn half(b: u8) -> u16
+    ensures { λ n. ⌜ (n ≡ b) × (n < 256) ⌝ }
+{
+    b as u16
+}
+
+// The number of two bytes. It is no wider than they are, so that a loop over a row works on many at once.
+pub fn number(low: u8, high: u8) -> u16
     ensures { λ n. ⌜ (n ≡ twoBytes low high) × (n ≤ largestNumber) ⌝ }
 {
-    wide(low) + 256 * wide(high)
+    half(low) + 256 * half(high)
 }
 
 // The low byte of a number.

@@ -40,9 +40,6 @@ shared-slice-read-number-2 c = search needs
 number-requires : tie.Need-number-requires Inv-loop μ-loop
 number-requires c κs = search needs
 
-cast-row : tie.Need-cast-row Inv-loop μ-loop
-cast-row c = omega (arith, c .number .ensures .1)
-
 mul-row : tie.Need-mul-row Inv-loop μ-loop
 mul-row c = search needs
 
@@ -98,7 +95,6 @@ read-numbers-spec =
     add-number
     shared-slice-read-number-2
     number-requires
-    cast-row
     mul-row
     slice-write-row
     add-c

@@ -20,6 +20,9 @@ shared-slice-read-number-2 c = search needs
 number-requires : tie.Need-number-requires
 number-requires c κs = search needs
 
+cast-result : tie.Need-cast-result
+cast-result c = search needs
+
 returns : tie.Need-returns
 returns c =
     let s = c .before .before .before .before in
@@ -28,4 +31,4 @@ returns c =
 pub number-at-spec : {M : Type 1} → statement M
 number-at-spec =
     tie.close
-    (tie.spec mul-at shared-slice-read-number add-number shared-slice-read-number-2 number-requires returns)
+    (tie.spec mul-at shared-slice-read-number add-number shared-slice-read-number-2 number-requires cast-result returns)
