@@ -54,9 +54,9 @@ pub record Removed : Type 0 where
 abbrev pub ends : Ending → ℕ → MarkedPicture → Removed
 ends e n s = record { ending = e; count = n; left = s }
 
--- The steps, with n seams cut and as many still allowed as the first argument says. "Before each cut, in this order: no pixel marked 2
--- gives "done"; width 1 gives "narrow"; b seams cut gives "spent"; no allowed seam gives "blocked"." So "spent" stands where
--- none is allowed any more. Otherwise the seam is cut, and so on.
+-- The steps, with n seams cut and as many still allowed as the first argument says. "Before each cut, in this order: no pixel
+-- marked 2 gives "done"; width 1 gives "narrow"; b seams cut gives "spent"; no allowed seam gives "blocked"." So "spent"
+-- stands where none is allowed any more. Otherwise the seam is cut, and so on.
 unfoldable pub removal : ℕ → ℕ → MarkedPicture → Removed
 removal zero n s =
     cond (not (toRemove s)) (ends done n s)

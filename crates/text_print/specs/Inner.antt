@@ -1,4 +1,5 @@
--- What the private functions of this crate, and of those above that print by it, promise each other. No public promise cites it.
+-- What the private functions of this crate, and of those above that print by it, promise each other. No public promise cites
+-- it.
 use mathlib.Core.Path.{_≡_}
 use mathlib.Core.List.{List, _++_}
 use Prim.Native.Nat.{ℕ, _+_, _*_, _≤_}

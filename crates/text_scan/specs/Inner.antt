@@ -17,13 +17,13 @@ use Rattle.text_scan.specs.declared.Lines.the-variants.{Counted, Torn}
 use Rattle.text_scan.specs.Facts.{evenly}
 
 -- Told, where the place may stay.
-abbrev pub staysFull : {A : Type 0} → ℕ → ℕ → Option (A × ℕ) → Type 0
-staysFull len at none = Unit
-staysFull len at (some r) = (at ≤ r .1) × (r .1 ≤ len)
+abbrev pub staysWithin : {A : Type 0} → ℕ → ℕ → Option (A × ℕ) → Type 0
+staysWithin len at none = Unit
+staysWithin len at (some r) = (at ≤ r .1) × (r .1 ≤ len)
 
 pub record Reached {A : Type 0} (get : Get A) (text : List ℕ) (at : ℕ) (found : Option (A × ℕ)) : Type 0 where
   pub same : get (drop at text) ≡ readOn text found
-  pub moved : staysFull (length text) at found
+  pub moved : staysWithin (length text) at found
 
 -- How many lines begin with the word, and whether all have as many items as the width says.
 unfoldable pub linesOf : List ℕ → Items → ℕ → Get (ℕ × Bool)
