@@ -73,7 +73,7 @@ fn wall(random: &mut Random, size: Size) -> Vec<u8> {
     })
 }
 
-/// A part of a side that isn't empty: its first place and the one behind it.
+/// A part of a side that isn't empty: its first place and the one after it.
 fn span(random: &mut Random, side: usize) -> (usize, usize) {
     let (one, other) = (random.below(side), random.below(side));
     (one.min(other), one.max(other) + 1)

@@ -14,7 +14,7 @@ pub const LARGEST: usize = 3;
 pub struct Netpbm {
     /// P5 or P6, width, height, 255.
     pub words: [String; 4],
-    /// What stands behind each word: a line end, but a blank behind the width.
+    /// What stands after each word: a line end, but a blank after the width.
     pub gaps: [String; 4],
     pub samples: Vec<u8>,
 }

@@ -4,7 +4,7 @@ use crate::faults::Faults;
 use crate::random::Random;
 use std::fmt::Display;
 
-/// The most places before the lent part, and the number behind it.
+/// The most places before the lent part, and the number after it.
 const GUARD: usize = 8;
 
 /// What stands in one place of a buffer.

@@ -48,7 +48,7 @@ pub fn map_of(samples: &[u8], size: Size, range: Range) -> Vec<Vec<u16>> {
     maps.map(numbers).collect()
 }
 
-/// The numbers of a map line behind its word.
+/// The numbers of a map line after its word.
 fn numbers(line: &[u8]) -> Vec<u16> {
     let line = line.strip_suffix(b")").expect("a closing bracket");
     let line = str::from_utf8(line).expect("digits and blanks");
@@ -76,7 +76,7 @@ pub fn some_numbers(width: usize, depth: usize) -> Vec<u16> {
     numbers
 }
 
-/// The words of each line behind its first; a pixel counts as a word.
+/// The words of each line after its first; a pixel counts as a word.
 #[derive(Clone)]
 pub struct Words {
     pub size: Vec<String>,

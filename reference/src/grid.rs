@@ -70,7 +70,7 @@ pub fn close_up<T: Copy>(grid: &Grid<T>, columns: &[usize]) -> Grid<T> {
 }
 
 /// Puts the answer at the front of a lent picture or mark buffer; the freed
-/// bytes behind it become 0.
+/// bytes after it become 0.
 pub fn pack(lent: &mut [u8], answer: &[u8]) {
     let (front, freed) = lent.split_at_mut(answer.len());
     front.copy_from_slice(answer);

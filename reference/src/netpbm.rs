@@ -13,7 +13,7 @@ fn magic(kind: Kind) -> &'static str {
 }
 
 /// Reads the header: P5 or P6, byte 10, width, blank, height, byte 10, 255,
-/// byte 10. Gives the size and the sample bytes behind the header. Refusal 1
+/// byte 10. Gives the size and the sample bytes after the header. Refusal 1
 /// is judged here and nothing else.
 pub fn read_header(input: &[u8]) -> Result<(Size, &[u8]), Refusal> {
     let (first, rest) = split_at_line_end(input)?;
@@ -31,7 +31,7 @@ pub fn read_header(input: &[u8]) -> Result<(Size, &[u8]), Refusal> {
     Ok((size, samples))
 }
 
-/// The bytes before the first line end, and those behind it.
+/// The bytes before the first line end, and those after it.
 pub fn split_at_line_end(input: &[u8]) -> Result<(&[u8], &[u8]), Refusal> {
     let place = input.iter().position(|byte| *byte == b'\n').ok_or(FORM)?;
     Ok((&input[..place], &input[place + 1..]))

@@ -82,7 +82,7 @@ fn drop_last_line_end(_: &mut Random, text: &mut Vec<u8>) {
     text.pop();
 }
 
-/// Something behind the last line.
+/// Something after the last line.
 fn go_on(random: &mut Random, text: &mut Vec<u8>) {
     let more: &[u8] = random.pick(&[b"\n", b" ", b")", b")\n", b"\0", b"(map)\n"]);
     text.extend_from_slice(more);

@@ -90,7 +90,7 @@ fn wanted_at_limit(random: &mut Random, size: Size, range: Range) -> usize {
 }
 
 /// Inputs as long as may be, and longer ones: a file that is accepted, one with
-/// a wrong count, one that goes on behind its end, or no file at all.
+/// a wrong count, one that goes on after its end, or no file at all.
 fn near_most_input(random: &mut Random, size: Size) -> Vec<u8> {
     let Drawn { text, wanted, .. } = Drawn::of(random, size, MOST, Faults::Never);
     let length = random.pick(&[MOST_INPUT - 1, MOST_INPUT, MOST_INPUT + 1, MOST_INPUT + 2]);
@@ -118,7 +118,7 @@ fn accepted_input(random: &mut Random, length: usize) -> Vec<u8> {
     let mut input = [width.as_bytes(), &file].concat();
     match random.below(6) {
         0 => input[length - 1] = random.pick(b" )\r\0"),
-        // The first number of the last map row, behind `(map `.
+        // The first number of the last map row, after `(map `.
         1 => input[length - 5 - 2 * 119] = b'9',
         _ => (),
     }
@@ -136,7 +136,7 @@ mod tests {
         (0..rounds * ROUND).map(input)
     }
 
-    /// The file behind a line.
+    /// The file after a line.
     fn file(input: &[u8]) -> &[u8] {
         let place = input.iter().position(|byte| *byte == b'\n');
         place.map_or(&[], |place| &input[place + 1..])

@@ -82,7 +82,7 @@ module _ (b : List ℕ) (h : Head) (out work : List ℕ) (needed : BuildNeeded b
         front = omega (arith, map-bytes (h .size), room, bytes-few (h .size));
       }
 
-  -- The copy at the front of the work space, and the map behind it.
+  -- The copy at the front of the work space, and the map after it.
   module _ (one : List ℕ) (copied : one ≡ take (length b) b ++ drop (length b) work) (one-long : length one ≡ length work) where
     there : pictureIn (h .size) one ≡ picture (h .size) b
     there =

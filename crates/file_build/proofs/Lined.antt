@@ -1,4 +1,4 @@
--- Lines printed one behind the other into a space that has room for all of them.
+-- Lines printed one after the other into a space that has room for all of them.
 use mathlib.Core.Path.{_≡_, refl, sym, ap, _∙_}
 use mathlib.Core.List.{List, _++_, append-nil}
 use Prim.Native.Nat.{ℕ, _+_, _≤_, _<_}

@@ -58,7 +58,7 @@ zeros-total zero m l = refl
 zeros-total (suc n) zero l = absurd (omega arith)
 zeros-total (suc n) (suc m) l = rw (digits-small 0 (omega arith)) (omega (arith, zeros-total n m (omega arith)))
 
--- The line of the numbers in their order and zeros behind them.
+-- The line of the numbers in their order and zeros after them.
 pub order-long : (k w : ℕ) (row : List ℕ) → k ≤ w → w ≤ largestSide → row ≡ run 1 k ++ drop k (replicate largestSide 0)
     → length (mapText (take w row)) ≡ total spaced (run 1 k) + 2 * (w - k) + 6
 unfolding mapLength

@@ -1,4 +1,4 @@
--- The parts of a file printed one behind the other.
+-- The parts of a file printed one after the other.
 use mathlib.Core.Path.{_≡_}
 use mathlib.Core.List.{List, _++_}
 use Prim.Native.Nat.{ℕ, _+_, _≤_}

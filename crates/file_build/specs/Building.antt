@@ -15,7 +15,7 @@ use Rattle.file_rules.specs.Answers.{builtNumber, builtLength}
 abbrev pub fileIn : Head → List ℕ → List ℕ
 fileIn h b = fileOf h (picture (h .size) b)
 
--- The number; the file's length; the output space, which keeps what stands behind the file; and the work space.
+-- The number; the file's length; the output space, which keeps what stands after the file; and the work space.
 pub record BuildGiven (b : List ℕ) (h : Head) (out work : List ℕ) (answer : Built) (out′ work′ : List ℕ) : Type 0 where
   pub number : builtNumber answer ≡ refusal (buildRules b h (length out) (length work))
   pub length-is : builtLength answer ≡ served (builtNumber answer) (length (fileIn h b)) 0

@@ -62,7 +62,7 @@ fn maps_left(room: usize, count: usize, row: &[u16]) -> Left
     Left::Room(room - count * line)
 }
 
-// Whether the file fits the room. Each map line is as long as that of the numbers in their order and zeros behind them,
+// Whether the file fits the room. Each map line is as long as that of the numbers in their order and zeros after them,
 // whatever the seams are.
 pub(crate) fn file_fits(picture: &[u8], head: Head, room: usize) -> bool
     requires { ⌜ FitNeeded (now picture) head ⌝ }

@@ -1,4 +1,4 @@
-// The lines of a file, printed one behind the other into a space that has room for them.
+// The lines of a file, printed one after the other into a space that has room for them.
 use pictures::LARGEST_SIDE;
 use pictures::Size;
 use pictures::numbers::number;
@@ -13,7 +13,7 @@ ghost use Rattle.text_theory.specs.Files.{rowLines, mapLines, text as Files·te
 ghost use Rattle.text_print.specs.Inner.{Printed};
 ghost use Rattle.file_build.specs.Inner.Lines.{mapIn, partsIn, NumbersNeeded, RowsNeeded, MapsNeeded, PrintNeeded};
 
-// Prints the row lines of a picture, and gives the place behind them.
+// Prints the row lines of a picture, and gives the place after them.
 fn print_rows(out: &mut [u8], at: usize, picture: &[u8], size: Size) -> usize
     requires { ⌜ RowsNeeded (now out) at (now picture) size ⌝ }
     ensures { λ n. ⌜ Printed (now (out .entry)) at (rowLines (size .kind) (Pictures·picture size (now (picture .entry)))) (now (out .exit)) n ⌝ }
@@ -25,7 +25,7 @@ fn print_rows(out: &mut [u8], at: usize, picture: &[u8], size: Size) -> usize
     while r < height {
         let row = pictures::row(picture, size, r);
         let Place::Next(next) = text_print::print_row(out, end, kind, row) else {
-            // never here: there is room
+            // unreachable: there is room
             return end;
         };
         end = next;
@@ -45,7 +45,7 @@ fn read_numbers(map: &[u8], width: usize, row: &mut [u16])
     }
 }
 
-// Prints the map lines of a map in bytes, and gives the place behind them.
+// Prints the map lines of a map in bytes, and gives the place after them.
 fn print_maps(out: &mut [u8], at: usize, map: &[u8], width: usize, height: usize) -> usize
     requires { ⌜ MapsNeeded (now out) at (now map) width height ⌝ }
     ensures { λ n. ⌜ Printed (now (out .entry)) at (mapLines (mapIn width height (now (map .entry)))) (now (out .exit)) n ⌝ }
@@ -58,7 +58,7 @@ fn print_maps(out: &mut [u8], at: usize, map: &[u8], width: usize, height: usize
         let e = a + 2 * width;
         read_numbers(&map[a..e], width, &mut row);
         let Place::Next(next) = text_print::print_map(out, end, &row[..width]) else {
-            // never here: there is room
+            // unreachable: there is room
             return end;
         };
         end = next;
@@ -74,13 +74,13 @@ pub(crate) fn print_file(picture: &[u8], head: Head, map: &[u8], out: &mut [u8])
 {
     let size = head.size;
     let Place::Next(rows) = text_print::print_head(out, 0, head) else {
-        // never here: there is room
+        // unreachable: there is room
         return 0;
     };
     let maps = print_rows(out, rows, picture, size);
     let last = print_maps(out, maps, map, size.width, size.height);
     let Place::Next(end) = text_print::print_end(out, last) else {
-        // never here: there is room
+        // unreachable: there is room
         return last;
     };
     end

@@ -51,7 +51,7 @@ is-open file answer g h is =
     let k : OpenGiven file (checks.Accepted h) = rw is at g in
     record { sound = sym (k .number); head-is = sym (k .head) }
 
--- Then the operation's own rules decide, and behind them the map.
+-- Then the operation's own rules decide, and after them the map.
 abbrev pub fileRules : (Head → List Rule) → List ℕ → List Rule
 fileRules own file = formRules (λ p. partRules p ++ (own (p .head) ++ judgedRules p)) (parse file)
 

@@ -14,7 +14,7 @@ use Rattle.grids.proofs.Parts.{put-part}
 
 -- `whole` has rows of w values, and the space had `before` in it.
 module _ {A : Type 0} (whole before : List A) (w : ℕ) where
-  -- r rows are there, behind them what was there before.
+  -- r rows are there, after them what was there before.
   abbrev pub FilledTo : ℕ → List A → Type 0
   FilledTo r now = now ≡ take (r * w) whole ++ drop (r * w) before
 

@@ -1,4 +1,4 @@
--- The places of a file's lines: at each of them stands the next line, and behind it the others.
+-- The places of a file's lines: at each of them stands the next line, and after it the others.
 use mathlib.Core.Path.{_≡_, sym, ap, _∙_}
 use mathlib.Core.Option.{Option·none-ne-some, Option·some-injective}
 use mathlib.Core.List.{List, [], _∷_, _++_, append-nil}
@@ -37,7 +37,7 @@ all-at P [] r d a h = absurd (omega arith)
 all-at P (x ∷ xs) zero d a h = a .0
 all-at P (x ∷ xs) (suc r) d a h = all-at P xs r d (a .1) (le-of-suc-le-suc h)
 
--- A line that was read: the place behind it, and a space that it fills. A line that stands there is read.
+-- A line that was read: the place after it, and a space that it fills. A line that stands there is read.
 module _ {text : List ℕ} {at : ℕ} {values rest out : List ℕ} {out′ : List ℕ} where
   pub met-place : (n : ℕ) (c : Cursor) → LineMet text at values rest out (reads.Good n c) out′ → drop (c .at) text ≡ rest
   met-place n c m =
@@ -58,7 +58,7 @@ abbrev pub MapsLeft : List ℕ → ℕ → ℕ → Type 0
 MapsLeft file r at = drop at file ≡ each mapWord (lineText digits) (drop r (mapsIn (parse file))) ++ closed
 
 module _ {file : List ℕ} {h : Head} (k : Parsed file h) where
-  -- The first line stands behind what comes before, and behind the last row line stand the map lines.
+  -- The first line stands after what comes before, and after the last row line stand the map lines.
   pub rows-first : (at : ℕ) → drop at file ≡ fromRows (parse file) → RowsLeft file (h .size .kind) 0 at
   rows-first at p = p ∙ k .row-lines
 

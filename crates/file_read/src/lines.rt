@@ -17,7 +17,7 @@ ghost use Rattle.text_theory.specs.Files.{parse};
 ghost use Rattle.file_theory.specs.Shows.{mapsIn};
 ghost use Rattle.file_read.specs.Inner.Lines.{RowsNeeded, RowsRead, MapsNeeded};
 
-// Reads the row lines into the front of the space, the picture of the file, and gives the place behind them.
+// Reads the row lines into the front of the space, the picture of the file, and gives the place after them.
 pub(crate) fn read_rows(file: &[u8], head: Head, rows: Cursor, space: &mut [u8]) -> Cursor
     requires { ⌜ RowsNeeded (now file) head (rows .at) (length (now space)) ⌝ }
     ensures { λ c. ⌜ RowsRead (now (file .entry)) head (now (space .entry)) (c .at) (now (space .exit)) ⌝ }
@@ -32,7 +32,7 @@ pub(crate) fn read_rows(file: &[u8], head: Head, rows: Cursor, space: &mut [u8])
         let a = r * stride;
         let e = a + stride;
         let Read::Good(_, next) = at.row(file, kind, &mut space[a..e]) else {
-            // never here: the line has its form
+            // unreachable: the line has its form
             return at;
         };
         at = next;
@@ -55,7 +55,7 @@ pub(crate) fn read_maps(file: &[u8], head: Head, maps: Cursor, space: &mut [u16]
         let a = r * width;
         let e = a + width;
         let Read::Good(_, next) = at.map(file, &mut space[a..e]) else {
-            // never here: the line has its form
+            // unreachable: the line has its form
             return;
         };
         at = next;
@@ -90,7 +90,7 @@ pub(crate) fn record_maps(file: &[u8], head: Head, maps: Cursor, space: &mut [u8
     let mut r: usize = 0;
     while r < height {
         let Read::Good(_, next) = at.map(file, &mut numbers[..width]) else {
-            // never here: the line has its form
+            // unreachable: the line has its form
             return;
         };
         let a = r * (2 * width);

@@ -40,7 +40,7 @@ pub(crate) fn first_row(file: &[u8], head: Head) -> Cursor
 {
     let start = Cursor { at: 0 };
     let HeadRead::Begun(_, c) = start.header(file) else {
-        // never here: the text has its form
+        // unreachable: the text has its form
         return start;
     };
     c

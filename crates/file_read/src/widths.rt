@@ -68,7 +68,7 @@ fn draw_rows(file: &[u8], head: Head, maps: Cursor, wanted: usize, space: &[u8],
     let mut r: usize = 0;
     while r < height {
         let Read::Good(_, next) = at.map(file, &mut numbers[..width]) else {
-            // never here: the line has its form
+            // unreachable: the line has its form
             return;
         };
         let a = r * stride;

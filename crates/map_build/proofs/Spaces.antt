@@ -35,7 +35,7 @@ next-needed z depth space t at now a e r l =
       small = omega (arith, r .deep, r .sides .width-most);
     }
 
--- The picture and what stands behind the map as they were, zeros between them.
+-- The picture and what stands after the map as they were, zeros between them.
 pub record First (z : Size) (space now : List ℕ) : Type 0 where
   pub same-long : length now ≡ length space
   pub same-picture : pictureIn z now ≡ pictureIn z space

@@ -35,7 +35,7 @@ module _ (u : ℕ) (ys : List ℕ) (c n all : ℕ) where
 pub doubled-most : (u : ℕ) (ys : List ℕ) → doubledIn u ys ≤ length ys
 doubled-most u ys = omega (arith, length-keep u ys ys refl)
 
--- A row of as many pixels as numbers shows so many pixels.
+-- A row of as many pixels as numbers shows as many pixels as these say.
 pub pixels-shown : {A : Type 0} (mean : A → A → A) (xs : List A) (ys : List ℕ) (v : ℕ) → length xs ≡ length ys
     → length (rowAtWidth mean (length ys) v xs ys) ≡ pixelsAt ys v
 unfolding pixelsAt

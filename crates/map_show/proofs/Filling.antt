@@ -1,4 +1,4 @@
--- A space that is filled from the front: what was written, what is still to come, and behind it what stood there.
+-- A space that is filled from the front: what was written, what is still to come, and after it what stood there.
 use mathlib.Core.Path.{_≡_, refl, sym, ap, _∙_}
 use mathlib.Core.List.{List, [], _∷_, _++_, append-nil, append-assoc}
 use Prim.Native.Nat.{ℕ, suc, _+_, _≤_}
@@ -7,7 +7,7 @@ use native.Mathlib.Omega.{arith}
 use lib.ListN.{length, take, drop, set, length-append, length-drop}
 use lib.Seq.{sets, sets-eq, take-at, drop-at, drop-drop}
 
--- Stores one behind the other.
+-- Stores one after the other.
 pub sets-append : (p q out : List ℕ) (at : ℕ) → sets (sets out at p) (at + length p) q ≡ sets out at (p ++ q)
 sets-append [] q out at = rw add-zero
 sets-append (a ∷ p) q out at =

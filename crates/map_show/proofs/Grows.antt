@@ -19,7 +19,7 @@ use Rattle.map_show.proofs.Filling.{Filling, fill-start, fill-as, fill-
 use Rattle.map_show.proofs.Samples.{length-average}
 use Rattle.map_show.proofs.Places.{pixel-at, below, pixel-end, length-pixel}
 
--- A row with u columns more: from pixel c on it is still to come, or from the place behind pixel c on.
+-- A row with u columns more: from pixel c on it is still to come, or from the place after pixel c on.
 abbrev pub Growing : Kind → List ℕ → List ℕ → ℕ → List ℕ → ℕ → List ℕ → ℕ → Type 0
 Growing k samples ys u before c out at =
     Filling before (grown k samples ys u) out at

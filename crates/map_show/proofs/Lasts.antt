@@ -1,4 +1,4 @@
--- The pixel of the last column, put alone or behind its new pixel.
+-- The pixel of the last column, put alone or after its new pixel.
 use mathlib.Core.Path.{_≡_, sym, ap, _∙_}
 use mathlib.Core.Bool.{Bool, true, false}
 use mathlib.Core.List.{List, [], _++_, append-nil}

@@ -1,4 +1,4 @@
--- The rows of a picture, shown one behind the other: what the operation that shows a whole picture needs.
+-- The rows of a picture, shown one after the other: what the operation that shows a whole picture needs.
 use mathlib.Core.Path.{_≡_, refl, sym, ap, ap₂, _∙_}
 use mathlib.Core.Bool.{true}
 use mathlib.Core.List.{List, [], _∷_, _++_, map, zipWith}
@@ -59,7 +59,7 @@ module _ (z : Size) (b : List ℕ) (q : List (List ℕ)) (v : ℕ) where
   abbrev pub shownRow : ℕ → List ℕ
   shownRow r = rowShown (z .kind) (rowAt (rowBytes z) r b) (getD q r []) v
 
-  -- What a picture and its map show is the rows shown, one behind the other.
+  -- What a picture and its map show is the rows shown, one after the other.
   pub shown-rows : {h : ℕ} → Grid (z .width) h q
       → bytes (shown average (z .width) v (picture z b) q) ≡ flat (shownRows (z .kind) v (rowsOf (rowBytes z) (z .height) b) q)
   unfolding bytes shown picture

@@ -39,7 +39,7 @@ module _ (ch : ℕ) (b : List ℕ) (c : ℕ) (out : List ℕ) (at : ℕ) where
       ap₂ average (table-part b (c * ch) ch 0 (needed .inside)) (table-part b (d * ch) ch 0 (needed .beside))
       ∙ average-table (sample ch b c) (sample ch b d) ch
 
--- Three stores one behind the other.
+-- Three stores one after the other.
 three-sets : (f : ℕ → ℕ) (out : List ℕ) (at : ℕ) → set (set (set out at (f 0)) (at + 1) (f 1)) (at + 2) (f 2) ≡ sets out at (table f 3)
 three-sets f out at = let two : at + 2 ≡ suc (suc at) = omega arith in rw (add-one at, two)
 

@@ -21,7 +21,7 @@ abbrev pub rowAtRules : Kind → List ℕ → List ℕ → ℕ → ℕ → List 
 rowAtRules k samples numbers v space =
     4 when not (eqb (length samples) (length numbers * channelsOf k)) ∷ 8 when ltb space (length (rowShown k samples numbers v)) ∷ []
 
--- What showing a row gives: the number, and the space, which keeps what stands behind the row.
+-- What showing a row gives: the number, and the space, which keeps what stands after the row.
 pub record RowShown (k : Kind) (samples numbers : List ℕ) (v : ℕ) (out : List ℕ) (answer : Verdict) (out′ : List ℕ) : Type 0 where
   pub number-is : given answer ≡ refusal (rowAtRules k samples numbers v (length out))
   pub out-is :

@@ -46,7 +46,7 @@ example = picture (grey 3 2) (10 ∷ 10 ∷ 40 ∷ 10 ∷ 50 ∷ 40 ∷ [])
 abbrev pub afterOne : Picture
 afterOne = cut (2 ∷ 2 ∷ []) example
 
--- The file of a grey picture of so many columns and rows, of depth k and growth g.
+-- The file of a grey picture of w columns and h rows, of depth k and growth g.
 abbrev pub greyHead : ℕ → ℕ → ℕ → ℕ → Head
 greyHead w h k g = record { size = grey w h; depth = k; growth = g }
 

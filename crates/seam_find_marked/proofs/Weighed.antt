@@ -105,7 +105,7 @@ weight-most e mark l = go (eqb mark 2) (eqb mark 1)
     go false true = omega arith
     go false false = omega arith
 
--- A picture with its marks behind it in a buffer.
+-- A picture with its marks after it in a buffer.
 module _ (z : Size) (b : List ℕ) (sized : Sized z (length (take (pictureBytes z) b))) (byte : (i : ℕ) → getD (take (pictureBytes z) b) i 0 ≤ 255) where
   abbrev p : Picture
   p = pictureIn z b

@@ -20,7 +20,7 @@ use Rattle.seam_rules.proofs.Left.{smaller-sides}
 use Rattle.seam_retarget.proofs.Slots.{less-row, same-picture, placed-horizontal}
 use Rattle.seam_retarget.proofs.Sweep.{along-same, next-same, held-new, held-other, set-small, step-cell, slot-kept, up-to}
 
--- The row below row r up to column j; behind it stands row r.
+-- The row below row r up to column j; after it stands row r.
 pub record RestSoFar (z : Size) (whole r c : ℕ) (work₀ totals₀ : List ℕ) (j : ℕ) (work totals : List ℕ) : Type 0 where
   pub inside : j ≤ c
   pub long : length work ≡ length work₀

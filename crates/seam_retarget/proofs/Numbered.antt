@@ -18,7 +18,7 @@ cellAt z p (suc r) (suc c) =
     (bySeam Vertical (smaller z (suc r) c) (cellAt z p (suc r) c))
     (bySeam Horizontal (smaller z r (suc c)) (cellAt z p r (suc c)))
 
--- So many rows are so many, and columns alike.
+-- n rows removed are n rows, and columns alike.
 rows-in : (r : ℕ) → asRows (manyRows r) .0 ≡ r
 rows-in zero = refl
 rows-in (suc r) = ap suc (rows-in r)

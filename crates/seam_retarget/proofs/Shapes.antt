@@ -95,7 +95,7 @@ cell-ofSize z p s o rows columns h w =
     subst (λ (k : Cell). OfSize (leftSize z rows columns) (k .picture)) (sym (cell-numbers z p rows columns))
     (cell-of (λ x. length x ≡ channelsOf (z .kind)) z p s o (rows .0) (columns .0) h w)
 
--- A pixel of so many samples, each a byte.
+-- A pixel of ch samples, each a byte.
 pub record Bytes (channels : ℕ) (x : List ℕ) : Type 0 where
   pub many : length x ≤ channels
   pub small : (k : ℕ) → getD x k 0 ≤ 255

@@ -64,7 +64,7 @@ slots-apart k j w other =
 pub double-few : (z : Size) (whole r c : ℕ) → whole ≡ pictureBytes z → pictureBytes (smaller z r c) + pixels (smaller z r c) ≤ 2 * whole
 double-few z whole r c is = omega (arith, smaller-few z r c, pixels-few (smaller z r c))
 
--- A slot, and a place for work behind the slots.
+-- A slot, and a place for work after the slots.
 pub record Placed (z′ : Size) (whole k p work : ℕ) : Type 0 where
   pub here : PlacesApart work (k * whole) (p * whole) (pictureBytes z′)
   pub there : PlacesApart work (p * whole) (k * whole) (pictureBytes z′)

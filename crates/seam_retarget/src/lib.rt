@@ -11,7 +11,7 @@ use seam_rules::Rows;
 ghost use Rattle.seam_retarget.specs.Retargeting.{RetargetGiven};
 ghost use Rattle.seam_retarget.specs.Inner.Retargets.{RetargetNeeded, LastGiven};
 
-// The picture with so many rows and so many columns less, put into the front of out, and the total of its seams. Refused by
+// The picture with `rows` rows and `columns` columns less, put into the front of out, and the total of its seams. Refused by
 // 2, 3 and 4 as every picture is, by 7 where either count is over 64 or leaves nothing, and by 8.
 pub fn retarget(
     picture: &[u8],

@@ -142,7 +142,7 @@ pub fn after_cut(buffer: &[u8], size: Size, bytes: usize, axis: Axis, seam: &[u1
     kept
 }
 
-/// The bytes with zeros behind them up to a length.
+/// The bytes with zeros after them up to a length.
 pub fn padded(mut bytes: Vec<u8>, length: usize) -> Vec<u8> {
     bytes.resize(length, 0);
     bytes

@@ -23,7 +23,7 @@ pub struct Cursor<'a> {
 }
 
 impl Cursor<'_> {
-    /// Goes on behind the expected bytes if they stand here.
+    /// Goes on after the expected bytes if they stand here.
     pub fn meets(&mut self, expected: &str) -> bool {
         let found = self.text[self.at..].starts_with(expected.as_bytes());
         if found {

@@ -7,7 +7,7 @@ use Rattle.pictures.specs.Refusals.{refusal}
 use Rattle.pictures.specs.Pictures.{largestSide, sizeRules}
 use Rattle.text_theory.specs.declared.Head.{Head}
 
--- A row with places for so many numbers.
+-- A row with places for `depth` numbers.
 pub record OrderNeeded (row : List ℕ) (depth : ℕ) : Type 0 where
   pub room : depth ≤ length row
   pub small : depth ≤ largestSide

@@ -19,7 +19,7 @@ pub record RowsRead (file : List ℕ) (h : Head) (space : List ℕ) (at : ℕ) (
   pub place : drop at file ≡ fromMaps (parse file)
   pub space-is : space′ ≡ bytes (rowsIn (parse file)) ++ drop (pictureBytes (h .size)) space
 
--- The map lines, from the first one on, and room for so many values a pixel.
+-- The map lines, from the first one on, and room for `values` bytes or numbers a pixel.
 pub record MapsNeeded (file : List ℕ) (h : Head) (at values space : ℕ) : Type 0 where
   pub opened : Open file h
   pub place : drop at file ≡ fromMaps (parse file)

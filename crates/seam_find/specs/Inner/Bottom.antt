@@ -11,7 +11,7 @@ use Rattle.pictures.specs.Pictures.{sizeRules, pictureBytes}
 use Rattle.seam_sums.specs.Least.{leastTo}
 use Rattle.seam_find.specs.Inner.Sums.{sumsDown, waysUp}
 
--- Below, the first `from` bytes of a space hold what the costs of each row are read from; behind them is room for the ways.
+-- Below, the first `from` bytes of a space hold what the costs of each row are read from; after them is room for the ways.
 -- A picture of its size at the front of a space, with room for the ways between its rows.
 pub record BottomNeeded (from : ℕ) (z : Size) (bytes : ℕ) (space : List ℕ) : Type 0 where
   pub bytes-are : bytes ≡ pictureBytes z

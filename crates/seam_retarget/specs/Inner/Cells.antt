@@ -15,7 +15,7 @@ use Rattle.seam_rules.specs.declared.answers.Columns.{Columns}
 use Rattle.seam_rules.specs.Counts.{leftSize, largestCount}
 use Rattle.seam_retarget.specs.Inner.Seams.{pictureAt}
 
--- The work space has 65 slots of one picture each, slot j at j pictures; behind them stand two places for work of two
+-- The work space has 65 slots of one picture each, slot j at j pictures; after them stand two places for work of two
 -- pictures each, for a vertical seam at 65 pictures and for a horizontal one at 67.
 abbrev pub slots : ℕ
 slots = 65

@@ -30,7 +30,7 @@ pub record TurnNeeded (work : ℕ) (from : ℕ) (z : Size) (to : ℕ) : Type 0 w
   pub sides : refusal (sideRules z) ≡ 0
   pub places : PlacesApart work from to (pictureBytes z)
 
--- The same, with a byte for each pixel behind the second, and room for the seam.
+-- The same, with a byte for each pixel after the second, and room for the seam.
 pub record SeamNeeded (work : ℕ) (from : ℕ) (z : Size) (x : Axis) (at seam : ℕ) : Type 0 where
   pub sides : refusal (sideRules z) ≡ 0
   pub places : PlacesApart work from at (pictureBytes z)
@@ -67,7 +67,7 @@ pub record CutGiven (work : List ℕ) (at : ℕ) (z : Size) (x : Axis) (seam : L
   pub long : length work′ ≡ length work
   pub others : (a n : ℕ) → Apart a n at (pictureBytes z) → Apart a n to (pictureBytes z) → partAt a n work′ ≡ partAt a n work
 
--- A picture at `from`, a place `at` for the work, with a byte for each pixel behind it, and a place for the picture left.
+-- A picture at `from`, a place `at` for the work, with a byte for each pixel after it, and a place for the picture left.
 pub record StepNeeded (work : ℕ) (from : ℕ) (z : Size) (x : Axis) (at to : ℕ) : Type 0 where
   pub sides : refusal (sideRules z) ≡ 0
   pub wide : 1 < turnedSize x z .width

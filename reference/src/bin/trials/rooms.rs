@@ -47,8 +47,8 @@ fn rooms(picture: &[u8], info: FileInfo, file: &[u8]) {
 }
 
 /// Lines of numbers: for every front of the file and for the file with a byte
-/// 0 behind it; for each byte changed to one of five; and for each digit
-/// exchanged with each one behind it.
+/// 0 after it; for each byte changed to one of five; and for each digit
+/// exchanged with each one after it.
 fn damages(file: &[u8]) {
     let mut longer = file.to_vec();
     longer.push(0);

@@ -33,7 +33,7 @@ needed c =
     let a = st .args in
     grow-needed (a .kind) (now (a .samples)) (now (a .numbers)) (st .pre .whole) (a .u) (now (a .out)) (head .c) (head .out) (head .at) (omega (arith, c .loop-test .taken)) (head .inv .1 .1)
 
--- what is still to come behind it
+-- what is still to come after it
 behind : (c : tie.After-put-pixel Inv-loop μ-loop)
     → let at-loop = c .before .before .before in
     let s = at-loop .before .before .before .before .before .before in

@@ -1,4 +1,4 @@
--- `seam_retarget::table::rest_of_row` meets its contract. The loop's invariant: the cells up to column j are there, and behind
+-- `seam_retarget::table::rest_of_row` meets its contract. The loop's invariant: the cells up to column j are there, and after
 -- them those of the row above.
 use mathlib.Core.Path.{_≡_, sym, _∙_}
 use Prim.Native.Nat.{_+_, _-_, _<_}
