@@ -9,7 +9,9 @@ fn main() {
     let archive = folder.join("libmultisize.a");
     println!("cargo::rerun-if-changed={}", archive.display());
     if !archive.exists() {
-        println!("cargo::error=lib/x86_64-linux/libmultisize.a is missing: run `./carve renew` first");
+        println!(
+            "cargo::error=lib/x86_64-linux/libmultisize.a is missing: run `./carve renew` first"
+        );
         return;
     }
     println!("cargo::rustc-link-search=native={}", folder.display());
