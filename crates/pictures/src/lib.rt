@@ -12,6 +12,7 @@ pub use refusals::number;
 pub use sizes::Kind;
 pub use sizes::LARGEST_SIDE;
 pub use sizes::Size;
+pub use sizes::WORK_A_PIXEL;
 pub use sizes::channels;
 pub use sizes::judge_picture;
 pub use sizes::judge_sides;

@@ -11,7 +11,7 @@ ghost use Prim.Native.Nat.{_≤_};
 pub const LARGEST_SIDE: usize = 512;
 
 // Bytes of work space for each pixel.
-const WORK_A_PIXEL: usize = 32;
+pub const WORK_A_PIXEL: usize = 32;
 
 pub enum Kind {
     Grey,

@@ -2,6 +2,7 @@
 use file_rules::Shown;
 use pictures::Refusal;
 use pictures::Verdict;
+use pictures::WORK_A_PIXEL;
 use program_netpbm::OUTPUT_SPACE;
 use program_netpbm::Output;
 use program_rules::HELD_PIXELS;
@@ -75,7 +76,7 @@ fn draw_in(file: &[u8], width: usize, picture: &mut [u8], out: &mut [u8]) -> Out
     requires { ⌜ DrawNeeded (now file) (now picture) (now out) ⌝ }
     ensures { λ o. ⌜ PictureAnswered (now (file .entry)) width (now (out .entry)) o (now (out .exit)) ⌝ }
 {
-    let mut work = [0u8; 32 * HELD_PIXELS];
+    let mut work = [0u8; WORK_A_PIXEL * HELD_PIXELS];
     match file_read::show(file, width, picture, &mut work) {
         Shown::Size(size) => {
             let kind = size.kind;

@@ -3,6 +3,7 @@ use file_rules::Built;
 use pictures::Refusal;
 use pictures::Size;
 use pictures::Verdict;
+use pictures::WORK_A_PIXEL;
 use program_netpbm::Header;
 use program_netpbm::OUTPUT_SPACE;
 use program_netpbm::Output;
@@ -52,7 +53,7 @@ fn build_file(size: Size, samples: &[u8], out: &mut [u8]) -> Output
         depth: width - 1,
         growth: width / 2,
     };
-    let mut work = [0u8; 32 * HELD_PIXELS];
+    let mut work = [0u8; WORK_A_PIXEL * HELD_PIXELS];
     match file_build::build(samples, head, out, &mut work) {
         Built::Length(n) => Output::Length(n),
         Built::Refused(why) => Output::Refused(why),

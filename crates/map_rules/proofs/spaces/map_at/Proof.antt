@@ -1,4 +1,5 @@
--- `map_rules::spaces::map_at` meets its contract.
+-- `map_rules::spaces::map_at` meets its contract: what is given out of the picture and of its pixels is for the
+-- same sizes, and so is the sum.
 use mathlib.Core.Path.{ap₂, _∙_}
 use Prim.Native.Nat.{_+_}
 use native.Mathlib.Omega.{arith}

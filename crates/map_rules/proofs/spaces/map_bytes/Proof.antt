@@ -1,4 +1,4 @@
--- `map_rules::spaces::map_bytes` meets its contract.
+-- `map_rules::spaces::map_bytes` meets its contract: twice the pixels given out.
 use mathlib.Core.Path.{ap, _∙_}
 use Prim.Native.Nat.{_*_}
 use native.Mathlib.Omega.{arith}

@@ -1,4 +1,4 @@
--- `pictures::sizes::pixels` meets its contract.
+-- `pictures::sizes::pixels` meets its contract. Sides that are served bound the product; where they aren't, 0 is given.
 use mathlib.Core.Path.{_≡_, sym, ap, _∙_}
 use native.Mathlib.Omega.{arith}
 use borrow.Author.Needs.{needs}

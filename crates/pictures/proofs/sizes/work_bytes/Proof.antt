@@ -1,4 +1,4 @@
--- `pictures::sizes::work_bytes` meets its contract.
+-- `pictures::sizes::work_bytes` meets its contract: a multiple of the pixels given out is given out for the same sizes.
 use mathlib.Core.Path.{ap, _∙_}
 use Prim.Native.Nat.{_*_}
 use native.Mathlib.Omega.{arith}
