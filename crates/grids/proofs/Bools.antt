@@ -1,5 +1,6 @@
 -- Laws of tests joined by and and or, beside those of the library.
 use mathlib.Core.Path.{_≡_, refl, sym}
+use mathlib.Core.Logic.{_⊎_, inl, inr}
 use mathlib.Core.Bool.{Bool, true, false, _&&_, _||_, and-eq-true-iff}
 
 -- A conjunction that holds, taken apart and put together.
@@ -8,6 +9,18 @@ both a b e = and-eq-true-iff a b .0 e
 
 pub and-both : (a b : Bool) → a ≡ true → b ≡ true → (a && b) ≡ true
 and-both a b p q = and-eq-true-iff a b .1 (p, q)
+
+-- A disjunction that holds, taken apart and put together.
+pub either : (a b : Bool) → (a || b) ≡ true → (a ≡ true) ⊎ (b ≡ true)
+either true b e = inl refl
+either false b e = inr e
+
+pub or-left : (a b : Bool) → a ≡ true → (a || b) ≡ true
+or-left a b e = rw e
+
+pub or-right : (a b : Bool) → b ≡ true → (a || b) ≡ true
+or-right true b e = refl
+or-right false b e = e
 
 -- A disjunction that fails, taken apart.
 pub neither : (a b : Bool) → (a || b) ≡ false → (a ≡ false) × (b ≡ false)

@@ -48,21 +48,21 @@ untouching m q e t = omega (arith, touched m q t)
 
 module _ (w h : ℕ) (p : Picture) where
   -- The seam found without marks is the cheapest of all paths,
-  pub seam-cheapest : (s : List ℕ) → (seamUp w h p ≡ some s) ↔ IsCheapest (along (energy p)) (paths (nearby w) w h) s
-  seam-cheapest s = cheapest-is (energy p 0) (λ i a c. energy p i c) w h s
+  pub seam-cheapest : (s : List ℕ) → (seamUp w h p ≡ some s) ↔ IsCheapest (along (energy p)) (paths (nearby false w) w h) s
+  seam-cheapest s = cheapest-is (energy p 0) (λ i a c. energy p i c) false w h s
 
-  listed-seam : (s : List ℕ) → IsCheapest (along (energy p)) (paths (nearby w) w h) s → IsSeam w h p s
+  listed-seam : (s : List ℕ) → IsCheapest (along (energy p)) (paths (nearby false w) w h) s → IsSeam w h p s
   listed-seam s k = record {
-    path = nearby-paths w h s .0 (k .member);
-    cheap = λ t i. k .cheap t (nearby-paths w h t .1 i);
-    early = λ t i. k .early t (nearby-paths w h t .1 i);
+    path = nearby-paths false w h s .0 (k .member);
+    cheap = λ t i. k .cheap t (nearby-paths false w h t .1 i);
+    early = λ t i. k .early t (nearby-paths false w h t .1 i);
   }
 
-  seam-listed : (s : List ℕ) → IsSeam w h p s → IsCheapest (along (energy p)) (paths (nearby w) w h) s
+  seam-listed : (s : List ℕ) → IsSeam w h p s → IsCheapest (along (energy p)) (paths (nearby false w) w h) s
   seam-listed s k = record {
-    member = nearby-paths w h s .1 (k .path);
-    cheap = λ t i. k .cheap t (nearby-paths w h t .0 i);
-    early = λ t i. k .early t (nearby-paths w h t .0 i);
+    member = nearby-paths false w h s .1 (k .path);
+    cheap = λ t i. k .cheap t (nearby-paths false w h t .0 i);
+    early = λ t i. k .early t (nearby-paths false w h t .0 i);
   }
 
   -- said without a list of them;
@@ -72,7 +72,7 @@ module _ (w h : ℕ) (p : Picture) where
   -- there is one,
   pub seam-some : 0 < w → 0 < h → (s : List ℕ) × (seamUp w h p ≡ some s) × IsSeam w h p s
   seam-some k l =
-      let t = cheapest-some (energy p 0) (λ i a c. energy p i c) w h k l in
+      let t = cheapest-some (energy p 0) (λ i a c. energy p i c) false w h k l in
       (t .0, t .1, listed-seam (t .0) (t .2))
 
   -- and only one.
@@ -82,25 +82,25 @@ module _ (w h : ℕ) (p : Picture) where
 module _ (w h : ℕ) (p : Picture) (m : List (List ℕ)) where
   -- The seam found with marks is the preferred one of all paths that are allowed,
   pub marked-preferred : (s : List ℕ) → (markedUp w h p m ≡ some s)
-      ↔ IsPreferred (along (isMark 1 m)) (along (isMark 2 m)) (along (energy p)) (paths (nearby w) w h) s
-  marked-preferred s = allowed-is (along (isMark 1 m)) (along (isMark 2 m)) (along (energy p)) (paths (nearby w) w h) (nearby-paths-asc w h) s
+      ↔ IsPreferred (along (isMark 1 m)) (along (isMark 2 m)) (along (energy p)) (paths (nearby false w) w h) s
+  marked-preferred s = allowed-is (along (isMark 1 m)) (along (isMark 2 m)) (along (energy p)) (paths (nearby false w) w h) (nearby-paths-asc false w h) s
 
-  listed-marked : (s : List ℕ) → IsPreferred (along (isMark 1 m)) (along (isMark 2 m)) (along (energy p)) (paths (nearby w) w h) s → IsMarkedSeam w h p m s
+  listed-marked : (s : List ℕ) → IsPreferred (along (isMark 1 m)) (along (isMark 2 m)) (along (energy p)) (paths (nearby false w) w h) s → IsMarkedSeam w h p m s
   listed-marked s k = record {
-    path = nearby-paths w h s .0 (k .member);
+    path = nearby-paths false w h s .0 (k .member);
     free = untouching m s (k .allowed);
-    most = λ t i n. k .most t (nearby-paths w h t .1 i) (untouched m t n);
-    cheap = λ t i n. k .cheap t (nearby-paths w h t .1 i) (untouched m t n);
-    early = λ t i n. k .early t (nearby-paths w h t .1 i) (untouched m t n);
+    most = λ t i n. k .most t (nearby-paths false w h t .1 i) (untouched m t n);
+    cheap = λ t i n. k .cheap t (nearby-paths false w h t .1 i) (untouched m t n);
+    early = λ t i n. k .early t (nearby-paths false w h t .1 i) (untouched m t n);
   }
 
-  marked-listed : (s : List ℕ) → IsMarkedSeam w h p m s → IsPreferred (along (isMark 1 m)) (along (isMark 2 m)) (along (energy p)) (paths (nearby w) w h) s
+  marked-listed : (s : List ℕ) → IsMarkedSeam w h p m s → IsPreferred (along (isMark 1 m)) (along (isMark 2 m)) (along (energy p)) (paths (nearby false w) w h) s
   marked-listed s k = record {
-    member = nearby-paths w h s .1 (k .path);
+    member = nearby-paths false w h s .1 (k .path);
     allowed = untouched m s (k .free);
-    most = λ t i n. k .most t (nearby-paths w h t .0 i) (untouching m t n);
-    cheap = λ t i n. k .cheap t (nearby-paths w h t .0 i) (untouching m t n);
-    early = λ t i n. k .early t (nearby-paths w h t .0 i) (untouching m t n);
+    most = λ t i n. k .most t (nearby-paths false w h t .0 i) (untouching m t n);
+    cheap = λ t i n. k .cheap t (nearby-paths false w h t .0 i) (untouching m t n);
+    early = λ t i n. k .early t (nearby-paths false w h t .0 i) (untouching m t n);
   }
 
   -- said without a list of them;
@@ -112,14 +112,14 @@ module _ (w h : ℕ) (p : Picture) (m : List (List ℕ)) where
   marked-unique s t a b = Option·some-injective s t (sym (marked-is s .1 a) ∙ marked-is t .1 b)
 
   -- and none just where each path touches a protected pixel.
-  pub marked-none : (markedUp w h p m ≡ none) ↔ ((q : List ℕ) → IsPath w h q → Touches m q)
+  pub marked-none : (markedUp w h p m ≡ none) ↔ ((q : List ℕ) → IsPath false w h q → Touches m q)
   marked-none = (
-    λ e q i. touching m q (pos-of-ne-zero (all .0 e q (nearby-paths w h q .1 i))),
-    λ k. all .1 (λ q i a. untouching m q a (k q (nearby-paths w h q .0 i))),
+    λ e q i. touching m q (pos-of-ne-zero (all .0 e q (nearby-paths false w h q .1 i))),
+    λ k. all .1 (λ q i a. untouching m q a (k q (nearby-paths false w h q .0 i))),
   )
     where
-      all : (markedUp w h p m ≡ none) ↔ ((q : List ℕ) → List·Memᴰ q (paths (nearby w) w h) → along (isMark 1 m) q ≡ 0 → ⊥)
-      all = allowed-none (along (isMark 1 m)) (along (isMark 2 m)) (along (energy p)) (paths (nearby w) w h)
+      all : (markedUp w h p m ≡ none) ↔ ((q : List ℕ) → List·Memᴰ q (paths (nearby false w) w h) → along (isMark 1 m) q ≡ 0 → ⊥)
+      all = allowed-none (along (isMark 1 m)) (along (isMark 2 m)) (along (energy p)) (paths (nearby false w) w h)
 
   -- Where no pixel is protected or to be removed, marks change nothing.
   module _ (plain : (r c : ℕ) → (isMark 1 m r c ≡ 0) × (isMark 2 m r c ≡ 0)) where
@@ -128,7 +128,7 @@ module _ (w h : ℕ) (p : Picture) (m : List (List ℕ)) where
 
     pub unmarked-up : markedUp w h p m ≡ seamUp w h p
     unmarked-up =
-        unmarked (along (isMark 1 m)) (along (isMark 2 m)) (along (energy p)) (paths (nearby w) w h)
+        unmarked (along (isMark 1 m)) (along (isMark 2 m)) (along (energy p)) (paths (nearby false w) w h)
         (λ q i. (nothing (isMark 1 m) q (λ r c. plain r c .0), nothing (isMark 2 m) q (λ r c. plain r c .1)))
 
     pub unmarked-seam : markedSeamOf w h p m ≡ seamOf w h p

@@ -1,8 +1,6 @@
--- Seams whose columns differ by at most 1 from row to row, and paths, among them the seam of a picture, as a way of choosing
--- them.
+-- Paths, among them the seam of a picture, as a way of choosing seams.
 use mathlib.Core.Path.{_≡_, refl, subst}
-use mathlib.Core.Logic.{_↔_}
-use mathlib.Core.Bool.{Bool, true}
+use mathlib.Core.Bool.{Bool, true, false}
 use mathlib.Core.Option.{Option·getD}
 use mathlib.Core.List.{List, [], _∷_, reverse, reverseAux}
 use Prim.Native.Nat.{ℕ, zero, suc, _<_}
@@ -12,27 +10,12 @@ use Rattle.grids.proofs.Bools.{both, and-both}
 use Rattle.grids.proofs.Shapes.{each-member, each-reverse}
 use Rattle.pictures.specs.Pictures.{Picture}
 use Rattle.seam_theory.specs.Best.{firstBest}
-use Rattle.seam_theory.specs.Paths.{beside, paths}
-use Rattle.seam_theory.specs.Connected.{Linked, IsPath}
-use Rattle.seam_theory.proofs.Nearby.{beside-is}
+use Rattle.seam_theory.specs.Paths.{near, paths}
+use Rattle.seam_theory.specs.Connected.{linked, IsPath}
+use Rattle.seam_theory.proofs.Nearby.{near-both}
 use Rattle.seam_theory.specs.PictureSeams.{seamUp, seamOf}
-use Rattle.seam_theory.specs.Choices.{linked, Choice, Chooses}
+use Rattle.seam_theory.specs.Choices.{Choice, Chooses}
 use Rattle.seam_theory.proofs.Characterised.{seam-some}
-
--- The test of a seam's columns, as inequations.
-pub linked-is : (c : ℕ) (s : List ℕ) → (linked beside (c ∷ s) ≡ true) ↔ Linked (c ∷ s)
-linked-is c s = (there c s, back c s)
-  where
-    there : (c : ℕ) (s : List ℕ) → linked beside (c ∷ s) ≡ true → Linked (c ∷ s)
-    there c [] e = tt
-    there c (d ∷ s) e =
-        let b = both (beside c d) (linked beside (d ∷ s)) e in
-        let k = beside-is c d .0 (b .0) in
-        (k .0, k .1, there d s (b .1))
-
-    back : (c : ℕ) (s : List ℕ) → Linked (c ∷ s) → linked beside (c ∷ s) ≡ true
-    back c [] l = refl
-    back c (d ∷ s) l = and-both (beside c d) (linked beside (d ∷ s)) (beside-is c d .1 (l .0, l .1)) (back d s (l .2))
 
 module _ (near : ℕ → ℕ → Bool) (symmetric : (c d : ℕ) → near c d ≡ true → near d c ≡ true) where
   -- The step from a list turned round to what stands after it.
@@ -60,14 +43,11 @@ module _ (near : ℕ → ℕ → Bool) (symmetric : (c d : ℕ) → near c d ≡
   pub linked-reverse : (s : List ℕ) → linked near s ≡ true → linked near (reverse s) ≡ true
   linked-reverse s e = linked-turned s [] e refl (meets-end s)
 
-beside-both : (c d : ℕ) → beside c d ≡ true → beside d c ≡ true
-beside-both c d e = let k = beside-is c d .0 e in beside-is d c .1 (k .1, k .0)
-
 -- A way to choose a path from the bottom row upward is, read from the top row, a way to choose a seam.
-pub paths-choose : {A : Type 0} (up : Choice A)
-    → ((w h : ℕ) (p : List (List A)) → 0 < w → 0 < h → Grid w h p → IsPath w h (up w h p)) → ((w : ℕ) (p : List (List A)) → up w 0 p ≡ [])
-    → Chooses (λ w. beside) (λ w h p. reverse (up w h p))
-paths-choose {A} up path low = record { inside = inside; joined = joined }
+pub paths-choose : {A : Type 0} (wrap : Bool) (up : Choice A)
+    → ((w h : ℕ) (p : List (List A)) → 0 < w → 0 < h → Grid w h p → IsPath wrap w h (up w h p)) → ((w : ℕ) (p : List (List A)) → up w 0 p ≡ [])
+    → Chooses (near wrap) (λ w h p. reverse (up w h p))
+paths-choose {A} wrap up path low = record { inside = inside; joined = joined }
   where
     inside : (w h : ℕ) (p : List (List A)) → 0 < w → Grid w h p → Each (λ c. c < w) h (reverse (up w h p))
     inside w zero p l g = rw (low w p) none
@@ -75,18 +55,14 @@ paths-choose {A} up path low = record { inside = inside; joined = joined }
         let k = path w (suc h) p l (omega arith) g in
         each-reverse (subst (λ n. Each (λ c. c < w) n (up w (suc h) p)) (k .size) (each-member (up w (suc h) p) (k .within)))
 
-    whole : (s : List ℕ) → Linked s → linked beside s ≡ true
-    whole [] l = refl
-    whole (c ∷ s) l = linked-is c s .1 l
-
-    joined : (w h : ℕ) (p : List (List A)) → 0 < w → Grid w h p → linked beside (reverse (up w h p)) ≡ true
+    joined : (w h : ℕ) (p : List (List A)) → 0 < w → Grid w h p → linked (near wrap w) (reverse (up w h p)) ≡ true
     joined w zero p l g = rw (low w p)
-    joined w (suc h) p l g = linked-reverse beside beside-both (up w (suc h) p) (whole (up w (suc h) p) (path w (suc h) p l (omega arith) g .linked))
+    joined w (suc h) p l g = linked-reverse (near wrap w) (near-both wrap w) (up w (suc h) p) (path w (suc h) p l (omega arith) g .connected)
 
 -- The seam of a picture is such a path.
-seam-path : (w h : ℕ) (p : Picture) → 0 < w → 0 < h → Grid w h p → IsPath w h (Option·getD (seamUp w h p) [])
+seam-path : (w h : ℕ) (p : Picture) → 0 < w → 0 < h → Grid w h p → IsPath false w h (Option·getD (seamUp w h p) [])
 seam-path w h p k l g = let s = seam-some w h p k l in rw (s .1) (s .2 .path)
 
-pub seam-chooses : Chooses (λ w. beside) seamOf
+pub seam-chooses : Chooses (near false) seamOf
 unfolding seamOf paths firstBest
-seam-chooses = paths-choose (λ w h p. Option·getD (seamUp w h p) []) seam-path (λ w p. refl)
+seam-chooses = paths-choose false (λ w h p. Option·getD (seamUp w h p) []) seam-path (λ w p. refl)

@@ -14,5 +14,10 @@ pub mod Weights
 pub mod Steps
 pub mod Rows
 pub mod Loops
+pub mod Joins
+pub mod Fenced
+pub mod Kernel
+pub mod Sums
+pub mod Priced
 pub mod Characterised
 pub mod Choosing

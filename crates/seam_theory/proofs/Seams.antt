@@ -75,14 +75,14 @@ module _ (price : List ℕ → ℕ) (xs : List (List ℕ)) where
       all : (least price xs ≡ some s) ↔ IsBest (byCost price) xs s
       all = best-is (byCost price) (cost-order price) xs up s
 
-module _ (first : ℕ → ℕ) (step : ℕ → ℕ → ℕ → ℕ) (w h : ℕ) where
+module _ (first : ℕ → ℕ) (step : ℕ → ℕ → ℕ → ℕ) (wrap : Bool) (w h : ℕ) where
   -- The path found is the cheapest.
-  pub cheapest-is : (s : List ℕ) → (cheapest (nearby w) first step w h ≡ some s) ↔ IsCheapest (cost first step) (paths (nearby w) w h) s
-  cheapest-is s = least-is (cost first step) (paths (nearby w) w h) (nearby-paths-asc w h) s
+  pub cheapest-is : (s : List ℕ) → (cheapest (nearby wrap w) first step w h ≡ some s) ↔ IsCheapest (cost first step) (paths (nearby wrap w) w h) s
+  cheapest-is s = least-is (cost first step) (paths (nearby wrap w) w h) (nearby-paths-asc wrap w h) s
 
   -- One is found in every grid.
-  pub cheapest-some : 0 < w → 0 < h → (s : List ℕ) × (cheapest (nearby w) first step w h ≡ some s) × IsCheapest (cost first step) (paths (nearby w) w h) s
+  pub cheapest-some : 0 < w → 0 < h → (s : List ℕ) × (cheapest (nearby wrap w) first step w h ≡ some s) × IsCheapest (cost first step) (paths (nearby wrap w) w h) s
   cheapest-some k l =
-      let p = some-path w h k l in
-      let t = best-some (byCost (cost first step)) (paths (nearby w) w h) (p .0) (p .1) in
+      let p = some-path wrap w h k l in
+      let t = best-some (byCost (cost first step)) (paths (nearby wrap w) w h) (p .0) (p .1) in
       (t .0, t .1, cheapest-is (t .0) .0 (t .1))

@@ -1,19 +1,14 @@
 -- A way of choosing a seam, and what is asked of it: everything that a map needs to know of energies and paths.
 use mathlib.Core.Path.{_≡_}
-use mathlib.Core.Bool.{Bool, true, _&&_}
-use mathlib.Core.List.{List, [], _∷_}
+use mathlib.Core.Bool.{Bool, true}
+use mathlib.Core.List.{List}
 use Prim.Native.Nat.{ℕ, _<_}
 use Rattle.grids.specs.Each.{Each, Grid}
+use Rattle.seam_theory.specs.Connected.{linked}
 
 -- From width, height and picture to the columns of a seam, from the top row.
 abbrev pub Choice : Type 0 → Type 0
 Choice A = ℕ → ℕ → List (List A) → List ℕ
-
--- The columns of neighbouring rows pass the test.
-abbrev pub linked : (ℕ → ℕ → Bool) → List ℕ → Bool
-linked near [] = true
-linked near (c ∷ []) = true
-linked near (c ∷ d ∷ s) = near c d && linked near (d ∷ s)
 
 -- "A vertical seam has one column for each row, neighbouring rows differing by at most 1": one column below the width for
 -- each row, and connected. `near w c d`: at width w a seam may go from column c of a row to column d of the next.

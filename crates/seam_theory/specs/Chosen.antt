@@ -2,6 +2,7 @@
 -- row upward.
 use mathlib.Core.Path.{_≡_}
 use mathlib.Core.Logic.{_⊎_}
+use mathlib.Core.Bool.{false}
 use mathlib.Core.List.{List, [], _∷_}
 use Prim.Native.Nat.{ℕ, _≤_}
 use lib.ListN.{length}
@@ -14,9 +15,9 @@ use Rattle.seam_theory.specs.PictureSeams.{markAt, isMark}
 
 -- A connected path, none is cheaper, and each other that costs the same comes after it, read from the bottom row upward.
 pub record IsSeam (w h : ℕ) (p : Picture) (s : List ℕ) : Type 0 where
-  pub path : IsPath w h s
-  pub cheap : (t : List ℕ) → IsPath w h t → along (energy p) s ≤ along (energy p) t
-  pub early : (t : List ℕ) → IsPath w h t → along (energy p) t ≡ along (energy p) s → (t ≡ s) ⊎ Before s t
+  pub path : IsPath false w h s
+  pub cheap : (t : List ℕ) → IsPath false w h t → along (energy p) s ≤ along (energy p) t
+  pub early : (t : List ℕ) → IsPath false w h t → along (energy p) t ≡ along (energy p) s → (t ≡ s) ⊎ Before s t
 
 -- A path, from the bottom row upward, that touches a protected pixel.
 abbrev pub Touches : List (List ℕ) → List ℕ → Type 0
@@ -26,8 +27,8 @@ Touches m (c ∷ q) = (markAt m (length q) c ≡ 1) ⊎ Touches m q
 -- A connected path that touches no protected pixel; none of these has more pixels marked 2; none of those with as many is
 -- cheaper; and each other of those that costs the same comes after it.
 pub record IsMarkedSeam (w h : ℕ) (p : Picture) (m : List (List ℕ)) (s : List ℕ) : Type 0 where
-  pub path : IsPath w h s
+  pub path : IsPath false w h s
   pub free : Touches m s → ⊥
-  pub most : (t : List ℕ) → IsPath w h t → (Touches m t → ⊥) → along (isMark 2 m) t ≤ along (isMark 2 m) s
-  pub cheap : (t : List ℕ) → IsPath w h t → (Touches m t → ⊥) → along (isMark 2 m) t ≡ along (isMark 2 m) s → along (energy p) s ≤ along (energy p) t
-  pub early : (t : List ℕ) → IsPath w h t → (Touches m t → ⊥) → along (isMark 2 m) t ≡ along (isMark 2 m) s → along (energy p) t ≡ along (energy p) s → (t ≡ s) ⊎ Before s t
+  pub most : (t : List ℕ) → IsPath false w h t → (Touches m t → ⊥) → along (isMark 2 m) t ≤ along (isMark 2 m) s
+  pub cheap : (t : List ℕ) → IsPath false w h t → (Touches m t → ⊥) → along (isMark 2 m) t ≡ along (isMark 2 m) s → along (energy p) s ≤ along (energy p) t
+  pub early : (t : List ℕ) → IsPath false w h t → (Touches m t → ⊥) → along (isMark 2 m) t ≡ along (isMark 2 m) s → along (energy p) t ≡ along (energy p) s → (t ≡ s) ⊎ Before s t

@@ -1,17 +1,20 @@
--- "One column for each row, neighbouring rows differing by at most 1", said of a list of columns alone.
+-- Columns that are connected, and what a path is, said of a list of columns alone.
 use mathlib.Core.Path.{_≡_}
+use mathlib.Core.Bool.{Bool, true, _&&_}
 use mathlib.Core.List.{List, [], _∷_, List·Memᴰ}
-use Prim.Native.Nat.{ℕ, _+_, _≤_, _<_}
+use Prim.Native.Nat.{ℕ, _<_}
 use lib.ListN.{length}
+use Rattle.seam_theory.specs.Paths.{near}
 
--- At least one column, and each differs from the next by at most 1.
-abbrev pub Linked : List ℕ → Type 0
-Linked [] = ⊥
-Linked (c ∷ []) = Unit
-Linked (c ∷ a ∷ p) = (a ≤ c + 1) × (c ≤ a + 1) × Linked (a ∷ p)
+-- The columns of neighbouring rows pass the test.
+abbrev pub linked : (ℕ → ℕ → Bool) → List ℕ → Bool
+linked near [] = true
+linked near (c ∷ []) = true
+linked near (c ∷ d ∷ s) = near c d && linked near (d ∷ s)
 
--- A path through w columns and h rows.
-pub record IsPath (w h : ℕ) (p : List ℕ) : Type 0 where
+-- "One column for each row, neighbouring rows differing by at most 1": a path through w columns and h rows.
+pub record IsPath (wrap : Bool) (w h : ℕ) (p : List ℕ) : Type 0 where
+  pub some : 0 < h
   pub size : length p ≡ h
   pub within : (c : ℕ) → List·Memᴰ c p → c < w
-  pub linked : Linked p
+  pub connected : linked (near wrap w) p ≡ true

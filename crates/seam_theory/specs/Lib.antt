@@ -5,3 +5,4 @@ pub mod Seams
 pub mod PictureSeams
 pub mod Chosen
 pub mod Choices
+pub mod Sums

@@ -1,8 +1,8 @@
 -- Paths through a grid, and what they cost. A path is the list of its columns, from the bottom row upward.
-use mathlib.Core.Bool.{Bool, true, false, _&&_}
+use mathlib.Core.Bool.{Bool, true, false, _&&_, _||_}
 use mathlib.Core.List.{List, [], _∷_, map, flatMap}
 use Prim.Native.Nat.{ℕ, zero, suc, _+_}
-use lib.Dec.{leb}
+use lib.Dec.{leb, eqb}
 use lib.ListN.{length}
 
 -- The numbers lo, lo + 1, .. of which there are n.
@@ -47,6 +47,14 @@ along v = cost (v 0) (λ i a c. v i c)
 unfoldable pub beside : ℕ → ℕ → Bool
 beside c a = leb a (c + 1) && leb c (a + 1)
 
--- The columns of a grid of w columns that differ from c by at most 1.
-unfoldable pub nearby : ℕ → ℕ → List ℕ
-nearby w c = select (beside c) (run 0 w)
+-- The first and the last of w columns, in either order.
+unfoldable pub joins : ℕ → ℕ → ℕ → Bool
+joins w c a = (eqb c 0 && eqb (a + 1) w) || (eqb a 0 && eqb (c + 1) w)
+
+-- Whether a path may step between columns c and a of w: where the last column is joined to the first, also between these two.
+unfoldable pub near : Bool → ℕ → ℕ → ℕ → Bool
+near wrap w c a = (wrap && joins w c a) || beside c a
+
+-- The columns of a grid of w columns that are near c, ascending.
+unfoldable pub nearby : Bool → ℕ → ℕ → List ℕ
+nearby wrap w c = select (near wrap w c) (run 0 w)

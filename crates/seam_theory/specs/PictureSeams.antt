@@ -13,7 +13,7 @@ use Rattle.energy.specs.Energy.{energy}
 -- "The seam found is the cheapest. Among equals it is the one whose columns, read from the bottom row upward, come first in
 -- dictionary order": the first of the cheapest of all connected paths through w columns and h rows, from the bottom row.
 abbrev pub seamUp : ℕ → ℕ → Picture → Option (List ℕ)
-seamUp w h p = cheapest (nearby w) (energy p 0) (λ i a c. energy p i c) w h
+seamUp w h p = cheapest (nearby false w) (energy p 0) (λ i a c. energy p i c) w h
 
 -- "Elsewhere a seam's columns are listed from the top row."
 unfoldable pub seamOf : ℕ → ℕ → Picture → List ℕ
@@ -34,7 +34,7 @@ isMark v m r c = cond (eqb (markAt m r c) v) 1 0
 -- "With marks, a seam may not touch a protected pixel. Among those left, first the most pixels marked 2, then the least
 -- cost, then the order above."
 abbrev pub markedUp : ℕ → ℕ → Picture → List (List ℕ) → Option (List ℕ)
-markedUp w h p m = cheapestAllowed (along (isMark 1 m)) (along (isMark 2 m)) (along (energy p)) (paths (nearby w) w h)
+markedUp w h p m = cheapestAllowed (along (isMark 1 m)) (along (isMark 2 m)) (along (energy p)) (paths (nearby false w) w h)
 
 -- Its columns from the top row, and its cost.
 unfoldable pub markedSeamOf : ℕ → ℕ → Picture → List (List ℕ) → List ℕ
