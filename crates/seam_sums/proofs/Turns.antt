@@ -8,17 +8,20 @@ use native.Mathlib.Omega.{arith}
 use lib.Dec.{ltb}
 use lib.ListN.{length, getD}
 use borrow.Author.Tests.{lt-ltb, le-ltb, le-leb, lt-leb}
-use Rattle.seam_sums.specs.Least.{wayBy, leastTo}
+use Rattle.seam_theory.specs.Sums.{firstOf3, leastTo}
 
 -- Which of three, by the tests that decide it.
 module _ (left middle right least : ℕ) (is : least ≡ min middle right) where
-  pub way-left : left ≤ least → 0 ≡ wayBy left middle right
+  pub way-left : left ≤ least → 0 ≡ firstOf3 left middle right
+  unfolding firstOf3
   way-left l = let h : left ≤ min middle right = rw is at l in rw (le-leb left (min middle right) h)
 
-  pub way-middle : least < left → middle ≤ right → 1 ≡ wayBy left middle right
+  pub way-middle : least < left → middle ≤ right → 1 ≡ firstOf3 left middle right
+  unfolding firstOf3
   way-middle l m = let h : min middle right < left = rw is at l in rw (lt-leb left (min middle right) h, le-leb middle right m)
 
-  pub way-right : least < left → right < middle → 2 ≡ wayBy left middle right
+  pub way-right : least < left → right < middle → 2 ≡ firstOf3 left middle right
+  unfolding firstOf3
   way-right l m = let h : min middle right < left = rw is at l in rw (lt-leb left (min middle right) h, lt-leb middle right m)
 
 -- The first least is one of the columns looked at.

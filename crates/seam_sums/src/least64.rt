@@ -2,7 +2,7 @@
 ghost use mathlib.Core.Path.{_≡_};
 ghost use Prim.Native.Nat.{_-_, min};
 ghost use lib.ListN.{length};
-ghost use Rattle.seam_sums.specs.Least.{wayBy, leastTo};
+ghost use Rattle.seam_theory.specs.Sums.{firstOf3, leastTo};
 
 // The lesser of two.
 pub fn lesser(a: u64, b: u64) -> u64
@@ -11,9 +11,9 @@ pub fn lesser(a: u64, b: u64) -> u64
     if b < a { b } else { a }
 }
 
-// Which of three is the least, the leftmost of equals.
+// Which of three is the least, the first of equals: 0, 1 or 2.
 pub fn way(left: u64, middle: u64, right: u64) -> u8
-    ensures { λ n. ⌜ n ≡ wayBy left middle right ⌝ }
+    ensures { λ n. ⌜ n ≡ firstOf3 left middle right ⌝ }
 {
     if left <= lesser(middle, right) {
         0

@@ -24,11 +24,9 @@ pub data Near (join : Bool) (w c a : ℕ) : Type 0 where
 module _ (wrap : Bool) (w : ℕ) where
   -- Where the join counts there are three columns.
   pub joined-is : joinedAt wrap w ≡ true → (wrap ≡ true) × (2 < w)
-  unfolding joinedAt
   joined-is j = let b = both wrap (ltb 2 w) j in (b .0, ltb-true 2 w (b .1))
 
   joined-of : wrap ≡ true → 2 < w → joinedAt wrap w ≡ true
-  unfolding joinedAt
   joined-of y l = rw (y, lt-ltb 2 w l)
 
   module _ (c a : ℕ) where

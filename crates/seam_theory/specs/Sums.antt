@@ -28,7 +28,7 @@ abbrev pub alikeRows : List ℕ → CostRows
 alikeRows cost = record { left = cost; up = cost; right = cost }
 
 -- Whether the join counts among w columns. Of two columns each is beside the other without it.
-unfoldable pub joinedAt : Bool → ℕ → Bool
+abbrev pub joinedAt : Bool → ℕ → Bool
 joinedAt wrap w = wrap && ltb 2 w
 
 -- A row of sums with a number at either side, so that each column has three above it: at the join the sum at the other end,
