@@ -1,57 +1,57 @@
 -- The rows of sums and ways, one after the other: what holds before row i, and that one row more keeps it.
 use mathlib.Core.Path.{_≡_, refl, sym, ap, ap₂, _∙_}
+use mathlib.Core.Bool.{false}
 use mathlib.Core.List.{List, [], _∷_, _++_, append-assoc}
 use Prim.Native.Nat.{ℕ, suc, _+_, _-_, _*_, _≤_, _<_}
-use native.Mathlib.Nat.{zero-mul, add-zero, suc-mul, mul-le-mul-right, add-sub-cancel-left}
+use native.Mathlib.Nat.{zero-mul, add-zero, suc-mul, mul-le-mul-right}
 use native.Mathlib.Numerals.{add-one}
 use native.Mathlib.Omega.{arith}
-use borrow.Rule.Slice.PartMut.{putMid, midOf}
+use borrow.Rule.Slice.PartMut.{putMid}
 use lib.ListN.{length, getD, take, drop, length-append, length-drop, take-append-drop}
 use lib.Seq.{take-at, drop-at, drop-drop, length-take-le}
 use Rattle.grids.specs.Table.{table}
 use Rattle.grids.specs.Rows.{flat}
 use Rattle.grids.proofs.Tables.{length-table, each-table}
 use Rattle.grids.proofs.Rows.{length-flat, flat-snoc}
-use Rattle.grids.proofs.Parts.{put-part, part-length}
+use Rattle.grids.proofs.Parts.{put-part}
 use Rattle.pictures.specs.declared.sizes.Size.{Size}
-use Rattle.seam_sums.specs.Least.{wayOf3, sumOf3}
-use Rattle.seam_find.specs.Inner.Sums.{fenced, sumsDown, waysUp}
+use Rattle.seam_theory.specs.Sums.{CostRows, fenced, sumOf3, wayOf3, sumsDown, waysUp}
+use Rattle.seam_theory.proofs.Bounded.{fenced-at, length-sums, sums-most}
 use Rattle.seam_find.specs.Inner.Down.{waysAt, RowGiven, DownGiven}
-use Rattle.seam_find.proofs.Costs.{length-sums, sums-most, fenced-at}
 
-module _ (fence from : ℕ) (z : Size) (costsIn : List ℕ → ℕ → List ℕ) (start : List ℕ) where
-  abbrev costs : ℕ → List ℕ
+module _ (fence from : ℕ) (z : Size) (costsIn : List ℕ → ℕ → CostRows) (start : List ℕ) where
+  abbrev costs : ℕ → CostRows
   costs = costsIn (take from start)
 
   abbrev sums : ℕ → List ℕ
-  sums = sumsDown fence (z .width) (costsIn (take from start))
+  sums = sumsDown false fence (z .width) (costsIn (take from start))
 
   abbrev ways : ℕ → List ℕ
-  ways = waysUp fence (z .width) (costsIn (take from start))
+  ways = waysUp false fence (z .width) (costsIn (take from start))
 
   -- Before row i: the fenced sums of the row above it, and the ways between the rows above it.
   pub record Downs (i : ℕ) (space above : List ℕ) : Type 0 where
-    pub above-is : above ≡ fenced fence (sumsDown fence (z .width) (costsIn (take from start)) (i - 1))
-    pub space-is : space ≡ take from start ++ (flat (table (waysUp fence (z .width) (costsIn (take from start))) (i - 1)) ++ drop (waysAt from z i) start)
+    pub above-is : above ≡ fenced false fence (z .width) (sumsDown false fence (z .width) (costsIn (take from start)) (i - 1))
+    pub space-is : space ≡ take from start ++ (flat (table (waysUp false fence (z .width) (costsIn (take from start))) (i - 1)) ++ drop (waysAt from z i) start)
     pub long : length space ≡ length start
 
-  module _ (length-costs : (i : ℕ) → length (costsIn (take from start) i) ≡ z .width) where
+  module _ (length-costs : (i : ℕ) → length (costsIn (take from start) i .up) ≡ z .width) where
     pub above-long : (i : ℕ) (space above : List ℕ) → Downs i space above → length above ≡ z .width + 2
     above-long i space above d =
-        omega (arith, ap length (d .above-is), length-append (sums (i - 1)) (fence ∷ []), length-sums fence (z .width) costs (length-costs 0) (i - 1))
+        omega (arith, ap length (d .above-is), length-append (sums (i - 1)) (fence ∷ []), length-sums false fence (z .width) costs (length-costs 0) (i - 1))
 
     -- The sums above row i are at most i times the largest cost.
-    pub above-most : (m i : ℕ) (space above : List ℕ) → ((i k : ℕ) → getD (costsIn (take from start) i) k 0 ≤ m) → Downs i space above
+    pub above-most : (m i : ℕ) (space above : List ℕ) → ((i k : ℕ) → getD (costsIn (take from start) i .up) k 0 ≤ m) → Downs i space above
         → (k : ℕ) → k < z .width → getD above (k + 1) 0 ≤ suc (i - 1) * m
     above-most m i space above most d k h =
         rw (
           d .above-is,
-          fenced-at fence (sums (i - 1)) k (omega (arith, length-sums fence (z .width) costs (length-costs 0) (i - 1))),
+          fenced-at false fence (z .width) (sums (i - 1)) k (omega (arith, length-sums false fence (z .width) costs (length-costs 0) (i - 1))),
         )
-        (sums-most fence (z .width) m costs (length-costs 0) most (i - 1) k h)
+        (sums-most false fence (z .width) costs (length-costs 0) m most (i - 1) k h)
 
     module _ (room : from + (z .height - 1) * z .width ≤ length start) where
-      pub down-start : (above : List ℕ) → above ≡ fenced fence (costs 0) → Downs 1 start above
+      pub down-start : (above : List ℕ) → above ≡ fenced false fence (z .width) (costs 0 .up) → Downs 1 start above
       unfolding sumsDown
       down-start above e = record {
         above-is = e;
@@ -64,13 +64,13 @@ module _ (fence from : ℕ) (z : Size) (costsIn : List ℕ → ℕ → List ℕ)
 
       length-ways : (n : ℕ) → length (flat (table ways n)) ≡ n * z .width
       unfolding waysUp
-      length-ways n = length-flat (each-table ways n (λ i l. length-table (wayOf3 (fenced fence (sums i))) (z .width)))
+      length-ways n = length-flat (each-table ways n (λ i l. length-table (wayOf3 false (z .width) (fenced false fence (z .width) (sums i)) (costs (suc i))) (z .width)))
 
       -- The front of the space is the picture.
       pub down-front : (i : ℕ) (space above : List ℕ) → Downs i space above → take from space ≡ take from start
       down-front i space above d = ap (take from) (d .space-is) ∙ take-at (take from start) (flat (table ways (i - 1)) ++ drop (waysAt from z i) start) from length-front
 
-      fences : (s t : List ℕ) → length s ≡ z .width → take 1 (fenced fence s) ++ (t ++ drop (z .width + 1) (fenced fence s)) ≡ fenced fence t
+      fences : (s t : List ℕ) → length s ≡ z .width → take 1 (fenced false fence (z .width) s) ++ (t ++ drop (z .width + 1) (fenced false fence (z .width) s)) ≡ fenced false fence (z .width) t
       fences s t e = rw (add-one (z .width)) (ap (λ r. fence ∷ (t ++ r)) (drop-at s (fence ∷ []) (z .width) e))
 
       -- One row more, row j + 1.
@@ -81,7 +81,7 @@ module _ (fence from : ℕ) (z : Size) (costsIn : List ℕ → ℕ → List ℕ)
         two : suc (suc j) - 1 ≡ suc j
         two = omega arith
 
-        above-was : above ≡ fenced fence (sums j)
+        above-was : above ≡ fenced false fence (z .width) (sums j)
         above-was = rw one at (d .above-is)
 
         done : List ℕ
@@ -105,8 +105,8 @@ module _ (fence from : ℕ) (z : Size) (costsIn : List ℕ → ℕ → List ℕ)
         space-now : space′ ≡ done ++ (ways j ++ drop (waysAt from z (suc (suc j))) start)
         unfolding waysUp here
         space-now =
-            (rw (one, above-was) at (g .ways))
-            ∙ ap₂ (λ x y. x ++ (table (wayOf3 (fenced fence (sums j))) (z .width) ++ y))
+            (rw (one, above-was, down-front (suc j) space above d) at (g .ways))
+            ∙ ap₂ (λ x y. x ++ (table (wayOf3 false (z .width) (fenced false fence (z .width) (sums j)) (costs (suc j))) (z .width) ++ y))
             (ap (take (from + j * z .width)) space-was ∙ take-at done (drop here start) (from + j * z .width) done-long)
             (sym (drop-drop (z .width) (from + j * z .width) space)
             ∙ ap (drop (z .width)) (ap (drop (from + j * z .width)) space-was ∙ drop-at done (drop here start) (from + j * z .width) done-long)
@@ -125,7 +125,7 @@ module _ (fence from : ℕ) (z : Size) (costsIn : List ℕ → ℕ → List ℕ)
               length-append done (ways j ++ drop (waysAt from z (suc (suc j))) start),
               length-append (ways j) (drop (waysAt from z (suc (suc j))) start),
               length-drop (waysAt from z (suc (suc j))) start,
-              length-table (wayOf3 (fenced fence (sums j))) (z .width),
+              length-table (wayOf3 false (z .width) (fenced false fence (z .width) (sums j)) (costs (suc j))) (z .width),
               next-at,
               done-long,
               suc-mul j (z .width),
@@ -136,7 +136,7 @@ module _ (fence from : ℕ) (z : Size) (costsIn : List ℕ → ℕ → List ℕ)
         turn = record {
           above-is =
               rw (above-was, down-front (suc j) space above d) at (g .sums)
-              ∙ fences (sums j) (table (sumOf3 (fenced fence (sums j)) (costs (suc j))) (z .width)) (length-sums fence (z .width) (costsIn (take from start)) (length-costs 0) j)
+              ∙ fences (sums j) (table (sumOf3 (fenced false fence (z .width) (sums j)) (costs (suc j))) (z .width)) (length-sums false fence (z .width) (costsIn (take from start)) (length-costs 0) j)
               ∙ rw two;
           space-is =
               space-now
@@ -154,23 +154,22 @@ module _ (fence from : ℕ) (z : Size) (costsIn : List ℕ → ℕ → List ℕ)
       pub down-end : (i : ℕ) (space above : List ℕ) → i ≡ z .height → Downs i space above → DownGiven fence from z costsIn start space above
       down-end i space above e d = record { ways = rw e at (d .space-is); sums = rw e at (d .above-is) }
 
--- Row i alone: its ways and its sums put in their places, where q is from.
-pub row-given : (from : ℕ) (z : Size) (costsIn : List ℕ → ℕ → List ℕ) (i q n : ℕ) (space above ways cost copied : List ℕ)
-    → q ≡ from → q + (i - 1) * z .width + z .width ≤ length space
-    → ways ≡ table (wayOf3 above) (length (midOf (q + (i - 1) * z .width) (q + (i - 1) * z .width + z .width - (q + (i - 1) * z .width)) space))
-    → cost ≡ costsIn (take from space) i → n ≡ z .width → copied ≡ table (sumOf3 above cost) n
+-- Row i alone: its ways and its sums put in their places, where q is from and n the width.
+pub row-given : (from : ℕ) (z : Size) (costsIn : List ℕ → ℕ → CostRows) (i q n : ℕ) (space above ways : List ℕ) (cost : CostRows) (copied : List ℕ)
+    → q ≡ from → q + (i - 1) * z .width + z .width ≤ length space → cost ≡ costsIn (take from space) i → n ≡ z .width
+    → ways ≡ table (wayOf3 false n above cost) n → copied ≡ table (sumOf3 above cost) n
     → RowGiven from z costsIn i space above
     (putMid (q + (i - 1) * z .width) (q + (i - 1) * z .width + z .width - (q + (i - 1) * z .width)) space ways)
     (putMid 1 (z .width + 1 - 1) above copied)
-row-given from z costsIn i q n space above ways cost copied e end told k l m =
+row-given from z costsIn i q n space above ways cost copied e end k l told m =
     let w = z .width in
     let a = q + (i - 1) * w in
+    let row = costsIn (take from space) i in
     record {
       ways =
           put-part a (a + w) space ways (omega arith)
-          ∙ ap (λ r. take a space ++ (r ++ drop (a + w) space))
-          (told ∙ ap (table (wayOf3 above)) (part-length a (a + w) space end ∙ add-sub-cancel-left a w))
-          ∙ ap (λ b. take (b + (i - 1) * w) space ++ (table (wayOf3 above) w ++ drop (b + (i - 1) * w + w) space)) e;
+          ∙ ap (λ r. take a space ++ (r ++ drop (a + w) space)) (told ∙ ap₂ (λ x y. table (wayOf3 false y above x) y) k l)
+          ∙ ap (λ b. take (b + (i - 1) * w) space ++ (table (wayOf3 false w above row) w ++ drop (b + (i - 1) * w + w) space)) e;
       sums =
           put-part 1 (w + 1) above copied (omega arith)
           ∙ ap (λ r. take 1 above ++ (r ++ drop (w + 1) above)) (m ∙ ap₂ (λ x y. table (sumOf3 above x) y) k l);

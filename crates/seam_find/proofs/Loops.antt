@@ -1,6 +1,7 @@
 -- Laws of the way back, in the terms of the loop that takes it.
 use mathlib.Core.Path.{_≡_, refl, sym, ap, _∙_}
-use mathlib.Core.Bool.{true, cond, _&&_}
+use mathlib.Core.Logic.{⊎-elim}
+use mathlib.Core.Bool.{Bool, true, cond, _&&_}
 use Prim.Native.Nat.{ℕ, zero, suc, _+_, _-_, _*_, _≤_, _<_}
 use mathlib.Core.List.{List, [], _∷_, _++_, append-assoc, append-nil}
 use native.Mathlib.Omega.{arith}
@@ -8,20 +9,37 @@ use lib.ListN.{length, getD, take, drop, set, length-append, length-set, take-ap
 use lib.Dec.{leb, ltb, eqb}
 use lib.Seq.{take-suc, set-at, drop-at, length-take-le}
 use native.Mathlib.Numerals.{add-one}
-use borrow.Author.Tests.{lt-ltb, le-leb, eq-eqb, leb-true, ltb-true, eqb-true}
+use borrow.Author.Tests.{lt-ltb, le-ltb, le-leb, eq-eqb, ne-eqb, leb-true, ltb-true, eqb-true}
 use Rattle.pictures.specs.Pictures.{largestSide}
+use Rattle.grids.specs.Table.{table}
+use Rattle.grids.specs.Rows.{flat}
+use Rattle.grids.proofs.Orders.{le-or-lt}
 use Rattle.grids.proofs.Bools.{both}
-use Rattle.seam_find.specs.Tracing.{stepBy, columnsTo, traceable, traced}
+use Rattle.seam_theory.specs.Sums.{CostRows, cameFrom, waysUp, columnsTo}
+use Rattle.seam_theory.proofs.Sums.{ways-long}
+use Rattle.seam_find.specs.Tracing.{traceable, traced}
 
--- A step stays inside the columns,
-pub step-below : (w c way : ℕ) → 0 < w → stepBy w c way < w
-unfolding stepBy
-step-below w c way h = omega arith
+-- Which column a way leads to, by the tests that decide it.
+module _ (w c way : ℕ) where
+  pub came-last : c + way ≡ 0 → cameFrom w c way ≡ w - 1
+  unfolding cameFrom
+  came-last e = rw (eq-eqb (c + way) 0 e)
 
--- and goes where the way leads if that is inside.
-pub step-inside : (w c way : ℕ) → c + way ≤ w → stepBy w c way ≡ c + way - 1
-unfolding stepBy
-step-inside w c way h = omega arith
+  pub came-first : 0 < c + way → w < c + way → cameFrom w c way ≡ 0
+  unfolding cameFrom
+  came-first h l = rw (ne-eqb (c + way) 0 (λ e. omega arith), lt-ltb w (c + way) l)
+
+  pub came-inner : 0 < c + way → c + way ≤ w → cameFrom w c way ≡ c + way - 1
+  unfolding cameFrom
+  came-inner h l = rw (ne-eqb (c + way) 0 (λ e. omega arith), le-ltb w (c + way) l)
+
+  -- It is one of the columns.
+  pub came-inside : 0 < w → cameFrom w c way < w
+  came-inside h =
+      ⊎-elim
+      (λ (e : c + way ≤ 0). omega (arith, came-last (omega arith)))
+      (λ (l : 0 < c + way). ⊎-elim (λ m. omega (arith, came-inner l m)) (λ m. omega (arith, came-first l m)) (le-or-lt (c + way) w))
+      (le-or-lt (c + way) 0)
 
 -- What it takes that there is a path to trace.
 pub record Traceable (ways w height column seam : ℕ) : Type 0 where
@@ -61,6 +79,19 @@ module _ (ways w height column seam : ℕ) where
         long = eqb-true ways ((height - 1) * w) (t .1);
       }
 
+-- By ways that were worked out a path can be traced, in a space that is long enough.
+pub ways-traceable : (wrap : Bool) (fence w h : ℕ) (costs : ℕ → CostRows) → 0 < h → h ≤ largestSide → w ≤ largestSide
+    → (column seam : ℕ) → column < w → h ≤ seam
+    → Traceable (length (flat (table (waysUp wrap fence w costs) (h - 1)))) w h column seam
+ways-traceable wrap fence w h costs some-row short narrow column seam inside room = record {
+  some = some-row;
+  short = short;
+  narrow = narrow;
+  inside = inside;
+  room = room;
+  long = ways-long wrap fence w (h - 1) costs;
+}
+
 -- The path at the front of the seam's space, where there is one.
 pub traced-is : (ways : List ℕ) (w height column : ℕ) (seam : List ℕ) → Traceable (length ways) w height column (length seam)
     → traced ways w height column seam ≡ columnsTo ways w (height - 1) column ++ drop height seam
@@ -73,7 +104,7 @@ module _ (ways seam₀ full : List ℕ) (w h : ℕ) where
   pub length-columns : (i c : ℕ) → length (columnsTo ways w i c) ≡ i + 1
   unfolding columnsTo
   length-columns zero c = refl
-  length-columns (suc i) c = omega (arith, length-append (columnsTo ways w i (stepBy w c (getD ways (i * w + c) 0))) (c ∷ []), length-columns i (stepBy w c (getD ways (i * w + c) 0)))
+  length-columns (suc i) c = omega (arith, length-append (columnsTo ways w i (cameFrom w c (getD ways (i * w + c) 0))) (c ∷ []), length-columns i (cameFrom w c (getD ways (i * w + c) 0)))
 
   -- What holds before row i is stored.
   pub record Back (i c : ℕ) (seam : List ℕ) : Type 0 where
@@ -108,20 +139,20 @@ module _ (ways seam₀ full : List ℕ) (w h : ℕ) where
       here : drop i full ≡ c ∷ drop (i + 1) full
       here = ap (drop i) (p ∙ append-assoc front (c ∷ []) (drop (i + 1) full)) ∙ drop-at front (c ∷ drop (i + 1) full) i e
 
-  pub back-turn : (i c : ℕ) (seam : List ℕ) → 0 < i → i < length seam₀ → Back i c seam → Back (i - 1) (stepBy w c (getD ways ((i - 1) * w + c) 0)) (set seam i c)
+  pub back-turn : (i c : ℕ) (seam : List ℕ) → 0 < i → i < length seam₀ → Back i c seam → Back (i - 1) (cameFrom w c (getD ways ((i - 1) * w + c) 0)) (set seam i c)
   unfolding columnsTo
   back-turn i c seam p l b = go (i - 1) (omega arith) b
     where
-      go : (j : ℕ) → i ≡ suc j → Back i c seam → Back j (stepBy w c (getD ways (j * w + c) 0)) (set seam i c)
+      go : (j : ℕ) → i ≡ suc j → Back i c seam → Back j (cameFrom w c (getD ways (j * w + c) 0)) (set seam i c)
       go j e b =
-          let front = columnsTo ways w j (stepBy w c (getD ways (j * w + c) 0)) in
-          let n : length front ≡ i = length-columns j (stepBy w c (getD ways (j * w + c) 0)) ∙ omega arith in
+          let front = columnsTo ways w j (cameFrom w c (getD ways (j * w + c) 0)) in
+          let n : length front ≡ i = length-columns j (cameFrom w c (getD ways (j * w + c) 0)) ∙ omega arith in
           let f : full ≡ (front ++ (c ∷ [])) ++ drop (i + 1) full = b .path ∙ ap (λ k. columnsTo ways w k c ++ drop (i + 1) full) e in
           let g : drop i full ≡ c ∷ drop (i + 1) full = ap (drop i) (f ∙ append-assoc front (c ∷ []) (drop (i + 1) full)) ∙ drop-at front (c ∷ drop (i + 1) full) i n in
           let m : j + 1 ≡ i = omega arith in
           record {
             row = omega (arith, b .row);
-            column = step-below w c (getD ways (j * w + c) 0) (omega (arith, b .column));
+            column = came-inside w c (getD ways (j * w + c) 0) (omega (arith, b .column));
             long = length-set seam i c ∙ b .long;
             path = rw (m, g) (f ∙ append-assoc front (c ∷ []) (drop (i + 1) full));
             stored = rw m (stored-more i c seam front l n f (b .stored));

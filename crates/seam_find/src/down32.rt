@@ -2,11 +2,11 @@
 use crate::sums32;
 use pictures::Size;
 ghost use Rattle.pictures.specs.Pictures.{pictureBytes};
-ghost use Rattle.seam_sums.specs.Fences.{fence32, sumLimit32};
+ghost use Rattle.seam_sums.specs.Fences.{fence32};
 ghost use Rattle.seam_find.specs.Inner.Down.{costsOf, DownNeeded, DownGiven, RowNeeded, RowGiven};
 
 // A number larger than every sum.
-pub(crate) const FENCE: u32 = 4294967295;
+pub(crate) const FENCE: u32 = 2147483648;
 
 // From the fenced sums of row 0 to those of the last row. The picture, of `bytes` bytes, stands at the front of the space;
 // after it is written, row after row, where each column of a row comes from. cost and next are for a row each.
@@ -37,7 +37,7 @@ fn row_down(
     cost: &mut [u32],
     next: &mut [u32],
 )
-    requires { ⌜ RowNeeded sumLimit32 (pictureBytes size) size bytes i (now space) (now above) (now cost) (now next) ⌝ }
+    requires { ⌜ RowNeeded fence32 (pictureBytes size) size bytes i (now space) (now above) (now cost) (now next) ⌝ }
     ensures { λ _. ⌜ RowGiven (pictureBytes size) size (costsOf size) i (now (space .entry)) (now (above .entry)) (now (space .exit)) (now (above .exit)) ⌝ }
 {
     let width = size.width;

@@ -3,7 +3,8 @@ use pictures::LARGEST_SIDE;
 ghost use mathlib.Core.Path.{_≡_};
 ghost use Prim.Native.Nat.{_≤_, _<_};
 ghost use Rattle.pictures.specs.Limits.{mostSide};
-ghost use Rattle.seam_find.specs.Tracing.{stepBy, traceable, traced};
+ghost use Rattle.seam_theory.specs.Sums.{cameFrom};
+ghost use Rattle.seam_find.specs.Tracing.{traceable, traced};
 
 // The columns of the path to `column` of the last row, put into the front of seam from the top row. Row i of ways says
 // where each column of row i + 1 comes from. The seam is left as it was where there is no such path.
@@ -47,17 +48,17 @@ fn judge_trace(ways: usize, width: usize, height: usize, column: usize, seam: us
     ways == (height - 1) * width
 }
 
-// The column of the row above to which a way leads; at an edge, the edge.
+// The column of the row above to which a way leads; past an edge, the column at the other.
 fn step(width: usize, column: usize, way: u8) -> usize
     requires { ⌜ width ≤ mostSide ⌝ }
     requires { ⌜ column < width ⌝ }
-    ensures { λ n. ⌜ n ≡ stepBy width column way ⌝ }
+    ensures { λ n. ⌜ n ≡ cameFrom width column way ⌝ }
 {
     let right = column + wide(way);
-    if right < 1 {
-        0
-    } else if width < right {
+    if right == 0 {
         width - 1
+    } else if width < right {
+        0
     } else {
         right - 1
     }

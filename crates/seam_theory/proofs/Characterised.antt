@@ -18,8 +18,8 @@ use Rattle.seam_theory.proofs.Nearby.{nearby-paths, nearby-paths-asc}
 use Rattle.seam_theory.proofs.Seams.{cheapest-is, cheapest-some}
 use Rattle.seam_theory.proofs.Marks.{allowed-is, allowed-none, unmarked}
 use Rattle.pictures.specs.Pictures.{Picture}
-use Rattle.energy.specs.Energy.{energy}
-use Rattle.seam_theory.specs.PictureSeams.{seamUp, seamOf, costOf, markAt, isMark, markedUp, markedSeamOf, markedCostOf}
+use Rattle.energy.specs.Energy.{energy, stepOf}
+use Rattle.seam_theory.specs.PictureSeams.{pathCost, seamUp, seamOf, costOf, markAt, isMark, markedUp, markedSeamOf, markedCostOf}
 use Rattle.seam_theory.specs.Chosen.{IsSeam, Touches, IsMarkedSeam}
 
 -- A path touches a protected pixel just where it has one.
@@ -48,17 +48,17 @@ untouching m q e t = omega (arith, touched m q t)
 
 module _ (w h : ℕ) (p : Picture) where
   -- The seam found without marks is the cheapest of all paths,
-  pub seam-cheapest : (s : List ℕ) → (seamUp w h p ≡ some s) ↔ IsCheapest (along (energy p)) (paths (nearby false w) w h) s
-  seam-cheapest s = cheapest-is (energy p 0) (λ i a c. energy p i c) false w h s
+  pub seam-cheapest : (s : List ℕ) → (seamUp w h p ≡ some s) ↔ IsCheapest (pathCost w h p) (paths (nearby false w) w h) s
+  seam-cheapest s = cheapest-is (energy w h p 0) (stepOf w h p) false w h s
 
-  listed-seam : (s : List ℕ) → IsCheapest (along (energy p)) (paths (nearby false w) w h) s → IsSeam w h p s
+  listed-seam : (s : List ℕ) → IsCheapest (pathCost w h p) (paths (nearby false w) w h) s → IsSeam w h p s
   listed-seam s k = record {
     path = nearby-paths false w h s .0 (k .member);
     cheap = λ t i. k .cheap t (nearby-paths false w h t .1 i);
     early = λ t i. k .early t (nearby-paths false w h t .1 i);
   }
 
-  seam-listed : (s : List ℕ) → IsSeam w h p s → IsCheapest (along (energy p)) (paths (nearby false w) w h) s
+  seam-listed : (s : List ℕ) → IsSeam w h p s → IsCheapest (pathCost w h p) (paths (nearby false w) w h) s
   seam-listed s k = record {
     member = nearby-paths false w h s .1 (k .path);
     cheap = λ t i. k .cheap t (nearby-paths false w h t .0 i);
@@ -72,7 +72,7 @@ module _ (w h : ℕ) (p : Picture) where
   -- there is one,
   pub seam-some : 0 < w → 0 < h → (s : List ℕ) × (seamUp w h p ≡ some s) × IsSeam w h p s
   seam-some k l =
-      let t = cheapest-some (energy p 0) (λ i a c. energy p i c) false w h k l in
+      let t = cheapest-some (energy w h p 0) (stepOf w h p) false w h k l in
       (t .0, t .1, listed-seam (t .0) (t .2))
 
   -- and only one.
@@ -82,10 +82,10 @@ module _ (w h : ℕ) (p : Picture) where
 module _ (w h : ℕ) (p : Picture) (m : List (List ℕ)) where
   -- The seam found with marks is the preferred one of all paths that are allowed,
   pub marked-preferred : (s : List ℕ) → (markedUp w h p m ≡ some s)
-      ↔ IsPreferred (along (isMark 1 m)) (along (isMark 2 m)) (along (energy p)) (paths (nearby false w) w h) s
-  marked-preferred s = allowed-is (along (isMark 1 m)) (along (isMark 2 m)) (along (energy p)) (paths (nearby false w) w h) (nearby-paths-asc false w h) s
+      ↔ IsPreferred (along (isMark 1 m)) (along (isMark 2 m)) (pathCost w h p) (paths (nearby false w) w h) s
+  marked-preferred s = allowed-is (along (isMark 1 m)) (along (isMark 2 m)) (pathCost w h p) (paths (nearby false w) w h) (nearby-paths-asc false w h) s
 
-  listed-marked : (s : List ℕ) → IsPreferred (along (isMark 1 m)) (along (isMark 2 m)) (along (energy p)) (paths (nearby false w) w h) s → IsMarkedSeam w h p m s
+  listed-marked : (s : List ℕ) → IsPreferred (along (isMark 1 m)) (along (isMark 2 m)) (pathCost w h p) (paths (nearby false w) w h) s → IsMarkedSeam w h p m s
   listed-marked s k = record {
     path = nearby-paths false w h s .0 (k .member);
     free = untouching m s (k .allowed);
@@ -94,7 +94,7 @@ module _ (w h : ℕ) (p : Picture) (m : List (List ℕ)) where
     early = λ t i n. k .early t (nearby-paths false w h t .1 i) (untouched m t n);
   }
 
-  marked-listed : (s : List ℕ) → IsMarkedSeam w h p m s → IsPreferred (along (isMark 1 m)) (along (isMark 2 m)) (along (energy p)) (paths (nearby false w) w h) s
+  marked-listed : (s : List ℕ) → IsMarkedSeam w h p m s → IsPreferred (along (isMark 1 m)) (along (isMark 2 m)) (pathCost w h p) (paths (nearby false w) w h) s
   marked-listed s k = record {
     member = nearby-paths false w h s .1 (k .path);
     allowed = untouched m s (k .free);
@@ -119,7 +119,7 @@ module _ (w h : ℕ) (p : Picture) (m : List (List ℕ)) where
   )
     where
       all : (markedUp w h p m ≡ none) ↔ ((q : List ℕ) → List·Memᴰ q (paths (nearby false w) w h) → along (isMark 1 m) q ≡ 0 → ⊥)
-      all = allowed-none (along (isMark 1 m)) (along (isMark 2 m)) (along (energy p)) (paths (nearby false w) w h)
+      all = allowed-none (along (isMark 1 m)) (along (isMark 2 m)) (pathCost w h p) (paths (nearby false w) w h)
 
   -- Where no pixel is protected or to be removed, marks change nothing.
   module _ (plain : (r c : ℕ) → (isMark 1 m r c ≡ 0) × (isMark 2 m r c ≡ 0)) where
@@ -128,7 +128,7 @@ module _ (w h : ℕ) (p : Picture) (m : List (List ℕ)) where
 
     pub unmarked-up : markedUp w h p m ≡ seamUp w h p
     unmarked-up =
-        unmarked (along (isMark 1 m)) (along (isMark 2 m)) (along (energy p)) (paths (nearby false w) w h)
+        unmarked (along (isMark 1 m)) (along (isMark 2 m)) (pathCost w h p) (paths (nearby false w) w h)
         (λ q i. (nothing (isMark 1 m) q (λ r c. plain r c .0), nothing (isMark 2 m) q (λ r c. plain r c .1)))
 
     pub unmarked-seam : markedSeamOf w h p m ≡ seamOf w h p
@@ -137,4 +137,4 @@ module _ (w h : ℕ) (p : Picture) (m : List (List ℕ)) where
 
     pub unmarked-cost : markedCostOf w h p m ≡ costOf w h p
     unfolding markedCostOf costOf
-    unmarked-cost = ap (λ o. along (energy p) (Option·getD o [])) unmarked-up
+    unmarked-cost = ap (λ o. pathCost w h p (Option·getD o [])) unmarked-up

@@ -17,7 +17,10 @@ pub mod Loops
 pub mod Joins
 pub mod Fenced
 pub mod Kernel
+pub mod Bounded
+pub mod Toward
 pub mod Sums
+pub mod Alike
 pub mod Priced
 pub mod Characterised
 pub mod Choosing

@@ -10,14 +10,13 @@ use Rattle.seam_theory.specs.Paths.{along}
 use Rattle.seam_theory.specs.Connected.{IsPath}
 use Rattle.seam_theory.specs.Seams.{Before}
 use Rattle.pictures.specs.Pictures.{Picture}
-use Rattle.energy.specs.Energy.{energy}
-use Rattle.seam_theory.specs.PictureSeams.{markAt, isMark}
+use Rattle.seam_theory.specs.PictureSeams.{pathCost, markAt, isMark}
 
 -- A connected path, none is cheaper, and each other that costs the same comes after it, read from the bottom row upward.
 pub record IsSeam (w h : ℕ) (p : Picture) (s : List ℕ) : Type 0 where
   pub path : IsPath false w h s
-  pub cheap : (t : List ℕ) → IsPath false w h t → along (energy p) s ≤ along (energy p) t
-  pub early : (t : List ℕ) → IsPath false w h t → along (energy p) t ≡ along (energy p) s → (t ≡ s) ⊎ Before s t
+  pub cheap : (t : List ℕ) → IsPath false w h t → pathCost w h p s ≤ pathCost w h p t
+  pub early : (t : List ℕ) → IsPath false w h t → pathCost w h p t ≡ pathCost w h p s → (t ≡ s) ⊎ Before s t
 
 -- A path, from the bottom row upward, that touches a protected pixel.
 abbrev pub Touches : List (List ℕ) → List ℕ → Type 0
@@ -30,5 +29,5 @@ pub record IsMarkedSeam (w h : ℕ) (p : Picture) (m : List (List ℕ)) (s : Lis
   pub path : IsPath false w h s
   pub free : Touches m s → ⊥
   pub most : (t : List ℕ) → IsPath false w h t → (Touches m t → ⊥) → along (isMark 2 m) t ≤ along (isMark 2 m) s
-  pub cheap : (t : List ℕ) → IsPath false w h t → (Touches m t → ⊥) → along (isMark 2 m) t ≡ along (isMark 2 m) s → along (energy p) s ≤ along (energy p) t
-  pub early : (t : List ℕ) → IsPath false w h t → (Touches m t → ⊥) → along (isMark 2 m) t ≡ along (isMark 2 m) s → along (energy p) t ≡ along (energy p) s → (t ≡ s) ⊎ Before s t
+  pub cheap : (t : List ℕ) → IsPath false w h t → (Touches m t → ⊥) → along (isMark 2 m) t ≡ along (isMark 2 m) s → pathCost w h p s ≤ pathCost w h p t
+  pub early : (t : List ℕ) → IsPath false w h t → (Touches m t → ⊥) → along (isMark 2 m) t ≡ along (isMark 2 m) s → pathCost w h p t ≡ pathCost w h p s → (t ≡ s) ⊎ Before s t

@@ -6,6 +6,7 @@ use Prim.Native.Nat.{ℕ, zero, suc, _+_, _-_, _*_, min}
 use lib.Dec.{leb, ltb, eqb}
 use lib.ListN.{getD}
 use Rattle.grids.specs.Table.{table}
+use Rattle.energy.specs.Energy.{StepCosts}
 
 -- Which of three numbers is the least, the first of equals: 0, 1 or 2.
 unfoldable pub firstOf3 : ℕ → ℕ → ℕ → ℕ
@@ -22,6 +23,10 @@ pub record CostRows : Type 0 where
   pub left : List ℕ
   pub up : List ℕ
   pub right : List ℕ
+
+-- From the costs of each of w pixels.
+abbrev pub costRows : ℕ → (ℕ → StepCosts) → CostRows
+costRows w k = record { left = table (λ c. k c .left) w; up = table (λ c. k c .up) w; right = table (λ c. k c .right) w }
 
 -- Where they are alike.
 abbrev pub alikeRows : List ℕ → CostRows

@@ -20,11 +20,10 @@ use Rattle.seam_bounds.proofs.Spaces.{Rooms, rooms-are}
 use Rattle.seam_theory.specs.PictureSeams.{seamOf, costOf}
 use Rattle.seam_sums.specs.Fences.{fence32}
 use Rattle.seam_find.specs.Finding.{findInRules}
-use Rattle.seam_find.specs.Tracing.{columnsTo}
+use Rattle.seam_theory.specs.Sums.{sumsDown, waysUp, columnsTo}
+use Rattle.seam_theory.proofs.Sums.{ways-long}
 use Rattle.seam_find.specs.Inner.Down.{costsOf}
-use Rattle.seam_find.specs.Inner.Sums.{sumsDown, waysUp}
 use Rattle.seam_find.proofs.Costs.{front-most}
-use Rattle.seam_find.proofs.Ways.{ways-long}
 use Rattle.seam_find.proofs.Loops.{traced-is}
 use Rattle.seam_find.proofs.Traced.{plain-traceable, seam-traced, cost-summed}
 use Rattle.seam_find.proofs.Spaces.{space-lent, space-filled, Ends, ends}
@@ -74,7 +73,7 @@ byte c = front-most (space c) (pictureBytes (size c)) 255 (λ i. omega (arith, c
 
 -- the ways between the rows, which stand after the picture
 ways : (c : tie.After-picture-bytes) → List ℕ
-ways c = flat (table (waysUp fence32 (size c .width) (costsOf (size c) (front c))) (size c .height - 1))
+ways c = flat (table (waysUp false fence32 (size c .width) (costsOf (size c) (front c))) (size c .height - 1))
 
 ways-are : (c : tie.After-find-bottom)
     → let p = c .before .before in
@@ -84,7 +83,7 @@ ways-are c = c .find-bottom .ensures .ways
 
 ways-wide : (c : tie.After-picture-bytes) → length (ways c) ≡ (size c .height - 1) * size c .width
 unfolding ways
-ways-wide c = ways-long fence32 (size c .width) (size c .height - 1) (costsOf (size c) (front c))
+ways-wide c = ways-long false fence32 (size c .width) (size c .height - 1) (costsOf (size c) (front c))
 
 ways-lent : (c : tie.After-find-bottom)
     → let p = c .before .before in
@@ -200,7 +199,7 @@ returns-2 c =
     let fits = plain-traceable z (front p) (front-sized p) (byte p) (f .find-bottom .result .column) (length (seam p)) (found .inside) (rooms p .seam-room) in
     record {
       number = sym (none p);
-      cost = c .wide .ensures ∙ found .sum-is ∙ ap (λ k. getD (sumsDown fence32 (z .width) (costsOf z (front p)) (z .height - 1)) k 0) (found .column-is) ∙ cost-summed z (front p) (front-sized p) (byte p);
+      cost = c .wide .ensures ∙ found .sum-is ∙ ap (λ k. getD (sumsDown false fence32 (z .width) (costsOf z (front p)) (z .height - 1)) k 0) (found .column-is) ∙ cost-summed z (front p) (front-sized p) (byte p);
       space-left = space-filled (space p) (front p) (ways p) (f .find-bottom .last .0) (pictureBytes z) n (ways-are f) (front-long p) (ways-wide p) (p .picture-bytes .result) all 0 (at-clear .clear .last .0) (bytes-are p) (omega (arith, bounds p .rows)) (omega (arith, kept-long f, bytes-are p, rooms p .room)) (at-clear .clear .ensures);
       seam-given =
           at-trace .trace-back .ensures

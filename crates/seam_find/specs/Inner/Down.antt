@@ -1,5 +1,6 @@
 -- All rows of sums, from the top. What private functions ask and promise; no public promise cites it.
 use mathlib.Core.Path.{_≡_}
+use mathlib.Core.Bool.{false}
 use mathlib.Core.List.{List, _++_}
 use Prim.Native.Nat.{ℕ, _+_, _-_, _*_, _≤_, _<_}
 use lib.ListN.{length, getD, take, drop}
@@ -8,40 +9,39 @@ use Rattle.grids.specs.Rows.{flat}
 use Rattle.pictures.specs.declared.sizes.Size.{Size}
 use Rattle.pictures.specs.Refusals.{refusal}
 use Rattle.pictures.specs.Pictures.{sizeRules, pictureBytes, picture}
-use Rattle.energy.specs.Energy.{energies}
-use Rattle.seam_sums.specs.Least.{wayOf3, sumOf3}
-use Rattle.seam_find.specs.Inner.Sums.{fenced, sumsDown, waysUp}
+use Rattle.energy.specs.Energy.{costsAt}
+use Rattle.seam_theory.specs.Sums.{CostRows, costRows, fenced, sumOf3, wayOf3, sumsDown, waysUp}
 
--- The costs of row i of a picture: its energies.
-abbrev pub costsOf : Size → List ℕ → ℕ → List ℕ
-costsOf z b i = energies (z .width) (picture z b) i
+-- The costs of row i of a picture.
+abbrev pub costsOf : Size → List ℕ → ℕ → CostRows
+costsOf z b i = costRows (z .width) (costsAt (z .width) (z .height) (picture z b) i)
 
 -- The same with the fenced sums of row 0, and room for a row of costs and a row of sums.
-pub record DownNeeded (fence from : ℕ) (z : Size) (costs : List ℕ → ℕ → List ℕ) (bytes : ℕ) (space above cost next : List ℕ) : Type 0 where
+pub record DownNeeded (fence from : ℕ) (z : Size) (costs : List ℕ → ℕ → CostRows) (bytes : ℕ) (space above cost next : List ℕ) : Type 0 where
   pub bytes-are : bytes ≡ pictureBytes z
   pub sized : refusal (sizeRules z (pictureBytes z)) ≡ 0
   pub room : from + (z .height - 1) * z .width ≤ length space
-  pub first : above ≡ fenced fence (costs (take from space) 0)
+  pub first : above ≡ fenced false fence (z .width) (costs (take from space) 0 .up)
   pub cost-room : length cost ≡ z .width
   pub next-room : length next ≡ z .width
 
 -- The ways between rows, the rest as it was; and the fenced sums of the last row.
-pub record DownGiven (fence from : ℕ) (z : Size) (costs : List ℕ → ℕ → List ℕ) (space space′ above′ : List ℕ) : Type 0 where
+pub record DownGiven (fence from : ℕ) (z : Size) (costs : List ℕ → ℕ → CostRows) (space space′ above′ : List ℕ) : Type 0 where
   pub ways :
       space′ ≡ take from space
-      ++ (flat (table (waysUp fence (z .width) (costs (take from space))) (z .height - 1))
+      ++ (flat (table (waysUp false fence (z .width) (costs (take from space))) (z .height - 1))
       ++ drop (from + (z .height - 1) * z .width) space)
-  pub sums : above′ ≡ fenced fence (sumsDown fence (z .width) (costs (take from space)) (z .height - 1))
+  pub sums : above′ ≡ fenced false fence (z .width) (sumsDown false fence (z .width) (costs (take from space)) (z .height - 1))
 
 -- The same for row i alone: the fenced sums of the row above are small enough to add to.
-pub record RowNeeded (limit from : ℕ) (z : Size) (bytes i : ℕ) (space above cost next : List ℕ) : Type 0 where
+pub record RowNeeded (fence from : ℕ) (z : Size) (bytes i : ℕ) (space above cost next : List ℕ) : Type 0 where
   pub bytes-are : bytes ≡ pictureBytes z
   pub sized : refusal (sizeRules z (pictureBytes z)) ≡ 0
   pub later : 0 < i
   pub inside : i < z .height
   pub room : from + (z .height - 1) * z .width ≤ length space
   pub long : length above ≡ z .width + 2
-  pub small : (k : ℕ) → k < z .width → getD above (k + 1) 0 < limit
+  pub small : (k : ℕ) → k < z .width → getD above (k + 1) 0 < fence
   pub cost-room : length cost ≡ z .width
   pub next-room : length next ≡ z .width
 
@@ -49,6 +49,6 @@ pub record RowNeeded (limit from : ℕ) (z : Size) (bytes i : ℕ) (space above 
 abbrev pub waysAt : ℕ → Size → ℕ → ℕ
 waysAt from z i = from + (i - 1) * z .width
 
-pub record RowGiven (from : ℕ) (z : Size) (costs : List ℕ → ℕ → List ℕ) (i : ℕ) (space above space′ above′ : List ℕ) : Type 0 where
-  pub ways : space′ ≡ take (waysAt from z i) space ++ (table (wayOf3 above) (z .width) ++ drop (waysAt from z i + z .width) space)
+pub record RowGiven (from : ℕ) (z : Size) (costs : List ℕ → ℕ → CostRows) (i : ℕ) (space above space′ above′ : List ℕ) : Type 0 where
+  pub ways : space′ ≡ take (waysAt from z i) space ++ (table (wayOf3 false (z .width) above (costs (take from space) i)) (z .width) ++ drop (waysAt from z i + z .width) space)
   pub sums : above′ ≡ take 1 above ++ (table (sumOf3 above (costs (take from space) i)) (z .width) ++ drop (z .width + 1) above)

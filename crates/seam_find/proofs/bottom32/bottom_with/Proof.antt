@@ -37,9 +37,9 @@ mid-long c = part-length 1 (c .args .size .width + 1) (now (c .args .above)) (om
 
 -- the costs of row 0
 costs : (c : tie.Start) → List ℕ
-costs c = costsOf (c .args .size) (take (pictureBytes (c .args .size)) (now (c .args .space))) 0
+costs c = costsOf (c .args .size) (take (pictureBytes (c .args .size)) (now (c .args .space))) 0 .up
 
-wide : (c : tie.Start) → length (costsOf (c .args .size) (take (pictureBytes (c .args .size)) (now (c .args .space))) 0) ≡ c .args .size .width
+wide : (c : tie.Start) → length (costsOf (c .args .size) (take (pictureBytes (c .args .size)) (now (c .args .space))) 0 .up) ≡ c .args .size .width
 wide c = length-table _ (c .args .size .width)
 
 row-0 : (c : tie.After-energies)
@@ -52,9 +52,9 @@ row-0 c =
     let mid = midOf 1 (a .size .width + 1 - 1) (now (a .above)) in
     energies-served (take (a .bytes) (now (a .space))) (a .size) 0 mid (c .energies .last .1 .1 .1 .0) (c .energies .result) (c .energies .ensures)
     (rw (front-long s) (s .pre .0 .sized)) (sure s .height-some) (le-of-eq (sym (mid-long s)))
-    ∙ ap (costsOf (a .size) (take (a .bytes) (now (a .space))) 0 ++_) (drop-of-length-le mid {i = a .size .width} (le-of-eq (mid-long s)))
-    ∙ append-nil (costsOf (a .size) (take (a .bytes) (now (a .space))) 0)
-    ∙ ap (λ b. costsOf (a .size) (take b (now (a .space))) 0) (s .pre .0 .bytes-are)
+    ∙ ap (costsOf (a .size) (take (a .bytes) (now (a .space))) 0 .up ++_) (drop-of-length-le mid {i = a .size .width} (le-of-eq (mid-long s)))
+    ∙ append-nil (costsOf (a .size) (take (a .bytes) (now (a .space))) 0 .up)
+    ∙ ap (λ b. costsOf (a .size) (take b (now (a .space))) 0 .up) (s .pre .0 .bytes-are)
 
 -- the last row of sums
 all-long : (c : tie.After-down)
@@ -105,7 +105,7 @@ down-requires c κs =
       bytes-are = p .0 .bytes-are;
       sized = p .0 .sized;
       room = p .0 .room;
-      first = first-row fence32 (a .size .width) (now (a .above)) _ (costsOf (a .size) (take (pictureBytes (a .size)) (now (a .space))) 0) (p .1 .fences) (row-0 at-energies);
+      first = first-row fence32 (a .size .width) (now (a .above)) _ (costsOf (a .size) (take (pictureBytes (a .size)) (now (a .space))) 0 .up) (p .1 .fences) (row-0 at-energies);
       cost-room = p .1 .cost-room;
       next-room = p .1 .next-room;
     }

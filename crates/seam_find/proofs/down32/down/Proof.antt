@@ -11,7 +11,7 @@ use Rattle.grids.proofs.Tables.{length-table}
 use Rattle.pictures.specs.declared.sizes.Size.{Size}
 use Rattle.pictures.specs.Pictures.{pictureBytes}
 use Rattle.pictures.proofs.Limits.{Sized, sized-is}
-use Rattle.seam_sums.specs.Fences.{fence32, sumLimit32}
+use Rattle.seam_sums.specs.Fences.{fence32}
 use Rattle.seam_find.specs.Inner.Down.{costsOf}
 use Rattle.seam_find.proofs.Costs.{front-most, cost-most}
 use Rattle.seam_find.proofs.Downs.{Downs, down-start, down-turn, down-end, above-long, above-most}
@@ -25,7 +25,7 @@ Inv-loop space₀ size bytes above₀ cost₀ next₀ height i₀ space above co
 abbrev μ-loop : tie.MeasureT-loop
 μ-loop space₀ size bytes above₀ cost₀ next₀ height i₀ space above cost next i = height - i
 
-wide : (z : Size) (start : List ℕ) (i : ℕ) → length (costsOf z (take (pictureBytes z) start) i) ≡ z .width
+wide : (z : Size) (start : List ℕ) (i : ℕ) → length (costsOf z (take (pictureBytes z) start) i .up) ≡ z .width
 wide z start i = length-table _ (z .width)
 
 loop-holds : tie.Need-loop-holds Inv-loop μ-loop
@@ -42,7 +42,7 @@ byte : (c : tie.After-slice-known Inv-loop μ-loop) (i : ℕ) → getD (now (c .
 byte c i = omega (arith, c .slice-known .given i)
 
 -- in a turn, the sums above are small
-small : (c : tie.At-loop Inv-loop μ-loop) (k : ℕ) → c .loop .i < c .before .before .before .before .before .args .size .height → k < c .before .before .before .before .before .args .size .width → getD (c .loop .above) (k + 1) 0 < sumLimit32
+small : (c : tie.At-loop Inv-loop μ-loop) (k : ℕ) → c .loop .i < c .before .before .before .before .before .args .size .height → k < c .before .before .before .before .before .args .size .width → getD (c .loop .above) (k + 1) 0 < fence32
 small c k l h =
     let at-slice-known = c .before .before .before .before in
     let start = at-slice-known .before in

@@ -1,20 +1,25 @@
 -- `seam_find::down32::row_down` meets its contract.
 use mathlib.Core.Path.{_≡_, sym, ap, _∙_}
+use mathlib.Core.Bool.{false}
 use mathlib.Core.List.{List, _++_}
 use Prim.Native.Nat.{ℕ, _+_, _-_, _*_, _≤_}
 use native.Mathlib.Nat.{le-of-eq, mul-le-mul, add-sub-cancel-left}
 use native.Mathlib.Omega.{arith}
 use borrow.Author.Needs.{needs}
+use borrow.Rule.Slice.PartMut.{midOf}
 use denote.Ref.{now}
 use lib.ListN.{length, getD, take, drop}
 use lib.Seq.{length-take-le, take-at}
+use Rattle.grids.specs.Table.{table}
 use Rattle.grids.proofs.Tables.{length-table}
 use Rattle.grids.proofs.Rows.{part-end}
 use Rattle.grids.proofs.Parts.{part-length}
 use Rattle.pictures.specs.Limits.{mostSide, mostPixels, mostPicture}
-use Rattle.pictures.specs.Pictures.{pictureBytes}
+use Rattle.pictures.specs.Pictures.{pictureBytes, picture}
 use Rattle.pictures.proofs.Limits.{Sized, sized-is}
 use Rattle.energy.proofs.Served.{energies-served}
+use Rattle.seam_theory.specs.Sums.{alikeRows, wayOf3}
+use Rattle.seam_theory.proofs.Alike.{rows-alike}
 use Rattle.seam_find.specs.Inner.Down.{costsOf}
 use Rattle.seam_find.proofs.Costs.{front-most, cost-most}
 use Rattle.seam_find.proofs.Downs.{row-given}
@@ -44,6 +49,15 @@ ends c =
       end = omega arith;
     }
 
+-- and have a place for each column
+ways-wide : (c : tie.Start)
+    → let a = c .args in
+    let from = a .bytes + (a .i - 1) * a .size .width in length (midOf from (from + a .size .width - from) (now (a .space))) ≡ length (now (a .next))
+ways-wide c =
+    let a = c .args in
+    let from = a .bytes + (a .i - 1) * a .size .width in
+    part-length from (from + a .size .width) (now (a .space)) (ends c .end) ∙ add-sub-cancel-left from (a .size .width) ∙ sym (c .pre .next-room)
+
 -- the picture at the front
 front-long : (c : tie.Start) → length (take (c .args .bytes) (now (c .args .space))) ≡ pictureBytes (c .args .size)
 front-long c = length-take-le _ _ (ends c .front) ∙ c .pre .bytes-are
@@ -56,7 +70,7 @@ byte c i = omega (arith, c .slice-known .given i)
 
 -- the costs of row i
 costs : (c : tie.Start) → List ℕ
-costs c = costsOf (c .args .size) (take (c .args .bytes) (now (c .args .space))) (c .args .i)
+costs c = costsOf (c .args .size) (take (c .args .bytes) (now (c .args .space))) (c .args .i) .up
 
 costs-long : (c : tie.Start) → length (costs c) ≡ c .args .size .width
 unfolding costs
@@ -134,7 +148,6 @@ next-row-requires c κs =
     let s = at-slice-known .before in
     let p = s .pre in
     let a = s .args in
-    let from = a .bytes + (a .i - 1) * a .size .width in
     let front = cost-front at-energies in (
       record {
         above = omega (arith, p .long, p .next-room);
@@ -142,7 +155,7 @@ next-row-requires c κs =
         small = λ k l. p .small k (omega (arith, p .next-room));
         cheap = λ k. rw front (omega (arith, cost-most (a .size) (take (a .bytes) (now (a .space))) (front-sized s) (front-most (now (a .space)) (a .bytes) 255 (byte at-slice-known)) (a .i) k));
       },
-      part-length from (from + a .size .width) (now (a .space)) (ends s .end) ∙ add-sub-cancel-left from (a .size .width) ∙ sym (p .next-room),
+      ways-wide s,
     )
 
 sub-copy : tie.Need-sub-copy
@@ -178,9 +191,14 @@ returns c =
     let s = after .before .before .before .before .before .before .before in
     let a = s .args in
     let row = at-next-row .next-row in
-    row-given (pictureBytes (a .size)) (a .size) (costsOf (a .size)) (a .i) (a .bytes) (length (now (a .next))) (now (a .space)) (now (a .above)) (row .last .1 .1 .1 .0) (take (a .size .width) (after .energies .last .1 .1 .1 .0)) (at-copy .copy .last .1 .0)
-    (s .pre .bytes-are) (ends s .end) (row .ensures .1)
-    (cost-front after ∙ ap (λ b. costsOf (a .size) (take b (now (a .space))) (a .i)) (s .pre .bytes-are)) (s .pre .next-room)
+    let above = now (a .above) in
+    let cost = take (a .size .width) (after .energies .last .1 .1 .1 .0) in
+    row-given (pictureBytes (a .size)) (a .size) (costsOf (a .size)) (a .i) (a .bytes) (length (now (a .next))) (now (a .space)) above (row .last .1 .1 .1 .0) (alikeRows cost) (at-copy .copy .last .1 .0)
+    (s .pre .bytes-are) (ends s .end)
+    (ap alikeRows (cost-front after) ∙ sym (rows-alike (a .size .width) (a .size .height) (picture (a .size) (take (a .bytes) (now (a .space)))) (a .i))
+    ∙ ap (λ b. costsOf (a .size) (take b (now (a .space))) (a .i)) (s .pre .bytes-are))
+    (s .pre .next-room)
+    (row .ensures .1 ∙ ap (λ n. table (wayOf3 false n above (alikeRows cost)) n) (ways-wide s))
     (at-copy .copy .ensures ∙ row .ensures .0)
 
 pub row-down-spec : {M : Type 1} → statement M

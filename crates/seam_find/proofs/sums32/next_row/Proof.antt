@@ -1,17 +1,19 @@
 -- `seam_find::sums32::next_row` meets its contract. The loop's invariant: the sums and the ways of c columns stand at the front.
 use mathlib.Core.Path.{_≡_, refl, sym, ap, _∙_}
+use mathlib.Core.Bool.{false}
 use Prim.Native.Nat.{_+_, _-_, min}
 use native.Mathlib.Omega.{arith}
 use borrow.Author.Needs.{needs}
 use denote.Ref.{now}
-use lib.ListN.{getD}
+use lib.ListN.{length, getD}
 use Rattle.grids.proofs.Tables.{Stored, stored-start, stored-turn, stored-end}
-use Rattle.seam_sums.specs.Least.{leastOf3, sumOf3, wayOf3}
+use Rattle.seam_theory.specs.Sums.{alikeRows, sumOf3, wayOf3}
+use Rattle.seam_theory.proofs.Alike.{sum-alike, way-alike}
 use Rattle.seam_find.proofs.sums32.next_row.Statement.{statement}
 use Rattle.seam_find.proofs.sums32.next_row.Tie as tie
 
 abbrev Inv-loop : tie.InvT-loop
-Inv-loop above cost next₀ ways₀ c₀ c-end next ways c = Stored (sumOf3 above cost) next₀ c-end c next × Stored (wayOf3 above) ways₀ c-end c ways
+Inv-loop above cost next₀ ways₀ c₀ c-end next ways c = Stored (sumOf3 above (alikeRows cost)) next₀ c-end c next × Stored (wayOf3 false (length ways₀) above (alikeRows cost)) ways₀ c-end c ways
 
 abbrev μ-loop : tie.MeasureT-loop
 μ-loop above cost next₀ ways₀ c₀ c-end next ways c = c-end - c
@@ -85,7 +87,6 @@ loop-less : tie.Need-loop-less Inv-loop μ-loop
 loop-less c = search needs
 
 loop-again : tie.Need-loop-again Inv-loop μ-loop
-unfolding sumOf3 leastOf3 wayOf3
 loop-again c =
     let at-lesser2 = c .before .before in
     let at-lesser = at-lesser2 .before in
@@ -93,9 +94,13 @@ loop-again c =
     let a = at-loop .before .before .before .before .before .args in
     let l = at-loop .loop in
     let h = c .before .before .before .before .before .before .before .loop-test .taken in (
-      stored-turn (sumOf3 (now (a .above)) (now (a .cost))) (now (a .next)) _ (l .c) (l .next) _ 0 h
-          (ap (_+ getD (now (a .cost)) (l .c) 0) (at-lesser2 .lesser2 .ensures ∙ ap (min (getD (now (a .above)) (l .c) 0)) (at-lesser .lesser .ensures))) (l .inv .0),
-      stored-turn (wayOf3 (now (a .above))) (now (a .ways)) _ (l .c) (l .ways) _ 0 h (c .way .ensures) (l .inv .1),
+      stored-turn (sumOf3 (now (a .above)) (alikeRows (now (a .cost)))) (now (a .next)) _ (l .c) (l .next) _ 0 h
+          (ap (_+ getD (now (a .cost)) (l .c) 0) (at-lesser2 .lesser2 .ensures ∙ ap (min (getD (now (a .above)) (l .c) 0)) (at-lesser .lesser .ensures))
+          ∙ sym (sum-alike (now (a .above)) (now (a .cost)) (l .c)))
+          (l .inv .0),
+      stored-turn (wayOf3 false (length (now (a .ways))) (now (a .above)) (alikeRows (now (a .cost)))) (now (a .ways)) _ (l .c) (l .ways) _ 0 h
+          (c .way .ensures ∙ sym (way-alike (length (now (a .ways))) (now (a .above)) (now (a .cost)) (l .c)))
+          (l .inv .1),
     )
 
 same-length : tie.Need-same-length Inv-loop μ-loop

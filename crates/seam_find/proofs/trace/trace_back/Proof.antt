@@ -9,7 +9,7 @@ use borrow.Author.Tests.{not-true, not-false}
 use denote.Ref.{now}
 use lib.ListN.{length}
 use Rattle.grids.proofs.Rows.{part-end}
-use Rattle.seam_find.specs.Tracing.{columnsTo}
+use Rattle.seam_theory.specs.Sums.{columnsTo}
 use Rattle.seam_find.proofs.Loops.{Traceable, traceable-has, traced-is, Back, back-start, back-turn, back-end, length-columns}
 use Rattle.seam_find.proofs.trace.trace_back.Statement.{statement}
 use Rattle.seam_find.proofs.trace.trace_back.Tie as tie
