@@ -1,8 +1,10 @@
--- Laws of energies: from the bytes of two rows, with rows and columns exchanged, and their bound.
-use mathlib.Core.Path.{_≡_, refl, sym, _∙_}
+-- Laws of energies: from the bytes of two rows, with rows and columns exchanged, and the bound of what a pixel costs.
+use mathlib.Core.Path.{_≡_, refl, sym, ap, ap₂, _∙_}
 use mathlib.Core.Logic.{⊎-elim}
+use mathlib.Core.Bool.{false}
+use mathlib.Core.Option.{Option, none, some, Option·map}
 use mathlib.Core.List.{List, [], _∷_}
-use Prim.Native.Nat.{ℕ, suc, _+_, _*_, _≤_, _<_}
+use Prim.Native.Nat.{ℕ, suc, _+_, _-_, _*_, _≤_, _<_}
 use native.Mathlib.Nat.{add-comm, suc-mul, mul-le-mul-right}
 use native.Mathlib.Omega.{arith}
 use borrow.Author.Tests.{lt-ltb, le-ltb}
@@ -17,42 +19,72 @@ use Rattle.grids.proofs.Tables.{table-same}
 use Rattle.grids.proofs.Exchange.{exchange-at, exchange-table}
 use Rattle.pictures.specs.declared.sizes.Size.{Size}
 use Rattle.pictures.specs.Pictures.{Picture, channelsOf, rowBytes, pictureBytes, picture, pixel}
-use Rattle.energy.specs.Energy.{difference, energy, energies, energyGrid}
-use Rattle.energy.specs.Inner.{between, lowerLine}
+use Rattle.energy.specs.Around.{rightOf, belowOf, around}
+use Rattle.energy.specs.Energy.{difference, away, flat, StepCosts, costsAt, energy, energies, energyGrid}
+use Rattle.energy.specs.Inner.{rightColumn, between, besideLast, lowerLine}
 use Rattle.pictures.proofs.Buffers.{pixel-at, pixel-past}
 
+-- A pixel has no difference to itself.
 pub difference-self : (p : List ℕ) → difference p p ≡ 0
 unfolding difference
 difference-self [] = refl
 difference-self (a ∷ p) = omega (arith, difference-self p)
 
-pub difference-none : (p : List ℕ) → difference [] p ≡ 0
-unfolding difference
-difference-none p = refl
+-- A neighbour's difference, from the bytes of the row and of the row below: the last column stands for the one to its right,
+-- the last row for the one below it.
+module _ (z : Size) (b : List ℕ) (e : length b ≡ pictureBytes z) (r c : ℕ) (h : r < z .height) where
+  -- The pixel itself.
+  abbrev it : List ℕ
+  it = rowAt (channelsOf (z .kind)) c (rowAt (rowBytes z) r b)
 
--- The energy of a pixel, from the bytes of its row and of the row below; the last row stands for the row below it.
-pub energy-between : (z : Size) (b : List ℕ) → length b ≡ pictureBytes z → (r c : ℕ) → r < z .height
-    → energy (picture z b) r c ≡ between (channelsOf (z .kind)) (take (rowBytes z) (drop (r * rowBytes z) b)) (take (rowBytes z) (drop (lowerLine r (z .height) (rowBytes z)) b)) c
-unfolding energy between
-energy-between z b e r c h =
-    ⊎-elim
-    (λ (l : z .height ≤ r + 1).
-    rw (le-ltb (r + 1) (z .height) l, pixel-past z b (r + 1) c l, pixel-at z b e r c h, pixel-at z b e r (c + 1) h, difference-none, difference-self))
-    (λ (l : r + 1 < z .height).
-    rw (lt-ltb (r + 1) (z .height) l, pixel-at z b e (r + 1) c l, pixel-at z b e r c h, pixel-at z b e r (c + 1) h))
-    (le-or-lt (z .height) (r + 1))
+  right-between : c < z .width
+      → away (pixel (picture z b) r c) (Option·map (pixel (picture z b) r) (rightOf false (z .width) c))
+      ≡ difference (rowAt (channelsOf (z .kind)) (rightColumn (z .width) (besideLast (z .width)) c) (rowAt (rowBytes z) r b)) it
+  unfolding rightOf
+  right-between l =
+      ⊎-elim
+      (λ (m : z .width ≤ c + 1).
+      let last : z .width - 1 ≡ c = omega arith in
+      rw (le-ltb (c + 1) (z .width) m, last, difference-self))
+      (λ (m : c + 1 < z .width).
+      rw (lt-ltb (c + 1) (z .width) m, pixel-at z b e r c h, pixel-at z b e r (c + 1) h))
+      (le-or-lt (z .width) (c + 1))
+
+  below-between : away (pixel (picture z b) r c) (Option·map (λ a. pixel (picture z b) a c) (belowOf (z .height) r))
+      ≡ difference (rowAt (channelsOf (z .kind)) c (take (rowBytes z) (drop (lowerLine r (z .height) (rowBytes z)) b))) it
+  unfolding belowOf
+  below-between =
+      ⊎-elim
+      (λ (l : z .height ≤ r + 1). rw (le-ltb (r + 1) (z .height) l, difference-self))
+      (λ (l : r + 1 < z .height).
+      rw (lt-ltb (r + 1) (z .height) l, pixel-at z b e r c h, pixel-at z b e (r + 1) c l))
+      (le-or-lt (z .height) (r + 1))
+
+  -- The energy of a pixel, from these bytes.
+  pub energy-between : c < z .width
+      → energy (z .width) (z .height) (picture z b) r c
+      ≡ between (channelsOf (z .kind)) (take (rowBytes z) (drop (r * rowBytes z) b)) (take (rowBytes z) (drop (lowerLine r (z .height) (rowBytes z)) b)) (z .width) (besideLast (z .width)) c
+  unfolding costsAt between
+  energy-between l = ap₂ _+_ (right-between l) below-between
 
 -- "A horizontal seam is the vertical seam of the picture with rows and columns exchanged": the energies are exchanged too.
-pub energy-exchange : {w n : ℕ} {p : Picture} → Grid w n p → (r c : ℕ) → energy (exchange w p) c r ≡ energy p r c
-unfolding energy
-energy-exchange {w} {p} g r c =
-    simp (exchange-at g r c [], exchange-at g (r + 1) c [], exchange-at g r (c + 1) []) (add-comm _ _)
+pub energy-exchange : {w n : ℕ} {p : Picture} → Grid w n p → (r c : ℕ) → energy n w (exchange w p) c r ≡ energy w n p r c
+unfolding costsAt rightOf belowOf
+energy-exchange {w} {n} {p} g r c = ap by pixels-same ∙ add-comm _ _
+  where
+    -- The energy of the pixel in row r and column c, from what stands below it and to its right.
+    by : (ℕ → ℕ → List ℕ) → ℕ
+    by q = away (q r c) (Option·map (λ a. q a c) (belowOf n r)) + away (q r c) (Option·map (q r) (rightOf false w c))
 
+    pixels-same : _≡_ {A = ℕ → ℕ → List ℕ} (λ r c. pixel (exchange w p) c r) (pixel p)
+    pixels-same = λ i r c. exchange-at g r c [] i
+
+-- So are all energies of a picture, row by row.
 pub energyGrid-exchange : {w n : ℕ} {p : Picture} → Grid w n p → energyGrid n w (exchange w p) ≡ exchange w (energyGrid w n p)
 energyGrid-exchange {w} {n} {p} g =
-    table-same (energies n (exchange w p)) (λ c. table (λ r. energy p r c) n) w
-    (λ c l. table-same (energy (exchange w p) c) (λ r. energy p r c) n (λ r m. energy-exchange g r c))
-    ∙ sym (exchange-table 0 (energy p) w n)
+    table-same (energies n w (exchange w p)) (λ c. table (λ r. energy w n p r c) n) w
+    (λ c l. table-same (energy n w (exchange w p) c) (λ r. energy w n p r c) n (λ r m. energy-exchange g r c))
+    ∙ sym (exchange-table 0 (energy w n p) w n)
 
 -- The bound of an energy, over the largest sample m.
 difference-most : (m : ℕ) (p q : List ℕ) → ((i : ℕ) → getD p i 0 ≤ m) → ((i : ℕ) → getD q i 0 ≤ m) → difference p q ≤ length p * m
@@ -62,18 +94,38 @@ difference-most m (a ∷ p) [] h k = omega arith
 difference-most m (a ∷ p) (b ∷ q) h k =
     omega (arith, h 0, k 0, suc-mul (length p) m, difference-most m p q (λ i. h (suc i)) (λ i. k (suc i)))
 
-pub energy-most : (channels m : ℕ) (p : Picture) → ((r c : ℕ) → length (pixel p r c) ≤ channels) → ((r c k : ℕ) → getD (pixel p r c) k 0 ≤ m)
-    → (r c : ℕ) → energy p r c ≤ 2 * (channels * m)
-unfolding energy
-energy-most channels m p l h r c =
-    let right = difference-most m (pixel p r (c + 1)) (pixel p r c) (h r (c + 1)) (h r c) in
-    let below = difference-most m (pixel p (r + 1) c) (pixel p r c) (h (r + 1) c) (h r c) in
-    omega (arith, mul-le-mul-right m (l r (c + 1)), mul-le-mul-right m (l (r + 1) c))
+-- Each of the three costs is at most this.
+pub record CostsMost (most : ℕ) (k : StepCosts) : Type 0 where
+  pub left : k .left ≤ most
+  pub up : k .up ≤ most
+  pub right : k .right ≤ most
+
+-- In a picture whose pixels have at most `channels` samples, none above m.
+module _ (channels m : ℕ) (p : Picture) (short : (r c : ℕ) → length (pixel p r c) ≤ channels) (low : (r c k : ℕ) → getD (pixel p r c) k 0 ≤ m) where
+  -- A neighbour is at most the largest sample away in each channel.
+  away-most : (r c : ℕ) (at : ℕ → ℕ × ℕ) (o : Option ℕ) → away (pixel p r c) (Option·map (λ a. pixel p (at a .0) (at a .1)) o) ≤ channels * m
+  away-most r c at none = omega arith
+  away-most r c at (some a) =
+      let i = at a .0 in
+      let j = at a .1 in
+      omega (arith, difference-most m (pixel p i j) (pixel p r c) (low i j) (low r c), mul-le-mul-right m (short i j))
+
+  -- A pixel costs at most two such differences, wherever a path comes from.
+  pub costs-most : (w h r c : ℕ) → CostsMost (2 * (channels * m)) (costsAt w h p r c)
+  unfolding costsAt
+  costs-most w h r c = record { left = most; up = most; right = most }
+    where
+      most : flat (around false w h p r c) ≤ 2 * (channels * m)
+      most = omega (arith, away-most r c (λ a. (r, a)) (rightOf false w c), away-most r c (λ a. (a, c)) (belowOf h r))
+
+  -- And so its energy is at most that.
+  pub energy-most : (w h r c : ℕ) → energy w h p r c ≤ 2 * (channels * m)
+  energy-most w h r c = costs-most w h r c .up
 
 -- The same of a picture in a buffer.
-pub buffer-energy-most : (z : Size) (b : List ℕ) (m : ℕ) → length b ≡ pictureBytes z → ((i : ℕ) → getD b i 0 ≤ m)
-    → (r c : ℕ) → energy (picture z b) r c ≤ 2 * (channelsOf (z .kind) * m)
-buffer-energy-most z b m e h = energy-most ch m (picture z b) short below
+pub buffer-costs-most : (z : Size) (b : List ℕ) (m : ℕ) → length b ≡ pictureBytes z → ((i : ℕ) → getD b i 0 ≤ m)
+    → (r c : ℕ) → CostsMost (2 * (channelsOf (z .kind) * m)) (costsAt (z .width) (z .height) (picture z b) r c)
+buffer-costs-most z b m e h = costs-most ch m (picture z b) short below (z .width) (z .height)
   where
     ch : ℕ
     ch = channelsOf (z .kind)
@@ -93,3 +145,7 @@ buffer-energy-most z b m e h = energy-most ch m (picture z b) short below
         rw (pixel-at z b e r c l)
         (rowAt-all (λ s. s ≤ m) ch (rowAt (rowBytes z) r b) 0 (omega arith) (rowAt-all (λ s. s ≤ m) (rowBytes z) b 0 (omega arith) h r) c k))
         (le-or-lt (z .height) r)
+
+pub buffer-energy-most : (z : Size) (b : List ℕ) (m : ℕ) → length b ≡ pictureBytes z → ((i : ℕ) → getD b i 0 ≤ m)
+    → (r c : ℕ) → energy (z .width) (z .height) (picture z b) r c ≤ 2 * (channelsOf (z .kind) * m)
+buffer-energy-most z b m e h r c = buffer-costs-most z b m e h r c .up

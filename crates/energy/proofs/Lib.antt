@@ -1,4 +1,5 @@
 pub mod Energy
+pub mod Steps
 pub mod Lines
 pub mod Served
 pub mod Smallest

@@ -3,7 +3,7 @@ use mathlib.Core.Path.{_≡_, sym, ap, ap₂, _∙_}
 use mathlib.Core.Logic.{⊎-elim}
 use mathlib.Core.List.{List, _++_}
 use Prim.Native.Nat.{ℕ, _+_, _-_, _*_, _≤_, _<_}
-use native.Mathlib.Nat.{add-zero, suc-mul, add-sub-cancel-left}
+use native.Mathlib.Nat.{add-zero, suc-mul, add-sub-cancel-left, le-of-eq}
 use native.Mathlib.Numerals.{add-one}
 use native.Mathlib.Omega.{arith}
 use borrow.Author.Tests.{lt-ltb, le-ltb}
@@ -12,14 +12,14 @@ use lib.Seq.{length-take-le}
 use Rattle.grids.specs.Table.{table}
 use Rattle.grids.proofs.Tables.{table-part, table-more, table-same}
 use Rattle.grids.proofs.Orders.{le-or-lt}
-use Rattle.grids.proofs.Rows.{rowAt-past, part-end}
+use Rattle.grids.proofs.Rows.{part-end}
 use Rattle.pictures.specs.Limits.{mostPicture}
 use Rattle.pictures.specs.declared.sizes.Size.{Size}
 use Rattle.pictures.specs.Pictures.{channelsOf, rowBytes, picture}
 use Rattle.energy.specs.Energy.{apart, difference, energy, energies}
-use Rattle.energy.specs.Inner.{LinesNeeded, between, lowerLine}
+use Rattle.energy.specs.Inner.{LinesNeeded, rightColumn, between, besideLast, lowerLine}
 use Rattle.pictures.proofs.Limits.{Sized}
-use Rattle.energy.proofs.Energy.{difference-none, energy-between}
+use Rattle.energy.proofs.Energy.{energy-between}
 
 -- The difference of two pixels of one sample, and of three.
 pub grey-is : (a b : List ℕ) (i j : ℕ) → i + 1 ≤ length a → j + 1 ≤ length b → difference (take 1 (drop i a)) (take 1 (drop j b)) ≡ apart (getD a i 0) (getD b j 0)
@@ -32,28 +32,36 @@ unfolding difference
 rgb-is a b i j h k = rw (table-part a i 3 0 h, table-part b j 3 0 k, add-zero i, add-zero j) (omega arith)
 
 -- The loop over a row's pixels, for any number of channels: i is where the samples of pixel c start.
-module _ (ch : ℕ) (it lower space out : List ℕ) (c i : ℕ) (at : i ≡ c * ch) (so-far : out ≡ table (between ch it lower) c ++ drop c space) where
-  -- One turn: the difference to the right and the one below are stored.
-  pub line-turn : (right below : ℕ) → c < length space
+module _ (ch : ℕ) (it lower space out : List ℕ) (width beside c i : ℕ) (at : i ≡ c * ch) (so-far : out ≡ table (between ch it lower width beside) c ++ drop c space) where
+  -- One pixel more: its difference to the right, whose samples start at j, and the one below are stored.
+  line-more : (j right below : ℕ) → c < length space → j ≡ rightColumn width beside c * ch
+      → right ≡ difference (take ch (drop j it)) (take ch (drop i it))
+      → below ≡ difference (take ch (drop i lower)) (take ch (drop i it))
+      → set out c (right + below) ≡ table (between ch it lower width beside) (c + 1) ++ drop (c + 1) space
+  unfolding between
+  line-more j right below h n p q = ap₂ (λ xs x. set xs c x) so-far is ∙ table-more (between ch it lower width beside) space c 0 h
+    where
+      is : right + below ≡ between ch it lower width beside c
+      is = rw (p, q, at, n)
+
+  -- One turn.
+  pub line-turn : (right below : ℕ) → c < length space → c + 1 < width
       → right ≡ difference (take ch (drop (i + ch) it)) (take ch (drop i it))
       → below ≡ difference (take ch (drop i lower)) (take ch (drop i it))
-      → set out c (right + below) ≡ table (between ch it lower) (c + 1) ++ drop (c + 1) space
-  unfolding between
-  line-turn right below h p q = ap₂ (λ xs x. set xs c x) so-far is ∙ table-more (between ch it lower) space c 0 h
+      → set out c (right + below) ≡ table (between ch it lower width beside) (c + 1) ++ drop (c + 1) space
+  line-turn right below h l p q = line-more (i + ch) right below h next p q
     where
-      is : right + below ≡ between ch it lower c
-      is = rw (p, q, at, add-one c, suc-mul c ch)
+      next : i + ch ≡ rightColumn width beside c * ch
+      next = rw (lt-ltb (c + 1) width l, at, add-one c, suc-mul c ch)
 
-  -- The last pixel, which has no right neighbour.
-  pub line-last : (width below : ℕ) → c + 1 ≡ width → width ≤ length space → length it ≡ width * ch
+  -- The last pixel.
+  pub line-last : (j right below : ℕ) → c + 1 ≡ width → width ≤ length space → j ≡ beside * ch
+      → right ≡ difference (take ch (drop j it)) (take ch (drop i it))
       → below ≡ difference (take ch (drop i lower)) (take ch (drop i it))
-      → set out c below ≡ table (between ch it lower) width ++ drop width space
-  unfolding between
-  line-last width below w h e q =
-      ap₂ (λ xs x. set xs c x) so-far is ∙ table-more (between ch it lower) space c 0 (omega arith) ∙ ap (λ n. table (between ch it lower) n ++ drop n space) w
-    where
-      is : below ≡ between ch it lower c
-      is = rw (rowAt-past ch width it (c + 1) (omega arith) (omega arith), difference-none, q, at) (omega arith)
+      → set out c (right + below) ≡ table (between ch it lower width beside) width ++ drop width space
+  line-last j right below w h n p q =
+      line-more j right below (omega arith) (rw (le-ltb (c + 1) width (le-of-eq (sym w))) n) p q
+      ∙ ap (λ n. table (between ch it lower width beside) n ++ drop n space) w
 
 -- The row that stands for the row below ends within the picture.
 pub lower-end : (r height stride : ℕ) → r < height → lowerLine r height stride + stride ≤ height * stride
@@ -63,7 +71,7 @@ lower-end r height stride h =
     (λ (l : r + 1 < height). rw (lt-ltb (r + 1) height l) (part-end (r + 1) height stride l))
     (le-or-lt height (r + 1))
 
--- The two parts of the buffer that are lent to the loop, in its terms: s bytes at r * s, and s bytes at lowerRow.
+-- The two parts of the buffer that are lent to the loop, in its terms: s bytes at r * s, and s bytes at `lower`.
 module _ (z : Size) (b : List ℕ) (r s lower : ℕ) (sure : Sized z (length b)) (inside : r < z .height) (is : s ≡ rowBytes z) (below : lower ≡ lowerLine r (z .height) s) where
   pub record Ends : Type 0 where
     pub short : length b ≤ mostPicture
@@ -79,10 +87,11 @@ module _ (z : Size) (b : List ℕ) (r s lower : ℕ) (sure : Sized z (length b))
   part-length : (at : ℕ) → at + s ≤ length b → length (take (at + s - at) (drop at b)) ≡ z .width * channelsOf (z .kind)
   part-length at h = rw (add-sub-cancel-left at s) (length-take-le s (drop at b) (omega (arith, length-drop at b)) ∙ is)
 
-  pub lines-needed : (out : List ℕ) → z .width ≤ length out
-      → LinesNeeded (channelsOf (z .kind)) (take (r * s + s - r * s) (drop (r * s) b)) (take (lower + s - lower) (drop lower b)) (z .width) out
-  lines-needed out room = record {
+  pub lines-needed : (beside : ℕ) (out : List ℕ) → beside ≡ besideLast (z .width) → z .width ≤ length out
+      → LinesNeeded (channelsOf (z .kind)) (take (r * s + s - r * s) (drop (r * s) b)) (take (lower + s - lower) (drop lower b)) (z .width) beside out
+  lines-needed beside out is-beside room = record {
     some = sure .width-some;
+    inside = omega (arith, sure .width-some);
     narrow = sure .width-small;
     it-is = part-length (r * s) (ends .it);
     lower-is = part-length lower (ends .lower-too);
@@ -90,7 +99,8 @@ module _ (z : Size) (b : List ℕ) (r s lower : ℕ) (sure : Sized z (length b))
   }
 
   -- What the loop leaves is the row's energies.
-  pub lines-are : table (between (channelsOf (z .kind)) (take (r * s + s - r * s) (drop (r * s) b)) (take (lower + s - lower) (drop lower b))) (z .width) ≡ energies (z .width) (picture z b) r
-  lines-are =
-      table-same _ (energy (picture z b) r) (z .width)
-      (λ c l. rw (add-sub-cancel-left (r * s) s, add-sub-cancel-left lower s, below, is) (sym (energy-between z b (sure .length-is) r c inside)))
+  pub lines-are : (beside : ℕ) → beside ≡ besideLast (z .width)
+      → table (between (channelsOf (z .kind)) (take (r * s + s - r * s) (drop (r * s) b)) (take (lower + s - lower) (drop lower b)) (z .width) beside) (z .width) ≡ energies (z .width) (z .height) (picture z b) r
+  lines-are beside is-beside =
+      table-same _ (energy (z .width) (z .height) (picture z b) r) (z .width)
+      (λ c l. rw (add-sub-cancel-left (r * s) s, add-sub-cancel-left lower s, below, is, is-beside) (sym (energy-between z b (sure .length-is) r c inside l)))

@@ -15,10 +15,10 @@ use Rattle.pictures.proofs.Rules.{served-first}
 -- A row of a picture of its size, and room for it: the energies stand at the front of the space.
 pub energies-served : (b : List ℕ) (z : Size) (r : ℕ) (out out′ : List ℕ) (v : Verdict) → EnergiesGiven b z r out v out′
     → refusal (sizeRules z (length b)) ≡ 0 → r < z .height → z .width ≤ length out
-    → out′ ≡ energies (z .width) (picture z b) r ++ drop (z .width) out
+    → out′ ≡ energies (z .width) (z .height) (picture z b) r ++ drop (z .width) out
 energies-served b z r out out′ v g s h l =
     let more = 4 when leb (z .height) r ∷ 8 when ltb (length out) (z .width) ∷ [] in
     let none : refusal (4 when leb (z .height) r ∷ 8 when ltb (length out) (z .width) ∷ []) ≡ 0 = simp (lt-leb _ _ h, le-ltb _ _ l) in
     g .space
-    ∙ ap (λ n. served n (energies (z .width) (picture z b) r ++ drop (z .width) out) out)
+    ∙ ap (λ n. served n (energies (z .width) (z .height) (picture z b) r ++ drop (z .width) out) out)
     (g .answer ∙ served-first (sizeRules z (length b)) more refl s ∙ none)

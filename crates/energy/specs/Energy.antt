@@ -1,37 +1,79 @@
--- "Energy and seams", the energy of a pixel; and the operation that gives a row's energies.
+-- "Energy and seams", what a pixel costs, by its neighbours; and the operation that gives a row's energies.
 use mathlib.Core.Path.{_≡_}
+use mathlib.Core.Bool.{Bool, false, cond}
+use mathlib.Core.Option.{Option, none, some}
 use mathlib.Core.List.{List, [], _∷_, _++_}
 use Prim.Native.Nat.{ℕ, _+_, _-_}
-use lib.Dec.{leb, ltb}
+use lib.Dec.{leb, ltb, eqb}
 use lib.ListN.{length, drop}
 use Rattle.grids.specs.Table.{table}
 use Rattle.pictures.specs.declared.sizes.Size.{Size}
 use Rattle.pictures.specs.declared.refusals.Verdict.{Verdict}
 use Rattle.pictures.specs.Refusals.{_when_, Rule, given, refusal, served}
-use Rattle.pictures.specs.Pictures.{Picture, picture, pixel, sizeRules}
+use Rattle.pictures.specs.Pictures.{Picture, picture, sizeRules}
+use Rattle.energy.specs.Around.{Around, leftOf, around}
 
 -- |a - b|
 abbrev pub apart : ℕ → ℕ → ℕ
 apart a b = (a - b) + (b - a)
 
--- How far two pixels are apart, the channels added. "A difference that would reach past the edge is 0": past the edge
--- stands the pixel with no samples.
+-- How far two pixels are apart, the channels added.
 unfoldable pub difference : List ℕ → List ℕ → ℕ
 difference [] q = 0
 difference (a ∷ p) [] = 0
 difference (a ∷ p) (b ∷ q) = apart a b + difference p q
 
--- "|right neighbour − it| + |lower neighbour − it|. [..] The channels are added."
-unfoldable pub energy : Picture → ℕ → ℕ → ℕ
-energy p r c = difference (pixel p r (c + 1)) (pixel p r c) + difference (pixel p (r + 1) c) (pixel p r c)
+-- How far a neighbour is from a pixel. "A difference that would reach past the edge is 0."
+abbrev pub away : List ℕ → Option (List ℕ) → ℕ
+away it none = 0
+away it (some q) = difference q it
 
--- The energies of row r of a picture of width w.
-abbrev pub energies : ℕ → Picture → ℕ → List ℕ
-energies w p r = table (energy p r) w
+-- "|right neighbour − it| + |lower neighbour − it|. [..] The channels are added."
+abbrev pub flat : Around → ℕ
+flat a = away (a .it) (a .right) + away (a .it) (a .down)
+
+-- What coming to a pixel costs: from the column to the left in the row above, from straight above, from the column to the
+-- right.
+pub record StepCosts : Type 0 where
+  pub left : ℕ
+  pub up : ℕ
+  pub right : ℕ
+
+abbrev pub alike : ℕ → StepCosts
+alike e = record { left = e; up = e; right = e }
+
+-- The rule: what a pixel costs, from its neighbours. Wherever a path comes from, it is the pixel's energy.
+abbrev pub costsFrom : Around → StepCosts
+costsFrom a = alike (flat a)
+
+-- In row r and column c of a picture of w columns and h rows.
+unfoldable pub costsAt : ℕ → ℕ → Picture → ℕ → ℕ → StepCosts
+costsAt w h p r c = costsFrom (around false w h p r c)
+
+-- The energy of a pixel: its cost where a path comes from straight above, or begins.
+abbrev pub energy : ℕ → ℕ → Picture → ℕ → ℕ → ℕ
+energy w h p r c = costsAt w h p r c .up
+
+-- Whether a column is this one.
+abbrev pub isThe : Option ℕ → ℕ → Bool
+isThe none a = false
+isThe (some b) a = eqb a b
+
+-- Which of the three costs is that of coming to column c of w from column a of the row above.
+unfoldable pub toward : Bool → ℕ → ℕ → ℕ → StepCosts → ℕ
+toward wrap w a c k = cond (eqb a c) (k .up) (cond (isThe (leftOf wrap w c) a) (k .left) (k .right))
+
+-- The cost of coming to column c of row i from column a of the row above.
+abbrev pub stepOf : ℕ → ℕ → Picture → ℕ → ℕ → ℕ → ℕ
+stepOf w h p i a c = toward false w a c (costsAt w h p i c)
+
+-- The energies of row r.
+abbrev pub energies : ℕ → ℕ → Picture → ℕ → List ℕ
+energies w h p r = table (energy w h p r) w
 
 -- All energies of a picture, row by row.
 abbrev pub energyGrid : ℕ → ℕ → Picture → List (List ℕ)
-energyGrid w n p = table (energies w p) n
+energyGrid w h p = table (energies w h p) h
 
 -- When the energies of row r are refused: as the picture is, where there is no such row, and where the space is shorter
 -- than the row.
@@ -41,4 +83,4 @@ energiesRules z bytes r space = sizeRules z bytes ++ (4 when leb (z .height) r �
 -- What the operation gives: the number, and the space, which keeps what stands after the row's energies.
 pub record EnergiesGiven (b : List ℕ) (z : Size) (r : ℕ) (out : List ℕ) (verdict : Verdict) (out′ : List ℕ) : Type 0 where
   pub answer : given verdict ≡ refusal (energiesRules z (length b) r (length out))
-  pub space : out′ ≡ served (given verdict) (energies (z .width) (picture z b) r ++ drop (z .width) out) out
+  pub space : out′ ≡ served (given verdict) (energies (z .width) (z .height) (picture z b) r ++ drop (z .width) out) out

@@ -2,7 +2,7 @@
 use mathlib.Core.Path.{_≡_}
 use mathlib.Core.Bool.{cond}
 use mathlib.Core.List.{List}
-use Prim.Native.Nat.{ℕ, _+_, _*_, _≤_, _<_}
+use Prim.Native.Nat.{ℕ, _+_, _-_, _*_, _≤_, _<_}
 use lib.Dec.{ltb}
 use lib.ListN.{length}
 use Rattle.grids.specs.Rows.{rowAt}
@@ -18,18 +18,28 @@ pub record RowNeeded (b : List ℕ) (z : Size) (r : ℕ) (out : List ℕ) : Type
   pub inside : r < z .height
   pub room : z .width ≤ length out
 
--- The bytes of a row and of the row below it, of `width` pixels of `channels` samples.
-pub record LinesNeeded (channels : ℕ) (it lower : List ℕ) (width : ℕ) (out : List ℕ) : Type 0 where
+-- The bytes of a row and of the row below it, of `width` pixels of `channels` samples, and the column that stands for the one
+-- to the right of the last.
+pub record LinesNeeded (channels : ℕ) (it lower : List ℕ) (width beside : ℕ) (out : List ℕ) : Type 0 where
   pub some : 0 < width
+  pub inside : beside < width
   pub narrow : width ≤ mostSide
   pub it-is : length it ≡ width * channels
   pub lower-is : length lower ≡ width * channels
   pub room : width ≤ length out
 
+-- The column to the right of column c; of the last column, the one that stands for it.
+abbrev pub rightColumn : ℕ → ℕ → ℕ → ℕ
+rightColumn width beside c = cond (ltb (c + 1) width) (c + 1) beside
+
 -- The energy of pixel c of a row, from its bytes and those of the row below.
-unfoldable pub between : ℕ → List ℕ → List ℕ → ℕ → ℕ
-between channels it lower c =
-    difference (rowAt channels (c + 1) it) (rowAt channels c it) + difference (rowAt channels c lower) (rowAt channels c it)
+unfoldable pub between : ℕ → List ℕ → List ℕ → ℕ → ℕ → ℕ → ℕ
+between channels it lower width beside c =
+    difference (rowAt channels (rightColumn width beside c) it) (rowAt channels c it) + difference (rowAt channels c lower) (rowAt channels c it)
+
+-- The column that stands for the one to the right of the last: the last itself, to which it has no difference.
+abbrev pub besideLast : ℕ → ℕ
+besideLast width = width - 1
 
 -- Where the row below row r starts; of the last row, the row itself, to which it has no difference.
 abbrev pub lowerLine : ℕ → ℕ → ℕ → ℕ

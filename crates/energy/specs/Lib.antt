@@ -1,3 +1,4 @@
+pub mod Around
 pub mod Energy
 pub mod Bounds
 pub mod Inner

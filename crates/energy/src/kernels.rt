@@ -37,31 +37,39 @@ fn rgb_difference(a: &[u8], i: usize, b: &[u8], j: usize) -> u32
     apart(a[i], b[j]) + apart(a[i + 1], b[j + 1]) + apart(a[i + 2], b[j + 2])
 }
 
-// The energies of a row of pixels of this kind, put into the first `width` places of out.
-pub(crate) fn line_energies(kind: Kind, it: &[u8], lower: &[u8], width: usize, out: &mut [u32])
-    requires { ⌜ LinesNeeded (channelsOf kind) (now it) (now lower) width (now out) ⌝ }
-    ensures { λ _. ⌜ now (out .exit) ≡ table (between (channelsOf kind) (now (it .entry)) (now (lower .entry))) width ++ drop width (now (out .entry)) ⌝ }
+// The energies of a row of pixels of this kind, put into the first `width` places of out. Column `beside` stands for the one to
+// the right of the last.
+pub(crate) fn line_energies(
+    kind: Kind,
+    it: &[u8],
+    lower: &[u8],
+    width: usize,
+    beside: usize,
+    out: &mut [u32],
+)
+    requires { ⌜ LinesNeeded (channelsOf kind) (now it) (now lower) width beside (now out) ⌝ }
+    ensures { λ _. ⌜ now (out .exit) ≡ table (between (channelsOf kind) (now (it .entry)) (now (lower .entry)) width beside) width ++ drop width (now (out .entry)) ⌝ }
 {
     match kind {
-        Kind::Grey => grey_row(it, lower, width, out),
-        Kind::Rgb => rgb_row(it, lower, width, out),
+        Kind::Grey => grey_row(it, lower, width, beside, out),
+        Kind::Rgb => rgb_row(it, lower, width, beside, out),
     }
 }
 
-fn grey_row(it: &[u8], lower: &[u8], width: usize, out: &mut [u32])
-    requires { ⌜ LinesNeeded 1 (now it) (now lower) width (now out) ⌝ }
-    ensures { λ _. ⌜ now (out .exit) ≡ table (between 1 (now (it .entry)) (now (lower .entry))) width ++ drop width (now (out .entry)) ⌝ }
+fn grey_row(it: &[u8], lower: &[u8], width: usize, beside: usize, out: &mut [u32])
+    requires { ⌜ LinesNeeded 1 (now it) (now lower) width beside (now out) ⌝ }
+    ensures { λ _. ⌜ now (out .exit) ≡ table (between 1 (now (it .entry)) (now (lower .entry)) width beside) width ++ drop width (now (out .entry)) ⌝ }
 {
     let last = width - 1;
     for c in 0..last {
         out[c] = grey_difference(it, c + 1, it, c) + grey_difference(lower, c, it, c);
     }
-    out[last] = grey_difference(lower, last, it, last);
+    out[last] = grey_difference(it, beside, it, last) + grey_difference(lower, last, it, last);
 }
 
-fn rgb_row(it: &[u8], lower: &[u8], width: usize, out: &mut [u32])
-    requires { ⌜ LinesNeeded 3 (now it) (now lower) width (now out) ⌝ }
-    ensures { λ _. ⌜ now (out .exit) ≡ table (between 3 (now (it .entry)) (now (lower .entry))) width ++ drop width (now (out .entry)) ⌝ }
+fn rgb_row(it: &[u8], lower: &[u8], width: usize, beside: usize, out: &mut [u32])
+    requires { ⌜ LinesNeeded 3 (now it) (now lower) width beside (now out) ⌝ }
+    ensures { λ _. ⌜ now (out .exit) ≡ table (between 3 (now (it .entry)) (now (lower .entry)) width beside) width ++ drop width (now (out .entry)) ⌝ }
 {
     let last = width - 1;
     for c in 0..last {
@@ -69,5 +77,5 @@ fn rgb_row(it: &[u8], lower: &[u8], width: usize, out: &mut [u32])
         out[c] = rgb_difference(it, i + 3, it, i) + rgb_difference(lower, i, it, i);
     }
     let i = last * 3;
-    out[last] = rgb_difference(lower, i, it, i);
+    out[last] = rgb_difference(it, beside * 3, it, i) + rgb_difference(lower, i, it, i);
 }

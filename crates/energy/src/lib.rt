@@ -9,7 +9,7 @@ use pictures::judge_picture;
 ghost use Rattle.energy.specs.Energy.{EnergiesGiven, energies as Energy·energies};
 ghost use Rattle.pictures.specs.Limits.{mostSide, mostRow};
 ghost use Rattle.pictures.specs.Pictures.{picture as Pictures·picture};
-ghost use Rattle.energy.specs.Inner.{RowNeeded, lowerLine};
+ghost use Rattle.energy.specs.Inner.{RowNeeded, lowerLine, besideLast};
 ghost use mathlib.Core.Path.{_≡_};
 ghost use mathlib.Core.List.{_++_};
 ghost use Prim.Native.Nat.{_≤_, _<_};
@@ -48,10 +48,18 @@ fn lower_row(r: usize, height: usize, stride: usize) -> usize
     }
 }
 
+// The column that stands for the one to the right of the last: the last itself, to which it has no difference.
+fn right_of_last(width: usize) -> usize
+    requires { ⌜ 0 < width ⌝ }
+    ensures { λ beside. ⌜ beside ≡ besideLast width ⌝ }
+{
+    width - 1
+}
+
 // The energies of row r of a picture that is of its size.
 fn row_energies(picture: &[u8], size: Size, r: usize, out: &mut [u32])
     requires { ⌜ RowNeeded (now picture) size r (now out) ⌝ }
-    ensures { λ _. ⌜ now (out .exit) ≡ Energy·energies (size .width) (Pictures·picture size (now (picture .entry))) r ++ drop (size .width) (now (out .entry)) ⌝ }
+    ensures { λ _. ⌜ now (out .exit) ≡ Energy·energies (size .width) (size .height) (Pictures·picture size (now (picture .entry))) r ++ drop (size .width) (now (out .entry)) ⌝ }
 {
     let width = size.width;
     let height = size.height;
@@ -59,11 +67,13 @@ fn row_energies(picture: &[u8], size: Size, r: usize, out: &mut [u32])
     let stride = width * channels(kind);
     let at = r * stride;
     let below = lower_row(r, height, stride);
+    let beside = right_of_last(width);
     kernels::line_energies(
         kind,
         &picture[at..at + stride],
         &picture[below..below + stride],
         width,
+        beside,
         out,
     );
 }

@@ -46,7 +46,7 @@ returns c =
     let more = 4 when leb (a .size .height) (a .r) ∷ 8 when ltb (length (now (a .out))) (a .size .width) ∷ [] in
     record {
       answer = refused-answer (at-judge-picture .judge-picture .result) (why .0 .0) (why .1) rules more (at-judge-picture .judge-picture .ensures);
-      space = refused-kept (at-judge-picture .judge-picture .result) (why .0 .0) (why .1) (energies (a .size .width) (picture (a .size) (now (a .picture))) (a .r) ++ drop (a .size .width) (now (a .out))) (now (a .out));
+      space = refused-kept (at-judge-picture .judge-picture .result) (why .0 .0) (why .1) (energies (a .size .width) (a .size .height) (picture (a .size) (now (a .picture))) (a .r) ++ drop (a .size .width) (now (a .out))) (now (a .out));
     }
 
 returns-2 : tie.Need-returns-2

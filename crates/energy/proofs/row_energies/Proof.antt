@@ -1,12 +1,11 @@
 -- `energy::row_energies` meets its contract: the two rows of bytes lie within the picture, and their energies are those of its row.
-use mathlib.Core.Path.{_≡_, ap, _∙_}
-use mathlib.Core.List.{_++_}
+use mathlib.Core.Path.{_≡_, ap}
 use Prim.Native.Nat.{ℕ, _*_, _≤_}
 use native.Mathlib.Nat.{mul-le-mul}
 use native.Mathlib.Omega.{arith}
 use borrow.Author.Needs.{needs}
 use denote.Ref.{now}
-use lib.ListN.{length, drop}
+use lib.ListN.{length}
 use Rattle.pictures.specs.Limits.{mostSide, mostRow}
 use Rattle.pictures.specs.Pictures.{rowBytes}
 use Rattle.pictures.proofs.Limits.{Sized, sized-is}
@@ -17,6 +16,9 @@ use Rattle.energy.proofs.row_energies.Tie as tie
 -- places
 abbrev start : tie.After-channels → tie.Start
 start c = c .before .before .before
+
+abbrev strided : tie.After-right-of-last → tie.After-channels
+strided c = c .before .before
 
 abbrev stride : tie.After-channels → ℕ
 stride c = start c .args .size .width * c .channels .result
@@ -32,13 +34,13 @@ stride-most : (c : tie.After-channels) → stride c ≤ mostRow
 stride-most c = omega (arith, stride-is c, sure c .row-most)
 
 -- both rows end within the picture
-within : (c : tie.After-lower-row)
-    → let s = start (c .before) in
-    let a = s .args in Ends (a .size) (now (a .picture)) (a .r) (stride (c .before)) (c .lower-row .result) (sure (c .before)) (s .pre .inside) (stride-is (c .before)) (c .lower-row .ensures)
+within : (c : tie.After-right-of-last)
+    → let u = strided c in
+    let a = start u .args in Ends (a .size) (now (a .picture)) (a .r) (stride u) (c .before .lower-row .result) (sure u) (start u .pre .inside) (stride-is u) (c .before .lower-row .ensures)
 within c =
-    let s = start (c .before) in
-    let a = s .args in
-    ends (a .size) (now (a .picture)) (a .r) (stride (c .before)) (c .lower-row .result) (sure (c .before)) (s .pre .inside) (stride-is (c .before)) (c .lower-row .ensures)
+    let u = strided c in
+    let a = start u .args in
+    ends (a .size) (now (a .picture)) (a .r) (stride u) (c .before .lower-row .result) (sure u) (start u .pre .inside) (stride-is u) (c .before .lower-row .ensures)
 
 channels-requires : tie.Need-channels-requires
 channels-requires c κs = search needs
@@ -53,6 +55,9 @@ mul-at c =
 
 lower-row-requires : tie.Need-lower-row-requires
 lower-row-requires c κs = (start c .pre .inside, sure c .height-small, stride-most c)
+
+right-of-last-requires : tie.Need-right-of-last-requires
+right-of-last-requires c κs = sure (c .before) .width-some
 
 add-line-energies : tie.Need-add-line-energies
 add-line-energies c = let e = within c in omega arith
@@ -80,10 +85,12 @@ part-line-energies-end-2 c = let e = within (c .before) in omega arith
 
 line-energies-requires : tie.Need-line-energies-requires
 line-energies-requires c κs =
-    let u = c .before .before .before in
-    let s = start (u .before) in
+    let beside = c .before .before .before in
+    let lower = beside .before .lower-row in
+    let u = strided beside in
+    let s = start u in
     let a = s .args in
-    lines-needed (a .size) (now (a .picture)) (a .r) (stride (u .before)) (u .lower-row .result) (sure (u .before)) (s .pre .inside) (stride-is (u .before)) (u .lower-row .ensures) _ (s .pre .room)
+    lines-needed (a .size) (now (a .picture)) (a .r) (stride u) (lower .result) (sure u) (s .pre .inside) (stride-is u) (lower .ensures) _ _ (beside .right-of-last .ensures) (s .pre .room)
 
 same-length : tie.Need-same-length
 same-length c = search needs
@@ -91,12 +98,13 @@ same-length c = search needs
 returns : tie.Need-returns
 returns c =
     let at-line-energies = c .before .before in
-    let u = at-line-energies .before .before .before .before in
-    let s = start (u .before) in
+    let beside = at-line-energies .before .before .before .before in
+    let lower = beside .before .lower-row in
+    let u = strided beside in
+    let s = start u in
     let a = s .args in
-    at-line-energies .line-energies .ensures
-    ∙ ap (_++ drop (a .size .width) (now (a .out)))
-    (lines-are (a .size) (now (a .picture)) (a .r) (stride (u .before)) (u .lower-row .result) (sure (u .before)) (s .pre .inside) (stride-is (u .before)) (u .lower-row .ensures))
+    rw (lines-are (a .size) (now (a .picture)) (a .r) (stride u) (lower .result) (sure u) (s .pre .inside) (stride-is u) (lower .ensures) _ (beside .right-of-last .ensures)) at
+    (at-line-energies .line-energies .ensures)
 
 pub row-energies-spec : {M : Type 1} → statement M
 row-energies-spec =
@@ -106,6 +114,7 @@ row-energies-spec =
     mul-stride
     mul-at
     lower-row-requires
+    right-of-last-requires
     add-line-energies
     sub-line-energies
     part-line-energies-start

@@ -1,4 +1,5 @@
--- `energy::kernels::grey_row` meets its contract. The loop's invariant: the energies of c pixels stand at the front of the space.
+-- `energy::kernels::grey_row` meets its contract. The loop's invariant: c is at most the last column, and the energies of the
+-- pixels before column c stand at the front of the space. The measure is `last` less c.
 use mathlib.Core.Path.{_≡_, sym}
 use mathlib.Core.List.{_++_}
 use Prim.Native.Nat.{_-_, _≤_}
@@ -14,10 +15,15 @@ use Rattle.energy.proofs.kernels.grey_row.Statement.{statement}
 use Rattle.energy.proofs.kernels.grey_row.Tie as tie
 
 abbrev Inv-loop : tie.InvT-loop
-Inv-loop it lower width out₀ last c₀ out c = (c ≤ last) × ((out ≡ table (between 1 it lower) c ++ drop c out₀) × (length out ≡ length out₀))
+Inv-loop it lower width beside out₀ last c₀ out c =
+    (c ≤ last) × ((out ≡ table (between 1 it lower width beside) c ++ drop c out₀) × (length out ≡ length out₀))
 
 abbrev μ-loop : tie.MeasureT-loop
-μ-loop it lower width out₀ last c₀ out c = last - c
+μ-loop it lower width beside out₀ last c₀ out c = last - c
+
+-- places
+abbrev start : tie.At-loop Inv-loop μ-loop → tie.Start Inv-loop μ-loop
+start c = c .before .before .before .before
 
 sub-last : tie.Need-sub-last Inv-loop μ-loop
 sub-last c = search needs
@@ -52,18 +58,24 @@ loop-less c = search needs
 loop-again : tie.Need-loop-again Inv-loop μ-loop
 loop-again c =
     let head = c .before .before .before in
-    let a = head .before .before .before .before .args in
+    let a = start head .args in
     let k = head .loop .c in (
       search needs,
       (
-        line-turn 1 (now (a .it)) (now (a .lower)) (now (a .out)) (head .loop .out) k (k) (sym (mul-one k)) (head .loop .inv .1 .0)
-            _ _ (omega arith) (c .before .grey-difference .ensures .0) (c .grey-difference2 .ensures .0),
+        line-turn 1 (now (a .it)) (now (a .lower)) (now (a .out)) (head .loop .out) (a .width) (a .beside) k k (sym (mul-one k)) (head .loop .inv .1 .0)
+            _ _ (omega arith) (omega arith) (c .before .grey-difference .ensures .0) (c .grey-difference2 .ensures .0),
         simp length-set (search needs),
       ),
     )
 
 grey-difference-requires-3 : tie.Need-grey-difference-requires-3 Inv-loop μ-loop
 grey-difference-requires-3 c κs = search needs
+
+grey-difference-requires-4 : tie.Need-grey-difference-requires-4 Inv-loop μ-loop
+grey-difference-requires-4 c κs = search needs
+
+add-out-2 : tie.Need-add-out-2 Inv-loop μ-loop
+add-out-2 c = search needs
 
 mul-out-2 : tie.Need-mul-out-2 Inv-loop μ-loop
 mul-out-2 c = search needs
@@ -76,12 +88,12 @@ same-length c = search needs
 
 returns : tie.Need-returns Inv-loop μ-loop
 returns c =
-    let head = c .before .before in
-    let a = head .before .before .before .before .args in
+    let head = c .before .before .before in
+    let a = start head .args in
     let k = a .width - 1 in
     let e : head .loop .c ≡ k = omega arith in
-    line-last 1 (now (a .it)) (now (a .lower)) (now (a .out)) (head .loop .out) k (k) (sym (mul-one k)) (rw e at (head .loop .inv .1 .0))
-    (a .width) _ (omega arith) (omega arith) (head .before .before .before .before .pre .it-is) (c .grey-difference3 .ensures .0)
+    line-last 1 (now (a .it)) (now (a .lower)) (now (a .out)) (head .loop .out) (a .width) (a .beside) k k (sym (mul-one k)) (rw e at (head .loop .inv .1 .0))
+    (a .beside) _ _ (omega arith) (omega arith) (sym (mul-one (a .beside))) (c .before .grey-difference3 .ensures .0) (c .grey-difference4 .ensures .0)
 
 pub grey-row-spec : {M : Type 1} → statement M
 grey-row-spec =
@@ -101,6 +113,8 @@ grey-row-spec =
     loop-less
     loop-again
     grey-difference-requires-3
+    grey-difference-requires-4
+    add-out-2
     mul-out-2
     slice-write-out-2
     same-length
