@@ -1,4 +1,5 @@
 pub mod Energy
+pub mod Most
 pub mod Steps
 pub mod Lines
 pub mod Served

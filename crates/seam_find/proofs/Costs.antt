@@ -1,22 +1,20 @@
 -- Bounds of costs, so that no sum overflows.
-use mathlib.Core.Path.{_≡_}
 use mathlib.Core.Logic.{⊎-elim}
-use mathlib.Core.List.{List, [], _∷_}
-use Prim.Native.Nat.{ℕ, zero, suc, _+_, _*_, _≤_, _<_, min}
-use native.Mathlib.Nat.{mul-le-mul-right, suc-mul, min-le-left, min-le-right, le-trans}
-use native.Mathlib.Numerals.{add-one}
+use mathlib.Core.List.{List}
+use Prim.Native.Nat.{ℕ, _*_, _≤_, _<_}
+use native.Mathlib.Nat.{mul-le-mul-right, min-le-left, le-trans}
 use native.Mathlib.Omega.{arith}
-use lib.ListN.{length, getD, take, length-take, List·getD-append, List·getD-eq-default}
+use lib.ListN.{length, getD, take, length-take, List·getD-eq-default}
 use lib.Seq.{getD-take}
 use Rattle.grids.specs.Table.{table}
 use Rattle.grids.proofs.Orders.{le-or-lt}
-use Rattle.grids.proofs.Tables.{length-table, table-at, table-past}
+use Rattle.grids.proofs.Tables.{table-at, table-past}
 use Rattle.pictures.specs.declared.sizes.Size.{Size}
-use Rattle.pictures.specs.Pictures.{picture}
+use Rattle.pictures.specs.Pictures.{channelsOf, picture}
 use Rattle.energy.specs.Bounds.{mostEnergy}
-use Rattle.energy.specs.Energy.{energy}
+use Rattle.energy.specs.Energy.{costsAt, energy}
 use Rattle.pictures.proofs.Limits.{Sized}
-use Rattle.energy.proofs.Energy.{buffer-energy-most}
+use Rattle.energy.proofs.Most.{CostsMost, costs-within, buffer-costs-most}
 use Rattle.seam_find.specs.Inner.Down.{costsOf}
 
 -- A byte of a part at the front is a byte.
@@ -30,9 +28,12 @@ front-most b n m h i =
     short : n ≤ i → length (take n b) ≤ i
     short l = le-trans (rw (length-take) (min-le-left n (length b))) l
 
--- An energy is two differences of at most 255 in at most three channels.
-pub pixel-most : (z : Size) (b : List ℕ) → Sized z (length b) → ((i : ℕ) → getD b i 0 ≤ 255) → (r c : ℕ) → energy (z .width) (z .height) (picture z b) r c ≤ mostEnergy
-pixel-most z b s h r c = omega (arith, buffer-energy-most z b 255 (s .length-is) h r c, mul-le-mul-right 255 (s .channels-most))
+-- A pixel costs at most two differences of at most 255 in at most three channels.
+pub pixel-most : (z : Size) (b : List ℕ) → Sized z (length b) → ((i : ℕ) → getD b i 0 ≤ 255)
+    → (r c : ℕ) → CostsMost mostEnergy (costsAt (z .width) (z .height) (picture z b) r c)
+pixel-most z b s h r c =
+    costs-within (2 * (channelsOf (z .kind) * 255)) mostEnergy _ (omega (arith, mul-le-mul-right 255 (s .channels-most)))
+    (buffer-costs-most z b 255 (s .length-is) h r c)
 
 -- A bound of all values is one of a table.
 pub table-most : (f : ℕ → ℕ) (n m : ℕ) → ((c : ℕ) → f c ≤ m) → (k : ℕ) → getD (table f n) k 0 ≤ m
@@ -44,4 +45,4 @@ table-most f n m h k =
 
 -- The costs of a row, of coming from straight above.
 pub cost-most : (z : Size) (b : List ℕ) → Sized z (length b) → ((i : ℕ) → getD b i 0 ≤ 255) → (i k : ℕ) → getD (costsOf z b i .up) k 0 ≤ mostEnergy
-cost-most z b s h i = table-most (energy (z .width) (z .height) (picture z b) i) (z .width) mostEnergy (pixel-most z b s h i)
+cost-most z b s h i = table-most (energy (z .width) (z .height) (picture z b) i) (z .width) mostEnergy (λ c. pixel-most z b s h i c .up)

@@ -4,12 +4,12 @@ use mathlib.Core.Path.{_≡_}
 use mathlib.Core.List.{List}
 use Prim.Native.Nat.{ℕ, _+_, _<_}
 use lib.ListN.{length, getD}
-use Rattle.grids.specs.Table.{table}
 use Rattle.pictures.specs.declared.sizes.Size.{Size}
 use Rattle.pictures.specs.Refusals.{refusal}
 use Rattle.pictures.specs.Pictures.{Picture, sizeRules, pictureBytes, pixels, pictureIn, marksIn}
-use Rattle.energy.specs.Energy.{energy}
+use Rattle.energy.specs.Energy.{StepCosts, costsAt}
 use Rattle.seam_theory.specs.PictureSeams.{markAt}
+use Rattle.seam_theory.specs.Sums.{firstOf3, CostRows, costRows}
 use Rattle.energy.specs.Bounds.{mostEnergy}
 use Rattle.seam_sums.specs.Weights.{kept, protected, weightOf}
 
@@ -21,13 +21,21 @@ mostWeight = mostEnergy + (kept + protected)
 abbrev pub weightIn : List ℕ → List ℕ → ℕ → ℕ
 weightIn energies marks c = weightOf (getD energies c 0) (getD marks c 0)
 
--- In row r and column c of a picture with marks.
-abbrev pub weightAt : Picture → List (List ℕ) → ℕ → ℕ → ℕ
-weightAt p m r c = weightOf (energy p r c) (markAt m r c)
+-- Each of a pixel's three costs with its mark.
+abbrev pub weighed : StepCosts → ℕ → StepCosts
+weighed k mark = record { left = weightOf (k .left) mark; up = weightOf (k .up) mark; right = weightOf (k .right) mark }
+
+-- In row r and column c of a picture of w columns and h rows with marks.
+abbrev pub weightsAt : ℕ → ℕ → Picture → List (List ℕ) → ℕ → ℕ → StepCosts
+weightsAt w h p m r c = weighed (costsAt w h p r c) (markAt m r c)
 
 -- The costs of row i of a picture with the marks after it: its weights.
-abbrev pub weightsOf : Size → List ℕ → ℕ → List ℕ
-weightsOf z b i = table (weightAt (pictureIn z b) (marksIn z b) i) (z .width)
+abbrev pub weightsOf : Size → List ℕ → ℕ → CostRows
+weightsOf z b i = costRows (z .width) (weightsAt (z .width) (z .height) (pictureIn z b) (marksIn z b) i)
+
+-- Which of the three sums above column c is the least, where the row's costs are alike.
+abbrev pub wayAbove : List ℕ → ℕ → ℕ
+wayAbove x c = firstOf3 (getD x c 0) (getD x (c + 1) 0) (getD x (c + 2) 0)
 
 -- The bytes of a picture and of its marks.
 abbrev pub markedBytes : Size → ℕ

@@ -4,12 +4,12 @@ use crate::weights;
 use pictures::Size;
 ghost use mathlib.Core.Path.{_≡_};
 ghost use lib.ListN.{length};
-ghost use Rattle.seam_sums.specs.Fences.{fence64, sumLimit64};
+ghost use Rattle.seam_sums.specs.Fences.{fence64};
 ghost use Rattle.seam_find_marked.specs.Inner.{markedBytes, weightsOf};
 ghost use Rattle.seam_find.specs.Inner.Down.{DownNeeded, DownGiven, RowNeeded, RowGiven};
 
 // A number larger than every sum.
-pub(crate) const FENCE: u64 = 18446744073709551615;
+pub(crate) const FENCE: u64 = 4611686018427387904;
 
 // From the fenced sums of row 0 to those of the last row. The picture, of `bytes` bytes, stands at the front of the space
 // and its marks after it; after them is written, row after row, where each column of a row comes from. energies, cost and
@@ -44,7 +44,7 @@ fn row_down(
     cost: &mut [u64],
     next: &mut [u64],
 )
-    requires { ⌜ RowNeeded sumLimit64 (markedBytes size) size bytes i (now space) (now above) (now cost) (now next) ⌝ }
+    requires { ⌜ RowNeeded fence64 (markedBytes size) size bytes i (now space) (now above) (now cost) (now next) ⌝ }
     requires { ⌜ length (now energies) ≡ size .width ⌝ }
     ensures { λ _. ⌜ RowGiven (markedBytes size) size (weightsOf size) i (now (space .entry)) (now (above .entry)) (now (space .exit)) (now (above .exit)) ⌝ }
 {

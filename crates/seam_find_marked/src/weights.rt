@@ -25,7 +25,7 @@ pub(crate) fn row_weights(
     cost: &mut [u64],
 )
     requires { ⌜ WeightsNeeded size bytes i (now front) (now energies) (now cost) ⌝ }
-    ensures { λ _. ⌜ now (cost .exit) ≡ weightsOf size (now (front .entry)) i ⌝ }
+    ensures { λ _. ⌜ now (cost .exit) ≡ weightsOf size (now (front .entry)) i .up ⌝ }
 {
     let width = size.width;
     let a = bytes + i * width;

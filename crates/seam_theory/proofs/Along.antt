@@ -1,5 +1,5 @@
 -- Laws of a sum over the pixels of a path.
-use mathlib.Core.Path.{_≡_, refl, sym, ap, ap₂, _∙_}
+use mathlib.Core.Path.{_≡_, refl, sym, _∙_}
 use mathlib.Core.List.{List, [], _∷_, List·Memᴰ, List·Memᴰ·head, List·Memᴰ·tail}
 use Prim.Native.Nat.{ℕ, _+_, _*_, _≤_, _<_}
 use native.Mathlib.Nat.{zero-add, add-mul, zero-mul, mul-one}
@@ -48,12 +48,6 @@ along-constant k (c ∷ p) = omega (arith, along-cons (λ r c. k) c p, along-con
 -- Of two values of which each pixel has one.
 pub along-split : (u v : ℕ → ℕ → ℕ) (p : List ℕ) → ((r c : ℕ) → u r c + v r c ≡ 1) → along u p + along v p ≡ length p
 along-split u v p h = sym (along-add u v p) ∙ along-same (λ r c. u r c + v r c) (λ r c. 1) p (λ r c l i. h r c) ∙ along-constant 1 p ∙ mul-one (length p)
-
--- A price, a number of pixels times B and another times T, in one sum.
-pub along-weight : (e k q : ℕ → ℕ → ℕ) (B T : ℕ) (p : List ℕ) → along (λ r c. e r c + (k r c * B + q r c * T)) p ≡ along e p + (along k p * B + along q p * T)
-along-weight e k q B T p =
-    along-add e (λ r c. k r c * B + q r c * T) p
-    ∙ ap (along e p +_) (along-add (λ r c. k r c * B) (λ r c. q r c * T) p ∙ ap₂ _+_ (along-mul k B p) (along-mul q T p))
 
 -- The bound of a sum.
 pub along-most : (v : ℕ → ℕ → ℕ) (m : ℕ) (p : List ℕ) → ((r c : ℕ) → v r c ≤ m) → along v p ≤ length p * m

@@ -10,13 +10,11 @@ use native.Mathlib.Omega.{arith}
 use lib.Dec.{leb, eqb}
 use borrow.Author.Tests.{leb-true, le-leb, lt-leb, eqb-true, eqb-false}
 use Rattle.seam_theory.specs.Best.{firstBest, least}
-use Rattle.seam_theory.specs.Paths.{along}
 use Rattle.seam_theory.specs.Seams.{preferred, cheapestAllowed}
 use Rattle.seam_theory.proofs.Numbers.{Compared, compared, leb-add}
 use Rattle.seam_theory.proofs.Best.{best-some, best-mem, best-same}
 use Rattle.seam_theory.proofs.First.{best-first, first-le, best-select}
-use Rattle.seam_theory.proofs.Least.{byCost, cost-order, least-same}
-use Rattle.seam_theory.proofs.Along.{along-weight}
+use Rattle.seam_theory.proofs.Least.{byCost, cost-order}
 use Rattle.seam_theory.proofs.Marks.{preferred-more, preferred-fewer, preferred-equal, allowed, of-allowed, allowed-none}
 
 -- The weight of a path: its price, B for each pixel that is kept, that is not marked to be removed, and T for each that is
@@ -42,12 +40,6 @@ module _ (protected kept price : List ℕ → ℕ) (B T : ℕ) (p : List ℕ) wh
   -- So a weight below T has none.
   pub weight-allowed : weight protected kept price B T p < T → protected p ≡ 0
   weight-allowed l = ⊎-elim (λ e. e) (λ k. absurd (omega (arith, weight-heavy k))) (eq-zero-or-pos (protected p))
-
--- Price, pixels kept and protected pixels, each a sum over the path, are one sum.
-pub least-along : (e k q : ℕ → ℕ → ℕ) (B T : ℕ) (xs : List (List ℕ))
-    → least (along (λ r c. e r c + (k r c * B + q r c * T))) xs ≡ least (weight (along q) (along k) (along e) B T) xs
-least-along e k q B T xs =
-    least-same (along (λ r c. e r c + (k r c * B + q r c * T))) (weight (along q) (along k) (along e) B T) xs (λ p i. along-weight e k q B T p)
 
 module _ (protected removed price kept : List ℕ → ℕ) (B T h : ℕ) (xs : List (List ℕ))
     (weighed : (p : List ℕ) → List·Memᴰ p xs → Weighed kept removed price B T h p) where

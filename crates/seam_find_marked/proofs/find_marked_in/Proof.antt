@@ -23,12 +23,10 @@ use Rattle.seam_theory.specs.PictureSeams.{markedUp, markedSeamOf, markedCostOf
 use Rattle.seam_rules.specs.Answers.{foundNumber}
 use Rattle.seam_bounds.specs.Spaces.{findSpaceRules}
 use Rattle.seam_bounds.proofs.Spaces.{Rooms, rooms-are}
-use Rattle.seam_sums.specs.Least.{leastTo}
 use Rattle.seam_sums.specs.Weights.{kept, protected}
 use Rattle.seam_sums.proofs.Meant.{heavy, heavy-number, light, light-cost}
-use Rattle.seam_find.specs.Tracing.{columnsTo}
-use Rattle.seam_find.specs.Inner.Sums.{sumsDown, waysUp}
-use Rattle.seam_find.proofs.Ways.{ways-long}
+use Rattle.seam_theory.specs.Sums.{sumsDown, waysUp, columnsTo, leastTo}
+use Rattle.seam_theory.proofs.Sums.{ways-long}
 use Rattle.seam_find.proofs.Loops.{traced-is}
 use Rattle.seam_find.proofs.Spaces.{space-lent, space-filled, Ends, ends}
 use Rattle.seam_find.proofs.Worked.{worked-not, worked-or}
@@ -116,7 +114,7 @@ same c f = ap₂ f (front-picture (size c) (space c)) (front-marks (size c) (spa
 
 -- the ways between the rows, which stand after them
 ways : (c : tie.After-picture-bytes) → List ℕ
-ways c = flat (table (waysUp fence64 (size c .width) (weightsOf (size c) (front c))) (size c .height - 1))
+ways c = flat (table (waysUp false fence64 (size c .width) (weightsOf (size c) (front c))) (size c .height - 1))
 
 ways-are : (c : tie.After-find-bottom)
     → let p = c .before .before in
@@ -126,7 +124,7 @@ ways-are c = c .find-bottom .ensures .ways
 
 ways-wide : (c : tie.After-picture-bytes) → length (ways c) ≡ (size c .height - 1) * size c .width
 unfolding ways
-ways-wide c = ways-long fence64 (size c .width) (size c .height - 1) (weightsOf (size c) (front c))
+ways-wide c = ways-long false fence64 (size c .width) (size c .height - 1) (weightsOf (size c) (front c))
 
 ways-lent : (c : tie.After-find-bottom)
     → let p = c .before .before in
@@ -153,7 +151,7 @@ cleared c filled f =
 -- the least weight of the last row
 weight : (c : tie.After-picture-bytes) → ℕ
 weight c =
-    let sums = sumsDown fence64 (size c .width) (weightsOf (size c) (front c)) (size c .height - 1) in
+    let sums = sumsDown false fence64 (size c .width) (weightsOf (size c) (front c)) (size c .height - 1) in
     getD sums (leastTo sums (size c .width - 1)) 0
 
 weight-is : (c : tie.After-find-bottom) → c .find-bottom .result .sum ≡ weight (c .before .before)
@@ -161,7 +159,7 @@ unfolding front weight
 weight-is c =
     let p = c .before .before in
     let g = c .find-bottom .ensures in
-    g .sum-is ∙ ap (λ k. getD (sumsDown fence64 (size p .width) (weightsOf (size p) (front p)) (size p .height - 1)) k 0) (g .column-is)
+    g .sum-is ∙ ap (λ k. getD (sumsDown false fence64 (size p .width) (weightsOf (size p) (front p)) (size p .height - 1)) k 0) (g .column-is)
 
 judge-find-in-requires : tie.Need-judge-find-in-requires
 judge-find-in-requires c κs = search needs

@@ -43,16 +43,16 @@ above-long c = ap length (c .pre .1 .0 .fences) ∙ length-replicate (c .args .s
 mid-long : (c : tie.Start) → length (midOf 1 (c .args .size .width + 1 - 1) (now (c .args .above))) ≡ c .args .size .width
 mid-long c = part-length 1 (c .args .size .width + 1) (now (c .args .above)) (omega (arith, above-long c)) ∙ add-sub-cancel (c .args .size .width) 1
 
-wide : (c : tie.Start) → length (weightsOf (c .args .size) (take (markedBytes (c .args .size)) (now (c .args .space))) 0) ≡ c .args .size .width
+wide : (c : tie.Start) → length (weightsOf (c .args .size) (take (markedBytes (c .args .size)) (now (c .args .space))) 0 .up) ≡ c .args .size .width
 wide c = length-table _ (c .args .size .width)
 
 -- the weights of row 0
 row-0 : (c : tie.After-row-weights)
     → let s = c .before .before .before .before .before .before .before .before .before in
-    let a = s .args in c .row-weights .last .1 .1 .1 .1 .1 .0 ≡ weightsOf (a .size) (take (markedBytes (a .size)) (now (a .space))) 0
+    let a = s .args in c .row-weights .last .1 .1 .1 .1 .1 .0 ≡ weightsOf (a .size) (take (markedBytes (a .size)) (now (a .space))) 0 .up
 row-0 c =
     let s = c .before .before .before .before .before .before .before .before .before in
-    c .row-weights .ensures ∙ ap (λ n. weightsOf (s .args .size) (take n (now (s .args .space))) 0) (from-is s)
+    c .row-weights .ensures ∙ ap (λ n. weightsOf (s .args .size) (take n (now (s .args .space))) 0 .up) (from-is s)
 
 -- the last row of sums
 all-long : (c : tie.After-down)
@@ -119,7 +119,7 @@ down-requires c κs =
         bytes-are = p .0 .bytes-are;
         sized = p .0 .sized;
         room = p .0 .room;
-        first = first-row fence64 (z .width) (now (s .args .above)) _ (weightsOf z (take (markedBytes z) (now (s .args .space))) 0) (p .1 .0 .fences) (row-0 r);
+        first = first-row fence64 (z .width) (now (s .args .above)) _ (weightsOf z (take (markedBytes z) (now (s .args .space))) 0 .up) (p .1 .0 .fences) (row-0 r);
         cost-room = p .1 .0 .cost-room;
         next-room = p .1 .0 .next-room;
       },

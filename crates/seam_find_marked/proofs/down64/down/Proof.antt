@@ -10,7 +10,7 @@ use Rattle.grids.proofs.Tables.{length-table}
 use Rattle.pictures.specs.declared.sizes.Size.{Size}
 use Rattle.pictures.specs.Pictures.{pictureBytes}
 use Rattle.pictures.proofs.Limits.{Sized, sized-is}
-use Rattle.seam_sums.specs.Fences.{fence64, sumLimit64}
+use Rattle.seam_sums.specs.Fences.{fence64}
 use Rattle.seam_find_marked.specs.Inner.{mostWeight, weightsOf, markedBytes}
 use Rattle.seam_find.proofs.Downs.{Downs, down-start, down-turn, down-end, above-long, above-most}
 use Rattle.seam_find_marked.proofs.Weighed.{weights-most, front-sized, front-bytes}
@@ -23,7 +23,7 @@ Inv-loop space₀ size bytes above₀ energies₀ cost₀ next₀ height i₀ sp
 abbrev μ-loop : tie.MeasureT-loop
 μ-loop space₀ size bytes above₀ energies₀ cost₀ next₀ height i₀ space above energies cost next i = height - i
 
-wide : (z : Size) (start : List ℕ) (i : ℕ) → length (weightsOf z (take (markedBytes z) start) i) ≡ z .width
+wide : (z : Size) (start : List ℕ) (i : ℕ) → length (weightsOf z (take (markedBytes z) start) i .up) ≡ z .width
 wide z start i = length-table _ (z .width)
 
 sure : (c : tie.Start Inv-loop μ-loop) → Sized (c .args .size) (pictureBytes (c .args .size))
@@ -33,7 +33,7 @@ byte : (c : tie.After-slice-known Inv-loop μ-loop) (i : ℕ) → getD (now (c .
 byte c i = omega (arith, c .slice-known .given i)
 
 -- in a turn, the sums above are small
-small : (c : tie.At-loop Inv-loop μ-loop) (k : ℕ) → c .loop .i < c .before .before .before .before .before .before .args .size .height → k < c .before .before .before .before .before .before .args .size .width → getD (c .loop .above) (k + 1) 0 < sumLimit64
+small : (c : tie.At-loop Inv-loop μ-loop) (k : ℕ) → c .loop .i < c .before .before .before .before .before .before .args .size .height → k < c .before .before .before .before .before .before .args .size .width → getD (c .loop .above) (k + 1) 0 < fence64
 small c k l h =
     let at-slice-known = c .before .before .before .before .before in
     let s = at-slice-known .before in

@@ -1,20 +1,26 @@
 -- `seam_find_marked::down64::row_down` meets its contract.
 use mathlib.Core.Path.{_≡_, sym, ap, _∙_}
+use mathlib.Core.Bool.{false}
 use Prim.Native.Nat.{ℕ, _+_, _-_, _*_, _≤_}
-use native.Mathlib.Nat.{mul-le-mul}
+use native.Mathlib.Nat.{mul-le-mul, add-sub-cancel-left}
 use native.Mathlib.Omega.{arith}
 use borrow.Author.Needs.{needs}
+use borrow.Rule.Slice.PartMut.{midOf}
 use denote.Ref.{now}
 use lib.ListN.{length, getD, take}
 use lib.Seq.{length-take-le}
-use Rattle.grids.proofs.Tables.{length-table}
+use Rattle.grids.specs.Table.{table}
+use Rattle.grids.proofs.Tables.{length-table, table-same}
+use Rattle.grids.proofs.Parts.{part-length}
 use Rattle.grids.proofs.Rows.{part-end}
 use Rattle.pictures.specs.Limits.{mostSide, mostPixels, mostPicture}
 use Rattle.pictures.specs.Pictures.{pictureBytes}
 use Rattle.pictures.proofs.Limits.{Sized, sized-is}
-use Rattle.seam_find_marked.specs.Inner.{weightsOf, markedBytes}
+use Rattle.seam_find_marked.specs.Inner.{weightsOf, wayAbove, markedBytes}
+use Rattle.seam_theory.specs.Sums.{alikeRows, wayOf3}
+use Rattle.seam_theory.proofs.Alike.{way-alike}
 use Rattle.seam_find.proofs.Downs.{row-given}
-use Rattle.seam_find_marked.proofs.Weighed.{weights-most, front-sized, front-bytes}
+use Rattle.seam_find_marked.proofs.Weighed.{weights-alike, weights-most, front-sized, front-bytes}
 use Rattle.seam_find_marked.proofs.down64.row_down.Statement.{statement}
 use Rattle.seam_find_marked.proofs.down64.row_down.Tie as tie
 
@@ -43,6 +49,16 @@ ends c =
       end = omega arith;
     }
 
+-- and have a place for each column
+ways-wide : (c : tie.Start)
+    → let a = c .args in
+    let from = a .bytes + a .size .height * a .size .width + (a .i - 1) * a .size .width in
+    length (midOf from (from + a .size .width - from) (now (a .space))) ≡ length (now (a .next))
+ways-wide c =
+    let a = c .args in
+    let from = a .bytes + a .size .height * a .size .width + (a .i - 1) * a .size .width in
+    part-length from (from + a .size .width) (now (a .space)) (ends c .end) ∙ add-sub-cancel-left from (a .size .width) ∙ sym (c .pre .0 .next-room)
+
 from-is : (c : tie.Start) → c .args .bytes + c .args .size .height * c .args .size .width ≡ markedBytes (c .args .size)
 from-is c = ap (_+ c .args .size .height * c .args .size .width) (c .pre .0 .bytes-are)
 
@@ -52,10 +68,10 @@ byte c i = omega (arith, c .slice-known .given i)
 -- the weights of row i
 cost-is : (c : tie.After-row-weights)
     → let s = c .before .before .before .before .before .before .before .before .before in
-    let a = s .args in c .row-weights .last .1 .1 .1 .1 .1 .0 ≡ weightsOf (a .size) (take (markedBytes (a .size)) (now (a .space))) (a .i)
+    let a = s .args in c .row-weights .last .1 .1 .1 .1 .1 .0 ≡ weightsOf (a .size) (take (markedBytes (a .size)) (now (a .space))) (a .i) .up
 cost-is c =
     let s = c .before .before .before .before .before .before .before .before .before in
-    c .row-weights .ensures ∙ ap (λ n. weightsOf (s .args .size) (take n (now (s .args .space))) (s .args .i)) (from-is s)
+    c .row-weights .ensures ∙ ap (λ n. weightsOf (s .args .size) (take n (now (s .args .space))) (s .args .i) .up) (from-is s)
 
 add-side : tie.Need-add-side
 add-side c = search needs
@@ -165,8 +181,14 @@ returns c =
     let r = at-next-sums .before .before .before .before .before .before .before .before in
     let s = r .before .before .before .before .before .before .before .before .before in
     let a = s .args in
-    row-given (markedBytes (a .size)) (a .size) (weightsOf (a .size)) (a .i) (a .bytes + a .size .height * a .size .width) (length (now (a .next))) (now (a .space)) (now (a .above)) (at-ways-row .ways-row .last .1 .0) (r .row-weights .last .1 .1 .1 .1 .1 .0) (at-copy .copy .last .1 .0)
-    (from-is s) (ends s .end) (at-ways-row .ways-row .ensures) (cost-is r) (s .pre .0 .next-room)
+    let z = a .size in
+    let above = now (a .above) in
+    let cost = r .row-weights .last .1 .1 .1 .1 .1 .0 in
+    let n = length (now (a .next)) in
+    row-given (markedBytes z) z (weightsOf z) (a .i) (a .bytes + z .height * z .width) n (now (a .space)) above (at-ways-row .ways-row .last .1 .0) (alikeRows cost) (at-copy .copy .last .1 .0)
+    (from-is s) (ends s .end) (ap alikeRows (cost-is r) ∙ sym (weights-alike z (take (markedBytes z) (now (a .space))) (a .i))) (s .pre .0 .next-room)
+    (at-ways-row .ways-row .ensures ∙ ap (table (wayAbove above)) (ways-wide s)
+    ∙ table-same (wayAbove above) (wayOf3 false n above (alikeRows cost)) n (λ k l. sym (way-alike n above cost k)))
     (at-copy .copy .ensures ∙ at-next-sums .next-sums .ensures)
 
 pub row-down-spec : {M : Type 1} → statement M

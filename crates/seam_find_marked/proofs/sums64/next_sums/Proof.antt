@@ -1,17 +1,18 @@
 -- `seam_find_marked::sums64::next_sums` meets its contract. The loop's invariant: the values of c columns stand at the front.
-use mathlib.Core.Path.{refl, ap, _∙_}
+use mathlib.Core.Path.{refl, sym, ap, _∙_}
 use Prim.Native.Nat.{_+_, _-_, min}
 use native.Mathlib.Omega.{arith}
 use borrow.Author.Needs.{needs}
 use denote.Ref.{now}
 use lib.ListN.{getD}
 use Rattle.grids.proofs.Tables.{Stored, stored-start, stored-turn, stored-end}
-use Rattle.seam_sums.specs.Least.{leastOf3, sumOf3}
+use Rattle.seam_theory.specs.Sums.{alikeRows, sumOf3}
+use Rattle.seam_theory.proofs.Alike.{sum-alike}
 use Rattle.seam_find_marked.proofs.sums64.next_sums.Statement.{statement}
 use Rattle.seam_find_marked.proofs.sums64.next_sums.Tie as tie
 
 abbrev Inv-loop : tie.InvT-loop
-Inv-loop above cost next₀ c₀ c-end next c = Stored (sumOf3 above cost) next₀ c-end c next
+Inv-loop above cost next₀ c₀ c-end next c = Stored (sumOf3 above (alikeRows cost)) next₀ c-end c next
 
 abbrev μ-loop : tie.MeasureT-loop
 μ-loop above cost next₀ c₀ c-end next c = c-end - c
@@ -78,15 +79,16 @@ loop-less : tie.Need-loop-less Inv-loop μ-loop
 loop-less c = search needs
 
 loop-again : tie.Need-loop-again Inv-loop μ-loop
-unfolding sumOf3 leastOf3
 loop-again c =
     let at-lesser2 = c .before in
     let at-lesser = at-lesser2 .before in
     let turn = at-lesser .before .before .before .before in
     let l = turn .before .loop in
     let a = turn .before .before .before .before .before .args in
-    stored-turn (sumOf3 (now (a .above)) (now (a .cost))) (now (a .next)) _ (l .c) (l .next) _ 0 (turn .loop-test .taken)
-    (ap (_+ getD (now (a .cost)) (l .c) 0) (at-lesser2 .lesser2 .ensures ∙ ap (min (getD (now (a .above)) (l .c) 0)) (at-lesser .lesser .ensures))) (l .inv)
+    stored-turn (sumOf3 (now (a .above)) (alikeRows (now (a .cost)))) (now (a .next)) _ (l .c) (l .next) _ 0 (turn .loop-test .taken)
+    (ap (_+ getD (now (a .cost)) (l .c) 0) (at-lesser2 .lesser2 .ensures ∙ ap (min (getD (now (a .above)) (l .c) 0)) (at-lesser .lesser .ensures))
+    ∙ sym (sum-alike (now (a .above)) (now (a .cost)) (l .c)))
+    (l .inv)
 
 same-length : tie.Need-same-length Inv-loop μ-loop
 same-length c = c .before .loop .inv .long

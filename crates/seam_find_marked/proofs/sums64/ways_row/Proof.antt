@@ -4,12 +4,12 @@ use Prim.Native.Nat.{_-_}
 use borrow.Author.Needs.{needs}
 use denote.Ref.{now}
 use Rattle.grids.proofs.Tables.{Stored, stored-start, stored-turn, stored-end}
-use Rattle.seam_sums.specs.Least.{wayOf3}
+use Rattle.seam_find_marked.specs.Inner.{wayAbove}
 use Rattle.seam_find_marked.proofs.sums64.ways_row.Statement.{statement}
 use Rattle.seam_find_marked.proofs.sums64.ways_row.Tie as tie
 
 abbrev Inv-loop : tie.InvT-loop
-Inv-loop above ways₀ c₀ c-end ways c = Stored (wayOf3 above) ways₀ c-end c ways
+Inv-loop above ways₀ c₀ c-end ways c = Stored (wayAbove above) ways₀ c-end c ways
 
 abbrev μ-loop : tie.MeasureT-loop
 μ-loop above ways₀ c₀ c-end ways c = c-end - c
@@ -54,12 +54,11 @@ loop-less : tie.Need-loop-less Inv-loop μ-loop
 loop-less c = search needs
 
 loop-again : tie.Need-loop-again Inv-loop μ-loop
-unfolding wayOf3
 loop-again c =
     let turn = c .before .before .before .before in
     let l = turn .before .loop in
     let a = turn .before .before .before .before .args in
-    stored-turn (wayOf3 (now (a .above))) (now (a .ways)) _ (l .c) (l .ways) _ 0 (turn .loop-test .taken) (c .way .ensures) (l .inv)
+    stored-turn (wayAbove (now (a .above))) (now (a .ways)) _ (l .c) (l .ways) _ 0 (turn .loop-test .taken) (c .way .ensures) (l .inv)
 
 same-length : tie.Need-same-length Inv-loop μ-loop
 same-length c = c .before .loop .inv .long

@@ -48,13 +48,13 @@ front-long c = length-take-le _ _ (ends c .within) ∙ c .pre .bytes-are
 
 energies-are : (c : tie.After-energies)
     → let s = c .before .before .before .before .before .before in
-    let a = s .args in c .energies .last .1 .1 .1 .0 ≡ energies (a .size .width) (picture (a .size) (take (pictureBytes (a .size)) (now (a .front)))) (a .i) ++ drop (a .size .width) (now (a .energies))
+    let a = s .args in c .energies .last .1 .1 .1 .0 ≡ energies (a .size .width) (a .size .height) (picture (a .size) (take (pictureBytes (a .size)) (now (a .front)))) (a .i) ++ drop (a .size .width) (now (a .energies))
 energies-are c =
     let s = c .before .before .before .before .before .before in
     let a = s .args in
     energies-served (take (a .bytes) (now (a .front))) (a .size) (a .i) (now (a .energies)) (c .energies .last .1 .1 .1 .0) (c .energies .result) (c .energies .ensures)
     (rw (front-long s) (s .pre .sized)) (s .pre .inside) (le-of-eq (sym (s .pre .energy-room)))
-    ∙ ap (λ b. energies (a .size .width) (picture (a .size) (take b (now (a .front)))) (a .i) ++ drop (a .size .width) (now (a .energies))) (s .pre .bytes-are)
+    ∙ ap (λ b. energies (a .size .width) (a .size .height) (picture (a .size) (take b (now (a .front)))) (a .i) ++ drop (a .size .width) (now (a .energies))) (s .pre .bytes-are)
 
 mul-a : tie.Need-mul-a
 mul-a c = let e = ends (c .before .before .before) in omega arith
