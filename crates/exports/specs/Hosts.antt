@@ -14,7 +14,7 @@ use Rattle.export_answers.specs.Answers.{rowRules}
 -- The energies of a row.
 pub record HostEnergies (b : List ℕ) (s : Sizing) (r : ℕ) (out : List ℕ) (number : ℕ) (out′ : List ℕ) : Type 0 where
   pub answer : number ≡ known s (λ z. refusal (energiesRules z (length b) r (length out))) 1
-  pub space : out′ ≡ known s (λ z. served number (energies (z .width) (picture z b) r ++ drop (z .width) out) out) out
+  pub space : out′ ≡ known s (λ z. served number (energies (z .width) (z .height) (picture z b) r ++ drop (z .width) out) out) out
 
 -- A row, copied to the front of a space: its length, or 8 where the space is shorter.
 pub record HostRow (b : List ℕ) (s : Sizing) (r : ℕ) (out : List ℕ) (a : Answer) (out′ : List ℕ) : Type 0 where

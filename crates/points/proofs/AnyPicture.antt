@@ -1,10 +1,10 @@
 -- Points marked P that hold of more than the picture which the table takes: of any samples, either kind, any height.
-use mathlib.Core.Path.{_≡_, refl, ap}
+use mathlib.Core.Path.{_≡_, refl, ap₂, _∙_}
 use mathlib.Core.Logic.{_⊎_, inl, inr}
-use mathlib.Core.Bool.{true}
-use mathlib.Core.Option.{Option·getD}
+use mathlib.Core.Bool.{true, false}
+use mathlib.Core.Option.{Option, none, some, Option·map, Option·getD}
 use mathlib.Core.List.{List, [], _∷_, zipWith, flatMap, reverse}
-use Prim.Native.Nat.{ℕ, zero, suc, _+_, _<_}
+use Prim.Native.Nat.{ℕ, zero, suc, _<_}
 use native.Mathlib.Omega.{arith}
 use lib.ListN.{length}
 use Rattle.grids.specs.Cut.{removeAt, cut}
@@ -13,9 +13,12 @@ use Rattle.pictures.specs.declared.sizes.Kind.the-variants.{Grey, Rgb}
 use Rattle.pictures.specs.declared.sizes.Size.{Size}
 use Rattle.pictures.specs.Refusals.{refusal}
 use Rattle.pictures.specs.Pictures.{Picture, channelsOf, sizeRules, picture, pixel}
-use Rattle.energy.specs.Energy.{difference, energy, energies}
+use Rattle.energy.specs.Around.{rightOf, belowOf}
+use Rattle.energy.specs.Energy.{difference, away, costsAt, energy, stepOf, energies}
+use Rattle.energy.proofs.Energy.{difference-self}
+use Rattle.energy.proofs.Steps.{step-energy}
 use Rattle.seam_theory.specs.Best.{better, firstBest}
-use Rattle.seam_theory.specs.Paths.{run, select, pathsUp, paths, cost, beside, nearby}
+use Rattle.seam_theory.specs.Paths.{run, select, pathsUp, paths, cost, beside, near, nearby}
 use Rattle.seam_theory.specs.Seams.{cheapest}
 use Rattle.seam_theory.specs.PictureSeams.{seamOf}
 use Rattle.seam_rules.specs.Answers.{spent}
@@ -33,8 +36,8 @@ abbrev pub one : Kind → Size
 one k = record { width = 1; height = 1; kind = k }
 
 -- "1 by 1: energy 0", whatever its samples are.
-pub one-energy : (k : Kind) (b : List ℕ) → energies 1 (picture (one k) b) 0 ≡ 0 ∷ []
-unfolding picture energy difference
+pub one-energy : (k : Kind) (b : List ℕ) → energies 1 1 (picture (one k) b) 0 ≡ 0 ∷ []
+unfolding costsAt rightOf belowOf
 one-energy k b = refl
 
 one-sized : (k : Kind) (n : ℕ) → n ≡ channelsOf k → refusal (sizeRules (one k) n) ≡ 0
@@ -55,12 +58,7 @@ one-accepted k b long small =
       is = refl;
     })
 
--- A pixel doesn't differ from itself, nor from what stands past the edge.
-difference-same : (px : List ℕ) → difference px px ≡ 0
-unfolding difference
-difference-same [] = refl
-difference-same (a ∷ px) = omega (arith, difference-same px)
-
+-- A pixel doesn't differ from one with no samples.
 difference-edge : (px : List ℕ) → difference px [] ≡ 0
 unfolding difference
 difference-edge [] = refl
@@ -73,22 +71,30 @@ Only px p = (r c : ℕ) → (pixel p r c ≡ px) ⊎ (pixel p r c ≡ [])
 module _ (px : List ℕ) (p : Picture) (only : Only px p) where
   difference-none : (x y : List ℕ) → (x ≡ px) ⊎ (x ≡ []) → (y ≡ px) ⊎ (y ≡ []) → difference x y ≡ 0
   unfolding difference
-  difference-none x y (inl e) (inl f) = rw (e, f) (difference-same px)
+  difference-none x y (inl e) (inl f) = rw (e, f) (difference-self px)
   difference-none x y (inl e) (inr f) = rw (e, f) (difference-edge px)
   difference-none x y (inr e) o = rw e
 
-  -- Its energy is 0 everywhere.
-  energy-none : energy p ≡ (λ r c. 0)
-  unfolding energy
-  energy-none = λ i r c. none r c i
-    where
-      none : (r c : ℕ) → difference (pixel p r (c + 1)) (pixel p r c) + difference (pixel p (r + 1) c) (pixel p r c) ≡ 0
-      none r c = omega (arith, difference-none (pixel p r (c + 1)) (pixel p r c) (only r (c + 1)) (only r c), difference-none (pixel p (r + 1) c) (pixel p r c) (only (r + 1) c) (only r c))
+  -- No neighbour is any difference away.
+  away-none : (r c : ℕ) (q : ℕ → List ℕ) → ((a : ℕ) → (q a ≡ px) ⊎ (q a ≡ [])) → (o : Option ℕ) → away (pixel p r c) (Option·map q o) ≡ 0
+  away-none r c q s none = refl
+  away-none r c q s (some a) = difference-none (q a) (pixel p r c) (s a) (only r c)
+
+  -- Its energy is 0 everywhere, and so is the cost of a step.
+  energy-none : (w h r c : ℕ) → energy w h p r c ≡ 0
+  unfolding costsAt
+  energy-none w h r c =
+      omega (arith, away-none r c (pixel p r) (only r) (rightOf false w c), away-none r c (λ a. pixel p a c) (λ a. only a c) (belowOf h r))
+
+  step-none : (w h i a c : ℕ) → stepOf w h p i a c ≡ 0
+  step-none w h i a c = step-energy w h p i a c ∙ energy-none w h i c
 
   -- So its seam is that of no energy at all.
-  seam-none : (w h : ℕ) → seamOf w h p ≡ reverse (Option·getD (cheapest (nearby w) (λ c. 0) (λ i a c. 0) w h) [])
+  seam-none : (w h : ℕ) → seamOf w h p ≡ reverse (Option·getD (cheapest (nearby false w) (λ c. 0) (λ i a c. 0) w h) [])
   unfolding seamOf
-  seam-none w h = ap (λ (e : ℕ → ℕ → ℕ). reverse (Option·getD (cheapest (nearby w) (e 0) (λ i a c. e i c) w h) [])) energy-none
+  seam-none w h =
+      ap₂ (λ (first : ℕ → ℕ) (step : ℕ → ℕ → ℕ → ℕ). reverse (Option·getD (cheapest (nearby false w) first step w h) []))
+      (λ j c. energy-none w h 0 c j) (λ j i a c. step-none w h i a c j)
 
 -- Two and three equal pixels, in one row.
 module _ (px : List ℕ) where
@@ -112,11 +118,11 @@ module _ (px : List ℕ) where
   only-three (suc r) c = inr refl
 
   seam-two : seamOf 2 1 two ≡ 0 ∷ []
-  unfolding paths pathsUp cost nearby beside select run better firstBest flatMap
+  unfolding paths pathsUp cost nearby near beside select run better firstBest flatMap
   seam-two = seam-none px two only-two 2 1
 
   seam-three : seamOf 3 1 three ≡ 0 ∷ []
-  unfolding paths pathsUp cost nearby beside select run better firstBest flatMap
+  unfolding paths pathsUp cost nearby near beside select run better firstBest flatMap
   seam-three = seam-none px three only-three 3 1
 
   -- "all samples equal, 3 by 1: map 1 2 0 at depth 2", whatever the pixel is.

@@ -79,7 +79,7 @@ endingRow r = placeOf (r .ending) ∷ r .count ∷ []
 abbrev pub pointTable : List Point
 pointTable =
     -- 1 by 1: energy 0
-    list (energies 1 (picture (grey 1 1) (7 ∷ [])) 0) (0 ∷ [])
+    list (energies 1 1 (picture (grey 1 1) (7 ∷ [])) 0) (0 ∷ [])
     -- the example's first seam: columns 2, 2, cost 0
     ∷ list (seamOf 3 2 example) (2 ∷ 2 ∷ [])
     ∷ one (costOf 3 2 example) 0

@@ -18,11 +18,11 @@ use Rattle.seam_find.proofs.Costs.{front-most, pixel-most}
 use Rattle.seam_theory.proofs.Characterised.{seam-some}
 
 -- At most one energy a row, each within its bound.
-pub cost-bound : (w h : ℕ) (p : Picture) → 0 < w → 0 < h → h ≤ mostSide → ((r c : ℕ) → energy p r c ≤ mostEnergy) → costOf w h p ≤ mostCost
+pub cost-bound : (w h : ℕ) (p : Picture) → 0 < w → 0 < h → h ≤ mostSide → ((r c : ℕ) → energy w h p r c ≤ mostEnergy) → costOf w h p ≤ mostCost
 unfolding costOf
 cost-bound w h p some-column some-row most each =
     let found = seam-some w h p some-column some-row in
-    let sum = along-most (energy p) mostEnergy (found .0) each in
+    let sum = along-most (energy w h p) mostEnergy (found .0) each in
     let long : length (found .0) ≡ h = found .2 .path .size in
     let tall : length (found .0) ≤ mostSide = rw long most in
     let few : length (found .0) * mostEnergy ≤ mostSide * mostEnergy = mul-le-mul-right mostEnergy tall in
