@@ -1,9 +1,9 @@
 -- "The multi-size file": what stands in the file of a picture.
-use mathlib.Core.Bool.{Bool}
+use mathlib.Core.Bool.{Bool, false}
 use mathlib.Core.List.{List}
 use Prim.Native.Nat.{ℕ}
 use Rattle.pictures.specs.Pictures.{Picture}
-use Rattle.seam_theory.specs.Paths.{beside}
+use Rattle.seam_theory.specs.Paths.{near}
 use Rattle.seam_theory.specs.Choices.{Choice}
 use Rattle.map_theory.specs.Maps.{mapOf}
 use Rattle.map_theory.specs.Widths.{average}
@@ -17,7 +17,7 @@ abbrev pub chooseOf : Head → Choice (List ℕ)
 chooseOf h = seamOf
 
 abbrev pub nearOf : Head → ℕ → ℕ → ℕ → Bool
-nearOf h w = beside
+nearOf h = near false
 
 abbrev pub meanOf : Head → List ℕ → List ℕ → List ℕ
 meanOf h = average

@@ -10,7 +10,7 @@ use Rattle.grids.specs.Each.{Grid}
 use Rattle.grids.specs.Rows.{rowsOf, flat}
 use Rattle.grids.proofs.Rows.{grid-rowsOf, flat-rowsOf}
 use Rattle.grids.proofs.Shapes.{grid-of}
-use Rattle.seam_theory.specs.Paths.{beside}
+use Rattle.seam_theory.specs.Paths.{near}
 use Rattle.pictures.specs.declared.sizes.Size.{Size}
 use Rattle.pictures.specs.declared.refusals.Verdict.{Verdict}
 use Rattle.pictures.specs.Refusals.{_when_, given, refusal, served, worked}
@@ -78,10 +78,10 @@ module _ (z : Size) (depth : ℕ) (space : List ℕ) (fits : Fits z depth (lengt
 
   -- Else what the comparison with the map built gives.
   compared : every (numbers depth) m ≡ true → (t : Bool) → same (flat m) (flat new) ≡ t
-      → cond {A = ℕ} t 0 (cond (connected (λ x. beside) (z .width) depth m) 11 10) ≡ refusal (recordedRules z depth p m)
+      → cond {A = ℕ} t 0 (cond (connected (near false) (z .width) depth m) 11 10) ≡ refusal (recordedRules z depth p m)
   compared e true q =
       sym (judged-map seamOf seam-chooses (z .width) (z .height) depth p m grid-p grid-m (omega (arith, fits .room .deep)) .1 (flat-same grid-m grid-new (same-is (flat m) (flat new) .0 q)))
-  compared e false q = sym (judged-rebuilt seamOf seam-chooses (z .width) (z .height) depth p m grid-p grid-m (omega (arith, fits .room .deep)) ∙ rw (e, q) (swap (connected (λ x. beside) (z .width) depth m)))
+  compared e false q = sym (judged-rebuilt seamOf seam-chooses (z .width) (z .height) depth p m grid-p grid-m (omega (arith, fits .room .deep)) ∙ rw (e, q) (swap (connected (near false) (z .width) depth m)))
     where
       swap : (b : Bool) → refusal (10 when not b ∷ 11 when true ∷ []) ≡ cond {A = ℕ} b 11 10
       swap true = refl
@@ -93,8 +93,8 @@ module _ (z : Size) (depth : ℕ) (space : List ℕ) (fits : Fits z depth (lengt
       let first : take (mapBytes z) maps ≡ pairs (flat new) = ap (take (mapBytes z)) is ∙ take-at (pairs (flat new)) recorded (mapBytes z) long in
       let second : drop (mapBytes z) maps ≡ recorded = ap (drop (mapBytes z)) is ∙ drop-at (pairs (flat new)) recorded (mapBytes z) long in
       let test : same (numbersIn (drop (mapBytes z) maps)) (numbersIn (take (mapBytes z) maps)) ≡ same (flat m) (flat new) = ap₂ same (ap numbersIn second ∙ sym flat-m) (ap numbersIn first ∙ numbers-pairs (flat new)) in
-      let seams : connected (λ x. beside) (z .width) depth (rowsOf (z .width) (z .height) (numbersIn (drop (mapBytes z) maps))) ≡ connected (λ x. beside) (z .width) depth m =
-      ap (λ b. connected (λ x. beside) (z .width) depth (rowsOf (z .width) (z .height) (numbersIn b))) second in
+      let seams : connected (near false) (z .width) depth (rowsOf (z .width) (z .height) (numbersIn (drop (mapBytes z) maps))) ≡ connected (near false) (z .width) depth m =
+      ap (λ b. connected (near false) (z .width) depth (rowsOf (z .width) (z .height) (numbersIn b))) second in
       ap₂ (λ a b. cond {A = ℕ} a 0 (cond b 11 10)) test seams ∙ compared e (same (flat m) (flat new)) refl
 
   -- The front of the space is lent for the map. Nothing refuses it there,
@@ -137,7 +137,7 @@ module _ (z : Size) (depth : ℕ) (space : List ℕ) (fits : Fits z depth (lengt
 
 -- After success and after 9, 10 and 11 it is the first.
 pub worked-judged : {A : Type 0} (z : Size) (depth : ℕ) (p : Picture) (m : List (List ℕ)) (x y : A) → worked (refusal (recordedRules z depth p m)) x y ≡ x
-worked-judged {A} z depth p m x y = go (not (every (numbers depth) m)) (not (connected (λ x. beside) (z .width) depth m)) (not (found seamOf (z .width) (z .height) depth p m))
+worked-judged {A} z depth p m x y = go (not (every (numbers depth) m)) (not (connected (near false) (z .width) depth m)) (not (found seamOf (z .width) (z .height) depth p m))
   where
     go : (a b c : Bool) → worked (refusal (9 when a ∷ 10 when b ∷ 11 when c ∷ [])) x y ≡ x
     go true b c = refl

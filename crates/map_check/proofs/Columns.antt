@@ -12,7 +12,7 @@ use lib.Seq.{drop-cons}
 use Rattle.grids.specs.Rows.{rowsOf, rowAt}
 use Rattle.grids.proofs.Rows.{length-rowsOf, rowsOf-at}
 use Rattle.grids.proofs.Shapes.{map-at}
-use Rattle.seam_theory.specs.Choices.{linked}
+use Rattle.seam_theory.specs.Connected.{linked}
 use Rattle.map_theory.specs.Judged.{tick, remains, columnOf, recorded, connected}
 use Rattle.map_check.proofs.Turns.{run-bad}
 

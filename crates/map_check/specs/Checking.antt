@@ -1,10 +1,11 @@
 -- The map recorded in a space, judged for the picture at its front: when it is refused, and what it gives.
 use mathlib.Core.Path.{_≡_}
+use mathlib.Core.Bool.{false}
 use mathlib.Core.List.{List, [], _∷_, _++_}
 use Prim.Native.Nat.{ℕ}
 use lib.ListN.{length, take, drop, replicate}
 use Rattle.grids.specs.Rows.{rowsOf}
-use Rattle.seam_theory.specs.Paths.{beside}
+use Rattle.seam_theory.specs.Paths.{near}
 use Rattle.pictures.specs.declared.sizes.Size.{Size}
 use Rattle.pictures.specs.declared.refusals.Verdict.{Verdict}
 use Rattle.pictures.specs.Refusals.{Rule, given, refusal, worked}
@@ -20,7 +21,7 @@ recordedIn z space = rowsOf (z .width) (z .height) (numbersIn (take (mapBytes z)
 
 -- 9, 10 and 11: a map judged for a picture. A step of a seam goes to a column that differs by at most 1.
 abbrev pub recordedRules : Size → ℕ → Picture → List (List ℕ) → List Rule
-recordedRules z depth p m = mapRules (λ w. beside) seamOf (z .width) (z .height) depth p m
+recordedRules z depth p m = mapRules (near false) seamOf (z .width) (z .height) depth p m
 
 -- Before them, what is refused of a space for two maps.
 abbrev pub judgeRules : Size → ℕ → List ℕ → List Rule

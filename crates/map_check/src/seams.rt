@@ -2,9 +2,10 @@
 use crate::numbers;
 use map_rules::beside;
 use map_rules::remains;
+ghost use mathlib.Core.Bool.{false};
 ghost use mathlib.Core.Path.{_≡_};
 ghost use Rattle.grids.specs.Rows.{rowsOf};
-ghost use Rattle.seam_theory.specs.Paths.{beside as Paths·beside};
+ghost use Rattle.seam_theory.specs.Paths.{near};
 ghost use Rattle.map_theory.specs.Judged.{columnOf, connected};
 ghost use Rattle.pictures.specs.Numbers.{numbersIn};
 ghost use Rattle.map_check.specs.Inner.Seams.{ColumnNeeded, ColumnGiven};
@@ -40,7 +41,7 @@ fn column_at(map: &[u8], width: usize, r: usize, t: usize) -> usize
 // Whether each seam that a map records is connected in the picture left before it.
 pub(crate) fn connected(map: &[u8], width: usize, height: usize, depth: usize) -> bool
     requires { ⌜ MapNeeded (now map) width height depth ⌝ }
-    ensures { λ b. ⌜ b ≡ connected (λ w. Paths·beside) width depth (rowsOf width height (numbersIn (now (map .entry)))) ⌝ }
+    ensures { λ b. ⌜ b ≡ connected (near false) width depth (rowsOf width height (numbersIn (now (map .entry)))) ⌝ }
 {
     let mut good = true;
     let mut t = 0;

@@ -8,7 +8,8 @@ use native.Mathlib.Omega.{arith}
 use Rattle.grids.specs.Each.{Each, Grid}
 use Rattle.grids.specs.Cut.{cut}
 use Rattle.pictures.specs.Refusals.{_when_, refusal}
-use Rattle.seam_theory.specs.Choices.{Choice, Chooses, linked}
+use Rattle.seam_theory.specs.Connected.{linked}
+use Rattle.seam_theory.specs.Choices.{Choice, Chooses}
 use Rattle.map_theory.specs.Maps.{number, carve, mapOf}
 use Rattle.map_theory.specs.Judged.{every, same, numbers, before, recorded, connected, found, mapRules, Numbering, IsMap, lower}
 use Rattle.map_theory.proofs.Tests.{every-each, each-every, every-run, same-is}

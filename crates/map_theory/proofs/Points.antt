@@ -1,12 +1,12 @@
 -- Points besides those of crate `points`, of the specification's 3 by 2 picture with its seams given: what the definitions
 -- give, beside what is expected. One proof serves the table.
 use mathlib.Core.Path.{_≡_, refl}
-use mathlib.Core.Bool.{Bool, cond}
+use mathlib.Core.Bool.{Bool, false, cond}
 use mathlib.Core.List.{List, [], _∷_, map, zipWith}
 use Prim.Native.Nat.{ℕ, _+_, _/_}
 use lib.Dec.{eqb}
 use Rattle.grids.specs.Cut.{removeAt, cut}
-use Rattle.seam_theory.specs.Paths.{run, beside}
+use Rattle.seam_theory.specs.Paths.{run, beside, near}
 use Rattle.pictures.specs.Refusals.{refusal}
 use Rattle.seam_theory.specs.Choices.{Choice}
 use Rattle.map_theory.specs.Maps.{numberRow, number, mapOf}
@@ -34,7 +34,7 @@ abbrev bit : Bool → List (List ℕ)
 bit t = (tick t 0 ∷ []) ∷ []
 
 abbrev judged : List ℕ → List ℕ → List (List ℕ)
-judged x y = (refusal (mapRules (λ w. beside) seams 3 2 2 example (x ∷ y ∷ [])) ∷ []) ∷ []
+judged x y = (refusal (mapRules (near false) seams 3 2 2 example (x ∷ y ∷ [])) ∷ []) ∷ []
 
 abbrev table : List Point
 table =

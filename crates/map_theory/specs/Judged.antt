@@ -7,7 +7,8 @@ use lib.Dec.{leb, eqb}
 use Rattle.grids.specs.Each.{Each}
 use Rattle.seam_theory.specs.Paths.{run}
 use Rattle.pictures.specs.Refusals.{_when_, Rule}
-use Rattle.seam_theory.specs.Choices.{Choice, linked}
+use Rattle.seam_theory.specs.Connected.{linked}
+use Rattle.seam_theory.specs.Choices.{Choice}
 use Rattle.map_theory.specs.Widths.{keepRow, doubled}
 
 -- Every element passes a test.

@@ -18,7 +18,7 @@ use Rattle.energy.specs.Energy.{difference, away, costsAt, energy, stepOf, ener
 use Rattle.energy.proofs.Energy.{difference-self}
 use Rattle.energy.proofs.Steps.{step-energy}
 use Rattle.seam_theory.specs.Best.{better, firstBest}
-use Rattle.seam_theory.specs.Paths.{run, select, pathsUp, paths, cost, beside, near, nearby}
+use Rattle.seam_theory.specs.Paths.{run, select, pathsUp, paths, cost, beside, nearby}
 use Rattle.seam_theory.specs.Seams.{cheapest}
 use Rattle.seam_theory.specs.PictureSeams.{seamOf}
 use Rattle.seam_rules.specs.Answers.{spent}
@@ -118,11 +118,11 @@ module _ (px : List ℕ) where
   only-three (suc r) c = inr refl
 
   seam-two : seamOf 2 1 two ≡ 0 ∷ []
-  unfolding paths pathsUp cost nearby near beside select run better firstBest flatMap
+  unfolding paths pathsUp cost nearby beside select run better firstBest flatMap
   seam-two = seam-none px two only-two 2 1
 
   seam-three : seamOf 3 1 three ≡ 0 ∷ []
-  unfolding paths pathsUp cost nearby near beside select run better firstBest flatMap
+  unfolding paths pathsUp cost nearby beside select run better firstBest flatMap
   seam-three = seam-none px three only-three 3 1
 
   -- "all samples equal, 3 by 1: map 1 2 0 at depth 2", whatever the pixel is.

@@ -3,7 +3,7 @@ use mathlib.Core.Path.{_≡_, refl}
 use mathlib.Core.List.{map, zipWith, flatMap}
 use Rattle.grids.specs.Cut.{removeAt, cut}
 use Rattle.seam_theory.specs.Best.{better, firstBest}
-use Rattle.seam_theory.specs.Paths.{run, select, pathsUp, paths, cost, beside, near, nearby}
+use Rattle.seam_theory.specs.Paths.{run, select, pathsUp, paths, cost, beside, nearby}
 use Rattle.pictures.specs.Pictures.{picture}
 use Rattle.energy.specs.Around.{leftOf, rightOf, aboveOf, belowOf}
 use Rattle.energy.specs.Energy.{difference, costsAt, toward}
@@ -21,5 +21,5 @@ use Rattle.file_theory.specs.Shows.{shows}
 use Rattle.points.specs.Points.{pointTable}
 
 pub points : map (λ p. p .got) pointTable ≡ map (λ p. p .expected) pointTable
-unfolding picture leftOf rightOf aboveOf belowOf difference costsAt toward seamOf costOf paths pathsUp cost nearby near beside select run better firstBest removeAt cut zipWith flatMap someTwo removal numberRow number allowed offered stays doubled rowAtWidth shown numbers remains before connected found strip next manyUpTo many digitsUpTo digits isDigit further upTo numberGet lineEnd blank opening closing start range closed rowWord mapWord greyWord rgbWord each joined kindText pixelText lineText headText text kindGet items three pixelGet line headGet file whole parse average fileOf filled shows
+unfolding picture leftOf rightOf aboveOf belowOf difference costsAt toward seamOf costOf paths pathsUp cost nearby beside select run better firstBest removeAt cut zipWith flatMap someTwo removal numberRow number allowed offered stays doubled rowAtWidth shown numbers remains before connected found strip next manyUpTo many digitsUpTo digits isDigit further upTo numberGet lineEnd blank opening closing start range closed rowWord mapWord greyWord rgbWord each joined kindText pixelText lineText headText text kindGet items three pixelGet line headGet file whole parse average fileOf filled shows
 points = refl

@@ -1,4 +1,5 @@
 -- The seam found lies inside the picture.
+use mathlib.Core.Bool.{false}
 use mathlib.Core.List.{List}
 use Prim.Native.Nat.{ℕ, _<_}
 use Rattle.grids.specs.Each.{Each}
@@ -8,7 +9,7 @@ use Rattle.seam_theory.proofs.Nearby.{nearby-paths}
 use Rattle.seam_theory.proofs.Seams.{cheapest-some}
 use Rattle.pictures.specs.declared.sizes.Size.{Size}
 use Rattle.pictures.specs.Pictures.{Picture}
-use Rattle.energy.specs.Energy.{energy}
+use Rattle.energy.specs.Energy.{energy, stepOf}
 use Rattle.pictures.proofs.Limits.{Sized}
 use Rattle.seam_theory.specs.PictureSeams.{seamOf}
 use Rattle.seam_rules.specs.declared.answers.Axis.{Axis}
@@ -18,14 +19,14 @@ use Rattle.seam_turn.specs.Axes.{turned}
 use Rattle.seam_cut.specs.Axes.{seamAlong}
 
 -- A path has h columns below w.
-pub path-inside : (w h : ℕ) (s : List ℕ) → IsPath w h s → Each (λ c. c < w) h s
+pub path-inside : (w h : ℕ) (s : List ℕ) → IsPath false w h s → Each (λ c. c < w) h s
 path-inside w h s p = rw (p .size) at (each-member s (p .within))
 
 pub seam-inside : (w h : ℕ) (p : Picture) → 0 < w → 0 < h → Each (λ c. c < w) h (seamOf w h p)
 unfolding seamOf
 seam-inside w h p some-column some-row =
-    let found = cheapest-some (energy p 0) (λ i a c. energy p i c) w h some-column some-row in
-    rw (found .1) (each-reverse (path-inside w h (found .0) (nearby-paths w h (found .0) .0 (found .2 .member))))
+    let found = cheapest-some (energy w h p 0) (stepOf w h p) false w h some-column some-row in
+    rw (found .1) (each-reverse (path-inside w h (found .0) (nearby-paths false w h (found .0) .0 (found .2 .member))))
 
 -- The same along either axis.
 pub along-inside : (x : Axis) (z : Size) (n : ℕ) (p : Picture) → Sized z n → Each (λ c. c < turnedSize x z .width) (turnedSize x z .height) (seamAlong x z p)

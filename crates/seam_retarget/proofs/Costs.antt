@@ -1,28 +1,30 @@
 -- A bound of the cost of a seam, so that no total overflows.
 use mathlib.Core.Path.{_≡_}
+use mathlib.Core.Bool.{false}
 use mathlib.Core.List.{List}
 use Prim.Native.Nat.{ℕ, _*_, _≤_, _<_}
 use native.Mathlib.Nat.{mul-le-mul-right}
 use native.Mathlib.Omega.{arith}
 use lib.ListN.{length, getD, take}
 use lib.Seq.{length-take-le}
-use Rattle.seam_theory.proofs.Along.{along-most}
+use Rattle.seam_theory.proofs.Priced.{cost-most as price-most}
 use Rattle.pictures.specs.Limits.{mostSide}
 use Rattle.pictures.specs.declared.sizes.Size.{Size}
 use Rattle.pictures.specs.Pictures.{Picture, pictureBytes, pictureIn}
 use Rattle.energy.specs.Bounds.{mostEnergy, mostCost}
-use Rattle.energy.specs.Energy.{energy}
+use Rattle.energy.specs.Energy.{costsAt, energy, stepOf}
+use Rattle.energy.proofs.Most.{CostsMost, toward-most}
 use Rattle.pictures.proofs.Limits.{Sides, Sized, sized-of}
 use Rattle.seam_theory.specs.PictureSeams.{costOf}
 use Rattle.seam_find.proofs.Costs.{front-most, pixel-most}
 use Rattle.seam_theory.proofs.Characterised.{seam-some}
 
--- At most one energy a row, each within its bound.
-pub cost-bound : (w h : ℕ) (p : Picture) → 0 < w → 0 < h → h ≤ mostSide → ((r c : ℕ) → energy w h p r c ≤ mostEnergy) → costOf w h p ≤ mostCost
+-- At most one cost a row, each within its bound.
+pub cost-bound : (w h : ℕ) (p : Picture) → 0 < w → 0 < h → h ≤ mostSide → ((r c : ℕ) → CostsMost mostEnergy (costsAt w h p r c)) → costOf w h p ≤ mostCost
 unfolding costOf
 cost-bound w h p some-column some-row most each =
     let found = seam-some w h p some-column some-row in
-    let sum = along-most (energy w h p) mostEnergy (found .0) each in
+    let sum = price-most (energy w h p 0) (stepOf w h p) mostEnergy (λ c. each 0 c .up) (λ i a c. toward-most mostEnergy false w a c (costsAt w h p i c) (each i c)) (found .0) in
     let long : length (found .0) ≡ h = found .2 .path .size in
     let tall : length (found .0) ≤ mostSide = rw long most in
     let few : length (found .0) * mostEnergy ≤ mostSide * mostEnergy = mul-le-mul-right mostEnergy tall in

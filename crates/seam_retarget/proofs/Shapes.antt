@@ -15,8 +15,8 @@ use Rattle.pictures.specs.declared.sizes.Size.{Size}
 use Rattle.pictures.specs.Refusals.{refusal}
 use Rattle.pictures.specs.Pictures.{Picture, channelsOf, pictureBytes, sideRules, OfSize, pixel}
 use Rattle.pictures.proofs.Limits.{Sides, sides-are}
-use Rattle.energy.specs.Bounds.{mostCost}
-use Rattle.energy.proofs.Energy.{energy-most}
+use Rattle.energy.specs.Bounds.{mostEnergy, mostCost}
+use Rattle.energy.proofs.Most.{costs-within, costs-most}
 use Rattle.seam_rules.specs.declared.answers.Axis.{Axis}
 use Rattle.seam_rules.specs.declared.answers.Axis.the-variants.{Vertical, Horizontal}
 use Rattle.seam_rules.specs.Axes.{turnedSize, narrowed}
@@ -122,7 +122,7 @@ cost-most ch few x z p s o =
     let sides : Sides (turnedSize x z) = sides-are t (turned-sides x z (pictureBytes z) (sized-at z s)) in
     let b = pixel-bytes ch t q (turned-of (Bytes ch) x z p o) in
     cost-bound (t .width) (t .height) q (sides .width-some) (sides .height-some) (sides .height-small)
-    (λ r c. omega (arith, energy-most ch 255 q (λ r c. b r c .many) (λ r c. b r c .small) (t .width) (t .height) r c, mul-le-mul-right 255 few))
+    (λ r c. costs-within (2 * (ch * 255)) mostEnergy _ (omega (arith, mul-le-mul-right 255 few)) (costs-most ch 255 q (λ r c. b r c .many) (λ r c. b r c .small) (t .width) (t .height) r c))
 
 -- The total of r + c seams: at most 128 of them, it fits 64 bits.
 module _ (z : Size) (p : Picture) (s : refusal (sideRules z) ≡ 0) (ch : ℕ) (few : ch ≤ 3) (o : Of (Bytes ch) z p) where

@@ -41,13 +41,11 @@ joins-is w c a = (
 
 -- Without the join, near is beside.
 pub near-plain : (w : ℕ) → near false w ≡ beside
-unfolding near
 near-plain w = refl
 
 module _ (wrap : Bool) (w : ℕ) where
   -- Columns that are near each other.
   pub near-is : (c a : ℕ) → (near wrap w c a ≡ true) ↔ (((wrap ≡ true) × Joins w c a) ⊎ ((a ≤ c + 1) × (c ≤ a + 1)))
-  unfolding near
   near-is c a = (
     λ e. ⊎-elim
         (λ d. let b = both wrap (joins w c a) d in inl (b .0, joins-is w c a .0 (b .1)))

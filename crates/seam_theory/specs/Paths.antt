@@ -52,7 +52,7 @@ unfoldable pub joins : ℕ → ℕ → ℕ → Bool
 joins w c a = (eqb c 0 && eqb (a + 1) w) || (eqb a 0 && eqb (c + 1) w)
 
 -- Whether a path may step between columns c and a of w: where the last column is joined to the first, also between these two.
-unfoldable pub near : Bool → ℕ → ℕ → ℕ → Bool
+abbrev pub near : Bool → ℕ → ℕ → ℕ → Bool
 near wrap w c a = (wrap && joins w c a) || beside c a
 
 -- The columns of a grid of w columns that are near c, ascending.

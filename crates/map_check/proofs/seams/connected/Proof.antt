@@ -1,5 +1,5 @@
 use mathlib.Core.Path.{_≡_, refl, sym, ap₂, _∙_}
-use mathlib.Core.Bool.{true}
+use mathlib.Core.Bool.{true, false}
 use mathlib.Core.List.{List}
 use Prim.Native.Nat.{ℕ, _+_, _-_, _*_, _<_, _≤_}
 use native.Mathlib.Omega.{arith}
@@ -8,8 +8,8 @@ use borrow.Author.Tests.{not-true, not-false}
 use lib.ListN.{length, getD, drop}
 use Rattle.grids.specs.Rows.{rowsOf, rowAt}
 use Rattle.grids.proofs.Rows.{part-end}
-use Rattle.seam_theory.specs.Paths.{beside}
-use Rattle.seam_theory.specs.Choices.{linked}
+use Rattle.seam_theory.specs.Paths.{near, beside}
+use Rattle.seam_theory.specs.Connected.{linked}
 use Rattle.map_theory.specs.Judged.{columnOf, recorded}
 use Rattle.map_theory.proofs.Judged.{connected-is}
 use Rattle.pictures.specs.Numbers.{numbersIn}
@@ -140,7 +140,7 @@ returns : tie.Need-returns Inv-loop μ-loop Inv-seams μ-seams
 returns c =
     let out = c .before .seams in
     let a = c .before .before .before .args in
-    out .inv .1 ∙ sym (connected-is (λ w. beside) (a .width) (a .depth) (rowsOf (a .width) (a .height) (numbersIn (a .map .now))) .1 (λ q l h. out .inv .2 q l (omega arith)))
+    out .inv .1 ∙ sym (connected-is (near false) (a .width) (a .depth) (rowsOf (a .width) (a .height) (numbersIn (a .map .now))) .1 (λ q l h. out .inv .2 q l (omega arith)))
 
 returns-2 : tie.Need-returns-2 Inv-loop μ-loop Inv-seams μ-seams
 returns-2 c =
@@ -148,7 +148,7 @@ returns-2 c =
     let t = k .before .before .before .before .before .before .seams .t in
     let at = k .before .before .before .loop in
     let a = start k .args in
-    sym (connected-bad (λ w. beside) (a .width) (a .depth) (rowsOf (a .width) (a .height) (numbersIn (a .map .now))) (t + 1) (omega arith) (omega arith)
+    sym (connected-bad (near false) (a .width) (a .depth) (rowsOf (a .width) (a .height) (numbersIn (a .map .now))) (t + 1) (omega arith) (omega arith)
     (sym (at .inv .4) ∙ linked-bad beside (seam (start k) (t + 1)) (at .r) (within k) (told k ∙ not-true _ (c .if1 .taken))))
 
 pub connected-spec : {M : Type 1} → statement M
