@@ -2,27 +2,26 @@
 use mathlib.Core.Path.{_≡_, refl, sym, ap, ap₂, _∙_}
 use mathlib.Core.Logic.{⊎-elim}
 use mathlib.Core.Bool.{false}
-use mathlib.Core.Option.{Option, none, some, Option·map}
+use mathlib.Core.Option.{Option·map}
 use mathlib.Core.List.{List, [], _∷_}
-use Prim.Native.Nat.{ℕ, suc, _+_, _-_, _*_, _≤_, _<_}
-use native.Mathlib.Nat.{add-comm, suc-mul, mul-le-mul-right}
+use Prim.Native.Nat.{ℕ, _+_, _-_, _*_, _≤_, _<_}
+use native.Mathlib.Nat.{add-comm}
 use native.Mathlib.Omega.{arith}
 use borrow.Author.Tests.{lt-ltb, le-ltb}
-use lib.ListN.{length, getD, take, drop}
+use lib.ListN.{length, take, drop}
 use Rattle.grids.specs.Each.{Grid}
 use Rattle.grids.specs.Table.{table}
 use Rattle.grids.specs.Rows.{rowAt}
 use Rattle.grids.specs.Exchange.{exchange}
 use Rattle.grids.proofs.Orders.{le-or-lt}
-use Rattle.grids.proofs.Rows.{rowAt-short, rowAt-all}
 use Rattle.grids.proofs.Tables.{table-same}
 use Rattle.grids.proofs.Exchange.{exchange-at, exchange-table}
 use Rattle.pictures.specs.declared.sizes.Size.{Size}
 use Rattle.pictures.specs.Pictures.{Picture, channelsOf, rowBytes, pictureBytes, picture, pixel}
-use Rattle.energy.specs.Around.{rightOf, belowOf, around}
-use Rattle.energy.specs.Energy.{difference, away, flat, StepCosts, costsAt, energy, energies, energyGrid}
+use Rattle.energy.specs.Around.{rightOf, belowOf}
+use Rattle.energy.specs.Energy.{difference, away, costsAt, energy, energies, energyGrid}
 use Rattle.energy.specs.Inner.{rightColumn, between, besideLast, lowerLine}
-use Rattle.pictures.proofs.Buffers.{pixel-at, pixel-past}
+use Rattle.pictures.proofs.Buffers.{pixel-at}
 
 -- A pixel has no difference to itself.
 pub difference-self : (p : List ℕ) → difference p p ≡ 0

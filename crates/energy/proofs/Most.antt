@@ -4,7 +4,7 @@ use mathlib.Core.Logic.{⊎-elim}
 use mathlib.Core.Bool.{Bool, true, false, cond}
 use mathlib.Core.Option.{Option, none, some, Option·map}
 use mathlib.Core.List.{List, [], _∷_}
-use Prim.Native.Nat.{ℕ, suc, _+_, _-_, _*_, _≤_, _<_}
+use Prim.Native.Nat.{ℕ, suc, _-_, _*_, _≤_, _<_}
 use native.Mathlib.Nat.{suc-mul, mul-le-mul-right}
 use native.Mathlib.Omega.{arith}
 use lib.Dec.{eqb}
@@ -15,7 +15,7 @@ use Rattle.grids.proofs.Rows.{rowAt-short, rowAt-all}
 use Rattle.pictures.specs.declared.sizes.Size.{Size}
 use Rattle.pictures.specs.Pictures.{Picture, channelsOf, rowBytes, pictureBytes, picture, pixel}
 use Rattle.energy.specs.Around.{leftOf, rightOf, belowOf, around}
-use Rattle.energy.specs.Energy.{difference, away, flat, StepCosts, costsAt, energy, isThe, toward}
+use Rattle.energy.specs.Energy.{difference, away, flat, StepCosts, costsAt, isThe, toward}
 use Rattle.pictures.proofs.Buffers.{pixel-at, pixel-past}
 
 -- The bound of an energy, over the largest sample m.
@@ -64,10 +64,6 @@ module _ (channels m : ℕ) (p : Picture) (short : (r c : ℕ) → length (pixel
       most : flat (around false w h p r c) ≤ 2 * (channels * m)
       most = omega (arith, away-most r c (λ a. (r, a)) (rightOf false w c), away-most r c (λ a. (a, c)) (belowOf h r))
 
-  -- And so its energy is at most that.
-  pub energy-most : (w h r c : ℕ) → energy w h p r c ≤ 2 * (channels * m)
-  energy-most w h r c = costs-most w h r c .up
-
 -- The same of a picture in a buffer.
 pub buffer-costs-most : (z : Size) (b : List ℕ) (m : ℕ) → length b ≡ pictureBytes z → ((i : ℕ) → getD b i 0 ≤ m)
     → (r c : ℕ) → CostsMost (2 * (channelsOf (z .kind) * m)) (costsAt (z .width) (z .height) (picture z b) r c)
@@ -91,7 +87,3 @@ buffer-costs-most z b m e h = costs-most ch m (picture z b) short below (z .widt
         rw (pixel-at z b e r c l)
         (rowAt-all (λ s. s ≤ m) ch (rowAt (rowBytes z) r b) 0 (omega arith) (rowAt-all (λ s. s ≤ m) (rowBytes z) b 0 (omega arith) h r) c k))
         (le-or-lt (z .height) r)
-
-pub buffer-energy-most : (z : Size) (b : List ℕ) (m : ℕ) → length b ≡ pictureBytes z → ((i : ℕ) → getD b i 0 ≤ m)
-    → (r c : ℕ) → energy (z .width) (z .height) (picture z b) r c ≤ 2 * (channelsOf (z .kind) * m)
-buffer-energy-most z b m e h r c = buffer-costs-most z b m e h r c .up

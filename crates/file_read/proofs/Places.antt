@@ -1,9 +1,9 @@
 -- The places of a file's lines: at each of them stands the next line, and after it the others.
-use mathlib.Core.Path.{_≡_, sym, ap, _∙_}
+use mathlib.Core.Path.{_≡_, ap, _∙_}
 use mathlib.Core.Option.{Option·none-ne-some, Option·some-injective}
 use mathlib.Core.List.{List, [], _∷_, _++_, append-nil}
 use Prim.Native.Nat.{ℕ, zero, suc, _+_, _*_, _≤_, _<_}
-use native.Mathlib.Nat.{le-of-suc-le-suc, mul-le-mul}
+use native.Mathlib.Nat.{le-of-suc-le-suc}
 use native.Mathlib.Numerals.{add-one}
 use native.Mathlib.Omega.{arith}
 use lib.ListN.{length, getD, drop, drop-of-length-le}
@@ -13,7 +13,6 @@ use Rattle.grids.proofs.Rows.{flat-at, length-flat}
 use Rattle.grids.proofs.Shapes.{each-length, each-at, map-at}
 use Rattle.pictures.specs.Limits.{mostPixels}
 use Rattle.pictures.specs.declared.sizes.Kind.{Kind}
-use Rattle.pictures.specs.declared.sizes.Size.{Size}
 use Rattle.pictures.specs.Pictures.{rowBytes, pictureBytes, bytes, pixels}
 use Rattle.pictures.proofs.Buffers.{flats-grid, length-bytes}
 use Rattle.pictures.specs.Numbers.{largestNumber, pairs}

@@ -14,7 +14,7 @@ use Rattle.seam_theory.specs.Paths.{near}
 use Rattle.pictures.specs.declared.sizes.Size.{Size}
 use Rattle.pictures.specs.declared.refusals.Verdict.{Verdict}
 use Rattle.pictures.specs.Refusals.{_when_, given, refusal, served, worked}
-use Rattle.pictures.specs.Pictures.{Picture, pictureBytes, picture, pixels, pictureIn}
+use Rattle.pictures.specs.Pictures.{Picture, pictureBytes, picture, pictureIn}
 use Rattle.map_theory.specs.Maps.{mapOf}
 use Rattle.map_theory.specs.Judged.{every, same, numbers, connected, found}
 use Rattle.map_theory.proofs.Tests.{same-is}

@@ -1,7 +1,7 @@
 -- The map recorded in a space, judged for the picture at its front: when it is refused, and what it gives.
 use mathlib.Core.Path.{_≡_}
 use mathlib.Core.Bool.{false}
-use mathlib.Core.List.{List, [], _∷_, _++_}
+use mathlib.Core.List.{List, [], _++_}
 use Prim.Native.Nat.{ℕ}
 use lib.ListN.{length, take, drop, replicate}
 use Rattle.grids.specs.Rows.{rowsOf}

@@ -1,6 +1,5 @@
 -- Laws of the way back, in the terms of the loop that takes it.
 use mathlib.Core.Path.{_≡_, refl, sym, ap, _∙_}
-use mathlib.Core.Logic.{⊎-elim}
 use mathlib.Core.Bool.{Bool, true, cond, _&&_}
 use Prim.Native.Nat.{ℕ, zero, suc, _+_, _-_, _*_, _≤_, _<_}
 use mathlib.Core.List.{List, [], _∷_, _++_, append-assoc, append-nil}
@@ -9,37 +8,15 @@ use lib.ListN.{length, getD, take, drop, set, length-append, length-set, take-ap
 use lib.Dec.{leb, ltb, eqb}
 use lib.Seq.{take-suc, set-at, drop-at, length-take-le}
 use native.Mathlib.Numerals.{add-one}
-use borrow.Author.Tests.{lt-ltb, le-ltb, le-leb, eq-eqb, ne-eqb, leb-true, ltb-true, eqb-true}
+use borrow.Author.Tests.{lt-ltb, le-leb, eq-eqb, leb-true, ltb-true, eqb-true}
 use Rattle.pictures.specs.Pictures.{largestSide}
 use Rattle.grids.specs.Table.{table}
 use Rattle.grids.specs.Rows.{flat}
-use Rattle.grids.proofs.Orders.{le-or-lt}
 use Rattle.grids.proofs.Bools.{both}
 use Rattle.seam_theory.specs.Sums.{CostRows, cameFrom, waysUp, columnsTo}
+use Rattle.seam_theory.proofs.Ways.{came-inside}
 use Rattle.seam_theory.proofs.Sums.{ways-long}
 use Rattle.seam_find.specs.Tracing.{traceable, traced}
-
--- Which column a way leads to, by the tests that decide it.
-module _ (w c way : ℕ) where
-  pub came-last : c + way ≡ 0 → cameFrom w c way ≡ w - 1
-  unfolding cameFrom
-  came-last e = rw (eq-eqb (c + way) 0 e)
-
-  pub came-first : 0 < c + way → w < c + way → cameFrom w c way ≡ 0
-  unfolding cameFrom
-  came-first h l = rw (ne-eqb (c + way) 0 (λ e. omega arith), lt-ltb w (c + way) l)
-
-  pub came-inner : 0 < c + way → c + way ≤ w → cameFrom w c way ≡ c + way - 1
-  unfolding cameFrom
-  came-inner h l = rw (ne-eqb (c + way) 0 (λ e. omega arith), le-ltb w (c + way) l)
-
-  -- It is one of the columns.
-  pub came-inside : 0 < w → cameFrom w c way < w
-  came-inside h =
-      ⊎-elim
-      (λ (e : c + way ≤ 0). omega (arith, came-last (omega arith)))
-      (λ (l : 0 < c + way). ⊎-elim (λ m. omega (arith, came-inner l m)) (λ m. omega (arith, came-first l m)) (le-or-lt (c + way) w))
-      (le-or-lt (c + way) 0)
 
 -- What it takes that there is a path to trace.
 pub record Traceable (ways w height column seam : ℕ) : Type 0 where

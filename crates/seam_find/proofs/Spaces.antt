@@ -11,7 +11,7 @@ use Rattle.grids.proofs.Parts.{put-part, part-length}
 use Rattle.grids.proofs.Rows.{part-end}
 use Rattle.pictures.specs.Limits.{mostSide, mostPixels, mostPicture}
 use Rattle.pictures.specs.declared.sizes.Size.{Size}
-use Rattle.pictures.specs.Pictures.{largestSide, pictureBytes}
+use Rattle.pictures.specs.Pictures.{pictureBytes}
 use Rattle.pictures.proofs.Limits.{Sides}
 
 module _ {A : Type 0} (start front part space : List A) (p n : ℕ) (is : space ≡ front ++ (part ++ drop (p + n) start)) (long : length front ≡ p) (wide : length part ≡ n) where

@@ -8,7 +8,7 @@ use lib.Dec.{leb}
 use lib.ListN.{length, getD}
 use Rattle.pictures.specs.Pictures.{Picture}
 use Rattle.energy.specs.Energy.{costsAt, energy, energies, stepOf}
-use Rattle.energy.proofs.Steps.{costs-alike, step-energy}
+use Rattle.energy.proofs.Steps.{step-energy}
 use Rattle.seam_theory.specs.Paths.{cost, along}
 use Rattle.seam_theory.specs.PictureSeams.{pathCost}
 use Rattle.seam_theory.specs.Sums.{firstOf3, alikeRows, costRows, sumOf3, wayOf3}

@@ -1,5 +1,5 @@
 -- Rows of sums as the finder works them out: how long they are and what bounds them.
-use mathlib.Core.Path.{_≡_, ap, _∙_}
+use mathlib.Core.Path.{_≡_}
 use mathlib.Core.Bool.{Bool, cond}
 use mathlib.Core.List.{List, [], _∷_}
 use Prim.Native.Nat.{ℕ, zero, suc, _+_, _-_, _*_, _≤_, _<_}
@@ -8,7 +8,7 @@ use native.Mathlib.Numerals.{add-one}
 use native.Mathlib.Omega.{arith}
 use lib.ListN.{length, getD, List·getD-append}
 use Rattle.grids.proofs.Tables.{length-table, table-at}
-use Rattle.seam_theory.specs.Sums.{CostRows, joinedAt, fenced, leftSum, upSum, rightSum, sumOf3, sumsDown}
+use Rattle.seam_theory.specs.Sums.{CostRows, joinedAt, fenced, sumOf3, sumsDown}
 
 -- The sum of a column, between the sides of its row.
 pub fenced-at : (join : Bool) (fence w : ℕ) (s : List ℕ) (c : ℕ) → c < length s → getD (fenced join fence w s) (c + 1) 0 ≡ getD s c 0

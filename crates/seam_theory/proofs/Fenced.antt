@@ -13,8 +13,9 @@ use lib.Seq.{getD-at}
 use Rattle.grids.proofs.Orders.{le-or-lt}
 use Rattle.seam_theory.specs.Paths.{near, nearby}
 use Rattle.seam_theory.specs.Sums.{CostRows, joinedAt, fenced, leftSum, upSum, rightSum}
-use Rattle.seam_theory.proofs.Nearby.{Joins, nearby-mem, nearby-asc, nearby-self}
+use Rattle.seam_theory.proofs.Nearby.{nearby-mem, nearby-asc, nearby-self}
 use Rattle.seam_theory.proofs.Joins.{Near, left, same, right, over-left, over-right, joined-is, near-cases, near-beside, near-over}
+use Rattle.seam_theory.proofs.Ways.{HasLeft, HasRight}
 use Rattle.seam_theory.proofs.Steps.{Three}
 
 -- What the costs have to do with the cost f c a of coming to c by way of a.
@@ -26,7 +27,7 @@ pub record Through (join : Bool) (w : ℕ) (s : List ℕ) (k : CostRows) (f : �
   pub over-right : join ≡ true → f (w - 1) 0 ≡ getD s 0 0 + getD (k .right) (w - 1) 0
 
 -- A row of sums s and the costs k of the row below it, where f c a is the cost of coming to column c of that row by way of
--- column a: the costs say what f says, and no sum reaches the fence without leaving its column.
+-- column a: the costs say what f says, and staying in a column costs less than the fence.
 pub record Above (wrap : Bool) (fence w : ℕ) (s : List ℕ) (k : CostRows) (f : ℕ → ℕ → ℕ) : Type 0 where
   pub wide : length s ≡ w
   pub through : Through (joinedAt wrap w) w s k f
@@ -39,12 +40,14 @@ module _ (wrap : Bool) (fence w : ℕ) (s : List ℕ) (k : CostRows) (f : ℕ �
   abbrev x : List ℕ
   x = fenced join fence w s
 
+  -- What stands between the sides of the row of sums, and at its right side.
   inner-at : (j c : ℕ) → j ≡ c + 1 → c < w → getD x j 0 ≡ getD s c 0
   inner-at j c e h = ap (λ n. getD x n 0) (e ∙ add-one c) ∙ List·getD-append s (cond join (getD s 0 0) fence ∷ []) 0 c (rw (row .wide) h)
 
   last-at : (j : ℕ) → j ≡ w + 1 → getD x j 0 ≡ cond join (getD s 0 0) fence
   last-at j e = ap (λ n. getD x n 0) (e ∙ add-one w) ∙ getD-at s (cond join (getD s 0 0) fence) [] 0 w (row .wide)
 
+  -- A column that is near is one to come from.
   mem : (c a : ℕ) → a < w → near wrap w c a ≡ true → List·Memᴰ a (nearby wrap w c)
   mem c a h e = nearby-mem wrap w c a .1 (h, e)
 
@@ -70,6 +73,7 @@ module _ (wrap : Bool) (fence w : ℕ) (s : List ℕ) (k : CostRows) (f : ℕ �
         let d : getD x (c + 2) 0 ≡ fence = last-at (c + 2) (omega arith) ∙ ap (λ b. cond b (getD s 0 0) fence) j in
         omega (arith, row .low c h, row .through .up-is c h)
 
+    -- So is one beside c, and c itself.
     beside-mem : (a : ℕ) → a < w → a ≤ c + 1 → c ≤ a + 1 → List·Memᴰ a (nearby wrap w c)
     beside-mem a l p q = mem c a l (near-beside wrap w c a p q)
 
@@ -77,7 +81,7 @@ module _ (wrap : Bool) (fence w : ℕ) (s : List ℕ) (k : CostRows) (f : ℕ �
     own = (nearby-self wrap w c h, up-sum)
 
     -- Neither end of the row is joined to the other here: the columns to the left, here and to the right.
-    pub plain-three : (0 < c) ⊎ (joinedAt wrap w ≡ false) → (c + 1 < w) ⊎ (joinedAt wrap w ≡ false)
+    pub plain-three : HasLeft (joinedAt wrap w) c → HasRight (joinedAt wrap w) w c
         → Three (f c) (nearby wrap w c) (f c c) (c - 1) c (c + 1) (leftSum x k c) (upSum x k c) (rightSum x k c)
     plain-three p q = record {
       ascending = nearby-asc wrap w c;
@@ -110,6 +114,7 @@ module _ (wrap : Bool) (fence w : ℕ) (s : List ℕ) (k : CostRows) (f : ℕ �
     many : 2 < w
     many = joined-is wrap w j .1
 
+    -- The sums across the join.
     over-left-sum : (c a : ℕ) → c ≡ 0 → a + 1 ≡ w → f c a ≡ leftSum x k c
     over-left-sum c a e d =
         let m : a ≡ w - 1 = omega arith in

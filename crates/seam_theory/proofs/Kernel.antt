@@ -2,19 +2,18 @@
 -- column from which the cheapest path comes, and the sum is its cost.
 use mathlib.Core.Path.{_≡_, refl, sym, ap, _∙_}
 use mathlib.Core.Logic.{_⊎_, inl, inr, ⊎-elim}
-use mathlib.Core.Bool.{Bool, true, false, cond, _&&_, and-false}
+use mathlib.Core.Bool.{Bool, true, false}
 use mathlib.Core.List.{List}
 use Prim.Native.Nat.{ℕ, _+_, _-_, _≤_, _<_, min}
 use native.Mathlib.Nat.{eq-or-lt-of-le}
 use native.Mathlib.Omega.{arith}
-use lib.Dec.{ltb, eqb}
-use lib.ListN.{getD}
-use borrow.Author.Tests.{le-leb, lt-leb, lt-ltb, le-ltb, eq-eqb, ne-eqb}
+use borrow.Author.Tests.{le-leb, lt-leb, eq-eqb, ne-eqb}
 use Rattle.grids.proofs.Orders.{le-or-lt}
 use Rattle.seam_theory.specs.Paths.{nearby}
 use Rattle.seam_theory.specs.Sums.{firstOf3, pick3, CostRows, joinedAt, fenced, leftSum, upSum, rightSum, sumOf3, wayOf3, cameFrom}
 use Rattle.seam_theory.proofs.Rows.{leastIn, leastIn-is}
 use Rattle.seam_theory.proofs.Joins.{joined-is}
+use Rattle.seam_theory.proofs.Ways.{came-last, came-first, came-to, HasLeft, HasRight, way-plain}
 use Rattle.seam_theory.proofs.Steps.{Three, picked, picked-cost}
 use Rattle.seam_theory.proofs.Fenced.{Above, left-fence, right-fence, plain-three, first-three, last-three}
 
@@ -32,15 +31,6 @@ module _ (wrap : Bool) (fence w : ℕ) (s : List ℕ) (k : CostRows) (f : ℕ �
   record Led (c : ℕ) : Type 0 where
     way : cameFrom w c (wayOf3 join w x k c) ≡ leastIn (nearby wrap w c) (f c) c
     sum : sumOf3 x k c ≡ f c (leastIn (nearby wrap w c) (f c) c)
-
-  -- A way leads to the column that is picked.
-  came : (c way m : ℕ) → ((c + way ≡ 0) × (m ≡ w - 1)) ⊎ (((c + way ≡ w + 1) × (m ≡ 0)) ⊎ ((c + way ≡ m + 1) × (m < w))) → 0 < w → cameFrom w c way ≡ m
-  unfolding cameFrom
-  came c way m (inl e) h = rw (eq-eqb (c + way) 0 (e .0)) (sym (e .1))
-  came c way m (inr (inl e)) h = rw (ne-eqb (c + way) 0 (λ d. omega arith), lt-ltb w (c + way) (omega arith)) (sym (e .1))
-  came c way m (inr (inr e)) h =
-      let p : c + way - 1 ≡ m = omega arith in
-      rw (ne-eqb (c + way) 0 (λ d. omega arith), le-ltb w (c + way) (omega arith)) p
 
   -- What is picked of three is where the way leads.
   led-by : (c a b d u v y : ℕ) (turn : ℕ → ℕ) → c < w → Three (f c) (nearby wrap w c) (f c c) a b d u v y
@@ -60,69 +50,57 @@ module _ (wrap : Bool) (fence w : ℕ) (s : List ℕ) (k : CostRows) (f : ℕ �
       go (inr m) (inl n) = rw (lt-leb u (min v y) m, le-leb v y n) (q (omega (arith, of3 .own-least)))
       go (inr m) (inr n) = rw (lt-leb u (min v y) m, lt-leb v y n) (r (omega (arith, of3 .own-least)))
 
-  plain-led : (c : ℕ) → c < w → (0 < c) ⊎ (joinedAt wrap w ≡ false) → (c + 1 < w) ⊎ (joinedAt wrap w ≡ false) → Led c
-  unfolding sumOf3 wayOf3
+  -- Where no neighbour is across the join: left, here, right. A way to a fence is never the least.
+  plain-led : (c : ℕ) → c < w → HasLeft join c → HasRight join w c → Led c
+  unfolding sumOf3
   plain-led c h p q =
       led-by c (c - 1) c (c + 1) (leftSum x k c) (upSum x k c) (rightSum x k c) (λ n. n) h (plain-three wrap fence w s k f row c h p q)
-      (no-first p (eqb c 0) refl)
-      refl
-      (λ l. came c 0 (c - 1) (inr (inr (to-left p l, omega arith))) (omega arith))
-      (λ l. came c 1 c (inr (inr (refl, h))) (omega arith))
-      (λ l. came c 2 (c + 1) (inr (inr (omega arith, to-right q l))) (omega arith))
+      (way-plain join w x k c p q) refl
+      (λ l. came-to w c 0 (c - 1) (to-left p l) (omega arith))
+      (λ l. came-to w c 1 c refl h)
+      (λ l. came-to w c 2 (c + 1) (omega arith) (to-right q l))
     where
-      to-left : (0 < c) ⊎ (joinedAt wrap w ≡ false) → leftSum x k c ≤ f c c → c + 0 ≡ c - 1 + 1
+      to-left : HasLeft join c → leftSum x k c ≤ f c c → c + 0 ≡ c - 1 + 1
       to-left (inl l) m = omega arith
       to-left (inr j) m = ⊎-elim (λ (e : c ≤ 0). absurd (omega (arith, left-fence wrap fence w s k f row c h (omega arith) j))) (λ (l : 0 < c). omega arith) (le-or-lt c 0)
 
-      to-right : (c + 1 < w) ⊎ (joinedAt wrap w ≡ false) → rightSum x k c ≤ f c c → c + 1 < w
+      to-right : HasRight join w c → rightSum x k c ≤ f c c → c + 1 < w
       to-right (inl l) m = l
       to-right (inr j) m = ⊎-elim (λ (e : w ≤ c + 1). absurd (omega (arith, right-fence wrap fence w s k f row c h (omega arith) j))) (λ l. l) (le-or-lt w (c + 1))
 
-      no-last : (c + 1 < w) ⊎ (joinedAt wrap w ≡ false) → (e : Bool) → eqb (c + 1) w ≡ e
-          → cond (joinedAt wrap w && eqb (c + 1) w) (pick3 2 0 1 (firstOf3 (rightSum x k c) (leftSum x k c) (upSum x k c))) (firstOf3 (leftSum x k c) (upSum x k c) (rightSum x k c))
-          ≡ firstOf3 (leftSum x k c) (upSum x k c) (rightSum x k c)
-      no-last (inl l) e d = rw (ne-eqb (c + 1) w (λ n. omega arith), and-false (joinedAt wrap w))
-      no-last (inr j) e d = rw j
-
-      no-first : (0 < c) ⊎ (joinedAt wrap w ≡ false) → (e : Bool) → eqb c 0 ≡ e
-          → cond (joinedAt wrap w && eqb c 0) (pick3 1 2 0 (firstOf3 (upSum x k c) (rightSum x k c) (leftSum x k c)))
-          (cond (joinedAt wrap w && eqb (c + 1) w) (pick3 2 0 1 (firstOf3 (rightSum x k c) (leftSum x k c) (upSum x k c))) (firstOf3 (leftSum x k c) (upSum x k c) (rightSum x k c)))
-          ≡ firstOf3 (leftSum x k c) (upSum x k c) (rightSum x k c)
-      no-first (inl l) e d = rw (ne-eqb c 0 (λ n. omega arith), and-false (joinedAt wrap w)) (no-last q (eqb (c + 1) w) refl)
-      no-first (inr j) e d = rw j
-
-  first-led : joinedAt wrap w ≡ true → Led 0
+  -- At the first column of a joined row: here, right, and the last.
+  first-led : join ≡ true → Led 0
   unfolding sumOf3 wayOf3
   first-led j =
-      led-by 0 0 1 (w - 1) (upSum x k 0) (rightSum x k 0) (leftSum x k 0) (pick3 1 2 0) (omega (arith, many j)) (first-three wrap fence w s k f row j)
+      let l = many j in
+      led-by 0 0 1 (w - 1) (upSum x k 0) (rightSum x k 0) (leftSum x k 0) (pick3 1 2 0) (omega arith) (first-three wrap fence w s k f row j)
       (rw j) (omega arith)
-      (λ l. came 0 1 0 (inr (inr (refl, omega (arith, many j)))) (omega (arith, many j)))
-      (λ l. came 0 2 1 (inr (inr (refl, omega (arith, many j)))) (omega (arith, many j)))
-      (λ l. came 0 0 (w - 1) (inl (refl, refl)) (omega (arith, many j)))
+      (λ m. came-to w 0 1 0 refl (omega arith))
+      (λ m. came-to w 0 2 1 refl (omega arith))
+      (λ m. came-last w 0 0 refl)
 
-  last-led : joinedAt wrap w ≡ true → (c : ℕ) → c + 1 ≡ w → Led c
+  -- At its last column: the first, left, and here.
+  last-led : join ≡ true → (c : ℕ) → c + 1 ≡ w → Led c
   unfolding sumOf3 wayOf3
   last-led j c e =
+      let l = many j in
       led-by c 0 (c - 1) c (rightSum x k c) (leftSum x k c) (upSum x k c) (pick3 2 0 1) (omega arith) (last-three wrap fence w s k f row j c e)
-      (rw (j, ne-eqb c 0 (λ n. omega (arith, many j)), eq-eqb (c + 1) w e)) (omega arith)
-      (λ l. came c 2 0 (inr (inl (omega arith, refl))) (omega arith))
-      (λ l. came c 0 (c - 1) (inr (inr (omega (arith, many j), omega arith))) (omega arith))
-      (λ l. came c 1 c (inr (inr (refl, omega arith))) (omega arith))
+      (rw (j, ne-eqb c 0 (λ n. omega arith), eq-eqb (c + 1) w e)) (omega arith)
+      (λ m. came-first w c 2 (omega arith))
+      (λ m. came-to w c 0 (c - 1) (omega arith) (omega arith))
+      (λ m. came-to w c 1 c refl (omega arith))
 
-  -- At every column.
+  -- So at every column.
   led : (c : ℕ) → c < w → Led c
-  led c h = go (joinedAt wrap w) refl
+  led c h = go join refl
     where
-      go : (b : Bool) → joinedAt wrap w ≡ b → Led c
+      go : (b : Bool) → join ≡ b → Led c
       go false j = plain-led c h (inr j) (inr j)
       go true j =
           ⊎-elim
-          (λ (e : c ≤ 0). rw (zero-of e) (first-led j))
+          (λ (e : c ≤ 0). let z : c ≡ 0 = omega arith in rw z (first-led j))
           (λ (l : 0 < c). ⊎-elim (last-led j c) (λ m. plain-led c h (inl l) (inl m)) (eq-or-lt-of-le (omega arith)))
           (le-or-lt c 0)
-        where
-          zero-of : c ≤ 0 → c ≡ 0
-          zero-of e = omega arith
 
   -- The way leads to the column from which the theory comes, and the sum is the theory's.
   pub way-from : (c : ℕ) → c < w → cameFrom w c (wayOf3 (joinedAt wrap w) w (fenced (joinedAt wrap w) fence w s) k c) ≡ leastIn (nearby wrap w c) (f c) c

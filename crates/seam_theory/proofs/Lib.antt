@@ -15,6 +15,7 @@ pub mod Steps
 pub mod Rows
 pub mod Loops
 pub mod Joins
+pub mod Ways
 pub mod Fenced
 pub mod Kernel
 pub mod Bounded
@@ -24,3 +25,4 @@ pub mod Alike
 pub mod Priced
 pub mod Characterised
 pub mod Choosing
+pub mod Points

@@ -1,7 +1,5 @@
 -- `seam_find::bottom32::find_bottom` meets its contract: the rows are local arrays.
-use Prim.Native.Nat.{ℕ, _+_}
 use native.Mathlib.Omega.{arith}
-use borrow.Author.Needs.{needs}
 use Rattle.pictures.specs.Pictures.{pictureBytes}
 use Rattle.pictures.proofs.Limits.{Sized, sized-is}
 use Rattle.seam_sums.specs.Fences.{fence32}

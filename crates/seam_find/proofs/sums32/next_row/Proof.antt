@@ -1,5 +1,5 @@
 -- `seam_find::sums32::next_row` meets its contract. The loop's invariant: the sums and the ways of c columns stand at the front.
-use mathlib.Core.Path.{_≡_, refl, sym, ap, _∙_}
+use mathlib.Core.Path.{refl, sym, ap, _∙_}
 use mathlib.Core.Bool.{false}
 use Prim.Native.Nat.{_+_, _-_, min}
 use native.Mathlib.Omega.{arith}

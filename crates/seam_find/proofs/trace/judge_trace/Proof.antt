@@ -1,6 +1,5 @@
 -- `seam_find::trace::judge_trace` meets its contract: each return rewrites the tests by those that led there.
-use mathlib.Core.Path.{_≡_}
-use Prim.Native.Nat.{_-_, _*_, _≤_}
+use Prim.Native.Nat.{_-_, _≤_}
 use native.Mathlib.Nat.{mul-le-mul}
 use native.Mathlib.Omega.{arith}
 use borrow.Author.Tests.{le-leb, lt-leb, lt-ltb, le-ltb}

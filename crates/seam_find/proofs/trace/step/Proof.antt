@@ -3,7 +3,7 @@ use mathlib.Core.Path.{sym, ap, _∙_}
 use Prim.Native.Nat.{_+_, _-_}
 use native.Mathlib.Omega.{arith}
 use borrow.Author.Needs.{needs}
-use Rattle.seam_find.proofs.Loops.{came-last, came-first, came-inner}
+use Rattle.seam_theory.proofs.Ways.{came-last, came-first, came-inner}
 use Rattle.seam_find.proofs.trace.step.Statement.{statement}
 use Rattle.seam_find.proofs.trace.step.Tie as tie
 
@@ -20,7 +20,7 @@ sub-result : tie.Need-sub-result
 sub-result c = search needs
 
 returns-2 : tie.Need-returns-2
-returns-2 c = sym (came-first _ _ _ (omega arith) (omega arith))
+returns-2 c = sym (came-first _ _ _ (omega arith))
 
 sub-result-2 : tie.Need-sub-result-2
 sub-result-2 c = search needs

@@ -1,6 +1,6 @@
 -- `seam_find::trace::trace_back` meets its contract. The loop's invariant: the columns of the rows below i are stored, and c is
 -- the column of row i. The measure is i.
-use mathlib.Core.Path.{_≡_, refl, sym, _∙_}
+use mathlib.Core.Path.{refl, sym, _∙_}
 use Prim.Native.Nat.{_+_, _-_, _*_, _≤_}
 use native.Mathlib.Nat.{mul-le-mul}
 use native.Mathlib.Omega.{arith}

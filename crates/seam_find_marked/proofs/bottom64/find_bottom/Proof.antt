@@ -1,8 +1,6 @@
 -- `seam_find_marked::bottom64::find_bottom` meets its contract: the rows are local arrays.
 use mathlib.Core.Path.{sym}
-use Prim.Native.Nat.{ℕ, _+_}
 use native.Mathlib.Omega.{arith}
-use borrow.Author.Needs.{needs}
 use Rattle.pictures.specs.Pictures.{pictureBytes}
 use Rattle.pictures.proofs.Limits.{Sized, sized-is}
 use Rattle.seam_find.proofs.Fences.{fences-lent, row-lent, rows-needed}
