@@ -1,5 +1,6 @@
 -- Costs that are alike wherever a path comes from: the sums above decide, and a path's cost is a sum over its pixels.
 use mathlib.Core.Path.{_≡_, refl, ap, ap₂, _∙_}
+use mathlib.Core.Logic.{inr}
 use mathlib.Core.Bool.{false, cond}
 use mathlib.Core.List.{List, [], _∷_}
 use Prim.Native.Nat.{ℕ, suc, _+_, min}
@@ -13,6 +14,7 @@ use Rattle.seam_theory.specs.Paths.{cost, along}
 use Rattle.seam_theory.specs.PictureSeams.{pathCost}
 use Rattle.seam_theory.specs.Sums.{firstOf3, alikeRows, costRows, sumOf3, wayOf3}
 use Rattle.seam_theory.proofs.Numbers.{leb-add}
+use Rattle.seam_theory.proofs.Ways.{way-plain}
 
 -- What is added to three numbers alike doesn't change which is the least,
 first-add : (x y z n : ℕ) → firstOf3 (x + n) (y + n) (z + n) ≡ firstOf3 x y z
@@ -23,8 +25,9 @@ first-add x y z n =
 
 -- so that the way is by the sums above alone,
 pub way-alike : (w : ℕ) (x k : List ℕ) (c : ℕ) → wayOf3 false w x (alikeRows k) c ≡ firstOf3 (getD x c 0) (getD x (c + 1) 0) (getD x (c + 2) 0)
-unfolding wayOf3
-way-alike w x k c = first-add (getD x c 0) (getD x (c + 1) 0) (getD x (c + 2) 0) (getD k c 0)
+way-alike w x k c =
+    way-plain false w x (alikeRows k) c (inr refl) (inr refl)
+    ∙ first-add (getD x c 0) (getD x (c + 1) 0) (getD x (c + 2) 0) (getD k c 0)
 
 -- and the sum is the least of these and the cost.
 pub sum-alike : (x k : List ℕ) (c : ℕ) → sumOf3 x (alikeRows k) c ≡ min (getD x c 0) (min (getD x (c + 1) 0) (getD x (c + 2) 0)) + getD k c 0

@@ -40,7 +40,10 @@ module _ (wrap : Bool) (fence w : ℕ) (s : List ℕ) (k : CostRows) (f : ℕ �
   abbrev x : List ℕ
   x = fenced join fence w s
 
-  -- What stands between the sides of the row of sums, and at its right side.
+  -- What stands at the left side of the row of sums, between its sides, and at its right side.
+  first-at : (j : ℕ) → j ≡ 0 → getD x j 0 ≡ cond join (getD s (w - 1) 0) fence
+  first-at j e = ap (λ n. getD x n 0) e
+
   inner-at : (j c : ℕ) → j ≡ c + 1 → c < w → getD x j 0 ≡ getD s c 0
   inner-at j c e h = ap (λ n. getD x n 0) (e ∙ add-one c) ∙ List·getD-append s (cond join (getD s 0 0) fence ∷ []) 0 c (rw (row .wide) h)
 
@@ -65,7 +68,7 @@ module _ (wrap : Bool) (fence w : ℕ) (s : List ℕ) (k : CostRows) (f : ℕ �
     -- At a fence there is none.
     pub left-fence : c ≡ 0 → joinedAt wrap w ≡ false → f c c < leftSum x k c
     left-fence e j =
-        let d : getD x c 0 ≡ fence = ap (λ n. getD x n 0) e ∙ ap (λ b. cond b (getD s (w - 1) 0) fence) j in
+        let d : getD x c 0 ≡ fence = first-at c e ∙ ap (λ b. cond b (getD s (w - 1) 0) fence) j in
         omega (arith, row .low c h, row .through .up-is c h)
 
     pub right-fence : c + 1 ≡ w → joinedAt wrap w ≡ false → f c c < rightSum x k c
@@ -119,7 +122,7 @@ module _ (wrap : Bool) (fence w : ℕ) (s : List ℕ) (k : CostRows) (f : ℕ �
     over-left-sum c a e d =
         let m : a ≡ w - 1 = omega arith in
         ap₂ f e m ∙ row .through .over-left j
-        ∙ sym (ap (λ n. getD x n 0 + getD (k .left) n 0) e ∙ ap (λ b. cond b (getD s (w - 1) 0) fence + getD (k .left) 0 0) j)
+        ∙ sym (ap₂ _+_ (first-at c e ∙ ap (λ b. cond b (getD s (w - 1) 0) fence) j) (ap (λ n. getD (k .left) n 0) e))
 
     over-right-sum : (c a : ℕ) → c + 1 ≡ w → a ≡ 0 → f c a ≡ rightSum x k c
     over-right-sum c a e d =
