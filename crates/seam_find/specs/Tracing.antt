@@ -7,8 +7,8 @@ use lib.ListN.{length, drop}
 use Rattle.pictures.specs.Pictures.{largestSide}
 use Rattle.seam_theory.specs.Sums.{columnsTo}
 
--- Whether there is a path to column `column` of the last of `height` rows: at least one row, sides within the limit, a column of the last row, a way for each column of
--- every row but the first, and a space as long as the path.
+-- Whether a path can be traced back from a column of the last row: at least one row, sides within the limit, a column of that
+-- row, a way for each column of every row but the first, and a space as long as the path.
 unfoldable pub traceable : ℕ → ℕ → ℕ → ℕ → ℕ → Bool
 traceable ways w height column seam =
     leb 1 height && (leb height largestSide && (leb w largestSide && (ltb column w && (leb height seam && eqb ways ((height - 1) * w)))))
