@@ -44,7 +44,7 @@ returns-2 c =
     let at-size = at-row .before .before .before in
     let at-size-named = at-size .before .before in
     rw (sym (at-size-named .size-named .ensures) ∙ at-size .size .given .1, c .refused2 .ensures)
-    (refused-row-at (at-row .row-at .ensures) (at-given .given .ensures) (c .before .if1 .taken))
+    (refused-row-at {z = at-size .size .given .0 .0} (at-row .row-at .ensures) (at-given .given .ensures) (c .before .if1 .taken))
 
 pixels-at-requires : tie.Need-pixels-at-requires
 pixels-at-requires c κs = search needs
@@ -74,7 +74,7 @@ returns-3 c =
     let at-size = at-row .before .before .before in
     let at-size-named = at-size .before .before in
     rw (sym (at-size-named .size-named .ensures) ∙ at-size .size .given .1, c .before .pixels-at .ensures, c .channels .ensures)
-    (served-row-at (at-row .row-at .ensures) (sym (at-given .given .ensures) ∙ at-if1 .if1 .left))
+    (served-row-at {z = at-size .size .given .0 .0} (at-row .row-at .ensures) (sym (at-given .given .ensures) ∙ at-if1 .if1 .left))
 
 pub multisize-row-at-spec : {M : Type 1} → statement M
 multisize-row-at-spec =
