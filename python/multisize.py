@@ -346,9 +346,8 @@ class _Space:
 
     @classmethod
     def of(cls, data, element=ctypes.c_uint8):
-        data = bytes(data)
         space = cls(element, len(data) // ctypes.sizeof(element))
-        ctypes.memmove(space.elements, data, len(data))
+        ctypes.memmove(space.elements, bytes(data), len(data))
         return space
 
     def front(self, length):
@@ -410,7 +409,7 @@ def _row_at(contents, row, width):
     picture = contents.picture
     bytes_each = 3 if picture.kind == "rgb" else 1
     samples = picture.samples[row * picture.width * bytes_each : (row + 1) * picture.width * bytes_each]
-    numbers = array.array("H", contents.map[row * picture.width : (row + 1) * picture.width])
+    numbers = array.array("H", contents.map[row * picture.width : (row + 1) * picture.width]).tobytes()
     # No pixel is shown more than twice.
     out = _Space(ctypes.c_uint8, 2 * len(samples))
     lent = (*_Space.of(samples).lent, _number(picture.kind, _KINDS), *_Space.of(numbers, ctypes.c_uint16).lent)
