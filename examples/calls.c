@@ -89,6 +89,19 @@ static void files(void) {
     NEED(bytes_are(out, 10, 10, 25, 40) && bytes_are(out + 4, 10, 50, 45, 40));
 }
 
+static void row_at_widths(void) {
+    static const uint16_t numbers[WIDTH] = {0, 2, 1};
+    multisize_answer a = multisize_row_at(brought + WIDTH, WIDTH, MULTISIZE_GREY, numbers, WIDTH, 4, out, 4);
+    NEED(a.number == 0 && a.value == 4 && bytes_are(out, 10, 50, 45, 40));
+    a = multisize_row_at(brought + WIDTH, WIDTH, MULTISIZE_GREY, numbers, WIDTH, 1, out, 1);
+    NEED(a.number == 0 && a.value == 1 && bytes_are(out, 10, 50, 45, 40));
+    a = multisize_row_at(brought, WIDTH, MULTISIZE_RGB, numbers, 1, (size_t)-1, out, WIDTH);
+    NEED(a.number == 0 && a.value == WIDTH && !memcmp(out, brought, WIDTH));
+    NEED(multisize_row_at(brought, WIDTH, 2, numbers, WIDTH, 4, out, 4).number == MULTISIZE_REFUSED_FORM);
+    NEED(multisize_row_at(brought, 2, MULTISIZE_GREY, numbers, WIDTH, 4, out, 4).number == MULTISIZE_REFUSED_LENGTH);
+    NEED(multisize_row_at(brought, WIDTH, MULTISIZE_GREY, numbers, WIDTH, 4, out, 3).number == MULTISIZE_REFUSED_SPACE);
+}
+
 // The longest file of a kind: the largest size, all samples 255, the greatest range. It is as long as the header says, but
 // for the numbers of the map with fewer than three digits, 10 of one and 90 of two in each row, and for the word of rgb,
 // which is a letter shorter.
@@ -105,7 +118,7 @@ static void longest(uint8_t kind) {
 }
 
 int main(void) {
-    rows(), seams(), marked(), retargets(), files();
+    rows(), seams(), marked(), retargets(), files(), row_at_widths();
     longest(MULTISIZE_GREY), longest(MULTISIZE_RGB);
     NEED(multisize_work_bytes((size_t)-1, 9) == 0 && multisize_shown_bytes(769, 9, MULTISIZE_GREY) == 0);
     puts("every function answers as multisize.h says");

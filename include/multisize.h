@@ -124,6 +124,15 @@ multisize_file_answer multisize_read(const uint8_t *file, size_t file_length, ui
 multisize_size_answer multisize_show(const uint8_t *file, size_t file_length, size_t wanted, uint8_t *out,
                                      size_t out_length, uint8_t *work, size_t work_length);
 
+// Shows a row of a picture at the wanted width by its row of the map: writes it to the front of out and returns the number
+// of its bytes. With the rows that multisize_read gives and a width that the file offers, these are the rows of what
+// multisize_show writes, each multisize_shown_bytes(wanted, 1, kind) long, without another check. Any row is served, of as
+// many pixels as there are numbers, and at any width: narrower by t it is left without the pixels numbered 1 to t, wider by
+// u those numbered 1 to u are doubled. Twice the row's bytes are always enough for out.
+// Refused by 1, 4 (samples and numbers don't agree), 8 (out shorter than what is shown).
+multisize_answer multisize_row_at(const uint8_t *samples, size_t samples_length, uint8_t kind, const uint16_t *numbers,
+                                  size_t numbers_length, size_t wanted, uint8_t *out, size_t out_length);
+
 #ifdef __cplusplus
 }
 #endif

@@ -130,6 +130,18 @@ class Contents(NamedTuple):
     map: array.array
     head: Head
 
+    def show(self, width: int) -> Picture:
+        """The picture at a width. What `read` gives was checked, so this is what `show` gives of the file, without another
+        check.
+
+        Refused by 7 where the width isn't offered. Where picture or map was changed since, also by 4 where a row isn't shown at
+        that width.
+        """
+        if _size(width) not in self.head.widths:
+            raise Refused(7)
+        rows = (_row_at(self, row, width) for row in range(self.picture.height))
+        return Picture(width, self.picture.height, self.picture.kind, b"".join(rows))
+
 
 def energies(picture: Picture, row: int) -> tuple:
     """The energies of a row: |right neighbour - it| + |lower neighbour - it|, the channels added.
@@ -333,8 +345,8 @@ class _Space:
         self.lent = (self.elements, length)
 
     @classmethod
-    def of(cls, data):
-        space = cls(ctypes.c_uint8, len(data))
+    def of(cls, data, element=ctypes.c_uint8):
+        space = cls(element, len(data) // ctypes.sizeof(element))
         ctypes.memmove(space.elements, bytes(data), len(data))
         return space
 
@@ -390,6 +402,22 @@ def _most_shown(file):
 def _front(space, width, height, kind):
     """The picture at the front of a space."""
     return Picture(width, height, kind, space.bytes(width * height * (3 if kind == "rgb" else 1)))
+
+
+def _row_at(contents, row, width):
+    """A row of what was read, at a width."""
+    picture = contents.picture
+    bytes_each = 3 if picture.kind == "rgb" else 1
+    samples = picture.samples[row * picture.width * bytes_each : (row + 1) * picture.width * bytes_each]
+    numbers = array.array("H", contents.map[row * picture.width : (row + 1) * picture.width]).tobytes()
+    # No pixel is shown more than twice.
+    out = _Space(ctypes.c_uint8, 2 * len(samples))
+    lent = (*_Space.of(samples).lent, _number(picture.kind, _KINDS), *_Space.of(numbers, ctypes.c_uint16).lent)
+    answer = _library.multisize_row_at(*lent, width, *out.lent)
+    _judge(answer.number)
+    if answer.value != width * bytes_each:
+        raise Refused(4)
+    return out.bytes(answer.value)
 
 
 # Numbers passed and given
@@ -448,6 +476,7 @@ _DECLARED = {
     "check": (_FileAnswer, *_BYTES, *_BYTES),
     "read": (_FileAnswer, *_BYTES, *_BYTES, *_SHORTS, *_BYTES),
     "show": (_SizeAnswer, *_BYTES, ctypes.c_size_t, *_BYTES, *_BYTES),
+    "row_at": (_Answer, *_BYTES, ctypes.c_uint8, *_SHORTS, ctypes.c_size_t, *_BYTES),
 }
 
 _FILE_NAME = "libmultisize.so.0"

@@ -91,6 +91,13 @@ class Worked(unittest.TestCase):
         self.assertEqual(shown[3], [10, 10, 40, 10, 50, 40])
         self.assertEqual(shown[4], [10, 10, 25, 40, 10, 50, 45, 40])
 
+    def test_what_was_read_is_shown_without_another_check(self):
+        for picture in (WORKED, noise(7, 4, "rgb"), noise(1, 3, "rgb"), noise(2, 5, "grey"), noise(40, 3, "grey")):
+            file = multisize.build(picture)
+            contents = multisize.read(file)
+            for width in contents.head.widths:
+                self.assertEqual(contents.show(width), multisize.show(file, width))
+
     def test_ranges(self):
         self.assertIn(b"(range 1 1)", multisize.build(WORKED, depth=1))
         self.assertIn(b"(range 2 0)", multisize.build(WORKED, growth=0))
@@ -145,6 +152,16 @@ class Refusals(unittest.TestCase):
         self.refused(11, multisize.show, FILE.replace(b"2 0 1", b"1 0 2").replace(b"0 2 1", b"1 2 0"), 3)
         self.refused(12, multisize.cut, WORKED, marks=bytes([1] * 6))
         self.refused(13, multisize.cut, Picture(1, 2, "grey", b"\1\2"))
+
+    def test_what_was_read_and_changed(self):
+        contents = multisize.read(FILE)
+        for width in (0, 5, 2**64 - 1):
+            self.refused(7, contents.show, width)
+        self.refused(1, contents._replace(picture=WORKED._replace(kind="gray")).show, 2)
+        self.refused(4, contents._replace(picture=WORKED._replace(samples=bytes(5))).show, 2)
+        self.refused(4, contents._replace(map=contents.map[:5]).show, 2)
+        self.refused(4, contents._replace(map=[0] * 6).show, 2)
+        self.refused(4, contents._replace(map=[1] * 6).show, 4)
 
     def test_numbers_that_are_no_counts(self):
         for width in (-1, 2**64 + 3):

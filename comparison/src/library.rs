@@ -9,7 +9,7 @@ mod files;
 mod removal;
 mod retarget;
 
-pub use files::{build, check, read, show, FileAnswer, SizeAnswer};
+pub use files::{build, check, read, row_at, show, FileAnswer, SizeAnswer};
 pub use removal::{remove, Ended};
 pub use retarget::retarget;
 

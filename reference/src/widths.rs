@@ -1,6 +1,28 @@
 //! The picture that a map defines at each offered width.
 
-use crate::grid::{Grid, Pixel};
+use crate::grid::{bytes_of, give_out, pixel, Grid, Pixel};
+use crate::picture::Kind;
+use crate::refusal::{ensure, Refusal, COUNT, SPACE};
+
+/// Gives a row of a picture at a width, by its row of the map, and the number
+/// of its bytes. It may be of any length, its numbers may be any, and any width
+/// may be wanted.
+pub fn row_at(
+    samples: &[u8],
+    kind: Kind,
+    numbers: &[u16],
+    wanted: usize,
+    out: &mut [u8],
+) -> Result<usize, Refusal> {
+    let channels = kind.channels();
+    ensure(samples.len() == numbers.len() * channels, COUNT)?;
+    let pixels = samples.chunks(channels).map(pixel).collect();
+    let shown = at_width(&vec![pixels], &vec![numbers.to_vec()], wanted);
+    let bytes = bytes_of(&shown, kind);
+    ensure(out.len() >= bytes.len(), SPACE)?;
+    give_out(out, &bytes);
+    Ok(bytes.len())
+}
 
 /// Whether depth and growth are allowed at a width:
 /// 0 ≤ k ≤ m−1, g ≤ k, g ≤ m/2 rounded down.
@@ -50,22 +72,23 @@ fn wider(picture: &Grid<Pixel>, map: &Grid<u16>, u: usize) -> Grid<Pixel> {
 
 /// A row at width m+u. Neighbours are taken in the original row.
 fn wider_row(pixels: &[Pixel], numbers: &[u16], u: usize) -> Vec<Pixel> {
-    let last = pixels.len() - 1;
     let mut row = Vec::new();
     for column in 0..pixels.len() {
         let number = usize::from(numbers[column]);
         let has_new_pixel = 1 <= number && number <= u;
         if !has_new_pixel {
             row.push(pixels[column]);
-        } else if column < last {
+        } else if column + 1 < pixels.len() {
             // Directly to the right, with the right neighbour.
             row.push(pixels[column]);
             row.push(average(pixels[column], pixels[column + 1]));
         } else {
             // In the last column directly to the left, with the left
             // neighbour. A new pixel of the column before is already there
-            // and so stands ahead of it.
-            row.push(average(pixels[column], pixels[column - 1]));
+            // and so stands ahead of it. A row of one pixel has no other
+            // neighbour than the pixel itself.
+            let left = column.saturating_sub(1);
+            row.push(average(pixels[column], pixels[left]));
             row.push(pixels[column]);
         }
     }

@@ -132,6 +132,17 @@ extern "C" {
         work: *mut u8,
         work_len: usize,
     ) -> SizeAnswer;
+
+    fn multisize_row_at(
+        samples: *const u8,
+        samples_len: usize,
+        kind: u8,
+        numbers: *const u16,
+        numbers_len: usize,
+        wanted: usize,
+        out: *mut u8,
+        out_len: usize,
+    ) -> Answer;
 }
 
 /// The picture's file at the front of `out`; the value is its length.
@@ -198,6 +209,29 @@ pub fn show(file: &mut [u8], wanted: usize, out: &mut [u8], work: &mut [u8]) -> 
     }
 }
 
+/// A row at the wanted width at the front of `out`; the value is its length.
+pub fn row_at(
+    samples: &mut [u8],
+    kind: u8,
+    numbers: &mut [u16],
+    wanted: usize,
+    out: &mut [u8],
+) -> Answer {
+    // Each pointer comes with the length of its slice; the slices don't overlap.
+    unsafe {
+        multisize_row_at(
+            samples.as_mut_ptr(),
+            samples.len(),
+            kind,
+            numbers.as_mut_ptr(),
+            numbers.len(),
+            wanted,
+            out.as_mut_ptr(),
+            out.len(),
+        )
+    }
+}
+
 #[cfg(test)]
 mod tests {
     use super::*;
@@ -250,5 +284,16 @@ mod tests {
         assert_eq!(out, [10, 10, 25, 40, 10, 50, 45, 40, 9]);
         let answer = show(&mut file, 5, &mut out, &mut work);
         assert_eq!(answer, SizeAnswer::refused(7));
+    }
+
+    #[test]
+    fn worked_row_shown() {
+        let (mut samples, mut numbers, mut out) = ([10, 50, 40], [0, 2, 1], [9; 4]);
+        let mut call = |kind, wanted| row_at(&mut samples, kind, &mut numbers, wanted, &mut out);
+        assert_eq!(call(0, 4), Answer::served(4));
+        assert_eq!(call(1, 4), Answer::refused(4));
+        assert_eq!(call(2, 4), Answer::refused(1));
+        assert_eq!(call(0, 6), Answer::refused(8));
+        assert_eq!(out, [10, 50, 45, 40]);
     }
 }

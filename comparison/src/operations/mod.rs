@@ -20,6 +20,7 @@ mod read;
 mod remove;
 mod retarget;
 mod row;
+mod row_at;
 mod seams;
 mod show;
 mod sides;
@@ -42,7 +43,7 @@ fn work_bytes(size: Size) -> usize {
     32 * size.width * size.height
 }
 
-pub const OPERATIONS: [Operation; 22] = [
+pub const OPERATIONS: [Operation; 23] = [
     Operation {
         name: "row",
         compare: row::compare,
@@ -90,6 +91,10 @@ pub const OPERATIONS: [Operation; 22] = [
     Operation {
         name: "show",
         compare: show::compare,
+    },
+    Operation {
+        name: "row_at",
+        compare: row_at::compare,
     },
     Operation {
         name: "find, every path",
@@ -168,6 +173,7 @@ mod tests {
             ROUND..9 * ROUND,
             &[0, 1, 2, 3, 4, 6, 7, 8, 9, 10, 11],
         ),
+        ("row_at", 0..4 * ROUND, &[0, 1, 4, 8]),
         ("find, every path", 0..200, &[0]),
         ("cut, every path", 0..200, &[0, 13]),
         ("find_marked, every path", 0..200, &[0, 12]),

@@ -1,16 +1,27 @@
 -- What hosts see of a file, from what the operations on files promise.
-use mathlib.Core.Path.{_≡_, refl, ap, _∙_}
+use mathlib.Core.Path.{_≡_, refl, sym, ap, _∙_}
 use mathlib.Core.Option.{Option, none, some}
 use mathlib.Core.List.{List}
-use Prim.Native.Nat.{ℕ}
+use Prim.Native.Nat.{ℕ, _*_, _≤_, _<_}
+use native.Mathlib.Omega.{arith}
+use lib.ListN.{length}
+use Rattle.pictures.specs.declared.sizes.Kind.{Kind}
 use Rattle.pictures.specs.declared.sizes.Size.{Size}
+use Rattle.pictures.specs.declared.refusals.Verdict.{Verdict}
+use Rattle.pictures.specs.Refusals.{given}
+use Rattle.pictures.specs.Pictures.{channelsOf}
+use Rattle.pictures.proofs.Rules.{served-not}
+use Rattle.map_show.specs.Showing.{rowShown, pixelsAt, RowShown}
+use Rattle.map_show.proofs.Judging.{length-served, room-served}
 use Rattle.text_theory.specs.declared.Head.{Head}
 use Rattle.file_rules.specs.declared.answers.Checked.{Checked}
 use Rattle.file_rules.specs.declared.answers.Shown.{Shown}
 use Rattle.file_rules.specs.Answers.{checkedNumber, checkedHead, shownNumber, shownSize}
 use Rattle.file_read.specs.Reading.{CheckGiven, ReadGiven, ShowGiven}
+use Rattle.export_answers.specs.declared.names.Sizing.the-variants.{Of}
+use Rattle.export_answers.specs.Answers.{refusedBy}
 use Rattle.export_answers.specs.Files.{headed, framed, headOf, sizeOf}
-use Rattle.exports.specs.Files.{HostChecked, HostRead, HostShown}
+use Rattle.exports.specs.Files.{HostChecked, HostRead, HostShown, HostRowShown}
 
 -- the number that stands in an answer
 headed-number : (n : ℕ) (h : Option Head) → headed n h .number ≡ n
@@ -50,3 +61,25 @@ shown-host {s = s} g =
       out-given = rw n (g .out-given);
       work-left = rw n (g .work-left);
     }
+
+-- A row at a width: there is room for it where nothing is refused; what is answered where something is, and where nothing is.
+pub row-at-room : {k : Kind} {samples numbers out out′ : List ℕ} {wanted : ℕ} {v : Verdict} → RowShown k samples numbers wanted out v out′ → given v ≡ 0 → pixelsAt numbers wanted * channelsOf k ≤ length out
+row-at-room {k} {samples} {numbers} {out} {wanted = wanted} g e = room-served k samples numbers wanted (length out) (sym (g .number-is) ∙ e)
+
+module _ {z : Size} {samples numbers out out′ : List ℕ} {wanted : ℕ} {v : Verdict} (g : RowShown (z .kind) samples numbers wanted out v out′) where
+  pub refused-row-at : {n : ℕ} → n ≡ given v → (n ≡ 0 → ⊥) → HostRowShown samples (Of z) numbers wanted out (refusedBy n) out′
+  refused-row-at {n} e h =
+      let some : 0 < n = omega (arith, h) in
+      record {
+        answer = e ∙ g .number-is;
+        value = sym (served-not n (length (rowShown (z .kind) samples numbers wanted)) 0 some);
+        out-given = rw e (g .out-is);
+      }
+
+  pub served-row-at : given v ≡ 0 → HostRowShown samples (Of z) numbers wanted out (record { number = 0; value = pixelsAt numbers wanted * channelsOf (z .kind) }) out′
+  served-row-at e =
+      record {
+        answer = sym e ∙ g .number-is;
+        value = sym (length-served (z .kind) samples numbers wanted (length out) (sym (g .number-is) ∙ e));
+        out-given = rw e at (g .out-is);
+      }

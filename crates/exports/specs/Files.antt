@@ -7,6 +7,7 @@ use lib.ListN.{length, drop, replicate}
 use Rattle.grids.specs.Rows.{flat}
 use Rattle.pictures.specs.Refusals.{refusal, served, worked}
 use Rattle.pictures.specs.Pictures.{picture, bytes}
+use Rattle.map_show.specs.Showing.{rowShown, rowAtRules}
 use Rattle.text_theory.specs.Files.{parse}
 use Rattle.file_theory.specs.Contents.{fileOf}
 use Rattle.file_theory.specs.Rules.{checkRules, readRules, showRules, buildRules}
@@ -56,3 +57,14 @@ pub record HostShown (file : List ℕ) (wanted : ℕ) (out work : List ℕ) (a :
       (drawnBytes (shows file wanted) ++ drop (length (drawnBytes (shows file wanted))) out)
       out
   pub work-left : work′ ≡ worked (a .number) (replicate (length work) 0) work
+
+-- A row at a width, of a kind that is named: the number of its bytes, and the row at the front of the output space.
+pub record HostRowShown (samples : List ℕ) (s : Sizing) (numbers : List ℕ) (wanted : ℕ) (out : List ℕ) (a : Answer) (out′ : List ℕ) : Type 0 where
+  pub answer : a .number ≡ known s (λ z. refusal (rowAtRules (z .kind) samples numbers wanted (length out))) 1
+  pub value : a .value ≡ known s (λ z. served (a .number) (length (rowShown (z .kind) samples numbers wanted)) 0) 0
+  pub out-given :
+      out′ ≡ known s
+      (λ z. served (a .number)
+      (rowShown (z .kind) samples numbers wanted ++ drop (length (rowShown (z .kind) samples numbers wanted)) out)
+      out)
+      out

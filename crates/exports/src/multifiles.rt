@@ -9,8 +9,9 @@ use export_answers::length_reply;
 use export_answers::refused;
 use export_answers::size_named;
 use export_answers::size_reply;
+ghost use lib.ListN.{length};
 ghost use Rattle.export_answers.specs.Named.{sizingOf};
-ghost use Rattle.exports.specs.Files.{HostBuilt, HostChecked, HostRead, HostShown};
+ghost use Rattle.exports.specs.Files.{HostBuilt, HostChecked, HostRead, HostShown, HostRowShown};
 
 // The file of a picture, put into the front of out; the value is its length.
 #[no_mangle]
@@ -65,4 +66,31 @@ pub extern "C" fn multisize_show(
     ensures { λ a. ⌜ HostShown (now (file .entry)) wanted (now (out .entry)) (now (work .entry)) a (now (out .exit)) (now (work .exit)) ⌝ }
 {
     size_reply(file_read::show(file, wanted, out, work))
+}
+
+// A row of samples and its row of the map, shown at the wanted width and put into the front of out; the value is how many
+// bytes are shown. The row is a picture of one row, as wide as there are numbers.
+#[no_mangle]
+pub extern "C" fn multisize_row_at(
+    samples: &[u8],
+    kind: u8,
+    numbers: &[u16],
+    wanted: usize,
+    out: &mut [u8],
+) -> Answer
+    ensures { λ a. ⌜ HostRowShown (now (samples .entry)) (sizingOf (length (now (numbers .entry))) 1 kind) (now (numbers .entry)) wanted (now (out .entry)) a (now (out .exit)) ⌝ }
+{
+    let Sizing::Of(size) = size_named(numbers.len(), 1, kind) else {
+        return refused(1);
+    };
+    let named = size.kind;
+    let number = pictures::given(map_show::row_at(named, samples, numbers, wanted, out));
+    if number != 0 {
+        return refused(number);
+    }
+    let shown = map_show::pixels_at(numbers, wanted) * pictures::channels(named);
+    Answer {
+        number: 0,
+        value: shown as u64,
+    }
 }

@@ -12,3 +12,4 @@ pub mod Offered
 pub mod Drawing
 pub mod DrawTurns
 pub mod ShowAnswers
+pub mod ReadShown

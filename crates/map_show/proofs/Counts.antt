@@ -13,7 +13,7 @@ use Rattle.grids.proofs.Orders.{le-or-lt}
 use Rattle.map_theory.specs.Widths.{doubled, rowAtWidth}
 use Rattle.map_theory.specs.Judged.{tick, doubledIn}
 use Rattle.map_theory.proofs.Widths.{length-keep, length-grow, at-narrow, at-wide}
-use Rattle.map_show.specs.Inner.Rows.{pixelsAt}
+use Rattle.map_show.specs.Showing.{pixelsAt}
 
 -- The loop that counts the numbers 1 to u: what was counted and what is to come.
 module _ (u : ℕ) (ys : List ℕ) (c n all : ℕ) where

@@ -15,8 +15,8 @@ use Rattle.pictures.specs.declared.sizes.Kind.{Kind}
 use Rattle.pictures.specs.Pictures.{channelsOf}
 use Rattle.map_theory.specs.Widths.{doubled, keepRow, growFrom, growRow, rowAtWidth, average}
 use Rattle.map_theory.proofs.Widths.{at-narrow, at-wide}
-use Rattle.map_show.specs.Showing.{rowShown}
-use Rattle.map_show.specs.Inner.Rows.{pixelsAt, pixelsIn, keptPixels, grown}
+use Rattle.map_show.specs.Showing.{rowShown, pixelsAt}
+use Rattle.map_show.specs.Inner.Rows.{pixelsIn, keptPixels, grown}
 use Rattle.map_show.proofs.Samples.{length-average}
 use Rattle.map_show.proofs.Counts.{pixels-shown}
 

@@ -1,10 +1,11 @@
 // A row of a picture and its row of the map, shown at a width.
 mod pixels;
-mod rows;
+pub mod rows;
 
 use pictures::Kind;
 use pictures::Refusal;
 use pictures::Verdict;
+pub use rows::pixels_at;
 ghost use Rattle.map_show.specs.Showing.{RowShown};
 
 // A row of pixels and its row of the map, shown at the wanted width, at the front of out. The row has as many pixels as the

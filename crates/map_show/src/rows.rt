@@ -11,7 +11,8 @@ ghost use mathlib.Core.List.{_++_};
 ghost use lib.ListN.{length, drop};
 ghost use lib.Seq.{sets};
 ghost use Rattle.map_theory.specs.Judged.{doubledIn};
-ghost use Rattle.map_show.specs.Inner.Rows.{pixelsAt, keptPixels, grown, lastPixels, RowNeeded, LastNeeded};
+ghost use Rattle.map_show.specs.Showing.{pixelsAt};
+ghost use Rattle.map_show.specs.Inner.Rows.{keptPixels, grown, lastPixels, RowNeeded, LastNeeded};
 
 // A number of the map to count with.
 fn wide(number: u16) -> usize
@@ -34,7 +35,7 @@ fn doubled_in(u: usize, numbers: &[u16]) -> usize
 }
 
 // How many pixels a row with these numbers shows at the wanted width.
-pub(crate) fn pixels_at(numbers: &[u16], wanted: usize) -> usize
+pub fn pixels_at(numbers: &[u16], wanted: usize) -> usize
     ensures { λ n. ⌜ n ≡ pixelsAt (now (numbers .entry)) wanted ⌝ }
 {
     let width = numbers.len();

@@ -7,8 +7,7 @@ use crate::outputs::{print, Output};
 use crate::page;
 use crate::progress::during;
 use crate::table;
-use multisize::{Axis, Carver, Contents, Head, Picture, Range, Refusal, Size};
-use std::cmp::Reverse;
+use multisize::{Carver, Contents, Head, Picture, Range, Refusal, Size};
 use std::ffi::OsString;
 
 pub fn build(
@@ -77,42 +76,23 @@ pub fn show(file: &Input, shown: &[(usize, Output)]) -> Result<(), Failure> {
     }
 }
 
-/// Shows a file at several widths, the widest first. The file is checked once: the
-/// narrower pictures are cut, since a cut leaves what an accepted file shows at the
-/// next smaller width. Each wider one is shown by itself.
+/// Shows a file at several widths. It is checked once, and each width is shown by the
+/// map that was read with the picture.
 fn show_all(
     file: &Input,
     text: &[u8],
     shown: &[(usize, Output)],
     carver: &mut Carver,
 ) -> Result<(), Failure> {
-    let Contents {
-        mut picture, range, ..
-    } = read_text(file, text, carver)?;
-    let size = picture.size();
-    let head = Head { size, range };
+    let contents = read_text(file, text, carver)?;
+    let head = contents.head();
     let unoffered = |(width, _): &&(usize, Output)| !head.widths().contains(width);
     if let Some((width, _)) = shown.iter().find(unoffered) {
         return Err(file.unoffered(*width, Some(head)));
     }
-    let mut places: Vec<&(usize, Output)> = shown.iter().collect();
-    places.sort_by_key(|(width, _)| Reverse(*width));
-    for (width, out) in places {
-        if *width > size.width {
-            out.picture(&at_width(file, text, *width, carver)?)?;
-            continue;
-        }
-        let cut = during("cutting", || cut_to(&mut picture, *width, carver));
-        cut.map_err(|refusal| file.refused(refusal))?;
-        out.picture(&picture)?;
-    }
-    Ok(())
-}
-
-/// Cuts seams until the picture has this width.
-fn cut_to(picture: &mut Picture, width: usize, carver: &mut Carver) -> Result<(), Refusal> {
-    while picture.size().width > width {
-        carver.cut(picture, Axis::Vertical)?;
+    for (width, out) in shown {
+        let picture = contents.show(*width);
+        out.picture(&picture.map_err(|refusal| file.refused(refusal))?)?;
     }
     Ok(())
 }

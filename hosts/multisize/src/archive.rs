@@ -10,7 +10,7 @@ mod declared;
 mod files;
 mod seams;
 
-pub use files::{build, check, read, show};
+pub use files::{build, check, read, row_at, show};
 pub use seams::{cut, cut_marked, find, find_marked, remove, retarget};
 
 use crate::picture::{Kind, Size};
@@ -100,6 +100,8 @@ mod tests {
             Err(Refusal::Space)
         );
         assert_eq!(row(&PICTURE, SIZE, 0, &mut [0; 2]), Err(Refusal::Space));
+        let given = row_at(&PICTURE[..3], Kind::Grey, &[2, 0, 1], 4, &mut [0; 3]);
+        assert_eq!(given, Err(Refusal::Space));
         let vertical = Axis::Vertical;
         let given = find(&PICTURE, SIZE, vertical, &mut [0], &mut work);
         assert_eq!(given, short);

@@ -49,8 +49,8 @@ pub struct Head {
 impl Head {
     /// The widths that the file offers.
     pub fn widths(self) -> RangeInclusive<usize> {
-        let width = self.size.width;
-        width - self.range.depth..=width + self.range.growth
+        let (width, Range { depth, growth }) = (self.size.width, self.range);
+        width.saturating_sub(depth)..=width.saturating_add(growth)
     }
 }
 
@@ -63,6 +63,57 @@ pub struct Contents {
     pub map: Vec<u16>,
     /// Depth and growth.
     pub range: Range,
+}
+
+impl Contents {
+    /// What the file says of its picture.
+    pub fn head(&self) -> Head {
+        Head {
+            size: self.picture.size(),
+            range: self.range,
+        }
+    }
+
+    /// Gives the picture at a width. What [`Carver::read`] gives was checked, so this
+    /// is what [`Carver::show`] gives of the file, without another check.
+    ///
+    /// # Errors
+    ///
+    /// Refused by 7 where the width isn't offered. A map that was changed since is
+    /// refused by 4 where a row isn't shown at that width.
+    ///
+    /// ```
+    /// use multisize::{Carver, Refusal};
+    ///
+    /// let file = b"(multi\n(size 3 1 grey)\n(range 1 1)\n(row 7 8 9)\n(map 0 0 1)\n)\n";
+    /// let contents = Carver::new().read(file)?;
+    /// assert_eq!(contents.show(2)?.samples(), [7, 8]);
+    /// assert_eq!(contents.show(4)?.samples(), [7, 8, 8, 9]);
+    /// assert_eq!(contents.show(5), Err(Refusal::Wanted));
+    /// # Ok::<(), multisize::Refusal>(())
+    /// ```
+    pub fn show(&self, width: usize) -> Result<Picture, Refusal> {
+        let head = self.head();
+        if width == 0 || !head.widths().contains(&width) {
+            return Err(Refusal::Wanted);
+        }
+        let size = head.size;
+        if self.map.len() != size.pixels() {
+            return Err(Refusal::Length);
+        }
+        // No row shows a pixel more than twice.
+        let mut row = vec![0; 2 * size.row_bytes()];
+        let mut shown = Vec::new();
+        let samples = self.picture.samples().chunks(size.row_bytes());
+        for (samples, numbers) in samples.zip(self.map.chunks(size.width)) {
+            let length = archive::row_at(samples, size.kind, numbers, width, &mut row)?;
+            if length / size.kind.channels() != width {
+                return Err(Refusal::Length);
+            }
+            shown.extend_from_slice(&row[..length]);
+        }
+        Ok(Picture::front(Size { width, ..size }, shown))
+    }
 }
 
 /// No accepted file is longer, in bytes: that is what one of an rgb picture with

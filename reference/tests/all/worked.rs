@@ -65,6 +65,25 @@ fn example_widths() {
 }
 
 #[test]
+fn example_rows_at_widths() {
+    let mut out = [9; 5];
+    let mut row = |samples: &[u8], kind, numbers: &[u16], wanted| {
+        reference::row_at(samples, kind, numbers, wanted, &mut out)
+            .map(|length| out[..length].to_vec())
+    };
+    assert_eq!(
+        row(&EXAMPLE[3..], Kind::Grey, &[0, 2, 1], 4),
+        Ok(vec![10, 50, 45, 40])
+    );
+    assert_eq!(row(&EXAMPLE[3..], Kind::Grey, &[0, 2, 1], 1), Ok(vec![10]));
+    assert_eq!(row(&EXAMPLE[3..], Kind::Grey, &[1, 2, 1], 9), Err(8));
+    assert_eq!(row(&EXAMPLE[3..], Kind::Grey, &[0, 2], 2), Err(4));
+    assert_eq!(row(&EXAMPLE[..3], Kind::Rgb, &[7], 9), Err(8));
+    assert_eq!(row(&EXAMPLE[..1], Kind::Grey, &[7], 9), Ok(vec![10, 10]));
+    assert_eq!(row(&[], Kind::Rgb, &[], usize::MAX), Ok(vec![]));
+}
+
+#[test]
 fn one_pixel() {
     let mut out = [OLD_ENERGY; 1];
     assert_eq!(reference::energies(&[77], grey(1, 1), 0, &mut out), Ok(()));

@@ -5,8 +5,7 @@ use borrow.Author.Tests.{eqb-true, leb-true, leb-false, not-true, not-false}
 use denote.Ref.{now}
 use lib.ListN.{length}
 use Rattle.pictures.specs.Pictures.{channelsOf}
-use Rattle.map_show.specs.Showing.{rowShown}
-use Rattle.map_show.specs.Inner.Rows.{pixelsAt}
+use Rattle.map_show.specs.Showing.{rowShown, pixelsAt}
 use Rattle.map_show.proofs.Lengths.{narrow-is, wide-is}
 use Rattle.map_show.proofs.Judging.{refused-length, refused-space, nothing-refused, shown-room, keep-ready, grow-ready}
 use borrow.Author.Needs.{needs}

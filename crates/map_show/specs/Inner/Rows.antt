@@ -1,21 +1,14 @@
 -- A row with columns less or more. What private functions ask and promise; no public promise cites it.
 use mathlib.Core.Path.{_≡_}
-use mathlib.Core.Bool.{Bool, cond}
+use mathlib.Core.Bool.{Bool}
 use mathlib.Core.List.{List, [], _∷_}
 use Prim.Native.Nat.{ℕ, _+_, _-_, _*_, _≤_}
-use lib.Dec.{leb}
 use lib.ListN.{length}
 use Rattle.grids.specs.Rows.{rowsOf, rowAt, flat}
 use Rattle.seam_theory.specs.Paths.{consIf}
 use Rattle.pictures.specs.declared.sizes.Kind.{Kind}
 use Rattle.pictures.specs.Pictures.{channelsOf}
 use Rattle.map_theory.specs.Widths.{stays, keepRow, growRow, average}
-use Rattle.map_theory.specs.Judged.{doubledIn}
-
--- How many pixels a row with these numbers shows at width v.
-unfoldable pub pixelsAt : List ℕ → ℕ → ℕ
-pixelsAt numbers v =
-    cond (leb v (length numbers)) (length numbers - doubledIn (length numbers - v) numbers) (length numbers + doubledIn (v - length numbers) numbers)
 
 -- The pixels of a row's bytes, as many as there are numbers.
 abbrev pub pixelsIn : Kind → List ℕ → List ℕ → List (List ℕ)

@@ -186,4 +186,15 @@ extern "C" {
         work: *mut u8,
         work_len: usize,
     ) -> SizeAnswer;
+
+    pub fn multisize_row_at(
+        samples: *const u8,
+        samples_len: usize,
+        kind: u8,
+        numbers: *const u16,
+        numbers_len: usize,
+        wanted: usize,
+        out: *mut u8,
+        out_len: usize,
+    ) -> Answer;
 }

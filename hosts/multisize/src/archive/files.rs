@@ -3,7 +3,7 @@
 use super::declared::{self, FileAnswer, SizeAnswer};
 use super::{judged, kind_number, served, side};
 use crate::files::{Head, Range};
-use crate::picture::Size;
+use crate::picture::{Kind, Size};
 use crate::refusal::Refusal;
 
 fn size_of(width: u64, height: u64, kind: u64) -> Size {
@@ -103,4 +103,30 @@ pub fn show(file: &[u8], wanted: usize, out: &mut [u8], work: &mut [u8]) -> Resu
     };
     judged(answer.number)?;
     Ok(size_of(answer.width, answer.height, answer.kind))
+}
+
+/// A row of samples and its row of the map, shown at the wanted width at the
+/// front of `out`; gives how many bytes are shown.
+pub fn row_at(
+    samples: &[u8],
+    kind: Kind,
+    numbers: &[u16],
+    wanted: usize,
+    out: &mut [u8],
+) -> Result<usize, Refusal> {
+    // SAFETY: each pointer comes with the length of its slice, which stays lent
+    // until the call ends.
+    let answer = unsafe {
+        declared::multisize_row_at(
+            samples.as_ptr(),
+            samples.len(),
+            kind_number(kind),
+            numbers.as_ptr(),
+            numbers.len(),
+            wanted,
+            out.as_mut_ptr(),
+            out.len(),
+        )
+    };
+    served(answer).map(side)
 }

@@ -4,7 +4,7 @@ use native.Mathlib.Omega.{arith}
 use borrow.Author.Tests.{le-leb, lt-leb}
 use denote.Ref.{now}
 use lib.ListN.{length}
-use Rattle.map_show.specs.Inner.Rows.{pixelsAt}
+use Rattle.map_show.specs.Showing.{pixelsAt}
 use Rattle.map_show.proofs.Counts.{doubled-most}
 use borrow.Author.Needs.{needs}
 use Rattle.map_show.proofs.rows.pixels_at.Statement.{statement}

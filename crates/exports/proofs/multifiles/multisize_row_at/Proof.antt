@@ -1,0 +1,97 @@
+-- `exports::multifiles::multisize_row_at` meets its contract: a row that nothing refuses fits the space, so the number of its
+-- bytes doesn't overflow.
+use mathlib.Core.Path.{refl, sym, _∙_}
+use Prim.Native.Nat.{_*_, _≤_}
+use native.Mathlib.Omega.{arith}
+use borrow.Author.Needs.{needs}
+use denote.Ref.{now}
+use lib.ListN.{length}
+use Rattle.exports.proofs.Filed.{refused-row-at, row-at-room, served-row-at}
+use Rattle.exports.proofs.multifiles.multisize_row_at.Statement.{statement}
+use Rattle.exports.proofs.multifiles.multisize_row_at.Tie as tie
+
+size-named-requires : tie.Need-size-named-requires
+size-named-requires c κs = search needs
+
+enum-known-size : tie.Need-enum-known-size
+enum-known-size c = search needs
+
+enum-told : tie.Need-enum-told
+enum-told c = search needs
+
+refused-requires : tie.Need-refused-requires
+refused-requires c κs = search needs
+
+returns : tie.Need-returns
+returns c = rw (sym (c .before .before .before .size-named .ensures) ∙ c .before .enum-told .given .1, c .refused .ensures) (record { answer = refl; value = refl; out-given = refl })
+
+row-at-requires : tie.Need-row-at-requires
+row-at-requires c κs = search needs
+
+given-requires : tie.Need-given-requires
+given-requires c κs = search needs
+
+refused-requires-2 : tie.Need-refused-requires-2
+refused-requires-2 c κs = search needs
+
+same-length : tie.Need-same-length
+same-length c = search needs
+
+returns-2 : tie.Need-returns-2
+returns-2 c =
+    let at-given = c .before .before in
+    let at-row = at-given .before .before .before in
+    let at-size = at-row .before .before .before in
+    let at-size-named = at-size .before .before in
+    rw (sym (at-size-named .size-named .ensures) ∙ at-size .size .given .1, c .refused2 .ensures)
+    (refused-row-at {z = at-size .size .given .0 .0} (at-row .row-at .ensures) (at-given .given .ensures) (c .before .if1 .taken))
+
+pixels-at-requires : tie.Need-pixels-at-requires
+pixels-at-requires c κs = search needs
+
+channels-requires : tie.Need-channels-requires
+channels-requires c κs = search needs
+
+mul-shown : tie.Need-mul-shown
+mul-shown c =
+    let at-if1 = c .before .before in
+    let at-given = at-if1 .before in
+    let at-row = at-given .before .before .before in
+    let s = at-row .before .before .before .before .before .before .before .before .before in
+    let fits : c .before .pixels-at .result * c .channels .result ≤ length (now (s .args .out)) =
+    rw (c .before .pixels-at .ensures, c .channels .ensures)
+    (row-at-room (at-row .row-at .ensures) (sym (at-given .given .ensures) ∙ at-if1 .if1 .left)) in
+    omega (arith, fits)
+
+same-length-2 : tie.Need-same-length-2
+same-length-2 c = search needs
+
+returns-3 : tie.Need-returns-3
+returns-3 c =
+    let at-if1 = c .before .before in
+    let at-given = at-if1 .before in
+    let at-row = at-given .before .before .before in
+    let at-size = at-row .before .before .before in
+    let at-size-named = at-size .before .before in
+    rw (sym (at-size-named .size-named .ensures) ∙ at-size .size .given .1, c .before .pixels-at .ensures, c .channels .ensures)
+    (served-row-at {z = at-size .size .given .0 .0} (at-row .row-at .ensures) (sym (at-given .given .ensures) ∙ at-if1 .if1 .left))
+
+pub multisize-row-at-spec : {M : Type 1} → statement M
+multisize-row-at-spec =
+    tie.close
+    (tie.spec
+    size-named-requires
+    enum-known-size
+    enum-told
+    refused-requires
+    returns
+    row-at-requires
+    given-requires
+    refused-requires-2
+    same-length
+    returns-2
+    pixels-at-requires
+    channels-requires
+    mul-shown
+    same-length-2
+    returns-3)
