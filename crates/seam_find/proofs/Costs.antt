@@ -1,4 +1,5 @@
 -- Bounds of costs, so that no sum overflows.
+use mathlib.Core.Path.{_≡_}
 use mathlib.Core.Logic.{⊎-elim}
 use mathlib.Core.List.{List}
 use Prim.Native.Nat.{ℕ, _*_, _≤_, _<_}
@@ -8,7 +9,7 @@ use lib.ListN.{length, getD, take, length-take, List·getD-eq-default}
 use lib.Seq.{getD-take}
 use Rattle.grids.specs.Table.{table}
 use Rattle.grids.proofs.Orders.{le-or-lt}
-use Rattle.grids.proofs.Tables.{table-at, table-past}
+use Rattle.grids.proofs.Tables.{length-table, table-at, table-past}
 use Rattle.pictures.specs.declared.sizes.Size.{Size}
 use Rattle.pictures.specs.Pictures.{channelsOf, picture}
 use Rattle.energy.specs.Bounds.{mostEnergy}
@@ -46,3 +47,6 @@ table-most f n m h k =
 -- The costs of a row, of coming from straight above.
 pub cost-most : (z : Size) (b : List ℕ) → Sized z (length b) → ((i : ℕ) → getD b i 0 ≤ 255) → (i k : ℕ) → getD (costsOf z b i .up) k 0 ≤ mostEnergy
 cost-most z b s h i = table-most (energy (z .width) (z .height) (picture z b) i) (z .width) mostEnergy (λ c. pixel-most z b s h i c .up)
+
+pub costs-long : (z : Size) (b : List ℕ) (i : ℕ) → length (costsOf z b i .up) ≡ z .width
+costs-long z b i = length-table _ (z .width)

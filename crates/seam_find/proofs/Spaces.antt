@@ -6,13 +6,14 @@ use native.Mathlib.Omega.{arith}
 use native.Mathlib.Nat.{mul-le-mul, add-sub-of-le, add-sub-cancel-left}
 use borrow.Rule.Slice.PartMut.{putMid, midOf}
 use lib.ListN.{length, take, drop, replicate, length-append}
-use lib.Seq.{take-at, drop-at, drop-drop}
+use lib.Seq.{take-at, drop-at, drop-drop, length-take-le}
 use Rattle.grids.proofs.Parts.{put-part, part-length}
 use Rattle.grids.proofs.Rows.{part-end}
 use Rattle.pictures.specs.Limits.{mostSide, mostPixels, mostPicture}
 use Rattle.pictures.specs.declared.sizes.Size.{Size}
-use Rattle.pictures.specs.Pictures.{pictureBytes}
-use Rattle.pictures.proofs.Limits.{Sides}
+use Rattle.pictures.specs.Refusals.{refusal}
+use Rattle.pictures.specs.Pictures.{pictureBytes, sizeRules}
+use Rattle.pictures.proofs.Limits.{Sides, Sized, sized-is}
 
 module _ {A : Type 0} (start front part space : List A) (p n : ℕ) (is : space ≡ front ++ (part ++ drop (p + n) start)) (long : length front ≡ p) (wide : length part ≡ n) where
   pub space-front : take p space ≡ front
@@ -64,4 +65,23 @@ ends z s =
       all = s .pixels-most;
       rows = part-end (z .height - 1) (z .height) (z .width) (omega (arith, s .height-some));
       short = s .picture-most;
+    }
+
+-- The picture in the first q bytes of a space.
+pub record Front (z : Size) (q : ℕ) (space : List ℕ) : Type 0 where
+  pub short : q ≤ mostPicture
+  pub room : q ≤ length space
+  pub served : refusal (sizeRules z (length (take q space))) ≡ 0
+  pub sized : Sized z (length (take q space))
+
+pub front-is : (z : Size) (q : ℕ) (space : List ℕ) → q ≡ pictureBytes z → refusal (sizeRules z (pictureBytes z)) ≡ 0
+    → pictureBytes z ≤ length space → Front z q space
+front-is z q space e served room =
+    let long : length (take q space) ≡ pictureBytes z = length-take-le q space (omega (arith, e, room)) ∙ e in
+    let sized = sized-is z (pictureBytes z) served in
+    record {
+      short = omega (arith, e, sized .picture-most);
+      room = omega (arith, e, room);
+      served = rw long served;
+      sized = rw long sized;
     }

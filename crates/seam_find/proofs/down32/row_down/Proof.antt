@@ -1,97 +1,134 @@
--- `seam_find::down32::row_down` meets its contract.
+-- `seam_find::down32::row_down` meets its contract. The energies of row i are what its pixels cost, `next_row` works out the
+-- row's sums and its ways from them, and `copy` puts the sums between the fences.
 use mathlib.Core.Path.{_≡_, sym, ap, _∙_}
 use mathlib.Core.Bool.{false}
 use mathlib.Core.List.{List, _++_}
-use Prim.Native.Nat.{ℕ, _+_, _-_, _*_, _≤_}
-use native.Mathlib.Nat.{le-of-eq, mul-le-mul, add-sub-cancel-left}
+use Prim.Native.Nat.{ℕ, _≤_}
+use native.Mathlib.Nat.{le-of-eq}
 use native.Mathlib.Omega.{arith}
 use borrow.Author.Needs.{needs}
-use borrow.Rule.Slice.PartMut.{midOf}
 use denote.Ref.{now}
 use lib.ListN.{length, getD, take, drop}
 use lib.Seq.{length-take-le, take-at}
 use Rattle.grids.specs.Table.{table}
-use Rattle.grids.proofs.Tables.{length-table}
-use Rattle.grids.proofs.Rows.{part-end}
-use Rattle.grids.proofs.Parts.{part-length}
-use Rattle.pictures.specs.Limits.{mostSide, mostPixels, mostPicture}
+use Rattle.pictures.specs.declared.sizes.Size.{Size}
 use Rattle.pictures.specs.Pictures.{pictureBytes, picture}
-use Rattle.pictures.proofs.Limits.{Sized, sized-is}
 use Rattle.energy.proofs.Served.{energies-served}
-use Rattle.seam_theory.specs.Sums.{alikeRows, wayOf3}
+use Rattle.seam_theory.specs.Sums.{CostRows, alikeRows, wayOf3}
 use Rattle.seam_theory.proofs.Alike.{rows-alike}
 use Rattle.seam_find.specs.Inner.Down.{costsOf}
-use Rattle.seam_find.proofs.Costs.{front-most, cost-most}
-use Rattle.seam_find.proofs.Downs.{row-given}
+use Rattle.seam_find.proofs.Costs.{front-most, cost-most, costs-long}
+use Rattle.seam_find.proofs.Downs.{row-given, WaysEnd, ways-end}
+use Rattle.seam_find.proofs.Spaces.{Front, front-is}
 use Rattle.seam_find.proofs.down32.row_down.Statement.{statement}
 use Rattle.seam_find.proofs.down32.row_down.Tie as tie
 
-sure : (c : tie.Start) → Sized (c .args .size) (pictureBytes (c .args .size))
-sure c = sized-is _ _ (c .pre .sized)
+-- Where it is known that the space holds bytes, the start before it, and what was lent
+abbrev known : tie.After-slice-known4 → tie.After-slice-known
+known c = c .before .before .before
+
+abbrev entry : tie.After-slice-known4 → tie.Start
+entry c = known c .before
+
+abbrev size : tie.Start → Size
+size s = s .args .size
+
+abbrev width : tie.Start → ℕ
+width s = s .args .size .width
+
+abbrev space : tie.Start → List ℕ
+space s = now (s .args .space)
+
+-- After `energies`, and where the row of costs is back
+abbrev cost-back : tie.After-next-row-arg2 → tie.After-cost
+cost-back c = c .before .before .before
+
+abbrev at-energies : tie.After-next-row-arg2 → tie.After-energies
+at-energies c = cost-back c .before
+
+abbrev begun : tie.After-energies → tie.After-slice-known4
+begun c = c .before .before .before
+
+abbrev start : tie.After-energies → tie.Start
+start c = entry (begun c)
+
+-- After `next_row`, where the row of sums and the space are back, and where the costs were lent to it
+abbrev space-back : tie.After-copy → tie.After-space
+space-back c = c .before .before .before .before
+
+abbrev next-back : tie.After-copy → tie.After-next
+next-back c = space-back c .before .before
+
+abbrev at-next-row : tie.After-copy → tie.After-next-row
+at-next-row c = next-back c .before
+
+abbrev lent : tie.After-next-row → tie.After-next-row-arg2
+lent c = c .before .before .before
+
+-- After `copy`
+abbrev at-copy : tie.After-slice-known8 → tie.After-copy
+at-copy c = c .before .before
 
 -- row i's ways end within the space
-record Ends (c : tie.Start) : Type 0 where
-  short : c .args .bytes ≤ mostPicture
-  front : c .args .bytes ≤ length (now (c .args .space))
-  few : (c .args .i - 1) * c .args .size .width ≤ mostPixels
-  end : c .args .bytes + (c .args .i - 1) * c .args .size .width + c .args .size .width ≤ length (now (c .args .space))
-
-ends : (c : tie.Start) → Ends c
-ends c =
-    let p = c .pre in
-    let s = sure c in
-    let h : c .args .i - 1 ≤ mostSide = omega arith in
-    let l = part-end (c .args .i - 1) (c .args .size .height - 1) (c .args .size .width) (omega arith) in
-    record {
-      short = omega arith;
-      front = omega arith;
-      few = mul-le-mul h (s .width-small);
-      end = omega arith;
-    }
-
--- and have a place for each column
-ways-wide : (c : tie.Start)
-    → let a = c .args in
-    let from = a .bytes + (a .i - 1) * a .size .width in length (midOf from (from + a .size .width - from) (now (a .space))) ≡ length (now (a .next))
-ways-wide c =
-    let a = c .args in
-    let from = a .bytes + (a .i - 1) * a .size .width in
-    part-length from (from + a .size .width) (now (a .space)) (ends c .end) ∙ add-sub-cancel-left from (a .size .width) ∙ sym (c .pre .next-room)
+ways-ends : (s : tie.Start) → WaysEnd (size s) (s .args .bytes) (s .args .i) (space s) (now (s .args .next))
+ways-ends s = ways-end (s .pre) (s .args .bytes) (s .pre .bytes-are)
 
 -- the picture at the front
-front-long : (c : tie.Start) → length (take (c .args .bytes) (now (c .args .space))) ≡ pictureBytes (c .args .size)
-front-long c = length-take-le _ _ (ends c .front) ∙ c .pre .bytes-are
+abbrev front : tie.Start → List ℕ
+front s = take (s .args .bytes) (space s)
 
-front-sized : (c : tie.Start) → Sized (c .args .size) (length (take (c .args .bytes) (now (c .args .space))))
-front-sized c = rw (front-long c) (sure c)
+sure : (s : tie.Start) → Front (size s) (s .args .bytes) (space s)
+sure s = front-is (size s) (s .args .bytes) (space s) (s .pre .bytes-are) (s .pre .sized) (omega (arith, s .pre .room))
 
-byte : (c : tie.After-slice-known) (i : ℕ) → getD (now (c .before .args .space)) i 0 ≤ 255
-byte c i = omega (arith, c .slice-known .given i)
+byte : (c : tie.After-energies) (i : ℕ) → getD (front (start c)) i 0 ≤ 255
+byte c =
+    let s = start c in
+    front-most (space s) (s .args .bytes) 255 (λ i. omega (arith, known (begun c) .slice-known .given i))
 
 -- the costs of row i
-costs : (c : tie.Start) → List ℕ
-costs c = costsOf (c .args .size) (take (c .args .bytes) (now (c .args .space))) (c .args .i) .up
+abbrev costs : tie.Start → List ℕ
+costs s = costsOf (size s) (front s) (s .args .i) .up
 
-costs-long : (c : tie.Start) → length (costs c) ≡ c .args .size .width
-unfolding costs
-costs-long c = length-table _ (c .args .size .width)
+wide : (s : tie.Start) → length (costs s) ≡ width s
+wide s = costs-long (size s) (front s) (s .args .i)
 
-cost-is : (c : tie.After-energies)
-    → let s = c .before .before .before .before .before .before .before in
-    c .energies .last .1 .1 .1 .0 ≡ costs s ++ drop (s .args .size .width) (now (s .args .cost))
-unfolding costs
+-- they are at the front of what `energies` writes
+abbrev written : tie.After-energies → List ℕ
+written c = c .energies .last .1 .1 .1 .0
+
+cost-is : (c : tie.After-energies) → written c ≡ costs (start c) ++ drop (width (start c)) (now (start c .args .cost))
 cost-is c =
-    let s = c .before .before .before .before .before .before .before in
-    let a = s .args in
-    energies-served (take (a .bytes) (now (a .space))) (a .size) (a .i) (now (a .cost)) (c .energies .last .1 .1 .1 .0) (c .energies .result) (c .energies .ensures)
-    (rw (front-long s) (s .pre .sized)) (s .pre .inside) (le-of-eq (sym (s .pre .cost-room)))
+    let s = start c in
+    let e = c .energies in
+    energies-served (front s) (size s) (s .args .i) (now (s .args .cost)) (written c) (e .result) (e .ensures)
+    (sure s .served) (s .pre .inside) (le-of-eq (sym (s .pre .cost-room)))
 
-cost-front : (c : tie.After-energies)
-    → let s = c .before .before .before .before .before .before .before in
-    take (s .args .size .width) (c .energies .last .1 .1 .1 .0) ≡ costs s
+cost-front : (c : tie.After-energies) → take (width (start c)) (written c) ≡ costs (start c)
 cost-front c =
-    let s = c .before .before .before .before .before .before .before in
-    ap (take (s .args .size .width)) (cost-is c) ∙ take-at (costs s) (drop (s .args .size .width) (now (s .args .cost))) (s .args .size .width) (costs-long s)
+    let s = start c in
+    ap (take (width s)) (cost-is c) ∙ take-at (costs s) (drop (width s) (now (s .args .cost))) (width s) (wide s)
+
+-- the costs as `next_row` takes them: the same wherever a path comes from
+abbrev cost-rows : tie.After-energies → CostRows
+cost-rows c = alikeRows (take (width (start c)) (written c))
+
+cost-rows-are : (c : tie.After-energies)
+    → let s = start c in cost-rows c ≡ costsOf (size s) (take (pictureBytes (size s)) (space s)) (s .args .i)
+cost-rows-are c =
+    let s = start c in
+    ap alikeRows (cost-front c)
+    ∙ sym (rows-alike (width s) (size s .height) (picture (size s) (front s)) (s .args .i))
+    ∙ ap (λ n. costsOf (size s) (take n (space s)) (s .args .i)) (s .pre .bytes-are)
+
+-- the ways that `next_row` writes
+ways-are : (c : tie.After-next-row)
+    → let e = at-energies (lent c) in
+    let n = length (now (start e .args .next)) in
+    c .next-row .last .1 .1 .1 .0 ≡ table (wayOf3 false n (now (start e .args .above)) (cost-rows e)) n
+ways-are c =
+    let e = at-energies (lent c) in
+    let above = now (start e .args .above) in
+    c .next-row .ensures .1 ∙ ap (λ n. table (wayOf3 false n above (cost-rows e)) n) (ways-ends (start e) .wide)
 
 add-side : tie.Need-add-side
 add-side c = search needs
@@ -100,22 +137,21 @@ sub-a : tie.Need-sub-a
 sub-a c = search needs
 
 mul-a : tie.Need-mul-a
-mul-a c = let e = ends (c .before .before .before .before) in omega arith
+mul-a c = omega (arith, ways-ends (entry c) .few)
 
 add-a : tie.Need-add-a
-add-a c = let e = ends (c .before .before .before .before) in omega arith
+add-a c = omega (arith, sure (entry c) .short, ways-ends (entry c) .few)
 
 add-e : tie.Need-add-e
 add-e c =
-    let s = c .before .before .before .before in
-    let e = ends s in
-    omega (arith, sure s .width-most)
+    let s = entry c in
+    omega (arith, sure s .short, ways-ends s .few, sure s .sized .width-most)
 
 slice-reshare-prefix-energies : tie.Need-slice-reshare-prefix-energies
 slice-reshare-prefix-energies c = search needs
 
 slice-aggregate-energies : tie.Need-slice-aggregate-energies
-slice-aggregate-energies c = sym (length-take-le _ _ (ends (c .before .before .before .before .before) .front))
+slice-aggregate-energies c = sym (length-take-le _ _ (sure (entry (c .before)) .room))
 
 energies-requires : tie.Need-energies-requires
 energies-requires c κs = search needs
@@ -124,10 +160,7 @@ slice-reshare-prefix-next-row : tie.Need-slice-reshare-prefix-next-row
 slice-reshare-prefix-next-row c = search needs
 
 slice-aggregate-next-row : tie.Need-slice-aggregate-next-row
-slice-aggregate-next-row c =
-    let at-energies = c .before .before .before .before in
-    let s = at-energies .before .before .before .before .before .before .before in
-    sym (ap length (cost-front at-energies) ∙ costs-long s)
+slice-aggregate-next-row c = let e = at-energies c in sym (ap length (cost-front e) ∙ wide (start e))
 
 sub-next-row : tie.Need-sub-next-row
 sub-next-row c = search needs
@@ -136,26 +169,21 @@ part-next-row-start : tie.Need-part-next-row-start
 part-next-row-start c = search needs
 
 part-next-row-end : tie.Need-part-next-row-end
-part-next-row-end c =
-    let s = c .before .before .before .before .before .before .before .before .before .before .before .before in
-    ends s .end
+part-next-row-end c = ways-ends (start (at-energies (c .before))) .end
 
 next-row-requires : tie.Need-next-row-requires
-unfolding costs
 next-row-requires c κs =
-    let at-energies = c .before .before .before .before .before .before in
-    let at-slice-known = at-energies .before .before .before .before .before .before in
-    let s = at-slice-known .before in
+    let e = at-energies (c .before .before) in
+    let s = start e in
     let p = s .pre in
-    let a = s .args in
-    let front = cost-front at-energies in (
+    let most = cost-most (size s) (front s) (sure s .sized) (byte e) in (
       record {
         above = omega (arith, p .long, p .next-room);
-        costs = ap length front ∙ costs-long s ∙ sym (p .next-room);
+        costs = ap length (cost-front e) ∙ wide s ∙ sym (p .next-room);
         small = λ k l. p .small k (omega (arith, p .next-room));
-        cheap = λ k. rw front (omega (arith, cost-most (a .size) (take (a .bytes) (now (a .space))) (front-sized s) (front-most (now (a .space)) (a .bytes) 255 (byte at-slice-known)) (a .i) k));
+        cheap = λ k. rw (cost-front e) (omega (arith, most (s .args .i) k));
       },
-      ways-wide s,
+      ways-ends s .wide,
     )
 
 sub-copy : tie.Need-sub-copy
@@ -171,35 +199,25 @@ copy-requires : tie.Need-copy-requires
 copy-requires c κs = search needs
 
 same-length : tie.Need-same-length
-same-length c = c .before .before .before .before .before .before .space .given .1
+same-length c = space-back (at-copy c) .space .given .1
 
 same-length-2 : tie.Need-same-length-2
 same-length-2 c = c .before .above .given .1
 
 same-length-3 : tie.Need-same-length-3
-same-length-3 c = c .before .before .before .before .before .before .before .before .before .before .before .before .before .before .before .cost .given
+same-length-3 c = cost-back (lent (at-next-row (at-copy c))) .cost .given
 
 same-length-4 : tie.Need-same-length-4
-same-length-4 c = c .before .before .before .before .before .before .before .before .next .given
+same-length-4 c = next-back (at-copy c) .next .given
 
 returns : tie.Need-returns
-unfolding costs
 returns c =
-    let at-copy = c .before .before in
-    let at-next-row = at-copy .before .before .before .before .before .before .before in
-    let after = at-next-row .before .before .before .before .before .before .before in
-    let s = after .before .before .before .before .before .before .before in
-    let a = s .args in
-    let row = at-next-row .next-row in
-    let above = now (a .above) in
-    let cost = take (a .size .width) (after .energies .last .1 .1 .1 .0) in
-    row-given (pictureBytes (a .size)) (a .size) (costsOf (a .size)) (a .i) (a .bytes) (length (now (a .next))) (now (a .space)) above (row .last .1 .1 .1 .0) (alikeRows cost) (at-copy .copy .last .1 .0)
-    (s .pre .bytes-are) (ends s .end)
-    (ap alikeRows (cost-front after) ∙ sym (rows-alike (a .size .width) (a .size .height) (picture (a .size) (take (a .bytes) (now (a .space)))) (a .i))
-    ∙ ap (λ b. costsOf (a .size) (take b (now (a .space))) (a .i)) (s .pre .bytes-are))
-    (s .pre .next-room)
-    (row .ensures .1 ∙ ap (λ n. table (wayOf3 false n above (alikeRows cost)) n) (ways-wide s))
-    (at-copy .copy .ensures ∙ row .ensures .0)
+    let r = at-next-row (at-copy c) in
+    let e = at-energies (lent r) in
+    let s = start e in
+    row-given _ (size s) (costsOf (size s)) (s .args .i) (s .args .bytes) _ (space s) _ _ (cost-rows e) _
+    (s .pre .bytes-are) (ways-ends s .end) (cost-rows-are e) (s .pre .next-room) (ways-are r)
+    (at-copy c .copy .ensures ∙ r .next-row .ensures .0)
 
 pub row-down-spec : {M : Type 1} → statement M
 row-down-spec =

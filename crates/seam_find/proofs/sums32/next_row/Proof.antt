@@ -1,4 +1,5 @@
--- `seam_find::sums32::next_row` meets its contract. The loop's invariant: the sums and the ways of c columns stand at the front.
+-- `seam_find::sums32::next_row` meets its contract. The loop's invariant: the sums and the ways of the first c columns are
+-- stored. The measure is the number of columns left.
 use mathlib.Core.Path.{refl, sym, ap, _∙_}
 use mathlib.Core.Bool.{false}
 use Prim.Native.Nat.{_+_, _-_, min}
@@ -13,10 +14,19 @@ use Rattle.seam_find.proofs.sums32.next_row.Statement.{statement}
 use Rattle.seam_find.proofs.sums32.next_row.Tie as tie
 
 abbrev Inv-loop : tie.InvT-loop
-Inv-loop above cost next₀ ways₀ c₀ c-end next ways c = Stored (sumOf3 above (alikeRows cost)) next₀ c-end c next × Stored (wayOf3 false (length ways₀) above (alikeRows cost)) ways₀ c-end c ways
+Inv-loop above cost next₀ ways₀ c₀ c-end next ways c =
+    Stored (sumOf3 above (alikeRows cost)) next₀ c-end c next
+    × Stored (wayOf3 false (length ways₀) above (alikeRows cost)) ways₀ c-end c ways
 
 abbrev μ-loop : tie.MeasureT-loop
 μ-loop above cost next₀ ways₀ c₀ c-end next ways c = c-end - c
+
+-- The start, from the loop's head; and a turn, from its first call
+abbrev start : tie.At-loop Inv-loop μ-loop → tie.Start Inv-loop μ-loop
+start c = c .before .before .before .before .before
+
+abbrev turn : tie.After-lesser Inv-loop μ-loop → tie.In-loop Inv-loop μ-loop
+turn c = c .before .before .before .before
 
 loop-holds : tie.Need-loop-holds Inv-loop μ-loop
 loop-holds c =
@@ -61,12 +71,12 @@ shared-slice-read-next c = search needs
 
 add-next : tie.Need-add-next Inv-loop μ-loop
 add-next c =
-    let at-lesser = c .before .before in
-    let at-loop = at-lesser .before .before .before .before .before in
-    let s = at-loop .before .before .before .before .before in
-    let k = at-loop .loop .c in
-    let p = s .pre .0 in
-    omega (arith, p .small k (omega arith), p .cheap k, at-lesser .lesser .ensures, c .before .lesser2 .ensures)
+    let at-lesser2 = c .before in
+    let at-lesser = at-lesser2 .before in
+    let head = turn at-lesser .before in
+    let p = start head .pre .0 in
+    let k = head .loop .c in
+    omega (arith, p .small k (omega arith), p .cheap k, at-lesser .lesser .ensures, at-lesser2 .lesser2 .ensures)
 
 mul-next-2 : tie.Need-mul-next-2 Inv-loop μ-loop
 mul-next-2 c = search needs
@@ -90,16 +100,18 @@ loop-again : tie.Need-loop-again Inv-loop μ-loop
 loop-again c =
     let at-lesser2 = c .before .before in
     let at-lesser = at-lesser2 .before in
-    let at-loop = at-lesser .before .before .before .before .before in
-    let a = at-loop .before .before .before .before .before .args in
-    let l = at-loop .loop in
-    let h = c .before .before .before .before .before .before .before .loop-test .taken in (
-      stored-turn (sumOf3 (now (a .above)) (alikeRows (now (a .cost)))) (now (a .next)) _ (l .c) (l .next) _ 0 h
-          (ap (_+ getD (now (a .cost)) (l .c) 0) (at-lesser2 .lesser2 .ensures ∙ ap (min (getD (now (a .above)) (l .c) 0)) (at-lesser .lesser .ensures))
-          ∙ sym (sum-alike (now (a .above)) (now (a .cost)) (l .c)))
+    let head = turn at-lesser .before in
+    let a = start head .args in
+    let above = now (a .above) in
+    let cost = now (a .cost) in
+    let l = head .loop in
+    let least = at-lesser2 .lesser2 .ensures ∙ ap (min (getD above (l .c) 0)) (at-lesser .lesser .ensures) in
+    let inside = turn at-lesser .loop-test .taken in (
+      stored-turn _ _ _ (l .c) (l .next) _ 0 inside
+          (ap (_+ getD cost (l .c) 0) least ∙ sym (sum-alike above cost (l .c)))
           (l .inv .0),
-      stored-turn (wayOf3 false (length (now (a .ways))) (now (a .above)) (alikeRows (now (a .cost)))) (now (a .ways)) _ (l .c) (l .ways) _ 0 h
-          (c .way .ensures ∙ sym (way-alike (length (now (a .ways))) (now (a .above)) (now (a .cost)) (l .c)))
+      stored-turn _ _ _ (l .c) (l .ways) _ 0 inside
+          (c .way .ensures ∙ sym (way-alike (length (now (a .ways))) above cost (l .c)))
           (l .inv .1),
     )
 
@@ -112,7 +124,8 @@ same-length-2 c = c .before .loop .inv .1 .long
 returns : tie.Need-returns Inv-loop μ-loop
 returns c =
     let l = c .before .loop in
-    (stored-end _ _ _ (l .c) (l .next) (c .loop-test .left) (l .inv .0), stored-end _ _ _ (l .c) (l .ways) (c .loop-test .left) (l .inv .1))
+    let done = c .loop-test .left in
+    (stored-end _ _ _ (l .c) (l .next) done (l .inv .0), stored-end _ _ _ (l .c) (l .ways) done (l .inv .1))
 
 pub next-row-spec : {M : Type 1} → statement M
 next-row-spec =
