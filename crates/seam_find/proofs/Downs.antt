@@ -3,24 +3,19 @@ use mathlib.Core.Path.{_≡_, refl, sym, ap, ap₂, _∙_}
 use mathlib.Core.Bool.{false}
 use mathlib.Core.List.{List, [], _∷_, _++_, append-assoc}
 use Prim.Native.Nat.{ℕ, suc, _+_, _-_, _*_, _≤_, _<_}
-use native.Mathlib.Nat.{zero-mul, add-zero, suc-mul, mul-le-mul, mul-le-mul-right, add-sub-cancel-left}
+use native.Mathlib.Nat.{zero-mul, add-zero, suc-mul, mul-le-mul-right}
 use native.Mathlib.Numerals.{add-one}
 use native.Mathlib.Omega.{arith}
-use borrow.Rule.Slice.PartMut.{putMid, midOf}
 use lib.ListN.{length, getD, take, drop, length-append, length-drop, take-append-drop}
 use lib.Seq.{take-at, drop-at, drop-drop, length-take-le}
 use Rattle.grids.specs.Table.{table}
 use Rattle.grids.specs.Rows.{flat}
 use Rattle.grids.proofs.Tables.{length-table, each-table}
-use Rattle.grids.proofs.Rows.{length-flat, flat-snoc, part-end}
-use Rattle.grids.proofs.Parts.{put-part, part-length}
-use Rattle.pictures.specs.Limits.{mostSide, mostPixels}
+use Rattle.grids.proofs.Rows.{length-flat, flat-snoc}
 use Rattle.pictures.specs.declared.sizes.Size.{Size}
-use Rattle.pictures.specs.Pictures.{pictureBytes}
-use Rattle.pictures.proofs.Limits.{sized-is}
 use Rattle.seam_theory.specs.Sums.{CostRows, fenced, sumOf3, wayOf3, sumsDown, waysUp}
 use Rattle.seam_theory.proofs.Bounded.{fenced-at, length-sums, sums-most}
-use Rattle.seam_find.specs.Inner.Down.{waysAt, DownNeeded, DownGiven, RowNeeded, RowGiven}
+use Rattle.seam_find.specs.Inner.Down.{waysAt, DownGiven, RowGiven}
 
 module _ (fence from : ℕ) (z : Size) (costsIn : List ℕ → ℕ → CostRows) (start : List ℕ) where
   abbrev costs : ℕ → CostRows
@@ -156,105 +151,3 @@ module _ (fence from : ℕ) (z : Size) (costsIn : List ℕ → ℕ → CostRows)
 
       pub down-end : (i : ℕ) (space above : List ℕ) → i ≡ z .height → Downs i space above → DownGiven fence from z costsIn start space above
       down-end i space above e d = record { ways = rw e at (d .space-is); sums = rw e at (d .above-is) }
-
--- Row i alone: its ways and its sums put in their places, where q is from and n the width.
-pub row-given : (from : ℕ) (z : Size) (costsIn : List ℕ → ℕ → CostRows) (i q n : ℕ) (space above ways : List ℕ) (cost : CostRows) (copied : List ℕ)
-    → q ≡ from → q + (i - 1) * z .width + z .width ≤ length space → cost ≡ costsIn (take from space) i → n ≡ z .width
-    → ways ≡ table (wayOf3 false n above cost) n → copied ≡ table (sumOf3 above cost) n
-    → RowGiven from z costsIn i space above
-    (putMid (q + (i - 1) * z .width) (q + (i - 1) * z .width + z .width - (q + (i - 1) * z .width)) space ways)
-    (putMid 1 (z .width + 1 - 1) above copied)
-row-given from z costsIn i q n space above ways cost copied e end k l told m =
-    let w = z .width in
-    let a = q + (i - 1) * w in
-    let row = costsIn (take from space) i in
-    record {
-      ways =
-          put-part a (a + w) space ways (omega arith)
-          ∙ ap (λ r. take a space ++ (r ++ drop (a + w) space)) (told ∙ ap₂ (λ x y. table (wayOf3 false y above x) y) k l)
-          ∙ ap (λ b. take (b + (i - 1) * w) space ++ (table (wayOf3 false w above row) w ++ drop (b + (i - 1) * w + w) space)) e;
-      sums =
-          put-part 1 (w + 1) above copied (omega arith)
-          ∙ ap (λ r. take 1 above ++ (r ++ drop (w + 1) above)) (m ∙ ap₂ (λ x y. table (sumOf3 above x) y) k l);
-    }
-
--- The bounds of row i's ways, where q is from: they end within the space, and have a place for each column.
-pub record WaysEnd (z : Size) (q i : ℕ) (space next : List ℕ) : Type 0 where
-  pub few : (i - 1) * z .width ≤ mostPixels
-  pub end : q + (i - 1) * z .width + z .width ≤ length space
-  pub wide :
-      length (midOf (q + (i - 1) * z .width) (q + (i - 1) * z .width + z .width - (q + (i - 1) * z .width)) space) ≡ length next
-
-pub ways-end : {fence from : ℕ} {z : Size} {bytes i : ℕ} {space above cost next : List ℕ}
-    → RowNeeded fence from z bytes i space above cost next → (q : ℕ) → q ≡ from → WaysEnd z q i space next
-ways-end {z = z} {i = i} {space = space} n q e =
-    let s = sized-is z (pictureBytes z) (n .sized) in
-    let a = q + (i - 1) * z .width in
-    let row : i - 1 ≤ mostSide = omega (arith, n .inside, s .height-small) in
-    let last = part-end (i - 1) (z .height - 1) (z .width) (omega (arith, n .later, n .inside)) in
-    let end : a + z .width ≤ length space = omega (arith, n .room) in
-    record {
-      few = mul-le-mul row (s .width-small);
-      end = end;
-      wide = part-length a (a + z .width) space end ∙ add-sub-cancel-left a (z .width) ∙ sym (n .next-room);
-    }
-
--- The loop over the rows. Before row i, which is not the first, the ways and the sums are those of the rows above it, and the
--- rows that are lent are as long as they were.
-pub record BeforeRow (fence from : ℕ) (z : Size) (costsIn : List ℕ → ℕ → CostRows) (start above₀ cost₀ next₀ : List ℕ) (i : ℕ)
-    (space above cost next : List ℕ) : Type 0 where
-  pub some : 0 < i
-  pub within : i ≤ z .height
-  pub downs : Downs fence from z costsIn start i space above
-  pub above-kept : length above ≡ length above₀
-  pub cost-kept : length cost ≡ length cost₀
-  pub next-kept : length next ≡ length next₀
-
-module _ {fence from : ℕ} {z : Size} {costsIn : List ℕ → ℕ → CostRows} {bytes : ℕ} {start above₀ cost₀ next₀ : List ℕ}
-    (needed : DownNeeded fence from z costsIn bytes start above₀ cost₀ next₀)
-    (length-costs : (i : ℕ) → length (costsIn (take from start) i .up) ≡ z .width) where
-  pub before-first : BeforeRow fence from z costsIn start above₀ cost₀ next₀ 1 start above₀ cost₀ next₀
-  before-first = record {
-    some = omega arith;
-    within = sized-is z (pictureBytes z) (needed .sized) .height-some;
-    downs = down-start fence from z costsIn start length-costs (needed .room) above₀ (needed .first);
-    above-kept = refl;
-    cost-kept = refl;
-    next-kept = refl;
-  }
-
-  module _ {i : ℕ} {space above cost next : List ℕ}
-      (holds : BeforeRow fence from z costsIn start above₀ cost₀ next₀ i space above cost next) where
-    -- What row i takes.
-    pub before-needed : i < z .height → ((k : ℕ) → k < z .width → getD above (k + 1) 0 < fence)
-        → RowNeeded fence from z bytes i space above cost next
-    before-needed inside small = record {
-      bytes-are = needed .bytes-are;
-      sized = needed .sized;
-      later = holds .some;
-      inside = inside;
-      room = rw (holds .downs .long) (needed .room);
-      long = above-long fence from z costsIn start length-costs i space above (holds .downs);
-      small = small;
-      cost-room = holds .cost-kept ∙ needed .cost-room;
-      next-room = holds .next-kept ∙ needed .next-room;
-    }
-
-    -- What it leaves holds before the row after it.
-    pub before-next : {space′ above′ cost′ next′ : List ℕ} → i < z .height → RowGiven from z costsIn i space above space′ above′
-        → length above′ ≡ length above → length cost′ ≡ length cost → length next′ ≡ length next
-        → BeforeRow fence from z costsIn start above₀ cost₀ next₀ (i + 1) space′ above′ cost′ next′
-    before-next {space′ = space′} {above′ = above′} inside given a c n = record {
-      some = omega arith;
-      within = omega (arith, inside);
-      downs =
-          down-turn fence from z costsIn start length-costs (needed .room) i space above space′ above′
-          (holds .some) inside (holds .downs) given;
-      above-kept = a ∙ holds .above-kept;
-      cost-kept = c ∙ holds .cost-kept;
-      next-kept = n ∙ holds .next-kept;
-    }
-
-    pub before-end : z .height ≤ i → DownGiven fence from z costsIn start space above
-    before-end past =
-        down-end fence from z costsIn start length-costs (needed .room) i space above (omega (arith, holds .within)) (holds .downs)

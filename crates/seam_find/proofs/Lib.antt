@@ -1,6 +1,8 @@
 pub mod Loops
 pub mod Costs
 pub mod Downs
+pub mod OneRow
+pub mod BeforeRow
 pub mod Fences
 pub mod Traced
 pub mod Spaces

@@ -14,7 +14,8 @@ use Rattle.energy.specs.Bounds.{mostEnergy}
 use Rattle.seam_sums.specs.Fences.{fence32}
 use Rattle.seam_find.specs.Inner.Down.{costsOf}
 use Rattle.seam_find.proofs.Costs.{front-most, cost-most, costs-long}
-use Rattle.seam_find.proofs.Downs.{above-most, BeforeRow, before-first, before-needed, before-next, before-end}
+use Rattle.seam_find.proofs.Downs.{above-most}
+use Rattle.seam_find.proofs.BeforeRow.{BeforeRow, before-first, before-needed, before-next, before-end}
 use Rattle.seam_find.proofs.Spaces.{Front, front-is}
 use Rattle.seam_find.proofs.down32.down.Statement.{statement}
 use Rattle.seam_find.proofs.down32.down.Tie as tie

@@ -18,7 +18,7 @@ use Rattle.seam_theory.specs.Sums.{CostRows, alikeRows, wayOf3}
 use Rattle.seam_theory.proofs.Alike.{rows-alike}
 use Rattle.seam_find.specs.Inner.Down.{costsOf}
 use Rattle.seam_find.proofs.Costs.{front-most, cost-most, costs-long}
-use Rattle.seam_find.proofs.Downs.{row-given, WaysEnd, ways-end}
+use Rattle.seam_find.proofs.OneRow.{row-given, WaysEnd, ways-end}
 use Rattle.seam_find.proofs.Spaces.{Front, front-is}
 use Rattle.seam_find.proofs.down32.row_down.Statement.{statement}
 use Rattle.seam_find.proofs.down32.row_down.Tie as tie
