@@ -32,7 +32,7 @@ use Rattle.seam_find.proofs.Spaces.{space-lent, space-filled, Ends, ends}
 use Rattle.seam_find.proofs.Worked.{worked-not, worked-or}
 use Rattle.seam_sums.specs.Fences.{fence64}
 use Rattle.seam_find_marked.specs.Inner.{weightsOf, markedBytes}
-use Rattle.seam_find_marked.proofs.Weighed.{front-picture, front-marks, front-sized, front-bytes, marked-traceable, marked-some, marked-seam, marked-cost, marked-blocked}
+use Rattle.seam_find_marked.proofs.Marked.{front-picture, front-marks, front-sized, front-bytes, marked-traceable, marked-some, marked-seam, marked-cost, marked-blocked}
 use Rattle.seam_find_marked.proofs.find_marked_in.Statement.{statement}
 use Rattle.seam_find_marked.proofs.find_marked_in.Tie as tie
 
