@@ -17,7 +17,7 @@ use Rattle.pictures.specs.declared.sizes.Size.{Size}
 use Rattle.pictures.specs.Pictures.{Picture, pictureBytes, picture, pixels, pictureIn, marksIn}
 use Rattle.pictures.proofs.Limits.{Sized}
 use Rattle.energy.specs.Bounds.{mostEnergy}
-use Rattle.energy.specs.Energy.{costsAt, energy, energies, toward}
+use Rattle.energy.specs.Energy.{costsAt, energy, energies}
 use Rattle.energy.proofs.Most.{CostsMost}
 use Rattle.seam_theory.specs.Paths.{cost}
 use Rattle.seam_theory.specs.PictureSeams.{pathCost, markAt, markedUp, markedSeamOf, markedCostOf, isNone}
@@ -30,7 +30,7 @@ use Rattle.seam_sums.specs.Fences.{fence64}
 use Rattle.seam_find.proofs.Costs.{front-most, pixel-most, table-most}
 use Rattle.seam_find.proofs.Loops.{Traceable, ways-traceable}
 use Rattle.seam_find_marked.specs.Inner.{mostWeight, weightIn, weightsAt, weightsOf, markedBytes}
-use Rattle.seam_find_marked.proofs.Weighed.{weight-most, light-found, light-cost, heavy-blocked}
+use Rattle.seam_find_marked.proofs.Weighed.{firstWeight, stepWeight, weight-most, light-found, light-cost, heavy-blocked}
 
 -- A row has a weight for each column.
 pub weights-wide : (z : Size) (b : List ℕ) (i : ℕ) → length (weightsOf z b i .up) ≡ z .width
@@ -94,12 +94,11 @@ module _ (z : Size) (b : List ℕ) (sized : Sized z (length (take (pictureBytes 
   abbrev sums : ℕ → List ℕ
   sums = sumsDown false fence64 w (weightsOf z b)
 
-  -- The weight of the first pixel of a path and of a step.
   abbrev first : ℕ → ℕ
-  first c = weightsAt w h p m 0 c .up
+  first = firstWeight w h p m
 
   abbrev step : ℕ → ℕ → ℕ → ℕ
-  step i a c = toward false w a c (weightsAt w h p m i c)
+  step = stepWeight w h p m
 
   -- Every sum is below the fence.
   low : (i c : ℕ) → i < h - 1 → c < w → getD (sums i) c 0 + getD (weightsOf z b (suc i) .up) c 0 < fence64
@@ -167,18 +166,20 @@ module _ (z : Size) (space : List ℕ) where
 
   pub front-marks : pictureBytes z ≤ length space → marksIn z (take (markedBytes z) space) ≡ marksIn z space
   front-marks l =
-      let marks = take (pixels z) (drop (pictureBytes z) space) in
+      let n = pictureBytes z in
+      let marks = take (pixels z) (drop n space) in
       ap (rowsOf (z .width) (z .height))
-      (ap (λ s. take (pixels z) (drop (pictureBytes z) s)) (take-add (pictureBytes z) (pixels z) space)
-      ∙ ap (take (pixels z)) (drop-at (take (pictureBytes z) space) marks (pictureBytes z) (length-take-le (pictureBytes z) space l))
-      ∙ take-take (pixels z) (pixels z) (drop (pictureBytes z) space) (omega arith))
+      (ap (λ s. take (pixels z) (drop n s)) (take-add n (pixels z) space)
+      ∙ ap (take (pixels z)) (drop-at (take n space) marks n (length-take-le n space l))
+      ∙ take-take (pixels z) (pixels z) (drop n space) (omega arith))
 
   pub front-sized : Sized z (pictureBytes z) → markedBytes z ≤ length space
       → Sized z (length (take (pictureBytes z) (take (markedBytes z) space)))
   front-sized s l =
       rw (take-take (pictureBytes z) (markedBytes z) space (omega arith), length-take-le (pictureBytes z) space (omega arith)) s
 
-  pub front-bytes : ((i : ℕ) → getD space i 0 ≤ 255) → (i : ℕ) → getD (take (pictureBytes z) (take (markedBytes z) space)) i 0 ≤ 255
+  pub front-bytes : ((i : ℕ) → getD space i 0 ≤ 255)
+      → (i : ℕ) → getD (take (pictureBytes z) (take (markedBytes z) space)) i 0 ≤ 255
   front-bytes byte = front-most (take (markedBytes z) space) (pictureBytes z) 255 (front-most space (markedBytes z) 255 byte)
 
   pub front-weights : Sized z (pictureBytes z) → markedBytes z ≤ length space → ((i : ℕ) → getD space i 0 ≤ 255)

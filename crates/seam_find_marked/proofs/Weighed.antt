@@ -48,6 +48,13 @@ toward-weighed wrap w a c k mark = go (eqb a c) (isThe (leftOf wrap w c) a)
     go false true = refl
     go false false = refl
 
+-- The weight of a path's first pixel and of a step: the cost with the mark of the pixel that it comes to.
+abbrev pub firstWeight : ℕ → ℕ → Picture → List (List ℕ) → ℕ → ℕ
+firstWeight w h p m c = weightsAt w h p m 0 c .up
+
+abbrev pub stepWeight : ℕ → ℕ → Picture → List (List ℕ) → ℕ → ℕ → ℕ → ℕ
+stepWeight w h p m i a c = toward false w a c (weightsAt w h p m i c)
+
 -- 1 where the pixel is not marked 2, else 0.
 abbrev isKept : List (List ℕ) → ℕ → ℕ → ℕ
 isKept m r c = cond (eqb (markAt m r c) 2) 0 1
@@ -82,16 +89,9 @@ module _ (w h : ℕ) (p : Picture) (m : List (List ℕ)) (few : h ≤ mostSide)
   abbrev keeps : List ℕ → ℕ
   keeps = along (isKept m)
 
-  -- The weight of the first pixel and of a step: its cost with the mark of the pixel that it comes to.
-  abbrev first : ℕ → ℕ
-  first c = weightsAt w h p m 0 c .up
-
-  abbrev step : ℕ → ℕ → ℕ → ℕ
-  step i a c = toward false w a c (weightsAt w h p m i c)
-
   -- A path's weight.
   abbrev heavy : List ℕ → ℕ
-  heavy = cost first step
+  heavy = cost (firstWeight w h p m) (stepWeight w h p m)
 
   step-most : (i a c : ℕ) → stepOf w h p i a c ≤ mostEnergy
   step-most i a c = toward-most mostEnergy false w a c (costsAt w h p i c) (most i c)
@@ -111,7 +111,8 @@ module _ (w h : ℕ) (p : Picture) (m : List (List ℕ)) (few : h ≤ mostSide)
   -- The weight is the cost, `kept` for each pixel that is kept and `protected` for each that is protected.
   summed : (q : List ℕ) → heavy q ≡ weight shielded keeps price kept protected q
   summed =
-      cost-weight (energy w h p 0) (stepOf w h p) (isKept m) (isMark 1 m) kept protected first step
+      cost-weight (energy w h p 0) (stepOf w h p) (isKept m) (isMark 1 m) kept protected
+      (firstWeight w h p m) (stepWeight w h p m)
       (λ c. refl) (λ i a c. toward-weighed false w a c (costsAt w h p i c) (markAt m i c))
 
   -- The first path of least weight.

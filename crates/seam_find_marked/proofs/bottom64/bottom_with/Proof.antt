@@ -12,7 +12,7 @@ use lib.ListN.{length, take, length-replicate}
 use lib.Seq.{length-take-le}
 use Rattle.grids.proofs.Parts.{part-length}
 use Rattle.pictures.specs.declared.sizes.Size.{Size}
-use Rattle.pictures.specs.Pictures.{pictureBytes}
+use Rattle.pictures.specs.Pictures.{largestSide, pictureBytes}
 use Rattle.pictures.proofs.Limits.{Sized, sized-is}
 use Rattle.seam_sums.specs.Fences.{fence64}
 use Rattle.seam_find.proofs.Fences.{first-row, last-long, bottom-inside, bottom-given}
@@ -22,7 +22,7 @@ use Rattle.seam_find_marked.proofs.Marked.{weights-wide}
 use Rattle.seam_find_marked.proofs.bottom64.bottom_with.Statement.{statement}
 use Rattle.seam_find_marked.proofs.bottom64.bottom_with.Tie as tie
 
--- places, from the last call back: the buffers that `down` gave back,
+-- places, from the last call back: the buffers as `down` gave them back,
 abbrev gave-next : tie.After-above3 → tie.After-next
 gave-next c = c .before .before
 
@@ -41,7 +41,7 @@ gave-space c = gave-above c .before .before
 abbrev at-down : tie.After-above3 → tie.After-down
 at-down c = gave-space c .before
 
--- those that `row_weights` gave back,
+-- as `row_weights` gave them back,
 abbrev weighed-above : tie.After-down-arg5 → tie.After-above
 weighed-above c = c .before .before .before .before .before .before
 
@@ -96,7 +96,7 @@ front-end c =
 above-long : (c : tie.After-slice-known5) → length (above c) ≡ size c .width + 2
 above-long c = ap length (start c .pre .1 .0 .fences) ∙ length-replicate (size c .width + 2) fence64
 
--- what is lent between the fences
+-- the room between the fences, which is lent for the weights of row 0
 between-long : (c : tie.After-slice-known5) → length (midOf 1 (size c .width + 1 - 1) (above c)) ≡ size c .width
 between-long c =
     part-length 1 (size c .width + 1) (above c) (omega (arith, above-long c))
@@ -126,6 +126,9 @@ inside f =
     let z = size c in
     bottom-inside fence64 (markedBytes z) z (weightsOf z) (space c) (filled d) (sums d) (wide c) (d .down .ensures)
     (f .first-least .result) (sure c .width-some) (f .first-least .ensures)
+
+column-most : (f : tie.After-first-least) → f .first-least .result < largestSide
+column-most f = omega (arith, inside f, sure (begun (at-down (f .before .before))) .width-most)
 
 add-side : tie.Need-add-side
 add-side c = omega (arith, sure c .width-most)
@@ -194,14 +197,10 @@ first-least-requires : tie.Need-first-least-requires
 first-least-requires c κs = search needs
 
 add-at : tie.Need-add-at
-add-at c =
-    let d = at-down (c .before .before) in
-    omega (arith, inside c, sure (begun d) .width-most)
+add-at c = omega (arith, column-most c)
 
 mul-t14 : tie.Need-mul-t14
-mul-t14 c =
-    let d = at-down (c .before .before) in
-    omega (arith, inside c, sure (begun d) .width-most)
+mul-t14 c = omega (arith, column-most c)
 
 slice-read-t37 : tie.Need-slice-read-t37
 slice-read-t37 c = omega (arith, sums-long (at-down (c .before .before .before)), inside (c .before))

@@ -1,9 +1,9 @@
--- `seam_find_marked::down64::down` meets its contract. The loop's invariant: row i is a later row or the end, `above` has the fenced
--- sums of the row above it, the space has the ways between the rows above it, and every buffer is as long as it was. The measure is
--- the number of rows left.
+-- `seam_find_marked::down64::down` meets its contract. The loop's invariant: i is at least 1 and at most the height, `above` has
+-- the fenced sums of row i - 1, the ways between the rows before row i stand after the marks, and each buffer is as long as it
+-- was. The measure is the number of rows left.
 use mathlib.Core.Path.{_≡_, refl, _∙_}
 use mathlib.Core.List.{List}
-use Prim.Native.Nat.{ℕ, _+_, _-_, _≤_, _<_}
+use Prim.Native.Nat.{ℕ, suc, _+_, _-_, _*_, _≤_, _<_}
 use native.Mathlib.Omega.{arith}
 use borrow.Author.Needs.{needs}
 use denote.Ref.{now}
@@ -18,8 +18,9 @@ use Rattle.seam_find_marked.proofs.Marked.{weights-wide, front-weights}
 use Rattle.seam_find_marked.proofs.down64.down.Statement.{statement}
 use Rattle.seam_find_marked.proofs.down64.down.Tie as tie
 
--- What holds before row i; what is marked 0 is as it was at the start.
-record BeforeRow (size : Size) (space₀ above₀ energies₀ cost₀ next₀ : List ℕ) (i : ℕ) (space above energies cost next : List ℕ) : Type 0 where
+-- What holds before row i, of the buffers as they were lent (space₀ and so on) and as they are.
+record BeforeRow (size : Size) (space₀ above₀ energies₀ cost₀ next₀ : List ℕ) (i : ℕ)
+    (space above energies cost next : List ℕ) : Type 0 where
   later : 0 < i
   most : i ≤ size .height
   rows : Downs fence64 (markedBytes size) size (weightsOf size) space₀ i space above
@@ -74,17 +75,21 @@ wide : (c : tie.After-slice-known5 Inv-loop μ-loop) (i : ℕ)
     → length (weightsOf (size c) (take (markedBytes (size c)) (space c)) i .up) ≡ size c .width
 wide c = weights-wide (size c) (take (markedBytes (size c)) (space c))
 
--- in a turn, the sums above are small
-small : (h : tie.At-loop Inv-loop μ-loop) (k : ℕ)
-    → let z = size (h .before) in
-    h .loop .i < z .height → k < z .width → getD (h .loop .above) (k + 1) 0 < fence64
-small h k l n =
+-- the sums above row i are at most i times the largest weight, and so below the fence in a turn
+above-small : (h : tie.At-loop Inv-loop μ-loop) (k : ℕ)
+    → k < size (h .before) .width → getD (h .loop .above) (k + 1) 0 ≤ suc (h .loop .i - 1) * mostWeight
+above-small h =
     let c = h .before in
     let z = size c in
     let u = h .loop in
     let most = front-weights z (space c) (sure c) (front-room c) (byte c) in
-    let m = above-most fence64 (markedBytes z) z (weightsOf z) (space c) (wide c) mostWeight (u .i) (u .space) (u .above) most (u .inv .rows) k n in
-    omega (arith, sure c .height-most)
+    above-most fence64 (markedBytes z) z (weightsOf z) (space c) (wide c) mostWeight (u .i) (u .space) (u .above) most
+    (u .inv .rows)
+
+below-fence : (h : tie.At-loop Inv-loop μ-loop) (k : ℕ)
+    → let z = size (h .before) in
+    h .loop .i < z .height → k < z .width → getD (h .loop .above) (k + 1) 0 < fence64
+below-fence h k l n = omega (arith, above-small h k n, sure (h .before) .height-most)
 
 loop-holds : tie.Need-loop-holds Inv-loop μ-loop
 loop-holds c =
@@ -93,7 +98,9 @@ loop-holds c =
     record {
       later = omega arith;
       most = omega (arith, sure c .height-some);
-      rows = down-start fence64 (markedBytes z) z (weightsOf z) (space c) (wide c) (s .pre .0 .room) (now (s .args .above)) (s .pre .0 .first);
+      rows =
+          down-start fence64 (markedBytes z) z (weightsOf z) (space c) (wide c) (s .pre .0 .room) (now (s .args .above))
+          (s .pre .0 .first);
       above-kept = refl;
       energies-kept = refl;
       cost-kept = refl;
@@ -115,7 +122,7 @@ row-down-requires c κs =
         inside = test .loop-test .taken;
         room = rw (u .inv .rows .long) (p .0 .room);
         long = above-long fence64 (markedBytes z) z (weightsOf z) (space k) (wide k) (u .i) (u .space) (u .above) (u .inv .rows);
-        small = λ j l. small head j (test .loop-test .taken) l;
+        small = λ j l. below-fence head j (test .loop-test .taken) l;
         cost-room = u .inv .cost-kept ∙ p .0 .cost-room;
         next-room = u .inv .next-kept ∙ p .0 .next-room;
       },
@@ -141,8 +148,8 @@ loop-again c =
       later = omega arith;
       most = omega arith;
       rows =
-          down-turn fence64 (markedBytes z) z (weightsOf z) (space k) (wide k) (start k .pre .0 .room) (u .i) (u .space) (u .above) _ _
-          (u .inv .later) l (u .inv .rows) (r .row-down .ensures);
+          down-turn fence64 (markedBytes z) z (weightsOf z) (space k) (wide k) (start k .pre .0 .room) (u .i) (u .space) (u .above)
+          _ _ (u .inv .later) l (u .inv .rows) (r .row-down .ensures);
       above-kept = gave-above back .above .given ∙ u .inv .above-kept;
       energies-kept = gave-energies back .energies .given ∙ u .inv .energies-kept;
       cost-kept = gave-cost back .cost .given ∙ u .inv .cost-kept;

@@ -220,15 +220,15 @@ returns c =
     let r = at-row-weights (n .before) in
     let k = known r in
     let z = size k in
-    let above = now (start k .args .above) in
-    let wide = length (now (start k .args .next)) in
-    row-given (markedBytes z) z (weightsOf z) (row k) (from k) wide (space k) above (u .ways-row .last .1 .0) (alikeRows (weights r))
+    let x = now (start k .args .above) in
+    let w = length (now (start k .args .next)) in
+    row-given (markedBytes z) z (weightsOf z) (row k) (from k) w (space k) x (u .ways-row .last .1 .0) (alikeRows (weights r))
     (at-copy .copy .last .1 .0) (front-end k .is) (ways-within k)
     (ap alikeRows (weights-are r) ∙ sym (weights-alike z (front k) (row k)))
     (start k .pre .0 .next-room)
     (u .ways-row .ensures
-    ∙ ap (table (wayAbove above)) (ways-wide k)
-    ∙ table-same (wayAbove above) (wayOf3 false wide above (alikeRows (weights r))) wide (λ j l. sym (way-alike wide above (weights r) j)))
+    ∙ ap (table (wayAbove x)) (ways-wide k)
+    ∙ table-same (wayAbove x) (wayOf3 false w x (alikeRows (weights r))) w (λ j l. sym (way-alike w x (weights r) j)))
     (at-copy .copy .ensures ∙ n .next-sums .ensures)
 
 pub row-down-spec : {M : Type 1} → statement M
