@@ -1,2 +1,4 @@
 pub mod Weighed
+pub mod Marked
+pub mod Spaces
 pub mod Smallest

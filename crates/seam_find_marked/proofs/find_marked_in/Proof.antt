@@ -20,39 +20,79 @@ use Rattle.pictures.specs.Pictures.{Picture, pictureBytes, pixels, pictureIn, m
 use Rattle.pictures.proofs.Rules.{refusal-most, number-some, served-first, refused-answer, kept-by}
 use Rattle.pictures.proofs.Limits.{Sized, sides-are, sized-of, sized-served}
 use Rattle.seam_theory.specs.PictureSeams.{markedUp, markedSeamOf, markedCostOf, isNone}
+use Rattle.seam_theory.specs.Sums.{sumsDown, waysUp, columnsTo, leastTo}
+use Rattle.seam_theory.proofs.Sums.{ways-long}
 use Rattle.seam_rules.specs.Answers.{foundNumber}
 use Rattle.seam_bounds.specs.Spaces.{findSpaceRules}
 use Rattle.seam_bounds.proofs.Spaces.{Rooms, rooms-are}
+use Rattle.seam_sums.specs.Fences.{fence64}
 use Rattle.seam_sums.specs.Weights.{kept, protected}
 use Rattle.seam_sums.proofs.Meant.{heavy, heavy-number, light, light-cost}
-use Rattle.seam_theory.specs.Sums.{sumsDown, waysUp, columnsTo, leastTo}
-use Rattle.seam_theory.proofs.Sums.{ways-long}
-use Rattle.seam_find.proofs.Loops.{traced-is}
+use Rattle.seam_find.specs.Tracing.{traced}
+use Rattle.seam_find.proofs.Loops.{Traceable, traced-is}
 use Rattle.seam_find.proofs.Spaces.{space-lent, space-filled, Ends, ends}
 use Rattle.seam_find.proofs.Worked.{worked-not, worked-or}
-use Rattle.seam_sums.specs.Fences.{fence64}
 use Rattle.seam_find_marked.specs.Inner.{weightsOf, markedBytes}
-use Rattle.seam_find_marked.proofs.Weighed.{front-picture, front-marks, front-sized, front-bytes, marked-traceable, marked-some, marked-seam, marked-cost, marked-blocked}
+use Rattle.seam_find_marked.proofs.Spaces.{FrontEnds, front-ends}
+use Rattle.seam_find_marked.proofs.Marked.{front-picture, front-marks, front-sized, front-bytes}
+use Rattle.seam_find_marked.proofs.Marked.{marked-traceable, marked-some, marked-seam, marked-cost, marked-blocked}
 use Rattle.seam_find_marked.proofs.find_marked_in.Statement.{statement}
 use Rattle.seam_find_marked.proofs.find_marked_in.Tie as tie
 
--- whether no seam is allowed
-abbrev blocked : tie.Start → Bool
-blocked c =
-    let z = c .args .size in
-    isNone (markedUp (z .width) (z .height) (pictureIn z (now (c .args .space))) (marksIn z (now (c .args .space))))
+-- What is to be given: whether no seam is allowed, the cost,
+abbrev of-marked : {A : Type 0} → (ℕ → ℕ → Picture → List (List ℕ) → A) → tie.Start → A
+of-marked f s =
+    let z = s .args .size in
+    let space = now (s .args .space) in
+    f (z .width) (z .height) (pictureIn z space) (marksIn z space)
 
--- the space as it is left
+abbrev blocked : tie.Start → Bool
+blocked s = isNone (of-marked markedUp s)
+
+abbrev price : tie.Start → ℕ
+price s = of-marked markedCostOf s
+
+-- the seam's columns before the rest of their buffer, and the space.
+abbrev columns : tie.Start → List ℕ
+columns s = of-marked markedSeamOf s ++ drop (s .args .size .height) (now (s .args .seam))
+
 abbrev left : tie.Start → List ℕ
-left c =
-    let z = c .args .size in
-    let space = now (c .args .space) in
+left s =
+    let z = s .args .size in
+    let space = now (s .args .space) in
     take (pictureBytes z + pixels z) space ++ (replicate (pixels z) 0 ++ drop (pictureBytes z + (pixels z + pixels z)) space)
 
--- Where 2, 3 and 8 don't refuse it: the start, and what was lent
-abbrev start : tie.After-picture-bytes → tie.Start
-start c = c .before .before .before .before .before .before
+-- Places, from the last back: the call of `find_bottom` and the space that it gave back, before the weight is judged;
+abbrev gave-space : tie.After-found-by → tie.After-space
+gave-space b = b .before .before
 
+abbrev at-find-bottom : tie.After-found-by → tie.After-find-bottom
+at-find-bottom b = gave-space b .before
+
+-- that judgement, where no seam is allowed and where one is; in the latter case the call of `trace_back`, and the answer known;
+abbrev heavy-by : tie.After-known-told2 → tie.After-found-by
+heavy-by c = c .before .before .before
+
+abbrev light-by : tie.After-enum-told2 → tie.After-found-by
+light-by c = c .before .before
+
+abbrev at-trace-back : tie.After-slice-known5 → tie.After-trace-back
+at-trace-back c = c .before .before
+
+abbrev at-light : tie.After-trace-back → tie.After-enum-told2
+at-light t = t .before .before .before .before
+
+-- the place where 2, 3 and 8 don't refuse it, their verdict, and the start.
+abbrev at-bytes : tie.After-find-bottom → tie.After-picture-bytes
+at-bytes f = f .before .before
+
+abbrev at-judge : tie.After-picture-bytes → tie.After-judge-find-in
+at-judge c = c .before .before .before
+
+abbrev start : tie.After-picture-bytes → tie.Start
+start c = at-judge c .before .before .before
+
+-- what was lent
 abbrev size : tie.After-picture-bytes → Size
 size c = start c .args .size
 
@@ -62,16 +102,22 @@ space c = now (start c .args .space)
 abbrev seam : tie.After-picture-bytes → List ℕ
 seam c = now (start c .args .seam)
 
+-- the rules of 2, 3 and 8 don't apply
 none : (c : tie.After-picture-bytes) → refusal (findSpaceRules (size c) true (length (space c)) (length (seam c))) ≡ 0
-none c = sym (c .before .before .before .judge-find-in .ensures) ∙ ap given (c .before .enum-told .given .1)
+none c = sym (at-judge c .judge-find-in .ensures) ∙ ap given (c .before .enum-told .given .1)
 
 -- then 12 decides
 last-rule : (c : tie.After-picture-bytes)
-    → refusal (findSpaceRules (size c) true (length (space c)) (length (seam c)) ++ (12 when blocked (start c) ∷ [])) ≡ cond (blocked (start c)) 12 0
-last-rule c = served-first (findSpaceRules (size c) true (length (space c)) (length (seam c))) (12 when blocked (start c) ∷ []) refl (none c)
+    → refusal (findSpaceRules (size c) true (length (space c)) (length (seam c)) ++ (12 when blocked (start c) ∷ []))
+    ≡ cond (blocked (start c)) 12 0
+last-rule c =
+    served-first (findSpaceRules (size c) true (length (space c)) (length (seam c))) (12 when blocked (start c) ∷ []) refl (none c)
 
 rooms : (c : tie.After-picture-bytes) → Rooms (size c) true (length (space c)) (length (seam c))
 rooms c = rooms-are (size c) true (length (space c)) (length (seam c)) (none c)
+
+sure : (c : tie.After-picture-bytes) → Sized (size c) (pictureBytes (size c))
+sure c = sized-of (size c) (pictureBytes (size c)) (sides-are (size c) (rooms c .sides)) refl
 
 bytes-are : (c : tie.After-picture-bytes) → c .picture-bytes .result ≡ pictureBytes (size c)
 bytes-are c = c .picture-bytes .ensures ∙ ap (λ n. served n (pictureBytes (size c)) 0) (rooms c .sides)
@@ -80,19 +126,19 @@ bytes-are c = c .picture-bytes .ensures ∙ ap (λ n. served n (pictureBytes (si
 bounds : (c : tie.After-picture-bytes) → Ends (size c)
 bounds c = ends (size c) (sides-are (size c) (rooms c .sides))
 
--- the bytes of picture and marks
+front-room : (c : tie.After-picture-bytes) → markedBytes (size c) ≤ length (space c)
+front-room c = omega (arith, rooms c .room)
+
+front-end : (c : tie.After-picture-bytes) → FrontEnds (size c) (c .picture-bytes .result) (length (space c))
+front-end c = front-ends (size c) (sure c) (c .picture-bytes .result) (length (space c)) (bytes-are c) (front-room c)
+
+-- where the marks end
 abbrev from : tie.After-picture-bytes → ℕ
 from c = c .picture-bytes .result + size c .height * size c .width
-
-from-is : (c : tie.After-picture-bytes) → from c ≡ markedBytes (size c)
-from-is c = ap (_+ size c .height * size c .width) (bytes-are c)
 
 -- picture and marks at the front
 front : (c : tie.After-picture-bytes) → List ℕ
 front c = take (markedBytes (size c)) (space c)
-
-front-room : (c : tie.After-picture-bytes) → markedBytes (size c) ≤ length (space c)
-front-room c = omega (arith, rooms c .room)
 
 front-long : (c : tie.After-picture-bytes) → length (front c) ≡ markedBytes (size c)
 unfolding front
@@ -100,66 +146,154 @@ front-long c = length-take-le _ _ (front-room c)
 
 front-is : (c : tie.After-picture-bytes) → Sized (size c) (length (take (pictureBytes (size c)) (front c)))
 unfolding front
-front-is c = front-sized (size c) (space c) (sized-of (size c) (pictureBytes (size c)) (sides-are (size c) (rooms c .sides)) refl) (front-room c)
+front-is c = front-sized (size c) (space c) (sure c) (front-room c)
 
 byte : (c : tie.After-picture-bytes) (i : ℕ) → getD (take (pictureBytes (size c)) (front c)) i 0 ≤ 255
 unfolding front
-byte c = front-bytes (size c) (space c) (λ i. omega (arith, c .before .before .before .before .before .slice-known .given i))
+byte c = front-bytes (size c) (space c) (λ i. omega (arith, at-judge c .before .before .slice-known .given i))
 
 -- they are the picture and the marks of the space
-same : {A : Type 0} (c : tie.After-picture-bytes) (f : Picture → List (List ℕ) → A)
-    → f (pictureIn (size c) (front c)) (marksIn (size c) (front c)) ≡ f (pictureIn (size c) (space c)) (marksIn (size c) (space c))
+same : {A : Type 0} (c : tie.After-picture-bytes) (f : ℕ → ℕ → Picture → List (List ℕ) → A)
+    → let z = size c in
+    f (z .width) (z .height) (pictureIn z (front c)) (marksIn z (front c)) ≡ of-marked f (start c)
 unfolding front
-same c f = ap₂ f (front-picture (size c) (space c)) (front-marks (size c) (space c) (omega (arith, front-room c)))
+same c f =
+    let z = size c in
+    ap₂ (f (z .width) (z .height)) (front-picture z (space c)) (front-marks z (space c) (omega (arith, front-room c)))
 
--- the ways between the rows, which stand after them
+-- the sums of the last row, and the least of them
+sums : (c : tie.After-picture-bytes) → List ℕ
+sums c = sumsDown false fence64 (size c .width) (weightsOf (size c) (front c)) (size c .height - 1)
+
+weight : (c : tie.After-picture-bytes) → ℕ
+weight c = getD (sums c) (leastTo (sums c) (size c .width - 1)) 0
+
+-- from `protected` on it says that no seam is allowed
+stuck : (c : tie.After-picture-bytes) → protected ≤ weight c → blocked (start c) ≡ true
+unfolding sums weight
+stuck c over = sym (ap isNone (same c markedUp)) ∙ marked-blocked (size c) (front c) (front-is c) (byte c) over
+
+-- below it that one is, and its cost
+free : (c : tie.After-picture-bytes) → weight c < protected → blocked (start c) ≡ false
+unfolding sums weight
+free c under = sym (ap isNone (same c markedUp)) ∙ marked-some (size c) (front c) (front-is c) (byte c) under
+
+cost-is : (c : tie.After-picture-bytes) → weight c < protected → weight c % kept ≡ price (start c)
+unfolding sums weight
+cost-is c under = marked-cost (size c) (front c) (front-is c) (byte c) under ∙ same c markedCostOf
+
+-- the space that `find_bottom` leaves
+abbrev filled : tie.After-find-bottom → List ℕ
+filled f = f .find-bottom .last .0
+
+filled-long : (f : tie.After-find-bottom) → length (filled f) ≡ length (space (at-bytes f))
+filled-long f = f .find-bottom .kept .0
+
+-- it has room for a byte for each pixel after the marks, and so for the ways
+pixels-within : (f : tie.After-find-bottom)
+    → let p = at-bytes f in
+    from p + size p .height * size p .width ≤ length (filled f)
+pixels-within f = let p = at-bytes f in omega (arith, filled-long f, bytes-are p, rooms p .room)
+
+ways-within : (f : tie.After-find-bottom)
+    → let p = at-bytes f in
+    from p + (size p .height - 1) * size p .width ≤ length (filled f)
+ways-within f = omega (arith, pixels-within f, bounds (at-bytes f) .rows)
+
+-- the ways between the rows, which stand there
 ways : (c : tie.After-picture-bytes) → List ℕ
 ways c = flat (table (waysUp false fence64 (size c .width) (weightsOf (size c) (front c))) (size c .height - 1))
-
-ways-are : (c : tie.After-find-bottom)
-    → let p = c .before .before in
-    c .find-bottom .last .0 ≡ front p ++ (ways p ++ drop (markedBytes (size p) + (size p .height - 1) * size p .width) (space p))
-unfolding front ways
-ways-are c = c .find-bottom .ensures .ways
 
 ways-wide : (c : tie.After-picture-bytes) → length (ways c) ≡ (size c .height - 1) * size c .width
 unfolding ways
 ways-wide c = ways-long false fence64 (size c .width) (size c .height - 1) (weightsOf (size c) (front c))
 
-ways-lent : (c : tie.After-find-bottom)
-    → let p = c .before .before in
-    take (from p + (size p .height - 1) * size p .width - from p) (drop (from p) (c .find-bottom .last .0)) ≡ ways p
-ways-lent c =
-    let p = c .before .before in
-    space-lent (space p) (front p) (ways p) (c .find-bottom .last .0) (markedBytes (size p)) ((size p .height - 1) * size p .width) (ways-are c) (front-long p) (ways-wide p) (from p) (from-is p)
+ways-are : (f : tie.After-find-bottom)
+    → let p = at-bytes f in
+    filled f ≡ front p ++ (ways p ++ drop (markedBytes (size p) + (size p .height - 1) * size p .width) (space p))
+unfolding front ways
+ways-are f = f .find-bottom .ensures .ways
 
-kept-long : (c : tie.After-find-bottom) → length (c .find-bottom .last .0) ≡ length (space (c .before .before))
-kept-long c = c .find-bottom .kept .0
+-- and as they are lent
+abbrev lent : tie.After-find-bottom → List ℕ
+lent f =
+    let p = at-bytes f in
+    take (from p + (size p .height - 1) * size p .width - from p) (drop (from p) (filled f))
+
+ways-lent : (f : tie.After-find-bottom) → lent f ≡ ways (at-bytes f)
+ways-lent f =
+    let p = at-bytes f in
+    let n = (size p .height - 1) * size p .width in
+    space-lent (space p) (front p) (ways p) (filled f) (markedBytes (size p)) n (ways-are f) (front-long p) (ways-wide p)
+    (from p) (front-end p .is)
 
 -- the space with the ways cleared
-cleared : (c : tie.After-find-bottom) (filled : List ℕ)
-    → let p = c .before .before in
-    let all = size p .height * size p .width in filled ≡ replicate (length (midOf (from p) (from p + all - from p) (c .find-bottom .last .0))) 0
-    → putMid (from p) (from p + all - from p) (c .find-bottom .last .0) filled ≡ left (start p)
+cleared : (f : tie.After-find-bottom) (zeros : List ℕ)
+    → let p = at-bytes f in
+    let all = size p .height * size p .width in
+    zeros ≡ replicate (length (midOf (from p) (from p + all - from p) (filled f))) 0
+    → putMid (from p) (from p + all - from p) (filled f) zeros ≡ left (start p)
 unfolding front
-cleared c filled f =
-    let p = c .before .before in
-    let n = pixels (size p) in
-    space-filled (space p) (front p) (ways p) (c .find-bottom .last .0) (markedBytes (size p)) ((size p .height - 1) * size p .width) (ways-are c) (front-long p) (ways-wide p) (from p) (size p .height * size p .width) 0 filled (from-is p) (omega (arith, bounds p .rows)) (omega (arith, kept-long c, bytes-are p, rooms p .room)) f
-    ∙ ap (λ k. take (pictureBytes (size p) + n) (space p) ++ (replicate n 0 ++ drop k (space p))) (add-assoc (pictureBytes (size p)) n n)
+cleared f zeros are =
+    let p = at-bytes f in
+    let z = size p in
+    let n = (z .height - 1) * z .width in
+    space-filled (space p) (front p) (ways p) (filled f) (markedBytes z) n (ways-are f) (front-long p) (ways-wide p)
+    (from p) (pixels z) 0 zeros (front-end p .is) (omega (arith, bounds p .rows)) (pixels-within f) are
+    ∙ ap (λ k. take (markedBytes z) (space p) ++ (replicate (pixels z) 0 ++ drop k (space p)))
+    (add-assoc (pictureBytes z) (pixels z) (pixels z))
 
--- the least weight of the last row
-weight : (c : tie.After-picture-bytes) → ℕ
-weight c =
-    let sums = sumsDown false fence64 (size c .width) (weightsOf (size c) (front c)) (size c .height - 1) in
-    getD sums (leastTo sums (size c .width - 1)) 0
+-- the column that is given is that of the least weight, the sum is this weight,
+column-is : (f : tie.After-find-bottom)
+    → let p = at-bytes f in
+    f .find-bottom .result .column ≡ leastTo (sums p) (size p .width - 1)
+unfolding front sums
+column-is f = f .find-bottom .ensures .column-is
 
-weight-is : (c : tie.After-find-bottom) → c .find-bottom .result .sum ≡ weight (c .before .before)
-unfolding front weight
-weight-is c =
-    let p = c .before .before in
-    let g = c .find-bottom .ensures in
-    g .sum-is ∙ ap (λ k. getD (sumsDown false fence64 (size p .width) (weightsOf (size p) (front p)) (size p .height - 1)) k 0) (g .column-is)
+sum-is : (f : tie.After-find-bottom) → f .find-bottom .result .sum ≡ getD (sums (at-bytes f)) (f .find-bottom .result .column) 0
+unfolding front sums
+sum-is f = f .find-bottom .ensures .sum-is
+
+weight-is : (f : tie.After-find-bottom) → f .find-bottom .result .sum ≡ weight (at-bytes f)
+unfolding weight
+weight-is f = sum-is f ∙ ap (λ k. getD (sums (at-bytes f)) k 0) (column-is f)
+
+-- and the columns traced back from there are the seam
+traceable : (f : tie.After-find-bottom)
+    → let p = at-bytes f in
+    Traceable (length (lent f)) (size p .width) (size p .height) (f .find-bottom .result .column) (length (seam p))
+unfolding ways
+traceable f =
+    let p = at-bytes f in
+    let g = f .find-bottom in
+    rw (ways-lent f)
+    (marked-traceable (size p) (front p) (front-is p) (byte p) (g .result .column) (length (seam p)) (g .ensures .inside)
+    (rooms p .seam-room))
+
+columns-are : (f : tie.After-find-bottom)
+    → let p = at-bytes f in
+    weight p < protected
+    → columnsTo (ways p) (size p .width) (size p .height - 1) (f .find-bottom .result .column) ≡ of-marked markedSeamOf (start p)
+unfolding sums weight ways
+columns-are f under =
+    let p = at-bytes f in
+    let z = size p in
+    ap (columnsTo (ways p) (z .width) (z .height - 1)) (column-is f)
+    ∙ marked-seam z (front p) (front-is p) (byte p) under
+    ∙ same p markedSeamOf
+
+seam-traced : (f : tie.After-find-bottom)
+    → let p = at-bytes f in
+    weight p < protected
+    → traced (lent f) (size p .width) (size p .height) (f .find-bottom .result .column) (seam p) ≡ columns (start p)
+seam-traced f under =
+    let p = at-bytes f in
+    let z = size p in
+    let column = f .find-bottom .result .column in
+    let rest = drop (z .height) (seam p) in
+    traced-is (lent f) (z .width) (z .height) column (seam p) (traceable f)
+    ∙ ap (λ x. columnsTo x (z .width) (z .height - 1) column ++ rest) (ways-lent f)
+    ∙ ap (_++ rest) (columns-are f under)
 
 judge-find-in-requires : tie.Need-judge-find-in-requires
 judge-find-in-requires c κs = search needs
@@ -167,22 +301,24 @@ judge-find-in-requires c κs = search needs
 enum-known-allowed : tie.Need-enum-known-allowed
 enum-known-allowed c = search needs
 
+-- refused by 2, 3 or 8: nothing is written
 returns : tie.Need-returns
 returns c =
     let at-judge = c .before .before .before in
     let s = at-judge .before .before .before in
-    let z = s .args .size in
-    let space = now (s .args .space) in
-    let seam = now (s .args .seam) in
+    let a = s .args in
     let why = c .before .allowed .given in
     let told = at-judge .judge-find-in .ensures in
-    let rules = findSpaceRules z true (length space) (length seam) in
-    let n : numberOf (why .0 .0) ≡ refusal (findSpaceRules z true (length space) (length seam)) = sym (ap given (why .1)) ∙ told in
+    let rules = findSpaceRules (a .size) true (length (now (a .space))) (length (now (a .seam))) in
+    let n : numberOf (why .0 .0) ≡ refusal rules = sym (ap given (why .1)) ∙ told in
+    let most : numberOf (why .0 .0) ≤ 8 = rw n (refusal-most 8 rules refl) in
     record {
-      number = sym (ap given (why .1)) ∙ refused-answer (at-judge .judge-find-in .result) (why .0 .0) (why .1) rules (12 when blocked s ∷ []) told;
-      cost = kept-by (why .0 .0) (markedCostOf (z .width) (z .height) (pictureIn z space) (marksIn z space)) 0;
-      space-left = sym (worked-not (numberOf (why .0 .0)) (left s) space (number-some (why .0 .0)) (rw n (refusal-most 8 rules refl)));
-      seam-given = kept-by (why .0 .0) (markedSeamOf (z .width) (z .height) (pictureIn z space) (marksIn z space) ++ drop (z .height) seam) seam;
+      number =
+          sym (ap given (why .1))
+          ∙ refused-answer (at-judge .judge-find-in .result) (why .0 .0) (why .1) rules (12 when blocked s ∷ []) told;
+      cost = kept-by (why .0 .0) (price s) 0;
+      space-left = sym (worked-not (numberOf (why .0 .0)) (left s) (now (a .space)) (number-some (why .0 .0)) most);
+      seam-given = kept-by (why .0 .0) (columns s) (now (a .seam));
     }
 
 enum-told : tie.Need-enum-told
@@ -192,10 +328,10 @@ picture-bytes-requires : tie.Need-picture-bytes-requires
 picture-bytes-requires c κs = search needs
 
 mul-from : tie.Need-mul-from
-mul-from c = omega (arith, bounds c .all)
+mul-from c = omega (arith, front-end c .all)
 
 add-from : tie.Need-add-from
-add-from c = omega (arith, bytes-are c, bounds c .short, bounds c .all)
+add-from c = omega (arith, front-end c .short, front-end c .all)
 
 sub-last : tie.Need-sub-last
 sub-last c = bounds c .some
@@ -204,13 +340,13 @@ mul-last : tie.Need-mul-last
 mul-last c = omega (arith, bounds c .few)
 
 add-last : tie.Need-add-last
-add-last c = omega (arith, bytes-are c, bounds c .short, bounds c .all, bounds c .few)
+add-last c = omega (arith, front-end c .short, front-end c .all, bounds c .few)
 
 mul-end : tie.Need-mul-end
-mul-end c = omega (arith, bounds c .all)
+mul-end c = omega (arith, front-end c .all)
 
 add-end : tie.Need-add-end
-add-end c = omega (arith, bytes-are c, bounds c .short, bounds c .all)
+add-end c = omega (arith, front-end c .short, front-end c .all)
 
 find-bottom-requires : tie.Need-find-bottom-requires
 find-bottom-requires c κs =
@@ -234,37 +370,35 @@ part-clear-start : tie.Need-part-clear-start
 part-clear-start c = search needs
 
 part-clear-end : tie.Need-part-clear-end
-part-clear-end c =
-    let f = c .before .before .before .before .before .before in
-    let p = f .before .before in
-    omega (arith, kept-long f, bytes-are p, rooms p .room)
+part-clear-end c = pixels-within (at-find-bottom (heavy-by c))
 
 clear-requires : tie.Need-clear-requires
 clear-requires c κs = search needs
 
 same-length : tie.Need-same-length
-same-length c = c .before .space2 .given .1 ∙ c .before .before .before .before .before .before .before .before .before .space .given
+same-length c = c .before .space2 .given .1 ∙ gave-space (heavy-by (c .before .before .before .before)) .space .given
 
+-- refused by 12: the ways are cleared
 returns-2 : tie.Need-returns-2
-unfolding front weight
 returns-2 c =
     let at-clear = c .before .before in
-    let at-found = at-clear .before .before .before in
-    let at-found-by = at-found .before .before in
-    let f = at-found-by .before .before .before in
-    let p = f .before .before in
+    let told = at-clear .before .before in
+    let by = heavy-by told .found-by in
+    let f = at-find-bottom (heavy-by told) in
+    let p = at-bytes f in
     let s = start p in
-    let z = size p in
-    let why = at-found .found .given in
-    let by = at-found-by .found-by .ensures in
-    let over : protected ≤ weight p = rw (weight-is f) at (heavy (f .find-bottom .result .sum) (at-found-by .found-by .result) by (why .0 .0) (why .1)) in
-    let stuck : blocked s ≡ true = sym (same p (λ x m. isNone (markedUp (z .width) (z .height) x m))) ∙ marked-blocked z (front p) (front-is p) (byte p) over in
-    let n : numberOf (why .0 .0) ≡ cond (blocked s) 12 0 = heavy-number (f .find-bottom .result .sum) (at-found-by .found-by .result) by (why .0 .0) (why .1) ∙ sym (ap (λ t. cond t 12 0) stuck) in
+    let sum = f .find-bottom .result .sum in
+    let why = told .before .found .given in
+    let over : protected ≤ weight p = rw (weight-is f) at (heavy sum (by .result) (by .ensures) (why .0 .0) (why .1)) in
+    let twelve : numberOf (why .0 .0) ≡ 12 = heavy-number sum (by .result) (by .ensures) (why .0 .0) (why .1) in
+    let n : numberOf (why .0 .0) ≡ cond (blocked s) 12 0 = twelve ∙ sym (ap (λ t. cond t 12 0) (stuck p over)) in
     record {
       number = n ∙ sym (last-rule p);
-      cost = kept-by (why .0 .0) (markedCostOf (z .width) (z .height) (pictureIn z (space p)) (marksIn z (space p))) 0;
-      space-left = cleared f (at-clear .clear .last .0) (at-clear .clear .ensures) ∙ sym (worked-or (numberOf (why .0 .0)) (left s) (space p) (blocked s) n);
-      seam-given = kept-by (why .0 .0) (markedSeamOf (z .width) (z .height) (pictureIn z (space p)) (marksIn z (space p)) ++ drop (z .height) (seam p)) (seam p);
+      cost = kept-by (why .0 .0) (price s) 0;
+      space-left =
+          cleared f (at-clear .clear .last .0) (at-clear .clear .ensures)
+          ∙ sym (worked-or (numberOf (why .0 .0)) (left s) (space p) (blocked s) n);
+      seam-given = kept-by (why .0 .0) (columns s) (seam p);
     }
 
 enum-told-2 : tie.Need-enum-told-2
@@ -277,10 +411,7 @@ part-trace-back-start : tie.Need-part-trace-back-start
 part-trace-back-start c = search needs
 
 part-trace-back-end : tie.Need-part-trace-back-end
-part-trace-back-end c =
-    let f = c .before .before .before .before .before .before in
-    let p = f .before .before in
-    omega (arith, kept-long f, bytes-are p, rooms p .room, bounds p .rows)
+part-trace-back-end c = ways-within (at-find-bottom (light-by (c .before)))
 
 trace-back-requires : tie.Need-trace-back-requires
 trace-back-requires c κs = search needs
@@ -292,53 +423,46 @@ part-clear-start-2 : tie.Need-part-clear-start-2
 part-clear-start-2 c = search needs
 
 part-clear-end-2 : tie.Need-part-clear-end-2
-part-clear-end-2 c =
-    let f = c .before .before .before .before .before .before .before .before .before .before .before in
-    let p = f .before .before in
-    omega (arith, kept-long f, bytes-are p, rooms p .room)
+part-clear-end-2 c = pixels-within (at-find-bottom (light-by (at-light (at-trace-back c))))
 
 clear-requires-2 : tie.Need-clear-requires-2
 clear-requires-2 c κs = search needs
 
 same-length-2 : tie.Need-same-length-2
-same-length-2 c = c .before .space4 .given .1 ∙ c .before .before .before .before .before .before .before .before .before .before .before .before .before .before .space .given
+same-length-2 c =
+    c .before .space4 .given .1
+    ∙ gave-space (light-by (at-light (at-trace-back (c .before .before .before .before)))) .space .given
 
 same-length-3 : tie.Need-same-length-3
-same-length-3 c = c .before .before .before .before .before .seam .given
+same-length-3 c =
+    let at-clear = c .before .before in
+    at-clear .before .before .before .seam .given
 
+-- a seam is allowed: it is given, and the ways are cleared
 returns-3 : tie.Need-returns-3
-unfolding front ways weight
 returns-3 c =
-    let at-clear2 = c .before .before in
-    let at-trace = at-clear2 .before .before .before .before in
-    let at-told2 = at-trace .before .before .before .before in
-    let at-found-by = at-told2 .before .before in
-    let f = at-found-by .before .before .before in
-    let p = f .before .before in
+    let at-clear = c .before .before in
+    let t = at-trace-back (at-clear .before .before) in
+    let told = at-light t .enum-told2 .given in
+    let by = light-by (at-light t) .found-by in
+    let f = at-find-bottom (light-by (at-light t)) in
+    let p = at-bytes f in
     let s = start p in
-    let z = size p in
-    let answer = at-found-by .found-by .result in
-    let cost = at-told2 .enum-told2 .given in
-    let by = at-found-by .found-by .ensures in
-    let found = f .find-bottom .ensures in
-    let zero : foundNumber answer ≡ 0 = ap foundNumber (cost .1) in
-    let under : weight p < protected = rw (weight-is f) at (light (f .find-bottom .result .sum) answer by (cost .0 .0) (cost .1)) in
-    let free : blocked s ≡ false = sym (same p (λ x m. isNone (markedUp (z .width) (z .height) x m))) ∙ marked-some z (front p) (front-is p) (byte p) under in
-    let n : foundNumber answer ≡ cond (blocked s) 12 0 = zero ∙ sym (ap (λ t. cond t 12 0) free) in
-    let fits = marked-traceable z (front p) (front-is p) (byte p) (f .find-bottom .result .column) (length (seam p)) (found .inside) (rooms p .seam-room) in
+    let sum = f .find-bottom .result .sum in
+    let under : weight p < protected = rw (weight-is f) at (light sum (by .result) (by .ensures) (told .0 .0) (told .1)) in
+    let zero : foundNumber (by .result) ≡ 0 = ap foundNumber (told .1) in
+    let n : foundNumber (by .result) ≡ cond (blocked s) 12 0 = zero ∙ sym (ap (λ t. cond t 12 0) (free p under)) in
     record {
       number = n ∙ sym (last-rule p);
       cost =
-          light-cost (f .find-bottom .result .sum) answer by (cost .0 .0) (cost .1)
-          ∙ ap (λ k. k % kept) (weight-is f) ∙ marked-cost z (front p) (front-is p) (byte p) under ∙ same p (markedCostOf (z .width) (z .height))
-          ∙ sym (ap (λ k. served k (markedCostOf (z .width) (z .height) (pictureIn z (space p)) (marksIn z (space p))) 0) zero);
-      space-left = cleared f (at-clear2 .clear2 .last .0) (at-clear2 .clear2 .ensures) ∙ sym (worked-or (foundNumber answer) (left s) (space p) (blocked s) n);
-      seam-given =
-          at-trace .trace-back .ensures
-          ∙ traced-is _ (z .width) (z .height) (f .find-bottom .result .column) (seam p) (rw (ways-lent f) fits)
-          ∙ ap₂ (λ x k. columnsTo x (z .width) (z .height - 1) k ++ drop (z .height) (seam p)) (ways-lent f) (found .column-is)
-          ∙ ap (_++ drop (z .height) (seam p)) (marked-seam z (front p) (front-is p) (byte p) under ∙ same p (markedSeamOf (z .width) (z .height)))
-          ∙ sym (ap (λ k. served k (markedSeamOf (z .width) (z .height) (pictureIn z (space p)) (marksIn z (space p)) ++ drop (z .height) (seam p)) (seam p)) zero);
+          light-cost sum (by .result) (by .ensures) (told .0 .0) (told .1)
+          ∙ ap (λ k. k % kept) (weight-is f)
+          ∙ cost-is p under
+          ∙ sym (ap (λ k. served k (price s) 0) zero);
+      space-left =
+          cleared f (at-clear .clear2 .last .0) (at-clear .clear2 .ensures)
+          ∙ sym (worked-or (foundNumber (by .result)) (left s) (space p) (blocked s) n);
+      seam-given = t .trace-back .ensures ∙ seam-traced f under ∙ sym (ap (λ k. served k (columns s) (seam p)) zero);
     }
 
 pub find-marked-in-spec : {M : Type 1} → statement M

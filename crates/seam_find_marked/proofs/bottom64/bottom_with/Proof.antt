@@ -1,6 +1,8 @@
--- `seam_find_marked::bottom64::bottom_with` meets its contract.
+-- `seam_find_marked::bottom64::bottom_with` meets its contract: the weights of row 0 are put between the fences, `down` makes the
+-- fenced sums of the last row of them, and what is given is the first of the least of these.
 use mathlib.Core.Path.{_≡_, sym, ap, _∙_}
-use Prim.Native.Nat.{_+_, _-_, _*_, _≤_, _<_}
+use mathlib.Core.List.{List}
+use Prim.Native.Nat.{ℕ, _+_, _-_, _<_}
 use native.Mathlib.Nat.{add-sub-cancel}
 use native.Mathlib.Omega.{arith}
 use borrow.Author.Needs.{needs}
@@ -8,83 +10,140 @@ use borrow.Rule.Slice.PartMut.{midOf}
 use denote.Ref.{now}
 use lib.ListN.{length, take, length-replicate}
 use lib.Seq.{length-take-le}
-use Rattle.grids.proofs.Tables.{length-table}
 use Rattle.grids.proofs.Parts.{part-length}
-use Rattle.pictures.specs.Limits.{mostPixels, mostPicture}
-use Rattle.pictures.specs.Pictures.{pictureBytes}
+use Rattle.pictures.specs.declared.sizes.Size.{Size}
+use Rattle.pictures.specs.Pictures.{largestSide, pictureBytes}
 use Rattle.pictures.proofs.Limits.{Sized, sized-is}
 use Rattle.seam_sums.specs.Fences.{fence64}
-use Rattle.seam_find_marked.specs.Inner.{weightsOf, markedBytes}
 use Rattle.seam_find.proofs.Fences.{first-row, last-long, bottom-inside, bottom-given}
+use Rattle.seam_find_marked.specs.Inner.{weightsOf, markedBytes}
+use Rattle.seam_find_marked.proofs.Spaces.{FrontEnds, front-ends}
+use Rattle.seam_find_marked.proofs.Marked.{weights-wide}
 use Rattle.seam_find_marked.proofs.bottom64.bottom_with.Statement.{statement}
 use Rattle.seam_find_marked.proofs.bottom64.bottom_with.Tie as tie
 
-sure : (c : tie.Start) → Sized (c .args .size) (pictureBytes (c .args .size))
-sure c = sized-is _ _ (c .pre .0 .sized)
+-- places, from the last call back: the buffers as `down` gave them back,
+abbrev gave-next : tie.After-above3 → tie.After-next
+gave-next c = c .before .before
 
--- where picture and marks end
-record Ends (c : tie.Start) : Type 0 where
-  short : c .args .bytes ≤ mostPicture
-  all : c .args .size .height * c .args .size .width ≤ mostPixels
-  within : c .args .bytes + c .args .size .height * c .args .size .width ≤ length (now (c .args .space))
+abbrev gave-cost : tie.After-above3 → tie.After-cost
+gave-cost c = gave-next c .before .before
 
-ends : (c : tie.Start) → Ends c
-ends c =
-    let p = c .pre .0 in
-    let s = sure c in
-    record { short = omega arith; all = s .pixels-most; within = omega arith }
+abbrev gave-energies : tie.After-above3 → tie.After-energies2
+gave-energies c = gave-cost c .before .before
 
-from-is : (c : tie.Start) → c .args .bytes + c .args .size .height * c .args .size .width ≡ markedBytes (c .args .size)
-from-is c = ap (_+ c .args .size .height * c .args .size .width) (c .pre .0 .bytes-are)
+abbrev gave-above : tie.After-above3 → tie.After-above2
+gave-above c = gave-energies c .before .before
 
-above-long : (c : tie.Start) → length (now (c .args .above)) ≡ c .args .size .width + 2
-above-long c = ap length (c .pre .1 .0 .fences) ∙ length-replicate (c .args .size .width + 2) fence64
+abbrev gave-space : tie.After-above3 → tie.After-space
+gave-space c = gave-above c .before .before
 
-mid-long : (c : tie.Start) → length (midOf 1 (c .args .size .width + 1 - 1) (now (c .args .above))) ≡ c .args .size .width
-mid-long c = part-length 1 (c .args .size .width + 1) (now (c .args .above)) (omega (arith, above-long c)) ∙ add-sub-cancel (c .args .size .width) 1
+abbrev at-down : tie.After-above3 → tie.After-down
+at-down c = gave-space c .before
 
-wide : (c : tie.Start) → length (weightsOf (c .args .size) (take (markedBytes (c .args .size)) (now (c .args .space))) 0 .up) ≡ c .args .size .width
-wide c = length-table _ (c .args .size .width)
+-- as `row_weights` gave them back,
+abbrev weighed-above : tie.After-down-arg5 → tie.After-above
+weighed-above c = c .before .before .before .before .before .before
 
--- the weights of row 0
-row-0 : (c : tie.After-row-weights)
-    → let s = c .before .before .before .before .before .before .before .before .before in
-    let a = s .args in c .row-weights .last .1 .1 .1 .1 .1 .0 ≡ weightsOf (a .size) (take (markedBytes (a .size)) (now (a .space))) 0 .up
-row-0 c =
-    let s = c .before .before .before .before .before .before .before .before .before in
-    c .row-weights .ensures ∙ ap (λ n. weightsOf (s .args .size) (take n (now (s .args .space))) 0 .up) (from-is s)
+abbrev weighed-energies : tie.After-down-arg5 → tie.After-energies
+weighed-energies c = weighed-above c .before .before
 
--- the last row of sums
-all-long : (c : tie.After-down)
-    → let s = c .before .before .before .before .before .before .before .before .before .before .before .before .before .before .before .before .before .before .before in
-    length (c .down .last .1 .1 .1 .0) ≡ s .args .size .width + 2
-all-long c =
-    let s = c .before .before .before .before .before .before .before .before .before .before .before .before .before .before .before .before .before .before .before in
-    let a = s .args in
-    last-long fence64 (markedBytes (a .size)) (a .size) (weightsOf (a .size)) (now (a .space)) (c .down .last .0) (c .down .last .1 .1 .1 .0) (wide s) (c .down .ensures)
+abbrev at-row-weights : tie.After-down-arg5 → tie.After-row-weights
+at-row-weights c = weighed-energies c .before
 
--- the first of the least sums is one of its columns
-inside : (c : tie.After-first-least) → c .first-least .result < c .before .before .before .before .before .before .before .before .before .before .before .before .before .before .before .before .before .before .before .before .before .before .before .before .before .before .before .before .before .before .before .before .args .size .width
-inside c =
-    let d = c .before .before .before .before .before .before .before .before .before .before .before .before .before in
-    let s = d .before .before .before .before .before .before .before .before .before .before .before .before .before .before .before .before .before .before .before in
-    let a = s .args in
-    bottom-inside fence64 (markedBytes (a .size)) (a .size) (weightsOf (a .size)) (now (a .space)) (d .down .last .0) (d .down .last .1 .1 .1 .0) (wide s) (d .down .ensures) (c .first-least .result) (sure s .width-some) (c .first-least .ensures)
+-- where the lengths of the buffers are known, and the start
+abbrev known : tie.After-row-weights → tie.After-slice-known5
+known r = r .before .before .before .before
+
+abbrev begun : tie.After-down → tie.After-slice-known5
+begun d = known (at-row-weights (d .before))
+
+abbrev start : tie.After-slice-known5 → tie.Start
+start c = c .before .before .before .before .before
+
+-- the space with the picture, and the row that is all fence
+abbrev size : tie.After-slice-known5 → Size
+size c = start c .args .size
+
+abbrev space : tie.After-slice-known5 → List ℕ
+space c = now (start c .args .space)
+
+abbrev above : tie.After-slice-known5 → List ℕ
+above c = now (start c .args .above)
+
+-- picture and marks
+abbrev front : tie.After-slice-known5 → List ℕ
+front c = take (markedBytes (size c)) (space c)
+
+-- what the calls leave: the weights of row 0, the space with the ways, and the fenced sums of the last row
+abbrev weights : tie.After-row-weights → List ℕ
+weights r = r .row-weights .last .1 .1 .1 .1 .1 .0
+
+abbrev filled : tie.After-down → List ℕ
+filled d = d .down .last .0
+
+abbrev sums : tie.After-down → List ℕ
+sums d = d .down .last .1 .1 .1 .0
+
+sure : (c : tie.After-slice-known5) → Sized (size c) (pictureBytes (size c))
+sure c = sized-is _ _ (start c .pre .0 .sized)
+
+front-end : (c : tie.After-slice-known5) → FrontEnds (size c) (start c .args .bytes) (length (space c))
+front-end c =
+    let p = start c .pre .0 in
+    front-ends (size c) (sure c) (start c .args .bytes) (length (space c)) (p .bytes-are) (omega (arith, p .room))
+
+above-long : (c : tie.After-slice-known5) → length (above c) ≡ size c .width + 2
+above-long c = ap length (start c .pre .1 .0 .fences) ∙ length-replicate (size c .width + 2) fence64
+
+-- the room between the fences, which is lent for the weights of row 0
+between-long : (c : tie.After-slice-known5) → length (midOf 1 (size c .width + 1 - 1) (above c)) ≡ size c .width
+between-long c =
+    part-length 1 (size c .width + 1) (above c) (omega (arith, above-long c))
+    ∙ add-sub-cancel (size c .width) 1
+
+wide : (c : tie.After-slice-known5) → length (weightsOf (size c) (front c) 0 .up) ≡ size c .width
+wide c = weights-wide (size c) (front c) 0
+
+weights-are : (r : tie.After-row-weights) → let c = known r in weights r ≡ weightsOf (size c) (front c) 0 .up
+weights-are r =
+    let c = known r in
+    r .row-weights .ensures ∙ ap (λ n. weightsOf (size c) (take n (space c)) 0 .up) (front-end c .is)
+
+sums-long : (d : tie.After-down) → length (sums d) ≡ size (begun d) .width + 2
+sums-long d =
+    let c = begun d in
+    let z = size c in
+    last-long fence64 (markedBytes z) z (weightsOf z) (space c) (filled d) (sums d) (wide c) (d .down .ensures)
+
+-- the first of the least sums is one of the columns
+inside : (f : tie.After-first-least)
+    → let d = at-down (f .before .before) in
+    f .first-least .result < size (begun d) .width
+inside f =
+    let d = at-down (f .before .before) in
+    let c = begun d in
+    let z = size c in
+    bottom-inside fence64 (markedBytes z) z (weightsOf z) (space c) (filled d) (sums d) (wide c) (d .down .ensures)
+    (f .first-least .result) (sure c .width-some) (f .first-least .ensures)
+
+column-most : (f : tie.After-first-least) → f .first-least .result < largestSide
+column-most f = omega (arith, inside f, sure (begun (at-down (f .before .before))) .width-most)
 
 add-side : tie.Need-add-side
-add-side c = omega (arith, sure (c .before .before .before .before .before) .width-most)
+add-side c = omega (arith, sure c .width-most)
 
 mul-from : tie.Need-mul-from
-mul-from c = let e = ends (c .before .before .before .before .before) in omega arith
+mul-from c = omega (arith, front-end c .all)
 
 add-from : tie.Need-add-from
-add-from c = let e = ends (c .before .before .before .before .before) in omega arith
+add-from c = omega (arith, front-end c .short, front-end c .all)
 
 slice-reshare-prefix-row-weights : tie.Need-slice-reshare-prefix-row-weights
-slice-reshare-prefix-row-weights c = ends (c .before .before .before .before .before) .within
+slice-reshare-prefix-row-weights c = front-end c .within
 
 slice-aggregate-row-weights : tie.Need-slice-aggregate-row-weights
-slice-aggregate-row-weights c = sym (length-take-le _ _ (ends (c .before .before .before .before .before .before) .within))
+slice-aggregate-row-weights c = sym (length-take-le _ _ (front-end (c .before) .within))
 
 sub-row-weights : tie.Need-sub-row-weights
 sub-row-weights c = search needs
@@ -93,37 +152,36 @@ part-row-weights-start : tie.Need-part-row-weights-start
 part-row-weights-start c = search needs
 
 part-row-weights-end : tie.Need-part-row-weights-end
-part-row-weights-end c =
-    let s = c .before .before .before .before .before .before .before in
-    omega (arith, above-long s)
+part-row-weights-end c = omega (arith, above-long (c .before .before))
 
 row-weights-requires : tie.Need-row-weights-requires
 row-weights-requires c κs =
-    let s = c .before .before .before .before .before .before .before .before in
+    let k = c .before .before .before in
+    let p = start k .pre in
     record {
-      bytes-are = s .pre .0 .bytes-are;
-      sized = s .pre .0 .sized;
-      inside = sure s .height-some;
-      long = length-take-le _ _ (ends s .within) ∙ from-is s;
-      energy-room = s .pre .1 .1;
-      cost-room = mid-long s;
+      bytes-are = p .0 .bytes-are;
+      sized = p .0 .sized;
+      inside = sure k .height-some;
+      long = length-take-le _ _ (front-end k .within) ∙ front-end k .is;
+      energy-room = p .1 .1;
+      cost-room = between-long k;
     }
 
 down-requires : tie.Need-down-requires
 down-requires c κs =
-    let r = c .before .before .before .before .before .before .before .before .before in
-    let s = r .before .before .before .before .before .before .before .before .before in
-    let z = s .args .size in
-    let p = s .pre in (
+    let r = at-row-weights c in
+    let k = known r in
+    let z = size k in
+    let p = start k .pre in (
       record {
         bytes-are = p .0 .bytes-are;
         sized = p .0 .sized;
         room = p .0 .room;
-        first = first-row fence64 (z .width) (now (s .args .above)) _ (weightsOf z (take (markedBytes z) (now (s .args .space))) 0 .up) (p .1 .0 .fences) (row-0 r);
+        first = first-row fence64 (z .width) (above k) (weights r) (weightsOf z (front k) 0 .up) (p .1 .0 .fences) (weights-are r);
         cost-room = p .1 .0 .cost-room;
         next-room = p .1 .0 .next-room;
       },
-      r .row-weights .kept .1 .1 .1 .1 .0 ∙ p .1 .1,
+      weighed-energies c .energies .given ∙ p .1 .1,
     )
 
 sub-first-least : tie.Need-sub-first-least
@@ -133,44 +191,47 @@ part-first-least-start : tie.Need-part-first-least-start
 part-first-least-start c = search needs
 
 part-first-least-end : tie.Need-part-first-least-end
-part-first-least-end c =
-    let at-down = c .before .before .before .before .before .before .before .before .before .before .before in
-    omega (arith, all-long at-down)
+part-first-least-end c = omega (arith, sums-long (at-down c))
 
 first-least-requires : tie.Need-first-least-requires
 first-least-requires c κs = search needs
 
 add-at : tie.Need-add-at
-add-at c = let s = c .before .before .before .before .before .before .before .before .before .before .before .before .before .before .before .before .before .before .before .before .before .before .before .before .before .before .before .before .before .before .before .before in omega (arith, inside c, sure s .width-most)
+add-at c = omega (arith, column-most c)
 
 mul-t14 : tie.Need-mul-t14
-mul-t14 c = let s = c .before .before .before .before .before .before .before .before .before .before .before .before .before .before .before .before .before .before .before .before .before .before .before .before .before .before .before .before .before .before .before .before in omega (arith, inside c, sure s .width-most)
+mul-t14 c = omega (arith, column-most c)
 
 slice-read-t37 : tie.Need-slice-read-t37
-slice-read-t37 c = omega (arith, all-long (c .before .before .before .before .before .before .before .before .before .before .before .before .before .before), inside (c .before))
+slice-read-t37 c = omega (arith, sums-long (at-down (c .before .before .before)), inside (c .before))
 
 same-length : tie.Need-same-length
-same-length c = c .before .before .before .before .before .before .before .before .before .before .before .before .before .space .given
+same-length c = gave-space (c .before .before .before) .space .given
 
 same-length-2 : tie.Need-same-length-2
-same-length-2 c = c .before .before .before .before .before .before .before .before .before .before .before .above2 .given ∙ c .before .before .before .before .before .before .before .before .before .before .before .before .before .before .before .before .before .before .before .before .before .above .given .1
+same-length-2 c =
+    let l = c .before .before .before in
+    gave-above l .above2 .given ∙ weighed-above (at-down l .before) .above .given .1
 
 same-length-3 : tie.Need-same-length-3
-same-length-3 c = c .before .before .before .before .before .before .before .before .before .energies2 .given ∙ c .before .before .before .before .before .before .before .before .before .before .before .before .before .before .before .before .before .before .before .before .before .before .before .energies .given
+same-length-3 c =
+    let l = c .before .before .before in
+    gave-energies l .energies2 .given ∙ weighed-energies (at-down l .before) .energies .given
 
 same-length-4 : tie.Need-same-length-4
-same-length-4 c = c .before .before .before .before .before .before .before .cost .given
+same-length-4 c = gave-cost (c .before .before .before) .cost .given
 
 same-length-5 : tie.Need-same-length-5
-same-length-5 c = c .before .before .before .before .before .next .given
+same-length-5 c = gave-next (c .before .before .before) .next .given
 
 returns : tie.Need-returns
 returns c =
-    let d = c .before .before .before .before .before .before .before .before .before .before .before .before .before .before in
-    let s = d .before .before .before .before .before .before .before .before .before .before .before .before .before .before .before .before .before .before .before in
-    let z = s .args .size in
-    let f = c .before .first-least in
-    bottom-given fence64 (markedBytes z) z (weightsOf z) (now (s .args .space)) (d .down .last .0) (d .down .last .1 .1 .1 .0) (wide s) (d .down .ensures) (f .result) (f .ensures) (inside (c .before))
+    let f = c .before in
+    let d = at-down (f .before .before) in
+    let k = begun d in
+    let z = size k in
+    bottom-given fence64 (markedBytes z) z (weightsOf z) (space k) (filled d) (sums d) (wide k) (d .down .ensures)
+    (f .first-least .result) (f .first-least .ensures) (inside f)
 
 pub bottom-with-spec : {M : Type 1} → statement M
 bottom-with-spec =

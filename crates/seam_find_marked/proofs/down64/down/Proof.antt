@@ -1,78 +1,132 @@
--- `seam_find_marked::down64::down` meets its contract. The loop's invariant: all that holds before row i.
+-- `seam_find_marked::down64::down` meets its contract. The loop's invariant: i is at least 1 and at most the height, `above` has
+-- the fenced sums of row i - 1, the ways between the rows before row i stand after the marks, and each buffer is as long as it
+-- was. The measure is the number of rows left.
 use mathlib.Core.Path.{_≡_, refl, _∙_}
 use mathlib.Core.List.{List}
-use Prim.Native.Nat.{ℕ, _+_, _-_, _≤_, _<_}
+use Prim.Native.Nat.{ℕ, suc, _+_, _-_, _*_, _≤_, _<_}
 use native.Mathlib.Omega.{arith}
 use borrow.Author.Needs.{needs}
 use denote.Ref.{now}
 use lib.ListN.{length, getD, take}
-use Rattle.grids.proofs.Tables.{length-table}
 use Rattle.pictures.specs.declared.sizes.Size.{Size}
 use Rattle.pictures.specs.Pictures.{pictureBytes}
 use Rattle.pictures.proofs.Limits.{Sized, sized-is}
 use Rattle.seam_sums.specs.Fences.{fence64}
-use Rattle.seam_find_marked.specs.Inner.{mostWeight, weightsOf, markedBytes}
 use Rattle.seam_find.proofs.Downs.{Downs, down-start, down-turn, down-end, above-long, above-most}
-use Rattle.seam_find_marked.proofs.Weighed.{weights-most, front-sized, front-bytes}
+use Rattle.seam_find_marked.specs.Inner.{mostWeight, weightsOf, markedBytes}
+use Rattle.seam_find_marked.proofs.Marked.{weights-wide, front-weights}
 use Rattle.seam_find_marked.proofs.down64.down.Statement.{statement}
 use Rattle.seam_find_marked.proofs.down64.down.Tie as tie
 
+-- What holds before row i, of the buffers as they were lent (space₀ and so on) and as they are.
+record BeforeRow (size : Size) (space₀ above₀ energies₀ cost₀ next₀ : List ℕ) (i : ℕ)
+    (space above energies cost next : List ℕ) : Type 0 where
+  later : 0 < i
+  most : i ≤ size .height
+  rows : Downs fence64 (markedBytes size) size (weightsOf size) space₀ i space above
+  above-kept : length above ≡ length above₀
+  energies-kept : length energies ≡ length energies₀
+  cost-kept : length cost ≡ length cost₀
+  next-kept : length next ≡ length next₀
+
 abbrev Inv-loop : tie.InvT-loop
-Inv-loop space₀ size bytes above₀ energies₀ cost₀ next₀ height i₀ space above energies cost next i = (0 < i) × ((i ≤ size .height) × (Downs fence64 (markedBytes size) size (weightsOf size) space₀ i space above × ((length above ≡ length above₀) × ((length energies ≡ length energies₀) × ((length cost ≡ length cost₀) × (length next ≡ length next₀))))))
+Inv-loop space₀ size bytes above₀ energies₀ cost₀ next₀ height i₀ space above energies cost next i =
+    BeforeRow size space₀ above₀ energies₀ cost₀ next₀ i space above energies cost next
 
 abbrev μ-loop : tie.MeasureT-loop
 μ-loop space₀ size bytes above₀ energies₀ cost₀ next₀ height i₀ space above energies cost next i = height - i
 
-wide : (z : Size) (start : List ℕ) (i : ℕ) → length (weightsOf z (take (markedBytes z) start) i .up) ≡ z .width
-wide z start i = length-table _ (z .width)
+-- places: where the lengths of the buffers are known, the loop's test, and in a turn the buffers that row_down gave back
+abbrev start : tie.After-slice-known5 Inv-loop μ-loop → tie.Start Inv-loop μ-loop
+start c = c .before .before .before .before .before
 
-sure : (c : tie.Start Inv-loop μ-loop) → Sized (c .args .size) (pictureBytes (c .args .size))
-sure c = sized-is _ _ (c .pre .0 .sized)
+abbrev turn : tie.After-row-down-arg5 Inv-loop μ-loop → tie.In-loop Inv-loop μ-loop
+turn c = c .before .before .before .before .before
 
-byte : (c : tie.After-slice-known Inv-loop μ-loop) (i : ℕ) → getD (now (c .before .args .space)) i 0 ≤ 255
-byte c i = omega (arith, c .slice-known .given i)
+abbrev gave-cost : tie.After-next Inv-loop μ-loop → tie.After-cost Inv-loop μ-loop
+gave-cost c = c .before .before
 
--- in a turn, the sums above are small
-small : (c : tie.At-loop Inv-loop μ-loop) (k : ℕ) → c .loop .i < c .before .before .before .before .before .before .args .size .height → k < c .before .before .before .before .before .before .args .size .width → getD (c .loop .above) (k + 1) 0 < fence64
-small c k l h =
-    let at-slice-known = c .before .before .before .before .before in
-    let s = at-slice-known .before in
-    let z = s .args .size in
-    let start = now (s .args .space) in
-    let b = take (markedBytes z) start in
-    let most = weights-most z b (front-sized z start (sure s) (omega (arith, s .pre .0 .room))) (front-bytes z start (byte at-slice-known)) in
-    let m = above-most fence64 (markedBytes z) z (weightsOf z) start (wide z start) mostWeight (c .loop .i) (c .loop .space) (c .loop .above) most (c .loop .inv .1 .1 .0) k h in
-    omega (arith, sure s .height-most)
+abbrev gave-energies : tie.After-next Inv-loop μ-loop → tie.After-energies Inv-loop μ-loop
+gave-energies c = gave-cost c .before .before
+
+abbrev gave-above : tie.After-next Inv-loop μ-loop → tie.After-above Inv-loop μ-loop
+gave-above c = gave-energies c .before .before
+
+abbrev at-row-down : tie.After-next Inv-loop μ-loop → tie.After-row-down Inv-loop μ-loop
+at-row-down c = gave-above c .before .before .before
+
+-- the space with the picture, at the start
+abbrev size : tie.After-slice-known5 Inv-loop μ-loop → Size
+size c = start c .args .size
+
+abbrev space : tie.After-slice-known5 Inv-loop μ-loop → List ℕ
+space c = now (start c .args .space)
+
+sure : (c : tie.After-slice-known5 Inv-loop μ-loop) → Sized (size c) (pictureBytes (size c))
+sure c = sized-is _ _ (start c .pre .0 .sized)
+
+front-room : (c : tie.After-slice-known5 Inv-loop μ-loop) → markedBytes (size c) ≤ length (space c)
+front-room c = omega (arith, start c .pre .0 .room)
+
+byte : (c : tie.After-slice-known5 Inv-loop μ-loop) (i : ℕ) → getD (space c) i 0 ≤ 255
+byte c i = omega (arith, c .before .before .before .before .slice-known .given i)
+
+wide : (c : tie.After-slice-known5 Inv-loop μ-loop) (i : ℕ)
+    → length (weightsOf (size c) (take (markedBytes (size c)) (space c)) i .up) ≡ size c .width
+wide c = weights-wide (size c) (take (markedBytes (size c)) (space c))
+
+-- the sums above row i are at most i times the largest weight, and so below the fence in a turn
+above-small : (h : tie.At-loop Inv-loop μ-loop) (k : ℕ)
+    → k < size (h .before) .width → getD (h .loop .above) (k + 1) 0 ≤ suc (h .loop .i - 1) * mostWeight
+above-small h =
+    let c = h .before in
+    let z = size c in
+    let u = h .loop in
+    let most = front-weights z (space c) (sure c) (front-room c) (byte c) in
+    above-most fence64 (markedBytes z) z (weightsOf z) (space c) (wide c) mostWeight (u .i) (u .space) (u .above) most
+    (u .inv .rows)
+
+below-fence : (h : tie.At-loop Inv-loop μ-loop) (k : ℕ)
+    → let z = size (h .before) in
+    h .loop .i < z .height → k < z .width → getD (h .loop .above) (k + 1) 0 < fence64
+below-fence h k l n = omega (arith, above-small h k n, sure (h .before) .height-most)
 
 loop-holds : tie.Need-loop-holds Inv-loop μ-loop
 loop-holds c =
-    let s = c .before .before .before .before .before in
-    let z = s .args .size in
-    let start = now (s .args .space) in
-    (omega arith, (omega (arith, sure s .height-some), (down-start fence64 (markedBytes z) z (weightsOf z) start (wide z start) (s .pre .0 .room) (now (s .args .above)) (s .pre .0 .first), (refl, (refl, (refl, refl))))))
+    let z = size c in
+    let s = start c in
+    record {
+      later = omega arith;
+      most = omega (arith, sure c .height-some);
+      rows =
+          down-start fence64 (markedBytes z) z (weightsOf z) (space c) (wide c) (s .pre .0 .room) (now (s .args .above))
+          (s .pre .0 .first);
+      above-kept = refl;
+      energies-kept = refl;
+      cost-kept = refl;
+      next-kept = refl;
+    }
 
 row-down-requires : tie.Need-row-down-requires Inv-loop μ-loop
 row-down-requires c κs =
-    let at-loop-test = c .before .before .before .before .before in
-    let u = at-loop-test .before in
-    let s = u .before .before .before .before .before .before in
-    let p = s .pre .0 in
-    let z = s .args .size in
-    let start = now (s .args .space) in
-    let inv = u .loop .inv in
-    let l : u .loop .i < z .height = at-loop-test .loop-test .taken in (
+    let test = turn c in
+    let head = test .before in
+    let u = head .loop in
+    let k = head .before in
+    let z = size k in
+    let p = start k .pre in (
       record {
-        bytes-are = p .bytes-are;
-        sized = p .sized;
-        later = inv .0;
-        inside = l;
-        room = rw (inv .1 .1 .0 .long) (p .room);
-        long = above-long fence64 (markedBytes z) z (weightsOf z) start (wide z start) (u .loop .i) (u .loop .space) (u .loop .above) (inv .1 .1 .0);
-        small = λ k h. small u k l h;
-        cost-room = inv .1 .1 .1 .1 .1 .0 ∙ p .cost-room;
-        next-room = inv .1 .1 .1 .1 .1 .1 ∙ p .next-room;
+        bytes-are = p .0 .bytes-are;
+        sized = p .0 .sized;
+        later = u .inv .later;
+        inside = test .loop-test .taken;
+        room = rw (u .inv .rows .long) (p .0 .room);
+        long = above-long fence64 (markedBytes z) z (weightsOf z) (space k) (wide k) (u .i) (u .space) (u .above) (u .inv .rows);
+        small = λ j l. below-fence head j (test .loop-test .taken) l;
+        cost-room = u .inv .cost-kept ∙ p .0 .cost-room;
+        next-room = u .inv .next-kept ∙ p .0 .next-room;
       },
-      inv .1 .1 .1 .1 .0 ∙ s .pre .1,
+      u .inv .energies-kept ∙ p .1,
     )
 
 add-i : tie.Need-add-i Inv-loop μ-loop
@@ -83,51 +137,47 @@ loop-less c = search needs
 
 loop-again : tie.Need-loop-again Inv-loop μ-loop
 loop-again c =
-    let at-row-down = c .before .before .before .before .before .before .before .before .before .before in
-    let at-loop-test = at-row-down .before .before .before .before .before .before in
-    let u = at-loop-test .before in
-    let s = u .before .before .before .before .before .before in
-    let z = s .args .size in
-    let start = now (s .args .space) in
-    let r = at-row-down .row-down in
-    let kept = r .kept in
-    let l = at-loop-test .loop-test .taken in
-    let inv = u .loop .inv in (
-      omega arith,
-      (
-        omega arith,
-        (
-          down-turn fence64 (markedBytes z) z (weightsOf z) start (wide z start) (s .pre .0 .room) (u .loop .i) (u .loop .space) (u .loop .above) _ _ (inv .0) l (inv .1 .1 .0) (r .ensures),
-          (
-            kept .1 .1 .1 .1 .0 ∙ inv .1 .1 .1 .0,
-            (kept .1 .1 .1 .1 .1 .0 ∙ inv .1 .1 .1 .1 .0, (kept .1 .1 .1 .1 .1 .1 .0 ∙ inv .1 .1 .1 .1 .1 .0, kept .1 .1 .1 .1 .1 .1 .1 .0 ∙ inv .1 .1 .1 .1 .1 .1)),
-          ),
-        ),
-      ),
-    )
+    let back = c .before in
+    let r = at-row-down back in
+    let test = turn (r .before) in
+    let u = test .before .loop in
+    let k = test .before .before in
+    let z = size k in
+    let l = test .loop-test .taken in
+    record {
+      later = omega arith;
+      most = omega arith;
+      rows =
+          down-turn fence64 (markedBytes z) z (weightsOf z) (space k) (wide k) (start k .pre .0 .room) (u .i) (u .space) (u .above)
+          _ _ (u .inv .later) l (u .inv .rows) (r .row-down .ensures);
+      above-kept = gave-above back .above .given ∙ u .inv .above-kept;
+      energies-kept = gave-energies back .energies .given ∙ u .inv .energies-kept;
+      cost-kept = gave-cost back .cost .given ∙ u .inv .cost-kept;
+      next-kept = back .next .given ∙ u .inv .next-kept;
+    }
 
 same-length : tie.Need-same-length Inv-loop μ-loop
-same-length c = c .before .loop .inv .1 .1 .0 .long
+same-length c = c .before .loop .inv .rows .long
 
 same-length-2 : tie.Need-same-length-2 Inv-loop μ-loop
-same-length-2 c = c .before .loop .inv .1 .1 .1 .0
+same-length-2 c = c .before .loop .inv .above-kept
 
 same-length-3 : tie.Need-same-length-3 Inv-loop μ-loop
-same-length-3 c = c .before .loop .inv .1 .1 .1 .1 .0
+same-length-3 c = c .before .loop .inv .energies-kept
 
 same-length-4 : tie.Need-same-length-4 Inv-loop μ-loop
-same-length-4 c = c .before .loop .inv .1 .1 .1 .1 .1 .0
+same-length-4 c = c .before .loop .inv .cost-kept
 
 same-length-5 : tie.Need-same-length-5 Inv-loop μ-loop
-same-length-5 c = c .before .loop .inv .1 .1 .1 .1 .1 .1
+same-length-5 c = c .before .loop .inv .next-kept
 
 returns : tie.Need-returns Inv-loop μ-loop
 returns c =
-    let s = c .before .before .before .before .before .before .before in
-    let z = s .args .size in
-    let start = now (s .args .space) in
-    let l = c .before .loop in
-    down-end fence64 (markedBytes z) z (weightsOf z) start (wide z start) (s .pre .0 .room) (l .i) (l .space) (l .above) (omega arith) (l .inv .1 .1 .0)
+    let u = c .before .loop in
+    let k = c .before .before in
+    let z = size k in
+    down-end fence64 (markedBytes z) z (weightsOf z) (space k) (wide k) (start k .pre .0 .room) (u .i) (u .space) (u .above)
+    (omega (arith, u .inv .most)) (u .inv .rows)
 
 pub down-spec : {M : Type 1} → statement M
 down-spec =

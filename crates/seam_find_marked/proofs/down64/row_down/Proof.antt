@@ -1,8 +1,10 @@
--- `seam_find_marked::down64::row_down` meets its contract.
+-- `seam_find_marked::down64::row_down` meets its contract: the row's weights and the fenced sums above it give its sums and its
+-- ways; the ways are put in their place after the marks, the sums between the fences.
 use mathlib.Core.Path.{_≡_, sym, ap, _∙_}
 use mathlib.Core.Bool.{false}
+use mathlib.Core.List.{List}
 use Prim.Native.Nat.{ℕ, _+_, _-_, _*_, _≤_}
-use native.Mathlib.Nat.{mul-le-mul, add-sub-cancel-left}
+use native.Mathlib.Nat.{add-sub-cancel-left}
 use native.Mathlib.Omega.{arith}
 use borrow.Author.Needs.{needs}
 use borrow.Rule.Slice.PartMut.{midOf}
@@ -10,126 +12,159 @@ use denote.Ref.{now}
 use lib.ListN.{length, getD, take}
 use lib.Seq.{length-take-le}
 use Rattle.grids.specs.Table.{table}
-use Rattle.grids.proofs.Tables.{length-table, table-same}
+use Rattle.grids.proofs.Tables.{table-same}
 use Rattle.grids.proofs.Parts.{part-length}
-use Rattle.grids.proofs.Rows.{part-end}
-use Rattle.pictures.specs.Limits.{mostSide, mostPixels, mostPicture}
+use Rattle.pictures.specs.declared.sizes.Size.{Size}
 use Rattle.pictures.specs.Pictures.{pictureBytes}
 use Rattle.pictures.proofs.Limits.{Sized, sized-is}
-use Rattle.seam_find_marked.specs.Inner.{weightsOf, wayAbove, markedBytes}
 use Rattle.seam_theory.specs.Sums.{alikeRows, wayOf3}
 use Rattle.seam_theory.proofs.Alike.{way-alike}
 use Rattle.seam_find.proofs.Downs.{row-given}
-use Rattle.seam_find_marked.proofs.Weighed.{weights-alike, weights-most, front-sized, front-bytes}
+use Rattle.seam_find_marked.specs.Inner.{weightsOf, wayAbove, markedBytes}
+use Rattle.seam_find_marked.proofs.Spaces.{FrontEnds, RowEnds, front-ends, row-ends}
+use Rattle.seam_find_marked.proofs.Marked.{weights-wide, weights-alike, front-weights}
 use Rattle.seam_find_marked.proofs.down64.row_down.Statement.{statement}
 use Rattle.seam_find_marked.proofs.down64.row_down.Tie as tie
 
-sure : (c : tie.Start) → Sized (c .args .size) (pictureBytes (c .args .size))
-sure c = sized-is _ _ (c .pre .0 .sized)
+-- places, from the last call back: each call, and before it the buffers that the call before gave back
+abbrev gave-space : tie.After-copy → tie.After-space
+gave-space c = c .before .before .before .before
 
--- row i's ways end within the space
-record Ends (c : tie.Start) : Type 0 where
-  short : c .args .bytes ≤ mostPicture
-  all : c .args .size .height * c .args .size .width ≤ mostPixels
-  few : (c .args .i - 1) * c .args .size .width ≤ mostPixels
-  within : c .args .bytes + c .args .size .height * c .args .size .width ≤ length (now (c .args .space))
-  end : c .args .bytes + c .args .size .height * c .args .size .width + (c .args .i - 1) * c .args .size .width + c .args .size .width ≤ length (now (c .args .space))
+abbrev at-ways-row : tie.After-copy → tie.After-ways-row
+at-ways-row c = gave-space c .before
 
-ends : (c : tie.Start) → Ends c
-ends c =
-    let p = c .pre .0 in
-    let s = sure c in
-    let h : c .args .i - 1 ≤ mostSide = omega arith in
-    let l = part-end (c .args .i - 1) (c .args .size .height - 1) (c .args .size .width) (omega arith) in
-    record {
-      short = omega arith;
-      all = s .pixels-most;
-      few = mul-le-mul h (s .width-small);
-      within = omega arith;
-      end = omega arith;
-    }
+abbrev gave-next : tie.After-ways-row → tie.After-next
+gave-next c = c .before .before .before .before
 
--- and have a place for each column
-ways-wide : (c : tie.Start)
-    → let a = c .args in
-    let from = a .bytes + a .size .height * a .size .width + (a .i - 1) * a .size .width in
-    length (midOf from (from + a .size .width - from) (now (a .space))) ≡ length (now (a .next))
+abbrev at-next-sums : tie.After-ways-row → tie.After-next-sums
+at-next-sums c = gave-next c .before
+
+abbrev gave-cost : tie.After-next-sums-arg3 → tie.After-cost
+gave-cost c = c .before .before .before .before
+
+abbrev gave-energies : tie.After-next-sums-arg3 → tie.After-energies
+gave-energies c = gave-cost c .before .before
+
+abbrev at-row-weights : tie.After-next-sums-arg3 → tie.After-row-weights
+at-row-weights c = gave-energies c .before
+
+-- where the lengths of the buffers are known, and the start
+abbrev known : tie.After-row-weights → tie.After-slice-known5
+known r = r .before .before .before .before
+
+abbrev start : tie.After-slice-known5 → tie.Start
+start c = c .before .before .before .before .before
+
+-- the space with the picture, and the row
+abbrev size : tie.After-slice-known5 → Size
+size c = start c .args .size
+
+abbrev space : tie.After-slice-known5 → List ℕ
+space c = now (start c .args .space)
+
+abbrev row : tie.After-slice-known5 → ℕ
+row c = start c .args .i
+
+-- picture and marks
+abbrev front : tie.After-slice-known5 → List ℕ
+front c = take (markedBytes (size c)) (space c)
+
+-- where the marks end, and row i's ways begin
+abbrev from : tie.After-slice-known5 → ℕ
+from c = start c .args .bytes + size c .height * size c .width
+
+abbrev ways-at : tie.After-slice-known5 → ℕ
+ways-at c = from c + (row c - 1) * size c .width
+
+-- the row's weights, as they were written
+abbrev weights : tie.After-row-weights → List ℕ
+weights r = r .row-weights .last .1 .1 .1 .1 .1 .0
+
+sure : (c : tie.After-slice-known5) → Sized (size c) (pictureBytes (size c))
+sure c = sized-is _ _ (start c .pre .0 .sized)
+
+front-room : (c : tie.After-slice-known5) → markedBytes (size c) ≤ length (space c)
+front-room c = omega (arith, start c .pre .0 .room)
+
+front-end : (c : tie.After-slice-known5) → FrontEnds (size c) (start c .args .bytes) (length (space c))
+front-end c = front-ends (size c) (sure c) (start c .args .bytes) (length (space c)) (start c .pre .0 .bytes-are) (front-room c)
+
+row-end : (c : tie.After-slice-known5) → RowEnds (size c) (row c - 1) (size c .height - 1)
+row-end c =
+    let p = start c .pre .0 in
+    row-ends (size c) (sure c) (row c - 1) (size c .height - 1) (omega (arith, p .later, p .inside)) (omega arith)
+
+-- the ways end within the space
+ways-within : (c : tie.After-slice-known5) → ways-at c + size c .width ≤ length (space c)
+ways-within c = omega (arith, front-end c .is, row-end c .end, start c .pre .0 .room)
+
+-- and there is one for each column
+ways-wide : (c : tie.After-slice-known5)
+    → length (midOf (ways-at c) (ways-at c + size c .width - ways-at c) (space c)) ≡ length (now (start c .args .next))
 ways-wide c =
-    let a = c .args in
-    let from = a .bytes + a .size .height * a .size .width + (a .i - 1) * a .size .width in
-    part-length from (from + a .size .width) (now (a .space)) (ends c .end) ∙ add-sub-cancel-left from (a .size .width) ∙ sym (c .pre .0 .next-room)
+    part-length (ways-at c) (ways-at c + size c .width) (space c) (ways-within c)
+    ∙ add-sub-cancel-left (ways-at c) (size c .width)
+    ∙ sym (start c .pre .0 .next-room)
 
-from-is : (c : tie.Start) → c .args .bytes + c .args .size .height * c .args .size .width ≡ markedBytes (c .args .size)
-from-is c = ap (_+ c .args .size .height * c .args .size .width) (c .pre .0 .bytes-are)
+byte : (c : tie.After-slice-known5) (i : ℕ) → getD (space c) i 0 ≤ 255
+byte c i = omega (arith, c .before .before .before .before .slice-known .given i)
 
-byte : (c : tie.After-slice-known) (i : ℕ) → getD (now (c .before .args .space)) i 0 ≤ 255
-byte c i = omega (arith, c .slice-known .given i)
-
--- the weights of row i
-cost-is : (c : tie.After-row-weights)
-    → let s = c .before .before .before .before .before .before .before .before .before in
-    let a = s .args in c .row-weights .last .1 .1 .1 .1 .1 .0 ≡ weightsOf (a .size) (take (markedBytes (a .size)) (now (a .space))) (a .i) .up
-cost-is c =
-    let s = c .before .before .before .before .before .before .before .before .before in
-    c .row-weights .ensures ∙ ap (λ n. weightsOf (s .args .size) (take n (now (s .args .space))) (s .args .i) .up) (from-is s)
+weights-are : (r : tie.After-row-weights) → let c = known r in weights r ≡ weightsOf (size c) (front c) (row c) .up
+weights-are r =
+    let c = known r in
+    r .row-weights .ensures ∙ ap (λ n. weightsOf (size c) (take n (space c)) (row c) .up) (front-end c .is)
 
 add-side : tie.Need-add-side
 add-side c = search needs
 
 mul-from : tie.Need-mul-from
-mul-from c = let e = ends (c .before .before .before .before .before) in omega arith
+mul-from c = omega (arith, front-end c .all)
 
 add-from : tie.Need-add-from
-add-from c = let e = ends (c .before .before .before .before .before) in omega arith
+add-from c = omega (arith, front-end c .short, front-end c .all)
 
 sub-a : tie.Need-sub-a
 sub-a c = search needs
 
 mul-a : tie.Need-mul-a
-mul-a c = let e = ends (c .before .before .before .before .before) in omega arith
+mul-a c = omega (arith, row-end c .few)
 
 add-a : tie.Need-add-a
-add-a c = let e = ends (c .before .before .before .before .before) in omega arith
+add-a c = omega (arith, front-end c .short, front-end c .all, row-end c .few)
 
 add-e : tie.Need-add-e
-add-e c =
-    let s = c .before .before .before .before .before in
-    let e = ends s in
-    omega (arith, sure s .width-most)
+add-e c = omega (arith, front-end c .short, front-end c .all, row-end c .few, sure c .width-most)
 
 slice-reshare-prefix-row-weights : tie.Need-slice-reshare-prefix-row-weights
-slice-reshare-prefix-row-weights c = ends (c .before .before .before .before .before) .within
+slice-reshare-prefix-row-weights c = front-end c .within
 
 slice-aggregate-row-weights : tie.Need-slice-aggregate-row-weights
-slice-aggregate-row-weights c = sym (length-take-le _ _ (ends (c .before .before .before .before .before .before) .within))
+slice-aggregate-row-weights c = sym (length-take-le _ _ (front-end (c .before) .within))
 
 row-weights-requires : tie.Need-row-weights-requires
 row-weights-requires c κs =
-    let s = c .before .before .before .before .before .before .before .before in
+    let k = c .before .before .before in
+    let p = start k .pre in
     record {
-      bytes-are = s .pre .0 .bytes-are;
-      sized = s .pre .0 .sized;
-      inside = s .pre .0 .inside;
-      long = length-take-le _ _ (ends s .within) ∙ from-is s;
-      energy-room = s .pre .1;
-      cost-room = s .pre .0 .cost-room;
+      bytes-are = p .0 .bytes-are;
+      sized = p .0 .sized;
+      inside = p .0 .inside;
+      long = length-take-le _ _ (front-end k .within) ∙ front-end k .is;
+      energy-room = p .1;
+      cost-room = p .0 .cost-room;
     }
 
 next-sums-requires : tie.Need-next-sums-requires
 next-sums-requires c κs =
-    let r = c .before .before .before .before .before .before .before in
-    let at-slice-known = r .before .before .before .before .before .before .before .before in
-    let s = at-slice-known .before in
-    let z = s .args .size in
-    let space = now (s .args .space) in
-    let p = s .pre .0 in
-    let e = ends s in
-    let room : markedBytes z ≤ length space = omega (arith, from-is s) in
+    let r = at-row-weights c in
+    let k = known r in
+    let p = start k .pre .0 in
+    let most = front-weights (size k) (space k) (sure k) (front-room k) (byte k) in
     record {
       above = omega (arith, p .long, p .next-room);
-      costs = ap length (cost-is r) ∙ length-table _ (z .width) ∙ sym (p .next-room);
-      small = λ k l. p .small k (omega (arith, p .next-room));
-      cheap = λ k. rw (cost-is r) (omega (arith, weights-most z (take (markedBytes z) space) (front-sized z space (sure s) room) (front-bytes z space (byte at-slice-known)) (s .args .i) k));
+      costs = ap length (weights-are r) ∙ weights-wide (size k) (front k) (row k) ∙ sym (p .next-room);
+      small = λ j l. p .small j (omega (arith, p .next-room));
+      cheap = λ j. rw (weights-are r) (omega (arith, most (row k) j));
     }
 
 sub-ways-row : tie.Need-sub-ways-row
@@ -140,8 +175,8 @@ part-ways-row-start c = search needs
 
 part-ways-row-end : tie.Need-part-ways-row-end
 part-ways-row-end c =
-    let s = c .before .before .before .before .before .before .before .before .before .before .before .before .before .before .before .before .before .before .before .before in
-    ends s .end
+    let k = known (at-row-weights (c .before .before .before .before)) in
+    ways-within k
 
 ways-row-requires : tie.Need-ways-row-requires
 ways-row-requires c κs = search needs
@@ -159,37 +194,42 @@ copy-requires : tie.Need-copy-requires
 copy-requires c κs = search needs
 
 same-length : tie.Need-same-length
-same-length c = c .before .before .before .before .before .before .space .given .1
+same-length c = gave-space (c .before .before) .space .given .1
 
 same-length-2 : tie.Need-same-length-2
 same-length-2 c = c .before .above .given .1
 
 same-length-3 : tie.Need-same-length-3
-same-length-3 c = c .before .before .before .before .before .before .before .before .before .before .before .before .before .before .before .before .before .before .before .energies .given
+same-length-3 c =
+    let n = at-next-sums (at-ways-row (c .before .before)) in
+    gave-energies (n .before) .energies .given
 
 same-length-4 : tie.Need-same-length-4
-same-length-4 c = c .before .before .before .before .before .before .before .before .before .before .before .before .before .before .before .before .before .cost .given
+same-length-4 c =
+    let n = at-next-sums (at-ways-row (c .before .before)) in
+    gave-cost (n .before) .cost .given
 
 same-length-5 : tie.Need-same-length-5
-same-length-5 c = c .before .before .before .before .before .before .before .before .before .before .before .next .given
+same-length-5 c = gave-next (at-ways-row (c .before .before)) .next .given
 
 returns : tie.Need-returns
 returns c =
     let at-copy = c .before .before in
-    let at-ways-row = at-copy .before .before .before .before .before in
-    let at-next-sums = at-ways-row .before .before .before .before .before in
-    let r = at-next-sums .before .before .before .before .before .before .before .before in
-    let s = r .before .before .before .before .before .before .before .before .before in
-    let a = s .args in
-    let z = a .size in
-    let above = now (a .above) in
-    let cost = r .row-weights .last .1 .1 .1 .1 .1 .0 in
-    let n = length (now (a .next)) in
-    row-given (markedBytes z) z (weightsOf z) (a .i) (a .bytes + z .height * z .width) n (now (a .space)) above (at-ways-row .ways-row .last .1 .0) (alikeRows cost) (at-copy .copy .last .1 .0)
-    (from-is s) (ends s .end) (ap alikeRows (cost-is r) ∙ sym (weights-alike z (take (markedBytes z) (now (a .space))) (a .i))) (s .pre .0 .next-room)
-    (at-ways-row .ways-row .ensures ∙ ap (table (wayAbove above)) (ways-wide s)
-    ∙ table-same (wayAbove above) (wayOf3 false n above (alikeRows cost)) n (λ k l. sym (way-alike n above cost k)))
-    (at-copy .copy .ensures ∙ at-next-sums .next-sums .ensures)
+    let u = at-ways-row at-copy in
+    let n = at-next-sums u in
+    let r = at-row-weights (n .before) in
+    let k = known r in
+    let z = size k in
+    let x = now (start k .args .above) in
+    let w = length (now (start k .args .next)) in
+    row-given (markedBytes z) z (weightsOf z) (row k) (from k) w (space k) x (u .ways-row .last .1 .0) (alikeRows (weights r))
+    (at-copy .copy .last .1 .0) (front-end k .is) (ways-within k)
+    (ap alikeRows (weights-are r) ∙ sym (weights-alike z (front k) (row k)))
+    (start k .pre .0 .next-room)
+    (u .ways-row .ensures
+    ∙ ap (table (wayAbove x)) (ways-wide k)
+    ∙ table-same (wayAbove x) (wayOf3 false w x (alikeRows (weights r))) w (λ j l. sym (way-alike w x (weights r) j)))
+    (at-copy .copy .ensures ∙ n .next-sums .ensures)
 
 pub row-down-spec : {M : Type 1} → statement M
 row-down-spec =

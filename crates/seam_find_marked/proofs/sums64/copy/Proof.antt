@@ -1,4 +1,5 @@
--- `seam_find_marked::sums64::copy` meets its contract. The loop's invariant: c elements are copied. The measure is the number of elements left.
+-- `seam_find_marked::sums64::copy` meets its contract. The loop's invariant: c elements are copied. The measure is the number of
+-- elements left.
 use Prim.Native.Nat.{_-_}
 use borrow.Author.Needs.{needs}
 use denote.Ref.{now}
@@ -46,7 +47,8 @@ returns : tie.Need-returns Inv-loop μ-loop
 returns c =
     let head = c .before in
     let s = head .before in
-    copied-end (now (s .args .from)) (now (s .args .to)) 0 _ (head .loop .c) (head .loop .to) (s .pre) (c .loop-test .left) (head .loop .inv)
+    let l = head .loop in
+    copied-end (now (s .args .from)) (now (s .args .to)) 0 _ (l .c) (l .to) (s .pre) (c .loop-test .left) (l .inv)
 
 pub copy-spec : {M : Type 1} → statement M
 copy-spec =

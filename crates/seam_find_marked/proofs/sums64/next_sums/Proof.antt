@@ -1,6 +1,8 @@
--- `seam_find_marked::sums64::next_sums` meets its contract. The loop's invariant: the values of c columns stand at the front.
+-- `seam_find_marked::sums64::next_sums` meets its contract. The loop's invariant: the sums of the first c columns stand in `next`,
+-- the rest of it is as it was. The measure is the number of columns left.
 use mathlib.Core.Path.{refl, sym, ap, _∙_}
-use Prim.Native.Nat.{_+_, _-_, min}
+use mathlib.Core.List.{List}
+use Prim.Native.Nat.{ℕ, _+_, _-_, min}
 use native.Mathlib.Omega.{arith}
 use borrow.Author.Needs.{needs}
 use denote.Ref.{now}
@@ -16,6 +18,19 @@ Inv-loop above cost next₀ c₀ c-end next c = Stored (sumOf3 above (alikeRows 
 
 abbrev μ-loop : tie.MeasureT-loop
 μ-loop above cost next₀ c₀ c-end next c = c-end - c
+
+-- places: from the first call of `lesser` to the loop's test, and from its head to the start
+abbrev turn : tie.After-lesser Inv-loop μ-loop → tie.In-loop Inv-loop μ-loop
+turn c = c .before .before .before .before
+
+abbrev start : tie.At-loop Inv-loop μ-loop → tie.Start Inv-loop μ-loop
+start h = h .before .before .before .before
+
+abbrev above : tie.At-loop Inv-loop μ-loop → List ℕ
+above h = now (start h .args .above)
+
+abbrev cost : tie.At-loop Inv-loop μ-loop → List ℕ
+cost h = now (start h .args .cost)
 
 loop-holds : tie.Need-loop-holds Inv-loop μ-loop
 loop-holds c = stored-start _ _ _ refl
@@ -56,15 +71,15 @@ mul-next c = search needs
 shared-slice-read-next : tie.Need-shared-slice-read-next Inv-loop μ-loop
 shared-slice-read-next c = search needs
 
+-- the least of the three sums above is at most the middle one, so there is room to add
 add-next : tie.Need-add-next Inv-loop μ-loop
 add-next c =
-    let at-lesser = c .before .before in
-    let at-loop = at-lesser .before .before .before .before .before in
-    let s = at-loop .before .before .before .before in
-    let a = s .args in
-    let k = at-loop .loop .c in
-    let p = s .pre in
-    omega (arith, p .small k (omega arith), p .cheap k, at-lesser .lesser .ensures, c .before .lesser2 .ensures)
+    let lesser2 = c .before in
+    let lesser = lesser2 .before in
+    let head = turn lesser .before in
+    let k = head .loop .c in
+    let p = start head .pre in
+    omega (arith, p .small k (omega arith), p .cheap k, lesser .lesser .ensures, lesser2 .lesser2 .ensures)
 
 mul-next-2 : tie.Need-mul-next-2 Inv-loop μ-loop
 mul-next-2 c = search needs
@@ -80,14 +95,16 @@ loop-less c = search needs
 
 loop-again : tie.Need-loop-again Inv-loop μ-loop
 loop-again c =
-    let at-lesser2 = c .before in
-    let at-lesser = at-lesser2 .before in
-    let turn = at-lesser .before .before .before .before in
-    let l = turn .before .loop in
-    let a = turn .before .before .before .before .before .args in
-    stored-turn (sumOf3 (now (a .above)) (alikeRows (now (a .cost)))) (now (a .next)) _ (l .c) (l .next) _ 0 (turn .loop-test .taken)
-    (ap (_+ getD (now (a .cost)) (l .c) 0) (at-lesser2 .lesser2 .ensures ∙ ap (min (getD (now (a .above)) (l .c) 0)) (at-lesser .lesser .ensures))
-    ∙ sym (sum-alike (now (a .above)) (now (a .cost)) (l .c)))
+    let lesser2 = c .before in
+    let lesser = lesser2 .before in
+    let test = turn lesser in
+    let head = test .before in
+    let l = head .loop in
+    stored-turn (sumOf3 (above head) (alikeRows (cost head))) (now (start head .args .next)) _ (l .c) (l .next) _ 0
+    (test .loop-test .taken)
+    (ap (_+ getD (cost head) (l .c) 0)
+    (lesser2 .lesser2 .ensures ∙ ap (min (getD (above head) (l .c) 0)) (lesser .lesser .ensures))
+    ∙ sym (sum-alike (above head) (cost head) (l .c)))
     (l .inv)
 
 same-length : tie.Need-same-length Inv-loop μ-loop

@@ -1,4 +1,5 @@
--- `seam_find_marked::sums64::ways_row` meets its contract. The loop's invariant: the values of c columns stand at the front.
+-- `seam_find_marked::sums64::ways_row` meets its contract. The loop's invariant: where the first c columns come from stands in
+-- `ways`, the rest of it is as it was. The measure is the number of columns left.
 use mathlib.Core.Path.{refl}
 use Prim.Native.Nat.{_-_}
 use borrow.Author.Needs.{needs}
@@ -58,7 +59,8 @@ loop-again c =
     let turn = c .before .before .before .before in
     let l = turn .before .loop in
     let a = turn .before .before .before .before .args in
-    stored-turn (wayAbove (now (a .above))) (now (a .ways)) _ (l .c) (l .ways) _ 0 (turn .loop-test .taken) (c .way .ensures) (l .inv)
+    stored-turn (wayAbove (now (a .above))) (now (a .ways)) _ (l .c) (l .ways) _ 0
+    (turn .loop-test .taken) (c .way .ensures) (l .inv)
 
 same-length : tie.Need-same-length Inv-loop μ-loop
 same-length c = c .before .loop .inv .long

@@ -1,75 +1,98 @@
--- `seam_find_marked::weights::row_weights` meets its contract.
+-- `seam_find_marked::weights::row_weights` meets its contract: row i's marks lie within the front, and its energies, weighed with
+-- them column by column, are the row's weights.
 use mathlib.Core.Path.{_≡_, sym, ap, ap₂, _∙_}
-use mathlib.Core.List.{_++_}
-use Prim.Native.Nat.{_+_, _*_, _≤_}
-use native.Mathlib.Nat.{le-of-eq, mul-le-mul, add-sub-cancel-left}
+use mathlib.Core.List.{List, _++_}
+use Prim.Native.Nat.{ℕ, _+_, _*_, _≤_}
+use native.Mathlib.Nat.{le-of-eq, add-sub-cancel-left}
 use native.Mathlib.Omega.{arith}
 use borrow.Author.Needs.{needs}
 use denote.Ref.{now}
 use lib.ListN.{length, take, drop}
 use lib.Seq.{length-take-le}
 use Rattle.grids.specs.Table.{table}
-use Rattle.grids.proofs.Rows.{part-end}
-use Rattle.pictures.specs.Limits.{mostSide, mostPixels, mostPicture}
-use Rattle.pictures.specs.Pictures.{pictureBytes, picture}
-use Rattle.energy.specs.Energy.{energies}
+use Rattle.pictures.specs.declared.sizes.Size.{Size}
+use Rattle.pictures.specs.Pictures.{pictureBytes, picture, pictureIn}
 use Rattle.pictures.proofs.Limits.{Sized, sized-is}
+use Rattle.energy.specs.Energy.{energies}
 use Rattle.energy.proofs.Served.{energies-served}
 use Rattle.seam_find_marked.specs.Inner.{weightIn}
-use Rattle.seam_find_marked.proofs.Weighed.{row-weighed}
+use Rattle.seam_find_marked.proofs.Spaces.{FrontEnds, RowEnds, front-ends, row-ends}
+use Rattle.seam_find_marked.proofs.Marked.{row-weighed}
 use Rattle.seam_find_marked.proofs.weights.row_weights.Statement.{statement}
 use Rattle.seam_find_marked.proofs.weights.row_weights.Tie as tie
 
-sure : (c : tie.Start) → Sized (c .args .size) (pictureBytes (c .args .size))
-sure c = sized-is _ _ (c .pre .sized)
+-- places: where the lengths of the buffers are known, and the calls
+abbrev start : tie.After-slice-known2 → tie.Start
+start c = c .before .before .before
 
--- row i's marks end within the front
-record Ends (c : tie.Start) : Type 0 where
-  short : c .args .bytes ≤ mostPicture
-  within : c .args .bytes ≤ length (now (c .args .front))
-  few : c .args .i * c .args .size .width ≤ mostPixels
-  end : c .args .bytes + c .args .i * c .args .size .width + c .args .size .width ≤ length (now (c .args .front))
+abbrev known : tie.After-energies → tie.After-slice-known2
+known e = e .before .before .before
 
-ends : (c : tie.Start) → Ends c
-ends c =
-    let p = c .pre in
-    let s = sure c in
-    let h : c .args .i ≤ mostSide = omega arith in
-    let l = part-end (c .args .i) (c .args .size .height) (c .args .size .width) (p .inside) in
-    record {
-      short = omega arith;
-      within = omega arith;
-      few = mul-le-mul h (s .width-small);
-      end = omega arith;
-    }
+abbrev at-energies : tie.After-weigh → tie.After-energies
+at-energies u = u .before .before .before .before .before .before
 
-front-long : (c : tie.Start) → length (take (c .args .bytes) (now (c .args .front))) ≡ pictureBytes (c .args .size)
-front-long c = length-take-le _ _ (ends c .within) ∙ c .pre .bytes-are
+-- the picture with its marks, and the row
+abbrev size : tie.After-slice-known2 → Size
+size c = start c .args .size
 
-energies-are : (c : tie.After-energies)
-    → let s = c .before .before .before .before .before .before in
-    let a = s .args in c .energies .last .1 .1 .1 .0 ≡ energies (a .size .width) (a .size .height) (picture (a .size) (take (pictureBytes (a .size)) (now (a .front)))) (a .i) ++ drop (a .size .width) (now (a .energies))
-energies-are c =
-    let s = c .before .before .before .before .before .before in
-    let a = s .args in
-    energies-served (take (a .bytes) (now (a .front))) (a .size) (a .i) (now (a .energies)) (c .energies .last .1 .1 .1 .0) (c .energies .result) (c .energies .ensures)
-    (rw (front-long s) (s .pre .sized)) (s .pre .inside) (le-of-eq (sym (s .pre .energy-room)))
-    ∙ ap (λ b. energies (a .size .width) (a .size .height) (picture (a .size) (take b (now (a .front)))) (a .i) ++ drop (a .size .width) (now (a .energies))) (s .pre .bytes-are)
+abbrev bytes : tie.After-slice-known2 → ℕ
+bytes c = start c .args .bytes
+
+abbrev front : tie.After-slice-known2 → List ℕ
+front c = now (start c .args .front)
+
+abbrev row : tie.After-slice-known2 → ℕ
+row c = start c .args .i
+
+-- room for the row's energies, and the energies in it
+abbrev room : tie.After-slice-known2 → List ℕ
+room c = now (start c .args .energies)
+
+abbrev filled : tie.After-energies → List ℕ
+filled e = e .energies .last .1 .1 .1 .0
+
+sure : (c : tie.After-slice-known2) → Sized (size c) (pictureBytes (size c))
+sure c = sized-is _ _ (start c .pre .sized)
+
+-- where the marks end, and row i of them
+front-end : (c : tie.After-slice-known2) → FrontEnds (size c) (bytes c) (length (front c))
+front-end c =
+    let p = start c .pre in
+    front-ends (size c) (sure c) (bytes c) (length (front c)) (p .bytes-are) (le-of-eq (sym (p .long)))
+
+row-end : (c : tie.After-slice-known2) → RowEnds (size c) (row c) (size c .height)
+row-end c = row-ends (size c) (sure c) (row c) (size c .height) (start c .pre .inside) (omega arith)
+
+picture-within : (c : tie.After-slice-known2) → bytes c ≤ length (front c)
+picture-within c = omega (arith, front-end c .within)
+
+picture-long : (c : tie.After-slice-known2) → length (take (bytes c) (front c)) ≡ pictureBytes (size c)
+picture-long c = length-take-le _ _ (picture-within c) ∙ start c .pre .bytes-are
+
+-- the row's energies stand at the front of their room
+energies-are : (e : tie.After-energies)
+    → let c = known e in
+    let z = size c in
+    filled e ≡ energies (z .width) (z .height) (pictureIn z (front c)) (row c) ++ drop (z .width) (room c)
+energies-are e =
+    let c = known e in
+    let z = size c in
+    let p = start c .pre in
+    energies-served (take (bytes c) (front c)) z (row c) (room c) (filled e) (e .energies .result) (e .energies .ensures)
+    (rw (picture-long c) (p .sized)) (p .inside) (le-of-eq (sym (p .energy-room)))
+    ∙ ap (λ b. energies (z .width) (z .height) (picture z (take b (front c))) (row c) ++ drop (z .width) (room c)) (p .bytes-are)
 
 mul-a : tie.Need-mul-a
-mul-a c = let e = ends (c .before .before .before) in omega arith
+mul-a c = omega (arith, row-end c .few)
 
 add-a : tie.Need-add-a
-add-a c = let e = ends (c .before .before .before) in omega arith
+add-a c = omega (arith, front-end c .short, row-end c .few)
 
 add-e : tie.Need-add-e
-add-e c =
-    let s = c .before .before .before in
-    let e = ends s in
-    omega (arith, sure s .width-most)
+add-e c = omega (arith, front-end c .short, row-end c .few, sure c .width-most)
 
 slice-aggregate-energies : tie.Need-slice-aggregate-energies
-slice-aggregate-energies c = sym (length-take-le _ _ (ends (c .before .before .before .before) .within))
+slice-aggregate-energies c = sym (length-take-le _ _ (picture-within (c .before)))
 
 energies-requires : tie.Need-energies-requires
 energies-requires c κs = search needs
@@ -82,8 +105,8 @@ part-weigh-start c = search needs
 
 part-weigh-end : tie.Need-part-weigh-end
 part-weigh-end c =
-    let s = c .before .before .before .before .before .before .before .before .before in
-    ends s .end
+    let k = known (c .before .before .before) in
+    omega (arith, front-end k .within, row-end k .end)
 
 weigh-requires : tie.Need-weigh-requires
 weigh-requires c κs = search needs
@@ -97,17 +120,18 @@ same-length-2 c = c .before .cost .given
 returns : tie.Need-returns
 returns c =
     let at-weigh = c .before .before in
-    let r = at-weigh .before .before .before .before .before .before in
-    let s = r .before .before .before .before .before .before in
-    let a = s .args in
-    let z = a .size in
-    let front = now (a .front) in
-    let from = a .bytes + a .i * z .width in
+    let e = at-energies at-weigh in
+    let k = known e in
+    let p = start k .pre in
+    let w = size k .width in
+    let from = bytes k + row k * w in
     at-weigh .weigh .ensures
-    ∙ ap₂ (λ x n. table (weightIn (r .energies .last .1 .1 .1 .0) x) n)
-    (ap (λ n. take n (drop from front)) (add-sub-cancel-left from (z .width)) ∙ ap (λ b. take (z .width) (drop (b + a .i * z .width) front)) (s .pre .bytes-are)) (s .pre .cost-room)
-    ∙ ap (λ x. table (weightIn x (take (z .width) (drop (pictureBytes z + a .i * z .width) front))) (z .width)) (energies-are r)
-    ∙ row-weighed z front (a .i) (s .pre .inside) (s .pre .long) (drop (z .width) (now (a .energies)))
+    ∙ ap₂ (λ x n. table (weightIn (filled e) x) n)
+    (ap (λ n. take n (drop from (front k))) (add-sub-cancel-left from w)
+    ∙ ap (λ b. take w (drop (b + row k * w) (front k))) (p .bytes-are))
+    (p .cost-room)
+    ∙ ap (λ x. table (weightIn x (take w (drop (pictureBytes (size k) + row k * w) (front k)))) w) (energies-are e)
+    ∙ row-weighed (size k) (front k) (row k) (p .inside) (p .long) (drop w (room k))
 
 pub row-weights-spec : {M : Type 1} → statement M
 row-weights-spec =

@@ -1,10 +1,11 @@
--- `seam_find_marked::weights::weigh` meets its contract. The loop's invariant: the weights of c columns stand at the front.
+-- `seam_find_marked::weights::weigh` meets its contract. The loop's invariant: the weights of the first c columns stand in `cost`,
+-- the rest of it is as it was. The measure is the number of columns left.
 use mathlib.Core.Path.{refl}
 use Prim.Native.Nat.{_-_}
+use borrow.Author.Needs.{needs}
 use denote.Ref.{now}
 use Rattle.grids.proofs.Tables.{Stored, stored-start, stored-turn, stored-end}
 use Rattle.seam_find_marked.specs.Inner.{weightIn}
-use borrow.Author.Needs.{needs}
 use Rattle.seam_find_marked.proofs.weights.weigh.Statement.{statement}
 use Rattle.seam_find_marked.proofs.weights.weigh.Tie as tie
 
@@ -13,6 +14,10 @@ Inv-loop energies marks cost₀ c₀ c-end cost c = Stored (weightIn energies ma
 
 abbrev μ-loop : tie.MeasureT-loop
 μ-loop energies marks cost₀ c₀ c-end cost c = c-end - c
+
+-- from the loop's head to the start
+abbrev start : tie.At-loop Inv-loop μ-loop → tie.Start Inv-loop μ-loop
+start h = h .before .before .before .before
 
 loop-holds : tie.Need-loop-holds Inv-loop μ-loop
 loop-holds c = stored-start _ _ _ refl
@@ -44,9 +49,11 @@ loop-less c = search needs
 loop-again : tie.Need-loop-again Inv-loop μ-loop
 loop-again c =
     let turn = c .before .before .before in
-    let l = turn .before .loop in
-    let a = turn .before .before .before .before .before .args in
-    stored-turn (weightIn (now (a .energies)) (now (a .marks))) (now (a .cost)) _ (l .c) (l .cost) _ 0 (turn .loop-test .taken) (c .weight .ensures) (l .inv)
+    let head = turn .before in
+    let l = head .loop in
+    let a = start head .args in
+    stored-turn (weightIn (now (a .energies)) (now (a .marks))) (now (a .cost)) _ (l .c) (l .cost) _ 0
+    (turn .loop-test .taken) (c .weight .ensures) (l .inv)
 
 same-length : tie.Need-same-length Inv-loop μ-loop
 same-length c = c .before .loop .inv .long
