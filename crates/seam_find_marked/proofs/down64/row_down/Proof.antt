@@ -4,24 +4,21 @@ use mathlib.Core.Path.{_≡_, sym, ap, _∙_}
 use mathlib.Core.Bool.{false}
 use mathlib.Core.List.{List}
 use Prim.Native.Nat.{ℕ, _+_, _-_, _*_, _≤_}
-use native.Mathlib.Nat.{add-sub-cancel-left}
 use native.Mathlib.Omega.{arith}
 use borrow.Author.Needs.{needs}
-use borrow.Rule.Slice.PartMut.{midOf}
 use denote.Ref.{now}
 use lib.ListN.{length, getD, take}
 use lib.Seq.{length-take-le}
 use Rattle.grids.specs.Table.{table}
 use Rattle.grids.proofs.Tables.{table-same}
-use Rattle.grids.proofs.Parts.{part-length}
 use Rattle.pictures.specs.declared.sizes.Size.{Size}
 use Rattle.pictures.specs.Pictures.{pictureBytes}
 use Rattle.pictures.proofs.Limits.{Sized, sized-is}
 use Rattle.seam_theory.specs.Sums.{alikeRows, wayOf3}
 use Rattle.seam_theory.proofs.Alike.{way-alike}
-use Rattle.seam_find.proofs.Downs.{row-given}
+use Rattle.seam_find.proofs.OneRow.{row-given, WaysEnd, ways-end}
 use Rattle.seam_find_marked.specs.Inner.{weightsOf, wayAbove, markedBytes}
-use Rattle.seam_find_marked.proofs.Spaces.{FrontEnds, RowEnds, front-ends, row-ends}
+use Rattle.seam_find_marked.proofs.Spaces.{FrontEnds, front-ends}
 use Rattle.seam_find_marked.proofs.Marked.{weights-wide, weights-alike, front-weights}
 use Rattle.seam_find_marked.proofs.down64.row_down.Statement.{statement}
 use Rattle.seam_find_marked.proofs.down64.row_down.Tie as tie
@@ -69,12 +66,9 @@ row c = start c .args .i
 abbrev front : tie.After-slice-known5 → List ℕ
 front c = take (markedBytes (size c)) (space c)
 
--- where the marks end, and row i's ways begin
+-- where the marks end
 abbrev from : tie.After-slice-known5 → ℕ
 from c = start c .args .bytes + size c .height * size c .width
-
-abbrev ways-at : tie.After-slice-known5 → ℕ
-ways-at c = from c + (row c - 1) * size c .width
 
 -- the row's weights, as they were written
 abbrev weights : tie.After-row-weights → List ℕ
@@ -89,22 +83,9 @@ front-room c = omega (arith, start c .pre .0 .room)
 front-end : (c : tie.After-slice-known5) → FrontEnds (size c) (start c .args .bytes) (length (space c))
 front-end c = front-ends (size c) (sure c) (start c .args .bytes) (length (space c)) (start c .pre .0 .bytes-are) (front-room c)
 
-row-end : (c : tie.After-slice-known5) → RowEnds (size c) (row c - 1) (size c .height - 1)
-row-end c =
-    let p = start c .pre .0 in
-    row-ends (size c) (sure c) (row c - 1) (size c .height - 1) (omega (arith, p .later, p .inside)) (omega arith)
-
--- the ways end within the space
-ways-within : (c : tie.After-slice-known5) → ways-at c + size c .width ≤ length (space c)
-ways-within c = omega (arith, front-end c .is, row-end c .end, start c .pre .0 .room)
-
--- and there is one for each column
-ways-wide : (c : tie.After-slice-known5)
-    → length (midOf (ways-at c) (ways-at c + size c .width - ways-at c) (space c)) ≡ length (now (start c .args .next))
-ways-wide c =
-    part-length (ways-at c) (ways-at c + size c .width) (space c) (ways-within c)
-    ∙ add-sub-cancel-left (ways-at c) (size c .width)
-    ∙ sym (start c .pre .0 .next-room)
+-- the row's ways end within the space, one for each column
+ways : (c : tie.After-slice-known5) → WaysEnd (size c) (from c) (row c) (space c) (now (start c .args .next))
+ways c = ways-end (start c .pre .0) (from c) (front-end c .is)
 
 byte : (c : tie.After-slice-known5) (i : ℕ) → getD (space c) i 0 ≤ 255
 byte c i = omega (arith, c .before .before .before .before .slice-known .given i)
@@ -127,13 +108,13 @@ sub-a : tie.Need-sub-a
 sub-a c = search needs
 
 mul-a : tie.Need-mul-a
-mul-a c = omega (arith, row-end c .few)
+mul-a c = omega (arith, ways c .few)
 
 add-a : tie.Need-add-a
-add-a c = omega (arith, front-end c .short, front-end c .all, row-end c .few)
+add-a c = omega (arith, front-end c .short, front-end c .all, ways c .few)
 
 add-e : tie.Need-add-e
-add-e c = omega (arith, front-end c .short, front-end c .all, row-end c .few, sure c .width-most)
+add-e c = omega (arith, front-end c .short, front-end c .all, ways c .few, sure c .width-most)
 
 slice-reshare-prefix-row-weights : tie.Need-slice-reshare-prefix-row-weights
 slice-reshare-prefix-row-weights c = front-end c .within
@@ -176,7 +157,7 @@ part-ways-row-start c = search needs
 part-ways-row-end : tie.Need-part-ways-row-end
 part-ways-row-end c =
     let k = known (at-row-weights (c .before .before .before .before)) in
-    ways-within k
+    ways k .end
 
 ways-row-requires : tie.Need-ways-row-requires
 ways-row-requires c κs = search needs
@@ -223,11 +204,11 @@ returns c =
     let x = now (start k .args .above) in
     let w = length (now (start k .args .next)) in
     row-given (markedBytes z) z (weightsOf z) (row k) (from k) w (space k) x (u .ways-row .last .1 .0) (alikeRows (weights r))
-    (at-copy .copy .last .1 .0) (front-end k .is) (ways-within k)
+    (at-copy .copy .last .1 .0) (front-end k .is) (ways k .end)
     (ap alikeRows (weights-are r) ∙ sym (weights-alike z (front k) (row k)))
     (start k .pre .0 .next-room)
     (u .ways-row .ensures
-    ∙ ap (table (wayAbove x)) (ways-wide k)
+    ∙ ap (table (wayAbove x)) (ways k .wide)
     ∙ table-same (wayAbove x) (wayOf3 false w x (alikeRows (weights r))) w (λ j l. sym (way-alike w x (weights r) j)))
     (at-copy .copy .ensures ∙ n .next-sums .ensures)
 
