@@ -69,7 +69,7 @@ pub extern "C" fn multisize_show(
 }
 
 // A row of samples and its row of the map, shown at the wanted width and put into the front of out; the value is how many
-// bytes are shown. The row is a picture of one row, as wide as there are numbers.
+// bytes are shown. The row has as many pixels as there are numbers, and may have any number of them.
 #[no_mangle]
 pub extern "C" fn multisize_row_at(
     samples: &[u8],

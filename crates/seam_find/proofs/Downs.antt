@@ -10,10 +10,11 @@ use lib.ListN.{length, getD, take, drop, length-append, length-drop, take-append
 use lib.Seq.{take-at, drop-at, drop-drop, length-take-le}
 use Rattle.grids.specs.Table.{table}
 use Rattle.grids.specs.Rows.{flat}
-use Rattle.grids.proofs.Tables.{length-table, each-table}
-use Rattle.grids.proofs.Rows.{length-flat, flat-snoc}
+use Rattle.grids.proofs.Tables.{length-table}
+use Rattle.grids.proofs.Rows.{flat-snoc}
 use Rattle.pictures.specs.declared.sizes.Size.{Size}
-use Rattle.seam_theory.specs.Sums.{CostRows, fenced, sumOf3, wayOf3, sumsDown, waysUp}
+use Rattle.seam_theory.specs.Sums.{CostRows, fenced, wayOf3, sumsDown, waysUp}
+use Rattle.seam_theory.proofs.Sums.{ways-long}
 use Rattle.seam_theory.proofs.Bounded.{fenced-at, length-sums, sums-most}
 use Rattle.seam_find.specs.Inner.Down.{waysAt, DownGiven, RowGiven}
 
@@ -61,18 +62,14 @@ module _ (fence from : ℕ) (z : Size) (costsIn : List ℕ → ℕ → CostRows)
       length-front = length-take-le from start (omega arith)
 
       length-ways : (n : ℕ) → length (flat (table ways n)) ≡ n * z .width
-      unfolding waysUp
-      length-ways n = length-flat (each-table ways n (λ i l. length-table (wayOf3 false (z .width) (fenced false fence (z .width) (sums i)) (costs (suc i))) (z .width)))
+      length-ways n = ways-long false fence (z .width) n costs
 
       -- The front of the space is the picture.
       pub down-front : (i : ℕ) (space above : List ℕ) → Downs i space above → take from space ≡ take from start
       down-front i space above d = ap (take from) (d .space-is) ∙ take-at (take from start) (flat (table ways (i - 1)) ++ drop (waysAt from z i) start) from length-front
 
-      fences : (s t : List ℕ) → length s ≡ z .width → take 1 (fenced false fence (z .width) s) ++ (t ++ drop (z .width + 1) (fenced false fence (z .width) s)) ≡ fenced false fence (z .width) t
-      fences s t e = rw (add-one (z .width)) (ap (λ r. fence ∷ (t ++ r)) (drop-at s (fence ∷ []) (z .width) e))
-
       -- One row more, row j + 1.
-      module _ (j : ℕ) (space above space′ above′ : List ℕ) (h : suc j < z .height) (d : Downs (suc j) space above) (g : RowGiven from z costsIn (suc j) space above space′ above′) where
+      module _ (j : ℕ) (space above space′ above′ : List ℕ) (h : suc j < z .height) (d : Downs (suc j) space above) (g : RowGiven fence from z costsIn (suc j) space above space′ above′) where
         one : suc j - 1 ≡ j
         one = omega arith
 
@@ -133,9 +130,7 @@ module _ (fence from : ℕ) (z : Size) (costsIn : List ℕ → ℕ → CostRows)
         unfolding sumsDown done rest
         turn = record {
           above-is =
-              rw (above-was, down-front (suc j) space above d) at (g .sums)
-              ∙ fences (sums j) (table (sumOf3 (fenced false fence (z .width) (sums j)) (costs (suc j))) (z .width)) (length-sums false fence (z .width) (costsIn (take from start)) (length-costs 0) j)
-              ∙ rw two;
+              rw (above-was, down-front (suc j) space above d) at (g .sums) ∙ rw two;
           space-is =
               space-now
               ∙ append-assoc (take from start) (flat (table ways j)) (ways j ++ rest)
@@ -143,10 +138,10 @@ module _ (fence from : ℕ) (z : Size) (costsIn : List ℕ → ℕ → CostRows)
           long = now-long;
         }
 
-      pub down-turn : (i : ℕ) (space above space′ above′ : List ℕ) → 0 < i → i < z .height → Downs i space above → RowGiven from z costsIn i space above space′ above′ → Downs (i + 1) space′ above′
+      pub down-turn : (i : ℕ) (space above space′ above′ : List ℕ) → 0 < i → i < z .height → Downs i space above → RowGiven fence from z costsIn i space above space′ above′ → Downs (i + 1) space′ above′
       down-turn i space above space′ above′ p h d g = go (i - 1) (omega arith) h d g
         where
-          go : (j : ℕ) → i ≡ suc j → i < z .height → Downs i space above → RowGiven from z costsIn i space above space′ above′ → Downs (i + 1) space′ above′
+          go : (j : ℕ) → i ≡ suc j → i < z .height → Downs i space above → RowGiven fence from z costsIn i space above space′ above′ → Downs (i + 1) space′ above′
           go j e h d g = rw (add-one i, e) (turn j space above space′ above′ (rw e at h) (rw e at d) (rw e at g))
 
       pub down-end : (i : ℕ) (space above : List ℕ) → i ≡ z .height → Downs i space above → DownGiven fence from z costsIn start space above

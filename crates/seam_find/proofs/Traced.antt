@@ -20,7 +20,7 @@ use Rattle.seam_theory.specs.PictureSeams.{pathCost, seamUp, seamOf, costOf}
 use Rattle.seam_theory.specs.Sums.{sumsDown, waysUp, columnsTo, leastTo}
 use Rattle.seam_theory.proofs.Bounded.{sums-most}
 use Rattle.seam_theory.proofs.Toward.{rows-through}
-use Rattle.seam_theory.proofs.Sums.{Costed, Found, found}
+use Rattle.seam_theory.proofs.Sums.{Costed, FoundPath, found}
 use Rattle.seam_sums.specs.Fences.{fence32}
 use Rattle.seam_find.specs.Inner.Down.{costsOf}
 use Rattle.seam_find.proofs.Costs.{cost-most}
@@ -58,7 +58,7 @@ module _ (z : Size) (b : List ℕ) (sized : Sized z (length b)) (byte : (i : ℕ
       → Traceable (length (flat (table (waysUp false fence32 (z .width) (costsOf z b)) (z .height - 1)))) (z .width) (z .height) column seam
   plain-traceable = ways-traceable false fence32 w h (costsOf z b) (sized .height-some) (sized .height-most) (sized .width-most)
 
-  seam : Found false fence32 w h (costsOf z b) (energy w h p 0) (stepOf w h p)
+  seam : FoundPath false fence32 w h (costsOf z b) (energy w h p 0) (stepOf w h p)
   seam = found false fence32 w h (costsOf z b) (energy w h p 0) (stepOf w h p) costed (sized .width-some) (sized .height-some)
 
   abbrev bottom : ℕ

@@ -38,7 +38,7 @@ fn row_down(
     next: &mut [u32],
 )
     requires { ⌜ RowNeeded fence32 (pictureBytes size) size bytes i (now space) (now above) (now cost) (now next) ⌝ }
-    ensures { λ _. ⌜ RowGiven (pictureBytes size) size (costsOf size) i (now (space .entry)) (now (above .entry)) (now (space .exit)) (now (above .exit)) ⌝ }
+    ensures { λ _. ⌜ RowGiven fence32 (pictureBytes size) size (costsOf size) i (now (space .entry)) (now (above .entry)) (now (space .exit)) (now (above .exit)) ⌝ }
 {
     let width = size.width;
     let side = width + 1;

@@ -48,7 +48,7 @@ fn judge_trace(ways: usize, width: usize, height: usize, column: usize, seam: us
     ways == (height - 1) * width
 }
 
-// The column of the row above to which a way leads; past an edge, the column at the other.
+// The column of the row above to which a way leads; past an edge, the column at the other edge.
 fn step(width: usize, column: usize, way: u8) -> usize
     requires { ⌜ width ≤ mostSide ⌝ }
     requires { ⌜ column < width ⌝ }

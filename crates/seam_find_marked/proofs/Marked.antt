@@ -24,7 +24,7 @@ use Rattle.seam_theory.specs.PictureSeams.{pathCost, markAt, markedUp, markedSe
 use Rattle.seam_theory.specs.Sums.{alikeRows, sumsDown, waysUp, columnsTo, leastTo}
 use Rattle.seam_theory.proofs.Bounded.{sums-most}
 use Rattle.seam_theory.proofs.Toward.{rows-through}
-use Rattle.seam_theory.proofs.Sums.{Costed, Found, found}
+use Rattle.seam_theory.proofs.Sums.{Costed, FoundPath, found}
 use Rattle.seam_sums.specs.Weights.{weightOf, kept, protected}
 use Rattle.seam_sums.specs.Fences.{fence64}
 use Rattle.seam_find.proofs.Costs.{front-most, pixel-most, table-most}
@@ -124,7 +124,7 @@ module _ (z : Size) (b : List ℕ) (sized : Sized z (length (take (pictureBytes 
       ways-traceable false fence64 w h (weightsOf z b) (sized .height-some) (sized .height-most) (sized .width-most)
 
   -- The first path of least weight, and where it ends.
-  seam : Found false fence64 w h (weightsOf z b) first step
+  seam : FoundPath false fence64 w h (weightsOf z b) first step
   seam = found false fence64 w h (weightsOf z b) first step costed (sized .width-some) (sized .height-some)
 
   abbrev bottom : ℕ

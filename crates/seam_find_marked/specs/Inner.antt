@@ -9,7 +9,7 @@ use Rattle.pictures.specs.Refusals.{refusal}
 use Rattle.pictures.specs.Pictures.{Picture, sizeRules, pictureBytes, pixels, pictureIn, marksIn}
 use Rattle.energy.specs.Energy.{StepCosts, costsAt}
 use Rattle.seam_theory.specs.PictureSeams.{markAt}
-use Rattle.seam_theory.specs.Sums.{firstOf3, CostRows, costRows}
+use Rattle.seam_theory.specs.Sums.{CostRows, costRows}
 use Rattle.energy.specs.Bounds.{mostEnergy}
 use Rattle.seam_sums.specs.Weights.{kept, protected, weightOf}
 
@@ -32,10 +32,6 @@ weightsAt w h p m r c = weighed (costsAt w h p r c) (markAt m r c)
 -- The costs of row i of a picture with the marks after it: its weights.
 abbrev pub weightsOf : Size → List ℕ → ℕ → CostRows
 weightsOf z b i = costRows (z .width) (weightsAt (z .width) (z .height) (pictureIn z b) (marksIn z b) i)
-
--- Which of the three sums above column c is the least, where the row's costs are alike.
-abbrev pub wayAbove : List ℕ → ℕ → ℕ
-wayAbove x c = firstOf3 (getD x c 0) (getD x (c + 1) 0) (getD x (c + 2) 0)
 
 -- The bytes of a picture and of its marks.
 abbrev pub markedBytes : Size → ℕ

@@ -46,7 +46,7 @@ fn row_down(
 )
     requires { ⌜ RowNeeded fence64 (markedBytes size) size bytes i (now space) (now above) (now cost) (now next) ⌝ }
     requires { ⌜ length (now energies) ≡ size .width ⌝ }
-    ensures { λ _. ⌜ RowGiven (markedBytes size) size (weightsOf size) i (now (space .entry)) (now (above .entry)) (now (space .exit)) (now (above .exit)) ⌝ }
+    ensures { λ _. ⌜ RowGiven fence64 (markedBytes size) size (weightsOf size) i (now (space .entry)) (now (above .entry)) (now (space .exit)) (now (above .exit)) ⌝ }
 {
     let width = size.width;
     let height = size.height;

@@ -5,9 +5,8 @@ ghost use Prim.Native.Nat.{_+_};
 ghost use lib.ListN.{length};
 ghost use Rattle.grids.specs.Table.{table};
 ghost use Rattle.seam_find.specs.Inner.Sums.{SumsNeeded};
-ghost use Rattle.seam_theory.specs.Sums.{alikeRows, sumOf3};
+ghost use Rattle.seam_theory.specs.Sums.{alikeRows, wayAbove, sumOf3};
 ghost use Rattle.seam_sums.specs.Fences.{fence64};
-ghost use Rattle.seam_find_marked.specs.Inner.{wayAbove};
 
 // The sums of a row, from the row of sums above it and the row's costs. A pixel costs the same wherever a path comes from.
 pub(crate) fn next_sums(above: &[u64], cost: &[u64], next: &mut [u64])
@@ -19,7 +18,7 @@ pub(crate) fn next_sums(above: &[u64], cost: &[u64], next: &mut [u64])
     }
 }
 
-// For each column of a row, where its sum comes from.
+// For each column of a row, where its sum comes from: the weights are alike, so the sums above decide.
 pub(crate) fn ways_row(above: &[u64], ways: &mut [u8])
     requires { ⌜ length (now above) ≡ length (now ways) + 2 ⌝ }
     ensures { λ _. ⌜ now (ways .exit) ≡ table (wayAbove (now (above .entry))) (length (now (ways .entry))) ⌝ }

@@ -12,7 +12,7 @@ use Rattle.energy.specs.Energy.{costsAt, energy, energies, stepOf}
 use Rattle.energy.proofs.Steps.{step-energy}
 use Rattle.seam_theory.specs.Paths.{cost, along}
 use Rattle.seam_theory.specs.PictureSeams.{pathCost}
-use Rattle.seam_theory.specs.Sums.{firstOf3, alikeRows, costRows, sumOf3, wayOf3}
+use Rattle.seam_theory.specs.Sums.{firstOf3, alikeRows, wayAbove, costRows, sumOf3, wayOf3}
 use Rattle.seam_theory.proofs.Numbers.{leb-add}
 use Rattle.seam_theory.proofs.Ways.{way-plain}
 
@@ -24,7 +24,7 @@ first-add x y z n =
     ap₂ (λ a b. cond a 0 (cond b 1 2)) (ap (leb (x + n)) m ∙ leb-add x (min y z) n) (leb-add y z n)
 
 -- so that the way is by the sums above alone,
-pub way-alike : (w : ℕ) (x k : List ℕ) (c : ℕ) → wayOf3 false w x (alikeRows k) c ≡ firstOf3 (getD x c 0) (getD x (c + 1) 0) (getD x (c + 2) 0)
+pub way-alike : (w : ℕ) (x k : List ℕ) (c : ℕ) → wayOf3 false w x (alikeRows k) c ≡ wayAbove x c
 way-alike w x k c =
     way-plain false w x (alikeRows k) c (inr refl) (inr refl)
     ∙ first-add (getD x c 0) (getD x (c + 1) 0) (getD x (c + 2) 0) (getD k c 0)

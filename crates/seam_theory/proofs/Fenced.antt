@@ -38,7 +38,7 @@ module _ (wrap : Bool) (fence w : ℕ) (s : List ℕ) (k : CostRows) (f : ℕ �
   join = joinedAt wrap w
 
   abbrev x : List ℕ
-  x = fenced join fence w s
+  x = fenced wrap fence w s
 
   -- What stands at the left side of the row of sums, between its sides, and at its right side.
   first-at : (j : ℕ) → j ≡ 0 → getD x j 0 ≡ cond join (getD s (w - 1) 0) fence

@@ -22,19 +22,19 @@ module _ (wrap : Bool) (fence w : ℕ) (s : List ℕ) (k : CostRows) (f : ℕ �
   join = joinedAt wrap w
 
   abbrev x : List ℕ
-  x = fenced join fence w s
+  x = fenced wrap fence w s
 
   many : joinedAt wrap w ≡ true → 2 < w
   many j = joined-is wrap w j .1
 
   -- Where the way of a column leads, and the sum there.
   record Led (c : ℕ) : Type 0 where
-    way : cameFrom w c (wayOf3 join w x k c) ≡ leastIn (nearby wrap w c) (f c) c
+    way : cameFrom w c (wayOf3 wrap w x k c) ≡ leastIn (nearby wrap w c) (f c) c
     sum : sumOf3 x k c ≡ f c (leastIn (nearby wrap w c) (f c) c)
 
   -- What is picked of three is where the way leads.
   led-by : (c a b d u v y : ℕ) (turn : ℕ → ℕ) → c < w → Three (f c) (nearby wrap w c) (f c c) a b d u v y
-      → wayOf3 (joinedAt wrap w) w x k c ≡ turn (firstOf3 u v y) → sumOf3 x k c ≡ min u (min v y)
+      → wayOf3 wrap w x k c ≡ turn (firstOf3 u v y) → sumOf3 x k c ≡ min u (min v y)
       → (u ≤ f c c → cameFrom w c (turn 0) ≡ a) → (v ≤ f c c → cameFrom w c (turn 1) ≡ b) → (y ≤ f c c → cameFrom w c (turn 2) ≡ d) → Led c
   unfolding firstOf3
   led-by c a b d u v y turn h of3 is sum p q r = record {
@@ -55,7 +55,7 @@ module _ (wrap : Bool) (fence w : ℕ) (s : List ℕ) (k : CostRows) (f : ℕ �
   unfolding sumOf3
   plain-led c h p q =
       led-by c (c - 1) c (c + 1) (leftSum x k c) (upSum x k c) (rightSum x k c) (λ n. n) h (plain-three wrap fence w s k f row c h p q)
-      (way-plain join w x k c p q) refl
+      (way-plain wrap w x k c p q) refl
       (λ l. came-to w c 0 (c - 1) (to-left p l) (omega arith))
       (λ l. came-to w c 1 c refl h)
       (λ l. came-to w c 2 (c + 1) (omega arith) (to-right q l))
@@ -103,8 +103,8 @@ module _ (wrap : Bool) (fence w : ℕ) (s : List ℕ) (k : CostRows) (f : ℕ �
           (le-or-lt c 0)
 
   -- The way leads to the column from which the theory comes, and the sum is the theory's.
-  pub way-from : (c : ℕ) → c < w → cameFrom w c (wayOf3 (joinedAt wrap w) w (fenced (joinedAt wrap w) fence w s) k c) ≡ leastIn (nearby wrap w c) (f c) c
+  pub way-from : (c : ℕ) → c < w → cameFrom w c (wayOf3 wrap w (fenced wrap fence w s) k c) ≡ leastIn (nearby wrap w c) (f c) c
   way-from c h = led c h .way
 
-  pub sum-from : (c : ℕ) → c < w → sumOf3 (fenced (joinedAt wrap w) fence w s) k c ≡ f c (leastIn (nearby wrap w c) (f c) c)
+  pub sum-from : (c : ℕ) → c < w → sumOf3 (fenced wrap fence w s) k c ≡ f c (leastIn (nearby wrap w c) (f c) c)
   sum-from c h = led c h .sum

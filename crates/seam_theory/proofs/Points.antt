@@ -1,5 +1,5 @@
--- The cheapest path on a cylinder, computed: weights 1 2 2 / 2 2 1 / 2 2 1 have the least sum 3 where the last column is joined
--- to the first, and 4 where it isn't.
+-- Columns and paths with the join and without it, computed. Weights 1 2 2 / 2 2 1 / 2 2 1 have the least sum 3 where the last
+-- column is joined to the first, and 4 where it isn't.
 use mathlib.Core.Path.{_≡_, refl}
 use mathlib.Core.Bool.{Bool, true, false}
 use mathlib.Core.Option.{Option, some, Option·map}
@@ -34,3 +34,13 @@ plain-path = refl
 pub plain-sum : Option·map (along weights) (path false) ≡ some 4
 unfolding paths pathsUp cost nearby beside select run better firstBest flatMap
 plain-sum = refl
+
+-- Of two columns each is beside the other, and a single one is beside itself: the join adds nothing.
+pub joined-two : (nearby true 2 0 ≡ 0 ∷ 1 ∷ []) × (nearby true 2 1 ≡ 0 ∷ 1 ∷ []) × (nearby true 1 0 ≡ 0 ∷ [])
+unfolding nearby beside joins select run
+joined-two = (refl, refl, refl)
+
+-- Of five the ends are near each other, and the columns ascend.
+pub joined-five : (nearby true 5 0 ≡ 0 ∷ 1 ∷ 4 ∷ []) × (nearby true 5 4 ≡ 0 ∷ 3 ∷ 4 ∷ []) × (nearby false 5 0 ≡ 0 ∷ 1 ∷ [])
+unfolding nearby beside joins select run
+joined-five = (refl, refl, refl)

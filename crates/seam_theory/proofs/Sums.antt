@@ -4,7 +4,7 @@ use mathlib.Core.Path.{_≡_, refl, sym, ap, _∙_}
 use mathlib.Core.Logic.{_⊎_, inl, inr}
 use mathlib.Core.Bool.{Bool, cond}
 use mathlib.Core.Option.{some}
-use mathlib.Core.List.{List, [], _∷_, _++_, append-nil, reverse, reverse-cons}
+use mathlib.Core.List.{List, [], _∷_, _++_, reverse, reverse-cons}
 use Prim.Native.Nat.{ℕ, zero, suc, _+_, _-_, _*_, _≤_, _<_}
 use native.Mathlib.Omega.{arith}
 use lib.Dec.{ltb}
@@ -12,10 +12,10 @@ use lib.ListN.{length, getD}
 use borrow.Author.Tests.{lt-ltb, le-ltb}
 use Rattle.grids.specs.Each.{Grid}
 use Rattle.grids.specs.Table.{table}
-use Rattle.grids.specs.Rows.{flat, rowsOf}
+use Rattle.grids.specs.Rows.{flat}
 use Rattle.grids.proofs.Orders.{le-or-lt}
 use Rattle.grids.proofs.Tables.{length-table, table-at, table-same, each-table}
-use Rattle.grids.proofs.Rows.{rowsOf-flat, rowsOf-at, rowAt-getD, length-flat}
+use Rattle.grids.proofs.Rows.{flat-at, rowAt-getD, length-flat}
 use Rattle.seam_theory.specs.Best.{least}
 use Rattle.seam_theory.specs.Paths.{run, cost, nearby}
 use Rattle.seam_theory.specs.Seams.{cheapest}
@@ -48,12 +48,6 @@ least-to s (suc n) = go (let e : n + 1 - 0 ≡ suc n - 0 = omega arith in rw e a
     go seen (inl h) = rw (le-ltb (f (suc n)) (f b) h) (keeps f 0 (suc n) b (omega arith) seen h)
     go seen (inr h) = rw (lt-ltb (f (suc n)) (f b) h) (moves f 0 (suc n) b (omega arith) seen h)
 
--- The element in row r and column c of a grid stands at r * w + c in the flat list.
-flat-at : (w n : ℕ) (p : List (List ℕ)) → Grid w n p → (r c : ℕ) → r < n → c < w → getD (flat p) (r * w + c) 0 ≡ getD (getD p r []) c 0
-flat-at w n p g r c h l =
-    let rows : rowsOf w n (flat p) ≡ p = rw append-nil at (rowsOf-flat [] g) in
-    sym (rowAt-getD w (flat p) r c 0 l) ∙ ap (λ x. getD x c 0) (sym (rowsOf-at w n (flat p) r h) ∙ ap (λ q. getD q r []) rows)
-
 -- What the costs of h rows have to do with a price: those of row 0 are its firsts, those of the other rows are its steps, and no
 -- sum reaches the fence.
 pub record Costed (wrap : Bool) (fence w h : ℕ) (costs : ℕ → CostRows) (first : ℕ → ℕ) (step : ℕ → ℕ → ℕ → ℕ) : Type 0 where
@@ -62,7 +56,7 @@ pub record Costed (wrap : Bool) (fence w h : ℕ) (costs : ℕ → CostRows) (fi
   pub low : (i c : ℕ) → i < h - 1 → c < w → getD (sumsDown wrap fence w costs i) c 0 + getD (costs (suc i) .up) c 0 < fence
 
 -- What is found: the cheapest path, its columns by the ways, and its cost.
-pub record Found (wrap : Bool) (fence w h : ℕ) (costs : ℕ → CostRows) (first : ℕ → ℕ) (step : ℕ → ℕ → ℕ → ℕ) : Type 0 where
+pub record FoundPath (wrap : Bool) (fence w h : ℕ) (costs : ℕ → CostRows) (first : ℕ → ℕ) (step : ℕ → ℕ → ℕ → ℕ) : Type 0 where
   pub path : List ℕ
   pub is : cheapest (nearby wrap w) first step w h ≡ some path
   pub columns :
@@ -76,12 +70,13 @@ module _ (wrap : Bool) (fence w n : ℕ) (costs : ℕ → CostRows) where
   unfolding waysUp
   ways-grid =
       each-table (waysUp wrap fence w costs) n
-      (λ k m. length-table (wayOf3 (joinedAt wrap w) w (fenced (joinedAt wrap w) fence w (sumsDown wrap fence w costs k)) (costs (suc k))) w)
+      (λ k m. length-table (wayOf3 wrap w (fenced wrap fence w (sumsDown wrap fence w costs k)) (costs (suc k))) w)
 
   -- Read from the flat buffer,
   pub ways-at : (i c : ℕ) → i < n → c < w → getD (flat (table (waysUp wrap fence w costs) n)) (i * w + c) 0 ≡ getD (waysUp wrap fence w costs i) c 0
   ways-at i c h l =
-      flat-at w n (table (waysUp wrap fence w costs) n) ways-grid i c h l ∙ ap (λ x. getD x c 0) (table-at (waysUp wrap fence w costs) n i [] h)
+      sym (rowAt-getD w (flat (table (waysUp wrap fence w costs) n)) i c 0 l)
+      ∙ ap (λ x. getD x c 0) (flat-at ways-grid i h ∙ table-at (waysUp wrap fence w costs) n i [] h)
 
   -- which holds one for each column.
   pub ways-long : length (flat (table (waysUp wrap fence w costs) n)) ≡ n * w
@@ -111,7 +106,7 @@ module _ (wrap : Bool) (fence w h : ℕ) (costs : ℕ → CostRows) (first : ℕ
   unfolding sumsDown sums
   sums-link zero l = k .first-row
   sums-link (suc i) l =
-      table-same (sumOf3 (fenced (joinedAt wrap w) fence w (row i)) (costs (suc i))) (sumAt above step (row i) (suc i)) w
+      table-same (sumOf3 (fenced wrap fence w (row i)) (costs (suc i))) (sumAt above step (row i) (suc i)) w
       (λ c m. sum-from wrap fence w (row i) (costs (suc i)) (f i) (above-row i (omega arith)) c m)
       ∙ ap (λ s. table (sumAt above step s (suc i)) w) (sums-link i (omega arith))
 
@@ -119,7 +114,7 @@ module _ (wrap : Bool) (fence w h : ℕ) (costs : ℕ → CostRows) (first : ℕ
   way-link : (i c : ℕ) → i < n → c < w → cameFrom w c (getD (waysUp wrap fence w costs i) c 0) ≡ from above step (sums above first step w i) (suc i) c
   unfolding waysUp
   way-link i c l m =
-      ap (cameFrom w c) (table-at (wayOf3 (joinedAt wrap w) w (fenced (joinedAt wrap w) fence w (row i)) (costs (suc i))) w c 0 m)
+      ap (cameFrom w c) (table-at (wayOf3 wrap w (fenced wrap fence w (row i)) (costs (suc i))) w c 0 m)
       ∙ way-from wrap fence w (row i) (costs (suc i)) (f i) (above-row i l) c m
       ∙ ap (λ s. from above step s (suc i) c) (sums-link i (omega arith))
 
@@ -135,7 +130,7 @@ module _ (wrap : Bool) (fence w h : ℕ) (costs : ℕ → CostRows) (first : ℕ
       ∙ sym (reverse-cons c (trace above first step w i a))
 
   -- So the cheapest path is found.
-  pub found : 0 < w → 0 < h → Found wrap fence w h costs first step
+  pub found : 0 < w → 0 < h → FoundPath wrap fence w h costs first step
   found some-column some-row =
       let e : suc n ≡ h = omega arith in
       record {

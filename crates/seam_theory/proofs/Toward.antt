@@ -16,8 +16,8 @@ use Rattle.seam_theory.specs.Sums.{joinedAt, costRows}
 use Rattle.seam_theory.proofs.Joins.{joined-is}
 use Rattle.seam_theory.proofs.Fenced.{Through}
 
--- Where the left and the right neighbour are one pixel, coming from it costs the same by either name.
-module _ (wrap : Bool) (w : ℕ) (k : ℕ → StepCosts) (two : w ≡ 2 → wrap ≡ true → (c : ℕ) → k c .left ≡ k c .right) where
+-- Of two joined columns the left and the right neighbour are one pixel: coming from it costs the same by either name.
+module _ (wrap : Bool) (w : ℕ) (k : ℕ → StepCosts) (two : w ≡ 2 → wrap ≡ true → k 0 .left ≡ k 0 .right) where
   -- From the left.
   from-left : (c : ℕ) → c + 1 < w → toward wrap w c (c + 1) (k (c + 1)) ≡ k (c + 1) .left
   from-left c h = toward-left wrap w c (c + 1) (k (c + 1)) (λ n. omega arith) (left-inner wrap w (c + 1) (omega arith) ∙ ap some (omega arith))
@@ -38,7 +38,7 @@ module _ (wrap : Bool) (w : ℕ) (k : ℕ → StepCosts) (two : w ≡ 2 → wrap
           (λ n. Option·none-ne-some (c + 1) (sym (none-left y e) ∙ n))
       first true y e (inl l) =
           let last : w - 1 ≡ c + 1 = omega arith in
-          toward-left wrap w (c + 1) c (k c) (λ n. omega arith) (last-left y e ∙ ap some last) ∙ two (omega arith) y c
+          toward-left wrap w (c + 1) c (k c) (λ n. omega arith) (last-left y e ∙ ap some last) ∙ rw e (two (omega arith) y)
       first true y e (inr l) =
           toward-right wrap w (c + 1) c (k c) (λ n. omega arith)
           (λ n. omega (arith, Option·some-injective (w - 1) (c + 1) (sym (last-left y e) ∙ n)))

@@ -8,7 +8,7 @@ use native.Mathlib.Omega.{arith}
 use lib.Dec.{eqb}
 use borrow.Author.Tests.{lt-ltb, le-ltb, eq-eqb, ne-eqb}
 use Rattle.grids.proofs.Orders.{le-or-lt}
-use Rattle.seam_theory.specs.Sums.{firstOf3, CostRows, leftSum, upSum, rightSum, wayOf3, cameFrom}
+use Rattle.seam_theory.specs.Sums.{firstOf3, CostRows, joinedAt, leftSum, upSum, rightSum, wayOf3, cameFrom}
 
 -- Which column a way leads to, by the tests that decide it.
 module _ (w c way : ℕ) where
@@ -44,15 +44,15 @@ abbrev pub HasRight : Bool → ℕ → ℕ → Type 0
 HasRight join w c = (c + 1 < w) ⊎ (join ≡ false)
 
 -- At one that has both, the left sum comes first.
-pub way-plain : (join : Bool) (w : ℕ) (x : List ℕ) (k : CostRows) (c : ℕ) → HasLeft join c → HasRight join w c
-    → wayOf3 join w x k c ≡ firstOf3 (leftSum x k c) (upSum x k c) (rightSum x k c)
+pub way-plain : (wrap : Bool) (w : ℕ) (x : List ℕ) (k : CostRows) (c : ℕ) → HasLeft (joinedAt wrap w) c → HasRight (joinedAt wrap w) w c
+    → wayOf3 wrap w x k c ≡ firstOf3 (leftSum x k c) (upSum x k c) (rightSum x k c)
 unfolding wayOf3
-way-plain join w x k c p q = rw (no-first p, no-last q)
+way-plain wrap w x k c p q = rw (no-first p, no-last q)
   where
-    no-first : HasLeft join c → (join && eqb c 0) ≡ false
-    no-first (inl l) = rw (ne-eqb c 0 (λ n. omega arith)) (and-false join)
+    no-first : HasLeft (joinedAt wrap w) c → (joinedAt wrap w && eqb c 0) ≡ false
+    no-first (inl l) = rw (ne-eqb c 0 (λ n. omega arith)) (and-false (joinedAt wrap w))
     no-first (inr j) = rw j
 
-    no-last : HasRight join w c → (join && eqb (c + 1) w) ≡ false
-    no-last (inl l) = rw (ne-eqb (c + 1) w (λ n. omega arith)) (and-false join)
+    no-last : HasRight (joinedAt wrap w) w c → (joinedAt wrap w && eqb (c + 1) w) ≡ false
+    no-last (inl l) = rw (ne-eqb (c + 1) w (λ n. omega arith)) (and-false (joinedAt wrap w))
     no-last (inr j) = rw j

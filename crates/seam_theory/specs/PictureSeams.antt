@@ -6,7 +6,8 @@ use Prim.Native.Nat.{ℕ}
 use lib.Dec.{eqb}
 use lib.ListN.{getD}
 use Rattle.seam_theory.specs.Paths.{paths, cost, nearby, along}
-use Rattle.seam_theory.specs.Seams.{cheapest, cheapestAllowed}
+use Rattle.seam_theory.specs.Best.{least}
+use Rattle.seam_theory.specs.Seams.{cheapestAllowed}
 use Rattle.pictures.specs.Pictures.{Picture}
 use Rattle.energy.specs.Energy.{energy, stepOf}
 
@@ -18,13 +19,13 @@ pathCost w h p = cost (energy w h p 0) (stepOf w h p)
 -- "The seam found is the cheapest. Among equals it is the one whose columns, read from the bottom row upward, come first in
 -- dictionary order": the first of the cheapest of all connected paths through w columns and h rows, from the bottom row.
 abbrev pub seamUp : ℕ → ℕ → Picture → Option (List ℕ)
-seamUp w h p = cheapest (nearby false w) (energy w h p 0) (stepOf w h p) w h
+seamUp w h p = least (pathCost w h p) (paths (nearby false w) w h)
 
 -- "Elsewhere a seam's columns are listed from the top row."
 unfoldable pub seamOf : ℕ → ℕ → Picture → List ℕ
 seamOf w h p = reverse (Option·getD (seamUp w h p) [])
 
--- "Its cost is the sum of its energies."
+-- "Its cost is the sum of its energies": a law (`cost-energies`), since coming to a pixel costs its energy from every column.
 unfoldable pub costOf : ℕ → ℕ → Picture → ℕ
 costOf w h p = pathCost w h p (Option·getD (seamUp w h p) [])
 

@@ -28,9 +28,12 @@ pub record CostRows : Type 0 where
 abbrev pub costRows : ℕ → (ℕ → StepCosts) → CostRows
 costRows w k = record { left = table (λ c. k c .left) w; up = table (λ c. k c .up) w; right = table (λ c. k c .right) w }
 
--- Where they are alike.
+-- Where they are alike: the sums above column c decide, of which wayAbove is the least.
 abbrev pub alikeRows : List ℕ → CostRows
 alikeRows cost = record { left = cost; up = cost; right = cost }
+
+abbrev pub wayAbove : List ℕ → ℕ → ℕ
+wayAbove x c = firstOf3 (getD x c 0) (getD x (c + 1) 0) (getD x (c + 2) 0)
 
 -- Whether the join counts among w columns. Of two columns each is beside the other without it.
 abbrev pub joinedAt : Bool → ℕ → Bool
@@ -39,7 +42,7 @@ joinedAt wrap w = wrap && ltb 2 w
 -- A row of sums with a number at either side, so that each column has three above it: at the join the sum at the other end,
 -- else a fence, which is larger than every sum.
 abbrev pub fenced : Bool → ℕ → ℕ → List ℕ → List ℕ
-fenced join fence w s = cond join (getD s (w - 1) 0) fence ∷ (s ++ (cond join (getD s 0 0) fence ∷ []))
+fenced wrap fence w s = cond (joinedAt wrap w) (getD s (w - 1) 0) fence ∷ (s ++ (cond (joinedAt wrap w) (getD s 0 0) fence ∷ []))
 
 -- Column c, below the fenced sums x of the row above.
 module _ (x : List ℕ) (k : CostRows) (c : ℕ) where
@@ -59,12 +62,13 @@ module _ (x : List ℕ) (k : CostRows) (c : ℕ) where
 -- Which of the three it is, of equals the one at the smallest column: 0 the left one, 1 the middle one, 2 the right one. At the
 -- join the right one of the last column, and the left one of the first, stand at the other end of the row.
 unfoldable pub wayOf3 : Bool → ℕ → List ℕ → CostRows → ℕ → ℕ
-wayOf3 join w x k c =
-    cond (join && eqb c 0) (pick3 1 2 0 (firstOf3 (upSum x k c) (rightSum x k c) (leftSum x k c)))
-    (cond (join && eqb (c + 1) w) (pick3 2 0 1 (firstOf3 (rightSum x k c) (leftSum x k c) (upSum x k c)))
+wayOf3 wrap w x k c =
+    cond (joinedAt wrap w && eqb c 0) (pick3 1 2 0 (firstOf3 (upSum x k c) (rightSum x k c) (leftSum x k c)))
+    (cond (joinedAt wrap w && eqb (c + 1) w) (pick3 2 0 1 (firstOf3 (rightSum x k c) (leftSum x k c) (upSum x k c)))
     (firstOf3 (leftSum x k c) (upSum x k c) (rightSum x k c)))
 
--- The column of the row above to which a way leads from column c of w. A way that leads past an edge comes in at the other.
+-- The column of the row above to which a way leads from column c of w: 0 one to the left, 1 the same, 2 one to the right. A way
+-- that leads past an edge comes in at the other.
 unfoldable pub cameFrom : ℕ → ℕ → ℕ → ℕ
 cameFrom w c way = cond (eqb (c + way) 0) (w - 1) (cond (ltb w (c + way)) 0 (c + way - 1))
 
@@ -73,11 +77,11 @@ module _ (wrap : Bool) (fence w : ℕ) (costs : ℕ → CostRows) where
   -- The sums of row i.
   unfoldable pub sumsDown : ℕ → List ℕ
   sumsDown zero = costs 0 .up
-  sumsDown (suc i) = table (sumOf3 (fenced (joinedAt wrap w) fence w (sumsDown i)) (costs (suc i))) w
+  sumsDown (suc i) = table (sumOf3 (fenced wrap fence w (sumsDown i)) (costs (suc i))) w
 
   -- The ways from row i + 1 up to row i.
   unfoldable pub waysUp : ℕ → List ℕ
-  waysUp i = table (wayOf3 (joinedAt wrap w) w (fenced (joinedAt wrap w) fence w (sumsDown i)) (costs (suc i))) w
+  waysUp i = table (wayOf3 wrap w (fenced wrap fence w (sumsDown i)) (costs (suc i))) w
 
 -- The columns of the path to column c of row i, from the top row: ways holds, row after row of w, where each column of
 -- row i + 1 comes from.

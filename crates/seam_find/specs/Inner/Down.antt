@@ -16,7 +16,8 @@ use Rattle.seam_theory.specs.Sums.{CostRows, costRows, fenced, sumOf3, wayOf3, 
 abbrev pub costsOf : Size → List ℕ → ℕ → CostRows
 costsOf z b i = costRows (z .width) (costsAt (z .width) (z .height) (picture z b) i)
 
--- The same with the fenced sums of row 0, and room for a row of costs and a row of sums.
+-- A picture of its size at the front of a space, with room for the ways between its rows; the fenced sums of row 0; and room
+-- for a row of costs and a row of sums.
 pub record DownNeeded (fence from : ℕ) (z : Size) (costs : List ℕ → ℕ → CostRows) (bytes : ℕ) (space above cost next : List ℕ) : Type 0 where
   pub bytes-are : bytes ≡ pictureBytes z
   pub sized : refusal (sizeRules z (pictureBytes z)) ≡ 0
@@ -33,7 +34,7 @@ pub record DownGiven (fence from : ℕ) (z : Size) (costs : List ℕ → ℕ →
       ++ drop (from + (z .height - 1) * z .width) space)
   pub sums : above′ ≡ fenced false fence (z .width) (sumsDown false fence (z .width) (costs (take from space)) (z .height - 1))
 
--- The same for row i alone: the fenced sums of the row above are small enough to add to.
+-- The same for row i alone: the sums of the row above stand between their fences and are below them.
 pub record RowNeeded (fence from : ℕ) (z : Size) (bytes i : ℕ) (space above cost next : List ℕ) : Type 0 where
   pub bytes-are : bytes ≡ pictureBytes z
   pub sized : refusal (sizeRules z (pictureBytes z)) ≡ 0
@@ -41,6 +42,7 @@ pub record RowNeeded (fence from : ℕ) (z : Size) (bytes i : ℕ) (space above 
   pub inside : i < z .height
   pub room : from + (z .height - 1) * z .width ≤ length space
   pub long : length above ≡ z .width + 2
+  pub fences : above ≡ fenced false fence (z .width) (take (z .width) (drop 1 above))
   pub small : (k : ℕ) → k < z .width → getD above (k + 1) 0 < fence
   pub cost-room : length cost ≡ z .width
   pub next-room : length next ≡ z .width
@@ -49,6 +51,7 @@ pub record RowNeeded (fence from : ℕ) (z : Size) (bytes i : ℕ) (space above 
 abbrev pub waysAt : ℕ → Size → ℕ → ℕ
 waysAt from z i = from + (i - 1) * z .width
 
-pub record RowGiven (from : ℕ) (z : Size) (costs : List ℕ → ℕ → CostRows) (i : ℕ) (space above space′ above′ : List ℕ) : Type 0 where
+-- The ways of row i put in their place, and its fenced sums.
+pub record RowGiven (fence from : ℕ) (z : Size) (costs : List ℕ → ℕ → CostRows) (i : ℕ) (space above space′ above′ : List ℕ) : Type 0 where
   pub ways : space′ ≡ take (waysAt from z i) space ++ (table (wayOf3 false (z .width) above (costs (take from space) i)) (z .width) ++ drop (waysAt from z i + z .width) space)
-  pub sums : above′ ≡ take 1 above ++ (table (sumOf3 above (costs (take from space) i)) (z .width) ++ drop (z .width + 1) above)
+  pub sums : above′ ≡ fenced false fence (z .width) (table (sumOf3 above (costs (take from space) i)) (z .width))

@@ -10,6 +10,19 @@ use Rattle.exports.proofs.Filed.{refused-row-at, row-at-room, served-ro
 use Rattle.exports.proofs.multifiles.multisize_row_at.Statement.{statement}
 use Rattle.exports.proofs.multifiles.multisize_row_at.Tie as tie
 
+-- Places: where the number is known, and before it the row shown, the kind named, and the start
+abbrev at-row : tie.After-given → tie.After-row-at
+at-row c = c .before .before .before
+
+abbrev at-size : tie.After-given → tie.After-size
+at-size c = at-row c .before .before .before
+
+abbrev named : tie.After-given → tie.After-size-named
+named c = at-size c .before .before
+
+abbrev start : tie.After-given → tie.Start
+start c = named c .before .before .before .before
+
 size-named-requires : tie.Need-size-named-requires
 size-named-requires c κs = search needs
 
@@ -39,12 +52,9 @@ same-length c = search needs
 
 returns-2 : tie.Need-returns-2
 returns-2 c =
-    let at-given = c .before .before in
-    let at-row = at-given .before .before .before in
-    let at-size = at-row .before .before .before in
-    let at-size-named = at-size .before .before in
-    rw (sym (at-size-named .size-named .ensures) ∙ at-size .size .given .1, c .refused2 .ensures)
-    (refused-row-at {z = at-size .size .given .0 .0} (at-row .row-at .ensures) (at-given .given .ensures) (c .before .if1 .taken))
+    let g = c .before .before in
+    rw (sym (named g .size-named .ensures) ∙ at-size g .size .given .1, c .refused2 .ensures)
+    (refused-row-at {z = at-size g .size .given .0 .0} (at-row g .row-at .ensures) (g .given .ensures) (c .before .if1 .taken))
 
 pixels-at-requires : tie.Need-pixels-at-requires
 pixels-at-requires c κs = search needs
@@ -55,12 +65,11 @@ channels-requires c κs = search needs
 mul-shown : tie.Need-mul-shown
 mul-shown c =
     let at-if1 = c .before .before in
-    let at-given = at-if1 .before in
-    let at-row = at-given .before .before .before in
-    let s = at-row .before .before .before .before .before .before .before .before .before in
+    let g = at-if1 .before in
+    let s = start g in
     let fits : c .before .pixels-at .result * c .channels .result ≤ length (now (s .args .out)) =
     rw (c .before .pixels-at .ensures, c .channels .ensures)
-    (row-at-room (at-row .row-at .ensures) (sym (at-given .given .ensures) ∙ at-if1 .if1 .left)) in
+    (row-at-room (at-row g .row-at .ensures) (sym (g .given .ensures) ∙ at-if1 .if1 .left)) in
     omega (arith, fits)
 
 same-length-2 : tie.Need-same-length-2
@@ -69,12 +78,9 @@ same-length-2 c = search needs
 returns-3 : tie.Need-returns-3
 returns-3 c =
     let at-if1 = c .before .before in
-    let at-given = at-if1 .before in
-    let at-row = at-given .before .before .before in
-    let at-size = at-row .before .before .before in
-    let at-size-named = at-size .before .before in
-    rw (sym (at-size-named .size-named .ensures) ∙ at-size .size .given .1, c .before .pixels-at .ensures, c .channels .ensures)
-    (served-row-at {z = at-size .size .given .0 .0} (at-row .row-at .ensures) (sym (at-given .given .ensures) ∙ at-if1 .if1 .left))
+    let g = at-if1 .before in
+    rw (sym (named g .size-named .ensures) ∙ at-size g .size .given .1, c .before .pixels-at .ensures, c .channels .ensures)
+    (served-row-at {z = at-size g .size .given .0 .0} (at-row g .row-at .ensures) (sym (g .given .ensures) ∙ at-if1 .if1 .left))
 
 pub multisize-row-at-spec : {M : Type 1} → statement M
 multisize-row-at-spec =

@@ -1,3 +1,6 @@
+-- `map_check::seams::connected` meets its contract. The invariant of the loop over seams: seams 1 to t are connected. Of the loop
+-- over rows: `here` is the column of seam t + 1 in row r, and that seam is connected exactly when it is so from row r on. The
+-- measures are the seams and the rows left.
 use mathlib.Core.Path.{_≡_, refl, sym, ap₂, _∙_}
 use mathlib.Core.Bool.{true, false}
 use mathlib.Core.List.{List}

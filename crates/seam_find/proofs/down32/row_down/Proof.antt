@@ -215,8 +215,8 @@ returns c =
     let r = at-next-row (at-copy c) in
     let e = at-energies (lent r) in
     let s = start e in
-    row-given _ (size s) (costsOf (size s)) (s .args .i) (s .args .bytes) _ (space s) _ _ (cost-rows e) _
-    (s .pre .bytes-are) (ways-ends s .end) (cost-rows-are e) (s .pre .next-room) (ways-are r)
+    row-given _ _ (size s) (costsOf (size s)) (s .args .i) (s .args .bytes) _ (space s) _ _ (cost-rows e) _
+    (s .pre .bytes-are) (ways-ends s .end) (cost-rows-are e) (s .pre .next-room) (s .pre .long) (s .pre .fences) (ways-are r)
     (at-copy c .copy .ensures ∙ r .next-row .ensures .0)
 
 pub row-down-spec : {M : Type 1} → statement M

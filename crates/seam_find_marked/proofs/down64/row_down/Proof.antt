@@ -14,10 +14,11 @@ use Rattle.grids.proofs.Tables.{table-same}
 use Rattle.pictures.specs.declared.sizes.Size.{Size}
 use Rattle.pictures.specs.Pictures.{pictureBytes}
 use Rattle.pictures.proofs.Limits.{Sized, sized-is}
-use Rattle.seam_theory.specs.Sums.{alikeRows, wayOf3}
+use Rattle.seam_sums.specs.Fences.{fence64}
+use Rattle.seam_theory.specs.Sums.{alikeRows, wayAbove, wayOf3}
 use Rattle.seam_theory.proofs.Alike.{way-alike}
 use Rattle.seam_find.proofs.OneRow.{row-given, WaysEnd, ways-end}
-use Rattle.seam_find_marked.specs.Inner.{weightsOf, wayAbove, markedBytes}
+use Rattle.seam_find_marked.specs.Inner.{weightsOf, markedBytes}
 use Rattle.seam_find_marked.proofs.Spaces.{FrontEnds, front-ends}
 use Rattle.seam_find_marked.proofs.Marked.{weights-wide, weights-alike, front-weights}
 use Rattle.seam_find_marked.proofs.down64.row_down.Statement.{statement}
@@ -203,10 +204,10 @@ returns c =
     let z = size k in
     let x = now (start k .args .above) in
     let w = length (now (start k .args .next)) in
-    row-given (markedBytes z) z (weightsOf z) (row k) (from k) w (space k) x (u .ways-row .last .1 .0) (alikeRows (weights r))
+    row-given fence64 (markedBytes z) z (weightsOf z) (row k) (from k) w (space k) x (u .ways-row .last .1 .0) (alikeRows (weights r))
     (at-copy .copy .last .1 .0) (front-end k .is) (ways k .end)
     (ap alikeRows (weights-are r) ∙ sym (weights-alike z (front k) (row k)))
-    (start k .pre .0 .next-room)
+    (start k .pre .0 .next-room) (start k .pre .0 .long) (start k .pre .0 .fences)
     (u .ways-row .ensures
     ∙ ap (table (wayAbove x)) (ways k .wide)
     ∙ table-same (wayAbove x) (wayOf3 false w x (alikeRows (weights r))) w (λ j l. sym (way-alike w x (weights r) j)))

@@ -5,7 +5,7 @@ use Prim.Native.Nat.{_-_}
 use borrow.Author.Needs.{needs}
 use denote.Ref.{now}
 use Rattle.grids.proofs.Tables.{Stored, stored-start, stored-turn, stored-end}
-use Rattle.seam_find_marked.specs.Inner.{wayAbove}
+use Rattle.seam_theory.specs.Sums.{wayAbove}
 use Rattle.seam_find_marked.proofs.sums64.ways_row.Statement.{statement}
 use Rattle.seam_find_marked.proofs.sums64.ways_row.Tie as tie
 
