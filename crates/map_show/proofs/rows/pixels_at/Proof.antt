@@ -1,12 +1,12 @@
--- `map_show::rows::pixels_at` meets its contract.
-use Prim.Native.Nat.{_-_}
+-- `map_show::rows::pixels_at` meets its contract: no more numbers are counted than there are.
+use Prim.Native.Nat.{_≤_}
 use native.Mathlib.Omega.{arith}
+use borrow.Author.Needs.{needs}
 use borrow.Author.Tests.{le-leb, lt-leb}
 use denote.Ref.{now}
 use lib.ListN.{length}
 use Rattle.map_show.specs.Showing.{pixelsAt}
 use Rattle.map_show.proofs.Counts.{doubled-most}
-use borrow.Author.Needs.{needs}
 use Rattle.map_show.proofs.rows.pixels_at.Statement.{statement}
 use Rattle.map_show.proofs.rows.pixels_at.Tie as tie
 
@@ -15,8 +15,9 @@ doubled-in-requires c κs = search needs
 
 sub-result : tie.Need-sub-result
 sub-result c =
-    let a = c .before .before .before .args in
-    omega (arith, c .doubled-in .ensures, doubled-most (length (now (a .numbers)) - a .wanted) (now (a .numbers)))
+    let numbers = now (c .before .before .before .args .numbers) in
+    let few : c .doubled-in .result ≤ length numbers = rw (c .doubled-in .ensures) (doubled-most _ numbers) in
+    omega arith
 
 sub-doubled-in : tie.Need-sub-doubled-in
 sub-doubled-in c = search needs
@@ -26,8 +27,9 @@ doubled-in-requires-2 c κs = search needs
 
 add-result : tie.Need-add-result
 add-result c =
-    let a = c .before .before .before .args in
-    omega (arith, c .doubled-in2 .ensures, doubled-most (a .wanted - length (now (a .numbers))) (now (a .numbers)))
+    let numbers = now (c .before .before .before .args .numbers) in
+    let few : c .doubled-in2 .result ≤ length numbers = rw (c .doubled-in2 .ensures) (doubled-most _ numbers) in
+    omega arith
 
 returns : tie.Need-returns
 unfolding pixelsAt
