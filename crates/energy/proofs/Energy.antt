@@ -1,8 +1,7 @@
 -- Laws of energies: from the bytes of two rows, and with rows and columns exchanged.
 use mathlib.Core.Path.{_≡_, refl, sym, ap, ap₂, _∙_}
 use mathlib.Core.Logic.{⊎-elim}
-use mathlib.Core.Bool.{false}
-use mathlib.Core.Option.{Option·map}
+use mathlib.Core.Option.{Option·map, orElse}
 use mathlib.Core.List.{List, [], _∷_}
 use Prim.Native.Nat.{ℕ, _+_, _-_, _*_, _≤_, _<_}
 use native.Mathlib.Nat.{add-comm}
@@ -18,9 +17,9 @@ use Rattle.grids.proofs.Tables.{table-same}
 use Rattle.grids.proofs.Exchange.{exchange-at, exchange-table}
 use Rattle.pictures.specs.declared.sizes.Size.{Size}
 use Rattle.pictures.specs.Pictures.{Picture, channelsOf, rowBytes, pictureBytes, picture, pixel}
-use Rattle.energy.specs.Around.{rightOf, belowOf}
+use Rattle.energy.specs.Around.{leftOf, rightOf, aboveOf, belowOf}
 use Rattle.energy.specs.Energy.{difference, away, costsAt, energy, energies, energyGrid}
-use Rattle.energy.specs.Inner.{rightColumn, between, besideLast, lowerLine}
+use Rattle.energy.specs.Inner.{rightColumn, between, neighbourOf}
 use Rattle.pictures.proofs.Buffers.{pixel-at}
 
 -- A pixel has no difference to itself.
@@ -29,51 +28,78 @@ unfolding difference
 difference-self [] = refl
 difference-self (a ∷ p) = omega (arith, difference-self p)
 
--- A neighbour's difference, from the bytes of the row and of the row below: the last column stands for the one to its right,
--- the last row for the one below it.
-module _ (z : Size) (b : List ℕ) (e : length b ≡ pictureBytes z) (r c : ℕ) (h : r < z .height) where
-  -- The pixel itself.
-  abbrev it : List ℕ
-  it = rowAt (channelsOf (z .kind)) c (rowAt (rowBytes z) r b)
+-- The line that stands for the one after line i is one of the n.
+pub neighbour-inside : (n i : ℕ) → i < n → neighbourOf n i < n
+neighbour-inside n i h =
+    ⊎-elim
+    (λ (l : n ≤ i + 1). rw (le-ltb (i + 1) n l) (omega arith))
+    (λ (l : i + 1 < n). rw (lt-ltb (i + 1) n l) l)
+    (le-or-lt n (i + 1))
 
-  right-between : c < z .width
-      → away (pixel (picture z b) r c) (Option·map (pixel (picture z b) r) (rightOf false (z .width) c))
-      ≡ difference (rowAt (channelsOf (z .kind)) (rightColumn (z .width) (besideLast (z .width)) c) (rowAt (rowBytes z) r b)) it
-  unfolding rightOf
-  right-between l =
-      ⊎-elim
-      (λ (m : z .width ≤ c + 1).
-      let last : z .width - 1 ≡ c = omega arith in
-      rw (le-ltb (c + 1) (z .width) m, last, difference-self))
-      (λ (m : c + 1 < z .width).
-      rw (lt-ltb (c + 1) (z .width) m, pixel-at z b e r c h, pixel-at z b e r (c + 1) h))
-      (le-or-lt (z .width) (c + 1))
+-- Along a row or a column: the difference to the neighbour after, or else to the one before, is the difference to that line.
+along : (q : ℕ → List ℕ) (n i : ℕ) → i < n
+    → away (q i) (orElse (Option·map q (belowOf n i)) (Option·map q (aboveOf i))) ≡ difference (q (neighbourOf n i)) (q i)
+unfolding belowOf aboveOf orElse
+along q n i h =
+    ⊎-elim
+    (λ (l : n ≤ i + 1).
+    ⊎-elim
+    (λ (m : i ≤ 0).
+    let none-before : i - 1 ≡ i = omega arith in
+    rw (le-ltb (i + 1) n l, le-ltb 0 i m, none-before, difference-self))
+    (λ (m : 0 < i). rw (le-ltb (i + 1) n l, lt-ltb 0 i m))
+    (le-or-lt i 0))
+    (λ (l : i + 1 < n). rw (lt-ltb (i + 1) n l))
+    (le-or-lt n (i + 1))
 
-  below-between : away (pixel (picture z b) r c) (Option·map (λ a. pixel (picture z b) a c) (belowOf (z .height) r))
-      ≡ difference (rowAt (channelsOf (z .kind)) c (take (rowBytes z) (drop (lowerLine r (z .height) (rowBytes z)) b))) it
-  unfolding belowOf
-  below-between =
-      ⊎-elim
-      (λ (l : z .height ≤ r + 1). rw (le-ltb (r + 1) (z .height) l, difference-self))
-      (λ (l : r + 1 < z .height).
-      rw (lt-ltb (r + 1) (z .height) l, pixel-at z b e r c h, pixel-at z b e (r + 1) c l))
-      (le-or-lt (z .height) (r + 1))
+-- Of a row's columns, whose last has `beside` after it.
+right-column : (w c : ℕ) → c < w → rightColumn w (neighbourOf w (w - 1)) c ≡ neighbourOf w c
+right-column w c h =
+    ⊎-elim
+    (λ (l : w ≤ c + 1).
+    let last : w - 1 ≡ c = omega arith in
+    rw (last, le-ltb (c + 1) w l))
+    (λ (l : c + 1 < w). rw (lt-ltb (c + 1) w l))
+    (le-or-lt w (c + 1))
 
-  -- The energy of a pixel, from these bytes.
-  pub energy-between : c < z .width
-      → energy (z .width) (z .height) (picture z b) r c
-      ≡ between (channelsOf (z .kind)) (take (rowBytes z) (drop (r * rowBytes z) b)) (take (rowBytes z) (drop (lowerLine r (z .height) (rowBytes z)) b)) (z .width) (besideLast (z .width)) c
-  unfolding costsAt between
-  energy-between l = ap₂ _+_ (right-between l) below-between
+-- The energy of a pixel, from the bytes of its row and of the row that stands for the one below it.
+pub energy-between : (z : Size) (b : List ℕ) → length b ≡ pictureBytes z → (r c : ℕ) → r < z .height → c < z .width
+    → energy (z .width) (z .height) (picture z b) r c
+    ≡ between (channelsOf (z .kind)) (take (rowBytes z) (drop (r * rowBytes z) b)) (take (rowBytes z) (drop (neighbourOf (z .height) r * rowBytes z) b)) (z .width) (neighbourOf (z .width) (z .width - 1)) c
+unfolding costsAt between leftOf rightOf aboveOf belowOf
+energy-between z b e r c h l = ap₂ _+_ (along (pixel p r) w c l ∙ right) (along (λ a. pixel p a c) (z .height) r h ∙ below)
+  where
+    p : Picture
+    p = picture z b
+
+    w : ℕ
+    w = z .width
+
+    n : ℕ
+    n = neighbourOf (z .height) r
+
+    -- The pixel in column a of row i of the buffer.
+    at : ℕ → ℕ → List ℕ
+    at i a = rowAt (channelsOf (z .kind)) a (rowAt (rowBytes z) i b)
+
+    right : difference (pixel p r (neighbourOf w c)) (pixel p r c) ≡ difference (at r (rightColumn w (neighbourOf w (w - 1)) c)) (at r c)
+    right = rw (right-column w c l, pixel-at z b e r c h, pixel-at z b e r (neighbourOf w c) h)
+
+    below : difference (pixel p n c) (pixel p r c) ≡ difference (at n c) (at r c)
+    below = ap₂ difference (pixel-at z b e n c (neighbour-inside (z .height) r h)) (pixel-at z b e r c h)
 
 -- "A horizontal seam is the vertical seam of the picture with rows and columns exchanged": the energies are exchanged too.
 pub energy-exchange : {w n : ℕ} {p : Picture} → Grid w n p → (r c : ℕ) → energy n w (exchange w p) c r ≡ energy w n p r c
-unfolding costsAt rightOf belowOf
+unfolding costsAt leftOf rightOf aboveOf belowOf
 energy-exchange {w} {n} {p} g r c = ap by pixels-same ∙ add-comm _ _
   where
-    -- The energy of the pixel in row r and column c, from what stands below it and to its right.
+    -- What the difference to the line after or before comes to, of a pixel q i in line i of m.
+    one : (ℕ → List ℕ) → ℕ → ℕ → ℕ
+    one q m i = away (q i) (orElse (Option·map q (belowOf m i)) (Option·map q (aboveOf i)))
+
+    -- The energy of the pixel in row r and column c, from its column and its row.
     by : (ℕ → ℕ → List ℕ) → ℕ
-    by q = away (q r c) (Option·map (λ a. q a c) (belowOf n r)) + away (q r c) (Option·map (q r) (rightOf false w c))
+    by q = one (λ a. q a c) n r + one (q r) w c
 
     pixels-same : _≡_ {A = ℕ → ℕ → List ℕ} (λ r c. pixel (exchange w p) c r) (pixel p)
     pixels-same = λ i r c. exchange-at g r c [] i

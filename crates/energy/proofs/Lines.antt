@@ -1,6 +1,5 @@
 -- Laws of the energies of a row of bytes, in the terms of the loops that work them out.
 use mathlib.Core.Path.{_≡_, sym, ap, ap₂, _∙_}
-use mathlib.Core.Logic.{⊎-elim}
 use mathlib.Core.List.{List, _++_}
 use Prim.Native.Nat.{ℕ, _+_, _-_, _*_, _≤_, _<_}
 use native.Mathlib.Nat.{add-zero, suc-mul, add-sub-cancel-left, le-of-eq}
@@ -11,15 +10,14 @@ use lib.ListN.{length, getD, take, drop, set, length-drop}
 use lib.Seq.{length-take-le}
 use Rattle.grids.specs.Table.{table}
 use Rattle.grids.proofs.Tables.{table-part, table-more, table-same}
-use Rattle.grids.proofs.Orders.{le-or-lt}
 use Rattle.grids.proofs.Rows.{part-end}
 use Rattle.pictures.specs.Limits.{mostPicture}
 use Rattle.pictures.specs.declared.sizes.Size.{Size}
 use Rattle.pictures.specs.Pictures.{channelsOf, rowBytes, picture}
 use Rattle.energy.specs.Energy.{apart, difference, energy, energies}
-use Rattle.energy.specs.Inner.{LinesNeeded, rightColumn, between, besideLast, lowerLine}
+use Rattle.energy.specs.Inner.{LinesNeeded, rightColumn, between, neighbourOf}
 use Rattle.pictures.proofs.Limits.{Sized}
-use Rattle.energy.proofs.Energy.{energy-between}
+use Rattle.energy.proofs.Energy.{neighbour-inside, energy-between}
 
 -- The difference of two pixels of one sample, and of three.
 pub grey-is : (a b : List ℕ) (i j : ℕ) → i + 1 ≤ length a → j + 1 ≤ length b → difference (take 1 (drop i a)) (take 1 (drop j b)) ≡ apart (getD a i 0) (getD b j 0)
@@ -63,44 +61,40 @@ module _ (ch : ℕ) (it lower space out : List ℕ) (width beside c i : ℕ) (at
       line-more j right below (omega arith) (rw (le-ltb (c + 1) width (le-of-eq (sym w))) n) p q
       ∙ ap (λ n. table (between ch it lower width beside) n ++ drop n space) w
 
--- The row that stands for the row below ends within the picture.
-pub lower-end : (r height stride : ℕ) → r < height → lowerLine r height stride + stride ≤ height * stride
-lower-end r height stride h =
-    ⊎-elim
-    (λ (l : height ≤ r + 1). rw (le-ltb (r + 1) height l) (part-end r height stride h))
-    (λ (l : r + 1 < height). rw (lt-ltb (r + 1) height l) (part-end (r + 1) height stride l))
-    (le-or-lt height (r + 1))
-
--- The two parts of the buffer that are lent to the loop, in its terms: s bytes at r * s, and s bytes at `lower`.
-module _ (z : Size) (b : List ℕ) (r s lower : ℕ) (sure : Sized z (length b)) (inside : r < z .height) (is : s ≡ rowBytes z) (below : lower ≡ lowerLine r (z .height) s) where
+-- The two parts of the buffer that are lent to the loop, in its terms: s bytes at r * s, and s bytes at n * s.
+module _ (z : Size) (b : List ℕ) (r s n : ℕ) (sure : Sized z (length b)) (inside : r < z .height) (is : s ≡ rowBytes z) (below : n ≡ neighbourOf (z .height) r) where
   pub record Ends : Type 0 where
     pub short : length b ≤ mostPicture
     pub it : r * s + s ≤ length b
-    pub lower-too : lower + s ≤ length b
+    pub lower : n * s + s ≤ length b
 
   pub ends : Ends
   ends =
       let long : length b ≡ z .height * s = sure .length-is ∙ ap (z .height *_) (sym is) in
-      let e : lower + s ≤ z .height * s = rw below (lower-end r (z .height) s inside) in
-      record { short = omega (arith, sure .length-is, sure .picture-most); it = omega (arith, part-end r (z .height) s inside); lower-too = omega arith }
+      let inside-too : n < z .height = rw below (neighbour-inside (z .height) r inside) in
+      record {
+        short = omega (arith, sure .length-is, sure .picture-most);
+        it = omega (arith, part-end r (z .height) s inside);
+        lower = omega (arith, part-end n (z .height) s inside-too);
+      }
 
   part-length : (at : ℕ) → at + s ≤ length b → length (take (at + s - at) (drop at b)) ≡ z .width * channelsOf (z .kind)
   part-length at h = rw (add-sub-cancel-left at s) (length-take-le s (drop at b) (omega (arith, length-drop at b)) ∙ is)
 
-  pub lines-needed : (beside : ℕ) (out : List ℕ) → beside ≡ besideLast (z .width) → z .width ≤ length out
-      → LinesNeeded (channelsOf (z .kind)) (take (r * s + s - r * s) (drop (r * s) b)) (take (lower + s - lower) (drop lower b)) (z .width) beside out
+  pub lines-needed : (beside : ℕ) (out : List ℕ) → beside ≡ neighbourOf (z .width) (z .width - 1) → z .width ≤ length out
+      → LinesNeeded (channelsOf (z .kind)) (take (r * s + s - r * s) (drop (r * s) b)) (take (n * s + s - n * s) (drop (n * s) b)) (z .width) beside out
   lines-needed beside out is-beside room = record {
     some = sure .width-some;
-    inside = omega (arith, sure .width-some);
+    inside = rw is-beside (neighbour-inside (z .width) (z .width - 1) (omega (arith, sure .width-some)));
     narrow = sure .width-small;
     it-is = part-length (r * s) (ends .it);
-    lower-is = part-length lower (ends .lower-too);
+    lower-is = part-length (n * s) (ends .lower);
     room = room;
   }
 
   -- What the loop leaves is the row's energies.
-  pub lines-are : (beside : ℕ) → beside ≡ besideLast (z .width)
-      → table (between (channelsOf (z .kind)) (take (r * s + s - r * s) (drop (r * s) b)) (take (lower + s - lower) (drop lower b)) (z .width) beside) (z .width) ≡ energies (z .width) (z .height) (picture z b) r
+  pub lines-are : (beside : ℕ) → beside ≡ neighbourOf (z .width) (z .width - 1)
+      → table (between (channelsOf (z .kind)) (take (r * s + s - r * s) (drop (r * s) b)) (take (n * s + s - n * s) (drop (n * s) b)) (z .width) beside) (z .width) ≡ energies (z .width) (z .height) (picture z b) r
   lines-are beside is-beside =
       table-same _ (energy (z .width) (z .height) (picture z b) r) (z .width)
-      (λ c l. rw (add-sub-cancel-left (r * s) s, add-sub-cancel-left lower s, below, is, is-beside) (sym (energy-between z b (sure .length-is) r c inside l)))
+      (λ c l. rw (add-sub-cancel-left (r * s) s, add-sub-cancel-left (n * s) s, below, is, is-beside) (sym (energy-between z b (sure .length-is) r c inside l)))

@@ -2,7 +2,7 @@
 use mathlib.Core.Path.{_≡_}
 use mathlib.Core.Logic.{⊎-elim}
 use mathlib.Core.Bool.{Bool, true, false, cond}
-use mathlib.Core.Option.{Option, none, some, Option·map}
+use mathlib.Core.Option.{Option, none, some, Option·map, orElse}
 use mathlib.Core.List.{List, [], _∷_}
 use Prim.Native.Nat.{ℕ, suc, _-_, _*_, _≤_, _<_}
 use native.Mathlib.Nat.{suc-mul, mul-le-mul-right}
@@ -14,8 +14,8 @@ use Rattle.grids.proofs.Orders.{le-or-lt}
 use Rattle.grids.proofs.Rows.{rowAt-short, rowAt-all}
 use Rattle.pictures.specs.declared.sizes.Size.{Size}
 use Rattle.pictures.specs.Pictures.{Picture, channelsOf, rowBytes, pictureBytes, picture, pixel}
-use Rattle.energy.specs.Around.{leftOf, rightOf, belowOf, around}
-use Rattle.energy.specs.Energy.{difference, away, flat, StepCosts, costsAt, isThe, toward}
+use Rattle.energy.specs.Around.{leftOf, rightOf, aboveOf, belowOf, around}
+use Rattle.energy.specs.Energy.{difference, away, edge, StepCosts, costsAt, isThe, toward}
 use Rattle.pictures.proofs.Buffers.{pixel-at, pixel-past}
 
 -- The bound of an energy, over the largest sample m.
@@ -48,21 +48,25 @@ toward-most most wrap w a c k h = go (eqb a c) (isThe (leftOf wrap w c) a)
 
 -- In a picture whose pixels have at most `channels` samples, none above m.
 module _ (channels m : ℕ) (p : Picture) (short : (r c : ℕ) → length (pixel p r c) ≤ channels) (low : (r c k : ℕ) → getD (pixel p r c) k 0 ≤ m) where
-  -- A neighbour is at most the largest sample away in each channel.
-  away-most : (r c : ℕ) (at : ℕ → ℕ × ℕ) (o : Option ℕ) → away (pixel p r c) (Option·map (λ a. pixel p (at a .0) (at a .1)) o) ≤ channels * m
-  away-most r c at none = omega arith
-  away-most r c at (some a) =
-      let i = at a .0 in
-      let j = at a .1 in
-      omega (arith, difference-most m (pixel p i j) (pixel p r c) (low i j) (low r c), mul-le-mul-right m (short i j))
+  -- A neighbour is at most the largest sample away in each channel,
+  pixel-most : (r c i j : ℕ) → difference (pixel p i j) (pixel p r c) ≤ channels * m
+  pixel-most r c i j = omega (arith, difference-most m (pixel p i j) (pixel p r c) (low i j) (low r c), mul-le-mul-right m (short i j))
+
+  -- also one that stands in for another.
+  away-most : (r c : ℕ) (at : ℕ → ℕ × ℕ) (o else : Option ℕ)
+      → away (pixel p r c) (orElse (Option·map (λ a. pixel p (at a .0) (at a .1)) o) (Option·map (λ a. pixel p (at a .0) (at a .1)) else)) ≤ channels * m
+  unfolding orElse
+  away-most r c at none none = omega arith
+  away-most r c at none (some a) = pixel-most r c (at a .0) (at a .1)
+  away-most r c at (some a) else = pixel-most r c (at a .0) (at a .1)
 
   -- A pixel costs at most two such differences, wherever a path comes from.
   pub costs-most : (w h r c : ℕ) → CostsMost (2 * (channels * m)) (costsAt w h p r c)
   unfolding costsAt
   costs-most w h r c = record { left = most; up = most; right = most }
     where
-      most : flat (around false w h p r c) ≤ 2 * (channels * m)
-      most = omega (arith, away-most r c (λ a. (r, a)) (rightOf false w c), away-most r c (λ a. (a, c)) (belowOf h r))
+      most : edge (around false w h p r c) ≤ 2 * (channels * m)
+      most = omega (arith, away-most r c (λ a. (r, a)) (rightOf false w c) (leftOf false w c), away-most r c (λ a. (a, c)) (belowOf h r) (aboveOf r))
 
 -- The same of a picture in a buffer.
 pub buffer-costs-most : (z : Size) (b : List ℕ) (m : ℕ) → length b ≡ pictureBytes z → ((i : ℕ) → getD b i 0 ≤ m)

@@ -1,7 +1,7 @@
 -- "Energy and seams", what a pixel costs, by its neighbours; and the operation that gives a row's energies.
 use mathlib.Core.Path.{_≡_}
 use mathlib.Core.Bool.{Bool, false, cond}
-use mathlib.Core.Option.{Option, none, some}
+use mathlib.Core.Option.{Option, none, some, orElse}
 use mathlib.Core.List.{List, [], _∷_, _++_}
 use Prim.Native.Nat.{ℕ, _+_, _-_}
 use lib.Dec.{leb, ltb, eqb}
@@ -23,14 +23,15 @@ difference [] q = 0
 difference (a ∷ p) [] = 0
 difference (a ∷ p) (b ∷ q) = apart a b + difference p q
 
--- How far a neighbour is from a pixel. "A difference that would reach past the edge is 0."
+-- How far a neighbour is from a pixel; 0 where there is none.
 abbrev pub away : List ℕ → Option (List ℕ) → ℕ
 away it none = 0
 away it (some q) = difference q it
 
--- "|right neighbour − it| + |lower neighbour − it|. [..] The channels are added."
-abbrev pub flat : Around → ℕ
-flat a = away (a .it) (a .right) + away (a .it) (a .down)
+-- "|right neighbour − it| + |lower neighbour − it|. [..] The channels are added." "At the last column the difference is now
+-- taken to the left neighbour, and at the last row to the upper one; at width 1 or height 1 it stays 0."
+abbrev pub edge : Around → ℕ
+edge a = away (a .it) (orElse (a .right) (a .left)) + away (a .it) (orElse (a .down) (a .up))
 
 -- What coming to a pixel costs: from the column to the left in the row above, from straight above, from the column to the
 -- right.
@@ -44,7 +45,7 @@ alike e = record { left = e; up = e; right = e }
 
 -- The rule: what a pixel costs, from its neighbours. Wherever a path comes from, it is the pixel's energy.
 abbrev pub costsFrom : Around → StepCosts
-costsFrom a = alike (flat a)
+costsFrom a = alike (edge a)
 
 -- In row r and column c of a picture of w columns and h rows.
 unfoldable pub costsAt : ℕ → ℕ → Picture → ℕ → ℕ → StepCosts

@@ -37,10 +37,7 @@ unfoldable pub between : ℕ → List ℕ → List ℕ → ℕ → ℕ → ℕ �
 between channels it lower width beside c =
     difference (rowAt channels (rightColumn width beside c) it) (rowAt channels c it) + difference (rowAt channels c lower) (rowAt channels c it)
 
--- The column that stands for the one to the right of the last: the last itself, to which it has no difference.
-abbrev pub besideLast : ℕ → ℕ
-besideLast width = width - 1
-
--- Where the row below row r starts; of the last row, the row itself, to which it has no difference.
-abbrev pub lowerLine : ℕ → ℕ → ℕ → ℕ
-lowerLine r height stride = cond (ltb (r + 1) height) ((r + 1) * stride) (r * stride)
+-- The line, column or row, that stands for the one after line i of n: the next one; of the last, the one before it; of the only
+-- one the line itself, from which it doesn't differ (0 - 1 is 0).
+abbrev pub neighbourOf : ℕ → ℕ → ℕ
+neighbourOf n i = cond (ltb (i + 1) n) (i + 1) (i - 1)

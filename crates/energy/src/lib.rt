@@ -7,9 +7,9 @@ use pictures::Verdict;
 use pictures::channels;
 use pictures::judge_picture;
 ghost use Rattle.energy.specs.Energy.{EnergiesGiven, energies as Energy·energies};
-ghost use Rattle.pictures.specs.Limits.{mostSide, mostRow};
+ghost use Rattle.pictures.specs.Limits.{mostSide};
 ghost use Rattle.pictures.specs.Pictures.{picture as Pictures·picture};
-ghost use Rattle.energy.specs.Inner.{RowNeeded, lowerLine, besideLast};
+ghost use Rattle.energy.specs.Inner.{RowNeeded, neighbourOf};
 ghost use mathlib.Core.Path.{_≡_};
 ghost use mathlib.Core.List.{_++_};
 ghost use Prim.Native.Nat.{_≤_, _<_};
@@ -36,24 +36,19 @@ pub fn energies(picture: &[u8], size: Size, r: usize, out: &mut [u32]) -> Verdic
     Verdict::Served
 }
 
-// Where the row below row r starts; of the last row, the row itself, to which it has no difference.
-fn lower_row(r: usize, height: usize, stride: usize) -> usize
-    requires { ⌜ (r < height) × (height ≤ mostSide) × (stride ≤ mostRow) ⌝ }
-    ensures { λ at. ⌜ at ≡ lowerLine r height stride ⌝ }
+// The line, column or row, that stands for the one after line i of n: the next one; of the last, the one before it; of the only
+// one the line itself, from which it doesn't differ.
+fn neighbour(i: usize, n: usize) -> usize
+    requires { ⌜ (i < n) × (n ≤ mostSide) ⌝ }
+    ensures { λ j. ⌜ j ≡ neighbourOf n i ⌝ }
 {
-    if r + 1 < height {
-        (r + 1) * stride
+    if i + 1 < n {
+        i + 1
+    } else if 0 < i {
+        i - 1
     } else {
-        r * stride
+        i
     }
-}
-
-// The column that stands for the one to the right of the last: the last itself, to which it has no difference.
-fn right_of_last(width: usize) -> usize
-    requires { ⌜ 0 < width ⌝ }
-    ensures { λ beside. ⌜ beside ≡ besideLast width ⌝ }
-{
-    width - 1
 }
 
 // The energies of row r of a picture that is of its size.
@@ -66,12 +61,12 @@ fn row_energies(picture: &[u8], size: Size, r: usize, out: &mut [u32])
     let kind = size.kind;
     let stride = width * channels(kind);
     let at = r * stride;
-    let below = lower_row(r, height, stride);
-    let beside = right_of_last(width);
+    let lower = neighbour(r, height) * stride;
+    let beside = neighbour(width - 1, width);
     kernels::line_energies(
         kind,
         &picture[at..at + stride],
-        &picture[below..below + stride],
+        &picture[lower..lower + stride],
         width,
         beside,
         out,

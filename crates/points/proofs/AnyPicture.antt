@@ -2,7 +2,7 @@
 use mathlib.Core.Path.{_≡_, refl, ap₂, _∙_}
 use mathlib.Core.Logic.{_⊎_, inl, inr}
 use mathlib.Core.Bool.{true, false}
-use mathlib.Core.Option.{Option, none, some, Option·map, Option·getD}
+use mathlib.Core.Option.{Option, none, some, Option·map, Option·getD, orElse}
 use mathlib.Core.List.{List, [], _∷_, zipWith, flatMap, reverse}
 use Prim.Native.Nat.{ℕ, zero, suc, _<_}
 use native.Mathlib.Omega.{arith}
@@ -13,7 +13,7 @@ use Rattle.pictures.specs.declared.sizes.Kind.the-variants.{Grey, Rgb}
 use Rattle.pictures.specs.declared.sizes.Size.{Size}
 use Rattle.pictures.specs.Refusals.{refusal}
 use Rattle.pictures.specs.Pictures.{Picture, channelsOf, sizeRules, picture, pixel}
-use Rattle.energy.specs.Around.{rightOf, belowOf}
+use Rattle.energy.specs.Around.{leftOf, rightOf, aboveOf, belowOf}
 use Rattle.energy.specs.Energy.{difference, away, costsAt, energy, stepOf, energies}
 use Rattle.energy.proofs.Energy.{difference-self}
 use Rattle.energy.proofs.Steps.{step-energy}
@@ -37,7 +37,7 @@ one k = record { width = 1; height = 1; kind = k }
 
 -- "1 by 1: energy 0", whatever its samples are.
 pub one-energy : (k : Kind) (b : List ℕ) → energies 1 1 (picture (one k) b) 0 ≡ 0 ∷ []
-unfolding costsAt rightOf belowOf
+unfolding costsAt orElse leftOf rightOf aboveOf belowOf
 one-energy k b = refl
 
 one-sized : (k : Kind) (n : ℕ) → n ≡ channelsOf k → refusal (sizeRules (one k) n) ≡ 0
@@ -76,15 +76,17 @@ module _ (px : List ℕ) (p : Picture) (only : Only px p) where
   difference-none x y (inr e) o = rw e
 
   -- No neighbour is any difference away.
-  away-none : (r c : ℕ) (q : ℕ → List ℕ) → ((a : ℕ) → (q a ≡ px) ⊎ (q a ≡ [])) → (o : Option ℕ) → away (pixel p r c) (Option·map q o) ≡ 0
-  away-none r c q s none = refl
-  away-none r c q s (some a) = difference-none (q a) (pixel p r c) (s a) (only r c)
+  away-none : (r c : ℕ) (q : ℕ → List ℕ) → ((a : ℕ) → (q a ≡ px) ⊎ (q a ≡ [])) → (o else : Option ℕ) → away (pixel p r c) (orElse (Option·map q o) (Option·map q else)) ≡ 0
+  unfolding orElse
+  away-none r c q s none none = refl
+  away-none r c q s none (some a) = difference-none (q a) (pixel p r c) (s a) (only r c)
+  away-none r c q s (some a) else = difference-none (q a) (pixel p r c) (s a) (only r c)
 
   -- Its energy is 0 everywhere, and so is the cost of a step.
   energy-none : (w h r c : ℕ) → energy w h p r c ≡ 0
   unfolding costsAt
   energy-none w h r c =
-      omega (arith, away-none r c (pixel p r) (only r) (rightOf false w c), away-none r c (λ a. pixel p a c) (λ a. only a c) (belowOf h r))
+      omega (arith, away-none r c (pixel p r) (only r) (rightOf false w c) (leftOf false w c), away-none r c (λ a. pixel p a c) (λ a. only a c) (belowOf h r) (aboveOf r))
 
   step-none : (w h i a c : ℕ) → stepOf w h p i a c ≡ 0
   step-none w h i a c = step-energy w h p i a c ∙ energy-none w h i c

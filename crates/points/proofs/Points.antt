@@ -1,12 +1,17 @@
 -- The points marked P hold: the definitions compute what the table expects.
 use mathlib.Core.Path.{_≡_, refl}
+use mathlib.Core.Option.{orElse}
 use mathlib.Core.List.{map, zipWith, flatMap}
+use Rattle.grids.specs.Exchange.{exchange}
 use Rattle.grids.specs.Cut.{removeAt, cut}
 use Rattle.seam_theory.specs.Best.{better, firstBest}
 use Rattle.seam_theory.specs.Paths.{run, select, pathsUp, paths, cost, beside, nearby}
 use Rattle.pictures.specs.Pictures.{picture}
 use Rattle.energy.specs.Around.{leftOf, rightOf, aboveOf, belowOf}
 use Rattle.energy.specs.Energy.{difference, costsAt, toward}
+use Rattle.seam_turn.specs.Axes.{turned, cutAlong}
+use Rattle.seam_cut.specs.Axes.{seamAlong, costAlong}
+use Rattle.seam_retarget.specs.Cells.{bySeam, chosen, cellAfter}
 use Rattle.map_theory.specs.Maps.{numberRow, number}
 use Rattle.map_theory.specs.Widths.{allowed, offered, stays, doubled, rowAtWidth, shown, average}
 use Rattle.map_theory.specs.Judged.{numbers, remains, before, connected, found}
@@ -21,5 +26,5 @@ use Rattle.file_theory.specs.Shows.{shows}
 use Rattle.points.specs.Points.{pointTable}
 
 pub points : map (λ p. p .got) pointTable ≡ map (λ p. p .expected) pointTable
-unfolding picture leftOf rightOf aboveOf belowOf difference costsAt toward seamOf costOf paths pathsUp cost nearby beside select run better firstBest removeAt cut zipWith flatMap someTwo removal numberRow number allowed offered stays doubled rowAtWidth shown numbers remains before connected found strip next manyUpTo many digitsUpTo digits isDigit further upTo numberGet lineEnd blank opening closing start range closed rowWord mapWord greyWord rgbWord each joined kindText pixelText lineText headText text kindGet items three pixelGet line headGet file whole parse average fileOf filled shows
+unfolding exchange picture orElse leftOf rightOf aboveOf belowOf difference costsAt toward seamOf costOf seamAlong costAlong turned cutAlong bySeam chosen cellAfter paths pathsUp cost nearby beside select run better firstBest removeAt cut zipWith flatMap someTwo removal numberRow number allowed offered stays doubled rowAtWidth shown numbers remains before connected found strip next manyUpTo many digitsUpTo digits isDigit further upTo numberGet lineEnd blank opening closing start range closed rowWord mapWord greyWord rgbWord each joined kindText pixelText lineText headText text kindGet items three pixelGet line headGet file whole parse average fileOf filled shows
 points = refl

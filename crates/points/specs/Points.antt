@@ -1,5 +1,5 @@
--- The points marked P, and refusals of the example's files: what the definitions give, beside what is expected, as rows of
--- numbers.
+-- The points marked P, other worked values of the example, and refusals of its files: what the definitions give, beside what is
+-- expected, as rows of numbers.
 use mathlib.Core.Option.{Option, none, some}
 use mathlib.Core.List.{List, [], _∷_, map}
 use Prim.Native.Nat.{ℕ}
@@ -9,14 +9,18 @@ use Rattle.pictures.specs.declared.sizes.Kind.the-variants.{Grey}
 use Rattle.pictures.specs.declared.sizes.Size.{Size}
 use Rattle.pictures.specs.Refusals.{Rule, refusal}
 use Rattle.pictures.specs.Pictures.{Picture, picture}
-use Rattle.energy.specs.Energy.{energies}
+use Rattle.energy.specs.Energy.{energies, energyGrid}
 use Rattle.text_theory.specs.declared.Head.{Head}
 use Rattle.text_theory.specs.Files.{text}
 use Rattle.text_theory.specs.Example.{shownText}
 use Rattle.seam_theory.specs.PictureSeams.{seamOf, costOf}
+use Rattle.seam_rules.specs.declared.answers.Axis.the-variants.{Horizontal}
+use Rattle.seam_rules.specs.Counts.{rowCount, columnCount}
 use Rattle.seam_rules.specs.Answers.{Ending, done, narrow, spent, blocked}
+use Rattle.seam_cut.specs.Axes.{seamAlong, costAlong}
 use Rattle.seam_objects.specs.Objects.{Removed, removal}
 use Rattle.seam_objects.specs.Removing.{markedPicture}
+use Rattle.seam_retarget.specs.Cells.{Cell, cell}
 use Rattle.file_theory.specs.Contents.{partsOf, fileOf}
 use Rattle.file_theory.specs.Rules.{checkRules, showRules}
 use Rattle.file_theory.specs.Shows.{Drawn, shows}
@@ -39,12 +43,16 @@ gives rules n = one (refusal rules) n
 abbrev pub grey : ℕ → ℕ → Size
 grey w h = record { width = w; height = h; kind = Grey }
 
--- The worked example: grey rows 10 10 40 and 10 50 40; and what its first seam, columns 2 and 2, leaves.
+-- The worked example: grey rows 10 10 40 and 10 50 40; and what its first seam, columns 0 and 0, leaves.
 abbrev pub example : Picture
 example = picture (grey 3 2) (10 ∷ 10 ∷ 40 ∷ 10 ∷ 50 ∷ 40 ∷ [])
 
 abbrev pub afterOne : Picture
-afterOne = cut (2 ∷ 2 ∷ []) example
+afterOne = cut (0 ∷ 0 ∷ []) example
+
+-- The example with a row and a column less.
+abbrev pub smaller : Cell
+smaller = cell (grey 3 2) example (rowCount 1) (columnCount 1)
 
 -- The file of a grey picture of w columns and h rows, of depth k and growth g.
 abbrev pub greyHead : ℕ → ℕ → ℕ → ℕ → Head
@@ -80,18 +88,29 @@ abbrev pub pointTable : List Point
 pointTable =
     -- 1 by 1: energy 0
     list (energies 1 1 (picture (grey 1 1) (7 ∷ [])) 0) (0 ∷ [])
-    -- the example's first seam: columns 2, 2, cost 0
-    ∷ list (seamOf 3 2 example) (2 ∷ 2 ∷ [])
-    ∷ one (costOf 3 2 example) 0
-    -- its second, in the picture left: columns 0, 1, cost 0
-    ∷ list (seamOf 2 2 afterOne) (0 ∷ 1 ∷ [])
-    ∷ one (costOf 2 2 afterOne) 0
+    -- one row 10 40: each differs by 30 from the other; one column 10 / 50: by 40
+    ∷ list (energies 2 1 (picture (grey 2 1) (10 ∷ 40 ∷ [])) 0) (30 ∷ 30 ∷ [])
+    ∷ record { got = energyGrid 1 2 (picture (grey 1 2) (10 ∷ 50 ∷ [])); expected = (40 ∷ []) ∷ (40 ∷ []) ∷ [] }
+    -- the example's energies: 0 70 30 / 40 50 10
+    ∷ record { got = energyGrid 3 2 example; expected = (0 ∷ 70 ∷ 30 ∷ []) ∷ (40 ∷ 50 ∷ 10 ∷ []) ∷ [] }
+    -- its first seam: columns 0, 0, cost 40
+    ∷ list (seamOf 3 2 example) (0 ∷ 0 ∷ [])
+    ∷ one (costOf 3 2 example) 40
+    -- its second, in the picture left: columns 1, 1, cost 40
+    ∷ list (seamOf 2 2 afterOne) (1 ∷ 1 ∷ [])
+    ∷ one (costOf 2 2 afterOne) 40
+    -- its horizontal seam: rows 0, 1, 1, cost 60
+    ∷ list (seamAlong Horizontal (grey 3 2) example) (0 ∷ 1 ∷ 1 ∷ [])
+    ∷ one (costAlong Horizontal (grey 3 2) example) 60
+    -- retargeted by 1 row and 1 column: 10 40, total 60
+    ∷ record { got = map flat (smaller .picture); expected = (10 ∷ 40 ∷ []) ∷ [] }
+    ∷ one (smaller .total) 60
     -- its file in full
     ∷ list exampleFile shownText
-    -- width 2 is 10 10 / 10 50, width 1 is 10 / 10, width 4 is 10 10 25 40 / 10 50 45 40
-    ∷ record { got = drawnRows (shows exampleFile 2); expected = (10 ∷ 10 ∷ []) ∷ (10 ∷ 50 ∷ []) ∷ [] }
-    ∷ record { got = drawnRows (shows exampleFile 1); expected = (10 ∷ []) ∷ (10 ∷ []) ∷ [] }
-    ∷ record { got = drawnRows (shows exampleFile 4); expected = (10 ∷ 10 ∷ 25 ∷ 40 ∷ []) ∷ (10 ∷ 50 ∷ 45 ∷ 40 ∷ []) ∷ [] }
+    -- width 2 is 10 40 / 50 40, width 1 is 10 / 50, width 4 is 10 10 10 40 / 10 30 50 40
+    ∷ record { got = drawnRows (shows exampleFile 2); expected = (10 ∷ 40 ∷ []) ∷ (50 ∷ 40 ∷ []) ∷ [] }
+    ∷ record { got = drawnRows (shows exampleFile 1); expected = (10 ∷ []) ∷ (50 ∷ []) ∷ [] }
+    ∷ record { got = drawnRows (shows exampleFile 4); expected = (10 ∷ 10 ∷ 10 ∷ 40 ∷ []) ∷ (10 ∷ 30 ∷ 50 ∷ 40 ∷ []) ∷ [] }
     -- widths 0 and 5 give 7
     ∷ gives (showRules exampleFile 0 10 192) 7
     ∷ gives (showRules exampleFile 5 10 192) 7
@@ -106,9 +125,9 @@ pointTable =
     ∷ list (endingRow (removal 0 0 (markedPicture (grey 2 1) (10 ∷ 40 ∷ []) (0 ∷ 2 ∷ [])))) (placeOf spent ∷ 0 ∷ [])
     -- the table of refusals, of the example: its own map accepted; `(range 3 1)` at width 3; `(map 2 2 1)`; seam 1 at columns
     -- 0 and 2; maps 1 0 2 and 1 2 0
-    ∷ gives (checkRules (recordedFile 2 1 (2 ∷ 0 ∷ 1 ∷ []) (0 ∷ 2 ∷ 1 ∷ [])) 192) 0
-    ∷ gives (checkRules (recordedFile 3 1 (2 ∷ 0 ∷ 1 ∷ []) (0 ∷ 2 ∷ 1 ∷ [])) 192) 6
-    ∷ gives (checkRules (recordedFile 2 1 (2 ∷ 2 ∷ 1 ∷ []) (0 ∷ 2 ∷ 1 ∷ [])) 192) 9
+    ∷ gives (checkRules (recordedFile 2 1 (1 ∷ 0 ∷ 2 ∷ []) (1 ∷ 0 ∷ 2 ∷ [])) 192) 0
+    ∷ gives (checkRules (recordedFile 3 1 (1 ∷ 0 ∷ 2 ∷ []) (1 ∷ 0 ∷ 2 ∷ [])) 192) 6
+    ∷ gives (checkRules (recordedFile 2 1 (2 ∷ 2 ∷ 1 ∷ []) (1 ∷ 0 ∷ 2 ∷ [])) 192) 9
     ∷ gives (checkRules (recordedFile 2 1 (1 ∷ 0 ∷ 2 ∷ []) (0 ∷ 2 ∷ 1 ∷ [])) 192) 10
     ∷ gives (checkRules (recordedFile 2 1 (1 ∷ 0 ∷ 2 ∷ []) (1 ∷ 2 ∷ 0 ∷ [])) 192) 11
     ∷ []

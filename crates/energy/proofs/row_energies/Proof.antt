@@ -9,6 +9,7 @@ use lib.ListN.{length}
 use Rattle.pictures.specs.Limits.{mostSide, mostRow}
 use Rattle.pictures.specs.Pictures.{rowBytes}
 use Rattle.pictures.proofs.Limits.{Sized, sized-is}
+use Rattle.energy.proofs.Energy.{neighbour-inside}
 use Rattle.energy.proofs.Lines.{Ends, ends, lines-needed, lines-are}
 use Rattle.energy.proofs.row_energies.Statement.{statement}
 use Rattle.energy.proofs.row_energies.Tie as tie
@@ -17,7 +18,7 @@ use Rattle.energy.proofs.row_energies.Tie as tie
 abbrev start : tie.After-channels → tie.Start
 start c = c .before .before .before
 
-abbrev strided : tie.After-right-of-last → tie.After-channels
+abbrev strided : tie.After-neighbour2 → tie.After-channels
 strided c = c .before .before
 
 abbrev stride : tie.After-channels → ℕ
@@ -34,13 +35,13 @@ stride-most : (c : tie.After-channels) → stride c ≤ mostRow
 stride-most c = omega (arith, stride-is c, sure c .row-most)
 
 -- both rows end within the picture
-within : (c : tie.After-right-of-last)
+within : (c : tie.After-neighbour2)
     → let u = strided c in
-    let a = start u .args in Ends (a .size) (now (a .picture)) (a .r) (stride u) (c .before .lower-row .result) (sure u) (start u .pre .inside) (stride-is u) (c .before .lower-row .ensures)
+    let a = start u .args in Ends (a .size) (now (a .picture)) (a .r) (stride u) (c .before .neighbour .result) (sure u) (start u .pre .inside) (stride-is u) (c .before .neighbour .ensures)
 within c =
     let u = strided c in
     let a = start u .args in
-    ends (a .size) (now (a .picture)) (a .r) (stride u) (c .before .lower-row .result) (sure u) (start u .pre .inside) (stride-is u) (c .before .lower-row .ensures)
+    ends (a .size) (now (a .picture)) (a .r) (stride u) (c .before .neighbour .result) (sure u) (start u .pre .inside) (stride-is u) (c .before .neighbour .ensures)
 
 channels-requires : tie.Need-channels-requires
 channels-requires c κs = search needs
@@ -53,11 +54,20 @@ mul-at c =
     let most : start c .args .r ≤ mostSide = omega (arith, sure c .height-small, start c .pre .inside) in
     omega (arith, mul-le-mul most (stride-most c))
 
-lower-row-requires : tie.Need-lower-row-requires
-lower-row-requires c κs = (start c .pre .inside, sure c .height-small, stride-most c)
+neighbour-requires : tie.Need-neighbour-requires
+neighbour-requires c κs = (start c .pre .inside, sure c .height-small)
 
-right-of-last-requires : tie.Need-right-of-last-requires
-right-of-last-requires c κs = sure (c .before) .width-some
+mul-lower : tie.Need-mul-lower
+mul-lower c =
+    let u = c .before in
+    let most : c .neighbour .result ≤ mostSide = omega (arith, c .neighbour .ensures, neighbour-inside _ _ (start u .pre .inside), sure u .height-small) in
+    omega (arith, mul-le-mul most (stride-most u))
+
+sub-neighbour : tie.Need-sub-neighbour
+sub-neighbour c = sure (c .before) .width-some
+
+neighbour-requires-2 : tie.Need-neighbour-requires-2
+neighbour-requires-2 c κs = let u = sure (c .before) in (omega (arith, u .width-some), u .width-small)
 
 add-line-energies : tie.Need-add-line-energies
 add-line-energies c = let e = within c in omega arith
@@ -86,11 +96,11 @@ part-line-energies-end-2 c = let e = within (c .before) in omega arith
 line-energies-requires : tie.Need-line-energies-requires
 line-energies-requires c κs =
     let beside = c .before .before .before in
-    let lower = beside .before .lower-row in
+    let lower = beside .before .neighbour in
     let u = strided beside in
     let s = start u in
     let a = s .args in
-    lines-needed (a .size) (now (a .picture)) (a .r) (stride u) (lower .result) (sure u) (s .pre .inside) (stride-is u) (lower .ensures) _ _ (beside .right-of-last .ensures) (s .pre .room)
+    lines-needed (a .size) (now (a .picture)) (a .r) (stride u) (lower .result) (sure u) (s .pre .inside) (stride-is u) (lower .ensures) _ _ (beside .neighbour2 .ensures) (s .pre .room)
 
 same-length : tie.Need-same-length
 same-length c = search needs
@@ -99,11 +109,11 @@ returns : tie.Need-returns
 returns c =
     let at-line-energies = c .before .before in
     let beside = at-line-energies .before .before .before .before in
-    let lower = beside .before .lower-row in
+    let lower = beside .before .neighbour in
     let u = strided beside in
     let s = start u in
     let a = s .args in
-    rw (lines-are (a .size) (now (a .picture)) (a .r) (stride u) (lower .result) (sure u) (s .pre .inside) (stride-is u) (lower .ensures) _ (beside .right-of-last .ensures)) at
+    rw (lines-are (a .size) (now (a .picture)) (a .r) (stride u) (lower .result) (sure u) (s .pre .inside) (stride-is u) (lower .ensures) _ (beside .neighbour2 .ensures)) at
     (at-line-energies .line-energies .ensures)
 
 pub row-energies-spec : {M : Type 1} → statement M
@@ -113,8 +123,10 @@ row-energies-spec =
     channels-requires
     mul-stride
     mul-at
-    lower-row-requires
-    right-of-last-requires
+    neighbour-requires
+    mul-lower
+    sub-neighbour
+    neighbour-requires-2
     add-line-energies
     sub-line-energies
     part-line-energies-start
