@@ -16,20 +16,24 @@ static inline uint32_t apart(const uint8_t *a, const uint8_t *b, int channels) {
     return sum;
 }
 
-// The energies of a row of w pixels. The last row is its own row below.
+// The energies of a row of w pixels, at least 2: a seam is cut only where a column stays. The last pixel's neighbour is
+// the left one.
 static inline void row_energies(const uint8_t *row, const uint8_t *below, int w, int channels, uint32_t *energies) {
     for (int c = 0; c + 1 < w; c++) {
         const uint8_t *it = row + c * channels;
         energies[c] = apart(it + channels, it, channels) + apart(below + c * channels, it, channels);
     }
-    energies[w - 1] = apart(below + (w - 1) * channels, row + (w - 1) * channels, channels);
+    const uint8_t *last = row + (w - 1) * channels;
+    energies[w - 1] = apart(last - channels, last, channels) + apart(below + (w - 1) * channels, last, channels);
 }
 
 static inline void all_sums(int w, int h, int channels, size_t distance) {
     uint32_t energies[SIDE];
     for (int r = 0; r < h; r++) {
         const uint8_t *row = left + r * distance;
-        row_energies(row, r + 1 < h ? row + distance : row, w, channels, energies);
+        // The last row has the row above for the one below, or itself where there is no other.
+        const uint8_t *below = r + 1 < h ? row + distance : r > 0 ? row - distance : row;
+        row_energies(row, below, w, channels, energies);
         uint32_t *own = sums[r] + 1;
         own[-1] = own[w] = UINT32_MAX;
         if (r == 0) {

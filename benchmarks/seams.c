@@ -12,17 +12,21 @@ uint64_t reference_find_marked(Lent *lent);
 
 static uint32_t energies[SIDE * SIDE], sums[SIDE * SIDE];
 
+// The energy of a pixel, by the distances of the neighbour beside it and of the one below it in the picture.
+static inline uint32_t energy(const uint8_t *it, int beside, int below, int channels) {
+    uint32_t sum = 0;
+    for (int k = 0; k < channels; k++) sum += abs(it[k + beside] - it[k]) + abs(it[k + below] - it[k]);
+    return sum;
+}
+
+// In the last column the neighbour is the left one, in the last row the upper one; a side of 1 has none.
 static void plain_energies(const uint8_t *p, int w, int h, int channels) {
-    for (int r = 0; r < h; r++)
-        for (int c = 0; c < w; c++) {
-            uint32_t sum = 0;
-            for (int k = 0; k < channels; k++) {
-                int it = p[(r * w + c) * channels + k];
-                if (c + 1 < w) sum += abs(p[(r * w + c + 1) * channels + k] - it);
-                if (r + 1 < h) sum += abs(p[((r + 1) * w + c) * channels + k] - it);
-            }
-            energies[r * w + c] = sum;
-        }
+    for (int r = 0; r < h; r++) {
+        const uint8_t *row = p + r * w * channels;
+        int below = r + 1 < h ? w * channels : r > 0 ? -w * channels : 0;
+        for (int c = 0; c + 1 < w; c++) energies[r * w + c] = energy(row + c * channels, channels, below, channels);
+        energies[r * w + w - 1] = energy(row + (w - 1) * channels, w > 1 ? -channels : 0, below, channels);
+    }
 }
 
 static void plain_sums(int w, int h) {

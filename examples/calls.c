@@ -9,7 +9,7 @@ enum { WIDTH = 3, HEIGHT = 2, PIXELS = 6, WORK = 32 * PIXELS, LARGE = 512 };
 
 static const uint8_t brought[PIXELS] = {10, 10, 40, 10, 50, 40};
 static const char text[] = "(multi\n(size 3 2 grey)\n(range 2 1)\n"
-                           "(row 10 10 40)\n(row 10 50 40)\n(map 2 0 1)\n(map 0 2 1)\n)\n";
+                           "(row 10 10 40)\n(row 10 50 40)\n(map 1 0 2)\n(map 1 0 2)\n)\n";
 static uint8_t picture[PIXELS], marks[PIXELS], out[200], work[WORK + 66 * PIXELS];
 static uint16_t seam[WIDTH], map[PIXELS];
 
@@ -25,7 +25,7 @@ static int bytes_are(const uint8_t *bytes, uint8_t a, uint8_t b, uint8_t c, uint
 static void rows(void) {
     uint32_t energies[WIDTH];
     NEED(multisize_energies(brought, PIXELS, WIDTH, HEIGHT, MULTISIZE_GREY, 0, energies, WIDTH) == MULTISIZE_SERVED);
-    NEED(energies[0] == 0 && energies[1] == 70 && energies[2] == 0);
+    NEED(energies[0] == 0 && energies[1] == 70 && energies[2] == 30);
     NEED(multisize_energies(brought, PIXELS, WIDTH, HEIGHT, 2, 0, energies, WIDTH) == MULTISIZE_REFUSED_FORM);
     NEED(multisize_row(brought, PIXELS, WIDTH, HEIGHT, MULTISIZE_GREY, 1, out, WIDTH).value == WIDTH);
     NEED(!memcmp(out, brought + WIDTH, WIDTH));
@@ -35,10 +35,10 @@ static void rows(void) {
 static void seams(void) {
     multisize_answer a = multisize_find(brought, PIXELS, WIDTH, HEIGHT, MULTISIZE_GREY, MULTISIZE_VERTICAL, seam, HEIGHT,
                                         work, WORK);
-    NEED(a.number == 0 && a.value == 0 && seam[0] == 2 && seam[1] == 2);
+    NEED(a.number == 0 && a.value == 40 && seam[0] == 0 && seam[1] == 0);
     memcpy(picture, brought, PIXELS);
     a = multisize_cut(picture, PIXELS, WIDTH, HEIGHT, MULTISIZE_GREY, MULTISIZE_HORIZONTAL, seam, WIDTH, work, WORK);
-    NEED(a.number == 0 && a.value == 10 && seam[0] == 0 && seam[1] == 1 && seam[2] == 0);
+    NEED(a.number == 0 && a.value == 60 && seam[0] == 0 && seam[1] == 1 && seam[2] == 1);
     NEED(bytes_are(picture, 10, 10, 40, 0));
     a = multisize_cut(picture, 3, WIDTH, 1, MULTISIZE_GREY, MULTISIZE_HORIZONTAL, seam, WIDTH, work, WORK);
     NEED(a.number == MULTISIZE_REFUSED_LAST);
@@ -49,10 +49,10 @@ static void marked(void) {
     memcpy(picture, brought, PIXELS), memcpy(marks, brought_marks, PIXELS);
     multisize_answer a = multisize_find_marked(picture, PIXELS, marks, PIXELS, WIDTH, HEIGHT, MULTISIZE_GREY,
                                                MULTISIZE_VERTICAL, seam, HEIGHT, work, WORK);
-    NEED(a.number == 0 && a.value == 70 && seam[0] == 1 && seam[1] == 2);
+    NEED(a.number == 0 && a.value == 80 && seam[0] == 1 && seam[1] == 2);
     a = multisize_cut_marked(picture, PIXELS, marks, PIXELS, WIDTH, HEIGHT, MULTISIZE_GREY, MULTISIZE_VERTICAL, seam,
                              HEIGHT, work, WORK);
-    NEED(a.number == 0 && a.value == 70);
+    NEED(a.number == 0 && a.value == 80);
     NEED(bytes_are(picture, 10, 40, 10, 50) && bytes_are(marks, 0, 1, 0, 0));
     memcpy(picture, brought, PIXELS), memcpy(marks, brought_marks, PIXELS);
     multisize_ended e = multisize_remove(picture, PIXELS, marks, PIXELS, WIDTH, HEIGHT, MULTISIZE_GREY, 0, work, WORK);
@@ -82,11 +82,11 @@ static void files(void) {
     NEED(f.number == 0 && f.width == 3 && f.height == 2 && f.kind == MULTISIZE_GREY && f.depth == 2 && f.growth == 1);
     memset(picture, 0, PIXELS);
     f = multisize_read(file, length, picture, PIXELS, map, PIXELS, work, WORK);
-    NEED(f.number == 0 && !memcmp(picture, brought, PIXELS) && map[0] == 2 && map[2] == 1 && map[4] == 2);
+    NEED(f.number == 0 && !memcmp(picture, brought, PIXELS) && map[0] == 1 && map[2] == 2 && map[4] == 0);
     size_t shown = multisize_shown_bytes(4, HEIGHT, MULTISIZE_GREY);
     multisize_size_answer z = multisize_show(file, length, 4, out, shown, work, WORK);
     NEED(z.number == 0 && z.width == 4 && z.height == 2 && z.kind == MULTISIZE_GREY);
-    NEED(bytes_are(out, 10, 10, 25, 40) && bytes_are(out + 4, 10, 50, 45, 40));
+    NEED(bytes_are(out, 10, 10, 10, 40) && bytes_are(out + 4, 10, 30, 50, 40));
 }
 
 static void row_at_widths(void) {

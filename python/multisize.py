@@ -144,7 +144,8 @@ class Contents(NamedTuple):
 
 
 def energies(picture: Picture, row: int) -> tuple:
-    """The energies of a row: |right neighbour - it| + |lower neighbour - it|, the channels added.
+    """The energies of a row: |right neighbour - it| + |lower neighbour - it|, the channels added. In the last column the left
+    neighbour is taken, in the last row the upper one; at width 1 or height 1 that difference is 0.
 
     Refused by 1 to 4, by 4 also where there is no such row.
     """

@@ -21,7 +21,12 @@ ROOT = pathlib.Path(__file__).resolve().parent.parent
 PROGRAM = pathlib.Path(os.environ.get("MULTISIZE_PROGRAM", ROOT / "hosts/target/release/multisize"))
 
 WORKED = Picture(3, 2, "grey", bytes([10, 10, 40, 10, 50, 40]))
-FILE = b"(multi\n(size 3 2 grey)\n(range 2 1)\n(row 10 10 40)\n(row 10 50 40)\n(map 2 0 1)\n(map 0 2 1)\n)\n"
+FILE = b"(multi\n(size 3 2 grey)\n(range 2 1)\n(row 10 10 40)\n(row 10 50 40)\n(map 1 0 2)\n(map 1 0 2)\n)\n"
+
+
+def with_last_map(numbers):
+    """The file with another last row of its map, whose rows are both 1 0 2."""
+    return FILE.replace(b"(map 1 0 2)\n)", b"(map " + numbers + b")\n)")
 
 
 def noise(width, height, kind, seed=1):
@@ -32,29 +37,29 @@ def noise(width, height, kind, seed=1):
 
 class Worked(unittest.TestCase):
     def test_energies(self):
-        self.assertEqual(multisize.energies(WORKED, 0), (0, 70, 0))
-        self.assertEqual(multisize.energies(WORKED, 1), (40, 10, 0))
+        self.assertEqual(multisize.energies(WORKED, 0), (0, 70, 30))
+        self.assertEqual(multisize.energies(WORKED, 1), (40, 50, 10))
 
     def test_seams_found_and_cut(self):
         found = multisize.find(WORKED)
         first = multisize.cut(WORKED)
-        self.assertEqual((found, first.seam), (((2, 2), 0), ((2, 2), 0)))
-        self.assertEqual((first.picture, first.marks), ((2, 2, "grey", bytes([10, 10, 10, 50])), None))
+        self.assertEqual((found, first.seam), (((0, 0), 40), ((0, 0), 40)))
+        self.assertEqual((first.picture, first.marks), ((2, 2, "grey", bytes([10, 40, 50, 40])), None))
         second = multisize.cut(first.picture)
-        self.assertEqual(second.seam, ((0, 1), 0))
-        self.assertEqual(second.picture.samples, bytes([10, 10]))
+        self.assertEqual(second.seam, ((1, 1), 40))
+        self.assertEqual(second.picture.samples, bytes([10, 50]))
         self.assertEqual(WORKED.samples, bytes([10, 10, 40, 10, 50, 40]))
 
     def test_a_horizontal_seam(self):
         cut = multisize.cut(WORKED, HORIZONTAL)
-        self.assertEqual(cut.seam, ((0, 1, 0), 10))
+        self.assertEqual(cut.seam, ((0, 1, 1), 60))
         self.assertEqual(cut.picture, (3, 1, "grey", bytes([10, 10, 40])))
 
     def test_seams_by_marks(self):
         marks = bytes([0, 2, 1, 0, 0, 0])
         cut = multisize.cut(WORKED, marks=marks)
         self.assertEqual(multisize.find(WORKED, marks=marks), cut.seam)
-        self.assertEqual(cut.seam.places, (1, 2))
+        self.assertEqual(cut.seam, ((1, 2), 80))
         self.assertEqual(cut.picture.samples, bytes([10, 40, 10, 50]))
         self.assertEqual(cut.marks, bytes([0, 1, 0, 0]))
         self.assertEqual(marks, bytes([0, 2, 1, 0, 0, 0]))
@@ -73,7 +78,8 @@ class Worked(unittest.TestCase):
             self.assertEqual(len(removed.marks), removed.picture.width * removed.picture.height)
 
     def test_a_retarget(self):
-        self.assertEqual(multisize.retarget(WORKED, columns=2), ((1, 2, "grey", bytes([10, 10])), 0))
+        self.assertEqual(multisize.retarget(WORKED, columns=2), ((1, 2, "grey", bytes([10, 50])), 80))
+        self.assertEqual(multisize.retarget(WORKED, 1, 1), ((2, 1, "grey", bytes([10, 40])), 60))
         self.assertEqual(multisize.retarget(WORKED).picture, WORKED)
 
     def test_the_file_built_checked_and_read(self):
@@ -82,14 +88,14 @@ class Worked(unittest.TestCase):
         self.assertEqual(head, (3, 2, "grey", 2, 1))
         self.assertEqual(list(head.widths), [1, 2, 3, 4])
         contents = multisize.read(FILE)
-        self.assertEqual((contents.picture, list(contents.map), contents.head), (WORKED, [2, 0, 1, 0, 2, 1], head))
+        self.assertEqual((contents.picture, list(contents.map), contents.head), (WORKED, [1, 0, 2, 1, 0, 2], head))
 
     def test_the_file_shown(self):
         shown = {width: list(multisize.show(FILE, width).samples) for width in multisize.check(FILE).widths}
-        self.assertEqual(shown[1], [10, 10])
-        self.assertEqual(shown[2], [10, 10, 10, 50])
+        self.assertEqual(shown[1], [10, 50])
+        self.assertEqual(shown[2], [10, 40, 50, 40])
         self.assertEqual(shown[3], [10, 10, 40, 10, 50, 40])
-        self.assertEqual(shown[4], [10, 10, 25, 40, 10, 50, 45, 40])
+        self.assertEqual(shown[4], [10, 10, 10, 40, 10, 30, 50, 40])
 
     def test_what_was_read_is_shown_without_another_check(self):
         for picture in (WORKED, noise(7, 4, "rgb"), noise(1, 3, "rgb"), noise(2, 5, "grey"), noise(40, 3, "grey")):
@@ -147,9 +153,9 @@ class Refusals(unittest.TestCase):
             self.refused(7, multisize.show, FILE, width)
         for rows, columns in [(2, 0), (0, 3), (65, 0), (0, 2**63)]:
             self.refused(7, multisize.retarget, WORKED, rows, columns)
-        self.refused(9, multisize.read, FILE.replace(b"2 0 1", b"2 2 1"))
-        self.refused(10, multisize.check, FILE.replace(b"2 0 1", b"1 0 2"))
-        self.refused(11, multisize.show, FILE.replace(b"2 0 1", b"1 0 2").replace(b"0 2 1", b"1 2 0"), 3)
+        self.refused(9, multisize.read, with_last_map(b"2 2 1"))
+        self.refused(10, multisize.check, with_last_map(b"0 2 1"))
+        self.refused(11, multisize.show, with_last_map(b"1 2 0"), 3)
         self.refused(12, multisize.cut, WORKED, marks=bytes([1] * 6))
         self.refused(13, multisize.cut, Picture(1, 2, "grey", b"\1\2"))
 
@@ -240,8 +246,7 @@ class AsTheCommand(unittest.TestCase):
             self.assertEqual(told.stdout.decode(), f"total {given.total}\n")
 
     def test_refusals_in_the_same_words(self):
-        files = {6: FILE.replace(b"(range 2", b"(range 3"), 9: FILE.replace(b"2 0 1", b"2 2 1")}
-        files[10] = FILE.replace(b"2 0 1", b"1 0 2")
+        files = {6: FILE.replace(b"(range 2", b"(range 3"), 9: with_last_map(b"2 2 1"), 10: with_last_map(b"0 2 1")}
         for number, file in files.items():
             (self.folder / "wrong.multi").write_bytes(file)
             told = self.run_command("check", "wrong.multi").stderr.decode()

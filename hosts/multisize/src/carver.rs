@@ -14,7 +14,7 @@ use crate::picture::Size;
 /// while picture.size().width > 1 {
 ///     carver.cut(&mut picture, Axis::Vertical)?;
 /// }
-/// assert_eq!(picture.samples(), [10, 10]);
+/// assert_eq!(picture.samples(), [10, 50]);
 /// # Ok::<(), multisize::Refusal>(())
 /// ```
 #[derive(Debug, Default)]

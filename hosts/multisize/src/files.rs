@@ -85,10 +85,10 @@ impl Contents {
     /// ```
     /// use multisize::{Carver, Refusal};
     ///
-    /// let file = b"(multi\n(size 3 1 grey)\n(range 1 1)\n(row 7 8 9)\n(map 0 0 1)\n)\n";
+    /// let file = b"(multi\n(size 3 1 grey)\n(range 1 1)\n(row 7 8 9)\n(map 1 0 0)\n)\n";
     /// let contents = Carver::new().read(file)?;
-    /// assert_eq!(contents.show(2)?.samples(), [7, 8]);
-    /// assert_eq!(contents.show(4)?.samples(), [7, 8, 8, 9]);
+    /// assert_eq!(contents.show(2)?.samples(), [8, 9]);
+    /// assert_eq!(contents.show(4)?.samples(), [7, 7, 8, 9]);
     /// assert_eq!(contents.show(5), Err(Refusal::Wanted));
     /// # Ok::<(), multisize::Refusal>(())
     /// ```
@@ -231,8 +231,8 @@ impl Carver {
     /// ```
     /// use multisize::{Carver, Refusal};
     ///
-    /// let file = b"(multi\n(size 3 1 grey)\n(range 1 0)\n(row 7 8 9)\n(map 0 0 1)\n)\n";
-    /// assert_eq!(Carver::new().show(file, 2)?.samples(), [7, 8]);
+    /// let file = b"(multi\n(size 3 1 grey)\n(range 1 0)\n(row 7 8 9)\n(map 1 0 0)\n)\n";
+    /// assert_eq!(Carver::new().show(file, 2)?.samples(), [8, 9]);
     /// assert_eq!(Carver::new().show(file, 4), Err(Refusal::Wanted));
     /// # Ok::<(), multisize::Refusal>(())
     /// ```

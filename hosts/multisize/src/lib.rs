@@ -15,7 +15,7 @@
 //! let file = carver.build(&picture, Range::full(3))?;
 //! assert_eq!(carver.check(&file)?.widths(), 1..=4);
 //! let narrow = carver.show(&file, 2)?;
-//! assert_eq!(narrow.samples(), [10, 10, 10, 50]);
+//! assert_eq!(narrow.samples(), [10, 40, 50, 40]);
 //! # Ok::<(), multisize::Refusal>(())
 //! ```
 

@@ -170,7 +170,10 @@ impl Picture {
         row
     }
 
-    /// The energies of the pixels of row `r`, counted from 0.
+    /// The energies of the pixels of row `r`, counted from 0: the differences to the
+    /// right and to the lower neighbour, in the last column to the left and in the
+    /// last row to the upper one, the channels added. At width 1 or height 1 that
+    /// difference is 0.
     ///
     /// # Errors
     ///
@@ -181,7 +184,7 @@ impl Picture {
     /// use multisize::{Picture, Size};
     ///
     /// let picture = Picture::new(Size::grey(3, 2), vec![10, 10, 40, 10, 50, 40])?;
-    /// assert_eq!(picture.energies(0)?, [0, 70, 0]);
+    /// assert_eq!(picture.energies(0)?, [0, 70, 30]);
     /// # Ok::<(), multisize::Refusal>(())
     /// ```
     pub fn energies(&self, r: usize) -> Result<Vec<u32>, Refusal> {

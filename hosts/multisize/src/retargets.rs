@@ -42,8 +42,8 @@ impl Carver {
     ///
     /// let picture = Picture::new(Size::grey(3, 2), vec![10, 10, 40, 10, 50, 40])?;
     /// let given = Carver::new().retarget(&picture, Rows(0), Columns(2))?;
-    /// assert_eq!(given.picture.samples(), [10, 10]);
-    /// assert_eq!(given.total, 0);
+    /// assert_eq!(given.picture.samples(), [10, 50]);
+    /// assert_eq!(given.total, 80);
     /// # Ok::<(), multisize::Refusal>(())
     /// ```
     pub fn retarget(

@@ -61,7 +61,7 @@ impl Carver {
     ///
     /// let picture = Picture::new(Size::grey(3, 2), vec![10, 10, 40, 10, 50, 40])?;
     /// let seam = Carver::new().find(&picture, Axis::Vertical)?;
-    /// assert_eq!((seam.places, seam.cost), (vec![2, 2], 0));
+    /// assert_eq!((seam.places, seam.cost), (vec![0, 0], 40));
     /// # Ok::<(), multisize::Refusal>(())
     /// ```
     pub fn find(&mut self, picture: &Picture, axis: Axis) -> Result<Seam, Refusal> {
@@ -84,9 +84,9 @@ impl Carver {
     ///
     /// let mut picture = Picture::new(Size::grey(3, 2), vec![10, 10, 40, 10, 50, 40])?;
     /// let seam = Carver::new().cut(&mut picture, Axis::Vertical)?;
-    /// assert_eq!(seam.places, [2, 2]);
+    /// assert_eq!(seam.places, [0, 0]);
     /// assert_eq!(picture.size(), Size::grey(2, 2));
-    /// assert_eq!(picture.samples(), [10, 10, 10, 50]);
+    /// assert_eq!(picture.samples(), [10, 40, 50, 40]);
     /// # Ok::<(), multisize::Refusal>(())
     /// ```
     pub fn cut(&mut self, picture: &mut Picture, axis: Axis) -> Result<Seam, Refusal> {
@@ -114,7 +114,7 @@ impl Carver {
     /// let picture = Picture::new(Size::grey(3, 2), vec![10, 10, 40, 10, 50, 40])?;
     /// let marks = [0, 2, 1, 0, 0, 0];
     /// let seam = Carver::new().find_marked(&picture, &marks, Axis::Vertical)?;
-    /// assert_eq!((seam.places, seam.cost), (vec![1, 2], 70));
+    /// assert_eq!((seam.places, seam.cost), (vec![1, 2], 80));
     /// # Ok::<(), multisize::Refusal>(())
     /// ```
     pub fn find_marked(

@@ -16,7 +16,7 @@ fn checked(size: &str, range: &str, maps: [&str; 2]) -> Result<Head, Refusal> {
     Carver::new().check(file.as_bytes())
 }
 
-const MAPS: [&str; 2] = ["2 0 1", "0 2 1"];
+const MAPS: [&str; 2] = ["1 0 2", "1 0 2"];
 
 #[test]
 fn the_worked_file_is_accepted() {
@@ -88,9 +88,12 @@ fn refused_by_7() {
 #[test]
 fn refused_by_9_to_11() {
     let numbered = |maps| checked("3 2 grey", "2 1", maps);
-    assert_eq!(numbered(["2 2 1", "0 2 1"]), Err(Refusal::Numbering));
+    assert_eq!(numbered(["2 2 1", "1 0 2"]), Err(Refusal::Numbering));
     assert_eq!(numbered(["1 0 2", "0 2 1"]), Err(Refusal::Broken));
+    // The second seam isn't the one found.
     assert_eq!(numbered(["1 0 2", "1 2 0"]), Err(Refusal::Other));
+    // Nor is the first, which costs as much as the one found and comes after it.
+    assert_eq!(numbered(["2 0 1", "0 2 1"]), Err(Refusal::Other));
 }
 
 #[test]

@@ -4,7 +4,7 @@ use multisize::{Axis, Carver, Columns, Ending, Picture, Range, Refusal, Rows, Si
 use multisize::{PLAIN, PROTECTED, REMOVE};
 
 const FILE: &str = "(multi\n(size 3 2 grey)\n(range 2 1)\n\
-    (row 10 10 40)\n(row 10 50 40)\n(map 2 0 1)\n(map 0 2 1)\n)\n";
+    (row 10 10 40)\n(row 10 50 40)\n(map 1 0 2)\n(map 1 0 2)\n)\n";
 
 fn worked() -> Picture {
     Picture::new(Size::grey(3, 2), vec![10, 10, 40, 10, 50, 40]).unwrap()
@@ -21,8 +21,8 @@ fn rows_and_energies() {
     assert_eq!(picture.row(0), [10, 10, 40]);
     assert_eq!(picture.row(1), [10, 50, 40]);
     assert!(picture.row(usize::MAX).is_empty());
-    assert_eq!(picture.energies(0), Ok(vec![0, 70, 0]));
-    assert_eq!(picture.energies(1), Ok(vec![40, 10, 0]));
+    assert_eq!(picture.energies(0), Ok(vec![0, 70, 30]));
+    assert_eq!(picture.energies(1), Ok(vec![40, 50, 10]));
     assert_eq!(flat(Size::grey(1, 1)).energies(0), Ok(vec![0]));
 }
 
@@ -32,19 +32,52 @@ fn seams_found_and_cut() {
     let found = carver.find(&picture, Axis::Vertical).unwrap();
     let first = carver.cut(&mut picture, Axis::Vertical).unwrap();
     assert_eq!(found, first);
-    assert_eq!((first.places, first.cost), (vec![2, 2], 0));
-    assert_eq!(picture.samples(), [10, 10, 10, 50]);
+    assert_eq!((first.places, first.cost), (vec![0, 0], 40));
+    assert_eq!(picture.samples(), [10, 40, 50, 40]);
     let second = carver.cut(&mut picture, Axis::Vertical).unwrap();
-    assert_eq!((second.places, second.cost), (vec![0, 1], 0));
-    assert_eq!(picture.samples(), [10, 10]);
+    assert_eq!((second.places, second.cost), (vec![1, 1], 40));
+    assert_eq!(picture.samples(), [10, 50]);
+}
+
+/// A line along the right or the bottom edge is what differs most, and stays to the
+/// last. By the differences to the right and below alone it would have no energy and
+/// be cut first.
+#[test]
+fn a_line_along_the_edge_stays() {
+    let mut carver = Carver::new();
+    let upright = vec![10, 20, 30, 200, 10, 20, 30, 200];
+    let upright = Picture::new(Size::grey(4, 2), upright).unwrap();
+    let level = vec![10, 10, 20, 20, 30, 30, 200, 200];
+    let level = Picture::new(Size::grey(2, 4), level).unwrap();
+    let file = carver.build(&upright, Range::full(4)).unwrap();
+    let map = carver.read(&file).unwrap().map;
+    assert_eq!(map, [1, 2, 3, 0, 1, 2, 3, 0]);
+    for (mut picture, axis) in [(upright, Axis::Vertical), (level, Axis::Horizontal)] {
+        for cost in [20, 20, 340] {
+            let seam = carver.cut(&mut picture, axis).unwrap();
+            assert_eq!((seam.places, seam.cost), (vec![0, 0], cost));
+        }
+        assert_eq!(picture.samples(), [200, 200]);
+    }
+}
+
+/// At width 1 no pixel has a neighbour beside it, at height 1 none above or below.
+#[test]
+fn the_one_column_or_row_has_one_difference() {
+    let column = Picture::new(Size::grey(1, 3), vec![10, 30, 90]).unwrap();
+    for (row, energy) in [20, 60, 60].into_iter().enumerate() {
+        assert_eq!(column.energies(row), Ok(vec![energy]));
+    }
+    let row = Picture::new(Size::rgb(2, 1), vec![1, 2, 3, 11, 0, 7]).unwrap();
+    assert_eq!(row.energies(0), Ok(vec![16, 16]));
 }
 
 #[test]
 fn a_horizontal_seam_is_cut() {
     let (mut picture, mut carver) = (worked(), Carver::new());
     let seam = carver.cut(&mut picture, Axis::Horizontal).unwrap();
-    assert_eq!(seam.places, [0, 1, 0]);
-    assert_eq!(seam.cost, 10);
+    assert_eq!(seam.places, [0, 1, 1]);
+    assert_eq!(seam.cost, 60);
     assert_eq!(picture.size(), Size::grey(3, 1));
     assert_eq!(picture.samples(), [10, 10, 40]);
 }
@@ -56,7 +89,8 @@ fn seams_found_and_cut_by_marks() {
     let found = carver.find_marked(&picture, &marks, Axis::Vertical);
     let cut = carver.cut_marked(&mut picture, &mut marks, Axis::Vertical);
     assert_eq!(found, cut);
-    assert_eq!(cut.unwrap().places, [1, 2]);
+    let cut = cut.unwrap();
+    assert_eq!((cut.places, cut.cost), (vec![1, 2], 80));
     assert_eq!(picture.samples(), [10, 40, 10, 50]);
     assert_eq!(marks, [PLAIN, PROTECTED, PLAIN, PLAIN]);
 }
@@ -84,6 +118,8 @@ fn a_retarget_in_both_directions() {
         .retarget(&worked(), Rows(1), Columns(1))
         .unwrap();
     assert_eq!(given.picture.size(), Size::grey(2, 1));
+    assert_eq!(given.picture.samples(), [10, 40]);
+    assert_eq!(given.total, 60);
     let whole = Carver::new().retarget(&worked(), Rows(0), Columns(0));
     assert_eq!(whole.unwrap().picture, worked());
 }
@@ -97,21 +133,37 @@ fn the_file_is_built_checked_and_read() {
     assert_eq!((head.size, head.range), (Size::grey(3, 2), Range::full(3)));
     let contents = carver.read(&file).unwrap();
     assert_eq!(contents.picture, worked());
-    assert_eq!(contents.map, [2, 0, 1, 0, 2, 1]);
+    assert_eq!(contents.map, [1, 0, 2, 1, 0, 2]);
 }
 
 #[test]
 fn the_file_is_shown_at_each_width() {
     let mut carver = Carver::new();
     let mut shown = |width| carver.show(FILE.as_bytes(), width);
-    assert_eq!(shown(1).unwrap().samples(), [10, 10]);
-    assert_eq!(shown(2).unwrap().samples(), [10, 10, 10, 50]);
+    assert_eq!(shown(1).unwrap().samples(), [10, 50]);
+    assert_eq!(shown(2).unwrap().samples(), [10, 40, 50, 40]);
     assert_eq!(shown(3), Ok(worked()));
     let wide = shown(4).unwrap();
-    assert_eq!(wide.samples(), [10, 10, 25, 40, 10, 50, 45, 40]);
+    assert_eq!(wide.samples(), [10, 10, 10, 40, 10, 30, 50, 40]);
     for width in [0, 5, usize::MAX] {
         assert_eq!(shown(width), Err(Refusal::Wanted));
     }
+}
+
+/// Its first seam is the last column: 40, where the first column costs 70. A pixel that
+/// doubles one of the last column stands to the left of it.
+#[test]
+fn the_last_column_is_doubled_to_the_left() {
+    let mut carver = Carver::new();
+    let picture = Picture::new(Size::grey(3, 2), vec![0, 10, 40, 10, 50, 40]).unwrap();
+    let file = carver.build(&picture, Range::full(3)).unwrap();
+    let contents = carver.read(&file).unwrap();
+    assert_eq!(contents.map, [2, 0, 1, 2, 0, 1]);
+    let narrow = carver.show(&file, 2).unwrap();
+    assert_eq!(narrow.samples(), [0, 10, 10, 50]);
+    let wide = carver.show(&file, 4).unwrap();
+    assert_eq!(wide.samples(), [0, 10, 25, 40, 10, 50, 45, 40]);
+    assert_eq!(contents.show(4), Ok(wide));
 }
 
 /// Builds the file of a flat picture and reads and shows it.

@@ -1,16 +1,12 @@
 //! Refusals, wrong use, and files that can't be read or written.
 
-use crate::helpers::{Folder, FILE, PICTURE};
+use crate::helpers::{Folder, BROKEN, PICTURE};
 use multisize::{LARGEST_COUNT, LARGEST_SIDE};
 
 #[test]
 fn a_refusal_names_file_number_and_meaning() {
     let folder = Folder::new("refusal");
-    let text = String::from_utf8(FILE.to_vec()).unwrap();
-    folder.put(
-        "broken.multi",
-        text.replace("map 2 0 1", "map 1 0 2").as_bytes(),
-    );
+    folder.put("broken.multi", BROKEN);
     let line = "multisize: broken.multi: refused (10): \
         a recorded seam isn't connected in the picture left before it\n";
     for command in ["check", "info", "table"] {
@@ -66,9 +62,7 @@ fn a_width_not_offered_tells_those_that_are() {
     let told = line("single.multi", 2, "width 3 alone");
     assert_eq!((ran.status, ran.error), (1, told));
     // Where the map is wrong too, 7 is still the smallest number.
-    let text = String::from_utf8(FILE.to_vec()).unwrap();
-    let wrong = text.replace("map 2 0 1", "map 1 0 2");
-    folder.put("wrong.multi", wrong.as_bytes());
+    folder.put("wrong.multi", BROKEN);
     let ran = folder.run("show wrong.multi 5 -o out.pgm");
     assert_eq!(ran.status, 1);
     assert!(ran
@@ -92,7 +86,7 @@ fn what_stood_there_stays_after_a_refusal() {
     folder.run("show picture.multi 9 -o out.pgm");
     assert_eq!(folder.get("out.pgm"), b"before");
     folder.served("show picture.multi 1 -o out.pgm");
-    assert_eq!(folder.get("out.pgm"), b"P5\n1 2\n255\n\x0a\x0a");
+    assert_eq!(folder.get("out.pgm"), b"P5\n1 2\n255\n\x0a\x32");
     assert_eq!(folder.names(), ["out.pgm", "picture.multi", "picture.pgm"]);
 }
 
@@ -125,7 +119,7 @@ fn links_and_devices_stay_what_they_are() {
     folder.put("real.pgm", b"before");
     folder.served("show picture.multi 1 -o link.pgm");
     assert!(folder.path("link.pgm").is_symlink());
-    assert_eq!(folder.get("real.pgm"), b"P5\n1 2\n255\n\x0a\x0a");
+    assert_eq!(folder.get("real.pgm"), b"P5\n1 2\n255\n\x0a\x32");
     let full = folder.run("show picture.multi 1 -o /dev/full");
     assert_eq!(full.status, 2);
     assert!(full.error.starts_with("multisize: /dev/full: "));

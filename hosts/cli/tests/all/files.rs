@@ -50,10 +50,10 @@ fn show_writes_each_width() {
         folder.served(&format!("show picture.multi {width} -o shown.pgm"));
         folder.get("shown.pgm")
     };
-    assert_eq!(shown(1), b"P5\n1 2\n255\n\x0a\x0a");
-    assert_eq!(shown(2), b"P5\n2 2\n255\n\x0a\x0a\x0a\x32");
+    assert_eq!(shown(1), b"P5\n1 2\n255\n\x0a\x32");
+    assert_eq!(shown(2), b"P5\n2 2\n255\n\x0a\x28\x32\x28");
     assert_eq!(shown(3), PICTURE);
-    assert_eq!(shown(4), b"P5\n4 2\n255\n\x0a\x0a\x19\x28\x0a\x32\x2d\x28");
+    assert_eq!(shown(4), b"P5\n4 2\n255\n\x0a\x0a\x0a\x28\x0a\x1e\x32\x28");
 }
 
 #[test]
@@ -61,11 +61,11 @@ fn seams_are_drawn_in_colours() {
     let folder = Folder::worked("seams");
     folder.served("seams picture.multi -o drawn.ppm");
     let (first, last) = ([0, 0, 255], [255, 0, 0]);
-    let pixels = [last, [10; 3], first, [10; 3], last, first];
+    let pixels = [first, [10; 3], last, first, [50; 3], last];
     let drawn = Picture::new(Size::rgb(3, 2), pixels.concat());
     assert_eq!(netpbm::read(&folder.get("drawn.ppm")), drawn);
     folder.served("seams picture.multi --first 1 -o drawn.ppm");
-    let pixels = [[10; 3], [10; 3], first, [10; 3], [50; 3], first];
+    let pixels = [first, [10; 3], [40; 3], first, [50; 3], [40; 3]];
     let drawn = Picture::new(Size::rgb(3, 2), pixels.concat());
     assert_eq!(netpbm::read(&folder.get("drawn.ppm")), drawn);
 }
@@ -74,7 +74,7 @@ fn seams_are_drawn_in_colours() {
 fn table_lists_the_worked_seams() {
     let folder = Folder::worked("table");
     let table = "seam,cost,row_0_left,row_1_left,row_0_original,row_1_original\n\
-        1,0,2,2,2,2\n2,0,0,1,0,1\n";
+        1,40,0,0,0,0\n2,40,1,1,2,2\n";
     assert_eq!(folder.served("table picture.multi"), table);
     assert_eq!(folder.served("table picture.multi -o seams.csv"), "");
     assert_eq!(folder.get("seams.csv"), table.as_bytes());
@@ -83,10 +83,27 @@ fn table_lists_the_worked_seams() {
 #[test]
 fn a_long_table_has_a_line_for_each_seam_and_row() {
     let folder = Folder::worked("long");
-    let table = "seam,cost,row,left,original\n1,0,0,2,2\n1,0,1,2,2\n2,0,0,0,0\n2,0,1,1,1\n";
+    let table = "seam,cost,row,left,original\n1,40,0,0,0\n1,40,1,0,0\n2,40,0,1,2\n2,40,1,1,2\n";
     assert_eq!(folder.served("table picture.multi --long"), table);
     assert_eq!(folder.served("table --long picture.multi -o long.csv"), "");
     assert_eq!(folder.get("long.csv"), table.as_bytes());
+}
+
+/// The energies are 30 40 40 and 60 40 40: the first seam goes from column 0 to column 1.
+#[test]
+fn a_slanted_seam_is_drawn_and_listed() {
+    let folder = Folder::new("slanted");
+    folder.put("a.pgm", b"P5\n3 2\n255\n\x0a\x0a\x32\x28\x0a\x32");
+    folder.served("build a.pgm -o a.multi");
+    folder.served("seams a.multi -o drawn.ppm");
+    let (first, last) = ([0, 0, 255], [255, 0, 0]);
+    let pixels = [first, [10; 3], last, [40; 3], first, last];
+    let drawn = Picture::new(Size::rgb(3, 2), pixels.concat());
+    assert_eq!(netpbm::read(&folder.get("drawn.ppm")), drawn);
+    let table = folder.served("table a.multi");
+    assert!(table.ends_with("_original\n1,70,0,1,0,1\n2,50,1,1,2,2\n"));
+    let long = folder.served("table a.multi --long");
+    assert!(long.ends_with("original\n1,70,0,0,0\n1,70,1,1,1\n2,50,0,1,2\n2,50,1,1,2\n"));
 }
 
 #[test]

@@ -8,7 +8,10 @@ use std::process::{self, Command, Stdio};
 /// The worked picture, and its file.
 pub const PICTURE: &[u8] = b"P5\n3 2\n255\n\x0a\x0a\x28\x0a\x32\x28";
 pub const FILE: &[u8] = b"(multi\n(size 3 2 grey)\n(range 2 1)\n\
-    (row 10 10 40)\n(row 10 50 40)\n(map 2 0 1)\n(map 0 2 1)\n)\n";
+    (row 10 10 40)\n(row 10 50 40)\n(map 1 0 2)\n(map 1 0 2)\n)\n";
+/// The file, but with seam 1 at columns 0 and 2: it isn't connected.
+pub const BROKEN: &[u8] = b"(multi\n(size 3 2 grey)\n(range 2 1)\n\
+    (row 10 10 40)\n(row 10 50 40)\n(map 1 0 2)\n(map 0 2 1)\n)\n";
 
 /// What a run gave.
 pub struct Ran {

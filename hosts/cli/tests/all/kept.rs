@@ -8,7 +8,7 @@ use std::io::Write;
 use std::os::unix::fs::symlink;
 use std::process::{Command, Stdio};
 
-const NARROW: &[u8] = b"P5\n1 2\n255\n\x0a\x0a";
+const NARROW: &[u8] = b"P5\n1 2\n255\n\x0a\x32";
 
 /// The number of the process stays the same where the shell becomes the program.
 #[test]

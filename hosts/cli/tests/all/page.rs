@@ -1,7 +1,7 @@
 //! Pages: where they are written and what is refused. What their scripts do is
 //! tested by `tests/page`.
 
-use crate::helpers::{Folder, FILE};
+use crate::helpers::{Folder, BROKEN, FILE};
 
 #[test]
 fn a_page_is_named_for_its_file_or_by_its_title() {
@@ -20,8 +20,7 @@ fn a_page_is_named_for_its_file_or_by_its_title() {
 #[test]
 fn a_file_that_is_not_accepted_has_no_page() {
     let folder = Folder::new("no-page");
-    let text = String::from_utf8(FILE.to_vec()).unwrap();
-    folder.put("other.multi", text.replace("2 0 1", "1 0 2").as_bytes());
+    folder.put("other.multi", BROKEN);
     let ran = folder.run("page other.multi -o page.html");
     assert_eq!(ran.status, 1);
     assert!(ran

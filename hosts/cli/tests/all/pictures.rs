@@ -57,10 +57,10 @@ fn marks_must_fit_the_picture() {
 fn retarget_takes_rows_and_columns() {
     let folder = Folder::worked("retarget");
     let total = folder.served("retarget picture.pgm --columns 2 -o left.pgm");
-    assert_eq!(total, "total 0\n");
-    assert_eq!(folder.get("left.pgm"), b"P5\n1 2\n255\n\x0a\x0a");
+    assert_eq!(total, "total 80\n");
+    assert_eq!(folder.get("left.pgm"), b"P5\n1 2\n255\n\x0a\x32");
     let total = folder.served("retarget picture.pgm --rows 1 -o left.pgm");
-    assert_eq!(total, "total 10\n");
+    assert_eq!(total, "total 60\n");
     assert_eq!(folder.get("left.pgm"), b"P5\n3 1\n255\n\x0a\x0a\x28");
     let ran = folder.run("retarget picture.pgm --rows 2 --columns 0 -o none.pgm");
     assert_eq!(ran.status, 1);

@@ -118,8 +118,8 @@ function refuseTexts(page) {
   for (let length = 0; length < text.length; length++) refused(`cut after ${length}`, text.slice(0, length));
   const edits = [["(size 3 2 grey)", "(size 03 2 grey)"], ["(size 3 2 grey)", "(size 0 2 grey)"], ["(size 3 2", "(size 3 513"],
     ["grey", "gray"], ["(range 2 1)", "(range 3 1)"], ["(range 2 1)", "(range 2 2)"], ["(row 10 10 40)", "(row 10 10 256)"],
-    ["(row 10 10 40)", "(row 10 10)"], ["(row 10 10 40)", "(row 10 10 40 40)"], ["(map 2 0 1)", "(map 2 0 3)"],
-    ["(map 2 0 1)", "(map 2 2 1)"], ["(map 2 0 1)", "(map 1 0 1)"], ["(map 0 2 1)\n)\n", "(map 0 2 1)\n)\n\n"], ["\n", "\r\n"]];
+    ["(row 10 10 40)", "(row 10 10)"], ["(row 10 10 40)", "(row 10 10 40 40)"], ["(map 1 0 2)", "(map 1 0 3)"],
+    ["(map 1 0 2)", "(map 2 2 1)"], ["(map 1 0 2)", "(map 1 0 1)"], ["(map 1 0 2)\n)\n", "(map 1 0 2)\n)\n\n"], ["\n", "\r\n"]];
   for (const [from, to] of edits) refused(to, text.replace(from, to));
 }
 

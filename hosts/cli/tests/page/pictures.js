@@ -22,6 +22,13 @@ const slope = (column, row, channel) => column * 5 + row * 3 + channel * 40;
 const steps = (column, row) => (column > 6 ? 200 : 20) + (row > 3 ? 30 : 0);
 const noise = (seed) => numbersFrom(seed);
 
+// Noise that is weaker from column to column and none in the last: the first seams go there, so that the last two columns
+// are doubled.
+function fading(seed, width) {
+  const number = numbersFrom(seed);
+  return (column) => 100 + (number() % (1 + 8 * (width - 1 - column)));
+}
+
 // Name, Netpbm bytes, and the options of `multisize build`.
 function pictures() {
   return [
@@ -36,6 +43,8 @@ function pictures() {
     ["steps", netpbm(19, 9, 1, steps), []],
     ["noise-grey", netpbm(37, 23, 1, noise(4)), []],
     ["noise-rgb", netpbm(36, 21, 3, noise(5)), []],
+    ["fading-grey", netpbm(14, 9, 1, fading(10, 14)), []],
+    ["fading-rgb", netpbm(15, 9, 3, fading(11, 15)), []],
     ["shallow", netpbm(25, 10, 3, noise(6)), ["--depth", "6", "--growth", "2"]],
     ["no-seam", netpbm(9, 4, 1, noise(7)), ["--depth", "0"]],
     ["no-growth", netpbm(16, 12, 1, noise(8)), ["--growth", "0"]],
