@@ -89,10 +89,10 @@ mod tests {
     fn the_worked_picture_at_its_widths() {
         let picture = [10, 10, 40, 10, 50, 40];
         let at = |wanted| at_width(&picture, grey(3, 2), wanted);
-        assert_eq!(at(1), [10, 10]);
-        assert_eq!(at(2), [10, 10, 10, 50]);
+        assert_eq!(at(1), [10, 50]);
+        assert_eq!(at(2), [10, 40, 50, 40]);
         assert_eq!(at(3), picture);
-        assert_eq!(at(4), [10, 10, 25, 40, 10, 50, 45, 40]);
+        assert_eq!(at(4), [10, 10, 10, 40, 10, 30, 50, 40]);
     }
 
     /// Both last columns are doubled: the new pixel of the one before stands

@@ -9,7 +9,7 @@ type Pixel = [u8; 3];
 
 /// The samples of a picture of this size.
 pub fn samples(random: &mut Random, size: Size) -> Vec<u8> {
-    let contents = random.pick(&[few, few, flat, checks, across, down, noise, terrain]);
+    let contents = random.pick(&[few, few, flat, checks, across, down, noise, terrain, edged]);
     contents(random, size)
 }
 
@@ -29,7 +29,7 @@ fn flat(random: &mut Random, size: Size) -> Vec<u8> {
     each_pixel(size, |_, _| colour)
 }
 
-/// Two colours in turn, so that all energies are equal but those at the edges,
+/// Two colours in turn, so that all energies are equal, those at the edges too,
 /// and with black and white the largest.
 fn checks(random: &mut Random, size: Size) -> Vec<u8> {
     let drawn = [drawn_pixel(random), drawn_pixel(random)];
@@ -63,6 +63,19 @@ fn terrain(random: &mut Random, size: Size) -> Vec<u8> {
         let ridges: i64 = ridges.iter().map(|ridge| ridge.rise(row, column)).sum();
         let level = (hills + ridges).clamp(0, 255) as u8;
         [level, level / 2 + 20, 200 - level / 2]
+    })
+}
+
+/// A loud picture with a quiet edge, along which seams run, or a quiet one with
+/// a loud edge: the last column, the last row or both, one or two wide.
+fn edged(random: &mut Random, size: Size) -> Vec<u8> {
+    let (columns, rows) = random.pick(&[(1, 0), (2, 0), (0, 1), (0, 2), (1, 1), (2, 2)]);
+    let (inside, at_edge) = random.pick(&[(255, 2), (2, 255)]);
+    let level = random.between(0, 253) as u8;
+    each_pixel(size, |row, column| {
+        let is_edge = column + columns >= size.width || row + rows >= size.height;
+        let most = if is_edge { at_edge } else { inside };
+        [0; 3].map(|_: u8| level.wrapping_add(random.between(0, most) as u8))
     })
 }
 
@@ -151,8 +164,9 @@ fn each_pixel(size: Size, mut pixel: impl FnMut(usize, usize) -> Pixel) -> Vec<u
 #[cfg(test)]
 mod tests {
     use super::*;
+    use crate::paths::Small;
     use crate::pictures::byte_count;
-    use reference::Kind;
+    use reference::{Axis, Kind};
 
     fn size(width: usize, height: usize, kind: Kind) -> Size {
         Size {
@@ -185,12 +199,36 @@ mod tests {
     }
 
     #[test]
-    fn energies_of_checks_are_equal_but_at_the_edges() {
+    fn energies_of_checks_are_equal() {
         let grey = size(5, 4, Kind::Grey);
         let samples = checks(&mut Random::new(5), grey);
-        let mut energies = [0; 5];
-        reference::energies(&samples, grey, 2, &mut energies).unwrap();
-        assert_eq!(energies[..4], [2 * energies[4]; 4]);
+        let step = u32::from(samples[0].abs_diff(samples[1]));
+        assert!(step > 0);
+        for row in 0..4 {
+            let mut energies = [0; 5];
+            reference::energies(&samples, grey, row, &mut energies).unwrap();
+            assert_eq!(energies, [2 * step; 5]);
+        }
+    }
+
+    /// Along either axis, how many seams of such pictures lie in the last line
+    /// all the way, and how many meet it nowhere.
+    #[test]
+    fn seams_run_along_quiet_edges_and_not_along_loud_ones() {
+        let mut random = Random::new(6);
+        let size = size(6, 5, Kind::Grey);
+        for (axis, length, last) in [(Axis::Vertical, 5, 5), (Axis::Horizontal, 6, 4)] {
+            let mut counts = [0; 2];
+            for _ in 0..400 {
+                let picture = edged(&mut random, size);
+                let (mut seam, mut work) = (vec![0; length], [0; 32 * 30]);
+                reference::find(&picture, size, axis, &mut seam, &mut work).unwrap();
+                let met = seam.iter().filter(|place| **place == last).count();
+                counts[0] += usize::from(met == length);
+                counts[1] += usize::from(met == 0);
+            }
+            assert!(counts.iter().all(|count| *count > 20), "{counts:?}");
+        }
     }
 
     #[test]
@@ -223,6 +261,122 @@ mod tests {
         for kind in [Kind::Grey, Kind::Rgb] {
             let ties = (0..1000).filter(|_| tie(&mut random, size(5, 4, kind)));
             assert!(ties.count() > 400);
+        }
+    }
+
+    /// The pixels, by row and column, that a pixel is held against.
+    type Neighbours = fn(Size, usize, usize) -> Vec<(usize, usize)>;
+
+    /// As it is right.
+    fn right(size: Size, row: usize, column: usize) -> Vec<(usize, usize)> {
+        let other = |place: usize, count: usize| match count - place {
+            1 => place.checked_sub(1),
+            _ => Some(place + 1),
+        };
+        let beside = other(column, size.width).map(|column| (row, column));
+        let below = other(row, size.height).map(|row| (row, column));
+        beside.into_iter().chain(below).collect()
+    }
+
+    /// As it is right, without those whose row and column are dropped.
+    fn without(
+        size: Size,
+        row: usize,
+        column: usize,
+        drop: impl Fn(usize, usize) -> bool,
+    ) -> Vec<(usize, usize)> {
+        let mut neighbours = right(size, row, column);
+        neighbours.retain(|(other_row, other_column)| !drop(*other_row, *other_column));
+        neighbours
+    }
+
+    fn is_corner(size: Size, row: usize, column: usize) -> bool {
+        (row + 1, column + 1) == (size.height, size.width)
+    }
+
+    /// Wrong at the edges.
+    const WRONG: [(&str, Neighbours); 6] = [
+        ("flat edges", |size, row, column| {
+            without(size, row, column, |r, c| r < row || c < column)
+        }),
+        ("flat last column", |size, row, column| {
+            without(size, row, column, |_, c| c < column)
+        }),
+        ("flat last row", |size, row, column| {
+            without(size, row, column, |r, _| r < row)
+        }),
+        ("corner to the left", |size, row, column| {
+            let corner = is_corner(size, row, column);
+            without(size, row, column, |r, _| corner && r < row)
+        }),
+        ("corner upward", |size, row, column| {
+            let corner = is_corner(size, row, column);
+            without(size, row, column, |_, c| corner && c < column)
+        }),
+        ("left everywhere", |size, row, column| {
+            let mut neighbours = right(size, row, column);
+            if column > 0 {
+                neighbours[0] = (row, column - 1);
+            }
+            neighbours
+        }),
+    ];
+
+    /// The seam of a small picture by the energies that these neighbours give.
+    fn seam_by(small: &Small, neighbours: Neighbours) -> Vec<usize> {
+        let Size { width, kind, .. } = small.size;
+        let channels = channels(kind);
+        let pixel = |row: usize, column: usize| {
+            let start = (row * width + column) * channels;
+            &small.bytes[start..start + channels]
+        };
+        let energy = |row, column| -> u64 {
+            let others = neighbours(small.size, row, column).into_iter();
+            let differences = others.flat_map(|(r, c)| {
+                let pairs = pixel(r, c).iter().zip(pixel(row, column));
+                pairs.map(|(a, b)| u64::from(a.abs_diff(*b)))
+            });
+            differences.sum()
+        };
+        let order = |path: &Vec<usize>| {
+            let lines = path.iter().enumerate();
+            let cost = lines.map(|(line, place)| match small.axis {
+                Axis::Vertical => energy(line, *place),
+                Axis::Horizontal => energy(*place, line),
+            });
+            let backward: Vec<usize> = path.iter().rev().copied().collect();
+            (cost.sum::<u64>(), backward)
+        };
+        small.paths().into_iter().min_by_key(order).unwrap()
+    }
+
+    /// In how many of so many small pictures a rule gives another seam than the
+    /// right one.
+    fn told(neighbours: Neighbours, axis: Axis, count: usize) -> usize {
+        let mut random = Random::new(7);
+        let mut differ = || {
+            let (width, height) = (random.between(1, 5), random.between(1, 5));
+            let size = size(width, height, random.pick(&[Kind::Grey, Kind::Rgb]));
+            let bytes = samples(&mut random, size);
+            let small = Small {
+                bytes: &bytes,
+                marks: &[],
+                size,
+                axis,
+            };
+            seam_by(&small, neighbours) != small.seam().unwrap().0
+        };
+        (0..count).filter(|_| differ()).count()
+    }
+
+    #[test]
+    fn wrong_edges_are_told_by_the_seams() {
+        for axis in [Axis::Vertical, Axis::Horizontal] {
+            assert_eq!(told(right, axis, 300), 0);
+            for (name, neighbours) in WRONG {
+                let count = told(neighbours, axis, 300);
+                assert!(count > 20, "{name}: {count}");
+            }
         }
     }
 }

@@ -276,7 +276,9 @@ mod tests {
         let mut picture = [10, 10, 40, 10, 50, 40];
         let mut out = [9; 4];
         assert_eq!(energies(&mut picture, SIZE, 0, &mut out), 0);
-        assert_eq!(out, [0, 70, 0, 9]);
+        assert_eq!(out, [0, 70, 30, 9]);
+        assert_eq!(energies(&mut picture, SIZE, 1, &mut out), 0);
+        assert_eq!(out, [40, 50, 10, 9]);
         assert_eq!(energies(&mut picture, SIZE, 2, &mut out), 4);
     }
 
@@ -297,11 +299,11 @@ mod tests {
         let (mut seam, mut work) = ([9; 3], [9; 200]);
         let axis = NamedAxis(0);
         let answer = find(&mut picture, SIZE, axis, &mut seam, &mut work);
-        assert_eq!(answer, Answer::served(0));
-        assert_eq!((seam, work), ([2, 2, 9], [0; 200]));
+        assert_eq!(answer, Answer::served(40));
+        assert_eq!((seam, work), ([0, 0, 9], [0; 200]));
         let answer = cut(&mut picture, SIZE, axis, &mut seam, &mut work);
-        assert_eq!(answer, Answer::served(0));
-        assert_eq!(picture, [10, 10, 10, 50, 0, 0]);
+        assert_eq!(answer, Answer::served(40));
+        assert_eq!(picture, [10, 40, 50, 40, 0, 0]);
         let answer = cut(&mut picture, SIZE, axis, &mut seam[..1], &mut work);
         assert_eq!(answer, Answer::refused(8));
     }
@@ -313,10 +315,10 @@ mod tests {
         let (mut seam, mut work) = ([9; 3], [9; 200]);
         let axis = NamedAxis(0);
         let answer = find_marked(&mut picture, &mut marks, SIZE, axis, &mut seam, &mut work);
-        assert_eq!(answer, Answer::served(70));
+        assert_eq!(answer, Answer::served(70 + 10));
         assert_eq!((seam, work), ([1, 2, 9], [0; 200]));
         let answer = cut_marked(&mut picture, &mut marks, SIZE, axis, &mut seam, &mut work);
-        assert_eq!(answer, Answer::served(70));
+        assert_eq!(answer, Answer::served(70 + 10));
         assert_eq!(picture, [10, 40, 10, 50, 0, 0]);
         assert_eq!(marks, [0, 1, 0, 0, 0, 0]);
         let answer = cut_marked(

@@ -118,17 +118,12 @@ impl Small<'_> {
         }
     }
 
-    /// A difference that would reach past the edge is 0.
     fn energy(&self, row: usize, column: usize) -> u64 {
+        let Size { width, height, .. } = self.size;
         let it = self.pixel(row, column);
-        let mut energy = 0;
-        if column + 1 < self.size.width {
-            energy += apart(self.pixel(row, column + 1), it);
-        }
-        if row + 1 < self.size.height {
-            energy += apart(self.pixel(row + 1, column), it);
-        }
-        energy
+        let beside = self.pixel(row, held_against(column, width));
+        let below = self.pixel(held_against(row, height), column);
+        apart(beside, it) + apart(below, it)
     }
 
     fn pixel(&self, row: usize, column: usize) -> &[u8] {
@@ -140,6 +135,18 @@ impl Small<'_> {
 /// The bytes of the pixel at a place of a buffer with so many bytes a pixel.
 fn pixel(buffer: &[u8], place: usize, channels: usize) -> &[u8] {
     &buffer[place * channels..(place + 1) * channels]
+}
+
+/// The column (or row), of so many, whose pixel the one at a place is held
+/// against: the next; for the last one the one before it; and where there is no
+/// other its own, from which it doesn't differ.
+fn held_against(place: usize, count: usize) -> usize {
+    let next = place + 1;
+    if next == count {
+        place.saturating_sub(1)
+    } else {
+        next
+    }
 }
 
 /// The path and one place more: each that is connected with the last.
@@ -206,17 +213,19 @@ mod tests {
     #[test]
     fn seams_of_the_worked_picture() {
         let picture = grey(&[10, 10, 40, 10, 50, 40], 3, Axis::Vertical);
-        assert_eq!(picture.seam(), Some((vec![2, 2], 0)));
-        assert_eq!(picture.without(&[2, 2]), [10, 10, 10, 50, 0, 0]);
-        let left = grey(&[10, 10, 10, 50], 2, Axis::Vertical);
-        assert_eq!(left.seam(), Some((vec![0, 1], 0)));
-        assert_eq!(left.without(&[0, 1]), [10, 10, 0, 0]);
+        assert_eq!(picture.seam(), Some((vec![0, 0], 40)));
+        assert_eq!(picture.without(&[0, 0]), [10, 40, 50, 40, 0, 0]);
+        let left = grey(&[10, 40, 50, 40], 2, Axis::Vertical);
+        assert_eq!(left.seam(), Some((vec![1, 1], 40)));
+        assert_eq!(left.without(&[1, 1]), [10, 50, 0, 0]);
+        assert_eq!(left.without(&[0, 1]), [40, 50, 0, 0]);
     }
 
     #[test]
     fn horizontal_seams_are_vertical_ones_of_the_exchanged_picture() {
         let turned = grey(&[10, 10, 10, 50, 40, 40], 2, Axis::Horizontal);
-        assert_eq!(turned.seam(), Some((vec![2, 2], 0)));
+        assert_eq!(turned.seam(), Some((vec![0, 0], 40)));
+        assert_eq!(turned.without(&[0, 0]), [10, 50, 40, 40, 0, 0]);
         assert_eq!(turned.without(&[2, 2]), [10, 10, 10, 50, 0, 0]);
         assert_eq!(turned.without(&[0, 1]), [10, 10, 40, 40, 0, 0]);
     }
@@ -228,11 +237,33 @@ mod tests {
             grey(&[7; 9], 3, Axis::Vertical).seam(),
             Some((vec![0, 0, 0], 0))
         );
-        // All energies are 0 but the first, so five paths are as cheap.
-        let picture = grey(&[9, 5, 5, 5, 5, 5], 3, Axis::Vertical);
+        // All energies are 0 but the first: of the 17 paths the 5 that begin
+        // there are dearer, and the others are as cheap.
+        let picture = grey(&[9, 5, 5, 5, 5, 5, 5, 5, 5], 3, Axis::Vertical);
         let cheapest = |path: &&Vec<usize>| picture.cost(path) == 0;
-        assert_eq!(picture.paths().iter().filter(cheapest).count(), 5);
-        assert_eq!(picture.seam(), Some((vec![1, 0], 0)));
+        assert_eq!(picture.paths().iter().filter(cheapest).count(), 12);
+        assert_eq!(picture.seam(), Some((vec![1, 0, 0], 0)));
+    }
+
+    /// The energies of a picture, row by row.
+    fn energies(bytes: &[u8], width: usize) -> Vec<u64> {
+        let picture = grey(bytes, width, Axis::Vertical);
+        let places = 0..bytes.len();
+        places
+            .map(|place| picture.energy(place / width, place % width))
+            .collect()
+    }
+
+    #[test]
+    fn energies_at_the_edges() {
+        let worked = [10, 10, 40, 10, 50, 40];
+        assert_eq!(energies(&worked, 3), [0, 70, 30, 40, 50, 10]);
+        // A row, a column, a single pixel.
+        assert_eq!(energies(&[5, 9, 2], 3), [4, 7, 7]);
+        assert_eq!(energies(&[5, 9, 2], 1), [4, 7, 7]);
+        assert_eq!(energies(&[5], 1), [0]);
+        // Across 3 3 and 7 7, down 8 2 twice.
+        assert_eq!(energies(&[1, 4, 9, 2], 2), [11, 5, 15, 9]);
     }
 
     #[test]
@@ -248,31 +279,37 @@ mod tests {
             size,
             axis: Axis::Horizontal,
         };
-        assert_eq!(picture.seam(), Some((vec![0, 0], 4 + 2 + 6)));
+        // Each of the two is held against the other.
+        assert_eq!(picture.seam(), Some((vec![0, 0], 2 * (4 + 2 + 6))));
     }
 
-    /// The energies are 0 70 0 and 40 10 0.
+    /// The energies are 0 70 30 and 40 50 10.
     #[test]
     fn marks_come_ahead_of_the_cost() {
         let marked = |marks| marked(marks, Axis::Vertical);
-        assert_eq!(marked(&[0; 6]), Some((vec![2, 2], 0)));
+        assert_eq!(marked(&[0; 6]), Some((vec![0, 0], 40)));
         // A protected pixel is not touched.
-        assert_eq!(marked(&[0, 0, 1, 0, 0, 0]), Some((vec![0, 1], 10)));
+        assert_eq!(marked(&[1, 0, 0, 0, 0, 0]), Some((vec![2, 2], 40)));
+        assert_eq!(marked(&[1, 0, 0, 0, 0, 1]), Some((vec![2, 1], 80)));
         assert_eq!(marked(&[0, 0, 0, 1, 1, 1]), None);
-        assert_eq!(marked(&[0, 1, 1, 1, 0, 0]), Some((vec![0, 1], 10)));
+        assert_eq!(marked(&[0, 1, 1, 1, 0, 0]), Some((vec![0, 1], 50)));
         assert_eq!(marked(&[0, 1, 1, 1, 1, 0]), None);
         // The most pixels to be removed, whatever they cost.
         assert_eq!(marked(&[0, 2, 0, 2, 0, 0]), Some((vec![1, 0], 110)));
         // Of as many the least cost, and of equals the first from below.
-        assert_eq!(marked(&[0, 0, 0, 2, 0, 0]), Some((vec![0, 0], 40)));
-        assert_eq!(marked(&[2, 0, 2, 0, 2, 0]), Some((vec![0, 1], 10)));
+        assert_eq!(marked(&[0, 0, 0, 0, 2, 0]), Some((vec![0, 1], 50)));
+        assert_eq!(marked(&[0, 2, 2, 0, 0, 0]), Some((vec![2, 2], 40)));
+        assert_eq!(marked(&[2, 0, 2, 0, 0, 0]), Some((vec![0, 0], 40)));
     }
 
     #[test]
     fn marks_turn_and_are_cut_with_the_picture() {
         let axis = Axis::Horizontal;
         assert_eq!(marked(&[0, 1, 0, 0, 1, 0], axis), None);
-        assert_eq!(marked(&[0, 0, 2, 2, 2, 0], axis), Some((vec![1, 1, 0], 50)));
+        assert_eq!(
+            marked(&[0, 0, 2, 2, 2, 0], axis),
+            Some((vec![1, 1, 0], 120))
+        );
         let picture = Small {
             marks: &[0, 1, 2, 2, 1, 0],
             ..grey(&[10, 10, 40, 10, 50, 40], 3, axis)
@@ -300,7 +337,7 @@ mod tests {
             },
             axis: Axis::Vertical,
         };
-        assert_eq!(picture.seam(), Some((vec![1], 0)));
+        assert_eq!(picture.seam(), Some((vec![1], 4 + 2 + 6)));
         assert_eq!(picture.without(&[1]), [1, 2, 3, 0, 0, 0]);
         assert_eq!(picture.marks_without(&[1]), [0, 0]);
     }

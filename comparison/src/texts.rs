@@ -198,10 +198,10 @@ mod tests {
                 growth: 1,
             },
             samples: vec![10, 10, 40, 10, 50, 40],
-            map: vec![vec![2, 0, 1], vec![0, 2, 1]],
+            map: vec![vec![1, 0, 2], vec![1, 0, 2]],
         };
         let text = "(multi\n(size 3 2 grey)\n(range 2 1)\n\
-            (row 10 10 40)\n(row 10 50 40)\n(map 2 0 1)\n(map 0 2 1)\n)\n";
+            (row 10 10 40)\n(row 10 50 40)\n(map 1 0 2)\n(map 1 0 2)\n)\n";
         assert_eq!(parts.text(), text.as_bytes());
         assert_eq!(map_of(&parts.samples, parts.size, parts.range), parts.map);
     }

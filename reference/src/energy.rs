@@ -4,18 +4,30 @@ use crate::grid::{pixels_of, Grid, Pixel};
 use crate::picture::{judge_picture, Size};
 use crate::refusal::{ensure, Refusal, COUNT, SPACE};
 
-/// |right neighbour − it| + |lower neighbour − it|, the channels added. A
-/// difference that would reach past the edge is 0.
+/// |right neighbour − it| + |lower neighbour − it|, the channels added. At the
+/// last column the difference is taken to the left neighbour, and at the last
+/// row to the upper one; at width 1 or height 1 it is 0.
 pub fn energy(picture: &Grid<Pixel>, row: usize, column: usize) -> u32 {
     let it = picture[row][column];
     let mut sum = 0;
-    if column + 1 < picture[row].len() {
-        sum += difference(picture[row][column + 1], it);
+    if let Some(other) = neighbour(column, picture[row].len()) {
+        sum += difference(picture[row][other], it);
     }
-    if row + 1 < picture.len() {
-        sum += difference(picture[row + 1][column], it);
+    if let Some(other) = neighbour(row, picture.len()) {
+        sum += difference(picture[other][column], it);
     }
     sum
+}
+
+/// The column (or row) that the difference at a place is taken to, of so many:
+/// the next one; at the last place the one before; and none if there is no
+/// other.
+fn neighbour(place: usize, count: usize) -> Option<usize> {
+    if place + 1 < count {
+        Some(place + 1)
+    } else {
+        place.checked_sub(1)
+    }
 }
 
 /// The absolute differences of two pixels' samples, added.

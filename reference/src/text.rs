@@ -133,7 +133,7 @@ fn read_pixel(items: &[&[u8]], kind: Kind) -> Result<Pixel, Refusal> {
     }
 }
 
-/// `(map 2 0 1)`.
+/// `(map 1 0 2)`.
 fn read_map_row(line: &[u8]) -> Result<Vec<u16>, Refusal> {
     let items = items(line, "map")?;
     let mut numbers = Vec::new();

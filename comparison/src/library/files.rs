@@ -246,7 +246,7 @@ mod tests {
         growth: 1,
     };
     const FILE: &[u8] = b"(multi\n(size 3 2 grey)\n(range 2 1)\n\
-        (row 10 10 40)\n(row 10 50 40)\n(map 2 0 1)\n(map 0 2 1)\n)\n";
+        (row 10 10 40)\n(row 10 50 40)\n(map 1 0 2)\n(map 1 0 2)\n)\n";
 
     #[test]
     fn file_of_the_worked_picture() {
@@ -271,7 +271,7 @@ mod tests {
         let answer = read(&mut file, &mut picture, &mut map, &mut work);
         assert_eq!(answer, served);
         assert_eq!(picture, [10, 10, 40, 10, 50, 40, 9]);
-        assert_eq!(map, [2, 0, 1, 0, 2, 1, 9]);
+        assert_eq!(map, [1, 0, 2, 1, 0, 2, 9]);
         let answer = read(&mut file, &mut picture, &mut map[..5], &mut work);
         assert_eq!(answer, FileAnswer::refused(8));
     }
@@ -281,19 +281,19 @@ mod tests {
         let (mut file, mut out, mut work) = (FILE.to_vec(), [9; 9], [9; 200]);
         let answer = show(&mut file, 4, &mut out, &mut work);
         assert_eq!(answer, SizeAnswer::served(NamedSize { width: 4, ..SIZE }));
-        assert_eq!(out, [10, 10, 25, 40, 10, 50, 45, 40, 9]);
+        assert_eq!(out, [10, 10, 10, 40, 10, 30, 50, 40, 9]);
         let answer = show(&mut file, 5, &mut out, &mut work);
         assert_eq!(answer, SizeAnswer::refused(7));
     }
 
     #[test]
     fn worked_row_shown() {
-        let (mut samples, mut numbers, mut out) = ([10, 50, 40], [0, 2, 1], [9; 4]);
+        let (mut samples, mut numbers, mut out) = ([10, 50, 40], [1, 0, 2], [9; 4]);
         let mut call = |kind, wanted| row_at(&mut samples, kind, &mut numbers, wanted, &mut out);
         assert_eq!(call(0, 4), Answer::served(4));
         assert_eq!(call(1, 4), Answer::refused(4));
         assert_eq!(call(2, 4), Answer::refused(1));
         assert_eq!(call(0, 6), Answer::refused(8));
-        assert_eq!(out, [10, 50, 45, 40]);
+        assert_eq!(out, [10, 30, 50, 40]);
     }
 }

@@ -65,7 +65,11 @@ mod tests {
             |rows, columns| retarget(&mut picture, size, rows, columns, &mut out, &mut work);
         assert_eq!(call(Rows(2), Columns(0)), Answer::refused(7));
         assert_eq!(call(Rows(0), Columns(0)), Answer::refused(8));
-        assert_eq!(call(Rows(0), Columns(2)), Answer::served(0));
-        assert_eq!((out, work), ([10, 10, 9, 9, 9], [0; 600]));
+        assert_eq!(call(Rows(0), Columns(2)), Answer::served(40 + 40));
+        assert_eq!((out, work), ([10, 50, 9, 9, 9], [0; 600]));
+        let mut call =
+            |rows, columns| retarget(&mut picture, size, rows, columns, &mut out, &mut work);
+        assert_eq!(call(Rows(1), Columns(1)), Answer::served(60));
+        assert_eq!(out, [10, 40, 9, 9, 9]);
     }
 }

@@ -99,7 +99,7 @@ mod tests {
             kind: Kind::Grey,
         };
         let expected = |wanted| expected(&[10, 10, 40, 10, 50, 40], size, wanted);
-        assert_eq!(expected(2), b"P5\n2 2\n255\n\x0a\x0a\x0a\x32");
+        assert_eq!(expected(2), b"P5\n2 2\n255\n\x0a\x28\x32\x28");
         assert_eq!(expected(0), refusal(7));
         assert_eq!(expected(5), refusal(7));
         let wide = Size {

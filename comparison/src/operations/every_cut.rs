@@ -189,6 +189,8 @@ mod tests {
         assert_eq!(buffers.picture.part(), [10, 40, 10, 50, 0, 0]);
         assert_eq!(buffers.marks.part(), [0, 1, 0, 0, 0, 0]);
         assert_eq!(buffers.work.part(), [0, 0]);
-        assert_eq!(cell(&picture, size, 0, 2), (vec![10, 10], 0));
+        assert_eq!(cell(&picture, size, 0, 2), (vec![10, 50], 40 + 40));
+        // Rows first: rows 0, 1, 1 at 0 + 50 + 10, then column 0 of 10 10 40.
+        assert_eq!(cell(&picture, size, 1, 1), (vec![10, 40], 60));
     }
 }

@@ -112,10 +112,10 @@ mod tests {
             kind: Kind::Grey,
         };
         let picture = [10, 10, 40, 10, 50, 40];
-        assert_eq!(map(&picture, size, 2), [[2, 0, 1], [0, 2, 1]]);
+        assert_eq!(map(&picture, size, 2), [[1, 0, 2], [1, 0, 2]]);
         let left = |count| carved(&picture, size, count, by_paths).0;
-        assert_eq!(left(1), [10, 10, 10, 50]);
-        assert_eq!(left(2), [10, 10]);
+        assert_eq!(left(1), [10, 40, 50, 40]);
+        assert_eq!(left(2), [10, 50]);
         let wide = Size { height: 1, ..size };
         assert_eq!(map(&[9; 3], wide, 2), [[1, 2, 0]]);
     }

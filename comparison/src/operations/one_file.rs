@@ -208,7 +208,7 @@ mod tests {
     #[test]
     fn short_spaces_come_alone_and_with_a_bad_map() {
         let (mut alone, mut with_map) = ([0; 3], 0);
-        for turn in ROUND..9 * ROUND {
+        for turn in ROUND..13 * ROUND {
             let mut random = Random::of_case(1, turn);
             let (size, faults) = pictures::start(&mut random, turn, RARITY);
             let case = Case::from_size(&mut random, size, Gives::PictureAndMap, faults);

@@ -264,9 +264,9 @@ fn operations_on_files() {
         ("(size 3 2 grey)", "(size 3 513 grey)", 3),
         ("(row 10 10 40)", "(row 10 10)", 4),
         ("(range 2 1)", "(range 3 1)", 6),
-        ("(map 2 0 1)", "(map 2 2 1)", 9),
-        ("(map 2 0 1)", "(map 1 0 2)", 10),
-        ("(map 2 0 1)\n(map 0 2 1)", "(map 1 0 2)\n(map 1 2 0)", 11),
+        ("(map 1 0 2)", "(map 2 2 1)", 9),
+        ("(map 1 0 2)", "(map 2 0 1)", 10),
+        ("(map 1 0 2)\n(map 1 0 2)", "(map 1 0 2)\n(map 1 2 0)", 11),
     ] {
         let file = EXAMPLE_FILE.replacen(old, new, 1).into_bytes();
         for work in [192, 193, 900] {

@@ -29,17 +29,28 @@ fn sample(picture: &[u8], size: Size, i: usize, j: usize, c: usize) -> i64 {
     i64::from(picture[(i * size.width + j) * channels(size.kind) + c])
 }
 
-/// |right − it| + |lower − it|, over all channels; past the edge 0.
+/// The absolute differences of two pixels, each given by its row and column,
+/// over all channels.
+fn apart(picture: &[u8], size: Size, one: (usize, usize), other: (usize, usize)) -> i64 {
+    let at = |(i, j), c| sample(picture, size, i, j, c);
+    (0..channels(size.kind))
+        .map(|c| (at(one, c) - at(other, c)).abs())
+        .sum()
+}
+
+/// The differences within two pairs of neighbours, one in the row and one in
+/// the column: of the pairs the one that the pixel begins, and for the last
+/// pixel, which begins none, the one that it ends. A row or a column of one
+/// pixel has no pair.
 pub fn energy(picture: &[u8], size: Size, i: usize, j: usize) -> u64 {
     let mut sum = 0;
-    for c in 0..channels(size.kind) {
-        let it = sample(picture, size, i, j, c);
-        if j < size.width - 1 {
-            sum += (sample(picture, size, i, j + 1, c) - it).abs();
-        }
-        if i < size.height - 1 {
-            sum += (sample(picture, size, i + 1, j, c) - it).abs();
-        }
+    if size.width > 1 {
+        let left = j.min(size.width - 2);
+        sum += apart(picture, size, (i, left), (i, left + 1));
+    }
+    if size.height > 1 {
+        let upper = i.min(size.height - 2);
+        sum += apart(picture, size, (upper, j), (upper + 1, j));
     }
     sum as u64
 }

@@ -195,8 +195,8 @@ fn maps_of_any_numbers() {
 #[test]
 fn ten_beats_eleven_of_an_earlier_seam() {
     // Seam 1 is at columns 0, 0, connected but not the one found, which is
-    // 3, 3 for equal differences 0 in the last column. Seam 2 is broken: in
-    // the picture left its columns are 0 and 2.
+    // 1, 1: the energies of both rows are 50 40 90 90. Seam 2 is broken: in the
+    // picture left its columns are 0 and 2.
     let file = "(multi\n(size 4 2 grey)\n(range 2 0)\n(row 0 50 90 0)\n(row 0 50 90 0)\n\
                 (map 1 2 0 0)\n(map 1 0 0 2)\n)\n";
     assert_eq!(verdict(file.as_bytes()), Err(10));

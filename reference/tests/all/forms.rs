@@ -37,22 +37,22 @@ fn counts_are_four_and_not_one() {
         ("(row 10 10 40)", "(row)"),
         ("(row 10 10 40)", "(row 10 10)"),
         ("(row 10 10 40)", "(row 10 10 40 40)"),
-        ("(map 2 0 1)", "(map)"),
-        ("(map 2 0 1)", "(map 2 0)"),
-        ("(map 2 0 1)", "(map 2 0 1 0)"),
+        ("(map 1 0 2)", "(map)"),
+        ("(map 1 0 2)", "(map 1 0)"),
+        ("(map 1 0 2)", "(map 1 0 2 0)"),
         ("(row 10 10 40)\n", ""),
         ("(row 10 10 40)\n", "(row 10 10 40)\n(row 10 10 40)\n"),
-        ("(map 2 0 1)\n", ""),
-        ("(map 2 0 1)\n", "(map 2 0 1)\n(map 2 0 1)\n"),
+        ("(map 1 0 2)\n", ""),
+        ("(map 1 0 2)\n", "(map 1 0 2)\n(map 1 0 2)\n"),
         ("(row 10 10 40)\n(row 10 50 40)\n", ""),
-        ("(map 2 0 1)\n(map 0 2 1)\n", ""),
+        ("(map 1 0 2)\n(map 1 0 2)\n", ""),
         (
-            "(row 10 10 40)\n(row 10 50 40)\n(map 2 0 1)\n(map 0 2 1)\n",
+            "(row 10 10 40)\n(row 10 50 40)\n(map 1 0 2)\n(map 1 0 2)\n",
             "",
         ),
         (
-            "(row 10 50 40)\n(map 2 0 1)",
-            "(row 10 50 40)\n(map 2 0 1)\n(map 2 0 1)",
+            "(row 10 50 40)\n(map 1 0 2)",
+            "(row 10 50 40)\n(map 1 0 2)\n(map 1 0 2)",
         ),
         ("(size 3 2 grey)", "(size 2 3 grey)"),
         ("(size 3 2 grey)", "(size 4 2 grey)"),
@@ -74,8 +74,8 @@ fn counts_are_four_and_not_one() {
 
 #[test]
 fn broken_forms_are_one() {
-    let hundred_digits = format!("(map 2 {} 1)", "1".repeat(100));
-    let hundred_zeros = format!("(map 2 {} 1)", "0".repeat(100));
+    let hundred_digits = format!("(map 1 {} 2)", "1".repeat(100));
+    let hundred_zeros = format!("(map 1 {} 2)", "0".repeat(100));
     for (old, new) in [
         // The named example, and other numbers.
         ("(size 3 2 grey)", "(size 03 2 grey)"),
@@ -90,11 +90,11 @@ fn broken_forms_are_one() {
         ("(row 10 10 40)", "(row 10 +1 40)"),
         ("(row 10 10 40)", "(row 10 1x 40)"),
         ("(row 10 10 40)", "(row 10 ten 40)"),
-        ("(map 2 0 1)", "(map 2 00 1)"),
-        ("(map 2 0 1)", "(map 2 65536 1)"),
-        ("(map 2 0 1)", "(map 2 99999 1)"),
-        ("(map 2 0 1)", hundred_digits.as_str()),
-        ("(map 2 0 1)", hundred_zeros.as_str()),
+        ("(map 1 0 2)", "(map 1 00 2)"),
+        ("(map 1 0 2)", "(map 1 65536 2)"),
+        ("(map 1 0 2)", "(map 1 99999 2)"),
+        ("(map 1 0 2)", hundred_digits.as_str()),
+        ("(map 1 0 2)", hundred_zeros.as_str()),
         // Blanks and brackets.
         ("(row 10 10 40)", "(row )"),
         ("(row 10 10 40)", "(row  10 10 40)"),
@@ -112,8 +112,8 @@ fn broken_forms_are_one() {
         ("(row 10 10 40)", "(row (10) 10 40)"),
         ("(row 10 10 40)", "(row ((10)) 10 40)"),
         ("(row 10 10 40)", "(row (10 10 40) (1 2 3) (4 5 6))"),
-        ("(map 2 0 1)", "(map )"),
-        ("(map 2 0 1)", "(map 2 (0) 1)"),
+        ("(map 1 0 2)", "(map )"),
+        ("(map 1 0 2)", "(map 1 (0) 2)"),
         ("(multi\n", "(multi \n"),
         ("(multi\n", "( multi\n"),
         ("(multi\n", "(multi "),
@@ -151,8 +151,8 @@ fn broken_forms_are_one() {
         ),
         // Lines.
         (
-            "(row 10 50 40)\n(map 2 0 1)\n",
-            "(map 2 0 1)\n(row 10 50 40)\n",
+            "(row 10 50 40)\n(map 1 0 2)\n",
+            "(map 1 0 2)\n(row 10 50 40)\n",
         ),
         ("\n(row 10 10 40)", "\n\n(row 10 10 40)"),
         ("\n(row 10 10 40)", "\r\n(row 10 10 40)"),
@@ -160,7 +160,7 @@ fn broken_forms_are_one() {
         ("(row 10 10 40)\n", "(row 10 10\n40)\n"),
         ("(row 10 10 40)\n(row", "(row 10 10 40) (row"),
         ("(row 10 10 40)\n(row", "(row 10 10 40)(row"),
-        ("(map 0 2 1)\n)\n", "(map 0 2 1))\n"),
+        ("(map 1 0 2)\n)\n", "(map 1 0 2))\n"),
         ("\n)\n", "\n)"),
         ("\n)\n", "\n"),
         ("\n)\n", "\n))\n"),
@@ -220,7 +220,7 @@ fn long_numbers_are_one() {
                 ("(range 2 1)", format!("(range {number} 1)")),
                 ("(range 2 1)", format!("(range 2 {number})")),
                 ("(row 10 10", format!("(row 10 {number}")),
-                ("(map 2 0", format!("(map 2 {number}")),
+                ("(map 1 0", format!("(map 1 {number}")),
             ] {
                 assert_eq!(refusal(&changed(old, &new)), Some(1));
             }
@@ -245,12 +245,12 @@ fn form_beats_all() {
         ("(range 2 1)", "(range 2 65535)", 6),
         ("(range 2 1)", "(range 2 2)", 6),
         ("(range 2 1)", "(range 0 1)", 6),
-        ("(map 2 0 1)", "(map 2 2 1)", 9),
-        ("(map 2 0 1)", "(map 2 0 0)", 9),
-        ("(map 2 0 1)", "(map 2 3 1)", 9),
-        ("(map 2 0 1)", "(map 2 65535 1)", 9),
-        ("(map 2 0 1)", "(map 1 0 2)", 10),
-        ("(map 2 0 1)\n(map 0 2 1)", "(map 1 0 2)\n(map 1 2 0)", 11),
+        ("(map 1 0 2)", "(map 2 2 1)", 9),
+        ("(map 1 0 2)", "(map 1 0 0)", 9),
+        ("(map 1 0 2)", "(map 1 3 2)", 9),
+        ("(map 1 0 2)", "(map 1 65535 2)", 9),
+        ("(map 1 0 2)", "(map 2 0 1)", 10),
+        ("(map 1 0 2)\n(map 1 0 2)", "(map 1 0 2)\n(map 1 2 0)", 11),
     ] {
         let file = changed(old, new);
         assert_eq!(refusal(&file), Some(number), "{old} to {new}");
@@ -263,7 +263,7 @@ fn form_beats_all() {
     // Counts before the range, the range before the map.
     let file = changed("(range 2 1)", "(range 3 1)").replace("(row 10 10 40)", "(row 10 10)");
     assert_eq!(refusal(&file), Some(4));
-    let file = changed("(range 2 1)", "(range 3 1)").replace("(map 2 0 1)", "(map 2 2 1)");
+    let file = changed("(range 2 1)", "(range 3 1)").replace("(map 1 0 2)", "(map 2 2 1)");
     assert_eq!(refusal(&file), Some(6));
 }
 

@@ -22,8 +22,8 @@ pub const EXAMPLE_FILE: &str = "(multi
 (range 2 1)
 (row 10 10 40)
 (row 10 50 40)
-(map 2 0 1)
-(map 0 2 1)
+(map 1 0 2)
+(map 1 0 2)
 )
 ";
 

@@ -59,7 +59,8 @@ fn one_seam_of_the_largest_picture() {
     }
 }
 
-/// The dearest seam: differences of 255 in three channels both ways.
+/// The dearest seam: differences of 255 in three channels both ways, at the
+/// edges too.
 #[test]
 fn dearest_seam_of_the_largest_picture() {
     let size = size(512, 512, Kind::Rgb);
@@ -69,10 +70,11 @@ fn dearest_seam_of_the_largest_picture() {
             picture.extend_from_slice(&[if (i + j) % 2 == 0 { 0 } else { 255 }; 3]);
         }
     }
-    // The last column costs 765 a row but in the last row, where it costs 0.
+    // Every pixel costs 765 + 765, so all paths cost the same and column 0 is the
+    // first of them.
     let (columns, cost) = found(&picture, size, Axis::Vertical);
-    assert_eq!(columns, vec![511; 512]);
-    assert_eq!(cost, 511 * 765);
+    assert_eq!(columns, vec![0; 512]);
+    assert_eq!(cost, 512 * 1_530);
 }
 
 /// The map that stands in a file.

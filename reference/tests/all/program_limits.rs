@@ -94,11 +94,13 @@ fn pixels_that_fit_reads() {
 /// Pixels written over the limit: 7 ahead of 8, and 8 ahead of 9, 10 and 11.
 #[test]
 fn pixels_written_with_a_bad_map() {
+    // All energies are 7, so the seams are columns 0 and 1.
     let samples: Vec<u8> = (0..1_024).map(|place| (place % 32 * 7) as u8).collect();
     let file = built(&samples, grey(32, 32), 2, 2).unwrap();
     let file = String::from_utf8(file).unwrap();
     let row = file.lines().find(|line| line.starts_with("(map")).unwrap();
     let zeros = " 0".repeat(30);
+    assert_eq!(row, format!("(map 1 2{zeros})"));
     for (number, map) in [
         (9, format!("(map 1 1{zeros})")),
         (10, format!("(map 2{zeros} 1)")),
@@ -108,7 +110,7 @@ fn pixels_written_with_a_bad_map() {
         assert_eq!(fit(33, bad.as_bytes()), refused(8));
         assert_eq!(fit(35, bad.as_bytes()), refused(7));
     }
-    let bad = file.replace(row, &format!("(map 1 2{zeros})"));
+    let bad = file.replace(row, &format!("(map 2 1{zeros})"));
     assert_eq!(fit(32, bad.as_bytes()), refused(11));
     assert_eq!(fit(33, bad.as_bytes()), refused(8));
     assert_eq!(fit(29, bad.as_bytes()), refused(7));

@@ -65,10 +65,10 @@ fn fit_on_the_example() {
     let file = EXAMPLE_FILE.as_bytes();
     assert_eq!(
         fit(4, file),
-        b"P5\n4 2\n255\n\x0a\x0a\x19\x28\x0a\x32\x2d\x28"
+        b"P5\n4 2\n255\n\x0a\x0a\x0a\x28\x0a\x1e\x32\x28"
     );
-    assert_eq!(fit(2, file), b"P5\n2 2\n255\n\x0a\x0a\x0a\x32");
-    assert_eq!(fit(1, file), b"P5\n1 2\n255\n\x0a\x0a");
+    assert_eq!(fit(2, file), b"P5\n2 2\n255\n\x0a\x28\x32\x28");
+    assert_eq!(fit(1, file), b"P5\n1 2\n255\n\x0a\x32");
     assert_eq!(fit(0, file), refused(7));
     assert_eq!(fit(5, file), refused(7));
     assert_eq!(fit(65_535, file), refused(7));

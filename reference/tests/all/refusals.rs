@@ -17,10 +17,10 @@ fn examples_of_the_table_in_files() {
         ("(size 3 2 grey)", "(size 513 1 grey)", 3),
         ("(row 10 10 40)", "(row 10 10)", 4),
         ("(range 2 1)", "(range 3 1)", 6),
-        ("(map 2 0 1)", "(map 2 2 1)", 9),
+        ("(map 1 0 2)", "(map 2 2 1)", 9),
         // Seam 1 at columns 0 and 2.
-        ("(map 2 0 1)", "(map 1 0 2)", 10),
-        ("(map 2 0 1)\n(map 0 2 1)", "(map 1 0 2)\n(map 1 2 0)", 11),
+        ("(map 1 0 2)\n(map 1 0 2)", "(map 1 0 2)\n(map 2 0 1)", 10),
+        ("(map 1 0 2)\n(map 1 0 2)", "(map 1 0 2)\n(map 1 2 0)", 11),
     ] {
         let file = example_with(old, new);
         assert_eq!(checked(&file).err(), Some(number));
@@ -67,8 +67,8 @@ fn examples_of_the_table_on_pictures() {
     assert_eq!(cut_once(&[1, 2], grey(1, 2), Axis::Vertical), Err(13));
     assert!(cut_once(&[1, 2], grey(1, 2), Axis::Horizontal).is_ok());
     assert_eq!(cut_once(&[1, 2], grey(2, 1), Axis::Horizontal), Err(13));
-    // Finding at width 1 is served.
-    assert_eq!(found(&[1, 2], grey(1, 2), Axis::Vertical), (vec![0, 0], 1));
+    // Finding at width 1 is served. Each pixel differs from the other by 1.
+    assert_eq!(found(&[1, 2], grey(1, 2), Axis::Vertical), (vec![0, 0], 2));
     // 12 before 13.
     let answer = cut_marked_once(&[1, 2], &[0, 1], grey(1, 2), Axis::Vertical);
     assert_eq!(answer, Err(12));
@@ -136,9 +136,9 @@ fn the_smallest_number_of_several() {
 #[test]
 fn eight_between_seven_and_nine() {
     for (old, new, number) in [
-        ("(map 2 0 1)", "(map 2 2 1)", 9),
-        ("(map 2 0 1)", "(map 1 0 2)", 10),
-        ("(map 2 0 1)\n(map 0 2 1)", "(map 1 0 2)\n(map 1 2 0)", 11),
+        ("(map 1 0 2)", "(map 2 2 1)", 9),
+        ("(map 1 0 2)", "(map 2 0 1)", 10),
+        ("(map 1 0 2)\n(map 1 0 2)", "(map 1 0 2)\n(map 1 2 0)", 11),
     ] {
         let file = example_with(old, new);
         let show = |width, out: usize, work: usize| {
@@ -200,7 +200,8 @@ fn exact_spaces_serve() {
         reference::find(&EXAMPLE, grey(3, 2), Axis::Horizontal, &mut seam, &mut work)
     };
     assert_eq!(horizontal(2), Err(8));
-    assert_eq!(horizontal(3), Ok(10));
+    // Rows 0, 1, 1: 0 + 50 + 10.
+    assert_eq!(horizontal(3), Ok(60));
 }
 
 /// Sizes and numbers up to the largest: no overflow on the way to a refusal.

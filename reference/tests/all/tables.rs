@@ -143,10 +143,10 @@ fn every_row_and_map_line_of_a_file() {
 fn lines_of_the_other_sort() {
     let [grey, rgb] = files();
     for (file, row) in [(&grey, "(row 1 2 3)\n"), (&rgb, "(row (1 2 3) (1 2 3))\n")] {
-        assert_eq!(refusal(&with_line(file, 4, "(map 2 0 1)\n")), Some(4));
+        assert_eq!(refusal(&with_line(file, 4, "(map 1 0 2)\n")), Some(4));
         assert_eq!(refusal(&with_line(file, 5, row)), Some(4));
         // Then map lines stand ahead of a row line.
-        assert_eq!(refusal(&with_line(file, 3, "(map 2 0 1)\n")), Some(1));
+        assert_eq!(refusal(&with_line(file, 3, "(map 1 0 2)\n")), Some(1));
         assert_eq!(refusal(&with_line(file, 6, row)), Some(1));
     }
     // A row of the other kind.
@@ -193,10 +193,10 @@ fn with_faults(numbers: &[Refusal]) -> String {
         "(row 10 10 40)"
     };
     let map = match numbers.last() {
-        Some(9) => "(map 2 2 1)\n(map 0 2 1)",
-        Some(10) => "(map 1 0 2)\n(map 0 2 1)",
+        Some(9) => "(map 2 2 1)\n(map 1 0 2)",
+        Some(10) => "(map 1 0 2)\n(map 2 0 1)",
         Some(11) => "(map 1 0 2)\n(map 1 2 0)",
-        _ => "(map 2 0 1)\n(map 0 2 1)",
+        _ => "(map 1 0 2)\n(map 1 0 2)",
     };
     let end = if has(1) { ")" } else { ")\n" };
     format!(
