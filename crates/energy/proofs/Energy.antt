@@ -1,7 +1,7 @@
 -- Laws of energies: from the bytes of two rows, and with rows and columns exchanged.
 use mathlib.Core.Path.{_≡_, refl, sym, ap, ap₂, _∙_}
 use mathlib.Core.Logic.{⊎-elim}
-use mathlib.Core.Option.{Option·map, orElse}
+use mathlib.Core.Option.{Option, none, some, Option·map, orElse}
 use mathlib.Core.List.{List, [], _∷_}
 use Prim.Native.Nat.{ℕ, _+_, _-_, _*_, _≤_, _<_}
 use native.Mathlib.Nat.{add-comm}
@@ -28,6 +28,14 @@ unfolding difference
 difference-self [] = refl
 difference-self (a ∷ p) = omega (arith, difference-self p)
 
+-- What holds of 0, and of the difference to each pixel of a line, holds of the one to a neighbour on it, or else to another.
+pub away-holds : (P : ℕ → Type 0) (it : List ℕ) (q : ℕ → List ℕ) → P 0 → ((a : ℕ) → P (difference (q a) it))
+    → (o else : Option ℕ) → P (away it (orElse (Option·map q o) (Option·map q else)))
+unfolding orElse
+away-holds P it q none-there each none none = none-there
+away-holds P it q none-there each none (some a) = each a
+away-holds P it q none-there each (some a) else = each a
+
 -- The line that stands for the one after line i is one of the n.
 pub neighbour-inside : (n i : ℕ) → i < n → neighbourOf n i < n
 neighbour-inside n i h =
@@ -36,7 +44,7 @@ neighbour-inside n i h =
     (λ (l : i + 1 < n). rw (lt-ltb (i + 1) n l) l)
     (le-or-lt n (i + 1))
 
--- Along a row or a column: the difference to the neighbour after, or else to the one before, is the difference to that line.
+-- Along a row or a column the difference to the neighbour after line i, or else to the one before, is the one to that line.
 along : (q : ℕ → List ℕ) (n i : ℕ) → i < n
     → away (q i) (orElse (Option·map q (belowOf n i)) (Option·map q (aboveOf i))) ≡ difference (q (neighbourOf n i)) (q i)
 unfolding belowOf aboveOf orElse
@@ -52,7 +60,7 @@ along q n i h =
     (λ (l : i + 1 < n). rw (lt-ltb (i + 1) n l))
     (le-or-lt n (i + 1))
 
--- Of a row's columns, whose last has `beside` after it.
+-- The column to which the loop over a row takes the difference of column c is that line.
 right-column : (w c : ℕ) → c < w → rightColumn w (neighbourOf w (w - 1)) c ≡ neighbourOf w c
 right-column w c h =
     ⊎-elim

@@ -2,7 +2,7 @@
 use mathlib.Core.Path.{_≡_}
 use mathlib.Core.Logic.{⊎-elim}
 use mathlib.Core.Bool.{Bool, true, false, cond}
-use mathlib.Core.Option.{Option, none, some, Option·map, orElse}
+use mathlib.Core.Option.{Option, Option·map, orElse}
 use mathlib.Core.List.{List, [], _∷_}
 use Prim.Native.Nat.{ℕ, suc, _-_, _*_, _≤_, _<_}
 use native.Mathlib.Nat.{suc-mul, mul-le-mul-right}
@@ -17,6 +17,7 @@ use Rattle.pictures.specs.Pictures.{Picture, channelsOf, rowBytes, pictureBytes
 use Rattle.energy.specs.Around.{leftOf, rightOf, aboveOf, belowOf, around}
 use Rattle.energy.specs.Energy.{difference, away, edge, StepCosts, costsAt, isThe, toward}
 use Rattle.pictures.proofs.Buffers.{pixel-at, pixel-past}
+use Rattle.energy.proofs.Energy.{away-holds}
 
 -- The bound of an energy, over the largest sample m.
 difference-most : (m : ℕ) (p q : List ℕ) → ((i : ℕ) → getD p i 0 ≤ m) → ((i : ℕ) → getD q i 0 ≤ m) → difference p q ≤ length p * m
@@ -48,17 +49,14 @@ toward-most most wrap w a c k h = go (eqb a c) (isThe (leftOf wrap w c) a)
 
 -- In a picture whose pixels have at most `channels` samples, none above m.
 module _ (channels m : ℕ) (p : Picture) (short : (r c : ℕ) → length (pixel p r c) ≤ channels) (low : (r c k : ℕ) → getD (pixel p r c) k 0 ≤ m) where
-  -- A neighbour is at most the largest sample away in each channel,
+  -- A pixel is at most the largest sample away from another in each channel,
   pixel-most : (r c i j : ℕ) → difference (pixel p i j) (pixel p r c) ≤ channels * m
   pixel-most r c i j = omega (arith, difference-most m (pixel p i j) (pixel p r c) (low i j) (low r c), mul-le-mul-right m (short i j))
 
-  -- also one that stands in for another.
+  -- so a neighbour is, or else the one on the other side.
   away-most : (r c : ℕ) (at : ℕ → ℕ × ℕ) (o else : Option ℕ)
       → away (pixel p r c) (orElse (Option·map (λ a. pixel p (at a .0) (at a .1)) o) (Option·map (λ a. pixel p (at a .0) (at a .1)) else)) ≤ channels * m
-  unfolding orElse
-  away-most r c at none none = omega arith
-  away-most r c at none (some a) = pixel-most r c (at a .0) (at a .1)
-  away-most r c at (some a) else = pixel-most r c (at a .0) (at a .1)
+  away-most r c at = away-holds (λ n. n ≤ channels * m) (pixel p r c) (λ a. pixel p (at a .0) (at a .1)) (omega arith) (λ a. pixel-most r c (at a .0) (at a .1))
 
   -- A pixel costs at most two such differences, wherever a path comes from.
   pub costs-most : (w h r c : ℕ) → CostsMost (2 * (channels * m)) (costsAt w h p r c)

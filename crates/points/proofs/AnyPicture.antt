@@ -2,7 +2,7 @@
 use mathlib.Core.Path.{_≡_, refl, ap₂, _∙_}
 use mathlib.Core.Logic.{_⊎_, inl, inr}
 use mathlib.Core.Bool.{true, false}
-use mathlib.Core.Option.{Option, none, some, Option·map, Option·getD, orElse}
+use mathlib.Core.Option.{Option, Option·map, Option·getD, orElse}
 use mathlib.Core.List.{List, [], _∷_, zipWith, flatMap, reverse}
 use Prim.Native.Nat.{ℕ, zero, suc, _<_}
 use native.Mathlib.Omega.{arith}
@@ -15,7 +15,7 @@ use Rattle.pictures.specs.Refusals.{refusal}
 use Rattle.pictures.specs.Pictures.{Picture, channelsOf, sizeRules, picture, pixel}
 use Rattle.energy.specs.Around.{leftOf, rightOf, aboveOf, belowOf}
 use Rattle.energy.specs.Energy.{difference, away, costsAt, energy, stepOf, energies}
-use Rattle.energy.proofs.Energy.{difference-self}
+use Rattle.energy.proofs.Energy.{difference-self, away-holds}
 use Rattle.energy.proofs.Steps.{step-energy}
 use Rattle.seam_theory.specs.Best.{better, firstBest}
 use Rattle.seam_theory.specs.Paths.{run, select, pathsUp, paths, cost, beside, nearby}
@@ -77,10 +77,7 @@ module _ (px : List ℕ) (p : Picture) (only : Only px p) where
 
   -- No neighbour is any difference away.
   away-none : (r c : ℕ) (q : ℕ → List ℕ) → ((a : ℕ) → (q a ≡ px) ⊎ (q a ≡ [])) → (o else : Option ℕ) → away (pixel p r c) (orElse (Option·map q o) (Option·map q else)) ≡ 0
-  unfolding orElse
-  away-none r c q s none none = refl
-  away-none r c q s none (some a) = difference-none (q a) (pixel p r c) (s a) (only r c)
-  away-none r c q s (some a) else = difference-none (q a) (pixel p r c) (s a) (only r c)
+  away-none r c q s = away-holds (λ n. n ≡ 0) (pixel p r c) q refl (λ a. difference-none (q a) (pixel p r c) (s a) (only r c))
 
   -- Its energy is 0 everywhere, and so is the cost of a step.
   energy-none : (w h r c : ℕ) → energy w h p r c ≡ 0
