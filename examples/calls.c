@@ -90,6 +90,7 @@ static void files(void) {
 }
 
 static void row_at_widths(void) {
+    // Not the example's numbers: the last column is doubled, to its left.
     static const uint16_t numbers[WIDTH] = {0, 2, 1};
     multisize_answer a = multisize_row_at(brought + WIDTH, WIDTH, MULTISIZE_GREY, numbers, WIDTH, 4, out, 4);
     NEED(a.number == 0 && a.value == 4 && bytes_are(out, 10, 50, 45, 40));

@@ -47,8 +47,8 @@ typedef struct multisize_size_answer {
 } multisize_size_answer;
 
 // Works out the energies of a row: |right neighbour - it| + |lower neighbour - it|, the channels added. In the last column
-// the left neighbour is taken, in the last row the upper one; at width 1 or height 1 that difference is 0. Writes one for
-// each column to the front of out and returns the number.
+// the left neighbour is taken, in the last row the upper one; at width 1 the first is 0, at height 1 the second. Writes one
+// for each column to the front of out and returns the number.
 // Refused by 1, 2, 3, 4 (also a row not below the height), 8 (out shorter than the width).
 uint64_t multisize_energies(const uint8_t *picture, size_t picture_length, size_t width, size_t height, uint8_t kind,
                             size_t row, uint32_t *out, size_t out_length);

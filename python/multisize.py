@@ -145,7 +145,7 @@ class Contents(NamedTuple):
 
 def energies(picture: Picture, row: int) -> tuple:
     """The energies of a row: |right neighbour - it| + |lower neighbour - it|, the channels added. In the last column the left
-    neighbour is taken, in the last row the upper one; at width 1 or height 1 that difference is 0.
+    neighbour is taken, in the last row the upper one; at width 1 the first is 0, at height 1 the second.
 
     Refused by 1 to 4, by 4 also where there is no such row.
     """

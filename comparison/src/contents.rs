@@ -267,7 +267,7 @@ mod tests {
     /// The pixels, by row and column, that a pixel is held against.
     type Neighbours = fn(Size, usize, usize) -> Vec<(usize, usize)>;
 
-    /// As it is right.
+    /// The neighbours of the right rule.
     fn right(size: Size, row: usize, column: usize) -> Vec<(usize, usize)> {
         let other = |place: usize, count: usize| match count - place {
             1 => place.checked_sub(1),
@@ -278,7 +278,7 @@ mod tests {
         beside.into_iter().chain(below).collect()
     }
 
-    /// As it is right, without those whose row and column are dropped.
+    /// The same, without those that `drop` names.
     fn without(
         size: Size,
         row: usize,
@@ -294,7 +294,7 @@ mod tests {
         (row + 1, column + 1) == (size.height, size.width)
     }
 
-    /// Wrong at the edges.
+    /// Neighbours of wrong rules.
     const WRONG: [(&str, Neighbours); 6] = [
         ("flat edges", |size, row, column| {
             without(size, row, column, |r, c| r < row || c < column)
@@ -350,7 +350,7 @@ mod tests {
         small.paths().into_iter().min_by_key(order).unwrap()
     }
 
-    /// In how many of so many small pictures a rule gives another seam than the
+    /// In how many of `count` small pictures a rule gives another seam than the
     /// right one.
     fn told(neighbours: Neighbours, axis: Axis, count: usize) -> usize {
         let mut random = Random::new(7);
@@ -370,7 +370,7 @@ mod tests {
     }
 
     #[test]
-    fn wrong_edges_are_told_by_the_seams() {
+    fn wrong_neighbours_are_told_by_the_seams() {
         for axis in [Axis::Vertical, Axis::Horizontal] {
             assert_eq!(told(right, axis, 300), 0);
             for (name, neighbours) in WRONG {

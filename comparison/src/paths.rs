@@ -137,7 +137,7 @@ fn pixel(buffer: &[u8], place: usize, channels: usize) -> &[u8] {
     &buffer[place * channels..(place + 1) * channels]
 }
 
-/// The column (or row), of so many, whose pixel the one at a place is held
+/// The column (or row), of `count`, whose pixel the one at a place is held
 /// against: the next; for the last one the one before it; and where there is no
 /// other its own, from which it doesn't differ.
 fn held_against(place: usize, count: usize) -> usize {
@@ -300,6 +300,7 @@ mod tests {
         assert_eq!(marked(&[0, 0, 0, 0, 2, 0]), Some((vec![0, 1], 50)));
         assert_eq!(marked(&[0, 2, 2, 0, 0, 0]), Some((vec![2, 2], 40)));
         assert_eq!(marked(&[2, 0, 2, 0, 0, 0]), Some((vec![0, 0], 40)));
+        assert_eq!(marked(&[2, 0, 2, 0, 2, 0]), Some((vec![0, 1], 50)));
     }
 
     #[test]

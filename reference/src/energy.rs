@@ -19,7 +19,7 @@ pub fn energy(picture: &Grid<Pixel>, row: usize, column: usize) -> u32 {
     sum
 }
 
-/// The column (or row) that the difference at a place is taken to, of so many:
+/// The column (or row), of `count`, that the difference at a place is taken to:
 /// the next one; at the last place the one before; and none if there is no
 /// other.
 fn neighbour(place: usize, count: usize) -> Option<usize> {

@@ -208,7 +208,7 @@ mod tests {
     #[test]
     fn short_spaces_come_alone_and_with_a_bad_map() {
         let (mut alone, mut with_map) = ([0; 3], 0);
-        for turn in ROUND..13 * ROUND {
+        for turn in ROUND..17 * ROUND {
             let mut random = Random::of_case(1, turn);
             let (size, faults) = pictures::start(&mut random, turn, RARITY);
             let case = Case::from_size(&mut random, size, Gives::PictureAndMap, faults);
@@ -233,8 +233,8 @@ mod tests {
                 alone[place] += usize::from(number == 0 && short[place] && others == 1);
             }
         }
-        assert!(with_map > 20, "{with_map}");
-        assert!(alone.iter().all(|count| *count > 20), "{alone:?}");
+        assert!(with_map > 40, "{with_map}");
+        assert!(alone.iter().all(|count| *count > 40), "{alone:?}");
     }
 
     #[test]

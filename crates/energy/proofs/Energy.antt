@@ -28,7 +28,7 @@ unfolding difference
 difference-self [] = refl
 difference-self (a ∷ p) = omega (arith, difference-self p)
 
--- What holds of 0, and of the difference to each pixel of a line, holds of the one to a neighbour on it, or else to another.
+-- What holds of 0 and of the difference to each pixel of a line holds of the difference to a neighbour on it, or else to another.
 pub away-holds : (P : ℕ → Type 0) (it : List ℕ) (q : ℕ → List ℕ) → P 0 → ((a : ℕ) → P (difference (q a) it))
     → (o else : Option ℕ) → P (away it (orElse (Option·map q o) (Option·map q else)))
 unfolding orElse
@@ -37,18 +37,21 @@ away-holds P it q none-there each none (some a) = each a
 away-holds P it q none-there each (some a) else = each a
 
 -- The line that stands for the one after line i is one of the n.
-pub neighbour-inside : (n i : ℕ) → i < n → neighbourOf n i < n
-neighbour-inside n i h =
+pub neighbour-inside : (i n : ℕ) → i < n → neighbourOf i n < n
+neighbour-inside i n h =
     ⊎-elim
     (λ (l : n ≤ i + 1). rw (le-ltb (i + 1) n l) (omega arith))
     (λ (l : i + 1 < n). rw (lt-ltb (i + 1) n l) l)
     (le-or-lt n (i + 1))
 
--- Along a row or a column the difference to the neighbour after line i, or else to the one before, is the one to that line.
-along : (q : ℕ → List ℕ) (n i : ℕ) → i < n
-    → away (q i) (orElse (Option·map q (belowOf n i)) (Option·map q (aboveOf i))) ≡ difference (q (neighbourOf n i)) (q i)
+-- The difference of pixel i of n that stand in a row or a column: to the one after it, or else to the one before.
+abbrev differenceAt : (ℕ → List ℕ) → ℕ → ℕ → ℕ
+differenceAt q i n = away (q i) (orElse (Option·map q (belowOf n i)) (Option·map q (aboveOf i)))
+
+-- It is the difference to the line that stands for the one after.
+neighbour-difference : (q : ℕ → List ℕ) (i n : ℕ) → i < n → differenceAt q i n ≡ difference (q (neighbourOf i n)) (q i)
 unfolding belowOf aboveOf orElse
-along q n i h =
+neighbour-difference q i n h =
     ⊎-elim
     (λ (l : n ≤ i + 1).
     ⊎-elim
@@ -60,8 +63,8 @@ along q n i h =
     (λ (l : i + 1 < n). rw (lt-ltb (i + 1) n l))
     (le-or-lt n (i + 1))
 
--- The column to which the loop over a row takes the difference of column c is that line.
-right-column : (w c : ℕ) → c < w → rightColumn w (neighbourOf w (w - 1)) c ≡ neighbourOf w c
+-- The loop over a row takes the difference of each column to that line.
+right-column : (w c : ℕ) → c < w → rightColumn w (neighbourOf (w - 1) w) c ≡ neighbourOf c w
 right-column w c h =
     ⊎-elim
     (λ (l : w ≤ c + 1).
@@ -73,9 +76,10 @@ right-column w c h =
 -- The energy of a pixel, from the bytes of its row and of the row that stands for the one below it.
 pub energy-between : (z : Size) (b : List ℕ) → length b ≡ pictureBytes z → (r c : ℕ) → r < z .height → c < z .width
     → energy (z .width) (z .height) (picture z b) r c
-    ≡ between (channelsOf (z .kind)) (take (rowBytes z) (drop (r * rowBytes z) b)) (take (rowBytes z) (drop (neighbourOf (z .height) r * rowBytes z) b)) (z .width) (neighbourOf (z .width) (z .width - 1)) c
+    ≡ between (channelsOf (z .kind)) (take (rowBytes z) (drop (r * rowBytes z) b)) (take (rowBytes z) (drop (neighbourOf r (z .height) * rowBytes z) b)) (z .width) (neighbourOf (z .width - 1) (z .width)) c
 unfolding costsAt between leftOf rightOf aboveOf belowOf
-energy-between z b e r c h l = ap₂ _+_ (along (pixel p r) w c l ∙ right) (along (λ a. pixel p a c) (z .height) r h ∙ below)
+energy-between z b e r c h l =
+    ap₂ _+_ (neighbour-difference (pixel p r) c w l ∙ right) (neighbour-difference (λ a. pixel p a c) r (z .height) h ∙ below)
   where
     p : Picture
     p = picture z b
@@ -84,30 +88,26 @@ energy-between z b e r c h l = ap₂ _+_ (along (pixel p r) w c l ∙ right) (al
     w = z .width
 
     n : ℕ
-    n = neighbourOf (z .height) r
+    n = neighbourOf r (z .height)
 
     -- The pixel in column a of row i of the buffer.
     at : ℕ → ℕ → List ℕ
     at i a = rowAt (channelsOf (z .kind)) a (rowAt (rowBytes z) i b)
 
-    right : difference (pixel p r (neighbourOf w c)) (pixel p r c) ≡ difference (at r (rightColumn w (neighbourOf w (w - 1)) c)) (at r c)
-    right = rw (right-column w c l, pixel-at z b e r c h, pixel-at z b e r (neighbourOf w c) h)
+    right : difference (pixel p r (neighbourOf c w)) (pixel p r c) ≡ difference (at r (rightColumn w (neighbourOf (w - 1) w) c)) (at r c)
+    right = rw (right-column w c l, pixel-at z b e r c h, pixel-at z b e r (neighbourOf c w) h)
 
     below : difference (pixel p n c) (pixel p r c) ≡ difference (at n c) (at r c)
-    below = ap₂ difference (pixel-at z b e n c (neighbour-inside (z .height) r h)) (pixel-at z b e r c h)
+    below = ap₂ difference (pixel-at z b e n c (neighbour-inside r (z .height) h)) (pixel-at z b e r c h)
 
 -- "A horizontal seam is the vertical seam of the picture with rows and columns exchanged": the energies are exchanged too.
 pub energy-exchange : {w n : ℕ} {p : Picture} → Grid w n p → (r c : ℕ) → energy n w (exchange w p) c r ≡ energy w n p r c
 unfolding costsAt leftOf rightOf aboveOf belowOf
 energy-exchange {w} {n} {p} g r c = ap by pixels-same ∙ add-comm _ _
   where
-    -- What the difference to the line after or before comes to, of a pixel q i in line i of m.
-    one : (ℕ → List ℕ) → ℕ → ℕ → ℕ
-    one q m i = away (q i) (orElse (Option·map q (belowOf m i)) (Option·map q (aboveOf i)))
-
     -- The energy of the pixel in row r and column c, from its column and its row.
     by : (ℕ → ℕ → List ℕ) → ℕ
-    by q = one (λ a. q a c) n r + one (q r) w c
+    by q = differenceAt (λ a. q a c) r n + differenceAt (q r) c w
 
     pixels-same : _≡_ {A = ℕ → ℕ → List ℕ} (λ r c. pixel (exchange w p) c r) (pixel p)
     pixels-same = λ i r c. exchange-at g r c [] i

@@ -62,7 +62,7 @@ module _ (ch : ℕ) (it lower space out : List ℕ) (width beside c i : ℕ) (at
       ∙ ap (λ n. table (between ch it lower width beside) n ++ drop n space) w
 
 -- The two parts of the buffer that are lent to the loop, in its terms: s bytes at r * s, and s bytes at n * s.
-module _ (z : Size) (b : List ℕ) (r s n : ℕ) (sure : Sized z (length b)) (inside : r < z .height) (is : s ≡ rowBytes z) (below : n ≡ neighbourOf (z .height) r) where
+module _ (z : Size) (b : List ℕ) (r s n : ℕ) (sure : Sized z (length b)) (inside : r < z .height) (is : s ≡ rowBytes z) (below : n ≡ neighbourOf r (z .height)) where
   pub record Ends : Type 0 where
     pub short : length b ≤ mostPicture
     pub it : r * s + s ≤ length b
@@ -71,7 +71,7 @@ module _ (z : Size) (b : List ℕ) (r s n : ℕ) (sure : Sized z (length b)) (in
   pub ends : Ends
   ends =
       let long : length b ≡ z .height * s = sure .length-is ∙ ap (z .height *_) (sym is) in
-      let inside-too : n < z .height = rw below (neighbour-inside (z .height) r inside) in
+      let inside-too : n < z .height = rw below (neighbour-inside r (z .height) inside) in
       record {
         short = omega (arith, sure .length-is, sure .picture-most);
         it = omega (arith, part-end r (z .height) s inside);
@@ -81,11 +81,11 @@ module _ (z : Size) (b : List ℕ) (r s n : ℕ) (sure : Sized z (length b)) (in
   part-length : (at : ℕ) → at + s ≤ length b → length (take (at + s - at) (drop at b)) ≡ z .width * channelsOf (z .kind)
   part-length at h = rw (add-sub-cancel-left at s) (length-take-le s (drop at b) (omega (arith, length-drop at b)) ∙ is)
 
-  pub lines-needed : (beside : ℕ) (out : List ℕ) → beside ≡ neighbourOf (z .width) (z .width - 1) → z .width ≤ length out
+  pub lines-needed : (beside : ℕ) (out : List ℕ) → beside ≡ neighbourOf (z .width - 1) (z .width) → z .width ≤ length out
       → LinesNeeded (channelsOf (z .kind)) (take (r * s + s - r * s) (drop (r * s) b)) (take (n * s + s - n * s) (drop (n * s) b)) (z .width) beside out
   lines-needed beside out is-beside room = record {
     some = sure .width-some;
-    inside = rw is-beside (neighbour-inside (z .width) (z .width - 1) (omega (arith, sure .width-some)));
+    inside = rw is-beside (neighbour-inside (z .width - 1) (z .width) (omega (arith, sure .width-some)));
     narrow = sure .width-small;
     it-is = part-length (r * s) (ends .it);
     lower-is = part-length (n * s) (ends .lower);
@@ -93,7 +93,7 @@ module _ (z : Size) (b : List ℕ) (r s n : ℕ) (sure : Sized z (length b)) (in
   }
 
   -- What the loop leaves is the row's energies.
-  pub lines-are : (beside : ℕ) → beside ≡ neighbourOf (z .width) (z .width - 1)
+  pub lines-are : (beside : ℕ) → beside ≡ neighbourOf (z .width - 1) (z .width)
       → table (between (channelsOf (z .kind)) (take (r * s + s - r * s) (drop (r * s) b)) (take (n * s + s - n * s) (drop (n * s) b)) (z .width) beside) (z .width) ≡ energies (z .width) (z .height) (picture z b) r
   lines-are beside is-beside =
       table-same _ (energy (z .width) (z .height) (picture z b) r) (z .width)

@@ -28,8 +28,8 @@ abbrev pub away : List ℕ → Option (List ℕ) → ℕ
 away it none = 0
 away it (some q) = difference q it
 
--- "|right neighbour − it| + |lower neighbour − it|. [..] The channels are added." "At the last column the difference is now
--- taken to the left neighbour, and at the last row to the upper one; at width 1 or height 1 it stays 0."
+-- "|right neighbour − it| + |lower neighbour − it|. [..] The channels are added." Change 101: "At the last column the difference
+-- is now taken to the left neighbour, and at the last row to the upper one; at width 1 or height 1 it stays 0."
 abbrev pub edge : Around → ℕ
 edge a = away (a .it) (orElse (a .right) (a .left)) + away (a .it) (orElse (a .down) (a .up))
 

@@ -18,8 +18,8 @@ pub record RowNeeded (b : List ℕ) (z : Size) (r : ℕ) (out : List ℕ) : Type
   pub inside : r < z .height
   pub room : z .width ≤ length out
 
--- The bytes of a row and of the row below it, of `width` pixels of `channels` samples, and the column that stands for the one
--- to the right of the last.
+-- The bytes of a row and of the row that stands for the one below it, of `width` pixels of `channels` samples, and the column
+-- that stands for the one to the right of the last.
 pub record LinesNeeded (channels : ℕ) (it lower : List ℕ) (width beside : ℕ) (out : List ℕ) : Type 0 where
   pub some : 0 < width
   pub inside : beside < width
@@ -32,7 +32,7 @@ pub record LinesNeeded (channels : ℕ) (it lower : List ℕ) (width beside : �
 abbrev pub rightColumn : ℕ → ℕ → ℕ → ℕ
 rightColumn width beside c = cond (ltb (c + 1) width) (c + 1) beside
 
--- The energy of pixel c of a row, from its bytes and those of the row below.
+-- The energy of pixel c of a row, from its bytes and those of the row that stands for the one below.
 unfoldable pub between : ℕ → List ℕ → List ℕ → ℕ → ℕ → ℕ → ℕ
 between channels it lower width beside c =
     difference (rowAt channels (rightColumn width beside c) it) (rowAt channels c it) + difference (rowAt channels c lower) (rowAt channels c it)
@@ -40,4 +40,4 @@ between channels it lower width beside c =
 -- The line, column or row, that stands for the one after line i of n: the next one; of the last, the one before it; of the only
 -- one the line itself, from which it doesn't differ (0 - 1 is 0).
 abbrev pub neighbourOf : ℕ → ℕ → ℕ
-neighbourOf n i = cond (ltb (i + 1) n) (i + 1) (i - 1)
+neighbourOf i n = cond (ltb (i + 1) n) (i + 1) (i - 1)

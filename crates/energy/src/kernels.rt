@@ -1,5 +1,5 @@
-// The energies of one row of pixels, given its bytes and those of the row below it. One function for each number of
-// channels, with one contract: three channels written out are much faster than a loop over them.
+// The energies of one row of pixels, given its bytes and those of the row that stands for the one below it. One function for
+// each number of channels, with one contract: three channels written out are much faster than a loop over them.
 use pictures::Kind;
 ghost use mathlib.Core.Path.{_≡_};
 ghost use mathlib.Core.List.{_++_};

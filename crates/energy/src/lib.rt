@@ -40,7 +40,7 @@ pub fn energies(picture: &[u8], size: Size, r: usize, out: &mut [u32]) -> Verdic
 // one the line itself, from which it doesn't differ.
 fn neighbour(i: usize, n: usize) -> usize
     requires { ⌜ (i < n) × (n ≤ mostSide) ⌝ }
-    ensures { λ j. ⌜ j ≡ neighbourOf n i ⌝ }
+    ensures { λ j. ⌜ j ≡ neighbourOf i n ⌝ }
 {
     if i + 1 < n {
         i + 1

@@ -18,12 +18,12 @@ pub record Point : Type 0 where
   pub got : List (List ℕ)
   pub expected : List (List ℕ)
 
--- Grey rows 10 10 40 and 10 50 40, and its seams: columns 2, 2 at width 3, then columns 0, 1.
+-- Grey rows 10 10 40 and 10 50 40, and its seams: columns 0, 0 at width 3, then columns 1, 1.
 abbrev example : List (List ℕ)
 example = (10 ∷ 10 ∷ 40 ∷ []) ∷ (10 ∷ 50 ∷ 40 ∷ []) ∷ []
 
 abbrev seams : Choice ℕ
-seams w h p = cond (eqb w 3) (2 ∷ 2 ∷ []) (0 ∷ 1 ∷ [])
+seams w h p = cond (eqb w 3) (0 ∷ 0 ∷ []) (1 ∷ 1 ∷ [])
 
 -- "(pixel + right neighbour)/2 rounded down".
 abbrev mean : ℕ → ℕ → ℕ
@@ -44,7 +44,7 @@ table =
     ∷ record { got = bit (offered 3 2 1 1); expected = (1 ∷ []) ∷ [] }
     ∷ record { got = bit (offered 3 2 1 4); expected = (1 ∷ []) ∷ [] }
     -- a map with a number above the depth
-    ∷ record { got = judged (2 ∷ 3 ∷ 1 ∷ []) (0 ∷ 2 ∷ 1 ∷ []); expected = (9 ∷ []) ∷ [] }
+    ∷ record { got = judged (1 ∷ 3 ∷ 2 ∷ []) (1 ∷ 0 ∷ 2 ∷ []); expected = (9 ∷ []) ∷ [] }
     -- the recorded seam 2 stands at the columns of the picture then left
     ∷ record { got = recorded 2 ((2 ∷ 0 ∷ 1 ∷ []) ∷ (1 ∷ 0 ∷ 2 ∷ []) ∷ []) ∷ []; expected = (0 ∷ 1 ∷ []) ∷ [] }
     -- neighbours of new pixels are those of the original, also where these are doubled: 10 50 40 grown by 1, 2 and 3

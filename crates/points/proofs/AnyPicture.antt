@@ -59,10 +59,10 @@ one-accepted k b long small =
     })
 
 -- A pixel doesn't differ from one with no samples.
-difference-edge : (px : List ℕ) → difference px [] ≡ 0
+difference-empty : (px : List ℕ) → difference px [] ≡ 0
 unfolding difference
-difference-edge [] = refl
-difference-edge (a ∷ px) = refl
+difference-empty [] = refl
+difference-empty (a ∷ px) = refl
 
 -- A picture all of whose pixels are px.
 abbrev Only : List ℕ → Picture → Type 0
@@ -72,7 +72,7 @@ module _ (px : List ℕ) (p : Picture) (only : Only px p) where
   difference-none : (x y : List ℕ) → (x ≡ px) ⊎ (x ≡ []) → (y ≡ px) ⊎ (y ≡ []) → difference x y ≡ 0
   unfolding difference
   difference-none x y (inl e) (inl f) = rw (e, f) (difference-self px)
-  difference-none x y (inl e) (inr f) = rw (e, f) (difference-edge px)
+  difference-none x y (inl e) (inr f) = rw (e, f) (difference-empty px)
   difference-none x y (inr e) o = rw e
 
   -- No neighbour is any difference away.

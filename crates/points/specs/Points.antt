@@ -1,5 +1,5 @@
--- The points marked P, other worked values of the example, and refusals of its files: what the definitions give, beside what is
--- expected, as rows of numbers.
+-- The points marked P, their values made again by change 101, other worked values, and refusals of the example's files: what the
+-- definitions give, beside what is expected, as rows of numbers.
 use mathlib.Core.Option.{Option, none, some}
 use mathlib.Core.List.{List, [], _∷_, map}
 use Prim.Native.Nat.{ℕ}
@@ -124,10 +124,11 @@ pointTable =
     -- budget 0 with a mark 2 at width 2: spent, 0
     ∷ list (endingRow (removal 0 0 (markedPicture (grey 2 1) (10 ∷ 40 ∷ []) (0 ∷ 2 ∷ [])))) (placeOf spent ∷ 0 ∷ [])
     -- the table of refusals, of the example: its own map accepted; `(range 3 1)` at width 3; `(map 2 2 1)`; seam 1 at columns
-    -- 0 and 2; maps 1 0 2 and 1 2 0
+    -- 0 and 2; maps 1 0 2 and 1 2 0; and the seams of the older rule, of which the first costs 40 too and comes later
     ∷ gives (checkRules (recordedFile 2 1 (1 ∷ 0 ∷ 2 ∷ []) (1 ∷ 0 ∷ 2 ∷ [])) 192) 0
     ∷ gives (checkRules (recordedFile 3 1 (1 ∷ 0 ∷ 2 ∷ []) (1 ∷ 0 ∷ 2 ∷ [])) 192) 6
     ∷ gives (checkRules (recordedFile 2 1 (2 ∷ 2 ∷ 1 ∷ []) (1 ∷ 0 ∷ 2 ∷ [])) 192) 9
     ∷ gives (checkRules (recordedFile 2 1 (1 ∷ 0 ∷ 2 ∷ []) (0 ∷ 2 ∷ 1 ∷ [])) 192) 10
     ∷ gives (checkRules (recordedFile 2 1 (1 ∷ 0 ∷ 2 ∷ []) (1 ∷ 2 ∷ 0 ∷ [])) 192) 11
+    ∷ gives (checkRules (recordedFile 2 1 (2 ∷ 0 ∷ 1 ∷ []) (0 ∷ 2 ∷ 1 ∷ [])) 192) 11
     ∷ []

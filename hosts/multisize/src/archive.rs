@@ -100,7 +100,7 @@ mod tests {
             Err(Refusal::Space)
         );
         assert_eq!(row(&PICTURE, SIZE, 0, &mut [0; 2]), Err(Refusal::Space));
-        let given = row_at(&PICTURE[..3], Kind::Grey, &[2, 0, 1], 4, &mut [0; 3]);
+        let given = row_at(&PICTURE[..3], Kind::Grey, &[1, 0, 2], 4, &mut [0; 3]);
         assert_eq!(given, Err(Refusal::Space));
         let vertical = Axis::Vertical;
         let given = find(&PICTURE, SIZE, vertical, &mut [0], &mut work);

@@ -172,8 +172,8 @@ impl Picture {
 
     /// The energies of the pixels of row `r`, counted from 0: the differences to the
     /// right and to the lower neighbour, in the last column to the left and in the
-    /// last row to the upper one, the channels added. At width 1 or height 1 that
-    /// difference is 0.
+    /// last row to the upper one, the channels added. At width 1 the first is 0, at
+    /// height 1 the second.
     ///
     /// # Errors
     ///

@@ -1,5 +1,5 @@
-//! The four carvings that look right and are not, and energies that are wrong
-//! at the edges. Each is made here on purpose; the library must differ from it
+//! The four carvings that look right and are not, and energies by the wrong
+//! neighbours. Each is made here on purpose; the library must differ from it
 //! on some of the random pictures, which shows that these pictures tell the two
 //! apart.
 
@@ -188,7 +188,8 @@ fn averages_of_new_pixels() {
 /// The pixels that the pixel in row i and column j is held against.
 type Neighbours = fn(Size, usize, usize) -> Vec<(usize, usize)>;
 
-/// As it is right: right and lower, at the edges left and upper.
+/// The right rule: right and lower, in the last column left, in the last row
+/// upper.
 fn right_ones(size: Size, i: usize, j: usize) -> Vec<(usize, usize)> {
     let mut all = Vec::new();
     if size.width > 1 {
@@ -262,7 +263,7 @@ fn first_after_last(size: Size, i: usize, j: usize) -> Vec<(usize, usize)> {
     vec![(i, (j + 1) % size.width), ((i + 1) % size.height, j)]
 }
 
-const WRONG_AT_THE_EDGES: [(&str, Neighbours); 8] = [
+const WRONG_NEIGHBOURS: [(&str, Neighbours); 8] = [
     ("flat edges", flat_edges),
     ("flat last column", flat_last_column),
     ("flat last row", flat_last_row),
@@ -336,8 +337,8 @@ fn right_energies_by_neighbours() {
 }
 
 #[test]
-fn energies_wrong_at_the_edges() {
-    for (name, neighbours) in WRONG_AT_THE_EDGES {
+fn energies_by_wrong_neighbours() {
+    for (name, neighbours) in WRONG_NEIGHBOURS {
         let wrong = |picture: &[u8], size| energies_by(neighbours, picture, size);
         let count = differences(85, library_energies, wrong);
         assert!(count > 100, "{name}: {count}");
@@ -346,8 +347,8 @@ fn energies_wrong_at_the_edges() {
 
 /// Not only the energies, which one operation alone gives out, but the seams.
 #[test]
-fn seams_by_energies_wrong_at_the_edges() {
-    for (name, neighbours) in WRONG_AT_THE_EDGES {
+fn seams_by_wrong_neighbours() {
+    for (name, neighbours) in WRONG_NEIGHBOURS {
         for axis in AXES {
             let right = |picture: &[u8], size| found(picture, size, axis).0;
             let wrong = |picture: &[u8], size| seam_by(neighbours, picture, size, axis);

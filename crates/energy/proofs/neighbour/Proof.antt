@@ -1,4 +1,4 @@
--- `energy::neighbour` meets its contract.
+-- `energy::neighbour` meets its contract: each branch is a case of `neighbourOf`, and 0 - 1 is 0.
 use native.Mathlib.Omega.{arith}
 use borrow.Author.Needs.{needs}
 use borrow.Author.Tests.{lt-ltb, le-ltb}
@@ -20,7 +20,6 @@ returns c = simp (lt-ltb _ _ (c .if1 .taken))
 returns-2 : tie.Need-returns-2
 returns-2 c = simp (le-ltb _ _ (c .before .if1 .left))
 
--- 0 is 0 - 1
 returns-3 : tie.Need-returns-3
 returns-3 c = simp (le-ltb _ _ (c .before .if1 .left)) (omega arith)
 
