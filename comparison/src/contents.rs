@@ -164,7 +164,6 @@ fn each_pixel(size: Size, mut pixel: impl FnMut(usize, usize) -> Pixel) -> Vec<u
 #[cfg(test)]
 mod tests {
     use super::*;
-    use crate::paths::Small;
     use crate::pictures::byte_count;
     use reference::{Axis, Kind};
 
@@ -261,122 +260,6 @@ mod tests {
         for kind in [Kind::Grey, Kind::Rgb] {
             let ties = (0..1000).filter(|_| tie(&mut random, size(5, 4, kind)));
             assert!(ties.count() > 400);
-        }
-    }
-
-    /// The pixels, by row and column, that a pixel is held against.
-    type Neighbours = fn(Size, usize, usize) -> Vec<(usize, usize)>;
-
-    /// The neighbours of the right rule.
-    fn right(size: Size, row: usize, column: usize) -> Vec<(usize, usize)> {
-        let other = |place: usize, count: usize| match count - place {
-            1 => place.checked_sub(1),
-            _ => Some(place + 1),
-        };
-        let beside = other(column, size.width).map(|column| (row, column));
-        let below = other(row, size.height).map(|row| (row, column));
-        beside.into_iter().chain(below).collect()
-    }
-
-    /// The same, without those that `drop` names.
-    fn without(
-        size: Size,
-        row: usize,
-        column: usize,
-        drop: impl Fn(usize, usize) -> bool,
-    ) -> Vec<(usize, usize)> {
-        let mut neighbours = right(size, row, column);
-        neighbours.retain(|(other_row, other_column)| !drop(*other_row, *other_column));
-        neighbours
-    }
-
-    fn is_corner(size: Size, row: usize, column: usize) -> bool {
-        (row + 1, column + 1) == (size.height, size.width)
-    }
-
-    /// Neighbours of wrong rules.
-    const WRONG: [(&str, Neighbours); 6] = [
-        ("flat edges", |size, row, column| {
-            without(size, row, column, |r, c| r < row || c < column)
-        }),
-        ("flat last column", |size, row, column| {
-            without(size, row, column, |_, c| c < column)
-        }),
-        ("flat last row", |size, row, column| {
-            without(size, row, column, |r, _| r < row)
-        }),
-        ("corner to the left", |size, row, column| {
-            let corner = is_corner(size, row, column);
-            without(size, row, column, |r, _| corner && r < row)
-        }),
-        ("corner upward", |size, row, column| {
-            let corner = is_corner(size, row, column);
-            without(size, row, column, |_, c| corner && c < column)
-        }),
-        ("left everywhere", |size, row, column| {
-            let mut neighbours = right(size, row, column);
-            if column > 0 {
-                neighbours[0] = (row, column - 1);
-            }
-            neighbours
-        }),
-    ];
-
-    /// The seam of a small picture by the energies that these neighbours give.
-    fn seam_by(small: &Small, neighbours: Neighbours) -> Vec<usize> {
-        let Size { width, kind, .. } = small.size;
-        let channels = channels(kind);
-        let pixel = |row: usize, column: usize| {
-            let start = (row * width + column) * channels;
-            &small.bytes[start..start + channels]
-        };
-        let energy = |row, column| -> u64 {
-            let others = neighbours(small.size, row, column).into_iter();
-            let differences = others.flat_map(|(r, c)| {
-                let pairs = pixel(r, c).iter().zip(pixel(row, column));
-                pairs.map(|(a, b)| u64::from(a.abs_diff(*b)))
-            });
-            differences.sum()
-        };
-        let order = |path: &Vec<usize>| {
-            let lines = path.iter().enumerate();
-            let cost = lines.map(|(line, place)| match small.axis {
-                Axis::Vertical => energy(line, *place),
-                Axis::Horizontal => energy(*place, line),
-            });
-            let backward: Vec<usize> = path.iter().rev().copied().collect();
-            (cost.sum::<u64>(), backward)
-        };
-        small.paths().into_iter().min_by_key(order).unwrap()
-    }
-
-    /// In how many of `count` small pictures a rule gives another seam than the
-    /// right one.
-    fn told(neighbours: Neighbours, axis: Axis, count: usize) -> usize {
-        let mut random = Random::new(7);
-        let mut differ = || {
-            let (width, height) = (random.between(1, 5), random.between(1, 5));
-            let size = size(width, height, random.pick(&[Kind::Grey, Kind::Rgb]));
-            let bytes = samples(&mut random, size);
-            let small = Small {
-                bytes: &bytes,
-                marks: &[],
-                size,
-                axis,
-            };
-            seam_by(&small, neighbours) != small.seam().unwrap().0
-        };
-        (0..count).filter(|_| differ()).count()
-    }
-
-    #[test]
-    fn wrong_neighbours_are_told_by_the_seams() {
-        for axis in [Axis::Vertical, Axis::Horizontal] {
-            assert_eq!(told(right, axis, 300), 0);
-            for (name, neighbours) in WRONG {
-                let count = told(neighbours, axis, 300);
-                assert!(count > 20, "{name}: {count}");
-            }
         }
     }
 }

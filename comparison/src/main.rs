@@ -14,6 +14,8 @@ mod lengths;
 mod library;
 mod limits;
 mod marks;
+#[cfg(test)]
+mod neighbours;
 mod netpbm;
 mod operations;
 mod options;

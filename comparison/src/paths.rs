@@ -59,7 +59,7 @@ impl Small<'_> {
     }
 
     /// The row and column of each pixel on a path.
-    fn pixels<'a>(&self, path: &'a [usize]) -> impl Iterator<Item = (usize, usize)> + 'a {
+    pub fn pixels<'a>(&self, path: &'a [usize]) -> impl Iterator<Item = (usize, usize)> + 'a {
         let axis = self.axis;
         let pixels = path.iter().enumerate();
         pixels.map(move |(line, place)| match axis {
@@ -119,11 +119,14 @@ impl Small<'_> {
     }
 
     fn energy(&self, row: usize, column: usize) -> u64 {
-        let Size { width, height, .. } = self.size;
+        self.differences(row, column, &neighbours(self.size, row, column))
+    }
+
+    /// How far a pixel is from these, each given by its row and column.
+    pub fn differences(&self, row: usize, column: usize, others: &[(usize, usize)]) -> u64 {
         let it = self.pixel(row, column);
-        let beside = self.pixel(row, held_against(column, width));
-        let below = self.pixel(held_against(row, height), column);
-        apart(beside, it) + apart(below, it)
+        let pixels = others.iter().map(|(row, column)| self.pixel(*row, *column));
+        pixels.map(|other| apart(other, it)).sum()
     }
 
     fn pixel(&self, row: usize, column: usize) -> &[u8] {
@@ -135,6 +138,13 @@ impl Small<'_> {
 /// The bytes of the pixel at a place of a buffer with so many bytes a pixel.
 fn pixel(buffer: &[u8], place: usize, channels: usize) -> &[u8] {
     &buffer[place * channels..(place + 1) * channels]
+}
+
+/// The two pixels, by row and column, that a pixel is held against.
+pub fn neighbours(size: Size, row: usize, column: usize) -> [(usize, usize); 2] {
+    let beside = held_against(column, size.width);
+    let below = held_against(row, size.height);
+    [(row, beside), (below, column)]
 }
 
 /// The column (or row), of `count`, whose pixel the one at a place is held
@@ -156,7 +166,7 @@ fn longer(path: &[usize], places: usize) -> Vec<Vec<usize>> {
     next.map(|place| [path, &[place]].concat()).collect()
 }
 
-fn backward(path: &[usize]) -> Vec<usize> {
+pub fn backward(path: &[usize]) -> Vec<usize> {
     path.iter().rev().copied().collect()
 }
 

@@ -8,6 +8,7 @@ mod files;
 mod forms;
 mod helpers;
 mod large;
+mod neighbours;
 mod objects;
 mod program_limits;
 mod program_lines;
