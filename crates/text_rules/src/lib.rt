@@ -1,4 +1,12 @@
-// What reading a multi-size file decides without looking at its text.
+// What reading and printing a multi-size file decide without looking at its text.
+pub mod names;
+
+pub use names::Letters;
+pub use names::NAMES;
+pub use names::kind_name;
+pub use names::letters_of;
+pub use names::name_at;
+pub use names::name_number;
 use pictures::Kind;
 ghost use mathlib.Core.Path.{_≡_};
 ghost use mathlib.Core.Bool.{_&&_};

@@ -11,8 +11,12 @@ use Rattle.grids.proofs.Bools.{both}
 use Rattle.pictures.specs.declared.sizes.Kind.{Kind}
 use Rattle.pictures.specs.declared.sizes.Kind.the-variants.{Grey, Rgb}
 use Rattle.text_theory.specs.declared.Head.{Head}
+use Rattle.text_theory.specs.declared.Name.{Name}
+use Rattle.text_theory.specs.declared.Name.the-variants as name
+use Rattle.text_theory.proofs.Names.{each-name}
+use Rattle.text_theory.specs.Words.{nameText, kindName, kindText}
 use Rattle.text_theory.specs.Decimal.{digitsUpTo, digits}
-use Rattle.text_theory.specs.Files.{Parts, blank, opening, closing, start, range, closed, rowWord, mapWord, greyWord, rgbWord, each, joined, kindText, pixelText, lineText, headText, text, All}
+use Rattle.text_theory.specs.Files.{Parts, blank, lineEnd, opening, closing, closed, begun, rowWord, mapWord, each, joined, pixelText, lineText, firstText, sizeText, rangeText, headText, text, All}
 
 -- As a test that computes.
 abbrev ascii : List ℕ → Bool
@@ -49,10 +53,16 @@ unfolding joined blank
 ascii-joined [] = refl
 ascii-joined (a ∷ xs) = simp (ascii-append, ascii-digits, ascii-each blank digits refl ascii-digits xs)
 
+ascii-name : (n : Name) → ascii (nameText n) ≡ true
+ascii-name = each-name (λ n. ascii (nameText n)) refl
+
+ascii-begun : (n : Name) → ascii (begun n) ≡ true
+unfolding begun opening
+ascii-begun n = ascii-name n
+
 ascii-kind : (k : Kind) → ascii (kindText k) ≡ true
-unfolding kindText greyWord rgbWord
-ascii-kind Grey = refl
-ascii-kind Rgb = refl
+unfolding kindText
+ascii-kind k = ascii-name (kindName k)
 
 ascii-pixel : (k : Kind) (px : List ℕ) → ascii (pixelText k px) ≡ true
 unfolding pixelText opening closing
@@ -64,15 +74,15 @@ unfolding lineText blank closed
 ascii-line put h xs = simp (ascii-append, ascii-each blank put refl h xs)
 
 ascii-head : (h : Head) → ascii (headText h) ≡ true
-unfolding headText start blank range closed
-ascii-head h = simp (ascii-append, ascii-digits, ascii-kind)
+unfolding headText firstText sizeText rangeText lineEnd blank closed
+ascii-head h = simp (ascii-append, ascii-begun, ascii-digits, ascii-kind)
 
 ascii-text : (p : Parts) → ascii (text p) ≡ true
 unfolding text rowWord mapWord closed
 ascii-text p =
     let k : Kind = p .head .size .kind in
-    let rows = ascii-each rowWord (lineText (pixelText k)) refl (ascii-line (pixelText k) (ascii-pixel k)) (p .rows) in
-    let maps = ascii-each mapWord (lineText digits) refl (ascii-line digits ascii-digits) (p .maps) in
+    let rows = ascii-each rowWord (lineText (pixelText k)) (ascii-begun name.Row) (ascii-line (pixelText k) (ascii-pixel k)) (p .rows) in
+    let maps = ascii-each mapWord (lineText digits) (ascii-begun name.Map) (ascii-line digits ascii-digits) (p .maps) in
     simp (ascii-append, ascii-head, rows, maps)
 
 pub text-ascii : (p : Parts) → All (λ (b : ℕ). b < 128) (text p)

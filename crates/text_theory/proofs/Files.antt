@@ -8,17 +8,20 @@ use native.Mathlib.Omega.{arith}
 use lib.Dec.{eqb}
 use lib.ListN.{length}
 use borrow.Author.Tests.{eqb-true, eq-eqb}
-use Rattle.text_theory.specs.Readers.{Get, give, _▷_, strip, after, many}
+use Rattle.text_theory.specs.Readers.{Get, give, _▷_, strip, many}
 use Rattle.text_theory.specs.Decimal.{digits, isDigit, numberGet}
 use Rattle.grids.proofs.Shapes.{Any}
 use Rattle.pictures.specs.declared.sizes.Kind.{Kind}
 use Rattle.pictures.specs.declared.sizes.Kind.the-variants.{Grey, Rgb}
 use Rattle.pictures.specs.Numbers.{largestNumber}
+use Rattle.pictures.specs.declared.sizes.Size.{Size}
 use Rattle.text_theory.specs.declared.Head.{Head}
-use Rattle.text_theory.specs.Files.{Parts, lineEnd, blank, opening, closing, start, range, closed, rowWord, mapWord, greyWord, rgbWord, each, joined, kindText, pixelText, lineText, headText, text, either, kindGet, items, three, pixelGet, line, headGet, file, ended, whole, parse, All, Pixel, Numbers, Within}
+use Rattle.text_theory.specs.declared.Name.the-variants as name
+use Rattle.text_theory.specs.Files.{Parts, lineEnd, blank, opening, closing, closed, begun, rowWord, mapWord, each, joined, pixelText, lineText, firstText, sizeText, rangeText, headText, text, items, three, pixelGet, line, sizeGet, rangeGet, headGet, file, ended, whole, parse, All, Pixel, Numbers, Within}
 use Rattle.text_theory.proofs.Pairs.{Reads, strip-back, on-inv, after-inv, Sounds, give-sounds, after-sounds, then-sounds, soundly}
 use Rattle.text_theory.proofs.Many.{many-reads}
 use Rattle.text_theory.proofs.Decimals.{clear, number-reads}
+use Rattle.text_theory.proofs.Names.{kind-reads}
 
 line-end : closed ≡ closing ++ lineEnd
 unfolding closed closing lineEnd
@@ -110,82 +113,93 @@ pub pixel-reads : (k : Kind) → Reads (Pixel k) (pixelText k) clear (pixelGet k
 pixel-reads Grey = record { back = grey-back; sound = grey-sound }
 pixel-reads Rgb = record { back = rgb-back; sound = rgb-sound }
 
-kind-back : (k : Kind) (t : List ℕ) → kindGet (kindText k ++ t) ≡ some (k, t)
-unfolding kindGet kindText greyWord rgbWord strip
-kind-back Grey t = refl
-kind-back Rgb t = refl
-
--- One of two values, each by its text.
-pub either-sound : {A : Type 0} (put : A → List ℕ) (a b : A) (s : List ℕ) (r : A × List ℕ)
-    → either (after (put a) (give a) s) (after (put b) (give b) s) ≡ some r → s ≡ put (r .0) ++ (r .1)
-either-sound {A} put a b s r h = go (after (put a) (give a) s) refl h
-  where
-    go : (o : Option (A × List ℕ)) → after (put a) (give a) s ≡ o → either o (after (put b) (give b) s) ≡ some r → s ≡ put (r .0) ++ (r .1)
-    go (some q) e h =
-        let p = after-inv (put a) (give a) s r (e ∙ h) in
-        let z : r ≡ (a, p .0) = cc (p .2) in
-        rw z (p .1)
-    go none e h = let p = after-inv (put b) (give b) s r h in let z : r ≡ (b, p .0) = cc (p .2) in rw z (p .1)
-
-kind-sound : (s : List ℕ) (r : Kind × List ℕ) → kindGet s ≡ some r → s ≡ kindText (r .0) ++ (r .1)
-unfolding kindGet kindText
-kind-sound = either-sound kindText Grey Rgb
-
-pub kind-reads : Reads (λ k. Unit) kindText Any kindGet
-kind-reads = record { back = λ k u t v. kind-back k t; sound = λ s r h. (kind-sound s r h, tt) }
-
 pub rows-reads : (k : Kind) → Reads (All (All (Pixel k))) (each rowWord (lineText (pixelText k))) (λ t. (strip rowWord t ≡ none) × Unit) (many rowWord (line (pixelGet k)))
-unfolding rowWord
+unfolding rowWord begun opening
 rows-reads k = many-reads (line-reads (pixel-reads k) clear-blank clear-closing) rowWord (omega arith) (λ t. tt)
 
 pub maps-reads : Reads (All (All (λ (a : ℕ). a ≤ largestNumber))) (each mapWord (lineText digits)) (λ t. (strip mapWord t ≡ none) × Unit) (many mapWord (line (numberGet largestNumber)))
-unfolding mapWord
+unfolding mapWord begun opening
 maps-reads = many-reads (line-reads (number-reads largestNumber) clear-blank clear-closing) mapWord (omega arith) (λ t. tt)
 
 no-map : (t : List ℕ) → strip mapWord (closed ++ t) ≡ none
-unfolding mapWord closed strip
+unfolding mapWord begun opening closed strip
 no-map t = refl
 
 no-row : (ms : List (List ℕ)) (t : List ℕ) → strip rowWord (each mapWord (lineText digits) ms ++ (closed ++ t)) ≡ none
-unfolding mapWord rowWord closed strip each
+unfolding mapWord rowWord begun opening closed strip each
 no-row [] t = refl
 no-row (m ∷ ms) t = refl
-
-clear-range : (t : List ℕ) → clear (range ++ t)
-unfolding range isDigit
-clear-range t = refl
 
 pub clear-closed : (t : List ℕ) → clear (closed ++ t)
 unfolding closed isDigit
 clear-closed t = refl
 
--- The text as the reader meets it, part after part.
-head-back : (h : Head) → Numbers h → (t : List ℕ) → headGet (headText h ++ t) ≡ some (h, t)
-unfolding headGet headText
-head-back h b t =
+-- The lines of the head.
+pub record Sides (z : Size) : Type 0 where
+  pub width : z .width ≤ largestNumber
+  pub height : z .height ≤ largestNumber
+
+size-back : (z : Size) → Sides z → (t : List ℕ) → sizeGet (sizeText z ++ t) ≡ some (z, t)
+unfolding sizeGet sizeText
+size-back z b t =
     let n = number-reads largestNumber in
     simp append-assoc
     (rw (
       strip-back,
-      n .back (h .size .width) (b .width) _ (clear-blank _),
       strip-back,
-      n .back (h .size .height) (b .height) _ (clear-blank _),
+      n .back (z .width) (b .width) _ (clear-blank _),
       strip-back,
-      kind-reads .back (h .size .kind) tt _ tt,
+      n .back (z .height) (b .height) _ (clear-blank _),
       strip-back,
-      n .back (h .depth) (b .depth) _ (clear-blank _),
+      kind-reads .back (z .kind) tt _ tt,
       strip-back,
-      n .back (h .growth) (b .growth) _ (clear-closed _),
+    ))
+
+size-sounds : Sounds Sides sizeText [] sizeGet
+unfolding sizeGet sizeText
+size-sounds =
+    let n = number-reads largestNumber in
+    after-sounds (begun name.Size) (after-sounds blank (then-sounds n λ w hw. after-sounds blank (then-sounds n λ h hh. after-sounds blank (then-sounds kind-reads λ k hk.
+    after-sounds closed (give-sounds _ (simp append-assoc) (record { width = hw; height = hh }))))))
+
+pub size-reads : Reads Sides sizeText Any sizeGet
+size-reads = record { back = λ z b t u. size-back z b t; sound = soundly size-sounds }
+
+range-back : (d g : ℕ) → d ≤ largestNumber → g ≤ largestNumber → (t : List ℕ) → rangeGet (rangeText d g ++ t) ≡ some ((d, g), t)
+unfolding rangeGet rangeText
+range-back d g p q t =
+    let n = number-reads largestNumber in
+    simp append-assoc (rw (strip-back, strip-back, n .back d p _ (clear-blank _), strip-back, n .back g q _ (clear-closed _), strip-back))
+
+abbrev Ranged : ℕ × ℕ → Type 0
+Ranged r = (r .0 ≤ largestNumber) × (r .1 ≤ largestNumber)
+
+range-sounds : Sounds Ranged (λ r. rangeText (r .0) (r .1)) [] rangeGet
+unfolding rangeGet rangeText
+range-sounds =
+    let n = number-reads largestNumber in
+    after-sounds (begun name.Range) (after-sounds blank (then-sounds n λ d hd. after-sounds blank (then-sounds n λ g hg.
+    after-sounds closed (give-sounds _ (simp append-assoc) (hd, hg)))))
+
+pub range-reads : Reads Ranged (λ r. rangeText (r .0) (r .1)) Any rangeGet
+range-reads = record { back = λ r b t u. range-back (r .0) (r .1) (b .0) (b .1) t; sound = soundly range-sounds }
+
+-- The text as the reader meets it, line after line.
+head-back : (h : Head) → Numbers h → (t : List ℕ) → headGet (headText h ++ t) ≡ some (h, t)
+unfolding headGet headText
+head-back h b t =
+    simp append-assoc
+    (rw (
       strip-back,
+      size-reads .back (h .size) (record { width = b .width; height = b .height }) _ tt,
+      range-reads .back (h .depth, h .growth) (b .depth, b .growth) _ tt,
     ))
 
 head-sounds : Sounds Numbers headText [] headGet
 unfolding headGet headText
 head-sounds =
-    let n = number-reads largestNumber in
-    after-sounds start (then-sounds n λ w hw. after-sounds blank (then-sounds n λ h hh. after-sounds blank (then-sounds kind-reads λ k hk.
-    after-sounds range (then-sounds n λ d hd. after-sounds blank (then-sounds n λ g hg. after-sounds closed (
-    give-sounds _ (simp append-assoc) (record { width = hw; height = hh; depth = hd; growth = hg })))))))
+    after-sounds firstText (then-sounds size-reads λ z hz. then-sounds range-reads λ r hr.
+    give-sounds _ (simp append-assoc) (record { width = hz .width; height = hz .height; depth = hr .0; growth = hr .1 }))
 
 pub head-reads : Reads Numbers headText Any headGet
 head-reads = record { back = λ h b t u. head-back h b t; sound = soundly head-sounds }

@@ -7,10 +7,13 @@ use lib.ListN.{length, length-append}
 use Rattle.pictures.specs.declared.sizes.Kind.{Kind}
 use Rattle.pictures.specs.declared.sizes.Kind.the-variants.{Grey, Rgb}
 use Rattle.pictures.specs.Pictures.{channelsOf}
+use Rattle.pictures.specs.declared.sizes.Size.{Size}
 use Rattle.text_theory.specs.declared.Head.{Head}
+use Rattle.text_theory.specs.declared.Name.{Name}
+use Rattle.text_theory.specs.declared.Name.the-variants as name
 use Rattle.text_theory.specs.Decimal.{digits}
-use Rattle.text_theory.specs.Files.{Parts, blank, opening, closing, start, range, closed, rowWord, mapWord, greyWord, rgbWord, each, joined, kindText, pixelText, lineText, rowText, mapText, headText, text, All, Pixel, Within}
-use Rattle.text_theory.specs.Lengths.{total, spaced, kindLength, pixelLength, rowLength, mapLength, headLength, textLength}
+use Rattle.text_theory.specs.Files.{Parts, lineEnd, blank, opening, closing, closed, begun, rowWord, mapWord, each, joined, pixelText, lineText, rowText, mapText, firstText, sizeText, rangeText, headText, text, All, Pixel, Within}
+use Rattle.text_theory.specs.Lengths.{total, spaced, pixelLength, rowLength, mapLength, begunLength, sizeLength, rangeLength, headLength, textLength}
 
 pub each-length : {A : Type 0} (w : List ℕ) (put : A → List ℕ) (f : A → ℕ) (ok : A → Type 0) → ((a : A) → ok a → length w + length (put a) ≡ f a)
     → (xs : List A) → All ok xs → length (each w put xs) ≡ total f xs
@@ -46,22 +49,33 @@ counts k [] a = tt
 counts k (px ∷ row) a = (a .0 .count, counts k row (a .1))
 
 pub row-length : (k : Kind) (row : List (List ℕ)) → Counted k row → length (rowText k row) ≡ rowLength k row
-unfolding rowText lineText rowLength rowWord closed
+unfolding rowText lineText rowLength rowWord begun opening closed
 row-length k row h =
     simp length-append (omega (arith, each-length blank (pixelText k) (pixelLength k) (λ (px : List ℕ). length px ≡ channelsOf k) (pixel-length k) row h))
 
 pub map-length : (row : List ℕ) → length (mapText row) ≡ mapLength row
-unfolding mapText lineText mapLength mapWord closed
+unfolding mapText lineText mapLength mapWord begun opening closed
 map-length row = simp length-append (omega (arith, numbers-length row))
 
-pub kind-length : (k : Kind) → length (kindText k) ≡ kindLength k
-unfolding kindText greyWord rgbWord
-kind-length Grey = refl
-kind-length Rgb = refl
+pub begun-length : (n : Name) → length (begun n) ≡ begunLength n
+unfolding begun begunLength opening
+begun-length n = refl
+
+pub first-length : length firstText ≡ begunLength name.Multi + 1
+unfolding firstText lineEnd
+first-length = simp length-append (omega (arith, begun-length name.Multi))
+
+pub size-length : (z : Size) → length (sizeText z) ≡ sizeLength z
+unfolding sizeText sizeLength spaced blank closed
+size-length z = simp length-append (omega (arith, begun-length name.Size))
+
+pub range-length : (d g : ℕ) → length (rangeText d g) ≡ rangeLength d g
+unfolding rangeText rangeLength spaced blank closed
+range-length d g = simp length-append (omega (arith, begun-length name.Range))
 
 pub head-length : (h : Head) → length (headText h) ≡ headLength h
-unfolding headText headLength spaced start blank range closed
-head-length h = simp length-append (omega (arith, kind-length (h .size .kind)))
+unfolding headText headLength
+head-length h = simp length-append (omega (arith, first-length, size-length (h .size), range-length (h .depth) (h .growth)))
 
 row-line : (k : Kind) (row : List (List ℕ)) → All (Pixel k) row → length rowWord + length (lineText (pixelText k) row) ≡ rowLength k row
 unfolding rowText

@@ -60,3 +60,8 @@ module _ {A : Type 0} {ok : A → Type 0} {put : A → List ℕ} {stop : List �
   pub many-reads : Reads (All ok) (each w put) (λ t. (strip w t ≡ none) × stop t) (many w g)
   unfolding many
   many-reads = record { back = many-back; sound = λ s r. upTo-sound (suc (length s)) s r }
+
+pub each-append : {A : Type 0} (w : List ℕ) (put : A → List ℕ) (xs ys : List A) → each w put (xs ++ ys) ≡ each w put xs ++ each w put ys
+unfolding each
+each-append w put [] ys = refl
+each-append w put (x ∷ xs) ys = rw (each-append w put xs ys) (simp append-assoc)

@@ -10,9 +10,13 @@ use Rattle.pictures.specs.declared.sizes.Kind.{Kind}
 use Rattle.pictures.specs.declared.sizes.Kind.the-variants.{Grey, Rgb}
 use Rattle.pictures.specs.Pictures.{Picture, channelsOf}
 use Rattle.pictures.specs.Numbers.{largestNumber}
+use Rattle.pictures.specs.declared.sizes.Size.{Size}
 use Rattle.text_theory.specs.declared.Head.{Head}
+use Rattle.text_theory.specs.declared.Name.{Name}
+use Rattle.text_theory.specs.declared.Name.the-variants as name
 use Rattle.text_theory.specs.Readers.{Get, give, _▷_, after, many}
 use Rattle.text_theory.specs.Decimal.{digits, numberGet}
+use Rattle.text_theory.specs.Words.{nameText, kindText, kindGet}
 
 -- What a file holds: "size: width, height, kind. Range: depth, growth. Then n rows of samples and n rows of map." The
 -- numbers of rows, of pixels in a row and of numbers in a map row are not judged here.
@@ -35,26 +39,18 @@ opening = 40 ∷ []  -- '('
 unfoldable pub closing : List ℕ
 closing = 41 ∷ []  -- ')'
 
-unfoldable pub start : List ℕ
-start = 40 ∷ 109 ∷ 117 ∷ 108 ∷ 116 ∷ 105 ∷ 10 ∷ 40 ∷ 115 ∷ 105 ∷ 122 ∷ 101 ∷ 32 ∷ []  -- '(multi\n(size '
-
-unfoldable pub range : List ℕ
-range = 41 ∷ 10 ∷ 40 ∷ 114 ∷ 97 ∷ 110 ∷ 103 ∷ 101 ∷ 32 ∷ []  -- ')\n(range '
-
 unfoldable pub closed : List ℕ
 closed = 41 ∷ 10 ∷ []  -- ')\n'
 
+-- How a line begins: the opening bracket and the line's name.
+unfoldable pub begun : Name → List ℕ
+begun n = opening ++ nameText n
+
 unfoldable pub rowWord : List ℕ
-rowWord = 40 ∷ 114 ∷ 111 ∷ 119 ∷ []  -- '(row'
+rowWord = begun name.Row  -- '(row'
 
 unfoldable pub mapWord : List ℕ
-mapWord = 40 ∷ 109 ∷ 97 ∷ 112 ∷ []  -- '(map'
-
-unfoldable pub greyWord : List ℕ
-greyWord = 103 ∷ 114 ∷ 101 ∷ 121 ∷ []  -- 'grey'
-
-unfoldable pub rgbWord : List ℕ
-rgbWord = 114 ∷ 103 ∷ 98 ∷ []  -- 'rgb'
+mapWord = begun name.Map  -- '(map'
 
 -- Every value after the bytes w.
 unfoldable pub each : {A : Type 0} → List ℕ → (A → List ℕ) → List A → List ℕ
@@ -65,10 +61,6 @@ each w put (x ∷ xs) = w ++ (put x ++ each w put xs)
 unfoldable pub joined : List ℕ → List ℕ
 joined [] = []
 joined (a ∷ xs) = digits a ++ each blank digits xs
-
-unfoldable pub kindText : Kind → List ℕ
-kindText Grey = greyWord
-kindText Rgb = rgbWord
 
 -- "In `rgb` a pixel is a form: `(row (1 2 3) (4 5 6))`."
 unfoldable pub pixelText : Kind → List ℕ → List ℕ
@@ -85,10 +77,19 @@ rowText k row = rowWord ++ lineText (pixelText k) row
 unfoldable pub mapText : List ℕ → List ℕ
 mapText row = mapWord ++ lineText digits row
 
+-- The lines of the head, one after the other: `(multi`, `(size 3 2 grey)`, `(range 2 1)`.
+unfoldable pub firstText : List ℕ
+firstText = begun name.Multi ++ lineEnd
+
+unfoldable pub sizeText : Size → List ℕ
+sizeText z =
+    begun name.Size ++ (blank ++ (digits (z .width) ++ (blank ++ (digits (z .height) ++ (blank ++ (kindText (z .kind) ++ closed))))))
+
+unfoldable pub rangeText : ℕ → ℕ → List ℕ
+rangeText d g = begun name.Range ++ (blank ++ (digits d ++ (blank ++ (digits g ++ closed))))
+
 unfoldable pub headText : Head → List ℕ
-headText h =
-    start ++ (digits (h .size .width) ++ (blank ++ (digits (h .size .height) ++ (blank ++ (kindText (h .size .kind)
-    ++ (range ++ (digits (h .depth) ++ (blank ++ (digits (h .growth) ++ closed)))))))))
+headText h = firstText ++ (sizeText (h .size) ++ rangeText (h .depth) (h .growth))
 
 -- The row lines of a picture, and the map lines of a map.
 abbrev pub rowLines : Kind → Picture → List ℕ
@@ -101,15 +102,7 @@ mapLines maps = each mapWord (lineText digits) maps
 unfoldable pub text : Parts → List ℕ
 text p = headText (p .head) ++ (rowLines (p .head .size .kind) (p .rows) ++ (mapLines (p .maps) ++ closed))
 
--- Readers of the same.
-abbrev pub either : {A : Type 0} → Option A → Option A → Option A
-either none o = o
-either (some a) o = some a
-
-unfoldable pub kindGet : Get Kind
-kindGet s = either (after greyWord (give Grey) s) (after rgbWord (give Rgb) s)
-
--- Items, each after a blank, up to the closing bracket.
+-- Readers of the same. Items, each after a blank, up to the closing bracket.
 unfoldable pub items : {A : Type 0} → Get A → Get (List A)
 items g = many blank g ▷ λ xs. after closing (give xs)
 
@@ -125,11 +118,18 @@ pixelGet Rgb = after opening (numberGet 255 ▷ λ a. items (numberGet 255) ▷ 
 unfoldable pub line : {A : Type 0} → Get A → Get (List A)
 line g = items g ▷ λ xs. after lineEnd (give xs)
 
+-- The lines of the head.
+unfoldable pub sizeGet : Get Size
+sizeGet =
+    after (begun name.Size) (after blank (numberGet largestNumber ▷ λ w. after blank (numberGet largestNumber ▷ λ h. after blank (kindGet ▷ λ k.
+    after closed (give (record { width = w; height = h; kind = k }))))))
+
+unfoldable pub rangeGet : Get (ℕ × ℕ)
+rangeGet =
+    after (begun name.Range) (after blank (numberGet largestNumber ▷ λ d. after blank (numberGet largestNumber ▷ λ g. after closed (give (d, g)))))
+
 unfoldable pub headGet : Get Head
-headGet =
-    after start (numberGet largestNumber ▷ λ w. after blank (numberGet largestNumber ▷ λ h. after blank (kindGet ▷ λ k.
-    after range (numberGet largestNumber ▷ λ d. after blank (numberGet largestNumber ▷ λ g. after closed (
-    give (record { size = record { width = w; height = h; kind = k }; depth = d; growth = g })))))))
+headGet = after firstText (sizeGet ▷ λ z. rangeGet ▷ λ r. give (record { size = z; depth = r .0; growth = r .1 }))
 
 unfoldable pub file : Get Parts
 file =

@@ -4,8 +4,12 @@ use Prim.Native.Nat.{ℕ, suc, _+_}
 use lib.ListN.{length}
 use Rattle.pictures.specs.declared.sizes.Kind.{Kind}
 use Rattle.pictures.specs.declared.sizes.Kind.the-variants.{Grey, Rgb}
+use Rattle.pictures.specs.declared.sizes.Size.{Size}
 use Rattle.text_theory.specs.declared.Head.{Head}
+use Rattle.text_theory.specs.declared.Name.{Name}
+use Rattle.text_theory.specs.declared.Name.the-variants as name
 use Rattle.text_theory.specs.Decimal.{digits}
+use Rattle.text_theory.specs.Words.{nameText, kindText}
 use Rattle.text_theory.specs.Files.{Parts}
 
 -- The values of f over a list, added.
@@ -17,16 +21,12 @@ total f (x ∷ xs) = f x + total f xs
 unfoldable pub spaced : ℕ → ℕ
 spaced n = suc (length (digits n))
 
--- A pixel's brackets, and a kind's word.
+-- A pixel's brackets.
 abbrev pub brackets : Kind → ℕ
 brackets Grey = 0
 brackets Rgb = 2
 
-abbrev pub kindLength : Kind → ℕ
-kindLength Grey = 4
-kindLength Rgb = 3
-
--- A pixel with the blank before it; a row line; a map line; the lines up to the range.
+-- A pixel with the blank before it; a row line; a map line.
 unfoldable pub pixelLength : Kind → List ℕ → ℕ
 pixelLength k px = total spaced px + brackets k
 
@@ -36,9 +36,18 @@ rowLength k row = total (pixelLength k) row + 6
 unfoldable pub mapLength : List ℕ → ℕ
 mapLength row = total spaced row + 6
 
+-- How a line begins; the lines of the head.
+unfoldable pub begunLength : Name → ℕ
+begunLength n = suc (length (nameText n))
+
+unfoldable pub sizeLength : Size → ℕ
+sizeLength z = begunLength name.Size + (spaced (z .width) + spaced (z .height)) + suc (length (kindText (z .kind))) + 2
+
+unfoldable pub rangeLength : ℕ → ℕ → ℕ
+rangeLength d g = begunLength name.Range + (spaced d + spaced g) + 2
+
 unfoldable pub headLength : Head → ℕ
-headLength h =
-    spaced (h .size .width) + spaced (h .size .height) + kindLength (h .size .kind) + spaced (h .depth) + spaced (h .growth) + 23
+headLength h = begunLength name.Multi + 1 + sizeLength (h .size) + rangeLength (h .depth) (h .growth)
 
 -- The whole text.
 unfoldable pub textLength : Parts → ℕ

@@ -38,6 +38,16 @@ onward (some t) g = g t
 abbrev pub after : {A : Type 0} → List ℕ → Get A → Get A
 after w g s = onward (strip w s) g
 
+-- One reader's answer; another's where it refuses.
+abbrev pub either : {A : Type 0} → Option A → Option A → Option A
+either none o = o
+either (some a) o = some a
+
+-- The value, if there is one; else a refusal.
+abbrev pub known : {A : Type 0} → Option A → Get A
+known none s = none
+known (some a) s = some (a, s)
+
 -- As long as w stands next: w, then a value.
 unfoldable pub next : {A : Type 0} → Option (List ℕ) → List ℕ → Get A → Get (List A) → Option (List A × List ℕ)
 next none s g rest = some ([], s)

@@ -2,6 +2,17 @@
 // code that prints it in `text_print`.
 use pictures::Size;
 
+// The words of a file that are no numbers: those that begin lines, and those that name a kind.
+pub enum Name {
+    Multi,
+    Size,
+    Range,
+    Row,
+    Map,
+    Grey,
+    Rgb,
+}
+
 // What the lines of size and range say.
 pub struct Head {
     pub size: Size,
