@@ -30,6 +30,12 @@ further-more (b ∷ s) n = go (isDigit b) (further-more s (n * 10 + (b - 48)))
     go true h = omega arith
     go false h = omega arith
 
+-- The byte of a digit, and its value.
+pub record DigitByte (b d : ℕ) : Type 0 where
+  pub least : 48 ≤ b
+  pub most : b ≤ 57
+  pub value : d ≡ b - 48
+
 -- The state of the digits' loop: n is what the digits between start and at say.
 pub record Reading (limit : ℕ) (text : List ℕ) (start n at : ℕ) : Type 0 where
   pub same : numberGet limit (drop start text) ≡ upTo limit (further n (drop at text))
@@ -51,22 +57,22 @@ module _ (limit : ℕ) {text : List ℕ} {start : ℕ} where
   number-zero h e = record { same = rw (front text start h, e); moved = (omega arith, omega arith) }
 
 module _ {limit : ℕ} {text : List ℕ} {start : ℕ} where
-  pub reading-first : {d : ℕ} → start < length text → (48 ≤ getD text start 0) × (getD text start 0 ≤ 57) → (getD text start 0 ≡ 48 → ⊥) → d ≡ getD text start 0 - 48 → Reading limit text start d (start + 1)
-  reading-first h b z e = record {
-    same = rw (front text start h, e) (number-digit limit (getD text start 0) (drop (start + 1) text) (is-digit (getD text start 0) (b .0) (b .1)) (omega (arith, b .0, z)));
+  pub reading-first : {d : ℕ} → start < length text → DigitByte (getD text start 0) d → (d ≡ 0 → ⊥) → Reading limit text start d (start + 1)
+  reading-first h b z = record {
+    same = rw (front text start h, b .value) (number-digit limit (getD text start 0) (drop (start + 1) text) (is-digit (getD text start 0) (b .least) (b .most)) (omega (arith, b .least, b .value, z)));
     there = omega arith;
     inside = omega arith;
-    small = omega arith;
+    small = omega (arith, b .most, b .value);
   }
 
   module _ {n at : ℕ} (R : Reading limit text start n at) where
-    pub reading-next : {d : ℕ} → limit ≤ largestNumber → n ≤ limit → at < length text → (48 ≤ getD text at 0) × (getD text at 0 ≤ 57) → d ≡ getD text at 0 - 48 → Reading limit text start (n * 10 + d) (at + 1)
+    pub reading-next : {d : ℕ} → limit ≤ largestNumber → n ≤ limit → at < length text → DigitByte (getD text at 0) d → Reading limit text start (n * 10 + d) (at + 1)
     unfolding further
-    reading-next m k h b e = record {
-      same = R .same ∙ rw (front text at h, is-digit (getD text at 0) (b .0) (b .1), e);
+    reading-next m k h b = record {
+      same = R .same ∙ rw (front text at h, is-digit (getD text at 0) (b .least) (b .most), b .value);
       there = omega arith;
       inside = omega arith;
-      small = omega arith;
+      small = omega (arith, b .most, b .value);
     }
 
     pub reading-over : limit < n → Told (numberGet limit) text start none

@@ -12,7 +12,7 @@ use Rattle.pictures.specs.Numbers.{largestNumber}
 use Rattle.text_theory.specs.Decimal.{isDigit, numberGet}
 use Rattle.text_theory.proofs.Pairs.{front}
 use Rattle.text_read.specs.Answers.{readOn, ahead, Told}
-use Rattle.text_read.specs.Inner.{skipped, figure, figures, Coming}
+use Rattle.text_read.specs.Inner.{skipped, figure, figures, Coming, afterFigures, FiguresGiven}
 
 skip-gap : (b : ℕ) (s : List ℕ) → isDigit b ≡ false → skipped (b ∷ s) ≡ skipped s
 unfolding skipped
@@ -72,13 +72,14 @@ pub record Writing (limit n : ℕ) (text : List ℕ) (from : ℕ) (out₀ : List
   pub done : List ℕ
   pub count : length done ≡ i
   pub all : figures n (drop from text) ≡ done ++ figures left (drop at text)
+  pub rest : afterFigures n (drop from text) ≡ afterFigures left (drop at text)
   pub same : out ≡ done ++ drop i out₀
   pub size : length out ≡ length out₀
   pub room : n ≤ length out₀
 
 module _ {limit n : ℕ} {text : List ℕ} {from : ℕ} {out₀ : List ℕ} where
   pub writing-first : Coming limit n (drop from text) → n ≤ length out₀ → Writing limit n text from out₀ 0 from out₀
-  writing-first h r = record { left = n; sum = omega arith; coming = h; done = []; count = refl; all = refl; same = refl; size = refl; room = r }
+  writing-first h r = record { left = n; sum = omega arith; coming = h; done = []; count = refl; all = refl; rest = refl; same = refl; size = refl; room = r }
 
   module _ {i at : ℕ} {out : List ℕ} (W : Writing limit n text from out₀ i at out) (l : i < n) where
     pub writing-some : Told figure text at none → ⊥
@@ -100,8 +101,8 @@ module _ {limit n : ℕ} {text : List ℕ} {from : ℕ} {out₀ : List ℕ} wher
           go (suc m) e k = rw (same-pair (k .0) (k .1)) at (k .2)
 
       pub writing-next : Writing limit n text from out₀ (i + 1) c (set out i v)
-      unfolding figures
-      writing-next = go (W .left) (W .sum) (W .coming) (W .all)
+      unfolding figures afterFigures
+      writing-next = go (W .left) (W .sum) (W .coming) (W .all) (W .rest)
         where
           stored : set (W .done ++ drop i out₀) i v ≡ (W .done ++ (v ∷ [])) ++ drop (i + 1) out₀
           stored =
@@ -109,24 +110,27 @@ module _ {limit n : ℕ} {text : List ℕ} {from : ℕ} {out₀ : List ℕ} wher
               ∙ set-at (W .done) (getD out₀ i 0) (drop (suc i) out₀) v i (W .count)
               ∙ sym (append-snoc (W .done) v (drop (suc i) out₀)))
 
-          go : (m : ℕ) → i + m ≡ n → Coming limit m (drop at text) → figures n (drop from text) ≡ W .done ++ figures m (drop at text) → Writing limit n text from out₀ (i + 1) c (set out i v)
-          go zero e k a = absurd (omega arith)
-          go (suc m) e k a = record {
+          go : (m : ℕ) → i + m ≡ n → Coming limit m (drop at text) → figures n (drop from text) ≡ W .done ++ figures m (drop at text)
+              → afterFigures n (drop from text) ≡ afterFigures m (drop at text) → Writing limit n text from out₀ (i + 1) c (set out i v)
+          go zero e k a b = absurd (omega arith)
+          go (suc m) e k a b = record {
             left = m;
             sum = omega arith;
             coming = rw (same-pair (k .0) (k .1)) at (k .3);
             done = W .done ++ (v ∷ []);
             count = rw length-append (omega (arith, W .count));
             all = a ∙ rw (t .same) (sym (append-snoc (W .done) v (figures m (drop c text))));
+            rest = b ∙ rw (t .same);
             same = rw (W .same) stored;
             size = rw length-set (W .size);
             room = W .room;
           }
 
-  pub writing-end : {i at : ℕ} {out : List ℕ} → Writing limit n text from out₀ i at out → n ≤ i → out ≡ figures n (drop from text) ++ drop n out₀
-  unfolding figures
-  writing-end {i} {at} {out} W h = go (W .left) (W .sum) (W .all)
+  pub writing-end : {i at : ℕ} {out : List ℕ} → Writing limit n text from out₀ i at out → n ≤ i → FiguresGiven n text from out₀ at out
+  unfolding figures afterFigures
+  writing-end {i} {at} {out} W h = go (W .left) (W .sum) (W .all) (W .rest)
     where
-      go : (m : ℕ) → i + m ≡ n → figures n (drop from text) ≡ W .done ++ figures m (drop at text) → out ≡ figures n (drop from text) ++ drop n out₀
-      go zero e a = let z : i ≡ n = omega arith in W .same ∙ rw (a, append-nil, z)
-      go (suc m) e a = absurd (omega arith)
+      go : (m : ℕ) → i + m ≡ n → figures n (drop from text) ≡ W .done ++ figures m (drop at text) → afterFigures n (drop from text) ≡ afterFigures m (drop at text)
+          → FiguresGiven n text from out₀ at out
+      go zero e a b = let z : i ≡ n = omega arith in record { space = W .same ∙ rw (a, append-nil, z); left = sym b }
+      go (suc m) e a b = absurd (omega arith)

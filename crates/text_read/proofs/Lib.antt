@@ -1,9 +1,9 @@
 pub mod ByteClasses
 pub mod DigitSteps
-pub mod FixedBytes
+pub mod Letters
+pub mod Onward
 pub mod WordSteps
 pub mod FormSteps
-pub mod Onward
 pub mod LineCounts
 pub mod Figures
 pub mod LineSteps

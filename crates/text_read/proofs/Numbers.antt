@@ -46,7 +46,7 @@ kind-number get text at Unnamed t = told-number get text at none t
 
 pub word-number : (get : Get Written) (text : List ℕ) (at : ℕ) (r : Word) → Told get text at (wordRead r) → wordNumber r ≡ refusal (readerRules get text at)
 word-number get text at (words.Number n c) t = told-number get text at (some (numeral n, c .at)) t
-word-number get text at (words.Name k c) t = told-number get text at (some (name k, c .at)) t
+word-number get text at (words.Name n c) t = told-number get text at (some (name n, c .at)) t
 word-number get text at words.Broken t = told-number get text at none t
 
 pub head-number : (get : Get Head) (text : List ℕ) (at : ℕ) (r : HeadRead) → Told get text at (headRead r) → headReadNumber r ≡ refusal (readerRules get text at)

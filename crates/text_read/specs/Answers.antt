@@ -3,16 +3,18 @@ use mathlib.Core.Path.{_≡_}
 use mathlib.Core.Bool.{Bool, _&&_, cond}
 use mathlib.Core.Option.{Option, none, some}
 use mathlib.Core.List.{List, [], _∷_}
-use Prim.Native.Nat.{ℕ, _≤_, _<_}
+use Prim.Native.Nat.{ℕ, _-_, _≤_, _<_}
 use lib.Dec.{leb, eqb}
 use lib.ListN.{length, drop}
 use Rattle.pictures.specs.declared.sizes.Kind.{Kind}
 use Rattle.pictures.specs.declared.sizes.Kind.the-variants.{Rgb}
 use Rattle.pictures.specs.Numbers.{largestNumber}
 use Rattle.text_theory.specs.declared.Head.{Head}
-use Rattle.text_theory.specs.Readers.{Get, give, _▷_, after}
+use Rattle.text_theory.specs.declared.Name.{Name}
+use Rattle.text_theory.specs.Readers.{Get, give, _▷_, after, either}
 use Rattle.text_theory.specs.Decimal.{numberGet, isDigit}
-use Rattle.text_theory.specs.Files.{lineEnd, either, kindGet, items, pixelGet}
+use Rattle.text_theory.specs.Words.{nameGet, named}
+use Rattle.text_theory.specs.Files.{lineEnd, opening, items, pixelGet}
 use Rattle.text_read.specs.declared.cursor.Class.{Class}
 use Rattle.text_read.specs.declared.cursor.Class.the-variants.{Digit, Letter, Opening, Closing, Blank, LineEnd, Other}
 use Rattle.text_read.specs.declared.cursor.Read.{Read}
@@ -32,8 +34,23 @@ isLetter b = leb 97 b && leb b 122
 
 unfoldable pub classOf : ℕ → Class
 classOf b =
-    cond (isDigit b) Digit (cond (isLetter b) Letter (cond (eqb b 40) Opening (cond (eqb b 41) Closing
+    cond (isDigit b) (Digit (b - 48)) (cond (isLetter b) (Letter b) (cond (eqb b 40) Opening (cond (eqb b 41) Closing
     (cond (eqb b 32) Blank (cond (eqb b 10) LineEnd Other)))))
+
+-- The number of a class, by which two are told apart.
+abbrev pub classNumber : Class → ℕ
+classNumber (Digit d) = 0
+classNumber (Letter b) = 1
+classNumber Opening = 2
+classNumber Closing = 3
+classNumber Blank = 4
+classNumber LineEnd = 5
+classNumber Other = 6
+
+-- One byte of a class.
+unfoldable pub ofClass : Class → Get ℕ
+ofClass k [] = none
+ofClass k (b ∷ s) = cond (eqb (classNumber (classOf b)) (classNumber k)) (give 0 s) none
 
 -- A value and the place after it, read as a value and the bytes from that place on.
 abbrev pub readOn : {A : Type 0} → List ℕ → Option (A × ℕ) → Option (A × List ℕ)
@@ -59,24 +76,23 @@ abbrev pub kindRead : KindRead → Option (Kind × ℕ)
 kindRead (Named k c) = some (k, c .at)
 kindRead Unnamed = none
 
--- A word of a file: a number or the name of a kind.
+-- A word of a file: a number or a name.
 pub data Written : Type 0 where
   numeral : ℕ → Written
-  name : Kind → Written
+  name : Name → Written
 
 -- "Reading a word gives the word and the place where reading goes on."
 unfoldable pub word : Get Written
-word s = either ((numberGet largestNumber ▷ λ n. give (numeral n)) s) ((kindGet ▷ λ k. give (name k)) s)
+word s = either ((numberGet largestNumber ▷ λ n. give (numeral n)) s) ((nameGet ▷ λ n. give (name n)) s)
 
 abbrev pub wordRead : Word → Option (Written × ℕ)
 wordRead (words.Number n c) = some (numeral n, c .at)
-wordRead (words.Name k c) = some (name k, c .at)
+wordRead (words.Name n c) = some (name n, c .at)
 wordRead words.Broken = none
 
--- The bytes w; where there is none, nothing is found.
-unfoldable pub skipping : List ℕ → Get ℕ
-skipping [] = λ s. none
-skipping (b ∷ w) = after (b ∷ w) (give 0)
+-- How a line begins: its opening bracket and its name, read as a word.
+unfoldable pub beginning : Name → Get ℕ
+beginning n = after opening (named n)
 
 -- How many values a reader reads.
 unfoldable pub counted : {A : Type 0} → Get (List A) → Get ℕ

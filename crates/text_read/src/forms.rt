@@ -38,8 +38,8 @@ impl Cursor {
         ensures { λ r. ⌜ Told (itemOf what) (now (text .entry)) (self .at) (read r) ⌝ }
     {
         match what {
-            Items::Samples => self.number(text, 255),
-            Items::Numbers => self.number(text, LARGEST_NUMBER),
+            Items::Samples => self.limited(text, 255),
+            Items::Numbers => self.limited(text, LARGEST_NUMBER),
             Items::Pixels => {
                 let at = self.at;
                 if text.len() <= at {
@@ -49,7 +49,7 @@ impl Cursor {
                     return Read::Broken;
                 };
                 let inner = Cursor { at: at + 1 };
-                match inner.number(text, 255) {
+                match inner.limited(text, 255) {
                     Read::Good(_, c) => match c.form(text, Items::Samples) {
                         Read::Good(n, end) => {
                             if n == 2 {
@@ -73,7 +73,7 @@ impl Cursor {
         let Read::Good(n, c) = self.form(text, what) else {
             return Read::Broken;
         };
-        let Read::Good(_, d) = c.past(text, b"\n") else {
+        let Read::Good(_, d) = c.past(text, Class::LineEnd) else {
             return Read::Broken;
         };
         Read::Good(n, d)

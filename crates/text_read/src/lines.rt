@@ -7,13 +7,11 @@ use crate::cursor::class_of;
 use pictures::Kind;
 use text_rules::Items;
 use text_rules::items_of;
-ghost use mathlib.Core.Path.{_≡_};
-ghost use mathlib.Core.List.{_++_};
-ghost use lib.ListN.{drop};
+use text_theory::Name;
 ghost use Rattle.pictures.specs.Numbers.{largestNumber};
 ghost use Rattle.text_read.specs.Answers.{Told, read};
 ghost use Rattle.text_read.specs.Lines.{rowLine, mapLine, Taken};
-ghost use Rattle.text_read.specs.Inner.{figure, figures, Fitting};
+ghost use Rattle.text_read.specs.Inner.{figure, FiguresNeeded, FiguresGiven};
 
 impl Cursor {
     // The next number, whatever stands before it: in a line, blanks and brackets.
@@ -22,7 +20,7 @@ impl Cursor {
     {
         let mut at = self.at;
         while at < text.len() {
-            if let Class::Digit = class_of(text[at]) {
+            if let Class::Digit(_) = class_of(text[at]) {
                 let here = Cursor { at };
                 return here.digits(text);
             }
@@ -31,47 +29,49 @@ impl Cursor {
         Read::Broken
     }
 
-    // Writes the next n numbers, which are samples.
-    fn samples(self, text: &[u8], n: usize, out: &mut [u8])
-        requires { ⌜ Fitting 255 n (now text) (self .at) (now out) ⌝ }
-        ensures { λ _. ⌜ now (out .exit) ≡ figures n (drop (self .at) (now (text .entry))) ++ drop n (now (out .entry)) ⌝ }
+    // Writes the next n numbers, which are samples, and gives the place after them.
+    fn samples(self, text: &[u8], n: usize, out: &mut [u8]) -> Cursor
+        requires { ⌜ FiguresNeeded 255 n (now text) (self .at) (now out) ⌝ }
+        ensures { λ c. ⌜ FiguresGiven n (now (text .entry)) (self .at) (now (out .entry)) (c .at) (now (out .exit)) ⌝ }
     {
-        let mut at = self.at;
+        let mut here = self;
         let mut i: usize = 0;
         while i < n {
-            let here = Cursor { at };
-            let Read::Good(v, c) = here.figure(text) else {
-                return;
+            let Read::Good(v, next) = here.figure(text) else {
+                // unreachable: n numbers come next
+                return here;
             };
             out[i] = v as u8;
-            at = c.at;
+            here = next;
             i += 1;
         }
+        here
     }
 
-    // Writes the next n numbers.
-    fn numbers(self, text: &[u8], n: usize, out: &mut [u16])
-        requires { ⌜ Fitting largestNumber n (now text) (self .at) (now out) ⌝ }
-        ensures { λ _. ⌜ now (out .exit) ≡ figures n (drop (self .at) (now (text .entry))) ++ drop n (now (out .entry)) ⌝ }
+    // Writes the next n numbers, and gives the place after them.
+    fn numbers(self, text: &[u8], n: usize, out: &mut [u16]) -> Cursor
+        requires { ⌜ FiguresNeeded largestNumber n (now text) (self .at) (now out) ⌝ }
+        ensures { λ c. ⌜ FiguresGiven n (now (text .entry)) (self .at) (now (out .entry)) (c .at) (now (out .exit)) ⌝ }
     {
-        let mut at = self.at;
+        let mut here = self;
         let mut i: usize = 0;
         while i < n {
-            let here = Cursor { at };
-            let Read::Good(v, c) = here.figure(text) else {
-                return;
+            let Read::Good(v, next) = here.figure(text) else {
+                // unreachable: n numbers come next
+                return here;
             };
             out[i] = v as u16;
-            at = c.at;
+            here = next;
             i += 1;
         }
+        here
     }
 
     // The row line of this kind's pixels at this place: its samples at the front of out, if they fit. Else out stays.
     pub fn row(self, text: &[u8], kind: Kind, out: &mut [u8]) -> Read
         ensures { λ r. ⌜ Taken (rowLine kind) (now (text .entry)) (self .at) (now (out .entry)) (read r) (now (out .exit)) ⌝ }
     {
-        let Read::Good(_, c) = self.past(text, b"(row") else {
+        let Read::Good(_, c) = self.begin(text, Name::Row) else {
             return Read::Broken;
         };
         let Read::Good(n, d) = c.rest(text, items_of(kind)) else {
@@ -90,7 +90,7 @@ impl Cursor {
     pub fn map(self, text: &[u8], out: &mut [u16]) -> Read
         ensures { λ r. ⌜ Taken mapLine (now (text .entry)) (self .at) (now (out .entry)) (read r) (now (out .exit)) ⌝ }
     {
-        let Read::Good(_, c) = self.past(text, b"(map") else {
+        let Read::Good(_, c) = self.begin(text, Name::Map) else {
             return Read::Broken;
         };
         let Read::Good(n, d) = c.rest(text, Items::Numbers) else {

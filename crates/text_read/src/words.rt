@@ -1,23 +1,30 @@
-// Words: numbers and the names of kinds.
+// Words: numbers and names.
 use crate::cursor::Class;
 use crate::cursor::Cursor;
 use crate::cursor::Read;
 use crate::cursor::class_of;
 use pictures::Kind;
 use pictures::numbers::LARGEST_NUMBER;
-ghost use Prim.Native.Nat.{_≤_, _<_};
-ghost use lib.ListN.{length};
+use text_rules::NAMES;
+use text_theory::Name;
+ghost use Prim.Native.Nat.{_≤_};
 ghost use Rattle.pictures.specs.Numbers.{largestNumber};
+ghost use Rattle.text_theory.specs.Words.{nameGet, kindGet};
 ghost use Rattle.text_theory.specs.Decimal.{numberGet};
-ghost use Rattle.text_theory.specs.Files.{kindGet};
 ghost use Rattle.text_read.specs.Answers.{Told, read, word, wordRead, kindRead};
-ghost use Rattle.text_read.specs.Inner.{numberedOf};
+ghost use Rattle.text_read.specs.Inner.{nameRead};
 
 // A word and the place where reading goes on; or there is none.
 pub enum Word {
     Number(usize, Cursor),
-    Name(Kind, Cursor),
+    Name(Name, Cursor),
     Broken,
+}
+
+// A name and the place after it; or there is none.
+enum NameRead {
+    Known(Name, Cursor),
+    Unknown,
 }
 
 // The name of a kind and the place after it; or there is none.
@@ -27,16 +34,19 @@ pub enum KindRead {
 }
 
 impl Cursor {
-    fn name(self, text: &[u8]) -> KindRead
-        ensures { λ r. ⌜ Told kindGet (now (text .entry)) (self .at) (kindRead r) ⌝ }
+    // The first of the names that stands here.
+    fn name(self, text: &[u8]) -> NameRead
+        ensures { λ r. ⌜ Told nameGet (now (text .entry)) (self .at) (nameRead r) ⌝ }
     {
-        if let Read::Good(_, c) = self.past(text, b"grey") {
-            return KindRead::Named(Kind::Grey, c);
+        let mut i: usize = 0;
+        while i < NAMES {
+            let name = text_rules::name_at(i);
+            if let Read::Good(_, c) = self.letters(text, name) {
+                return NameRead::Known(name, c);
+            }
+            i += 1;
         }
-        if let Read::Good(_, c) = self.past(text, b"rgb") {
-            return KindRead::Named(Kind::Rgb, c);
-        }
-        KindRead::Unnamed
+        NameRead::Unknown
     }
 
     // A word: a number, which begins with a digit, or a name, which begins with a small letter.
@@ -49,24 +59,24 @@ impl Cursor {
         }
         let class = class_of(text[at]);
         match class {
-            Class::Digit => {
+            Class::Digit(_) => {
                 let Read::Good(n, c) = self.digits(text) else {
                     return Word::Broken;
                 };
                 Word::Number(n, c)
             }
-            Class::Letter => {
-                let KindRead::Named(kind, c) = self.name(text) else {
+            Class::Letter(_) => {
+                let NameRead::Known(name, c) = self.name(text) else {
                     return Word::Broken;
                 };
-                Word::Name(kind, c)
+                Word::Name(name, c)
             }
             _ => Word::Broken,
         }
     }
 
     // A word that is a number up to the limit.
-    pub(crate) fn number(self, text: &[u8], limit: usize) -> Read
+    pub(crate) fn limited(self, text: &[u8], limit: usize) -> Read
         requires { ⌜ limit ≤ largestNumber ⌝ }
         ensures { λ r. ⌜ Told (numberGet limit) (now (text .entry)) (self .at) (read r) ⌝ }
     {
@@ -83,28 +93,24 @@ impl Cursor {
         }
     }
 
+    // A word that is a number.
+    pub fn number(self, text: &[u8]) -> Read
+        ensures { λ r. ⌜ Told (numberGet largestNumber) (now (text .entry)) (self .at) (read r) ⌝ }
+    {
+        self.limited(text, LARGEST_NUMBER)
+    }
+
     // A word that is the name of a kind.
     pub fn kind(self, text: &[u8]) -> KindRead
         ensures { λ r. ⌜ Told kindGet (now (text .entry)) (self .at) (kindRead r) ⌝ }
     {
-        match self.word(text) {
-            Word::Name(kind, c) => KindRead::Named(kind, c),
-            Word::Number(_, _) => KindRead::Unnamed,
-            Word::Broken => KindRead::Unnamed,
+        let Word::Name(name, c) = self.word(text) else {
+            return KindRead::Unnamed;
+        };
+        match name {
+            Name::Grey => KindRead::Named(Kind::Grey, c),
+            Name::Rgb => KindRead::Named(Kind::Rgb, c),
+            _ => KindRead::Unnamed,
         }
-    }
-
-    // A number and the bytes after it.
-    pub(crate) fn numbered(self, text: &[u8], w: &[u8]) -> Read
-        requires { ⌜ 0 < length (now w) ⌝ }
-        ensures { λ r. ⌜ Told (numberedOf (now (w .entry))) (now (text .entry)) (self .at) (read r) ⌝ }
-    {
-        let Read::Good(n, c) = self.number(text, LARGEST_NUMBER) else {
-            return Read::Broken;
-        };
-        let Read::Good(_, d) = c.past(text, w) else {
-            return Read::Broken;
-        };
-        Read::Good(n, d)
     }
 }

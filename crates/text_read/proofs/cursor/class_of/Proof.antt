@@ -7,6 +7,9 @@ use borrow.Author.Needs.{needs}
 use Rattle.text_read.proofs.cursor.class_of.Statement.{statement}
 use Rattle.text_read.proofs.cursor.class_of.Tie as tie
 
+digit-requires : tie.Need-digit-requires
+digit-requires c κs = search needs
+
 returns : tie.Need-returns
 unfolding classOf isDigit isLetter
 returns c = rw (c .match .keys1)
@@ -24,7 +27,7 @@ unfolding classOf isDigit isLetter
 returns-4 c = rw (c .match .keys4)
 
 returns-5 : tie.Need-returns-5
-returns-5 c = class-digit _ (search needs) (search needs)
+returns-5 c = class-digit _ _ (search needs) (search needs) (c .digit .ensures)
 
 returns-6 : tie.Need-returns-6
 returns-6 c = class-letter _ (search needs) (search needs)
@@ -46,6 +49,7 @@ pub class-of-spec : {M : Type 1} → statement M
 class-of-spec =
     tie.close
     (tie.spec
+    digit-requires
     returns
     returns-2
     returns-3

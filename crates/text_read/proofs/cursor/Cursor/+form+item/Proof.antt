@@ -13,7 +13,7 @@ use Rattle.text_read.proofs.cursor.Cursor.+form+item.Lts-form as form-l
 use Rattle.text_read.proofs.cursor.Cursor.item.Reads as item
 use Rattle.text_read.proofs.cursor.Cursor.item.Kinds as item-kinds
 use Rattle.text_read.proofs.cursor.Cursor.+form+item.Lts-item as item-lts
-use Rattle.text_read.proofs.cursor.Cursor.number.Reads as number
+use Rattle.text_read.proofs.cursor.Cursor.limited.Reads as limited
 use Rattle.text_read.proofs.cursor.class_of.Reads as class-of
 use Rattle.text_read.proofs.cursor.Cursor.+form+item.{statement}
 use Rattle.text_read.proofs.cursor.Cursor.+form+item.Tie.{close}
@@ -36,7 +36,7 @@ abbrev item-at : ℕ → In 1 item-kinds.ps
 item-at t = and 1 item-kinds.ps (is 1 item-kinds.ps item-left t) item.Pre
 
 abbrev item-calls : ℕ → item-lts.Claims
-item-calls t = (number.Asked, number.Learnt, class-of.Asked, class-of.Learnt, and 1 form-kinds.ps (falls 1 form-kinds.ps _<_ form-left t) form.Pre, form.Post)
+item-calls t = (limited.Asked, limited.Learnt, class-of.Asked, class-of.Learnt, and 1 form-kinds.ps (falls 1 form-kinds.ps _<_ form-left t) form.Pre, form.Post)
 
 abbrev counting : form-lts.InvT-loop
 counting text what n₀ at₀ n at = Counting what text at₀ n at
@@ -114,14 +114,14 @@ module _ (t : ℕ) where
   item-enum-told : item-lts.Need-enum-told (item-calls t) (item-at t) item.Post
   item-enum-told c = search needs
 
-  item-number-requires : item-lts.Need-number-requires (item-calls t) (item-at t) item.Post
-  item-number-requires c κs = search needs
+  item-limited-requires : item-lts.Need-limited-requires (item-calls t) (item-at t) item.Post
+  item-limited-requires c κs = search needs
 
   item-enum-told-2 : item-lts.Need-enum-told-2 (item-calls t) (item-at t) item.Post
   item-enum-told-2 c = search needs
 
-  item-number-requires-2 : item-lts.Need-number-requires-2 (item-calls t) (item-at t) item.Post
-  item-number-requires-2 c κs = search needs
+  item-limited-requires-2 : item-lts.Need-limited-requires-2 (item-calls t) (item-at t) item.Post
+  item-limited-requires-2 c κs = search needs
 
   item-enum-told-3 : item-lts.Need-enum-told-3 (item-calls t) (item-at t) item.Post
   item-enum-told-3 c = search needs
@@ -146,15 +146,15 @@ module _ (t : ℕ) where
   item-add-t10 : item-lts.Need-add-t10 (item-calls t) (item-at t) item.Post
   item-add-t10 c = search needs
 
-  item-number-requires-3 : item-lts.Need-number-requires-3 (item-calls t) (item-at t) item.Post
-  item-number-requires-3 c κs = search needs
+  item-limited-requires-3 : item-lts.Need-limited-requires-3 (item-calls t) (item-at t) item.Post
+  item-limited-requires-3 c κs = search needs
 
   item-enum-known-c : item-lts.Need-enum-known-c (item-calls t) (item-at t) item.Post
   item-enum-known-c c = search needs
 
   item-form-requires : item-lts.Need-form-requires (item-calls t) (item-at t) item.Post
   item-form-requires c κs =
-      let r = rw (c .before .c .given .1) at (c .before .before .before .number3 .ensures) in
+      let r = rw (c .before .c .given .1) at (c .before .before .before .limited3 .ensures) in
       let m = r .moved in
       search needs
 
@@ -168,10 +168,10 @@ module _ (t : ℕ) where
   item-enum-told-6 c = search needs
 
   item-returns-3 : item-lts.Need-returns-3 (item-calls t) (item-at t) item.Post
-  item-returns-3 c = rw (c .before .enum-told .given .1) (item-samples (c .number .ensures))
+  item-returns-3 c = rw (c .before .enum-told .given .1) (item-samples (c .limited .ensures))
 
   item-returns-4 : item-lts.Need-returns-4 (item-calls t) (item-at t) item.Post
-  item-returns-4 c = rw (c .before .enum-told2 .given .1) (item-numbers (c .number2 .ensures))
+  item-returns-4 c = rw (c .before .enum-told2 .given .1) (item-numbers (c .limited2 .ensures))
 
   item-returns-5 : item-lts.Need-returns-5 (item-calls t) (item-at t) item.Post
   item-returns-5 c =
@@ -179,7 +179,7 @@ module _ (t : ℕ) where
       let first = called .before .before .before .before in
       let o = first .before in
       rw (o .before .before .before .before .before .enum-told3 .given .1)
-      (item-three (o .before .before .before .before .if1 .left) (opening-byte (o .enum-told4 .given .1) (o .before .before .class-of .ensures)) (rw (called .before .before .c .given .1) at (first .number3 .ensures)) (rw (c .before .before .n .given .1) at (called .form .ensures)) (c .if2 .taken))
+      (item-three (o .before .before .before .before .if1 .left) (opening-byte (o .enum-told4 .given .1) (o .before .before .class-of .ensures)) (rw (called .before .before .c .given .1) at (first .limited3 .ensures)) (rw (c .before .before .n .given .1) at (called .form .ensures)) (c .if2 .taken))
 
   item-returns-6 : item-lts.Need-returns-6 (item-calls t) (item-at t) item.Post
   item-returns-6 c =
@@ -187,7 +187,7 @@ module _ (t : ℕ) where
       let first = called .before .before .before .before in
       let o = first .before in
       rw (o .before .before .before .before .before .enum-told3 .given .1)
-      (item-count (o .before .before .before .before .if1 .left) (opening-byte (o .enum-told4 .given .1) (o .before .before .class-of .ensures)) (rw (called .before .before .c .given .1) at (first .number3 .ensures)) (rw (c .before .before .n .given .1) at (called .form .ensures)) (c .if2 .left))
+      (item-count (o .before .before .before .before .if1 .left) (opening-byte (o .enum-told4 .given .1) (o .before .before .class-of .ensures)) (rw (called .before .before .c .given .1) at (first .limited3 .ensures)) (rw (c .before .before .n .given .1) at (called .form .ensures)) (c .if2 .left))
 
   item-returns-7 : item-lts.Need-returns-7 (item-calls t) (item-at t) item.Post
   item-returns-7 c =
@@ -195,16 +195,16 @@ module _ (t : ℕ) where
       let first = called .before .before .before .before in
       let o = first .before in
       rw (o .before .before .before .before .before .enum-told3 .given .1)
-      (item-rest (o .before .before .before .before .if1 .left) (opening-byte (o .enum-told4 .given .1) (o .before .before .class-of .ensures)) (rw (called .before .before .c .given .1) at (first .number3 .ensures)) (rw (c .enum-told5 .given .1) at (called .form .ensures)))
+      (item-rest (o .before .before .before .before .if1 .left) (opening-byte (o .enum-told4 .given .1) (o .before .before .class-of .ensures)) (rw (called .before .before .c .given .1) at (first .limited3 .ensures)) (rw (c .enum-told5 .given .1) at (called .form .ensures)))
 
   item-returns-8 : item-lts.Need-returns-8 (item-calls t) (item-at t) item.Post
   item-returns-8 c =
       let first = c .before .before in
       let o = first .before in
       rw (o .before .before .before .before .before .enum-told3 .given .1)
-      (item-first (o .before .before .before .before .if1 .left) (opening-byte (o .enum-told4 .given .1) (o .before .before .class-of .ensures)) (rw (c .enum-told6 .given .1) at (first .number3 .ensures)))
+      (item-first (o .before .before .before .before .if1 .left) (opening-byte (o .enum-told4 .given .1) (o .before .before .class-of .ensures)) (rw (c .enum-told6 .given .1) at (first .limited3 .ensures)))
 
 pub +form+item-spec : {M : Type 1} → statement M
 +form+item-spec = close form-left item-left
     (λ t. form-lts.spec (form-calls t) (form-at t) form.Post counting loop-left (form-loop-holds t) (form-shared-slice-read-class-of t) (form-class-of-requires t) (form-enum-told t) (form-add-t13 t) (form-returns t) (form-enum-told-2 t) (form-returns-2 t) (form-add-t9 t) (form-item-requires t) (form-enum-known-c t) (form-add-n t) (form-loop-less t) (form-loop-again t) (form-enum-told-3 t) (form-returns-3 t) (form-returns-4 t))
-    (λ t. item-lts.spec (item-calls t) (item-at t) item.Post (item-enum-told t) (item-number-requires t) (item-enum-told-2 t) (item-number-requires-2 t) (item-enum-told-3 t) (item-returns t) (item-shared-slice-read-class-of t) (item-class-of-requires t) (item-enum-told-4 t) (item-returns-2 t) (item-add-t10 t) (item-number-requires-3 t) (item-enum-known-c t) (item-form-requires t) (item-enum-known-n t) (item-enum-told-5 t) (item-enum-told-6 t) (item-returns-3 t) (item-returns-4 t) (item-returns-5 t) (item-returns-6 t) (item-returns-7 t) (item-returns-8 t))
+    (λ t. item-lts.spec (item-calls t) (item-at t) item.Post (item-enum-told t) (item-limited-requires t) (item-enum-told-2 t) (item-limited-requires-2 t) (item-enum-told-3 t) (item-returns t) (item-shared-slice-read-class-of t) (item-class-of-requires t) (item-enum-told-4 t) (item-returns-2 t) (item-add-t10 t) (item-limited-requires-3 t) (item-enum-known-c t) (item-form-requires t) (item-enum-known-n t) (item-enum-told-5 t) (item-enum-told-6 t) (item-returns-3 t) (item-returns-4 t) (item-returns-5 t) (item-returns-6 t) (item-returns-7 t) (item-returns-8 t))

@@ -1,16 +1,54 @@
--- `text_read::cursor::Cursor::header` meets its contract.
-use native.Mathlib.Omega.{arith}
-use Rattle.text_theory.specs.Files.{start, blank, range, closed, headGet}
-use Rattle.text_read.proofs.Onward.{left-start, left-past, left-no-past, left-then, left-no-then, left-numbered, left-no-numbered, left-give}
+-- `text_read::cursor::Cursor::header` meets its contract: after each line, what is left of the head is left to read.
+use mathlib.Core.List.{List}
+use Prim.Native.Nat.{ℕ}
+use Rattle.pictures.specs.declared.sizes.Size.{Size}
+use Rattle.text_theory.specs.declared.Head.{Head}
+use Rattle.text_theory.specs.declared.Name.the-variants as name
+use Rattle.text_theory.specs.Readers.{Get, give, _▷_, after}
+use Rattle.text_theory.specs.Files.{lineEnd, begun, sizeGet, rangeGet, headGet}
+use Rattle.text_read.proofs.ByteClasses.{told-line-end}
+use Rattle.text_read.proofs.Onward.{Left, left-start, left-as, left-past, left-no-past, left-then, left-no-then, left-then-give, told-begun, after-first}
 use borrow.Author.Needs.{needs}
 use Rattle.text_read.proofs.cursor.Cursor.header.Statement.{statement}
 use Rattle.text_read.proofs.cursor.Cursor.header.Tie as tie
 
-slice-aggregate-past : tie.Need-slice-aggregate-past
-slice-aggregate-past c = search needs
+-- The head from each line on.
+abbrev head-of : Size → ℕ × ℕ → Head
+head-of z r = record { size = z; depth = r .0; growth = r .1 }
 
-past-requires : tie.Need-past-requires
-past-requires c κs = search needs
+abbrev from-range : Size → Get Head
+from-range z = rangeGet ▷ λ r. give (head-of z r)
+
+-- The text and the place at the start.
+abbrev text : tie.After-a → List ℕ
+text c = c .before .before .before .before .args .text .now
+
+abbrev from : tie.After-a → ℕ
+from c = c .before .before .before .before .args .self .at
+
+abbrev the-a : tie.After-b → tie.After-a
+the-a c = c .before .before .before .before
+
+abbrev the-b : tie.After-size → tie.After-b
+the-b c = c .before .before .before .before
+
+-- What is left after the first line's name, the first line, the line of the size.
+at-start : (text : List ℕ) (from : ℕ) → Left headGet text from (after (begun name.Multi) (after lineEnd (sizeGet ▷ from-range))) from
+unfolding headGet
+at-start text from = left-as (after-first (sizeGet ▷ from-range)) left-start
+
+after-name : (c : tie.After-a) → Left headGet (text c) (from c) (after lineEnd (sizeGet ▷ from-range)) (c .a .given .0 .1 .0 .at)
+after-name c = left-past (begun name.Multi) (at-start (text c) (from c)) (told-begun name.Multi (rw (c .a .given .1) at (c .before .before .begin .ensures)))
+
+after-first-line : (c : tie.After-b) → Left headGet (text (the-a c)) (from (the-a c)) (sizeGet ▷ from-range) (c .b .given .0 .1 .0 .at)
+after-first-line c = left-past lineEnd (after-name (the-a c)) (told-line-end (rw (c .b .given .1) at (c .before .before .past .ensures)))
+
+after-size : (c : tie.After-size)
+    → let a = the-a (the-b c) in Left headGet (text a) (from a) (from-range (c .size .given .0 .0)) (c .size .given .0 .1 .0 .at)
+after-size c = left-then from-range (after-first-line (the-b c)) (rw (c .size .given .1) at (c .before .before .size-line .ensures))
+
+begin-requires : tie.Need-begin-requires
+begin-requires c κs = search needs
 
 enum-known-a : tie.Need-enum-known-a
 enum-known-a c = search needs
@@ -19,218 +57,67 @@ enum-told : tie.Need-enum-told
 enum-told c = search needs
 
 returns : tie.Need-returns
-unfolding headGet start blank range closed
-returns c = left-no-past start _ left-start (rw (c .enum-told .given .1) at (c .before .before .past .ensures))
+returns c = left-no-past (begun name.Multi) _ (at-start _ _) (told-begun name.Multi (rw (c .enum-told .given .1) at (c .before .before .begin .ensures)))
 
-slice-aggregate-numbered : tie.Need-slice-aggregate-numbered
-slice-aggregate-numbered c = search needs
+past-requires : tie.Need-past-requires
+past-requires c κs = search needs
 
-numbered-requires : tie.Need-numbered-requires
-numbered-requires c κs = search needs
-
-enum-known-width : tie.Need-enum-known-width
-enum-known-width c = search needs
+enum-known-b : tie.Need-enum-known-b
+enum-known-b c = search needs
 
 enum-told-2 : tie.Need-enum-told-2
 enum-told-2 c = search needs
 
 returns-2 : tie.Need-returns-2
-unfolding headGet start blank range closed
-returns-2 c =
-    let at-numbered = c .before .before in
-    let at-a = at-numbered .before .before .before in
-    let at-past = at-a .before .before in
-    left-no-numbered blank _ (left-past start left-start (rw (at-a .a .given .1) at (at-past .past .ensures))) (rw (c .enum-told2 .given .1) at (at-numbered .numbered .ensures))
+returns-2 c = left-no-past lineEnd _ (after-name (c .before .before .before .before)) (told-line-end (rw (c .enum-told2 .given .1) at (c .before .before .past .ensures)))
 
-slice-aggregate-numbered-2 : tie.Need-slice-aggregate-numbered-2
-slice-aggregate-numbered-2 c = search needs
+size-line-requires : tie.Need-size-line-requires
+size-line-requires c κs = search needs
 
-numbered-requires-2 : tie.Need-numbered-requires-2
-numbered-requires-2 c κs = search needs
-
-enum-known-height : tie.Need-enum-known-height
-enum-known-height c = search needs
+enum-known-size : tie.Need-enum-known-size
+enum-known-size c = search needs
 
 enum-told-3 : tie.Need-enum-told-3
 enum-told-3 c = search needs
 
 returns-3 : tie.Need-returns-3
-unfolding headGet start blank range closed
-returns-3 c =
-    let at-numbered2 = c .before .before in
-    let at-width = at-numbered2 .before .before .before in
-    let at-numbered = at-width .before .before in
-    let at-a = at-numbered .before .before .before in
-    let at-past = at-a .before .before in
-    left-no-numbered blank _ (left-numbered blank _ (left-past start left-start (rw (at-a .a .given .1) at (at-past .past .ensures))) (rw (at-width .width .given .1) at (at-numbered .numbered .ensures))) (rw (c .enum-told3 .given .1) at (at-numbered2 .numbered2 .ensures))
+returns-3 c = left-no-then from-range (after-first-line (c .before .before .before .before)) (rw (c .enum-told3 .given .1) at (c .before .before .size-line .ensures))
 
-kind-requires : tie.Need-kind-requires
-kind-requires c κs = search needs
+range-line-requires : tie.Need-range-line-requires
+range-line-requires c κs = search needs
 
-enum-known-kind : tie.Need-enum-known-kind
-enum-known-kind c = search needs
+enum-known-depth : tie.Need-enum-known-depth
+enum-known-depth c = search needs
 
 enum-told-4 : tie.Need-enum-told-4
 enum-told-4 c = search needs
 
 returns-4 : tie.Need-returns-4
-unfolding headGet start blank range closed
-returns-4 c =
-    let at-kind = c .before .before in
-    let at-height = at-kind .before .before in
-    let at-numbered2 = at-height .before .before in
-    let at-width = at-numbered2 .before .before .before in
-    let at-numbered = at-width .before .before in
-    let at-a = at-numbered .before .before .before in
-    let at-past = at-a .before .before in
-    left-no-then _ (left-numbered blank _ (left-numbered blank _ (left-past start left-start (rw (at-a .a .given .1) at (at-past .past .ensures))) (rw (at-width .width .given .1) at (at-numbered .numbered .ensures))) (rw (at-height .height .given .1) at (at-numbered2 .numbered2 .ensures))) (rw (c .enum-told4 .given .1) at (at-kind .kind .ensures))
-
-slice-aggregate-past-2 : tie.Need-slice-aggregate-past-2
-slice-aggregate-past-2 c = search needs
-
-past-requires-2 : tie.Need-past-requires-2
-past-requires-2 c κs = search needs
-
-enum-known-e : tie.Need-enum-known-e
-enum-known-e c = search needs
-
-enum-told-5 : tie.Need-enum-told-5
-enum-told-5 c = search needs
+returns-4 c = left-no-then _ (after-size (c .before .before .before .before)) (rw (c .enum-told4 .given .1) at (c .before .before .range-line .ensures))
 
 returns-5 : tie.Need-returns-5
-unfolding headGet start blank range closed
 returns-5 c =
-    let at-past2 = c .before .before in
-    let at-kind2 = at-past2 .before .before .before in
-    let at-kind = at-kind2 .before .before in
-    let at-height = at-kind .before .before in
-    let at-numbered2 = at-height .before .before in
-    let at-width = at-numbered2 .before .before .before in
-    let at-numbered = at-width .before .before in
-    let at-a = at-numbered .before .before .before in
-    let at-past = at-a .before .before in
-    left-no-past range _ (left-then _ (left-numbered blank _ (left-numbered blank _ (left-past start left-start (rw (at-a .a .given .1) at (at-past .past .ensures))) (rw (at-width .width .given .1) at (at-numbered .numbered .ensures))) (rw (at-height .height .given .1) at (at-numbered2 .numbered2 .ensures))) (rw (at-kind2 .kind2 .given .1) at (at-kind .kind .ensures))) (rw (c .enum-told5 .given .1) at (at-past2 .past2 .ensures))
-
-slice-aggregate-numbered-3 : tie.Need-slice-aggregate-numbered-3
-slice-aggregate-numbered-3 c = search needs
-
-numbered-requires-3 : tie.Need-numbered-requires-3
-numbered-requires-3 c κs = search needs
-
-enum-known-depth : tie.Need-enum-known-depth
-enum-known-depth c = search needs
-
-enum-told-6 : tie.Need-enum-told-6
-enum-told-6 c = search needs
-
-returns-6 : tie.Need-returns-6
-unfolding headGet start blank range closed
-returns-6 c =
-    let at-numbered3 = c .before .before in
-    let at-e = at-numbered3 .before .before .before in
-    let at-past2 = at-e .before .before in
-    let at-kind2 = at-past2 .before .before .before in
-    let at-kind = at-kind2 .before .before in
-    let at-height = at-kind .before .before in
-    let at-numbered2 = at-height .before .before in
-    let at-width = at-numbered2 .before .before .before in
-    let at-numbered = at-width .before .before in
-    let at-a = at-numbered .before .before .before in
-    let at-past = at-a .before .before in
-    left-no-numbered blank _ (left-past range (left-then _ (left-numbered blank _ (left-numbered blank _ (left-past start left-start (rw (at-a .a .given .1) at (at-past .past .ensures))) (rw (at-width .width .given .1) at (at-numbered .numbered .ensures))) (rw (at-height .height .given .1) at (at-numbered2 .numbered2 .ensures))) (rw (at-kind2 .kind2 .given .1) at (at-kind .kind .ensures))) (rw (at-e .e .given .1) at (at-past2 .past2 .ensures))) (rw (c .enum-told6 .given .1) at (at-numbered3 .numbered3 .ensures))
-
-slice-aggregate-numbered-4 : tie.Need-slice-aggregate-numbered-4
-slice-aggregate-numbered-4 c = search needs
-
-numbered-requires-4 : tie.Need-numbered-requires-4
-numbered-requires-4 c κs = search needs
-
-enum-known-growth : tie.Need-enum-known-growth
-enum-known-growth c = search needs
-
-enum-told-7 : tie.Need-enum-told-7
-enum-told-7 c = search needs
-
-returns-7 : tie.Need-returns-7
-unfolding headGet start blank range closed
-returns-7 c =
-    let at-numbered4 = c .before .before in
-    let at-depth = at-numbered4 .before .before .before in
-    let at-numbered3 = at-depth .before .before in
-    let at-e = at-numbered3 .before .before .before in
-    let at-past2 = at-e .before .before in
-    let at-kind2 = at-past2 .before .before .before in
-    let at-kind = at-kind2 .before .before in
-    let at-height = at-kind .before .before in
-    let at-numbered2 = at-height .before .before in
-    let at-width = at-numbered2 .before .before .before in
-    let at-numbered = at-width .before .before in
-    let at-a = at-numbered .before .before .before in
-    let at-past = at-a .before .before in
-    left-no-numbered closed _ (left-numbered blank _ (left-past range (left-then _ (left-numbered blank _ (left-numbered blank _ (left-past start left-start (rw (at-a .a .given .1) at (at-past .past .ensures))) (rw (at-width .width .given .1) at (at-numbered .numbered .ensures))) (rw (at-height .height .given .1) at (at-numbered2 .numbered2 .ensures))) (rw (at-kind2 .kind2 .given .1) at (at-kind .kind .ensures))) (rw (at-e .e .given .1) at (at-past2 .past2 .ensures))) (rw (at-depth .depth .given .1) at (at-numbered3 .numbered3 .ensures))) (rw (c .enum-told7 .given .1) at (at-numbered4 .numbered4 .ensures))
-
-returns-8 : tie.Need-returns-8
-unfolding headGet start blank range closed
-returns-8 c =
-    let at-growth = c .before in
-    let at-numbered4 = at-growth .before .before in
-    let at-depth = at-numbered4 .before .before .before in
-    let at-numbered3 = at-depth .before .before in
-    let at-e = at-numbered3 .before .before .before in
-    let at-past2 = at-e .before .before in
-    let at-kind2 = at-past2 .before .before .before in
-    let at-kind = at-kind2 .before .before in
-    let at-height = at-kind .before .before in
-    let at-numbered2 = at-height .before .before in
-    let at-width = at-numbered2 .before .before .before in
-    let at-numbered = at-width .before .before in
-    let at-a = at-numbered .before .before .before in
-    let at-past = at-a .before .before in
-    let a = rw (at-a .a .given .1) at (at-past .past .ensures) in
-    let b = rw (at-width .width .given .1) at (at-numbered .numbered .ensures) in
-    let d = rw (at-height .height .given .1) at (at-numbered2 .numbered2 .ensures) in
-    let e = rw (at-kind2 .kind2 .given .1) at (at-kind .kind .ensures) in
-    let f = rw (at-e .e .given .1) at (at-past2 .past2 .ensures) in
-    let g = rw (at-depth .depth .given .1) at (at-numbered3 .numbered3 .ensures) in
-    let h = rw (at-growth .growth .given .1) at (at-numbered4 .numbered4 .ensures) in
-    left-give (omega (arith, a .moved .0, b .moved .0, d .moved .0, e .moved .0, f .moved .0, g .moved .0, h .moved .0)) (h .moved .1) (left-numbered closed _ (left-numbered blank _ (left-past range (left-then _ (left-numbered blank _ (left-numbered blank _ (left-past start left-start (rw (at-a .a .given .1) at (at-past .past .ensures))) (rw (at-width .width .given .1) at (at-numbered .numbered .ensures))) (rw (at-height .height .given .1) at (at-numbered2 .numbered2 .ensures))) (rw (at-kind2 .kind2 .given .1) at (at-kind .kind .ensures))) (rw (at-e .e .given .1) at (at-past2 .past2 .ensures))) (rw (at-depth .depth .given .1) at (at-numbered3 .numbered3 .ensures))) (rw (at-growth .growth .given .1) at (at-numbered4 .numbered4 .ensures)))
+    let at-size = c .before .before .before .before .before in
+    left-then-give (head-of (at-size .size .given .0 .0)) (after-size at-size) (rw (c .before .depth .given .1) at (c .before .before .before .range-line .ensures))
 
 pub header-spec : {M : Type 1} → statement M
 header-spec =
     tie.close
     (tie.spec
-    slice-aggregate-past
-    past-requires
+    begin-requires
     enum-known-a
     enum-told
     returns
-    slice-aggregate-numbered
-    numbered-requires
-    enum-known-width
+    past-requires
+    enum-known-b
     enum-told-2
     returns-2
-    slice-aggregate-numbered-2
-    numbered-requires-2
-    enum-known-height
+    size-line-requires
+    enum-known-size
     enum-told-3
     returns-3
-    kind-requires
-    enum-known-kind
+    range-line-requires
+    enum-known-depth
     enum-told-4
     returns-4
-    slice-aggregate-past-2
-    past-requires-2
-    enum-known-e
-    enum-told-5
-    returns-5
-    slice-aggregate-numbered-3
-    numbered-requires-3
-    enum-known-depth
-    enum-told-6
-    returns-6
-    slice-aggregate-numbered-4
-    numbered-requires-4
-    enum-known-growth
-    enum-told-7
-    returns-7
-    returns-8)
+    returns-5)

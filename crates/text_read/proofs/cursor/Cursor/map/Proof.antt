@@ -1,11 +1,13 @@
--- `text_read::cursor::Cursor::map` meets its contract.
+-- `text_read::cursor::Cursor::map` meets its contract: the first pass finds the line (`found`), the second writes what it counted.
 use mathlib.Core.Option.{some}
 use native.Mathlib.Omega.{arith}
 use Rattle.pictures.specs.Numbers.{largestNumber}
+use Rattle.text_theory.specs.declared.Name.the-variants as name
 use Rattle.text_theory.specs.Files.{mapWord}
 use Rattle.text_read.specs.Answers.{Told}
 use Rattle.text_read.specs.Lines.{mapLine}
 use Rattle.text_read.specs.Inner.{passing}
+use Rattle.text_read.proofs.Onward.{told-begun}
 use Rattle.text_read.proofs.LinesTaken.{Found, map-no-word, map-torn, map-found, found-coming, found-long, found-fits}
 use borrow.Author.Needs.{needs}
 use Rattle.text_read.proofs.cursor.Cursor.map.Statement.{statement}
@@ -13,26 +15,23 @@ use Rattle.text_read.proofs.cursor.Cursor.map.Tie as tie
 
 -- The word stands there.
 begun : (c : tie.After-c)
-    → let s = c .before .before .before .before .before .before in
+    → let s = c .before .before .before .before .before in
     let a = s .args in Told (passing mapWord) (a .text .now) (a .self .at) (some (c .c .given .0 .0, c .c .given .0 .1 .0 .at))
 unfolding mapWord
-begun c = rw (c .c .given .1) at (c .before .before .past .ensures)
+begun c = told-begun name.Map (rw (c .c .given .1) at (c .before .before .begin .ensures))
 
 -- The line has its form.
 found : (c : tie.After-n)
     → let at-c = c .before .before .before .before in
-    let s = at-c .before .before .before .before .before .before in
+    let s = at-c .before .before .before .before .before in
     let a = s .args in Found mapLine largestNumber (a .text .now) (a .self .at) (at-c .c .given .0 .1 .0 .at) (c .n .given .0 .0) (c .n .given .0 .1 .0 .at)
 found c =
     let at-rest = c .before .before in
     let at-c = at-rest .before .before in
     map-found (begun at-c) (rw (c .n .given .1) at (at-rest .rest .ensures))
 
-slice-aggregate-past : tie.Need-slice-aggregate-past
-slice-aggregate-past c = search needs
-
-past-requires : tie.Need-past-requires
-past-requires c κs = search needs
+begin-requires : tie.Need-begin-requires
+begin-requires c κs = search needs
 
 enum-known-c : tie.Need-enum-known-c
 enum-known-c c = search needs
@@ -42,7 +41,7 @@ enum-told c = search needs
 
 returns : tie.Need-returns
 unfolding mapWord
-returns c = map-no-word (rw (c .enum-told .given .1) at (c .before .before .past .ensures))
+returns c = map-no-word (told-begun name.Map (rw (c .enum-told .given .1) at (c .before .before .begin .ensures)))
 
 rest-requires : tie.Need-rest-requires
 rest-requires c κs = search needs
@@ -73,14 +72,13 @@ returns-4 c =
     let at-numbers = c .before .before in
     let at-if1 = at-numbers .before .before in
     let at-n = at-if1 .before .before in
-    found-fits (found at-n) (omega arith) (at-if1 .if1 .left) (at-numbers .numbers .ensures)
+    found-fits (found at-n) (omega arith) (at-if1 .if1 .left) (at-numbers .numbers .ensures .space)
 
 pub map-spec : {M : Type 1} → statement M
 map-spec =
     tie.close
     (tie.spec
-    slice-aggregate-past
-    past-requires
+    begin-requires
     enum-known-c
     enum-told
     returns

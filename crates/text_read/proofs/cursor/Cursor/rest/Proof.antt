@@ -1,8 +1,8 @@
--- `text_read::cursor::Cursor::rest` meets its contract.
-use native.Mathlib.Omega.{arith}
+-- `text_read::cursor::Cursor::rest` meets its contract: the form, then the line end.
 use Rattle.text_theory.specs.Files.{lineEnd}
 use Rattle.text_read.specs.Answers.{lineRest}
-use Rattle.text_read.proofs.Onward.{left-start, left-past, left-no-past, left-then, left-no-then, left-give}
+use Rattle.text_read.proofs.ByteClasses.{told-line-end}
+use Rattle.text_read.proofs.Onward.{left-start, left-no-past, left-past-give, left-then, left-no-then}
 use borrow.Author.Needs.{needs}
 use Rattle.text_read.proofs.cursor.Cursor.rest.Statement.{statement}
 use Rattle.text_read.proofs.cursor.Cursor.rest.Tie as tie
@@ -17,11 +17,8 @@ enum-told : tie.Need-enum-told
 enum-told c = search needs
 
 returns : tie.Need-returns
-unfolding lineRest lineEnd
+unfolding lineRest
 returns c = left-no-then _ left-start (rw (c .enum-told .given .1) at (c .before .before .form .ensures))
-
-slice-aggregate-past : tie.Need-slice-aggregate-past
-slice-aggregate-past c = search needs
 
 past-requires : tie.Need-past-requires
 past-requires c κs = search needs
@@ -33,23 +30,18 @@ enum-told-2 : tie.Need-enum-told-2
 enum-told-2 c = search needs
 
 returns-2 : tie.Need-returns-2
-unfolding lineRest lineEnd
+unfolding lineRest
 returns-2 c =
     let at-past = c .before .before in
-    let at-n = at-past .before .before .before in
-    let at-form = at-n .before .before in
-    left-no-past lineEnd _ (left-then _ left-start (rw (at-n .n .given .1) at (at-form .form .ensures))) (rw (c .enum-told2 .given .1) at (at-past .past .ensures))
+    let at-n = at-past .before .before in
+    left-no-past lineEnd _ (left-then _ left-start (rw (at-n .n .given .1) at (at-n .before .before .form .ensures))) (told-line-end (rw (c .enum-told2 .given .1) at (at-past .past .ensures)))
 
 returns-3 : tie.Need-returns-3
-unfolding lineRest lineEnd
+unfolding lineRest
 returns-3 c =
-    let at-d = c .before in
-    let at-past = at-d .before .before in
-    let at-n = at-past .before .before .before in
-    let at-form = at-n .before .before in
-    let a = rw (at-n .n .given .1) at (at-form .form .ensures) in
-    let b = rw (at-d .d .given .1) at (at-past .past .ensures) in
-    left-give (omega (arith, a .moved .0, b .moved .0)) (b .moved .1) (left-past lineEnd (left-then _ left-start (rw (at-n .n .given .1) at (at-form .form .ensures))) (rw (at-d .d .given .1) at (at-past .past .ensures)))
+    let at-past = c .before .before .before in
+    let at-n = at-past .before .before in
+    left-past-give lineEnd (left-then _ left-start (rw (at-n .n .given .1) at (at-n .before .before .form .ensures))) (told-line-end (rw (c .before .d .given .1) at (at-past .past .ensures)))
 
 pub rest-spec : {M : Type 1} → statement M
 rest-spec =
@@ -59,7 +51,6 @@ rest-spec =
     enum-known-n
     enum-told
     returns
-    slice-aggregate-past
     past-requires
     enum-known-d
     enum-told-2

@@ -1,6 +1,6 @@
 -- `text_read::cursor::Cursor::word` meets its contract.
 use lib.ListN.{getD}
-use Rattle.text_read.proofs.ByteClasses.{digit-found, letter-found, arm-no-word}
+use Rattle.text_read.proofs.ByteClasses.{digit-found, letter-byte, letter-digit, arm-no-word}
 use Rattle.text_read.proofs.WordSteps.{told-word-end, told-word-number, told-word-no-number, told-word-name, told-word-no-name, told-word-other}
 use borrow.Author.Needs.{needs}
 use Rattle.text_read.proofs.cursor.Cursor.word.Statement.{statement}
@@ -42,8 +42,8 @@ enum-told-3 c = search needs
 name-requires : tie.Need-name-requires
 name-requires c κs = search needs
 
-enum-known-kind : tie.Need-enum-known-kind
-enum-known-kind c = search needs
+enum-known-name : tie.Need-enum-known-name
+enum-known-name c = search needs
 
 enum-told-4 : tie.Need-enum-told-4
 enum-told-4 c = search needs
@@ -55,7 +55,7 @@ returns-3 c =
     let at-class-of = at-enum-told3 .before .before in
     let at-if1 = at-class-of .before .before in
     let s = at-if1 .before .before in
-    told-word-no-name (at-if1 .if1 .left) (letter-found (getD (s .args .text .now) (s .args .self .at) 0) (at-enum-told3 .enum-told3 .given .1) (at-class-of .class-of .ensures)) (rw (c .enum-told4 .given .1) at (at-name .name .ensures))
+    told-word-no-name (at-if1 .if1 .left) (letter-digit _ (letter-byte (getD (s .args .text .now) (s .args .self .at) 0) (at-enum-told3 .enum-told3 .given .1) (at-class-of .class-of .ensures) .0)) (rw (c .enum-told4 .given .1) at (at-name .name .ensures))
 
 returns-4 : tie.Need-returns-4
 returns-4 c = told-word-number (rw (c .before .n .given .1) at (c .before .before .before .digits .ensures))
@@ -67,14 +67,14 @@ returns-5 c =
     let at-class-of = at-enum-told3 .before .before in
     let at-if1 = at-class-of .before .before in
     let s = at-if1 .before .before in
-    told-word-name (at-if1 .if1 .left) (letter-found (getD (s .args .text .now) (s .args .self .at) 0) (at-enum-told3 .enum-told3 .given .1) (at-class-of .class-of .ensures)) (rw (c .before .kind .given .1) at (at-name .name .ensures))
+    told-word-name (at-if1 .if1 .left) (letter-digit _ (letter-byte (getD (s .args .text .now) (s .args .self .at) 0) (at-enum-told3 .enum-told3 .given .1) (at-class-of .class-of .ensures) .0)) (rw (c .before .name2 .given .1) at (at-name .name .ensures))
 
 returns-6 : tie.Need-returns-6
 returns-6 c =
     let at-if1 = c .before .before .before in
     let s = at-if1 .before .before in
     let a = arm-no-word (getD (s .args .text .now) (s .args .self .at) 0) (c .before .class-of .ensures) (c .match .keys3) in
-    told-word-other (at-if1 .if1 .left) (a .0) (a .1 .0) (a .1 .1)
+    told-word-other (at-if1 .if1 .left) (a .0) (a .1)
 
 pub word-spec : {M : Type 1} → statement M
 word-spec =
@@ -90,7 +90,7 @@ word-spec =
     returns-2
     enum-told-3
     name-requires
-    enum-known-kind
+    enum-known-name
     enum-told-4
     returns-3
     returns-4
