@@ -7,10 +7,11 @@ use text_rules::both_full;
 use text_rules::items_of;
 use text_rules::still_full;
 use text_theory::Head;
+use text_theory::Name;
 ghost use mathlib.Core.Path.{_≡_};
-ghost use Prim.Native.Nat.{_≤_, _<_};
+ghost use Prim.Native.Nat.{_≤_};
 ghost use lib.ListN.{length};
-ghost use Rattle.text_theory.specs.Files.{parse};
+ghost use Rattle.text_theory.specs.Files.{begun, parse};
 ghost use Rattle.text_scan.specs.Facts.{scanRead, factsIn};
 ghost use Rattle.text_scan.specs.Inner.{Reached, linesOf, linesRead};
 
@@ -34,17 +35,17 @@ pub enum Scanned {
     Broken,
 }
 
-// Counts lines, as long as their word stands next.
-fn count_lines(start: Cursor, text: &[u8], word: &[u8], what: Items, width: usize) -> Lines
-    requires { ⌜ (0 < length (now word)) × (start .at ≤ length (now text)) ⌝ }
-    ensures { λ r. ⌜ Reached (linesOf (now (word .entry)) what width) (now (text .entry)) (start .at) (linesRead r) ⌝ }
+// Counts lines, as long as they begin with the name.
+fn count_lines(start: Cursor, text: &[u8], name: Name, what: Items, width: usize) -> Lines
+    requires { ⌜ start .at ≤ length (now text) ⌝ }
+    ensures { λ r. ⌜ Reached (linesOf (begun name) what width) (now (text .entry)) (start .at) (linesRead r) ⌝ }
 {
     let mut at = start.at;
     let mut n: usize = 0;
     let mut full = true;
     loop {
         let here = Cursor { at };
-        let Read::Good(_, c) = here.skip(text, word) else {
+        let Read::Good(_, c) = here.begin(text, name) else {
             return Lines::Counted(n, full, here);
         };
         let Read::Good(m, d) = c.rest(text, what) else {
@@ -67,14 +68,15 @@ pub fn scan(text: &[u8]) -> Scanned
     let size = head.size;
     let width = size.width;
     let kind = size.kind;
-    let Lines::Counted(rows, wide, d) = count_lines(c, text, b"(row", items_of(kind), width) else {
-        return Scanned::Broken;
-    };
-    let Lines::Counted(maps, filled, e) = count_lines(d, text, b"(map", Items::Numbers, width)
+    let Lines::Counted(rows, wide, d) = count_lines(c, text, Name::Row, items_of(kind), width)
     else {
         return Scanned::Broken;
     };
-    let Read::Good(_, f) = e.skip(text, b")\n") else {
+    let Lines::Counted(maps, filled, e) = count_lines(d, text, Name::Map, Items::Numbers, width)
+    else {
+        return Scanned::Broken;
+    };
+    let Read::Good(_, f) = e.close(text) else {
         return Scanned::Broken;
     };
     let at = f.at;

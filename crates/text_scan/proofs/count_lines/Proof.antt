@@ -1,24 +1,26 @@
--- `text_scan::count_lines` meets its contract.
+-- `text_scan::count_lines` meets its contract. The invariant is `Lining`: n lines were read, and what is left adds to them. What
+-- falls is the number of bytes left.
 use Prim.Native.Nat.{_-_}
 use native.Mathlib.Omega.{arith}
 use lib.ListN.{length}
-use Rattle.text_read.proofs.FixedBytes.{skipped}
+use Rattle.text_theory.specs.Files.{begun}
+use Rattle.text_read.proofs.Onward.{told-begun, begun-some}
 use Rattle.text_scan.proofs.Counting.{Lining, lining-first, lining-stop, lining-torn, lining-next}
 use borrow.Author.Needs.{needs}
 use Rattle.text_scan.proofs.count_lines.Statement.{statement}
 use Rattle.text_scan.proofs.count_lines.Tie as tie
 
 abbrev Inv-loop : tie.InvT-loop
-Inv-loop text word what width at₀ n₀ even₀ at n even = Lining word what width text at₀ n even at
+Inv-loop text name what width at₀ n₀ even₀ at n even = Lining (begun name) what width text at₀ n even at
 
 abbrev μ-loop : tie.MeasureT-loop
-μ-loop text word what width at₀ n₀ even₀ at n even = length text - at
+μ-loop text name what width at₀ n₀ even₀ at n even = length text - at
 
 loop-holds : tie.Need-loop-holds Inv-loop μ-loop
 loop-holds c = lining-first (search needs)
 
-skip-requires : tie.Need-skip-requires Inv-loop μ-loop
-skip-requires c κs = search needs
+begin-requires : tie.Need-begin-requires Inv-loop μ-loop
+begin-requires c κs = search needs
 
 enum-known-c : tie.Need-enum-known-c Inv-loop μ-loop
 enum-known-c c = search needs
@@ -28,9 +30,9 @@ enum-told c = search needs
 
 returns : tie.Need-returns Inv-loop μ-loop
 returns c =
-    let at-skip = c .before .before in
-    let at-loop = at-skip .before in
-    lining-stop (search needs) (at-loop .loop .inv) (skipped _ (search needs) (rw (c .enum-told .given .1) at (at-skip .skip .ensures)))
+    let at-begin = c .before .before in
+    let at-loop = at-begin .before in
+    lining-stop (begun-some _) (at-loop .loop .inv) (told-begun _ (rw (c .enum-told .given .1) at (at-begin .begin .ensures)))
 
 rest-requires : tie.Need-rest-requires Inv-loop μ-loop
 rest-requires c κs = search needs
@@ -45,9 +47,9 @@ returns-2 : tie.Need-returns-2 Inv-loop μ-loop
 returns-2 c =
     let at-rest = c .before .before in
     let at-c = at-rest .before .before in
-    let at-skip = at-c .before .before in
-    let at-loop = at-skip .before in
-    lining-torn (search needs) (at-loop .loop .inv) (skipped _ (search needs) (rw (at-c .c .given .1) at (at-skip .skip .ensures))) (rw (c .enum-told2 .given .1) at (at-rest .rest .ensures))
+    let at-begin = at-c .before .before in
+    let at-loop = at-begin .before in
+    lining-torn (begun-some _) (at-loop .loop .inv) (told-begun _ (rw (at-c .c .given .1) at (at-begin .begin .ensures))) (rw (c .enum-told2 .given .1) at (at-rest .rest .ensures))
 
 add-n : tie.Need-add-n Inv-loop μ-loop
 add-n c = search needs
@@ -60,8 +62,8 @@ loop-less c =
     let at-m = c .before .before in
     let at-rest = at-m .before .before in
     let at-c = at-rest .before .before in
-    let at-skip = at-c .before .before in
-    let a = rw (at-c .c .given .1) at (at-skip .skip .ensures) in
+    let at-begin = at-c .before .before in
+    let a = rw (at-c .c .given .1) at (at-begin .begin .ensures) in
     let b = (rw (at-m .m .given .1) at (at-rest .rest .ensures)) in
     omega (arith, a .moved .0, b .moved .0, b .moved .1)
 
@@ -70,9 +72,9 @@ loop-again c =
     let at-m = c .before .before in
     let at-rest = at-m .before .before in
     let at-c = at-rest .before .before in
-    let at-skip = at-c .before .before in
-    let at-loop = at-skip .before in
-    lining-next (search needs) (at-loop .loop .inv) (skipped _ (search needs) (rw (at-c .c .given .1) at (at-skip .skip .ensures))) (rw (at-m .m .given .1) at (at-rest .rest .ensures)) (c .still-full .ensures)
+    let at-begin = at-c .before .before in
+    let at-loop = at-begin .before in
+    lining-next (begun-some _) (at-loop .loop .inv) (told-begun _ (rw (at-c .c .given .1) at (at-begin .begin .ensures))) (rw (at-m .m .given .1) at (at-rest .rest .ensures)) (c .still-full .ensures)
 
 pub count-lines-spec : {M : Type 1} → statement M
 count-lines-spec =
@@ -81,7 +83,7 @@ count-lines-spec =
     Inv-loop
     μ-loop
     loop-holds
-    skip-requires
+    begin-requires
     enum-known-c
     enum-told
     returns
