@@ -11,7 +11,8 @@ use Rattle.text_print.specs.declared.lines.Place.{Place}
 use Rattle.text_print.specs.declared.lines.Place.the-variants as places
 use Rattle.text_print.specs.Prints.{Put}
 use Rattle.text_print.specs.Inner.{Printed}
-use Rattle.text_print.proofs.Written.{printed-more, printed-length, never-short, printed-next, each-append}
+use Rattle.text_theory.proofs.Many.{each-append}
+use Rattle.text_print.proofs.Written.{printed-more, printed-length, never-short, printed-next}
 
 module _ {A : Type 0} (w : List ℕ) (put : A → List ℕ) (d : A) (xs : List A) (i : ℕ) where
   -- One line more.

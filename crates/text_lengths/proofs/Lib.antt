@@ -1,3 +1,4 @@
 pub mod Rooms
 pub mod PixelRows
 pub mod Numbers
+pub mod Pieces

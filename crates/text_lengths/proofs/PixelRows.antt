@@ -1,6 +1,5 @@
 -- The pixels of a row's bytes: where they stand, and how long their text is.
-use mathlib.Core.Path.{_≡_, sym, _∙_}
-use mathlib.Core.Option.{none, some}
+use mathlib.Core.Path.{_≡_, sym}
 use mathlib.Core.List.{List, [], _∷_}
 use Prim.Native.Nat.{ℕ, _+_, _*_, _/_, _≤_, _<_}
 use native.Mathlib.Nat.{div-add-mod'}
@@ -17,9 +16,9 @@ use Rattle.pictures.specs.Pictures.{channelsOf}
 use Rattle.text_theory.specs.Files.{rowText}
 use Rattle.text_theory.specs.Lengths.{total, spaced, pixelLength, rowLength}
 use Rattle.text_theory.proofs.Lengths.{Counted, row-length}
-use Rattle.text_lengths.specs.Rooms.{less, pixelsOf}
+use Rattle.text_lengths.specs.Rooms.{pixelsOf}
 use Rattle.text_theory.proofs.Pairs.{front}
-use Rattle.text_lengths.proofs.Rooms.{less-then, less-none-then}
+use Rattle.text_lengths.proofs.Rooms.{sum}
 
 pub whole-pixels : (k : Kind) (n : ℕ) → n / channelsOf k * channelsOf k ≤ n
 whole-pixels Grey n = omega (arith, div-add-mod' n 1)
@@ -45,21 +44,10 @@ pub grey-length : (k : Kind) (b : List ℕ) (i : ℕ) → k ≡ Grey → i < len
 unfolding pixelLength total
 grey-length k b i e h = rw (grey-pixel k b i e h, e) (omega arith)
 
-pub rgb-length : (k : Kind) (b : List ℕ) (i : ℕ) → k ≡ Rgb → i * 3 + 3 ≤ length b
-    → pixelLength k (rowAt (channelsOf k) i b) ≡ (spaced (getD b (i * 3) 0) + spaced (getD b (i * 3 + 1) 0)) + (spaced (getD b (i * 3 + 2) 0) + 2)
+pub rgb-pieces : (k : Kind) (b : List ℕ) (i : ℕ) → k ≡ Rgb → i * 3 + 3 ≤ length b
+    → pixelLength k (rowAt (channelsOf k) i b) ≡ sum ((spaced (getD b (i * 3) 0) + spaced (getD b (i * 3 + 1) 0)) ∷ spaced (getD b (i * 3 + 2) 0) ∷ 2 ∷ [])
 unfolding pixelLength total
-rgb-length k b i e h = rw (rgb-pixel k b i e h, e) (omega arith)
-
-module _ (room x y z : ℕ) where
-  pub three-none : none ≡ less room x → none ≡ less room (x + (y + z))
-  three-none n = less-none-then room x (y + z) n
-
-  module _ {l : ℕ} (s : some l ≡ less room x) where
-    pub three-second : none ≡ less l y → none ≡ less room (x + (y + z))
-    three-second n = less-none-then l y z n ∙ sym (less-then room x (y + z) l s)
-
-    pub three-last : {m : ℕ} → some m ≡ less l y → less m z ≡ less room (x + (y + z))
-    three-last {m} t = sym (less-then room x (y + z) l s ∙ less-then l y z m t)
+rgb-pieces k b i e h = rw (rgb-pixel k b i e h, e) (omega arith)
 
 -- The pixel at i is the i-th of the row.
 pub pixel-at : (k : Kind) (b : List ℕ) (n i : ℕ) → i < n → rowAt (channelsOf k) i b ≡ getD (rowsOf (channelsOf k) n b) i []
@@ -81,13 +69,9 @@ grid-counted k (each-of.more e g) = (e, grid-counted k g)
 counted : (k : Kind) (b : List ℕ) → Counted k (pixelsOf k b)
 counted k b = grid-counted k (grid-rowsOf (channelsOf k) (length b / channelsOf k) b (whole-pixels k (length b)))
 
-pub row-room : (room : ℕ) (k : Kind) (b : List ℕ) {l : ℕ} → some l ≡ less room (total (pixelLength k) (pixelsOf k b)) → less l 6 ≡ less room (length (rowText k (pixelsOf k b)))
-unfolding rowLength
-row-room room k b {l} h = rw (row-length k (pixelsOf k b) (counted k b)) (sym (less-then room (total (pixelLength k) (pixelsOf k b)) 6 l h))
-
-pub row-no-room : (room : ℕ) (k : Kind) (b : List ℕ) → none ≡ less room (total (pixelLength k) (pixelsOf k b)) → none ≡ less room (length (rowText k (pixelsOf k b)))
-unfolding rowLength
-row-no-room room k b h = rw (row-length k (pixelsOf k b) (counted k b)) (less-none-then room (total (pixelLength k) (pixelsOf k b)) 6 h)
+pub row-pieces : (k : Kind) (b : List ℕ) → length (rowText k (pixelsOf k b)) ≡ sum (total (pixelLength k) (pixelsOf k b) ∷ 6 ∷ [])
+unfolding rowLength total
+row-pieces k b = omega (arith, row-length k (pixelsOf k b) (counted k b))
 
 pub whole-by : (k : Kind) (n d : ℕ) → d ≡ channelsOf k → n / d * channelsOf k ≤ n
 whole-by k n d e = rw e (whole-pixels k n)

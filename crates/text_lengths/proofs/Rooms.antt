@@ -1,8 +1,8 @@
 -- What is left of a room.
-use mathlib.Core.Path.{_≡_, refl, sym, _∙_}
+use mathlib.Core.Path.{_≡_, refl, sym, ap, _∙_}
 use mathlib.Core.Bool.{Bool, true, false, cond}
-use mathlib.Core.Option.{none, some, Option·none-ne-some, Option·some-injective}
-use mathlib.Core.List.{List}
+use mathlib.Core.Option.{Option, none, some, Option·none-ne-some, Option·some-injective}
+use mathlib.Core.List.{List, [], _∷_}
 use Prim.Native.Nat.{ℕ, suc, _+_, _-_, _≤_, _<_}
 use native.Mathlib.Numerals.{add-one}
 use native.Mathlib.Omega.{arith}
@@ -10,14 +10,12 @@ use lib.Dec.{leb}
 use lib.ListN.{length, getD, drop, drop-of-length-le}
 use lib.Seq.{drop-cons}
 use borrow.Author.Tests.{leb-true, leb-false, le-leb, lt-leb}
-use Rattle.pictures.specs.declared.sizes.Kind.{Kind}
-use Rattle.pictures.specs.declared.sizes.Kind.the-variants.{Grey, Rgb}
-use Rattle.text_theory.specs.declared.Head.{Head}
-use Rattle.text_theory.specs.Decimal.{digits}
-use Rattle.text_theory.specs.Files.{kindText, headText, mapText}
-use Rattle.text_theory.specs.Lengths.{total, spaced, headLength, mapLength}
-use Rattle.text_theory.proofs.Lengths.{head-length, map-length, kind-length}
+use Rattle.text_theory.specs.Lengths.{total}
 use Rattle.text_lengths.specs.Rooms.{less}
+
+-- The lengths of pieces, added.
+abbrev pub sum : List ℕ → ℕ
+sum = total (λ n. n)
 
 pub less-some : (room n : ℕ) → n ≤ room → less room n ≡ some (room - n)
 unfolding less
@@ -58,15 +56,33 @@ less-then room a b l h = let r = less-room room a l h in go (leb b l) refl (r .0
 pub less-none-then : (room a b : ℕ) → none ≡ less room a → none ≡ less room (a + b)
 less-none-then room a b h = sym (less-none room (a + b) (omega (arith, less-short room a h)))
 
-pub spaced-first : (room n : ℕ) → 0 < room → less (room - 1) (length (digits n)) ≡ less room (spaced n)
-unfolding spaced
-spaced-first room n h =
-    let z : 1 + length (digits n) ≡ suc (length (digits n)) = omega arith in
-    rw (← z) (sym (less-then room 1 (length (digits n)) (room - 1) (sym (less-some room 1 h))))
+-- A byte, then n more.
+pub less-after : (room n : ℕ) → 0 < room → less (room - 1) n ≡ less room (suc n)
+less-after room n h =
+    let z : 1 + n ≡ suc n = omega arith in
+    rw (← z) (sym (less-then room 1 n (room - 1) (sym (less-some room 1 h))))
 
-pub spaced-none : (room n : ℕ) → room ≡ 0 → none ≡ less room (spaced n)
-unfolding spaced
-spaced-none room n h = sym (less-none room (suc (length (digits n))) (omega arith))
+-- A text of `whole` bytes taken from a room piece by piece: these pieces are still to take, of what is left.
+pub record Taking (room whole left : ℕ) (pieces : List ℕ) : Type 0 where
+  pub same : less room whole ≡ less left (sum pieces)
+
+pub taking-first : {room whole : ℕ} (pieces : List ℕ) → whole ≡ sum pieces → Taking room whole room pieces
+taking-first {room} pieces e = record { same = ap (less room) e }
+
+module _ {room whole left piece : ℕ} {pieces : List ℕ} (T : Taking room whole left (piece ∷ pieces)) where
+  pub taking-next : {next : ℕ} → some next ≡ less left piece → Taking room whole next pieces
+  unfolding total
+  taking-next {next} s = record { same = T .same ∙ less-then left piece (sum pieces) next s }
+
+  pub taking-short : none ≡ less left piece → none ≡ less room whole
+  unfolding total
+  taking-short s = less-none-then left piece (sum pieces) s ∙ sym (T .same)
+
+pub taking-last : {room whole left piece : ℕ} {o : Option ℕ} → Taking room whole left (piece ∷ []) → o ≡ less left piece → o ≡ less room whole
+unfolding total
+taking-last {left = left} {piece = piece} T s =
+    let z : piece + 0 ≡ piece = omega arith in
+    s ∙ sym (T .same ∙ ap (less left) z)
 
 -- The loop over a row's values, each of length f.
 pub record Leaving {A : Type 0} (f : A → ℕ) (room : ℕ) (xs : List A) (i left : ℕ) : Type 0 where
@@ -92,37 +108,3 @@ module _ {A : Type 0} {f : A → ℕ} {room : ℕ} {xs : List A} where
     leaving-end h =
         let z : left - 0 ≡ left = omega arith in
         sym (L .same ∙ rw (drop-of-length-le xs h) (less-some left 0 (omega arith) ∙ rw z))
-
-pub map-room : (room : ℕ) (xs : List ℕ) {l : ℕ} → some l ≡ less room (total spaced xs) → less l 6 ≡ less room (length (mapText xs))
-unfolding mapLength
-map-room room xs {l} h = rw (map-length xs) (sym (less-then room (total spaced xs) 6 l h))
-
-pub map-no-room : (room : ℕ) (xs : List ℕ) → none ≡ less room (total spaced xs) → none ≡ less room (length (mapText xs))
-unfolding mapLength
-map-no-room room xs h = rw (map-length xs) (less-none-then room (total spaced xs) 6 h)
-
-head-sum : (h : Head) → length (headText h) ≡ (spaced (h .size .width) + spaced (h .size .height)) + ((spaced (h .depth) + spaced (h .growth)) + (length (kindText (h .size .kind)) + 23))
-unfolding headLength
-head-sum h = omega (arith, head-length h, kind-length (h .size .kind))
-
-module _ (room : ℕ) (h : Head) where
-  pub head-no-size : none ≡ less room (spaced (h .size .width) + spaced (h .size .height)) → none ≡ less room (length (headText h))
-  head-no-size n = rw (head-sum h) (less-none-then room (spaced (h .size .width) + spaced (h .size .height)) _ n)
-
-  module _ {l : ℕ} (s : some l ≡ less room (spaced (h .size .width) + spaced (h .size .height))) where
-    pub head-no-range : none ≡ less l (spaced (h .depth) + spaced (h .growth)) → none ≡ less room (length (headText h))
-    head-no-range n = rw (head-sum h) (less-none-then l (spaced (h .depth) + spaced (h .growth)) _ n ∙ sym (less-then room (spaced (h .size .width) + spaced (h .size .height)) _ l s))
-
-    pub head-room : {m : ℕ} → some m ≡ less l (spaced (h .depth) + spaced (h .growth)) → less m (length (kindText (h .size .kind)) + 23) ≡ less room (length (headText h))
-    head-room {m} t = rw (head-sum h) (sym (less-then room (spaced (h .size .width) + spaced (h .size .height)) _ l s ∙ less-then l (spaced (h .depth) + spaced (h .growth)) _ m t))
-
--- The words of kinds.
-pub kind-most : (k : Kind) → length (kindText k) ≤ 4
-kind-most Grey = omega (arith, kind-length Grey)
-kind-most Rgb = omega (arith, kind-length Rgb)
-
-pub kind-grey : (k : Kind) → k ≡ Grey → length (kindText k) ≡ 4
-kind-grey k e = rw e (kind-length Grey)
-
-pub kind-rgb : (k : Kind) → k ≡ Rgb → length (kindText k) ≡ 3
-kind-rgb k e = rw e (kind-length Rgb)

@@ -1,13 +1,16 @@
 // How long the lines of a multi-size file are, as what is left of a room: whatever the numbers are, nothing overflows.
 use pictures::Kind;
+use pictures::Size;
 use text_theory::Head;
+use text_theory::Name;
 ghost use mathlib.Core.Path.{_≡_};
-ghost use Prim.Native.Nat.{_+_, _*_, _≤_};
+ghost use Prim.Native.Nat.{suc, _+_, _*_, _≤_};
 ghost use lib.ListN.{length};
 ghost use Rattle.text_theory.specs.Decimal.{digits};
 ghost use Rattle.pictures.specs.Pictures.{channelsOf};
 ghost use Rattle.grids.specs.Rows.{rowsOf, rowAt};
-ghost use Rattle.text_theory.specs.Files.{headText, rowText, mapText, kindText};
+ghost use Rattle.text_theory.specs.Words.{nameText};
+ghost use Rattle.text_theory.specs.Files.{sizeText, rangeText, headText, rowText, mapText};
 ghost use Rattle.text_theory.specs.Lengths.{total, spaced, pixelLength};
 ghost use Rattle.text_lengths.specs.Rooms.{leftRead, less, pixelsOf};
 
@@ -35,14 +38,30 @@ pub fn take(room: usize, n: usize) -> Left
     }
 }
 
-// The room less a number and the blank before it.
-fn take_number(room: usize, n: usize) -> Left
-    ensures { λ l. ⌜ leftRead l ≡ less room (spaced n) ⌝ }
+// The room less n bytes and the one before them.
+fn take_after(room: usize, n: usize) -> Left
+    ensures { λ l. ⌜ leftRead l ≡ less room (suc n) ⌝ }
 {
     if room == 0 {
         return Left::Short;
     }
-    take(room - 1, digit_count(n))
+    take(room - 1, n)
+}
+
+// The room less a number and the blank before it.
+fn take_number(room: usize, n: usize) -> Left
+    ensures { λ l. ⌜ leftRead l ≡ less room (spaced n) ⌝ }
+{
+    take_after(room, digit_count(n))
+}
+
+// The room less a name and the byte before it, an opening bracket or a blank.
+fn take_name(room: usize, name: Name) -> Left
+    ensures { λ l. ⌜ leftRead l ≡ less room (suc (length (nameText name))) ⌝ }
+{
+    let letters = text_rules::letters_of(name);
+    let count = letters.count;
+    take_after(room, count)
 }
 
 // A number of a map as a count.
@@ -78,15 +97,6 @@ pub fn map_left(room: usize, row: &[u16]) -> Left
     take(left, 6)
 }
 
-fn kind_length(kind: Kind) -> usize
-    ensures { λ n. ⌜ n ≡ length (kindText kind) ⌝ }
-{
-    match kind {
-        Kind::Grey => 4,
-        Kind::Rgb => 3,
-    }
-}
-
 // The room less two numbers, each with the blank before it.
 pub fn take_pair(room: usize, a: usize, b: usize) -> Left
     ensures { λ l. ⌜ leftRead l ≡ less room (spaced a + spaced b) ⌝ }
@@ -97,19 +107,51 @@ pub fn take_pair(room: usize, a: usize, b: usize) -> Left
     take_number(left, b)
 }
 
+// What is left of a room after the line of the size: its name, the sides, the kind, and the closing bracket and line end.
+fn size_left(room: usize, size: Size) -> Left
+    ensures { λ l. ⌜ leftRead l ≡ less room (length (sizeText size)) ⌝ }
+{
+    let kind = size.kind;
+    let Left::Room(named) = take_name(room, Name::Size) else {
+        return Left::Short;
+    };
+    let Left::Room(sides) = take_pair(named, size.width, size.height) else {
+        return Left::Short;
+    };
+    let Left::Room(last) = take_name(sides, text_rules::kind_name(kind)) else {
+        return Left::Short;
+    };
+    take(last, 2)
+}
+
+// What is left of a room after the line of the range: its name, the numbers, and the closing bracket and line end.
+fn range_left(room: usize, depth: usize, growth: usize) -> Left
+    ensures { λ l. ⌜ leftRead l ≡ less room (length (rangeText depth growth)) ⌝ }
+{
+    let Left::Room(named) = take_name(room, Name::Range) else {
+        return Left::Short;
+    };
+    let Left::Room(last) = take_pair(named, depth, growth) else {
+        return Left::Short;
+    };
+    take(last, 2)
+}
+
 // What is left of a room after the lines up to the range.
 pub fn head_left(room: usize, head: Head) -> Left
     ensures { λ l. ⌜ leftRead l ≡ less room (length (headText head)) ⌝ }
 {
     let size = head.size;
-    let kind = size.kind;
-    let Left::Room(sized) = take_pair(room, size.width, size.height) else {
+    let Left::Room(named) = take_name(room, Name::Multi) else {
         return Left::Short;
     };
-    let Left::Room(ranged) = take_pair(sized, head.depth, head.growth) else {
+    let Left::Room(first) = take(named, 1) else {
         return Left::Short;
     };
-    take(ranged, kind_length(kind) + 23)
+    let Left::Room(sized) = size_left(first, size) else {
+        return Left::Short;
+    };
+    range_left(sized, head.depth, head.growth)
 }
 
 // A sample as a number to print.

@@ -1,3 +1,4 @@
 pub mod Written
 pub mod PixelRows
 pub mod Numbers
+pub mod Pieces

@@ -8,17 +8,12 @@ use lib.Seq.{sets}
 use Rattle.pictures.specs.declared.sizes.Kind.{Kind}
 use Rattle.pictures.specs.Pictures.{channelsOf}
 use Rattle.grids.specs.Rows.{rowsOf, rowAt}
-use Rattle.text_theory.specs.Decimal.{digits}
 use Rattle.text_theory.specs.Files.{blank, each, pixelText}
-
--- The bytes w, and two numbers with a blank between them.
-unfoldable pub pairText : List ℕ → ℕ → ℕ → List ℕ
-pairText w m n = w ++ (digits m ++ (blank ++ digits n))
 
 -- A pixel of a row's bytes, or n of them, with room for their text.
 pub record PixelNeeded (out : List ℕ) (at : ℕ) (k : Kind) (b : List ℕ) (i : ℕ) : Type 0 where
   pub inside : i * channelsOf k + channelsOf k ≤ length b
-  pub room : at + (1 + length (pixelText k (rowAt (channelsOf k) i b))) ≤ length out
+  pub room : at + length (blank ++ pixelText k (rowAt (channelsOf k) i b)) ≤ length out
 
 pub record PixelsNeeded (out : List ℕ) (at : ℕ) (k : Kind) (b : List ℕ) (n : ℕ) : Type 0 where
   pub inside : n * channelsOf k ≤ length b

@@ -1,9 +1,16 @@
--- `text_lengths::map_left` meets its contract.
-use mathlib.Core.Path.{_∙_}
-use Rattle.text_lengths.proofs.Rooms.{map-room, map-no-room}
+-- `text_lengths::map_left` meets its contract: the numbers are taken, then the line's other bytes.
+use mathlib.Core.List.{[], _∷_}
+use lib.ListN.{length}
+use Rattle.text_theory.specs.Files.{mapText}
+use Rattle.text_theory.specs.Lengths.{total, spaced}
+use Rattle.text_lengths.proofs.Rooms.{Taking, taking-first, taking-next, taking-short, taking-last}
+use Rattle.text_lengths.proofs.Pieces.{map-pieces}
 use borrow.Author.Needs.{needs}
 use Rattle.text_lengths.proofs.map_left.Statement.{statement}
 use Rattle.text_lengths.proofs.map_left.Tie as tie
+
+whole : (c : tie.Start) → Taking (c .args .room) (length (mapText (c .args .row .now))) (c .args .room) (total spaced (c .args .row .now) ∷ 6 ∷ [])
+whole c = taking-first _ (map-pieces (c .args .row .now))
 
 take-numbers-requires : tie.Need-take-numbers-requires
 take-numbers-requires c κs = search needs
@@ -15,10 +22,7 @@ enum-told : tie.Need-enum-told
 enum-told c = search needs
 
 returns : tie.Need-returns
-returns c =
-    let at-take-numbers = c .before .before in
-    let s = at-take-numbers .before .before in
-    map-no-room (s .args .room) (s .args .row .now) (rw (c .enum-told .given .1) at (at-take-numbers .take-numbers .ensures))
+returns c = taking-short (whole (c .before .before .before .before)) (rw (c .enum-told .given .1) at (c .before .before .take-numbers .ensures))
 
 take-requires : tie.Need-take-requires
 take-requires c κs = search needs
@@ -27,8 +31,7 @@ returns-2 : tie.Need-returns-2
 returns-2 c =
     let at-left = c .before .before in
     let at-take-numbers = at-left .before .before in
-    let s = at-take-numbers .before .before in
-    c .take .ensures ∙ map-room (s .args .room) (s .args .row .now) (rw (at-left .left .given .1) at (at-take-numbers .take-numbers .ensures))
+    taking-last (taking-next (whole (at-take-numbers .before .before)) (rw (at-left .left .given .1) at (at-take-numbers .take-numbers .ensures))) (c .take .ensures)
 
 pub map-left-spec : {M : Type 1} → statement M
 map-left-spec =

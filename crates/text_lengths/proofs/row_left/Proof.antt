@@ -1,11 +1,19 @@
--- `text_lengths::row_left` meets its contract.
-use mathlib.Core.Path.{_∙_}
+-- `text_lengths::row_left` meets its contract: the pixels are taken, then the line's other bytes.
+use mathlib.Core.List.{[], _∷_}
 use lib.ListN.{length}
 use Rattle.pictures.proofs.Limits.{channels-some}
-use Rattle.text_lengths.proofs.PixelRows.{whole-by, row-room, row-no-room}
+use Rattle.text_theory.specs.Files.{rowText}
+use Rattle.text_theory.specs.Lengths.{total, pixelLength}
+use Rattle.text_lengths.specs.Rooms.{pixelsOf}
+use Rattle.text_lengths.proofs.Rooms.{Taking, taking-first, taking-next, taking-short, taking-last}
+use Rattle.text_lengths.proofs.PixelRows.{whole-by, row-pieces}
 use borrow.Author.Needs.{needs}
 use Rattle.text_lengths.proofs.row_left.Statement.{statement}
 use Rattle.text_lengths.proofs.row_left.Tie as tie
+
+whole : (c : tie.Start) → let px = pixelsOf (c .args .kind) (c .args .samples .now) in
+    Taking (c .args .room) (length (rowText (c .args .kind) px)) (c .args .room) (total (pixelLength (c .args .kind)) px ∷ 6 ∷ [])
+whole c = taking-first _ (row-pieces (c .args .kind) (c .args .samples .now))
 
 channels-requires : tie.Need-channels-requires
 channels-requires c κs = search needs
@@ -26,10 +34,8 @@ enum-told c = search needs
 
 returns : tie.Need-returns
 returns c =
-    let at-take-pixels = c .before .before in
-    let at-channels = at-take-pixels .before in
-    let s = at-channels .before .before in
-    row-no-room (s .args .room) (s .args .kind) (s .args .samples .now) (rw (c .enum-told .given .1, at-channels .channels .ensures) at (at-take-pixels .take-pixels .ensures))
+    let at-channels = c .before .before .before in
+    taking-short (whole (at-channels .before .before)) (rw (c .enum-told .given .1, at-channels .channels .ensures) at (c .before .before .take-pixels .ensures))
 
 take-requires : tie.Need-take-requires
 take-requires c κs = search needs
@@ -39,8 +45,8 @@ returns-2 c =
     let at-left = c .before .before in
     let at-take-pixels = at-left .before .before in
     let at-channels = at-take-pixels .before in
-    let s = at-channels .before .before in
-    c .take .ensures ∙ row-room (s .args .room) (s .args .kind) (s .args .samples .now) (rw (at-left .left .given .1, at-channels .channels .ensures) at (at-take-pixels .take-pixels .ensures))
+    let pixels = rw (at-left .left .given .1, at-channels .channels .ensures) at (at-take-pixels .take-pixels .ensures) in
+    taking-last (taking-next (whole (at-channels .before .before)) pixels) (c .take .ensures)
 
 pub row-left-spec : {M : Type 1} → statement M
 row-left-spec =

@@ -1,55 +1,68 @@
--- `text_print::lines::print_map` meets its contract.
-use native.Mathlib.Omega.{arith}
-use Rattle.text_lengths.proofs.Rooms.{less-room, less-short}
-use Rattle.text_print.proofs.Written.{put-short, put-done}
+-- `text_print::lines::print_map` meets its contract: there is no such place, there is no room, or there is.
+use mathlib.Core.Path.{_≡_}
+use mathlib.Core.Option.{some}
+use Prim.Native.Nat.{_+_, _≤_}
+use lib.ListN.{length}
+use Rattle.text_theory.specs.Files.{mapText}
+use Rattle.text_lengths.specs.Rooms.{less}
+use Rattle.text_print.proofs.Written.{printed-length, no-place, no-room, has-room, put-done}
 use borrow.Author.Needs.{needs}
 use Rattle.text_print.proofs.lines.print_map.Statement.{statement}
 use Rattle.text_print.proofs.lines.print_map.Tie as tie
 
-returns : tie.Need-returns
-returns c = put-short (omega (arith, c .if1 .taken))
+abbrev start : tie.After-room → tie.Start
+start c = c .before .before .before .before .before
 
-map-left-requires : tie.Need-map-left-requires
-map-left-requires c κs = search needs
+place : (c : tie.After-room) → some (c .room .given .0 .0) ≡ less (length (start c .args .out .now)) (start c .args .at)
+place c = rw (c .room .given .1) at (c .before .before .take .ensures)
+
+fits : (c : tie.After-enum-told2) → let s = start (c .before .before .before .before) in s .args .at + length (mapText (s .args .row .now)) ≤ length (s .args .out .now)
+fits c = has-room _ _ _ (place (c .before .before .before .before)) (rw (c .enum-told2 .given .1) at (c .before .before .map-left .ensures))
+
+take-requires : tie.Need-take-requires
+take-requires c κs = search needs
+
+enum-known-room : tie.Need-enum-known-room
+enum-known-room c = search needs
 
 enum-told : tie.Need-enum-told
 enum-told c = search needs
 
+returns : tie.Need-returns
+returns c = no-place (rw (c .enum-told .given .1) at (c .before .before .take .ensures))
+
+map-left-requires : tie.Need-map-left-requires
+map-left-requires c κs = search needs
+
 enum-told-2 : tie.Need-enum-told-2
 enum-told-2 c = search needs
 
+enum-told-3 : tie.Need-enum-told-3
+enum-told-3 c = search needs
+
 returns-2 : tie.Need-returns-2
-returns-2 c =
-    let at-map-left = c .before .before in
-    let at-if1 = at-map-left .before in
-    let s = less-short _ _ (rw (c .enum-told2 .given .1) at (at-map-left .map-left .ensures)) in
-    put-short (omega (arith, s, at-if1 .if1 .left))
+returns-2 c = no-room (place (c .before .before .before .before)) (rw (c .enum-told3 .given .1) at (c .before .before .map-left .ensures))
 
 put-map-requires : tie.Need-put-map-requires
-put-map-requires c κs =
-    let s = less-room _ _ _ (rw (c .before .enum-told .given .1) at (c .before .before .before .map-left .ensures)) in
-    search needs
+put-map-requires c κs = fits (c .before)
 
 same-length : tie.Need-same-length
-same-length c = search needs
+same-length c = printed-length (c .before .before .put-map .ensures)
 
 returns-3 : tie.Need-returns-3
-returns-3 c =
-    let at-put-map = c .before .before in
-    let at-enum-told = at-put-map .before .before in
-    let at-map-left = at-enum-told .before .before in
-    let at-if1 = at-map-left .before in
-    let s = less-room _ _ _ (rw (at-enum-told .enum-told .given .1) at (at-map-left .map-left .ensures)) in
-    put-done (omega (arith, s .0, at-if1 .if1 .left)) (at-put-map .put-map .ensures)
+returns-3 c = put-done (fits (c .before .before .before .before)) (c .before .before .put-map .ensures)
 
 pub print-map-spec : {M : Type 1} → statement M
 print-map-spec =
     tie.close
     (tie.spec
+    take-requires
+    enum-known-room
+    enum-told
     returns
     map-left-requires
-    enum-told
     enum-told-2
+    enum-told-3
     returns-2
     put-map-requires
     same-length

@@ -1,55 +1,69 @@
--- `text_print::lines::print_row` meets its contract.
-use native.Mathlib.Omega.{arith}
-use Rattle.text_lengths.proofs.Rooms.{less-room, less-short}
-use Rattle.text_print.proofs.Written.{put-short, put-done}
+-- `text_print::lines::print_row` meets its contract: there is no such place, there is no room, or there is.
+use mathlib.Core.Path.{_≡_}
+use mathlib.Core.Option.{some}
+use Prim.Native.Nat.{_+_, _≤_}
+use lib.ListN.{length}
+use Rattle.text_theory.specs.Files.{rowText}
+use Rattle.text_lengths.specs.Rooms.{less, pixelsOf}
+use Rattle.text_print.proofs.Written.{printed-length, no-place, no-room, has-room, put-done}
 use borrow.Author.Needs.{needs}
 use Rattle.text_print.proofs.lines.print_row.Statement.{statement}
 use Rattle.text_print.proofs.lines.print_row.Tie as tie
 
-returns : tie.Need-returns
-returns c = put-short (omega (arith, c .if1 .taken))
+abbrev start : tie.After-room → tie.Start
+start c = c .before .before .before .before .before
 
-row-left-requires : tie.Need-row-left-requires
-row-left-requires c κs = search needs
+place : (c : tie.After-room) → some (c .room .given .0 .0) ≡ less (length (start c .args .out .now)) (start c .args .at)
+place c = rw (c .room .given .1) at (c .before .before .take .ensures)
+
+fits : (c : tie.After-enum-told2) → let s = start (c .before .before .before .before) in
+    let k = s .args .kind in s .args .at + length (rowText k (pixelsOf k (s .args .samples .now))) ≤ length (s .args .out .now)
+fits c = has-room _ _ _ (place (c .before .before .before .before)) (rw (c .enum-told2 .given .1) at (c .before .before .row-left .ensures))
+
+take-requires : tie.Need-take-requires
+take-requires c κs = search needs
+
+enum-known-room : tie.Need-enum-known-room
+enum-known-room c = search needs
 
 enum-told : tie.Need-enum-told
 enum-told c = search needs
 
+returns : tie.Need-returns
+returns c = no-place (rw (c .enum-told .given .1) at (c .before .before .take .ensures))
+
+row-left-requires : tie.Need-row-left-requires
+row-left-requires c κs = search needs
+
 enum-told-2 : tie.Need-enum-told-2
 enum-told-2 c = search needs
 
+enum-told-3 : tie.Need-enum-told-3
+enum-told-3 c = search needs
+
 returns-2 : tie.Need-returns-2
-returns-2 c =
-    let at-row-left = c .before .before in
-    let at-if1 = at-row-left .before in
-    let s = less-short _ _ (rw (c .enum-told2 .given .1) at (at-row-left .row-left .ensures)) in
-    put-short (omega (arith, s, at-if1 .if1 .left))
+returns-2 c = no-room (place (c .before .before .before .before)) (rw (c .enum-told3 .given .1) at (c .before .before .row-left .ensures))
 
 put-row-requires : tie.Need-put-row-requires
-put-row-requires c κs =
-    let s = less-room _ _ _ (rw (c .before .enum-told .given .1) at (c .before .before .before .row-left .ensures)) in
-    search needs
+put-row-requires c κs = fits (c .before)
 
 same-length : tie.Need-same-length
-same-length c = search needs
+same-length c = printed-length (c .before .before .put-row .ensures)
 
 returns-3 : tie.Need-returns-3
-returns-3 c =
-    let at-put-row = c .before .before in
-    let at-enum-told = at-put-row .before .before in
-    let at-row-left = at-enum-told .before .before in
-    let at-if1 = at-row-left .before in
-    let s = less-room _ _ _ (rw (at-enum-told .enum-told .given .1) at (at-row-left .row-left .ensures)) in
-    put-done (omega (arith, s .0, at-if1 .if1 .left)) (at-put-row .put-row .ensures)
+returns-3 c = put-done (fits (c .before .before .before .before)) (c .before .before .put-row .ensures)
 
 pub print-row-spec : {M : Type 1} → statement M
 print-row-spec =
     tie.close
     (tie.spec
+    take-requires
+    enum-known-room
+    enum-told
     returns
     row-left-requires
-    enum-told
     enum-told-2
+    enum-told-3
     returns-2
     put-row-requires
     same-length

@@ -1,24 +1,23 @@
--- `text_print::lines::put_numbers` meets its contract.
-use mathlib.Core.Path.{ap}
-use Prim.Native.Nat.{ℕ, _-_, _≤_}
-use native.Mathlib.Omega.{arith}
-use lib.ListN.{length, take}
+-- `text_print::lines::put_numbers` meets its contract. The numbers from the i-th on are still to print, each after a blank; they get
+-- fewer.
+use Prim.Native.Nat.{_-_}
+use lib.ListN.{length}
 use Rattle.text_theory.specs.Decimal.{digits}
 use Rattle.text_theory.specs.Files.{blank, each}
-use Rattle.text_print.specs.Inner.{Printed}
-use Rattle.text_print.proofs.Written.{printed-length, numbers-none, each-room, numbers-next, numbers-all}
+use Rattle.text_print.proofs.Written.{printed-length}
+use Rattle.text_print.proofs.Pieces.{Printing, piece-room, printing-next, items, items-first, item-next, items-done}
 use borrow.Author.Needs.{needs}
 use Rattle.text_print.proofs.lines.put_numbers.Statement.{statement}
 use Rattle.text_print.proofs.lines.put_numbers.Tie as tie
 
 abbrev Inv-loop : tie.InvT-loop
-Inv-loop out₀ at row i₀ end₀ t8 out i end = Printed out₀ at (each blank digits (take i row)) out end × (i ≤ length row)
+Inv-loop out₀ at row i₀ end₀ out i end = Printing out₀ at (each blank digits row) out end (items digits row i)
 
 abbrev μ-loop : tie.MeasureT-loop
-μ-loop out₀ at row i₀ end₀ t8 out i end = length row - i
+μ-loop out₀ at row i₀ end₀ out i end = length row - i
 
 loop-holds : tie.Need-loop-holds Inv-loop μ-loop
-loop-holds c = (numbers-none (c .before .before .args .row .now), omega arith)
+loop-holds c = items-first digits _ (c .before .before .pre)
 
 mul-wide : tie.Need-mul-wide Inv-loop μ-loop
 mul-wide c = search needs
@@ -29,30 +28,10 @@ shared-slice-read-wide c = search needs
 wide-requires : tie.Need-wide-requires Inv-loop μ-loop
 wide-requires c κs = search needs
 
-slice-aggregate-put-bytes : tie.Need-slice-aggregate-put-bytes Inv-loop μ-loop
-slice-aggregate-put-bytes c = search needs
-
-put-bytes-requires : tie.Need-put-bytes-requires Inv-loop μ-loop
-put-bytes-requires c κs =
-    let at-loop-test = c .before .before .before .before in
-    let at-loop = at-loop-test .before in
-    let s = at-loop .before .before .before in
-    let l = each-room digits 0 (s .args .row .now) (at-loop .loop .i) (at-loop-test .loop-test .taken) in
-    let m = printed-length (at-loop .loop .inv .0) in
-    search needs
-
-put-number-requires : tie.Need-put-number-requires Inv-loop μ-loop
-put-number-requires c κs =
-    let at-put-bytes = c .before .before .before in
-    let at-wide = at-put-bytes .before .before .before in
-    let at-loop-test = at-wide .before .before in
-    let at-loop = at-loop-test .before in
-    let s = at-loop .before .before .before in
-    let l = each-room digits 0 (s .args .row .now) (at-loop .loop .i) (at-loop-test .loop-test .taken) in
-    let m = printed-length (at-loop .loop .inv .0) in
-    let k = printed-length (at-put-bytes .put-bytes .ensures) in
-    let e = ap (λ (n : ℕ). length (digits n)) (at-wide .wide .ensures) in
-    search needs
+put-spaced-requires : tie.Need-put-spaced-requires Inv-loop μ-loop
+put-spaced-requires c κs =
+    let at-test = c .before .before .before in
+    piece-room (item-next digits _ _ 0 (c .wide .ensures) (at-test .loop-test .taken) (at-test .before .loop .inv))
 
 add-i : tie.Need-add-i Inv-loop μ-loop
 add-i c = search needs
@@ -62,18 +41,15 @@ loop-less c = search needs
 
 loop-again : tie.Need-loop-again Inv-loop μ-loop
 loop-again c =
-    let at-put-number = c .before .before in
-    let at-put-bytes = at-put-number .before .before .before .before in
-    let at-wide = at-put-bytes .before .before .before in
-    let at-loop-test = at-wide .before .before in
-    let at-loop = at-loop-test .before in
-    (numbers-next _ _ (at-loop-test .loop-test .taken) (at-loop .loop .inv .0) (at-put-bytes .put-bytes .ensures) (at-put-number .put-number .ensures) (at-wide .wide .ensures), omega arith)
+    let at-wide = c .before .before .before in
+    let at-test = at-wide .before .before .before in
+    printing-next (item-next digits _ _ 0 (at-wide .wide .ensures) (at-test .loop-test .taken) (at-test .before .loop .inv)) (c .before .before .put-spaced .ensures)
 
 same-length : tie.Need-same-length Inv-loop μ-loop
-same-length c = printed-length (c .before .loop .inv .0)
+same-length c = printed-length (items-done digits _ _ (c .loop-test .left) (c .before .loop .inv))
 
 returns : tie.Need-returns Inv-loop μ-loop
-returns c = numbers-all _ _ (c .loop-test .left) (c .before .loop .inv .0)
+returns c = items-done digits _ _ (c .loop-test .left) (c .before .loop .inv)
 
 pub put-numbers-spec : {M : Type 1} → statement M
 put-numbers-spec =
@@ -85,9 +61,7 @@ put-numbers-spec =
     mul-wide
     shared-slice-read-wide
     wide-requires
-    slice-aggregate-put-bytes
-    put-bytes-requires
-    put-number-requires
+    put-spaced-requires
     add-i
     loop-less
     loop-again

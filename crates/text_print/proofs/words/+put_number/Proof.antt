@@ -1,4 +1,4 @@
--- `text_print::lines::put_number` meets its contract.
+-- `text_print::words::put_number` meets its contract.
 use native.Mathlib.Omega.{arith}
 use mathlib.Core.Path.{sym}
 use Rattle.text_theory.proofs.Decimals.{tenth, length-small, length-large}
@@ -7,11 +7,11 @@ use borrow.Author.Needs.{needs}
 use Prim.Native.Nat.{ℕ, _<_}
 use borrow.Fn.Kinds.{In}
 use borrow.Fn.PlainCycle.{Measures, is, falls, and}
-use Rattle.text_print.proofs.lines.put_number.Reads as reads
-use Rattle.text_print.proofs.lines.put_number.Kinds as kinds
-use Rattle.text_print.proofs.lines.+put_number.Lts-put_number as lts
-use Rattle.text_print.proofs.lines.+put_number.{statement}
-use Rattle.text_print.proofs.lines.+put_number.Tie.{close}
+use Rattle.text_print.proofs.words.put_number.Reads as reads
+use Rattle.text_print.proofs.words.put_number.Kinds as kinds
+use Rattle.text_print.proofs.words.+put_number.Lts-put_number as lts
+use Rattle.text_print.proofs.words.+put_number.{statement}
+use Rattle.text_print.proofs.words.+put_number.Tie.{close}
 
 -- The number, which falls at each call.
 abbrev number : Measures 1 kinds.ps ℕ

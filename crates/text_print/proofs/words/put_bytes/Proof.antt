@@ -1,4 +1,4 @@
--- `text_print::lines::put_bytes` meets its contract.
+-- `text_print::words::put_bytes` meets its contract.
 use Prim.Native.Nat.{_-_, _≤_}
 use native.Mathlib.Omega.{arith}
 use mathlib.Core.Path.{_≡_, _∙_}
@@ -6,8 +6,8 @@ use lib.ListN.{length, take, length-set}
 use lib.Seq.{sets, take-all}
 use Rattle.text_print.proofs.Written.{bytes-more}
 use borrow.Author.Needs.{needs}
-use Rattle.text_print.proofs.lines.put_bytes.Statement.{statement}
-use Rattle.text_print.proofs.lines.put_bytes.Tie as tie
+use Rattle.text_print.proofs.words.put_bytes.Statement.{statement}
+use Rattle.text_print.proofs.words.put_bytes.Tie as tie
 
 abbrev Inv-loop : tie.InvT-loop
 Inv-loop out₀ at w i₀ out i = (out ≡ sets out₀ at (take i w)) × ((i ≤ length w) × (length out ≡ length out₀))

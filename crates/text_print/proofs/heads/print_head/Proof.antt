@@ -1,0 +1,69 @@
+-- `text_print::heads::print_head` meets its contract: there is no such place, there is no room, or there is.
+use mathlib.Core.Path.{_≡_}
+use mathlib.Core.Option.{some}
+use Prim.Native.Nat.{_+_, _≤_}
+use lib.ListN.{length}
+use Rattle.text_theory.specs.Files.{headText}
+use Rattle.text_lengths.specs.Rooms.{less}
+use Rattle.text_print.proofs.Written.{printed-length, no-place, no-room, has-room, put-done}
+use borrow.Author.Needs.{needs}
+use Rattle.text_print.proofs.heads.print_head.Statement.{statement}
+use Rattle.text_print.proofs.heads.print_head.Tie as tie
+
+abbrev start : tie.After-room → tie.Start
+start c = c .before .before .before .before
+
+place : (c : tie.After-room) → some (c .room .given .0 .0) ≡ less (length (start c .args .out .now)) (start c .args .at)
+place c = rw (c .room .given .1) at (c .before .before .take .ensures)
+
+fits : (c : tie.After-enum-told2) → let s = start (c .before .before .before .before) in s .args .at + length (headText (s .args .head)) ≤ length (s .args .out .now)
+fits c = has-room _ _ _ (place (c .before .before .before .before)) (rw (c .enum-told2 .given .1) at (c .before .before .head-left .ensures))
+
+take-requires : tie.Need-take-requires
+take-requires c κs = search needs
+
+enum-known-room : tie.Need-enum-known-room
+enum-known-room c = search needs
+
+enum-told : tie.Need-enum-told
+enum-told c = search needs
+
+returns : tie.Need-returns
+returns c = no-place (rw (c .enum-told .given .1) at (c .before .before .take .ensures))
+
+head-left-requires : tie.Need-head-left-requires
+head-left-requires c κs = search needs
+
+enum-told-2 : tie.Need-enum-told-2
+enum-told-2 c = search needs
+
+enum-told-3 : tie.Need-enum-told-3
+enum-told-3 c = search needs
+
+returns-2 : tie.Need-returns-2
+returns-2 c = no-room (place (c .before .before .before .before)) (rw (c .enum-told3 .given .1) at (c .before .before .head-left .ensures))
+
+put-head-requires : tie.Need-put-head-requires
+put-head-requires c κs = fits (c .before)
+
+same-length : tie.Need-same-length
+same-length c = printed-length (c .before .before .put-head .ensures)
+
+returns-3 : tie.Need-returns-3
+returns-3 c = put-done (fits (c .before .before .before .before)) (c .before .before .put-head .ensures)
+
+pub print-head-spec : {M : Type 1} → statement M
+print-head-spec =
+    tie.close
+    (tie.spec
+    take-requires
+    enum-known-room
+    enum-told
+    returns
+    head-left-requires
+    enum-told-2
+    enum-told-3
+    returns-2
+    put-head-requires
+    same-length
+    returns-3)
