@@ -9,7 +9,7 @@ use native.Mathlib.Omega.{arith}
 use lib.Dec.{leb, ltb, eqb}
 use lib.ListN.{length, getD, drop, drop-of-length-le}
 use lib.Seq.{drop-cons}
-use borrow.Author.Tests.{leb-true, leb-false, le-ltb, lt-ltb, eq-eqb, ne-eqb}
+use borrow.Author.Tests.{leb-true, leb-false, le-ltb, lt-ltb, eqb-true, eq-eqb, ne-eqb}
 use denote.Enum.Declared
 use types.Run.{OneOf, miss}
 use Rattle.text_read.proofs.words.Word as word-type
@@ -22,7 +22,7 @@ use Rattle.text_theory.specs.Readers.{give, on, strip, after, either}
 use Rattle.text_theory.specs.Decimal.{isDigit, further, upTo, numberGet}
 use Rattle.text_theory.specs.Words.{nameText, nameNumber, allNames, nameAt, oneOf, nameGet, named, kindNamed, kindGet}
 use Rattle.text_theory.proofs.Pairs.{front}
-use Rattle.text_theory.proofs.Names.{name-sound}
+use Rattle.text_theory.proofs.Names.{each-name, name-sound}
 use Rattle.text_read.specs.declared.words.Word.{Word}
 use Rattle.text_read.specs.declared.words.Word.the-variants as words
 use Rattle.text_read.specs.Answers.{Told, isLetter, Written, numeral, name, word, wordRead}
@@ -201,14 +201,17 @@ module _ {text : List ℕ} {at : ℕ} where
   told-unnamed t = record { same = rw (t .same); moved = tt }
 
 -- The arm of all names that are no kind's.
-pub no-kind : (n : Name) → OneOf (0 ∷ 1 ∷ 2 ∷ 3 ∷ 4 ∷ []) (nameTag n) → kindNamed n ≡ none
-no-kind names.Multi k = refl
-no-kind names.Size k = refl
-no-kind names.Range k = refl
-no-kind names.Row k = refl
-no-kind names.Map k = refl
-no-kind names.Grey k = absurd (miss (0 ∷ 1 ∷ 2 ∷ 3 ∷ 4 ∷ []) 5 tt k)
-no-kind names.Rgb k = absurd (miss (0 ∷ 1 ∷ 2 ∷ 3 ∷ 4 ∷ []) 6 tt k)
+abbrev no-kinds : List ℕ
+no-kinds = 0 ∷ 1 ∷ 2 ∷ 3 ∷ 4 ∷ []
+
+name-tag : (n : Name) → nameTag n ≡ nameNumber n
+name-tag n = eqb-true _ _ (each-name (λ m. eqb (nameTag m) (nameNumber m)) refl n)
+
+pub no-kind : (n : Name) → OneOf no-kinds (nameTag n) → kindNamed n ≡ none
+no-kind n k = rw (ne-eqb 5 (nameNumber n) (other 5 (miss no-kinds 5 tt)), ne-eqb 6 (nameNumber n) (other 6 (miss no-kinds 6 tt)))
+  where
+    other : (i : ℕ) → (OneOf no-kinds i → ⊥) → i ≡ nameNumber n → ⊥
+    other i h e = h (rw (name-tag n ∙ sym e) at k)
 
 -- One name alone.
 module _ (n : Name) {text : List ℕ} {at : ℕ} where

@@ -25,6 +25,7 @@ pub fn name_at(i: usize) -> Name
         3 => Name::Row,
         4 => Name::Map,
         5 => Name::Grey,
+        6 => Name::Rgb,
         _ => Name::Rgb,
     }
 }

@@ -15,7 +15,7 @@ use Rattle.pictures.specs.declared.sizes.Kind.the-variants as kind
 use Rattle.text_theory.specs.declared.Name.{Name}
 use Rattle.text_theory.specs.declared.Name.the-variants as name
 use Rattle.text_theory.specs.Readers.{Get, give, on, strip, onward, after, either, known}
-use Rattle.text_theory.specs.Words.{nameText, nameNumber, allNames, nameAt, oneOf, nameGet, named, kindName, kindNamed, kindText, kindGet}
+use Rattle.text_theory.specs.Words.{nameText, nameNumber, allNames, nameAt, oneOf, nameGet, named, called, kindName, kindNamed, kindText, kindGet}
 use Rattle.text_theory.proofs.Pairs.{Reads, strip-back, on-inv, after-inv}
 
 -- What is read is the text of the name that was read.
@@ -35,15 +35,27 @@ pub name-sound : (s : List ℕ) (r : Name × List ℕ) → nameGet s ≡ some r 
 unfolding nameGet
 name-sound = one-sound allNames
 
--- The kind of a name has that name.
-named-sound : (n : Name) (k : Kind) → kindNamed n ≡ some k → n ≡ kindName k
-named-sound name.Multi k h = absurd (Option·none-ne-some _ h)
-named-sound name.Size k h = absurd (Option·none-ne-some _ h)
-named-sound name.Range k h = absurd (Option·none-ne-some _ h)
-named-sound name.Row k h = absurd (Option·none-ne-some _ h)
-named-sound name.Map k h = absurd (Option·none-ne-some _ h)
-named-sound name.Grey k h = ap kindName (Option·some-injective kind.Grey k h)
-named-sound name.Rgb k h = ap kindName (Option·some-injective kind.Rgb k h)
+-- Each name has its own number.
+pub number-name : (n : Name) → (nameNumber n < length allNames) × (nameAt (nameNumber n) ≡ n)
+number-name name.Multi = (omega arith, refl)
+number-name name.Size = (omega arith, refl)
+number-name name.Range = (omega arith, refl)
+number-name name.Row = (omega arith, refl)
+number-name name.Map = (omega arith, refl)
+number-name name.Grey = (omega arith, refl)
+number-name name.Rgb = (omega arith, refl)
+
+number-same : (n m : Name) → nameNumber m ≡ nameNumber n → m ≡ n
+number-same n m e = sym (number-name m .1) ∙ ap nameAt e ∙ number-name n .1
+
+-- The value that a name gives has that name.
+pub called-sound : {A : Type 0} (f : A → Name) (xs : List A) (n : Name) (a : A) → called f xs n ≡ some a → n ≡ f a
+called-sound f [] n a h = absurd (Option·none-ne-some _ h)
+called-sound f (x ∷ xs) n a h = go (eqb (nameNumber (f x)) (nameNumber n)) refl h (called-sound f xs n a)
+  where
+    go : (t : Bool) → eqb (nameNumber (f x)) (nameNumber n) ≡ t → cond t (some x) (called f xs n) ≡ some a → (called f xs n ≡ some a → n ≡ f a) → n ≡ f a
+    go true e h k = sym (number-same n (f x) (eqb-true _ _ e)) ∙ ap f (Option·some-injective x a h)
+    go false e h k = k h
 
 kind-back : (k : Kind) (t : List ℕ) → kindGet (kindText k ++ t) ≡ some (k, t)
 unfolding kindGet kindText nameGet oneOf strip
@@ -59,7 +71,7 @@ unfolding kindGet kindText
 kind-sound s r h =
     let p = on-inv (nameGet s) (λ n. known (kindNamed n)) r h in
     let k = known-inv (kindNamed (p .0 .0)) (p .0 .1) r (p .2) in
-    cc (name-sound s (p .0) (p .1), named-sound (p .0 .0) (r .0) (k .0), k .1)
+    cc (name-sound s (p .0) (p .1), called-sound kindName (kind.Grey ∷ kind.Rgb ∷ []) (p .0 .0) (r .0) (k .0), k .1)
 
 pub kind-reads : Reads (λ k. Unit) kindText Any kindGet
 kind-reads = record { back = λ k u t v. kind-back k t; sound = λ s r h. (kind-sound s r h, tt) }
@@ -79,19 +91,6 @@ apart-strip (a ∷ v) (b ∷ w) t h = go (eqb a b) h (apart-strip v w t)
     go false h k = refl
 apart-strip [] w t h = absurd (false≢true h)
 apart-strip (a ∷ v) [] t h = absurd (false≢true h)
-
--- Each name has its own number.
-pub number-name : (n : Name) → (nameNumber n < length allNames) × (nameAt (nameNumber n) ≡ n)
-number-name name.Multi = (omega arith, refl)
-number-name name.Size = (omega arith, refl)
-number-name name.Range = (omega arith, refl)
-number-name name.Row = (omega arith, refl)
-number-name name.Map = (omega arith, refl)
-number-name name.Grey = (omega arith, refl)
-number-name name.Rgb = (omega arith, refl)
-
-number-same : (n m : Name) → nameNumber m ≡ nameNumber n → m ≡ n
-number-same n m e = sym (number-name m .1) ∙ ap nameAt e ∙ number-name n .1
 
 -- A test that every name passes: it is computed once over all of them.
 abbrev pub every : {A : Type 0} → (A → Bool) → List A → Bool

@@ -50,19 +50,18 @@ nameGet = oneOf allNames
 unfoldable pub named : Name → Get ℕ
 named n = nameGet ▷ λ m. cond (eqb (nameNumber m) (nameNumber n)) (give 0) (λ s. none)
 
+-- The first of these values that has the name.
+abbrev pub called : {A : Type 0} → (A → Name) → List A → Name → Option A
+called f [] n = none
+called f (x ∷ xs) n = cond (eqb (nameNumber (f x)) (nameNumber n)) (some x) (called f xs n)
+
 -- The name of a kind, and the kind of a name: no other name is one.
 abbrev pub kindName : Kind → Name
 kindName kind.Grey = name.Grey
 kindName kind.Rgb = name.Rgb
 
 abbrev pub kindNamed : Name → Option Kind
-kindNamed name.Multi = none
-kindNamed name.Size = none
-kindNamed name.Range = none
-kindNamed name.Row = none
-kindNamed name.Map = none
-kindNamed name.Grey = some kind.Grey
-kindNamed name.Rgb = some kind.Rgb
+kindNamed = called kindName (kind.Grey ∷ kind.Rgb ∷ [])
 
 unfoldable pub kindText : Kind → List ℕ
 kindText k = nameText (kindName k)

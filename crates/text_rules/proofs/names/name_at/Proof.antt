@@ -1,22 +1,16 @@
--- `text_rules::names::name_at` meets its contract: each arm computes but the last, which is for all that is left.
-use mathlib.Core.Path.{_≡_, sym, ap}
-use mathlib.Core.Logic.{_⊎_, inl, inr}
-use Prim.Native.Nat.{ℕ, _≤_, _<_}
-use native.Mathlib.Nat.{eq-or-lt-of-le}
+-- `text_rules::names::name_at` meets its contract: each arm computes but the last, where i is past all numbers of names.
+use mathlib.Core.Path.{_≡_, sym}
+use Prim.Native.Nat.{ℕ, suc, _≤_}
 use native.Mathlib.Omega.{arith}
 use lib.ListN.{List·getD-eq-default}
 use Rattle.text_theory.specs.declared.Name.the-variants as name
-use Rattle.text_theory.specs.Words.{allNames, nameAt}
+use Rattle.text_theory.specs.Words.{allNames}
 use borrow.Author.Needs.{needs}
 use Rattle.text_rules.proofs.names.name_at.Statement.{statement}
 use Rattle.text_rules.proofs.names.name_at.Tie as tie
 
-last-name : (i : ℕ) → 6 ≤ i → name.Rgb ≡ nameAt i
-last-name i h = go (eq-or-lt-of-le h)
-  where
-    go : (6 ≡ i) ⊎ (6 < i) → name.Rgb ≡ nameAt i
-    go (inl e) = ap nameAt e
-    go (inr l) = sym (List·getD-eq-default allNames name.Rgb l)
+above : {k i : ℕ} → k ≤ i → (i ≡ k → ⊥) → suc k ≤ i
+above h n = omega arith
 
 returns : tie.Need-returns
 returns c = search needs
@@ -37,8 +31,13 @@ returns-6 : tie.Need-returns-6
 returns-6 c = search needs
 
 returns-7 : tie.Need-returns-7
-returns-7 c = last-name (c .before .args .i) (omega (arith, c .match .rest))
+returns-7 c = search needs
+
+returns-8 : tie.Need-returns-8
+returns-8 c =
+    let r = c .match .rest in
+    sym (List·getD-eq-default allNames name.Rgb (above (above (above (above (above (above (above (omega arith) (r .0 .0 .0 .0 .0 .0 .1)) (r .0 .0 .0 .0 .0 .1)) (r .0 .0 .0 .0 .1)) (r .0 .0 .0 .1)) (r .0 .0 .1)) (r .0 .1)) (r .1)))
 
 pub name-at-spec : {M : Type 1} → statement M
 name-at-spec =
-    tie.close (tie.spec returns returns-2 returns-3 returns-4 returns-5 returns-6 returns-7)
+    tie.close (tie.spec returns returns-2 returns-3 returns-4 returns-5 returns-6 returns-7 returns-8)

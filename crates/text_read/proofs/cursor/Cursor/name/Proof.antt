@@ -1,6 +1,8 @@
 -- `text_read::cursor::Cursor::name` meets its contract. The invariant: none of the first i names stands here. What falls is the
 -- number of names left.
 use Prim.Native.Nat.{_-_}
+use lib.ListN.{length}
+use Rattle.text_theory.specs.Words.{allNames}
 use Rattle.text_read.proofs.WordSteps.{Naming, naming-first, naming-next, naming-found, naming-end}
 use borrow.Author.Needs.{needs}
 use Rattle.text_read.proofs.cursor.Cursor.name.Statement.{statement}
@@ -10,7 +12,7 @@ abbrev Inv-loop : tie.InvT-loop
 Inv-loop self text i₀ i = Naming text (self .at) i
 
 abbrev μ-loop : tie.MeasureT-loop
-μ-loop self text i₀ i = 7 - i
+μ-loop self text i₀ i = length allNames - i
 
 loop-holds : tie.Need-loop-holds Inv-loop μ-loop
 loop-holds c = naming-first
