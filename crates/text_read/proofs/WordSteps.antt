@@ -101,7 +101,7 @@ number-in (numeral n) = n
 number-in (name k) = 0
 
 abbrev name-in : Written → Name
-name-in (numeral n) = names.Rgb
+name-in (numeral n) = names.Multi
 name-in (name k) = k
 
 same-tag : (v w : Written) (s t : List ℕ) → _≡_ {A = Option (Written × List ℕ)} (some (v, s)) (some (w, t)) → tag v ≡ tag w
@@ -240,7 +240,7 @@ module _ {text : List ℕ} {at : ℕ} where
   module _ {i : ℕ} (N : Naming text at i) where
     this : i < length allNames → oneOf (drop i allNames) (drop at text) ≡ either (after (nameText (nameAt i)) (give (nameAt i)) (drop at text)) (oneOf (drop (i + 1) allNames) (drop at text))
     unfolding oneOf
-    this h = rw (add-one i, drop-cons allNames i names.Rgb h)
+    this h = rw (add-one i, drop-cons allNames i names.Multi h)
 
     pub naming-next : i < length allNames → {n : Name} → n ≡ nameAt i → Told (passing (nameText n)) text at none → Naming text at (i + 1)
     naming-next h {n} e t = record { same = N .same ∙ this h ∙ rw (passing-none (nameText (nameAt i)) (drop at text) (rw e at (t .same))) }

@@ -14,7 +14,7 @@ pub struct Letters {
     pub count: usize,
 }
 
-// The i-th of the names that are looked for; past the last, the last.
+// The i-th of the names that are looked for; past the last, the first.
 pub fn name_at(i: usize) -> Name
     ensures { λ r. ⌜ r ≡ nameAt i ⌝ }
 {
@@ -26,7 +26,7 @@ pub fn name_at(i: usize) -> Name
         4 => Name::Map,
         5 => Name::Grey,
         6 => Name::Rgb,
-        _ => Name::Rgb,
+        _ => Name::Multi,
     }
 }
 

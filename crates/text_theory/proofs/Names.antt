@@ -103,7 +103,7 @@ every-at f (x ∷ xs) h zero d l = both (f x) (every f xs) h .0
 every-at f (x ∷ xs) h (suc i) d l = every-at f xs (both (f x) (every f xs) h .1) i d (omega arith)
 
 pub each-name : (f : Name → Bool) → every f allNames ≡ true → (n : Name) → f n ≡ true
-each-name f h n = ap f (sym (number-name n .1)) ∙ every-at f allNames h (nameNumber n) name.Rgb (number-name n .0)
+each-name f h n = ap f (sym (number-name n .1)) ∙ every-at f allNames h (nameNumber n) name.Multi (number-name n .0)
 
 -- None of the names that are looked for stands there.
 none-at : (ns : List Name) (s : List ℕ) → oneOf ns s ≡ none → (i : ℕ) (d : Name) → i < length ns → strip (nameText (getD ns i d)) s ≡ none
@@ -138,5 +138,5 @@ named-is n s = go (oneOf allNames s) refl
         rw (f, apart-strip (nameText n) (nameText m) t b)
 
     go : (o : Option (Name × List ℕ)) → oneOf allNames s ≡ o → on {B = ℕ} o (λ m. cond (eqb (nameNumber m) (nameNumber n)) (give 0) (λ s. none)) ≡ after (nameText n) (give 0) s
-    go none e = let z = none-at allNames s e (nameNumber n) name.Rgb (number-name n .0) in rw (rw (number-name n .1) at z)
+    go none e = let z = none-at allNames s e (nameNumber n) name.Multi (number-name n .0) in rw (rw (number-name n .1) at z)
     go (some r) e = same (r .0) (r .1) (eqb (nameNumber (r .0)) (nameNumber n)) refl (one-sound allNames s r e)

@@ -34,9 +34,9 @@ nameNumber name.Rgb = 6
 abbrev pub allNames : List Name
 allNames = name.Multi ∷ name.Size ∷ name.Range ∷ name.Row ∷ name.Map ∷ name.Grey ∷ name.Rgb ∷ []
 
--- The i-th of them; past the last, the last.
+-- The i-th of them; past the last, the first.
 abbrev pub nameAt : ℕ → Name
-nameAt i = getD allNames i name.Rgb
+nameAt i = getD allNames i name.Multi
 
 -- The first of these names that stands at the front.
 unfoldable pub oneOf : List Name → Get Name

@@ -36,7 +36,7 @@ returns-7 c = search needs
 returns-8 : tie.Need-returns-8
 returns-8 c =
     let r = c .match .rest in
-    sym (List·getD-eq-default allNames name.Rgb (above (above (above (above (above (above (above (omega arith) (r .0 .0 .0 .0 .0 .0 .1)) (r .0 .0 .0 .0 .0 .1)) (r .0 .0 .0 .0 .1)) (r .0 .0 .0 .1)) (r .0 .0 .1)) (r .0 .1)) (r .1)))
+    sym (List·getD-eq-default allNames name.Multi (above (above (above (above (above (above (above (omega arith) (r .0 .0 .0 .0 .0 .0 .1)) (r .0 .0 .0 .0 .0 .1)) (r .0 .0 .0 .0 .1)) (r .0 .0 .0 .1)) (r .0 .0 .1)) (r .0 .1)) (r .1)))
 
 pub name-at-spec : {M : Type 1} → statement M
 name-at-spec =
