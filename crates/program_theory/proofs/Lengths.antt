@@ -19,16 +19,17 @@ use Rattle.pictures.specs.Refusals.{refusal}
 use Rattle.pictures.specs.Pictures.{Picture, sizeRules, picture, pixels}
 use Rattle.pictures.proofs.Limits.{sides-are, sides-served}
 use Rattle.text_theory.specs.declared.Head.{Head}
-use Rattle.text_theory.specs.Decimal.{digits}
-use Rattle.text_theory.specs.Files.{blank, closed, All, Pixel}
-use Rattle.text_theory.specs.Lengths.{total, spaced, kindLength, pixelLength, rowLength, headLength}
+use Rattle.text_theory.specs.Decimal.{digits, digitsUpTo}
+use Rattle.text_theory.specs.Words.{kindText}
+use Rattle.text_theory.specs.Files.{blank, lineEnd, closed, All, Pixel}
+use Rattle.text_theory.specs.Lengths.{total, spaced, pixelLength, rowLength, begunLength, sizeLength, rangeLength, headLength}
 use Rattle.text_theory.proofs.Decimals.{length-small, length-large}
 use Rattle.file_theory.specs.Contents.{fileOf}
 use Rattle.file_theory.specs.Demands.{AllowedPicture}
 use Rattle.file_theory.proofs.Shaped.{allowed-ofSize}
 use Rattle.file_theory.proofs.Lent.{lent-allowed}
 use Rattle.file_theory.proofs.Lengths.{file-length}
-use Rattle.program_theory.specs.Netpbm.{greyMagic, rgbMagic, maxval, magicText, headerText}
+use Rattle.program_theory.specs.Netpbm.{letterP, magicOf, maxvalOf, headerText}
 use Rattle.program_theory.specs.Programs.{heldPixels, fullRange, refusedWord, refusedText}
 use Rattle.map_theory.specs.Bounds.{mostWidth}
 
@@ -89,12 +90,13 @@ rows-most : (z : Size) (p : Picture) → AllowedPicture z p → total (rowLength
 rows-most z p a = total-each (rowLength (z .kind)) (z .width * 14 + 6) (row-most (z .kind) (z .width)) (a .pixels)
 
 -- The lines up to the range.
-kind-most : (k : Kind) → kindLength k ≤ 4
+kind-most : (k : Kind) → length (kindText k) ≤ 4
+unfolding kindText
 kind-most Grey = omega arith
 kind-most Rgb = omega arith
 
 head-most : (h : Head) → h .size .width < 1000 → h .size .height < 1000 → h .depth < 1000 → h .growth < 1000 → headLength h ≤ 43
-unfolding headLength
+unfolding headLength sizeLength rangeLength begunLength
 head-most h a b c d =
     omega (arith, spaced-most (h .size .width) a, spaced-most (h .size .height) b, spaced-most (h .depth) c, spaced-most (h .growth) d, kind-most (h .size .kind))
 
@@ -117,15 +119,24 @@ file-most z b a e l =
     let rows = rows-most z (picture z b) p in
     omega (arith, f, top, rows, m, mul-add h (w * 14) 6, mul-add h (w * 4) 6, mul-assoc h w 14, mul-assoc h w 4)
 
-magic-length : (k : Kind) → length (magicText k) ≡ 3
-unfolding magicText greyMagic rgbMagic
-magic-length Grey = refl
-magic-length Rgb = refl
+-- The numbers of a header that say its kind have one digit and three.
+pub magic-length : (k : Kind) → length (digits (magicOf k)) ≡ 1
+magic-length Grey = length-small 5 (omega arith)
+magic-length Rgb = length-small 6 (omega arith)
+
+pub maxval-length : (k : Kind) → length (digits (maxvalOf k)) ≡ 3
+unfolding digits digitsUpTo
+maxval-length Grey = refl
+maxval-length Rgb = refl
+
+-- The length of a header, by its numbers.
+pub header-length : (z : Size) → length (headerText z) ≡ length (digits (z .width)) + length (digits (z .height)) + 9
+unfolding headerText letterP lineEnd blank
+header-length z = simp length-append (omega (arith, magic-length (z .kind), maxval-length (z .kind)))
 
 -- A header, up to the widest picture that is offered.
 pub header-most : (z : Size) → z .width ≤ mostWidth → z .height ≤ mostSide → length (headerText z) ≤ 15
-unfolding headerText blank maxval
-header-most z w h = simp length-append (omega (arith, magic-length (z .kind), digits-most (z .width) (omega arith), digits-most (z .height) (omega arith)))
+header-most z w h = omega (arith, header-length z, digits-most (z .width) (omega arith), digits-most (z .height) (omega arith))
 
 -- A refusal.
 pub refused-most : (n : ℕ) → n < 1000 → length (refusedText n) ≤ 14
