@@ -30,14 +30,7 @@ pub fn fit(input: &[u8], out: &mut [u8; OUTPUT_SPACE]) -> usize
 fn width_line(input: &[u8]) -> Read
     ensures { λ r. ⌜ Told widthGet (now (input .entry)) 0 (read r) ⌝ }
 {
-    let start = Cursor { at: 0 };
-    let Read::Good(width, c) = start.digits(input) else {
-        return Read::Broken;
-    };
-    let Read::Good(_, d) = c.skip(input, b"\n") else {
-        return Read::Broken;
-    };
-    Read::Good(width, d)
+    program_netpbm::last_number(input, Cursor { at: 0 })
 }
 
 // The picture that the file in the input shows at the width in its first line.

@@ -1,71 +1,101 @@
--- The header of a Netpbm picture: read at the front of a text, and printed part by part.
-use mathlib.Core.Path.{_≡_, refl, sym}
-use mathlib.Core.Option.{none, some}
-use mathlib.Core.List.{List, [], _∷_, _++_}
-use Prim.Native.Nat.{ℕ, _+_}
+-- The header of a Netpbm picture: its kind by two numbers, how it is read at the front of a text, and its pieces.
+use mathlib.Core.Path.{_≡_, refl, sym, _∙_}
+use mathlib.Core.Option.{Option, none, some}
+use mathlib.Core.List.{List, [], _∷_, _++_, flatten, append-assoc, append-nil}
+use Prim.Native.Nat.{ℕ, _+_, _≤_, _<_}
 use native.Mathlib.Omega.{arith}
-use lib.ListN.{length, length-append}
-use Rattle.pictures.specs.declared.sizes.Kind.{Kind}
+use lib.ListN.{length, getD, drop, drop-of-length-le, length-append}
+use borrow.Author.Tests.{ne-eqb}
 use Rattle.pictures.specs.declared.sizes.Kind.the-variants.{Grey, Rgb}
+use Rattle.pictures.specs.Numbers.{largestNumber}
 use Rattle.pictures.specs.declared.sizes.Size.{Size}
-use Rattle.text_theory.specs.Decimal.{digits}
-use Rattle.text_theory.specs.Files.{blank}
-use Rattle.text_theory.specs.Lengths.{spaced}
-use Rattle.text_lengths.specs.Rooms.{less}
-use Rattle.text_lengths.proofs.Rooms.{less-then, less-none-then}
-use Rattle.text_read.specs.Answers.{Told, skipping}
-use Rattle.text_read.proofs.FixedBytes.{skipped}
-use Rattle.text_read.proofs.Onward.{word-first, word-second, word-neither}
-use Rattle.text_print.specs.Inner.{Printed}
-use Rattle.text_print.proofs.Written.{printed-more}
-use Rattle.program_theory.specs.Netpbm.{greyMagic, rgbMagic, maxval, magicText, headerText, magicGet}
+use Rattle.text_theory.specs.Readers.{Get, give, on, _▷_, strip, onward, after, known}
+use Rattle.text_theory.specs.Decimal.{digits, numberGet}
+use Rattle.text_theory.specs.Files.{blank, lineEnd}
+use Rattle.text_theory.specs.Lengths.{spaced, total}
+use Rattle.text_theory.proofs.Pairs.{front}
+use Rattle.text_read.specs.Answers.{Told}
+use Rattle.text_read.proofs.Onward.{Left}
+use Rattle.text_lengths.proofs.Rooms.{sum}
+use Rattle.program_theory.specs.Netpbm.{letterP, magicOf, maxvalOf, headerText, kindBy}
+use Rattle.program_netpbm.specs.Headers.{lastNumber}
 
--- The line that names the kind.
-module _ {text : List ℕ} where
-  pub magic-grey : {v c : ℕ} → Told (skipping greyMagic) text 0 (some (v, c)) → Told magicGet text 0 (some (Grey, c))
-  unfolding magicGet greyMagic
-  magic-grey t = word-first greyMagic rgbMagic Grey Rgb (skipped greyMagic (omega arith) t)
+-- The kind by its two numbers.
+pub kind-none : (p m : ℕ) → (m ≡ 255 → ⊥) → none ≡ kindBy p m
+unfolding kindBy
+kind-none p m n = rw (ne-eqb m 255 n)
 
-  module _ (n : Told (skipping greyMagic) text 0 none) where
-    pub magic-rgb : {v c : ℕ} → Told (skipping rgbMagic) text 0 (some (v, c)) → Told magicGet text 0 (some (Rgb, c))
-    unfolding magicGet greyMagic rgbMagic
-    magic-rgb t = word-second greyMagic rgbMagic Grey Rgb (skipped greyMagic (omega arith) n) (skipped rgbMagic (omega arith) t)
+pub kind-grey : (p m : ℕ) → m ≡ 255 → p ≡ 5 → some Grey ≡ kindBy p m
+unfolding kindBy
+kind-grey p m e f = rw (e, f)
 
-    pub magic-none : Told (skipping rgbMagic) text 0 none → Told magicGet text 0 none
-    unfolding magicGet greyMagic rgbMagic
-    magic-none t = word-neither greyMagic rgbMagic Grey Rgb (skipped greyMagic (omega arith) n) (skipped rgbMagic (omega arith) t)
+pub kind-rgb : (p m : ℕ) → m ≡ 255 → p ≡ 6 → some Rgb ≡ kindBy p m
+unfolding kindBy
+kind-rgb p m e f = rw (e, f)
 
--- The parts of a header, one after the other.
-module _ (z : Size) where
-  pub header-parts : length (headerText z) ≡ length (magicText (z .kind)) + length (digits (z .width)) + 1 + length (digits (z .height)) + 5
-  unfolding headerText blank maxval
-  header-parts =
-      omega (
-        arith,
-        length-append (magicText (z .kind)) (digits (z .width) ++ (blank ++ (digits (z .height) ++ maxval))),
-        length-append (digits (z .width)) (blank ++ (digits (z .height) ++ maxval)),
-        length-append (digits (z .height)) maxval,
-      )
+pub kind-other : (p m : ℕ) → (p ≡ 5 → ⊥) → (p ≡ 6 → ⊥) → m ≡ 255 → none ≡ kindBy p m
+unfolding kindBy
+kind-other p m f g e = rw (e, ne-eqb p 5 f, ne-eqb p 6 g)
 
-  pub header-all : {first a b c d e : List ℕ} {i j k l m : ℕ}
-      → Printed first 0 (magicText (z .kind)) a i → Printed a i (digits (z .width)) b j → Printed b j (32 ∷ []) c k
-      → Printed c k (digits (z .height)) d l → Printed d l (10 ∷ 50 ∷ 53 ∷ 53 ∷ 10 ∷ []) e m → Printed first 0 (headerText z) e m
-  unfolding headerText blank maxval
-  header-all A B C D E = printed-more A (printed-more B (printed-more C (printed-more D E)))
+-- The letter at the front of a text.
+module _ {B : Type 0} (g : Get B) {text : List ℕ} where
+  pub no-text : length text ≡ 0 → Told (after letterP g) text 0 none
+  unfolding letterP strip
+  no-text h = record { same = rw (drop-of-length-le text {i = 0} (omega arith)); moved = tt }
 
--- What is left of a room after a header: two numbers, each with a byte before it, and 7 bytes.
-magic-length : (k : Kind) → length (magicText k) ≡ 3
-unfolding magicText greyMagic rgbMagic
-magic-length Grey = refl
-magic-length Rgb = refl
+  pub no-letter : 0 < length text → (getD text 0 0 ≡ 80 → ⊥) → Told (after letterP g) text 0 none
+  unfolding letterP strip
+  no-letter h n = record { same = rw (front text 0 h, ne-eqb 80 (getD text 0 0) (λ e. n (sym e))); moved = tt }
 
-header-sum : (z : Size) → length (headerText z) ≡ (spaced (z .width) + spaced (z .height)) + 7
-unfolding spaced
-header-sum z = omega (arith, header-parts z, magic-length (z .kind))
+  pub left-letter : 0 < length text → getD text 0 0 ≡ 80 → Left (after letterP g) text 0 g 1
+  unfolding letterP strip
+  left-letter h e = record { same = rw (front text 0 h, e); there = omega arith }
 
-module _ (room : ℕ) (z : Size) where
-  pub header-no-room : none ≡ less room (spaced (z .width) + spaced (z .height)) → none ≡ less room (length (headerText z))
-  header-no-room n = rw (header-sum z) (less-none-then room (spaced (z .width) + spaced (z .height)) 7 n)
+-- The last number of a line, and the line end after it, before what is left to read.
+last-step : {B : Type 0} (f : ℕ → Get B) (s : List ℕ) → (numberGet largestNumber ▷ λ n. after lineEnd (f n)) s ≡ (lastNumber ▷ f) s
+unfolding lastNumber
+last-step f s = go (numberGet largestNumber s)
+  where
+    end : (n : ℕ) (o : Option (List ℕ)) → onward o (f n) ≡ on (onward o (give n)) f
+    end n none = refl
+    end n (some t) = refl
 
-  pub header-room : {l : ℕ} → some l ≡ less room (spaced (z .width) + spaced (z .height)) → less l 7 ≡ less room (length (headerText z))
-  header-room {l} s = rw (header-sum z) (sym (less-then room (spaced (z .width) + spaced (z .height)) 7 l s))
+    go : (o : Option (ℕ × List ℕ)) → on o (λ n. after lineEnd (f n)) ≡ on (on o (λ n. after lineEnd (give n))) f
+    go none = refl
+    go (some r) = end (r .0) (strip lineEnd (r .1))
+
+module _ {B : Type 0} {whole : Get B} {text : List ℕ} {from : ℕ} where
+  pub left-last : (f : ℕ → Get B) {at n c : ℕ} → Left whole text from (numberGet largestNumber ▷ λ n. after lineEnd (f n)) at → Told lastNumber text at (some (n, c)) → Left whole text from (f n) c
+  left-last f {at} L t = record { same = L .same ∙ last-step f (drop at text) ∙ rw (t .same); there = omega (arith, L .there, t .moved .0) }
+
+  pub left-no-last : (f : ℕ → Get B) {at : ℕ} → Left whole text from (numberGet largestNumber ▷ λ n. after lineEnd (f n)) at → Told lastNumber text at none → Told whole text from none
+  left-no-last f {at} L t = record { same = L .same ∙ last-step f (drop at text) ∙ rw (t .same); moved = tt }
+
+  -- A value that is known, or isn't.
+  module _ {A : Type 0} (f : A → Get B) (o : Option A) {at : ℕ} (L : Left whole text from (known o ▷ f) at) where
+    pub left-known : {a : A} → some a ≡ o → Left whole text from (f a) at
+    left-known e = record { same = L .same ∙ rw (← e); there = L .there }
+
+    pub left-unknown : none ≡ o → Told whole text from none
+    left-unknown e = record { same = L .same ∙ rw (← e); moved = tt }
+
+  -- What is given at the place c, after the last reading.
+  pub left-give : {b : B} {at c : ℕ} → Left whole text from (give b) c → from ≤ at → (at < c) × (c ≤ length text) → Told whole text from (some (b, c))
+  left-give L h m = record { same = L .same; moved = (omega (arith, m .0), m .1) }
+
+-- The pieces of a header, as they are printed: the letter, and each number with the byte after it.
+abbrev pub headerPieces : Size → List (List ℕ)
+headerPieces z =
+    letterP ∷ (digits (magicOf (z .kind)) ++ lineEnd) ∷ (digits (z .width) ++ blank) ∷ (digits (z .height) ++ lineEnd) ∷ (digits (maxvalOf (z .kind)) ++ lineEnd) ∷ []
+
+pub header-pieces : (z : Size) → headerText z ≡ flatten (headerPieces z)
+unfolding headerText flatten
+header-pieces z = simp (append-assoc, append-nil)
+
+-- Their lengths, as they are taken from a room: the sides, the other two numbers, the letter.
+abbrev pub headerLengths : Size → List ℕ
+headerLengths z = (spaced (z .width) + spaced (z .height)) ∷ (spaced (magicOf (z .kind)) + spaced (maxvalOf (z .kind))) ∷ 1 ∷ []
+
+pub header-lengths : (z : Size) → length (headerText z) ≡ sum (headerLengths z)
+unfolding headerText letterP lineEnd blank spaced total
+header-lengths z = simp length-append (omega arith)

@@ -4,19 +4,18 @@ use pictures::Kind;
 use pictures::Size;
 use text_lengths::Left;
 use text_print::Place;
+use text_read::Class;
 use text_read::Cursor;
-use text_read::KindRead;
 use text_read::Read;
 ghost use mathlib.Core.Path.{_≡_};
 ghost use mathlib.Core.List.{_++_};
-ghost use Prim.Native.Nat.{_≤_};
 ghost use lib.ListN.{length};
-ghost use Rattle.text_read.specs.Answers.{Told, kindRead};
+ghost use Rattle.text_read.specs.Answers.{Told, read};
 ghost use Rattle.text_lengths.specs.Rooms.{leftRead, less};
 ghost use Rattle.text_print.specs.Prints.{Put};
 ghost use Rattle.text_print.specs.Inner.{Printed};
-ghost use Rattle.program_theory.specs.Netpbm.{magicText, headerText, magicGet, headerGet};
-ghost use Rattle.program_netpbm.specs.Headers.{headerRead};
+ghost use Rattle.program_theory.specs.Netpbm.{magicOf, maxvalOf, headerText, kindBy, headerGet};
+ghost use Rattle.program_netpbm.specs.Headers.{lastNumber, kindSaid, headerRead};
 ghost use Rattle.program_netpbm.specs.Inner.{HeaderNeeded, PictureNeeded};
 
 // The size that a header says and the place of the samples after it; or the header is broken.
@@ -25,37 +24,85 @@ pub enum Header {
     Broken,
 }
 
-// The first line, which names the kind.
-fn magic(text: &[u8]) -> KindRead
-    ensures { λ r. ⌜ Told magicGet (now (text .entry)) 0 (kindRead r) ⌝ }
+// The kind that the numbers of a header say; or they say none.
+pub enum KindSaid {
+    Kind(Kind),
+    Unknown,
+}
+
+// The number after the letter P in the header of a picture of this kind.
+fn magic_of(kind: Kind) -> usize
+    ensures { λ n. ⌜ n ≡ magicOf kind ⌝ }
 {
-    let start = Cursor { at: 0 };
-    if let Read::Good(_, c) = start.skip(text, b"P5\n") {
-        return KindRead::Named(Kind::Grey, c);
+    match kind {
+        Kind::Grey => 5,
+        Kind::Rgb => 6,
     }
-    if let Read::Good(_, c) = start.skip(text, b"P6\n") {
-        return KindRead::Named(Kind::Rgb, c);
+}
+
+// The largest sample of a picture of this kind, Netpbm's maxval.
+fn maxval_of(kind: Kind) -> usize
+    ensures { λ n. ⌜ n ≡ maxvalOf kind ⌝ }
+{
+    match kind {
+        Kind::Grey => 255,
+        Kind::Rgb => 255,
     }
-    KindRead::Unnamed
+}
+
+// The kind whose pictures have these two numbers.
+fn kind_by(magic: usize, maxval: usize) -> KindSaid
+    ensures { λ k. ⌜ kindSaid k ≡ kindBy magic maxval ⌝ }
+{
+    if maxval != 255 {
+        return KindSaid::Unknown;
+    }
+    match magic {
+        5 => KindSaid::Kind(Kind::Grey),
+        6 => KindSaid::Kind(Kind::Rgb),
+        _ => KindSaid::Unknown,
+    }
+}
+
+// The last number of a line, and the line end after it.
+pub fn last_number(text: &[u8], from: Cursor) -> Read
+    ensures { λ r. ⌜ Told lastNumber (now (text .entry)) (from .at) (read r) ⌝ }
+{
+    let Read::Good(n, c) = from.number(text) else {
+        return Read::Broken;
+    };
+    let Read::Good(_, d) = c.past(text, Class::LineEnd) else {
+        return Read::Broken;
+    };
+    Read::Good(n, d)
 }
 
 // The header at the front of a text.
 pub fn read_header(text: &[u8]) -> Header
     ensures { λ r. ⌜ Told headerGet (now (text .entry)) 0 (headerRead r) ⌝ }
 {
-    let KindRead::Named(kind, a) = magic(text) else {
+    if text.len() == 0 {
+        return Header::Broken;
+    }
+    if text[0] != b'P' {
+        return Header::Broken;
+    }
+    let Read::Good(magic, a) = last_number(text, Cursor { at: 1 }) else {
         return Header::Broken;
     };
-    let Read::Good(width, b) = a.digits(text) else {
+    let Read::Good(width, b) = a.number(text) else {
         return Header::Broken;
     };
-    let Read::Good(_, c) = b.skip(text, b" ") else {
+    let Read::Good(_, c) = b.past(text, Class::Blank) else {
         return Header::Broken;
     };
-    let Read::Good(height, d) = c.digits(text) else {
+    let Read::Good(height, d) = last_number(text, c) else {
         return Header::Broken;
     };
-    let Read::Good(_, e) = d.skip(text, b"\n255\n") else {
+    let Read::Good(maxval, e) = last_number(text, d) else {
+        return Header::Broken;
+    };
+    let KindSaid::Kind(kind) = kind_by(magic, maxval) else {
         return Header::Broken;
     };
     let size = Size {
@@ -66,27 +113,17 @@ pub fn read_header(text: &[u8]) -> Header
     Header::Sized(size, e.at)
 }
 
-fn put_magic(out: &mut [u8], kind: Kind) -> usize
-    requires { ⌜ length (magicText kind) ≤ length (now out) ⌝ }
-    ensures { λ n. ⌜ Printed (now (out .entry)) 0 (magicText kind) (now (out .exit)) n ⌝ }
-{
-    match kind {
-        Kind::Grey => output::put_bytes(out, 0, b"P5\n"),
-        Kind::Rgb => output::put_bytes(out, 0, b"P6\n"),
-    }
-}
-
 // Prints the header of a picture of this size.
 fn put_header(out: &mut [u8], size: Size) -> usize
     requires { ⌜ HeaderNeeded (now out) size ⌝ }
     ensures { λ n. ⌜ Printed (now (out .entry)) 0 (headerText size) (now (out .exit)) n ⌝ }
 {
     let kind = size.kind;
-    let a = put_magic(out, kind);
-    let b = output::put_number(out, a, size.width);
-    let c = output::put_bytes(out, b, b" ");
-    let d = output::put_number(out, c, size.height);
-    output::put_bytes(out, d, b"\n255\n")
+    let a = output::put_bytes(out, 0, b"P");
+    let b = output::put_numbered(out, a, magic_of(kind), b"\n");
+    let c = output::put_numbered(out, b, size.width, b" ");
+    let d = output::put_numbered(out, c, size.height, b"\n");
+    output::put_numbered(out, d, maxval_of(kind), b"\n")
 }
 
 // Writes a picture of this size at the front of a space, and gives its length.
@@ -98,14 +135,18 @@ fn put_picture(out: &mut [u8], size: Size, samples: &[u8]) -> usize
     output::put_bytes(out, at, samples)
 }
 
-// What is left of a room after the header of a picture of this size.
+// What is left of a room after the header of a picture of this size: its four numbers, each with a byte after it, and the P.
 fn header_left(room: usize, size: Size) -> Left
     ensures { λ l. ⌜ leftRead l ≡ less room (length (headerText size)) ⌝ }
 {
-    let Left::Room(left) = text_lengths::take_pair(room, size.width, size.height) else {
+    let kind = size.kind;
+    let Left::Room(sides) = text_lengths::take_pair(room, size.width, size.height) else {
         return Left::Short;
     };
-    text_lengths::take(left, 7)
+    let Left::Room(numbers) = text_lengths::take_pair(sides, magic_of(kind), maxval_of(kind)) else {
+        return Left::Short;
+    };
+    text_lengths::take(numbers, 1)
 }
 
 // Prints a picture of this size at the front of a space: its header, then its samples.

@@ -1,6 +1,7 @@
 // What a program puts into its output: bytes and numbers where there is room for them, and refusals.
 use pictures::Refusal;
 use text_print::Place;
+ghost use mathlib.Core.List.{_++_};
 ghost use Prim.Native.Nat.{_+_, _≤_};
 ghost use lib.ListN.{length};
 ghost use Rattle.pictures.specs.Refusals.{numberOf};
@@ -42,6 +43,15 @@ pub(crate) fn put_number(out: &mut [u8], at: usize, n: usize) -> usize
     end
 }
 
+// Prints the digits of n and the bytes w after them at a place, and gives the place after them.
+pub(crate) fn put_numbered(out: &mut [u8], at: usize, n: usize, w: &[u8]) -> usize
+    requires { ⌜ at + length (digits n ++ now w) ≤ length (now out) ⌝ }
+    ensures { λ r. ⌜ Printed (now (out .entry)) at (digits n ++ now (w .entry)) (now (out .exit)) r ⌝ }
+{
+    let end = put_number(out, at, n);
+    put_bytes(out, end, w)
+}
+
 // Prints a refusal at the front of a space, and gives its length.
 fn put_refusal(out: &mut [u8], why: Refusal) -> usize
     requires { ⌜ outputSpace ≤ length (now out) ⌝ }
@@ -49,8 +59,7 @@ fn put_refusal(out: &mut [u8], why: Refusal) -> usize
 {
     let number = pictures::number(why) as usize;
     let a = put_bytes(out, 0, b"(refused ");
-    let b = put_number(out, a, number);
-    put_bytes(out, b, b")\n")
+    put_numbered(out, a, number, b")\n")
 }
 
 // The length of the output: of the answer, or of the refusal, which is then printed.

@@ -1,27 +1,32 @@
--- `program_netpbm::output::put_refusal` meets its contract.
-use Prim.Native.Nat.{_≤_}
+-- `program_netpbm::output::put_refusal` meets its contract: the word, and the number with the end of the line.
+use mathlib.Core.List.{List, [], _∷_, _++_, flatten, append-nil}
+use Prim.Native.Nat.{ℕ}
 use native.Mathlib.Omega.{arith}
-use lib.ListN.{length}
 use Rattle.pictures.specs.Refusals.{numberOf}
 use Rattle.text_theory.specs.Decimal.{digits}
 use Rattle.text_theory.specs.Files.{closed}
-use Rattle.text_print.proofs.Written.{printed-more, printed-length}
+use Rattle.text_print.proofs.Pieces.{Printing, printing-first, piece-room, printing-next, printing-last}
 use Rattle.program_theory.specs.Programs.{refusedWord, refusedText}
-use Rattle.program_theory.proofs.Lengths.{digits-most}
+use Rattle.program_theory.proofs.Lengths.{refused-most}
 use Rattle.program_netpbm.proofs.Outputs.{number-below}
 use borrow.Author.Needs.{needs}
 use Rattle.program_netpbm.proofs.output.put_refusal.Statement.{statement}
 use Rattle.program_netpbm.proofs.output.put_refusal.Tie as tie
 
--- the number has at most three digits
-short : (c : tie.After-put-number)
-    → let at-number = c .before .before .before .before .before .before .before in
-    length (digits (at-number .number .result)) ≤ 3
-short c =
-    let at-number = c .before .before .before .before .before .before .before in
-    let s = at-number .before .before in
-    let w = s .args .why in
-    rw (at-number .number .ensures) (digits-most (numberOf w) (number-below w))
+-- The pieces that are still to print, at the start and after the word.
+abbrev Rest : tie.Start → List ℕ → ℕ → List (List ℕ) → Type 0
+Rest s = Printing (s .args .out .now) 0 (refusedText (numberOf (s .args .why)))
+
+abbrev start : tie.After-put-bytes → tie.Start
+start c = c .before .before .before .before .before
+
+whole : (s : tie.Start) → Rest s (s .args .out .now) 0 (refusedWord ∷ (digits (numberOf (s .args .why)) ++ closed) ∷ [])
+unfolding refusedText flatten
+whole s = printing-first _ (simp append-nil) (omega (arith, s .pre, refused-most (numberOf (s .args .why)) (number-below (s .args .why))))
+
+after-word : (c : tie.After-put-bytes) → let s = start c in Rest s (c .put-bytes .last .0) (c .put-bytes .result) ((digits (numberOf (s .args .why)) ++ closed) ∷ [])
+unfolding refusedWord
+after-word c = printing-next (whole (start c)) (c .put-bytes .ensures)
 
 number-requires : tie.Need-number-requires
 number-requires c κs = search needs
@@ -30,45 +35,27 @@ slice-aggregate-put-bytes : tie.Need-slice-aggregate-put-bytes
 slice-aggregate-put-bytes c = search needs
 
 put-bytes-requires : tie.Need-put-bytes-requires
-put-bytes-requires c κs = omega (arith, c .before .before .before .before .pre)
+unfolding refusedWord
+put-bytes-requires c κs = piece-room (whole (c .before .before .before .before))
 
-put-number-requires : tie.Need-put-number-requires
-put-number-requires c κs =
-    let at-put-bytes = c .before .before .before in
-    let at-number = at-put-bytes .before .before .before in
-    let s = at-number .before .before in
-    rw (at-number .number .ensures)
-    (omega (arith, s .pre, digits-most (numberOf (s .args .why)) (number-below (s .args .why)), at-put-bytes .put-bytes .ensures .end-is, printed-length (at-put-bytes .put-bytes .ensures)))
+slice-aggregate-put-numbered : tie.Need-slice-aggregate-put-numbered
+slice-aggregate-put-numbered c = search needs
 
-slice-aggregate-put-bytes-2 : tie.Need-slice-aggregate-put-bytes-2
-slice-aggregate-put-bytes-2 c = search needs
-
-put-bytes-requires-2 : tie.Need-put-bytes-requires-2
-put-bytes-requires-2 c κs =
-    let at-put-number = c .before .before .before .before in
-    let at-put-bytes = at-put-number .before .before .before .before in
-    let s = at-put-bytes .before .before .before .before .before in
-    omega (
-      arith,
-      s .pre,
-      short at-put-number,
-      at-put-bytes .put-bytes .ensures .end-is,
-      printed-length (at-put-bytes .put-bytes .ensures),
-      at-put-number .put-number .ensures .end-is,
-      printed-length (at-put-number .put-number .ensures),
-    )
+put-numbered-requires : tie.Need-put-numbered-requires
+unfolding closed
+put-numbered-requires c κs =
+    let at-word = c .before .before .before .before in
+    rw (at-word .before .before .before .number .ensures) (piece-room (after-word at-word))
 
 same-length : tie.Need-same-length
 same-length c = search needs
 
 returns : tie.Need-returns
-unfolding refusedText refusedWord closed
+unfolding closed
 returns c =
-    let at-put-bytes2 = c .before .before in
-    let at-put-number = at-put-bytes2 .before .before .before .before .before in
-    let at-put-bytes = at-put-number .before .before .before .before in
-    let at-number = at-put-bytes .before .before .before in
-    rw (← at-number .number .ensures) (printed-more (at-put-bytes .put-bytes .ensures) (printed-more (at-put-number .put-number .ensures) (at-put-bytes2 .put-bytes2 .ensures)))
+    let at-numbered = c .before .before in
+    let at-word = at-numbered .before .before .before .before .before in
+    printing-last (after-word at-word) (rw (at-word .before .before .before .number .ensures) at (at-numbered .put-numbered .ensures))
 
 pub put-refusal-spec : {M : Type 1} → statement M
 put-refusal-spec =
@@ -77,8 +64,7 @@ put-refusal-spec =
     number-requires
     slice-aggregate-put-bytes
     put-bytes-requires
-    put-number-requires
-    slice-aggregate-put-bytes-2
-    put-bytes-requires-2
+    slice-aggregate-put-numbered
+    put-numbered-requires
     same-length
     returns)
