@@ -1,4 +1,4 @@
--- `text_lengths::take_after` meets its contract.
+-- `text_lengths::take_after` meets its contract: where the room is empty there is none, else `take` says what is left.
 use mathlib.Core.Path.{sym, _∙_}
 use native.Mathlib.Omega.{arith}
 use Rattle.text_lengths.proofs.Rooms.{less-none, less-after}

@@ -1,4 +1,4 @@
--- `text_lengths::take_name` meets its contract.
+-- `text_lengths::take_name` meets its contract: the letters are as many as the name has.
 use mathlib.Core.Path.{_∙_}
 use borrow.Author.Needs.{needs}
 use Rattle.text_lengths.proofs.take_name.Statement.{statement}

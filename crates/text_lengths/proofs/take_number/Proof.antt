@@ -1,4 +1,4 @@
--- `text_lengths::take_number` meets its contract.
+-- `text_lengths::take_number` meets its contract: the digits are as many as the number has.
 use mathlib.Core.Path.{_∙_}
 use Rattle.text_theory.specs.Lengths.{spaced}
 use borrow.Author.Needs.{needs}

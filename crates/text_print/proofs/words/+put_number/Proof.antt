@@ -1,4 +1,4 @@
--- `text_print::words::put_number` meets its contract.
+-- `text_print::words::put_number` meets its contract: the digits of a tenth, then the last digit. The number falls.
 use native.Mathlib.Omega.{arith}
 use mathlib.Core.Path.{sym}
 use Rattle.text_theory.proofs.Decimals.{tenth, length-small, length-large}

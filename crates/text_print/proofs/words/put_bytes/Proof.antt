@@ -1,4 +1,4 @@
--- `text_print::words::put_bytes` meets its contract.
+-- `text_print::words::put_bytes` meets its contract. The invariant: the first i bytes stand at the place. What falls is how many are left.
 use Prim.Native.Nat.{_-_, _≤_}
 use native.Mathlib.Omega.{arith}
 use mathlib.Core.Path.{_≡_, _∙_}

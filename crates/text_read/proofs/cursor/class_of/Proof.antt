@@ -1,4 +1,4 @@
--- `text_read::cursor::class_of` meets its contract.
+-- `text_read::cursor::class_of` meets its contract: each arm by the byte or the range that it matches.
 use mathlib.Core.Logic.{inl, inr}
 use Rattle.text_theory.specs.Decimal.{isDigit}
 use Rattle.text_read.specs.Answers.{isLetter, classOf}

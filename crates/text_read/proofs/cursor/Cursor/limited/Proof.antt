@@ -1,4 +1,4 @@
--- `text_read::cursor::Cursor::limited` meets its contract.
+-- `text_read::cursor::Cursor::limited` meets its contract: a word that is a number is over the limit or not; no other word is a number.
 use Rattle.text_read.proofs.WordSteps.{told-number, told-number-over, told-number-name, told-number-none}
 use borrow.Author.Needs.{needs}
 use Rattle.text_read.proofs.cursor.Cursor.limited.Statement.{statement}

@@ -1,4 +1,4 @@
--- `text_read::cursor::Cursor::word` meets its contract.
+-- `text_read::cursor::Cursor::word` meets its contract: the class of the first byte says whether a number, a name or no word stands here.
 use lib.ListN.{getD}
 use Rattle.text_read.proofs.ByteClasses.{digit-found, letter-byte, letter-digit, arm-no-word}
 use Rattle.text_read.proofs.WordSteps.{told-word-end, told-word-number, told-word-no-number, told-word-name, told-word-no-name, told-word-other}
