@@ -8,9 +8,11 @@ use lib.Dec.{leb, ltb}
 use lib.ListN.{length, drop}
 use borrow.Author.Tests.{leb-true, leb-false, le-ltb, lt-ltb}
 use Rattle.pictures.specs.declared.sizes.Kind.{Kind}
+use Rattle.pictures.specs.declared.sizes.Size.{Size}
 use Rattle.pictures.specs.Refusals.{refusal, SmallestGiven}
 use Rattle.pictures.proofs.Rules.{given-smallest}
 use Rattle.text_theory.specs.declared.Head.{Head}
+use Rattle.text_theory.specs.declared.Name.{Name}
 use Rattle.text_theory.specs.Readers.{Get}
 use Rattle.text_read.specs.declared.cursor.Read.{Read}
 use Rattle.text_read.specs.declared.cursor.Read.the-variants as reads
@@ -18,11 +20,18 @@ use Rattle.text_read.specs.declared.words.Word.{Word}
 use Rattle.text_read.specs.declared.words.Word.the-variants as words
 use Rattle.text_read.specs.declared.words.KindRead.{KindRead}
 use Rattle.text_read.specs.declared.words.KindRead.the-variants.{Named, Unnamed}
+use Rattle.text_read.specs.declared.words.NameRead.{NameRead}
+use Rattle.text_read.specs.declared.words.NameRead.the-variants as names
+use Rattle.text_read.specs.declared.heads.SizeRead.{SizeRead}
+use Rattle.text_read.specs.declared.heads.SizeRead.the-variants as sizes
+use Rattle.text_read.specs.declared.heads.RangeRead.{RangeRead}
+use Rattle.text_read.specs.declared.heads.RangeRead.the-variants as ranges
 use Rattle.text_read.specs.declared.heads.HeadRead.{HeadRead}
 use Rattle.text_read.specs.declared.heads.HeadRead.the-variants.{Begun, Unbegun}
 use Rattle.text_read.specs.Answers.{readOn, Told, Written, numeral, name, counted, read, kindRead, wordRead, headRead}
 use Rattle.text_read.specs.Numbers.{missing, readNumber, kindReadNumber, wordNumber, headReadNumber, unread, readerRules, lineNumber, lineLength, lineRules}
 use Rattle.text_read.specs.Lines.{fitting, Taken}
+use Rattle.text_read.specs.Inner.{nameRead, nameReadNumber, sizeRead, sizeReadNumber, rangeRead, rangeReadNumber}
 
 -- What is found is missing just where the reader gives none.
 pub missing-number : {A : Type 0} (text : List ℕ) (o : Option (A × List ℕ)) (found : Option (A × ℕ)) → o ≡ readOn text found → missing found ≡ cond (unread o) 1 0
@@ -52,6 +61,18 @@ word-number get text at words.Broken t = told-number get text at none t
 pub head-number : (get : Get Head) (text : List ℕ) (at : ℕ) (r : HeadRead) → Told get text at (headRead r) → headReadNumber r ≡ refusal (readerRules get text at)
 head-number get text at (Begun h c) t = told-number get text at (some (h, c .at)) t
 head-number get text at Unbegun t = told-number get text at none t
+
+pub name-number : (get : Get Name) (text : List ℕ) (at : ℕ) (r : NameRead) → Told get text at (nameRead r) → nameReadNumber r ≡ refusal (readerRules get text at)
+name-number get text at (names.Known n c) t = told-number get text at (some (n, c .at)) t
+name-number get text at names.Unknown t = told-number get text at none t
+
+pub size-number : (get : Get Size) (text : List ℕ) (at : ℕ) (r : SizeRead) → Told get text at (sizeRead r) → sizeReadNumber r ≡ refusal (readerRules get text at)
+size-number get text at (sizes.Sized z c) t = told-number get text at (some (z, c .at)) t
+size-number get text at sizes.Unsized t = told-number get text at none t
+
+pub range-number : (get : Get (ℕ × ℕ)) (text : List ℕ) (at : ℕ) (r : RangeRead) → Told get text at (rangeRead r) → rangeReadNumber r ≡ refusal (readerRules get text at)
+range-number get text at (ranges.Ranged d g c) t = told-number get text at (some ((d, g), c .at)) t
+range-number get text at ranges.Unranged t = told-number get text at none t
 
 -- A line read into a space: 1 where it breaks its form, 8 where it has it and the space is shorter than its values.
 module _ (get : Get (List ℕ)) (text : List ℕ) (at : ℕ) (out : List ℕ) (r : Read) (out′ : List ℕ) (t : Taken get text at out (read r) out′) where

@@ -39,6 +39,19 @@ abbrev pub rangeRead : RangeRead → Option ((ℕ × ℕ) × ℕ)
 rangeRead (ranges.Ranged d g c) = some ((d, g), c .at)
 rangeRead ranges.Unranged = none
 
+-- Their numbers: 1, "text .. breaks its form", and 0 where something was read.
+abbrev pub nameReadNumber : NameRead → ℕ
+nameReadNumber (names.Known n c) = 0
+nameReadNumber names.Unknown = 1
+
+abbrev pub sizeReadNumber : SizeRead → ℕ
+sizeReadNumber (sizes.Sized z c) = 0
+sizeReadNumber sizes.Unsized = 1
+
+abbrev pub rangeReadNumber : RangeRead → ℕ
+rangeReadNumber (ranges.Ranged d g c) = 0
+rangeReadNumber ranges.Unranged = 1
+
 -- The bytes from the first digit on.
 unfoldable pub skipped : List ℕ → List ℕ
 skipped [] = []
