@@ -14,6 +14,7 @@ use Rattle.grids.proofs.Rows.{part-end}
 use Rattle.pictures.specs.Limits.{mostPicture}
 use Rattle.pictures.specs.declared.sizes.Size.{Size}
 use Rattle.pictures.specs.Pictures.{channelsOf, rowBytes, picture}
+use Rattle.energy.specs.declared.methods.Method.{Method}
 use Rattle.energy.specs.Energy.{apart, difference, energy, energies}
 use Rattle.energy.specs.Inner.{LinesNeeded, rightColumn, between, neighbourOf}
 use Rattle.pictures.proofs.Limits.{Sized}
@@ -62,7 +63,7 @@ module _ (ch : ℕ) (it lower space out : List ℕ) (width beside c i : ℕ) (at
       ∙ ap (λ n. table (between ch it lower width beside) n ++ drop n space) w
 
 -- The two parts of the buffer that are lent to the loop, in its terms: s bytes at r * s, and s bytes at n * s.
-module _ (z : Size) (b : List ℕ) (r s n : ℕ) (sure : Sized z (length b)) (inside : r < z .height) (is : s ≡ rowBytes z) (below : n ≡ neighbourOf r (z .height)) where
+module _ (z : Size) (how : Method) (b : List ℕ) (r s n : ℕ) (sure : Sized z (length b)) (inside : r < z .height) (is : s ≡ rowBytes z) (below : n ≡ neighbourOf (how .energy) r (z .height)) where
   pub record Ends : Type 0 where
     pub short : length b ≤ mostPicture
     pub it : r * s + s ≤ length b
@@ -71,7 +72,7 @@ module _ (z : Size) (b : List ℕ) (r s n : ℕ) (sure : Sized z (length b)) (in
   pub ends : Ends
   ends =
       let long : length b ≡ z .height * s = sure .length-is ∙ ap (z .height *_) (sym is) in
-      let inside-too : n < z .height = rw below (neighbour-inside r (z .height) inside) in
+      let inside-too : n < z .height = rw below (neighbour-inside (how .energy) r (z .height) inside) in
       record {
         short = omega (arith, sure .length-is, sure .picture-most);
         it = omega (arith, part-end r (z .height) s inside);
@@ -81,11 +82,11 @@ module _ (z : Size) (b : List ℕ) (r s n : ℕ) (sure : Sized z (length b)) (in
   part-length : (at : ℕ) → at + s ≤ length b → length (take (at + s - at) (drop at b)) ≡ z .width * channelsOf (z .kind)
   part-length at h = rw (add-sub-cancel-left at s) (length-take-le s (drop at b) (omega (arith, length-drop at b)) ∙ is)
 
-  pub lines-needed : (beside : ℕ) (out : List ℕ) → beside ≡ neighbourOf (z .width - 1) (z .width) → z .width ≤ length out
+  pub lines-needed : (beside : ℕ) (out : List ℕ) → beside ≡ neighbourOf (how .energy) (z .width - 1) (z .width) → z .width ≤ length out
       → LinesNeeded (channelsOf (z .kind)) (take (r * s + s - r * s) (drop (r * s) b)) (take (n * s + s - n * s) (drop (n * s) b)) (z .width) beside out
   lines-needed beside out is-beside room = record {
     some = sure .width-some;
-    inside = rw is-beside (neighbour-inside (z .width - 1) (z .width) (omega (arith, sure .width-some)));
+    inside = rw is-beside (neighbour-inside (how .energy) (z .width - 1) (z .width) (omega (arith, sure .width-some)));
     narrow = sure .width-small;
     it-is = part-length (r * s) (ends .it);
     lower-is = part-length (n * s) (ends .lower);
@@ -93,8 +94,8 @@ module _ (z : Size) (b : List ℕ) (r s n : ℕ) (sure : Sized z (length b)) (in
   }
 
   -- What the loop leaves is the row's energies.
-  pub lines-are : (beside : ℕ) → beside ≡ neighbourOf (z .width - 1) (z .width)
-      → table (between (channelsOf (z .kind)) (take (r * s + s - r * s) (drop (r * s) b)) (take (n * s + s - n * s) (drop (n * s) b)) (z .width) beside) (z .width) ≡ energies (z .width) (z .height) (picture z b) r
+  pub lines-are : (beside : ℕ) → beside ≡ neighbourOf (how .energy) (z .width - 1) (z .width)
+      → table (between (channelsOf (z .kind)) (take (r * s + s - r * s) (drop (r * s) b)) (take (n * s + s - n * s) (drop (n * s) b)) (z .width) beside) (z .width) ≡ energies how (z .width) (z .height) (picture z b) r
   lines-are beside is-beside =
-      table-same _ (energy (z .width) (z .height) (picture z b) r) (z .width)
-      (λ c l. rw (add-sub-cancel-left (r * s) s, add-sub-cancel-left (n * s) s, below, is, is-beside) (sym (energy-between z b (sure .length-is) r c inside l)))
+      table-same _ (energy how (z .width) (z .height) (picture z b) r) (z .width)
+      (λ c l. rw (add-sub-cancel-left (r * s) s, add-sub-cancel-left (n * s) s, below, is, is-beside) (sym (energy-between z how b (sure .length-is) r c inside l)))

@@ -15,7 +15,10 @@ use Rattle.grids.proofs.Rows.{rowAt-short, rowAt-all}
 use Rattle.pictures.specs.declared.sizes.Size.{Size}
 use Rattle.pictures.specs.Pictures.{Picture, channelsOf, rowBytes, pictureBytes, picture, pixel}
 use Rattle.energy.specs.Around.{leftOf, rightOf, aboveOf, belowOf, around}
-use Rattle.energy.specs.Energy.{difference, away, edge, StepCosts, costsAt, isThe, toward}
+use Rattle.energy.specs.declared.methods.EnergyRule.{EnergyRule}
+use Rattle.energy.specs.declared.methods.EnergyRule.the-variants.{Edge}
+use Rattle.energy.specs.declared.methods.Method.{Method}
+use Rattle.energy.specs.Energy.{difference, away, edge, StepCosts, wrapOf, costsFrom, costsAt, isThe, toward}
 use Rattle.pictures.proofs.Buffers.{pixel-at, pixel-past}
 use Rattle.energy.proofs.Energy.{away-holds}
 
@@ -59,17 +62,26 @@ module _ (channels m : ℕ) (p : Picture) (short : (r c : ℕ) → length (pixel
   away-most r c at = away-holds (λ n. n ≤ channels * m) (pixel p r c) (λ a. pixel p (at a .0) (at a .1)) (omega arith) (λ a. pixel-most r c (at a .0) (at a .1))
 
   -- A pixel costs at most two such differences, wherever a path comes from.
-  pub costs-most : (w h r c : ℕ) → CostsMost (2 * (channels * m)) (costsAt w h p r c)
-  unfolding costsAt
-  costs-most w h r c = record { left = most; up = most; right = most }
+  pub costs-most : (how : Method) (w h r c : ℕ) → CostsMost (2 * (channels * m)) (costsAt how w h p r c)
+  unfolding costsFrom costsAt
+  costs-most how w h r c = by (how .energy)
     where
-      most : edge (around false w h p r c) ≤ 2 * (channels * m)
-      most = omega (arith, away-most r c (λ a. (r, a)) (rightOf false w c) (leftOf false w c), away-most r c (λ a. (a, c)) (belowOf h r) (aboveOf r))
+      most : edge (around (wrapOf how) w h p r c) ≤ 2 * (channels * m)
+      most =
+          omega
+          (
+            arith,
+            away-most r c (λ a. (r, a)) (rightOf (wrapOf how) w c) (leftOf (wrapOf how) w c),
+            away-most r c (λ a. (a, c)) (belowOf h r) (aboveOf r)
+          )
+
+      by : (rule : EnergyRule) → CostsMost (2 * (channels * m)) (costsFrom rule (around (wrapOf how) w h p r c))
+      by Edge = record { left = most; up = most; right = most }
 
 -- The same of a picture in a buffer.
-pub buffer-costs-most : (z : Size) (b : List ℕ) (m : ℕ) → length b ≡ pictureBytes z → ((i : ℕ) → getD b i 0 ≤ m)
-    → (r c : ℕ) → CostsMost (2 * (channelsOf (z .kind) * m)) (costsAt (z .width) (z .height) (picture z b) r c)
-buffer-costs-most z b m e h = costs-most ch m (picture z b) short below (z .width) (z .height)
+pub buffer-costs-most : (z : Size) (how : Method) (b : List ℕ) (m : ℕ) → length b ≡ pictureBytes z → ((i : ℕ) → getD b i 0 ≤ m)
+    → (r c : ℕ) → CostsMost (2 * (channelsOf (z .kind) * m)) (costsAt how (z .width) (z .height) (picture z b) r c)
+buffer-costs-most z how b m e h = costs-most ch m (picture z b) short below how (z .width) (z .height)
   where
     ch : ℕ
     ch = channelsOf (z .kind)

@@ -6,8 +6,11 @@ use Prim.Native.Nat.{ℕ, _-_, _<_}
 use lib.Dec.{eqb}
 use borrow.Author.Tests.{lt-ltb, eq-eqb, ne-eqb}
 use Rattle.pictures.specs.Pictures.{Picture}
-use Rattle.energy.specs.Around.{leftOf}
-use Rattle.energy.specs.Energy.{StepCosts, alike, costsAt, energy, isThe, toward, stepOf}
+use Rattle.energy.specs.Around.{Around, leftOf, around}
+use Rattle.energy.specs.declared.methods.EnergyRule.{EnergyRule}
+use Rattle.energy.specs.declared.methods.EnergyRule.the-variants.{Edge}
+use Rattle.energy.specs.declared.methods.Method.{Method}
+use Rattle.energy.specs.Energy.{StepCosts, alike, wrapOf, costsFrom, costsAt, energy, isThe, toward, stepOf}
 
 -- Every column but the first has the one before it to its left.
 pub left-inner : (wrap : Bool) (w c : ℕ) → 0 < c → leftOf wrap w c ≡ some (c - 1)
@@ -56,11 +59,22 @@ module _ (wrap : Bool) (w : ℕ) where
       go false true = refl
       go false false = refl
 
--- All three costs of a pixel are its energy.
-pub costs-alike : (w h : ℕ) (p : Picture) (r c : ℕ) → costsAt w h p r c ≡ alike (energy w h p r c)
+-- No method joins the last column to the first.
+pub no-join : (how : Method) → wrapOf how ≡ false
+unfolding wrapOf
+no-join how = refl
+
+-- By each rule all three costs of a pixel are its energy.
+rule-alike : (rule : EnergyRule) (a : Around) → costsFrom rule a ≡ alike (costsFrom rule a .up)
+unfolding costsFrom
+rule-alike Edge a = refl
+
+pub costs-alike : (how : Method) (w h : ℕ) (p : Picture) (r c : ℕ) → costsAt how w h p r c ≡ alike (energy how w h p r c)
 unfolding costsAt
-costs-alike w h p r c = refl
+costs-alike how w h p r c = rule-alike (how .energy) (around (wrapOf how) w h p r c)
 
 -- So a step costs the energy of the pixel that it comes to.
-pub step-energy : (w h : ℕ) (p : Picture) (i a c : ℕ) → stepOf w h p i a c ≡ energy w h p i c
-step-energy w h p i a c = ap (toward false w a c) (costs-alike w h p i c) ∙ toward-alike false w a c (energy w h p i c)
+pub step-energy : (how : Method) (w h : ℕ) (p : Picture) (i a c : ℕ) → stepOf how w h p i a c ≡ energy how w h p i c
+step-energy how w h p i a c =
+    ap (toward (wrapOf how) w a c) (costs-alike how w h p i c)
+    ∙ toward-alike (wrapOf how) w a c (energy how w h p i c)

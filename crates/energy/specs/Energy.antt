@@ -11,6 +11,9 @@ use Rattle.pictures.specs.declared.sizes.Size.{Size}
 use Rattle.pictures.specs.declared.refusals.Verdict.{Verdict}
 use Rattle.pictures.specs.Refusals.{_when_, Rule, given, refusal, served}
 use Rattle.pictures.specs.Pictures.{Picture, picture, sizeRules}
+use Rattle.energy.specs.declared.methods.EnergyRule.{EnergyRule}
+use Rattle.energy.specs.declared.methods.EnergyRule.the-variants.{Edge}
+use Rattle.energy.specs.declared.methods.Method.{Method}
 use Rattle.energy.specs.Around.{Around, leftOf, around}
 
 -- |a - b|
@@ -43,17 +46,21 @@ pub record StepCosts : Type 0 where
 abbrev pub alike : ℕ → StepCosts
 alike e = record { left = e; up = e; right = e }
 
--- The rule: what a pixel costs, from its neighbours. Wherever a path comes from, it is the pixel's energy.
-abbrev pub costsFrom : Around → StepCosts
-costsFrom a = alike (edge a)
+-- By each rule: what a pixel costs, from its neighbours. Wherever a path comes from, it is the pixel's energy.
+unfoldable pub costsFrom : EnergyRule → Around → StepCosts
+costsFrom Edge a = alike (edge a)
 
--- In row r and column c of a picture of w columns and h rows.
-unfoldable pub costsAt : ℕ → ℕ → Picture → ℕ → ℕ → StepCosts
-costsAt w h p r c = costsFrom (around false w h p r c)
+-- Whether the last column is joined to the first: by no method yet.
+unfoldable pub wrapOf : Method → Bool
+wrapOf how = false
+
+-- What a pixel costs in row r and column c of a picture of w columns and h rows, by a method.
+unfoldable pub costsAt : Method → ℕ → ℕ → Picture → ℕ → ℕ → StepCosts
+costsAt how w h p r c = costsFrom (how .energy) (around (wrapOf how) w h p r c)
 
 -- The energy of a pixel: its cost where a path comes from straight above, or begins.
-abbrev pub energy : ℕ → ℕ → Picture → ℕ → ℕ → ℕ
-energy w h p r c = costsAt w h p r c .up
+abbrev pub energy : Method → ℕ → ℕ → Picture → ℕ → ℕ → ℕ
+energy how w h p r c = costsAt how w h p r c .up
 
 -- Whether a column is this one.
 abbrev pub isThe : Option ℕ → ℕ → Bool
@@ -65,16 +72,16 @@ unfoldable pub toward : Bool → ℕ → ℕ → ℕ → StepCosts → ℕ
 toward wrap w a c k = cond (eqb a c) (k .up) (cond (isThe (leftOf wrap w c) a) (k .left) (k .right))
 
 -- The cost of coming to column c of row i from column a of the row above.
-abbrev pub stepOf : ℕ → ℕ → Picture → ℕ → ℕ → ℕ → ℕ
-stepOf w h p i a c = toward false w a c (costsAt w h p i c)
+abbrev pub stepOf : Method → ℕ → ℕ → Picture → ℕ → ℕ → ℕ → ℕ
+stepOf how w h p i a c = toward (wrapOf how) w a c (costsAt how w h p i c)
 
 -- The energies of row r.
-abbrev pub energies : ℕ → ℕ → Picture → ℕ → List ℕ
-energies w h p r = table (energy w h p r) w
+abbrev pub energies : Method → ℕ → ℕ → Picture → ℕ → List ℕ
+energies how w h p r = table (energy how w h p r) w
 
 -- All energies of a picture, row by row.
-abbrev pub energyGrid : ℕ → ℕ → Picture → List (List ℕ)
-energyGrid w h p = table (energies w h p) h
+abbrev pub energyGrid : Method → ℕ → ℕ → Picture → List (List ℕ)
+energyGrid how w h p = table (energies how w h p) h
 
 -- When the energies of row r are refused: as the picture is, where there is no such row, and where the space is shorter
 -- than the row.
@@ -82,6 +89,6 @@ abbrev pub energiesRules : Size → ℕ → ℕ → ℕ → List Rule
 energiesRules z bytes r space = sizeRules z bytes ++ (4 when leb (z .height) r ∷ 8 when ltb space (z .width) ∷ [])
 
 -- What the operation gives: the number, and the space, which keeps what stands after the row's energies.
-pub record EnergiesGiven (b : List ℕ) (z : Size) (r : ℕ) (out : List ℕ) (verdict : Verdict) (out′ : List ℕ) : Type 0 where
-  pub answer : given verdict ≡ refusal (energiesRules z (length b) r (length out))
-  pub space : out′ ≡ served (given verdict) (energies (z .width) (z .height) (picture z b) r ++ drop (z .width) out) out
+pub record EnergiesGiven (b : List ℕ) (z : Size) (how : Method) (r : ℕ) (out : List ℕ) (answer : Verdict) (out′ : List ℕ) : Type 0 where
+  pub number : given answer ≡ refusal (energiesRules z (length b) r (length out))
+  pub out-given : out′ ≡ served (given answer) (energies how (z .width) (z .height) (picture z b) r ++ drop (z .width) out) out

@@ -1,6 +1,9 @@
 // The energy of a row's pixels.
 mod kernels;
+pub mod methods;
 
+pub use methods::EnergyRule;
+pub use methods::Method;
 use pictures::Refusal;
 use pictures::Size;
 use pictures::Verdict;
@@ -12,13 +15,19 @@ ghost use Rattle.pictures.specs.Pictures.{picture as Pictures·picture};
 ghost use Rattle.energy.specs.Inner.{RowNeeded, neighbourOf};
 ghost use mathlib.Core.Path.{_≡_};
 ghost use mathlib.Core.List.{_++_};
-ghost use Prim.Native.Nat.{_≤_, _<_};
+ghost use Prim.Native.Nat.{_-_, _≤_, _<_};
 ghost use lib.ListN.{drop};
 
 // The energies of row r, put into the first `width` places of out. Refused by 2, 3 and 4 as every picture is, by 4 where
 // there is no row r, and by 8 where out is shorter than the row.
-pub fn energies(picture: &[u8], size: Size, r: usize, out: &mut [u32]) -> Verdict
-    ensures { λ v. ⌜ EnergiesGiven (now (picture .entry)) size r (now (out .entry)) v (now (out .exit)) ⌝ }
+pub fn energies(
+    picture: &[u8],
+    size: Size,
+    method: Method,
+    r: usize,
+    out: &mut [u32],
+) -> Verdict
+    ensures { λ v. ⌜ EnergiesGiven (now (picture .entry)) size method r (now (out .entry)) v (now (out .exit)) ⌝ }
 {
     let fits = judge_picture(size, picture.len());
     let Verdict::Served = fits else {
@@ -32,19 +41,28 @@ pub fn energies(picture: &[u8], size: Size, r: usize, out: &mut [u32]) -> Verdic
     if out.len() < width {
         return Verdict::Refused(Refusal::Space);
     }
-    row_energies(picture, size, r, out);
+    row_energies(picture, size, method, r, out);
     Verdict::Served
 }
 
-// The line, column or row, that stands for the one after line i of n: the next one; of the last, the one before it; of the only
-// one the line itself, from which it doesn't differ.
-fn neighbour(i: usize, n: usize) -> usize
+// The line, column or row, that stands for the one after line i of n: the next one; of the last, the one that the rule says.
+fn neighbour(rule: EnergyRule, i: usize, n: usize) -> usize
     requires { ⌜ (i < n) × (n ≤ mostSide) ⌝ }
-    ensures { λ j. ⌜ j ≡ neighbourOf i n ⌝ }
+    ensures { λ j. ⌜ j ≡ neighbourOf rule i n ⌝ }
 {
     if i + 1 < n {
-        i + 1
-    } else if 0 < i {
+        return i + 1;
+    }
+    match rule {
+        EnergyRule::Edge => before(i),
+    }
+}
+
+// The line before line i; of the first the line itself, from which it doesn't differ.
+fn before(i: usize) -> usize
+    ensures { λ j. ⌜ j ≡ i - 1 ⌝ }
+{
+    if 0 < i {
         i - 1
     } else {
         i
@@ -52,17 +70,18 @@ fn neighbour(i: usize, n: usize) -> usize
 }
 
 // The energies of row r of a picture that is of its size.
-fn row_energies(picture: &[u8], size: Size, r: usize, out: &mut [u32])
+fn row_energies(picture: &[u8], size: Size, method: Method, r: usize, out: &mut [u32])
     requires { ⌜ RowNeeded (now picture) size r (now out) ⌝ }
-    ensures { λ _. ⌜ now (out .exit) ≡ Energy·energies (size .width) (size .height) (Pictures·picture size (now (picture .entry))) r ++ drop (size .width) (now (out .entry)) ⌝ }
+    ensures { λ _. ⌜ now (out .exit) ≡ Energy·energies method (size .width) (size .height) (Pictures·picture size (now (picture .entry))) r ++ drop (size .width) (now (out .entry)) ⌝ }
 {
     let width = size.width;
     let height = size.height;
     let kind = size.kind;
     let stride = width * channels(kind);
     let at = r * stride;
-    let lower = neighbour(r, height) * stride;
-    let beside = neighbour(width - 1, width);
+    let rule = method.energy;
+    let lower = neighbour(rule, r, height) * stride;
+    let beside = neighbour(rule, width - 1, width);
     kernels::line_energies(
         kind,
         &picture[at..at + stride],

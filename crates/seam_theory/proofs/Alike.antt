@@ -8,8 +8,9 @@ use native.Mathlib.Omega.{arith}
 use lib.Dec.{leb}
 use lib.ListN.{length, getD}
 use Rattle.pictures.specs.Pictures.{Picture}
+use Rattle.energy.specs.declared.methods.Method.{Method}
 use Rattle.energy.specs.Energy.{costsAt, energy, energies, stepOf}
-use Rattle.energy.proofs.Steps.{step-energy}
+use Rattle.energy.proofs.Steps.{costs-alike, step-energy}
 use Rattle.seam_theory.specs.Paths.{cost, along}
 use Rattle.seam_theory.specs.PictureSeams.{pathCost}
 use Rattle.seam_theory.specs.Sums.{firstOf3, alikeRows, wayAbove, costRows, sumOf3, wayOf3}
@@ -42,12 +43,12 @@ cost-along first step v f g [] = refl
 cost-along first step v f g (c ∷ []) = f c
 cost-along first step v f g (c ∷ a ∷ q) = ap₂ _+_ (cost-along first step v f g (a ∷ q)) (g (suc (length q)) a c)
 
-module _ (w h : ℕ) (p : Picture) where
+module _ (how : Method) (w h : ℕ) (p : Picture) where
   -- "Its cost is the sum of its energies."
-  pub cost-energies : (q : List ℕ) → pathCost w h p q ≡ along (energy w h p) q
-  cost-energies = cost-along (energy w h p 0) (stepOf w h p) (energy w h p) (λ c. refl) (step-energy w h p)
+  pub cost-energies : (q : List ℕ) → pathCost how w h p q ≡ along (energy how w h p) q
+  cost-energies = cost-along (energy how w h p 0) (stepOf how w h p) (energy how w h p) (λ c. refl) (step-energy how w h p)
 
   -- The costs of a row are its energies.
-  pub rows-alike : (i : ℕ) → costRows w (costsAt w h p i) ≡ alikeRows (energies w h p i)
-  unfolding costsAt
-  rows-alike i = refl
+  pub rows-alike : (i : ℕ) → costRows w (costsAt how w h p i) ≡ alikeRows (energies how w h p i)
+  rows-alike i =
+      ap (costRows w) (λ j c. costs-alike how w h p i c j)

@@ -9,6 +9,8 @@ use Rattle.grids.specs.Each.{Each, Grid, none}
 use Rattle.grids.proofs.Bools.{both, and-both}
 use Rattle.grids.proofs.Shapes.{each-member, each-reverse}
 use Rattle.pictures.specs.Pictures.{Picture}
+use Rattle.energy.specs.declared.methods.Method.{Method}
+use Rattle.energy.specs.Energy.{wrapOf}
 use Rattle.seam_theory.specs.Best.{firstBest}
 use Rattle.seam_theory.specs.Paths.{near, paths}
 use Rattle.seam_theory.specs.Connected.{linked, IsPath}
@@ -60,9 +62,9 @@ paths-choose {A} wrap up path low = record { inside = inside; joined = joined }
     joined w (suc h) p l g = linked-reverse (near wrap w) (near-both wrap w) (up w (suc h) p) (path w (suc h) p l (omega arith) g .connected)
 
 -- The seam of a picture is such a path.
-seam-path : (w h : ℕ) (p : Picture) → 0 < w → 0 < h → Grid w h p → IsPath false w h (Option·getD (seamUp w h p) [])
-seam-path w h p k l g = let s = seam-some w h p k l in rw (s .1) (s .2 .path)
+seam-path : (how : Method) (w h : ℕ) (p : Picture) → 0 < w → 0 < h → Grid w h p → IsPath (wrapOf how) w h (Option·getD (seamUp how w h p) [])
+seam-path how w h p k l g = let s = seam-some how w h p k l in rw (s .1) (s .2 .path)
 
-pub seam-chooses : Chooses (near false) seamOf
+pub seam-chooses : (how : Method) → Chooses (near (wrapOf how)) (seamOf how)
 unfolding seamOf paths firstBest
-seam-chooses = paths-choose false (λ w h p. Option·getD (seamUp w h p) []) seam-path (λ w p. refl)
+seam-chooses how = paths-choose (wrapOf how) (λ w h p. Option·getD (seamUp how w h p) []) (seam-path how) (λ w p. refl)

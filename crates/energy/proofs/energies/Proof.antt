@@ -45,15 +45,15 @@ returns c =
     let rules = sizeRules (a .size) (length (now (a .picture))) in
     let more = 4 when leb (a .size .height) (a .r) ∷ 8 when ltb (length (now (a .out))) (a .size .width) ∷ [] in
     record {
-      answer = refused-answer (at-judge-picture .judge-picture .result) (why .0 .0) (why .1) rules more (at-judge-picture .judge-picture .ensures);
-      space = refused-kept (at-judge-picture .judge-picture .result) (why .0 .0) (why .1) (energies (a .size .width) (a .size .height) (picture (a .size) (now (a .picture))) (a .r) ++ drop (a .size .width) (now (a .out))) (now (a .out));
+      number = refused-answer (at-judge-picture .judge-picture .result) (why .0 .0) (why .1) rules more (at-judge-picture .judge-picture .ensures);
+      out-given = refused-kept (at-judge-picture .judge-picture .result) (why .0 .0) (why .1) (energies (a .method) (a .size .width) (a .size .height) (picture (a .size) (now (a .picture))) (a .r) ++ drop (a .size .width) (now (a .out))) (now (a .out));
     }
 
 returns-2 : tie.Need-returns-2
-returns-2 c = record { answer = sym (rest (c .before) ∙ simp (le-leb _ _ (c .if1 .taken))); space = refl }
+returns-2 c = record { number = sym (rest (c .before) ∙ simp (le-leb _ _ (c .if1 .taken))); out-given = refl }
 
 returns-3 : tie.Need-returns-3
-returns-3 c = record { answer = sym (rest (c .before .before) ∙ simp (lt-leb _ _ (c .before .if1 .left), lt-ltb _ _ (c .if2 .taken))); space = refl }
+returns-3 c = record { number = sym (rest (c .before .before) ∙ simp (lt-leb _ _ (c .before .if1 .left), lt-ltb _ _ (c .if2 .taken))); out-given = refl }
 
 row-energies-requires : tie.Need-row-energies-requires
 row-energies-requires c κs =
@@ -71,8 +71,8 @@ returns-4 c =
     let at-if1 = at-if2 .before in
     let at-enum-told = at-if1 .before in
     record {
-      answer = sym (rest at-enum-told ∙ simp (lt-leb _ _ (at-if1 .if1 .left), le-ltb _ _ (at-if2 .if2 .left)));
-      space = at-row-energies .row-energies .ensures;
+      number = sym (rest at-enum-told ∙ simp (lt-leb _ _ (at-if1 .if1 .left), le-ltb _ _ (at-if2 .if2 .left)));
+      out-given = at-row-energies .row-energies .ensures;
     }
 
 pub energies-spec : {M : Type 1} → statement M

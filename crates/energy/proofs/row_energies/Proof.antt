@@ -37,11 +37,11 @@ stride-most c = omega (arith, stride-is c, sure c .row-most)
 -- both rows end within the picture
 within : (c : tie.After-neighbour2)
     → let u = strided c in
-    let a = start u .args in Ends (a .size) (now (a .picture)) (a .r) (stride u) (c .before .neighbour .result) (sure u) (start u .pre .inside) (stride-is u) (c .before .neighbour .ensures)
+    let a = start u .args in Ends (a .size) (a .method) (now (a .picture)) (a .r) (stride u) (c .before .neighbour .result) (sure u) (start u .pre .inside) (stride-is u) (c .before .neighbour .ensures)
 within c =
     let u = strided c in
     let a = start u .args in
-    ends (a .size) (now (a .picture)) (a .r) (stride u) (c .before .neighbour .result) (sure u) (start u .pre .inside) (stride-is u) (c .before .neighbour .ensures)
+    ends (a .size) (a .method) (now (a .picture)) (a .r) (stride u) (c .before .neighbour .result) (sure u) (start u .pre .inside) (stride-is u) (c .before .neighbour .ensures)
 
 channels-requires : tie.Need-channels-requires
 channels-requires c κs = search needs
@@ -60,7 +60,7 @@ neighbour-requires c κs = (start c .pre .inside, sure c .height-small)
 mul-lower : tie.Need-mul-lower
 mul-lower c =
     let u = c .before in
-    let most : c .neighbour .result ≤ mostSide = omega (arith, c .neighbour .ensures, neighbour-inside _ _ (start u .pre .inside), sure u .height-small) in
+    let most : c .neighbour .result ≤ mostSide = omega (arith, c .neighbour .ensures, neighbour-inside (start u .args .method .energy) _ _ (start u .pre .inside), sure u .height-small) in
     omega (arith, mul-le-mul most (stride-most u))
 
 sub-neighbour : tie.Need-sub-neighbour
@@ -100,7 +100,7 @@ line-energies-requires c κs =
     let u = strided beside in
     let s = start u in
     let a = s .args in
-    lines-needed (a .size) (now (a .picture)) (a .r) (stride u) (lower .result) (sure u) (s .pre .inside) (stride-is u) (lower .ensures) _ _ (beside .neighbour2 .ensures) (s .pre .room)
+    lines-needed (a .size) (a .method) (now (a .picture)) (a .r) (stride u) (lower .result) (sure u) (s .pre .inside) (stride-is u) (lower .ensures) _ _ (beside .neighbour2 .ensures) (s .pre .room)
 
 same-length : tie.Need-same-length
 same-length c = search needs
@@ -113,7 +113,7 @@ returns c =
     let u = strided beside in
     let s = start u in
     let a = s .args in
-    rw (lines-are (a .size) (now (a .picture)) (a .r) (stride u) (lower .result) (sure u) (s .pre .inside) (stride-is u) (lower .ensures) _ (beside .neighbour2 .ensures)) at
+    rw (lines-are (a .size) (a .method) (now (a .picture)) (a .r) (stride u) (lower .result) (sure u) (s .pre .inside) (stride-is u) (lower .ensures) _ (beside .neighbour2 .ensures)) at
     (at-line-energies .line-energies .ensures)
 
 pub row-energies-spec : {M : Type 1} → statement M
