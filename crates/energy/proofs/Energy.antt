@@ -21,7 +21,8 @@ use Rattle.energy.specs.Around.{leftOf, rightOf, aboveOf, belowOf, aroun
 use Rattle.energy.specs.declared.methods.EnergyRule.{EnergyRule}
 use Rattle.energy.specs.declared.methods.EnergyRule.the-variants.{Edge}
 use Rattle.energy.specs.declared.methods.Method.{Method}
-use Rattle.energy.specs.Energy.{difference, away, wrapOf, costsFrom, costsAt, energy, energies, energyGrid}
+use Rattle.energy.specs.Methods.{wrapOf}
+use Rattle.energy.specs.Energy.{difference, away, costsFrom, costsAt, energy, energies, energyGrid}
 use Rattle.energy.specs.Inner.{rightColumn, between, pastLast, neighbourOf}
 use Rattle.pictures.proofs.Buffers.{pixel-at}
 

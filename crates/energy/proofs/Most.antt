@@ -18,7 +18,8 @@ use Rattle.energy.specs.Around.{leftOf, rightOf, aboveOf, belowOf, aroun
 use Rattle.energy.specs.declared.methods.EnergyRule.{EnergyRule}
 use Rattle.energy.specs.declared.methods.EnergyRule.the-variants.{Edge}
 use Rattle.energy.specs.declared.methods.Method.{Method}
-use Rattle.energy.specs.Energy.{difference, away, edge, StepCosts, wrapOf, costsFrom, costsAt, isThe, toward}
+use Rattle.energy.specs.Methods.{wrapOf}
+use Rattle.energy.specs.Energy.{difference, away, edge, StepCosts, costsFrom, costsAt, isThe, toward}
 use Rattle.pictures.proofs.Buffers.{pixel-at, pixel-past}
 use Rattle.energy.proofs.Energy.{away-holds}
 
@@ -68,11 +69,10 @@ module _ (channels m : ℕ) (p : Picture) (short : (r c : ℕ) → length (pixel
     where
       most : edge (around (wrapOf how) w h p r c) ≤ 2 * (channels * m)
       most =
-          omega
-          (
+          omega (
             arith,
             away-most r c (λ a. (r, a)) (rightOf (wrapOf how) w c) (leftOf (wrapOf how) w c),
-            away-most r c (λ a. (a, c)) (belowOf h r) (aboveOf r)
+            away-most r c (λ a. (a, c)) (belowOf h r) (aboveOf r),
           )
 
       by : (rule : EnergyRule) → CostsMost (2 * (channels * m)) (costsFrom rule (around (wrapOf how) w h p r c))

@@ -10,7 +10,8 @@ use Rattle.energy.specs.Around.{Around, leftOf, around}
 use Rattle.energy.specs.declared.methods.EnergyRule.{EnergyRule}
 use Rattle.energy.specs.declared.methods.EnergyRule.the-variants.{Edge}
 use Rattle.energy.specs.declared.methods.Method.{Method}
-use Rattle.energy.specs.Energy.{StepCosts, alike, wrapOf, costsFrom, costsAt, energy, isThe, toward, stepOf}
+use Rattle.energy.specs.Methods.{wrapOf}
+use Rattle.energy.specs.Energy.{StepCosts, alike, costsFrom, costsAt, energy, isThe, toward, stepOf}
 
 -- Every column but the first has the one before it to its left.
 pub left-inner : (wrap : Bool) (w c : ℕ) → 0 < c → leftOf wrap w c ≡ some (c - 1)
@@ -58,11 +59,6 @@ module _ (wrap : Bool) (w : ℕ) where
       go true left = refl
       go false true = refl
       go false false = refl
-
--- No method joins the last column to the first.
-pub no-join : (how : Method) → wrapOf how ≡ false
-unfolding wrapOf
-no-join how = refl
 
 -- By each rule all three costs of a pixel are its energy.
 rule-alike : (rule : EnergyRule) (a : Around) → costsFrom rule a ≡ alike (costsFrom rule a .up)

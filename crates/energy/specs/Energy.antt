@@ -14,6 +14,7 @@ use Rattle.pictures.specs.Pictures.{Picture, picture, sizeRules}
 use Rattle.energy.specs.declared.methods.EnergyRule.{EnergyRule}
 use Rattle.energy.specs.declared.methods.EnergyRule.the-variants.{Edge}
 use Rattle.energy.specs.declared.methods.Method.{Method}
+use Rattle.energy.specs.Methods.{wrapOf}
 use Rattle.energy.specs.Around.{Around, leftOf, around}
 
 -- |a - b|
@@ -49,10 +50,6 @@ alike e = record { left = e; up = e; right = e }
 -- By each rule: what a pixel costs, from its neighbours. Wherever a path comes from, it is the pixel's energy.
 unfoldable pub costsFrom : EnergyRule → Around → StepCosts
 costsFrom Edge a = alike (edge a)
-
--- Whether the last column is joined to the first: by no method yet.
-unfoldable pub wrapOf : Method → Bool
-wrapOf how = false
 
 -- What a pixel costs in row r and column c of a picture of w columns and h rows, by a method.
 unfoldable pub costsAt : Method → ℕ → ℕ → Picture → ℕ → ℕ → StepCosts

@@ -1,3 +1,4 @@
+pub mod Methods
 pub mod Around
 pub mod Energy
 pub mod Bounds

@@ -4,6 +4,7 @@ pub mod methods;
 
 pub use methods::EnergyRule;
 pub use methods::Method;
+pub use methods::usual_method;
 use pictures::Refusal;
 use pictures::Size;
 use pictures::Verdict;
@@ -20,13 +21,7 @@ ghost use lib.ListN.{drop};
 
 // The energies of row r, put into the first `width` places of out. Refused by 2, 3 and 4 as every picture is, by 4 where
 // there is no row r, and by 8 where out is shorter than the row.
-pub fn energies(
-    picture: &[u8],
-    size: Size,
-    method: Method,
-    r: usize,
-    out: &mut [u32],
-) -> Verdict
+pub fn energies(picture: &[u8], size: Size, method: Method, r: usize, out: &mut [u32]) -> Verdict
     ensures { λ v. ⌜ EnergiesGiven (now (picture .entry)) size method r (now (out .entry)) v (now (out .exit)) ⌝ }
 {
     let fits = judge_picture(size, picture.len());
@@ -62,11 +57,7 @@ fn neighbour(rule: EnergyRule, i: usize, n: usize) -> usize
 fn before(i: usize) -> usize
     ensures { λ j. ⌜ j ≡ i - 1 ⌝ }
 {
-    if 0 < i {
-        i - 1
-    } else {
-        i
-    }
+    if 0 < i { i - 1 } else { i }
 }
 
 // The energies of row r of a picture that is of its size.

@@ -19,7 +19,8 @@ use Rattle.seam_theory.proofs.Seams.{cheapest-is, cheapest-some}
 use Rattle.seam_theory.proofs.Marks.{allowed-is, allowed-none, unmarked}
 use Rattle.pictures.specs.Pictures.{Picture}
 use Rattle.energy.specs.declared.methods.Method.{Method}
-use Rattle.energy.specs.Energy.{wrapOf, energy, stepOf}
+use Rattle.energy.specs.Methods.{wrapOf}
+use Rattle.energy.specs.Energy.{energy, stepOf}
 use Rattle.seam_theory.specs.PictureSeams.{pathCost, seamUp, seamOf, costOf, markAt, isMark, markedUp, markedSeamOf, markedCostOf}
 use Rattle.seam_theory.specs.Chosen.{IsSeam, Touches, IsMarkedSeam}
 

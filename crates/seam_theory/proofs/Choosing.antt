@@ -10,7 +10,7 @@ use Rattle.grids.proofs.Bools.{both, and-both}
 use Rattle.grids.proofs.Shapes.{each-member, each-reverse}
 use Rattle.pictures.specs.Pictures.{Picture}
 use Rattle.energy.specs.declared.methods.Method.{Method}
-use Rattle.energy.specs.Energy.{wrapOf}
+use Rattle.energy.specs.Methods.{wrapOf}
 use Rattle.seam_theory.specs.Best.{firstBest}
 use Rattle.seam_theory.specs.Paths.{near, paths}
 use Rattle.seam_theory.specs.Connected.{linked, IsPath}

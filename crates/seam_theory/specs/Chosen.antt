@@ -10,7 +10,7 @@ use Rattle.seam_theory.specs.Connected.{IsPath}
 use Rattle.seam_theory.specs.Seams.{Before}
 use Rattle.pictures.specs.Pictures.{Picture}
 use Rattle.energy.specs.declared.methods.Method.{Method}
-use Rattle.energy.specs.Energy.{wrapOf}
+use Rattle.energy.specs.Methods.{wrapOf}
 use Rattle.seam_theory.specs.PictureSeams.{pathCost, markAt, isMark}
 
 -- A connected path, none is cheaper, and each other that costs the same comes after it, read from the bottom row upward.

@@ -10,7 +10,8 @@ use Rattle.seam_theory.specs.Best.{least}
 use Rattle.seam_theory.specs.Seams.{cheapestAllowed}
 use Rattle.pictures.specs.Pictures.{Picture}
 use Rattle.energy.specs.declared.methods.Method.{Method}
-use Rattle.energy.specs.Energy.{wrapOf, energy, stepOf}
+use Rattle.energy.specs.Methods.{wrapOf}
+use Rattle.energy.specs.Energy.{energy, stepOf}
 
 -- What a path costs, by a method, that goes through a picture of w columns and h rows: the energy of its pixel in row 0, and in every other
 -- row what coming to its pixel costs from the one above. A list of columns goes from the bottom row upward.
