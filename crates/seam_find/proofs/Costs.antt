@@ -12,6 +12,7 @@ use Rattle.grids.proofs.Orders.{le-or-lt}
 use Rattle.grids.proofs.Tables.{length-table, table-at, table-past}
 use Rattle.pictures.specs.declared.sizes.Size.{Size}
 use Rattle.pictures.specs.Pictures.{channelsOf, picture}
+use Rattle.energy.specs.declared.methods.Method.{Method}
 use Rattle.energy.specs.Bounds.{mostEnergy}
 use Rattle.energy.specs.Energy.{costsAt, energy}
 use Rattle.pictures.proofs.Limits.{Sized}
@@ -30,11 +31,11 @@ front-most b n m h i =
     short l = le-trans (rw (length-take) (min-le-left n (length b))) l
 
 -- A pixel costs at most two differences of at most 255 in at most three channels.
-pub pixel-most : (z : Size) (b : List ℕ) → Sized z (length b) → ((i : ℕ) → getD b i 0 ≤ 255)
-    → (r c : ℕ) → CostsMost mostEnergy (costsAt (z .width) (z .height) (picture z b) r c)
-pixel-most z b s h r c =
+pub pixel-most : (z : Size) (how : Method) (b : List ℕ) → Sized z (length b) → ((i : ℕ) → getD b i 0 ≤ 255)
+    → (r c : ℕ) → CostsMost mostEnergy (costsAt how (z .width) (z .height) (picture z b) r c)
+pixel-most z how b s h r c =
     costs-within (2 * (channelsOf (z .kind) * 255)) mostEnergy _ (omega (arith, mul-le-mul-right 255 (s .channels-most)))
-    (buffer-costs-most z b 255 (s .length-is) h r c)
+    (buffer-costs-most z how b 255 (s .length-is) h r c)
 
 -- A bound of all values is one of a table.
 pub table-most : (f : ℕ → ℕ) (n m : ℕ) → ((c : ℕ) → f c ≤ m) → (k : ℕ) → getD (table f n) k 0 ≤ m
@@ -45,8 +46,8 @@ table-most f n m h k =
     (le-or-lt n k)
 
 -- The costs of a row, of coming from straight above.
-pub cost-most : (z : Size) (b : List ℕ) → Sized z (length b) → ((i : ℕ) → getD b i 0 ≤ 255) → (i k : ℕ) → getD (costsOf z b i .up) k 0 ≤ mostEnergy
-cost-most z b s h i = table-most (energy (z .width) (z .height) (picture z b) i) (z .width) mostEnergy (λ c. pixel-most z b s h i c .up)
+pub cost-most : (z : Size) (how : Method) (b : List ℕ) → Sized z (length b) → ((i : ℕ) → getD b i 0 ≤ 255) → (i k : ℕ) → getD (costsOf z how b i .up) k 0 ≤ mostEnergy
+cost-most z how b s h i = table-most (energy how (z .width) (z .height) (picture z b) i) (z .width) mostEnergy (λ c. pixel-most z how b s h i c .up)
 
-pub costs-long : (z : Size) (b : List ℕ) (i : ℕ) → length (costsOf z b i .up) ≡ z .width
-costs-long z b i = length-table _ (z .width)
+pub costs-long : (z : Size) (how : Method) (b : List ℕ) (i : ℕ) → length (costsOf z how b i .up) ≡ z .width
+costs-long z how b i = length-table _ (z .width)

@@ -7,6 +7,7 @@ use lib.ListN.{length, take, drop, replicate}
 use Rattle.pictures.specs.declared.sizes.Size.{Size}
 use Rattle.pictures.specs.Refusals.{Rule, refusal, served}
 use Rattle.pictures.specs.Pictures.{pictureBytes, pixels, pictureIn}
+use Rattle.energy.specs.declared.methods.Method.{Method}
 use Rattle.seam_rules.specs.declared.answers.Found.{Found}
 use Rattle.seam_rules.specs.Answers.{foundNumber, foundCost}
 use Rattle.seam_bounds.specs.Spaces.{findSpaceRules}
@@ -17,15 +18,15 @@ use Rattle.seam_theory.specs.PictureSeams.{seamOf, costOf}
 abbrev pub findInRules : Size → ℕ → ℕ → List Rule
 findInRules z space seam = findSpaceRules z false space seam
 
--- The seam of the picture at the front, and what is left: the picture, zeros for its pixels after it, the rest as it was.
-pub record FindGiven (space : List ℕ) (z : Size) (seam : List ℕ) (answer : Found) (space′ seam′ : List ℕ) : Type 0 where
+-- The number, the seam of the picture at the front and its cost, and what is left: the picture, zeros for its pixels after it, the rest as it was.
+pub record FindInGiven (space : List ℕ) (z : Size) (how : Method) (seam : List ℕ) (answer : Found) (space′ seam′ : List ℕ) : Type 0 where
   pub number : foundNumber answer ≡ refusal (findInRules z (length space) (length seam))
-  pub cost : foundCost answer ≡ served (foundNumber answer) (costOf (z .width) (z .height) (pictureIn z space)) 0
+  pub cost : foundCost answer ≡ served (foundNumber answer) (costOf how (z .width) (z .height) (pictureIn z space)) 0
   pub space-left :
       space′ ≡ served (foundNumber answer)
       (take (pictureBytes z) space ++ (replicate (pixels z) 0 ++ drop (pictureBytes z + pixels z) space))
       space
   pub seam-given :
       seam′ ≡ served (foundNumber answer)
-      (seamOf (z .width) (z .height) (pictureIn z space) ++ drop (z .height) seam)
+      (seamOf how (z .width) (z .height) (pictureIn z space) ++ drop (z .height) seam)
       seam

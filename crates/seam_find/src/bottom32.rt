@@ -1,5 +1,6 @@
 // The end of the cheapest path of a picture without marks.
 use crate::down32;
+use energy::Method;
 use pictures::LARGEST_SIDE;
 use pictures::Size;
 use seam_sums::least32;
@@ -15,9 +16,9 @@ pub(crate) struct Bottom {
 }
 
 // Works out all sums of the picture at the front of the space. After it is written where each column of a row comes from.
-pub(crate) fn find_bottom(space: &mut [u8], size: Size, bytes: usize) -> Bottom
+pub(crate) fn find_bottom(space: &mut [u8], size: Size, method: Method, bytes: usize) -> Bottom
     requires { ⌜ BottomNeeded (pictureBytes size) size bytes (now space) ⌝ }
-    ensures { λ r. ⌜ BottomGiven fence32 (pictureBytes size) size (costsOf size) (now (space .entry)) (now (space .exit)) (r .column) (r .sum) ⌝ }
+    ensures { λ r. ⌜ BottomGiven fence32 (pictureBytes size) size (costsOf size method) (now (space .entry)) (now (space .exit)) (r .column) (r .sum) ⌝ }
 {
     let width = size.width;
     let both = width + 2;
@@ -27,6 +28,7 @@ pub(crate) fn find_bottom(space: &mut [u8], size: Size, bytes: usize) -> Bottom
     bottom_with(
         space,
         size,
+        method,
         bytes,
         &mut above[..both],
         &mut cost[..width],
@@ -38,6 +40,7 @@ pub(crate) fn find_bottom(space: &mut [u8], size: Size, bytes: usize) -> Bottom
 fn bottom_with(
     space: &mut [u8],
     size: Size,
+    method: Method,
     bytes: usize,
     above: &mut [u32],
     cost: &mut [u32],
@@ -45,16 +48,14 @@ fn bottom_with(
 ) -> Bottom
     requires { ⌜ BottomNeeded (pictureBytes size) size bytes (now space) ⌝ }
     requires { ⌜ RowsNeeded fence32 size (now above) (now cost) (now next) ⌝ }
-    ensures { λ r. ⌜ BottomGiven fence32 (pictureBytes size) size (costsOf size) (now (space .entry)) (now (space .exit)) (r .column) (r .sum) ⌝ }
+    ensures { λ r. ⌜ BottomGiven fence32 (pictureBytes size) size (costsOf size method) (now (space .entry)) (now (space .exit)) (r .column) (r .sum) ⌝ }
 {
     let width = size.width;
     let side = width + 1;
-    energy::energies(&space[..bytes], size, 0, &mut above[1..side]);
-    down32::down(space, size, bytes, above, cost, next);
+    energy::energies(&space[..bytes], size, method, 0, &mut above[1..side]);
+    down32::down(space, size, method, bytes, above, cost, next);
     let column = least32::first_least(&above[1..side]);
     let at = column + 1;
-    Bottom {
-        column,
-        sum: above[at],
-    }
+    let sum = above[at];
+    Bottom { column, sum }
 }

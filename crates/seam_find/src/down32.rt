@@ -1,5 +1,6 @@
 // All rows of sums of a picture without marks, from the top.
 use crate::sums32;
+use energy::Method;
 use pictures::Size;
 ghost use Rattle.pictures.specs.Pictures.{pictureBytes};
 ghost use Rattle.seam_sums.specs.Fences.{fence32};
@@ -13,17 +14,18 @@ pub(crate) const FENCE: u32 = 2147483648;
 pub(crate) fn down(
     space: &mut [u8],
     size: Size,
+    method: Method,
     bytes: usize,
     above: &mut [u32],
     cost: &mut [u32],
     next: &mut [u32],
 )
-    requires { ⌜ DownNeeded fence32 (pictureBytes size) size (costsOf size) bytes (now space) (now above) (now cost) (now next) ⌝ }
-    ensures { λ _. ⌜ DownGiven fence32 (pictureBytes size) size (costsOf size) (now (space .entry)) (now (space .exit)) (now (above .exit)) ⌝ }
+    requires { ⌜ DownNeeded fence32 (pictureBytes size) size (costsOf size method) bytes (now space) (now above) (now cost) (now next) ⌝ }
+    ensures { λ _. ⌜ DownGiven fence32 (pictureBytes size) size (costsOf size method) (now (space .entry)) (now (space .exit)) (now (above .exit)) ⌝ }
 {
     let height = size.height;
     for i in 1..height {
-        row_down(space, size, bytes, i, above, cost, next);
+        row_down(space, size, method, bytes, i, above, cost, next);
     }
 }
 
@@ -31,6 +33,7 @@ pub(crate) fn down(
 fn row_down(
     space: &mut [u8],
     size: Size,
+    method: Method,
     bytes: usize,
     i: usize,
     above: &mut [u32],
@@ -38,13 +41,13 @@ fn row_down(
     next: &mut [u32],
 )
     requires { ⌜ RowNeeded fence32 (pictureBytes size) size bytes i (now space) (now above) (now cost) (now next) ⌝ }
-    ensures { λ _. ⌜ RowGiven fence32 (pictureBytes size) size (costsOf size) i (now (space .entry)) (now (above .entry)) (now (space .exit)) (now (above .exit)) ⌝ }
+    ensures { λ _. ⌜ RowGiven fence32 (pictureBytes size) size (costsOf size method) i (now (space .entry)) (now (above .entry)) (now (space .exit)) (now (above .exit)) ⌝ }
 {
     let width = size.width;
     let side = width + 1;
     let a = bytes + (i - 1) * width;
     let e = a + width;
-    energy::energies(&space[..bytes], size, i, cost);
+    energy::energies(&space[..bytes], size, method, i, cost);
     sums32::next_row(above, &cost[..width], next, &mut space[a..e]);
     sums32::copy(next, &mut above[1..side]);
 }

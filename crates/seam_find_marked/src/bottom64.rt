@@ -69,8 +69,6 @@ fn bottom_with(
     down64::down(space, size, bytes, above, energies, cost, next);
     let column = least64::first_least(&above[1..side]);
     let at = column + 1;
-    Bottom {
-        column,
-        sum: above[at],
-    }
+    let sum = above[at];
+    Bottom { column, sum }
 }

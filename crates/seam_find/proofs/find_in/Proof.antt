@@ -11,6 +11,7 @@ use lib.ListN.{length, getD, take, drop, replicate}
 use lib.Seq.{length-take-le}
 use Rattle.grids.specs.Table.{table}
 use Rattle.grids.specs.Rows.{flat}
+use Rattle.energy.specs.declared.methods.Method.{Method}
 use Rattle.pictures.specs.declared.sizes.Size.{Size}
 use Rattle.pictures.specs.Refusals.{given, refusal, served}
 use Rattle.pictures.specs.Pictures.{pictureBytes, picture, pixels}
@@ -36,6 +37,9 @@ start c = c .before .before .before .before .before .before
 
 abbrev size : tie.After-picture-bytes → Size
 size c = start c .args .size
+
+abbrev method : tie.After-picture-bytes → Method
+method c = start c .args .method
 
 abbrev space : tie.After-picture-bytes → List ℕ
 space c = now (start c .args .space)
@@ -73,7 +77,7 @@ byte c = front-most (space c) (pictureBytes (size c)) 255 (λ i. omega (arith, c
 
 -- the ways between the rows, which stand after the picture
 ways : (c : tie.After-picture-bytes) → List ℕ
-ways c = flat (table (waysUp false fence32 (size c .width) (costsOf (size c) (front c))) (size c .height - 1))
+ways c = flat (table (waysUp false fence32 (size c .width) (costsOf (size c) (method c) (front c))) (size c .height - 1))
 
 ways-are : (c : tie.After-find-bottom)
     → let p = c .before .before in
@@ -83,7 +87,7 @@ ways-are c = c .find-bottom .ensures .ways
 
 ways-wide : (c : tie.After-picture-bytes) → length (ways c) ≡ (size c .height - 1) * size c .width
 unfolding ways
-ways-wide c = ways-long false fence32 (size c .width) (size c .height - 1) (costsOf (size c) (front c))
+ways-wide c = ways-long false fence32 (size c .width) (size c .height - 1) (costsOf (size c) (method c) (front c))
 
 ways-lent : (c : tie.After-find-bottom)
     → let p = c .before .before in
@@ -111,9 +115,9 @@ returns c =
     let why = c .before .allowed .given in
     record {
       number = sym (ap given (why .1)) ∙ at-judge .judge-find-in .ensures;
-      cost = kept-by (why .0 .0) (costOf (z .width) (z .height) (picture z (take (pictureBytes z) space))) 0;
+      cost = kept-by (why .0 .0) (costOf (a .method) (z .width) (z .height) (picture z (take (pictureBytes z) space))) 0;
       space-left = kept-by (why .0 .0) (take (pictureBytes z) space ++ (replicate (pixels z) 0 ++ drop (pictureBytes z + pixels z) space)) space;
-      seam-given = kept-by (why .0 .0) (seamOf (z .width) (z .height) (picture z (take (pictureBytes z) space)) ++ drop (z .height) seam) seam;
+      seam-given = kept-by (why .0 .0) (seamOf (a .method) (z .width) (z .height) (picture z (take (pictureBytes z) space)) ++ drop (z .height) seam) seam;
     }
 
 enum-told : tie.Need-enum-told
@@ -196,16 +200,16 @@ returns-2 c =
     let n = (z .height - 1) * z .width in
     let all = z .height * z .width in
     let found = f .find-bottom .ensures in
-    let fits = plain-traceable z (front p) (front-sized p) (byte p) (f .find-bottom .result .column) (length (seam p)) (found .inside) (rooms p .seam-room) in
+    let fits = plain-traceable z (method p) (front p) (front-sized p) (byte p) (f .find-bottom .result .column) (length (seam p)) (found .inside) (rooms p .seam-room) in
     record {
       number = sym (none p);
-      cost = c .wide .ensures ∙ found .sum-is ∙ ap (λ k. getD (sumsDown false fence32 (z .width) (costsOf z (front p)) (z .height - 1)) k 0) (found .column-is) ∙ cost-summed z (front p) (front-sized p) (byte p);
+      cost = c .wide .ensures ∙ found .sum-is ∙ ap (λ k. getD (sumsDown false fence32 (z .width) (costsOf z (method p) (front p)) (z .height - 1)) k 0) (found .column-is) ∙ cost-summed z (method p) (front p) (front-sized p) (byte p);
       space-left = space-filled (space p) (front p) (ways p) (f .find-bottom .last .0) (pictureBytes z) n (ways-are f) (front-long p) (ways-wide p) (p .picture-bytes .result) all 0 (at-clear .clear .last .0) (bytes-are p) (omega (arith, bounds p .rows)) (omega (arith, kept-long f, bytes-are p, rooms p .room)) (at-clear .clear .ensures);
       seam-given =
           at-trace .trace-back .ensures
           ∙ traced-is _ (z .width) (z .height) (f .find-bottom .result .column) (seam p) (rw (ways-lent f) fits)
           ∙ ap₂ (λ x k. columnsTo x (z .width) (z .height - 1) k ++ drop (z .height) (seam p)) (ways-lent f) (found .column-is)
-          ∙ ap (_++ drop (z .height) (seam p)) (seam-traced z (front p) (front-sized p) (byte p));
+          ∙ ap (_++ drop (z .height) (seam p)) (seam-traced z (method p) (front p) (front-sized p) (byte p));
     }
 
 pub find-in-spec : {M : Type 1} → statement M

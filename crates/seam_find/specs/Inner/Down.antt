@@ -9,12 +9,13 @@ use Rattle.grids.specs.Rows.{flat}
 use Rattle.pictures.specs.declared.sizes.Size.{Size}
 use Rattle.pictures.specs.Refusals.{refusal}
 use Rattle.pictures.specs.Pictures.{sizeRules, pictureBytes, picture}
+use Rattle.energy.specs.declared.methods.Method.{Method}
 use Rattle.energy.specs.Energy.{costsAt}
 use Rattle.seam_theory.specs.Sums.{CostRows, costRows, fenced, sumOf3, wayOf3, sumsDown, waysUp}
 
--- The costs of row i of a picture.
-abbrev pub costsOf : Size → List ℕ → ℕ → CostRows
-costsOf z b i = costRows (z .width) (costsAt (z .width) (z .height) (picture z b) i)
+-- The costs of row i of a picture, by a method.
+abbrev pub costsOf : Size → Method → List ℕ → ℕ → CostRows
+costsOf z how b i = costRows (z .width) (costsAt how (z .width) (z .height) (picture z b) i)
 
 -- A picture of its size at the front of a space, with room for the ways between its rows; the fenced sums of row 0; and room
 -- for a row of costs and a row of sums.

@@ -67,10 +67,10 @@ lent c = c .before .before .before
 
 -- What `energies` writes between the fences, and the fenced sums that `down` leaves
 abbrev row : tie.After-energies → List ℕ
-row c = c .energies .last .1 .1 .1 .0
+row c = c .energies .last .1 .1 .1 .1 .0
 
 abbrev sums : tie.After-down → List ℕ
-sums c = c .down .last .1 .1 .1 .0
+sums c = c .down .last .1 .1 .1 .1 .0
 
 -- the picture at the front
 sure : (s : tie.Start) → Front (size s) (s .args .bytes) (space s)
@@ -92,10 +92,10 @@ between-long s =
 
 -- the costs of row 0 of the picture in the first n bytes
 abbrev costs : tie.Start → ℕ → List ℕ
-costs s n = costsOf (size s) (take n (space s)) 0 .up
+costs s n = costsOf (size s) (s .args .method) (take n (space s)) 0 .up
 
 wide : (s : tie.Start) → length (costs s (pictureBytes (size s))) ≡ size s .width
-wide s = costs-long (size s) (take (pictureBytes (size s)) (space s)) 0
+wide s = costs-long (size s) (s .args .method) (take (pictureBytes (size s)) (space s)) 0
 
 -- they are what `energies` writes between the fences
 row-0 : (c : tie.After-energies) → let s = entry (c .before .before) in row c ≡ costs s (pictureBytes (size s))
@@ -103,7 +103,7 @@ row-0 c =
     let s = entry (c .before .before) in
     let bytes = s .args .bytes in
     let e = c .energies in
-    energies-served (take bytes (space s)) (size s) 0 (between s) (row c) (e .result) (e .ensures)
+    energies-served (take bytes (space s)) (size s) (s .args .method) 0 (between s) (row c) (e .result) (e .ensures)
     (sure s .served) (sure s .sized .height-some) (le-of-eq (sym (between-long s)))
     ∙ ap (costs s bytes ++_) (drop-of-length-le (between s) {i = size s .width} (le-of-eq (between-long s)))
     ∙ append-nil (costs s bytes)
@@ -171,11 +171,11 @@ first-least-requires c κs = search needs
 add-at : tie.Need-add-at
 add-at c = omega (arith, inside c, sure (start (at-down (c .before .before))) .sized .width-most)
 
-mul-t15 : tie.Need-mul-t15
-mul-t15 c = omega (arith, inside c, sure (start (at-down (c .before .before))) .sized .width-most)
+mul-sum : tie.Need-mul-sum
+mul-sum c = omega (arith, inside c, sure (start (at-down (c .before .before))) .sized .width-most)
 
-slice-read-t31 : tie.Need-slice-read-t31
-slice-read-t31 c = omega (arith, sums-long (at-down (lent c)), inside (c .before))
+slice-read-sum : tie.Need-slice-read-sum
+slice-read-sum c = omega (arith, sums-long (at-down (lent c)), inside (c .before))
 
 same-length : tie.Need-same-length
 same-length c = space-back (lent c) .space .given
@@ -214,8 +214,8 @@ bottom-with-spec =
     part-first-least-end
     first-least-requires
     add-at
-    mul-t15
-    slice-read-t31
+    mul-sum
+    slice-read-sum
     same-length
     same-length-2
     same-length-3

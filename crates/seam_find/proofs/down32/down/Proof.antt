@@ -21,11 +21,11 @@ use Rattle.seam_find.proofs.down32.down.Statement.{statement}
 use Rattle.seam_find.proofs.down32.down.Tie as tie
 
 abbrev Inv-loop : tie.InvT-loop
-Inv-loop space₀ size bytes above₀ cost₀ next₀ height i₀ space above cost next i =
-    BeforeRow fence32 (pictureBytes size) size (costsOf size) space₀ above₀ cost₀ next₀ i space above cost next
+Inv-loop space₀ size method bytes above₀ cost₀ next₀ height i₀ space above cost next i =
+    BeforeRow fence32 (pictureBytes size) size (costsOf size method) space₀ above₀ cost₀ next₀ i space above cost next
 
 abbrev μ-loop : tie.MeasureT-loop
-μ-loop space₀ size bytes above₀ cost₀ next₀ height i₀ space above cost next i = height - i
+μ-loop space₀ size method bytes above₀ cost₀ next₀ height i₀ space above cost next i = height - i
 
 -- Where it is known that the space holds bytes, the start before it, and what was lent
 abbrev known : tie.At-loop Inv-loop μ-loop → tie.After-slice-known Inv-loop μ-loop
@@ -54,8 +54,8 @@ front s = take (pictureBytes (size s)) (space s)
 sure : (s : tie.Start Inv-loop μ-loop) → Front (size s) (pictureBytes (size s)) (space s)
 sure s = front-is (size s) (pictureBytes (size s)) (space s) refl (s .pre .sized) (omega (arith, s .pre .room))
 
-wide : (s : tie.Start Inv-loop μ-loop) (i : ℕ) → length (costsOf (size s) (front s) i .up) ≡ size s .width
-wide s = costs-long (size s) (front s)
+wide : (s : tie.Start Inv-loop μ-loop) (i : ℕ) → length (costsOf (size s) (s .args .method) (front s) i .up) ≡ size s .width
+wide s = costs-long (size s) (s .args .method) (front s)
 
 byte : (c : tie.At-loop Inv-loop μ-loop) (i : ℕ) → getD (front (start c)) i 0 ≤ 255
 byte c = front-most (space (start c)) (pictureBytes (size (start c))) 255 (λ i. omega (arith, known c .slice-known .given i))
@@ -68,8 +68,8 @@ small c inside k h =
     let l = c .loop in
     let z = size s in
     let sized = sure s .sized in
-    let most = cost-most z (front s) sized (byte c) in
-    let sums-most = above-most fence32 (pictureBytes z) z (costsOf z) (space s) (wide s) mostEnergy in
+    let most = cost-most z (s .args .method) (front s) sized (byte c) in
+    let sums-most = above-most fence32 (pictureBytes z) z (costsOf z (s .args .method)) (space s) (wide s) mostEnergy in
     omega (arith, sums-most (l .i) (l .space) (l .above) most (l .inv .downs) k h, inside, sized .height-most)
 
 loop-holds : tie.Need-loop-holds Inv-loop μ-loop
@@ -93,7 +93,7 @@ loop-again c =
     let r = at-row-down c in
     let t = turn (r .before) in
     let s = start (t .before) in
-    let kept = r .row-down .kept .1 .1 .1 .1 in
+    let kept = r .row-down .kept .1 .1 .1 .1 .1 in
     before-next (s .pre) (wide s) (t .before .loop .inv) (t .loop-test .taken)
     (r .row-down .ensures) (kept .0) (kept .1 .0) (kept .1 .1 .0)
 

@@ -87,20 +87,20 @@ byte c =
 
 -- the costs of row i
 abbrev costs : tie.Start → List ℕ
-costs s = costsOf (size s) (front s) (s .args .i) .up
+costs s = costsOf (size s) (s .args .method) (front s) (s .args .i) .up
 
 wide : (s : tie.Start) → length (costs s) ≡ width s
-wide s = costs-long (size s) (front s) (s .args .i)
+wide s = costs-long (size s) (s .args .method) (front s) (s .args .i)
 
 -- they are at the front of what `energies` writes
 abbrev written : tie.After-energies → List ℕ
-written c = c .energies .last .1 .1 .1 .0
+written c = c .energies .last .1 .1 .1 .1 .0
 
 cost-is : (c : tie.After-energies) → written c ≡ costs (start c) ++ drop (width (start c)) (now (start c .args .cost))
 cost-is c =
     let s = start c in
     let e = c .energies in
-    energies-served (front s) (size s) (s .args .i) (now (s .args .cost)) (written c) (e .result) (e .ensures)
+    energies-served (front s) (size s) (s .args .method) (s .args .i) (now (s .args .cost)) (written c) (e .result) (e .ensures)
     (sure s .served) (s .pre .inside) (le-of-eq (sym (s .pre .cost-room)))
 
 cost-front : (c : tie.After-energies) → take (width (start c)) (written c) ≡ costs (start c)
@@ -113,12 +113,12 @@ abbrev cost-rows : tie.After-energies → CostRows
 cost-rows c = alikeRows (take (width (start c)) (written c))
 
 cost-rows-are : (c : tie.After-energies)
-    → let s = start c in cost-rows c ≡ costsOf (size s) (take (pictureBytes (size s)) (space s)) (s .args .i)
+    → let s = start c in cost-rows c ≡ costsOf (size s) (s .args .method) (take (pictureBytes (size s)) (space s)) (s .args .i)
 cost-rows-are c =
     let s = start c in
     ap alikeRows (cost-front c)
-    ∙ sym (rows-alike (width s) (size s .height) (picture (size s) (front s)) (s .args .i))
-    ∙ ap (λ n. costsOf (size s) (take n (space s)) (s .args .i)) (s .pre .bytes-are)
+    ∙ sym (rows-alike (s .args .method) (width s) (size s .height) (picture (size s) (front s)) (s .args .i))
+    ∙ ap (λ n. costsOf (size s) (s .args .method) (take n (space s)) (s .args .i)) (s .pre .bytes-are)
 
 -- the ways that `next_row` writes
 ways-are : (c : tie.After-next-row)
@@ -176,7 +176,7 @@ next-row-requires c κs =
     let e = at-energies (c .before .before) in
     let s = start e in
     let p = s .pre in
-    let most = cost-most (size s) (front s) (sure s .sized) (byte e) in (
+    let most = cost-most (size s) (s .args .method) (front s) (sure s .sized) (byte e) in (
       record {
         above = omega (arith, p .long, p .next-room);
         costs = ap length (cost-front e) ∙ wide s ∙ sym (p .next-room);
@@ -215,7 +215,7 @@ returns c =
     let r = at-next-row (at-copy c) in
     let e = at-energies (lent r) in
     let s = start e in
-    row-given _ _ (size s) (costsOf (size s)) (s .args .i) (s .args .bytes) _ (space s) _ _ (cost-rows e) _
+    row-given _ _ (size s) (costsOf (size s) (s .args .method)) (s .args .i) (s .args .bytes) _ (space s) _ _ (cost-rows e) _
     (s .pre .bytes-are) (ways-ends s .end) (cost-rows-are e) (s .pre .next-room) (s .pre .long) (s .pre .fences) (ways-are r)
     (at-copy c .copy .ensures ∙ r .next-row .ensures .0)
 
