@@ -11,6 +11,8 @@ use Rattle.pictures.specs.Limits.{mostSide}
 use Rattle.pictures.specs.Pictures.{Picture}
 use Rattle.energy.specs.Bounds.{mostEnergy}
 use Rattle.energy.specs.Around.{leftOf}
+use Rattle.energy.specs.declared.methods.Method.{Method}
+use Rattle.energy.specs.Methods.{wrapOf}
 use Rattle.energy.specs.Energy.{StepCosts, costsAt, energy, isThe, toward, stepOf}
 use Rattle.energy.proofs.Most.{CostsMost, toward-most}
 use Rattle.seam_theory.specs.Best.{least}
@@ -49,11 +51,11 @@ toward-weighed wrap w a c k mark = go (eqb a c) (isThe (leftOf wrap w c) a)
     go false false = refl
 
 -- The weight of a path's first pixel and of a step: the cost with the mark of the pixel that it comes to.
-abbrev pub firstWeight : ℕ → ℕ → Picture → List (List ℕ) → ℕ → ℕ
-firstWeight w h p m c = weightsAt w h p m 0 c .up
+abbrev pub firstWeight : Method → ℕ → ℕ → Picture → List (List ℕ) → ℕ → ℕ
+firstWeight how w h p m c = weightsAt how w h p m 0 c .up
 
-abbrev pub stepWeight : ℕ → ℕ → Picture → List (List ℕ) → ℕ → ℕ → ℕ → ℕ
-stepWeight w h p m i a c = toward false w a c (weightsAt w h p m i c)
+abbrev pub stepWeight : Method → ℕ → ℕ → Picture → List (List ℕ) → ℕ → ℕ → ℕ → ℕ
+stepWeight how w h p m i a c = toward (wrapOf how) w a c (weightsAt how w h p m i c)
 
 -- 1 where the pixel is not marked 2, else 0.
 abbrev isKept : List (List ℕ) → ℕ → ℕ → ℕ
@@ -71,13 +73,13 @@ kept-most : (m : List (List ℕ)) (r c : ℕ) → isKept m r c ≤ 1
 kept-most m r c = omega (arith, one-of-two m r c)
 
 -- In a picture with rows and costs within the bounds of the arithmetic.
-module _ (w h : ℕ) (p : Picture) (m : List (List ℕ)) (few : h ≤ mostSide)
-    (most : (r c : ℕ) → CostsMost mostEnergy (costsAt w h p r c)) where
+module _ (how : Method) (w h : ℕ) (p : Picture) (m : List (List ℕ)) (few : h ≤ mostSide)
+    (most : (r c : ℕ) → CostsMost mostEnergy (costsAt how w h p r c)) where
   abbrev all : List (List ℕ)
-  all = paths (nearby false w) w h
+  all = paths (nearby (wrapOf how) w) w h
 
   abbrev price : List ℕ → ℕ
-  price = pathCost w h p
+  price = pathCost how w h p
 
   -- How many pixels of a path are protected, to be removed, and kept.
   abbrev shielded : List ℕ → ℕ
@@ -91,16 +93,16 @@ module _ (w h : ℕ) (p : Picture) (m : List (List ℕ)) (few : h ≤ mostSide)
 
   -- A path's weight.
   abbrev heavy : List ℕ → ℕ
-  heavy = cost (firstWeight w h p m) (stepWeight w h p m)
+  heavy = cost (firstWeight how w h p m) (stepWeight how w h p m)
 
-  step-most : (i a c : ℕ) → stepOf w h p i a c ≤ mostEnergy
-  step-most i a c = toward-most mostEnergy false w a c (costsAt w h p i c) (most i c)
+  step-most : (i a c : ℕ) → stepOf how w h p i a c ≤ mostEnergy
+  step-most i a c = toward-most mostEnergy (wrapOf how) w a c (costsAt how w h p i c) (most i c)
 
   -- `kept` and `protected` are large enough.
   large : (q : List ℕ) → List·Memᴰ q all → Weighed keeps removed price kept protected h q
   large q i =
-      let long = nearby-paths false w h q .0 i .size in
-      let cheap = cost-most (energy w h p 0) (stepOf w h p) mostEnergy (λ c. most 0 c .up) step-most q in
+      let long = nearby-paths (wrapOf how) w h q .0 i .size in
+      let cheap = cost-most (energy how w h p 0) (stepOf how w h p) mostEnergy (λ c. most 0 c .up) step-most q in
       let few-kept = along-most (isKept m) 1 q (kept-most m) in
       record {
         pixels = along-split (isKept m) (isMark 2 m) q (one-of-two m) ∙ long;
@@ -111,9 +113,9 @@ module _ (w h : ℕ) (p : Picture) (m : List (List ℕ)) (few : h ≤ mostSide)
   -- The weight is the cost, `kept` for each pixel that is kept and `protected` for each that is protected.
   summed : (q : List ℕ) → heavy q ≡ weight shielded keeps price kept protected q
   summed =
-      cost-weight (energy w h p 0) (stepOf w h p) (isKept m) (isMark 1 m) kept protected
-      (firstWeight w h p m) (stepWeight w h p m)
-      (λ c. refl) (λ i a c. toward-weighed false w a c (costsAt w h p i c) (markAt m i c))
+      cost-weight (energy how w h p 0) (stepOf how w h p) (isKept m) (isMark 1 m) kept protected
+      (firstWeight how w h p m) (stepWeight how w h p m)
+      (λ c. refl) (λ i a c. toward-weighed (wrapOf how) w a c (costsAt how w h p i c) (markAt m i c))
 
   -- The first path of least weight.
   module _ (s : List ℕ) (is : least heavy all ≡ some s) where
@@ -121,7 +123,7 @@ module _ (w h : ℕ) (p : Picture) (m : List (List ℕ)) (few : h ≤ mostSide)
     lightest = sym (least-same heavy (weight shielded keeps price kept protected) all (λ q i. summed q)) ∙ is
 
     -- Below `protected` it is the seam,
-    pub light-found : heavy s < protected → markedUp w h p m ≡ some s
+    pub light-found : heavy s < protected → markedUp how w h p m ≡ some s
     light-found l = weights-found shielded removed price keeps kept protected h all large s lightest (rw (summed s) at l)
 
     -- and its cost is a remainder of its weight.
@@ -132,5 +134,5 @@ module _ (w h : ℕ) (p : Picture) (m : List (List ℕ)) (few : h ≤ mostSide)
         (rw (summed s) at l))
 
     -- Else no seam is allowed.
-    pub heavy-blocked : protected ≤ heavy s → markedUp w h p m ≡ none
+    pub heavy-blocked : protected ≤ heavy s → markedUp how w h p m ≡ none
     heavy-blocked l = weights-blocked shielded removed price keeps kept protected h all large s lightest (rw (summed s) at l)

@@ -7,22 +7,23 @@ use lib.ListN.{length, take, drop, replicate}
 use Rattle.pictures.specs.declared.sizes.Size.{Size}
 use Rattle.pictures.specs.Refusals.{Rule, _when_, refusal, served, worked}
 use Rattle.pictures.specs.Pictures.{pictureBytes, pixels, pictureIn, marksIn}
+use Rattle.energy.specs.declared.methods.Method.{Method}
 use Rattle.seam_rules.specs.declared.answers.Found.{Found}
 use Rattle.seam_rules.specs.Answers.{foundNumber, foundCost}
 use Rattle.seam_bounds.specs.Spaces.{findSpaceRules}
 use Rattle.seam_theory.specs.PictureSeams.{markedUp, markedSeamOf, markedCostOf, isNone}
 
 -- Refused by 2, 3 and 8 as without marks, where the space also has the marks; and by 12 where no seam is allowed.
-abbrev pub findMarkedRules : Size → ℕ → ℕ → Bool → List Rule
-findMarkedRules z space seam blocked = findSpaceRules z true space seam ++ (12 when blocked ∷ [])
+abbrev pub findMarkedInRules : Size → ℕ → ℕ → Bool → List Rule
+findMarkedInRules z space seam blocked = findSpaceRules z true space seam ++ (12 when blocked ∷ [])
 
--- The seam of the picture at the front by the marks after it, and what is left: picture and marks, zeros for its pixels
+-- The number, the seam of the picture at the front by the marks after it and its cost, and what is left: picture and marks, zeros for its pixels
 -- after them, the rest as it was.
-pub record FindMarkedGiven (space : List ℕ) (z : Size) (seam : List ℕ) (answer : Found) (space′ seam′ : List ℕ) : Type 0 where
+pub record FindMarkedInGiven (space : List ℕ) (z : Size) (how : Method) (seam : List ℕ) (answer : Found) (space′ seam′ : List ℕ) : Type 0 where
   pub number :
-      foundNumber answer ≡ refusal (findMarkedRules z (length space) (length seam)
-      (isNone (markedUp (z .width) (z .height) (pictureIn z space) (marksIn z space))))
-  pub cost : foundCost answer ≡ served (foundNumber answer) (markedCostOf (z .width) (z .height) (pictureIn z space) (marksIn z space)) 0
+      foundNumber answer ≡ refusal (findMarkedInRules z (length space) (length seam)
+      (isNone (markedUp how (z .width) (z .height) (pictureIn z space) (marksIn z space))))
+  pub cost : foundCost answer ≡ served (foundNumber answer) (markedCostOf how (z .width) (z .height) (pictureIn z space) (marksIn z space)) 0
   pub space-left :
       space′ ≡ worked (foundNumber answer)
       (take (pictureBytes z + pixels z) space
@@ -30,5 +31,5 @@ pub record FindMarkedGiven (space : List ℕ) (z : Size) (seam : List ℕ) (answ
       space
   pub seam-given :
       seam′ ≡ served (foundNumber answer)
-      (markedSeamOf (z .width) (z .height) (pictureIn z space) (marksIn z space) ++ drop (z .height) seam)
+      (markedSeamOf how (z .width) (z .height) (pictureIn z space) (marksIn z space) ++ drop (z .height) seam)
       seam

@@ -7,6 +7,7 @@ use lib.ListN.{length, getD}
 use Rattle.pictures.specs.declared.sizes.Size.{Size}
 use Rattle.pictures.specs.Refusals.{refusal}
 use Rattle.pictures.specs.Pictures.{Picture, sizeRules, pictureBytes, pixels, pictureIn, marksIn}
+use Rattle.energy.specs.declared.methods.Method.{Method}
 use Rattle.energy.specs.Energy.{StepCosts, costsAt}
 use Rattle.seam_theory.specs.PictureSeams.{markAt}
 use Rattle.seam_theory.specs.Sums.{CostRows, costRows}
@@ -25,13 +26,13 @@ weightIn energies marks c = weightOf (getD energies c 0) (getD marks c 0)
 abbrev pub weighed : StepCosts → ℕ → StepCosts
 weighed k mark = record { left = weightOf (k .left) mark; up = weightOf (k .up) mark; right = weightOf (k .right) mark }
 
--- In row r and column c of a picture of w columns and h rows with marks.
-abbrev pub weightsAt : ℕ → ℕ → Picture → List (List ℕ) → ℕ → ℕ → StepCosts
-weightsAt w h p m r c = weighed (costsAt w h p r c) (markAt m r c)
+-- In row r and column c of a picture of w columns and h rows with marks, by a method.
+abbrev pub weightsAt : Method → ℕ → ℕ → Picture → List (List ℕ) → ℕ → ℕ → StepCosts
+weightsAt how w h p m r c = weighed (costsAt how w h p r c) (markAt m r c)
 
 -- The costs of row i of a picture with the marks after it: its weights.
-abbrev pub weightsOf : Size → List ℕ → ℕ → CostRows
-weightsOf z b i = costRows (z .width) (weightsAt (z .width) (z .height) (pictureIn z b) (marksIn z b) i)
+abbrev pub weightsOf : Size → Method → List ℕ → ℕ → CostRows
+weightsOf z how b i = costRows (z .width) (weightsAt how (z .width) (z .height) (pictureIn z b) (marksIn z b) i)
 
 -- The bytes of a picture and of its marks.
 abbrev pub markedBytes : Size → ℕ

@@ -1,6 +1,7 @@
 // The end of the path of least weight of a picture with marks.
 use crate::down64;
 use crate::weights;
+use energy::Method;
 use pictures::LARGEST_SIDE;
 use pictures::Size;
 use seam_sums::least64;
@@ -18,9 +19,9 @@ pub(crate) struct Bottom {
 
 // Works out all sums of the picture at the front of the space, with its marks after it. After them is written where each
 // column of a row comes from.
-pub(crate) fn find_bottom(space: &mut [u8], size: Size, bytes: usize) -> Bottom
+pub(crate) fn find_bottom(space: &mut [u8], size: Size, method: Method, bytes: usize) -> Bottom
     requires { ⌜ BottomNeeded (markedBytes size) size bytes (now space) ⌝ }
-    ensures { λ r. ⌜ BottomGiven fence64 (markedBytes size) size (weightsOf size) (now (space .entry)) (now (space .exit)) (r .column) (r .sum) ⌝ }
+    ensures { λ r. ⌜ BottomGiven fence64 (markedBytes size) size (weightsOf size method) (now (space .entry)) (now (space .exit)) (r .column) (r .sum) ⌝ }
 {
     let width = size.width;
     let both = width + 2;
@@ -31,6 +32,7 @@ pub(crate) fn find_bottom(space: &mut [u8], size: Size, bytes: usize) -> Bottom
     bottom_with(
         space,
         size,
+        method,
         bytes,
         &mut above[..both],
         &mut energies[..width],
@@ -43,6 +45,7 @@ pub(crate) fn find_bottom(space: &mut [u8], size: Size, bytes: usize) -> Bottom
 fn bottom_with(
     space: &mut [u8],
     size: Size,
+    method: Method,
     bytes: usize,
     above: &mut [u64],
     energies: &mut [u32],
@@ -52,7 +55,7 @@ fn bottom_with(
     requires { ⌜ BottomNeeded (markedBytes size) size bytes (now space) ⌝ }
     requires { ⌜ RowsNeeded fence64 size (now above) (now cost) (now next) ⌝ }
     requires { ⌜ length (now energies) ≡ size .width ⌝ }
-    ensures { λ r. ⌜ BottomGiven fence64 (markedBytes size) size (weightsOf size) (now (space .entry)) (now (space .exit)) (r .column) (r .sum) ⌝ }
+    ensures { λ r. ⌜ BottomGiven fence64 (markedBytes size) size (weightsOf size method) (now (space .entry)) (now (space .exit)) (r .column) (r .sum) ⌝ }
 {
     let width = size.width;
     let height = size.height;
@@ -61,12 +64,13 @@ fn bottom_with(
     weights::row_weights(
         &space[..from],
         size,
+        method,
         bytes,
         0,
         energies,
         &mut above[1..side],
     );
-    down64::down(space, size, bytes, above, energies, cost, next);
+    down64::down(space, size, method, bytes, above, energies, cost, next);
     let column = least64::first_least(&above[1..side]);
     let at = column + 1;
     let sum = above[at];

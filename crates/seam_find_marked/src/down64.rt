@@ -1,6 +1,7 @@
 // All rows of sums of a picture with marks, from the top.
 use crate::sums64;
 use crate::weights;
+use energy::Method;
 use pictures::Size;
 ghost use mathlib.Core.Path.{_≡_};
 ghost use lib.ListN.{length};
@@ -17,19 +18,20 @@ pub(crate) const FENCE: u64 = 4611686018427387904;
 pub(crate) fn down(
     space: &mut [u8],
     size: Size,
+    method: Method,
     bytes: usize,
     above: &mut [u64],
     energies: &mut [u32],
     cost: &mut [u64],
     next: &mut [u64],
 )
-    requires { ⌜ DownNeeded fence64 (markedBytes size) size (weightsOf size) bytes (now space) (now above) (now cost) (now next) ⌝ }
+    requires { ⌜ DownNeeded fence64 (markedBytes size) size (weightsOf size method) bytes (now space) (now above) (now cost) (now next) ⌝ }
     requires { ⌜ length (now energies) ≡ size .width ⌝ }
-    ensures { λ _. ⌜ DownGiven fence64 (markedBytes size) size (weightsOf size) (now (space .entry)) (now (space .exit)) (now (above .exit)) ⌝ }
+    ensures { λ _. ⌜ DownGiven fence64 (markedBytes size) size (weightsOf size method) (now (space .entry)) (now (space .exit)) (now (above .exit)) ⌝ }
 {
     let height = size.height;
     for i in 1..height {
-        row_down(space, size, bytes, i, above, energies, cost, next);
+        row_down(space, size, method, bytes, i, above, energies, cost, next);
     }
 }
 
@@ -37,6 +39,7 @@ pub(crate) fn down(
 fn row_down(
     space: &mut [u8],
     size: Size,
+    method: Method,
     bytes: usize,
     i: usize,
     above: &mut [u64],
@@ -46,7 +49,7 @@ fn row_down(
 )
     requires { ⌜ RowNeeded fence64 (markedBytes size) size bytes i (now space) (now above) (now cost) (now next) ⌝ }
     requires { ⌜ length (now energies) ≡ size .width ⌝ }
-    ensures { λ _. ⌜ RowGiven fence64 (markedBytes size) size (weightsOf size) i (now (space .entry)) (now (above .entry)) (now (space .exit)) (now (above .exit)) ⌝ }
+    ensures { λ _. ⌜ RowGiven fence64 (markedBytes size) size (weightsOf size method) i (now (space .entry)) (now (above .entry)) (now (space .exit)) (now (above .exit)) ⌝ }
 {
     let width = size.width;
     let height = size.height;
@@ -54,7 +57,7 @@ fn row_down(
     let from = bytes + height * width;
     let a = from + (i - 1) * width;
     let e = a + width;
-    weights::row_weights(&space[..from], size, bytes, i, energies, cost);
+    weights::row_weights(&space[..from], size, method, bytes, i, energies, cost);
     sums64::next_sums(above, cost, next);
     sums64::ways_row(above, &mut space[a..e]);
     sums64::copy(next, &mut above[1..side]);

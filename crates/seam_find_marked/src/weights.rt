@@ -1,4 +1,5 @@
 // A row of weights: each pixel's energy and mark in one number.
+use energy::Method;
 use pictures::Size;
 ghost use mathlib.Core.Path.{_≡_};
 ghost use lib.ListN.{length};
@@ -19,17 +20,18 @@ fn weigh(energies: &[u32], marks: &[u8], cost: &mut [u64])
 pub(crate) fn row_weights(
     front: &[u8],
     size: Size,
+    method: Method,
     bytes: usize,
     i: usize,
     energies: &mut [u32],
     cost: &mut [u64],
 )
     requires { ⌜ WeightsNeeded size bytes i (now front) (now energies) (now cost) ⌝ }
-    ensures { λ _. ⌜ now (cost .exit) ≡ weightsOf size (now (front .entry)) i .up ⌝ }
+    ensures { λ _. ⌜ now (cost .exit) ≡ weightsOf size method (now (front .entry)) i .up ⌝ }
 {
     let width = size.width;
     let a = bytes + i * width;
     let e = a + width;
-    energy::energies(&front[..bytes], size, i, energies);
+    energy::energies(&front[..bytes], size, method, i, energies);
     weigh(energies, &front[a..e], cost);
 }

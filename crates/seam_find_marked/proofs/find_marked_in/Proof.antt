@@ -14,6 +14,7 @@ use lib.ListN.{length, getD, take, drop, replicate}
 use lib.Seq.{length-take-le}
 use Rattle.grids.specs.Table.{table}
 use Rattle.grids.specs.Rows.{flat}
+use Rattle.energy.specs.declared.methods.Method.{Method}
 use Rattle.pictures.specs.declared.sizes.Size.{Size}
 use Rattle.pictures.specs.Refusals.{_when_, numberOf, given, refusal, served}
 use Rattle.pictures.specs.Pictures.{Picture, pictureBytes, pixels, pictureIn, marksIn}
@@ -40,11 +41,11 @@ use Rattle.seam_find_marked.proofs.find_marked_in.Statement.{statement}
 use Rattle.seam_find_marked.proofs.find_marked_in.Tie as tie
 
 -- What is to be given: whether no seam is allowed, the cost,
-abbrev of-marked : {A : Type 0} → (ℕ → ℕ → Picture → List (List ℕ) → A) → tie.Start → A
+abbrev of-marked : {A : Type 0} → (Method → ℕ → ℕ → Picture → List (List ℕ) → A) → tie.Start → A
 of-marked f s =
     let z = s .args .size in
     let space = now (s .args .space) in
-    f (z .width) (z .height) (pictureIn z space) (marksIn z space)
+    f (s .args .method) (z .width) (z .height) (pictureIn z space) (marksIn z space)
 
 abbrev blocked : tie.Start → Bool
 blocked s = isNone (of-marked markedUp s)
@@ -95,6 +96,9 @@ start c = at-judge c .before .before .before
 -- what was lent
 abbrev size : tie.After-picture-bytes → Size
 size c = start c .args .size
+
+abbrev method : tie.After-picture-bytes → Method
+method c = start c .args .method
 
 abbrev space : tie.After-picture-bytes → List ℕ
 space c = now (start c .args .space)
@@ -153,17 +157,17 @@ unfolding front
 byte c = front-bytes (size c) (space c) (λ i. omega (arith, at-judge c .before .before .slice-known .given i))
 
 -- they are the picture and the marks of the space
-same : {A : Type 0} (c : tie.After-picture-bytes) (f : ℕ → ℕ → Picture → List (List ℕ) → A)
+same : {A : Type 0} (c : tie.After-picture-bytes) (f : Method → ℕ → ℕ → Picture → List (List ℕ) → A)
     → let z = size c in
-    f (z .width) (z .height) (pictureIn z (front c)) (marksIn z (front c)) ≡ of-marked f (start c)
+    f (method c) (z .width) (z .height) (pictureIn z (front c)) (marksIn z (front c)) ≡ of-marked f (start c)
 unfolding front
 same c f =
     let z = size c in
-    ap₂ (f (z .width) (z .height)) (front-picture z (space c)) (front-marks z (space c) (omega (arith, front-room c)))
+    ap₂ (f (method c) (z .width) (z .height)) (front-picture z (space c)) (front-marks z (space c) (omega (arith, front-room c)))
 
 -- the sums of the last row, and the least of them
 sums : (c : tie.After-picture-bytes) → List ℕ
-sums c = sumsDown false fence64 (size c .width) (weightsOf (size c) (front c)) (size c .height - 1)
+sums c = sumsDown false fence64 (size c .width) (weightsOf (size c) (method c) (front c)) (size c .height - 1)
 
 weight : (c : tie.After-picture-bytes) → ℕ
 weight c = getD (sums c) (leastTo (sums c) (size c .width - 1)) 0
@@ -171,16 +175,16 @@ weight c = getD (sums c) (leastTo (sums c) (size c .width - 1)) 0
 -- from `protected` on it says that no seam is allowed
 stuck : (c : tie.After-picture-bytes) → protected ≤ weight c → blocked (start c) ≡ true
 unfolding sums weight
-stuck c over = sym (ap isNone (same c markedUp)) ∙ marked-blocked (size c) (front c) (front-is c) (byte c) over
+stuck c over = sym (ap isNone (same c markedUp)) ∙ marked-blocked (size c) (method c) (front c) (front-is c) (byte c) over
 
 -- below it that one is, and its cost
 free : (c : tie.After-picture-bytes) → weight c < protected → blocked (start c) ≡ false
 unfolding sums weight
-free c under = sym (ap isNone (same c markedUp)) ∙ marked-some (size c) (front c) (front-is c) (byte c) under
+free c under = sym (ap isNone (same c markedUp)) ∙ marked-some (size c) (method c) (front c) (front-is c) (byte c) under
 
 cost-is : (c : tie.After-picture-bytes) → weight c < protected → weight c % kept ≡ price (start c)
 unfolding sums weight
-cost-is c under = marked-cost (size c) (front c) (front-is c) (byte c) under ∙ same c markedCostOf
+cost-is c under = marked-cost (size c) (method c) (front c) (front-is c) (byte c) under ∙ same c markedCostOf
 
 -- the space that `find_bottom` leaves
 abbrev filled : tie.After-find-bottom → List ℕ
@@ -202,11 +206,11 @@ ways-within f = omega (arith, pixels-within f, bounds (at-bytes f) .rows)
 
 -- the ways between the rows, which stand there
 ways : (c : tie.After-picture-bytes) → List ℕ
-ways c = flat (table (waysUp false fence64 (size c .width) (weightsOf (size c) (front c))) (size c .height - 1))
+ways c = flat (table (waysUp false fence64 (size c .width) (weightsOf (size c) (method c) (front c))) (size c .height - 1))
 
 ways-wide : (c : tie.After-picture-bytes) → length (ways c) ≡ (size c .height - 1) * size c .width
 unfolding ways
-ways-wide c = ways-long false fence64 (size c .width) (size c .height - 1) (weightsOf (size c) (front c))
+ways-wide c = ways-long false fence64 (size c .width) (size c .height - 1) (weightsOf (size c) (method c) (front c))
 
 ways-are : (f : tie.After-find-bottom)
     → let p = at-bytes f in
@@ -267,7 +271,7 @@ traceable f =
     let p = at-bytes f in
     let g = f .find-bottom in
     rw (ways-lent f)
-    (marked-traceable (size p) (front p) (front-is p) (byte p) (g .result .column) (length (seam p)) (g .ensures .inside)
+    (marked-traceable (size p) (method p) (front p) (front-is p) (byte p) (g .result .column) (length (seam p)) (g .ensures .inside)
     (rooms p .seam-room))
 
 columns-are : (f : tie.After-find-bottom)
@@ -279,7 +283,7 @@ columns-are f under =
     let p = at-bytes f in
     let z = size p in
     ap (columnsTo (ways p) (z .width) (z .height - 1)) (column-is f)
-    ∙ marked-seam z (front p) (front-is p) (byte p) under
+    ∙ marked-seam z (method p) (front p) (front-is p) (byte p) under
     ∙ same p markedSeamOf
 
 seam-traced : (f : tie.After-find-bottom)

@@ -11,6 +11,7 @@ use denote.Ref.{now}
 use lib.ListN.{length, take, length-replicate}
 use lib.Seq.{length-take-le}
 use Rattle.grids.proofs.Parts.{part-length}
+use Rattle.energy.specs.declared.methods.Method.{Method}
 use Rattle.pictures.specs.declared.sizes.Size.{Size}
 use Rattle.pictures.specs.Pictures.{largestSide, pictureBytes}
 use Rattle.pictures.proofs.Limits.{Sized, sized-is}
@@ -65,6 +66,9 @@ start c = c .before .before .before .before .before
 abbrev size : tie.After-slice-known5 → Size
 size c = start c .args .size
 
+abbrev method : tie.After-slice-known5 → Method
+method c = start c .args .method
+
 abbrev space : tie.After-slice-known5 → List ℕ
 space c = now (start c .args .space)
 
@@ -77,13 +81,13 @@ front c = take (markedBytes (size c)) (space c)
 
 -- what the calls leave: the weights of row 0, the space with the ways, and the fenced sums of the last row
 abbrev weights : tie.After-row-weights → List ℕ
-weights r = r .row-weights .last .1 .1 .1 .1 .1 .0
+weights r = r .row-weights .last .1 .1 .1 .1 .1 .1 .0
 
 abbrev filled : tie.After-down → List ℕ
 filled d = d .down .last .0
 
 abbrev sums : tie.After-down → List ℕ
-sums d = d .down .last .1 .1 .1 .0
+sums d = d .down .last .1 .1 .1 .1 .0
 
 sure : (c : tie.After-slice-known5) → Sized (size c) (pictureBytes (size c))
 sure c = sized-is _ _ (start c .pre .0 .sized)
@@ -102,19 +106,19 @@ between-long c =
     part-length 1 (size c .width + 1) (above c) (omega (arith, above-long c))
     ∙ add-sub-cancel (size c .width) 1
 
-wide : (c : tie.After-slice-known5) → length (weightsOf (size c) (front c) 0 .up) ≡ size c .width
-wide c = weights-wide (size c) (front c) 0
+wide : (c : tie.After-slice-known5) → length (weightsOf (size c) (method c) (front c) 0 .up) ≡ size c .width
+wide c = weights-wide (size c) (method c) (front c) 0
 
-weights-are : (r : tie.After-row-weights) → let c = known r in weights r ≡ weightsOf (size c) (front c) 0 .up
+weights-are : (r : tie.After-row-weights) → let c = known r in weights r ≡ weightsOf (size c) (method c) (front c) 0 .up
 weights-are r =
     let c = known r in
-    r .row-weights .ensures ∙ ap (λ n. weightsOf (size c) (take n (space c)) 0 .up) (front-end c .is)
+    r .row-weights .ensures ∙ ap (λ n. weightsOf (size c) (method c) (take n (space c)) 0 .up) (front-end c .is)
 
 sums-long : (d : tie.After-down) → length (sums d) ≡ size (begun d) .width + 2
 sums-long d =
     let c = begun d in
     let z = size c in
-    last-long fence64 (markedBytes z) z (weightsOf z) (space c) (filled d) (sums d) (wide c) (d .down .ensures)
+    last-long fence64 (markedBytes z) z (weightsOf z (method c)) (space c) (filled d) (sums d) (wide c) (d .down .ensures)
 
 -- the first of the least sums is one of the columns
 inside : (f : tie.After-first-least)
@@ -124,7 +128,7 @@ inside f =
     let d = at-down (f .before .before) in
     let c = begun d in
     let z = size c in
-    bottom-inside fence64 (markedBytes z) z (weightsOf z) (space c) (filled d) (sums d) (wide c) (d .down .ensures)
+    bottom-inside fence64 (markedBytes z) z (weightsOf z (method c)) (space c) (filled d) (sums d) (wide c) (d .down .ensures)
     (f .first-least .result) (sure c .width-some) (f .first-least .ensures)
 
 column-most : (f : tie.After-first-least) → f .first-least .result < largestSide
@@ -177,7 +181,7 @@ down-requires c κs =
         bytes-are = p .0 .bytes-are;
         sized = p .0 .sized;
         room = p .0 .room;
-        first = first-row fence64 (z .width) (above k) (weights r) (weightsOf z (front k) 0 .up) (p .1 .0 .fences) (weights-are r);
+        first = first-row fence64 (z .width) (above k) (weights r) (weightsOf z (method k) (front k) 0 .up) (p .1 .0 .fences) (weights-are r);
         cost-room = p .1 .0 .cost-room;
         next-room = p .1 .0 .next-room;
       },
@@ -199,11 +203,11 @@ first-least-requires c κs = search needs
 add-at : tie.Need-add-at
 add-at c = omega (arith, column-most c)
 
-mul-t14 : tie.Need-mul-t14
-mul-t14 c = omega (arith, column-most c)
+mul-sum : tie.Need-mul-sum
+mul-sum c = omega (arith, column-most c)
 
-slice-read-t37 : tie.Need-slice-read-t37
-slice-read-t37 c = omega (arith, sums-long (at-down (c .before .before .before)), inside (c .before))
+slice-read-sum : tie.Need-slice-read-sum
+slice-read-sum c = omega (arith, sums-long (at-down (c .before .before .before)), inside (c .before))
 
 same-length : tie.Need-same-length
 same-length c = gave-space (c .before .before .before) .space .given
@@ -230,7 +234,7 @@ returns c =
     let d = at-down (f .before .before) in
     let k = begun d in
     let z = size k in
-    bottom-given fence64 (markedBytes z) z (weightsOf z) (space k) (filled d) (sums d) (wide k) (d .down .ensures)
+    bottom-given fence64 (markedBytes z) z (weightsOf z (method k)) (space k) (filled d) (sums d) (wide k) (d .down .ensures)
     (f .first-least .result) (f .first-least .ensures) (inside f)
 
 pub bottom-with-spec : {M : Type 1} → statement M
@@ -252,8 +256,8 @@ bottom-with-spec =
     part-first-least-end
     first-least-requires
     add-at
-    mul-t14
-    slice-read-t37
+    mul-sum
+    slice-read-sum
     same-length
     same-length-2
     same-length-3

@@ -8,6 +8,7 @@ use native.Mathlib.Omega.{arith}
 use borrow.Author.Needs.{needs}
 use denote.Ref.{now}
 use lib.ListN.{length, getD, take}
+use Rattle.energy.specs.declared.methods.Method.{Method}
 use Rattle.pictures.specs.declared.sizes.Size.{Size}
 use Rattle.pictures.specs.Pictures.{pictureBytes}
 use Rattle.pictures.proofs.Limits.{Sized, sized-is}
@@ -20,12 +21,12 @@ use Rattle.seam_find_marked.proofs.down64.down.Statement.{statement}
 use Rattle.seam_find_marked.proofs.down64.down.Tie as tie
 
 abbrev Inv-loop : tie.InvT-loop
-Inv-loop space₀ size bytes above₀ energies₀ cost₀ next₀ height i₀ space above energies cost next i =
-    BeforeRow fence64 (markedBytes size) size (weightsOf size) space₀ above₀ cost₀ next₀ i space above cost next
+Inv-loop space₀ size method bytes above₀ energies₀ cost₀ next₀ height i₀ space above energies cost next i =
+    BeforeRow fence64 (markedBytes size) size (weightsOf size method) space₀ above₀ cost₀ next₀ i space above cost next
     × (length energies ≡ length energies₀)
 
 abbrev μ-loop : tie.MeasureT-loop
-μ-loop space₀ size bytes above₀ energies₀ cost₀ next₀ height i₀ space above energies cost next i = height - i
+μ-loop space₀ size method bytes above₀ energies₀ cost₀ next₀ height i₀ space above energies cost next i = height - i
 
 -- places: where the lengths of the buffers are known, the loop's test, and in a turn the buffers that row_down gave back
 abbrev start : tie.After-slice-known5 Inv-loop μ-loop → tie.Start Inv-loop μ-loop
@@ -50,6 +51,9 @@ at-row-down c = gave-above c .before .before .before
 abbrev size : tie.After-slice-known5 Inv-loop μ-loop → Size
 size c = start c .args .size
 
+abbrev method : tie.After-slice-known5 Inv-loop μ-loop → Method
+method c = start c .args .method
+
 abbrev space : tie.After-slice-known5 Inv-loop μ-loop → List ℕ
 space c = now (start c .args .space)
 
@@ -63,8 +67,8 @@ byte : (c : tie.After-slice-known5 Inv-loop μ-loop) (i : ℕ) → getD (space c
 byte c i = omega (arith, c .before .before .before .before .slice-known .given i)
 
 wide : (c : tie.After-slice-known5 Inv-loop μ-loop) (i : ℕ)
-    → length (weightsOf (size c) (take (markedBytes (size c)) (space c)) i .up) ≡ size c .width
-wide c = weights-wide (size c) (take (markedBytes (size c)) (space c))
+    → length (weightsOf (size c) (method c) (take (markedBytes (size c)) (space c)) i .up) ≡ size c .width
+wide c = weights-wide (size c) (method c) (take (markedBytes (size c)) (space c))
 
 -- the sums above row i are at most i times the largest weight, and so below the fence in a turn
 above-small : (h : tie.At-loop Inv-loop μ-loop) (k : ℕ)
@@ -73,8 +77,8 @@ above-small h =
     let c = h .before in
     let z = size c in
     let u = h .loop in
-    let most = front-weights z (space c) (sure c) (front-room c) (byte c) in
-    above-most fence64 (markedBytes z) z (weightsOf z) (space c) (wide c) mostWeight (u .i) (u .space) (u .above) most
+    let most = front-weights z (space c) (method c) (sure c) (front-room c) (byte c) in
+    above-most fence64 (markedBytes z) z (weightsOf z (method c)) (space c) (wide c) mostWeight (u .i) (u .space) (u .above) most
     (u .inv .0 .downs)
 
 below-fence : (h : tie.At-loop Inv-loop μ-loop) (k : ℕ)

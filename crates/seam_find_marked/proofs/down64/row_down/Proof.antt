@@ -11,6 +11,7 @@ use lib.ListN.{length, getD, take}
 use lib.Seq.{length-take-le}
 use Rattle.grids.specs.Table.{table}
 use Rattle.grids.proofs.Tables.{table-same}
+use Rattle.energy.specs.declared.methods.Method.{Method}
 use Rattle.pictures.specs.declared.sizes.Size.{Size}
 use Rattle.pictures.specs.Pictures.{pictureBytes}
 use Rattle.pictures.proofs.Limits.{Sized, sized-is}
@@ -57,6 +58,9 @@ start c = c .before .before .before .before .before
 abbrev size : tie.After-slice-known5 → Size
 size c = start c .args .size
 
+abbrev method : tie.After-slice-known5 → Method
+method c = start c .args .method
+
 abbrev space : tie.After-slice-known5 → List ℕ
 space c = now (start c .args .space)
 
@@ -73,7 +77,7 @@ from c = start c .args .bytes + size c .height * size c .width
 
 -- the row's weights, as they were written
 abbrev weights : tie.After-row-weights → List ℕ
-weights r = r .row-weights .last .1 .1 .1 .1 .1 .0
+weights r = r .row-weights .last .1 .1 .1 .1 .1 .1 .0
 
 sure : (c : tie.After-slice-known5) → Sized (size c) (pictureBytes (size c))
 sure c = sized-is _ _ (start c .pre .0 .sized)
@@ -91,10 +95,10 @@ ways c = ways-end (start c .pre .0) (from c) (front-end c .is)
 byte : (c : tie.After-slice-known5) (i : ℕ) → getD (space c) i 0 ≤ 255
 byte c i = omega (arith, c .before .before .before .before .slice-known .given i)
 
-weights-are : (r : tie.After-row-weights) → let c = known r in weights r ≡ weightsOf (size c) (front c) (row c) .up
+weights-are : (r : tie.After-row-weights) → let c = known r in weights r ≡ weightsOf (size c) (method c) (front c) (row c) .up
 weights-are r =
     let c = known r in
-    r .row-weights .ensures ∙ ap (λ n. weightsOf (size c) (take n (space c)) (row c) .up) (front-end c .is)
+    r .row-weights .ensures ∙ ap (λ n. weightsOf (size c) (method c) (take n (space c)) (row c) .up) (front-end c .is)
 
 add-side : tie.Need-add-side
 add-side c = search needs
@@ -141,10 +145,10 @@ next-sums-requires c κs =
     let r = at-row-weights c in
     let k = known r in
     let p = start k .pre .0 in
-    let most = front-weights (size k) (space k) (sure k) (front-room k) (byte k) in
+    let most = front-weights (size k) (space k) (method k) (sure k) (front-room k) (byte k) in
     record {
       above = omega (arith, p .long, p .next-room);
-      costs = ap length (weights-are r) ∙ weights-wide (size k) (front k) (row k) ∙ sym (p .next-room);
+      costs = ap length (weights-are r) ∙ weights-wide (size k) (method k) (front k) (row k) ∙ sym (p .next-room);
       small = λ j l. p .small j (omega (arith, p .next-room));
       cheap = λ j. rw (weights-are r) (omega (arith, most (row k) j));
     }
@@ -204,9 +208,9 @@ returns c =
     let z = size k in
     let x = now (start k .args .above) in
     let w = length (now (start k .args .next)) in
-    row-given fence64 (markedBytes z) z (weightsOf z) (row k) (from k) w (space k) x (u .ways-row .last .1 .0) (alikeRows (weights r))
+    row-given fence64 (markedBytes z) z (weightsOf z (method k)) (row k) (from k) w (space k) x (u .ways-row .last .1 .0) (alikeRows (weights r))
     (at-copy .copy .last .1 .0) (front-end k .is) (ways k .end)
-    (ap alikeRows (weights-are r) ∙ sym (weights-alike z (front k) (row k)))
+    (ap alikeRows (weights-are r) ∙ sym (weights-alike z (method k) (front k) (row k)))
     (start k .pre .0 .next-room) (start k .pre .0 .long) (start k .pre .0 .fences)
     (u .ways-row .ensures
     ∙ ap (table (wayAbove x)) (ways k .wide)

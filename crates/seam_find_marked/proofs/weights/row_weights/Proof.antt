@@ -10,6 +10,7 @@ use denote.Ref.{now}
 use lib.ListN.{length, take, drop}
 use lib.Seq.{length-take-le}
 use Rattle.grids.specs.Table.{table}
+use Rattle.energy.specs.declared.methods.Method.{Method}
 use Rattle.pictures.specs.declared.sizes.Size.{Size}
 use Rattle.pictures.specs.Pictures.{pictureBytes, picture, pictureIn}
 use Rattle.pictures.proofs.Limits.{Sized, sized-is}
@@ -35,6 +36,9 @@ at-energies u = u .before .before .before .before .before .before
 abbrev size : tie.After-slice-known2 → Size
 size c = start c .args .size
 
+abbrev method : tie.After-slice-known2 → Method
+method c = start c .args .method
+
 abbrev bytes : tie.After-slice-known2 → ℕ
 bytes c = start c .args .bytes
 
@@ -49,7 +53,7 @@ abbrev room : tie.After-slice-known2 → List ℕ
 room c = now (start c .args .energies)
 
 abbrev filled : tie.After-energies → List ℕ
-filled e = e .energies .last .1 .1 .1 .0
+filled e = e .energies .last .1 .1 .1 .1 .0
 
 sure : (c : tie.After-slice-known2) → Sized (size c) (pictureBytes (size c))
 sure c = sized-is _ _ (start c .pre .sized)
@@ -73,14 +77,14 @@ picture-long c = length-take-le _ _ (picture-within c) ∙ start c .pre .bytes-a
 energies-are : (e : tie.After-energies)
     → let c = known e in
     let z = size c in
-    filled e ≡ energies (z .width) (z .height) (pictureIn z (front c)) (row c) ++ drop (z .width) (room c)
+    filled e ≡ energies (method c) (z .width) (z .height) (pictureIn z (front c)) (row c) ++ drop (z .width) (room c)
 energies-are e =
     let c = known e in
     let z = size c in
     let p = start c .pre in
-    energies-served (take (bytes c) (front c)) z (row c) (room c) (filled e) (e .energies .result) (e .energies .ensures)
+    energies-served (take (bytes c) (front c)) z (method c) (row c) (room c) (filled e) (e .energies .result) (e .energies .ensures)
     (rw (picture-long c) (p .sized)) (p .inside) (le-of-eq (sym (p .energy-room)))
-    ∙ ap (λ b. energies (z .width) (z .height) (picture z (take b (front c))) (row c) ++ drop (z .width) (room c)) (p .bytes-are)
+    ∙ ap (λ b. energies (method c) (z .width) (z .height) (picture z (take b (front c))) (row c) ++ drop (z .width) (room c)) (p .bytes-are)
 
 mul-a : tie.Need-mul-a
 mul-a c = omega (arith, row-end c .few)
@@ -131,7 +135,7 @@ returns c =
     ∙ ap (λ b. take w (drop (b + row k * w) (front k))) (p .bytes-are))
     (p .cost-room)
     ∙ ap (λ x. table (weightIn x (take w (drop (pictureBytes (size k) + row k * w) (front k)))) w) (energies-are e)
-    ∙ row-weighed (size k) (front k) (row k) (p .inside) (p .long) (drop w (room k))
+    ∙ row-weighed (size k) (method k) (front k) (row k) (p .inside) (p .long) (drop w (room k))
 
 pub row-weights-spec : {M : Type 1} → statement M
 row-weights-spec =
