@@ -9,20 +9,21 @@ use Rattle.pictures.specs.declared.sizes.Size.{Size}
 use Rattle.pictures.specs.Refusals.{_when_, refusal}
 use Rattle.pictures.specs.Pictures.{sideRules, pictureBytes, picture, pixels}
 use Rattle.pictures.proofs.Rules.{served-first}
+use Rattle.energy.specs.declared.methods.Method.{Method}
 use Rattle.seam_rules.specs.declared.answers.Found.{Found}
 use Rattle.seam_theory.specs.PictureSeams.{seamOf, costOf}
 use Rattle.seam_rules.specs.Answers.{foundNumber, foundCost}
-use Rattle.seam_find.specs.Finding.{FindGiven}
+use Rattle.seam_find.specs.Finding.{FindInGiven}
 
-pub record FoundThere (space : List ℕ) (z : Size) (seam : List ℕ) (answer : Found) (space′ seam′ : List ℕ) : Type 0 where
+pub record FoundThere (space : List ℕ) (z : Size) (how : Method) (seam : List ℕ) (answer : Found) (space′ seam′ : List ℕ) : Type 0 where
   pub number : foundNumber answer ≡ 0
-  pub cost : foundCost answer ≡ costOf (z .width) (z .height) (picture z (take (pictureBytes z) space))
+  pub cost : foundCost answer ≡ costOf how (z .width) (z .height) (picture z (take (pictureBytes z) space))
   pub space-left : space′ ≡ take (pictureBytes z) space ++ (replicate (pixels z) 0 ++ drop (pictureBytes z + pixels z) space)
-  pub seam-given : seam′ ≡ seamOf (z .width) (z .height) (picture z (take (pictureBytes z) space)) ++ drop (z .height) seam
+  pub seam-given : seam′ ≡ seamOf how (z .width) (z .height) (picture z (take (pictureBytes z) space)) ++ drop (z .height) seam
 
-pub find-served : (space : List ℕ) (z : Size) (seam : List ℕ) (answer : Found) (space′ seam′ : List ℕ) → FindGiven space z seam answer space′ seam′
-    → refusal (sideRules z) ≡ 0 → z .height ≤ length seam → pictureBytes z + pixels z ≤ length space → FoundThere space z seam answer space′ seam′
-find-served space z seam answer space′ seam′ g sides room long =
+pub find-served : (space : List ℕ) (z : Size) (how : Method) (seam : List ℕ) (answer : Found) (space′ seam′ : List ℕ) → FindInGiven space z how seam answer space′ seam′
+    → refusal (sideRules z) ≡ 0 → z .height ≤ length seam → pictureBytes z + pixels z ≤ length space → FoundThere space z how seam answer space′ seam′
+find-served space z how seam answer space′ seam′ g sides room long =
     record {
       number = n;
       cost = rw n at (g .cost);

@@ -1,5 +1,5 @@
 -- The seam found lies inside the picture.
-use mathlib.Core.Bool.{false}
+use mathlib.Core.Bool.{Bool}
 use mathlib.Core.List.{List}
 use Prim.Native.Nat.{ℕ, _<_}
 use Rattle.grids.specs.Each.{Each}
@@ -9,6 +9,8 @@ use Rattle.seam_theory.proofs.Nearby.{nearby-paths}
 use Rattle.seam_theory.proofs.Seams.{cheapest-some}
 use Rattle.pictures.specs.declared.sizes.Size.{Size}
 use Rattle.pictures.specs.Pictures.{Picture}
+use Rattle.energy.specs.declared.methods.Method.{Method}
+use Rattle.energy.specs.Methods.{wrapOf}
 use Rattle.energy.specs.Energy.{energy, stepOf}
 use Rattle.pictures.proofs.Limits.{Sized}
 use Rattle.seam_theory.specs.PictureSeams.{seamOf}
@@ -19,17 +21,17 @@ use Rattle.seam_turn.specs.Axes.{turned}
 use Rattle.seam_cut.specs.Axes.{seamAlong}
 
 -- A path has h columns below w.
-pub path-inside : (w h : ℕ) (s : List ℕ) → IsPath false w h s → Each (λ c. c < w) h s
-path-inside w h s p = rw (p .size) at (each-member s (p .within))
+pub path-inside : (wrap : Bool) (w h : ℕ) (s : List ℕ) → IsPath wrap w h s → Each (λ c. c < w) h s
+path-inside wrap w h s p = rw (p .size) at (each-member s (p .within))
 
-pub seam-inside : (w h : ℕ) (p : Picture) → 0 < w → 0 < h → Each (λ c. c < w) h (seamOf w h p)
+pub seam-inside : (how : Method) (w h : ℕ) (p : Picture) → 0 < w → 0 < h → Each (λ c. c < w) h (seamOf how w h p)
 unfolding seamOf
-seam-inside w h p some-column some-row =
-    let found = cheapest-some (energy w h p 0) (stepOf w h p) false w h some-column some-row in
-    rw (found .1) (each-reverse (path-inside w h (found .0) (nearby-paths false w h (found .0) .0 (found .2 .member))))
+seam-inside how w h p some-column some-row =
+    let found = cheapest-some (energy how w h p 0) (stepOf how w h p) (wrapOf how) w h some-column some-row in
+    rw (found .1) (each-reverse (path-inside (wrapOf how) w h (found .0) (nearby-paths (wrapOf how) w h (found .0) .0 (found .2 .member))))
 
 -- The same along either axis.
-pub along-inside : (x : Axis) (z : Size) (n : ℕ) (p : Picture) → Sized z n → Each (λ c. c < turnedSize x z .width) (turnedSize x z .height) (seamAlong x z p)
+pub along-inside : (how : Method) (x : Axis) (z : Size) (n : ℕ) (p : Picture) → Sized z n → Each (λ c. c < turnedSize x z .width) (turnedSize x z .height) (seamAlong how x z p)
 unfolding seamAlong
-along-inside Vertical z n p s = seam-inside (z .width) (z .height) (turned Vertical (z .width) p) (s .width-some) (s .height-some)
-along-inside Horizontal z n p s = seam-inside (z .height) (z .width) (turned Horizontal (z .width) p) (s .height-some) (s .width-some)
+along-inside how Vertical z n p s = seam-inside how (z .width) (z .height) (turned Vertical (z .width) p) (s .width-some) (s .height-some)
+along-inside how Horizontal z n p s = seam-inside how (z .height) (z .width) (turned Horizontal (z .width) p) (s .height-some) (s .width-some)

@@ -2,20 +2,18 @@
 use mathlib.Core.Path.{_≡_, refl, sym, ap, _∙_}
 use mathlib.Core.Bool.{true, cond}
 use mathlib.Core.List.{List, _++_}
-use Prim.Native.Nat.{ℕ, _*_}
-use native.Mathlib.Omega.{arith}
+use Prim.Native.Nat.{ℕ, _≤_}
 use borrow.Author.Needs.{needs}
 use denote.Ref.{now}
-use lib.ListN.{length, drop, replicate}
-use Rattle.pictures.specs.declared.refusals.Refusal.the-variants.{LastLine}
-use Rattle.pictures.specs.Refusals.{Rule, given, refusal}
-use Rattle.pictures.specs.Pictures.{channelsOf, picture, bytes}
-use Rattle.pictures.proofs.Rules.{served-first, refused-answer, refusal-most}
+use lib.ListN.{length, drop}
+use Rattle.pictures.specs.Refusals.{Rule, numberOf, given, refusal}
+use Rattle.pictures.specs.Pictures.{picture}
+use Rattle.pictures.proofs.Rules.{served-first, refused-answer, kept-by, refusal-most}
 use Rattle.seam_rules.specs.Axes.{turnedSize}
 use Rattle.seam_cut.specs.Axes.{seamAlong, costAlong}
-use Rattle.seam_turn.specs.Axes.{cutAlong}
-use Rattle.seam_rules.specs.Cuts.{cleared, findRules, lastAlong, lastRules, cutRules}
-use Rattle.seam_rules.proofs.Rooms.{left-as-was, work-as-was}
+use Rattle.seam_cut.specs.Cutting.{closedAlong}
+use Rattle.seam_rules.specs.Cuts.{findRules, lastAlong, lastRules, cutRules}
+use Rattle.seam_rules.proofs.Rooms.{work-as-was}
 use Rattle.seam_cut.proofs.cut.Statement.{statement}
 use Rattle.seam_cut.proofs.cut.Tie as tie
 
@@ -61,21 +59,18 @@ returns c =
     let a = s .args in
     let z = a .size in
     let x = a .axis in
-    let p = picture z (now (a .picture)) in
+    let b = now (a .picture) in
+    let p = picture z b in
     let why = c .before .fits2 .given in
-    let n = number s in
-    let e = sym (ap given (why .1)) ∙ refused-answer (judged .judge-find .result) (why .0 .0) (why .1) (first s) (last s) (judged .judge-find .ensures) in
-    let few = refusal-most 8 (first s) refl in (
-      record {
-        number-is = e;
-        cost-is = left-as-was (why .0 .0) n e (costAlong x z p) 0;
-        seam-is = left-as-was (why .0 .0) n e (seamAlong x z p ++ drop (turnedSize x z .height) (now (a .seam))) (now (a .seam));
-        work-is = work-as-was (why .0 .0) n e (omega (arith, few, sym (ap given (why .1)) ∙ judged .judge-find .ensures)) (now (a .work));
-      },
-      record {
-        picture-is = left-as-was (why .0 .0) n e (bytes (cutAlong x z (seamAlong x z p) p) ++ replicate (turnedSize x z .height * channelsOf (z .kind)) 0) (now (a .picture));
-      },
-    )
+    let first-is = sym (ap given (why .1)) ∙ judged .judge-find .ensures in
+    let few : numberOf (why .0 .0) ≤ 8 = rw first-is (refusal-most 8 (first s) refl) in
+    record {
+      number = sym (ap given (why .1)) ∙ refused-answer (judged .judge-find .result) (why .0 .0) (why .1) (first s) (last s) (judged .judge-find .ensures);
+      cost = kept-by (why .0 .0) (costAlong (a .method) x z p) 0;
+      picture-left = kept-by (why .0 .0) (closedAlong x z (seamAlong (a .method) x z p) b) b;
+      seam-given = kept-by (why .0 .0) (seamAlong (a .method) x z p ++ drop (turnedSize x z .height) (now (a .seam))) (now (a .seam));
+      work-left = work-as-was (why .0 .0) (numberOf (why .0 .0)) refl few (now (a .work));
+    }
 
 enum-told : tie.Need-enum-told
 enum-told c = search needs
@@ -100,27 +95,21 @@ returns-2 c =
     let a = s .args in
     let z = a .size in
     let x = a .axis in
-    let p = picture z (now (a .picture)) in
     let narrow : lastAlong (a .axis) (a .size) ≡ true = sym (at-takes-last .takes-last .ensures) ∙ at-if1 .if1 .taken in
-    let n = number s in
-    let e : 13 ≡ number s = sym (rest at-enum-told ∙ ap (λ t. cond t 13 0) narrow) in (
-      record {
-        number-is = e;
-        cost-is = left-as-was LastLine n e (costAlong x z p) 0;
-        seam-is = left-as-was LastLine n e (seamAlong x z p ++ drop (turnedSize x z .height) (now (a .seam))) (now (a .seam));
-        work-is = at-clear .clear .ensures ∙ ap (λ k. cleared k (now (a .work))) e;
-      },
-      record {
-        picture-is = left-as-was LastLine n e (bytes (cutAlong x z (seamAlong x z p) p) ++ replicate (turnedSize x z .height * channelsOf (z .kind)) 0) (now (a .picture));
-      },
-    )
+    record {
+      number = sym (rest at-enum-told ∙ ap (λ t. cond t 13 0) narrow);
+      cost = refl;
+      picture-left = refl;
+      seam-given = refl;
+      work-left = at-clear .clear .ensures;
+    }
 
 cut-along-requires : tie.Need-cut-along-requires
 unfolding first
 cut-along-requires c κs =
     let at-if1 = c .before .before .before in
     let at-takes-last = at-if1 .before in
-    (none (at-takes-last .before), sym (at-takes-last .takes-last .ensures) ∙ at-if1 .if1 .left)
+    record { found = none (at-takes-last .before); more = sym (at-takes-last .takes-last .ensures) ∙ at-if1 .if1 .left }
 
 same-length-2 : tie.Need-same-length-2
 same-length-2 c = search needs
@@ -132,15 +121,7 @@ same-length-4 : tie.Need-same-length-4
 same-length-4 c = search needs
 
 returns-3 : tie.Need-returns-3
-unfolding first last number
-returns-3 c =
-    let at-cut-along = c .before .before .before .before .before .before in
-    let at-if1 = at-cut-along .before .before .before .before in
-    let at-takes-last = at-if1 .before in
-    let at-enum-told = at-takes-last .before in
-    let s = at-enum-told .before .before .before .before .before .before in
-    let e : number s ≡ 0 = rest at-enum-told ∙ ap (λ t. cond t 13 0) (sym (at-takes-last .takes-last .ensures) ∙ at-if1 .if1 .left) in
-    rw e (at-cut-along .cut-along .ensures)
+returns-3 c = c .before .before .before .before .before .before .cut-along .ensures
 
 pub cut-spec : {M : Type 1} → statement M
 cut-spec =

@@ -1,16 +1,17 @@
 -- `seam_cut::find` meets its contract: `judge_find` gives the number, and where it is 0, `seam_along` all else.
 use mathlib.Core.Path.{_≡_, refl, sym, ap, _∙_}
 use mathlib.Core.List.{_++_}
+use Prim.Native.Nat.{_≤_}
 use borrow.Author.Needs.{needs}
 use denote.Ref.{now}
 use lib.ListN.{length, drop}
-use Rattle.pictures.specs.Refusals.{given, refusal}
+use Rattle.pictures.specs.Refusals.{numberOf, given, refusal}
 use Rattle.pictures.specs.Pictures.{picture}
-use Rattle.pictures.proofs.Rules.{refusal-most}
+use Rattle.pictures.proofs.Rules.{kept-by, refusal-most}
 use Rattle.seam_rules.specs.Axes.{turnedSize}
 use Rattle.seam_cut.specs.Axes.{seamAlong, costAlong}
 use Rattle.seam_rules.specs.Cuts.{findRules}
-use Rattle.seam_rules.proofs.Rooms.{left-as-was, work-as-was}
+use Rattle.seam_rules.proofs.Rooms.{work-as-was}
 use Rattle.seam_cut.proofs.find.Statement.{statement}
 use Rattle.seam_cut.proofs.find.Tie as tie
 
@@ -32,20 +33,22 @@ returns c =
     let a = s .args in
     let b = now (a .picture) in
     let why = c .before .fits2 .given in
-    let n = refusal (findRules (a .axis) (a .size) (length b) (length (now (a .seam))) (length (now (a .work)))) in
+    let z = a .size in
+    let x = a .axis in
     let e = sym (ap given (why .1)) ∙ judged .judge-find .ensures in
+    let few : numberOf (why .0 .0) ≤ 8 = rw e (refusal-most 8 (findRules x z (length b) (length (now (a .seam))) (length (now (a .work)))) refl) in
     record {
-      number-is = e;
-      cost-is = left-as-was (why .0 .0) n e (costAlong (a .axis) (a .size) (picture (a .size) b)) 0;
-      seam-is = left-as-was (why .0 .0) n e (seamAlong (a .axis) (a .size) (picture (a .size) b) ++ drop (turnedSize (a .axis) (a .size) .height) (now (a .seam))) (now (a .seam));
-      work-is = work-as-was (why .0 .0) n e (refusal-most 8 (findRules (a .axis) (a .size) (length b) (length (now (a .seam))) (length (now (a .work)))) refl) (now (a .work));
+      number = e;
+      cost = kept-by (why .0 .0) (costAlong (a .method) x z (picture z b)) 0;
+      seam-given = kept-by (why .0 .0) (seamAlong (a .method) x z (picture z b) ++ drop (turnedSize x z .height) (now (a .seam))) (now (a .seam));
+      work-left = work-as-was (why .0 .0) (numberOf (why .0 .0)) refl few (now (a .work));
     }
 
 enum-told : tie.Need-enum-told
 enum-told c = search needs
 
 seam-along-requires : tie.Need-seam-along-requires
-seam-along-requires c κs = none (c .before .before)
+seam-along-requires c κs = record { found = none (c .before .before) }
 
 same-length : tie.Need-same-length
 same-length c = search needs
@@ -54,10 +57,7 @@ same-length-2 : tie.Need-same-length-2
 same-length-2 c = search needs
 
 returns-2 : tie.Need-returns-2
-returns-2 c =
-    let at-seam-along = c .before .before .before .before in
-    let at-enum-told = at-seam-along .before .before .before in
-    rw (none at-enum-told) (at-seam-along .seam-along .ensures)
+returns-2 c = c .before .before .before .before .seam-along .ensures
 
 pub find-spec : {M : Type 1} → statement M
 find-spec =

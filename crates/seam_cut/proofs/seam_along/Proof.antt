@@ -1,6 +1,6 @@
 -- `seam_cut::seam_along` meets its contract: turning is served, and the seam is found in the picture that then stands at the
 -- front of the work space.
-use mathlib.Core.Path.{_≡_, ap, _∙_}
+use mathlib.Core.Path.{_≡_, sym, ap, _∙_}
 use mathlib.Core.List.{_++_}
 use native.Mathlib.Omega.{arith}
 use borrow.Author.Needs.{needs}
@@ -9,7 +9,7 @@ use lib.ListN.{length, take, drop, replicate}
 use Rattle.pictures.specs.Pictures.{pictureBytes, picture, bytes}
 use Rattle.pictures.proofs.Limits.{Sized, sized-is, bytes-few}
 use Rattle.seam_theory.specs.PictureSeams.{seamOf, costOf}
-use Rattle.seam_find.specs.Finding.{FindGiven}
+use Rattle.seam_find.specs.Finding.{FindInGiven}
 use Rattle.seam_rules.specs.Axes.{turnedSize}
 use Rattle.seam_turn.specs.Axes.{turned}
 use Rattle.seam_cut.specs.Axes.{seamAlong, costAlong}
@@ -22,7 +22,7 @@ use Rattle.seam_cut.proofs.seam_along.Statement.{statement}
 use Rattle.seam_cut.proofs.seam_along.Tie as tie
 
 rooms : (c : tie.Start) → FindRoom (c .args .axis) (c .args .size) (length (now (c .args .picture))) (length (now (c .args .seam))) (length (now (c .args .work)))
-rooms c = find-room (c .args .axis) (c .args .size) (length (now (c .args .picture))) (length (now (c .args .seam))) (length (now (c .args .work))) (c .pre)
+rooms c = find-room (c .args .axis) (c .args .size) (length (now (c .args .picture))) (length (now (c .args .seam))) (length (now (c .args .work))) (c .pre .found)
 
 sure : (c : tie.Start) → Sized (c .args .size) (length (now (c .args .picture)))
 sure c = sized-is _ _ (rooms c .sized)
@@ -40,7 +40,7 @@ turned-is c =
 there : (c : tie.After-find-in)
     → let s = c .before .before .before .before .before .before .before .before .before .before .before in
     let a = s .args in
-    FoundThere (c .before .before .before .before .before .turn .last .1 .1 .1 .0) (turnedSize (a .axis) (a .size)) (now (a .seam)) (c .find-in .result) (c .find-in .last .0) (c .find-in .last .1 .1 .0)
+    FoundThere (c .before .before .before .before .before .turn .last .1 .1 .1 .0) (turnedSize (a .axis) (a .size)) (a .method) (now (a .seam)) (c .find-in .result) (c .find-in .last .0) (c .find-in .last .1 .1 .1 .0)
 there c =
     let at-turn = c .before .before .before .before .before in
     let at-turned-size = at-turn .before .before in
@@ -48,8 +48,8 @@ there c =
     let a = start .args in
     let s = sure start in
     let p = rooms start in
-    let found : FindGiven (at-turn .turn .last .1 .1 .1 .0) (at-turned-size .turned-size .result) (now (a .seam)) (c .find-in .result) (c .find-in .last .0) (c .find-in .last .1 .1 .0) = c .find-in .ensures in
-    find-served (at-turn .turn .last .1 .1 .1 .0) (turnedSize (a .axis) (a .size)) (now (a .seam)) (c .find-in .result) (c .find-in .last .0) (c .find-in .last .1 .1 .0)
+    let found : FindInGiven (at-turn .turn .last .1 .1 .1 .0) (at-turned-size .turned-size .result) (a .method) (now (a .seam)) (c .find-in .result) (c .find-in .last .0) (c .find-in .last .1 .1 .1 .0) = c .find-in .ensures in
+    find-served (at-turn .turn .last .1 .1 .1 .0) (turnedSize (a .axis) (a .size)) (a .method) (now (a .seam)) (c .find-in .result) (c .find-in .last .0) (c .find-in .last .1 .1 .1 .0)
     (rw (at-turned-size .turned-size .ensures) at found)
     (turned-sides (a .axis) (a .size) (length (now (a .picture))) s) (p .seam-room)
     (omega (arith, turned-bytes (a .axis) (a .size), turned-pixels (a .axis) (a .size), bytes-few (a .size), p .work-room, at-turn .turn .kept .1 .1 .1 .0))
@@ -92,10 +92,10 @@ returns c =
     let t = turnedSize (a .axis) (a .size) in
     let g = there f in
     record {
-      number-is = g .number;
-      cost-is = g .cost ∙ ap (costOf (t .width) (t .height)) (seen f);
-      seam-is = g .seam-given ∙ ap (λ p. seamOf (t .width) (t .height) p ++ drop (t .height) (now (a .seam))) (seen f);
-      work-is = at-clear .clear .ensures ∙ ap (λ n. replicate n 0) (f .find-in .kept .0 ∙ f .before .before .before .before .before .turn .kept .1 .1 .1 .0);
+      number = g .number ∙ sym (s .pre .found);
+      cost = rw (g .number) (g .cost ∙ ap (costOf (a .method) (t .width) (t .height)) (seen f));
+      seam-given = rw (g .number) (g .seam-given ∙ ap (λ p. seamOf (a .method) (t .width) (t .height) p ++ drop (t .height) (now (a .seam))) (seen f));
+      work-left = rw (g .number) (at-clear .clear .ensures ∙ ap (λ n. replicate n 0) (f .find-in .kept .0 ∙ f .before .before .before .before .before .turn .kept .1 .1 .1 .0));
     }
 
 pub seam-along-spec : {M : Type 1} → statement M

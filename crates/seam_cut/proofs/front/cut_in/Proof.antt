@@ -43,19 +43,19 @@ rooms c =
 there : (c : tie.After-enum-told)
     → let at-find-in = c .before .before .before .before .before .before in
     let s = at-find-in .before .before .before .before .before .before .before in
-    let a = s .args in FoundThere (now (a .space)) (a .size) (now (a .seam)) (at-find-in .find-in .result) (at-find-in .find-in .last .0) (at-find-in .find-in .last .1 .1 .0)
+    let a = s .args in FoundThere (now (a .space)) (a .size) (a .method) (now (a .seam)) (at-find-in .find-in .result) (at-find-in .find-in .last .0) (at-find-in .find-in .last .1 .1 .1 .0)
 there c =
     let at-find-in = c .before .before .before .before .before .before in
     let s = at-find-in .before .before .before .before .before .before .before in
     let a = s .args in
-    find-served (now (a .space)) (a .size) (now (a .seam)) (at-find-in .find-in .result) (at-find-in .find-in .last .0) (at-find-in .find-in .last .1 .1 .0) (at-find-in .find-in .ensures) (rooms c .sides) (rooms c .seam-room) (rooms c .space-room)
+    find-served (now (a .space)) (a .size) (a .method) (now (a .seam)) (at-find-in .find-in .result) (at-find-in .find-in .last .0) (at-find-in .find-in .last .1 .1 .1 .0) (at-find-in .find-in .ensures) (rooms c .sides) (rooms c .seam-room) (rooms c .space-room)
 
 -- the seam found, and that it lies inside the picture
 seam : (c : tie.After-enum-told) → List ℕ
 seam c =
     let s = c .before .before .before .before .before .before .before .before .before .before .before .before .before in
     let z = s .args .size in
-    seamOf (z .width) (z .height) (pictureIn z (now (s .args .space)))
+    seamOf (s .args .method) (z .width) (z .height) (pictureIn z (now (s .args .space)))
 
 inside : (c : tie.After-enum-told)
     → let s = c .before .before .before .before .before .before .before .before .before .before .before .before .before in
@@ -65,18 +65,18 @@ inside c =
     let start = c .before .before .before .before .before .before .before .before .before .before .before .before .before in
     let z = start .args .size in
     let s = sides-are z (rooms c .sides) in
-    seam-inside (z .width) (z .height) (pictureIn z (now (start .args .space))) (s .width-some) (s .height-some)
+    seam-inside (start .args .method) (z .width) (z .height) (pictureIn z (now (start .args .space))) (s .width-some) (s .height-some)
 
 seam-long : (c : tie.After-enum-told)
     → let at-find-in = c .before .before .before .before .before .before in
     let s = at-find-in .before .before .before .before .before .before .before in
-    s .args .size .height ≤ length (at-find-in .find-in .last .1 .1 .0)
-seam-long c = omega (arith, rooms c .seam-room, c .before .before .before .before .before .before .find-in .kept .1 .1 .0)
+    s .args .size .height ≤ length (at-find-in .find-in .last .1 .1 .1 .0)
+seam-long c = omega (arith, rooms c .seam-room, c .before .before .before .before .before .before .find-in .kept .1 .1 .1 .0)
 
 lent-seam : (c : tie.After-enum-told)
     → let at-find-in = c .before .before .before .before .before .before in
     let s = at-find-in .before .before .before .before .before .before .before in
-    take (s .args .size .height) (at-find-in .find-in .last .1 .1 .0) ≡ seam c
+    take (s .args .size .height) (at-find-in .find-in .last .1 .1 .1 .0) ≡ seam c
 unfolding seam
 lent-seam c =
     let s = c .before .before .before .before .before .before .before .before .before .before .before .before .before in
@@ -146,20 +146,18 @@ returns c =
     let space = now (a .space) in
     let seam = now (a .seam) in
     let p = pictureIn z space in
-    let rules = findInRules z (length space) (length seam) in
     let g = at-last-in .last-in .ensures in
     let narrow : eqb (a .size .width) 1 ≡ true = sym (at-if1 .before .takes-last .ensures) ∙ at-if1 .if1 .taken in
-    let n = refusal (findInRules z (length space) (length seam) ++ (13 when true ∷ [])) in
-    let some = last-some z (length space) (length seam) in
+    let n = foundNumber (at-last-in .last-in .result) in
+    let some : 0 < foundNumber (at-last-in .last-in .result) = rw (g .number) (last-some z (length space) (length seam)) in
     let rest = replicate (pixels z) 0 ++ drop (pictureBytes z + pixels z) space in
-    let closed = bytes (cut (seamOf (z .width) (z .height) p) p) ++ replicate (z .height * channelsOf (z .kind)) 0 in
-    rw narrow
-    (record {
-      number-is = g .number-is;
-      cost-is = g .cost-is ∙ sym (served-not n (costOf (z .width) (z .height) p) 0 some);
-      space-is = g .space-is ∙ ap₂ (λ k front. worked k (front ++ rest) space) (g .number-is) (sym (served-not n closed (take (pictureBytes z) space) some));
-      seam-is = sym (served-not n (seamOf (z .width) (z .height) p ++ drop (z .height) seam) seam some);
-    })
+    let closed = bytes (cut (seamOf (a .method) (z .width) (z .height) p) p) ++ replicate (z .height * channelsOf (z .kind)) 0 in
+    record {
+      number = rw narrow (g .number);
+      cost = g .cost ∙ sym (served-not n (costOf (a .method) (z .width) (z .height) p) 0 some);
+      space-left = g .space-left ∙ ap (λ front. worked n (front ++ rest) space) (sym (served-not n closed (take (pictureBytes z) space) some));
+      seam-given = sym (served-not n (seamOf (a .method) (z .width) (z .height) p ++ drop (z .height) seam) seam some);
+    }
 
 find-in-requires : tie.Need-find-in-requires
 find-in-requires c κs = search needs
@@ -188,23 +186,19 @@ returns-2 c =
     let rules = findInRules z (length space) (length room) in
     let f = at-find-in .find-in in
     let why = c .enum-told2 .given in
-    let m = refusal (findInRules z (length space) (length room)) in
-    let n = refusal (findInRules z (length space) (length room) ++ (13 when eqb (z .width) 1 ∷ [])) in
-    let told : numberOf (why .0 .0) ≡ refusal (findInRules z (length space) (length room)) = sym (ap foundNumber (why .1)) ∙ f .ensures .number in
-    let some : 0 < refusal (findInRules z (length space) (length room)) = omega (arith, number-some (why .0 .0), told) in
-    let e : refusal (findInRules z (length space) (length room) ++ (13 when eqb (z .width) 1 ∷ [])) ≡ refusal (findInRules z (length space) (length room)) = refused-first rules (13 when eqb (z .width) 1 ∷ []) some in
+    let n = foundNumber (f .result) in
+    let some : 0 < foundNumber (f .result) = rw (ap foundNumber (why .1)) (number-some (why .0 .0)) in
     let left = take (pictureBytes z) space ++ (replicate (pixels z) 0 ++ drop (pictureBytes z + pixels z) space) in
-    let number : foundNumber (f .result) ≡ refusal (findInRules z (length space) (length room)) = f .ensures .number in
-    rw e
-    (record {
-      number-is = f .ensures .number;
-      cost-is = ap foundCost (why .1) ∙ sym (served-not m (costOf (z .width) (z .height) p) 0 some);
-      space-is =
-          f .ensures .space-left ∙ ap (λ k. served k left space) number ∙ served-not m left space some
-          ∙ sym (worked-not m (served m (bytes (cut (seamOf (z .width) (z .height) p) p) ++ replicate (z .height * channelsOf (z .kind)) 0) (take (pictureBytes z) space) ++ (replicate (pixels z) 0 ++ drop (pictureBytes z + pixels z) space)) space some (refusal-most 8 rules refl));
-      seam-is =
-          f .ensures .seam-given ∙ ap (λ k. served k (seamOf (z .width) (z .height) p ++ drop (z .height) room) room) number;
-    })
+    let closed = bytes (cut (seamOf (a .method) (z .width) (z .height) p) p) ++ replicate (z .height * channelsOf (z .kind)) 0 in
+    let cut-left = served n closed (take (pictureBytes z) space) ++ (replicate (pixels z) 0 ++ drop (pictureBytes z + pixels z) space) in
+    record {
+      number = f .ensures .number ∙ sym (refused-first rules (13 when eqb (z .width) 1 ∷ []) (rw (f .ensures .number) at some));
+      cost = f .ensures .cost;
+      space-left =
+          f .ensures .space-left ∙ served-not n left space some
+          ∙ sym (worked-not n cut-left space some (rw (f .ensures .number) (refusal-most 8 rules refl)));
+      seam-given = f .ensures .seam-given;
+    }
 
 picture-bytes-requires : tie.Need-picture-bytes-requires
 picture-bytes-requires c κs = search needs
@@ -226,7 +220,7 @@ slice-aggregate-close-up-2 c =
     let at-enum-told = c .before .before .before in
     let at-find-in = at-enum-told .before .before .before .before .before .before in
     let s = at-find-in .before .before .before .before .before .before .before in
-    sym (length-take-le (s .args .size .height) (at-find-in .find-in .last .1 .1 .0) (seam-long at-enum-told))
+    sym (length-take-le (s .args .size .height) (at-find-in .find-in .last .1 .1 .1 .0) (seam-long at-enum-told))
 
 close-up-requires : tie.Need-close-up-requires
 close-up-requires c κs = search needs
@@ -259,13 +253,12 @@ returns-3 c =
     let k = at-close-up .close-up in
     let back : CloseGiven (take (pictureBytes z) space) z (seam told) (k .result) (k .last .0) = rw (lent-front at, lent-seam told) at (k .ensures) in
     let closed = close-served (take (pictureBytes z) space) z (seam told) (k .last .0) (k .result) back (rw (front-long at) (sized-served z (rooms told .sides))) (inside told) wide in
-    rw none
-    (record {
-      number-is = there told .number;
-      cost-is = there told .cost;
-      space-is = ap₂ _++_ closed (left-after at);
-      seam-is = there told .seam-given;
-    })
+    record {
+      number = there told .number ∙ sym none;
+      cost = f .ensures .cost;
+      space-left = rw (there told .number) (ap₂ _++_ closed (left-after at));
+      seam-given = f .ensures .seam-given;
+    }
 
 pub cut-in-spec : {M : Type 1} → statement M
 cut-in-spec =

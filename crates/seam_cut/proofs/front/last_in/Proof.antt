@@ -76,9 +76,9 @@ returns c =
     let n : foundNumber (f .find-in .result) ≡ numberOf (why .0 .0) = ap foundNumber (why .1) in
     let some : 0 < refusal (findInRules (a .size) (length (now (a .space))) (a .room)) = omega (arith, number-some (why .0 .0), n, number-is f) in
     record {
-      number-is = number-is f ∙ sym (refused-first rules (13 when true ∷ []) some);
-      cost-is = ap foundCost (why .1);
-      space-is =
+      number = number-is f ∙ sym (refused-first rules (13 when true ∷ []) some);
+      cost = ap foundCost (why .1);
+      space-left =
           f .find-in .ensures .space-left
           ∙ served-not (foundNumber (f .find-in .result)) left space (omega (arith, number-is f, some))
           ∙ sym (worked-not (foundNumber (f .find-in .result)) left space (omega (arith, number-is f, some)) (omega (arith, number-is f, refusal-most 8 rules refl)));
@@ -95,9 +95,9 @@ returns-2 c =
     let seam = c .enum-told .given in
     let none : foundNumber (f .find-in .result) ≡ 0 = ap foundNumber (seam .1) in
     record {
-      number-is = sym (served-first (findInRules (a .size) (length (now (a .space))) (a .room)) (13 when true ∷ []) refl (sym (number-is f) ∙ none));
-      cost-is = refl;
-      space-is = rw none at (f .find-in .ensures .space-left);
+      number = sym (served-first (findInRules (a .size) (length (now (a .space))) (a .room)) (13 when true ∷ []) refl (sym (number-is f) ∙ none));
+      cost = refl;
+      space-left = rw none at (f .find-in .ensures .space-left);
     }
 
 pub last-in-spec : {M : Type 1} → statement M
