@@ -55,10 +55,10 @@ module _ (t : Bool) (answer : Found) (n : foundNumber answer ≡ cond t 12 0) wh
       blocked false z = absurd (omega (arith, number-some why))
 
 -- At the last column or row nothing is given but the number, and the work space is zero.
-pub last-kept : {A : Type 0} (t : Bool) (x y : A) → y ≡ served (cond t 12 13) x y
-last-kept true x y = refl
-last-kept false x y = refl
+pub last-kept : {A : Type 0} (t : Bool) (n : ℕ) → n ≡ cond t 12 13 → (x y : A) → y ≡ served n x y
+last-kept true n e x y = rw e
+last-kept false n e x y = rw e
 
-pub last-cleared : (t : Bool) (work : List ℕ) → replicate (length work) 0 ≡ cleared (cond t 12 13) work
-last-cleared true work = refl
-last-cleared false work = refl
+pub last-cleared : (t : Bool) (n : ℕ) → n ≡ cond t 12 13 → (work : List ℕ) → replicate (length work) 0 ≡ cleared n work
+last-cleared true n e work = rw e
+last-cleared false n e work = rw e

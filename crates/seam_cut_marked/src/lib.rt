@@ -1,4 +1,5 @@
 // Seams by marks: finding and cutting, along either axis. Marks are turned and closed up as a grey picture is.
+use energy::Method;
 use pictures::LARGEST_SIDE;
 use pictures::Refusal;
 use pictures::Size;
@@ -6,15 +7,14 @@ use pictures::Verdict;
 use seam_rules::Axis;
 use seam_rules::Found;
 ghost use mathlib.Core.Path.{_≡_};
-ghost use mathlib.Core.Bool.{false};
 ghost use mathlib.Core.List.{_++_};
 ghost use lib.ListN.{length, replicate};
 ghost use Rattle.pictures.specs.Refusals.{given, refusal};
 ghost use Rattle.pictures.specs.Pictures.{largestSide, sizeRules};
 ghost use Rattle.seam_bounds.specs.Moves.{outside};
-ghost use Rattle.seam_rules.specs.Cuts.{roomRules, lastAlong};
-ghost use Rattle.seam_cut_marked.specs.Marking.{markRules, markedFindRules, markedCutRules, MarkedSeamFound, MarkedPictureCut, MarkedMarksCut};
-ghost use Rattle.seam_cut_marked.specs.Inner.{blockedNumber, MarkedNeeded, LastGiven};
+ghost use Rattle.seam_rules.specs.Cuts.{roomRules};
+ghost use Rattle.seam_cut_marked.specs.Marking.{markRules, FindMarkedGiven, CutMarkedGiven};
+ghost use Rattle.seam_cut_marked.specs.Inner.{MarkedNeeded, MarkedAlongGiven, CutMarkedNeeded, CutAlongGiven, LastGiven};
 
 // The seam along the axis by the marks, put into the front of seam, and its cost. Refused by 2, 3, 4, 5 and 8, and by 12
 // where every seam meets a protected pixel.
@@ -22,17 +22,18 @@ pub fn find_marked(
     picture: &[u8],
     marks: &[u8],
     size: Size,
+    method: Method,
     axis: Axis,
     seam: &mut [u16],
     work: &mut [u8],
 ) -> Found
-    ensures { λ f. ⌜ MarkedSeamFound (now (picture .entry)) (now (marks .entry)) size axis (now (seam .entry)) (now (work .entry)) (refusal (markedFindRules axis size (now (picture .entry)) (now (marks .entry)) (length (now (seam .entry))) (length (now (work .entry))))) f (now (seam .exit)) (now (work .exit)) ⌝ }
+    ensures { λ f. ⌜ FindMarkedGiven (now (picture .entry)) (now (marks .entry)) size method axis (now (seam .entry)) (now (work .entry)) f (now (seam .exit)) (now (work .exit)) ⌝ }
 {
     let fits = judge_marked(picture.len(), marks, size, axis, seam.len(), work.len());
     if let Verdict::Refused(why) = fits {
         return Found::Refused(why);
     }
-    marked_along(picture, marks, size, axis, seam, work)
+    marked_along(picture, marks, size, method, axis, seam, work)
 }
 
 // Cuts that seam out of the picture and the marks and gives it as `find_marked` does. What is left lies packed at the
@@ -41,22 +42,21 @@ pub fn cut_marked(
     picture: &mut [u8],
     marks: &mut [u8],
     size: Size,
+    method: Method,
     axis: Axis,
     seam: &mut [u16],
     work: &mut [u8],
 ) -> Found
-    ensures { λ f. ⌜ MarkedSeamFound (now (picture .entry)) (now (marks .entry)) size axis (now (seam .entry)) (now (work .entry)) (refusal (markedCutRules axis size (now (picture .entry)) (now (marks .entry)) (length (now (seam .entry))) (length (now (work .entry))))) f (now (seam .exit)) (now (work .exit)) ⌝ }
-    ensures { λ f. ⌜ MarkedPictureCut (now (picture .entry)) (now (marks .entry)) size axis (refusal (markedCutRules axis size (now (picture .entry)) (now (marks .entry)) (length (now (seam .entry))) (length (now (work .entry))))) (now (picture .exit)) ⌝ }
-    ensures { λ f. ⌜ MarkedMarksCut (now (picture .entry)) (now (marks .entry)) size axis (refusal (markedCutRules axis size (now (picture .entry)) (now (marks .entry)) (length (now (seam .entry))) (length (now (work .entry))))) (now (marks .exit)) ⌝ }
+    ensures { λ f. ⌜ CutMarkedGiven (now (picture .entry)) (now (marks .entry)) size method axis (now (seam .entry)) (now (work .entry)) f (now (picture .exit)) (now (marks .exit)) (now (seam .exit)) (now (work .exit)) ⌝ }
 {
     let fits = judge_marked(picture.len(), marks, size, axis, seam.len(), work.len());
     if let Verdict::Refused(why) = fits {
         return Found::Refused(why);
     }
     if seam_rules::takes_last(axis, size) {
-        return last_marked(picture, marks, size, axis, work);
+        return last_marked(picture, marks, size, method, axis, work);
     }
-    cut_marked_along(picture, marks, size, axis, seam, work)
+    cut_marked_along(picture, marks, size, method, axis, seam, work)
 }
 
 // Which of 2, 3, 4, 5 and 8 refuses these marks and buffers of these lengths, or none.
@@ -99,30 +99,38 @@ fn marked_along(
     picture: &[u8],
     marks: &[u8],
     size: Size,
+    method: Method,
     axis: Axis,
     seam: &mut [u16],
     work: &mut [u8],
 ) -> Found
     requires { ⌜ MarkedNeeded (now picture) (now marks) size axis (now seam) (now work) ⌝ }
-    ensures { λ f. ⌜ MarkedSeamFound (now (picture .entry)) (now (marks .entry)) size axis (now (seam .entry)) (now (work .entry)) (blockedNumber axis size (now (picture .entry)) (now (marks .entry))) f (now (seam .exit)) (now (work .exit)) ⌝ }
+    ensures { λ f. ⌜ MarkedAlongGiven (now (picture .entry)) (now (marks .entry)) size method axis (now (seam .entry)) (now (work .entry)) f (now (seam .exit)) (now (work .exit)) ⌝ }
 {
     let bytes = picture.len();
     let turned = seam_rules::turned_size(axis, size);
     let marked = seam_rules::grey(size);
     seam_turn::turn(picture, size, axis, work);
     seam_turn::turn(marks, marked, axis, &mut work[bytes..]);
-    let found = seam_find_marked::find_marked_in(work, turned, seam);
+    let found = seam_find_marked::find_marked_in(work, turned, method, seam);
     pictures::clear(work);
     found
 }
 
 // 12 or 13 at the last column or row: the seam itself isn't given.
-fn last_marked(picture: &[u8], marks: &[u8], size: Size, axis: Axis, work: &mut [u8]) -> Found
+fn last_marked(
+    picture: &[u8],
+    marks: &[u8],
+    size: Size,
+    method: Method,
+    axis: Axis,
+    work: &mut [u8],
+) -> Found
     requires { ⌜ MarkedNeeded (now picture) (now marks) size axis (replicate largestSide 0) (now work) ⌝ }
-    ensures { λ f. ⌜ LastGiven (now (picture .entry)) (now (marks .entry)) size axis (now (work .entry)) f (now (work .exit)) ⌝ }
+    ensures { λ f. ⌜ LastGiven (now (picture .entry)) (now (marks .entry)) size method axis (now (work .entry)) f (now (work .exit)) ⌝ }
 {
     let mut spare = [0u16; LARGEST_SIDE];
-    let found = marked_along(picture, marks, size, axis, &mut spare, work);
+    let found = marked_along(picture, marks, size, method, axis, &mut spare, work);
     let Found::Seam(_) = found else {
         return found;
     };
@@ -134,20 +142,18 @@ fn cut_marked_along(
     picture: &mut [u8],
     marks: &mut [u8],
     size: Size,
+    method: Method,
     axis: Axis,
     seam: &mut [u16],
     work: &mut [u8],
 ) -> Found
-    requires { ⌜ MarkedNeeded (now picture) (now marks) size axis (now seam) (now work) ⌝ }
-    requires { ⌜ lastAlong axis size ≡ false ⌝ }
-    ensures { λ f. ⌜ MarkedSeamFound (now (picture .entry)) (now (marks .entry)) size axis (now (seam .entry)) (now (work .entry)) (blockedNumber axis size (now (picture .entry)) (now (marks .entry))) f (now (seam .exit)) (now (work .exit)) ⌝ }
-    ensures { λ f. ⌜ MarkedPictureCut (now (picture .entry)) (now (marks .entry)) size axis (blockedNumber axis size (now (picture .entry)) (now (marks .entry))) (now (picture .exit)) ⌝ }
-    ensures { λ f. ⌜ MarkedMarksCut (now (picture .entry)) (now (marks .entry)) size axis (blockedNumber axis size (now (picture .entry)) (now (marks .entry))) (now (marks .exit)) ⌝ }
+    requires { ⌜ CutMarkedNeeded (now picture) (now marks) size axis (now seam) (now work) ⌝ }
+    ensures { λ f. ⌜ CutAlongGiven (now (picture .entry)) (now (marks .entry)) size method axis (now (seam .entry)) (now (work .entry)) f (now (picture .exit)) (now (marks .exit)) (now (seam .exit)) (now (work .exit)) ⌝ }
 {
     let turned = seam_rules::turned_size(axis, size);
     let long = turned.height;
     let marked = seam_rules::grey(size);
-    let found = marked_along(picture, marks, size, axis, seam, work);
+    let found = marked_along(picture, marks, size, method, axis, seam, work);
     let Found::Seam(_) = found else {
         return found;
     };

@@ -3,24 +3,24 @@
 use mathlib.Core.Path.{_≡_, refl, sym, ap, _∙_}
 use mathlib.Core.Bool.{Bool, true, false, cond}
 use mathlib.Core.List.{List, _∷_, _++_}
-use Prim.Native.Nat.{_*_}
-use native.Mathlib.Omega.{arith}
+use Prim.Native.Nat.{_≤_}
 use borrow.Author.Needs.{needs}
 use denote.Ref.{now}
 use lib.ListN.{length, drop, replicate}
-use Rattle.grids.specs.Rows.{flat}
-use Rattle.pictures.specs.Refusals.{_when_, Rule, given, refusal}
-use Rattle.pictures.specs.Pictures.{channelsOf, sizeRules, picture, bytes, marksOf}
-use Rattle.pictures.proofs.Rules.{served-first, refused-answer, refusal-most}
+use Rattle.pictures.specs.Refusals.{_when_, Rule, numberOf, given, refusal}
+use Rattle.pictures.specs.Pictures.{sizeRules, picture, marksOf}
+use Rattle.pictures.proofs.Rules.{served-first, refused-answer, kept-by, refusal-most}
 use Rattle.pictures.proofs.Limits.{sized-is}
 use Rattle.seam_rules.specs.Axes.{turnedSize}
 use Rattle.seam_cut_marked.specs.Axes.{markedSeamAlong, markedCostAlong, blockedAlong}
-use Rattle.seam_turn.specs.Axes.{cutAlong}
+use Rattle.seam_rules.specs.Answers.{foundNumber}
+use Rattle.seam_cut.specs.Cutting.{closedAlong}
 use Rattle.seam_rules.specs.Cuts.{roomRules, lastAlong, lastRules}
-use Rattle.seam_cut_marked.specs.Marking.{markRules}
+use Rattle.seam_cut_marked.specs.Marking.{markRules, closedMarks}
 use Rattle.seam_cut_marked.specs.Inner.{MarkedNeeded}
 use Rattle.seam_cut_marked.proofs.Buffers.{marked-needed, last-kept, last-cleared}
-use Rattle.seam_rules.proofs.Rooms.{left-as-was, work-as-was}
+use Rattle.seam_rules.proofs.Rooms.{work-as-was}
+use Rattle.seam_find.proofs.Worked.{worked-or}
 use Rattle.seam_rules.proofs.Turns.{turned-tall}
 use Rattle.seam_cut_marked.proofs.cut_marked.Statement.{statement}
 use Rattle.seam_cut_marked.proofs.cut_marked.Tie as tie
@@ -34,7 +34,7 @@ first c =
 blocked : tie.Start → Bool
 blocked c =
     let a = c .args in
-    blockedAlong (a .axis) (a .size) (picture (a .size) (now (a .picture))) (marksOf (a .size) (now (a .marks)))
+    blockedAlong (a .method) (a .axis) (a .size) (picture (a .size) (now (a .picture))) (marksOf (a .size) (now (a .marks)))
 
 last : tie.Start → List Rule
 last c = 12 when blocked c ∷ lastRules (c .args .axis) (c .args .size)
@@ -81,27 +81,18 @@ returns c =
     let z = a .size in
     let p = picture z (now (a .picture)) in
     let m = marksOf z (now (a .marks)) in
-    let h = turnedSize x z .height in
+    let seam = markedSeamAlong (a .method) x z p m in
     let why = c .before .fits2 .given in
     let told = judged .judge-marked in
-    let n = refusal (first s ++ last s) in
-    let e = sym (ap given (why .1)) ∙ refused-answer (told .result) (why .0 .0) (why .1) (first s) (last s) (told .ensures) in
-    let few = refusal-most 8 (first s) refl in (
-      record {
-        number-is = e;
-        cost-is = left-as-was (why .0 .0) n e (markedCostAlong x z p m) 0;
-        seam-is = left-as-was (why .0 .0) n e (markedSeamAlong x z p m ++ drop h (now (a .seam))) (now (a .seam));
-        work-is = work-as-was (why .0 .0) n e (omega (arith, few, sym (ap given (why .1)) ∙ told .ensures)) (now (a .work));
-      },
-      (
-        record {
-          picture-is = left-as-was (why .0 .0) n e (bytes (cutAlong x z (markedSeamAlong x z p m) p) ++ replicate (h * channelsOf (z .kind)) 0) (now (a .picture));
-        },
-        record {
-          marks-are = left-as-was (why .0 .0) n e (flat (cutAlong x z (markedSeamAlong x z p m) m) ++ replicate h 0) (now (a .marks));
-        },
-      ),
-    )
+    let few : numberOf (why .0 .0) ≤ 8 = rw (sym (ap given (why .1)) ∙ told .ensures) (refusal-most 8 (first s) refl) in
+    record {
+      number = sym (ap given (why .1)) ∙ refused-answer (told .result) (why .0 .0) (why .1) (first s) (last s) (told .ensures);
+      cost = kept-by (why .0 .0) (markedCostAlong (a .method) x z p m) 0;
+      picture-left = kept-by (why .0 .0) (closedAlong x z seam (now (a .picture))) (now (a .picture));
+      marks-left = kept-by (why .0 .0) (closedMarks x z seam (now (a .marks))) (now (a .marks));
+      seam-given = kept-by (why .0 .0) (seam ++ drop (turnedSize x z .height) (now (a .seam))) (now (a .seam));
+      work-left = work-as-was (why .0 .0) (numberOf (why .0 .0)) refl few (now (a .work));
+    }
 
 enum-told : tie.Need-enum-told
 enum-told c = search needs
@@ -144,30 +135,25 @@ returns-2 c =
     let z = a .size in
     let p = picture z (now (a .picture)) in
     let m = marksOf z (now (a .marks)) in
-    let h = turnedSize x z .height in
-    let t = blocked s in
+    let seam = markedSeamAlong (a .method) x z p m in
     let g = at-last-marked .last-marked .ensures in
+    let k = foundNumber (at-last-marked .last-marked .result) in
     let narrow : lastAlong (a .axis) (a .size) ≡ true = sym (at-takes-last .takes-last .ensures) ∙ at-if1 .if1 .taken in
-    let e : refusal (first s ++ last s) ≡ cond (blocked s) 12 13 = rest at-enum-told ∙ ap (λ t. cond (blocked s) 12 (cond t 13 0)) narrow in
-    rw e (
-      record {
-        number-is = g .number-is;
-        cost-is = g .cost-is ∙ last-kept t (markedCostAlong x z p m) 0;
-        seam-is = last-kept t (markedSeamAlong x z p m ++ drop h (now (a .seam))) (now (a .seam));
-        work-is = g .work-is ∙ last-cleared t (now (a .work));
-      },
-      (
-        record { picture-is = last-kept t (bytes (cutAlong x z (markedSeamAlong x z p m) p) ++ replicate (h * channelsOf (z .kind)) 0) (now (a .picture)) },
-        record { marks-are = last-kept t (flat (cutAlong x z (markedSeamAlong x z p m) m) ++ replicate h 0) (now (a .marks)) },
-      ),
-    )
+    record {
+      number = g .number ∙ sym (rest at-enum-told ∙ ap (λ t. cond (blocked s) 12 (cond t 13 0)) narrow);
+      cost = g .cost ∙ last-kept (blocked s) k (g .number) (markedCostAlong (a .method) x z p m) 0;
+      picture-left = last-kept (blocked s) k (g .number) (closedAlong x z seam (now (a .picture))) (now (a .picture));
+      marks-left = last-kept (blocked s) k (g .number) (closedMarks x z seam (now (a .marks))) (now (a .marks));
+      seam-given = last-kept (blocked s) k (g .number) (seam ++ drop (turnedSize x z .height) (now (a .seam))) (now (a .seam));
+      work-left = g .work-left ∙ last-cleared (blocked s) k (g .number) (now (a .work));
+    }
 
 cut-marked-along-requires : tie.Need-cut-marked-along-requires
 cut-marked-along-requires c κs =
     let at-if1 = c .before .before .before .before in
     let at-takes-last = at-if1 .before in
     let at-enum-told = at-takes-last .before in
-    (needed at-enum-told, sym (at-takes-last .takes-last .ensures) ∙ at-if1 .if1 .left)
+    record { found = needed at-enum-told; more = sym (at-takes-last .takes-last .ensures) ∙ at-if1 .if1 .left }
 
 same-length-5 : tie.Need-same-length-5
 same-length-5 c = search needs
@@ -190,8 +176,16 @@ returns-3 c =
     let at-enum-told = at-takes-last .before in
     let s = at-enum-told .before .before .before .before .before .before .before .before in
     let some : lastAlong (s .args .axis) (s .args .size) ≡ false = sym (at-takes-last .takes-last .ensures) ∙ at-if1 .if1 .left in
-    let e : refusal (first s ++ last s) ≡ cond (blocked s) 12 0 = rest at-enum-told ∙ ap (λ t. cond (blocked s) 12 (cond t 13 0)) some in
-    rw e (at-cut-marked-along .cut-marked-along .ensures)
+    let work = now (s .args .work) in
+    let g = at-cut-marked-along .cut-marked-along .ensures in
+    record {
+      number = g .found .number ∙ sym (rest at-enum-told ∙ ap (λ t. cond (blocked s) 12 (cond t 13 0)) some);
+      cost = g .found .cost;
+      picture-left = g .picture-left;
+      marks-left = g .marks-left;
+      seam-given = g .found .seam-given;
+      work-left = g .found .work-left ∙ sym (worked-or _ (replicate (length work) 0) work (blocked s) (g .found .number));
+    }
 
 pub cut-marked-spec : {M : Type 1} → statement M
 cut-marked-spec =

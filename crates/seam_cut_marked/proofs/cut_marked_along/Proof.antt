@@ -14,35 +14,37 @@ use lib.Seq.{take-at, length-take-le}
 use Rattle.grids.specs.Each.{Each}
 use Rattle.grids.specs.Rows.{flat}
 use Rattle.grids.proofs.Shapes.{each-length}
-use Rattle.pictures.specs.Refusals.{served}
+use Rattle.pictures.specs.Refusals.{numberOf}
 use Rattle.pictures.specs.Pictures.{channelsOf, picture, bytes, marksOf}
 use Rattle.pictures.proofs.Limits.{Sized, sized-is}
-use Rattle.seam_find.proofs.Worked.{worked-or}
+use Rattle.pictures.proofs.Rules.{kept-by}
+use Rattle.seam_rules.specs.Answers.{foundNumber}
 use Rattle.seam_rules.specs.Axes.{turnedSize, greyOf}
 use Rattle.seam_cut_marked.specs.Axes.{markedSeamAlong, markedCostAlong, blockedAlong}
 use Rattle.seam_turn.specs.Axes.{cutAlong}
-use Rattle.seam_cut.specs.Cutting.{SeamGiven}
+use Rattle.seam_cut.specs.Cutting.{closedAlong}
+use Rattle.seam_cut_marked.specs.Marking.{closedMarks}
 use Rattle.seam_turn.specs.Turning.{CloseAlongGiven}
 use Rattle.seam_turn.proofs.Served.{Closed, close-served}
-use Rattle.seam_cut_marked.proofs.Buffers.{seam-free, refused-blocked}
+use Rattle.seam_cut_marked.proofs.Buffers.{seam-free}
 use Rattle.seam_cut_marked.proofs.Marked.{marked-inside}
 use Rattle.seam_cut_marked.proofs.Marks.{grey-bytes, grey-sized, wide-grey, tall-grey, marks-cut}
 use Rattle.seam_cut_marked.proofs.cut_marked_along.Statement.{statement}
 use Rattle.seam_cut_marked.proofs.cut_marked_along.Tie as tie
 
 sure : (c : tie.Start) → Sized (c .args .size) (length (now (c .args .picture)))
-sure c = sized-is _ _ (c .pre .0 .sized)
+sure c = sized-is _ _ (c .pre .found .sized)
 
 -- whether every seam meets a protected pixel, and the seam where not
 blocked : tie.Start → Bool
 blocked c =
     let a = c .args in
-    blockedAlong (a .axis) (a .size) (picture (a .size) (now (a .picture))) (marksOf (a .size) (now (a .marks)))
+    blockedAlong (a .method) (a .axis) (a .size) (picture (a .size) (now (a .picture))) (marksOf (a .size) (now (a .marks)))
 
 seam : tie.Start → List ℕ
 seam c =
     let a = c .args in
-    markedSeamAlong (a .axis) (a .size) (picture (a .size) (now (a .picture))) (marksOf (a .size) (now (a .marks)))
+    markedSeamAlong (a .method) (a .axis) (a .size) (picture (a .size) (now (a .picture))) (marksOf (a .size) (now (a .marks)))
 
 free : (c : tie.After-enum-told)
     → let s = c .before .before .before .before .before .before .before .before .before .before .before .before .before .before .before .before .before in
@@ -53,7 +55,7 @@ free c =
     let s = at-marked-along .before .before .before .before .before .before .before .before .before .before .before in
     let f = at-marked-along .marked-along in
     let told = c .enum-told .given in
-    seam-free (blocked s) (f .result) (f .ensures .number-is) (told .0 .0) (told .1)
+    seam-free (blocked s) (f .result) (f .ensures .number) (told .0 .0) (told .1)
 
 inside : (c : tie.After-enum-told)
     → let s = c .before .before .before .before .before .before .before .before .before .before .before .before .before .before .before .before .before in
@@ -62,36 +64,35 @@ unfolding seam blocked
 inside c =
     let s = c .before .before .before .before .before .before .before .before .before .before .before .before .before .before .before .before .before in
     let a = s .args in
-    marked-inside (a .axis) (a .size) (picture (a .size) (now (a .picture))) (marksOf (a .size) (now (a .marks))) (free c)
+    marked-inside (a .method) (a .axis) (a .size) (picture (a .size) (now (a .picture))) (marksOf (a .size) (now (a .marks))) (free c)
+
+found-there : (c : tie.After-enum-told) → foundNumber (c .before .before .before .before .before .before .marked-along .result) ≡ 0
+found-there c = ap foundNumber (c .enum-told .given .1)
 
 -- the seam's space and the work space when it was found
 seam-room : (c : tie.After-marked-along)
     → let s = c .before .before .before .before .before .before .before .before .before .before .before in
-    turnedSize (s .args .axis) (s .args .size) .height ≤ length (c .marked-along .last .1 .1 .1 .1 .0)
+    turnedSize (s .args .axis) (s .args .size) .height ≤ length (c .marked-along .last .1 .1 .1 .1 .1 .0)
 seam-room c =
     let s = c .before .before .before .before .before .before .before .before .before .before .before in
-    omega (arith, s .pre .0 .seam-room, c .marked-along .kept .1 .1 .1 .1 .0)
+    omega (arith, s .pre .found .seam-room, c .marked-along .kept .1 .1 .1 .1 .1 .0)
 
 zero : (c : tie.After-marked-along)
     → let s = c .before .before .before .before .before .before .before .before .before .before .before in
-    c .marked-along .last .1 .1 .1 .1 .1 .0 ≡ replicate (length (now (s .args .work))) 0
-unfolding blocked
-zero c =
-    let s = c .before .before .before .before .before .before .before .before .before .before .before in
-    let work = now (s .args .work) in
-    c .marked-along .ensures .work-is ∙ worked-or (cond (blocked s) 12 0) (replicate (length work) 0) work (blocked s) refl
+    c .marked-along .last .1 .1 .1 .1 .1 .1 .0 ≡ replicate (length (now (s .args .work))) 0
+zero c = c .marked-along .ensures .work-left
 
 work-long : (c : tie.After-marked-along)
     → let s = c .before .before .before .before .before .before .before .before .before .before .before in
-    length (c .marked-along .last .1 .1 .1 .1 .1 .0) ≡ length (now (s .args .work))
-work-long c = c .marked-along .kept .1 .1 .1 .1 .1 .0
+    length (c .marked-along .last .1 .1 .1 .1 .1 .1 .0) ≡ length (now (s .args .work))
+work-long c = c .marked-along .kept .1 .1 .1 .1 .1 .1 .0
 
 -- what is lent on of the seam's space is the seam
 lent : (c : tie.After-enum-told)
     → let at-marked-along = c .before .before .before .before .before .before in
     let at-turned-size = at-marked-along .before .before .before .before .before .before in
     let s = at-turned-size .before .before .before .before .before in
-    take (at-turned-size .turned-size .result .height) (at-marked-along .marked-along .last .1 .1 .1 .1 .0) ≡ seam s
+    take (at-turned-size .turned-size .result .height) (at-marked-along .marked-along .last .1 .1 .1 .1 .1 .0) ≡ seam s
 unfolding seam blocked
 lent c =
     let at-marked-along = c .before .before .before .before .before .before in
@@ -100,9 +101,8 @@ lent c =
     let a = s .args in
     let f = at-marked-along .marked-along in
     let h = turnedSize (a .axis) (a .size) .height in
-    let found : SeamGiven (turnedSize (a .axis) (a .size) .height) (seam s) (markedCostAlong (a .axis) (a .size) (picture (a .size) (now (a .picture))) (marksOf (a .size) (now (a .marks)))) (now (a .seam)) (now (a .work)) 0 (f .result) (f .last .1 .1 .1 .1 .0) (f .last .1 .1 .1 .1 .1 .0) = rw (free c) at (f .ensures) in
-    ap (λ t. take (t .height) (f .last .1 .1 .1 .1 .0)) (at-turned-size .turned-size .ensures)
-    ∙ ap (take h) (found .seam-is) ∙ take-at (seam s) (drop h (now (a .seam))) h (each-length (inside c))
+    ap (λ t. take (t .height) (f .last .1 .1 .1 .1 .1 .0)) (at-turned-size .turned-size .ensures)
+    ∙ ap (take h) (rw (found-there c) at (f .ensures .seam-given)) ∙ take-at (seam s) (drop h (now (a .seam))) h (each-length (inside c))
 
 -- the work space after the picture was closed up
 closed-long : (c : tie.After-close)
@@ -118,7 +118,7 @@ picture-closed : (c : tie.After-close)
     let at-turned-size = f .before .before .before .before .before .before in
     let s = at-turned-size .before .before .before .before .before in
     let a = s .args in
-    Closed (now (a .picture)) (a .size) (a .axis) (take (at-turned-size .turned-size .result .height) (f .marked-along .last .1 .1 .1 .1 .0)) (f .marked-along .last .1 .1 .1 .1 .1 .0) (c .close .last .0) (c .close .last .1 .1 .1 .1 .0)
+    Closed (now (a .picture)) (a .size) (a .axis) (take (at-turned-size .turned-size .result .height) (f .marked-along .last .1 .1 .1 .1 .1 .0)) (f .marked-along .last .1 .1 .1 .1 .1 .1 .0) (c .close .last .0) (c .close .last .1 .1 .1 .1 .0)
 picture-closed c =
     let told = c .before .before .before .before in
     let f = told .before .before .before .before .before .before in
@@ -126,8 +126,8 @@ picture-closed c =
     let s = at-turned-size .before .before .before .before .before in
     let a = s .args in
     let p = s .pre in
-    close-served (now (a .picture)) (a .size) (a .axis) (take (at-turned-size .turned-size .result .height) (f .marked-along .last .1 .1 .1 .1 .0)) (f .marked-along .last .1 .1 .1 .1 .1 .0) (c .close .result) (c .close .last .0) (c .close .last .1 .1 .1 .1 .0) (c .close .ensures)
-    (p .0 .sized) (rw (lent told) (inside told)) (p .1) (omega (arith, p .0 .work-room, work-long f))
+    close-served (now (a .picture)) (a .size) (a .axis) (take (at-turned-size .turned-size .result .height) (f .marked-along .last .1 .1 .1 .1 .1 .0)) (f .marked-along .last .1 .1 .1 .1 .1 .1 .0) (c .close .result) (c .close .last .0) (c .close .last .1 .1 .1 .1 .0) (c .close .ensures)
+    (p .found .sized) (rw (lent told) (inside told)) (p .more) (omega (arith, p .found .work-room, work-long f))
 
 closed-zero : (c : tie.After-close) → c .close .last .1 .1 .1 .1 .0 ≡ replicate (length (c .close .last .1 .1 .1 .1 .0)) 0
 closed-zero c =
@@ -140,7 +140,7 @@ marks-closed : (c : tie.After-close2)
     let at-turned-size = f .before .before .before .before .before .before in
     let s = at-turned-size .before .before .before .before .before in
     let a = s .args in
-    Closed (now (a .marks)) (greyOf (a .size)) (a .axis) (take (at-turned-size .turned-size .result .height) (f .marked-along .last .1 .1 .1 .1 .0)) (k .close .last .1 .1 .1 .1 .0) (c .close2 .last .0) (c .close2 .last .1 .1 .1 .1 .0)
+    Closed (now (a .marks)) (greyOf (a .size)) (a .axis) (take (at-turned-size .turned-size .result .height) (f .marked-along .last .1 .1 .1 .1 .1 .0)) (k .close .last .1 .1 .1 .1 .0) (c .close2 .last .0) (c .close2 .last .1 .1 .1 .1 .0)
 marks-closed c =
     let k = c .before .before .before .before .before .before .before .before in
     let told = k .before .before .before .before in
@@ -150,12 +150,12 @@ marks-closed c =
     let s = at-turned-size .before .before .before .before .before in
     let a = s .args in
     let p = s .pre in
-    let marks : CloseAlongGiven (now (a .marks)) (greyOf (a .size)) (a .axis) (take (at-turned-size .turned-size .result .height) (f .marked-along .last .1 .1 .1 .1 .0)) (k .close .last .1 .1 .1 .1 .0) (c .close2 .result) (c .close2 .last .0) (c .close2 .last .1 .1 .1 .1 .0) = rw (at-grey .grey .ensures) at (c .close2 .ensures) in
-    close-served (now (a .marks)) (greyOf (a .size)) (a .axis) (take (at-turned-size .turned-size .result .height) (f .marked-along .last .1 .1 .1 .1 .0)) (k .close .last .1 .1 .1 .1 .0) (c .close2 .result) (c .close2 .last .0) (c .close2 .last .1 .1 .1 .1 .0) marks
-    (grey-sized (a .size) (length (now (a .picture))) (now (a .marks)) (sure s) (p .0 .marked))
+    let marks : CloseAlongGiven (now (a .marks)) (greyOf (a .size)) (a .axis) (take (at-turned-size .turned-size .result .height) (f .marked-along .last .1 .1 .1 .1 .1 .0)) (k .close .last .1 .1 .1 .1 .0) (c .close2 .result) (c .close2 .last .0) (c .close2 .last .1 .1 .1 .1 .0) = rw (at-grey .grey .ensures) at (c .close2 .ensures) in
+    close-served (now (a .marks)) (greyOf (a .size)) (a .axis) (take (at-turned-size .turned-size .result .height) (f .marked-along .last .1 .1 .1 .1 .1 .0)) (k .close .last .1 .1 .1 .1 .0) (c .close2 .result) (c .close2 .last .0) (c .close2 .last .1 .1 .1 .1 .0) marks
+    (grey-sized (a .size) (length (now (a .picture))) (now (a .marks)) (sure s) (p .found .marked))
     (rw (lent told, wide-grey (a .axis) (a .size), tall-grey (a .axis) (a .size)) (inside told))
-    (ap (λ w. eqb w 1) (wide-grey (a .axis) (a .size)) ∙ p .1)
-    (omega (arith, p .0 .work-room, closed-long k, grey-bytes (a .size)))
+    (ap (λ w. eqb w 1) (wide-grey (a .axis) (a .size)) ∙ p .more)
+    (omega (arith, p .found .work-room, closed-long k, grey-bytes (a .size)))
 
 turned-size-requires : tie.Need-turned-size-requires
 turned-size-requires c κs = search needs
@@ -185,14 +185,19 @@ same-length-4 : tie.Need-same-length-4
 same-length-4 c = search needs
 
 returns : tie.Need-returns
-unfolding blocked
+unfolding seam
 returns c =
     let at-marked-along = c .before .before .before .before .before .before in
     let s = at-marked-along .before .before .before .before .before .before .before .before .before .before .before in
     let f = at-marked-along .marked-along in
     let why = c .enum-told2 .given in
-    let t : blocked s ≡ true = refused-blocked (blocked s) (f .result) (f .ensures .number-is) (why .0 .0) (why .1) in
-    (f .ensures, (record { picture-is = rw t }, record { marks-are = rw t }))
+    let a = s .args in
+    let n : foundNumber (f .result) ≡ numberOf (why .0 .0) = ap foundNumber (why .1) in
+    record {
+      found = f .ensures;
+      picture-left = rw n (kept-by (why .0 .0) (closedAlong (a .axis) (a .size) (seam s) (now (a .picture))) (now (a .picture)));
+      marks-left = rw n (kept-by (why .0 .0) (closedMarks (a .axis) (a .size) (seam s) (now (a .marks))) (now (a .marks)));
+    }
 
 slice-reshare-prefix-close : tie.Need-slice-reshare-prefix-close
 slice-reshare-prefix-close c =
@@ -204,7 +209,7 @@ slice-aggregate-close : tie.Need-slice-aggregate-close
 slice-aggregate-close c =
     let at-marked-along = c .before .before .before .before .before .before .before .before in
     let at-turned-size = at-marked-along .before .before .before .before .before .before in
-    sym (length-take-le (at-turned-size .turned-size .result .height) (at-marked-along .marked-along .last .1 .1 .1 .1 .0) (rw (at-turned-size .turned-size .ensures) (seam-room at-marked-along)))
+    sym (length-take-le (at-turned-size .turned-size .result .height) (at-marked-along .marked-along .last .1 .1 .1 .1 .1 .0) (rw (at-turned-size .turned-size .ensures) (seam-room at-marked-along)))
 
 close-requires : tie.Need-close-requires
 close-requires c κs = search needs
@@ -219,7 +224,7 @@ slice-aggregate-close-2 : tie.Need-slice-aggregate-close-2
 slice-aggregate-close-2 c =
     let at-marked-along = c .before .before .before .before .before .before .before .before .before .before .before .before .before .before .before .before in
     let at-turned-size = at-marked-along .before .before .before .before .before .before in
-    sym (length-take-le (at-turned-size .turned-size .result .height) (at-marked-along .marked-along .last .1 .1 .1 .1 .0) (rw (at-turned-size .turned-size .ensures) (seam-room at-marked-along)))
+    sym (length-take-le (at-turned-size .turned-size .result .height) (at-marked-along .marked-along .last .1 .1 .1 .1 .1 .0) (rw (at-turned-size .turned-size .ensures) (seam-room at-marked-along)))
 
 close-requires-2 : tie.Need-close-requires-2
 close-requires-2 c κs = search needs
@@ -249,34 +254,23 @@ returns-2 c =
     let a = start .args in
     let x = a .axis in
     let z = a .size in
-    let p = picture z (now (a .picture)) in
-    let m = marksOf z (now (a .marks)) in
-    let work = now (a .work) in
-    let h = turnedSize x z .height in
-    let lost = marks-closed at-close2 in (
-      record {
-        number-is = f .marked-along .ensures .number-is;
-        cost-is = f .marked-along .ensures .cost-is;
-        seam-is = f .marked-along .ensures .seam-is;
-        work-is = lost .work-is (closed-zero k) ∙ ap (λ n. replicate n 0) (closed-long k) ∙ sym (worked-or (cond (blocked start) 12 0) (replicate (length work) 0) work (blocked start) refl);
-      },
-      (
-        record {
-          picture-is =
-              picture-closed k .picture-is
-              ∙ ap (λ s. bytes (cutAlong x z s p) ++ replicate (h * channelsOf (z .kind)) 0) (lent told)
-              ∙ sym (ap (λ t. served (cond t 12 0) (bytes (cutAlong x z (seam start) p) ++ replicate (h * channelsOf (z .kind)) 0) (now (a .picture))) (free told));
-        },
-        record {
-          marks-are =
-              lost .picture-is
-              ∙ ap₂ _++_
-              (ap (λ s. bytes (cutAlong x (greyOf z) s (picture (greyOf z) (now (a .marks))))) (lent told) ∙ marks-cut x z (now (a .marks)) (start .pre .0 .marked) (seam start))
-              (ap (λ n. replicate n 0) (mul-one (turnedSize x (greyOf z) .height) ∙ tall-grey x z))
-              ∙ sym (ap (λ t. served (cond t 12 0) (flat (cutAlong x z (seam start) m) ++ replicate h 0) (now (a .marks))) (free told));
-        },
-      ),
-    )
+    let lost = marks-closed at-close2 in
+    let g = f .marked-along .ensures in
+    record {
+      found = record {
+        number = g .number;
+        cost = g .cost;
+        seam-given = g .seam-given;
+        work-left = lost .work-is (closed-zero k) ∙ ap (λ n. replicate n 0) (closed-long k);
+      };
+      picture-left = rw (found-there told) (picture-closed k .picture-is ∙ ap (λ s. closedAlong x z s (now (a .picture))) (lent told));
+      marks-left =
+          rw (found-there told)
+          (lost .picture-is
+          ∙ ap₂ _++_
+          (ap (λ s. bytes (cutAlong x (greyOf z) s (picture (greyOf z) (now (a .marks))))) (lent told) ∙ marks-cut x z (now (a .marks)) (start .pre .found .marked) (seam start))
+          (ap (λ n. replicate n 0) (mul-one (turnedSize x (greyOf z) .height) ∙ tall-grey x z)));
+    }
 
 pub cut-marked-along-spec : {M : Type 1} → statement M
 cut-marked-along-spec =

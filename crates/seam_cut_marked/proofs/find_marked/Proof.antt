@@ -2,19 +2,20 @@
 -- `marked_along` all else.
 use mathlib.Core.Path.{_≡_, refl, sym, ap, _∙_}
 use mathlib.Core.List.{List, [], _∷_, _++_}
-use native.Mathlib.Omega.{arith}
+use Prim.Native.Nat.{_≤_}
 use borrow.Author.Needs.{needs}
 use denote.Ref.{now}
-use lib.ListN.{length, drop}
-use Rattle.pictures.specs.Refusals.{Rule, _when_, given, refusal}
+use lib.ListN.{length, drop, replicate}
+use Rattle.pictures.specs.Refusals.{Rule, _when_, numberOf, given, refusal}
 use Rattle.pictures.specs.Pictures.{sizeRules, picture, marksOf}
-use Rattle.pictures.proofs.Rules.{served-first, refused-answer, refusal-most}
+use Rattle.pictures.proofs.Rules.{served-first, refused-answer, kept-by, refusal-most}
 use Rattle.seam_rules.specs.Axes.{turnedSize}
 use Rattle.seam_cut_marked.specs.Axes.{markedSeamAlong, markedCostAlong, blockedAlong}
 use Rattle.seam_rules.specs.Cuts.{roomRules}
 use Rattle.seam_cut_marked.specs.Marking.{markRules}
 use Rattle.seam_cut_marked.proofs.Buffers.{marked-needed}
-use Rattle.seam_rules.proofs.Rooms.{left-as-was, work-as-was}
+use Rattle.seam_rules.proofs.Rooms.{work-as-was}
+use Rattle.seam_find.proofs.Worked.{worked-or}
 use Rattle.seam_cut_marked.proofs.find_marked.Statement.{statement}
 use Rattle.seam_cut_marked.proofs.find_marked.Tie as tie
 
@@ -27,7 +28,7 @@ first c =
 last : tie.Start → List Rule
 last c =
     let a = c .args in
-    12 when blockedAlong (a .axis) (a .size) (picture (a .size) (now (a .picture))) (marksOf (a .size) (now (a .marks))) ∷ []
+    12 when blockedAlong (a .method) (a .axis) (a .size) (picture (a .size) (now (a .picture))) (marksOf (a .size) (now (a .marks))) ∷ []
 
 none : (c : tie.After-enum-told)
     → let s = c .before .before .before .before .before .before .before in
@@ -61,14 +62,12 @@ returns c =
     let m = marksOf z (now (a .marks)) in
     let why = c .before .fits2 .given in
     let told = judged .judge-marked in
-    let n = refusal (first s ++ last s) in
-    let e = sym (ap given (why .1)) ∙ refused-answer (told .result) (why .0 .0) (why .1) (first s) (last s) (told .ensures) in
-    let few = refusal-most 8 (first s) refl in
+    let few : numberOf (why .0 .0) ≤ 8 = rw (sym (ap given (why .1)) ∙ told .ensures) (refusal-most 8 (first s) refl) in
     record {
-      number-is = e;
-      cost-is = left-as-was (why .0 .0) n e (markedCostAlong x z p m) 0;
-      seam-is = left-as-was (why .0 .0) n e (markedSeamAlong x z p m ++ drop (turnedSize x z .height) (now (a .seam))) (now (a .seam));
-      work-is = work-as-was (why .0 .0) n e (omega (arith, few, sym (ap given (why .1)) ∙ told .ensures)) (now (a .work));
+      number = sym (ap given (why .1)) ∙ refused-answer (told .result) (why .0 .0) (why .1) (first s) (last s) (told .ensures);
+      cost = kept-by (why .0 .0) (markedCostAlong (a .method) x z p m) 0;
+      seam-given = kept-by (why .0 .0) (markedSeamAlong (a .method) x z p m ++ drop (turnedSize x z .height) (now (a .seam))) (now (a .seam));
+      work-left = work-as-was (why .0 .0) (numberOf (why .0 .0)) refl few (now (a .work));
     }
 
 enum-told : tie.Need-enum-told
@@ -93,7 +92,17 @@ unfolding first last
 returns-2 c =
     let at-marked-along = c .before .before .before .before in
     let at-enum-told = at-marked-along .before .before .before in
-    rw (rest at-enum-told) (at-marked-along .marked-along .ensures)
+    let s = at-enum-told .before .before .before .before .before .before .before in
+    let a = s .args in
+    let work = now (a .work) in
+    let blocked = blockedAlong (a .method) (a .axis) (a .size) (picture (a .size) (now (a .picture))) (marksOf (a .size) (now (a .marks))) in
+    let g = at-marked-along .marked-along .ensures in
+    record {
+      number = g .number ∙ sym (rest at-enum-told);
+      cost = g .cost;
+      seam-given = g .seam-given;
+      work-left = g .work-left ∙ sym (worked-or _ (replicate (length work) 0) work blocked (g .number));
+    }
 
 pub find-marked-spec : {M : Type 1} → statement M
 find-marked-spec =

@@ -6,7 +6,6 @@ use denote.Ref.{now}
 use lib.ListN.{length, replicate}
 use Rattle.pictures.specs.Pictures.{picture, marksOf}
 use Rattle.seam_rules.specs.Answers.{foundCost}
-use Rattle.seam_find.proofs.Worked.{worked-or}
 use Rattle.seam_cut_marked.specs.Axes.{blockedAlong}
 use Rattle.seam_cut_marked.proofs.Buffers.{seam-free, refused-blocked}
 use Rattle.seam_cut_marked.proofs.last_marked.Statement.{statement}
@@ -16,16 +15,12 @@ use Rattle.seam_cut_marked.proofs.last_marked.Tie as tie
 blocked : tie.Start → Bool
 blocked c =
     let a = c .args in
-    blockedAlong (a .axis) (a .size) (picture (a .size) (now (a .picture))) (marksOf (a .size) (now (a .marks)))
+    blockedAlong (a .method) (a .axis) (a .size) (picture (a .size) (now (a .picture))) (marksOf (a .size) (now (a .marks)))
 
 zero : (c : tie.After-marked-along)
     → let s = c .before .before .before .before .before .before in
-    c .marked-along .last .1 .1 .1 .1 .1 .0 ≡ replicate (length (now (s .args .work))) 0
-unfolding blocked
-zero c =
-    let s = c .before .before .before .before .before .before in
-    let work = now (s .args .work) in
-    c .marked-along .ensures .work-is ∙ worked-or (cond (blocked s) 12 0) (replicate (length work) 0) work (blocked s) refl
+    c .marked-along .last .1 .1 .1 .1 .1 .1 .0 ≡ replicate (length (now (s .args .work))) 0
+zero c = c .marked-along .ensures .work-left
 
 slice-aggregate-marked-along : tie.Need-slice-aggregate-marked-along
 slice-aggregate-marked-along c = search needs
@@ -49,11 +44,11 @@ returns c =
     let s = at-marked-along .before .before .before .before .before .before in
     let f = at-marked-along .marked-along in
     let why = c .enum-told2 .given in
-    let t : blocked s ≡ true = refused-blocked (blocked s) (f .result) (f .ensures .number-is) (why .0 .0) (why .1) in
+    let t : blocked s ≡ true = refused-blocked (blocked s) (f .result) (f .ensures .number) (why .0 .0) (why .1) in
     record {
-      number-is = f .ensures .number-is ∙ ap (λ k. cond k 12 0) t ∙ sym (ap (λ k. cond k 12 13) t);
-      cost-is = ap foundCost (why .1);
-      work-is = zero at-marked-along;
+      number = f .ensures .number ∙ ap (λ k. cond k 12 0) t ∙ sym (ap (λ k. cond k 12 13) t);
+      cost = ap foundCost (why .1);
+      work-left = zero at-marked-along;
     }
 
 same-length-2 : tie.Need-same-length-2
@@ -66,11 +61,11 @@ returns-2 c =
     let s = at-marked-along .before .before .before .before .before .before in
     let f = at-marked-along .marked-along in
     let seam = c .enum-told .given in
-    let t : blocked s ≡ false = seam-free (blocked s) (f .result) (f .ensures .number-is) (seam .0 .0) (seam .1) in
+    let t : blocked s ≡ false = seam-free (blocked s) (f .result) (f .ensures .number) (seam .0 .0) (seam .1) in
     record {
-      number-is = sym (ap (λ k. cond k 12 13) t);
-      cost-is = refl;
-      work-is = zero at-marked-along;
+      number = sym (ap (λ k. cond k 12 13) t);
+      cost = refl;
+      work-left = zero at-marked-along;
     }
 
 pub last-marked-spec : {M : Type 1} → statement M

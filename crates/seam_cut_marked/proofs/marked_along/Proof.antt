@@ -16,7 +16,6 @@ use Rattle.pictures.specs.Pictures.{pictureBytes, picture, bytes, pixels, marks
 use Rattle.pictures.proofs.Limits.{Sized, sized-is}
 use Rattle.seam_theory.specs.PictureSeams.{markedUp, markedSeamOf, markedCostOf, isNone}
 use Rattle.seam_rules.specs.Answers.{foundNumber}
-use Rattle.seam_find.proofs.Worked.{worked-or}
 use Rattle.seam_rules.specs.Axes.{turnedSize, greyOf}
 use Rattle.seam_turn.specs.Axes.{turned}
 use Rattle.seam_turn.specs.Turning.{TurnGiven}
@@ -98,7 +97,7 @@ space-long c =
 there : (c : tie.After-find-marked-in)
     → let s = c .before .before .before .before .before .before .before .before .before .before .before .before .before .before .before .before .before in
     let a = s .args in
-    MarkedThere (space (c .before .before .before .before .before)) (turnedSize (a .axis) (a .size)) (now (a .seam)) (c .find-marked-in .result) (c .find-marked-in .last .0) (c .find-marked-in .last .1 .1 .0)
+    MarkedThere (space (c .before .before .before .before .before)) (turnedSize (a .axis) (a .size)) (a .method) (now (a .seam)) (c .find-marked-in .result) (c .find-marked-in .last .0) (c .find-marked-in .last .1 .1 .1 .0)
 unfolding space
 there c =
     let at-turn2 = c .before .before .before .before .before in
@@ -106,7 +105,7 @@ there c =
     let start = at-turned-size .before .before .before .before .before in
     let a = start .args in
     let s = sure start in
-    marked-served (space at-turn2) (turnedSize (a .axis) (a .size)) (now (a .seam)) (c .find-marked-in .result) (c .find-marked-in .last .0) (c .find-marked-in .last .1 .1 .0)
+    marked-served (space at-turn2) (turnedSize (a .axis) (a .size)) (a .method) (now (a .seam)) (c .find-marked-in .result) (c .find-marked-in .last .0) (c .find-marked-in .last .1 .1 .1 .0)
     (rw (at-turned-size .turned-size .ensures) at (c .find-marked-in .ensures))
     (turned-sides (a .axis) (a .size) (length (now (a .picture))) s) (start .pre .seam-room)
     (omega (arith, turned-bytes (a .axis) (a .size), turned-pixels (a .axis) (a .size), start .pre .work-room, space-long at-turn2))
@@ -156,16 +155,13 @@ returns c =
     let g = there f in
     let p = picture-there (a .axis) (a .size) (now (a .picture)) (now (a .marks)) (space at-turn2) (after at-turn2) (sure s .length-is) (s .pre .marked) (stands at-turn2) in
     let m = marks-there (a .axis) (a .size) (now (a .picture)) (now (a .marks)) (space at-turn2) (after at-turn2) (sure s .length-is) (s .pre .marked) (stands at-turn2) in
-    let blocked = blockedAlong (a .axis) (a .size) (picture (a .size) (now (a .picture))) (marksOf (a .size) (now (a .marks))) in
-    let n : foundNumber (f .find-marked-in .result) ≡ cond (blockedAlong (a .axis) (a .size) (picture (a .size) (now (a .picture))) (marksOf (a .size) (now (a .marks)))) 12 0 = g .number ∙ ap₂ (λ q r. cond (isNone (markedUp (t .width) (t .height) q r)) 12 0) p m in
+    let k = foundNumber (f .find-marked-in .result) in
+    let room = now (a .seam) in
     record {
-      number-is = n;
-      cost-is = g .cost ∙ ap₂ (λ q r. served (foundNumber (f .find-marked-in .result)) (markedCostOf (t .width) (t .height) q r) 0) p m ∙ ap (λ k. served k (markedCostAlong (a .axis) (a .size) (picture (a .size) (now (a .picture))) (marksOf (a .size) (now (a .marks)))) 0) n;
-      seam-is =
-          g .seam-given
-          ∙ ap₂ (λ q r. served (foundNumber (f .find-marked-in .result)) (markedSeamOf (t .width) (t .height) q r ++ drop (t .height) (now (a .seam))) (now (a .seam))) p m
-          ∙ ap (λ k. served k (markedSeamAlong (a .axis) (a .size) (picture (a .size) (now (a .picture))) (marksOf (a .size) (now (a .marks))) ++ drop (t .height) (now (a .seam))) (now (a .seam))) n;
-      work-is = at-clear .clear .ensures ∙ ap (λ k. replicate k 0) (f .find-marked-in .kept .0 ∙ space-long at-turn2) ∙ sym (worked-or (cond blocked 12 0) (replicate (length (now (a .work))) 0) (now (a .work)) blocked refl);
+      number = g .number ∙ ap₂ (λ q r. cond (isNone (markedUp (a .method) (t .width) (t .height) q r)) 12 0) p m;
+      cost = g .cost ∙ ap₂ (λ q r. served k (markedCostOf (a .method) (t .width) (t .height) q r) 0) p m;
+      seam-given = g .seam-given ∙ ap₂ (λ q r. served k (markedSeamOf (a .method) (t .width) (t .height) q r ++ drop (t .height) room) room) p m;
+      work-left = at-clear .clear .ensures ∙ ap (λ n. replicate n 0) (f .find-marked-in .kept .0 ∙ space-long at-turn2);
     }
 
 pub marked-along-spec : {M : Type 1} → statement M
