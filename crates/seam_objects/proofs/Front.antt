@@ -11,15 +11,17 @@ use Rattle.grids.specs.Rows.{flat}
 use Rattle.pictures.specs.declared.sizes.Size.{Size}
 use Rattle.pictures.specs.declared.refusals.Refusal.{Refusal}
 use Rattle.pictures.specs.Refusals.{refusal, served}
-use Rattle.pictures.specs.Pictures.{channelsOf, pictureBytes, bytes, pixels, workBytes}
+use Rattle.pictures.specs.Pictures.{channelsOf, pictureBytes, picture, bytes, pixels, workBytes, marksOf}
 use Rattle.pictures.proofs.Limits.{sides-are}
+use Rattle.energy.specs.declared.methods.Method.{Method}
 use Rattle.seam_rules.specs.declared.answers.Found.{Found}
 use Rattle.seam_rules.specs.declared.answers.Found.the-variants.{Seam, Refused}
 use Rattle.seam_rules.specs.Answers.{foundNumber}
 use Rattle.seam_rules.specs.declared.answers.Axis.the-variants.{Vertical}
 use Rattle.seam_turn.specs.Axes.{turned, cutAlong}
+use Rattle.seam_cut.specs.Cutting.{closedAlong}
 use Rattle.seam_cut_marked.specs.Axes.{markedSeamAlong, blockedAlong}
-use Rattle.seam_cut_marked.specs.Marking.{markedCutRules, MarkedPictureCut, MarkedMarksCut}
+use Rattle.seam_cut_marked.specs.Marking.{markedCutRules, closedMarks}
 use Rattle.seam_cut_marked.proofs.Buffers.{seam-free, refused-blocked}
 use Rattle.seam_objects.specs.Objects.{noSeam, cutOnce}
 use Rattle.seam_objects.specs.Inner.{FrontNeeded, front, FrontCut}
@@ -30,10 +32,10 @@ part-back : {A : Type 0} (t : Bool) (n k : ℕ) (x freed b b′ : List A) → n 
 part-back true n k x freed b b′ e f = ap (_++ drop k b) (f ∙ ap (λ n. served n (x ++ freed) (take k b)) e) ∙ take-append-drop k b
 part-back false n k x freed b b′ e f = ap (_++ drop k b) (f ∙ ap (λ n. served n (x ++ freed) (take k b)) e) ∙ append-assoc x freed (drop k b)
 
-module _ {z : Size} {b m work : List ℕ} (need : FrontNeeded z b m work) where
+module _ {z : Size} {b m work : List ℕ} (how : Method) (need : FrontNeeded z b m work) where
   -- Only 12 refuses it.
   front-number : (seam : ℕ) → z .height ≤ seam
-      → refusal (markedCutRules Vertical z (take (pictureBytes z) b) (take (pixels z) m) seam (length (take (workBytes z) work))) ≡ cond (noSeam (front z b m)) 12 0
+      → refusal (markedCutRules how Vertical z (take (pictureBytes z) b) (take (pixels z) m) seam (length (take (workBytes z) work))) ≡ cond (noSeam (front z how b m)) 12 0
   unfolding blockedAlong turned
   front-number seam long =
       let s = sides-are z (need .sides) in
@@ -54,45 +56,49 @@ module _ {z : Size} {b m work : List ℕ} (need : FrontNeeded z b m work) where
         ne-eqb _ _ one,
       )
 
+  -- The seam of what k bytes of the picture and n marks hold.
+  abbrev seamLent : ℕ → ℕ → List ℕ
+  seamLent k n = markedSeamAlong how Vertical z (picture z (take k b)) (marksOf z (take n m))
+
   -- The number, where k bytes of the picture, n marks and this room for work are lent.
   abbrev numberAt : ℕ → ℕ → ℕ → ℕ → ℕ
-  numberAt k n room seam = refusal (markedCutRules Vertical z (take k b) (take n m) seam (length (take room work)))
+  numberAt k n room seam = refusal (markedCutRules how Vertical z (take k b) (take n m) seam (length (take room work)))
 
-  cut-at : (seam : ℕ) → z .height ≤ seam → (b′ m′ : List ℕ) (t : Bool) → t ≡ not (noSeam (front z b m))
-      → MarkedPictureCut (take (pictureBytes z) b) (take (pixels z) m) z Vertical (numberAt (pictureBytes z) (pixels z) (workBytes z) seam) b′
-      → MarkedMarksCut (take (pictureBytes z) b) (take (pixels z) m) z Vertical (numberAt (pictureBytes z) (pixels z) (workBytes z) seam) m′
-      → FrontCut z b m t (b′ ++ drop (pictureBytes z) b) (m′ ++ drop (pixels z) m)
+  -- What stands in the buffers where this number is given.
+  cut-at : (n : ℕ) → n ≡ cond (noSeam (front z how b m)) 12 0 → (b′ m′ : List ℕ) (t : Bool) → t ≡ not (noSeam (front z how b m))
+      → b′ ≡ served n (closedAlong Vertical z (seamLent (pictureBytes z) (pixels z)) (take (pictureBytes z) b)) (take (pictureBytes z) b)
+      → m′ ≡ served n (closedMarks Vertical z (seamLent (pictureBytes z) (pixels z)) (take (pixels z) m)) (take (pixels z) m)
+      → FrontCut z how b m t (b′ ++ drop (pictureBytes z) b) (m′ ++ drop (pixels z) m)
   unfolding markedSeamAlong cutAlong turned cutOnce
-  cut-at seam long b′ m′ t is p q =
-      let u = noSeam (front z b m) in
-      let n = numberAt (pictureBytes z) (pixels z) (workBytes z) seam in
-      let left = cutOnce (front z b m) in
+  cut-at n number b′ m′ t is p q =
+      let u = noSeam (front z how b m) in
+      let left = cutOnce (front z how b m) in
       let gap : List ℕ = replicate (z .height * channelsOf (z .kind)) 0 in
       record {
         cut-is = is;
-        picture-is =
-            part-back u n (pictureBytes z) (bytes (left .picture)) gap b b′ (front-number seam long) (p .picture-is)
+        picture-left =
+            part-back u n (pictureBytes z) (bytes (left .picture)) gap b b′ number p
             ∙ ap (λ t. cond t (bytes (left .picture) ++ (gap ++ drop (pictureBytes z) b)) b) (sym is);
-        marks-are =
-            part-back u n (pixels z) (flat (left .marks)) (replicate (z .height) 0) m m′ (front-number seam long) (q .marks-are)
+        marks-left =
+            part-back u n (pixels z) (flat (left .marks)) (replicate (z .height) 0) m m′ number q
             ∙ ap (λ t. cond t (flat (left .marks) ++ (replicate (z .height) 0 ++ drop (pixels z) m)) m) (sym is);
       }
 
   module _ {k n room : ℕ} (e : k ≡ pictureBytes z) (f : n ≡ pixels z) (g : room ≡ workBytes z) {seam : ℕ} (long : z .height ≤ seam) where
-    number-is : numberAt k n room seam ≡ cond (noSeam (front z b m)) 12 0
+    number-is : numberAt k n room seam ≡ cond (noSeam (front z how b m)) 12 0
     number-is = rw (e, f, g) (front-number seam long)
 
     -- The answer says whether there was a seam.
     module _ (answer : Found) (told : foundNumber answer ≡ numberAt k n room seam) where
-      pub front-found : (cost : ℕ) → answer ≡ Seam cost → true ≡ not (noSeam (front z b m))
-      front-found cost is = sym (ap not (seam-free (noSeam (front z b m)) answer (told ∙ number-is) cost is))
+      pub front-found : (cost : ℕ) → answer ≡ Seam cost → true ≡ not (noSeam (front z how b m))
+      front-found cost is = sym (ap not (seam-free (noSeam (front z how b m)) answer (told ∙ number-is) cost is))
 
-      pub front-refused : (why : Refusal) → answer ≡ Refused why → false ≡ not (noSeam (front z b m))
-      front-refused why is = sym (ap not (refused-blocked (noSeam (front z b m)) answer (told ∙ number-is) why is))
+      pub front-refused : (why : Refusal) → answer ≡ Refused why → false ≡ not (noSeam (front z how b m))
+      front-refused why is = sym (ap not (refused-blocked (noSeam (front z how b m)) answer (told ∙ number-is) why is))
 
-    -- What stands in the buffers then.
-    pub front-cut : (b′ m′ : List ℕ) (t : Bool) → t ≡ not (noSeam (front z b m))
-        → MarkedPictureCut (take k b) (take n m) z Vertical (numberAt k n room seam) b′
-        → MarkedMarksCut (take k b) (take n m) z Vertical (numberAt k n room seam) m′
-        → FrontCut z b m t (b′ ++ drop k b) (m′ ++ drop n m)
-    front-cut = rw (e, f, g) (cut-at seam long)
+      -- What stands in the buffers then.
+      pub front-cut : (b′ m′ : List ℕ) (t : Bool) → t ≡ not (noSeam (front z how b m))
+          → b′ ≡ served (foundNumber answer) (closedAlong Vertical z (seamLent k n) (take k b)) (take k b)
+          → m′ ≡ served (foundNumber answer) (closedMarks Vertical z (seamLent k n) (take n m)) (take n m)
+          → FrontCut z how b m t (b′ ++ drop k b) (m′ ++ drop n m)
+      front-cut = rw (e, f) (cut-at (foundNumber answer) (told ∙ number-is))

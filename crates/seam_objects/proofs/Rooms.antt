@@ -7,20 +7,19 @@ use Prim.Native.Nat.{ℕ, _*_}
 use lib.Dec.{eqb, ltb}
 use borrow.Author.Tests.{eqb-true, ltb-false, not-false}
 use lib.ListN.{length, replicate}
-use Rattle.grids.specs.Rows.{flat}
 use Rattle.pictures.specs.declared.sizes.Size.{Size}
 use Rattle.pictures.specs.declared.refusals.Refusal.{Refusal}
-use Rattle.pictures.specs.Refusals.{_when_, numberOf, refusal, served}
-use Rattle.pictures.specs.Pictures.{largestSide, channelsOf, sizeRules, bytes, pixels}
-use Rattle.pictures.proofs.Rules.{served-both, passed}
+use Rattle.pictures.specs.Refusals.{_when_, numberOf, refusal}
+use Rattle.pictures.specs.Pictures.{largestSide, sizeRules, pixels}
+use Rattle.pictures.proofs.Rules.{served-both, passed, kept-by}
+use Rattle.energy.specs.declared.methods.Method.{Method}
 use Rattle.seam_bounds.specs.Moves.{outside}
 use Rattle.seam_rules.specs.declared.answers.Axis.the-variants.{Vertical}
 use Rattle.seam_rules.specs.Cuts.{roomRules}
 use Rattle.seam_cut_marked.specs.Marking.{markRules}
-use Rattle.seam_rules.proofs.Rooms.{left-as-was}
 use Rattle.seam_rules.specs.declared.answers.Removal.the-variants.{Refused}
 use Rattle.seam_objects.specs.Objects.{removal}
-use Rattle.seam_objects.specs.Removing.{removalRules, markedPicture, ObjectRemoved}
+use Rattle.seam_objects.specs.Removing.{removalRules, markedPicture, pictureLeft, marksLeft, RemoveGiven}
 use Rattle.seam_objects.specs.Inner.{SeamsNeeded}
 
 -- A seam's space as long as the largest side is never too short: 3 is given before that.
@@ -50,16 +49,15 @@ rooms-are z b m work e =
     }
 
 -- A refusal leaves everything as it was.
-pub refused-all : (z : Size) (b m : List ℕ) (budget : ℕ) (work : List ℕ) (why : Refusal) (n : ℕ) → numberOf why ≡ n
-    → ObjectRemoved z b m budget n (Refused why) b m × (work ≡ served n (replicate (length work) 0) work)
-refused-all z b m budget work why n e =
-    let r = removal budget 0 (markedPicture z b m) in (
-      record {
-        number-is = e;
-        ending-is = left-as-was why n e (some (r .ending)) none;
-        count-is = left-as-was why n e (r .count) 0;
-        picture-is = left-as-was why n e (bytes (r .left .picture) ++ replicate (r .count * (z .height * channelsOf (z .kind))) 0) b;
-        marks-are = left-as-was why n e (flat (r .left .marks) ++ replicate (r .count * z .height) 0) m;
-      },
-      left-as-was why n e (replicate (length work) 0) work,
-    )
+pub refused-all : (b m : List ℕ) (z : Size) (how : Method) (budget : ℕ) (work : List ℕ) (why : Refusal)
+    → numberOf why ≡ refusal (removalRules z b m (length work)) → RemoveGiven b m z how budget work (Refused why) b m work
+refused-all b m z how budget work why e =
+    let r = removal budget 0 (markedPicture z how b m) in
+    record {
+      number = e;
+      ending = kept-by why (some (r .ending)) none;
+      count = kept-by why (r .count) 0;
+      picture-left = kept-by why (pictureLeft z r) b;
+      marks-left = kept-by why (marksLeft z r) m;
+      work-left = kept-by why (replicate (length work) 0) work;
+    }

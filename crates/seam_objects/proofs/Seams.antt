@@ -17,17 +17,18 @@ use Rattle.pictures.specs.declared.sizes.Size.{Size}
 use Rattle.pictures.specs.Pictures.{channelsOf, picture, bytes, pixels, marksOf}
 use Rattle.pictures.proofs.Limits.{Sides, sides-are, sides-served, sized-is, sides-of}
 use Rattle.pictures.proofs.Buffers.{bytes-picture}
+use Rattle.energy.specs.declared.methods.Method.{Method}
 use Rattle.seam_bounds.specs.Moves.{outside}
 use Rattle.grids.proofs.Orders.{more-than-one}
 use Rattle.seam_rules.specs.declared.answers.Removal.{Removal}
 use Rattle.seam_rules.specs.declared.answers.Removal.the-variants.{Done, Narrow, Spent, Blocked}
-use Rattle.seam_objects.specs.Objects.{MarkedPicture, someTwo, toRemove, noSeam, cutOnce, afterCuts, ends, removal}
+use Rattle.seam_objects.specs.Objects.{MarkedPicture, someTwo, toRemove, noSeam, cutOnce, afterCuts, Removed, ends, removal}
 use Rattle.seam_rules.specs.Answers.{Ending, done, narrow, spent, blocked, removalNumber, removalCount, removalEnding}
-use Rattle.seam_objects.specs.Removing.{markedPicture, ObjectRemoved}
+use Rattle.seam_objects.specs.Removing.{markedPicture, pictureLeft, marksLeft}
 use Rattle.seam_rules.specs.declared.endings.Next.the-variants.{Ended}
 use Rattle.seam_rules.specs.Endings.{nextStep}
 use Rattle.seam_rules.proofs.Choices.{step-ended}
-use Rattle.seam_objects.specs.Inner.{SeamsNeeded, FrontNeeded, front, FrontCut}
+use Rattle.seam_objects.specs.Inner.{SeamsNeeded, SeamsGiven, FrontNeeded, front, FrontCut}
 use Rattle.seam_objects.proofs.Shapes.{flat-inside, shaped-start, shaped-cut}
 use Rattle.seam_objects.proofs.Standing.{Standing, front-marks, front-is, bytes-after, marks-after, bytes-there, marks-there}
 use Rattle.seam_objects.proofs.Endings.{removal-done, removal-narrow, removal-spent, removal-blocked, removal-cut}
@@ -37,14 +38,14 @@ abbrev pub sizeAt : Size → ℕ → Size
 sizeAt z w = record { width = w; height = z .height; kind = z .kind }
 
 -- After `count` cuts: what is left of the removal, and the buffers.
-pub record Going (z : Size) (b m : List ℕ) (budget width count : ℕ) (b′ m′ : List ℕ) : Type 0 where
-  pub same : removal budget 0 (markedPicture z b m) ≡ removal (budget - count) count (afterCuts count (markedPicture z b m))
+pub record Going (z : Size) (how : Method) (b m : List ℕ) (budget width count : ℕ) (b′ m′ : List ℕ) : Type 0 where
+  pub same : removal budget 0 (markedPicture z how b m) ≡ removal (budget - count) count (afterCuts count (markedPicture z how b m))
   pub sides : Sides z
   pub most : count ≤ budget
   pub some : 0 < width
   pub sum : width + count ≡ z .width
   pub stands :
-      Standing (sizeAt z width) (afterCuts count (markedPicture z b m)) b′ m′
+      Standing (sizeAt z width) how (afterCuts count (markedPicture z how b m)) b′ m′
       (replicate (count * (z .height * channelsOf (z .kind))) 0)
       (replicate (count * z .height) 0)
 
@@ -57,9 +58,9 @@ one-more n count =
     let e : n + count * n ≡ suc count * n = omega (arith, suc-mul count n) in
     replicate-append-replicate n (count * n) 0 ∙ ap (λ k. replicate k 0) e
 
-pub going-start : (z : Size) (b m work : List ℕ) (budget : ℕ) → SeamsNeeded z b m work → Going z b m budget (z .width) 0 b m
+pub going-start : (z : Size) (how : Method) (b m work : List ℕ) (budget : ℕ) → SeamsNeeded z b m work → Going z how b m budget (z .width) 0 b m
 unfolding afterCuts
-going-start z b m work budget need =
+going-start z how b m work budget need =
     let s = sized-is z (length b) (need .sized) in
     let all : budget - 0 ≡ budget = omega arith in
     record {
@@ -69,17 +70,18 @@ going-start z b m work budget need =
       some = s .width-some;
       sum = omega arith;
       stands = record {
+        by = refl;
         wide = refl;
         high = refl;
-        shaped = shaped-start z b m work need;
+        shaped = shaped-start z b m work need how;
         picture-is = sym (none (bytes (picture z b)) (z .height * channelsOf (z .kind)) ∙ bytes-picture z b (s .length-is));
         marks-are = sym (none (flat (marksOf z m)) (z .height) ∙ flat-rowsOf (z .width) (z .height) m ∙ take-all (pixels z) m (le-of-eq (need .marked)));
       };
     }
 
-module _ {z : Size} {b m : List ℕ} {budget width count : ℕ} {b′ m′ : List ℕ} (g : Going z b m budget width count b′ m′) where
+module _ {z : Size} {how : Method} {b m : List ℕ} {budget width count : ℕ} {b′ m′ : List ℕ} (g : Going z how b m budget width count b′ m′) where
   abbrev left : MarkedPicture
-  left = afterCuts count (markedPicture z b m)
+  left = afterCuts count (markedPicture z how b m)
 
   -- The marks that are searched.
   pub going-marks : someTwo (take (z .height * width) m′) ≡ toRemove left
@@ -107,23 +109,29 @@ module _ {z : Size} {b m : List ℕ} {budget width count : ℕ} {b′ m′ : Lis
 
   -- An ending with the count of seams cut.
   ended : (e : Ending) (answer : Removal) → removalNumber answer ≡ 0 → removalEnding answer ≡ some e → removalCount answer ≡ count
-      → removal (budget - count) count left ≡ ends e count left → ObjectRemoved z b m budget 0 answer b′ m′
+      → removal (budget - count) count left ≡ ends e count left → SeamsGiven b m z how budget answer b′ m′
   ended e answer number ending counted is =
-      let all : removal budget 0 (markedPicture z b m) ≡ ends e count left = g .same ∙ is in
-      rw all (record { number-is = number; ending-is = ending; count-is = counted; picture-is = g .stands .picture-is; marks-are = g .stands .marks-are })
+      let all : removal budget 0 (markedPicture z how b m) ≡ ends e count left = g .same ∙ is in
+      record {
+        number = number;
+        ending = ending ∙ sym (ap (λ (r : Removed). some (r .ending)) all);
+        count = counted ∙ sym (ap (λ (r : Removed). r .count) all);
+        picture-left = g .stands .picture-is ∙ sym (ap (pictureLeft z) all);
+        marks-left = g .stands .marks-are ∙ sym (ap (marksLeft z) all);
+      }
 
-  pub going-done : false ≡ toRemove left → ObjectRemoved z b m budget 0 (Done count) b′ m′
+  pub going-done : false ≡ toRemove left → SeamsGiven b m z how budget (Done count) b′ m′
   going-done none = ended done (Done count) refl refl refl (removal-done count left (budget - count) (sym none))
 
   module _ (two : true ≡ toRemove left) where
-    pub going-narrow : width ≡ 1 → ObjectRemoved z b m budget 0 (Narrow count) b′ m′
+    pub going-narrow : width ≡ 1 → SeamsGiven b m z how budget (Narrow count) b′ m′
     going-narrow one = ended narrow (Narrow count) refl refl refl (removal-narrow count left (sym two) (budget - count) (g .stands .wide ∙ one))
 
     module _ (more : width ≡ 1 → ⊥) where
       not-one : left .width ≡ 1 → ⊥
       not-one e = more (sym (g .stands .wide) ∙ e)
 
-      pub going-spent : count ≡ budget → ObjectRemoved z b m budget 0 (Spent count) b′ m′
+      pub going-spent : count ≡ budget → SeamsGiven b m z how budget (Spent count) b′ m′
       going-spent e =
           let rest : budget - count ≡ 0 = omega arith in
           ended spent (Spent count) refl refl refl (rw rest (removal-spent count left (sym two) not-one))
@@ -135,16 +143,16 @@ module _ {z : Size} {b m : List ℕ} {budget width count : ℕ} {b′ m′ : Lis
         rest : budget - count ≡ suc (budget - suc count)
         rest = omega (arith, before)
 
-        same-front : front (sizeAt z width) b′ m′ ≡ left
+        same-front : front (sizeAt z width) how b′ m′ ≡ left
         same-front = front-is (g .stands)
 
-        pub going-blocked : FrontCut (sizeAt z width) b′ m′ false b″ m″ → ObjectRemoved z b m budget 0 (Blocked count) b″ m″
+        pub going-blocked : FrontCut (sizeAt z width) how b′ m′ false b″ m″ → SeamsGiven b m z how budget (Blocked count) b″ m″
         going-blocked f =
             let none : noSeam left ≡ true = not-false (noSeam left) (ap (λ t. not (noSeam t)) (sym same-front) ∙ sym (f .cut-is)) in
-            rw (f .picture-is, f .marks-are)
+            rw (f .picture-left, f .marks-left)
             (ended blocked (Blocked count) refl refl refl (rw rest (removal-blocked count left (sym two) not-one (budget - suc count) none)))
 
-        next : FrontCut (sizeAt z width) b′ m′ true b″ m″ → Going z b m budget (width - 1) (suc count) b″ m″
+        next : FrontCut (sizeAt z width) how b′ m′ true b″ m″ → Going z how b m budget (width - 1) (suc count) b″ m″
         unfolding afterCuts cutOnce
         next f =
             let seam : noSeam left ≡ false = not-true (noSeam left) (ap (λ t. not (noSeam t)) (sym same-front) ∙ sym (f .cut-is)) in
@@ -156,29 +164,30 @@ module _ {z : Size} {b m : List ℕ} {budget width count : ℕ} {b′ m′ : Lis
               some = omega (arith, some-left);
               sum = omega (arith, g .sum, g .some);
               stands = record {
+                by = g .stands .by;
                 wide = ap (λ w. w - 1) (g .stands .wide);
                 high = g .stands .high;
                 shaped = shaped-cut (channelsOf (z .kind)) left (g .stands .shaped) (rw (g .stands .wide) some-left) seam;
                 picture-is =
-                    f .picture-is
+                    f .picture-left
                     ∙ ap₂ (λ t r. bytes (cutOnce t .picture) ++ (replicate (z .height * channelsOf (z .kind)) 0 ++ r)) same-front (bytes-after (g .stands))
                     ∙ ap (bytes (cutOnce left .picture) ++_) (one-more (z .height * channelsOf (z .kind)) count);
                 marks-are =
-                    f .marks-are
+                    f .marks-left
                     ∙ ap₂ (λ t r. flat (cutOnce t .marks) ++ (replicate (z .height) 0 ++ r)) same-front (marks-after (g .stands))
                     ∙ ap (flat (cutOnce left .marks) ++_) (one-more (z .height) count);
               };
             }
 
         -- One cut more.
-        pub going-on : FrontCut (sizeAt z width) b′ m′ true b″ m″ → Going z b m budget (width - 1) (count + 1) b″ m″
+        pub going-on : FrontCut (sizeAt z width) how b′ m′ true b″ m″ → Going z how b m budget (width - 1) (count + 1) b″ m″
         going-on f = rw (add-one count) (next f)
 
 -- An ending that the step before a cut gives.
-pub going-ended : {z : Size} {b m : List ℕ} {budget width count : ℕ} {b′ m′ : List ℕ} (g : Going z b m budget width count b′ m′) (marked : Bool)
-    → marked ≡ toRemove (afterCuts count (markedPicture z b m)) → (how : Removal) → nextStep marked width count budget ≡ Ended how → ObjectRemoved z b m budget 0 how b′ m′
-going-ended {z} {b} {m} {budget} {width} {count} {b′} {m′} g marked is =
-    step-ended marked width count budget (λ how. ObjectRemoved z b m budget 0 how b′ m′)
+pub going-ended : {z : Size} {how : Method} {b m : List ℕ} {budget width count : ℕ} {b′ m′ : List ℕ} (g : Going z how b m budget width count b′ m′) (marked : Bool)
+    → marked ≡ toRemove (afterCuts count (markedPicture z how b m)) → (answer : Removal) → nextStep marked width count budget ≡ Ended answer → SeamsGiven b m z how budget answer b′ m′
+going-ended {z} {how} {b} {m} {budget} {width} {count} {b′} {m′} g marked is =
+    step-ended marked width count budget (λ answer. SeamsGiven b m z how budget answer b′ m′)
     (λ e. going-done g (sym e ∙ is))
     (λ e one. going-narrow g (sym e ∙ is) one)
     (λ e more all. going-spent g (sym e ∙ is) more all)

@@ -17,6 +17,7 @@ use Rattle.pictures.specs.declared.sizes.Size.{Size}
 use Rattle.pictures.specs.Pictures.{channelsOf}
 use Rattle.pictures.proofs.Limits.{sized-is}
 use Rattle.pictures.proofs.Buffers.{picture-ofSize}
+use Rattle.energy.specs.declared.methods.Method.{Method}
 use Rattle.seam_bounds.specs.Moves.{outside}
 use Rattle.seam_bounds.proofs.Moving.{inside-each, each-inside}
 use Rattle.seam_rules.specs.declared.answers.Axis.the-variants.{Vertical}
@@ -56,8 +57,8 @@ flat-inside none = refl
 flat-inside {k} (more {x = x} {xs = xs} e g) = outside-append k x (flat xs) ∙ rw (each-inside e) (flat-inside g)
 
 -- The picture and marks that are brought.
-pub shaped-start : (z : Size) (b m work : List ℕ) → SeamsNeeded z b m work → LeftShaped (channelsOf (z .kind)) (markedPicture z b m)
-shaped-start z b m work s = record {
+pub shaped-start : (z : Size) (b m work : List ℕ) → SeamsNeeded z b m work → (how : Method) → LeftShaped (channelsOf (z .kind)) (markedPicture z how b m)
+shaped-start z b m work s how = record {
   picture-of = picture-ofSize z b (sized-is z (length b) (s .sized) .length-is);
   marks-of = rows-inside 3 (z .width) (z .height) m (omega (arith, s .marked)) (s .few);
 }
@@ -65,7 +66,7 @@ shaped-start z b m work s = record {
 -- The seam has one column for each row, inside the picture.
 seam-inside : (s : MarkedPicture) → noSeam s ≡ false → Each (λ c. c < s .width) (s .height) (seamIn s)
 unfolding blockedAlong markedSeamAlong turned
-seam-inside s e = marked-inside Vertical (record { width = s .width; height = s .height; kind = Grey }) (s .picture) (s .marks) e
+seam-inside s e = marked-inside (s .method) Vertical (record { width = s .width; height = s .height; kind = Grey }) (s .picture) (s .marks) e
 
 -- What a cut leaves has its shape, so its marks are marks.
 pub shaped-cut : (ch : ℕ) (s : MarkedPicture) → LeftShaped ch s → 1 < s .width → noSeam s ≡ false → LeftShaped ch (cutOnce s)

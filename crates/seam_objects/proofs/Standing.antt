@@ -11,19 +11,21 @@ use Rattle.grids.proofs.Rows.{rowsOf-flat, length-flat}
 use Rattle.pictures.specs.declared.sizes.Size.{Size}
 use Rattle.pictures.specs.Pictures.{channelsOf, pictureBytes, picture, bytes, OfSize, pixels, marksOf}
 use Rattle.pictures.proofs.Buffers.{picture-bytes, length-bytes}
+use Rattle.energy.specs.declared.methods.Method.{Method}
 use Rattle.seam_objects.specs.Objects.{MarkedPicture}
 use Rattle.seam_objects.specs.Inner.{front}
 use Rattle.seam_objects.specs.Endings.{LeftShaped}
 
 -- A picture and its marks of this size stand at the front of their buffers, with the freed bytes after them.
-pub record Standing (z : Size) (s : MarkedPicture) (b m freed unmarked : List ℕ) : Type 0 where
+pub record Standing (z : Size) (how : Method) (s : MarkedPicture) (b m freed unmarked : List ℕ) : Type 0 where
+  pub by : s .method ≡ how
   pub wide : s .width ≡ z .width
   pub high : s .height ≡ z .height
   pub shaped : LeftShaped (channelsOf (z .kind)) s
   pub picture-is : b ≡ bytes (s .picture) ++ freed
   pub marks-are : m ≡ flat (s .marks) ++ unmarked
 
-module _ {z : Size} {s : MarkedPicture} {b m freed unmarked : List ℕ} (there : Standing z s b m freed unmarked) where
+module _ {z : Size} {how : Method} {s : MarkedPicture} {b m freed unmarked : List ℕ} (there : Standing z how s b m freed unmarked) where
   of-size : OfSize z (s .picture)
   of-size = rw (there .wide, there .high) at (there .shaped .picture-of)
 
@@ -56,8 +58,9 @@ module _ {z : Size} {s : MarkedPicture} {b m freed unmarked : List ℕ} (there :
       ap (marksOf z) (sym (append-nil (flat (s .marks))))
       ∙ rw (← there .wide, ← there .high) (rowsOf-flat [] (grid-of (there .shaped .marks-of)))
 
-  pub front-is : front z b m ≡ s
+  pub front-is : front z how b m ≡ s
   front-is = λ i. record {
+    method = sym (there .by) i;
     width = sym (there .wide) i;
     height = sym (there .high) i;
     picture = (ap (picture z) front-bytes ∙ picture-bytes z (s .picture) of-size) i;

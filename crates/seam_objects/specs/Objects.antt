@@ -6,11 +6,13 @@ use lib.Dec.{eqb}
 use Rattle.grids.specs.Rows.{flat}
 use Rattle.grids.specs.Cut.{cut}
 use Rattle.pictures.specs.Pictures.{Picture}
+use Rattle.energy.specs.declared.methods.Method.{Method}
 use Rattle.seam_rules.specs.Answers.{Ending, done, narrow, spent, blocked}
 use Rattle.seam_theory.specs.PictureSeams.{markedUp, markedSeamOf, isNone}
 
--- A picture and its marks, with their width and height.
+-- A picture and its marks, with their width and height, and the method that their seams are found by.
 pub record MarkedPicture : Type 0 where
+  pub method : Method
   pub width : ℕ
   pub height : ℕ
   pub picture : Picture
@@ -26,14 +28,15 @@ toRemove s = someTwo (flat (s .marks))
 
 -- Whether no seam is allowed.
 abbrev pub noSeam : MarkedPicture → Bool
-noSeam s = isNone (markedUp (s .width) (s .height) (s .picture) (s .marks))
+noSeam s = isNone (markedUp (s .method) (s .width) (s .height) (s .picture) (s .marks))
 
 -- The vertical seam found with marks, cut out of the picture; "marks are cut alike".
 abbrev pub seamIn : MarkedPicture → List ℕ
-seamIn s = markedSeamOf (s .width) (s .height) (s .picture) (s .marks)
+seamIn s = markedSeamOf (s .method) (s .width) (s .height) (s .picture) (s .marks)
 
 unfoldable pub cutOnce : MarkedPicture → MarkedPicture
 cutOnce s = record {
+  method = s .method;
   width = s .width - 1;
   height = s .height;
   picture = cut (seamIn s) (s .picture);

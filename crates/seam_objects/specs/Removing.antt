@@ -7,8 +7,9 @@ use lib.Dec.{ltb}
 use lib.ListN.{length, replicate}
 use Rattle.grids.specs.Rows.{flat}
 use Rattle.pictures.specs.declared.sizes.Size.{Size}
-use Rattle.pictures.specs.Refusals.{_when_, Rule, served}
+use Rattle.pictures.specs.Refusals.{_when_, Rule, refusal, served}
 use Rattle.pictures.specs.Pictures.{channelsOf, sizeRules, picture, bytes, workBytes, marksOf}
+use Rattle.energy.specs.declared.methods.Method.{Method}
 use Rattle.seam_cut_marked.specs.Marking.{markRules}
 use Rattle.seam_rules.specs.declared.answers.Removal.{Removal}
 use Rattle.seam_rules.specs.Answers.{removalNumber, removalEnding, removalCount}
@@ -18,19 +19,22 @@ use Rattle.seam_objects.specs.Objects.{MarkedPicture, Removed, removal}
 abbrev pub removalRules : Size → List ℕ → List ℕ → ℕ → List Rule
 removalRules z b marks work = sizeRules z (length b) ++ (markRules z marks ++ (8 when ltb work (workBytes z) ∷ []))
 
--- The picture and the marks in lent buffers.
-abbrev pub markedPicture : Size → List ℕ → List ℕ → MarkedPicture
-markedPicture z b m = record { width = z .width; height = z .height; picture = picture z b; marks = marksOf z m }
+-- The picture and the marks in lent buffers, and the method.
+abbrev pub markedPicture : Size → Method → List ℕ → List ℕ → MarkedPicture
+markedPicture z how b m = record { method = how; width = z .width; height = z .height; picture = picture z b; marks = marksOf z m }
 
--- The number, the ending and its count, and the buffers: what is left packed at the front of each, the freed bytes 0.
-pub record RemovedAs (z : Size) (b m : List ℕ) (r : Removed) (number : ℕ) (answer : Removal) (b′ m′ : List ℕ) : Type 0 where
-  pub number-is : removalNumber answer ≡ number
-  pub ending-is : removalEnding answer ≡ served number (some (r .ending)) none
-  pub count-is : removalCount answer ≡ served number (r .count) 0
-  pub picture-is :
-      b′ ≡ served number (bytes (r .left .picture) ++ replicate (r .count * (z .height * channelsOf (z .kind))) 0) b
-  pub marks-are : m′ ≡ served number (flat (r .left .marks) ++ replicate (r .count * z .height) 0) m
+-- What a removal leaves in the buffer of the picture and in that of the marks: packed at the front, the freed bytes 0.
+abbrev pub pictureLeft : Size → Removed → List ℕ
+pictureLeft z r = bytes (r .left .picture) ++ replicate (r .count * (z .height * channelsOf (z .kind))) 0
 
--- By at most `budget` cuts.
-abbrev pub ObjectRemoved : Size → List ℕ → List ℕ → ℕ → ℕ → Removal → List ℕ → List ℕ → Type 0
-ObjectRemoved z b m budget = RemovedAs z b m (removal budget 0 (markedPicture z b m))
+abbrev pub marksLeft : Size → Removed → List ℕ
+marksLeft z r = flat (r .left .marks) ++ replicate (r .count * z .height) 0
+
+-- By at most `budget` cuts: the number, the ending and its count, and the buffers.
+pub record RemoveGiven (b m : List ℕ) (z : Size) (how : Method) (budget : ℕ) (work : List ℕ) (answer : Removal) (b′ m′ work′ : List ℕ) : Type 0 where
+  pub number : removalNumber answer ≡ refusal (removalRules z b m (length work))
+  pub ending : removalEnding answer ≡ served (removalNumber answer) (some (removal budget 0 (markedPicture z how b m) .ending)) none
+  pub count : removalCount answer ≡ served (removalNumber answer) (removal budget 0 (markedPicture z how b m) .count) 0
+  pub picture-left : b′ ≡ served (removalNumber answer) (pictureLeft z (removal budget 0 (markedPicture z how b m))) b
+  pub marks-left : m′ ≡ served (removalNumber answer) (marksLeft z (removal budget 0 (markedPicture z how b m))) m
+  pub work-left : work′ ≡ served (removalNumber answer) (replicate (length work) 0) work

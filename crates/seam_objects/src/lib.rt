@@ -1,4 +1,5 @@
 // Object removal: vertical seams are cut by the marks until no pixel is marked 2.
+use energy::Method;
 use pictures::LARGEST_SIDE;
 use pictures::Size;
 use pictures::Verdict;
@@ -7,11 +8,9 @@ use seam_rules::Found;
 use seam_rules::Next;
 use seam_rules::Removal;
 ghost use mathlib.Core.Path.{_≡_};
-ghost use lib.ListN.{length, replicate};
-ghost use Rattle.pictures.specs.Refusals.{refusal, served};
 ghost use Rattle.seam_objects.specs.Objects.{someTwo};
-ghost use Rattle.seam_objects.specs.Removing.{removalRules, ObjectRemoved};
-ghost use Rattle.seam_objects.specs.Inner.{SeamsNeeded, FrontNeeded, FrontCut};
+ghost use Rattle.seam_objects.specs.Removing.{RemoveGiven};
+ghost use Rattle.seam_objects.specs.Inner.{SeamsNeeded, SeamsGiven, FrontNeeded, FrontCut};
 
 // Cuts at most `budget` seams by the marks. The picture and marks left lie packed at the front of each buffer and the freed
 // bytes are 0. Refused by 2, 3, 4, 5 and 8.
@@ -19,11 +18,11 @@ pub fn remove(
     picture: &mut [u8],
     marks: &mut [u8],
     size: Size,
+    method: Method,
     budget: u16,
     work: &mut [u8],
 ) -> Removal
-    ensures { λ r. ⌜ ObjectRemoved size (now (picture .entry)) (now (marks .entry)) budget (refusal (removalRules size (now (picture .entry)) (now (marks .entry)) (length (now (work .entry))))) r (now (picture .exit)) (now (marks .exit)) ⌝ }
-    ensures { λ r. ⌜ now (work .exit) ≡ served (refusal (removalRules size (now (picture .entry)) (now (marks .entry)) (length (now (work .entry))))) (replicate (length (now (work .entry))) 0) (now (work .entry)) ⌝ }
+    ensures { λ r. ⌜ RemoveGiven (now (picture .entry)) (now (marks .entry)) size method budget (now (work .entry)) r (now (picture .exit)) (now (marks .exit)) (now (work .exit)) ⌝ }
 {
     let fits = seam_cut_marked::judge_marked(
         picture.len(),
@@ -36,7 +35,7 @@ pub fn remove(
     if let Verdict::Refused(why) = fits {
         return Removal::Refused(why);
     }
-    let ended = cut_seams(picture, marks, size, budget, work);
+    let ended = cut_seams(picture, marks, size, method, budget, work);
     pictures::clear(work);
     ended
 }
@@ -46,11 +45,12 @@ fn cut_seams(
     picture: &mut [u8],
     marks: &mut [u8],
     size: Size,
+    method: Method,
     budget: u16,
     work: &mut [u8],
 ) -> Removal
     requires { ⌜ SeamsNeeded size (now picture) (now marks) (now work) ⌝ }
-    ensures { λ r. ⌜ ObjectRemoved size (now (picture .entry)) (now (marks .entry)) budget 0 r (now (picture .exit)) (now (marks .exit)) ⌝ }
+    ensures { λ r. ⌜ SeamsGiven (now (picture .entry)) (now (marks .entry)) size method budget r (now (picture .exit)) (now (marks .exit)) ⌝ }
 {
     let height = size.height;
     let kind = size.kind;
@@ -68,7 +68,7 @@ fn cut_seams(
             height,
             kind,
         };
-        if !cut_front(picture, marks, left, work) {
+        if !cut_front(picture, marks, left, method, work) {
             return Removal::Blocked(count);
         }
         width -= 1;
@@ -78,9 +78,15 @@ fn cut_seams(
 
 // Cuts the seam out of the picture and the marks of this size that stand at the front of their buffers; false, and nothing
 // is cut, where every seam meets a protected pixel.
-fn cut_front(picture: &mut [u8], marks: &mut [u8], size: Size, work: &mut [u8]) -> bool
+fn cut_front(
+    picture: &mut [u8],
+    marks: &mut [u8],
+    size: Size,
+    method: Method,
+    work: &mut [u8],
+) -> bool
     requires { ⌜ FrontNeeded size (now picture) (now marks) (now work) ⌝ }
-    ensures { λ t. ⌜ FrontCut size (now (picture .entry)) (now (marks .entry)) t (now (picture .exit)) (now (marks .exit)) ⌝ }
+    ensures { λ t. ⌜ FrontCut size method (now (picture .entry)) (now (marks .entry)) t (now (picture .exit)) (now (marks .exit)) ⌝ }
 {
     let bytes = pictures::picture_bytes(size);
     let pixels = pictures::pixels(size);
@@ -90,6 +96,7 @@ fn cut_front(picture: &mut [u8], marks: &mut [u8], size: Size, work: &mut [u8]) 
         &mut picture[..bytes],
         &mut marks[..pixels],
         size,
+        method,
         Axis::Vertical,
         &mut seam,
         &mut work[..room],

@@ -88,8 +88,8 @@ returns c =
     let s = start l in
     let told = q .cut-marked .ensures in
     let why = c .enum-told2 .given in
-    let is = front-refused (s .pre) (bytes-are l) (pixels-are l) (room-is l) (tall s) (q .cut-marked .result) (told .0 .number-is) (why .0 .0) (why .1) in
-    front-cut (s .pre) (bytes-are l) (pixels-are l) (room-is l) (tall s) (q .cut-marked .last .0) (q .cut-marked .last .1 .0) false is (told .1 .0) (told .1 .1)
+    let is = front-refused (s .args .method) (s .pre) (bytes-are l) (pixels-are l) (room-is l) (tall s) (q .cut-marked .result) (told .number) (why .0 .0) (why .1) in
+    front-cut (s .args .method) (s .pre) (bytes-are l) (pixels-are l) (room-is l) (tall s) (q .cut-marked .result) (told .number) (q .cut-marked .last .0) (q .cut-marked .last .1 .0) false is (told .picture-left) (told .marks-left)
 
 same-length-4 : tie.Need-same-length-4
 same-length-4 c = search needs
@@ -107,8 +107,8 @@ returns-2 c =
     let s = start l in
     let told = q .cut-marked .ensures in
     let seam = c .enum-told .given in
-    let is = front-found (s .pre) (bytes-are l) (pixels-are l) (room-is l) (tall s) (q .cut-marked .result) (told .0 .number-is) (seam .0 .0) (seam .1) in
-    front-cut (s .pre) (bytes-are l) (pixels-are l) (room-is l) (tall s) (q .cut-marked .last .0) (q .cut-marked .last .1 .0) true is (told .1 .0) (told .1 .1)
+    let is = front-found (s .args .method) (s .pre) (bytes-are l) (pixels-are l) (room-is l) (tall s) (q .cut-marked .result) (told .number) (seam .0 .0) (seam .1) in
+    front-cut (s .args .method) (s .pre) (bytes-are l) (pixels-are l) (room-is l) (tall s) (q .cut-marked .result) (told .number) (q .cut-marked .last .0) (q .cut-marked .last .1 .0) true is (told .picture-left) (told .marks-left)
 
 pub cut-front-spec : {M : Type 1} → statement M
 cut-front-spec =

@@ -19,18 +19,18 @@ use Rattle.seam_objects.proofs.cut_seams.Tie as tie
 use Rattle.pictures.specs.Limits.{mostSide, mostPixels}
 
 abbrev Inv-loop : tie.InvT-loop
-Inv-loop picture₀ marks₀ budget work₀ height kind width₀ count₀ picture marks work width count =
-    Going (record { width = width₀; height = height; kind = kind }) picture₀ marks₀ budget width count picture marks
+Inv-loop picture₀ marks₀ method budget work₀ height kind width₀ count₀ picture marks work width count =
+    Going (record { width = width₀; height = height; kind = kind }) method picture₀ marks₀ budget width count picture marks
     × ((length picture ≡ length picture₀) × ((length marks ≡ length marks₀) × (length work ≡ length work₀)))
 
 abbrev μ-loop : tie.MeasureT-loop
-μ-loop picture₀ marks₀ budget work₀ height kind width₀ count₀ picture marks work width count = width
+μ-loop picture₀ marks₀ method budget work₀ height kind width₀ count₀ picture marks work width count = width
 
 -- what the function was given
 abbrev start : tie.At-loop Inv-loop μ-loop → tie.Start Inv-loop μ-loop
 start h = h .before .before .before .before
 
-going : (h : tie.At-loop Inv-loop μ-loop) → let a = start h .args in Going (a .size) (now (a .picture)) (now (a .marks)) (a .budget) (h .loop .width) (h .loop .count) (h .loop .picture) (h .loop .marks)
+going : (h : tie.At-loop Inv-loop μ-loop) → let a = start h .args in Going (a .size) (a .method) (now (a .picture)) (now (a .marks)) (a .budget) (h .loop .width) (h .loop .count) (h .loop .picture) (h .loop .marks)
 going h = h .loop .inv .0
 
 few : (h : tie.At-loop Inv-loop μ-loop) → start h .args .size .height * h .loop .width ≤ mostPixels
@@ -40,7 +40,7 @@ few h =
     mul-le-mul (g .sides .height-small) w
 
 -- whether a mark 2 was found
-found : (c : tie.After-some-two Inv-loop μ-loop) → let h = c .before .before in let a = start h .args in c .some-two .result ≡ toRemove (afterCuts (h .loop .count) (markedPicture (a .size) (now (a .picture)) (now (a .marks))))
+found : (c : tie.After-some-two Inv-loop μ-loop) → let h = c .before .before in let a = start h .args in c .some-two .result ≡ toRemove (afterCuts (h .loop .count) (markedPicture (a .size) (a .method) (now (a .picture)) (now (a .marks))))
 found c =
     let h = c .before .before in
     let a = start h .args in
@@ -53,14 +53,14 @@ on c =
     let h = p .before .before .before in
     step-cut (p .before .some-two .result) (h .loop .width) (h .loop .count) (start h .args .budget) (sym (p .next-step .ensures) ∙ c .enum-told .given .1)
 
-two : (c : tie.After-enum-told Inv-loop μ-loop) → let h = c .before .before .before .before .before in let a = start h .args in true ≡ toRemove (afterCuts (h .loop .count) (markedPicture (a .size) (now (a .picture)) (now (a .marks))))
+two : (c : tie.After-enum-told Inv-loop μ-loop) → let h = c .before .before .before .before .before in let a = start h .args in true ≡ toRemove (afterCuts (h .loop .count) (markedPicture (a .size) (a .method) (now (a .picture)) (now (a .marks))))
 two c = sym (on c .some) ∙ found (c .before .before .before)
 
 loop-holds : tie.Need-loop-holds Inv-loop μ-loop
 loop-holds c =
     let k = c .before .before .before in
     let a = k .args in
-    (going-start (a .size) (now (a .picture)) (now (a .marks)) (now (a .work)) (a .budget) (k .pre), (refl, (refl, refl)))
+    (going-start (a .size) (a .method) (now (a .picture)) (now (a .marks)) (now (a .work)) (a .budget) (k .pre), (refl, (refl, refl)))
 
 mul-pixels : tie.Need-mul-pixels Inv-loop μ-loop
 mul-pixels c = omega (arith, few c)
@@ -96,8 +96,8 @@ returns : tie.Need-returns Inv-loop μ-loop
 returns c =
     let p = c .before .before .before in
     let h = p .before .before .before in
-    let how = c .before .next .given in
-    going-ended (going h) (p .before .some-two .result) (found (p .before)) (how .0 .0) (sym (p .next-step .ensures) ∙ how .1)
+    let ended = c .before .next .given in
+    going-ended (going h) (p .before .some-two .result) (found (p .before)) (ended .0 .0) (sym (p .next-step .ensures) ∙ ended .1)
 
 enum-told : tie.Need-enum-told Inv-loop μ-loop
 enum-told c = search needs
@@ -151,7 +151,7 @@ loop-again c =
     let told = q .before .before .before .before in
     let h = told .before .before .before .before .before in
     let yes = not-false (q .cut-front .result) (c .if1 .left) in
-    (going-on (going h) (two told) (on told .wide) (on told .due) (q .cut-front .last .0) (q .cut-front .last .1 .0) (rw yes at (q .cut-front .ensures)), (omega (arith, q .cut-front .kept .0, h .loop .inv .1 .0), (omega (arith, q .cut-front .kept .1 .0, h .loop .inv .1 .1 .0), omega (arith, h .loop .inv .1 .1 .1, q .cut-front .kept .1 .1 .1 .0))))
+    (going-on (going h) (two told) (on told .wide) (on told .due) (q .cut-front .last .0) (q .cut-front .last .1 .0) (rw yes at (q .cut-front .ensures)), (omega (arith, q .cut-front .kept .0, h .loop .inv .1 .0), (omega (arith, q .cut-front .kept .1 .0, h .loop .inv .1 .1 .0), omega (arith, h .loop .inv .1 .1 .1, q .cut-front .kept .1 .1 .1 .1 .0))))
 
 pub cut-seams-spec : {M : Type 1} → statement M
 cut-seams-spec =

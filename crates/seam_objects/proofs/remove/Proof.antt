@@ -44,7 +44,7 @@ returns c =
     let q = c .before .before .before in
     let a = q .before .before .before .before .before .args in
     let why = c .before .fits2 .given in
-    refused-all (a .size) (now (a .picture)) (now (a .marks)) (a .budget) (now (a .work)) (why .0 .0) (number (q .before .before .before .before .before)) (sym (ap given (why .1)) ∙ judged q)
+    refused-all (now (a .picture)) (now (a .marks)) (a .size) (a .method) (a .budget) (now (a .work)) (why .0 .0) (sym (ap given (why .1)) ∙ judged q)
 
 enum-told : tie.Need-enum-told
 enum-told c = search needs
@@ -74,8 +74,15 @@ returns-2 c =
     let at-clear = c .before .before in
     let k = at-clear .before .before .before .before .before .before .before .before in
     let q = k .before .before .before .before in
-    let a = q .before .before .before .before .before .before .before .args in
-    rw (nothing q) (k .cut-seams .ensures, at-clear .clear .ensures ∙ ap (λ n. replicate n 0) (k .cut-seams .kept .1 .1 .1 .1 .0))
+    let g = k .cut-seams .ensures in
+    record {
+      number = g .number ∙ sym (nothing q);
+      ending = rw (g .number) (g .ending);
+      count = rw (g .number) (g .count);
+      picture-left = rw (g .number) (g .picture-left);
+      marks-left = rw (g .number) (g .marks-left);
+      work-left = rw (g .number) (at-clear .clear .ensures ∙ ap (λ n. replicate n 0) (k .cut-seams .kept .1 .1 .1 .1 .1 .0));
+    }
 
 pub remove-spec : {M : Type 1} → statement M
 remove-spec =
