@@ -12,6 +12,7 @@ use Rattle.pictures.specs.declared.sizes.Size.{Size}
 use Rattle.pictures.specs.Pictures.{channelsOf, pictureBytes, picture, OfSize, pixels, pictureIn}
 use Rattle.pictures.proofs.Buffers.{picture-ofSize}
 use Rattle.pictures.proofs.Limits.{sides-of}
+use Rattle.energy.specs.declared.methods.Method.{Method}
 use Rattle.map_rules.specs.Spaces.{mapBytes, mapAt}
 use Rattle.map_rules.proofs.Rooms.{Room}
 use Rattle.map_build.specs.Building.{mapped}
@@ -36,16 +37,16 @@ next-needed z depth space t at now a e r l =
     }
 
 -- The picture and what stands after the map as they were, zeros between them.
-pub record First (z : Size) (space now : List ℕ) : Type 0 where
+pub record First (z : Size) (how : Method) (space now : List ℕ) : Type 0 where
   pub same-long : length now ≡ length space
   pub same-picture : pictureIn z now ≡ pictureIn z space
   pub same-rest : drop (mapAt z + mapBytes z) now ≡ drop (mapAt z + mapBytes z) space
-  pub now-is : now ≡ mapped z 0 (pictureIn z space) ++ drop (mapAt z + mapBytes z) space
+  pub now-is : now ≡ mapped z how 0 (pictureIn z space) ++ drop (mapAt z + mapBytes z) space
 
-first-there : (z : Size) (space cleared : List ℕ) → mapAt z + mapBytes z ≤ length space
+first-there : (z : Size) (how : Method) (space cleared : List ℕ) → mapAt z + mapBytes z ≤ length space
     → cleared ≡ replicate (length (midOf (pictureBytes z) (mapAt z + mapBytes z - pictureBytes z) space)) 0
-    → First z space (putMid (pictureBytes z) (mapAt z + mapBytes z - pictureBytes z) space cleared)
-first-there z space cleared room e =
+    → First z how space (putMid (pictureBytes z) (mapAt z + mapBytes z - pictureBytes z) space cleared)
+first-there z how space cleared room e =
     let b = pictureBytes z in
     let end = mapAt z + mapBytes z in
     let front : length (take (pictureBytes z) space) ≡ pictureBytes z = length-take-le (pictureBytes z) space (omega arith) in
@@ -58,10 +59,10 @@ first-there z space cleared room e =
       same-long = ap length split ∙ length-append (take b space ++ cleared) (drop end space) ∙ omega (arith, both, length-drop (mapAt z + mapBytes z) space);
       same-picture = ap (picture z) (ap (take b) is ∙ take-at (take b space) (cleared ++ drop end space) b front);
       same-rest = ap (drop end) split ∙ drop-at (take b space ++ cleared) (drop end space) end both;
-      now-is = is ∙ ap (λ r. take b space ++ (r ++ drop end space)) e ∙ first-mapped z (take b space) (drop end space) _ front many;
+      now-is = is ∙ ap (λ r. take b space ++ (r ++ drop end space)) e ∙ first-mapped z how (take b space) (drop end space) _ front many;
     }
 
 -- The same with the places as they are given out.
-pub first-is : (z : Size) (space cleared : List ℕ) (b at n : ℕ) → b ≡ pictureBytes z → at ≡ mapAt z → n ≡ mapBytes z → mapAt z + mapBytes z ≤ length space
-    → cleared ≡ replicate (length (midOf b (at + n - b) space)) 0 → First z space (putMid b (at + n - b) space cleared)
-first-is z space cleared b at n be ae ne room e = rw (be, ae, ne) (first-there z space cleared room (rw (be, ae, ne) at e))
+pub first-is : (z : Size) (how : Method) (space cleared : List ℕ) (b at n : ℕ) → b ≡ pictureBytes z → at ≡ mapAt z → n ≡ mapBytes z → mapAt z + mapBytes z ≤ length space
+    → cleared ≡ replicate (length (midOf b (at + n - b) space)) 0 → First z how space (putMid b (at + n - b) space cleared)
+first-is z how space cleared b at n be ae ne room e = rw (be, ae, ne) (first-there z how space cleared room (rw (be, ae, ne) at e))

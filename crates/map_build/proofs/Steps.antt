@@ -19,6 +19,7 @@ use Rattle.pictures.proofs.Buffers.{picture-ofSize, picture-bytes, bytes-pictur
 use Rattle.pictures.proofs.TwoBytes.{pairs-flat, grid-pairs}
 use Rattle.map_theory.specs.Maps.{carve, mapOf}
 use Rattle.map_theory.proofs.Maps.{carve-next, map-grid, map-next, carve-each}
+use Rattle.energy.specs.declared.methods.Method.{Method}
 use Rattle.seam_theory.specs.PictureSeams.{seamOf}
 use Rattle.map_rules.specs.Spaces.{mapBytes, mapAt}
 use Rattle.map_build.specs.Building.{mapped}
@@ -40,7 +41,7 @@ freed h w ch t l =
     let move : t * (h * ch) ≡ h * (t * ch) = sym (mul-assoc t h ch) ∙ ap (_* ch) (mul-comm t h) ∙ mul-assoc h t ch in
     rw (split, move) (sym (mul-add h ((w - t) * ch) (t * ch)))
 
-module _ (z : Size) (p : Picture) (o : OfSize z p) (t : ℕ) (deep : t < z .width) where
+module _ (z : Size) (how : Method) (p : Picture) (o : OfSize z p) (t : ℕ) (deep : t < z .width) where
   abbrev w : ℕ
   w = z .width
 
@@ -51,10 +52,10 @@ module _ (z : Size) (p : Picture) (o : OfSize z p) (t : ℕ) (deep : t < z .widt
   ch = channelsOf (z .kind)
 
   abbrev q : Picture
-  q = carve seamOf t (z .width) (z .height) p
+  q = carve (seamOf how) t (z .width) (z .height) p
 
   q-of : OfSize (leftSize z t) q
-  q-of = carve-each seamOf seam-chooses t (z .width) (z .height) p deep o
+  q-of = carve-each (seamOf how) (seam-chooses how) t (z .width) (z .height) p deep o
 
   grid : Grid (z .width) (z .height) p
   grid = grid-of o
@@ -63,12 +64,12 @@ module _ (z : Size) (p : Picture) (o : OfSize z p) (t : ℕ) (deep : t < z .widt
   front = bytes q ++ replicate (t * (z .height * channelsOf (z .kind)) + pixels z) 0
 
   abbrev m : List (List ℕ)
-  m = mapOf seamOf t (z .width) (z .height) p
+  m = mapOf (seamOf how) t (z .width) (z .height) p
 
   long-bytes : length (bytes q) ≡ pictureBytes (leftSize z t)
   long-bytes = length-bytes (leftSize z t) q q-of
 
-  pub front-long : length (bytes (carve seamOf t (z .width) (z .height) p) ++ replicate (t * (z .height * channelsOf (z .kind)) + pixels z) 0) ≡ mapAt z
+  pub front-long : length (bytes (carve (seamOf how) t (z .width) (z .height) p) ++ replicate (t * (z .height * channelsOf (z .kind)) + pixels z) 0) ≡ mapAt z
   front-long =
       omega (
         arith,
@@ -78,13 +79,13 @@ module _ (z : Size) (p : Picture) (o : OfSize z p) (t : ℕ) (deep : t < z .widt
         freed (z .height) (z .width) (channelsOf (z .kind)) t (omega arith),
       )
 
-  pub map-long : length (pairs (flat (mapOf seamOf t (z .width) (z .height) p))) ≡ mapBytes z
-  map-long = ap length (pairs-flat (mapOf seamOf t (z .width) (z .height) p)) ∙ length-flat (grid-pairs (map-grid seamOf seam-chooses t (z .width) (z .height) p grid (omega arith)))
+  pub map-long : length (pairs (flat (mapOf (seamOf how) t (z .width) (z .height) p))) ≡ mapBytes z
+  map-long = ap length (pairs-flat (mapOf (seamOf how) t (z .width) (z .height) p)) ∙ length-flat (grid-pairs (map-grid (seamOf how) (seam-chooses how) t (z .width) (z .height) p grid (omega arith)))
 
   -- The front and the map, with what follows.
   module _ (rest : List ℕ) where
     abbrev whole : List ℕ
-    whole = mapped z t p ++ rest
+    whole = mapped z how t p ++ rest
 
     parts : whole ≡ front ++ (pairs (flat m) ++ rest)
     parts =
@@ -113,10 +114,10 @@ module _ (z : Size) (p : Picture) (o : OfSize z p) (t : ℕ) (deep : t < z .widt
 
     -- The seam cut next, and what it leaves.
     abbrev s : List ℕ
-    s = seamOf (z .width - t) (z .height) q
+    s = seamOf how (z .width - t) (z .height) q
 
     seam-long : length s ≡ z .height
-    seam-long = each-length (seam-chooses .inside (z .width - t) (z .height) q (omega arith) (grid-of q-of))
+    seam-long = each-length (seam-chooses how .inside (z .width - t) (z .height) q (omega arith) (grid-of q-of))
 
     rest-zero : drop (pictureBytes (leftSize z t) + pixels (leftSize z t)) front ≡ replicate (t * (z .height * channelsOf (z .kind)) + pixels z - pixels (leftSize z t)) 0
     rest-zero =
@@ -129,7 +130,7 @@ module _ (z : Size) (p : Picture) (o : OfSize z p) (t : ℕ) (deep : t < z .widt
 
     next-front : (bytes (cut s q) ++ replicate (z .height * channelsOf (z .kind)) 0)
         ++ (replicate (pixels (leftSize z t)) 0 ++ drop (pictureBytes (leftSize z t) + pixels (leftSize z t)) front)
-        ≡ bytes (carve seamOf (suc t) (z .width) (z .height) p) ++ replicate (suc t * (z .height * channelsOf (z .kind)) + pixels z) 0
+        ≡ bytes (carve (seamOf how) (suc t) (z .width) (z .height) p) ++ replicate (suc t * (z .height * channelsOf (z .kind)) + pixels z) 0
     next-front =
         let hc = z .height * channelsOf (z .kind) in
         let a = pixels (leftSize z t) in
@@ -137,44 +138,44 @@ module _ (z : Size) (p : Picture) (o : OfSize z p) (t : ℕ) (deep : t < z .widt
         let few : z .height * (z .width - t) ≤ z .height * z .width = mul-le-mul-left (z .height) (omega arith) in
         let n : z .height * channelsOf (z .kind) + (pixels (leftSize z t) + (t * (z .height * channelsOf (z .kind)) + pixels z - pixels (leftSize z t))) ≡ suc t * (z .height * channelsOf (z .kind)) + pixels z = omega (arith, few, suc-mul t (z .height * channelsOf (z .kind))) in
         append-assoc (bytes (cut s q)) (replicate hc 0) (replicate a 0 ++ drop (pictureBytes (leftSize z t) + pixels (leftSize z t)) front)
-        ∙ ap₂ (λ c r. bytes c ++ r) (sym (carve-next seamOf t (z .width) (z .height) p))
+        ∙ ap₂ (λ c r. bytes c ++ r) (sym (carve-next (seamOf how) t (z .width) (z .height) p))
         (ap (λ r. replicate hc 0 ++ (replicate a 0 ++ r)) rest-zero
         ∙ ap (replicate hc 0 ++_) (replicate-append-replicate a b 0)
         ∙ replicate-append-replicate hc (a + b) 0 ∙ ap (λ k. replicate k 0) n)
 
-    next-map : writeRows (suc t) (z .width) s (pairs (flat m)) ≡ pairs (flat (mapOf seamOf (suc t) (z .width) (z .height) p))
+    next-map : writeRows (suc t) (z .width) s (pairs (flat m)) ≡ pairs (flat (mapOf (seamOf how) (suc t) (z .width) (z .height) p))
     next-map =
-        let g : Grid (2 * z .width) (z .height) (map pairs m) = grid-pairs (map-grid seamOf seam-chooses t (z .width) (z .height) p grid (omega arith)) in
+        let g : Grid (2 * z .width) (z .height) (map pairs m) = grid-pairs (map-grid (seamOf how) (seam-chooses how) t (z .width) (z .height) p grid (omega arith)) in
         let rows : rowsOf (2 * z .width) (length s) (pairs (flat m)) ≡ map pairs m =
         ap₂ (λ n b. rowsOf (2 * z .width) n b) seam-long (pairs-flat m ∙ sym (append-nil (flat (map pairs m)))) ∙ rowsOf-flat [] g in
         ap (λ r. flat (zipWith (writePair (lowByte (suc t)) (highByte (suc t))) s r)) rows
-        ∙ ap flat (write-all-pairs (suc t) s m ∙ ap (map pairs) (sym (map-next seamOf seam-chooses t (z .width) (z .height) p grid deep)))
-        ∙ sym (pairs-flat (mapOf seamOf (suc t) (z .width) (z .height) p))
+        ∙ ap flat (write-all-pairs (suc t) s m ∙ ap (map pairs) (sym (map-next (seamOf how) (seam-chooses how) t (z .width) (z .height) p grid deep)))
+        ∙ sym (pairs-flat (mapOf (seamOf how) (suc t) (z .width) (z .height) p))
 
-    next-there : (space′ : List ℕ) → NextGiven (leftSize z t) (z .width) (mapAt z) (t + 1) (mapped z t p ++ rest) space′ → space′ ≡ mapped z (t + 1) p ++ rest
+    next-there : (space′ : List ℕ) → NextGiven (leftSize z t) how (z .width) (mapAt z) (t + 1) (mapped z how t p ++ rest) space′ → space′ ≡ mapped z how (t + 1) p ++ rest
     next-there space′ g =
         let zeros : List ℕ = replicate (suc t * (z .height * channelsOf (z .kind)) + pixels z) 0 in
-        let left = bytes (carve seamOf (suc t) (z .width) (z .height) p) in
-        let new = pairs (flat (mapOf seamOf (suc t) (z .width) (z .height) p)) in
+        let left = bytes (carve (seamOf how) (suc t) (z .width) (z .height) p) in
+        let new = pairs (flat (mapOf (seamOf how) (suc t) (z .width) (z .height) p)) in
         rw (add-one t)
-        ((rw (picture-there, take-front, take-map, drop-map, add-one t) at (g .space-is))
+        ((rw (picture-there, take-front, take-map, drop-map, add-one t) at (g .space-left))
         ∙ ap₂ (λ a b. a ++ (b ++ rest)) next-front next-map
         ∙ append-assoc left zeros (new ++ rest)
         ∙ ap (left ++_) (sym (append-assoc zeros new rest))
         ∙ sym (append-assoc left (zeros ++ new) rest))
 
     -- The same with the map's place and the space as they are given.
-    pub next-mapped : (at : ℕ) (space space′ : List ℕ) → at ≡ mapAt z → space ≡ mapped z t p ++ rest
-        → NextGiven (leftSize z t) (z .width) at (t + 1) space space′ → space′ ≡ mapped z (t + 1) p ++ rest
+    pub next-mapped : (at : ℕ) (space space′ : List ℕ) → at ≡ mapAt z → space ≡ mapped z how t p ++ rest
+        → NextGiven (leftSize z t) how (z .width) at (t + 1) space space′ → space′ ≡ mapped z how (t + 1) p ++ rest
     next-mapped at space space′ a e g = next-there space′ (rw (a, e) at g)
 
 -- The space before the first seam: the picture, and zeros for the work and the map.
-pub first-mapped : (z : Size) (b rest : List ℕ) (n : ℕ) → length b ≡ pictureBytes z → n ≡ pixels z + mapBytes z
-    → b ++ (replicate n 0 ++ rest) ≡ mapped z 0 (picture z b) ++ rest
-first-mapped z b rest n e k =
+pub first-mapped : (z : Size) (how : Method) (b rest : List ℕ) (n : ℕ) → length b ≡ pictureBytes z → n ≡ pixels z + mapBytes z
+    → b ++ (replicate n 0 ++ rest) ≡ mapped z how 0 (picture z b) ++ rest
+first-mapped z how b rest n e k =
     let zero-few : 0 * (z .height * channelsOf (z .kind)) + pixels z ≡ pixels z = omega (arith, zero-mul (z .height * channelsOf (z .kind))) in
-    let zeros : replicate n 0 ≡ replicate (0 * (z .height * channelsOf (z .kind)) + pixels z) 0 ++ pairs (flat (mapOf seamOf 0 (z .width) (z .height) (picture z b))) =
+    let zeros : replicate n 0 ≡ replicate (0 * (z .height * channelsOf (z .kind)) + pixels z) 0 ++ pairs (flat (mapOf (seamOf how) 0 (z .width) (z .height) (picture z b))) =
     ap (λ i. replicate i 0) k ∙ sym (replicate-append-replicate (pixels z) (mapBytes z) 0)
     ∙ sym (ap₂ (λ i r. replicate i 0 ++ r) zero-few (map-zeros (grid-of (picture-ofSize z b e)))) in
     ap₂ (λ x r. x ++ (r ++ rest)) (sym (bytes-picture z b e)) zeros
-    ∙ sym (append-assoc (bytes (picture z b)) (replicate (0 * (z .height * channelsOf (z .kind)) + pixels z) 0 ++ pairs (flat (mapOf seamOf 0 (z .width) (z .height) (picture z b)))) rest)
+    ∙ sym (append-assoc (bytes (picture z b)) (replicate (0 * (z .height * channelsOf (z .kind)) + pixels z) 0 ++ pairs (flat (mapOf (seamOf how) 0 (z .width) (z .height) (picture z b)))) rest)

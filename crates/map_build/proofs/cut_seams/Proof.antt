@@ -8,6 +8,7 @@ use borrow.Author.Needs.{needs}
 use borrow.Rule.Slice.PartMut.{putMid}
 use denote.Ref.{now}
 use lib.ListN.{length, drop}
+use Rattle.energy.specs.declared.methods.Method.{Method}
 use Rattle.pictures.specs.declared.sizes.Size.{Size}
 use Rattle.pictures.specs.Pictures.{pictureBytes, pictureIn}
 use Rattle.pictures.proofs.Limits.{given-out}
@@ -20,12 +21,12 @@ use Rattle.map_build.proofs.cut_seams.Statement.{statement}
 use Rattle.map_build.proofs.cut_seams.Tie as tie
 
 abbrev Inv-loop : tie.InvT-loop
-Inv-loop space₀ depth width height kind bytes at end t₀ space t =
+Inv-loop space₀ method depth width height kind bytes at end t₀ space t =
     let z : Size = record { width = width; height = height; kind = kind } in
-    (t ≤ depth) × (length space ≡ length space₀) × (space ≡ mapped z t (pictureIn z space₀) ++ drop (mapAt z + mapBytes z) space₀)
+    (t ≤ depth) × (length space ≡ length space₀) × (space ≡ mapped z method t (pictureIn z space₀) ++ drop (mapAt z + mapBytes z) space₀)
 
 abbrev μ-loop : tie.MeasureT-loop
-μ-loop space₀ depth width height kind bytes at end t₀ space t = depth - t
+μ-loop space₀ method depth width height kind bytes at end t₀ space t = depth - t
 
 room : (s : tie.Start Inv-loop μ-loop) → Room (s .args .size) (s .args .depth) (length (now (s .args .space))) 1
 room s = room-is (s .args .size) (s .args .depth) (length (now (s .args .space))) 1 (s .pre .served)
@@ -36,6 +37,9 @@ start c = c .before .before .before .before
 
 abbrev size : tie.After-map-bytes Inv-loop μ-loop → Size
 size c = start c .args .size
+
+abbrev method : tie.After-map-bytes Inv-loop μ-loop → Method
+method c = start c .args .method
 
 abbrev space₀ : tie.After-map-bytes Inv-loop μ-loop → List ℕ
 space₀ c = now (start c .args .space)
@@ -56,10 +60,10 @@ cleared k =
     let b = m .before .before .picture-bytes .result in
     putMid b (m .before .map-at .result + m .map-bytes .result - b) (space₀ m) (k .clear .last .0)
 
-first : (k : tie.After-clear Inv-loop μ-loop) → First (size (k .before .before)) (space₀ (k .before .before)) (cleared k)
+first : (k : tie.After-clear Inv-loop μ-loop) → First (size (k .before .before)) (method (k .before .before)) (space₀ (k .before .before)) (cleared k)
 first k =
     let m = k .before .before in
-    first-is (size m) (space₀ m) (k .clear .last .0) _ _ _ (bytes-are m) (at-is m) (map-is m) (room (start m) .long) (k .clear .ensures)
+    first-is (size m) (method m) (space₀ m) (k .clear .last .0) _ _ _ (bytes-are m) (at-is m) (map-is m) (room (start m) .long) (k .clear .ensures)
 
 picture-bytes-requires : tie.Need-picture-bytes-requires Inv-loop μ-loop
 picture-bytes-requires c κs = search needs
@@ -89,7 +93,7 @@ loop-holds : tie.Need-loop-holds Inv-loop μ-loop
 loop-holds c =
     let k = c .before .before in
     let f = first k in
-    (omega arith, refl, f .now-is ∙ sym (ap₂ (λ p r. mapped (size (k .before .before)) 0 p ++ r) (f .same-picture) (f .same-rest)))
+    (omega arith, refl, f .now-is ∙ sym (ap₂ (λ p r. mapped (size (k .before .before)) (method (k .before .before)) 0 p ++ r) (f .same-picture) (f .same-rest)))
 
 -- at the loop: the space cleared
 abbrev clearing : tie.At-loop Inv-loop μ-loop → tie.After-clear Inv-loop μ-loop
@@ -130,7 +134,7 @@ loop-again c =
     let r = room (start m) in (
       omega arith,
       n .kept .0 ∙ h .loop .inv .1,
-      next-mapped z (pictureIn z (cleared k)) (there-ofSize z (cleared k) (omega (arith, f .same-long, r .long))) (h .loop .t) (omega (arith, r .deep)) (drop (mapAt z + mapBytes z) (cleared k)) _ (h .loop .space) (n .last .0)
+      next-mapped z (method m) (pictureIn z (cleared k)) (there-ofSize z (cleared k) (omega (arith, f .same-long, r .long))) (h .loop .t) (omega (arith, r .deep)) (drop (mapAt z + mapBytes z) (cleared k)) _ (h .loop .space) (n .last .0)
           (at-is m) (h .loop .inv .2) (n .ensures),
     )
 
@@ -144,7 +148,7 @@ returns c =
     let z = size m in
     let f = first (clearing h) in
     let last : h .loop .t ≡ start m .args .depth = omega arith in
-    record { space-is = h .loop .inv .2 ∙ ap₂ (λ p r. mapped z (h .loop .t) p ++ r) (f .same-picture) (f .same-rest) ∙ ap (λ t. mapped z t (pictureIn z (space₀ m)) ++ drop (mapAt z + mapBytes z) (space₀ m)) last }
+    record { space-left = h .loop .inv .2 ∙ ap₂ (λ p r. mapped z (method m) (h .loop .t) p ++ r) (f .same-picture) (f .same-rest) ∙ ap (λ t. mapped z (method m) t (pictureIn z (space₀ m)) ++ drop (mapAt z + mapBytes z) (space₀ m)) last }
 
 pub cut-seams-spec : {M : Type 1} → statement M
 cut-seams-spec =

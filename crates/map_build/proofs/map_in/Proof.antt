@@ -29,7 +29,7 @@ returns c =
     let a = s .args in
     let r = at-space .judge-map-space in
     let why = c .enum-told2 .given in
-    record { number-is = r .ensures; space-is = refused-kept (r .result) (why .0 .0) (why .1) _ (now (a .space)) }
+    record { number = r .ensures; space-left = refused-kept (r .result) (why .0 .0) (why .1) _ (now (a .space)) }
 
 cut-seams-requires : tie.Need-cut-seams-requires
 cut-seams-requires c κs = record { served = sym (c .before .before .before .judge-map-space .ensures) ∙ ap given (c .before .enum-told .given .1) }
@@ -46,8 +46,8 @@ returns-2 c =
     let a = s .args in
     let r = at-space .judge-map-space in
     let none : given (r .result) ≡ 0 = ap given (at-enum-told .enum-told .given .1) in
-    let new = mapped (a .size) (a .depth) (pictureIn (a .size) (now (a .space))) ++ drop (mapAt (a .size) + mapBytes (a .size)) (now (a .space)) in
-    record { number-is = r .ensures; space-is = at-cut-seams .cut-seams .ensures .space-is ∙ sym (ap (λ n. served n new (now (a .space))) none) }
+    let new = mapped (a .size) (a .method) (a .depth) (pictureIn (a .size) (now (a .space))) ++ drop (mapAt (a .size) + mapBytes (a .size)) (now (a .space)) in
+    record { number = r .ensures; space-left = at-cut-seams .cut-seams .ensures .space-left ∙ sym (ap (λ n. served n new (now (a .space))) none) }
 
 pub map-in-spec : {M : Type 1} → statement M
 map-in-spec =

@@ -32,16 +32,16 @@ front-long : (s : tie.Start) → length (take (s .args .at) (now (s .args .space
 front-long s = length-take-le (s .args .at) (now (s .args .space)) (omega (arith, s .pre .map-room))
 
 found-space : (c : tie.After-cut-in) → let a = start c .args in let z = a .size in let lent = take (a .at) (now (a .space)) in
-    c .cut-in .last .0 ≡ (bytes (cut (seamOf (z .width) (z .height) (pictureIn z lent)) (pictureIn z lent)) ++ replicate (z .height * channelsOf (z .kind)) 0)
+    c .cut-in .last .0 ≡ (bytes (cut (seamOf (a .method) (z .width) (z .height) (pictureIn z lent)) (pictureIn z lent)) ++ replicate (z .height * channelsOf (z .kind)) 0)
     ++ (replicate (pixels z) 0 ++ drop (pictureBytes z + pixels z) lent)
 found-space c =
     let s = start c in
     let a = s .args in
-    cut-space (take (a .at) (now (a .space))) (a .size) (replicate largestSide 0) (c .cut-in .result) (c .cut-in .last .0) (c .cut-in .last .1 .1 .0) (c .cut-in .ensures) (s .pre .sides)
+    cut-space (take (a .at) (now (a .space))) (a .size) (a .method) (replicate largestSide 0) (c .cut-in .result) (c .cut-in .last .0) (c .cut-in .last .1 .1 .1 .0) (c .cut-in .ensures) (s .pre .sides)
     (omega (arith, tall s, length-replicate {A = ℕ} largestSide 0)) (omega (arith, front-long s, s .pre .work-room)) (s .pre .wide)
 
 found-seam : (c : tie.After-cut-in) → let a = start c .args in let z = a .size in
-    take (z .height) (c .cut-in .last .1 .1 .0) ≡ seamOf (z .width) (z .height) (pictureIn z (take (a .at) (now (a .space))))
+    take (z .height) (c .cut-in .last .1 .1 .1 .0) ≡ seamOf (a .method) (z .width) (z .height) (pictureIn z (take (a .at) (now (a .space))))
 found-seam c =
     let s = start c in
     let a = s .args in
@@ -49,15 +49,15 @@ found-seam c =
     let sides = sides-are (a .size) (s .pre .sides) in
     let q = pictureIn z (take (a .at) (now (a .space))) in
     ap (take (z .height))
-    (cut-seam (take (a .at) (now (a .space))) (a .size) (replicate largestSide 0) (c .cut-in .result) (c .cut-in .last .0) (c .cut-in .last .1 .1 .0) (c .cut-in .ensures) (s .pre .sides)
+    (cut-seam (take (a .at) (now (a .space))) (a .size) (a .method) (replicate largestSide 0) (c .cut-in .result) (c .cut-in .last .0) (c .cut-in .last .1 .1 .1 .0) (c .cut-in .ensures) (s .pre .sides)
     (omega (arith, tall s, length-replicate {A = ℕ} largestSide 0)) (omega (arith, front-long s, s .pre .work-room)) (s .pre .wide))
-    ∙ take-at (seamOf (z .width) (z .height) q) (drop (z .height) (replicate largestSide 0)) (z .height) (each-length (seam-inside (z .width) (z .height) q (sides .width-some) (sides .height-some)))
+    ∙ take-at (seamOf (a .method) (z .width) (z .height) q) (drop (z .height) (replicate largestSide 0)) (z .height) (each-length (seam-inside (a .method) (z .width) (z .height) q (sides .width-some) (sides .height-some)))
 
 left-long : (c : tie.After-cut-in) → length (c .cut-in .last .0) ≡ start c .args .at
 left-long c = c .cut-in .kept .0 ∙ front-long (start c)
 
-seam-long : (c : tie.After-cut-in) → length (c .cut-in .last .1 .1 .0) ≡ largestSide
-seam-long c = c .cut-in .kept .1 .1 .0 ∙ length-replicate {A = ℕ} largestSide 0
+seam-long : (c : tie.After-cut-in) → length (c .cut-in .last .1 .1 .1 .0) ≡ largestSide
+seam-long c = c .cut-in .kept .1 .1 .1 .0 ∙ length-replicate {A = ℕ} largestSide 0
 
 slice-relend-prefix-cut-in : tie.Need-slice-relend-prefix-cut-in
 slice-relend-prefix-cut-in c = search needs
@@ -101,7 +101,7 @@ slice-aggregate-mark-rows : tie.Need-slice-aggregate-mark-rows
 slice-aggregate-mark-rows c =
     let at-cut-in = c .before .before .before .before .before in
     let s = at-cut-in .before .before .before .before in
-    sym (length-take-le (s .args .size .height) (at-cut-in .cut-in .last .1 .1 .0) (omega (arith, tall s, seam-long at-cut-in)))
+    sym (length-take-le (s .args .size .height) (at-cut-in .cut-in .last .1 .1 .1 .0) (omega (arith, tall s, seam-long at-cut-in)))
 
 mark-rows-requires : tie.Need-mark-rows-requires
 mark-rows-requires c κs =
@@ -110,7 +110,7 @@ mark-rows-requires c κs =
     let end = a .at + a .size .height * (2 * a .width) in
     let whole : List ℕ = k .cut-in .last .0 ++ drop (a .at) (now (a .space)) in
     let room : a .at + a .size .height * (2 * a .width) ≤ length (k .cut-in .last .0 ++ drop (a .at) (now (a .space))) = omega (arith, length-append (k .cut-in .last .0) (drop (a .at) (now (a .space))), left-long k, length-drop (a .at) (now (a .space)), start k .pre .map-room) in
-    let rows : length (take (a .size .height) (k .cut-in .last .1 .1 .0)) ≡ a .size .height = length-take-le (a .size .height) (k .cut-in .last .1 .1 .0) (omega (arith, tall (start k), seam-long k)) in
+    let rows : length (take (a .size .height) (k .cut-in .last .1 .1 .1 .0)) ≡ a .size .height = length-take-le (a .size .height) (k .cut-in .last .1 .1 .1 .0) (omega (arith, tall (start k), seam-long k)) in
     record {
       long = mid-len (a .at) end whole room ∙ (let n : a .at + a .size .height * (2 * a .width) - a .at ≡ a .size .height * (2 * a .width) = omega arith in n) ∙ sym (ap (_* (2 * a .width)) rows);
       small = start k .pre .small;
@@ -124,7 +124,7 @@ returns c =
     let at-mark-rows = c .before .before in
     let k = at-mark-rows .before .before .before .before .before .before in
     let a = start k .args in
-    next-put (a .size) (a .width) (a .at) (a .number) (now (a .space)) (k .cut-in .last .0) (take (a .size .height) (k .cut-in .last .1 .1 .0)) (at-mark-rows .mark-rows .last .0)
+    next-put (a .size) (a .method) (a .width) (a .at) (a .number) (now (a .space)) (k .cut-in .last .0) (take (a .size .height) (k .cut-in .last .1 .1 .1 .0)) (at-mark-rows .mark-rows .last .0)
     (left-long k) (found-space k) (found-seam k) (at-mark-rows .mark-rows .ensures)
 
 pub next-seam-spec : {M : Type 1} → statement M
