@@ -2,6 +2,7 @@
 mod numbers;
 mod seams;
 
+use energy::Method;
 use pictures::Refusal;
 use pictures::Size;
 use pictures::Verdict;
@@ -9,28 +10,28 @@ ghost use mathlib.Core.Path.{_≡_};
 ghost use lib.ListN.{length};
 ghost use Rattle.pictures.specs.Refusals.{given, refusal};
 ghost use Rattle.pictures.specs.Pictures.{pictureIn};
-ghost use Rattle.map_check.specs.Checking.{recordedIn, recordedRules, JudgeGiven};
+ghost use Rattle.map_check.specs.Checking.{recordedIn, recordedRules, JudgeInGiven};
 ghost use Rattle.map_check.specs.Inner.Judging.{JudgeNeeded, MapsNeeded, besideBuilt};
 
 // Judges the map recorded in the space for the picture at its front. In the space stand, one after the other: the picture, a
 // byte for each pixel and two bytes for each pixel for work, and the recorded map, two bytes a number, the low byte first.
 // Refused by 2, 3, 6 and 8; then by 9, 10 and 11. The space is all 0 after success and after 9, 10 and 11, else as it was.
-pub fn judge_in(space: &mut [u8], size: Size, depth: usize) -> Verdict
-    ensures { λ v. ⌜ JudgeGiven (now (space .entry)) size depth v (now (space .exit)) ⌝ }
+pub fn judge_in(space: &mut [u8], size: Size, method: Method, depth: usize) -> Verdict
+    ensures { λ v. ⌜ JudgeInGiven (now (space .entry)) size method depth v (now (space .exit)) ⌝ }
 {
     let fits = map_rules::judge_map_space(size, depth, space.len(), 2);
     let Verdict::Served = fits else {
         return fits;
     };
-    let answer = judge_rows(space, size, depth);
+    let answer = judge_rows(space, size, method, depth);
     pictures::clear(space);
     answer
 }
 
 // 9 where a row isn't a numbering; else the map is built in front of the recorded one, and they are compared.
-fn judge_rows(space: &mut [u8], size: Size, depth: usize) -> Verdict
+fn judge_rows(space: &mut [u8], size: Size, method: Method, depth: usize) -> Verdict
     requires { ⌜ JudgeNeeded size depth (length (now space)) ⌝ }
-    ensures { λ v. ⌜ given v ≡ refusal (recordedRules size depth (pictureIn size (now (space .entry))) (recordedIn size (now (space .entry)))) ⌝ }
+    ensures { λ v. ⌜ given v ≡ refusal (recordedRules size method depth (pictureIn size (now (space .entry))) (recordedIn size (now (space .entry)))) ⌝ }
 {
     let width = size.width;
     let height = size.height;
@@ -40,7 +41,7 @@ fn judge_rows(space: &mut [u8], size: Size, depth: usize) -> Verdict
     if !numbers::numbered(&space[at..end], width, height, depth) {
         return Verdict::Refused(Refusal::MapRow);
     }
-    map_build::map_in(&mut space[..at], size, depth);
+    map_build::map_in(&mut space[..at], size, method, depth);
     judge_seams(&space[built..end], width, height, depth)
 }
 

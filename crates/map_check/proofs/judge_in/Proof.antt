@@ -35,8 +35,8 @@ returns c =
     let most : given (r .result) ≤ 8 = omega (arith, r .ensures, refusal-most 8 rules refl) in
     let some : 0 < given (r .result) = rw (why .1) (number-some (why .0 .0)) in
     record {
-      number-is = refused-answer (r .result) (why .0 .0) (why .1) rules (recordedRules (a .size) (a .depth) (pictureIn (a .size) (now (a .space))) (recordedIn (a .size) (now (a .space)))) (r .ensures);
-      space-is = sym (worked-not (given (r .result)) _ (now (a .space)) some most);
+      number = refused-answer (r .result) (why .0 .0) (why .1) rules (recordedRules (a .size) (a .method) (a .depth) (pictureIn (a .size) (now (a .space))) (recordedIn (a .size) (now (a .space)))) (r .ensures);
+      space-left = sym (worked-not (given (r .result)) _ (now (a .space)) some most);
     }
 
 judge-rows-requires : tie.Need-judge-rows-requires
@@ -55,12 +55,12 @@ returns-2 c =
     let a = k .before .before .before .before .before .before .args in
     let r = k .before .before .before .before .judge-map-space in
     let none : refusal (mapSpaceRules (a .size) (a .depth) (length (now (a .space))) 2) ≡ 0 = sym (r .ensures) ∙ ap given (k .before .before .enum-told .given .1) in
-    let more = recordedRules (a .size) (a .depth) (pictureIn (a .size) (now (a .space))) (recordedIn (a .size) (now (a .space))) in
+    let more = recordedRules (a .size) (a .method) (a .depth) (pictureIn (a .size) (now (a .space))) (recordedIn (a .size) (now (a .space))) in
     record {
-      number-is = k .judge-rows .ensures ∙ sym (served-first (mapSpaceRules (a .size) (a .depth) (length (now (a .space))) 2) more refl none);
-      space-is =
+      number = k .judge-rows .ensures ∙ sym (served-first (mapSpaceRules (a .size) (a .depth) (length (now (a .space))) 2) more refl none);
+      space-left =
           at-clear .clear .ensures ∙ ap (λ n. replicate n 0) (k .judge-rows .kept .0)
-          ∙ sym (ap (λ n. worked n (replicate (length (now (a .space))) 0) (now (a .space))) (k .judge-rows .ensures) ∙ worked-judged (a .size) (a .depth) (pictureIn (a .size) (now (a .space))) (recordedIn (a .size) (now (a .space))) (replicate (length (now (a .space))) 0) (now (a .space)));
+          ∙ sym (ap (λ n. worked n (replicate (length (now (a .space))) 0) (now (a .space))) (k .judge-rows .ensures) ∙ worked-judged (a .size) (a .method) (a .depth) (pictureIn (a .size) (now (a .space))) (recordedIn (a .size) (now (a .space))) (replicate (length (now (a .space))) 0) (now (a .space)));
     }
 
 pub judge-in-spec : {M : Type 1} → statement M

@@ -62,7 +62,7 @@ ends m = omega (arith, at-is m, map-is m, fits (start m) .long)
 rows-told : (c : tie.After-numbered) → let m = c .before .before .before in c .numbered .result ≡ every (numbers (start m .args .depth)) (recordedIn (size m) (space m))
 rows-told c =
     let m = c .before .before .before in
-    c .numbered .ensures ∙ rows-at (size m) (start m .args .depth) (space m) (fits (start m)) _ _ (at-is m) (map-is m)
+    c .numbered .ensures ∙ rows-at (size m) (start m .args .method) (start m .args .depth) (space m) (fits (start m)) _ _ (at-is m) (map-is m)
 
 -- the space with the map built
 abbrev layout : tie.After-map-in → tie.After-map-bytes
@@ -76,10 +76,10 @@ whole-long c = length-front (space (layout c)) (c .map-in .last .0) (at (layout 
 
 maps-told : (c : tie.After-map-in) → let m = layout c in let z = size m in
     take (end m - built m) (drop (built m) (whole c))
-    ≡ pairs (flat (mapOf seamOf (start m .args .depth) (z .width) (z .height) (pictureIn z (space m)))) ++ take (mapBytes z) (drop (recordedAt z) (space m))
+    ≡ pairs (flat (mapOf (seamOf (start m .args .method)) (start m .args .depth) (z .width) (z .height) (pictureIn z (space m)))) ++ take (mapBytes z) (drop (recordedAt z) (space m))
 maps-told c =
     let m = layout c in
-    maps-at (size m) (start m .args .depth) (space m) (fits (start m)) _ _ (at-is m) (map-is m) _ (c .map-in .result) (c .map-in .last .0) (built-is m) (c .map-in .ensures)
+    maps-at (size m) (start m .args .method) (start m .args .depth) (space m) (fits (start m)) _ _ (at-is m) (map-is m) _ (c .map-in .result) (c .map-in .last .0) (built-is m) (c .map-in .ensures)
 
 map-at-requires : tie.Need-map-at-requires
 map-at-requires c κs = search needs
@@ -122,7 +122,7 @@ returns : tie.Need-returns
 returns c =
     let k = c .before in
     let s = start (k .before .before .before) in
-    nine (s .args .size) (s .args .depth) (now (s .args .space)) (fits s) (sym (rows-told k) ∙ not-true _ (c .if1 .taken))
+    nine (s .args .size) (s .args .method) (s .args .depth) (now (s .args .space)) (fits s) (sym (rows-told k) ∙ not-true _ (c .if1 .taken))
 
 slice-relend-prefix-map-in : tie.Need-slice-relend-prefix-map-in
 slice-relend-prefix-map-in c = omega (arith, ends (c .before .before .before .before))
@@ -167,7 +167,7 @@ returns-2 c =
     let k = c .before .before .before .before .before in
     let m = layout k in
     c .judge-seams .ensures
-    ∙ compared-is (size m) (start m .args .depth) (space m) (fits (start m)) (take (end m - built m) (drop (built m) (whole k)))
+    ∙ compared-is (size m) (start m .args .method) (start m .args .depth) (space m) (fits (start m)) (take (end m - built m) (drop (built m) (whole k)))
     (sym (rows-told (k .before .before .before)) ∙ not-false _ (k .before .before .if1 .left)) (maps-told k)
 
 pub judge-rows-spec : {M : Type 1} → statement M
