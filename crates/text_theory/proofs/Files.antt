@@ -15,6 +15,8 @@ use Rattle.pictures.specs.declared.sizes.Kind.{Kind}
 use Rattle.pictures.specs.declared.sizes.Kind.the-variants.{Grey, Rgb}
 use Rattle.pictures.specs.Numbers.{largestNumber}
 use Rattle.pictures.specs.declared.sizes.Size.{Size}
+use Rattle.energy.specs.Methods.{usualMethod}
+use Rattle.energy.proofs.OneMethod.{one-method}
 use Rattle.text_theory.specs.declared.Head.{Head}
 use Rattle.text_theory.specs.declared.Name.the-variants as name
 use Rattle.text_theory.specs.Files.{Parts, lineEnd, blank, opening, closing, closed, begun, rowWord, mapWord, each, joined, pixelText, lineText, firstText, sizeText, rangeText, headText, text, items, three, pixelGet, line, sizeGet, rangeGet, headGet, file, ended, whole, parse, All, Pixel, Numbers, Within}
@@ -184,6 +186,10 @@ range-sounds =
 pub range-reads : Reads Ranged (λ r. rangeText (r .0) (r .1)) Any rangeGet
 range-reads = record { back = λ r b t u. range-back (r .0) (r .1) (b .0) (b .1) t; sound = soundly range-sounds }
 
+-- The method that no line says is the usual one: there is no other.
+unsaid : (h : Head) → _≡_ {A = Head} (record { size = h .size; method = usualMethod; depth = h .depth; growth = h .growth }) h
+unsaid h = λ i. record { size = h .size; method = one-method usualMethod (h .method) i; depth = h .depth; growth = h .growth }
+
 -- The text as the reader meets it, line after line.
 head-back : (h : Head) → Numbers h → (t : List ℕ) → headGet (headText h ++ t) ≡ some (h, t)
 unfolding headGet headText
@@ -193,6 +199,7 @@ head-back h b t =
       strip-back,
       size-reads .back (h .size) (record { width = b .width; height = b .height }) _ tt,
       range-reads .back (h .depth, h .growth) (b .depth, b .growth) _ tt,
+      unsaid h,
     ))
 
 head-sounds : Sounds Numbers headText [] headGet

@@ -5,6 +5,7 @@ use mathlib.Core.List.{List, [], _∷_, map}
 use Prim.Native.Nat.{ℕ}
 use Rattle.pictures.specs.declared.sizes.Kind.the-variants.{Rgb}
 use Rattle.pictures.specs.Numbers.{largestNumber}
+use Rattle.energy.specs.Methods.{usualMethod}
 use Rattle.text_theory.specs.Readers.{strip, next, manyUpTo, many}
 use Rattle.text_theory.specs.Decimal.{digitsUpTo, digits, isDigit, further, upTo, numberGet}
 use Rattle.text_theory.specs.Words.{oneOf, nameGet, kindText, kindGet}
@@ -21,7 +22,7 @@ parse-shown = refl
 
 -- An rgb file with the largest sample and the largest number.
 abbrev pub coloured : Parts
-coloured = record { head = record { size = record { width = 2; height = 1; kind = Rgb }; depth = 0; growth = 0 }; rows = ((1 ∷ 2 ∷ 3 ∷ []) ∷ (4 ∷ 5 ∷ 255 ∷ []) ∷ []) ∷ []; maps = (0 ∷ largestNumber ∷ []) ∷ [] }
+coloured = record { head = record { size = record { width = 2; height = 1; kind = Rgb }; method = usualMethod; depth = 0; growth = 0 }; rows = ((1 ∷ 2 ∷ 3 ∷ []) ∷ (4 ∷ 5 ∷ 255 ∷ []) ∷ []) ∷ []; maps = (0 ∷ largestNumber ∷ []) ∷ [] }
 
 abbrev pub colouredText : List ℕ
 colouredText = (40 ∷ 109 ∷ 117 ∷ 108 ∷ 116 ∷ 105 ∷ 10 ∷ 40 ∷ 115 ∷ 105 ∷ 122 ∷ 101 ∷ 32 ∷ 50 ∷ 32 ∷ 49 ∷ 32 ∷ 114 ∷ 103 ∷ 98 ∷ 41 ∷ 10 ∷ 40 ∷ 114 ∷ 97 ∷ 110 ∷ 103 ∷ 101 ∷ 32 ∷ 48 ∷ 32 ∷ 48 ∷ 41 ∷ 10 ∷ 40 ∷ 114 ∷ 111 ∷ 119 ∷ 32 ∷ 40 ∷ 49 ∷ 32 ∷ 50 ∷ 32 ∷ 51 ∷ 41 ∷ 32 ∷ 40 ∷ 52 ∷ 32 ∷ 53 ∷ 32 ∷ 50 ∷ 53 ∷ 53 ∷ 41 ∷ 41 ∷ 10 ∷ 40 ∷ 109 ∷ 97 ∷ 112 ∷ 32 ∷ 48 ∷ 32 ∷ 54 ∷ 53 ∷ 53 ∷ 51 ∷ 53 ∷ 41 ∷ 10 ∷ 41 ∷ 10 ∷ [])

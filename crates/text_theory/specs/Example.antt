@@ -2,10 +2,11 @@
 use mathlib.Core.List.{List, [], _∷_}
 use Prim.Native.Nat.{ℕ}
 use Rattle.pictures.specs.declared.sizes.Kind.the-variants.{Grey}
+use Rattle.energy.specs.Methods.{usualMethod}
 use Rattle.text_theory.specs.Files.{Parts}
 
 abbrev pub shown : Parts
-shown = record { head = record { size = record { width = 3; height = 2; kind = Grey }; depth = 2; growth = 1 }; rows = ((10 ∷ []) ∷ (10 ∷ []) ∷ (40 ∷ []) ∷ []) ∷ ((10 ∷ []) ∷ (50 ∷ []) ∷ (40 ∷ []) ∷ []) ∷ []; maps = (1 ∷ 0 ∷ 2 ∷ []) ∷ (1 ∷ 0 ∷ 2 ∷ []) ∷ [] }
+shown = record { head = record { size = record { width = 3; height = 2; kind = Grey }; method = usualMethod; depth = 2; growth = 1 }; rows = ((10 ∷ []) ∷ (10 ∷ []) ∷ (40 ∷ []) ∷ []) ∷ ((10 ∷ []) ∷ (50 ∷ []) ∷ (40 ∷ []) ∷ []) ∷ []; maps = (1 ∷ 0 ∷ 2 ∷ []) ∷ (1 ∷ 0 ∷ 2 ∷ []) ∷ [] }
 
 -- The file in full, as the specification writes it, its map made again by change 101.
 abbrev pub shownText : List ℕ

@@ -11,6 +11,7 @@ use Rattle.pictures.specs.declared.sizes.Kind.the-variants.{Grey, Rgb}
 use Rattle.pictures.specs.Pictures.{Picture, channelsOf}
 use Rattle.pictures.specs.Numbers.{largestNumber}
 use Rattle.pictures.specs.declared.sizes.Size.{Size}
+use Rattle.energy.specs.Methods.{usualMethod}
 use Rattle.text_theory.specs.declared.Head.{Head}
 use Rattle.text_theory.specs.declared.Name.{Name}
 use Rattle.text_theory.specs.declared.Name.the-variants as name
@@ -128,8 +129,9 @@ unfoldable pub rangeGet : Get (ℕ × ℕ)
 rangeGet =
     after (begun name.Range) (after blank (numberGet largestNumber ▷ λ d. after blank (numberGet largestNumber ▷ λ g. after closed (give (d, g)))))
 
+-- No line says the method yet, so it is the usual one.
 unfoldable pub headGet : Get Head
-headGet = after firstText (sizeGet ▷ λ z. rangeGet ▷ λ r. give (record { size = z; depth = r .0; growth = r .1 }))
+headGet = after firstText (sizeGet ▷ λ z. rangeGet ▷ λ r. give (record { size = z; method = usualMethod; depth = r .0; growth = r .1 }))
 
 unfoldable pub file : Get Parts
 file =
