@@ -4,6 +4,7 @@ use crate::cursor::Cursor;
 use crate::cursor::Read;
 use crate::words::KindRead;
 use crate::words::Word;
+use energy::usual_method;
 use pictures::Size;
 use text_rules::name_number;
 use text_theory::Head;
@@ -121,7 +122,7 @@ impl Cursor {
         RangeRead::Ranged(depth, growth, d)
     }
 
-    // The lines up to the range.
+    // The lines up to the range. None says the method, so it is the usual one.
     pub fn header(self, text: &[u8]) -> HeadRead
         ensures { λ r. ⌜ Told headGet (now (text .entry)) (self .at) (headRead r) ⌝ }
     {
@@ -137,9 +138,11 @@ impl Cursor {
         let RangeRead::Ranged(depth, growth, d) = c.range_line(text) else {
             return HeadRead::Unbegun;
         };
+        let method = usual_method();
         HeadRead::Begun(
             Head {
                 size,
+                method,
                 depth,
                 growth,
             },

@@ -1,7 +1,9 @@
--- `text_read::cursor::Cursor::header` meets its contract: after each line, what is left of the head is left to read.
+-- `text_read::cursor::Cursor::header` meets its contract: after each line, what is left of the head is left to read. The method
+-- is that of `usual_method`.
 use mathlib.Core.List.{List}
 use Prim.Native.Nat.{ℕ}
 use Rattle.pictures.specs.declared.sizes.Size.{Size}
+use Rattle.energy.specs.Methods.{usualMethod}
 use Rattle.text_theory.specs.declared.Head.{Head}
 use Rattle.text_theory.specs.declared.Name.the-variants as name
 use Rattle.text_theory.specs.Readers.{Get, give, _▷_, after}
@@ -14,7 +16,7 @@ use Rattle.text_read.proofs.cursor.Cursor.header.Tie as tie
 
 -- The head from each line on.
 abbrev head-of : Size → ℕ × ℕ → Head
-head-of z r = record { size = z; depth = r .0; growth = r .1 }
+head-of z r = record { size = z; method = usualMethod; depth = r .0; growth = r .1 }
 
 abbrev from-range : Size → Get Head
 from-range z = rangeGet ▷ λ r. give (head-of z r)
@@ -95,10 +97,15 @@ enum-told-4 c = search needs
 returns-4 : tie.Need-returns-4
 returns-4 c = left-no-then _ (after-size (c .before .before .before .before)) (rw (c .enum-told4 .given .1) at (c .before .before .range-line .ensures))
 
+usual-method-requires : tie.Need-usual-method-requires
+usual-method-requires c κs = search needs
+
 returns-5 : tie.Need-returns-5
 returns-5 c =
-    let at-size = c .before .before .before .before .before in
-    left-then-give (head-of (at-size .size .given .0 .0)) (after-size at-size) (rw (c .before .depth .given .1) at (c .before .before .before .range-line .ensures))
+    let at-depth = c .before .before in
+    let at-size = at-depth .before .before .before .before in
+    rw (c .usual-method .ensures)
+    (left-then-give (head-of (at-size .size .given .0 .0)) (after-size at-size) (rw (at-depth .depth .given .1) at (at-depth .before .before .range-line .ensures)))
 
 pub header-spec : {M : Type 1} → statement M
 header-spec =
@@ -120,4 +127,5 @@ header-spec =
     enum-known-depth
     enum-told-4
     returns-4
+    usual-method-requires
     returns-5)
