@@ -21,7 +21,7 @@ enum Lines {
     Torn,
 }
 
-// What is known of a file before its numbers are judged: size and range, the numbers of row and map lines, and whether each
+// What is known of a file before its numbers are judged: its head, the numbers of row and map lines, and whether each
 // of them has as many items as the width says.
 pub struct Facts {
     pub head: Head,
