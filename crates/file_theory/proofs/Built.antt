@@ -14,7 +14,7 @@ use Rattle.text_theory.specs.Files.{parse, Pixel}
 use Rattle.text_theory.proofs.Files.{parse-text}
 use Rattle.file_theory.specs.Contents.{meanOf, partsOf, fileOf}
 use Rattle.file_theory.specs.Demands.{Built}
-use Rattle.file_theory.specs.Shows.{offers, sized, shows, original}
+use Rattle.file_theory.specs.Shows.{offers, sized, shows, original, methodOf}
 use Rattle.file_theory.proofs.Shapes.{all-each, each-all}
 use Rattle.file_theory.proofs.Shaped.{built-rows, built-maps, built-numbered, built-within}
 use Rattle.file_theory.proofs.Heads.{mean-pixel}
@@ -29,6 +29,10 @@ module _ {f : List ℕ} (b : Built f) where
   pub built-original : original f ≡ b .head .size .width
   unfolding original
   built-original = rw built-parsed
+
+  pub built-method : methodOf f ≡ some (b .head .method)
+  unfolding methodOf
+  built-method = rw built-parsed
 
   pub built-offers : (v : ℕ) → offers f v ≡ offered (b .head .size .width) (b .head .depth) (b .head .growth) v
   unfolding offers

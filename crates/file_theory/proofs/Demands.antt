@@ -10,6 +10,8 @@ use lib.ListN.{getD}
 use Rattle.pictures.specs.declared.sizes.Size.{Size}
 use Rattle.grids.proofs.Shapes.{each-weaken}
 use Rattle.pictures.specs.Pictures.{Picture, OfSize}
+use Rattle.energy.specs.declared.methods.Method.{Method}
+use Rattle.energy.proofs.OneMethod.{one-method}
 use Rattle.map_theory.specs.Maps.{carve, mapOf}
 use Rattle.map_theory.specs.Widths.{allowed, offered, growRow, shown, LeftOut}
 use Rattle.map_theory.proofs.Shown.{allowed-is, offered-is, shown-carve}
@@ -24,7 +26,7 @@ use Rattle.file_theory.specs.Demands.{AllowedPicture, Built, FileFor, Sh
 use Rattle.file_theory.proofs.Shapes.{all-all}
 use Rattle.file_theory.proofs.Shaped.{shaped-is}
 use Rattle.file_theory.proofs.Accepting.{accepted-shaped, accepted-judged, judged-built, accepted-built}
-use Rattle.file_theory.proofs.Built.{built-original, built-offers, built-shows, built-picture, built-pixels, built-left-out}
+use Rattle.file_theory.proofs.Built.{built-original, built-method, built-offers, built-shows, built-picture, built-pixels, built-left-out}
 
 -- Widths that are offered alike are those of the same depth and growth.
 more-range : (m k g l d : ℕ) → allowed m k g ≡ true → allowed m l d ≡ true → ((v : ℕ) → offered m k g v ≡ true → offered m l d v ≡ true) → (k ≤ l) × (g ≤ d)
@@ -58,20 +60,22 @@ same-file f g a c = (
         let wide : x .head .size .width ≡ y .head .size .width = ap (λ (z : Size). z .width) size in
         let range = same-range (x .head .size .width) (x .head .depth) (x .head .growth) (y .head .depth) (y .head .growth)
         (x .range) (rw (← wide) at (y .range)) (λ v. sym (built-offers x v) ∙ o v ∙ built-offers y v ∙ ap (λ (n : ℕ). offered n (y .head .depth) (y .head .growth) v) (sym wide)) in
-        let head : x .head ≡ y .head = λ i. record { size = size i; depth = range .0 i; growth = range .1 i } in
+        let head : x .head ≡ y .head = λ i. record { size = size i; method = one-method (x .head .method) (y .head .method) i; depth = range .0 i; growth = range .1 i } in
         x .is ∙ ap₂ fileOf head rows ∙ sym (y .is)
 
--- (b) Every allowed picture has, for every allowed range of widths, a file that shows it and offers them.
-pub every-picture : (z : Size) (p : Picture) (k g : ℕ) → AllowedPicture z p → allowed (z .width) k g ≡ true → (f : List ℕ) × FileFor z p k g f
+-- (b) Every allowed picture has, for every method and every allowed range of widths, a file of this method that shows it and
+-- offers them.
+pub every-picture : (z : Size) (how : Method) (p : Picture) (k g : ℕ) → AllowedPicture z p → allowed (z .width) k g ≡ true → (f : List ℕ) × FileFor z how p k g f
 unfolding fileOf
-every-picture z p k g a r =
-    let h : Head = record { size = z; depth = k; growth = g } in
+every-picture z how p k g a r =
+    let h : Head = record { size = z; method = how; depth = k; growth = g } in
     let b : Built (fileOf h p) = record { head = h; rows = p; picture = a; range = r; is = refl } in (
       fileOf h p,
       record {
         bytes-are = all-all (λ c l. omega arith) (text (partsOf h p)) (text-ascii (partsOf h p));
         is-accepted = accepted-built (fileOf h p) .1 b;
         width-is = built-original b;
+        method-is = built-method b;
         picture-is = built-picture b;
         widths-are = built-offers b;
       },

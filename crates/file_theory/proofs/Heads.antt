@@ -17,7 +17,7 @@ use Rattle.file_theory.specs.Contents.{chooseOf, nearOf, meanOf}
 
 -- The seam chosen has a column for each row and is connected.
 pub head-chooses : (h : Head) → Chooses (nearOf h) (chooseOf h)
-head-chooses h = seam-chooses
+head-chooses h = seam-chooses (h .method)
 
 -- The mean of two pixels is a pixel.
 average-length : (n : ℕ) (p q : List ℕ) → length p ≡ n → length q ≡ n → length (average p q) ≡ n

@@ -15,7 +15,7 @@ use Rattle.map_theory.proofs.Tests.{every-each}
 use Rattle.map_theory.proofs.Numberings.{numbers-is}
 use Rattle.map_theory.proofs.Judged.{judged-is, chosen-only}
 use Rattle.map_theory.proofs.Shown.{allowed-is}
-use Rattle.text_theory.specs.declared.Head.{Head}
+use Rattle.energy.specs.declared.methods.Method.{Method}
 use Rattle.text_theory.specs.Files.{Parts, parse}
 use Rattle.seam_theory.specs.PictureSeams.{seamUp, seamOf}
 use Rattle.seam_theory.specs.Chosen.{IsSeam}
@@ -69,18 +69,18 @@ accepted-well-formed f a work n = inl (a work n)
 
 -- A seam is the one found just where, read from the bottom row upward, it is a connected path, none is cheaper, and each
 -- other that costs the same comes after it.
-found-cheapest : (d : Head) (w h : ℕ) (p : Picture) (s : List ℕ) → 0 < w → 0 < h → (s ≡ chooseOf d w h p) ↔ IsSeam w h p (reverse s)
+found-cheapest : (how : Method) (w h : ℕ) (p : Picture) (s : List ℕ) → 0 < w → 0 < h → (s ≡ seamOf how w h p) ↔ IsSeam how w h p (reverse s)
 unfolding seamOf
-found-cheapest d w h p s k l = (there, back)
+found-cheapest how w h p s k l = (there, back)
   where
-    there : s ≡ reverse (Option·getD (seamUp w h p) []) → IsSeam w h p (reverse s)
+    there : s ≡ reverse (Option·getD (seamUp how w h p) []) → IsSeam how w h p (reverse s)
     there e =
-        let f = seam-some w h p k l in
+        let f = seam-some how w h p k l in
         let d : s ≡ reverse (f .0) = e ∙ ap (λ o. reverse (Option·getD o [])) (f .1) in
-        subst (IsSeam w h p) (sym (ap reverse d ∙ reverse-reverse (f .0))) (f .2)
+        subst (IsSeam how w h p) (sym (ap reverse d ∙ reverse-reverse (f .0))) (f .2)
 
-    back : IsSeam w h p (reverse s) → s ≡ reverse (Option·getD (seamUp w h p) [])
-    back i = rw (seam-is w h p (reverse s) .1 i) (sym (reverse-reverse s))
+    back : IsSeam how w h p (reverse s) → s ≡ reverse (Option·getD (seamUp how w h p) [])
+    back i = rw (seam-is how w h p (reverse s) .1 i) (sym (reverse-reverse s))
 
 -- A well-formed file, of width m, height n and depth k.
 module _ (f : List ℕ) (p : Parts) (e : parse f ≡ some p) (u : WellFormed f) where
@@ -122,12 +122,12 @@ module _ (f : List ℕ) (p : Parts) (e : parse f ≡ some p) (u : WellFormed f) 
 
   -- that is: for each t from 1 to k the recorded seam t is connected, no connected path through the picture then left is
   -- cheaper, and among equally cheap ones it comes first, read from the bottom row upward.
-  pub accepted-cheapest : Accepted f ↔ ((t : ℕ) → 1 ≤ t → t ≤ k → IsSeam (m + 1 - t) n (before t (p .rows) (p .maps)) (reverse (recorded t (p .maps))))
+  pub accepted-cheapest : Accepted f ↔ ((t : ℕ) → 1 ≤ t → t ≤ k → IsSeam (p .head .method) (m + 1 - t) n (before t (p .rows) (p .maps)) (reverse (recorded t (p .maps))))
   accepted-cheapest = (
     λ a t l h. is t h .0 (accepted-seams .0 a t l h),
     λ c. accepted-seams .1 (λ t l h. is t h .1 (c t l h)),
   )
     where
       is : (t : ℕ) → t ≤ k → (recorded t (p .maps) ≡ chooseOf (p .head) (m + 1 - t) n (before t (p .rows) (p .maps)))
-          ↔ IsSeam (m + 1 - t) n (before t (p .rows) (p .maps)) (reverse (recorded t (p .maps)))
-      is t h = found-cheapest (p .head) (m + 1 - t) n (before t (p .rows) (p .maps)) (recorded t (p .maps)) (omega (arith, deep)) (sides-are (p .head .size) (s .sides) .height-some)
+          ↔ IsSeam (p .head .method) (m + 1 - t) n (before t (p .rows) (p .maps)) (reverse (recorded t (p .maps)))
+      is t h = found-cheapest (p .head .method) (m + 1 - t) n (before t (p .rows) (p .maps)) (recorded t (p .maps)) (omega (arith, deep)) (sides-are (p .head .size) (s .sides) .height-some)
