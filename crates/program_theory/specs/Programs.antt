@@ -9,6 +9,7 @@ use Rattle.pictures.specs.Numbers.{largestNumber}
 use Rattle.pictures.specs.declared.sizes.Size.{Size}
 use Rattle.pictures.specs.Refusals.{Rule, _when_, refusal, served}
 use Rattle.pictures.specs.Pictures.{Picture, sizeRules, picture, pixels}
+use Rattle.energy.specs.Methods.{usualMethod}
 use Rattle.map_theory.specs.Maps.{carve, mapOf}
 use Rattle.map_theory.specs.Widths.{offered, growRow}
 use Rattle.text_theory.specs.declared.Head.{Head}
@@ -46,9 +47,9 @@ refusedText n = refusedWord ++ (digits n ++ closed)
 abbrev pub written : ℕ → List ℕ → List ℕ
 written n answer = served n answer (refusedText n)
 
--- `seams` "reads a Netpbm picture .. and writes the file with k = m−1 and g = m/2 rounded down".
+-- `seams` "reads a Netpbm picture .. and writes the file with k = m−1 and g = m/2 rounded down". It carves by the usual method.
 abbrev pub fullRange : Size → Head
-fullRange z = record { size = z; depth = z .width - 1; growth = z .width / 2 }
+fullRange z = record { size = z; method = usualMethod; depth = z .width - 1; growth = z .width / 2 }
 
 -- What is refused of the size and the samples after it; 1 where there is no header.
 abbrev pub pictureRules : Option (Size × List ℕ) → List Rule
