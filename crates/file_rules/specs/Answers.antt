@@ -11,7 +11,7 @@ use Rattle.file_rules.specs.declared.answers.Shown.the-variants as showi
 use Rattle.file_rules.specs.declared.answers.Built.{Built}
 use Rattle.file_rules.specs.declared.answers.Built.the-variants as builds
 
--- The number that a file is refused by, 0 where it is accepted; and its size and range.
+-- The number that a file is refused by, 0 where it is accepted; and its head.
 abbrev pub checkedNumber : Checked → ℕ
 checkedNumber (checks.Accepted h) = 0
 checkedNumber (checks.Refused why) = numberOf why

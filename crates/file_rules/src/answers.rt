@@ -3,7 +3,7 @@ use pictures::Refusal;
 use pictures::Size;
 use text_theory::Head;
 
-// Size and range of a file that is accepted, or why it isn't.
+// The head of a file that is accepted, or why it isn't.
 pub enum Checked {
     Accepted(Head),
     Refused(Refusal),
