@@ -18,6 +18,7 @@ use Rattle.pictures.specs.Pictures.{pictureBytes, sizeRules, picture, bytes}
 use Rattle.pictures.proofs.Rules.{served-both, passed}
 use Rattle.pictures.proofs.Limits.{Sized, sized-is, sides-served, bytes-few}
 use Rattle.pictures.proofs.Buffers.{bytes-picture}
+use Rattle.energy.specs.declared.methods.Method.{Method}
 use Rattle.seam_moves.specs.Between.{partAt}
 use Rattle.seam_moves.proofs.Places.{length-part}
 use Rattle.seam_rules.specs.declared.answers.Rows.{Rows}
@@ -65,7 +66,7 @@ no-totals zero j = refl
 no-totals (suc n) zero = refl
 no-totals (suc n) (suc j) = no-totals n j
 
-module _ (b : List ℕ) (z : Size) (rows : Rows) (columns : Columns) (out work : List ℕ) (needed : RetargetNeeded b z rows columns out work) where
+module _ (b : List ℕ) (z : Size) (how : Method) (rows : Rows) (columns : Columns) (out work : List ℕ) (needed : RetargetNeeded b z rows columns out work) where
   abbrev whole : ℕ
   whole = length b
 
@@ -115,7 +116,7 @@ module _ (b : List ℕ) (z : Size) (rows : Rows) (columns : Columns) (out work :
       totals-long = many;
     }
 
-    first-is : (totals : List ℕ) → ((j : ℕ) → getD totals j 0 ≡ 0) → held z (length b) (rowCount 0) one totals 0 ≡ cellAt z (picture z b) 0 0
+    first-is : (totals : List ℕ) → ((j : ℕ) → getD totals j 0 ≡ 0) → held z (length b) (rowCount 0) one totals 0 ≡ cellAt how z (picture z b) 0 0
     unfolding cellAt
     first-is totals none =
         let zero-less : smaller z 0 0 ≡ z = ap₂ (λ w h. record { width = w; height = h; kind = z .kind }) (omega arith) (omega arith) in
@@ -125,7 +126,7 @@ module _ (b : List ℕ) (z : Size) (rows : Rows) (columns : Columns) (out work :
         (none 0)
 
     module _ (totals two totals₂ : List ℕ) (none : (j : ℕ) → getD totals j 0 ≡ 0)
-        (row : RowGiven z (length b) (rowCount 0) columns (firstRow z (held z (length b) (rowCount 0) one totals 0)) one two totals₂) where
+        (row : RowGiven z (length b) (rowCount 0) columns (firstRow how z (held z (length b) (rowCount 0) one totals 0)) one two totals₂) where
       pub below-needed : RowNeeded z (length b) rows columns two totals₂
       below-needed = record {
         space = rw (row .long ∙ one-long) space;
@@ -136,17 +137,17 @@ module _ (b : List ℕ) (z : Size) (rows : Rows) (columns : Columns) (out work :
         totals-long = row .totals-long;
       }
 
-      module _ (three totals₃ : List ℕ) (last : RowGiven z (length b) rows columns (tableRow z (held z (length b) (rowCount 0) two totals₂) rows) two three totals₃) where
+      module _ (three totals₃ : List ℕ) (last : RowGiven z (length b) rows columns (tableRow how z (held z (length b) (rowCount 0) two totals₂) rows) two three totals₃) where
         pub three-long : length three ≡ length work
         three-long = last .long ∙ row .long ∙ one-long
 
-        cell-is : held z (length b) rows three totals₃ (columns .0) ≡ cellOf z b rows columns
+        cell-is : held z (length b) rows three totals₃ (columns .0) ≡ cellOf how z b rows columns
         cell-is =
             last .cells-are (columns .0) (omega arith)
-            ∙ table-cells z (picture z b) (columns .0) (held z (length b) (rowCount 0) two totals₂)
-            (λ j h. row .cells-are j h ∙ ap (λ k. firstRow z k j) (first-is totals none) ∙ first-cells z (picture z b) j)
+            ∙ table-cells how z (picture z b) (columns .0) (held z (length b) (rowCount 0) two totals₂)
+            (λ j h. row .cells-are j h ∙ ap (λ k. firstRow how z k j) (first-is totals none) ∙ first-cells how z (picture z b) j)
             (rows .0) (columns .0) (omega arith)
-            ∙ sym (cell-numbers z (picture z b) rows columns)
+            ∙ sym (cell-numbers how z (picture z b) rows columns)
 
         module _ (count : ℕ) (count-is : count ≡ pictureBytes (leftSize z rows columns)) where
           abbrev part : List ℕ
@@ -161,10 +162,10 @@ module _ (b : List ℕ) (z : Size) (rows : Rows) (columns : Columns) (out work :
               ∙ length-part (columns .0 * length b) (pictureBytes (leftSize z rows columns)) three (omega (arith, three-long, last-sure count count-is .inside)) ∙ sym count-is
 
           pub served : (out′ four : List ℕ) → out′ ≡ take (length part) part ++ drop (length part) out → four ≡ replicate (length three) 0
-              → LastGiven b z rows columns out work (getD totals₃ (columns .0) 0) out′ four
+              → LastGiven b z how rows columns out work (getD totals₃ (columns .0) 0) out′ four
           served out′ four out-is four-is =
               let left = leftSize z rows columns in
-              let shown : part ≡ bytes (cellOf z b rows columns .picture) =
+              let shown : part ≡ bytes (cellOf how z b rows columns .picture) =
               part-is
               ∙ sym (bytes-picture left (partAt (columns .0 * length b) (pictureBytes left) three) (sym (ap length part-is) ∙ part-long ∙ count-is))
               ∙ ap (λ k. bytes (k .picture)) cell-is in

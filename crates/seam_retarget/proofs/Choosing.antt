@@ -12,6 +12,7 @@ use Rattle.grids.proofs.Rows.{part-end}
 use Rattle.pictures.specs.declared.sizes.Size.{Size}
 use Rattle.pictures.specs.Refusals.{refusal}
 use Rattle.pictures.specs.Pictures.{largestSide, pictureBytes, sideRules, picture}
+use Rattle.energy.specs.declared.methods.Method.{Method}
 use Rattle.seam_moves.specs.Between.{partAt}
 use Rattle.seam_rules.specs.declared.answers.Axis.{Axis}
 use Rattle.seam_rules.specs.declared.answers.Axis.the-variants.{Vertical, Horizontal}
@@ -41,9 +42,9 @@ module _ (z : Size) (whole work : ℕ) (needed : SpaceNeeded z whole work) (k r 
       record { sides = sides; places = q .here; room = q .room; seam-room = rw many (turned-tall Horizontal (smaller z r c) sides) }
 
 -- The space as it is after both seams were found.
-module _ (z : Size) (whole r c above left : ℕ) (work : List ℕ) (needed : CellNeeded z whole (rowCount r) (columnCount c) above left (length work))
-    (seam₁ one across : List ℕ) (cost₁ : ℕ) (first : SeamGiven work ((c + 1) * whole) (smaller z r (c + 1)) Horizontal (67 * whole) seam₁ cost₁ one across)
-    (seam₂ two down : List ℕ) (cost₂ : ℕ) (second : SeamGiven one (c * whole) (smaller z (r + 1) c) Vertical (65 * whole) seam₂ cost₂ two down) where
+module _ (z : Size) (how : Method) (whole r c above left : ℕ) (work : List ℕ) (needed : CellNeeded z whole (rowCount r) (columnCount c) above left (length work))
+    (seam₁ one across : List ℕ) (cost₁ : ℕ) (first : SeamGiven work ((c + 1) * whole) (smaller z r (c + 1)) how Horizontal (67 * whole) seam₁ cost₁ one across)
+    (seam₂ two down : List ℕ) (cost₂ : ℕ) (second : SeamGiven one (c * whole) (smaller z (r + 1) c) how Vertical (65 * whole) seam₂ cost₂ two down) where
   abbrev upper : Size
   upper = smaller z r (c + 1)
 
@@ -91,7 +92,7 @@ module _ (z : Size) (whole r c above left : ℕ) (work : List ℕ) (needed : Cel
     sides = beside-sides;
     wide = omega (arith, needed .columns-left);
     seam-room = rw many (turned-tall Vertical beside beside-sides);
-    inside = found-inside one (c * whole) beside Vertical (65 * whole) seam₂ cost₂ two down second beside-sides source₂;
+    inside = found-inside one (c * whole) beside how Vertical (65 * whole) seam₂ cost₂ two down second beside-sides source₂;
     places = rw both-long (placed-vertical z whole (length work) (needed .space) (c + 1) (r + 1) c (needed .column) .there);
   }
 
@@ -100,20 +101,20 @@ module _ (z : Size) (whole r c above left : ℕ) (work : List ℕ) (needed : Cel
     sides = upper-sides;
     wide = omega (arith, needed .rows-left);
     seam-room = rw many (turned-tall Horizontal upper upper-sides);
-    inside = found-inside work slot upper Horizontal (67 * whole) seam₁ cost₁ one across first upper-sides source;
+    inside = found-inside work slot upper how Horizontal (67 * whole) seam₁ cost₁ one across first upper-sides source;
     places = rw both-long (placed-horizontal z whole (length work) (needed .space) (c + 1) r (c + 1) (needed .column) .there);
   }
 
   -- The two cells to choose from.
   abbrev vertical : Cell
-  vertical = bySeam Vertical beside (record { picture = pictureAt beside (c * whole) work; total = left })
+  vertical = bySeam how Vertical beside (record { picture = pictureAt beside (c * whole) work; total = left })
 
   abbrev horizontal : Cell
-  horizontal = bySeam Horizontal upper (record { picture = pictureAt upper slot work; total = above })
+  horizontal = bySeam how Horizontal upper (record { picture = pictureAt upper slot work; total = above })
 
   total-vertical : left + cost₂ ≡ vertical .total
   unfolding bySeam
-  total-vertical = ap (left +_) (second .cost-is ∙ ap (costAlong Vertical beside) beside-still)
+  total-vertical = ap (left +_) (second .cost-is ∙ ap (costAlong how Vertical beside) beside-still)
 
   total-horizontal : above + cost₁ ≡ horizontal .total
   unfolding bySeam
@@ -130,13 +131,13 @@ module _ (z : Size) (whole r c above left : ℕ) (work : List ℕ) (needed : Cel
       placed-end k l = part-end k 65 whole l
 
   module _ (three : List ℕ) where
-    pub given-vertical : left + cost₂ ≤ above + cost₁ → CutGiven two (65 * whole) beside Vertical down slot three → CellGiven z whole (rowCount r) (columnCount c) above left work (left + cost₂) three
+    pub given-vertical : left + cost₂ ≤ above + cost₁ → CutGiven two (65 * whole) beside Vertical down slot three → CellGiven z how whole (rowCount r) (columnCount c) above left work (left + cost₂) three
     unfolding chosen bySeam
     given-vertical less g =
-        let cut : pictureAt (leftAlong Vertical beside) slot three ≡ cutAlong Vertical beside (seamAlong Vertical beside (pictureAt beside (c * whole) one)) (pictureAt beside (c * whole) one) =
-        cut-is one (c * whole) beside Vertical (65 * whole) seam₂ cost₂ two down second beside-sides source₂ two refl slot three (omega (arith, needed .columns-left)) g in
+        let cut : pictureAt (leftAlong Vertical beside) slot three ≡ cutAlong Vertical beside (seamAlong how Vertical beside (pictureAt beside (c * whole) one)) (pictureAt beside (c * whole) one) =
+        cut-is one (c * whole) beside how Vertical (65 * whole) seam₂ cost₂ two down second beside-sides source₂ two refl slot three (omega (arith, needed .columns-left)) g in
         let here : pictureAt (smaller z (r + 1) (c + 1)) slot three ≡ vertical .picture =
-        ap (λ u. pictureAt u slot three) (sym (less-column z (r + 1) c)) ∙ cut ∙ ap (λ p. cutAlong Vertical beside (seamAlong Vertical beside p) p) beside-still in
+        ap (λ u. pictureAt u slot three) (sym (less-column z (r + 1) c)) ∙ cut ∙ ap (λ p. cutAlong Vertical beside (seamAlong how Vertical beside p) p) beside-still in
         let test : leb (vertical .total) (horizontal .total) ≡ true = le-leb _ _ (rw (total-vertical, total-horizontal) at less) in
         record {
           cell-is = ap₂ (λ p t. record { picture = p; total = t }) here total-vertical ∙ sym (ap (λ t. cond t vertical horizontal) test);
@@ -145,11 +146,11 @@ module _ (z : Size) (whole r c above left : ℕ) (work : List ℕ) (needed : Cel
           others = others-kept (65 * whole) beside three down Vertical (rw (needed .space .whole-is) (smaller-few z (r + 1) c)) (omega arith) g;
         }
 
-    pub given-horizontal : above + cost₁ < left + cost₂ → CutGiven two (67 * whole) upper Horizontal across slot three → CellGiven z whole (rowCount r) (columnCount c) above left work (above + cost₁) three
+    pub given-horizontal : above + cost₁ < left + cost₂ → CutGiven two (67 * whole) upper Horizontal across slot three → CellGiven z how whole (rowCount r) (columnCount c) above left work (above + cost₁) three
     unfolding chosen bySeam
     given-horizontal less g =
-        let cut : pictureAt (leftAlong Horizontal upper) slot three ≡ cutAlong Horizontal upper (seamAlong Horizontal upper (pictureAt upper slot work)) (pictureAt upper slot work) =
-        cut-is work slot upper Horizontal (67 * whole) seam₁ cost₁ one across first upper-sides source two upper-still slot three (omega (arith, needed .rows-left)) g in
+        let cut : pictureAt (leftAlong Horizontal upper) slot three ≡ cutAlong Horizontal upper (seamAlong how Horizontal upper (pictureAt upper slot work)) (pictureAt upper slot work) =
+        cut-is work slot upper how Horizontal (67 * whole) seam₁ cost₁ one across first upper-sides source two upper-still slot three (omega (arith, needed .rows-left)) g in
         let here : pictureAt (smaller z (r + 1) (c + 1)) slot three ≡ horizontal .picture =
         ap (λ u. pictureAt u slot three) (sym (less-row z r (c + 1))) ∙ cut in
         let test : leb (vertical .total) (horizontal .total) ≡ false = lt-leb _ _ (rw (total-vertical, total-horizontal) at less) in

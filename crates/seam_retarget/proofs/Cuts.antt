@@ -18,6 +18,7 @@ use Rattle.pictures.specs.Refusals.{refusal}
 use Rattle.pictures.specs.Pictures.{largestSide, Picture, channelsOf, pictureBytes, sideRules, picture, bytes, OfSize, pixels}
 use Rattle.pictures.proofs.Limits.{Sides, sides-are, sized-served, sides-of}
 use Rattle.pictures.proofs.Buffers.{picture-bytes, length-bytes}
+use Rattle.energy.specs.declared.methods.Method.{Method}
 use Rattle.seam_moves.specs.Between.{partAt, putAt}
 use Rattle.seam_close.specs.Closing.{CloseGiven}
 use Rattle.seam_moves.proofs.Places.{Kept, kept-part, put-there, put-kept, length-part}
@@ -148,8 +149,8 @@ module _ (work : List ℕ) (at : ℕ) (z : Size) (x : Axis) (seam : List ℕ) (t
         }
 
 -- A seam found, and cut where its picture stands turned.
-module _ (work : List ℕ) (from : ℕ) (z : Size) (x : Axis) (at : ℕ) (seam : List ℕ) (cost : ℕ) (one seam′ : List ℕ)
-    (found : SeamGiven work from z x at seam cost one seam′) (sides : refusal (sideRules z) ≡ 0) (inside : from + pictureBytes z ≤ length work) where
+module _ (work : List ℕ) (from : ℕ) (z : Size) (how : Method) (x : Axis) (at : ℕ) (seam : List ℕ) (cost : ℕ) (one seam′ : List ℕ)
+    (found : SeamGiven work from z how x at seam cost one seam′) (sides : refusal (sideRules z) ≡ 0) (inside : from + pictureBytes z ≤ length work) where
   p : Picture
   p = pictureAt z from work
 
@@ -166,24 +167,24 @@ module _ (work : List ℕ) (from : ℕ) (z : Size) (x : Axis) (at : ℕ) (seam :
       ∙ picture-bytes (turnedSize x z) (turned x (z .width) p) (turned-ofSize x z p p-of)
 
   pub found-inside : Each (λ c. c < turnedSize x z .width) (turnedSize x z .height) (take (turnedSize x z .height) seam′)
-  found-inside = rw (found .seam-is) (along-inside x z (pictureBytes z) (pictureAt z from work) (sized-at z sides))
+  found-inside = rw (found .seam-is) (along-inside how x z (pictureBytes z) (pictureAt z from work) (sized-at z sides))
 
   pub cut-is : (mid : List ℕ) → partAt at (pictureBytes z) mid ≡ partAt at (pictureBytes z) one
       → (to : ℕ) (two : List ℕ) → 1 < turnedSize x z .width → CutGiven mid at z x seam′ to two
-      → pictureAt (leftAlong x z) to two ≡ cutAlong x z (seamAlong x z (pictureAt z from work)) (pictureAt z from work)
+      → pictureAt (leftAlong x z) to two ≡ cutAlong x z (seamAlong how x z (pictureAt z from work)) (pictureAt z from work)
   unfolding p cutAlong
   cut-is mid still to two wide g =
       let t = turnedSize x z in
-      let s = seamAlong x z (pictureAt z from work) in
+      let s = seamAlong how x z (pictureAt z from work) in
       let q = turned x (z .width) (pictureAt z from work) in
       let o : OfSize (turnedSize x z) (turned x (z .width) (pictureAt z from work)) = turned-ofSize x z p p-of in
-      let i = along-inside x z (pictureBytes z) (pictureAt z from work) (sized-at z sides) in
+      let i = along-inside how x z (pictureBytes z) (pictureAt z from work) (sized-at z sides) in
       let left = narrowed (turnedSize x z) in
       ap (picture (leftAlong x z)) (g .picture-is ∙ ap₂ (λ u v. bytes (turned x (turnedSize x z .width - 1) (cut u v))) (found .seam-is) (turned-there mid still))
       ∙ picture-bytes (leftAlong x z) (turned x (turnedSize x z .width - 1) (cut s q)) (turned-ofSize x left (cut s q) (left-ofSize t s q wide i o))
 
 -- Both, one after the other.
-module _ (work : List ℕ) (from : ℕ) (z : Size) (x : Axis) (at to : ℕ) (needed : StepNeeded (length work) from z x at to) where
+module _ (work : List ℕ) (from : ℕ) (z : Size) (how : Method) (x : Axis) (at to : ℕ) (needed : StepNeeded (length work) from z x at to) where
   pub step-seam : (n : ℕ) → n ≡ largestSide → SeamNeeded (length work) from z x at n
   step-seam n is = record {
     sides = needed .sides;
@@ -192,21 +193,21 @@ module _ (work : List ℕ) (from : ℕ) (z : Size) (x : Axis) (at to : ℕ) (nee
     seam-room = rw is (turned-tall x z (needed .sides));
   }
 
-  module _ (seam : List ℕ) (cost : ℕ) (one seam′ : List ℕ) (found : SeamGiven work from z x at seam cost one seam′) (many : length seam ≡ largestSide) where
+  module _ (seam : List ℕ) (cost : ℕ) (one seam′ : List ℕ) (found : SeamGiven work from z how x at seam cost one seam′) (many : length seam ≡ largestSide) where
     pub step-cut : CutNeeded (length one) at z x seam′ to
     step-cut = record {
       sides = needed .sides;
       wide = needed .wide;
       seam-room = rw (found .seam-long ∙ many) (turned-tall x z (needed .sides));
-      inside = found-inside work from z x at seam cost one seam′ found (needed .sides) (needed .source .from-inside);
+      inside = found-inside work from z how x at seam cost one seam′ found (needed .sides) (needed .source .from-inside);
       places = rw (found .long) (needed .target);
     }
 
-    pub step-given : (two : List ℕ) → CutGiven one at z x seam′ to two → StepGiven work from z x at to cost two
+    pub step-given : (two : List ℕ) → CutGiven one at z x seam′ to two → StepGiven work from z how x at to cost two
     step-given two g = record {
       cost-is = found .cost-is;
       cost-most = found .cost-most;
-      picture-is = cut-is work from z x at seam cost one seam′ found (needed .sides) (needed .source .from-inside) one refl to two (needed .wide) g;
+      picture-is = cut-is work from z how x at seam cost one seam′ found (needed .sides) (needed .source .from-inside) one refl to two (needed .wide) g;
       long = g .long ∙ found .long;
       others = λ a n l m.
           g .others a n (⊎-elim (λ (h : a + n ≤ at). inl h) (λ (h : at + (pictureBytes z + pixels z) ≤ a). inr (omega arith)) l) m

@@ -15,6 +15,7 @@ use Rattle.pictures.specs.declared.sizes.Size.{Size}
 use Rattle.pictures.specs.Refusals.{refusal}
 use Rattle.pictures.specs.Pictures.{Picture, channelsOf, pictureBytes, sideRules, OfSize, pixel}
 use Rattle.pictures.proofs.Limits.{Sides, sides-are}
+use Rattle.energy.specs.declared.methods.Method.{Method}
 use Rattle.energy.specs.Bounds.{mostEnergy, mostCost}
 use Rattle.energy.proofs.Most.{costs-within, costs-most}
 use Rattle.seam_rules.specs.declared.answers.Axis.{Axis}
@@ -45,13 +46,13 @@ module _ (P : List ℕ → Type 0) where
   turned-of Horizontal z p o = exchange-each o
 
   -- By a seam, a row or a column less.
-  by-of : (x : Axis) (z : Size) (k : Cell) → refusal (sideRules z) ≡ 0 → 1 < turnedSize x z .width → Of P z (k .picture) → Of P (leftAlong x z) (bySeam x z k .picture)
+  by-of : (how : Method) (x : Axis) (z : Size) (k : Cell) → refusal (sideRules z) ≡ 0 → 1 < turnedSize x z .width → Of P z (k .picture) → Of P (leftAlong x z) (bySeam how x z k .picture)
   unfolding bySeam cutAlong
-  by-of x z k s wide o =
+  by-of how x z k s wide o =
       let t = turnedSize x z in
       let p = k .picture in
-      turned-of x (narrowed (turnedSize x z)) (cut (seamAlong x z p) (turned x (z .width) p))
-      (cut-narrower (t .width) wide (along-inside x z (pictureBytes z) p (sized-at z s)) (turned-of x z p o))
+      turned-of x (narrowed (turnedSize x z)) (cut (seamAlong how x z p) (turned x (z .width) p))
+      (cut-narrower (t .width) wide (along-inside how x z (pictureBytes z) p (sized-at z s)) (turned-of x z p o))
 
   chosen-of : (z : Size) (v h : Cell) → Of P z (v .picture) → Of P z (h .picture) → Of P z (chosen v h .picture)
   unfolding chosen
@@ -68,32 +69,32 @@ module _ (P : List ℕ → Type 0) where
   less-row-of z r c q o = let e : z .height - r - 1 ≡ z .height - suc r = omega arith in rw e at o
 
   -- Each cell has the pixels of the picture, r rows and c columns less.
-  module _ (z : Size) (p : Picture) (s : refusal (sideRules z) ≡ 0) (o : Of P z p) where
-    pub cell-of : (r c : ℕ) → r < z .height → c < z .width → Of P (smaller z r c) (cellAt z p r c .picture)
+  module _ (how : Method) (z : Size) (p : Picture) (s : refusal (sideRules z) ≡ 0) (o : Of P z p) where
+    pub cell-of : (r c : ℕ) → r < z .height → c < z .width → Of P (smaller z r c) (cellAt how z p r c .picture)
     unfolding cellAt
     cell-of zero zero h w =
         let a : z .width - 0 ≡ z .width = omega arith in
         let b : z .height - 0 ≡ z .height = omega arith in
         rw (a, b) o
     cell-of zero (suc c) h w =
-        less-column-of z 0 c (bySeam Vertical (smaller z 0 c) (cellAt z p 0 c) .picture)
-        (by-of Vertical (smaller z 0 c) (cellAt z p 0 c) (smaller-sides z 0 c s h (omega arith)) (omega arith) (cell-of 0 c h (omega arith)))
+        less-column-of z 0 c (bySeam how Vertical (smaller z 0 c) (cellAt how z p 0 c) .picture)
+        (by-of how Vertical (smaller z 0 c) (cellAt how z p 0 c) (smaller-sides z 0 c s h (omega arith)) (omega arith) (cell-of 0 c h (omega arith)))
     cell-of (suc r) zero h w =
-        less-row-of z r 0 (bySeam Horizontal (smaller z r 0) (cellAt z p r 0) .picture)
-        (by-of Horizontal (smaller z r 0) (cellAt z p r 0) (smaller-sides z r 0 s (omega arith) w) (omega arith) (cell-of r 0 (omega arith) w))
+        less-row-of z r 0 (bySeam how Horizontal (smaller z r 0) (cellAt how z p r 0) .picture)
+        (by-of how Horizontal (smaller z r 0) (cellAt how z p r 0) (smaller-sides z r 0 s (omega arith) w) (omega arith) (cell-of r 0 (omega arith) w))
     cell-of (suc r) (suc c) h w =
-        chosen-of (smaller z (suc r) (suc c)) (bySeam Vertical (smaller z (suc r) c) (cellAt z p (suc r) c)) (bySeam Horizontal (smaller z r (suc c)) (cellAt z p r (suc c)))
-        (less-column-of z (suc r) c (bySeam Vertical (smaller z (suc r) c) (cellAt z p (suc r) c) .picture)
-        (by-of Vertical (smaller z (suc r) c) (cellAt z p (suc r) c) (smaller-sides z (suc r) c s h (omega arith)) (omega arith) (cell-of (suc r) c h (omega arith))))
-        (less-row-of z r (suc c) (bySeam Horizontal (smaller z r (suc c)) (cellAt z p r (suc c)) .picture)
-        (by-of Horizontal (smaller z r (suc c)) (cellAt z p r (suc c)) (smaller-sides z r (suc c) s (omega arith) w) (omega arith) (cell-of r (suc c) (omega arith) w)))
+        chosen-of (smaller z (suc r) (suc c)) (bySeam how Vertical (smaller z (suc r) c) (cellAt how z p (suc r) c)) (bySeam how Horizontal (smaller z r (suc c)) (cellAt how z p r (suc c)))
+        (less-column-of z (suc r) c (bySeam how Vertical (smaller z (suc r) c) (cellAt how z p (suc r) c) .picture)
+        (by-of how Vertical (smaller z (suc r) c) (cellAt how z p (suc r) c) (smaller-sides z (suc r) c s h (omega arith)) (omega arith) (cell-of (suc r) c h (omega arith))))
+        (less-row-of z r (suc c) (bySeam how Horizontal (smaller z r (suc c)) (cellAt how z p r (suc c)) .picture)
+        (by-of how Horizontal (smaller z r (suc c)) (cellAt how z p r (suc c)) (smaller-sides z r (suc c) s (omega arith) w) (omega arith) (cell-of r (suc c) (omega arith) w)))
 
 -- "To remove r rows and c columns": the cell's picture has the size m - c by n - r.
-pub cell-ofSize : (z : Size) (p : Picture) → refusal (sideRules z) ≡ 0 → OfSize z p → (rows : Rows) (columns : Columns) → rows .0 < z .height → columns .0 < z .width
-    → OfSize (leftSize z rows columns) (cell z p rows columns .picture)
-cell-ofSize z p s o rows columns h w =
-    subst (λ (k : Cell). OfSize (leftSize z rows columns) (k .picture)) (sym (cell-numbers z p rows columns))
-    (cell-of (λ x. length x ≡ channelsOf (z .kind)) z p s o (rows .0) (columns .0) h w)
+pub cell-ofSize : (how : Method) (z : Size) (p : Picture) → refusal (sideRules z) ≡ 0 → OfSize z p → (rows : Rows) (columns : Columns) → rows .0 < z .height → columns .0 < z .width
+    → OfSize (leftSize z rows columns) (cell how z p rows columns .picture)
+cell-ofSize how z p s o rows columns h w =
+    subst (λ (k : Cell). OfSize (leftSize z rows columns) (k .picture)) (sym (cell-numbers how z p rows columns))
+    (cell-of (λ x. length x ≡ channelsOf (z .kind)) how z p s o (rows .0) (columns .0) h w)
 
 -- A pixel of ch samples, each a byte.
 pub record Bytes (channels : ℕ) (x : List ℕ) : Type 0 where
@@ -114,29 +115,29 @@ pixel-bytes ch z p o r c =
     blank = record { many = omega arith; small = λ k. omega arith }
 
 -- The cost of a seam along either axis.
-cost-most : (ch : ℕ) → ch ≤ 3 → (x : Axis) (z : Size) (p : Picture) → refusal (sideRules z) ≡ 0 → Of (Bytes ch) z p → costAlong x z p ≤ mostCost
+cost-most : (how : Method) (ch : ℕ) → ch ≤ 3 → (x : Axis) (z : Size) (p : Picture) → refusal (sideRules z) ≡ 0 → Of (Bytes ch) z p → costAlong how x z p ≤ mostCost
 unfolding costAlong
-cost-most ch few x z p s o =
+cost-most how ch few x z p s o =
     let t = turnedSize x z in
     let q = turned x (z .width) p in
     let sides : Sides (turnedSize x z) = sides-are t (turned-sides x z (pictureBytes z) (sized-at z s)) in
     let b = pixel-bytes ch t q (turned-of (Bytes ch) x z p o) in
-    cost-bound (t .width) (t .height) q (sides .width-some) (sides .height-some) (sides .height-small)
-    (λ r c. costs-within (2 * (ch * 255)) mostEnergy _ (omega (arith, mul-le-mul-right 255 few)) (costs-most ch 255 q (λ r c. b r c .many) (λ r c. b r c .small) (t .width) (t .height) r c))
+    cost-bound how (t .width) (t .height) q (sides .width-some) (sides .height-some) (sides .height-small)
+    (λ r c. costs-within (2 * (ch * 255)) mostEnergy _ (omega (arith, mul-le-mul-right 255 few)) (costs-most ch 255 q (λ r c. b r c .many) (λ r c. b r c .small) how (t .width) (t .height) r c))
 
 -- The total of r + c seams: at most 128 of them, it fits 64 bits.
-module _ (z : Size) (p : Picture) (s : refusal (sideRules z) ≡ 0) (ch : ℕ) (few : ch ≤ 3) (o : Of (Bytes ch) z p) where
-  by-most : (x : Axis) (r c m : ℕ) → r < z .height → c < z .width → cellAt z p r c .total ≤ m → bySeam x (smaller z r c) (cellAt z p r c) .total ≤ m + mostCost
+module _ (how : Method) (z : Size) (p : Picture) (s : refusal (sideRules z) ≡ 0) (ch : ℕ) (few : ch ≤ 3) (o : Of (Bytes ch) z p) where
+  by-most : (x : Axis) (r c m : ℕ) → r < z .height → c < z .width → cellAt how z p r c .total ≤ m → bySeam how x (smaller z r c) (cellAt how z p r c) .total ≤ m + mostCost
   unfolding bySeam
-  by-most x r c m h w l = omega (arith, cost-most ch few x (smaller z r c) (cellAt z p r c .picture) (smaller-sides z r c s h w) (cell-of (Bytes ch) z p s o r c h w))
+  by-most x r c m h w l = omega (arith, cost-most how ch few x (smaller z r c) (cellAt how z p r c .picture) (smaller-sides z r c s h w) (cell-of (Bytes ch) how z p s o r c h w))
 
-  pub total-most : (r c : ℕ) → r < z .height → c < z .width → cellAt z p r c .total ≤ (r + c) * mostCost
+  pub total-most : (r c : ℕ) → r < z .height → c < z .width → cellAt how z p r c .total ≤ (r + c) * mostCost
   unfolding cellAt chosen
   total-most zero zero h w = omega arith
   total-most zero (suc c) h w = omega (arith, by-most Vertical 0 c ((0 + c) * mostCost) h (omega arith) (total-most 0 c h (omega arith)))
   total-most (suc r) zero h w = omega (arith, by-most Horizontal r 0 ((r + 0) * mostCost) (omega arith) w (total-most r 0 (omega arith) w))
   total-most (suc r) (suc c) h w =
-      less (bySeam Vertical (smaller z (suc r) c) (cellAt z p (suc r) c)) (bySeam Horizontal (smaller z r (suc c)) (cellAt z p r (suc c)))
+      less (bySeam how Vertical (smaller z (suc r) c) (cellAt how z p (suc r) c)) (bySeam how Horizontal (smaller z r (suc c)) (cellAt how z p r (suc c)))
       (omega (arith, by-most Vertical (suc r) c ((suc r + c) * mostCost) h (omega arith) (total-most (suc r) c h (omega arith))))
       (omega (arith, by-most Horizontal r (suc c) ((r + suc c) * mostCost) (omega arith) w (total-most r (suc c) (omega arith) w)))
     where
@@ -148,6 +149,6 @@ module _ (z : Size) (p : Picture) (s : refusal (sideRules z) ≡ 0) (ch : ℕ) (
           go false = b
 
   pub total-fits : (rows : Rows) (columns : Columns) → rows .0 < z .height → columns .0 < z .width → rows .0 ≤ largestCount → columns .0 ≤ largestCount
-      → cell z p rows columns .total < 18446744073709551616
+      → cell how z p rows columns .total < 18446744073709551616
   total-fits rows columns h w k l =
-      subst (λ (c : Cell). c .total < 18446744073709551616) (sym (cell-numbers z p rows columns)) (omega (arith, total-most (rows .0) (columns .0) h w))
+      subst (λ (c : Cell). c .total < 18446744073709551616) (sym (cell-numbers how z p rows columns)) (omega (arith, total-most (rows .0) (columns .0) h w))

@@ -15,13 +15,14 @@ use Rattle.pictures.specs.Refusals.{refusal}
 use Rattle.pictures.specs.Pictures.{pictureBytes, sideRules, picture, bytes, OfSize, pixels}
 use Rattle.pictures.proofs.Limits.{Sized, sides-are, sized-of}
 use Rattle.pictures.proofs.Buffers.{picture-ofSize, bytes-picture, length-bytes}
+use Rattle.energy.specs.declared.methods.Method.{Method}
 use Rattle.seam_moves.specs.Between.{partAt, putAt, CopyBetweenGiven}
 use Rattle.seam_moves.proofs.Places.{Kept, kept-part, put-kept, length-part}
 use Rattle.seam_moves.proofs.Served.{copy-between-served}
 use Rattle.seam_rules.specs.declared.answers.Found.{Found}
 use Rattle.seam_theory.specs.PictureSeams.{seamOf, costOf}
 use Rattle.seam_rules.specs.Answers.{foundCost}
-use Rattle.seam_find.specs.Finding.{FindGiven}
+use Rattle.seam_find.specs.Finding.{FindInGiven}
 use Rattle.seam_find.proofs.Costs.{front-most}
 use Rattle.seam_rules.specs.declared.answers.Axis.{Axis}
 use Rattle.seam_rules.specs.declared.answers.Axis.the-variants.{Vertical}
@@ -53,7 +54,7 @@ copied-turned work work′ from z to all v needed is g =
     ∙ ap (λ x. putAt to (pictureBytes z) x work) (sym (bytes-picture z (partAt from (pictureBytes z) work) (length-part from (pictureBytes z) work (needed .places .from-inside))))
 
 -- The seam found where the picture stands turned. `one` is the space after the turn, `part` the part that comes back.
-module _ (work : List ℕ) (from : ℕ) (z : Size) (x : Axis) (at : ℕ) (seam : List ℕ) (needed : SeamNeeded (length work) from z x at (length seam)) where
+module _ (work : List ℕ) (from : ℕ) (z : Size) (how : Method) (x : Axis) (at : ℕ) (seam : List ℕ) (needed : SeamNeeded (length work) from z x at (length seam)) where
   abbrev t : Size
   t = turnedSize x z
 
@@ -100,13 +101,13 @@ module _ (work : List ℕ) (from : ℕ) (z : Size) (x : Axis) (at : ℕ) (seam :
         let room = needed .room in
         part-length at (length one) one (omega arith) ∙ ap (_- at) turn-long
 
-    module _ (found : Found) (part seam′ : List ℕ) (g : FindGiven (midOf at (length one - at) one) (turnedSize x z) seam found part seam′)
+    module _ (found : Found) (part seam′ : List ℕ) (g : FindInGiven (midOf at (length one - at) one) (turnedSize x z) how seam found part seam′)
         (small : (i : ℕ) → getD one i 0 ≤ 255) where
       sides-t : refusal (sideRules t) ≡ 0
       sides-t = turned-sides x z (pictureBytes z) sized
 
-      there : FoundThere lent t seam found part seam′
-      there = find-served lent t seam found part seam′ g sides-t (needed .seam-room) (omega (arith, needed .room, lent-long, turned-bytes x z, turned-pixels x z))
+      there : FoundThere lent t how seam found part seam′
+      there = find-served lent t how seam found part seam′ g sides-t (needed .seam-room) (omega (arith, needed .room, lent-long, turned-bytes x z, turned-pixels x z))
 
       seen : picture t (take (pictureBytes t) lent) ≡ turned x (z .width) (pictureAt z from work)
       seen = turned-picture x z b lent (drop (at + pictureBytes z) work) b-long lent-is
@@ -138,20 +139,20 @@ module _ (work : List ℕ) (from : ℕ) (z : Size) (x : Axis) (at : ℕ) (seam :
           ∙ ap₂ (λ u v. u ++ (part ++ v)) (kept .before) (drop-of-length-le one {i = length one} (le-of-eq refl))
           ∙ ap (take at work ++_) (append-nil part ∙ part-is ∙ sym (append-assoc Q (replicate (pixels z) 0) (drop (at + (pictureBytes z + pixels z)) work)))
 
-      pub seam-given : SeamGiven work from z x at seam (foundCost found) (putMid at (length one - at) one part) seam′
+      pub seam-given : SeamGiven work from z how x at seam (foundCost found) (putMid at (length one - at) one part) seam′
       unfolding seamAlong costAlong
       seam-given =
           let all = pictureBytes z + pixels z in
           let room = needed .room in
           let same : Kept at (pictureBytes z + pixels z) work (putAt at (pictureBytes z + pixels z) new work) = put-kept at all new work new-long room in
           let h = t .height in
-          let s = seamOf (t .width) (t .height) (turned x (z .width) (pictureAt z from work)) in
-          let inside = along-inside x z (pictureBytes z) (pictureAt z from work) sized in
-          let cost : foundCost found ≡ costOf (t .width) (t .height) (turned x (z .width) (pictureAt z from work)) = there .cost ∙ ap (costOf (t .width) (t .height)) seen in
-          let seam-is : seam′ ≡ seamOf (t .width) (t .height) (turned x (z .width) (pictureAt z from work)) ++ drop (t .height) seam = there .seam-given ∙ ap (λ p. seamOf (t .width) (t .height) p ++ drop (t .height) seam) seen in
+          let s = seamOf how (t .width) (t .height) (turned x (z .width) (pictureAt z from work)) in
+          let inside = along-inside how x z (pictureBytes z) (pictureAt z from work) sized in
+          let cost : foundCost found ≡ costOf how (t .width) (t .height) (turned x (z .width) (pictureAt z from work)) = there .cost ∙ ap (costOf how (t .width) (t .height)) seen in
+          let seam-is : seam′ ≡ seamOf how (t .width) (t .height) (turned x (z .width) (pictureAt z from work)) ++ drop (t .height) seam = there .seam-given ∙ ap (λ p. seamOf how (t .width) (t .height) p ++ drop (t .height) seam) seen in
           record {
             cost-is = cost;
-            cost-most = rw (there .cost) (cost-small t lent (sides-are t sides-t) (omega (arith, needed .room, lent-long, turned-bytes x z)) few);
+            cost-most = rw (there .cost) (cost-small t how lent (sides-are t sides-t) (omega (arith, needed .room, lent-long, turned-bytes x z)) few);
             seam-is = ap (take h) seam-is ∙ take-at s (drop h seam) h (each-length inside);
             seam-long = ap length seam-is ∙ omega (arith, length-append s (drop h seam), each-length inside, length-drop h seam, needed .seam-room);
             turned-is =

@@ -4,6 +4,7 @@ use Prim.Native.Nat.{ℕ, zero, suc, _+_}
 use lib.Dec.{leb}
 use Rattle.pictures.specs.declared.sizes.Size.{Size}
 use Rattle.pictures.specs.Pictures.{Picture}
+use Rattle.energy.specs.declared.methods.Method.{Method}
 use Rattle.seam_rules.specs.declared.answers.Axis.{Axis}
 use Rattle.seam_rules.specs.declared.answers.Axis.the-variants.{Vertical, Horizontal}
 use Rattle.seam_rules.specs.declared.answers.Rows.{Rows}
@@ -17,12 +18,12 @@ pub record Cell : Type 0 where
   pub picture : Picture
   pub total : ℕ
 
--- From a cell whose picture has this size, by its seam along the axis: "the total growing by that seam's cost in the picture
--- before the cut".
-unfoldable pub bySeam : Axis → Size → Cell → Cell
-bySeam x z from = record {
-  picture = cutAlong x z (seamAlong x z (from .picture)) (from .picture);
-  total = from .total + costAlong x z (from .picture);
+-- From a cell whose picture has this size, by its seam along the axis as a method finds it: "the total growing by that seam's
+-- cost in the picture before the cut".
+unfoldable pub bySeam : Method → Axis → Size → Cell → Cell
+bySeam how x z from = record {
+  picture = cutAlong x z (seamAlong how x z (from .picture)) (from .picture);
+  total = from .total + costAlong how x z (from .picture);
 }
 
 -- "The smaller total is chosen; on a tie the vertical cut."
@@ -50,14 +51,14 @@ asColumns (columnAfter c) = columnCount (suc (asColumns c .0))
 
 -- "Cell (0,0) is the picture with total 0. Cell (r,c) comes either from (r-1,c) by its horizontal seam or from (r,c-1) by its
 -- vertical seam." On the table's edge there is one way only.
-unfoldable pub cellAfter : Size → Picture → RowsRemoved → ColumnsRemoved → Cell
-cellAfter z p noRows noColumns = record { picture = p; total = 0 }
-cellAfter z p noRows (columnAfter c) = bySeam Vertical (leftSize z (asRows noRows) (asColumns c)) (cellAfter z p noRows c)
-cellAfter z p (rowAfter r) noColumns = bySeam Horizontal (leftSize z (asRows r) (asColumns noColumns)) (cellAfter z p r noColumns)
-cellAfter z p (rowAfter r) (columnAfter c) =
+unfoldable pub cellAfter : Method → Size → Picture → RowsRemoved → ColumnsRemoved → Cell
+cellAfter how z p noRows noColumns = record { picture = p; total = 0 }
+cellAfter how z p noRows (columnAfter c) = bySeam how Vertical (leftSize z (asRows noRows) (asColumns c)) (cellAfter how z p noRows c)
+cellAfter how z p (rowAfter r) noColumns = bySeam how Horizontal (leftSize z (asRows r) (asColumns noColumns)) (cellAfter how z p r noColumns)
+cellAfter how z p (rowAfter r) (columnAfter c) =
     chosen
-    (bySeam Vertical (leftSize z (asRows (rowAfter r)) (asColumns c)) (cellAfter z p (rowAfter r) c))
-    (bySeam Horizontal (leftSize z (asRows r) (asColumns (columnAfter c))) (cellAfter z p r (columnAfter c)))
+    (bySeam how Vertical (leftSize z (asRows (rowAfter r)) (asColumns c)) (cellAfter how z p (rowAfter r) c))
+    (bySeam how Horizontal (leftSize z (asRows r) (asColumns (columnAfter c))) (cellAfter how z p r (columnAfter c)))
 
 -- n rows removed, n columns removed, and the cell of two counts.
 abbrev pub manyRows : ℕ → RowsRemoved
@@ -74,5 +75,5 @@ removeRows rows = manyRows (rows .0)
 abbrev pub removeColumns : Columns → ColumnsRemoved
 removeColumns columns = manyColumns (columns .0)
 
-abbrev pub cell : Size → Picture → Rows → Columns → Cell
-cell z p rows columns = cellAfter z p (removeRows rows) (removeColumns columns)
+abbrev pub cell : Method → Size → Picture → Rows → Columns → Cell
+cell how z p rows columns = cellAfter how z p (removeRows rows) (removeColumns columns)

@@ -1,6 +1,7 @@
 // One cell of the table, where two ways lead to it.
 use crate::seams::cut_at;
 use crate::seams::seam_at;
+use energy::Method;
 use pictures::LARGEST_SIDE;
 use pictures::Size;
 use seam_rules::Axis;
@@ -20,6 +21,7 @@ pub(crate) const HORIZONTAL: usize = 67;
 pub(crate) fn next_cell(
     work: &mut [u8],
     size: Size,
+    method: Method,
     whole: usize,
     rows: Rows,
     columns: Columns,
@@ -27,7 +29,7 @@ pub(crate) fn next_cell(
     left: u64,
 ) -> u64
     requires { ⌜ CellNeeded size whole rows columns above left (length (now work)) ⌝ }
-    ensures { λ n. ⌜ CellGiven size whole rows columns above left (now (work .entry)) n (now (work .exit)) ⌝ }
+    ensures { λ n. ⌜ CellGiven size method whole rows columns above left (now (work .entry)) n (now (work .exit)) ⌝ }
 {
     let r = rows.0;
     let c = columns.0;
@@ -38,8 +40,26 @@ pub(crate) fn next_cell(
     let horizontal = HORIZONTAL * whole;
     let mut across = [0u16; LARGEST_SIDE];
     let mut down = [0u16; LARGEST_SIDE];
-    let by_row = above + seam_at(work, slot, upper, Axis::Horizontal, horizontal, &mut across);
-    let by_column = left + seam_at(work, c * whole, beside, Axis::Vertical, vertical, &mut down);
+    let by_row = above
+        + seam_at(
+            work,
+            slot,
+            upper,
+            method,
+            Axis::Horizontal,
+            horizontal,
+            &mut across,
+        );
+    let by_column = left
+        + seam_at(
+            work,
+            c * whole,
+            beside,
+            method,
+            Axis::Vertical,
+            vertical,
+            &mut down,
+        );
     let taken = seam_rules::smaller_total(by_column, by_row);
     match taken {
         Axis::Vertical => {

@@ -1,4 +1,5 @@
 // One seam of a picture that stands at a place of the work space: found, and cut.
+use energy::Method;
 use pictures::LARGEST_SIDE;
 use pictures::Size;
 use seam_rules::Axis;
@@ -34,16 +35,17 @@ pub(crate) fn seam_at(
     work: &mut [u8],
     from: usize,
     size: Size,
+    method: Method,
     axis: Axis,
     at: usize,
     seam: &mut [u16],
 ) -> u64
     requires { ⌜ SeamNeeded (length (now work)) from size axis at (length (now seam)) ⌝ }
-    ensures { λ n. ⌜ SeamGiven (now (work .entry)) from size axis at (now (seam .entry)) n (now (work .exit)) (now (seam .exit)) ⌝ }
+    ensures { λ n. ⌜ SeamGiven (now (work .entry)) from size method axis at (now (seam .entry)) n (now (work .exit)) (now (seam .exit)) ⌝ }
 {
     turn(work, from, size, axis, at);
     let over = turned_size(axis, size);
-    let found = seam_find::find_in(&mut work[at..], over, seam);
+    let found = seam_find::find_in(&mut work[at..], over, method, seam);
     match found {
         Found::Seam(cost) => cost,
         // unreachable: the size is allowed and there is room
@@ -69,15 +71,16 @@ pub(crate) fn step(
     work: &mut [u8],
     from: usize,
     size: Size,
+    method: Method,
     axis: Axis,
     at: usize,
     to: usize,
 ) -> u64
     requires { ⌜ StepNeeded (length (now work)) from size axis at to ⌝ }
-    ensures { λ n. ⌜ StepGiven (now (work .entry)) from size axis at to n (now (work .exit)) ⌝ }
+    ensures { λ n. ⌜ StepGiven (now (work .entry)) from size method axis at to n (now (work .exit)) ⌝ }
 {
     let mut seam = [0u16; LARGEST_SIDE];
-    let cost = seam_at(work, from, size, axis, at, &mut seam);
+    let cost = seam_at(work, from, size, method, axis, at, &mut seam);
     cut_at(work, at, size, axis, &seam, to);
     cost
 }

@@ -4,6 +4,7 @@ use crate::cells::HORIZONTAL;
 use crate::cells::VERTICAL;
 use crate::cells::next_cell;
 use crate::seams::step;
+use energy::Method;
 use pictures::Size;
 use seam_rules::Axis;
 use seam_rules::Columns;
@@ -17,13 +18,14 @@ ghost use Rattle.seam_retarget.specs.Inner.Table.{held, firstRow, alongR
 pub(crate) fn first_row(
     work: &mut [u8],
     size: Size,
+    method: Method,
     whole: usize,
     columns: Columns,
     totals: &mut [u64],
 )
     requires { ⌜ RowNeeded size whole (rowCount 0) columns (now work) (now totals) ⌝ }
     requires { ⌜ NoTotals (now totals) ⌝ }
-    ensures { λ _. ⌜ RowGiven size whole (rowCount 0) columns (firstRow size (held size whole (rowCount 0) (now (work .entry)) (now (totals .entry)) 0)) (now (work .entry)) (now (work .exit)) (now (totals .exit)) ⌝ }
+    ensures { λ _. ⌜ RowGiven size whole (rowCount 0) columns (firstRow method size (held size whole (rowCount 0) (now (work .entry)) (now (totals .entry)) 0)) (now (work .entry)) (now (work .exit)) (now (totals .exit)) ⌝ }
 {
     let last = columns.0;
     for j in 0..last {
@@ -32,6 +34,7 @@ pub(crate) fn first_row(
             work,
             j * whole,
             before,
+            method,
             Axis::Vertical,
             VERTICAL * whole,
             (j + 1) * whole,
@@ -44,6 +47,7 @@ pub(crate) fn first_row(
 fn rest_of_row(
     work: &mut [u8],
     size: Size,
+    method: Method,
     whole: usize,
     rows: Rows,
     columns: Columns,
@@ -51,13 +55,14 @@ fn rest_of_row(
 )
     requires { ⌜ RowNeeded size whole (rowMore rows) columns (now work) (now totals) ⌝ }
     requires { ⌜ MoreTotals rows (now totals) ⌝ }
-    ensures { λ _. ⌜ RowGiven size whole (rowMore rows) columns (alongRow size rows (held size whole (rowMore rows) (now (work .entry)) (now (totals .entry)) 0) (held size whole rows (now (work .entry)) (now (totals .entry)))) (now (work .entry)) (now (work .exit)) (now (totals .exit)) ⌝ }
+    ensures { λ _. ⌜ RowGiven size whole (rowMore rows) columns (alongRow method size rows (held size whole (rowMore rows) (now (work .entry)) (now (totals .entry)) 0) (held size whole rows (now (work .entry)) (now (totals .entry)))) (now (work .entry)) (now (work .exit)) (now (totals .exit)) ⌝ }
 {
     let last = columns.0;
     for j in 0..last {
         totals[j + 1] = next_cell(
             work,
             size,
+            method,
             whole,
             rows,
             Columns(j),
@@ -71,6 +76,7 @@ fn rest_of_row(
 fn next_row(
     work: &mut [u8],
     size: Size,
+    method: Method,
     whole: usize,
     rows: Rows,
     columns: Columns,
@@ -78,18 +84,27 @@ fn next_row(
 )
     requires { ⌜ RowNeeded size whole (rowMore rows) columns (now work) (now totals) ⌝ }
     requires { ⌜ Totals rows (now totals) ⌝ }
-    ensures { λ _. ⌜ RowGiven size whole (rowMore rows) columns (nextRow size rows (held size whole rows (now (work .entry)) (now (totals .entry)))) (now (work .entry)) (now (work .exit)) (now (totals .exit)) ⌝ }
+    ensures { λ _. ⌜ RowGiven size whole (rowMore rows) columns (nextRow method size rows (held size whole rows (now (work .entry)) (now (totals .entry)))) (now (work .entry)) (now (work .exit)) (now (totals .exit)) ⌝ }
 {
     let above = smaller(size, rows, Columns(0));
-    let cost = step(work, 0, above, Axis::Horizontal, HORIZONTAL * whole, 0);
+    let cost = step(
+        work,
+        0,
+        above,
+        method,
+        Axis::Horizontal,
+        HORIZONTAL * whole,
+        0,
+    );
     totals[0] = totals[0] + cost;
-    rest_of_row(work, size, whole, rows, columns, totals);
+    rest_of_row(work, size, method, whole, rows, columns, totals);
 }
 
 // Row `rows`, from row 0.
 pub(crate) fn rows_below(
     work: &mut [u8],
     size: Size,
+    method: Method,
     whole: usize,
     rows: Rows,
     columns: Columns,
@@ -97,10 +112,10 @@ pub(crate) fn rows_below(
 )
     requires { ⌜ RowNeeded size whole rows columns (now work) (now totals) ⌝ }
     requires { ⌜ Totals (rowCount 0) (now totals) ⌝ }
-    ensures { λ _. ⌜ RowGiven size whole rows columns (tableRow size (held size whole (rowCount 0) (now (work .entry)) (now (totals .entry))) rows) (now (work .entry)) (now (work .exit)) (now (totals .exit)) ⌝ }
+    ensures { λ _. ⌜ RowGiven size whole rows columns (tableRow method size (held size whole (rowCount 0) (now (work .entry)) (now (totals .entry))) rows) (now (work .entry)) (now (work .exit)) (now (totals .exit)) ⌝ }
 {
     let last = rows.0;
     for i in 0..last {
-        next_row(work, size, whole, Rows(i), columns, totals);
+        next_row(work, size, method, whole, Rows(i), columns, totals);
     }
 }

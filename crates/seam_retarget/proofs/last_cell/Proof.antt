@@ -35,17 +35,17 @@ sure : (c : tie.After-picture-bytes)
     → let s = c .before .before .before .before .before .before .before .before .before .before .before .before .before .before .before .before .before .before .before .before .before in
     let st = s in
     let a = st .args in
-    LastSure (now (a .picture)) (a .size) (a .rows) (a .columns) (now (a .out)) (now (a .work)) (st .pre) (c .picture-bytes .result)
+    LastSure (now (a .picture)) (a .size) (a .method) (a .rows) (a .columns) (now (a .out)) (now (a .work)) (st .pre) (c .picture-bytes .result)
 sure c =
     let st = c .before .before .before .before .before .before .before .before .before .before .before .before .before .before .before .before .before .before .before .before .before in
     let a = st .args in
-    last-sure (now (a .picture)) (a .size) (a .rows) (a .columns) (now (a .out)) (now (a .work)) (st .pre) (c .picture-bytes .result) (count-is c)
+    last-sure (now (a .picture)) (a .size) (a .method) (a .rows) (a .columns) (now (a .out)) (now (a .work)) (st .pre) (c .picture-bytes .result) (count-is c)
 
 copy-requires : tie.Need-copy-requires
 copy-requires c κs =
     let st = c .before .before .before .before in
     let a = st .args in
-    last-sure (now (a .picture)) (a .size) (a .rows) (a .columns) (now (a .out)) (now (a .work)) (st .pre) _ refl .fits
+    last-sure (now (a .picture)) (a .size) (a .method) (a .rows) (a .columns) (now (a .out)) (now (a .work)) (st .pre) _ refl .fits
 
 slice-aggregate-first-row : tie.Need-slice-aggregate-first-row
 slice-aggregate-first-row c = search needs
@@ -56,7 +56,7 @@ first-row-requires c κs =
     let st = at-copy .before .before .before .before .before in
     let a = st .args in
     let copy = at-copy .copy in
-    (first-needed (now (a .picture)) (a .size) (a .rows) (a .columns) (now (a .out)) (now (a .work)) (st .pre) (copy .last .1 .0) (copy .ensures .1) (copy .kept .1 .0) _ refl, no-totals 65)
+    (first-needed (now (a .picture)) (a .size) (a .method) (a .rows) (a .columns) (now (a .out)) (now (a .work)) (st .pre) (copy .last .1 .0) (copy .ensures .1) (copy .kept .1 .0) _ refl, no-totals 65)
 
 slice-aggregate-rows-below : tie.Need-slice-aggregate-rows-below
 slice-aggregate-rows-below c = sym (c .before .before .before .before .before .first-row .ensures .totals-long)
@@ -69,7 +69,7 @@ rows-below-requires c κs =
     let a = st .args in
     let copy = at-copy .copy in
     let one = at-first-row .first-row in
-    (below-needed (now (a .picture)) (a .size) (a .rows) (a .columns) (now (a .out)) (now (a .work)) (st .pre) (copy .last .1 .0) (copy .ensures .1) (copy .kept .1 .0) blank (one .last .0) (one .last .1 .1 .1 .1 .0) (no-totals 65) (one .ensures), one .ensures .small)
+    (below-needed (now (a .picture)) (a .size) (a .method) (a .rows) (a .columns) (now (a .out)) (now (a .work)) (st .pre) (copy .last .1 .0) (copy .ensures .1) (copy .kept .1 .0) blank (one .last .0) (one .last .1 .1 .1 .1 .1 .0) (no-totals 65) (one .ensures), one .ensures .small)
 
 smaller-requires : tie.Need-smaller-requires
 smaller-requires c κs = search needs
@@ -99,7 +99,7 @@ part-copy-end c =
     let copy = at-copy .copy in
     let one = at-first-row .first-row in
     let two = at-rows-below .rows-below in
-    omega (arith, sure (c .before) .inside, three-long (now (a .picture)) (a .size) (a .rows) (a .columns) (now (a .out)) (now (a .work)) (st .pre) (copy .last .1 .0) (copy .ensures .1) (copy .kept .1 .0) blank (one .last .0) (one .last .1 .1 .1 .1 .0) (no-totals 65) (one .ensures) (two .last .0) (two .last .1 .1 .1 .1 .1 .0) (two .ensures))
+    omega (arith, sure (c .before) .inside, three-long (now (a .picture)) (a .size) (a .method) (a .rows) (a .columns) (now (a .out)) (now (a .work)) (st .pre) (copy .last .1 .0) (copy .ensures .1) (copy .kept .1 .0) blank (one .last .0) (one .last .1 .1 .1 .1 .1 .0) (no-totals 65) (one .ensures) (two .last .0) (two .last .1 .1 .1 .1 .1 .1 .0) (two .ensures))
 
 copy-requires-2 : tie.Need-copy-requires-2
 copy-requires-2 c κs =
@@ -112,7 +112,7 @@ copy-requires-2 c κs =
     let copy = at-copy .copy in
     let one = at-first-row .first-row in
     let two = at-rows-below .rows-below in
-    omega (arith, part-long (now (a .picture)) (a .size) (a .rows) (a .columns) (now (a .out)) (now (a .work)) (st .pre) (copy .last .1 .0) (copy .ensures .1) (copy .kept .1 .0) blank (one .last .0) (one .last .1 .1 .1 .1 .0) (no-totals 65) (one .ensures) (two .last .0) (two .last .1 .1 .1 .1 .1 .0) (two .ensures) (q .picture-bytes .result) (count-is q), count-is q, st .pre .out-room)
+    omega (arith, part-long (now (a .picture)) (a .size) (a .method) (a .rows) (a .columns) (now (a .out)) (now (a .work)) (st .pre) (copy .last .1 .0) (copy .ensures .1) (copy .kept .1 .0) blank (one .last .0) (one .last .1 .1 .1 .1 .1 .0) (no-totals 65) (one .ensures) (two .last .0) (two .last .1 .1 .1 .1 .1 .1 .0) (two .ensures) (q .picture-bytes .result) (count-is q), count-is q, st .pre .out-room)
 
 clear-requires : tie.Need-clear-requires
 clear-requires c κs = search needs
@@ -147,7 +147,7 @@ returns c =
     let copy = at-copy .copy in
     let one = at-first-row .first-row in
     let two = at-rows-below .rows-below in
-    answer (now (a .picture)) (a .size) (a .rows) (a .columns) (now (a .out)) (now (a .work)) (st .pre) (copy .last .1 .0) (copy .ensures .1) (copy .kept .1 .0) blank (one .last .0) (one .last .1 .1 .1 .1 .0) (no-totals 65) (one .ensures) (two .last .0) (two .last .1 .1 .1 .1 .1 .0) (two .ensures) (q .picture-bytes .result) (count-is q)
+    answer (now (a .picture)) (a .size) (a .method) (a .rows) (a .columns) (now (a .out)) (now (a .work)) (st .pre) (copy .last .1 .0) (copy .ensures .1) (copy .kept .1 .0) blank (one .last .0) (one .last .1 .1 .1 .1 .1 .0) (no-totals 65) (one .ensures) (two .last .0) (two .last .1 .1 .1 .1 .1 .1 .0) (two .ensures) (q .picture-bytes .result) (count-is q)
     (at-copy2 .copy2 .last .1 .0) (at-clear .clear .last .0) (at-copy2 .copy2 .ensures .1) (at-clear .clear .ensures)
 
 pub last-cell-spec : {M : Type 1} → statement M

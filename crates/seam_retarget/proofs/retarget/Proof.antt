@@ -33,7 +33,7 @@ returns c =
     let a = s .args in
     let why = c .before .fits2 .given in
     let z = a .size in
-    let k = cellOf z (now (a .picture)) (a .rows) (a .columns) in
+    let k = cellOf (a .method) z (now (a .picture)) (a .rows) (a .columns) in
     record {
       number = sym (ap given (why .1)) ∙ judged .judge-retarget .ensures;
       total = kept-by (why .0 .0) (k .total) 0;

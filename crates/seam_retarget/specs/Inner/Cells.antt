@@ -6,6 +6,7 @@ use lib.ListN.{length}
 use Rattle.pictures.specs.declared.sizes.Size.{Size}
 use Rattle.pictures.specs.Refusals.{refusal}
 use Rattle.pictures.specs.Pictures.{sideRules, pictureBytes, picture}
+use Rattle.energy.specs.declared.methods.Method.{Method}
 use Rattle.energy.specs.Bounds.{mostCost}
 use Rattle.seam_moves.specs.Between.{partAt}
 use Rattle.seam_rules.specs.declared.answers.Axis.the-variants.{Vertical, Horizontal}
@@ -51,12 +52,12 @@ pub record CellNeeded (z : Size) (whole : ℕ) (rows : Rows) (columns : Columns)
   pub left-small : left ≤ 2 * largestCount * mostCost
 
 -- The cell in its slot, its total, and every other slot as it was.
-pub record CellGiven (z : Size) (whole : ℕ) (rows : Rows) (columns : Columns) (above left : ℕ) (work : List ℕ) (total : ℕ) (work′ : List ℕ) : Type 0 where
+pub record CellGiven (z : Size) (how : Method) (whole : ℕ) (rows : Rows) (columns : Columns) (above left : ℕ) (work : List ℕ) (total : ℕ) (work′ : List ℕ) : Type 0 where
   pub cell-is :
       record { picture = pictureAt (leftSize z (rowMore rows) (columnMore columns)) (slotAt whole (columnMore columns)) work′; total = total }
       ≡ chosen
-      (bySeam Vertical (leftSize z (rowMore rows) columns) (record { picture = pictureAt (leftSize z (rowMore rows) columns) (slotAt whole columns) work; total = left }))
-      (bySeam Horizontal (leftSize z rows (columnMore columns)) (record { picture = pictureAt (leftSize z rows (columnMore columns)) (slotAt whole (columnMore columns)) work; total = above }))
+      (bySeam how Vertical (leftSize z (rowMore rows) columns) (record { picture = pictureAt (leftSize z (rowMore rows) columns) (slotAt whole columns) work; total = left }))
+      (bySeam how Horizontal (leftSize z rows (columnMore columns)) (record { picture = pictureAt (leftSize z rows (columnMore columns)) (slotAt whole (columnMore columns)) work; total = above }))
   pub small : total ≤ above + mostCost
   pub long : length work′ ≡ length work
   pub others : (k : ℕ) → k < slots → (k ≡ columnMore columns .0 → ⊥) → partAt (k * whole) whole work′ ≡ partAt (k * whole) whole work

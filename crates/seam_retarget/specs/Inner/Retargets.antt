@@ -6,6 +6,7 @@ use lib.ListN.{length, drop, replicate}
 use Rattle.pictures.specs.declared.sizes.Size.{Size}
 use Rattle.pictures.specs.Refusals.{refusal}
 use Rattle.pictures.specs.Pictures.{sizeRules, pictureBytes, picture, bytes}
+use Rattle.energy.specs.declared.methods.Method.{Method}
 use Rattle.seam_rules.specs.declared.answers.Rows.{Rows}
 use Rattle.seam_rules.specs.declared.answers.Columns.{Columns}
 use Rattle.seam_rules.specs.Counts.{largestCount, leftSize, retargetBytes}
@@ -22,7 +23,7 @@ pub record RetargetNeeded (b : List ℕ) (z : Size) (rows : Rows) (columns : Col
   pub work-room : retargetBytes z ≤ length work
 
 -- The total of the cell, its picture at the front of out, and the work space zero.
-pub record LastGiven (b : List ℕ) (z : Size) (rows : Rows) (columns : Columns) (out work : List ℕ) (total : ℕ) (out′ work′ : List ℕ) : Type 0 where
-  pub total-is : total ≡ cellOf z b rows columns .total
-  pub out-is : out′ ≡ bytes (cellOf z b rows columns .picture) ++ drop (pictureBytes (leftSize z rows columns)) out
+pub record LastGiven (b : List ℕ) (z : Size) (how : Method) (rows : Rows) (columns : Columns) (out work : List ℕ) (total : ℕ) (out′ work′ : List ℕ) : Type 0 where
+  pub total-is : total ≡ cellOf how z b rows columns .total
+  pub out-is : out′ ≡ bytes (cellOf how z b rows columns .picture) ++ drop (pictureBytes (leftSize z rows columns)) out
   pub work-is : work′ ≡ replicate (length work) 0

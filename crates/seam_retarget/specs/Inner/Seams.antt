@@ -9,13 +9,14 @@ use Rattle.grids.specs.Cut.{cut}
 use Rattle.pictures.specs.declared.sizes.Size.{Size}
 use Rattle.pictures.specs.Refusals.{refusal}
 use Rattle.pictures.specs.Pictures.{Picture, sideRules, pictureBytes, picture, bytes, pixels}
+use Rattle.energy.specs.declared.methods.Method.{Method}
+use Rattle.energy.specs.Bounds.{mostCost}
 use Rattle.seam_moves.specs.Between.{partAt}
 use Rattle.seam_bounds.specs.Inner.{PlacesApart}
 use Rattle.seam_rules.specs.declared.answers.Axis.{Axis}
 use Rattle.seam_rules.specs.Axes.{turnedSize, narrowed}
 use Rattle.seam_turn.specs.Axes.{turned, cutAlong}
 use Rattle.seam_cut.specs.Axes.{seamAlong, costAlong}
-use Rattle.energy.specs.Bounds.{mostCost}
 
 -- n bytes at a and m bytes at b don't overlap.
 abbrev pub Apart : ℕ → ℕ → ℕ → ℕ → Type 0
@@ -38,10 +39,10 @@ pub record SeamNeeded (work : ℕ) (from : ℕ) (z : Size) (x : Axis) (at seam :
   pub seam-room : turnedSize x z .height ≤ seam
 
 -- The seam of the picture at `from`, its cost, and the picture turned at `at`; every other place as it was.
-pub record SeamGiven (work : List ℕ) (from : ℕ) (z : Size) (x : Axis) (at : ℕ) (seam : List ℕ) (cost : ℕ) (work′ seam′ : List ℕ) : Type 0 where
-  pub cost-is : cost ≡ costAlong x z (pictureAt z from work)
+pub record SeamGiven (work : List ℕ) (from : ℕ) (z : Size) (how : Method) (x : Axis) (at : ℕ) (seam : List ℕ) (cost : ℕ) (work′ seam′ : List ℕ) : Type 0 where
+  pub cost-is : cost ≡ costAlong how x z (pictureAt z from work)
   pub cost-most : cost ≤ mostCost
-  pub seam-is : take (turnedSize x z .height) seam′ ≡ seamAlong x z (pictureAt z from work)
+  pub seam-is : take (turnedSize x z .height) seam′ ≡ seamAlong how x z (pictureAt z from work)
   pub seam-long : length seam′ ≡ length seam
   pub turned-is : partAt at (pictureBytes z) work′ ≡ bytes (turned x (z .width) (pictureAt z from work))
   pub long : length work′ ≡ length work
@@ -76,9 +77,9 @@ pub record StepNeeded (work : ℕ) (from : ℕ) (z : Size) (x : Axis) (at to : �
   pub target : PlacesApart work at to (pictureBytes z)
 
 -- The picture without its seam, and the seam's cost; every other place as it was.
-pub record StepGiven (work : List ℕ) (from : ℕ) (z : Size) (x : Axis) (at to cost : ℕ) (work′ : List ℕ) : Type 0 where
-  pub cost-is : cost ≡ costAlong x z (pictureAt z from work)
+pub record StepGiven (work : List ℕ) (from : ℕ) (z : Size) (how : Method) (x : Axis) (at to cost : ℕ) (work′ : List ℕ) : Type 0 where
+  pub cost-is : cost ≡ costAlong how x z (pictureAt z from work)
   pub cost-most : cost ≤ mostCost
-  pub picture-is : pictureAt (leftAlong x z) to work′ ≡ cutAlong x z (seamAlong x z (pictureAt z from work)) (pictureAt z from work)
+  pub picture-is : pictureAt (leftAlong x z) to work′ ≡ cutAlong x z (seamAlong how x z (pictureAt z from work)) (pictureAt z from work)
   pub long : length work′ ≡ length work
   pub others : (a n : ℕ) → Apart a n at (pictureBytes z + pixels z) → Apart a n to (pictureBytes z) → partAt a n work′ ≡ partAt a n work

@@ -5,6 +5,7 @@ use Prim.Native.Nat.{ℕ, zero, suc, _+_, _*_, _≤_, _<_}
 use lib.ListN.{length, getD}
 use Rattle.pictures.specs.declared.sizes.Size.{Size}
 use Rattle.pictures.specs.Pictures.{picture}
+use Rattle.energy.specs.declared.methods.Method.{Method}
 use Rattle.energy.specs.Bounds.{mostCost}
 use Rattle.seam_rules.specs.declared.answers.Axis.the-variants.{Vertical, Horizontal}
 use Rattle.seam_retarget.specs.Cells.{Cell, bySeam, chosen}
@@ -20,26 +21,26 @@ held z whole rows work totals j = record { picture = pictureAt (leftSize z rows 
 
 -- The first row of cells from its first; a later row from its first and the row above it, and from the row above alone; and
 -- a row from the first row.
-unfoldable pub firstRow : Size → Cell → ℕ → Cell
-firstRow z first zero = first
-firstRow z first (suc c) = bySeam Vertical (leftSize z (rowCount 0) (columnCount c)) (firstRow z first c)
+unfoldable pub firstRow : Method → Size → Cell → ℕ → Cell
+firstRow how z first zero = first
+firstRow how z first (suc c) = bySeam how Vertical (leftSize z (rowCount 0) (columnCount c)) (firstRow how z first c)
 
-unfoldable pub alongRow : Size → Rows → Cell → (ℕ → Cell) → ℕ → Cell
-alongRow z rows first above zero = first
-alongRow z rows first above (suc c) =
+unfoldable pub alongRow : Method → Size → Rows → Cell → (ℕ → Cell) → ℕ → Cell
+alongRow how z rows first above zero = first
+alongRow how z rows first above (suc c) =
     chosen
-    (bySeam Vertical (leftSize z (rowCount (suc (rows .0))) (columnCount c)) (alongRow z rows first above c))
-    (bySeam Horizontal (leftSize z rows (columnCount (suc c))) (above (suc c)))
+    (bySeam how Vertical (leftSize z (rowCount (suc (rows .0))) (columnCount c)) (alongRow how z rows first above c))
+    (bySeam how Horizontal (leftSize z rows (columnCount (suc c))) (above (suc c)))
 
-abbrev pub nextRow : Size → Rows → (ℕ → Cell) → ℕ → Cell
-nextRow z rows above = alongRow z rows (bySeam Horizontal (leftSize z rows (columnCount 0)) (above 0)) above
+abbrev pub nextRow : Method → Size → Rows → (ℕ → Cell) → ℕ → Cell
+nextRow how z rows above = alongRow how z rows (bySeam how Horizontal (leftSize z rows (columnCount 0)) (above 0)) above
 
-unfoldable pub rowBelow : Size → (ℕ → Cell) → ℕ → ℕ → Cell
-rowBelow z first zero = first
-rowBelow z first (suc r) = nextRow z (rowCount r) (rowBelow z first r)
+unfoldable pub rowBelow : Method → Size → (ℕ → Cell) → ℕ → ℕ → Cell
+rowBelow how z first zero = first
+rowBelow how z first (suc r) = nextRow how z (rowCount r) (rowBelow how z first r)
 
-abbrev pub tableRow : Size → (ℕ → Cell) → Rows → ℕ → Cell
-tableRow z first rows = rowBelow z first (rows .0)
+abbrev pub tableRow : Method → Size → (ℕ → Cell) → Rows → ℕ → Cell
+tableRow how z first rows = rowBelow how z first (rows .0)
 
 -- The totals of row r are not over this: a first row of 64 seams, and r seams down.
 abbrev pub largestTotal : ℕ → ℕ

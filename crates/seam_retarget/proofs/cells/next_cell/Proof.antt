@@ -26,13 +26,13 @@ close c =
 first : (c : tie.After-seam-at)
     → let s = c .before .before .before .before .before .before in
     let a = s .args in let r = a .rows .0 in let k = a .columns .0 in
-    SeamGiven (now (a .work)) ((k + 1) * a .whole) (smaller (a .size) r (k + 1)) Horizontal (67 * a .whole) (lib.ListN.replicate largestSide 0) (c .seam-at .result) (c .seam-at .last .0) (c .seam-at .last .1 .1 .1 .1 .1 .0)
+    SeamGiven (now (a .work)) ((k + 1) * a .whole) (smaller (a .size) r (k + 1)) (a .method) Horizontal (67 * a .whole) (lib.ListN.replicate largestSide 0) (c .seam-at .result) (c .seam-at .last .0) (c .seam-at .last .1 .1 .1 .1 .1 .1 .0)
 first c = rw (c .before .before .before .before .smaller .ensures) at (c .seam-at .ensures)
 
 second : (c : tie.After-seam-at2)
     → let s = c .before .before .before .before .before .before .before .before .before .before .before .before in
     let a = s .args in let r = a .rows .0 in let k = a .columns .0 in
-    SeamGiven (c .before .before .before .before .before .before .seam-at .last .0) (k * a .whole) (smaller (a .size) (r + 1) k) Vertical (65 * a .whole) (lib.ListN.replicate largestSide 0) (c .seam-at2 .result) (c .seam-at2 .last .0) (c .seam-at2 .last .1 .1 .1 .1 .1 .0)
+    SeamGiven (c .before .before .before .before .before .before .seam-at .last .0) (k * a .whole) (smaller (a .size) (r + 1) k) (a .method) Vertical (65 * a .whole) (lib.ListN.replicate largestSide 0) (c .seam-at2 .result) (c .seam-at2 .last .0) (c .seam-at2 .last .1 .1 .1 .1 .1 .1 .0)
 second c =
     let at-smaller2 = c .before .before .before .before .before .before .before .before .before in
     rw (at-smaller2 .smaller2 .ensures) at (c .seam-at2 .ensures)
@@ -127,7 +127,7 @@ cut-at-requires c κs =
     let one = at-seam-at .seam-at in
     let two = at-seam-at2 .seam-at2 in
     rw (at-smaller2 .smaller2 .ensures)
-    (cut-vertical (a .size) (a .whole) (a .rows .0) (a .columns .0) (a .above) (a .left) (now (a .work)) (st .pre) _ (one .last .0) (one .last .1 .1 .1 .1 .1 .0) (one .result) (first at-seam-at) _ (two .last .0) (two .last .1 .1 .1 .1 .1 .0) (two .result) (second at-seam-at2) (second at-seam-at2 .seam-long ∙ refl))
+    (cut-vertical (a .size) (a .method) (a .whole) (a .rows .0) (a .columns .0) (a .above) (a .left) (now (a .work)) (st .pre) _ (one .last .0) (one .last .1 .1 .1 .1 .1 .1 .0) (one .result) (first at-seam-at) _ (two .last .0) (two .last .1 .1 .1 .1 .1 .1 .0) (two .result) (second at-seam-at2) (second at-seam-at2 .seam-long ∙ refl))
 
 same-length : tie.Need-same-length
 same-length c = search needs
@@ -145,7 +145,7 @@ returns c =
     let one = at-seam-at .seam-at in
     let two = at-seam-at2 .seam-at2 in
     let cut = at-cut-at .cut-at in
-    given-vertical (a .size) (a .whole) (a .rows .0) (a .columns .0) (a .above) (a .left) (now (a .work)) (st .pre) _ (one .last .0) (one .last .1 .1 .1 .1 .1 .0) (one .result) (first at-seam-at) _ (two .last .0) (two .last .1 .1 .1 .1 .1 .0) (two .result) (second at-seam-at2) (cut .last .0) (vertical-taken (a .left + two .result) (a .above + one .result) (sym (at-total .smaller-total .ensures) ∙ told .enum-told .given .1)) (rw (at-smaller2 .smaller2 .ensures) at (cut .ensures))
+    given-vertical (a .size) (a .method) (a .whole) (a .rows .0) (a .columns .0) (a .above) (a .left) (now (a .work)) (st .pre) _ (one .last .0) (one .last .1 .1 .1 .1 .1 .1 .0) (one .result) (first at-seam-at) _ (two .last .0) (two .last .1 .1 .1 .1 .1 .1 .0) (two .result) (second at-seam-at2) (cut .last .0) (vertical-taken (a .left + two .result) (a .above + one .result) (sym (at-total .smaller-total .ensures) ∙ told .enum-told .given .1)) (rw (at-smaller2 .smaller2 .ensures) at (cut .ensures))
 
 enum-told-2 : tie.Need-enum-told-2
 enum-told-2 c = search needs
@@ -163,7 +163,7 @@ cut-at-requires-2 c κs =
     let one = at-seam-at .seam-at in
     let two = at-seam-at2 .seam-at2 in
     rw (at-smaller .smaller .ensures)
-    (cut-horizontal (a .size) (a .whole) (a .rows .0) (a .columns .0) (a .above) (a .left) (now (a .work)) (st .pre) _ (one .last .0) (one .last .1 .1 .1 .1 .1 .0) (one .result) (first at-seam-at) _ (two .last .0) (two .last .1 .1 .1 .1 .1 .0) (two .result) (second at-seam-at2) (first at-seam-at .seam-long ∙ refl))
+    (cut-horizontal (a .size) (a .method) (a .whole) (a .rows .0) (a .columns .0) (a .above) (a .left) (now (a .work)) (st .pre) _ (one .last .0) (one .last .1 .1 .1 .1 .1 .1 .0) (one .result) (first at-seam-at) _ (two .last .0) (two .last .1 .1 .1 .1 .1 .1 .0) (two .result) (second at-seam-at2) (first at-seam-at .seam-long ∙ refl))
 
 same-length-2 : tie.Need-same-length-2
 same-length-2 c = search needs
@@ -181,7 +181,7 @@ returns-2 c =
     let one = at-seam-at .seam-at in
     let two = at-seam-at2 .seam-at2 in
     let cut = at-cut-at2 .cut-at2 in
-    given-horizontal (a .size) (a .whole) (a .rows .0) (a .columns .0) (a .above) (a .left) (now (a .work)) (st .pre) _ (one .last .0) (one .last .1 .1 .1 .1 .1 .0) (one .result) (first at-seam-at) _ (two .last .0) (two .last .1 .1 .1 .1 .1 .0) (two .result) (second at-seam-at2) (cut .last .0) (horizontal-taken (a .left + two .result) (a .above + one .result) (sym (at-total .smaller-total .ensures) ∙ told .enum-told2 .given .1)) (rw (at-smaller .smaller .ensures) at (cut .ensures))
+    given-horizontal (a .size) (a .method) (a .whole) (a .rows .0) (a .columns .0) (a .above) (a .left) (now (a .work)) (st .pre) _ (one .last .0) (one .last .1 .1 .1 .1 .1 .1 .0) (one .result) (first at-seam-at) _ (two .last .0) (two .last .1 .1 .1 .1 .1 .1 .0) (two .result) (second at-seam-at2) (cut .last .0) (horizontal-taken (a .left + two .result) (a .above + one .result) (sym (at-total .smaller-total .ensures) ∙ told .enum-told2 .given .1)) (rw (at-smaller .smaller .ensures) at (cut .ensures))
 
 pub next-cell-spec : {M : Type 1} → statement M
 next-cell-spec =

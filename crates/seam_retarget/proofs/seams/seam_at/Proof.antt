@@ -49,8 +49,8 @@ returns c =
     let turn = at-turn .turn in
     let found = q .find-in in
     rw (ap foundCost (c .before .found .given .1))
-    at (seam-given (now (a .work)) (a .from) (a .size) (a .axis) (a .at) (now (a .seam)) (st .pre) (turn .last .0) (turn .ensures)
-    (found .result) (found .last .0) (found .last .1 .1 .0) (rw (at-turned-size .turned-size .ensures) at (found .ensures)) (λ i. omega (arith, at-slice-known3 .slice-known3 .given i)))
+    at (seam-given (now (a .work)) (a .from) (a .size) (a .method) (a .axis) (a .at) (now (a .seam)) (st .pre) (turn .last .0) (turn .ensures)
+    (found .result) (found .last .0) (found .last .1 .1 .1 .0) (rw (at-turned-size .turned-size .ensures) at (found .ensures)) (λ i. omega (arith, at-slice-known3 .slice-known3 .given i)))
 
 same-length-3 : tie.Need-same-length-3
 same-length-3 c = search needs
@@ -69,8 +69,8 @@ returns-2 c =
     let turn = at-turn .turn in
     let found = q .find-in in
     rw (ap foundCost (c .enum-told .given .1))
-    at (seam-given (now (a .work)) (a .from) (a .size) (a .axis) (a .at) (now (a .seam)) (st .pre) (turn .last .0) (turn .ensures)
-    (found .result) (found .last .0) (found .last .1 .1 .0) (rw (at-turned-size .turned-size .ensures) at (found .ensures)) (λ i. omega (arith, at-slice-known3 .slice-known3 .given i)))
+    at (seam-given (now (a .work)) (a .from) (a .size) (a .method) (a .axis) (a .at) (now (a .seam)) (st .pre) (turn .last .0) (turn .ensures)
+    (found .result) (found .last .0) (found .last .1 .1 .1 .0) (rw (at-turned-size .turned-size .ensures) at (found .ensures)) (λ i. omega (arith, at-slice-known3 .slice-known3 .given i)))
 
 pub seam-at-spec : {M : Type 1} → statement M
 seam-at-spec =

@@ -13,7 +13,7 @@ seam-at-requires : tie.Need-seam-at-requires
 seam-at-requires c κs =
     let st = c .before .before .before in
     let a = st .args in
-    step-seam (now (a .work)) (a .from) (a .size) (a .axis) (a .at) (a .to) (st .pre) _ refl
+    step-seam (now (a .work)) (a .from) (a .size) (a .method) (a .axis) (a .at) (a .to) (st .pre) _ refl
 
 slice-aggregate-cut-at : tie.Need-slice-aggregate-cut-at
 slice-aggregate-cut-at c = search needs
@@ -24,7 +24,7 @@ cut-at-requires c κs =
     let st = at-seam-at .before .before .before .before in
     let a = st .args in
     let found = at-seam-at .seam-at in
-    step-cut (now (a .work)) (a .from) (a .size) (a .axis) (a .at) (a .to) (st .pre) _ (found .result) (found .last .0) (found .last .1 .1 .1 .1 .1 .0) (found .ensures) refl
+    step-cut (now (a .work)) (a .from) (a .size) (a .method) (a .axis) (a .at) (a .to) (st .pre) _ (found .result) (found .last .0) (found .last .1 .1 .1 .1 .1 .1 .0) (found .ensures) refl
 
 same-length : tie.Need-same-length
 same-length c = search needs
@@ -36,7 +36,7 @@ returns c =
     let st = at-seam-at .before .before .before .before in
     let a = st .args in
     let found = at-seam-at .seam-at in
-    step-given (now (a .work)) (a .from) (a .size) (a .axis) (a .at) (a .to) (st .pre) _ (found .result) (found .last .0) (found .last .1 .1 .1 .1 .1 .0) (found .ensures) refl
+    step-given (now (a .work)) (a .from) (a .size) (a .method) (a .axis) (a .at) (a .to) (st .pre) _ (found .result) (found .last .0) (found .last .1 .1 .1 .1 .1 .1 .0) (found .ensures) refl
     (at-cut-at .cut-at .last .0) (at-cut-at .cut-at .ensures)
 
 pub step-spec : {M : Type 1} → statement M

@@ -14,10 +14,10 @@ use Rattle.seam_retarget.proofs.table.first_row.Statement.{statement}
 use Rattle.seam_retarget.proofs.table.first_row.Tie as tie
 
 abbrev Inv-loop : tie.InvT-loop
-Inv-loop work₀ size whole totals₀ last j₀ work totals j = FirstSoFar size whole last work₀ totals₀ j work totals
+Inv-loop work₀ size method whole totals₀ last j₀ work totals j = FirstSoFar size method whole last work₀ totals₀ j work totals
 
 abbrev μ-loop : tie.MeasureT-loop
-μ-loop work₀ size whole totals₀ last j₀ work totals j = last - j
+μ-loop work₀ size method whole totals₀ last j₀ work totals j = last - j
 
 -- no place is far away
 close : (c : tie.In-loop Inv-loop μ-loop)
@@ -33,14 +33,14 @@ given : (c : tie.After-step Inv-loop μ-loop)
     → let at-loop = c .before .before .before .before in
     let s = at-loop .before .before .before in
     let head = at-loop .loop in let a = s .args in
-    StepGiven (head .work) (head .j * a .whole) (smaller (a .size) 0 (head .j)) Vertical (65 * a .whole) ((head .j + 1) * a .whole) (c .step .result) (c .step .last .0)
+    StepGiven (head .work) (head .j * a .whole) (smaller (a .size) 0 (head .j)) (a .method) Vertical (65 * a .whole) ((head .j + 1) * a .whole) (c .step .result) (c .step .last .0)
 given c = rw (c .before .before .smaller .ensures) at (c .step .ensures)
 
 loop-holds : tie.Need-loop-holds Inv-loop μ-loop
 loop-holds c =
     let st = c .before .before in
     let a = st .args in
-    first-start (a .size) (a .whole) (a .columns .0) (now (a .work)) (now (a .totals)) (st .pre .0) (st .pre .1)
+    first-start (a .size) (a .method) (a .whole) (a .columns .0) (now (a .work)) (now (a .totals)) (st .pre .0) (st .pre .1)
 
 smaller-requires : tie.Need-smaller-requires Inv-loop μ-loop
 smaller-requires c κs = search needs
@@ -67,7 +67,7 @@ step-requires c κs =
     let head = z .before .loop in
     let st = z .before .before .before .before in
     let a = st .args in
-    rw (c .before .smaller .ensures) (first-step (a .size) (a .whole) (a .columns .0) (now (a .work)) (now (a .totals)) (st .pre .0) (head .j) (head .work) (head .totals) (z .loop-test .taken) (head .inv))
+    rw (c .before .smaller .ensures) (first-step (a .size) (a .method) (a .whole) (a .columns .0) (now (a .work)) (now (a .totals)) (st .pre .0) (head .j) (head .work) (head .totals) (z .loop-test .taken) (head .inv))
 
 mul-totals : tie.Need-mul-totals Inv-loop μ-loop
 mul-totals c =
@@ -126,7 +126,7 @@ loop-again c =
     let st = z .before .before .before .before in
     let a = st .args in
     let q = c .before .before .before in
-    first-turn (a .size) (a .whole) (a .columns .0) (now (a .work)) (now (a .totals)) (st .pre .0) (head .j) (head .work) (head .totals) (z .loop-test .taken) (head .inv) (q .step .result) (q .step .last .0) (given q)
+    first-turn (a .size) (a .method) (a .whole) (a .columns .0) (now (a .work)) (now (a .totals)) (st .pre .0) (head .j) (head .work) (head .totals) (z .loop-test .taken) (head .inv) (q .step .result) (q .step .last .0) (given q)
 
 same-length : tie.Need-same-length Inv-loop μ-loop
 same-length c = c .before .loop .inv .long
@@ -143,7 +143,7 @@ returns c =
     let st = z .before .before .before .before in
     let a = st .args in
     let e : head .j ≡ a .columns .0 = omega (arith, head .inv .inside, z .loop-test .left) in
-    first-end (a .size) (a .whole) (a .columns .0) (now (a .work)) (now (a .totals)) (st .pre .0) (head .work) (head .totals) (rw e at (head .inv))
+    first-end (a .size) (a .method) (a .whole) (a .columns .0) (now (a .work)) (now (a .totals)) (st .pre .0) (head .work) (head .totals) (rw e at (head .inv))
 
 pub first-row-spec : {M : Type 1} → statement M
 first-row-spec =

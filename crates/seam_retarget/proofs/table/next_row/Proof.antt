@@ -16,7 +16,7 @@ use Rattle.seam_retarget.proofs.table.next_row.Tie as tie
 given : (c : tie.After-step)
     → let s = c .before .before .before .before .before in
     let a = s .args in
-    StepGiven (now (a .work)) 0 (smaller (a .size) (a .rows .0) 0) Horizontal (67 * a .whole) 0 (c .step .result) (c .step .last .0)
+    StepGiven (now (a .work)) 0 (smaller (a .size) (a .rows .0) 0) (a .method) Horizontal (67 * a .whole) 0 (c .step .result) (c .step .last .0)
 given c = rw (c .before .before .smaller .ensures) at (c .step .ensures)
 
 smaller-requires : tie.Need-smaller-requires
@@ -32,7 +32,7 @@ step-requires : tie.Need-step-requires
 step-requires c κs =
     let st = c .before .before .before .before in
     let a = st .args in
-    rw (c .before .smaller .ensures) (next-step (a .size) (a .whole) (a .rows .0) (a .columns .0) (now (a .work)) (now (a .totals)) (st .pre .0) (st .pre .1))
+    rw (c .before .smaller .ensures) (next-step (a .size) (a .method) (a .whole) (a .rows .0) (a .columns .0) (now (a .work)) (now (a .totals)) (st .pre .0) (st .pre .1))
 
 slice-read-totals : tie.Need-slice-read-totals
 slice-read-totals c =
@@ -55,8 +55,8 @@ rest-of-row-requires c κs =
     let st = c .before .before .before .before .before .before .before .before .before .before in
     let a = st .args in
     let q = c .before .before .before .before .before in (
-      next-needed (a .size) (a .whole) (a .rows .0) (a .columns .0) (now (a .work)) (now (a .totals)) (st .pre .0) (st .pre .1) (q .step .result) (q .step .last .0) (given q),
-      next-sums (a .size) (a .whole) (a .rows .0) (a .columns .0) (now (a .work)) (now (a .totals)) (st .pre .0) (st .pre .1) (q .step .result) (q .step .last .0) (given q),
+      next-needed (a .size) (a .method) (a .whole) (a .rows .0) (a .columns .0) (now (a .work)) (now (a .totals)) (st .pre .0) (st .pre .1) (q .step .result) (q .step .last .0) (given q),
+      next-sums (a .size) (a .method) (a .whole) (a .rows .0) (a .columns .0) (now (a .work)) (now (a .totals)) (st .pre .0) (st .pre .1) (q .step .result) (q .step .last .0) (given q),
     )
 
 same-length : tie.Need-same-length
@@ -75,7 +75,7 @@ returns c =
     let st = q .before .before .before .before .before in
     let a = st .args in
     let row = at-rest-of-row .rest-of-row in
-    next-given (a .size) (a .whole) (a .rows .0) (a .columns .0) (now (a .work)) (now (a .totals)) (st .pre .0) (st .pre .1) (q .step .result) (q .step .last .0) (given q) (row .last .0) (row .last .1 .1 .1 .1 .1 .0) (row .ensures)
+    next-given (a .size) (a .method) (a .whole) (a .rows .0) (a .columns .0) (now (a .work)) (now (a .totals)) (st .pre .0) (st .pre .1) (q .step .result) (q .step .last .0) (given q) (row .last .0) (row .last .1 .1 .1 .1 .1 .1 .0) (row .ensures)
 
 pub next-row-spec : {M : Type 1} → statement M
 next-row-spec =

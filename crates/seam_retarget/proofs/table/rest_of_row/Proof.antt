@@ -9,10 +9,10 @@ use Rattle.seam_retarget.proofs.table.rest_of_row.Statement.{statement}
 use Rattle.seam_retarget.proofs.table.rest_of_row.Tie as tie
 
 abbrev Inv-loop : tie.InvT-loop
-Inv-loop work₀ size whole rows totals₀ last j₀ work totals j = RestSoFar size whole (rows .0) last work₀ totals₀ j work totals
+Inv-loop work₀ size method whole rows totals₀ last j₀ work totals j = RestSoFar size method whole (rows .0) last work₀ totals₀ j work totals
 
 abbrev μ-loop : tie.MeasureT-loop
-μ-loop work₀ size whole rows totals₀ last j₀ work totals j = last - j
+μ-loop work₀ size method whole rows totals₀ last j₀ work totals j = last - j
 
 -- the next column is one of the table's
 few : (c : tie.In-loop Inv-loop μ-loop) → c .before .loop .j + 1 < 65
@@ -22,7 +22,7 @@ loop-holds : tie.Need-loop-holds Inv-loop μ-loop
 loop-holds c =
     let st = c .before .before in
     let a = st .args in
-    rest-start (a .size) (a .whole) (a .rows .0) (a .columns .0) (now (a .work)) (now (a .totals)) (st .pre .0) (st .pre .1)
+    rest-start (a .size) (a .method) (a .whole) (a .rows .0) (a .columns .0) (now (a .work)) (now (a .totals)) (st .pre .0) (st .pre .1)
 
 add-next-cell : tie.Need-add-next-cell Inv-loop μ-loop
 add-next-cell c = omega (arith, few (c .before))
@@ -51,7 +51,7 @@ next-cell-requires c κs =
     let head = z .before .loop in
     let st = z .before .before .before .before in
     let a = st .args in
-    rest-cell (a .size) (a .whole) (a .rows .0) (a .columns .0) (now (a .work)) (now (a .totals)) (st .pre .0) (st .pre .1) (head .j) (head .work) (head .totals) (z .loop-test .taken) (head .inv)
+    rest-cell (a .size) (a .method) (a .whole) (a .rows .0) (a .columns .0) (now (a .work)) (now (a .totals)) (st .pre .0) (st .pre .1) (head .j) (head .work) (head .totals) (z .loop-test .taken) (head .inv)
 
 add-totals : tie.Need-add-totals Inv-loop μ-loop
 add-totals c = omega (arith, few (c .before .before .before .before .before .before))
@@ -79,7 +79,7 @@ loop-again c =
     let st = z .before .before .before .before in
     let a = st .args in
     let next = at-next-cell .next-cell in
-    rest-turn (a .size) (a .whole) (a .rows .0) (a .columns .0) (now (a .work)) (now (a .totals)) (st .pre .0) (st .pre .1) (head .j) (head .work) (head .totals) (z .loop-test .taken) (head .inv) (next .result) (next .last .0) (next .ensures)
+    rest-turn (a .size) (a .method) (a .whole) (a .rows .0) (a .columns .0) (now (a .work)) (now (a .totals)) (st .pre .0) (st .pre .1) (head .j) (head .work) (head .totals) (z .loop-test .taken) (head .inv) (next .result) (next .last .0) (next .ensures)
 
 same-length : tie.Need-same-length Inv-loop μ-loop
 same-length c = c .before .loop .inv .long
@@ -96,7 +96,7 @@ returns c =
     let st = z .before .before .before .before in
     let a = st .args in
     let e : head .j ≡ a .columns .0 = omega (arith, head .inv .inside, z .loop-test .left) in
-    rest-end (a .size) (a .whole) (a .rows .0) (a .columns .0) (now (a .work)) (now (a .totals)) (st .pre .0) (st .pre .1) (head .work) (head .totals) (rw e at (head .inv))
+    rest-end (a .size) (a .method) (a .whole) (a .rows .0) (a .columns .0) (now (a .work)) (now (a .totals)) (st .pre .0) (st .pre .1) (head .work) (head .totals) (rw e at (head .inv))
 
 pub rest-of-row-spec : {M : Type 1} → statement M
 rest-of-row-spec =

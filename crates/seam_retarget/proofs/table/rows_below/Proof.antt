@@ -10,16 +10,16 @@ use Rattle.seam_retarget.proofs.table.rows_below.Statement.{statement}
 use Rattle.seam_retarget.proofs.table.rows_below.Tie as tie
 
 abbrev Inv-loop : tie.InvT-loop
-Inv-loop work₀ size whole columns totals₀ last i₀ work totals i = (i ≤ last) × RowGiven size whole (rowCount i) columns (tableRow size (held size whole (rowCount 0) work₀ totals₀) (rowCount i)) work₀ work totals
+Inv-loop work₀ size method whole columns totals₀ last i₀ work totals i = (i ≤ last) × RowGiven size whole (rowCount i) columns (tableRow method size (held size whole (rowCount 0) work₀ totals₀) (rowCount i)) work₀ work totals
 
 abbrev μ-loop : tie.MeasureT-loop
-μ-loop work₀ size whole columns totals₀ last i₀ work totals i = last - i
+μ-loop work₀ size method whole columns totals₀ last i₀ work totals i = last - i
 
 loop-holds : tie.Need-loop-holds Inv-loop μ-loop
 loop-holds c =
     let st = c .before .before in
     let a = st .args in
-    (omega arith, below-start (a .size) (a .whole) (a .columns .0) (now (a .work)) (now (a .totals)) (st .pre .0 .totals-long) (st .pre .1))
+    (omega arith, below-start (a .size) (a .method) (a .whole) (a .columns .0) (now (a .work)) (now (a .totals)) (st .pre .0 .totals-long) (st .pre .1))
 
 next-row-requires : tie.Need-next-row-requires Inv-loop μ-loop
 next-row-requires c κs =
@@ -59,7 +59,7 @@ loop-again c =
     let st = z .before .before .before .before in
     let a = st .args in
     let next = at-next-row .next-row in
-    (omega (arith, z .loop-test .taken), below-turn (a .size) (a .whole) (a .columns .0) (now (a .work)) (now (a .totals)) (head .i) (head .work) (head .totals) (next .last .0) (next .last .1 .1 .1 .1 .1 .0) (head .inv .1) (next .ensures))
+    (omega (arith, z .loop-test .taken), below-turn (a .size) (a .method) (a .whole) (a .columns .0) (now (a .work)) (now (a .totals)) (head .i) (head .work) (head .totals) (next .last .0) (next .last .1 .1 .1 .1 .1 .1 .0) (head .inv .1) (next .ensures))
 
 same-length : tie.Need-same-length Inv-loop μ-loop
 same-length c = c .before .loop .inv .1 .long
