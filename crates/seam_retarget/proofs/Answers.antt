@@ -27,7 +27,7 @@ use Rattle.seam_rules.specs.Counts.{rowCount, smaller, leftSize, retargetBytes,
 use Rattle.seam_retarget.specs.Retargeting.{cellOf}
 use Rattle.seam_retarget.specs.Inner.Seams.{pictureAt}
 use Rattle.seam_retarget.specs.Inner.Cells.{SpaceNeeded}
-use Rattle.seam_retarget.specs.Inner.Table.{held, firstRow, tableRow, RowNeeded, RowGiven}
+use Rattle.seam_retarget.specs.Inner.Table.{held, firstRow, tableRow, RowGiven, FirstRowNeeded, RowsBelowNeeded}
 use Rattle.seam_retarget.specs.Inner.Retargets.{RetargetNeeded, LastGiven}
 use Rattle.seam_retarget.proofs.Numbered.{cellAt, cell-numbers}
 use Rattle.seam_retarget.proofs.Slots.{smaller-few}
@@ -106,14 +106,17 @@ module _ (b : List ℕ) (z : Size) (how : Method) (rows : Rows) (columns : Colum
       }
 
   module _ (one : List ℕ) (copied : one ≡ take (length b) b ++ drop (length b) work) (one-long : length one ≡ length work) where
-    pub first-needed : (totals : List ℕ) → length totals ≡ 65 → RowNeeded z (length b) (rowCount 0) columns one totals
-    first-needed totals many = record {
-      space = rw one-long space;
-      rows-left = sized .height-some;
-      row = omega arith;
-      columns-left = needed .columns-left;
-      column = omega (arith, needed .columns-few);
-      totals-long = many;
+    pub first-needed : (totals : List ℕ) → length totals ≡ 65 → ((j : ℕ) → getD totals j 0 ≡ 0) → FirstRowNeeded z (length b) columns one totals
+    first-needed totals many none = record {
+      fits = record {
+        space = rw one-long space;
+        rows-left = sized .height-some;
+        row = omega arith;
+        columns-left = needed .columns-left;
+        column = omega (arith, needed .columns-few);
+        totals-long = many;
+      };
+      none = none;
     }
 
     first-is : (totals : List ℕ) → ((j : ℕ) → getD totals j 0 ≡ 0) → held z (length b) (rowCount 0) one totals 0 ≡ cellAt how z (picture z b) 0 0
@@ -127,14 +130,17 @@ module _ (b : List ℕ) (z : Size) (how : Method) (rows : Rows) (columns : Colum
 
     module _ (totals two totals₂ : List ℕ) (none : (j : ℕ) → getD totals j 0 ≡ 0)
         (row : RowGiven z (length b) (rowCount 0) columns (firstRow how z (held z (length b) (rowCount 0) one totals 0)) one two totals₂) where
-      pub below-needed : RowNeeded z (length b) rows columns two totals₂
+      pub below-needed : RowsBelowNeeded z (length b) rows columns two totals₂
       below-needed = record {
-        space = rw (row .long ∙ one-long) space;
-        rows-left = needed .rows-left;
-        row = omega (arith, needed .rows-few);
-        columns-left = needed .columns-left;
-        column = omega (arith, needed .columns-few);
-        totals-long = row .totals-long;
+        fits = record {
+          space = rw (row .long ∙ one-long) space;
+          rows-left = needed .rows-left;
+          row = omega (arith, needed .rows-few);
+          columns-left = needed .columns-left;
+          column = omega (arith, needed .columns-few);
+          totals-long = row .totals-long;
+        };
+        small = row .small;
       }
 
       module _ (three totals₃ : List ℕ) (last : RowGiven z (length b) rows columns (tableRow how z (held z (length b) (rowCount 0) two totals₂) rows) two three totals₃) where
@@ -170,7 +176,7 @@ module _ (b : List ℕ) (z : Size) (how : Method) (rows : Rows) (columns : Colum
               ∙ sym (bytes-picture left (partAt (columns .0 * length b) (pictureBytes left) three) (sym (ap length part-is) ∙ part-long ∙ count-is))
               ∙ ap (λ k. bytes (k .picture)) cell-is in
               record {
-                total-is = ap (λ k. k .total) cell-is;
-                out-is = out-is ∙ ap₂ _++_ (take-length part ∙ shown) (ap (λ n. drop n out) (part-long ∙ count-is));
-                work-is = four-is ∙ ap (λ n. replicate n 0) three-long;
+                total = ap (λ k. k .total) cell-is;
+                out-given = out-is ∙ ap₂ _++_ (take-length part ∙ shown) (ap (λ n. drop n out) (part-long ∙ count-is));
+                work-left = four-is ∙ ap (λ n. replicate n 0) three-long;
               }

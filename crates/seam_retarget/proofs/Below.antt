@@ -15,7 +15,7 @@ use Rattle.seam_rules.specs.declared.answers.Axis.the-variants.{Vertical, Horiz
 use Rattle.seam_retarget.specs.Cells.{Cell, bySeam, chosen}
 use Rattle.seam_rules.specs.Counts.{rowCount, columnCount, smaller}
 use Rattle.seam_retarget.specs.Inner.Seams.{pictureAt, StepNeeded, StepGiven}
-use Rattle.seam_retarget.specs.Inner.Table.{largestTotal, held, alongRow, nextRow, rowBelow, RowNeeded, RowGiven, MoreTotals}
+use Rattle.seam_retarget.specs.Inner.Table.{largestTotal, held, alongRow, nextRow, rowBelow, RowGiven, RestOfRowNeeded, NextRowNeeded}
 use Rattle.seam_retarget.specs.Inner.Cells.{CellNeeded, CellGiven}
 use Rattle.seam_rules.proofs.Left.{smaller-sides}
 use Rattle.seam_retarget.proofs.Slots.{less-row, same-picture, placed-horizontal}
@@ -31,20 +31,20 @@ pub record RestSoFar (z : Size) (how : Method) (whole r c : ℕ) (work₀ totals
   pub later : (k : ℕ) → j < k → k < 65 → partAt (k * whole) whole work ≡ partAt (k * whole) whole work₀
   pub later-totals : (k : ℕ) → j < k → getD totals k 0 ≡ getD totals₀ k 0
 
-module _ (z : Size) (how : Method) (whole r c : ℕ) (work₀ totals₀ : List ℕ) (needed : RowNeeded z whole (rowCount (r + 1)) (columnCount c) work₀ totals₀) (sums : MoreTotals (rowCount r) totals₀) where
+module _ (z : Size) (how : Method) (whole r c : ℕ) (work₀ totals₀ : List ℕ) (needed : RestOfRowNeeded z whole (rowCount r) (columnCount c) work₀ totals₀) where
   abbrev above : ℕ → Cell
   above = held z whole (rowCount r) work₀ totals₀
 
   all-small : (k : ℕ) → getD totals₀ k 0 ≤ largestTotal (r + 1)
-  all-small zero = sums .first
-  all-small (suc k) = omega (arith, sums .others (suc k) (omega arith))
+  all-small zero = needed .first-small
+  all-small (suc k) = omega (arith, needed .others-small (suc k) (omega arith))
 
   pub rest-start : RestSoFar z how whole r c work₀ totals₀ 0 work₀ totals₀
   unfolding alongRow
   rest-start = record {
     inside = omega arith;
     long = refl;
-    totals-long = needed .totals-long;
+    totals-long = needed .fits .totals-long;
     cells-are = λ k h. let e : 0 ≡ k = omega arith in subst (λ i. held z whole (rowCount (r + 1)) work₀ totals₀ i ≡ alongRow how z (rowCount r) (held z whole (rowCount (r + 1)) work₀ totals₀ 0) (held z whole (rowCount r) work₀ totals₀) i) e refl;
     small = all-small;
     later = λ k h l. refl;
@@ -53,16 +53,16 @@ module _ (z : Size) (how : Method) (whole r c : ℕ) (work₀ totals₀ : List �
 
   module _ (j : ℕ) (work totals : List ℕ) (inside : j < c) (so-far : RestSoFar z how whole r c work₀ totals₀ j work totals) where
     upper-small : getD totals (j + 1) 0 ≤ largestTotal r
-    upper-small = rw (so-far .later-totals (j + 1) (omega arith)) (sums .others (j + 1) (omega arith))
+    upper-small = rw (so-far .later-totals (j + 1) (omega arith)) (needed .others-small (j + 1) (omega arith))
 
     pub rest-cell : CellNeeded z whole (rowCount r) (columnCount j) (getD totals (j + 1) 0) (getD totals j 0) (length work)
     rest-cell = record {
-      space = rw (so-far .long) (needed .space);
-      rows-left = needed .rows-left;
-      columns-left = omega (arith, needed .columns-left);
-      column = omega (arith, needed .column);
-      above-small = omega (arith, upper-small, needed .row);
-      left-small = omega (arith, so-far .small j, needed .row);
+      space = rw (so-far .long) (needed .fits .space);
+      rows-left = needed .fits .rows-left;
+      columns-left = omega (arith, needed .fits .columns-left);
+      column = omega (arith, needed .fits .column);
+      above-small = omega (arith, upper-small, needed .fits .row);
+      left-small = omega (arith, so-far .small j, needed .fits .row);
     }
 
     pub rest-turn : (v : ℕ) (work′ : List ℕ) → CellGiven z how whole (rowCount r) (columnCount j) (getD totals (j + 1) 0) (getD totals j 0) work v work′
@@ -71,7 +71,7 @@ module _ (z : Size) (how : Method) (whole r c : ℕ) (work₀ totals₀ : List �
     rest-turn v work′ g =
         let upper : held z whole (rowCount r) work totals (j + 1) ≡ held z whole (rowCount r) work₀ totals₀ (suc j) =
         ap₂ (λ p t. record { picture = p; total = t })
-        (same-picture z whole r (j + 1) ((j + 1) * whole) work work₀ (needed .space .whole-is) (so-far .later (j + 1) (omega arith) (omega (arith, needed .column))))
+        (same-picture z whole r (j + 1) ((j + 1) * whole) work work₀ (needed .fits .space .whole-is) (so-far .later (j + 1) (omega arith) (omega (arith, needed .fits .column))))
         (so-far .later-totals (j + 1) (omega arith))
         ∙ ap (held z whole (rowCount r) work₀ totals₀) (add-one j) in
         record {
@@ -80,9 +80,9 @@ module _ (z : Size) (how : Method) (whole r c : ℕ) (work₀ totals₀ : List �
           totals-long = length-set totals (j + 1) v ∙ so-far .totals-long;
           cells-are = up-to {P = λ k. held z whole (rowCount (r + 1)) work′ (set totals (j + 1) v) k ≡ alongRow how z (rowCount r) (held z whole (rowCount (r + 1)) work₀ totals₀ 0) (held z whole (rowCount r) work₀ totals₀) k} j
               (λ k h.
-              held-other z whole (r + 1) (j + 1) v work′ totals work k (needed .space .whole-is) (λ e. omega arith) (g .others k (omega (arith, needed .column)) (λ e. omega arith))
+              held-other z whole (r + 1) (j + 1) v work′ totals work k (needed .fits .space .whole-is) (λ e. omega arith) (g .others k (omega (arith, needed .fits .column)) (λ e. omega arith))
               ∙ so-far .cells-are k h)
-              (held-new z whole (r + 1) (j + 1) v work′ totals (omega (arith, so-far .totals-long, needed .column))
+              (held-new z whole (r + 1) (j + 1) v work′ totals (omega (arith, so-far .totals-long, needed .fits .column))
               ∙ g .cell-is
               ∙ ap₂ chosen
               (ap₂ (λ n (left : Cell). bySeam how Vertical (smaller z n j) left) (add-one r) (so-far .cells-are j (omega arith)))
@@ -103,50 +103,45 @@ module _ (z : Size) (how : Method) (whole r c : ℕ) (work₀ totals₀ : List �
   }
 
 -- A row below row r, whose first cell comes by a step from slot 0 to slot 0.
-module _ (z : Size) (how : Method) (whole r c : ℕ) (work totals : List ℕ) (needed : RowNeeded z whole (rowCount (r + 1)) (columnCount c) work totals) (sums : (j : ℕ) → getD totals j 0 ≤ largestTotal r) where
+module _ (z : Size) (how : Method) (whole r c : ℕ) (work totals : List ℕ) (needed : NextRowNeeded z whole (rowCount r) (columnCount c) work totals) where
   pub next-step : StepNeeded (length work) 0 (smaller z r 0) Horizontal (67 * whole) 0
   next-step =
-      let q = placed-horizontal z whole (length work) (needed .space) 0 r 0 (omega arith) in
+      let q = placed-horizontal z whole (length work) (needed .fits .space) 0 r 0 (omega arith) in
       subst (λ at. StepNeeded (length work) at (smaller z r 0) Horizontal (67 * whole) at) (zero-mul whole)
       (record {
-        sides = smaller-sides z r 0 (needed .space .sides) (omega (arith, needed .rows-left)) (omega (arith, needed .columns-left));
-        wide = omega (arith, needed .rows-left);
+        sides = smaller-sides z r 0 (needed .fits .space .sides) (omega (arith, needed .fits .rows-left)) (omega (arith, needed .fits .columns-left));
+        wide = omega (arith, needed .fits .rows-left);
         source = q .here;
         room = q .room;
         target = q .there;
       })
 
   module _ (cost : ℕ) (one : List ℕ) (g : StepGiven work 0 (smaller z r 0) how Horizontal (67 * whole) 0 cost one) where
-    abbrev sums′ : List ℕ
-    sums′ = set totals 0 (getD totals 0 0 + cost)
-
-    pub next-needed : RowNeeded z whole (rowCount (r + 1)) (columnCount c) one (set totals 0 (getD totals 0 0 + cost))
+    pub next-needed : RestOfRowNeeded z whole (rowCount r) (columnCount c) one (set totals 0 (getD totals 0 0 + cost))
     next-needed = record {
-      space = rw (g .long) (needed .space);
-      rows-left = needed .rows-left;
-      row = needed .row;
-      columns-left = needed .columns-left;
-      column = needed .column;
-      totals-long = length-set totals 0 (getD totals 0 0 + cost) ∙ needed .totals-long;
-    }
-
-    pub next-sums : MoreTotals (rowCount r) (set totals 0 (getD totals 0 0 + cost))
-    next-sums = record {
-      first = rw (getD-set-same totals 0 (getD totals 0 0 + cost) 0 (omega (arith, needed .totals-long))) (omega (arith, sums 0, g .cost-most));
-      others = λ j h. rw (getD-set-other totals 0 j (getD totals 0 0 + cost) 0 (λ e. omega arith)) (sums j);
+      fits = record {
+        space = rw (g .long) (needed .fits .space);
+        rows-left = needed .fits .rows-left;
+        row = needed .fits .row;
+        columns-left = needed .fits .columns-left;
+        column = needed .fits .column;
+        totals-long = length-set totals 0 (getD totals 0 0 + cost) ∙ needed .fits .totals-long;
+      };
+      first-small = rw (getD-set-same totals 0 (getD totals 0 0 + cost) 0 (omega (arith, needed .fits .totals-long))) (omega (arith, needed .small 0, g .cost-most));
+      others-small = λ j h. rw (getD-set-other totals 0 j (getD totals 0 0 + cost) 0 (λ e. omega arith)) (needed .small j);
     }
 
     first-is : held z whole (rowCount (r + 1)) one (set totals 0 (getD totals 0 0 + cost)) 0 ≡ bySeam how Horizontal (smaller z r 0) (held z whole (rowCount r) work totals 0)
     first-is =
-        held-new z whole (r + 1) 0 (getD totals 0 0 + cost) one totals (omega (arith, needed .totals-long))
+        held-new z whole (r + 1) 0 (getD totals 0 0 + cost) one totals (omega (arith, needed .fits .totals-long))
         ∙ ap₂ (λ u at. record { picture = pictureAt u at one; total = getD totals 0 0 + cost }) (sym (less-row z r 0)) (zero-mul whole)
         ∙ step-cell work 0 (smaller z r 0) how Horizontal (67 * whole) 0 cost one (getD totals 0 0) g
         ∙ ap (λ at. bySeam how Horizontal (smaller z r 0) (record { picture = pictureAt (smaller z r 0) at work; total = getD totals 0 0 })) (sym (zero-mul whole))
 
     others-are : (j : ℕ) → j ≤ c → 0 < j → held z whole (rowCount r) one (set totals 0 (getD totals 0 0 + cost)) j ≡ held z whole (rowCount r) work totals j
     others-are j h some =
-        held-other z whole r 0 (getD totals 0 0 + cost) one totals work j (needed .space .whole-is) (λ e. omega arith)
-        (slot-kept z how whole (length work) work one (needed .space) 0 r 0 Horizontal 67 0 cost (omega arith) (subst (λ at. StepGiven work 0 (smaller z r 0) how Horizontal (67 * whole) at cost one) (sym (zero-mul whole)) g) j (omega (arith, needed .column)) (λ e. omega arith))
+        held-other z whole r 0 (getD totals 0 0 + cost) one totals work j (needed .fits .space .whole-is) (λ e. omega arith)
+        (slot-kept z how whole (length work) work one (needed .fits .space) 0 r 0 Horizontal 67 0 cost (omega arith) (subst (λ at. StepGiven work 0 (smaller z r 0) how Horizontal (67 * whole) at cost one) (sym (zero-mul whole)) g) j (omega (arith, needed .fits .column)) (λ e. omega arith))
 
     pub next-given : (two totals′ : List ℕ)
         → RowGiven z whole (rowCount (r + 1)) (columnCount c) (alongRow how z (rowCount r) (held z whole (rowCount (r + 1)) one (set totals 0 (getD totals 0 0 + cost)) 0) (held z whole (rowCount r) one (set totals 0 (getD totals 0 0 + cost)))) one two totals′

@@ -21,7 +21,7 @@ use Rattle.seam_retarget.specs.Cells.{Cell, bySeam, chosen}
 use Rattle.seam_rules.specs.Counts.{rowCount, columnCount, smaller}
 use Rattle.seam_retarget.specs.Inner.Seams.{pictureAt, leftAlong, StepNeeded, StepGiven}
 use Rattle.seam_retarget.specs.Inner.Cells.{SpaceNeeded}
-use Rattle.seam_retarget.specs.Inner.Table.{held, firstRow, alongRow, nextRow, rowBelow, RowNeeded, RowGiven}
+use Rattle.seam_retarget.specs.Inner.Table.{held, firstRow, alongRow, nextRow, rowBelow, RowGiven, FirstRowNeeded}
 use Rattle.seam_retarget.proofs.Numbered.{cellAt}
 use Rattle.seam_retarget.proofs.Slots.{smaller-few, less-column, same-picture, slots-apart, placed-vertical}
 use Rattle.seam_rules.proofs.Left.{smaller-sides}
@@ -116,28 +116,28 @@ up-to {P} j earlier last k h =
     (λ (l : j < k). let e : j + 1 ≡ k = omega arith in subst P e last)
     (le-or-lt k j)
 
-module _ (z : Size) (how : Method) (whole c : ℕ) (work₀ totals₀ : List ℕ) (needed : RowNeeded z whole (rowCount 0) (columnCount c) work₀ totals₀) where
-  pub first-start : ((j : ℕ) → getD totals₀ j 0 ≡ 0) → FirstSoFar z how whole c work₀ totals₀ 0 work₀ totals₀
+module _ (z : Size) (how : Method) (whole c : ℕ) (work₀ totals₀ : List ℕ) (needed : FirstRowNeeded z whole (columnCount c) work₀ totals₀) where
+  pub first-start : FirstSoFar z how whole c work₀ totals₀ 0 work₀ totals₀
   unfolding firstRow
-  first-start none = record {
+  first-start = record {
     inside = omega arith;
     long = refl;
-    totals-long = needed .totals-long;
+    totals-long = needed .fits .totals-long;
     cells-are = λ k h. let e : 0 ≡ k = omega arith in subst (λ i. held z whole (rowCount 0) work₀ totals₀ i ≡ firstRow how z (held z whole (rowCount 0) work₀ totals₀ 0) i) e refl;
-    small = λ k. omega (arith, none k);
+    small = λ k. omega (arith, needed .none k);
   }
 
   module _ (j : ℕ) (work totals : List ℕ) (inside : j < c) (so-far : FirstSoFar z how whole c work₀ totals₀ j work totals) where
     space : SpaceNeeded z whole (length work)
-    space = rw (so-far .long) (needed .space)
+    space = rw (so-far .long) (needed .fits .space)
 
     pub first-step : StepNeeded (length work) (j * whole) (smaller z 0 j) Vertical (65 * whole) ((j + 1) * whole)
     first-step = record {
-      sides = smaller-sides z 0 j (needed .space .sides) (needed .rows-left) (omega (arith, needed .columns-left));
-      wide = omega (arith, needed .columns-left);
-      source = placed-vertical z whole (length work) space j 0 j (omega (arith, needed .column)) .here;
-      room = placed-vertical z whole (length work) space j 0 j (omega (arith, needed .column)) .room;
-      target = placed-vertical z whole (length work) space (j + 1) 0 j (omega (arith, needed .column)) .there;
+      sides = smaller-sides z 0 j (needed .fits .space .sides) (needed .fits .rows-left) (omega (arith, needed .fits .columns-left));
+      wide = omega (arith, needed .fits .columns-left);
+      source = placed-vertical z whole (length work) space j 0 j (omega (arith, needed .fits .column)) .here;
+      room = placed-vertical z whole (length work) space j 0 j (omega (arith, needed .fits .column)) .room;
+      target = placed-vertical z whole (length work) space (j + 1) 0 j (omega (arith, needed .fits .column)) .there;
     }
 
     pub first-turn : (cost : ℕ) (work′ : List ℕ) → StepGiven work (j * whole) (smaller z 0 j) how Vertical (65 * whole) ((j + 1) * whole) cost work′
@@ -152,10 +152,10 @@ module _ (z : Size) (how : Method) (whole c : ℕ) (work₀ totals₀ : List ℕ
           totals-long = length-set totals (j + 1) v ∙ so-far .totals-long;
           cells-are = up-to {P = λ k. held z whole (rowCount 0) work′ (set totals (j + 1) (getD totals j 0 + cost)) k ≡ firstRow how z (held z whole (rowCount 0) work₀ totals₀ 0) k} j
               (λ k h.
-              held-other z whole 0 (j + 1) v work′ totals work k (needed .space .whole-is) (λ e. omega arith)
-              (slot-kept z how whole (length work) work work′ space (j * whole) 0 j Vertical 65 (j + 1) cost (omega arith) g k (omega (arith, needed .column)) (λ e. omega arith))
+              held-other z whole 0 (j + 1) v work′ totals work k (needed .fits .space .whole-is) (λ e. omega arith)
+              (slot-kept z how whole (length work) work work′ space (j * whole) 0 j Vertical 65 (j + 1) cost (omega arith) g k (omega (arith, needed .fits .column)) (λ e. omega arith))
               ∙ so-far .cells-are k h)
-              (held-new z whole 0 (j + 1) v work′ totals (omega (arith, so-far .totals-long, needed .column))
+              (held-new z whole 0 (j + 1) v work′ totals (omega (arith, so-far .totals-long, needed .fits .column))
               ∙ ap (λ u. record { picture = pictureAt u ((j + 1) * whole) work′; total = v }) (sym (less-column z 0 j))
               ∙ step-cell work (j * whole) (smaller z 0 j) how Vertical (65 * whole) ((j + 1) * whole) cost work′ (getD totals j 0) g
               ∙ ap (bySeam how Vertical (smaller z 0 j)) (so-far .cells-are j (omega arith))
@@ -166,7 +166,7 @@ module _ (z : Size) (how : Method) (whole c : ℕ) (work₀ totals₀ : List ℕ
   pub first-end : (work totals : List ℕ) → FirstSoFar z how whole c work₀ totals₀ c work totals → RowGiven z whole (rowCount 0) (columnCount c) (firstRow how z (held z whole (rowCount 0) work₀ totals₀ 0)) work₀ work totals
   first-end work totals so-far = record {
     cells-are = so-far .cells-are;
-    small = λ k. omega (arith, so-far .small k, needed .column);
+    small = λ k. omega (arith, so-far .small k, needed .fits .column);
     long = so-far .long;
     totals-long = so-far .totals-long;
   }

@@ -40,26 +40,26 @@ pub(crate) fn next_cell(
     let horizontal = HORIZONTAL * whole;
     let mut across = [0u16; LARGEST_SIDE];
     let mut down = [0u16; LARGEST_SIDE];
-    let by_row = above
-        + seam_at(
-            work,
-            slot,
-            upper,
-            method,
-            Axis::Horizontal,
-            horizontal,
-            &mut across,
-        );
-    let by_column = left
-        + seam_at(
-            work,
-            c * whole,
-            beside,
-            method,
-            Axis::Vertical,
-            vertical,
-            &mut down,
-        );
+    let row_cost = seam_at(
+        work,
+        slot,
+        upper,
+        method,
+        Axis::Horizontal,
+        horizontal,
+        &mut across,
+    );
+    let by_row = above + row_cost;
+    let column_cost = seam_at(
+        work,
+        c * whole,
+        beside,
+        method,
+        Axis::Vertical,
+        vertical,
+        &mut down,
+    );
+    let by_column = left + column_cost;
     let taken = seam_rules::smaller_total(by_column, by_row);
     match taken {
         Axis::Vertical => {

@@ -12,7 +12,7 @@ use seam_rules::Rows;
 use seam_rules::smaller;
 ghost use Rattle.seam_rules.specs.Counts.{rowCount};
 ghost use Rattle.seam_retarget.specs.Inner.Cells.{rowMore};
-ghost use Rattle.seam_retarget.specs.Inner.Table.{held, firstRow, alongRow, nextRow, tableRow, RowNeeded, RowGiven, NoTotals, Totals, MoreTotals};
+ghost use Rattle.seam_retarget.specs.Inner.Table.{held, firstRow, alongRow, nextRow, tableRow, RowGiven, FirstRowNeeded, RestOfRowNeeded, NextRowNeeded, RowsBelowNeeded};
 
 // Row 0, from the picture in slot 0.
 pub(crate) fn first_row(
@@ -23,8 +23,7 @@ pub(crate) fn first_row(
     columns: Columns,
     totals: &mut [u64],
 )
-    requires { ⌜ RowNeeded size whole (rowCount 0) columns (now work) (now totals) ⌝ }
-    requires { ⌜ NoTotals (now totals) ⌝ }
+    requires { ⌜ FirstRowNeeded size whole columns (now work) (now totals) ⌝ }
     ensures { λ _. ⌜ RowGiven size whole (rowCount 0) columns (firstRow method size (held size whole (rowCount 0) (now (work .entry)) (now (totals .entry)) 0)) (now (work .entry)) (now (work .exit)) (now (totals .exit)) ⌝ }
 {
     let last = columns.0;
@@ -53,8 +52,7 @@ fn rest_of_row(
     columns: Columns,
     totals: &mut [u64],
 )
-    requires { ⌜ RowNeeded size whole (rowMore rows) columns (now work) (now totals) ⌝ }
-    requires { ⌜ MoreTotals rows (now totals) ⌝ }
+    requires { ⌜ RestOfRowNeeded size whole rows columns (now work) (now totals) ⌝ }
     ensures { λ _. ⌜ RowGiven size whole (rowMore rows) columns (alongRow method size rows (held size whole (rowMore rows) (now (work .entry)) (now (totals .entry)) 0) (held size whole rows (now (work .entry)) (now (totals .entry)))) (now (work .entry)) (now (work .exit)) (now (totals .exit)) ⌝ }
 {
     let last = columns.0;
@@ -82,8 +80,7 @@ fn next_row(
     columns: Columns,
     totals: &mut [u64],
 )
-    requires { ⌜ RowNeeded size whole (rowMore rows) columns (now work) (now totals) ⌝ }
-    requires { ⌜ Totals rows (now totals) ⌝ }
+    requires { ⌜ NextRowNeeded size whole rows columns (now work) (now totals) ⌝ }
     ensures { λ _. ⌜ RowGiven size whole (rowMore rows) columns (nextRow method size rows (held size whole rows (now (work .entry)) (now (totals .entry)))) (now (work .entry)) (now (work .exit)) (now (totals .exit)) ⌝ }
 {
     let above = smaller(size, rows, Columns(0));
@@ -110,8 +107,7 @@ pub(crate) fn rows_below(
     columns: Columns,
     totals: &mut [u64],
 )
-    requires { ⌜ RowNeeded size whole rows columns (now work) (now totals) ⌝ }
-    requires { ⌜ Totals (rowCount 0) (now totals) ⌝ }
+    requires { ⌜ RowsBelowNeeded size whole rows columns (now work) (now totals) ⌝ }
     ensures { λ _. ⌜ RowGiven size whole rows columns (tableRow method size (held size whole (rowCount 0) (now (work .entry)) (now (totals .entry))) rows) (now (work .entry)) (now (work .exit)) (now (totals .exit)) ⌝ }
 {
     let last = rows.0;

@@ -56,7 +56,7 @@ first-row-requires c κs =
     let st = at-copy .before .before .before .before .before in
     let a = st .args in
     let copy = at-copy .copy in
-    (first-needed (now (a .picture)) (a .size) (a .method) (a .rows) (a .columns) (now (a .out)) (now (a .work)) (st .pre) (copy .last .1 .0) (copy .ensures .1) (copy .kept .1 .0) _ refl, no-totals 65)
+    first-needed (now (a .picture)) (a .size) (a .method) (a .rows) (a .columns) (now (a .out)) (now (a .work)) (st .pre) (copy .last .1 .0) (copy .ensures .1) (copy .kept .1 .0) _ refl (no-totals 65)
 
 slice-aggregate-rows-below : tie.Need-slice-aggregate-rows-below
 slice-aggregate-rows-below c = sym (c .before .before .before .before .before .first-row .ensures .totals-long)
@@ -69,7 +69,7 @@ rows-below-requires c κs =
     let a = st .args in
     let copy = at-copy .copy in
     let one = at-first-row .first-row in
-    (below-needed (now (a .picture)) (a .size) (a .method) (a .rows) (a .columns) (now (a .out)) (now (a .work)) (st .pre) (copy .last .1 .0) (copy .ensures .1) (copy .kept .1 .0) blank (one .last .0) (one .last .1 .1 .1 .1 .1 .0) (no-totals 65) (one .ensures), one .ensures .small)
+    below-needed (now (a .picture)) (a .size) (a .method) (a .rows) (a .columns) (now (a .out)) (now (a .work)) (st .pre) (copy .last .1 .0) (copy .ensures .1) (copy .kept .1 .0) blank (one .last .0) (one .last .1 .1 .1 .1 .1 .0) (no-totals 65) (one .ensures)
 
 smaller-requires : tie.Need-smaller-requires
 smaller-requires c κs = search needs

@@ -61,7 +61,7 @@ returns-2 c =
     let at-last-cell = c .before .before .before .before in
     let at-enum-told = at-last-cell .before .before .before in
     let g = at-last-cell .last-cell .ensures in
-    record { number = sym (none at-enum-told); total = g .total-is; out-given = g .out-is; work-left = g .work-is }
+    record { number = sym (none at-enum-told); total = g .total; out-given = g .out-given; work-left = g .work-left }
 
 pub retarget-spec : {M : Type 1} → statement M
 retarget-spec =

@@ -23,7 +23,7 @@ pub record RetargetNeeded (b : List ℕ) (z : Size) (rows : Rows) (columns : Col
   pub work-room : retargetBytes z ≤ length work
 
 -- The total of the cell, its picture at the front of out, and the work space zero.
-pub record LastGiven (b : List ℕ) (z : Size) (how : Method) (rows : Rows) (columns : Columns) (out work : List ℕ) (total : ℕ) (out′ work′ : List ℕ) : Type 0 where
-  pub total-is : total ≡ cellOf how z b rows columns .total
-  pub out-is : out′ ≡ bytes (cellOf how z b rows columns .picture) ++ drop (pictureBytes (leftSize z rows columns)) out
-  pub work-is : work′ ≡ replicate (length work) 0
+pub record LastGiven (b : List ℕ) (z : Size) (how : Method) (rows : Rows) (columns : Columns) (out work : List ℕ) (answer : ℕ) (out′ work′ : List ℕ) : Type 0 where
+  pub total : answer ≡ cellOf how z b rows columns .total
+  pub out-given : out′ ≡ bytes (cellOf how z b rows columns .picture) ++ drop (pictureBytes (leftSize z rows columns)) out
+  pub work-left : work′ ≡ replicate (length work) 0

@@ -13,7 +13,7 @@ use Rattle.seam_rules.specs.declared.answers.Rows.{Rows}
 use Rattle.seam_rules.specs.declared.answers.Columns.{Columns}
 use Rattle.seam_rules.specs.Counts.{rowCount, columnCount, leftSize}
 use Rattle.seam_retarget.specs.Inner.Seams.{pictureAt}
-use Rattle.seam_retarget.specs.Inner.Cells.{slots, slotAt, SpaceNeeded}
+use Rattle.seam_retarget.specs.Inner.Cells.{slots, slotAt, SpaceNeeded, rowMore}
 
 -- The cell of this row of the table that stands in slot j, with its total: j columns are removed from it.
 abbrev pub held : Size → ℕ → Rows → List ℕ → List ℕ → ℕ → Cell
@@ -62,13 +62,23 @@ pub record RowGiven (z : Size) (whole : ℕ) (rows : Rows) (columns : Columns) (
   pub long : length work′ ≡ length work
   pub totals-long : length totals′ ≡ slots
 
--- No totals yet, or those of a row; or besides, in the first column, the one of the row below it.
-abbrev pub NoTotals : List ℕ → Type 0
-NoTotals totals = (j : ℕ) → getD totals j 0 ≡ 0
+-- For the first row: no totals yet.
+pub record FirstRowNeeded (z : Size) (whole : ℕ) (columns : Columns) (work totals : List ℕ) : Type 0 where
+  pub fits : RowNeeded z whole (rowCount 0) columns work totals
+  pub none : (j : ℕ) → getD totals j 0 ≡ 0
 
-abbrev pub Totals : Rows → List ℕ → Type 0
-Totals rows totals = (j : ℕ) → getD totals j 0 ≤ largestTotal (rows .0)
+-- For the rest of the row below row `rows`: the totals of that row, but in the first column the one of the row below it.
+pub record RestOfRowNeeded (z : Size) (whole : ℕ) (rows : Rows) (columns : Columns) (work totals : List ℕ) : Type 0 where
+  pub fits : RowNeeded z whole (rowMore rows) columns work totals
+  pub first-small : getD totals 0 0 ≤ largestTotal (rows .0 + 1)
+  pub others-small : (j : ℕ) → 0 < j → getD totals j 0 ≤ largestTotal (rows .0)
 
-pub record MoreTotals (rows : Rows) (totals : List ℕ) : Type 0 where
-  pub first : getD totals 0 0 ≤ largestTotal (rows .0 + 1)
-  pub others : (j : ℕ) → 0 < j → getD totals j 0 ≤ largestTotal (rows .0)
+-- For the whole row below row `rows`: the totals of that row.
+pub record NextRowNeeded (z : Size) (whole : ℕ) (rows : Rows) (columns : Columns) (work totals : List ℕ) : Type 0 where
+  pub fits : RowNeeded z whole (rowMore rows) columns work totals
+  pub small : (j : ℕ) → getD totals j 0 ≤ largestTotal (rows .0)
+
+-- For row `rows` from row 0: the totals of row 0.
+pub record RowsBelowNeeded (z : Size) (whole : ℕ) (rows : Rows) (columns : Columns) (work totals : List ℕ) : Type 0 where
+  pub fits : RowNeeded z whole rows columns work totals
+  pub small : (j : ℕ) → getD totals j 0 ≤ largestTotal 0

@@ -26,7 +26,7 @@ close : (c : tie.In-loop Inv-loop μ-loop)
 close c =
     let st = c .before .before .before .before in
     let a = st .args in
-    near (a .size) (a .whole) (length (now (a .work))) (c .before .loop .j) (st .pre .0 .space) (omega (arith, st .pre .0 .column, c .loop-test .taken))
+    near (a .size) (a .whole) (length (now (a .work))) (c .before .loop .j) (st .pre .fits .space) (omega (arith, st .pre .fits .column, c .loop-test .taken))
 
 -- the step to the next cell
 given : (c : tie.After-step Inv-loop μ-loop)
@@ -40,7 +40,7 @@ loop-holds : tie.Need-loop-holds Inv-loop μ-loop
 loop-holds c =
     let st = c .before .before in
     let a = st .args in
-    first-start (a .size) (a .method) (a .whole) (a .columns .0) (now (a .work)) (now (a .totals)) (st .pre .0) (st .pre .1)
+    first-start (a .size) (a .method) (a .whole) (a .columns .0) (now (a .work)) (now (a .totals)) (st .pre)
 
 smaller-requires : tie.Need-smaller-requires Inv-loop μ-loop
 smaller-requires c κs = search needs
@@ -55,7 +55,7 @@ add-step : tie.Need-add-step Inv-loop μ-loop
 add-step c =
     let at-loop-test = c .before .before in
     let s = at-loop-test .before .before .before .before in
-    let p = s .pre .0 in
+    let p = s .pre .fits in
     omega (arith, p .column, at-loop-test .loop-test .taken)
 
 mul-step-3 : tie.Need-mul-step-3 Inv-loop μ-loop
@@ -67,20 +67,20 @@ step-requires c κs =
     let head = z .before .loop in
     let st = z .before .before .before .before in
     let a = st .args in
-    rw (c .before .smaller .ensures) (first-step (a .size) (a .method) (a .whole) (a .columns .0) (now (a .work)) (now (a .totals)) (st .pre .0) (head .j) (head .work) (head .totals) (z .loop-test .taken) (head .inv))
+    rw (c .before .smaller .ensures) (first-step (a .size) (a .method) (a .whole) (a .columns .0) (now (a .work)) (now (a .totals)) (st .pre) (head .j) (head .work) (head .totals) (z .loop-test .taken) (head .inv))
 
 mul-totals : tie.Need-mul-totals Inv-loop μ-loop
 mul-totals c =
     let at-loop-test = c .before .before .before .before .before in
     let s = at-loop-test .before .before .before .before in
-    omega (arith, s .pre .0 .column, at-loop-test .loop-test .taken)
+    omega (arith, s .pre .fits .column, at-loop-test .loop-test .taken)
 
 slice-read-totals : tie.Need-slice-read-totals Inv-loop μ-loop
 slice-read-totals c =
     let at-loop-test = c .before .before .before .before .before .before in
     let at-loop = at-loop-test .before in
     let s = at-loop .before .before .before in
-    omega (arith, s .pre .0 .column, at-loop-test .loop-test .taken, at-loop .loop .inv .totals-long)
+    omega (arith, s .pre .fits .column, at-loop-test .loop-test .taken, at-loop .loop .inv .totals-long)
 
 add-totals : tie.Need-add-totals Inv-loop μ-loop
 add-totals c =
@@ -89,32 +89,32 @@ add-totals c =
     let head = z .before .loop in
     let st = z .before .before .before .before in
     let a = st .args in
-    omega (arith, head .inv .small (head .j), given at-step .cost-most, st .pre .0 .column, z .loop-test .taken)
+    omega (arith, head .inv .small (head .j), given at-step .cost-most, st .pre .fits .column, z .loop-test .taken)
 
 add-totals-2 : tie.Need-add-totals-2 Inv-loop μ-loop
 add-totals-2 c =
     let at-loop-test = c .before .before .before .before .before .before in
     let s = at-loop-test .before .before .before .before in
-    omega (arith, s .pre .0 .column, at-loop-test .loop-test .taken)
+    omega (arith, s .pre .fits .column, at-loop-test .loop-test .taken)
 
 mul-totals-2 : tie.Need-mul-totals-2 Inv-loop μ-loop
 mul-totals-2 c =
     let at-loop-test = c .before .before .before .before .before .before in
     let s = at-loop-test .before .before .before .before in
-    omega (arith, s .pre .0 .column, at-loop-test .loop-test .taken)
+    omega (arith, s .pre .fits .column, at-loop-test .loop-test .taken)
 
 slice-write-totals : tie.Need-slice-write-totals Inv-loop μ-loop
 slice-write-totals c =
     let at-loop-test = c .before .before .before .before .before .before in
     let at-loop = at-loop-test .before in
     let s = at-loop .before .before .before in
-    omega (arith, s .pre .0 .column, at-loop-test .loop-test .taken, at-loop .loop .inv .totals-long)
+    omega (arith, s .pre .fits .column, at-loop-test .loop-test .taken, at-loop .loop .inv .totals-long)
 
 add-j : tie.Need-add-j Inv-loop μ-loop
 add-j c =
     let at-loop-test = c .before .before .before .before .before .before in
     let s = at-loop-test .before .before .before .before in
-    omega (arith, s .pre .0 .column, at-loop-test .loop-test .taken)
+    omega (arith, s .pre .fits .column, at-loop-test .loop-test .taken)
 
 loop-less : tie.Need-loop-less Inv-loop μ-loop
 loop-less c = omega (arith, c .before .before .before .before .before .before .loop-test .taken)
@@ -126,7 +126,7 @@ loop-again c =
     let st = z .before .before .before .before in
     let a = st .args in
     let q = c .before .before .before in
-    first-turn (a .size) (a .method) (a .whole) (a .columns .0) (now (a .work)) (now (a .totals)) (st .pre .0) (head .j) (head .work) (head .totals) (z .loop-test .taken) (head .inv) (q .step .result) (q .step .last .0) (given q)
+    first-turn (a .size) (a .method) (a .whole) (a .columns .0) (now (a .work)) (now (a .totals)) (st .pre) (head .j) (head .work) (head .totals) (z .loop-test .taken) (head .inv) (q .step .result) (q .step .last .0) (given q)
 
 same-length : tie.Need-same-length Inv-loop μ-loop
 same-length c = c .before .loop .inv .long
@@ -134,7 +134,7 @@ same-length c = c .before .loop .inv .long
 same-length-2 : tie.Need-same-length-2 Inv-loop μ-loop
 same-length-2 c =
     let s = c .before .before .before .before in
-    c .before .loop .inv .totals-long ∙ sym (s .pre .0 .totals-long)
+    c .before .loop .inv .totals-long ∙ sym (s .pre .fits .totals-long)
 
 returns : tie.Need-returns Inv-loop μ-loop
 returns c =
@@ -143,7 +143,7 @@ returns c =
     let st = z .before .before .before .before in
     let a = st .args in
     let e : head .j ≡ a .columns .0 = omega (arith, head .inv .inside, z .loop-test .left) in
-    first-end (a .size) (a .method) (a .whole) (a .columns .0) (now (a .work)) (now (a .totals)) (st .pre .0) (head .work) (head .totals) (rw e at (head .inv))
+    first-end (a .size) (a .method) (a .whole) (a .columns .0) (now (a .work)) (now (a .totals)) (st .pre) (head .work) (head .totals) (rw e at (head .inv))
 
 pub first-row-spec : {M : Type 1} → statement M
 first-row-spec =

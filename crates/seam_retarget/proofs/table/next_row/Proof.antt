@@ -8,7 +8,7 @@ use Rattle.pictures.proofs.Limits.{sides-are}
 use Rattle.seam_rules.specs.declared.answers.Axis.the-variants.{Horizontal}
 use Rattle.seam_rules.specs.Counts.{smaller}
 use Rattle.seam_retarget.specs.Inner.Seams.{StepGiven}
-use Rattle.seam_retarget.proofs.Below.{next-step, next-needed, next-sums, next-given}
+use Rattle.seam_retarget.proofs.Below.{next-step, next-needed, next-given}
 use Rattle.seam_retarget.proofs.table.next_row.Statement.{statement}
 use Rattle.seam_retarget.proofs.table.next_row.Tie as tie
 
@@ -25,39 +25,37 @@ smaller-requires c κs = search needs
 mul-step : tie.Need-mul-step
 mul-step c =
     let st = c .before .before .before .before in
-    let p = st .pre .0 .space in
+    let p = st .pre .fits .space in
     omega (arith, p .whole-is, sides-are (st .args .size) (p .sides) .picture-most)
 
 step-requires : tie.Need-step-requires
 step-requires c κs =
     let st = c .before .before .before .before in
     let a = st .args in
-    rw (c .before .smaller .ensures) (next-step (a .size) (a .method) (a .whole) (a .rows .0) (a .columns .0) (now (a .work)) (now (a .totals)) (st .pre .0) (st .pre .1))
+    rw (c .before .smaller .ensures) (next-step (a .size) (a .method) (a .whole) (a .rows .0) (a .columns .0) (now (a .work)) (now (a .totals)) (st .pre))
 
 slice-read-totals : tie.Need-slice-read-totals
 slice-read-totals c =
     let s = c .before .before .before .before .before .before .before .before in
-    omega (arith, s .pre .0 .totals-long)
+    omega (arith, s .pre .fits .totals-long)
 
 add-totals : tie.Need-add-totals
 add-totals c =
     let at-step = c .before .before .before in
     let st = at-step .before .before .before .before .before in
-    omega (arith, st .pre .1 0, given at-step .cost-most, st .pre .0 .row)
+    omega (arith, st .pre .small 0, given at-step .cost-most, st .pre .fits .row)
 
 slice-write-totals : tie.Need-slice-write-totals
 slice-write-totals c =
     let s = c .before .before .before .before .before .before .before .before in
-    omega (arith, s .pre .0 .totals-long)
+    omega (arith, s .pre .fits .totals-long)
 
 rest-of-row-requires : tie.Need-rest-of-row-requires
 rest-of-row-requires c κs =
     let st = c .before .before .before .before .before .before .before .before .before .before in
     let a = st .args in
-    let q = c .before .before .before .before .before in (
-      next-needed (a .size) (a .method) (a .whole) (a .rows .0) (a .columns .0) (now (a .work)) (now (a .totals)) (st .pre .0) (st .pre .1) (q .step .result) (q .step .last .0) (given q),
-      next-sums (a .size) (a .method) (a .whole) (a .rows .0) (a .columns .0) (now (a .work)) (now (a .totals)) (st .pre .0) (st .pre .1) (q .step .result) (q .step .last .0) (given q),
-    )
+    let q = c .before .before .before .before .before in
+    next-needed (a .size) (a .method) (a .whole) (a .rows .0) (a .columns .0) (now (a .work)) (now (a .totals)) (st .pre) (q .step .result) (q .step .last .0) (given q)
 
 same-length : tie.Need-same-length
 same-length c = search needs
@@ -66,7 +64,7 @@ same-length-2 : tie.Need-same-length-2
 same-length-2 c =
     let at-rest-of-row = c .before .before .before .before in
     let s = at-rest-of-row .before .before .before .before .before .before .before .before .before .before .before in
-    at-rest-of-row .rest-of-row .ensures .totals-long ∙ sym (s .pre .0 .totals-long)
+    at-rest-of-row .rest-of-row .ensures .totals-long ∙ sym (s .pre .fits .totals-long)
 
 returns : tie.Need-returns
 returns c =
@@ -75,7 +73,7 @@ returns c =
     let st = q .before .before .before .before .before in
     let a = st .args in
     let row = at-rest-of-row .rest-of-row in
-    next-given (a .size) (a .method) (a .whole) (a .rows .0) (a .columns .0) (now (a .work)) (now (a .totals)) (st .pre .0) (st .pre .1) (q .step .result) (q .step .last .0) (given q) (row .last .0) (row .last .1 .1 .1 .1 .1 .1 .0) (row .ensures)
+    next-given (a .size) (a .method) (a .whole) (a .rows .0) (a .columns .0) (now (a .work)) (now (a .totals)) (st .pre) (q .step .result) (q .step .last .0) (given q) (row .last .0) (row .last .1 .1 .1 .1 .1 .1 .0) (row .ensures)
 
 pub next-row-spec : {M : Type 1} → statement M
 next-row-spec =

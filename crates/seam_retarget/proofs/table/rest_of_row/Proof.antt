@@ -16,13 +16,13 @@ abbrev μ-loop : tie.MeasureT-loop
 
 -- the next column is one of the table's
 few : (c : tie.In-loop Inv-loop μ-loop) → c .before .loop .j + 1 < 65
-few c = omega (arith, c .before .before .before .before .pre .0 .column, c .loop-test .taken)
+few c = omega (arith, c .before .before .before .before .pre .fits .column, c .loop-test .taken)
 
 loop-holds : tie.Need-loop-holds Inv-loop μ-loop
 loop-holds c =
     let st = c .before .before in
     let a = st .args in
-    rest-start (a .size) (a .method) (a .whole) (a .rows .0) (a .columns .0) (now (a .work)) (now (a .totals)) (st .pre .0) (st .pre .1)
+    rest-start (a .size) (a .method) (a .whole) (a .rows .0) (a .columns .0) (now (a .work)) (now (a .totals)) (st .pre)
 
 add-next-cell : tie.Need-add-next-cell Inv-loop μ-loop
 add-next-cell c = omega (arith, few (c .before))
@@ -51,7 +51,7 @@ next-cell-requires c κs =
     let head = z .before .loop in
     let st = z .before .before .before .before in
     let a = st .args in
-    rest-cell (a .size) (a .method) (a .whole) (a .rows .0) (a .columns .0) (now (a .work)) (now (a .totals)) (st .pre .0) (st .pre .1) (head .j) (head .work) (head .totals) (z .loop-test .taken) (head .inv)
+    rest-cell (a .size) (a .method) (a .whole) (a .rows .0) (a .columns .0) (now (a .work)) (now (a .totals)) (st .pre) (head .j) (head .work) (head .totals) (z .loop-test .taken) (head .inv)
 
 add-totals : tie.Need-add-totals Inv-loop μ-loop
 add-totals c = omega (arith, few (c .before .before .before .before .before .before))
@@ -79,7 +79,7 @@ loop-again c =
     let st = z .before .before .before .before in
     let a = st .args in
     let next = at-next-cell .next-cell in
-    rest-turn (a .size) (a .method) (a .whole) (a .rows .0) (a .columns .0) (now (a .work)) (now (a .totals)) (st .pre .0) (st .pre .1) (head .j) (head .work) (head .totals) (z .loop-test .taken) (head .inv) (next .result) (next .last .0) (next .ensures)
+    rest-turn (a .size) (a .method) (a .whole) (a .rows .0) (a .columns .0) (now (a .work)) (now (a .totals)) (st .pre) (head .j) (head .work) (head .totals) (z .loop-test .taken) (head .inv) (next .result) (next .last .0) (next .ensures)
 
 same-length : tie.Need-same-length Inv-loop μ-loop
 same-length c = c .before .loop .inv .long
@@ -87,7 +87,7 @@ same-length c = c .before .loop .inv .long
 same-length-2 : tie.Need-same-length-2 Inv-loop μ-loop
 same-length-2 c =
     let s = c .before .before .before .before in
-    c .before .loop .inv .totals-long ∙ sym (s .pre .0 .totals-long)
+    c .before .loop .inv .totals-long ∙ sym (s .pre .fits .totals-long)
 
 returns : tie.Need-returns Inv-loop μ-loop
 returns c =
@@ -96,7 +96,7 @@ returns c =
     let st = z .before .before .before .before in
     let a = st .args in
     let e : head .j ≡ a .columns .0 = omega (arith, head .inv .inside, z .loop-test .left) in
-    rest-end (a .size) (a .method) (a .whole) (a .rows .0) (a .columns .0) (now (a .work)) (now (a .totals)) (st .pre .0) (st .pre .1) (head .work) (head .totals) (rw e at (head .inv))
+    rest-end (a .size) (a .method) (a .whole) (a .rows .0) (a .columns .0) (now (a .work)) (now (a .totals)) (st .pre) (head .work) (head .totals) (rw e at (head .inv))
 
 pub rest-of-row-spec : {M : Type 1} → statement M
 rest-of-row-spec =

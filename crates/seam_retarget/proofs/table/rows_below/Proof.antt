@@ -19,7 +19,7 @@ loop-holds : tie.Need-loop-holds Inv-loop μ-loop
 loop-holds c =
     let st = c .before .before in
     let a = st .args in
-    (omega arith, below-start (a .size) (a .method) (a .whole) (a .columns .0) (now (a .work)) (now (a .totals)) (st .pre .0 .totals-long) (st .pre .1))
+    (omega arith, below-start (a .size) (a .method) (a .whole) (a .columns .0) (now (a .work)) (now (a .totals)) (st .pre .fits .totals-long) (st .pre .small))
 
 next-row-requires : tie.Need-next-row-requires Inv-loop μ-loop
 next-row-requires c κs =
@@ -27,24 +27,25 @@ next-row-requires c κs =
     let head = z .before .loop in
     let st = z .before .before .before .before in
     let a = st .args in
-    let p = st .pre .0 in
-    let row = head .inv .1 in (
-      record {
+    let p = st .pre .fits in
+    let row = head .inv .1 in
+    record {
+      fits = record {
         space = rw (row .long) (p .space);
         rows-left = omega (arith, p .rows-left, z .loop-test .taken);
         row = omega (arith, p .row, z .loop-test .taken);
         columns-left = p .columns-left;
         column = p .column;
         totals-long = row .totals-long;
-      },
-      row .small,
-    )
+      };
+      small = row .small;
+    }
 
 add-i : tie.Need-add-i Inv-loop μ-loop
 add-i c =
     let at-loop-test = c .before .before .before .before .before .before .before in
     let s = at-loop-test .before .before .before .before in
-    omega (arith, s .pre .0 .row, at-loop-test .loop-test .taken)
+    omega (arith, s .pre .fits .row, at-loop-test .loop-test .taken)
 
 loop-less : tie.Need-loop-less Inv-loop μ-loop
 loop-less c =
@@ -67,7 +68,7 @@ same-length c = c .before .loop .inv .1 .long
 same-length-2 : tie.Need-same-length-2 Inv-loop μ-loop
 same-length-2 c =
     let s = c .before .before .before .before in
-    c .before .loop .inv .1 .totals-long ∙ sym (s .pre .0 .totals-long)
+    c .before .loop .inv .1 .totals-long ∙ sym (s .pre .fits .totals-long)
 
 returns : tie.Need-returns Inv-loop μ-loop
 returns c =
