@@ -8,8 +8,7 @@
 #include <stdlib.h>
 
 typedef struct {
-    size_t width, height;
-    uint8_t kind;
+    multisize_size size;
     uint8_t *bytes;  // the whole file that was read
     size_t start;    // where the samples begin in it
     size_t length;   // how many bytes there are from there on
@@ -72,17 +71,17 @@ static Picture read_picture(const char *path) {
     picture.bytes = read_whole(path, &length);
     if (length < 3 || picture.bytes[0] != 'P' || (picture.bytes[1] != '5' && picture.bytes[1] != '6'))
         fail(path, "this is no Netpbm picture of form P5 or P6");
-    picture.kind = picture.bytes[1] == '6' ? MULTISIZE_RGB : MULTISIZE_GREY;
-    picture.width = header_number(path, &picture, length, &at);
-    picture.height = header_number(path, &picture, length, &at);
+    picture.size.kind = picture.bytes[1] == '6' ? MULTISIZE_RGB : MULTISIZE_GREY;
+    picture.size.width = header_number(path, &picture, length, &at);
+    picture.size.height = header_number(path, &picture, length, &at);
     if (header_number(path, &picture, length, &at) != 255) fail(path, "its largest sample isn't 255");
     picture.start = at < length ? at + 1 : length;
     picture.length = length - picture.start;
     return picture;
 }
 
-static void write_picture(const char *path, multisize_size_answer size, const uint8_t *samples) {
-    size_t bytes = multisize_shown_bytes(size.width, size.height, (uint8_t)size.kind);
+static void write_picture(const char *path, multisize_size size, const uint8_t *samples) {
+    size_t bytes = multisize_shown_bytes(size, size.width);
     FILE *file = fopen(path, "wb");
     if (!file) perror(path), exit(1);
     fprintf(file, "P%c\n%d %d\n255\n", size.kind == MULTISIZE_RGB ? '6' : '5', (int)size.width, (int)size.height);
@@ -90,11 +89,12 @@ static void write_picture(const char *path, multisize_size_answer size, const ui
     if (fclose(file) || !whole) perror(path), remove(path), exit(1);
 }
 
-// The picture's file with every width from 1 to half as wide again; gives its length.
+// Builds the picture's file with every width from 1 to half as wide again, by the usual method, and returns its length.
 static size_t build(const Picture *picture, uint8_t *file, size_t room, uint8_t *work, size_t work_length) {
-    size_t depth = picture->width ? picture->width - 1 : 0, growth = picture->width / 2;
-    multisize_answer built = multisize_build(picture->bytes + picture->start, picture->length, picture->width,
-                                             picture->height, picture->kind, depth, growth, file, room, work, work_length);
+    size_t width = picture->size.width, depth = width ? width - 1 : 0, growth = width / 2;
+    multisize_method usual = {0};
+    multisize_answer built = multisize_build(picture->bytes + picture->start, picture->length, picture->size, usual, depth,
+                                             growth, file, room, work, work_length);
     served("building the file", built.number);
     return built.value;
 }
@@ -107,20 +107,19 @@ int main(int count, char **words) {
         return 2;
     }
     Picture picture = read_picture(words[1]);
-    size_t room = multisize_file_bytes(picture.width, picture.height, picture.kind);
-    size_t work_length = multisize_work_bytes(picture.width, picture.height);
-    size_t shown_length = multisize_shown_bytes(wanted, picture.height, picture.kind);
+    size_t room = multisize_file_bytes(picture.size), work_length = multisize_work_bytes(picture.size);
+    size_t shown_length = multisize_shown_bytes(picture.size, wanted);
     uint8_t *file = space(room), *work = space(work_length), *shown = space(shown_length);
 
     size_t length = build(&picture, file, room, work, work_length);
     multisize_file_answer checked = multisize_check(file, length, work, work_length);
     served("checking the file", checked.number);
-    multisize_size_answer size = multisize_show(file, length, wanted, shown, shown_length, work, work_length);
-    if (size.number == MULTISIZE_REFUSED_WANTED)
-        fprintf(stderr, "carve: widths %d to %d are offered\n", (int)(checked.width - checked.depth),
-                (int)(checked.width + checked.growth));
-    served("showing the file", size.number);
-    write_picture(words[3], size, shown);
+    multisize_size_answer carved = multisize_show(file, length, wanted, shown, shown_length, work, work_length);
+    if (carved.number == MULTISIZE_REFUSED_WANTED)
+        fprintf(stderr, "carve: widths %d to %d are offered\n", (int)(checked.size.width - checked.depth),
+                (int)(checked.size.width + checked.growth));
+    served("showing the file", carved.number);
+    write_picture(words[3], carved.size, shown);
     free(picture.bytes), free(file), free(work), free(shown);
     return 0;
 }

@@ -1,4 +1,4 @@
-// The numbers that hosts pass and get, and the sizes of the spaces to lend. Included by multisize.h.
+// The numbers and structs that hosts pass and get, and the sizes of the spaces to lend. Included by multisize.h.
 #ifndef MULTISIZE_VALUES_H
 #define MULTISIZE_VALUES_H
 
@@ -7,6 +7,25 @@
 
 // A picture's kind: 1 byte a pixel, or 3 with red first.
 enum multisize_kind { MULTISIZE_GREY = 0, MULTISIZE_RGB = 1 };
+
+// How a pixel's energy is worked out.
+enum multisize_energy {
+    MULTISIZE_EDGE = 0 // by its differences to the neighbours beside and below it, as multisize_energies says
+};
+
+// The size of a picture: its sides, and its kind (enum multisize_kind).
+typedef struct multisize_size {
+    size_t width, height;
+    uint8_t kind;
+} multisize_size;
+
+// The method that seams are found by: which energy a pixel has (enum multisize_energy). More fields may come, at the end,
+// and 0 in a new one will mean what is done without it. So a method whose fields are all 0, as the initializer {0} makes
+// it, is the usual one and stays it, and no function gets another parameter. A method is passed by value: a program is
+// compiled with the header that came with its archive.
+typedef struct multisize_method {
+    uint8_t energy;
+} multisize_method;
 
 // A seam's axis: a vertical seam has one column for each row, a horizontal one a row for each column.
 enum multisize_axis { MULTISIZE_VERTICAL = 0, MULTISIZE_HORIZONTAL = 1 };
@@ -25,7 +44,8 @@ enum multisize_ending {
 // The numbers of the refusals. Of several, the smallest is given.
 enum multisize_refusal {
     MULTISIZE_SERVED = 0,             // nothing is refused
-    MULTISIZE_REFUSED_FORM = 1,       // a file's text breaks its form; or a number names no kind or no axis
+    MULTISIZE_REFUSED_FORM = 1,       // a file's text breaks its form; or a number names no kind, no axis or no
+                                      // energy
     MULTISIZE_REFUSED_EMPTY = 2,      // width or height 0
     MULTISIZE_REFUSED_LARGE = 3,      // width or height over MULTISIZE_LARGEST_SIDE
     MULTISIZE_REFUSED_LENGTH = 4,     // a buffer's length, or a file's number of rows, samples or map numbers, isn't
@@ -46,7 +66,7 @@ enum multisize_refusal {
 static inline const char *multisize_words(uint64_t number) {
     switch (number) {
     case MULTISIZE_SERVED: return "served";
-    case MULTISIZE_REFUSED_FORM: return "the text breaks its form, or a number names no kind or no axis";
+    case MULTISIZE_REFUSED_FORM: return "the text breaks its form, or a number names no kind, axis or energy";
     case MULTISIZE_REFUSED_EMPTY: return "width or height is 0";
     case MULTISIZE_REFUSED_LARGE: return "width or height is over 512";
     case MULTISIZE_REFUSED_LENGTH: return "there are more or fewer bytes, rows, samples or map numbers than the size says";
@@ -74,48 +94,52 @@ enum {
 #define MULTISIZE_LARGEST_WORK ((size_t)32 * MULTISIZE_LARGEST_SIDE * MULTISIZE_LARGEST_SIDE)
 
 // The sizes of the spaces. A size that is refused by 3 whatever is lent gives 0, so that no product overflows.
+
+// Returns the samples of a pixel.
 static inline size_t multisize_channels(uint8_t kind) { return kind == MULTISIZE_RGB ? 3 : 1; }
 
-// Pixels of a picture: the length of its marks, and of a map read from its file.
-static inline size_t multisize_pixels(size_t width, size_t height) {
-    return width > MULTISIZE_LARGEST_SIDE || height > MULTISIZE_LARGEST_SIDE ? 0 : width * height;
+// Returns the pixels of a picture: the length of its marks, and of a map read from its file.
+static inline size_t multisize_pixels(multisize_size size) {
+    return size.width > MULTISIZE_LARGEST_SIDE || size.height > MULTISIZE_LARGEST_SIDE ? 0 : size.width * size.height;
 }
 
-// Bytes of a picture.
-static inline size_t multisize_picture_bytes(size_t width, size_t height, uint8_t kind) {
-    return multisize_pixels(width, height) * multisize_channels(kind);
+// Returns the bytes of a picture.
+static inline size_t multisize_picture_bytes(multisize_size size) {
+    return multisize_pixels(size) * multisize_channels(size.kind);
 }
 
-// Columns or rows of a seam: the length of the space that it is put into.
-static inline size_t multisize_seam_length(size_t width, size_t height, uint8_t axis) {
-    return axis == MULTISIZE_HORIZONTAL ? width : height;
+// Returns the columns or rows of a seam: the length of the space that it is put into.
+static inline size_t multisize_seam_length(multisize_size size, uint8_t axis) {
+    return axis == MULTISIZE_HORIZONTAL ? size.width : size.height;
 }
 
-// Bytes of work space for every operation on a picture or a file of this size but a retarget.
-static inline size_t multisize_work_bytes(size_t width, size_t height) { return 32 * multisize_pixels(width, height); }
+// Returns the bytes of work space for every operation on a picture or a file of this size but a retarget.
+static inline size_t multisize_work_bytes(multisize_size size) { return 32 * multisize_pixels(size); }
 
-// Bytes of work space for a retarget.
-static inline size_t multisize_retarget_work_bytes(size_t width, size_t height, uint8_t kind) {
-    return multisize_work_bytes(width, height) + 66 * multisize_picture_bytes(width, height, kind);
+// Returns the bytes of work space for a retarget.
+static inline size_t multisize_retarget_work_bytes(multisize_size size) {
+    return multisize_work_bytes(size) + 66 * multisize_picture_bytes(size);
 }
 
-// Bytes of the picture that a retarget by this many rows and columns leaves.
-static inline size_t multisize_retarget_bytes(size_t width, size_t height, uint8_t kind, size_t rows, size_t columns) {
-    return rows > height || columns > width ? 0 : multisize_picture_bytes(width - columns, height - rows, kind);
+// Returns the bytes of the picture that a retarget by this many rows and columns leaves.
+static inline size_t multisize_retarget_bytes(multisize_size size, size_t rows, size_t columns) {
+    if (rows > size.height || columns > size.width) return 0;
+    size.width -= columns, size.height -= rows;
+    return multisize_picture_bytes(size);
 }
 
-// Bytes that every file of this size fits in, whatever its samples and its range: 45 in the lines that each file has, 6 a
-// row line and 6 a map line, and for each pixel its samples of three digits and its map number of three, with their
-// blanks and brackets.
-static inline size_t multisize_file_bytes(size_t width, size_t height, uint8_t kind) {
-    size_t pixels = multisize_pixels(width, height);
-    return pixels ? 45 + 12 * height + pixels * (kind == MULTISIZE_RGB ? 18 : 8) : 0;
+// Returns the bytes that every file of this size fits in, whatever its samples and its range: 45 in the lines that each file
+// has, 6 a row line and 6 a map line, and for each pixel its samples of three digits and its map number of three, with
+// their blanks and brackets.
+static inline size_t multisize_file_bytes(multisize_size size) {
+    size_t pixels = multisize_pixels(size);
+    return pixels ? 45 + 12 * size.height + pixels * (size.kind == MULTISIZE_RGB ? 18 : 8) : 0;
 }
 
-// Bytes of the picture that a file of this height and kind shows at the wanted width; 0 where every file refuses it by 7.
-static inline size_t multisize_shown_bytes(size_t wanted, size_t height, uint8_t kind) {
-    if (wanted > MULTISIZE_WIDEST_SHOWN || height > MULTISIZE_LARGEST_SIDE) return 0;
-    return wanted * height * multisize_channels(kind);
+// Returns the bytes of the picture that a file of this size shows at the wanted width; 0 where every file refuses it by 7.
+static inline size_t multisize_shown_bytes(multisize_size size, size_t wanted) {
+    if (wanted > MULTISIZE_WIDEST_SHOWN || size.height > MULTISIZE_LARGEST_SIDE) return 0;
+    return wanted * size.height * multisize_channels(size.kind);
 }
 
 #endif
