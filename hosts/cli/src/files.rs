@@ -114,8 +114,8 @@ fn at_width(
     })
 }
 
-fn read(file: &Input, carver: &mut Carver) -> Result<Contents, Failure> {
-    read_text(file, &file.file()?, carver)
+fn read(file: &Input) -> Result<Contents, Failure> {
+    read_text(file, &file.file()?, &mut Carver::new())
 }
 
 fn read_text(file: &Input, text: &[u8], carver: &mut Carver) -> Result<Contents, Failure> {
@@ -124,16 +124,15 @@ fn read_text(file: &Input, text: &[u8], carver: &mut Carver) -> Result<Contents,
 }
 
 pub fn seams(file: &Input, out: &Output, first: Option<usize>) -> Result<(), Failure> {
-    let contents = read(file, &mut Carver::new())?;
+    let contents = read(file)?;
     let drawn = colours::drawn(&contents, first.unwrap_or(contents.range.depth));
     out.picture(&drawn.map_err(|refusal| file.refused(refusal))?)
 }
 
 pub fn table(file: &Input, out: &Output, long: bool) -> Result<(), Failure> {
-    let mut carver = Carver::new();
-    let contents = read(file, &mut carver)?;
+    let contents = read(file)?;
     let form = if long { table::long } else { table::csv };
-    let csv = during("cutting", || form(&contents, &mut carver));
+    let csv = during("cutting", || form(&contents));
     out.write(csv.map_err(|refusal| file.refused(refusal))?.as_bytes())
 }
 

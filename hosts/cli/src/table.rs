@@ -4,12 +4,12 @@ use multisize::{Axis, Carver, Contents, Refusal, Seam};
 use std::fmt::{Display, Write};
 
 /// CSV with a line for each seam, the first cut first.
-pub fn csv(contents: &Contents, carver: &mut Carver) -> Result<String, Refusal> {
+pub fn csv(contents: &Contents) -> Result<String, Refusal> {
     let height = contents.picture.size().height;
     let left = (0..height).map(|row| format!("row_{row}_left"));
     let original = (0..height).map(|row| format!("row_{row}_original"));
     let mut text = line(&"seam", &"cost", left.chain(original));
-    each_seam(contents, carver, |number, seam, original| {
+    each_seam(contents, |number, seam, original| {
         text += &line(&number, &seam.cost, seam.places.iter().chain(original));
     })?;
     Ok(text)
@@ -17,9 +17,9 @@ pub fn csv(contents: &Contents, carver: &mut Carver) -> Result<String, Refusal> 
 
 /// CSV with a line for each seam and row, and so with the same columns for every
 /// picture.
-pub fn long(contents: &Contents, carver: &mut Carver) -> Result<String, Refusal> {
+pub fn long(contents: &Contents) -> Result<String, Refusal> {
     let mut text = line(&"seam", &"cost", ["row", "left", "original"].iter());
-    each_seam(contents, carver, |number, seam, original| {
+    each_seam(contents, |number, seam, original| {
         for (row, (left, original)) in seam.places.iter().zip(original).enumerate() {
             let rest = [row, usize::from(*left), usize::from(*original)];
             text += &line(&number, &seam.cost, rest.iter());
@@ -28,14 +28,14 @@ pub fn long(contents: &Contents, carver: &mut Carver) -> Result<String, Refusal>
     Ok(text)
 }
 
-/// Cuts each seam in turn and hands on its number, the seam, and its columns in the
-/// original.
+/// Cuts each seam in turn, by the file's method, and hands on its number, the seam, and
+/// its columns in the original.
 fn each_seam(
     contents: &Contents,
-    carver: &mut Carver,
     mut hand_on: impl FnMut(usize, &Seam, &[u16]),
 ) -> Result<(), Refusal> {
     let height = contents.picture.size().height;
+    let mut carver = Carver::by(contents.method);
     let mut picture = contents.picture.clone();
     for (at, original) in originals(contents).chunks(height).enumerate() {
         // An accepted file records just the seams that cutting finds.

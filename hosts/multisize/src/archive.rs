@@ -8,22 +8,17 @@
 
 mod declared;
 mod files;
+mod numbers;
 mod seams;
 
 pub use files::{build, check, read, row_at, show};
 pub use seams::{cut, cut_marked, find, find_marked, remove, retarget};
 
-use crate::picture::{Kind, Size};
+use crate::method::Method;
+use crate::picture::Size;
 use crate::refusal::Refusal;
 use declared::Answer;
-
-/// The number by which the archive knows a kind.
-fn kind_number(kind: Kind) -> u8 {
-    match kind {
-        Kind::Grey => 0,
-        Kind::Rgb => 1,
-    }
-}
+use numbers::{host_method, host_size};
 
 /// Number 0 is served, any other a refusal.
 fn judged(number: u64) -> Result<(), Refusal> {
@@ -39,22 +34,27 @@ fn served(answer: Answer) -> Result<u64, Refusal> {
     Ok(answer.value)
 }
 
-/// A length or side that the archive gives, which is that of something lent.
-fn side(number: u64) -> usize {
-    usize::try_from(number).expect("the archive gives sides and lengths that fit")
+/// A count that the archive gives, which is that of something lent.
+fn count(number: u64) -> usize {
+    usize::try_from(number).expect("the archive gives counts that fit")
 }
 
 /// The energies of a row at the front of `out`.
-pub fn energies(picture: &[u8], size: Size, row: usize, out: &mut [u32]) -> Result<(), Refusal> {
+pub fn energies(
+    picture: &[u8],
+    size: Size,
+    method: Method,
+    row: usize,
+    out: &mut [u32],
+) -> Result<(), Refusal> {
     // SAFETY: both pointers come with the lengths of their slices, which stay
     // lent until the call ends.
     let number = unsafe {
         declared::multisize_energies(
             picture.as_ptr(),
             picture.len(),
-            size.width,
-            size.height,
-            kind_number(size.kind),
+            host_size(size),
+            host_method(method),
             row,
             out.as_mut_ptr(),
             out.len(),
@@ -71,21 +71,20 @@ pub fn row(picture: &[u8], size: Size, row: usize, out: &mut [u8]) -> Result<usi
         declared::multisize_row(
             picture.as_ptr(),
             picture.len(),
-            size.width,
-            size.height,
-            kind_number(size.kind),
+            host_size(size),
             row,
             out.as_mut_ptr(),
             out.len(),
         )
     };
-    served(answer).map(side)
+    served(answer).map(count)
 }
 
 #[cfg(test)]
 mod tests {
     use super::*;
     use crate::files::Range;
+    use crate::picture::Kind;
     use crate::retargets::{Columns, Rows};
     use crate::seams::Axis;
 
@@ -95,23 +94,37 @@ mod tests {
     #[test]
     fn short_spaces_are_refused_by_8() {
         let (short, mut work) = (Err(Refusal::Space), [9; 600]);
-        assert_eq!(
-            energies(&PICTURE, SIZE, 0, &mut [0; 2]),
-            Err(Refusal::Space)
-        );
+        let method = Method::default();
+        let given = energies(&PICTURE, SIZE, method, 0, &mut [0; 2]);
+        assert_eq!(given, Err(Refusal::Space));
         assert_eq!(row(&PICTURE, SIZE, 0, &mut [0; 2]), Err(Refusal::Space));
         let given = row_at(&PICTURE[..3], Kind::Grey, &[1, 0, 2], 4, &mut [0; 3]);
         assert_eq!(given, Err(Refusal::Space));
         let vertical = Axis::Vertical;
-        let given = find(&PICTURE, SIZE, vertical, &mut [0], &mut work);
+        let given = find(&PICTURE, SIZE, method, vertical, &mut [0], &mut work);
         assert_eq!(given, short);
-        let given = find(&PICTURE, SIZE, vertical, &mut [0; 2], &mut work[..191]);
+        let given = find(
+            &PICTURE,
+            SIZE,
+            method,
+            vertical,
+            &mut [0; 2],
+            &mut work[..191],
+        );
         assert_eq!(given, short);
         let (rows, columns) = (Rows(0), Columns(1));
-        let given = retarget(&PICTURE, SIZE, rows, columns, &mut [0; 3], &mut work);
+        let given = retarget(
+            &PICTURE,
+            SIZE,
+            method,
+            rows,
+            columns,
+            &mut [0; 3],
+            &mut work,
+        );
         assert_eq!(given, short);
         let range = Range::full(3);
-        let given = build(&PICTURE, SIZE, range, &mut [0; 9], &mut work);
+        let given = build(&PICTURE, SIZE, method, range, &mut [0; 9], &mut work);
         assert_eq!(given, Err(Refusal::Space));
         assert_eq!(work, [9; 600]);
     }

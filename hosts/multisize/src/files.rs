@@ -2,6 +2,7 @@
 
 use crate::archive;
 use crate::carver::Carver;
+use crate::method::Method;
 use crate::picture::{Kind, Picture, Size, LARGEST_SIDE};
 use crate::refusal::Refusal;
 use std::ops::RangeInclusive;
@@ -42,6 +43,8 @@ impl Range {
 pub struct Head {
     /// The size of its picture.
     pub size: Size,
+    /// The method that its seams are found by.
+    pub method: Method,
     /// Its depth and growth.
     pub range: Range,
 }
@@ -61,6 +64,8 @@ pub struct Contents {
     pub picture: Picture,
     /// For each pixel the number of the seam that took it, or 0.
     pub map: Vec<u16>,
+    /// The method that the seams were found by.
+    pub method: Method,
     /// Depth and growth.
     pub range: Range,
 }
@@ -70,6 +75,7 @@ impl Contents {
     pub fn head(&self) -> Head {
         Head {
             size: self.picture.size(),
+            method: self.method,
             range: self.range,
         }
     }
@@ -162,10 +168,10 @@ impl Carver {
     /// # Ok::<(), multisize::Refusal>(())
     /// ```
     pub fn build(&mut self, picture: &Picture, range: Range) -> Result<Vec<u8>, Refusal> {
-        let size = picture.size();
+        let (size, method) = (picture.size(), self.method());
         let mut out = vec![0; longest_file(size)];
         let work = self.space_of(size);
-        let length = archive::build(picture.samples(), size, range, &mut out, work)?;
+        let length = archive::build(picture.samples(), size, method, range, &mut out, work)?;
         out.truncate(length);
         out.shrink_to_fit();
         Ok(out)
@@ -210,14 +216,14 @@ impl Carver {
         let mut samples = vec![0; most_shown(file)];
         let mut map = vec![0; (file.len() / 4).min(MOST_PIXELS)];
         let work = self.space(work_of(file));
-        let Head { size, range } = archive::read(file, &mut samples, &mut map, work)?;
-        map.truncate(size.pixels());
+        let head = archive::read(file, &mut samples, &mut map, work)?;
+        map.truncate(head.size.pixels());
         map.shrink_to_fit();
-        let picture = Picture::front(size, samples);
         Ok(Contents {
-            picture,
+            picture: Picture::front(head.size, samples),
             map,
-            range,
+            method: head.method,
+            range: head.range,
         })
     }
 

@@ -1,9 +1,9 @@
 //! Seam carving and multi-size files, over an archive of proved functions.
 //!
-//! A [`Picture`] has a size, a kind and samples. A [`Carver`] keeps the work
-//! space and has the operations: it finds and cuts seams, removes marked
-//! objects, retargets in both directions, and builds, checks, reads and shows
-//! multi-size files. Each gives its answer or a [`Refusal`] with its number;
+//! A [`Picture`] has a size, a kind and samples. A [`Carver`] keeps the
+//! [`Method`] and the work space and has the operations: it finds and cuts seams,
+//! removes marked objects, retargets in both directions, and builds, checks, reads
+//! and shows multi-size files. Each gives its answer or a [`Refusal`] with its number;
 //! after a refusal everything lent is as it was. [`netpbm`] reads and writes
 //! pictures as P5 and P6, [`png`] as PNG.
 //!
@@ -22,6 +22,7 @@
 mod archive;
 mod carver;
 mod files;
+mod method;
 pub mod netpbm;
 mod objects;
 mod picture;
@@ -32,6 +33,7 @@ mod seams;
 
 pub use carver::Carver;
 pub use files::{Contents, Head, Range, LONGEST_FILE};
+pub use method::{Energy, Method};
 pub use objects::{Ending, PLAIN, PROTECTED, REMOVE};
 pub use picture::{Kind, Picture, Size, LARGEST_SIDE};
 pub use refusal::Refusal;

@@ -85,9 +85,10 @@ impl Carver {
         marks: &mut Vec<u8>,
         budget: u16,
     ) -> Result<Ending, Refusal> {
-        let size = picture.size();
+        let (size, method) = (picture.size(), self.method());
         let work = self.space_of(size);
-        let ending = archive::remove(picture.samples_mut(), marks, size, budget, work)?;
+        let samples = picture.samples_mut();
+        let ending = archive::remove(samples, marks, size, method, budget, work)?;
         picture.keep(Size {
             width: size.width - usize::from(ending.count()),
             ..size

@@ -1,6 +1,8 @@
 //! Pictures: a size, a kind, and samples.
 
 use crate::archive;
+use crate::carver::Carver;
+use crate::method::Method;
 use crate::refusal::Refusal;
 
 /// The largest width and the largest height of a picture.
@@ -111,7 +113,7 @@ impl Picture {
     pub fn new(size: Size, samples: Vec<u8>) -> Result<Picture, Refusal> {
         // The archive judges the size. No row fits no space, so where 2 to 4
         // don't apply the answer is 8.
-        match archive::energies(&samples, size, 0, &mut []) {
+        match archive::energies(&samples, size, Method::default(), 0, &mut []) {
             Ok(()) | Err(Refusal::Space) => Ok(Picture { size, samples }),
             Err(refusal) => Err(refusal),
         }
@@ -170,10 +172,9 @@ impl Picture {
         row
     }
 
-    /// The energies of the pixels of row `r`, counted from 0: the differences to the
-    /// right and to the lower neighbour, in the last column to the left and in the
-    /// last row to the upper one, the channels added. At width 1 the first is 0, at
-    /// height 1 the second.
+    /// The energies of the pixels of row `r`, counted from 0, by the default method,
+    /// which is [`Energy::Edge`](crate::Energy::Edge). [`Carver::energies`] gives those
+    /// by another one.
     ///
     /// # Errors
     ///
@@ -188,8 +189,6 @@ impl Picture {
     /// # Ok::<(), multisize::Refusal>(())
     /// ```
     pub fn energies(&self, r: usize) -> Result<Vec<u32>, Refusal> {
-        let mut energies = vec![0; self.size.width];
-        archive::energies(&self.samples, self.size, r, &mut energies)?;
-        Ok(energies)
+        Carver::new().energies(self, r)
     }
 }

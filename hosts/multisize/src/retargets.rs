@@ -52,7 +52,7 @@ impl Carver {
         rows: Rows,
         columns: Columns,
     ) -> Result<Retargeted, Refusal> {
-        let size = picture.size();
+        let (size, method) = (picture.size(), self.method());
         // A count that leaves nothing is refused by 7, whatever space there is.
         let left = Size {
             width: size.width.saturating_sub(columns.0),
@@ -61,7 +61,8 @@ impl Carver {
         };
         let mut out = vec![0; left.bytes()];
         let work = self.space(32 * size.pixels() + 66 * size.bytes());
-        let total = archive::retarget(picture.samples(), size, rows, columns, &mut out, work)?;
+        let samples = picture.samples();
+        let total = archive::retarget(samples, size, method, rows, columns, &mut out, work)?;
         let picture = Picture::front(left, out);
         Ok(Retargeted { picture, total })
     }

@@ -65,10 +65,10 @@ impl Carver {
     /// # Ok::<(), multisize::Refusal>(())
     /// ```
     pub fn find(&mut self, picture: &Picture, axis: Axis) -> Result<Seam, Refusal> {
-        let size = picture.size();
+        let (size, method) = (picture.size(), self.method());
         let mut places = vec![0; axis.length(size)];
         let work = self.space_of(size);
-        let cost = archive::find(picture.samples(), size, axis, &mut places, work)?;
+        let cost = archive::find(picture.samples(), size, method, axis, &mut places, work)?;
         Ok(Seam { places, cost })
     }
 
@@ -90,10 +90,10 @@ impl Carver {
     /// # Ok::<(), multisize::Refusal>(())
     /// ```
     pub fn cut(&mut self, picture: &mut Picture, axis: Axis) -> Result<Seam, Refusal> {
-        let size = picture.size();
+        let (size, method) = (picture.size(), self.method());
         let mut places = vec![0; axis.length(size)];
         let work = self.space_of(size);
-        let cost = archive::cut(picture.samples_mut(), size, axis, &mut places, work)?;
+        let cost = archive::cut(picture.samples_mut(), size, method, axis, &mut places, work)?;
         picture.keep(axis.left(size));
         Ok(Seam { places, cost })
     }
@@ -123,11 +123,11 @@ impl Carver {
         marks: &[u8],
         axis: Axis,
     ) -> Result<Seam, Refusal> {
-        let size = picture.size();
+        let (size, method) = (picture.size(), self.method());
         let mut places = vec![0; axis.length(size)];
         let work = self.space_of(size);
         let samples = picture.samples();
-        let cost = archive::find_marked(samples, marks, size, axis, &mut places, work)?;
+        let cost = archive::find_marked(samples, marks, size, method, axis, &mut places, work)?;
         Ok(Seam { places, cost })
     }
 
@@ -154,11 +154,11 @@ impl Carver {
         marks: &mut Vec<u8>,
         axis: Axis,
     ) -> Result<Seam, Refusal> {
-        let size = picture.size();
+        let (size, method) = (picture.size(), self.method());
         let mut places = vec![0; axis.length(size)];
         let work = self.space_of(size);
         let samples = picture.samples_mut();
-        let cost = archive::cut_marked(samples, marks, size, axis, &mut places, work)?;
+        let cost = archive::cut_marked(samples, marks, size, method, axis, &mut places, work)?;
         picture.keep(axis.left(size));
         marks.truncate(picture.size().pixels());
         Ok(Seam { places, cost })

@@ -1,6 +1,7 @@
 //! The worked example of the specification, and pictures at its limits.
 
-use multisize::{Axis, Carver, Columns, Ending, Picture, Range, Refusal, Rows, Size};
+use multisize::{Axis, Carver, Columns, Ending, Energy, Method};
+use multisize::{Picture, Range, Refusal, Rows, Size};
 use multisize::{PLAIN, PROTECTED, REMOVE};
 
 const FILE: &str = "(multi\n(size 3 2 grey)\n(range 2 1)\n\
@@ -24,6 +25,16 @@ fn rows_and_energies() {
     assert_eq!(picture.energies(0), Ok(vec![0, 70, 30]));
     assert_eq!(picture.energies(1), Ok(vec![40, 50, 10]));
     assert_eq!(flat(Size::grey(1, 1)).energies(0), Ok(vec![0]));
+}
+
+#[test]
+fn a_carver_has_the_method_that_it_is_given() {
+    assert_eq!(Carver::new().method(), Method::default());
+    let carver = Carver::by(Method::default().with_energy(Energy::Edge));
+    assert_eq!(carver.method().energy, Energy::Edge);
+    for row in 0..3 {
+        assert_eq!(carver.energies(&worked(), row), worked().energies(row));
+    }
 }
 
 #[test]
@@ -131,7 +142,9 @@ fn the_file_is_built_checked_and_read() {
     assert_eq!(file, FILE.as_bytes());
     let head = carver.check(&file).unwrap();
     assert_eq!((head.size, head.range), (Size::grey(3, 2), Range::full(3)));
+    assert_eq!(head.method, Method::from(Energy::Edge));
     let contents = carver.read(&file).unwrap();
+    assert_eq!(contents.head(), head);
     assert_eq!(contents.picture, worked());
     assert_eq!(contents.map, [1, 0, 2, 1, 0, 2]);
 }

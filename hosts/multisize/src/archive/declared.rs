@@ -1,6 +1,20 @@
 //! The declarations of the archive's functions, as `crates/exports/src` has
 //! them. Each slice there is a pointer and a length here.
 
+/// The size of a picture; kind 0 is grey, 1 is rgb.
+#[repr(C)]
+pub struct HostSize {
+    pub width: usize,
+    pub height: usize,
+    pub kind: u8,
+}
+
+/// The method that seams are found by; energy 0 is the differences at edges.
+#[repr(C)]
+pub struct HostMethod {
+    pub energy: u8,
+}
+
 /// The number of a refusal and value 0, or number 0 and the value.
 #[repr(C)]
 pub struct Answer {
@@ -18,13 +32,12 @@ pub struct Ended {
 }
 
 /// The number of a refusal and 0 in all else, or number 0 and what a file says
-/// of its picture; kind 0 is grey, 1 is rgb.
+/// of its picture.
 #[repr(C)]
 pub struct FileAnswer {
     pub number: u64,
-    pub width: u64,
-    pub height: u64,
-    pub kind: u64,
+    pub size: HostSize,
+    pub method: HostMethod,
     pub depth: u64,
     pub growth: u64,
 }
@@ -34,18 +47,15 @@ pub struct FileAnswer {
 #[repr(C)]
 pub struct SizeAnswer {
     pub number: u64,
-    pub width: u64,
-    pub height: u64,
-    pub kind: u64,
+    pub size: HostSize,
 }
 
 extern "C" {
     pub fn multisize_energies(
         picture: *const u8,
         picture_len: usize,
-        width: usize,
-        height: usize,
-        kind: u8,
+        size: HostSize,
+        method: HostMethod,
         r: usize,
         out: *mut u32,
         out_len: usize,
@@ -54,9 +64,7 @@ extern "C" {
     pub fn multisize_row(
         picture: *const u8,
         picture_len: usize,
-        width: usize,
-        height: usize,
-        kind: u8,
+        size: HostSize,
         r: usize,
         out: *mut u8,
         out_len: usize,
@@ -65,9 +73,8 @@ extern "C" {
     pub fn multisize_find(
         picture: *const u8,
         picture_len: usize,
-        width: usize,
-        height: usize,
-        kind: u8,
+        size: HostSize,
+        method: HostMethod,
         axis: u8,
         seam: *mut u16,
         seam_len: usize,
@@ -78,9 +85,8 @@ extern "C" {
     pub fn multisize_cut(
         picture: *mut u8,
         picture_len: usize,
-        width: usize,
-        height: usize,
-        kind: u8,
+        size: HostSize,
+        method: HostMethod,
         axis: u8,
         seam: *mut u16,
         seam_len: usize,
@@ -93,9 +99,8 @@ extern "C" {
         picture_len: usize,
         marks: *const u8,
         marks_len: usize,
-        width: usize,
-        height: usize,
-        kind: u8,
+        size: HostSize,
+        method: HostMethod,
         axis: u8,
         seam: *mut u16,
         seam_len: usize,
@@ -108,9 +113,8 @@ extern "C" {
         picture_len: usize,
         marks: *mut u8,
         marks_len: usize,
-        width: usize,
-        height: usize,
-        kind: u8,
+        size: HostSize,
+        method: HostMethod,
         axis: u8,
         seam: *mut u16,
         seam_len: usize,
@@ -123,9 +127,8 @@ extern "C" {
         picture_len: usize,
         marks: *mut u8,
         marks_len: usize,
-        width: usize,
-        height: usize,
-        kind: u8,
+        size: HostSize,
+        method: HostMethod,
         budget: u16,
         work: *mut u8,
         work_len: usize,
@@ -134,9 +137,8 @@ extern "C" {
     pub fn multisize_retarget(
         picture: *const u8,
         picture_len: usize,
-        width: usize,
-        height: usize,
-        kind: u8,
+        size: HostSize,
+        method: HostMethod,
         rows: usize,
         columns: usize,
         out: *mut u8,
@@ -148,9 +150,8 @@ extern "C" {
     pub fn multisize_build(
         picture: *const u8,
         picture_len: usize,
-        width: usize,
-        height: usize,
-        kind: u8,
+        size: HostSize,
+        method: HostMethod,
         depth: usize,
         growth: usize,
         out: *mut u8,

@@ -1,34 +1,31 @@
 //! The operations on multi-size files.
 
 use super::declared::{self, FileAnswer, SizeAnswer};
-use super::{judged, kind_number, served, side};
+use super::numbers::{host_method, host_size, kind_number, method_of, size_of};
+use super::{count, judged, served};
 use crate::files::{Head, Range};
+use crate::method::Method;
 use crate::picture::{Kind, Size};
 use crate::refusal::Refusal;
-
-fn size_of(width: u64, height: u64, kind: u64) -> Size {
-    let (width, height) = (side(width), side(height));
-    match kind {
-        0 => Size::grey(width, height),
-        1 => Size::rgb(width, height),
-        other => unreachable!("the archive has no kind {other}"),
-    }
-}
 
 fn head_of(answer: FileAnswer) -> Result<Head, Refusal> {
     judged(answer.number)?;
     let range = Range {
-        depth: side(answer.depth),
-        growth: side(answer.growth),
+        depth: count(answer.depth),
+        growth: count(answer.growth),
     };
-    let size = size_of(answer.width, answer.height, answer.kind);
-    Ok(Head { size, range })
+    Ok(Head {
+        size: size_of(answer.size),
+        method: method_of(answer.method),
+        range,
+    })
 }
 
 /// The picture's file at the front of `out`; gives its length.
 pub fn build(
     picture: &[u8],
     size: Size,
+    method: Method,
     range: Range,
     out: &mut [u8],
     work: &mut [u8],
@@ -39,9 +36,8 @@ pub fn build(
         declared::multisize_build(
             picture.as_ptr(),
             picture.len(),
-            size.width,
-            size.height,
-            kind_number(size.kind),
+            host_size(size),
+            host_method(method),
             range.depth,
             range.growth,
             out.as_mut_ptr(),
@@ -50,7 +46,7 @@ pub fn build(
             work.len(),
         )
     };
-    served(answer).map(side)
+    served(answer).map(count)
 }
 
 /// Checks a file; gives what it says of its picture.
@@ -102,7 +98,7 @@ pub fn show(file: &[u8], wanted: usize, out: &mut [u8], work: &mut [u8]) -> Resu
         )
     };
     judged(answer.number)?;
-    Ok(size_of(answer.width, answer.height, answer.kind))
+    Ok(size_of(answer.size))
 }
 
 /// A row of samples and its row of the map, shown at the wanted width at the
@@ -128,5 +124,5 @@ pub fn row_at(
             out.len(),
         )
     };
-    served(answer).map(side)
+    served(answer).map(count)
 }

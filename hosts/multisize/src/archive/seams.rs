@@ -1,24 +1,19 @@
 //! The operations on a picture.
 
-use super::{declared, judged, kind_number, served};
+use super::numbers::{axis_number, host_method, host_size};
+use super::{declared, judged, served};
+use crate::method::Method;
 use crate::objects::Ending;
 use crate::picture::Size;
 use crate::refusal::Refusal;
 use crate::retargets::{Columns, Rows};
 use crate::seams::Axis;
 
-/// The number by which the archive knows an axis.
-fn axis_number(axis: Axis) -> u8 {
-    match axis {
-        Axis::Vertical => 0,
-        Axis::Horizontal => 1,
-    }
-}
-
 /// The seam at the front of `seam`; gives its cost.
 pub fn find(
     picture: &[u8],
     size: Size,
+    method: Method,
     axis: Axis,
     seam: &mut [u16],
     work: &mut [u8],
@@ -29,9 +24,8 @@ pub fn find(
         declared::multisize_find(
             picture.as_ptr(),
             picture.len(),
-            size.width,
-            size.height,
-            kind_number(size.kind),
+            host_size(size),
+            host_method(method),
             axis_number(axis),
             seam.as_mut_ptr(),
             seam.len(),
@@ -45,6 +39,7 @@ pub fn find(
 pub fn cut(
     picture: &mut [u8],
     size: Size,
+    method: Method,
     axis: Axis,
     seam: &mut [u16],
     work: &mut [u8],
@@ -54,9 +49,8 @@ pub fn cut(
         declared::multisize_cut(
             picture.as_mut_ptr(),
             picture.len(),
-            size.width,
-            size.height,
-            kind_number(size.kind),
+            host_size(size),
+            host_method(method),
             axis_number(axis),
             seam.as_mut_ptr(),
             seam.len(),
@@ -71,6 +65,7 @@ pub fn find_marked(
     picture: &[u8],
     marks: &[u8],
     size: Size,
+    method: Method,
     axis: Axis,
     seam: &mut [u16],
     work: &mut [u8],
@@ -83,9 +78,8 @@ pub fn find_marked(
             picture.len(),
             marks.as_ptr(),
             marks.len(),
-            size.width,
-            size.height,
-            kind_number(size.kind),
+            host_size(size),
+            host_method(method),
             axis_number(axis),
             seam.as_mut_ptr(),
             seam.len(),
@@ -100,6 +94,7 @@ pub fn cut_marked(
     picture: &mut [u8],
     marks: &mut [u8],
     size: Size,
+    method: Method,
     axis: Axis,
     seam: &mut [u16],
     work: &mut [u8],
@@ -111,9 +106,8 @@ pub fn cut_marked(
             picture.len(),
             marks.as_mut_ptr(),
             marks.len(),
-            size.width,
-            size.height,
-            kind_number(size.kind),
+            host_size(size),
+            host_method(method),
             axis_number(axis),
             seam.as_mut_ptr(),
             seam.len(),
@@ -129,6 +123,7 @@ pub fn remove(
     picture: &mut [u8],
     marks: &mut [u8],
     size: Size,
+    method: Method,
     budget: u16,
     work: &mut [u8],
 ) -> Result<Ending, Refusal> {
@@ -140,9 +135,8 @@ pub fn remove(
             picture.len(),
             marks.as_mut_ptr(),
             marks.len(),
-            size.width,
-            size.height,
-            kind_number(size.kind),
+            host_size(size),
+            host_method(method),
             budget,
             work.as_mut_ptr(),
             work.len(),
@@ -164,6 +158,7 @@ pub fn remove(
 pub fn retarget(
     picture: &[u8],
     size: Size,
+    method: Method,
     rows: Rows,
     columns: Columns,
     out: &mut [u8],
@@ -175,9 +170,8 @@ pub fn retarget(
         declared::multisize_retarget(
             picture.as_ptr(),
             picture.len(),
-            size.width,
-            size.height,
-            kind_number(size.kind),
+            host_size(size),
+            host_method(method),
             rows.0,
             columns.0,
             out.as_mut_ptr(),
