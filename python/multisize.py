@@ -11,6 +11,9 @@ Every seam, file and refusal comes from the shared library, whose functions are 
 An operation that can't be served raises Refused, with the number and its meaning. Nothing that is passed is changed: what
 an operation leaves of a picture or of marks is given back.
 
+An operation on a picture finds its seams by the energy that the keyword `energy` names, by default "edge"; a word that
+names none is refused by 1. A file says its own: `check(file).energy`.
+
 The shared library is looked for where MULTISIZE_LIBRARY says, then where ./install puts it beside this module, then where
 the system keeps its libraries.
 """
@@ -28,6 +31,8 @@ LARGEST_COUNT = 64
 VERTICAL = "vertical"
 HORIZONTAL = "horizontal"
 
+EDGE = "edge"
+
 PLAIN = 0
 PROTECTED = 1
 TO_BE_REMOVED = 2
@@ -35,12 +40,13 @@ TO_BE_REMOVED = 2
 # The place of a word in its list is the number by which the library knows it.
 _KINDS = ("grey", "rgb")
 _AXES = (VERTICAL, HORIZONTAL)
+_ENERGIES = (EDGE,)
 _ENDINGS = (None, "done", "narrow", "spent", "blocked")
 _NONE_OF_THEM = 255
 
 _MEANINGS = (
     "served",
-    "the text or the Netpbm header breaks its form, or a word names no kind or no axis",
+    "the text or the Netpbm header breaks its form, or a word names no kind, axis or energy",
     "width or height is 0",
     "width or height is over 512",
     "a buffer's length, or the number of rows, samples or map numbers, isn't what the size says",
@@ -109,13 +115,14 @@ class Retargeted(NamedTuple):
 
 
 class Head(NamedTuple):
-    """Size and range of a file."""
+    """Size and range of a file, and the energy that its seams are found by."""
 
     width: int
     height: int
     kind: str
     depth: int
     growth: int
+    energy: str = EDGE
 
     @property
     def widths(self) -> range:
@@ -143,49 +150,47 @@ class Contents(NamedTuple):
         return Picture(width, self.picture.height, self.picture.kind, b"".join(rows))
 
 
-def energies(picture: Picture, row: int) -> tuple:
-    """The energies of a row: |right neighbour - it| + |lower neighbour - it|, the channels added. In the last column the left
-    neighbour is taken, in the last row the upper one; at width 1 the first is 0, at height 1 the second.
+def energies(picture: Picture, row: int, *, energy: str = EDGE) -> tuple:
+    """The energies of a row. By "edge" they are |right neighbour - it| + |lower neighbour - it|, the channels added. In the
+    last column the left neighbour is taken, in the last row the upper one; at width 1 the first is 0, at height 1 the second.
 
     Refused by 1 to 4, by 4 also where there is no such row.
     """
     out = _Space(ctypes.c_uint32, picture.width if picture.width <= LARGEST_SIDE else 0)
-    _judge(_library.multisize_energies(*_lent(picture), _size(row), *out.lent))
+    _judge(_library.multisize_energies(*_lent(picture), _method(energy), _size(row), *out.lent))
     return tuple(out.front(picture.width))
 
 
-def find(picture: Picture, axis: str = VERTICAL, marks: Optional[bytes] = None) -> Seam:
+def find(picture: Picture, axis: str = VERTICAL, marks: Optional[bytes] = None, *, energy: str = EDGE) -> Seam:
     """The cheapest seam along an axis, the first of equals. By marks: of those that touch no protected pixel the one with the
     most pixels to be removed, then the cheapest.
 
     Refused by 1 to 4; with marks also by 5 and 12.
     """
     seam, work = _seam_space(picture, axis), _work_space(picture)
+    samples, size = _samples_and_size(picture)
+    rest = (size, _method(energy), _number(axis, _AXES), *seam.lent, *work.lent)
     if marks is None:
-        answer = _library.multisize_find(*_lent(picture), _number(axis, _AXES), *seam.lent, *work.lent)
+        answer = _library.multisize_find(*samples.lent, *rest)
     else:
-        samples, *size = _samples_and_size(picture)
-        answer = _library.multisize_find_marked(
-            *samples.lent, *_Space.of(marks).lent, *size, _number(axis, _AXES), *seam.lent, *work.lent
-        )
+        answer = _library.multisize_find_marked(*samples.lent, *_Space.of(marks).lent, *rest)
     _judge(answer.number)
     return Seam(tuple(seam.front(_seam_length(picture, axis))), answer.value)
 
 
-def cut(picture: Picture, axis: str = VERTICAL, marks: Optional[bytes] = None) -> Cut:
+def cut(picture: Picture, axis: str = VERTICAL, marks: Optional[bytes] = None, *, energy: str = EDGE) -> Cut:
     """Cuts out the seam that `find` gives, of the marks too where they are given.
 
     Refused as `find` is, and by 13 at the last column or row.
     """
     seam, work = _seam_space(picture, axis), _work_space(picture)
-    samples, *size = _samples_and_size(picture)
+    samples, size = _samples_and_size(picture)
     marked = None if marks is None else _Space.of(marks)
+    rest = (size, _method(energy), _number(axis, _AXES), *seam.lent, *work.lent)
     if marked is None:
-        answer = _library.multisize_cut(*samples.lent, *size, _number(axis, _AXES), *seam.lent, *work.lent)
+        answer = _library.multisize_cut(*samples.lent, *rest)
     else:
-        answer = _library.multisize_cut_marked(
-            *samples.lent, *marked.lent, *size, _number(axis, _AXES), *seam.lent, *work.lent
-        )
+        answer = _library.multisize_cut_marked(*samples.lent, *marked.lent, *rest)
     _judge(answer.number)
     width, height = picture.width - (axis == VERTICAL), picture.height - (axis == HORIZONTAL)
     places = tuple(seam.front(_seam_length(picture, axis)))
@@ -193,23 +198,23 @@ def cut(picture: Picture, axis: str = VERTICAL, marks: Optional[bytes] = None) -
     return Cut(_front(samples, width, height, picture.kind), left, Seam(places, answer.value))
 
 
-def remove(picture: Picture, marks: bytes, budget: int = 65535) -> Removed:
+def remove(picture: Picture, marks: bytes, budget: int = 65535, *, energy: str = EDGE) -> Removed:
     """Removes what is marked 2 by cutting vertical seams, at most `budget` of them, 0 to 65535.
 
     Refused by 1 to 5.
     """
     if not 0 <= operator.index(budget) <= 65535:
         raise ValueError("the budget is 0 to 65535")
-    samples, *size = _samples_and_size(picture)
+    samples, size = _samples_and_size(picture)
     marked, work = _Space.of(marks), _work_space(picture)
-    answer = _library.multisize_remove(*samples.lent, *marked.lent, *size, budget, *work.lent)
+    answer = _library.multisize_remove(*samples.lent, *marked.lent, size, _method(energy), budget, *work.lent)
     _judge(answer.number)
     width = picture.width - answer.count
     left = _front(samples, width, picture.height, picture.kind)
     return Removed(left, marked.bytes(width * picture.height), _ENDINGS[answer.ending], answer.count)
 
 
-def retarget(picture: Picture, rows: int = 0, columns: int = 0) -> Retargeted:
+def retarget(picture: Picture, rows: int = 0, columns: int = 0, *, energy: str = EDGE) -> Retargeted:
     """Removes rows and columns, each 0 to 64, in the cheapest order that the table of cells finds.
 
     Refused by 1 to 4, and by 7 where a count is over 64 or no row or column would be left.
@@ -218,12 +223,14 @@ def retarget(picture: Picture, rows: int = 0, columns: int = 0) -> Retargeted:
     out = _Space(ctypes.c_uint8, _picture_bytes(width, height, picture.kind))
     whole = _picture_bytes(picture.width, picture.height, picture.kind)
     work = _Space(ctypes.c_uint8, 32 * _pixels(picture.width, picture.height) + 66 * whole)
-    answer = _library.multisize_retarget(*_lent(picture), rows, columns, *out.lent, *work.lent)
+    answer = _library.multisize_retarget(*_lent(picture), _method(energy), rows, columns, *out.lent, *work.lent)
     _judge(answer.number)
     return Retargeted(_front(out, width, height, picture.kind), answer.value)
 
 
-def build(picture: Picture, depth: Optional[int] = None, growth: Optional[int] = None) -> bytes:
+def build(
+    picture: Picture, depth: Optional[int] = None, growth: Optional[int] = None, *, energy: str = EDGE
+) -> bytes:
     """The multi-size file of a picture. The depth is by default the width less 1, the growth the most that is allowed.
 
     Refused by 1 to 4, and by 6 where depth or growth isn't allowed.
@@ -232,13 +239,14 @@ def build(picture: Picture, depth: Optional[int] = None, growth: Optional[int] =
     growth = min(depth, picture.width // 2) if growth is None else _size(growth)
     pixels = _pixels(picture.width, picture.height)
     out = _Space(ctypes.c_uint8, 45 + 12 * picture.height + pixels * (18 if picture.kind == "rgb" else 8) if pixels else 0)
-    answer = _library.multisize_build(*_lent(picture), depth, growth, *out.lent, *_work_space(picture).lent)
+    lent = (*_lent(picture), _method(energy), depth, growth, *out.lent, *_work_space(picture).lent)
+    answer = _library.multisize_build(*lent)
     _judge(answer.number)
     return out.bytes(answer.value)
 
 
 def check(file: bytes) -> Head:
-    """Checks a file, any bytes, and gives its size and range. Accepted are the files that `build` gives, and no others.
+    """Checks a file, any bytes, and gives its head. Accepted are the files that `build` gives, and no others.
 
     Refused by 1 to 4, 6, 9, 10 and 11.
     """
@@ -260,7 +268,7 @@ def show(file: bytes, width: int) -> Picture:
     out = _Space(ctypes.c_uint8, _most_shown(file))
     answer = _library.multisize_show(*_Space.of(file).lent, _size(width), *out.lent, *_file_work(file).lent)
     _judge(answer.number)
-    return _front(out, answer.width, answer.height, _KINDS[answer.kind])
+    return _front(out, answer.size.width, answer.size.height, _KINDS[answer.size.kind])
 
 
 def read_netpbm(data: bytes) -> Picture:
@@ -281,7 +289,7 @@ def read_netpbm(data: bytes) -> Picture:
         raise Refused(1)
     picture = Picture(width, height, kind, bytes(data[at + 1 :]))
     # The library judges size and length. No row fits no space, so where 2 to 4 don't apply the number is 8.
-    number = _library.multisize_energies(*_lent(picture), 0, *_Space(ctypes.c_uint32, 0).lent)
+    number = _library.multisize_energies(*_lent(picture), _method(EDGE), 0, *_Space(ctypes.c_uint32, 0).lent)
     if number != 8:
         _judge(number)
     return picture
@@ -368,12 +376,13 @@ def _picture_bytes(width, height, kind):
 
 
 def _samples_and_size(picture):
-    return _Space.of(picture.samples), _size(picture.width), _size(picture.height), _number(picture.kind, _KINDS)
+    size = _HostSize(_size(picture.width), _size(picture.height), _number(picture.kind, _KINDS))
+    return _Space.of(picture.samples), size
 
 
 def _lent(picture):
-    samples, *size = _samples_and_size(picture)
-    return (*samples.lent, *size)
+    samples, size = _samples_and_size(picture)
+    return (*samples.lent, size)
 
 
 def _seam_length(picture, axis):
@@ -437,6 +446,10 @@ def _number(word, words):
     return words.index(word) if word in words else _NONE_OF_THEM
 
 
+def _method(energy):
+    return _HostMethod(_number(energy, _ENERGIES))
+
+
 def _judge(number):
     if number != 0:
         raise Refused(number)
@@ -444,36 +457,41 @@ def _judge(number):
 
 def _head(answer):
     _judge(answer.number)
-    return Head(answer.width, answer.height, _KINDS[answer.kind], answer.depth, answer.growth)
+    size, energy = answer.size, _ENERGIES[answer.method.energy]
+    return Head(size.width, size.height, _KINDS[size.kind], answer.depth, answer.growth, energy)
 
 
 # The shared library
 
 
-def _answer(name, *fields):
-    return type(name, (ctypes.Structure,), {"_fields_": [(field, ctypes.c_uint64) for field in fields]})
+def _structure(name, **fields):
+    return type(name, (ctypes.Structure,), {"_fields_": list(fields.items())})
 
 
-_Answer = _answer("_Answer", "number", "value")
-_Ended = _answer("_Ended", "number", "ending", "count")
-_FileAnswer = _answer("_FileAnswer", "number", "width", "height", "kind", "depth", "growth")
-_SizeAnswer = _answer("_SizeAnswer", "number", "width", "height", "kind")
+_NUMBER = ctypes.c_uint64
+_HostSize = _structure("_HostSize", width=ctypes.c_size_t, height=ctypes.c_size_t, kind=ctypes.c_uint8)
+_HostMethod = _structure("_HostMethod", energy=ctypes.c_uint8)
+_Answer = _structure("_Answer", number=_NUMBER, value=_NUMBER)
+_Ended = _structure("_Ended", number=_NUMBER, ending=_NUMBER, count=_NUMBER)
+_FileAnswer = _structure(
+    "_FileAnswer", number=_NUMBER, size=_HostSize, method=_HostMethod, depth=_NUMBER, growth=_NUMBER
+)
+_SizeAnswer = _structure("_SizeAnswer", number=_NUMBER, size=_HostSize)
 
 _BYTES = (ctypes.POINTER(ctypes.c_uint8), ctypes.c_size_t)
 _SHORTS = (ctypes.POINTER(ctypes.c_uint16), ctypes.c_size_t)
 _WORDS = (ctypes.POINTER(ctypes.c_uint32), ctypes.c_size_t)
-_SIZE = (ctypes.c_size_t, ctypes.c_size_t, ctypes.c_uint8)
 
 # What each function takes and gives, as include/multisize.h declares it.
 _DECLARED = {
-    "energies": (ctypes.c_uint64, *_BYTES, *_SIZE, ctypes.c_size_t, *_WORDS),
-    "find": (_Answer, *_BYTES, *_SIZE, ctypes.c_uint8, *_SHORTS, *_BYTES),
-    "cut": (_Answer, *_BYTES, *_SIZE, ctypes.c_uint8, *_SHORTS, *_BYTES),
-    "find_marked": (_Answer, *_BYTES, *_BYTES, *_SIZE, ctypes.c_uint8, *_SHORTS, *_BYTES),
-    "cut_marked": (_Answer, *_BYTES, *_BYTES, *_SIZE, ctypes.c_uint8, *_SHORTS, *_BYTES),
-    "remove": (_Ended, *_BYTES, *_BYTES, *_SIZE, ctypes.c_uint16, *_BYTES),
-    "retarget": (_Answer, *_BYTES, *_SIZE, ctypes.c_size_t, ctypes.c_size_t, *_BYTES, *_BYTES),
-    "build": (_Answer, *_BYTES, *_SIZE, ctypes.c_size_t, ctypes.c_size_t, *_BYTES, *_BYTES),
+    "energies": (_NUMBER, *_BYTES, _HostSize, _HostMethod, ctypes.c_size_t, *_WORDS),
+    "find": (_Answer, *_BYTES, _HostSize, _HostMethod, ctypes.c_uint8, *_SHORTS, *_BYTES),
+    "cut": (_Answer, *_BYTES, _HostSize, _HostMethod, ctypes.c_uint8, *_SHORTS, *_BYTES),
+    "find_marked": (_Answer, *_BYTES, *_BYTES, _HostSize, _HostMethod, ctypes.c_uint8, *_SHORTS, *_BYTES),
+    "cut_marked": (_Answer, *_BYTES, *_BYTES, _HostSize, _HostMethod, ctypes.c_uint8, *_SHORTS, *_BYTES),
+    "remove": (_Ended, *_BYTES, *_BYTES, _HostSize, _HostMethod, ctypes.c_uint16, *_BYTES),
+    "retarget": (_Answer, *_BYTES, _HostSize, _HostMethod, ctypes.c_size_t, ctypes.c_size_t, *_BYTES, *_BYTES),
+    "build": (_Answer, *_BYTES, _HostSize, _HostMethod, ctypes.c_size_t, ctypes.c_size_t, *_BYTES, *_BYTES),
     "check": (_FileAnswer, *_BYTES, *_BYTES),
     "read": (_FileAnswer, *_BYTES, *_BYTES, *_SHORTS, *_BYTES),
     "show": (_SizeAnswer, *_BYTES, ctypes.c_size_t, *_BYTES, *_BYTES),

@@ -64,6 +64,21 @@ class Worked(unittest.TestCase):
         self.assertEqual(cut.marks, bytes([0, 1, 0, 0]))
         self.assertEqual(marks, bytes([0, 2, 1, 0, 0, 0]))
 
+    def test_the_energy_may_be_named(self):
+        marks = bytes([0, 2, 1, 0, 0, 0])
+        for function, *words in [
+            (multisize.energies, 0),
+            (multisize.find,),
+            (multisize.find, HORIZONTAL, marks),
+            (multisize.cut,),
+            (multisize.cut, HORIZONTAL, marks),
+            (multisize.remove, marks),
+            (multisize.retarget, 1, 1),
+            (multisize.build,),
+        ]:
+            self.assertEqual(function(WORKED, *words, energy="edge"), function(WORKED, *words))
+        self.assertRaises(TypeError, multisize.energies, WORKED, 0, "edge")
+
     def test_removals_end_in_four_ways(self):
         column = Picture(1, 2, "grey", b"\7\7")
         cases = [
@@ -85,7 +100,8 @@ class Worked(unittest.TestCase):
     def test_the_file_built_checked_and_read(self):
         self.assertEqual(multisize.build(WORKED), FILE)
         head = multisize.check(FILE)
-        self.assertEqual(head, (3, 2, "grey", 2, 1))
+        self.assertEqual(head, (3, 2, "grey", 2, 1, "edge"))
+        self.assertEqual(head.energy, multisize.EDGE)
         self.assertEqual(list(head.widths), [1, 2, 3, 4])
         contents = multisize.read(FILE)
         self.assertEqual((contents.picture, list(contents.map), contents.head), (WORKED, [1, 0, 2, 1, 0, 2], head))
@@ -144,6 +160,12 @@ class Refusals(unittest.TestCase):
     def test_each_number(self):
         self.refused(1, multisize.check, b"")
         self.refused(1, multisize.find, WORKED, "diagonal")
+        self.refused(1, multisize.energies, WORKED, 0, energy="Edge")
+        self.refused(1, multisize.remove, WORKED, bytes(6), energy=None)
+        for function in (multisize.find, multisize.cut, multisize.retarget, multisize.build):
+            self.refused(1, function, WORKED, energy="forward")
+        for function in (multisize.find, multisize.cut):
+            self.refused(1, function, WORKED, marks=bytes(6), energy=0)
         self.refused(4, multisize.energies, WORKED, 2)
         self.refused(4, multisize.find, WORKED, marks=bytes(5))
         self.refused(5, multisize.remove, WORKED, bytes([0, 0, 0, 0, 0, 3]))
