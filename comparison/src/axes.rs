@@ -42,7 +42,7 @@ impl fmt::Display for NamedAxis {
 /// The axis that the call names. A fault is an unknown one.
 pub fn named_axis(random: &mut Random, axis: Axis, faults: Faults) -> NamedAxis {
     if faults.strike(random, 12) {
-        NamedAxis(unknown_number(random))
+        NamedAxis(unknown_number(random, 2))
     } else {
         NamedAxis::of(axis)
     }

@@ -14,6 +14,7 @@ pub use removal::{remove, Ended};
 pub use retarget::retarget;
 
 use crate::axes::NamedAxis;
+use crate::methods::NamedMethod;
 use crate::pictures::NamedSize;
 use std::fmt;
 
@@ -45,9 +46,8 @@ extern "C" {
     fn multisize_energies(
         picture: *const u8,
         picture_len: usize,
-        width: usize,
-        height: usize,
-        kind: u8,
+        size: NamedSize,
+        method: NamedMethod,
         r: usize,
         out: *mut u32,
         out_len: usize,
@@ -56,9 +56,7 @@ extern "C" {
     fn multisize_row(
         picture: *const u8,
         picture_len: usize,
-        width: usize,
-        height: usize,
-        kind: u8,
+        size: NamedSize,
         r: usize,
         out: *mut u8,
         out_len: usize,
@@ -67,9 +65,8 @@ extern "C" {
     fn multisize_find(
         picture: *const u8,
         picture_len: usize,
-        width: usize,
-        height: usize,
-        kind: u8,
+        size: NamedSize,
+        method: NamedMethod,
         axis: u8,
         seam: *mut u16,
         seam_len: usize,
@@ -80,9 +77,8 @@ extern "C" {
     fn multisize_cut(
         picture: *mut u8,
         picture_len: usize,
-        width: usize,
-        height: usize,
-        kind: u8,
+        size: NamedSize,
+        method: NamedMethod,
         axis: u8,
         seam: *mut u16,
         seam_len: usize,
@@ -95,9 +91,8 @@ extern "C" {
         picture_len: usize,
         marks: *const u8,
         marks_len: usize,
-        width: usize,
-        height: usize,
-        kind: u8,
+        size: NamedSize,
+        method: NamedMethod,
         axis: u8,
         seam: *mut u16,
         seam_len: usize,
@@ -110,9 +105,8 @@ extern "C" {
         picture_len: usize,
         marks: *mut u8,
         marks_len: usize,
-        width: usize,
-        height: usize,
-        kind: u8,
+        size: NamedSize,
+        method: NamedMethod,
         axis: u8,
         seam: *mut u16,
         seam_len: usize,
@@ -122,15 +116,20 @@ extern "C" {
 }
 
 /// The energies of a row at the front of `out`; gives 0 or a refusal's number.
-pub fn energies(picture: &mut [u8], size: NamedSize, row: usize, out: &mut [u32]) -> u64 {
+pub fn energies(
+    picture: &mut [u8],
+    size: NamedSize,
+    method: NamedMethod,
+    row: usize,
+    out: &mut [u32],
+) -> u64 {
     // Both pointers come with the lengths of their slices, which don't overlap.
     unsafe {
         multisize_energies(
             picture.as_mut_ptr(),
             picture.len(),
-            size.width,
-            size.height,
-            size.kind,
+            size,
+            method,
             row,
             out.as_mut_ptr(),
             out.len(),
@@ -145,9 +144,7 @@ pub fn row(picture: &mut [u8], size: NamedSize, row: usize, out: &mut [u8]) -> A
         multisize_row(
             picture.as_mut_ptr(),
             picture.len(),
-            size.width,
-            size.height,
-            size.kind,
+            size,
             row,
             out.as_mut_ptr(),
             out.len(),
@@ -159,6 +156,7 @@ pub fn row(picture: &mut [u8], size: NamedSize, row: usize, out: &mut [u8]) -> A
 pub fn find(
     picture: &mut [u8],
     size: NamedSize,
+    method: NamedMethod,
     axis: NamedAxis,
     seam: &mut [u16],
     work: &mut [u8],
@@ -168,9 +166,8 @@ pub fn find(
         multisize_find(
             picture.as_mut_ptr(),
             picture.len(),
-            size.width,
-            size.height,
-            size.kind,
+            size,
+            method,
             axis.0,
             seam.as_mut_ptr(),
             seam.len(),
@@ -184,6 +181,7 @@ pub fn find(
 pub fn cut(
     picture: &mut [u8],
     size: NamedSize,
+    method: NamedMethod,
     axis: NamedAxis,
     seam: &mut [u16],
     work: &mut [u8],
@@ -193,9 +191,8 @@ pub fn cut(
         multisize_cut(
             picture.as_mut_ptr(),
             picture.len(),
-            size.width,
-            size.height,
-            size.kind,
+            size,
+            method,
             axis.0,
             seam.as_mut_ptr(),
             seam.len(),
@@ -210,6 +207,7 @@ pub fn find_marked(
     picture: &mut [u8],
     marks: &mut [u8],
     size: NamedSize,
+    method: NamedMethod,
     axis: NamedAxis,
     seam: &mut [u16],
     work: &mut [u8],
@@ -221,9 +219,8 @@ pub fn find_marked(
             picture.len(),
             marks.as_mut_ptr(),
             marks.len(),
-            size.width,
-            size.height,
-            size.kind,
+            size,
+            method,
             axis.0,
             seam.as_mut_ptr(),
             seam.len(),
@@ -238,6 +235,7 @@ pub fn cut_marked(
     picture: &mut [u8],
     marks: &mut [u8],
     size: NamedSize,
+    method: NamedMethod,
     axis: NamedAxis,
     seam: &mut [u16],
     work: &mut [u8],
@@ -249,9 +247,8 @@ pub fn cut_marked(
             picture.len(),
             marks.as_mut_ptr(),
             marks.len(),
-            size.width,
-            size.height,
-            size.kind,
+            size,
+            method,
             axis.0,
             seam.as_mut_ptr(),
             seam.len(),
@@ -270,16 +267,19 @@ mod tests {
         height: 2,
         kind: 0,
     };
+    const USUAL: NamedMethod = NamedMethod::USUAL;
+    const UNKNOWN: NamedMethod = NamedMethod { energy: 1 };
 
     #[test]
     fn energies_of_the_worked_picture() {
         let mut picture = [10, 10, 40, 10, 50, 40];
         let mut out = [9; 4];
-        assert_eq!(energies(&mut picture, SIZE, 0, &mut out), 0);
+        assert_eq!(energies(&mut picture, SIZE, USUAL, 0, &mut out), 0);
         assert_eq!(out, [0, 70, 30, 9]);
-        assert_eq!(energies(&mut picture, SIZE, 1, &mut out), 0);
+        assert_eq!(energies(&mut picture, SIZE, USUAL, 1, &mut out), 0);
         assert_eq!(out, [40, 50, 10, 9]);
-        assert_eq!(energies(&mut picture, SIZE, 2, &mut out), 4);
+        assert_eq!(energies(&mut picture, SIZE, USUAL, 2, &mut out), 4);
+        assert_eq!(energies(&mut picture, SIZE, UNKNOWN, 2, &mut out), 1);
     }
 
     #[test]
@@ -298,14 +298,15 @@ mod tests {
         let mut picture = [10, 10, 40, 10, 50, 40];
         let (mut seam, mut work) = ([9; 3], [9; 200]);
         let axis = NamedAxis(0);
-        let answer = find(&mut picture, SIZE, axis, &mut seam, &mut work);
+        let answer = find(&mut picture, SIZE, USUAL, axis, &mut seam, &mut work);
         assert_eq!(answer, Answer::served(40));
         assert_eq!((seam, work), ([0, 0, 9], [0; 200]));
-        let answer = cut(&mut picture, SIZE, axis, &mut seam, &mut work);
+        let answer = cut(&mut picture, SIZE, USUAL, axis, &mut seam, &mut work);
         assert_eq!(answer, Answer::served(40));
         assert_eq!(picture, [10, 40, 50, 40, 0, 0]);
-        let answer = cut(&mut picture, SIZE, axis, &mut seam[..1], &mut work);
-        assert_eq!(answer, Answer::refused(8));
+        let mut call = |method| cut(&mut picture, SIZE, method, axis, &mut seam[..1], &mut work);
+        assert_eq!(call(USUAL), Answer::refused(8));
+        assert_eq!(call(UNKNOWN), Answer::refused(1));
     }
 
     #[test]
@@ -314,10 +315,26 @@ mod tests {
         let mut marks = [0, 2, 1, 0, 0, 0];
         let (mut seam, mut work) = ([9; 3], [9; 200]);
         let axis = NamedAxis(0);
-        let answer = find_marked(&mut picture, &mut marks, SIZE, axis, &mut seam, &mut work);
+        let answer = find_marked(
+            &mut picture,
+            &mut marks,
+            SIZE,
+            USUAL,
+            axis,
+            &mut seam,
+            &mut work,
+        );
         assert_eq!(answer, Answer::served(70 + 10));
         assert_eq!((seam, work), ([1, 2, 9], [0; 200]));
-        let answer = cut_marked(&mut picture, &mut marks, SIZE, axis, &mut seam, &mut work);
+        let answer = cut_marked(
+            &mut picture,
+            &mut marks,
+            SIZE,
+            USUAL,
+            axis,
+            &mut seam,
+            &mut work,
+        );
         assert_eq!(answer, Answer::served(70 + 10));
         assert_eq!(picture, [10, 40, 10, 50, 0, 0]);
         assert_eq!(marks, [0, 1, 0, 0, 0, 0]);
@@ -325,6 +342,7 @@ mod tests {
             &mut picture,
             &mut marks[..5],
             SIZE,
+            USUAL,
             axis,
             &mut seam,
             &mut work,

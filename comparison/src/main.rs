@@ -14,6 +14,7 @@ mod lengths;
 mod library;
 mod limits;
 mod marks;
+mod methods;
 #[cfg(test)]
 mod neighbours;
 mod netpbm;

@@ -2,6 +2,7 @@
 
 use crate::contents::samples;
 use crate::faults::Faults;
+use crate::methods::NamedMethod;
 use crate::random::Random;
 use crate::spaces::Lent;
 use reference::{Kind, Size};
@@ -19,8 +20,10 @@ const LARGEST: [(usize, usize); 3] = [(512, 1), (1, 512), (512, 512)];
 /// The longest buffer that is made for a size that isn't allowed.
 const LONGEST: usize = 1 << 20;
 
-/// The size as a call names it: any numbers; kind 0 is grey, 1 is rgb.
-#[derive(Clone, Copy, PartialEq, Eq)]
+/// The size as a call names it, and as the archive takes it: any numbers; kind 0
+/// is grey, 1 is rgb.
+#[repr(C)]
+#[derive(Clone, Copy, Debug, PartialEq, Eq)]
 pub struct NamedSize {
     pub width: usize,
     pub height: usize,
@@ -28,6 +31,13 @@ pub struct NamedSize {
 }
 
 impl NamedSize {
+    /// What a refused answer has for a size.
+    pub const NONE: NamedSize = NamedSize {
+        width: 0,
+        height: 0,
+        kind: 0,
+    };
+
     pub fn of(size: Size) -> NamedSize {
         NamedSize {
             width: size.width,
@@ -51,6 +61,12 @@ impl NamedSize {
             height: self.height,
             kind,
         })
+    }
+
+    /// The same for a call by a method, and none where that is unknown: the
+    /// reference has one method alone.
+    pub fn known_by(self, method: NamedMethod) -> Option<Size> {
+        self.known().filter(|_| method.is_known())
     }
 }
 
@@ -148,15 +164,16 @@ pub fn named_size(random: &mut Random, size: Size, faults: Faults) -> NamedSize 
         named.height = damaged_side(random, size.height);
     }
     if faults.strike(random, 12) {
-        named.kind = unknown_number(random);
+        named.kind = unknown_number(random, 2);
     }
     named
 }
 
-/// A number that names no kind and no axis.
-pub fn unknown_number(random: &mut Random) -> u8 {
-    let any = random.between(2, 255) as u8;
-    random.pick(&[2, 255, any])
+/// A number that names nothing, where so many numbers from 0 on do: there are 2
+/// kinds, 2 axes and 1 energy.
+pub fn unknown_number(random: &mut Random, known: u8) -> u8 {
+    let any = random.between(usize::from(known), 255) as u8;
+    random.pick(&[known, 255, any])
 }
 
 /// 0, just over the largest side, a number whose products wrap around, or one

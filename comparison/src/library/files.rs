@@ -1,19 +1,19 @@
 //! The operations on multi-size files.
 
 use super::Answer;
+use crate::methods::NamedMethod;
 use crate::pictures::NamedSize;
 use crate::ranges::Range;
 use std::fmt;
 
 /// The number of a refusal and 0 in all else, or number 0 and what the file
-/// says of its picture; kind 0 is grey, 1 is rgb.
+/// says of its picture.
 #[repr(C)]
 #[derive(Clone, Copy, Debug, PartialEq, Eq)]
 pub struct FileAnswer {
     pub number: u64,
-    pub width: u64,
-    pub height: u64,
-    pub kind: u64,
+    pub size: NamedSize,
+    pub method: NamedMethod,
     pub depth: u64,
     pub growth: u64,
 }
@@ -22,9 +22,8 @@ impl FileAnswer {
     pub fn refused(number: u64) -> FileAnswer {
         FileAnswer {
             number,
-            width: 0,
-            height: 0,
-            kind: 0,
+            size: NamedSize::NONE,
+            method: NamedMethod { energy: 0 },
             depth: 0,
             growth: 0,
         }
@@ -33,9 +32,8 @@ impl FileAnswer {
     pub fn served(size: NamedSize, range: Range) -> FileAnswer {
         FileAnswer {
             number: 0,
-            width: size.width as u64,
-            height: size.height as u64,
-            kind: u64::from(size.kind),
+            size,
+            method: NamedMethod::USUAL,
             depth: range.depth as u64,
             growth: range.growth as u64,
         }
@@ -44,10 +42,9 @@ impl FileAnswer {
 
 impl fmt::Display for FileAnswer {
     fn fmt(&self, f: &mut fmt::Formatter) -> fmt::Result {
-        let FileAnswer { number, width, .. } = self;
-        write!(f, "number {number}, {width} by {}", self.height)?;
-        write!(f, ", kind {}, depth {}", self.kind, self.depth)?;
-        write!(f, ", growth {}", self.growth)
+        let FileAnswer { depth, growth, .. } = self;
+        write!(f, "number {}, {}, {}", self.number, self.size, self.method)?;
+        write!(f, ", depth {depth}, growth {growth}")
     }
 }
 
@@ -57,36 +54,25 @@ impl fmt::Display for FileAnswer {
 #[derive(Clone, Copy, Debug, PartialEq, Eq)]
 pub struct SizeAnswer {
     pub number: u64,
-    pub width: u64,
-    pub height: u64,
-    pub kind: u64,
+    pub size: NamedSize,
 }
 
 impl SizeAnswer {
     pub fn refused(number: u64) -> SizeAnswer {
         SizeAnswer {
             number,
-            width: 0,
-            height: 0,
-            kind: 0,
+            size: NamedSize::NONE,
         }
     }
 
     pub fn served(size: NamedSize) -> SizeAnswer {
-        SizeAnswer {
-            number: 0,
-            width: size.width as u64,
-            height: size.height as u64,
-            kind: u64::from(size.kind),
-        }
+        SizeAnswer { number: 0, size }
     }
 }
 
 impl fmt::Display for SizeAnswer {
     fn fmt(&self, f: &mut fmt::Formatter) -> fmt::Result {
-        let SizeAnswer { number, width, .. } = self;
-        write!(f, "number {number}, {width} by {}", self.height)?;
-        write!(f, ", kind {}", self.kind)
+        write!(f, "number {}, {}", self.number, self.size)
     }
 }
 
@@ -94,9 +80,8 @@ extern "C" {
     fn multisize_build(
         picture: *const u8,
         picture_len: usize,
-        width: usize,
-        height: usize,
-        kind: u8,
+        size: NamedSize,
+        method: NamedMethod,
         depth: usize,
         growth: usize,
         out: *mut u8,
@@ -149,6 +134,7 @@ extern "C" {
 pub fn build(
     picture: &mut [u8],
     size: NamedSize,
+    method: NamedMethod,
     range: Range,
     out: &mut [u8],
     work: &mut [u8],
@@ -158,9 +144,8 @@ pub fn build(
         multisize_build(
             picture.as_mut_ptr(),
             picture.len(),
-            size.width,
-            size.height,
-            size.kind,
+            size,
+            method,
             range.depth,
             range.growth,
             out.as_mut_ptr(),
@@ -252,13 +237,15 @@ mod tests {
     fn file_of_the_worked_picture() {
         let mut picture = [10, 10, 40, 10, 50, 40];
         let (mut out, mut work) = ([9; 100], [9; 200]);
-        let answer = build(&mut picture, SIZE, RANGE, &mut out, &mut work);
+        let usual = NamedMethod::USUAL;
+        let answer = build(&mut picture, SIZE, usual, RANGE, &mut out, &mut work);
         assert_eq!(answer, Answer::served(FILE.len() as u64));
         assert_eq!((&out[..FILE.len()], out[FILE.len()]), (FILE, 9));
         assert_eq!(work, [0; 200]);
         let deeper = Range { depth: 3, ..RANGE };
-        let answer = build(&mut picture, SIZE, deeper, &mut out, &mut work);
-        assert_eq!(answer, Answer::refused(6));
+        let mut call = |method| build(&mut picture, SIZE, method, deeper, &mut out, &mut work);
+        assert_eq!(call(usual), Answer::refused(6));
+        assert_eq!(call(NamedMethod { energy: 1 }), Answer::refused(1));
     }
 
     #[test]

@@ -1,5 +1,6 @@
 //! Object removal.
 
+use crate::methods::NamedMethod;
 use crate::pictures::NamedSize;
 use std::fmt;
 
@@ -49,9 +50,8 @@ extern "C" {
         picture_len: usize,
         marks: *mut u8,
         marks_len: usize,
-        width: usize,
-        height: usize,
-        kind: u8,
+        size: NamedSize,
+        method: NamedMethod,
         budget: u16,
         work: *mut u8,
         work_len: usize,
@@ -64,6 +64,7 @@ pub fn remove(
     picture: &mut [u8],
     marks: &mut [u8],
     size: NamedSize,
+    method: NamedMethod,
     budget: u16,
     work: &mut [u8],
 ) -> Ended {
@@ -74,9 +75,8 @@ pub fn remove(
             picture.len(),
             marks.as_mut_ptr(),
             marks.len(),
-            size.width,
-            size.height,
-            size.kind,
+            size,
+            method,
             budget,
             work.as_mut_ptr(),
             work.len(),
@@ -93,30 +93,32 @@ mod tests {
         height: 2,
         kind: 0,
     };
+    const USUAL: NamedMethod = NamedMethod::USUAL;
 
     #[test]
     fn removal_from_the_worked_picture() {
         let mut picture = [10, 10, 40, 10, 50, 40];
         let mut marks = [0, 2, 1, 0, 0, 0];
         let mut work = [9; 200];
-        let ended = remove(&mut picture, &mut marks, SIZE, 0, &mut work);
+        let ended = remove(&mut picture, &mut marks, SIZE, USUAL, 0, &mut work);
         assert_eq!((ended, work), (Ended::served(3, 0), [0; 200]));
-        let ended = remove(&mut picture, &mut marks, SIZE, 65535, &mut work);
+        let ended = remove(&mut picture, &mut marks, SIZE, USUAL, 65535, &mut work);
         assert_eq!(ended, Ended::served(1, 1));
         assert_eq!(picture, [10, 40, 10, 50, 0, 0]);
         assert_eq!(marks, [0, 1, 0, 0, 0, 0]);
-        let ended = remove(&mut picture, &mut marks[..5], SIZE, 1, &mut work);
-        assert_eq!(ended, Ended::refused(4));
+        let mut call = |method| remove(&mut picture, &mut marks[..5], SIZE, method, 1, &mut work);
+        assert_eq!(call(USUAL), Ended::refused(4));
+        assert_eq!(call(NamedMethod { energy: 1 }), Ended::refused(1));
     }
 
     #[test]
     fn removal_from_a_column_and_behind_a_wall() {
         let mut work = [9; 200];
         let column = NamedSize { width: 1, ..SIZE };
-        let ended = remove(&mut [10, 20], &mut [0, 2], column, 0, &mut work);
+        let ended = remove(&mut [10, 20], &mut [0, 2], column, USUAL, 0, &mut work);
         assert_eq!(ended, Ended::served(2, 0));
         let mut marks = [2, 0, 2, 1, 1, 1];
-        let ended = remove(&mut [0; 6], &mut marks, SIZE, 7, &mut work);
+        let ended = remove(&mut [0; 6], &mut marks, SIZE, USUAL, 7, &mut work);
         assert_eq!(ended, Ended::served(4, 0));
     }
 }

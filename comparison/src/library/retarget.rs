@@ -1,6 +1,7 @@
 //! Retargeting.
 
 use super::Answer;
+use crate::methods::NamedMethod;
 use crate::pictures::NamedSize;
 use reference::{Columns, Rows};
 
@@ -8,9 +9,8 @@ extern "C" {
     fn multisize_retarget(
         picture: *const u8,
         picture_len: usize,
-        width: usize,
-        height: usize,
-        kind: u8,
+        size: NamedSize,
+        method: NamedMethod,
         rows: usize,
         columns: usize,
         out: *mut u8,
@@ -25,6 +25,7 @@ extern "C" {
 pub fn retarget(
     picture: &mut [u8],
     size: NamedSize,
+    method: NamedMethod,
     rows: Rows,
     columns: Columns,
     out: &mut [u8],
@@ -35,9 +36,8 @@ pub fn retarget(
         multisize_retarget(
             picture.as_mut_ptr(),
             picture.len(),
-            size.width,
-            size.height,
-            size.kind,
+            size,
+            method,
             rows.0,
             columns.0,
             out.as_mut_ptr(),
@@ -52,24 +52,31 @@ pub fn retarget(
 mod tests {
     use super::*;
 
+    const SIZE: NamedSize = NamedSize {
+        width: 3,
+        height: 2,
+        kind: 0,
+    };
+    const USUAL: NamedMethod = NamedMethod::USUAL;
+
+    /// What is answered of the worked picture, and the output space and the work
+    /// space after it.
+    fn given(method: NamedMethod, rows: usize, columns: usize) -> (Answer, [u8; 5], [u8; 600]) {
+        let (mut picture, rows, columns) = ([10, 10, 40, 10, 50, 40], Rows(rows), Columns(columns));
+        let (mut out, mut work) = ([9; 5], [9; 600]);
+        let (left, space) = (&mut out, &mut work);
+        let answer = retarget(&mut picture, SIZE, method, rows, columns, left, space);
+        (answer, out, work)
+    }
+
     #[test]
     fn retargets_of_the_worked_picture() {
-        let mut picture = [10, 10, 40, 10, 50, 40];
-        let size = NamedSize {
-            width: 3,
-            height: 2,
-            kind: 0,
-        };
-        let (mut out, mut work) = ([9; 5], [9; 600]);
-        let mut call =
-            |rows, columns| retarget(&mut picture, size, rows, columns, &mut out, &mut work);
-        assert_eq!(call(Rows(2), Columns(0)), Answer::refused(7));
-        assert_eq!(call(Rows(0), Columns(0)), Answer::refused(8));
-        assert_eq!(call(Rows(0), Columns(2)), Answer::served(40 + 40));
-        assert_eq!((out, work), ([10, 50, 9, 9, 9], [0; 600]));
-        let mut call =
-            |rows, columns| retarget(&mut picture, size, rows, columns, &mut out, &mut work);
-        assert_eq!(call(Rows(1), Columns(1)), Answer::served(60));
-        assert_eq!(out, [10, 40, 9, 9, 9]);
+        let served = |total, out| (Answer::served(total), out, [0; 600]);
+        assert_eq!(given(USUAL, 0, 2), served(40 + 40, [10, 50, 9, 9, 9]));
+        assert_eq!(given(USUAL, 1, 1), served(60, [10, 40, 9, 9, 9]));
+        let refused = |number| (Answer::refused(number), [9; 5], [9; 600]);
+        assert_eq!(given(USUAL, 2, 0), refused(7));
+        assert_eq!(given(USUAL, 0, 0), refused(8));
+        assert_eq!(given(NamedMethod { energy: 1 }, 2, 0), refused(1));
     }
 }

@@ -5,6 +5,7 @@ use super::work_bytes;
 use crate::difference::Difference;
 use crate::faults::Faults;
 use crate::library::{self, Answer};
+use crate::methods::{named_method, NamedMethod};
 use crate::pictures::{self, row_bytes, NamedSize};
 use crate::random::Random;
 use crate::ranges::{self, Range};
@@ -21,6 +22,7 @@ const MOST: usize = 800_000;
 /// What building is given.
 pub struct Case {
     size: NamedSize,
+    method: NamedMethod,
     pub range: Range,
     buffers: Buffers,
 }
@@ -39,8 +41,8 @@ pub fn compare(random: &mut Random, turn: u64) -> Result<u64, Difference> {
 }
 
 fn by_reference(case: &Case, buffers: &mut Buffers) -> Answer {
-    // The reference has no unknown kind, which is refused by 1.
-    let Some(size) = case.size.known() else {
+    // The reference has no unknown kind or method, which is refused by 1.
+    let Some(size) = case.size.known_by(case.method) else {
         return Answer::refused(1);
     };
     let Range { depth, growth } = case.range;
@@ -56,6 +58,7 @@ pub fn by_library(case: &Case, buffers: &mut Buffers) -> Answer {
     library::build(
         buffers.picture.part_mut(),
         case.size,
+        case.method,
         case.range,
         buffers.out.part_mut(),
         buffers.work.part_mut(),
@@ -97,6 +100,7 @@ impl Case {
         };
         Case {
             size: named,
+            method: named_method(random, faults),
             range: ranges::named(random, range, size.width, faults),
             buffers: Buffers {
                 picture,
@@ -117,6 +121,7 @@ impl Compared<Answer> for Case {
     fn difference(&self, sides: Sides<Answer, Buffers>) -> Difference {
         let mut difference = Difference::new();
         difference.value("size", self.size);
+        difference.value("method", self.method);
         difference.value("range", self.range);
         sides.answers(&mut difference);
         let row_bytes = self.size.known().map_or(0, row_bytes);
@@ -150,7 +155,7 @@ mod tests {
         let mut seen = [[0; 3]; 2];
         for turn in 2..4 * ROUND {
             let case = Case::of_turn(&mut Random::of_case(1, turn), turn);
-            let Some(size) = case.size.known() else {
+            let Some(size) = case.size.known_by(case.method) else {
                 continue;
             };
             let Answer { number, value } = case.outcome(by_reference).answer;

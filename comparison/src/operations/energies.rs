@@ -12,9 +12,10 @@ pub fn compare(random: &mut Random, turn: u64) -> Result<u64, Difference> {
     case.verdict(&reference, &library)
 }
 
-/// An unknown kind is refused by 1; the reference has no such kind.
+/// An unknown kind or method is refused by 1; the reference has no such kind or
+/// method.
 fn by_reference(case: &Case<u32>, picture: &[u8], out: &mut [u32]) -> Answer {
-    let Some(size) = case.size.known() else {
+    let Some(size) = case.size.known_by(case.method) else {
         return Answer::refused(1);
     };
     match reference::energies(picture, size, case.row, out) {
@@ -25,6 +26,6 @@ fn by_reference(case: &Case<u32>, picture: &[u8], out: &mut [u32]) -> Answer {
 
 fn by_library(case: &Case<u32>, picture: &mut [u8], out: &mut [u32]) -> Answer {
     // This operation answers by a number alone.
-    let number = library::energies(picture, case.size, case.row, out);
+    let number = library::energies(picture, case.size, case.method, case.row, out);
     Answer { number, value: 0 }
 }

@@ -26,6 +26,7 @@ pub fn by_library(case: &Case, parts: Parts) -> Answer {
         parts.picture,
         parts.marks,
         case.size,
+        case.method,
         case.axis,
         parts.seam,
         parts.work,

@@ -268,9 +268,10 @@ mod tests {
     #[test]
     fn every_altered_part_is_noticed() {
         assert!(noticed(|outcome| outcome.answer.number = 8));
-        assert!(noticed(|outcome| outcome.answer.width = 1));
-        assert!(noticed(|outcome| outcome.answer.height = 1));
-        assert!(noticed(|outcome| outcome.answer.kind = 1));
+        assert!(noticed(|outcome| outcome.answer.size.width = 1));
+        assert!(noticed(|outcome| outcome.answer.size.height = 1));
+        assert!(noticed(|outcome| outcome.answer.size.kind = 1));
+        assert!(noticed(|outcome| outcome.answer.method.energy = 1));
         assert!(noticed(|outcome| outcome.answer.depth = 1));
         assert!(noticed(|outcome| outcome.answer.growth = 1));
         assert!(noticed(|outcome| flip_last(&mut outcome.buffers.file)));

@@ -3,6 +3,7 @@
 use crate::difference::{Difference, Forms};
 use crate::faults::Faults;
 use crate::library::Answer;
+use crate::methods::{named_method, NamedMethod};
 use crate::pictures::{self, row_bytes, NamedSize};
 use crate::random::Random;
 use crate::spaces::{space, Lent, Place};
@@ -11,9 +12,10 @@ use reference::Size;
 /// One round in so many has the largest pictures.
 const RARITY: u64 = 4;
 
-/// What an operation on one row is given.
+/// What an operation on one row is given. The method is for its energies alone.
 pub struct Case<T> {
     pub size: NamedSize,
+    pub method: NamedMethod,
     pub picture: Lent<u8>,
     pub row: usize,
     pub out: Lent<T>,
@@ -38,6 +40,7 @@ impl<T: Place> Case<T> {
         let named = pictures::named_size(random, size, faults);
         Case {
             size: named,
+            method: named_method(random, faults),
             picture: pictures::picture(random, size, named, faults),
             row: pictures::row_number(random, size.height, faults),
             out: space(random, needed, faults),
@@ -69,6 +72,7 @@ impl<T: Place> Case<T> {
         let sides = [("reference", reference), ("library", library)];
         let mut difference = Difference::new();
         difference.value("size", self.size);
+        difference.value("method", self.method);
         difference.value("row number", self.row);
         for (side, outcome) in sides {
             difference.value(&format!("answer of the {side}"), outcome.answer);
@@ -93,8 +97,8 @@ mod tests {
     use super::*;
     use crate::pictures::{byte_count, ROUND};
 
-    /// How many of 2, 3, 4, 8 and an unknown kind would refuse the case if
-    /// each was judged alone.
+    /// How many of 2, 3, 4, 8 and an unknown kind or method would refuse the case
+    /// if each was judged alone.
     fn faults(case: &Case<u32>, width: usize) -> usize {
         let NamedSize {
             width: m,
@@ -104,7 +108,7 @@ mod tests {
         let allowed = (1..=512).contains(&m) && (1..=512).contains(&n);
         let length = |size| byte_count(size) == case.picture.part().len();
         let faults = [
-            case.size.known().is_none(),
+            case.size.known_by(case.method).is_none(),
             m == 0 || n == 0,
             m > 512 || n > 512,
             case.row >= n || !(allowed && case.size.known().is_some_and(length)),

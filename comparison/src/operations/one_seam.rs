@@ -7,6 +7,7 @@ use crate::difference::Difference;
 use crate::faults::Faults;
 use crate::library::Answer;
 use crate::marks;
+use crate::methods::{named_method, NamedMethod};
 use crate::pictures::{self, row_bytes, NamedSize};
 use crate::random::Random;
 use crate::spaces::{space, Lent};
@@ -18,6 +19,7 @@ const RARITY: u64 = 4;
 /// What finding or cutting one seam is given.
 pub struct Case {
     pub size: NamedSize,
+    pub method: NamedMethod,
     pub axis: NamedAxis,
     pub buffers: Buffers,
 }
@@ -59,6 +61,7 @@ impl Case {
         let named = pictures::named_size(random, size, faults);
         Case {
             size: named,
+            method: named_method(random, faults),
             axis: named_axis(random, axis, faults),
             buffers: Buffers {
                 picture: pictures::picture(random, size, named, faults),
@@ -94,10 +97,11 @@ impl Case {
         })
     }
 
-    /// What the reference answers by this call. An unknown kind or axis is
-    /// refused by 1; the reference has no such kind or axis.
+    /// What the reference answers by this call. An unknown kind, method or axis is
+    /// refused by 1; the reference has no such kind, method or axis.
     pub fn known_answer(&self, call: impl FnOnce(Size, Axis) -> Result<u64, Refusal>) -> Answer {
-        let (Some(size), Some(axis)) = (self.size.known(), self.axis.known()) else {
+        let known = (self.size.known_by(self.method), self.axis.known());
+        let (Some(size), Some(axis)) = known else {
             return Answer::refused(1);
         };
         match call(size, axis) {
@@ -117,6 +121,7 @@ impl Compared<Answer> for Case {
     fn difference(&self, sides: Sides<Answer, Buffers>) -> Difference {
         let mut difference = Difference::new();
         difference.value("size", self.size);
+        difference.value("method", self.method);
         difference.value("axis", self.axis);
         sides.answers(&mut difference);
         let row_bytes = self.size.known().map_or(0, row_bytes);
@@ -173,7 +178,7 @@ mod tests {
         let short_seam = case.buffers.seam.part().len() < seam_length(start, axis);
         let short_work = case.buffers.work.part().len() < 32 * pixels;
         [
-            case.size.known().is_none() || case.axis.known().is_none(),
+            case.size.known_by(case.method).is_none() || case.axis.known().is_none(),
             m == 0 || n == 0,
             m > 512 || n > 512,
             !(allowed && every_mark && case.size.known().is_some_and(length)),

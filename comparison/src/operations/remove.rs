@@ -6,6 +6,7 @@ use crate::difference::Difference;
 use crate::faults::Faults;
 use crate::library::{self, Ended};
 use crate::marks;
+use crate::methods::{named_method, NamedMethod};
 use crate::pictures::{self, row_bytes, NamedSize};
 use crate::random::Random;
 use crate::spaces::{space, Lent};
@@ -20,6 +21,7 @@ const MOST: usize = 400_000;
 /// What object removal is given.
 pub struct Case {
     size: NamedSize,
+    method: NamedMethod,
     pub budget: u16,
     buffers: Buffers,
 }
@@ -38,8 +40,8 @@ pub fn compare(random: &mut Random, turn: u64) -> Result<u64, Difference> {
 }
 
 fn by_reference(case: &Case, buffers: &mut Buffers) -> Ended {
-    // The reference has no unknown kind, which is refused by 1.
-    let Some(size) = case.size.known() else {
+    // The reference has no unknown kind or method, which is refused by 1.
+    let Some(size) = case.size.known_by(case.method) else {
         return Ended::refused(1);
     };
     let Buffers {
@@ -59,6 +61,7 @@ pub fn by_library(case: &Case, buffers: &mut Buffers) -> Ended {
         buffers.picture.part_mut(),
         buffers.marks.part_mut(),
         case.size,
+        case.method,
         case.budget,
         buffers.work.part_mut(),
     )
@@ -95,6 +98,7 @@ impl Case {
         let named = pictures::named_size(random, size, faults);
         Case {
             size: named,
+            method: named_method(random, faults),
             budget: drawn_budget(random, size),
             buffers: Buffers {
                 picture: pictures::picture(random, size, named, faults),
@@ -115,6 +119,7 @@ impl Compared<Ended> for Case {
     fn difference(&self, sides: Sides<Ended, Buffers>) -> Difference {
         let mut difference = Difference::new();
         difference.value("size", self.size);
+        difference.value("method", self.method);
         difference.value("budget", self.budget);
         sides.answers(&mut difference);
         let row_bytes = self.size.known().map_or(0, row_bytes);
@@ -213,7 +218,7 @@ mod tests {
     fn faults(case: &Case, start: Size) -> usize {
         let (m, n) = (case.size.width, case.size.height);
         let faults = [
-            case.size.known().is_none(),
+            case.size.known_by(case.method).is_none(),
             m == 0 || n == 0,
             m > 512 || n > 512,
             case.buffers.marks.part().iter().any(|mark| *mark > 2),

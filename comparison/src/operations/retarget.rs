@@ -5,6 +5,7 @@ use super::work_bytes;
 use crate::difference::Difference;
 use crate::faults::Faults;
 use crate::library::{self, Answer};
+use crate::methods::{named_method, NamedMethod};
 use crate::pictures::{self, byte_count, row_bytes, NamedSize, ROUND};
 use crate::random::Random;
 use crate::spaces::{space, Lent};
@@ -45,6 +46,7 @@ const WHOLE: (usize, usize, usize, usize) = (65, 65, 64, 64);
 /// What retargeting is given.
 pub struct Case {
     size: NamedSize,
+    method: NamedMethod,
     pub rows: Rows,
     pub columns: Columns,
     buffers: Buffers,
@@ -64,8 +66,8 @@ pub fn compare(random: &mut Random, turn: u64) -> Result<u64, Difference> {
 }
 
 fn by_reference(case: &Case, buffers: &mut Buffers) -> Answer {
-    // The reference has no unknown kind, which is refused by 1.
-    let Some(size) = case.size.known() else {
+    // The reference has no unknown kind or method, which is refused by 1.
+    let Some(size) = case.size.known_by(case.method) else {
         return Answer::refused(1);
     };
     let (picture, out) = (buffers.picture.part(), buffers.out.part_mut());
@@ -80,6 +82,7 @@ pub fn by_library(case: &Case, buffers: &mut Buffers) -> Answer {
     library::retarget(
         buffers.picture.part_mut(),
         case.size,
+        case.method,
         case.rows,
         case.columns,
         buffers.out.part_mut(),
@@ -182,6 +185,7 @@ impl Case {
         let work = work_bytes(size) + COPIES * byte_count(size);
         Case {
             size: named,
+            method: named_method(random, faults),
             rows,
             columns,
             buffers: Buffers {
@@ -203,6 +207,7 @@ impl Compared<Answer> for Case {
     fn difference(&self, sides: Sides<Answer, Buffers>) -> Difference {
         let mut difference = Difference::new();
         difference.value("size", self.size);
+        difference.value("method", self.method);
         difference.value("rows to remove", self.rows.0);
         difference.value("columns to remove", self.columns.0);
         sides.answers(&mut difference);
@@ -292,7 +297,7 @@ mod tests {
         let (m, n) = (case.size.width, case.size.height);
         let work = work_bytes(start) + COPIES * byte_count(start);
         let faults = [
-            case.size.known().is_none(),
+            case.size.known_by(case.method).is_none(),
             m == 0 || n == 0,
             m > 512 || n > 512,
             case.rows.0.max(case.columns.0) > 64 || case.rows.0 >= n || case.columns.0 >= m,

@@ -90,7 +90,7 @@ impl Case {
         bytes.resize(length, random.byte());
         let mut named = NamedSize::of(size);
         if faults.strike(random, 12) {
-            named.kind = pictures::unknown_number(random);
+            named.kind = pictures::unknown_number(random, 2);
         }
         Case {
             size: named,

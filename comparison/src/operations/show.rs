@@ -44,8 +44,8 @@ mod tests {
             if shown.number == 0 {
                 let file = case.buffers.file.part();
                 let mut work = vec![0; 32 * 512 * 512];
-                let width = reference::check(file, &mut work).unwrap().size.width as u64;
-                counts[(shown.width.cmp(&width) as i8 + 1) as usize] += 1;
+                let width = reference::check(file, &mut work).unwrap().size.width;
+                counts[(shown.size.width.cmp(&width) as i8 + 1) as usize] += 1;
             }
         }
         assert!(counts.iter().all(|count| *count > 20), "{counts:?}");
@@ -57,9 +57,9 @@ mod tests {
         let outcome = case.outcome(by_reference);
         let alterations: [fn(&mut SizeAnswer); 4] = [
             |answer| answer.number ^= 8,
-            |answer| answer.width += 1,
-            |answer| answer.height += 1,
-            |answer| answer.kind ^= 1,
+            |answer| answer.size.width += 1,
+            |answer| answer.size.height += 1,
+            |answer| answer.size.kind ^= 1,
         ];
         for alter in alterations {
             let mut altered = outcome.clone();
