@@ -13,7 +13,7 @@ size_t build_in_c(const uint8_t *picture, Size size, uint8_t *out);
 enum { WANTED = 176 };
 
 // The room that every text of a picture fits in.
-static size_t text_room(Size z) { return multisize_file_bytes(z.width, z.height, kind_of(z)); }
+static size_t text_room(Size z) { return multisize_file_bytes(library_size(z)); }
 
 static void differ(const char *name, Size z) {
     printf("%s differs at %zu by %zu, %zu channels\n", name, z.width, z.height, z.channels), exit(1);
@@ -22,8 +22,8 @@ static void differ(const char *name, Size z) {
 static size_t build_by_library(Lent *lent, uint8_t *out) {
     Size z = lent->size;
     size_t pixels = z.width * z.height;
-    multisize_answer answer = multisize_build(lent->picture, pixels * z.channels, z.width, z.height, kind_of(z),
-                                              z.width - 1, z.width / 2, out, text_room(z), lent->work, 32 * pixels);
+    multisize_answer answer = multisize_build(lent->picture, pixels * z.channels, library_size(z), usual, z.width - 1,
+                                              z.width / 2, out, text_room(z), lent->work, 32 * pixels);
     if (answer.number) differ("build", z);
     return answer.value;
 }

@@ -28,8 +28,7 @@ static void removal(void) {
         memcpy(one.picture, lent.picture, bytes), memcpy(other.picture, lent.picture, bytes);
         memcpy(one.marks, lent.marks, pixels), memcpy(other.marks, lent.marks, pixels);
         double t = seconds();
-        ended = multisize_remove(one.picture, bytes, one.marks, pixels, whole.width, whole.height, MULTISIZE_RGB, ALL,
-                                 one.work, room);
+        ended = multisize_remove(one.picture, bytes, one.marks, pixels, library_size(whole), usual, ALL, one.work, room);
         keep_least(&best, t);
         t = seconds();
         uint64_t count = reference_remove(&other);
@@ -44,15 +43,15 @@ static void removal(void) {
 
 static void retarget(void) {
     Size z = retargeted;
-    size_t bytes = z.width * z.height * z.channels, room = multisize_retarget_work_bytes(z.width, z.height, MULTISIZE_RGB);
-    size_t left = (z.width - COLUMNS) * (z.height - ROWS) * z.channels;
+    size_t bytes = z.width * z.height * z.channels, room = multisize_retarget_work_bytes(library_size(z));
+    size_t left = multisize_retarget_bytes(library_size(z), ROWS, COLUMNS);
     Lent lent = lend(z, room);
     uint8_t *out = malloc(left), *other_out = malloc(left);
     double best = 1e9, other_best = 1e9;
     for (int i = 0; i < ROUNDS; i++) {
         double t = seconds();
-        multisize_answer answer = multisize_retarget(lent.picture, bytes, z.width, z.height, MULTISIZE_RGB, ROWS, COLUMNS,
-                                                     out, left, lent.work, room);
+        multisize_answer answer = multisize_retarget(lent.picture, bytes, library_size(z), usual, ROWS, COLUMNS, out, left,
+                                                     lent.work, room);
         keep_least(&best, t);
         t = seconds();
         uint64_t total = reference_retarget(&lent, ROWS, COLUMNS, other_out);

@@ -7,6 +7,7 @@
 
 enum { WIDTH = 480, HEIGHT = 320, WANTED = 176, CHANNELS = 3, BYTES = WIDTH * HEIGHT * CHANNELS, ROUNDS = 5 };
 
+static const multisize_size whole = {WIDTH, HEIGHT, MULTISIZE_RGB};
 static uint8_t picture[BYTES], out[BYTES], work[32 * WIDTH * HEIGHT];
 static uint8_t *file;
 static size_t file_room;
@@ -17,8 +18,8 @@ static void must(int served, const char *what) {
 
 // A file is built and its picture at the wanted width shown, for which the file is checked.
 static void by_file(size_t depth, size_t growth) {
-    multisize_answer built = multisize_build(picture, BYTES, WIDTH, HEIGHT, MULTISIZE_RGB, depth, growth, file,
-                                             file_room, work, sizeof work);
+    multisize_answer built = multisize_build(picture, BYTES, whole, usual, depth, growth, file, file_room, work,
+                                             sizeof work);
     must(!built.number, "build");
     must(!multisize_show(file, built.value, WANTED, out, sizeof out, work, sizeof work).number, "show");
 }
@@ -31,9 +32,9 @@ static void file_of_that_depth(void) { by_file(WIDTH - WANTED, 0); }
 static void cuts(void) {
     uint16_t seam[HEIGHT];
     memcpy(out, picture, BYTES);
-    for (size_t width = WIDTH; width > WANTED; width--)
-        must(!multisize_cut(out, width * HEIGHT * CHANNELS, width, HEIGHT, MULTISIZE_RGB, MULTISIZE_VERTICAL, seam, HEIGHT,
-                            work, 32 * width * HEIGHT)
+    for (multisize_size left = whole; left.width > WANTED; left.width--)
+        must(!multisize_cut(out, multisize_picture_bytes(left), left, usual, MULTISIZE_VERTICAL, seam, HEIGHT, work,
+                            multisize_work_bytes(left))
                   .number,
              "cut");
 }
@@ -63,7 +64,7 @@ static const struct {
 
 int main(int count, char **words) {
     fill_terrain(picture, WIDTH, HEIGHT, CHANNELS);
-    file_room = multisize_file_bytes(WIDTH, HEIGHT, MULTISIZE_RGB);
+    file_room = multisize_file_bytes(whole);
     file = malloc(file_room);
     must(file != NULL, "malloc");
     if (count > 1) {

@@ -66,16 +66,16 @@ static uint64_t plain_find(const uint8_t *p, int w, int h, int channels, uint16_
 static uint64_t by_library(Lent *lent) {
     Size z = lent->size;
     size_t pixels = z.width * z.height;
-    return multisize_find(lent->picture, pixels * z.channels, z.width, z.height, kind_of(z), MULTISIZE_VERTICAL,
-                          lent->seam, z.height, lent->work, 32 * pixels)
+    return multisize_find(lent->picture, pixels * z.channels, library_size(z), usual, MULTISIZE_VERTICAL, lent->seam, z.height,
+                          lent->work, 32 * pixels)
         .value;
 }
 
 static uint64_t by_library_marked(Lent *lent) {
     Size z = lent->size;
     size_t pixels = z.width * z.height;
-    return multisize_find_marked(lent->picture, pixels * z.channels, lent->marks, pixels, z.width, z.height,
-                                 kind_of(z), MULTISIZE_VERTICAL, lent->seam, z.height, lent->work, 32 * pixels)
+    return multisize_find_marked(lent->picture, pixels * z.channels, lent->marks, pixels, library_size(z), usual,
+                                 MULTISIZE_VERTICAL, lent->seam, z.height, lent->work, 32 * pixels)
         .value;
 }
 
@@ -131,7 +131,7 @@ static double cut_time(Lent *lent, int axis) {
     for (int i = 0; i < ROUNDS; i++) {
         memcpy(copy, lent->picture, bytes);
         double t = seconds();
-        multisize_cut(copy, bytes, z.width, z.height, kind_of(z), axis, lent->seam, SIDE, lent->work, 32 * pixels);
+        multisize_cut(copy, bytes, library_size(z), usual, axis, lent->seam, SIDE, lent->work, 32 * pixels);
         keep_least(&best, t);
     }
     return best;

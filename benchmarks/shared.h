@@ -9,7 +9,12 @@ typedef struct {
     size_t width, height, channels;
 } Size;
 
-static inline uint8_t kind_of(Size z) { return z.channels == 3 ? MULTISIZE_RGB : MULTISIZE_GREY; }
+// Returns the size as the library takes it.
+static inline multisize_size library_size(Size z) {
+    return (multisize_size){z.width, z.height, z.channels == 3 ? MULTISIZE_RGB : MULTISIZE_GREY};
+}
+
+static const multisize_method usual = {0};
 
 // A picture and the spaces for its seam, as the reference takes them.
 typedef struct {
