@@ -28,7 +28,7 @@ use Rattle.pictures.specs.Numbers.{pairs}
 use Rattle.pictures.proofs.TwoBytes.{rows-pairs}
 use Rattle.map_rules.specs.Spaces.{mapBytes, mapAt, mapSpaceRules}
 use Rattle.map_rules.proofs.Rooms.{map-bytes, room-served}
-use Rattle.map_build.specs.Building.{mapped, MapGiven}
+use Rattle.map_build.specs.Building.{mapped, MapInGiven}
 use Rattle.map_build.proofs.Steps.{take-map}
 use Rattle.text_print.specs.Inner.{Printed}
 use Rattle.text_print.proofs.Written.{printed-front}
@@ -93,12 +93,12 @@ module _ (b : List ℕ) (h : Head) (out work : List ℕ) (needed : BuildNeeded b
     none : refusal (mapSpaceRules (h .size) (h .depth) (length one) 1) ≡ 0
     none = let r = rooms-are in room-served (h .size) (h .depth) (length one) 1 (sides-served (h .size) (length b) (r .sized)) (r .deep) (omega (arith, r .front, one-long))
 
-    module _ (v : Verdict) (two : List ℕ) (g : MapGiven one (h .size) (h .depth) v two) where
-      two-is : two ≡ mapped (h .size) (h .depth) (picture (h .size) b) ++ drop (mapAt (h .size) + mapBytes (h .size)) one
+    module _ (v : Verdict) (two : List ℕ) (g : MapInGiven one (h .size) (h .method) (h .depth) v two) where
+      two-is : two ≡ mapped (h .size) (h .method) (h .depth) (picture (h .size) b) ++ drop (mapAt (h .size) + mapBytes (h .size)) one
       two-is =
-          let new = mapped (h .size) (h .depth) (pictureIn (h .size) one) ++ drop (mapAt (h .size) + mapBytes (h .size)) one in
-          g .space-is ∙ ap (λ n. served n new one) (g .number-is ∙ none)
-          ∙ ap (λ p. mapped (h .size) (h .depth) p ++ drop (mapAt (h .size) + mapBytes (h .size)) one) there
+          let new = mapped (h .size) (h .method) (h .depth) (pictureIn (h .size) one) ++ drop (mapAt (h .size) + mapBytes (h .size)) one in
+          g .space-left ∙ ap (λ n. served n new one) (g .number ∙ none)
+          ∙ ap (λ p. mapped (h .size) (h .method) (h .depth) p ++ drop (mapAt (h .size) + mapBytes (h .size)) one) there
 
       -- The part where the map stands.
       module _ (at end : ℕ) (at-is : at ≡ mapAt (h .size)) (end-is : end ≡ at + mapBytes (h .size)) where
@@ -106,7 +106,7 @@ module _ (b : List ℕ) (h : Head) (out work : List ℕ) (needed : BuildNeeded b
         part-is =
             let r = rooms-are in
             let n : end - at ≡ mapBytes (h .size) = omega (arith, end-is) in
-            rw (n, at-is, two-is) (take-map (h .size) (picture (h .size) b) (of-size (h .size) b (r .sized)) (h .depth) (r .deep) (drop (mapAt (h .size) + mapBytes (h .size)) one))
+            rw (n, at-is, two-is) (take-map (h .size) (h .method) (picture (h .size) b) (of-size (h .size) b (r .sized)) (h .depth) (r .deep) (drop (mapAt (h .size) + mapBytes (h .size)) one))
 
         -- The file printed from it.
         text-is : text (partsIn h b (take (end - at) (drop at two))) ≡ fileIn h b

@@ -44,7 +44,7 @@ fn put_file(picture: &[u8], head: Head, out: &mut [u8], work: &mut [u8]) -> usiz
 {
     let size = head.size;
     bytes::copy(picture, work);
-    map_build::map_in(work, size, head.depth);
+    map_build::map_in(work, size, head.method, head.depth);
     let at = map_rules::map_at(size);
     let end = at + map_rules::map_bytes(size);
     let length = lines::print_file(picture, head, &work[at..end], out);

@@ -24,7 +24,7 @@ use Rattle.pictures.specs.Numbers.{pairs, numbersIn}
 use Rattle.pictures.proofs.TwoBytes.{length-pairs, rows-pairs}
 use Rattle.map_rules.specs.Spaces.{mapBytes, mapSpaceRules, recordedAt}
 use Rattle.map_rules.proofs.Rooms.{map-bytes, room-served}
-use Rattle.map_check.specs.Checking.{recordedIn, recordedRules, JudgeGiven}
+use Rattle.map_check.specs.Checking.{recordedIn, recordedRules, JudgeInGiven}
 use Rattle.map_check.proofs.Answers.{worked-judged}
 use Rattle.text_theory.specs.declared.Head.{Head}
 use Rattle.text_theory.specs.Files.{parse}
@@ -88,15 +88,15 @@ module _ (file : List ℕ) (h : Head) (k : Parsed file h) (work : List ℕ) (roo
         ∙ rows-pairs (k .maps-grid)
 
     -- So judging it there judges the map of the file.
-    pub map-judged : (v : Verdict) (work′ : List ℕ) → JudgeGiven whole (h .size) (h .depth) v work′ → MapJudged file work v work′
+    pub map-judged : (v : Verdict) (work′ : List ℕ) → JudgeInGiven whole (h .size) (h .method) (h .depth) v work′ → MapJudged file work v work′
     map-judged v work′ g =
         let same : length whole ≡ length work = same-len-mid at (e - at) first new kept ∙ as-long in
-        let number : given v ≡ refusal (recordedRules (h .size) (h .depth) (pictureIn (h .size) whole) (recordedIn (h .size) whole)) =
-        g .number-is
-        ∙ served-first (mapSpaceRules (h .size) (h .depth) (length whole) 2) (recordedRules (h .size) (h .depth) (pictureIn (h .size) whole) (recordedIn (h .size) whole)) refl (none-refused (length whole) same) in
+        let number : given v ≡ refusal (recordedRules (h .size) (h .method) (h .depth) (pictureIn (h .size) whole) (recordedIn (h .size) whole)) =
+        g .number
+        ∙ served-first (mapSpaceRules (h .size) (h .depth) (length whole) 2) (recordedRules (h .size) (h .method) (h .depth) (pictureIn (h .size) whole) (recordedIn (h .size) whole)) refl (none-refused (length whole) same) in
         record {
-          number = number ∙ ap₂ (λ p m. refusal (recordedRules (h .size) (h .depth) p m)) picture-there maps-there ∙ sym (ap (λ q. refusal (judgedIn q)) (k .parsed));
+          number = number ∙ ap₂ (λ p m. refusal (recordedRules (h .size) (h .method) (h .depth) p m)) picture-there maps-there ∙ sym (ap (λ q. refusal (judgedIn q)) (k .parsed));
           work-left =
-              g .space-is ∙ ap (λ n. worked n (replicate (length whole) 0) whole) number
-              ∙ worked-judged (h .size) (h .depth) (pictureIn (h .size) whole) (recordedIn (h .size) whole) (replicate (length whole) 0) whole ∙ ap (λ n. replicate n 0) same;
+              g .space-left ∙ ap (λ n. worked n (replicate (length whole) 0) whole) number
+              ∙ worked-judged (h .size) (h .method) (h .depth) (pictureIn (h .size) whole) (recordedIn (h .size) whole) (replicate (length whole) 0) whole ∙ ap (λ n. replicate n 0) same;
         }

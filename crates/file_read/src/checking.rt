@@ -37,5 +37,5 @@ pub(crate) fn judge(file: &[u8], head: Head, work: &mut [u8]) -> Verdict
     let rows = opening::first_row(file, head);
     let maps = lines::read_rows(file, head, rows, work);
     lines::record_maps(file, head, maps, &mut work[at..end]);
-    map_check::judge_in(work, size, head.depth)
+    map_check::judge_in(work, size, head.method, head.depth)
 }

@@ -50,6 +50,7 @@ fn build_file(size: Size, samples: &[u8], out: &mut [u8]) -> Output
     let width = size.width;
     let head = Head {
         size,
+        method: energy::usual_method(),
         depth: width - 1,
         growth: width / 2,
     };

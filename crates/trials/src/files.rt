@@ -38,6 +38,7 @@ fn trial(width: usize, height: usize, kind: Kind, depth: usize, growth: usize, s
     };
     let head = Head {
         size,
+        method: energy::usual_method(),
         depth,
         growth,
     };

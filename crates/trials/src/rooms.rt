@@ -42,6 +42,7 @@ fn trial(picture: &[u8], width: usize, height: usize, kind: Kind)
     };
     let head = Head {
         size,
+        method: energy::usual_method(),
         depth: width - 1,
         growth: width / 2,
     };
