@@ -129,7 +129,8 @@ fn print_seams(space: [u8; 72], bytes: usize, size: Size)
 fn print_find(picture: &[u8], size: Size, axis: Axis) {
     let mut seam = [9u16; 8];
     let mut work = [1u8; 768];
-    let found = seam_cut::find(picture, size, axis, &mut seam, &mut work);
+    let method = energy::usual_method();
+    let found = seam_cut::find(picture, size, method, axis, &mut seam, &mut work);
     print_found(found);
     print_seam(&seam);
     print_number(wide_byte(work[767]));
@@ -156,7 +157,16 @@ fn print_marked(
 fn print_find_marked(picture: &[u8], marks: &[u8], size: Size, axis: Axis) {
     let mut seam = [9u16; 8];
     let mut work = [1u8; 768];
-    let found = seam_cut_marked::find_marked(picture, marks, size, axis, &mut seam, &mut work);
+    let method = energy::usual_method();
+    let found = seam_cut_marked::find_marked(
+        picture,
+        marks,
+        size,
+        method,
+        axis,
+        &mut seam,
+        &mut work,
+    );
     print_found(found);
     print_seam(&seam);
     print_number(wide_byte(work[767]));
@@ -181,6 +191,7 @@ fn print_cut_marked(
         &mut copy[..bytes],
         &mut left[..pixels],
         size,
+        energy::usual_method(),
         axis,
         &mut seam,
         &mut work,
@@ -198,7 +209,8 @@ fn print_cut(space: [u8; 72], bytes: usize, size: Size, axis: Axis)
     let mut copy = space;
     let mut seam = [9u16; 8];
     let mut work = [1u8; 768];
-    let found = seam_cut::cut(&mut copy[..bytes], size, axis, &mut seam, &mut work);
+    let method = energy::usual_method();
+    let found = seam_cut::cut(&mut copy[..bytes], size, method, axis, &mut seam, &mut work);
     print_found(found);
     print_bytes(&copy[..bytes]);
     io::write_all(STDOUT_FILENO, b"\n");
@@ -229,7 +241,7 @@ pub(crate) fn wide_column(n: u16) -> u64 {
 // The number given, the energies' space and the row, in a line.
 fn print_row(picture: &[u8], size: Size, r: usize) {
     let mut out = [7u32; 8];
-    let verdict = energy::energies(picture, size, r, &mut out);
+    let verdict = energy::energies(picture, size, energy::usual_method(), r, &mut out);
     io::print_decimal(STDOUT_FILENO, pictures::given(verdict));
     print_numbers(&out);
     io::write_all(STDOUT_FILENO, b" |");

@@ -65,6 +65,7 @@ fn print_removal(
         &mut copy[..bytes],
         &mut left[..pixels],
         size,
+        energy::usual_method(),
         budget,
         &mut work,
     );

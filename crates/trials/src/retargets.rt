@@ -41,7 +41,8 @@ fn print_retargets(picture: &[u8], size: Size, rows: usize) {
 fn print_retarget(picture: &[u8], size: Size, rows: Rows, columns: Columns) {
     let mut out = [7u8; 20];
     let mut work = [1u8; 2100];
-    let given = seam_retarget::retarget(picture, size, rows, columns, &mut out, &mut work);
+    let method = energy::usual_method();
+    let given = seam_retarget::retarget(picture, size, method, rows, columns, &mut out, &mut work);
     print_total(given);
     print_bytes(&out);
     print_number(wide_byte(work[2099]));
