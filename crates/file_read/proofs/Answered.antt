@@ -72,7 +72,7 @@ module _ (file : List ℕ) (h : Head) (o : Open file h) (own : Head → List Rul
 -- Judging a map gives 0 or 9 and more, so the work space is 0 afterwards.
 worked-map : {A : Type 0} (o : Option Parts) (x y : A) → worked (refusal (judgedIn o)) x y ≡ x
 worked-map none x y = refl
-worked-map (some p) x y = worked-judged (p .head .size) (p .head .depth) (p .rows) (p .maps) x y
+worked-map (some p) x y = worked-judged (p .head .size) (p .head .method) (p .head .depth) (p .rows) (p .maps) x y
 
 pub judged-work : (file work : List ℕ) (v : Verdict) (work′ : List ℕ) → MapJudged file work v work′ → work′ ≡ worked (given v) (replicate (length work) 0) work
 judged-work file work v work′ j =

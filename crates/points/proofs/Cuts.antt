@@ -18,20 +18,23 @@ use Rattle.map_theory.proofs.Maps.{carve-next}
 use Rattle.map_theory.proofs.Shown.{offered-is, allowed-is}
 use Rattle.text_theory.specs.Files.{Parts, parse}
 use Rattle.seam_theory.specs.PictureSeams.{seamOf}
+use Rattle.energy.specs.declared.methods.Method.{Method}
+use Rattle.seam_rules.specs.declared.answers.Found.{Found}
+use Rattle.seam_rules.specs.Answers.{foundNumber}
 use Rattle.seam_rules.specs.declared.answers.Axis.the-variants.{Vertical}
 use Rattle.seam_rules.specs.Cuts.{roomRules, lastRules, cutRules}
 use Rattle.seam_turn.specs.Axes.{turned, cutAlong}
 use Rattle.seam_cut.specs.Axes.{seamAlong}
-use Rattle.seam_cut.specs.Cutting.{PictureCut}
+use Rattle.seam_cut.specs.Cutting.{CutGiven}
 use Rattle.file_theory.specs.Shows.{Accepted, offers, Drawn, sized, shows}
 use Rattle.file_theory.proofs.Accepting.{accepted-shaped}
 use Rattle.file_theory.proofs.Shaped.{shaped-is}
 use Rattle.file_theory.proofs.Demands.{shows-cut, shown-ofSize}
 
 -- What the operation `cut` leaves of a picture, vertically, is the picture after one seam.
-pub cut-carve : (z : Size) (p : Picture) → cutAlong Vertical z (seamAlong Vertical z p) p ≡ carve seamOf 1 (z .width) (z .height) p
+pub cut-carve : (how : Method) (z : Size) (p : Picture) → cutAlong Vertical z (seamAlong how Vertical z p) p ≡ carve (seamOf how) 1 (z .width) (z .height) p
 unfolding cutAlong seamAlong turned
-cut-carve z p = refl
+cut-carve how z p = refl
 
 -- An accepted file of width m, what it shows at width m - t, and what at the next smaller one that it offers.
 module _ (f : List ℕ) (p : Parts) (h : Accepted f) (e : parse f ≡ some p) (t : ℕ) (l : t < p .head .depth)
@@ -45,18 +48,22 @@ module _ (f : List ℕ) (p : Parts) (h : Accepted f) (e : parse f ≡ some p) (t
   abbrev z : Size
   z = sized (m - t) (p .head .size)
 
-  wide : a ≡ record { size = z; rows = carve seamOf t m n (p .rows) }
+  -- The method that the file is judged by.
+  abbrev how : Method
+  how = p .head .method
+
+  wide : a ≡ record { size = z; rows = carve (seamOf how) t m n (p .rows) }
   wide = Option·some-injective _ _ (sym s ∙ shows-cut f p h e t (omega arith))
 
-  narrow : b ≡ record { size = sized (m - suc t) (p .head .size); rows = carve seamOf (suc t) m n (p .rows) }
+  narrow : b ≡ record { size = sized (m - suc t) (p .head .size); rows = carve (seamOf how) (suc t) m n (p .rows) }
   narrow = Option·some-injective _ _ (sym u ∙ shows-cut f p h e (suc t) (omega arith))
 
   -- The second is what `cut` leaves of the first.
-  pub shows-next : b .rows ≡ cutAlong Vertical (a .size) (seamAlong Vertical (a .size) (a .rows)) (a .rows)
+  pub shows-next : b .rows ≡ cutAlong Vertical (a .size) (seamAlong how Vertical (a .size) (a .rows)) (a .rows)
   shows-next =
-      ap (λ (d : Drawn). d .rows) narrow ∙ carve-next seamOf t m n (p .rows)
-      ∙ sym (cut-carve z (carve seamOf t m n (p .rows)))
-      ∙ ap (λ (d : Drawn). cutAlong Vertical (d .size) (seamAlong Vertical (d .size) (d .rows)) (d .rows)) (sym wide)
+      ap (λ (d : Drawn). d .rows) narrow ∙ carve-next (seamOf how) t m n (p .rows)
+      ∙ sym (cut-carve how z (carve (seamOf how) t m n (p .rows)))
+      ∙ ap (λ (d : Drawn). cutAlong Vertical (d .size) (seamAlong how Vertical (d .size) (d .rows)) (d .rows)) (sym wide)
 
   ofSize : OfSize (a .size) (a .rows)
   unfolding offers
@@ -64,12 +71,12 @@ module _ (f : List ℕ) (p : Parts) (h : Accepted f) (e : parse f ≡ some p) (t
 
   -- So where its bytes are lent to the operation and it isn't refused, the picture that it promises begins with the bytes of
   -- what the file shows at the next smaller width; the freed bytes are 0.
-  pub cut-shown : (seam work : ℕ) (left : List ℕ)
-      → refusal (cutRules Vertical (a .size) (length (bytes (a .rows))) seam work) ≡ 0
-      → PictureCut (bytes (a .rows)) (a .size) Vertical (refusal (cutRules Vertical (a .size) (length (bytes (a .rows))) seam work)) left
+  pub cut-shown : (seam work : List ℕ) (answer : Found) (left seam′ work′ : List ℕ)
+      → foundNumber answer ≡ 0
+      → CutGiven (bytes (a .rows)) (a .size) how Vertical seam work answer left seam′ work′
       → left ≡ bytes (b .rows) ++ replicate (a .size .height * channelsOf (a .size .kind)) 0
-  cut-shown seam work left fine c =
-      let i = rw (fine, picture-bytes (a .size) (a .rows) ofSize) at (c .picture-is) in
+  cut-shown seam work answer left seam′ work′ fine c =
+      let i = rw (fine, picture-bytes (a .size) (a .rows) ofSize) at (c .picture-left) in
       i ∙ ap (λ (r : Picture). bytes r ++ replicate (a .size .height * channelsOf (a .size .kind)) 0) (sym shows-next)
 
   -- And it isn't refused where there is a place for each column of the seam, and 32 bytes of work space a pixel.

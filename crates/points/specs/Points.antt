@@ -1,5 +1,5 @@
 -- The points marked P, their values made again by change 101, other worked values, and refusals of the example's files: what the
--- definitions give, beside what is expected, as rows of numbers.
+-- definitions give by the usual method, beside what is expected, as rows of numbers.
 use mathlib.Core.Option.{Option, none, some}
 use mathlib.Core.List.{List, [], _∷_, map}
 use Prim.Native.Nat.{ℕ}
@@ -9,6 +9,7 @@ use Rattle.pictures.specs.declared.sizes.Kind.the-variants.{Grey}
 use Rattle.pictures.specs.declared.sizes.Size.{Size}
 use Rattle.pictures.specs.Refusals.{Rule, refusal}
 use Rattle.pictures.specs.Pictures.{Picture, picture}
+use Rattle.energy.specs.Methods.{usualMethod}
 use Rattle.energy.specs.Energy.{energies, energyGrid}
 use Rattle.text_theory.specs.declared.Head.{Head}
 use Rattle.text_theory.specs.Files.{text}
@@ -52,11 +53,11 @@ afterOne = cut (0 ∷ 0 ∷ []) example
 
 -- The example with a row and a column less.
 abbrev pub smaller : Cell
-smaller = cell (grey 3 2) example (rowCount 1) (columnCount 1)
+smaller = cell usualMethod (grey 3 2) example (rowCount 1) (columnCount 1)
 
 -- The file of a grey picture of w columns and h rows, of depth k and growth g.
 abbrev pub greyHead : ℕ → ℕ → ℕ → ℕ → Head
-greyHead w h k g = record { size = grey w h; depth = k; growth = g }
+greyHead w h k g = record { size = grey w h; method = usualMethod; depth = k; growth = g }
 
 abbrev pub greyFile : ℕ → ℕ → ℕ → ℕ → List ℕ → List ℕ
 greyFile w h k g b = fileOf (greyHead w h k g) (picture (grey w h) b)
@@ -87,21 +88,21 @@ endingRow r = placeOf (r .ending) ∷ r .count ∷ []
 abbrev pub pointTable : List Point
 pointTable =
     -- 1 by 1: energy 0
-    list (energies 1 1 (picture (grey 1 1) (7 ∷ [])) 0) (0 ∷ [])
+    list (energies usualMethod 1 1 (picture (grey 1 1) (7 ∷ [])) 0) (0 ∷ [])
     -- one row 10 40: each differs by 30 from the other; one column 10 / 50: by 40
-    ∷ list (energies 2 1 (picture (grey 2 1) (10 ∷ 40 ∷ [])) 0) (30 ∷ 30 ∷ [])
-    ∷ record { got = energyGrid 1 2 (picture (grey 1 2) (10 ∷ 50 ∷ [])); expected = (40 ∷ []) ∷ (40 ∷ []) ∷ [] }
+    ∷ list (energies usualMethod 2 1 (picture (grey 2 1) (10 ∷ 40 ∷ [])) 0) (30 ∷ 30 ∷ [])
+    ∷ record { got = energyGrid usualMethod 1 2 (picture (grey 1 2) (10 ∷ 50 ∷ [])); expected = (40 ∷ []) ∷ (40 ∷ []) ∷ [] }
     -- the example's energies: 0 70 30 / 40 50 10
-    ∷ record { got = energyGrid 3 2 example; expected = (0 ∷ 70 ∷ 30 ∷ []) ∷ (40 ∷ 50 ∷ 10 ∷ []) ∷ [] }
+    ∷ record { got = energyGrid usualMethod 3 2 example; expected = (0 ∷ 70 ∷ 30 ∷ []) ∷ (40 ∷ 50 ∷ 10 ∷ []) ∷ [] }
     -- its first seam: columns 0, 0, cost 40
-    ∷ list (seamOf 3 2 example) (0 ∷ 0 ∷ [])
-    ∷ one (costOf 3 2 example) 40
+    ∷ list (seamOf usualMethod 3 2 example) (0 ∷ 0 ∷ [])
+    ∷ one (costOf usualMethod 3 2 example) 40
     -- its second, in the picture left: columns 1, 1, cost 40
-    ∷ list (seamOf 2 2 afterOne) (1 ∷ 1 ∷ [])
-    ∷ one (costOf 2 2 afterOne) 40
+    ∷ list (seamOf usualMethod 2 2 afterOne) (1 ∷ 1 ∷ [])
+    ∷ one (costOf usualMethod 2 2 afterOne) 40
     -- its horizontal seam: rows 0, 1, 1, cost 60
-    ∷ list (seamAlong Horizontal (grey 3 2) example) (0 ∷ 1 ∷ 1 ∷ [])
-    ∷ one (costAlong Horizontal (grey 3 2) example) 60
+    ∷ list (seamAlong usualMethod Horizontal (grey 3 2) example) (0 ∷ 1 ∷ 1 ∷ [])
+    ∷ one (costAlong usualMethod Horizontal (grey 3 2) example) 60
     -- retargeted by 1 row and 1 column: 10 40, total 60
     ∷ record { got = map flat (smaller .picture); expected = (10 ∷ 40 ∷ []) ∷ [] }
     ∷ one (smaller .total) 60
@@ -122,7 +123,7 @@ pointTable =
     -- all samples equal, 3 by 1: map 1 2 0 at depth 2
     ∷ record { got = partsOf (greyHead 3 1 2 0) (picture (grey 3 1) (7 ∷ 7 ∷ 7 ∷ [])) .maps; expected = (1 ∷ 2 ∷ 0 ∷ []) ∷ [] }
     -- budget 0 with a mark 2 at width 2: spent, 0
-    ∷ list (endingRow (removal 0 0 (markedPicture (grey 2 1) (10 ∷ 40 ∷ []) (0 ∷ 2 ∷ [])))) (placeOf spent ∷ 0 ∷ [])
+    ∷ list (endingRow (removal 0 0 (markedPicture (grey 2 1) usualMethod (10 ∷ 40 ∷ []) (0 ∷ 2 ∷ [])))) (placeOf spent ∷ 0 ∷ [])
     -- the table of refusals, of the example: its own map accepted; `(range 3 1)` at width 3; `(map 2 2 1)`; seam 1 at columns
     -- 0 and 2; maps 1 0 2 and 1 2 0; and the seams of the older rule, of which the first costs 40 too and comes later
     ∷ gives (checkRules (recordedFile 2 1 (1 ∷ 0 ∷ 2 ∷ []) (1 ∷ 0 ∷ 2 ∷ [])) 192) 0
