@@ -7,8 +7,9 @@ use Rattle.grids.specs.Cut.{removeAt, cut}
 use Rattle.seam_theory.specs.Best.{better, firstBest}
 use Rattle.seam_theory.specs.Paths.{run, select, pathsUp, paths, cost, beside, nearby}
 use Rattle.pictures.specs.Pictures.{picture}
+use Rattle.energy.specs.Methods.{wrapOf}
 use Rattle.energy.specs.Around.{leftOf, rightOf, aboveOf, belowOf}
-use Rattle.energy.specs.Energy.{difference, costsAt, toward}
+use Rattle.energy.specs.Energy.{difference, costsFrom, costsAt, toward}
 use Rattle.seam_turn.specs.Axes.{turned, cutAlong}
 use Rattle.seam_cut.specs.Axes.{seamAlong, costAlong}
 use Rattle.seam_retarget.specs.Cells.{bySeam, chosen, cellAfter}
@@ -27,5 +28,5 @@ use Rattle.file_theory.specs.Shows.{shows}
 use Rattle.points.specs.Points.{pointTable}
 
 pub points : map (λ p. p .got) pointTable ≡ map (λ p. p .expected) pointTable
-unfolding exchange picture orElse leftOf rightOf aboveOf belowOf difference costsAt toward seamOf costOf seamAlong costAlong turned cutAlong bySeam chosen cellAfter paths pathsUp cost nearby beside select run better firstBest removeAt cut zipWith flatMap someTwo removal numberRow number allowed offered stays doubled rowAtWidth shown numbers remains before connected found strip next manyUpTo many digitsUpTo digits isDigit further upTo numberGet lineEnd blank opening closing closed begun rowWord mapWord oneOf nameGet kindText kindGet each joined pixelText lineText firstText sizeText rangeText headText text items three pixelGet line sizeGet rangeGet headGet file whole parse average fileOf filled shows
+unfolding exchange picture orElse leftOf rightOf aboveOf belowOf difference wrapOf costsFrom costsAt toward seamOf costOf seamAlong costAlong turned cutAlong bySeam chosen cellAfter paths pathsUp cost nearby beside select run better firstBest removeAt cut zipWith flatMap someTwo removal numberRow number allowed offered stays doubled rowAtWidth shown numbers remains before connected found strip next manyUpTo many digitsUpTo digits isDigit further upTo numberGet lineEnd blank opening closing closed begun rowWord mapWord oneOf nameGet kindText kindGet each joined pixelText lineText firstText sizeText rangeText headText text items three pixelGet line sizeGet rangeGet headGet file whole parse average fileOf filled shows
 points = refl
