@@ -48,10 +48,11 @@ fn build_file(size: Size, samples: &[u8], out: &mut [u8]) -> Output
         return Output::Refused(why);
     }
     let width = size.width;
+    let depth = width - 1;
     let head = Head {
         size,
         method: energy::usual_method(),
-        depth: width - 1,
+        depth,
         growth: width / 2,
     };
     let mut work = [0u8; WORK_A_PIXEL * HELD_PIXELS];

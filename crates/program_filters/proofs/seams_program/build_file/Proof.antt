@@ -46,10 +46,13 @@ returns c =
 enum-told : tie.Need-enum-told
 enum-told c = search needs
 
-sub-t11 : tie.Need-sub-t11
-sub-t11 c =
+sub-depth : tie.Need-sub-depth
+sub-depth c =
     let a = c .before .before .before .before .before .args in
     omega (arith, held-sized (a .size) (now (a .samples)) (none c) .width-some)
+
+usual-method-requires : tie.Need-usual-method-requires
+usual-method-requires c κs = search needs
 
 slice-aggregate-build : tie.Need-slice-aggregate-build
 slice-aggregate-build c = search needs
@@ -69,10 +72,11 @@ same-length c = search needs
 returns-2 : tie.Need-returns-2
 returns-2 c =
     let at-build = c .before .before .before .before .before .before in
-    let at-enum-told = at-build .before .before .before in
+    let at-usual = at-build .before .before .before in
+    let at-enum-told = at-usual .before in
     let st = at-enum-told .before .before .before .before .before in
     let a = st .args in
-    file-answered (a .size) (now (a .samples)) (none at-enum-told) (bytes at-enum-told) (now (a .out)) _ (st .pre) refl (rw (c .before .n .given .1) at (at-build .build .ensures))
+    file-answered (a .size) (now (a .samples)) (none at-enum-told) (bytes at-enum-told) (now (a .out)) _ (st .pre) refl (rw (c .before .n .given .1, at-usual .usual-method .ensures) at (at-build .build .ensures))
 
 same-length-2 : tie.Need-same-length-2
 same-length-2 c = search needs
@@ -81,10 +85,11 @@ returns-3 : tie.Need-returns-3
 returns-3 c =
     let at-why2 = c .before in
     let at-build = at-why2 .before .before .before .before .before in
-    let at-enum-told = at-build .before .before .before in
+    let at-usual = at-build .before .before .before in
+    let at-enum-told = at-usual .before in
     let st = at-enum-told .before .before .before .before .before in
     let a = st .args in
-    absurd (never-refused (a .size) (now (a .samples)) (none at-enum-told) (bytes at-enum-told) (now (a .out)) _ (st .pre) refl (at-why2 .why2 .given .0 .0) (rw (at-why2 .why2 .given .1) at (at-build .build .ensures)))
+    absurd (never-refused (a .size) (now (a .samples)) (none at-enum-told) (bytes at-enum-told) (now (a .out)) _ (st .pre) refl (at-why2 .why2 .given .0 .0) (rw (at-why2 .why2 .given .1, at-usual .usual-method .ensures) at (at-build .build .ensures)))
 
 pub build-file-spec : {M : Type 1} → statement M
 build-file-spec =
@@ -94,7 +99,8 @@ build-file-spec =
     enum-known-why
     returns
     enum-told
-    sub-t11
+    sub-depth
+    usual-method-requires
     slice-aggregate-build
     build-requires
     enum-known-n
