@@ -2,6 +2,7 @@
 use crate::answers;
 use crate::count;
 use crate::fill;
+use energy::Method;
 use libc::STDOUT_FILENO;
 use pictures::Kind;
 use pictures::Size;
@@ -9,23 +10,31 @@ use text_theory::Head;
 ghost use Prim.Native.Nat.{_<_, _≤_};
 
 // Files of pictures of every width to 5 and height to 3, of both kinds, that offer all widths; then two that offer fewer.
-pub(crate) fn trials(seed: u64) -> u64
+pub(crate) fn trials(method: Method, seed: u64) -> u64
     requires { ⌜ seed < 65536 ⌝ }
     ensures { λ next. ⌜ next < 65536 ⌝ }
 {
     let mut s = seed;
     for height in 1..4 {
         for width in 1..6 {
-            s = trial(width, height, Kind::Grey, width - 1, width / 2, s);
-            s = trial(width, height, Kind::Rgb, width - 1, width / 2, s);
+            s = trial(width, height, Kind::Grey, method, width - 1, width / 2, s);
+            s = trial(width, height, Kind::Rgb, method, width - 1, width / 2, s);
         }
     }
-    s = trial(5, 2, Kind::Grey, 2, 1, s);
-    s = trial(4, 3, Kind::Rgb, 1, 0, s);
+    s = trial(5, 2, Kind::Grey, method, 2, 1, s);
+    s = trial(4, 3, Kind::Rgb, method, 1, 0, s);
     s
 }
 
-fn trial(width: usize, height: usize, kind: Kind, depth: usize, growth: usize, seed: u64) -> u64
+fn trial(
+    width: usize,
+    height: usize,
+    kind: Kind,
+    method: Method,
+    depth: usize,
+    growth: usize,
+    seed: u64,
+) -> u64
     requires { ⌜ (width ≤ 5) × (height ≤ 3) × (growth ≤ 2) × (seed < 65536) ⌝ }
     ensures { λ next. ⌜ next < 65536 ⌝ }
 {
@@ -38,7 +47,7 @@ fn trial(width: usize, height: usize, kind: Kind, depth: usize, growth: usize, s
     };
     let head = Head {
         size,
-        method: energy::usual_method(),
+        method,
         depth,
         growth,
     };

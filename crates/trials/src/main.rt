@@ -7,6 +7,7 @@ mod objects;
 mod retargets;
 mod rooms;
 
+use energy::Method;
 use libc::STDOUT_FILENO;
 use pictures::Kind;
 use pictures::Size;
@@ -17,23 +18,24 @@ ghost use lib.ListN.{length};
 
 // Pictures of every width to 6 and height to 4, of both kinds; then objects removed, rows and columns together, and files.
 fn main() {
+    let method = energy::usual_method();
     let mut seed: u64 = 1;
     for height in 1..5 {
         for width in 1..7 {
-            seed = trial(width, height, Kind::Grey, seed);
-            seed = trial(width, height, Kind::Rgb, seed);
+            seed = trial(width, height, Kind::Grey, method, seed);
+            seed = trial(width, height, Kind::Rgb, method, seed);
         }
     }
-    seed = objects::trials(seed);
-    seed = retargets::trial(4, 2, Kind::Grey, seed);
-    seed = retargets::trial(3, 3, Kind::Rgb, seed);
-    seed = files::trials(seed);
-    rooms::trials(seed);
+    seed = objects::trials(method, seed);
+    seed = retargets::trial(4, 2, Kind::Grey, method, seed);
+    seed = retargets::trial(3, 3, Kind::Rgb, method, seed);
+    seed = files::trials(method, seed);
+    rooms::trials(method, seed);
 }
 
 // One picture: its seams and cuts along both axes, without marks and with them, and what is given of each of its rows and of
 // the row below the last.
-fn trial(width: usize, height: usize, kind: Kind, seed: u64) -> u64
+fn trial(width: usize, height: usize, kind: Kind, method: Method, seed: u64) -> u64
     requires { ⌜ (width ≤ 6) × (height ≤ 4) × (seed < 65536) ⌝ }
     ensures { λ next. ⌜ next < 65536 ⌝ }
 {
@@ -47,12 +49,12 @@ fn trial(width: usize, height: usize, kind: Kind, seed: u64) -> u64
         kind,
     };
     let bytes = count(height, width, pictures::channels(kind));
-    print_seams(space, bytes, size);
+    print_seams(space, bytes, size, method);
     let pixels = count(height, width, 1);
-    print_marked(space, bytes, marks, pixels, size, Axis::Vertical);
-    print_marked(space, bytes, marks, pixels, size, Axis::Horizontal);
+    print_marked(space, bytes, marks, pixels, size, method, Axis::Vertical);
+    print_marked(space, bytes, marks, pixels, size, method, Axis::Horizontal);
     for r in 0..height + 1 {
-        print_row(&space[..bytes], size, r);
+        print_row(&space[..bytes], size, method, r);
     }
     next
 }
@@ -116,20 +118,19 @@ fn mark(n: u64) -> u8 {
     }
 }
 
-fn print_seams(space: [u8; 72], bytes: usize, size: Size)
+fn print_seams(space: [u8; 72], bytes: usize, size: Size, method: Method)
     requires { ⌜ bytes ≤ 72 ⌝ }
 {
-    print_find(&space[..bytes], size, Axis::Vertical);
-    print_find(&space[..bytes], size, Axis::Horizontal);
-    print_cut(space, bytes, size, Axis::Vertical);
-    print_cut(space, bytes, size, Axis::Horizontal);
+    print_find(&space[..bytes], size, method, Axis::Vertical);
+    print_find(&space[..bytes], size, method, Axis::Horizontal);
+    print_cut(space, bytes, size, method, Axis::Vertical);
+    print_cut(space, bytes, size, method, Axis::Horizontal);
 }
 
 // The number given, the cost, the seam's space and an end of the work space, in a line.
-fn print_find(picture: &[u8], size: Size, axis: Axis) {
+fn print_find(picture: &[u8], size: Size, method: Method, axis: Axis) {
     let mut seam = [9u16; 8];
     let mut work = [1u8; 768];
-    let method = energy::usual_method();
     let found = seam_cut::find(picture, size, method, axis, &mut seam, &mut work);
     print_found(found);
     print_seam(&seam);
@@ -144,20 +145,20 @@ fn print_marked(
     marks: [u8; 72],
     pixels: usize,
     size: Size,
+    method: Method,
     axis: Axis,
 )
     requires { ⌜ (bytes ≤ 72) × (pixels ≤ 72) ⌝ }
 {
-    print_find_marked(&space[..bytes], &marks[..pixels], size, axis);
+    print_find_marked(&space[..bytes], &marks[..pixels], size, method, axis);
     io::write_all(STDOUT_FILENO, b" | ");
-    print_cut_marked(space, bytes, marks, pixels, size, axis);
+    print_cut_marked(space, bytes, marks, pixels, size, method, axis);
     io::write_all(STDOUT_FILENO, b"\n");
 }
 
-fn print_find_marked(picture: &[u8], marks: &[u8], size: Size, axis: Axis) {
+fn print_find_marked(picture: &[u8], marks: &[u8], size: Size, method: Method, axis: Axis) {
     let mut seam = [9u16; 8];
     let mut work = [1u8; 768];
-    let method = energy::usual_method();
     let found = seam_cut_marked::find_marked(
         picture,
         marks,
@@ -179,6 +180,7 @@ fn print_cut_marked(
     marks: [u8; 72],
     pixels: usize,
     size: Size,
+    method: Method,
     axis: Axis,
 )
     requires { ⌜ (bytes ≤ 72) × (pixels ≤ 72) ⌝ }
@@ -191,7 +193,7 @@ fn print_cut_marked(
         &mut copy[..bytes],
         &mut left[..pixels],
         size,
-        energy::usual_method(),
+        method,
         axis,
         &mut seam,
         &mut work,
@@ -203,13 +205,12 @@ fn print_cut_marked(
 }
 
 // The number given, the cost, and the picture's bytes, in a line.
-fn print_cut(space: [u8; 72], bytes: usize, size: Size, axis: Axis)
+fn print_cut(space: [u8; 72], bytes: usize, size: Size, method: Method, axis: Axis)
     requires { ⌜ bytes ≤ 72 ⌝ }
 {
     let mut copy = space;
     let mut seam = [9u16; 8];
     let mut work = [1u8; 768];
-    let method = energy::usual_method();
     let found = seam_cut::cut(&mut copy[..bytes], size, method, axis, &mut seam, &mut work);
     print_found(found);
     print_bytes(&copy[..bytes]);
@@ -239,9 +240,9 @@ pub(crate) fn wide_column(n: u16) -> u64 {
 }
 
 // The number given, the energies' space and the row, in a line.
-fn print_row(picture: &[u8], size: Size, r: usize) {
+fn print_row(picture: &[u8], size: Size, method: Method, r: usize) {
     let mut out = [7u32; 8];
-    let verdict = energy::energies(picture, size, energy::usual_method(), r, &mut out);
+    let verdict = energy::energies(picture, size, method, r, &mut out);
     io::print_decimal(STDOUT_FILENO, pictures::given(verdict));
     print_numbers(&out);
     io::write_all(STDOUT_FILENO, b" |");

@@ -6,6 +6,7 @@ use crate::print_bytes;
 use crate::print_number;
 use crate::wide_byte;
 use crate::wide_column;
+use energy::Method;
 use libc::STDOUT_FILENO;
 use pictures::Kind;
 use pictures::Size;
@@ -13,21 +14,21 @@ use seam_rules::Removal;
 ghost use Prim.Native.Nat.{_<_, _≤_};
 
 // Pictures of two rows and every width to 4, of both kinds, with a budget of 0 to 3.
-pub(crate) fn trials(seed: u64) -> u64
+pub(crate) fn trials(method: Method, seed: u64) -> u64
     requires { ⌜ seed < 65536 ⌝ }
     ensures { λ next. ⌜ next < 65536 ⌝ }
 {
     let mut s = seed;
     for budget in 0u16..4 {
         for width in 1..5 {
-            s = trial(width, Kind::Grey, budget, s);
-            s = trial(width, Kind::Rgb, budget, s);
+            s = trial(width, Kind::Grey, method, budget, s);
+            s = trial(width, Kind::Rgb, method, budget, s);
         }
     }
     s
 }
 
-fn trial(width: usize, kind: Kind, budget: u16, seed: u64) -> u64
+fn trial(width: usize, kind: Kind, method: Method, budget: u16, seed: u64) -> u64
     requires { ⌜ (width ≤ 6) × (seed < 65536) ⌝ }
     ensures { λ next. ⌜ next < 65536 ⌝ }
 {
@@ -42,7 +43,7 @@ fn trial(width: usize, kind: Kind, budget: u16, seed: u64) -> u64
     };
     let bytes = count(2, width, pictures::channels(kind));
     let pixels = count(2, width, 1);
-    print_removal(space, bytes, marks, pixels, size, budget);
+    print_removal(space, bytes, marks, pixels, size, method, budget);
     next
 }
 
@@ -54,6 +55,7 @@ fn print_removal(
     marks: [u8; 72],
     pixels: usize,
     size: Size,
+    method: Method,
     budget: u16,
 )
     requires { ⌜ (bytes ≤ 72) × (pixels ≤ 72) ⌝ }
@@ -65,7 +67,7 @@ fn print_removal(
         &mut copy[..bytes],
         &mut left[..pixels],
         size,
-        energy::usual_method(),
+        method,
         budget,
         &mut work,
     );

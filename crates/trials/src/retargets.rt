@@ -4,6 +4,7 @@ use crate::fill;
 use crate::print_bytes;
 use crate::print_number;
 use crate::wide_byte;
+use energy::Method;
 use libc::STDOUT_FILENO;
 use pictures::Kind;
 use pictures::Size;
@@ -13,7 +14,7 @@ use seam_rules::Rows;
 ghost use Prim.Native.Nat.{_<_, _≤_};
 
 // A line for each count of rows and of columns up to 2.
-pub(crate) fn trial(width: usize, height: usize, kind: Kind, seed: u64) -> u64
+pub(crate) fn trial(width: usize, height: usize, kind: Kind, method: Method, seed: u64) -> u64
     requires { ⌜ (width ≤ 6) × (height ≤ 4) × (seed < 65536) ⌝ }
     ensures { λ next. ⌜ next < 65536 ⌝ }
 {
@@ -26,22 +27,21 @@ pub(crate) fn trial(width: usize, height: usize, kind: Kind, seed: u64) -> u64
     };
     let bytes = count(height, width, pictures::channels(kind));
     for rows in 0..3 {
-        print_retargets(&space[..bytes], size, rows);
+        print_retargets(&space[..bytes], size, method, rows);
     }
     next
 }
 
-fn print_retargets(picture: &[u8], size: Size, rows: usize) {
+fn print_retargets(picture: &[u8], size: Size, method: Method, rows: usize) {
     for columns in 0..3 {
-        print_retarget(picture, size, Rows(rows), Columns(columns));
+        print_retarget(picture, size, method, Rows(rows), Columns(columns));
     }
 }
 
 // The number given, the total, the output space and an end of the work space, in a line.
-fn print_retarget(picture: &[u8], size: Size, rows: Rows, columns: Columns) {
+fn print_retarget(picture: &[u8], size: Size, method: Method, rows: Rows, columns: Columns) {
     let mut out = [7u8; 20];
     let mut work = [1u8; 2100];
-    let method = energy::usual_method();
     let given = seam_retarget::retarget(picture, size, method, rows, columns, &mut out, &mut work);
     print_total(given);
     print_bytes(&out);

@@ -4,6 +4,7 @@ use crate::count;
 use crate::damaged;
 use crate::files;
 use crate::fill;
+use energy::Method;
 use pictures::Kind;
 use pictures::Size;
 use text_theory::Head;
@@ -11,28 +12,28 @@ ghost use Prim.Native.Nat.{_<_, _≤_};
 ghost use lib.ListN.{length};
 
 // The example of the specification, and two generated pictures.
-pub(crate) fn trials(seed: u64)
+pub(crate) fn trials(method: Method, seed: u64)
     requires { ⌜ seed < 65536 ⌝ }
 {
     let example = [10u8, 10, 40, 10, 50, 40];
-    trial(&example, 3, 2, Kind::Grey);
-    let next = generated(4, 2, Kind::Grey, seed);
-    generated(3, 2, Kind::Rgb, next);
+    trial(&example, 3, 2, Kind::Grey, method);
+    let next = generated(4, 2, Kind::Grey, method, seed);
+    generated(3, 2, Kind::Rgb, method, next);
 }
 
-fn generated(width: usize, height: usize, kind: Kind, seed: u64) -> u64
+fn generated(width: usize, height: usize, kind: Kind, method: Method, seed: u64) -> u64
     requires { ⌜ (1 ≤ width) × (width ≤ 4) × (height ≤ 3) × (seed < 65536) ⌝ }
     ensures { λ next. ⌜ next < 65536 ⌝ }
 {
     let mut space = [0u8; 72];
     let next = fill(&mut space, seed);
     let bytes = count(height, width, pictures::channels(kind));
-    trial(&space[..bytes], width, height, kind);
+    trial(&space[..bytes], width, height, kind, method);
     next
 }
 
 // What the whole file gives, what is given in short spaces, and of each damaged file.
-fn trial(picture: &[u8], width: usize, height: usize, kind: Kind)
+fn trial(picture: &[u8], width: usize, height: usize, kind: Kind, method: Method)
     requires { ⌜ (1 ≤ width) × (width ≤ 4) × (height ≤ 3) × (length (now picture) ≤ 72) ⌝ }
 {
     let size = Size {
@@ -40,10 +41,11 @@ fn trial(picture: &[u8], width: usize, height: usize, kind: Kind)
         height,
         kind,
     };
+    let depth = width - 1;
     let head = Head {
         size,
-        method: energy::usual_method(),
-        depth: width - 1,
+        method,
+        depth,
         growth: width / 2,
     };
     let mut text = [0u8; 512];

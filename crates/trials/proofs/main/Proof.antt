@@ -5,16 +5,19 @@ use Rattle.trials.proofs.main.Statement.{statement}
 use Rattle.trials.proofs.main.Tie as tie
 
 abbrev Inv-loop2 : tie.InvT-loop2
-Inv-loop2 seed₀ height width₀ seed width = (seed < 65536) × (height ≤ 4)
+Inv-loop2 method seed₀ height width₀ seed width = (seed < 65536) × (height ≤ 4)
 
 abbrev μ-loop2 : tie.MeasureT-loop2
-μ-loop2 seed₀ height width₀ seed width = 7 - width
+μ-loop2 method seed₀ height width₀ seed width = 7 - width
 
 abbrev Inv-loop : tie.InvT-loop
-Inv-loop seed₀ height₀ seed height = (seed < 65536) × (height ≤ 5)
+Inv-loop method seed₀ height₀ seed height = (seed < 65536) × (height ≤ 5)
 
 abbrev μ-loop : tie.MeasureT-loop
-μ-loop seed₀ height₀ seed height = 5 - height
+μ-loop method seed₀ height₀ seed height = 5 - height
+
+usual-method-requires : tie.Need-usual-method-requires Inv-loop2 μ-loop2 Inv-loop μ-loop
+usual-method-requires c κs = search needs
 
 loop-holds : tie.Need-loop-holds Inv-loop2 μ-loop2 Inv-loop μ-loop
 loop-holds c = search needs
@@ -72,6 +75,7 @@ main-spec =
     μ-loop2
     Inv-loop
     μ-loop
+    usual-method-requires
     loop-holds
     loop2-holds
     trial-requires

@@ -9,10 +9,10 @@ use Rattle.trials.proofs.trial.Statement.{statement}
 use Rattle.trials.proofs.trial.Tie as tie
 
 abbrev Inv-loop : tie.InvT-loop
-Inv-loop width height seed space filled next size bytes pixels r₀ r-end r = (length space ≡ 72) × ((bytes ≤ 72) × (r-end ≤ 5))
+Inv-loop width height method seed space filled next size bytes pixels r₀ r-end r = (length space ≡ 72) × ((bytes ≤ 72) × (r-end ≤ 5))
 
 abbrev μ-loop : tie.MeasureT-loop
-μ-loop width height seed space filled next size bytes pixels r₀ r-end r = r-end - r
+μ-loop width height method seed space filled next size bytes pixels r₀ r-end r = r-end - r
 
 slice-aggregate-fill : tie.Need-slice-aggregate-fill Inv-loop μ-loop
 slice-aggregate-fill c = search needs

@@ -5,16 +5,16 @@ use Rattle.trials.proofs.files.trials.Statement.{statement}
 use Rattle.trials.proofs.files.trials.Tie as tie
 
 abbrev Inv-loop2 : tie.InvT-loop2
-Inv-loop2 seed s₀ height width₀ s width = (s < 65536) × ((height ≤ 3) × (1 ≤ width))
+Inv-loop2 method seed s₀ height width₀ s width = (s < 65536) × ((height ≤ 3) × (1 ≤ width))
 
 abbrev μ-loop2 : tie.MeasureT-loop2
-μ-loop2 seed s₀ height width₀ s width = 6 - width
+μ-loop2 method seed s₀ height width₀ s width = 6 - width
 
 abbrev Inv-loop : tie.InvT-loop
-Inv-loop seed s₀ height₀ s height = (s < 65536) × (height ≤ 4)
+Inv-loop method seed s₀ height₀ s height = (s < 65536) × (height ≤ 4)
 
 abbrev μ-loop : tie.MeasureT-loop
-μ-loop seed s₀ height₀ s height = 4 - height
+μ-loop method seed s₀ height₀ s height = 4 - height
 
 loop-holds : tie.Need-loop-holds Inv-loop2 μ-loop2 Inv-loop μ-loop
 loop-holds c = search needs

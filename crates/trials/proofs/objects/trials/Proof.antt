@@ -5,16 +5,16 @@ use Rattle.trials.proofs.objects.trials.Statement.{statement}
 use Rattle.trials.proofs.objects.trials.Tie as tie
 
 abbrev Inv-loop2 : tie.InvT-loop2
-Inv-loop2 seed s₀ budget width₀ s width = (s < 65536) × (budget ≤ 3)
+Inv-loop2 method seed s₀ budget width₀ s width = (s < 65536) × (budget ≤ 3)
 
 abbrev μ-loop2 : tie.MeasureT-loop2
-μ-loop2 seed s₀ budget width₀ s width = 5 - width
+μ-loop2 method seed s₀ budget width₀ s width = 5 - width
 
 abbrev Inv-loop : tie.InvT-loop
-Inv-loop seed s₀ budget₀ s budget = (s < 65536) × (budget ≤ 4)
+Inv-loop method seed s₀ budget₀ s budget = (s < 65536) × (budget ≤ 4)
 
 abbrev μ-loop : tie.MeasureT-loop
-μ-loop seed s₀ budget₀ s budget = 4 - budget
+μ-loop method seed s₀ budget₀ s budget = 4 - budget
 
 loop-holds : tie.Need-loop-holds Inv-loop2 μ-loop2 Inv-loop μ-loop
 loop-holds c = search needs

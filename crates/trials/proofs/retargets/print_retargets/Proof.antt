@@ -5,10 +5,10 @@ use Rattle.trials.proofs.retargets.print_retargets.Statement.{statement
 use Rattle.trials.proofs.retargets.print_retargets.Tie as tie
 
 abbrev Inv-loop : tie.InvT-loop
-Inv-loop picture size rows columns₀ columns = columns ≤ 3
+Inv-loop picture size method rows columns₀ columns = columns ≤ 3
 
 abbrev μ-loop : tie.MeasureT-loop
-μ-loop picture size rows columns₀ columns = 3 - columns
+μ-loop picture size method rows columns₀ columns = 3 - columns
 
 loop-holds : tie.Need-loop-holds Inv-loop μ-loop
 loop-holds c = search needs

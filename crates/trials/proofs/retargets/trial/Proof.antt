@@ -9,10 +9,10 @@ use Rattle.trials.proofs.retargets.trial.Statement.{statement}
 use Rattle.trials.proofs.retargets.trial.Tie as tie
 
 abbrev Inv-loop : tie.InvT-loop
-Inv-loop width height seed space next size bytes rows₀ rows = (length space ≡ 72) × ((bytes ≤ 72) × (rows ≤ 3))
+Inv-loop width height method seed space next size bytes rows₀ rows = (length space ≡ 72) × ((bytes ≤ 72) × (rows ≤ 3))
 
 abbrev μ-loop : tie.MeasureT-loop
-μ-loop width height seed space next size bytes rows₀ rows = 3 - rows
+μ-loop width height method seed space next size bytes rows₀ rows = 3 - rows
 
 slice-aggregate-fill : tie.Need-slice-aggregate-fill Inv-loop μ-loop
 slice-aggregate-fill c = search needs

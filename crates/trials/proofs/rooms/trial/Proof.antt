@@ -8,8 +8,8 @@ use lib.Seq.{length-take-le}
 use Rattle.trials.proofs.rooms.trial.Statement.{statement}
 use Rattle.trials.proofs.rooms.trial.Tie as tie
 
-sub-t10 : tie.Need-sub-t10
-sub-t10 c = search needs
+sub-depth : tie.Need-sub-depth
+sub-depth c = search needs
 
 slice-aggregate-print-build : tie.Need-slice-aggregate-print-build
 slice-aggregate-print-build c = search needs
@@ -53,7 +53,7 @@ pub trial-spec : {M : Type 1} → statement M
 trial-spec =
     tie.close
     (tie.spec
-    sub-t10
+    sub-depth
     slice-aggregate-print-build
     slice-aggregate-print-build-2
     print-build-requires
