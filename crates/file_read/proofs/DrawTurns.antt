@@ -19,7 +19,7 @@ use Rattle.text_read.specs.declared.cursor.Cursor.{Cursor}
 use Rattle.text_read.specs.declared.cursor.Read.the-variants as reads
 use Rattle.text_read.specs.Answers.{read}
 use Rattle.text_read.specs.Lines.{mapLine, Taken}
-use Rattle.map_show.specs.Showing.{rowShown, RowShown}
+use Rattle.map_show.specs.Showing.{rowShown, RowAtGiven}
 use Rattle.map_show.proofs.Judging.{row-served}
 use Rattle.file_theory.specs.Shows.{rowsIn, mapsIn, shows, drawnBytes}
 use Rattle.file_read.specs.Inner.Widths.{LinesNeeded}
@@ -100,7 +100,7 @@ module _ (before : List ℕ) {file : List ℕ} {h : Head} {first v : ℕ} {space
     -- And the row is shown.
     module _ (numbers got : List ℕ) (got-is : got ≡ getD (mapsIn (parse file)) r []) (m n : ℕ) (m-is : m ≡ channelsOf (h .size .kind)) (n-is : n ≡ channelsOf (h .size .kind))
         (now new : List ℕ) (same : length now ≡ length before) (answer : Verdict)
-        (g : RowShown (h .size .kind) (midOf (r * (h .size .width * m)) (r * (h .size .width * m) + h .size .width * m - r * (h .size .width * m)) space)
+        (g : RowAtGiven (h .size .kind) (midOf (r * (h .size .width * m)) (r * (h .size .width * m) + h .size .width * m - r * (h .size .width * m)) space)
         (take (h .size .width) (got ++ drop (h .size .width) numbers)) v (midOf (r * (v * n)) (r * (v * n) + v * n - r * (v * n)) now) answer new) where
       all : length (drawnBytes (shows file v)) ≡ h .size .height * (v * n)
       all = whole-long ∙ ap (λ i. h .size .height * (v * i)) (sym n-is)
@@ -121,7 +121,7 @@ module _ (before : List ℕ) {file : List ℕ} {h : Head} {first v : ℕ} {space
           let numbers-are : take (h .size .width) (got ++ drop (h .size .width) numbers) ≡ line = take-at got (drop (h .size .width) numbers) (h .size .width) (ap length got-is ∙ wide) ∙ got-is in
           let shown : rowShown (h .size .kind) row line v ≡ whole =
           drawn-row known v (d .drawn .accepted) (fits .offers) r inside ∙ ap (λ i. rowAt (v * i) r (drawnBytes (shows file v))) (sym n-is) in
-          let given : RowShown (h .size .kind) row line v out answer new = rw (samples-are m m-is, numbers-are) at g in
+          let given : RowAtGiven (h .size .kind) row line v out answer new = rw (samples-are m m-is, numbers-are) at g in
           let samples : length row ≡ length line * channelsOf (h .size .kind) = length-flat (each-at r [] inside (known .of-size)) ∙ ap (_* channelsOf (h .size .kind)) (sym wide) in
           row-served (h .size .kind) row line v out samples (rw shown (omega (arith, shown-long, out-long))) given ∙ ap (λ x. x ++ drop (length x) out) shown
           ∙ ap (whole ++_) (drop-of-length-le out {i = length whole} (omega (arith, shown-long, out-long))) ∙ append-nil whole

@@ -63,12 +63,12 @@ module _ (file : List ℕ) (v : ℕ) (out work : List ℕ) where
           refused why work′ (sym n ∙ j .number ∙ judged-number file h o own refl room)
           (judged-work file work d work′ j ∙ ap (λ i. worked i (replicate (length work) 0) work) n)
 
-      pub show-served : (out′ work′ : List ℕ) → refusal (judgedIn (parse file)) ≡ 0 → DrawGiven file v out out′ → work′ ≡ replicate (length work) 0
+      pub show-served : (out′ work′ : List ℕ) → refusal (judgedIn (parse file)) ≡ 0 → DrawGiven file v out work out′ work′
           → ShowGiven file v out work (showings.Size (sized v (h .size))) out′ work′
       unfolding shows
-      show-served out′ work′ e g w = record {
+      show-served out′ work′ e g = record {
         number = sym e ∙ judged-number file h o own refl room;
         size = sym (ap (λ q. drawnSize (showsIn q v)) (opened file h o .parsed));
-        out-given = g .out-is;
-        work-left = w;
+        out-given = g .out-given;
+        work-left = g .work-left;
       }

@@ -13,7 +13,7 @@ use text_theory::Head;
 ghost use mathlib.Core.Path.{_≡_};
 ghost use lib.ListN.{length, replicate};
 ghost use Rattle.file_read.specs.Reading.{ShowGiven};
-ghost use Rattle.file_read.specs.Inner.Widths.{DrawNeeded, DrawGiven, LinesNeeded};
+ghost use Rattle.file_read.specs.Inner.Widths.{DrawNeeded, DrawGiven, drawnIn, LinesNeeded};
 
 // The picture that a file shows at the wanted width, put into the front of out, and its size. Refused by what checking
 // refuses, by 7 where the width isn't offered, and by 8 where out is shorter than the picture.
@@ -43,8 +43,7 @@ pub fn show(file: &[u8], wanted: usize, out: &mut [u8], work: &mut [u8]) -> Show
 // Puts what an accepted file shows into the front of out. The picture stands in the work space meanwhile.
 fn draw(file: &[u8], head: Head, wanted: usize, out: &mut [u8], work: &mut [u8])
     requires { ⌜ DrawNeeded (now file) head wanted (length (now out)) (length (now work)) ⌝ }
-    ensures { λ _. ⌜ DrawGiven (now (file .entry)) wanted (now (out .entry)) (now (out .exit)) ⌝ }
-    ensures { λ _. ⌜ now (work .exit) ≡ replicate (length (now (work .entry))) 0 ⌝ }
+    ensures { λ _. ⌜ DrawGiven (now (file .entry)) wanted (now (out .entry)) (now (work .entry)) (now (out .exit)) (now (work .exit)) ⌝ }
 {
     let rows = opening::first_row(file, head);
     let maps = lines::read_rows(file, head, rows, work);
@@ -55,7 +54,7 @@ fn draw(file: &[u8], head: Head, wanted: usize, out: &mut [u8], work: &mut [u8])
 // The same, the picture standing at the front of a space.
 fn draw_rows(file: &[u8], head: Head, maps: Cursor, wanted: usize, space: &[u8], out: &mut [u8])
     requires { ⌜ LinesNeeded (now file) head (maps .at) wanted (now space) (length (now out)) ⌝ }
-    ensures { λ _. ⌜ DrawGiven (now (file .entry)) wanted (now (out .entry)) (now (out .exit)) ⌝ }
+    ensures { λ _. ⌜ now (out .exit) ≡ drawnIn (now (file .entry)) wanted (now (out .entry)) ⌝ }
 {
     let size = head.size;
     let width = size.width;

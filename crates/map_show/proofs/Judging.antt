@@ -11,7 +11,7 @@ use Rattle.pictures.specs.declared.refusals.Verdict.{Verdict}
 use Rattle.pictures.specs.Refusals.{_when_, refusal, served}
 use Rattle.pictures.specs.Pictures.{channelsOf}
 use Rattle.pictures.proofs.Rules.{passed}
-use Rattle.map_show.specs.Showing.{rowShown, pixelsAt, rowAtRules, RowShown}
+use Rattle.map_show.specs.Showing.{rowShown, pixelsAt, rowAtRules, RowAtGiven}
 use Rattle.map_show.specs.Inner.Rows.{keptPixels, grown, RowNeeded}
 use Rattle.map_show.proofs.Lengths.{length-shown, narrow-is, wide-is}
 
@@ -29,11 +29,11 @@ module _ (k : Kind) (samples ys : List ℕ) (v : ℕ) (out : List ℕ) where
       nothing-refused = rw (eq-eqb (length samples) (length ys * channelsOf k) whole, le-ltb (length out) (length (rowShown k samples ys v)) room)
 
       -- As many samples as the numbers say, and room: the row stands at the front of the space.
-      pub row-served : {answer : Verdict} {out′ : List ℕ} → RowShown k samples ys v out answer out′
+      pub row-served : {answer : Verdict} {out′ : List ℕ} → RowAtGiven k samples ys v out answer out′
           → out′ ≡ rowShown k samples ys v ++ drop (length (rowShown k samples ys v)) out
       row-served g =
-          g .out-is
-          ∙ ap (λ n. served n (rowShown k samples ys v ++ drop (length (rowShown k samples ys v)) out) out) (g .number-is ∙ sym nothing-refused)
+          g .out-given
+          ∙ ap (λ n. served n (rowShown k samples ys v ++ drop (length (rowShown k samples ys v)) out) out) (g .number ∙ sym nothing-refused)
 
     pub shown-room : pixelsAt ys v * channelsOf k ≤ length out → length (rowShown k samples ys v) ≤ length out
     shown-room h = rw (length-shown k samples ys v whole) h

@@ -28,7 +28,7 @@ rowAtRules k samples numbers v space =
     4 when not (eqb (length samples) (length numbers * channelsOf k)) ∷ 8 when ltb space (length (rowShown k samples numbers v)) ∷ []
 
 -- What showing a row gives: the number, and the space, which keeps what stands after the row.
-pub record RowShown (k : Kind) (samples numbers : List ℕ) (v : ℕ) (out : List ℕ) (answer : Verdict) (out′ : List ℕ) : Type 0 where
-  pub number-is : given answer ≡ refusal (rowAtRules k samples numbers v (length out))
-  pub out-is :
+pub record RowAtGiven (k : Kind) (samples numbers : List ℕ) (v : ℕ) (out : List ℕ) (answer : Verdict) (out′ : List ℕ) : Type 0 where
+  pub number : given answer ≡ refusal (rowAtRules k samples numbers v (length out))
+  pub out-given :
       out′ ≡ served (given answer) (rowShown k samples numbers v ++ drop (length (rowShown k samples numbers v)) out) out

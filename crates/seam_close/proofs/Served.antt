@@ -27,6 +27,6 @@ close-served b z s b′ v g e columns wide =
     let rules = 4 when not (eqb (length s) (z .height)) ∷ 10 when outside (z .width) s ∷ 13 when eqb (z .width) 1 ∷ [] in
     let two : z .width ≡ 1 → ⊥ = λ one. omega arith in
     let none : refusal (4 when not (eqb (length s) (z .height)) ∷ 10 when outside (z .width) s ∷ 13 when eqb (z .width) 1 ∷ []) ≡ 0 = simp (eq-eqb _ _ (each-length columns), each-inside columns, ne-eqb _ _ two) in
-    g .picture
+    g .picture-left
     ∙ ap (λ n. served n (bytes (cut s (picture z b)) ++ replicate (z .height * channelsOf (z .kind)) 0) b)
-    (g .answer ∙ served-first (sizeRules z (length b)) rules refl e ∙ none)
+    (g .number ∙ served-first (sizeRules z (length b)) rules refl e ∙ none)

@@ -17,6 +17,6 @@ closeRules z bytes s = closeLengthRules z bytes (length s) ++ closeColumnRules (
 
 -- What closing up gives: the number, and the picture. "The rows then lie packed at the front of the lent picture and the
 -- freed bytes are 0."
-pub record CloseGiven (b : List ℕ) (z : Size) (s : List ℕ) (verdict : Verdict) (b′ : List ℕ) : Type 0 where
-  pub answer : given verdict ≡ refusal (closeRules z (length b) s)
-  pub picture : b′ ≡ served (given verdict) (bytes (cut s (picture z b)) ++ replicate (z .height * channelsOf (z .kind)) 0) b
+pub record CloseGiven (b : List ℕ) (z : Size) (s : List ℕ) (answer : Verdict) (b′ : List ℕ) : Type 0 where
+  pub number : given answer ≡ refusal (closeRules z (length b) s)
+  pub picture-left : b′ ≡ served (given answer) (bytes (cut s (picture z b)) ++ replicate (z .height * channelsOf (z .kind)) 0) b

@@ -7,7 +7,7 @@ use seam_sums::least32;
 ghost use Rattle.pictures.specs.Pictures.{pictureBytes};
 ghost use Rattle.seam_sums.specs.Fences.{fence32};
 ghost use Rattle.seam_find.specs.Inner.Down.{costsOf};
-ghost use Rattle.seam_find.specs.Inner.Bottom.{BottomNeeded, BottomGiven, RowsNeeded};
+ghost use Rattle.seam_find.specs.Inner.Bottom.{BottomNeeded, BottomGiven, BottomWithNeeded};
 
 // The column where the path ends, in the last row, and what the path costs.
 pub(crate) struct Bottom {
@@ -46,8 +46,7 @@ fn bottom_with(
     cost: &mut [u32],
     next: &mut [u32],
 ) -> Bottom
-    requires { ⌜ BottomNeeded (pictureBytes size) size bytes (now space) ⌝ }
-    requires { ⌜ RowsNeeded fence32 size (now above) (now cost) (now next) ⌝ }
+    requires { ⌜ BottomWithNeeded fence32 (pictureBytes size) size bytes (now space) (now above) (now cost) (now next) ⌝ }
     ensures { λ r. ⌜ BottomGiven fence32 (pictureBytes size) size (costsOf size method) (now (space .entry)) (now (space .exit)) (r .column) (r .sum) ⌝ }
 {
     let width = size.width;

@@ -2,19 +2,14 @@
 use seam_sums::least32;
 ghost use mathlib.Core.Path.{_≡_};
 ghost use lib.ListN.{length};
-ghost use Rattle.grids.specs.Table.{table};
-ghost use mathlib.Core.Bool.{false};
 ghost use Rattle.seam_sums.specs.Fences.{fence32};
-ghost use Rattle.seam_theory.specs.Sums.{alikeRows, sumOf3, wayOf3};
-ghost use Rattle.seam_find.specs.Inner.Sums.{SumsNeeded};
+ghost use Rattle.seam_find.specs.Inner.Sums.{NextRowNeeded, NextRowGiven};
 
 // The sums of a row and where each comes from, from the row of sums above it and the row's costs. A pixel costs the same
 // wherever a path comes from, so the sums above decide.
 pub(crate) fn next_row(above: &[u32], cost: &[u32], next: &mut [u32], ways: &mut [u8])
-    requires { ⌜ SumsNeeded fence32 (now above) (now cost) (now next) ⌝ }
-    requires { ⌜ length (now ways) ≡ length (now next) ⌝ }
-    ensures { λ _. ⌜ now (next .exit) ≡ table (sumOf3 (now (above .entry)) (alikeRows (now (cost .entry)))) (length (now (next .entry))) ⌝ }
-    ensures { λ _. ⌜ now (ways .exit) ≡ table (wayOf3 false (length (now (ways .entry))) (now (above .entry)) (alikeRows (now (cost .entry)))) (length (now (ways .entry))) ⌝ }
+    requires { ⌜ NextRowNeeded fence32 (now above) (now cost) (now next) (now ways) ⌝ }
+    ensures { λ _. ⌜ NextRowGiven (now (above .entry)) (now (cost .entry)) (now (next .entry)) (now (ways .entry)) (now (next .exit)) (now (ways .exit)) ⌝ }
 {
     for c in 0..next.len() {
         let left = above[c];

@@ -50,8 +50,7 @@ fn judge_trace(ways: usize, width: usize, height: usize, column: usize, seam: us
 
 // The column of the row above to which a way leads; past an edge, the column at the other edge.
 fn step(width: usize, column: usize, way: u8) -> usize
-    requires { ⌜ width ≤ mostSide ⌝ }
-    requires { ⌜ column < width ⌝ }
+    requires { ⌜ (width ≤ mostSide) × (column < width) ⌝ }
     ensures { λ n. ⌜ n ≡ cameFrom width column way ⌝ }
 {
     let right = column + wide(way);

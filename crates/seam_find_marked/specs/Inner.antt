@@ -12,6 +12,9 @@ use Rattle.energy.specs.Energy.{StepCosts, costsAt}
 use Rattle.seam_theory.specs.PictureSeams.{markAt}
 use Rattle.seam_theory.specs.Sums.{CostRows, costRows}
 use Rattle.energy.specs.Bounds.{mostEnergy}
+use Rattle.seam_sums.specs.Fences.{fence64}
+use Rattle.seam_find.specs.Inner.Down.{DownNeeded, RowNeeded}
+use Rattle.seam_find.specs.Inner.Bottom.{BottomNeeded, RowsNeeded}
 use Rattle.seam_sums.specs.Weights.{kept, protected, weightOf}
 
 -- A bound for the arithmetic: no pixel weighs more.
@@ -51,3 +54,17 @@ pub record WeightsNeeded (z : Size) (bytes i : ℕ) (front energy cost : List �
   pub long : length front ≡ markedBytes z
   pub energy-room : length energy ≡ z .width
   pub cost-room : length cost ≡ z .width
+
+-- What works out all rows, one row, and the end of the path ask besides: room for a row of energies.
+pub record DownMarkedNeeded (z : Size) (how : Method) (bytes : ℕ) (space above energy cost next : List ℕ) : Type 0 where
+  pub down : DownNeeded fence64 (markedBytes z) z (weightsOf z how) bytes space above cost next
+  pub energy-room : length energy ≡ z .width
+
+pub record RowMarkedNeeded (z : Size) (bytes i : ℕ) (space above energy cost next : List ℕ) : Type 0 where
+  pub row : RowNeeded fence64 (markedBytes z) z bytes i space above cost next
+  pub energy-room : length energy ≡ z .width
+
+pub record BottomMarkedNeeded (z : Size) (bytes : ℕ) (space above energy cost next : List ℕ) : Type 0 where
+  pub picture : BottomNeeded (markedBytes z) z bytes space
+  pub rows : RowsNeeded fence64 z above cost next
+  pub energy-room : length energy ≡ z .width

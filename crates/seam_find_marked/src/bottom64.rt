@@ -5,11 +5,9 @@ use energy::Method;
 use pictures::LARGEST_SIDE;
 use pictures::Size;
 use seam_sums::least64;
-ghost use mathlib.Core.Path.{_≡_};
-ghost use lib.ListN.{length};
 ghost use Rattle.seam_sums.specs.Fences.{fence64};
-ghost use Rattle.seam_find_marked.specs.Inner.{markedBytes, weightsOf};
-ghost use Rattle.seam_find.specs.Inner.Bottom.{BottomNeeded, BottomGiven, RowsNeeded};
+ghost use Rattle.seam_find_marked.specs.Inner.{markedBytes, weightsOf, BottomMarkedNeeded};
+ghost use Rattle.seam_find.specs.Inner.Bottom.{BottomNeeded, BottomGiven};
 
 // The column where the path ends, in the last row, and what the path weighs.
 pub(crate) struct Bottom {
@@ -52,9 +50,7 @@ fn bottom_with(
     cost: &mut [u64],
     next: &mut [u64],
 ) -> Bottom
-    requires { ⌜ BottomNeeded (markedBytes size) size bytes (now space) ⌝ }
-    requires { ⌜ RowsNeeded fence64 size (now above) (now cost) (now next) ⌝ }
-    requires { ⌜ length (now energies) ≡ size .width ⌝ }
+    requires { ⌜ BottomMarkedNeeded size bytes (now space) (now above) (now energies) (now cost) (now next) ⌝ }
     ensures { λ r. ⌜ BottomGiven fence64 (markedBytes size) size (weightsOf size method) (now (space .entry)) (now (space .exit)) (r .column) (r .sum) ⌝ }
 {
     let width = size.width;

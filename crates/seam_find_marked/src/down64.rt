@@ -3,11 +3,9 @@ use crate::sums64;
 use crate::weights;
 use energy::Method;
 use pictures::Size;
-ghost use mathlib.Core.Path.{_≡_};
-ghost use lib.ListN.{length};
 ghost use Rattle.seam_sums.specs.Fences.{fence64};
-ghost use Rattle.seam_find_marked.specs.Inner.{markedBytes, weightsOf};
-ghost use Rattle.seam_find.specs.Inner.Down.{DownNeeded, DownGiven, RowNeeded, RowGiven};
+ghost use Rattle.seam_find_marked.specs.Inner.{markedBytes, weightsOf, DownMarkedNeeded, RowMarkedNeeded};
+ghost use Rattle.seam_find.specs.Inner.Down.{DownGiven, RowGiven};
 
 // A number larger than every sum.
 pub(crate) const FENCE: u64 = 4611686018427387904;
@@ -25,8 +23,7 @@ pub(crate) fn down(
     cost: &mut [u64],
     next: &mut [u64],
 )
-    requires { ⌜ DownNeeded fence64 (markedBytes size) size (weightsOf size method) bytes (now space) (now above) (now cost) (now next) ⌝ }
-    requires { ⌜ length (now energies) ≡ size .width ⌝ }
+    requires { ⌜ DownMarkedNeeded size method bytes (now space) (now above) (now energies) (now cost) (now next) ⌝ }
     ensures { λ _. ⌜ DownGiven fence64 (markedBytes size) size (weightsOf size method) (now (space .entry)) (now (space .exit)) (now (above .exit)) ⌝ }
 {
     let height = size.height;
@@ -47,8 +44,7 @@ fn row_down(
     cost: &mut [u64],
     next: &mut [u64],
 )
-    requires { ⌜ RowNeeded fence64 (markedBytes size) size bytes i (now space) (now above) (now cost) (now next) ⌝ }
-    requires { ⌜ length (now energies) ≡ size .width ⌝ }
+    requires { ⌜ RowMarkedNeeded size bytes i (now space) (now above) (now energies) (now cost) (now next) ⌝ }
     ensures { λ _. ⌜ RowGiven fence64 (markedBytes size) size (weightsOf size method) i (now (space .entry)) (now (above .entry)) (now (space .exit)) (now (above .exit)) ⌝ }
 {
     let width = size.width;

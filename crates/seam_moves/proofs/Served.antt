@@ -23,9 +23,9 @@ pub exchange-served : (b : List ℕ) (z : Size) (to to′ : List ℕ) (v : Verdi
 exchange-served b z to to′ v g s l =
     let rules = 8 when ltb (length to) (pictureBytes z) ∷ [] in
     let none : refusal (8 when ltb (length to) (pictureBytes z) ∷ []) ≡ 0 = simp (le-ltb _ _ l) in
-    g .space
+    g .to-given
     ∙ ap (λ n. served n (bytes (exchange (z .width) (picture z b)) ++ drop (pictureBytes z) to) to)
-    (g .answer ∙ served-first (sizeRules z (length b)) rules refl s ∙ none)
+    (g .number ∙ served-first (sizeRules z (length b)) rules refl s ∙ none)
 
 -- A picture of its size, a column of it, and room for it: the column stands at the front of the space.
 pub column-served : (b : List ℕ) (z : Size) (c : ℕ) (out out′ : List ℕ) (v : Verdict) → ColumnGiven b z c out v out′
@@ -34,16 +34,16 @@ pub column-served : (b : List ℕ) (z : Size) (c : ℕ) (out out′ : List ℕ) 
 column-served b z c out out′ v g s l m =
     let short = ltb (length out) (z .height * channelsOf (z .kind)) in
     let none : refusal (8 when short ∷ 10 when leb (z .width) c ∷ []) ≡ 0 = simp (le-ltb _ _ l, lt-leb _ _ m) in
-    g .space
+    g .out-given
     ∙ ap (λ n. served n (columnBytes z b c ++ drop (z .height * channelsOf (z .kind)) out) out)
-    (g .answer ∙ served-first (sizeRules z (length b)) (8 when short ∷ 10 when leb (z .width) c ∷ []) refl s ∙ none)
+    (g .number ∙ served-first (sizeRules z (length b)) (8 when short ∷ 10 when leb (z .width) c ∷ []) refl s ∙ none)
 
 -- Two places inside the space that don't overlap: what stands at one is put at the other.
 pub copy-between-served : (space : List ℕ) (from n to : ℕ) (v : Verdict) (space′ : List ℕ) → CopyBetweenGiven space from n to v space′
     → PlacesApart (length space) from to n → space′ ≡ putAt to n (partAt from n space) space
 copy-between-served space from n to v space′ g p =
     let none : refusal (copyBetweenRules (length space) from n to) ≡ 0 = simp (are-places (length space) from to n p) in
-    g .space-left ∙ ap (λ k. served k (putAt to n (partAt from n space) space) space) (g .answer ∙ none)
+    g .space-left ∙ ap (λ k. served k (putAt to n (partAt from n space) space) space) (g .number ∙ none)
 
 pub exchange-between-served : (space : List ℕ) (from : ℕ) (z : Size) (to : ℕ) (v : Verdict) (space′ : List ℕ) → ExchangeBetweenGiven space from z to v space′
     → refusal (sideRules z) ≡ 0 → PlacesApart (length space) from to (pictureBytes z)
@@ -52,4 +52,4 @@ exchange-between-served space from z to v space′ g s p =
     let none : refusal (copyBetweenRules (length space) from (pictureBytes z) to) ≡ 0 = simp (are-places (length space) from to (pictureBytes z) p) in
     g .space-left
     ∙ ap (λ k. served k (putAt to (pictureBytes z) (bytes (exchange (z .width) (picture z (partAt from (pictureBytes z) space)))) space) space)
-    (g .answer ∙ served-first (sideRules z) (copyBetweenRules (length space) from (pictureBytes z) to) refl s ∙ none)
+    (g .number ∙ served-first (sideRules z) (copyBetweenRules (length space) from (pictureBytes z) to) refl s ∙ none)

@@ -24,18 +24,18 @@ abbrev pub copyBetweenRules : ℕ → ℕ → ℕ → ℕ → List Rule
 copyBetweenRules space from n to = 8 when not (apartIn space from to n) ∷ []
 
 -- What copying gives: the number, and the space.
-pub record CopyBetweenGiven (space : List ℕ) (from n to : ℕ) (verdict : Verdict) (space′ : List ℕ) : Type 0 where
-  pub answer : given verdict ≡ refusal (copyBetweenRules (length space) from n to)
-  pub space-left : space′ ≡ served (given verdict) (putAt to n (partAt from n space) space) space
+pub record CopyBetweenGiven (space : List ℕ) (from n to : ℕ) (answer : Verdict) (space′ : List ℕ) : Type 0 where
+  pub number : given answer ≡ refusal (copyBetweenRules (length space) from n to)
+  pub space-left : space′ ≡ served (given answer) (putAt to n (partAt from n space) space) space
 
 -- Exchanging is also refused by 2 and 3, as every size is.
 abbrev pub exchangeBetweenRules : ℕ → ℕ → Size → ℕ → List Rule
 exchangeBetweenRules space from z to = sideRules z ++ copyBetweenRules space from (pictureBytes z) to
 
 -- What exchanging gives: the number, and the space.
-pub record ExchangeBetweenGiven (space : List ℕ) (from : ℕ) (z : Size) (to : ℕ) (verdict : Verdict) (space′ : List ℕ) : Type 0 where
-  pub answer : given verdict ≡ refusal (exchangeBetweenRules (length space) from z to)
+pub record ExchangeBetweenGiven (space : List ℕ) (from : ℕ) (z : Size) (to : ℕ) (answer : Verdict) (space′ : List ℕ) : Type 0 where
+  pub number : given answer ≡ refusal (exchangeBetweenRules (length space) from z to)
   pub space-left :
-      space′ ≡ served (given verdict)
+      space′ ≡ served (given answer)
       (putAt to (pictureBytes z) (bytes (exchange (z .width) (picture z (partAt from (pictureBytes z) space)))) space)
       space

@@ -11,9 +11,9 @@ use Rattle.pictures.proofs.Rules.{number-some}
 use Rattle.seam_rules.specs.declared.answers.Found.{Found}
 use Rattle.seam_rules.specs.declared.answers.Found.the-variants.{Seam, Refused}
 use Rattle.seam_rules.specs.Answers.{foundNumber, foundCost}
-use Rattle.seam_sums.specs.Weights.{kept, protected, FoundBy}
+use Rattle.seam_sums.specs.Weights.{kept, protected, FoundByGiven}
 
-module _ (weight : ℕ) (answer : Found) (by : FoundBy weight answer) where
+module _ (weight : ℕ) (answer : Found) (by : FoundByGiven weight answer) where
   -- A refusal was given for a protected pixel, and is 12;
   module _ (why : Refusal) (is : answer ≡ Refused why) where
     told : (t : Bool) → numberOf why ≡ cond t 12 0 → t ≡ true

@@ -20,6 +20,6 @@ abbrev pub weightOf : ℕ → ℕ → ℕ
 weightOf energy mark = energy + (cond (eqb mark 2) 0 1 * kept + cond (eqb mark 1) 1 0 * protected)
 
 -- What the least weight of a path means: 12 where the path has a protected pixel, and else what it costs.
-pub record FoundBy (weight : ℕ) (answer : Found) : Type 0 where
+pub record FoundByGiven (weight : ℕ) (answer : Found) : Type 0 where
   pub number : foundNumber answer ≡ cond (leb protected weight) 12 0
   pub cost : foundCost answer ≡ cond (leb protected weight) 0 (weight % kept)

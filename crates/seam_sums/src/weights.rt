@@ -2,7 +2,7 @@
 use pictures::Refusal;
 use seam_rules::Found;
 ghost use mathlib.Core.Path.{_≡_};
-ghost use Rattle.seam_sums.specs.Weights.{weightOf, FoundBy};
+ghost use Rattle.seam_sums.specs.Weights.{weightOf, FoundByGiven};
 
 // What a pixel adds that is kept, that is not marked 2: more than any path costs.
 pub const KEPT: u64 = 4294967296;
@@ -26,7 +26,7 @@ pub fn weight(energy: u32, mark: u8) -> u64
 // What the least weight of a path means: a seam and its cost, or 12 where the path has a protected pixel, since then every
 // path has one.
 pub fn found_by(weight: u64) -> Found
-    ensures { λ f. ⌜ FoundBy weight f ⌝ }
+    ensures { λ f. ⌜ FoundByGiven weight f ⌝ }
 {
     if PROTECTED <= weight {
         return Found::Refused(Refusal::AllProtected);

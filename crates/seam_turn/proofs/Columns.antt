@@ -42,7 +42,7 @@ pub record Inside (z : Size) (s : List ℕ) : Type 0 where
 pub close-inside : (b : List ℕ) (z : Size) (s b′ : List ℕ) (v : Verdict) → CloseGiven b z s v b′ → given v ≡ 0 → Inside z s
 close-inside b z s b′ v g e =
     let ends = 10 when outside (z .width) s ∷ 13 when eqb (z .width) 1 ∷ [] in
-    let parts = served-both (sizeRules z (length b)) (4 when not (eqb (length s) (z .height)) ∷ 10 when outside (z .width) s ∷ 13 when eqb (z .width) 1 ∷ []) refl (sym (g .answer) ∙ e) in
+    let parts = served-both (sizeRules z (length b)) (4 when not (eqb (length s) (z .height)) ∷ 10 when outside (z .width) s ∷ 13 when eqb (z .width) 1 ∷ []) refl (sym (g .number) ∙ e) in
     let four = passed (not (eqb (length s) (z .height))) 3 (cond (outside (z .width) s) 10 (cond (eqb (z .width) 1) 13 0)) (parts .1) in
     let ten = passed (outside (z .width) s) 9 (cond (eqb (z .width) 1) 13 0) (four .1) in
     let last = passed (eqb (z .width) 1) 12 0 (ten .1) in

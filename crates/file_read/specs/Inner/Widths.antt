@@ -19,8 +19,13 @@ pub record DrawNeeded (file : List ℕ) (h : Head) (v out work : ℕ) : Type 0 w
   pub room : refusal (offerRules h v out work) ≡ 0
 
 -- What is shown, at the front of the space.
-pub record DrawGiven (file : List ℕ) (v : ℕ) (out out′ : List ℕ) : Type 0 where
-  pub out-is : out′ ≡ drawnBytes (shows file v) ++ drop (length (drawnBytes (shows file v))) out
+abbrev pub drawnIn : List ℕ → ℕ → List ℕ → List ℕ
+drawnIn file v out = drawnBytes (shows file v) ++ drop (length (drawnBytes (shows file v))) out
+
+-- And the work space cleared.
+pub record DrawGiven (file : List ℕ) (v : ℕ) (out work out′ work′ : List ℕ) : Type 0 where
+  pub out-given : out′ ≡ drawnIn file v out
+  pub work-left : work′ ≡ replicate (length work) 0
 
 -- The same from the first map line on, the picture standing at the front of a space.
 pub record LinesNeeded (file : List ℕ) (h : Head) (at v : ℕ) (space : List ℕ) (out : ℕ) : Type 0 where

@@ -36,8 +36,8 @@ returns : tie.Need-returns
 returns c =
     let a = c .before .before .before .before .before .args in
     record {
-      number-is = refused-length (a .kind) (now (a .samples)) (now (a .numbers)) (a .wanted) (now (a .out)) (sym (c .before .has-pixels .ensures) ∙ not-true _ (c .if1 .taken));
-      out-is = refl;
+      number = refused-length (a .kind) (now (a .samples)) (now (a .numbers)) (a .wanted) (now (a .out)) (sym (c .before .has-pixels .ensures) ∙ not-true _ (c .if1 .taken));
+      out-given = refl;
     }
 
 pixels-at-requires : tie.Need-pixels-at-requires
@@ -52,7 +52,7 @@ returns-2 c =
     let a = at-if1 .before .before .before .before .before .args in
     let short : length (now (a .out)) < pixelsAt (now (a .numbers)) (a .wanted) * channelsOf (a .kind) =
     leb-false _ _ (sym (rw (c .before .before .pixels-at .ensures) at (c .before .holds-pixels .ensures)) ∙ not-true _ (c .if2 .taken)) in
-    record { number-is = refused-space (a .kind) (now (a .samples)) (now (a .numbers)) (a .wanted) (now (a .out)) (whole at-if1) short; out-is = refl }
+    record { number = refused-space (a .kind) (now (a .samples)) (now (a .numbers)) (a .wanted) (now (a .out)) (whole at-if1) short; out-given = refl }
 
 keep-row-requires : tie.Need-keep-row-requires
 keep-row-requires c κs =
@@ -70,8 +70,8 @@ returns-3 c =
     let u = at-if3 .before in
     let a = u .before .before .before .before .before .before .before .before .args in
     record {
-      number-is = nothing-refused (a .kind) (now (a .samples)) (now (a .numbers)) (a .wanted) (now (a .out)) (whole (u .before .before .before)) (room u);
-      out-is = rw (narrow-is (a .kind) (now (a .samples)) (now (a .numbers)) (a .wanted) (at-if3 .if3 .taken)) (at-keep-row .keep-row .ensures);
+      number = nothing-refused (a .kind) (now (a .samples)) (now (a .numbers)) (a .wanted) (now (a .out)) (whole (u .before .before .before)) (room u);
+      out-given = rw (narrow-is (a .kind) (now (a .samples)) (now (a .numbers)) (a .wanted) (at-if3 .if3 .taken)) (at-keep-row .keep-row .ensures);
     }
 
 sub-grow-row : tie.Need-sub-grow-row
@@ -93,8 +93,8 @@ returns-4 c =
     let u = at-if3 .before in
     let a = u .before .before .before .before .before .before .before .before .args in
     record {
-      number-is = nothing-refused (a .kind) (now (a .samples)) (now (a .numbers)) (a .wanted) (now (a .out)) (whole (u .before .before .before)) (room u);
-      out-is = rw (wide-is (a .kind) (now (a .samples)) (now (a .numbers)) (a .wanted) (at-if3 .if3 .left)) (at-grow-row .grow-row .ensures);
+      number = nothing-refused (a .kind) (now (a .samples)) (now (a .numbers)) (a .wanted) (now (a .out)) (whole (u .before .before .before)) (room u);
+      out-given = rw (wide-is (a .kind) (now (a .samples)) (now (a .numbers)) (a .wanted) (at-if3 .if3 .left)) (at-grow-row .grow-row .ensures);
     }
 
 pub row-at-spec : {M : Type 1} → statement M

@@ -65,8 +65,8 @@ returns c =
     let v = at .judge-close-lengths .result in
     let why = c .enum-told2 .given in
     record {
-      answer = refused-answer v (why .0 .0) (why .1) (closeLengthRules z (length b) (length s)) (more z s) (at .judge-close-lengths .ensures);
-      picture = refused-kept v (why .0 .0) (why .1) (bytes (cut s (picture z b)) ++ replicate (z .height * channelsOf (z .kind)) 0) b;
+      number = refused-answer v (why .0 .0) (why .1) (closeLengthRules z (length b) (length s)) (more z s) (at .judge-close-lengths .ensures);
+      picture-left = refused-kept v (why .0 .0) (why .1) (bytes (cut s (picture z b)) ++ replicate (z .height * channelsOf (z .kind)) 0) b;
     }
 
 outside-requires : tie.Need-outside-requires
@@ -88,8 +88,8 @@ returns-2 c =
     let z = size u in
     let why = c .enum-told4 .given in
     record {
-      answer = judged at ∙ sym (rest u);
-      picture = refused-kept (at .judge-close-columns .result) (why .0 .0) (why .1) (bytes (cut (seam u) (picture z (pixels u))) ++ replicate (z .height * channelsOf (z .kind)) 0) (pixels u);
+      number = judged at ∙ sym (rest u);
+      picture-left = refused-kept (at .judge-close-columns .result) (why .0 .0) (why .1) (bytes (cut (seam u) (picture z (pixels u))) ++ replicate (z .height * channelsOf (z .kind)) 0) (pixels u);
     }
 
 close-rows-requires : tie.Need-close-rows-requires
@@ -108,8 +108,8 @@ returns-3 c =
     let told = at-close-rows .before .before in
     let at = told .before .before in
     record {
-      answer = sym (rest (at .before .before) ∙ sym (judged at) ∙ ap given (told .enum-told3 .given .1));
-      picture = at-close-rows .close-rows .ensures;
+      number = sym (rest (at .before .before) ∙ sym (judged at) ∙ ap given (told .enum-told3 .given .1));
+      picture-left = at-close-rows .close-rows .ensures;
     }
 
 pub close-up-spec : {M : Type 1} → statement M

@@ -28,7 +28,13 @@ pub record BottomGiven (fence from : ℕ) (z : Size) (costs : List ℕ → ℕ �
   pub inside : column < z .width
   pub sum-is : sum ≡ getD (sumsDown false fence (z .width) (costs (take from space)) (z .height - 1)) column 0
 
+-- Room for the fenced sums of a row, which is all fence, for a row of costs and for one of sums.
 pub record RowsNeeded (fence : ℕ) (z : Size) (above cost next : List ℕ) : Type 0 where
   pub fences : above ≡ replicate (z .width + 2) fence
   pub cost-room : length cost ≡ z .width
   pub next-room : length next ≡ z .width
+
+-- Both.
+pub record BottomWithNeeded (fence from : ℕ) (z : Size) (bytes : ℕ) (space above cost next : List ℕ) : Type 0 where
+  pub picture : BottomNeeded from z bytes space
+  pub rows : RowsNeeded fence z above cost next

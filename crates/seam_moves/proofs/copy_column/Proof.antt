@@ -41,8 +41,8 @@ returns c =
     let z = a .size in
     let why = c .enum-told2 .given in
     record {
-      answer = at .judge-column .ensures;
-      space = refused-kept (at .judge-column .result) (why .0 .0) (why .1) (columnBytes z (now (a .from)) (a .c) ++ drop (z .height * channelsOf (z .kind)) (now (a .out))) (now (a .out));
+      number = at .judge-column .ensures;
+      out-given = refused-kept (at .judge-column .result) (why .0 .0) (why .1) (columnBytes z (now (a .from)) (a .c) ++ drop (z .height * channelsOf (z .kind)) (now (a .out))) (now (a .out));
     }
 
 put-column-requires : tie.Need-put-column-requires
@@ -58,8 +58,8 @@ returns-2 c =
     let a = u .before .before .before .before .before .args in
     let z = a .size in
     record {
-      answer = sym (none u);
-      space =
+      number = sym (none u);
+      out-given =
           at-put-column .put-column .ensures
           ∙ ap (_++ drop (z .height * channelsOf (z .kind)) (now (a .out))) (sym (column-is z (now (a .from)) (needed u .length-is) (a .c) (needed u .inside)));
     }

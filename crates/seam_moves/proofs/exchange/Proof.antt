@@ -35,8 +35,8 @@ returns c =
     let z = a .size in
     let why = c .enum-told2 .given in
     record {
-      answer = at .judge-exchange .ensures;
-      space = refused-kept (at .judge-exchange .result) (why .0 .0) (why .1) (bytes (exchange (z .width) (picture z (now (a .from)))) ++ drop (pictureBytes z) (now (a .to))) (now (a .to));
+      number = at .judge-exchange .ensures;
+      to-given = refused-kept (at .judge-exchange .result) (why .0 .0) (why .1) (bytes (exchange (z .width) (picture z (now (a .from)))) ++ drop (pictureBytes z) (now (a .to))) (now (a .to));
     }
 
 exchange-columns-requires : tie.Need-exchange-columns-requires
@@ -51,7 +51,7 @@ same-length c = search needs
 returns-2 : tie.Need-returns-2
 returns-2 c =
     let at-exchange-columns = c .before .before in
-    record { answer = sym (none (at-exchange-columns .before .before)); space = at-exchange-columns .exchange-columns .ensures }
+    record { number = sym (none (at-exchange-columns .before .before)); to-given = at-exchange-columns .exchange-columns .ensures }
 
 pub exchange-spec : {M : Type 1} → statement M
 exchange-spec =

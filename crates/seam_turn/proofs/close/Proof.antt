@@ -96,8 +96,8 @@ returns-2 c =
     let lengths : refusal (closeAlongLengths Vertical (a .size) (length (now (a .picture))) (length (now (a .seam))) (length (now (a .work)))) ≡ 0 = rw e at (none told) in
     rw e
     (record {
-      number = closed .close-up .ensures .answer ∙ close-number Vertical (a .size) n seam work lengths n (close-room Vertical (a .size) n (length seam) work lengths .sized);
-      picture-left = closed .close-up .ensures .picture;
+      number = closed .close-up .ensures .number ∙ close-number Vertical (a .size) n seam work lengths n (close-room Vertical (a .size) n (length seam) work lengths .sized);
+      picture-left = closed .close-up .ensures .picture-left;
       work-left = refl;
     })
 

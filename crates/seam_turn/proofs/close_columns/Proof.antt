@@ -77,7 +77,7 @@ number-is : (c : tie.After-close-up) → let a = start (exchanged c) .args in
 number-is c =
     let s = start (exchanged c) in
     let a = s .args in
-    closed-as c .answer
+    closed-as c .number
     ∙ close-number Horizontal (a .size) (length (now (a .picture))) (now (a .seam)) (length (now (a .work))) (s .pre .lengths) (length (take (length (now (a .picture))) (exchanged c .exchange .last .1 .1 .0))) (over-sized (exchanged c))
 
 front-long : (c : tie.After-close-up) → length (c .close-up .last .0) ≡ length (now (start (exchanged c) .args .picture))

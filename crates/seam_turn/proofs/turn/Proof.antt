@@ -94,7 +94,7 @@ returns-3 c =
     let at-exchange = c .before .before in
     let at-enum-told4 = at-exchange .before .before in
     rw (at-enum-told4 .enum-told4 .given .1)
-    (record { number = at-exchange .exchange .ensures .answer; to-given = at-exchange .exchange .ensures .space })
+    (record { number = at-exchange .exchange .ensures .number; to-given = at-exchange .exchange .ensures .to-given })
 
 pub turn-spec : {M : Type 1} → statement M
 turn-spec =

@@ -37,7 +37,7 @@ returns c =
     let at-read-rows = at-draw-rows .before .before .before .before .before in
     let st = at-read-rows .before .before .before .before .before .before in
     let same = same-long _ _ _ _ _ (st .pre) (at-read-rows .read-rows .ensures) in
-    (at-draw-rows .draw-rows .ensures, at-clear .clear .ensures ∙ ap (λ n. replicate n 0) same)
+    record { out-given = at-draw-rows .draw-rows .ensures; work-left = at-clear .clear .ensures ∙ ap (λ n. replicate n 0) same }
 
 pub draw-spec : {M : Type 1} → statement M
 draw-spec =

@@ -213,7 +213,7 @@ returns-2 c =
     let at-channels2 = c .before .before in
     let st = at-channels2 .before .before .before .before .before .before in
     let at = c .before .loop in
-    record { out-is = drawn-all (now (st .args .out)) (st .pre) _ (at .r) (at .out) (at-channels2 .channels2 .ensures) (omega (arith, at .inv .0)) (at .inv .4) }
+    drawn-all (now (st .args .out)) (st .pre) _ (at .r) (at .out) (at-channels2 .channels2 .ensures) (omega (arith, at .inv .0)) (at .inv .4)
 
 pub draw-rows-spec : {M : Type 1} → statement M
 draw-rows-spec =

@@ -120,7 +120,7 @@ returns-4 c =
     let at-known-told = at-enum-told .before .before .before in
     let j = accepted at-enum-told2 in
     let d = at-draw .draw .ensures in
-    show-served _ _ _ _ _ (is-opened at-known-told) (fits at-enum-told) _ _ (j .0) (d .0) (d .1 ∙ ap (λ n. replicate n 0) (j .1))
+    show-served _ _ _ _ _ (is-opened at-known-told) (fits at-enum-told) _ _ (j .0) (record { out-given = d .out-given; work-left = d .work-left ∙ ap (λ n. replicate n 0) (j .1) })
 
 pub show-spec : {M : Type 1} → statement M
 show-spec =

@@ -75,12 +75,12 @@ sums c = c .down .last .1 .1 .1 .1 .0
 -- the picture at the front
 sure : (s : tie.Start) → Front (size s) (s .args .bytes) (space s)
 sure s =
-    let p = s .pre .0 in
+    let p = s .pre .picture in
     front-is (size s) (s .args .bytes) (space s) (p .bytes-are) (p .sized) (omega (arith, p .room))
 
 -- a row between two fences
 above-long : (s : tie.Start) → length (above s) ≡ size s .width + 2
-above-long s = ap length (s .pre .1 .fences) ∙ length-replicate (size s .width + 2) fence32
+above-long s = ap length (s .pre .rows .fences) ∙ length-replicate (size s .width + 2) fence32
 
 abbrev between : tie.Start → List ℕ
 between s = midOf 1 (size s .width + 1 - 1) (above s)
@@ -107,7 +107,7 @@ row-0 c =
     (sure s .served) (sure s .sized .height-some) (le-of-eq (sym (between-long s)))
     ∙ ap (costs s bytes ++_) (drop-of-length-le (between s) {i = size s .width} (le-of-eq (between-long s)))
     ∙ append-nil (costs s bytes)
-    ∙ ap (costs s) (s .pre .0 .bytes-are)
+    ∙ ap (costs s) (s .pre .picture .bytes-are)
 
 -- the sums of the last row stand between two fences
 sums-long : (c : tie.After-down) → length (sums c) ≡ size (start c) .width + 2
@@ -145,8 +145,8 @@ energies-requires c κs = search needs
 down-requires : tie.Need-down-requires
 down-requires c κs =
     let s = entry (at-energies c .before .before) in
-    let picture = s .pre .0 in
-    let rows = s .pre .1 in
+    let picture = s .pre .picture in
+    let rows = s .pre .rows in
     record {
       bytes-are = picture .bytes-are;
       sized = picture .sized;

@@ -41,7 +41,7 @@ slice-aggregate-bottom-with-3 : tie.Need-slice-aggregate-bottom-with-3
 slice-aggregate-bottom-with-3 c = let s = start (c .before .before) in row-lent (s .args .size) (narrow s)
 
 bottom-with-requires : tie.Need-bottom-with-requires
-bottom-with-requires c κs = let s = start (c .before .before) in (s .pre, rows-needed (s .args .size) (narrow s) fence32)
+bottom-with-requires c κs = let s = start (c .before .before) in record { picture = s .pre; rows = rows-needed (s .args .size) (narrow s) fence32 }
 
 same-length : tie.Need-same-length
 same-length c = space-back c .space .given

@@ -128,7 +128,7 @@ ways-are : (c : tie.After-next-row)
 ways-are c =
     let e = at-energies (lent c) in
     let above = now (start e .args .above) in
-    c .next-row .ensures .1 ∙ ap (λ n. table (wayOf3 false n above (cost-rows e)) n) (ways-ends (start e) .wide)
+    c .next-row .ensures .ways-given ∙ ap (λ n. table (wayOf3 false n above (cost-rows e)) n) (ways-ends (start e) .wide)
 
 add-side : tie.Need-add-side
 add-side c = search needs
@@ -176,15 +176,16 @@ next-row-requires c κs =
     let e = at-energies (c .before .before) in
     let s = start e in
     let p = s .pre in
-    let most = cost-most (size s) (s .args .method) (front s) (sure s .sized) (byte e) in (
-      record {
+    let most = cost-most (size s) (s .args .method) (front s) (sure s .sized) (byte e) in
+    record {
+      sums = record {
         above = omega (arith, p .long, p .next-room);
         costs = ap length (cost-front e) ∙ wide s ∙ sym (p .next-room);
         small = λ k l. p .small k (omega (arith, p .next-room));
         cheap = λ k. rw (cost-front e) (omega (arith, most (s .args .i) k));
-      },
-      ways-ends s .wide,
-    )
+      };
+      ways-room = ways-ends s .wide;
+    }
 
 sub-copy : tie.Need-sub-copy
 sub-copy c = search needs
@@ -217,7 +218,7 @@ returns c =
     let s = start e in
     row-given _ _ (size s) (costsOf (size s) (s .args .method)) (s .args .i) (s .args .bytes) _ (space s) _ _ (cost-rows e) _
     (s .pre .bytes-are) (ways-ends s .end) (cost-rows-are e) (s .pre .next-room) (s .pre .long) (s .pre .fences) (ways-are r)
-    (at-copy c .copy .ensures ∙ r .next-row .ensures .0)
+    (at-copy c .copy .ensures ∙ r .next-row .ensures .next-given)
 
 pub row-down-spec : {M : Type 1} → statement M
 row-down-spec =

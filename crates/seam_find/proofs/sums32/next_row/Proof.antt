@@ -31,7 +31,7 @@ turn c = c .before .before .before .before
 loop-holds : tie.Need-loop-holds Inv-loop μ-loop
 loop-holds c =
     let s = c .before .before .before .before in
-    (stored-start _ _ _ refl, stored-start _ _ _ (sym (s .pre .1)))
+    (stored-start _ _ _ refl, stored-start _ _ _ (sym (s .pre .ways-room)))
 
 mul-left : tie.Need-mul-left Inv-loop μ-loop
 mul-left c = search needs
@@ -74,7 +74,7 @@ add-next c =
     let at-lesser2 = c .before in
     let at-lesser = at-lesser2 .before in
     let head = turn at-lesser .before in
-    let p = start head .pre .0 in
+    let p = start head .pre .sums in
     let k = head .loop .c in
     omega (arith, p .small k (omega arith), p .cheap k, at-lesser .lesser .ensures, at-lesser2 .lesser2 .ensures)
 
@@ -125,7 +125,7 @@ returns : tie.Need-returns Inv-loop μ-loop
 returns c =
     let l = c .before .loop in
     let done = c .loop-test .left in
-    (stored-end _ _ _ (l .c) (l .next) done (l .inv .0), stored-end _ _ _ (l .c) (l .ways) done (l .inv .1))
+    record { next-given = stored-end _ _ _ (l .c) (l .next) done (l .inv .0); ways-given = stored-end _ _ _ (l .c) (l .ways) done (l .inv .1) }
 
 pub next-row-spec : {M : Type 1} → statement M
 next-row-spec =

@@ -90,15 +90,15 @@ abbrev sums : tie.After-down → List ℕ
 sums d = d .down .last .1 .1 .1 .1 .0
 
 sure : (c : tie.After-slice-known5) → Sized (size c) (pictureBytes (size c))
-sure c = sized-is _ _ (start c .pre .0 .sized)
+sure c = sized-is _ _ (start c .pre .picture .sized)
 
 front-end : (c : tie.After-slice-known5) → FrontEnds (size c) (start c .args .bytes) (length (space c))
 front-end c =
-    let p = start c .pre .0 in
+    let p = start c .pre .picture in
     front-ends (size c) (sure c) (start c .args .bytes) (length (space c)) (p .bytes-are) (omega (arith, p .room))
 
 above-long : (c : tie.After-slice-known5) → length (above c) ≡ size c .width + 2
-above-long c = ap length (start c .pre .1 .0 .fences) ∙ length-replicate (size c .width + 2) fence64
+above-long c = ap length (start c .pre .rows .fences) ∙ length-replicate (size c .width + 2) fence64
 
 -- the room between the fences, which is lent for the weights of row 0
 between-long : (c : tie.After-slice-known5) → length (midOf 1 (size c .width + 1 - 1) (above c)) ≡ size c .width
@@ -163,11 +163,11 @@ row-weights-requires c κs =
     let k = c .before .before .before in
     let p = start k .pre in
     record {
-      bytes-are = p .0 .bytes-are;
-      sized = p .0 .sized;
+      bytes-are = p .picture .bytes-are;
+      sized = p .picture .sized;
       inside = sure k .height-some;
       long = length-take-le _ _ (front-end k .within) ∙ front-end k .is;
-      energy-room = p .1 .1;
+      energy-room = p .energy-room;
       cost-room = between-long k;
     }
 
@@ -176,17 +176,18 @@ down-requires c κs =
     let r = at-row-weights c in
     let k = known r in
     let z = size k in
-    let p = start k .pre in (
-      record {
-        bytes-are = p .0 .bytes-are;
-        sized = p .0 .sized;
-        room = p .0 .room;
-        first = first-row fence64 (z .width) (above k) (weights r) (weightsOf z (method k) (front k) 0 .up) (p .1 .0 .fences) (weights-are r);
-        cost-room = p .1 .0 .cost-room;
-        next-room = p .1 .0 .next-room;
-      },
-      weighed-energies c .energies .given ∙ p .1 .1,
-    )
+    let p = start k .pre in
+    record {
+      down = record {
+        bytes-are = p .picture .bytes-are;
+        sized = p .picture .sized;
+        room = p .picture .room;
+        first = first-row fence64 (z .width) (above k) (weights r) (weightsOf z (method k) (front k) 0 .up) (p .rows .fences) (weights-are r);
+        cost-room = p .rows .cost-room;
+        next-room = p .rows .next-room;
+      };
+      energy-room = weighed-energies c .energies .given ∙ p .energy-room;
+    }
 
 sub-first-least : tie.Need-sub-first-least
 sub-first-least c = search needs

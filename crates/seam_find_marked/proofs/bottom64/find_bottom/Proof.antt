@@ -66,7 +66,7 @@ slice-aggregate-bottom-with-4 c = row (arrays c)
 bottom-with-requires : tie.Need-bottom-with-requires
 bottom-with-requires c κs =
     let s = start (arrays c) in
-    (s .pre, (rows-needed (size s) (narrow s) fence64, sym (row (arrays c))))
+    record { picture = s .pre; rows = rows-needed (size s) (narrow s) fence64; energy-room = sym (row (arrays c)) }
 
 same-length : tie.Need-same-length
 same-length c = at-space c .space .given

@@ -58,10 +58,10 @@ abbrev space : tie.After-slice-known5 Inv-loop μ-loop → List ℕ
 space c = now (start c .args .space)
 
 sure : (c : tie.After-slice-known5 Inv-loop μ-loop) → Sized (size c) (pictureBytes (size c))
-sure c = sized-is _ _ (start c .pre .0 .sized)
+sure c = sized-is _ _ (start c .pre .down .sized)
 
 front-room : (c : tie.After-slice-known5 Inv-loop μ-loop) → markedBytes (size c) ≤ length (space c)
-front-room c = omega (arith, start c .pre .0 .room)
+front-room c = omega (arith, start c .pre .down .room)
 
 byte : (c : tie.After-slice-known5 Inv-loop μ-loop) (i : ℕ) → getD (space c) i 0 ≤ 255
 byte c i = omega (arith, c .before .before .before .before .slice-known .given i)
@@ -87,7 +87,7 @@ below-fence : (h : tie.At-loop Inv-loop μ-loop) (k : ℕ)
 below-fence h k l n = omega (arith, above-small h k n, sure (h .before) .height-most)
 
 loop-holds : tie.Need-loop-holds Inv-loop μ-loop
-loop-holds c = (before-first (start c .pre .0) (wide c), refl)
+loop-holds c = (before-first (start c .pre .down) (wide c), refl)
 
 row-down-requires : tie.Need-row-down-requires Inv-loop μ-loop
 row-down-requires c κs =
@@ -96,7 +96,10 @@ row-down-requires c κs =
     let k = head .before in
     let p = start k .pre in
     let inside = test .loop-test .taken in
-    (before-needed (p .0) (wide k) (head .loop .inv .0) inside (λ j l. below-fence head j inside l), head .loop .inv .1 ∙ p .1)
+    record {
+      row = before-needed (p .down) (wide k) (head .loop .inv .0) inside (λ j l. below-fence head j inside l);
+      energy-room = head .loop .inv .1 ∙ p .energy-room;
+    }
 
 add-i : tie.Need-add-i Inv-loop μ-loop
 add-i c = search needs
@@ -111,7 +114,7 @@ loop-again c =
     let test = turn (r .before) in
     let inv = test .before .loop .inv in
     let k = test .before .before in (
-      before-next (start k .pre .0) (wide k) (inv .0) (test .loop-test .taken) (r .row-down .ensures)
+      before-next (start k .pre .down) (wide k) (inv .0) (test .loop-test .taken) (r .row-down .ensures)
           (gave-above back .above .given) (gave-cost back .cost .given) (back .next .given),
       gave-energies back .energies .given ∙ inv .1,
     )
@@ -134,7 +137,7 @@ same-length-5 c = c .before .loop .inv .0 .next-kept
 returns : tie.Need-returns Inv-loop μ-loop
 returns c =
     let k = c .before .before in
-    before-end (start k .pre .0) (wide k) (c .before .loop .inv .0) (c .loop-test .left)
+    before-end (start k .pre .down) (wide k) (c .before .loop .inv .0) (c .loop-test .left)
 
 pub down-spec : {M : Type 1} → statement M
 down-spec =

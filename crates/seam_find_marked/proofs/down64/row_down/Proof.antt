@@ -80,17 +80,17 @@ abbrev weights : tie.After-row-weights → List ℕ
 weights r = r .row-weights .last .1 .1 .1 .1 .1 .1 .0
 
 sure : (c : tie.After-slice-known5) → Sized (size c) (pictureBytes (size c))
-sure c = sized-is _ _ (start c .pre .0 .sized)
+sure c = sized-is _ _ (start c .pre .row .sized)
 
 front-room : (c : tie.After-slice-known5) → markedBytes (size c) ≤ length (space c)
-front-room c = omega (arith, start c .pre .0 .room)
+front-room c = omega (arith, start c .pre .row .room)
 
 front-end : (c : tie.After-slice-known5) → FrontEnds (size c) (start c .args .bytes) (length (space c))
-front-end c = front-ends (size c) (sure c) (start c .args .bytes) (length (space c)) (start c .pre .0 .bytes-are) (front-room c)
+front-end c = front-ends (size c) (sure c) (start c .args .bytes) (length (space c)) (start c .pre .row .bytes-are) (front-room c)
 
 -- the row's ways end within the space, one for each column
 ways : (c : tie.After-slice-known5) → WaysEnd (size c) (from c) (row c) (space c) (now (start c .args .next))
-ways c = ways-end (start c .pre .0) (from c) (front-end c .is)
+ways c = ways-end (start c .pre .row) (from c) (front-end c .is)
 
 byte : (c : tie.After-slice-known5) (i : ℕ) → getD (space c) i 0 ≤ 255
 byte c i = omega (arith, c .before .before .before .before .slice-known .given i)
@@ -132,19 +132,19 @@ row-weights-requires c κs =
     let k = c .before .before .before in
     let p = start k .pre in
     record {
-      bytes-are = p .0 .bytes-are;
-      sized = p .0 .sized;
-      inside = p .0 .inside;
+      bytes-are = p .row .bytes-are;
+      sized = p .row .sized;
+      inside = p .row .inside;
       long = length-take-le _ _ (front-end k .within) ∙ front-end k .is;
-      energy-room = p .1;
-      cost-room = p .0 .cost-room;
+      energy-room = p .energy-room;
+      cost-room = p .row .cost-room;
     }
 
 next-sums-requires : tie.Need-next-sums-requires
 next-sums-requires c κs =
     let r = at-row-weights c in
     let k = known r in
-    let p = start k .pre .0 in
+    let p = start k .pre .row in
     let most = front-weights (size k) (space k) (method k) (sure k) (front-room k) (byte k) in
     record {
       above = omega (arith, p .long, p .next-room);
@@ -211,7 +211,7 @@ returns c =
     row-given fence64 (markedBytes z) z (weightsOf z (method k)) (row k) (from k) w (space k) x (u .ways-row .last .1 .0) (alikeRows (weights r))
     (at-copy .copy .last .1 .0) (front-end k .is) (ways k .end)
     (ap alikeRows (weights-are r) ∙ sym (weights-alike z (method k) (front k) (row k)))
-    (start k .pre .0 .next-room) (start k .pre .0 .long) (start k .pre .0 .fences)
+    (start k .pre .row .next-room) (start k .pre .row .long) (start k .pre .row .fences)
     (u .ways-row .ensures
     ∙ ap (table (wayAbove x)) (ways k .wide)
     ∙ table-same (wayAbove x) (wayOf3 false w x (alikeRows (weights r))) w (λ j l. sym (way-alike w x (weights r) j)))

@@ -20,12 +20,12 @@ returns c =
     let at-if1 = at-copy-places .before .before in
     let at-apart-in = at-if1 .before in
     let test = sym (at-apart-in .apart-in .ensures) ∙ at-if1 .if1 .taken in
-    record { answer = sym (simp test); space-left = at-copy-places .copy-places .ensures }
+    record { number = sym (simp test); space-left = at-copy-places .copy-places .ensures }
 
 returns-2 : tie.Need-returns-2
 returns-2 c =
     let test = sym (c .before .apart-in .ensures) ∙ c .if1 .left in
-    record { answer = sym (simp test); space-left = refl }
+    record { number = sym (simp test); space-left = refl }
 
 pub copy-between-spec : {M : Type 1} → statement M
 copy-between-spec =

@@ -47,7 +47,7 @@ returns c =
     let z = a .size in
     let why = c .enum-told2 .given in
     record {
-      answer = refused-answer (at-judge-sides .judge-sides .result) (why .0 .0) (why .1) (sideRules z) (copyBetweenRules (length space) (a .from) (pictureBytes z) (a .to)) (at-judge-sides .judge-sides .ensures);
+      number = refused-answer (at-judge-sides .judge-sides .result) (why .0 .0) (why .1) (sideRules z) (copyBetweenRules (length space) (a .from) (pictureBytes z) (a .to)) (at-judge-sides .judge-sides .ensures);
       space-left = refused-kept (at-judge-sides .judge-sides .result) (why .0 .0) (why .1) (putAt (a .to) (pictureBytes z) (bytes (exchange (z .width) (picture z (partAt (a .from) (pictureBytes z) space)))) space) space;
     }
 
@@ -74,13 +74,13 @@ returns-2 c =
     let at-apart-in = at-if1 .before in
     let q = at-apart-in .before in
     let test = rw (bytes-are q) at (sym (at-apart-in .apart-in .ensures) ∙ at-if1 .if1 .taken) in
-    record { answer = sym (rest (q .before) ∙ simp test); space-left = at-exchange-places .exchange-places .ensures }
+    record { number = sym (rest (q .before) ∙ simp test); space-left = at-exchange-places .exchange-places .ensures }
 
 returns-3 : tie.Need-returns-3
 returns-3 c =
     let q = c .before .before in
     let test = rw (bytes-are q) at (sym (c .before .apart-in .ensures) ∙ c .if1 .left) in
-    record { answer = sym (rest (q .before) ∙ simp test); space-left = refl }
+    record { number = sym (rest (q .before) ∙ simp test); space-left = refl }
 
 pub exchange-between-spec : {M : Type 1} → statement M
 exchange-between-spec =
