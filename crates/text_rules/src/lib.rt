@@ -32,14 +32,14 @@ pub fn items_of(kind: Kind) -> Items
 }
 
 // Whether row lines and map lines are all full.
-pub fn both_full(rows: bool, maps: bool) -> bool
+pub fn are_full(rows: bool, maps: bool) -> bool
     ensures { λ r. ⌜ r ≡ rows && maps ⌝ }
 {
     if rows { maps } else { false }
 }
 
 // Whether all lines are still full, with one more of `count` items.
-pub fn still_full(full: bool, count: usize, width: usize) -> bool
+pub fn stays_full(full: bool, count: usize, width: usize) -> bool
     ensures { λ r. ⌜ r ≡ full && eqb count width ⌝ }
 {
     if count == width { full } else { false }

@@ -3,9 +3,9 @@ use text_read::Cursor;
 use text_read::HeadRead;
 use text_read::Read;
 use text_rules::Items;
-use text_rules::both_full;
+use text_rules::are_full;
 use text_rules::items_of;
-use text_rules::still_full;
+use text_rules::stays_full;
 use text_theory::Head;
 use text_theory::Name;
 ghost use mathlib.Core.Path.{_≡_};
@@ -52,7 +52,7 @@ fn count_lines(start: Cursor, text: &[u8], name: Name, what: Items, width: usize
             return Lines::Torn;
         };
         n += 1;
-        full = still_full(full, m, width);
+        full = stays_full(full, m, width);
         at = d.at;
     }
 }
@@ -87,6 +87,6 @@ pub fn scan(text: &[u8]) -> Scanned
         head,
         rows,
         maps,
-        full: both_full(wide, filled),
+        full: are_full(wide, filled),
     })
 }

@@ -54,8 +54,8 @@ returns-2 c =
 add-n : tie.Need-add-n Inv-loop μ-loop
 add-n c = search needs
 
-still-full-requires : tie.Need-still-full-requires Inv-loop μ-loop
-still-full-requires c κs = search needs
+stays-full-requires : tie.Need-stays-full-requires Inv-loop μ-loop
+stays-full-requires c κs = search needs
 
 loop-less : tie.Need-loop-less Inv-loop μ-loop
 loop-less c =
@@ -74,7 +74,7 @@ loop-again c =
     let at-c = at-rest .before .before in
     let at-begin = at-c .before .before in
     let at-loop = at-begin .before in
-    lining-next (begun-some _) (at-loop .loop .inv) (told-begun _ (rw (at-c .c .given .1) at (at-begin .begin .ensures))) (rw (at-m .m .given .1) at (at-rest .rest .ensures)) (c .still-full .ensures)
+    lining-next (begun-some _) (at-loop .loop .inv) (told-begun _ (rw (at-c .c .given .1) at (at-begin .begin .ensures))) (rw (at-m .m .given .1) at (at-rest .rest .ensures)) (c .stays-full .ensures)
 
 pub count-lines-spec : {M : Type 1} → statement M
 count-lines-spec =
@@ -92,6 +92,6 @@ count-lines-spec =
     enum-told-2
     returns-2
     add-n
-    still-full-requires
+    stays-full-requires
     loop-less
     loop-again)

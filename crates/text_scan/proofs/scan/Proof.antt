@@ -139,11 +139,11 @@ returns-4 c = sym (scan-none (left-no-past closed _ (after-maps (c .before .befo
 returns-5 : tie.Need-returns-5
 returns-5 c = sym (scan-more (after-last (c .before .before)) (c .if1 .taken))
 
-both-full-requires : tie.Need-both-full-requires
-both-full-requires c κs = search needs
+are-full-requires : tie.Need-are-full-requires
+are-full-requires c κs = search needs
 
 returns-6 : tie.Need-returns-6
-returns-6 c = rw (c .both-full .ensures) (sym (scan-end (after-last (c .before .before .before)) (c .before .if1 .left)))
+returns-6 c = rw (c .are-full .ensures) (sym (scan-end (after-last (c .before .before .before)) (c .before .if1 .left)))
 
 pub scan-spec : {M : Type 1} → statement M
 scan-spec =
@@ -167,5 +167,5 @@ scan-spec =
     enum-told-4
     returns-4
     returns-5
-    both-full-requires
+    are-full-requires
     returns-6)
