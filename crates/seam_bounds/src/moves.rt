@@ -85,7 +85,7 @@ pub fn is_outside(width: usize, column: u16) -> bool
 }
 
 // Whether `count` bytes at `at` lie inside a space.
-fn within(space: usize, at: usize, count: usize) -> bool
+fn lies_within(space: usize, at: usize, count: usize) -> bool
     ensures { λ t. ⌜ t ≡ leb (at + count) space ⌝ }
 {
     if space < at {
@@ -95,15 +95,15 @@ fn within(space: usize, at: usize, count: usize) -> bool
 }
 
 // Whether `count` bytes at `from` and `count` bytes at `to` lie inside a space and don't overlap.
-pub fn apart_in(space: usize, from: usize, to: usize, count: usize) -> bool
+pub fn lie_apart(space: usize, from: usize, to: usize, count: usize) -> bool
     ensures { λ t. ⌜ t ≡ apartIn space from to count ⌝ }
 {
-    if within(space, from, count) {
-        if within(space, to, count) {
-            if within(to, from, count) {
+    if lies_within(space, from, count) {
+        if lies_within(space, to, count) {
+            if lies_within(to, from, count) {
                 return true;
             }
-            return within(from, to, count);
+            return lies_within(from, to, count);
         }
         return false;
     }

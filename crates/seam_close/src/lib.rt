@@ -18,7 +18,7 @@ pub fn close_up(picture: &mut [u8], size: Size, seam: &[u16]) -> Verdict
         return fits;
     };
     let width = size.width;
-    let allowed = judge_close_columns(width, rows::outside(seam, width));
+    let allowed = judge_close_columns(width, rows::has_outside(seam, width));
     let Verdict::Served = allowed else {
         return allowed;
     };

@@ -21,7 +21,7 @@ fn wide(column: u16) -> usize
 }
 
 // Whether some column of the seam isn't below the width.
-pub(crate) fn outside(seam: &[u16], width: usize) -> bool
+pub(crate) fn has_outside(seam: &[u16], width: usize) -> bool
     ensures { λ t. ⌜ t ≡ Moves·outside width (now (seam .entry)) ⌝ }
 {
     for r in 0..seam.len() {

@@ -74,19 +74,19 @@ pub fn judge_marked(
     let Verdict::Served = fits else {
         return fits;
     };
-    if over_two(marks) {
+    if has_over_two(marks) {
         return Verdict::Refused(Refusal::Mark);
     }
     seam_rules::judge_find(size, axis, bytes, seam, work)
 }
 
 // Whether some mark is over 2.
-fn over_two(marks: &[u8]) -> bool
+fn has_over_two(marks: &[u8]) -> bool
     ensures { λ t. ⌜ t ≡ outside 3 (now (marks .entry)) ⌝ }
 {
     let mut over = false;
     for i in 0..marks.len() {
-        if !seam_rules::mark_allowed(marks[i]) {
+        if !seam_rules::allows_mark(marks[i]) {
             over = true;
         }
     }

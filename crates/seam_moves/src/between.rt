@@ -5,7 +5,7 @@ use pictures::Refusal;
 use pictures::Size;
 use pictures::Verdict;
 use pictures::channels;
-use seam_bounds::apart_in;
+use seam_bounds::lie_apart;
 ghost use mathlib.Core.Path.{_≡_};
 ghost use Prim.Native.Nat.{_+_};
 ghost use lib.ListN.{length};
@@ -26,7 +26,7 @@ pub fn exchange_between(space: &mut [u8], from: usize, size: Size, to: usize) ->
         return allowed;
     };
     let all = pictures::picture_bytes(size);
-    if apart_in(space.len(), from, to, all) {
+    if lie_apart(space.len(), from, to, all) {
         exchange_places(space, from, size, all, to);
         return Verdict::Served;
     }
@@ -38,7 +38,7 @@ pub fn exchange_between(space: &mut [u8], from: usize, size: Size, to: usize) ->
 pub fn copy_between(space: &mut [u8], from: usize, count: usize, to: usize) -> Verdict
     ensures { λ v. ⌜ CopyBetweenGiven (now (space .entry)) from count to v (now (space .exit)) ⌝ }
 {
-    if apart_in(space.len(), from, to, count) {
+    if lie_apart(space.len(), from, to, count) {
         copy_places(space, from, count, to);
         return Verdict::Served;
     }

@@ -58,7 +58,7 @@ fn cut_seams(
     let mut count = 0u16;
     loop {
         let pixels = height * width;
-        let marked = some_two(&marks[..pixels]);
+        let marked = has_two(&marks[..pixels]);
         let next = seam_rules::next_step(marked, width, count, budget);
         if let Next::Ended(how) = next {
             return how;
@@ -108,7 +108,7 @@ fn cut_front(
 }
 
 // Whether some mark is 2.
-fn some_two(marks: &[u8]) -> bool
+fn has_two(marks: &[u8]) -> bool
     ensures { λ t. ⌜ t ≡ someTwo (now (marks .entry)) ⌝ }
 {
     let mut some = false;

@@ -44,7 +44,7 @@ pub fn judge_marks(size: Size, bytes: usize, marks: usize) -> Verdict
 }
 
 // Whether the mark is one of 0, 1 and 2; 5 refuses every other.
-pub fn mark_allowed(mark: u8) -> bool
+pub fn allows_mark(mark: u8) -> bool
     ensures { λ t. ⌜ t ≡ markAllowed mark ⌝ }
 {
     mark <= 2

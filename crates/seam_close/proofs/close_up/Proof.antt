@@ -44,7 +44,7 @@ rest c = served-first (closeLengthRules (size c) (length (pixels c)) (length (se
 judged : (c : tie.After-judge-close-columns) → let u = c .before .before in given (c .judge-close-columns .result) ≡ refusal (more (size u) (seam u))
 judged c =
     let u = c .before .before in
-    c .judge-close-columns .ensures ∙ ap (λ t. refusal (closeColumnRules (size u .width) t)) (c .before .outside .ensures)
+    c .judge-close-columns .ensures ∙ ap (λ t. refusal (closeColumnRules (size u .width) t)) (c .before .has-outside .ensures)
 
 judge-close-lengths-requires : tie.Need-judge-close-lengths-requires
 judge-close-lengths-requires c κs = search needs
@@ -69,8 +69,8 @@ returns c =
       picture-left = refused-kept v (why .0 .0) (why .1) (bytes (cut s (picture z b)) ++ replicate (z .height * channelsOf (z .kind)) 0) b;
     }
 
-outside-requires : tie.Need-outside-requires
-outside-requires c κs = search needs
+has-outside-requires : tie.Need-has-outside-requires
+has-outside-requires c κs = search needs
 
 judge-close-columns-requires : tie.Need-judge-close-columns-requires
 judge-close-columns-requires c κs = search needs
@@ -120,7 +120,7 @@ close-up-spec =
     enum-told
     enum-told-2
     returns
-    outside-requires
+    has-outside-requires
     judge-close-columns-requires
     enum-told-3
     enum-told-4

@@ -52,15 +52,15 @@ returns c =
     let why = c .enum-told2 .given in
     refused-answer (judged .judge-marks .result) (why .0 .0) (why .1) (first s) (more s) (judged .judge-marks .ensures)
 
-over-two-requires : tie.Need-over-two-requires
-over-two-requires c κs = search needs
+has-over-two-requires : tie.Need-has-over-two-requires
+has-over-two-requires c κs = search needs
 
 returns-2 : tie.Need-returns-2
 unfolding first more room
 returns-2 c =
     let told = c .before .before in
     let s = told .before .before .before .before in
-    sym (rest told ∙ ap (λ t. cond t 5 (refusal (room s))) (sym (c .before .over-two .ensures) ∙ c .if1 .taken))
+    sym (rest told ∙ ap (λ t. cond t 5 (refusal (room s))) (sym (c .before .has-over-two .ensures) ∙ c .if1 .taken))
 
 judge-find-requires : tie.Need-judge-find-requires
 judge-find-requires c κs = search needs
@@ -68,14 +68,14 @@ judge-find-requires c κs = search needs
 returns-3 : tie.Need-returns-3
 unfolding first more room
 returns-3 c =
-    let at-over-two = c .before .before in
-    let told = at-over-two .before in
+    let at-has-over-two = c .before .before in
+    let told = at-has-over-two .before in
     let s = told .before .before .before .before in
     let a = s .args in
     let sized = served-both (sizeRules (a .size) (a .bytes)) (markLengthRules (a .size) (length (now (a .marks)))) refl (none told) .0 in
     c .judge-find .ensures
     ∙ served-first (sizeRules (a .size) (a .bytes)) (room s) refl sized
-    ∙ sym (rest told ∙ ap (λ t. cond t 5 (refusal (room s))) (sym (at-over-two .over-two .ensures) ∙ c .before .if1 .left))
+    ∙ sym (rest told ∙ ap (λ t. cond t 5 (refusal (room s))) (sym (at-has-over-two .has-over-two .ensures) ∙ c .before .if1 .left))
 
 pub judge-marked-spec : {M : Type 1} → statement M
 judge-marked-spec =
@@ -85,7 +85,7 @@ judge-marked-spec =
     enum-told
     enum-told-2
     returns
-    over-two-requires
+    has-over-two-requires
     returns-2
     judge-find-requires
     returns-3)

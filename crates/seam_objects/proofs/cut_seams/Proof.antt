@@ -40,18 +40,18 @@ few h =
     mul-le-mul (g .sides .height-small) w
 
 -- whether a mark 2 was found
-found : (c : tie.After-some-two Inv-loop μ-loop) → let h = c .before .before in let a = start h .args in c .some-two .result ≡ toRemove (afterCuts (h .loop .count) (markedPicture (a .size) (a .method) (now (a .picture)) (now (a .marks))))
+found : (c : tie.After-has-two Inv-loop μ-loop) → let h = c .before .before in let a = start h .args in c .has-two .result ≡ toRemove (afterCuts (h .loop .count) (markedPicture (a .size) (a .method) (now (a .picture)) (now (a .marks))))
 found c =
     let h = c .before .before in
     let a = start h .args in
-    c .some-two .ensures ∙ going-marks (going h)
+    c .has-two .ensures ∙ going-marks (going h)
 
 -- what the step before a cut says where it is to go on
-on : (c : tie.After-enum-told Inv-loop μ-loop) → let p = c .before .before in let h = p .before .before .before in GoesOn (p .before .some-two .result) (h .loop .width) (h .loop .count) (start h .args .budget)
+on : (c : tie.After-enum-told Inv-loop μ-loop) → let p = c .before .before in let h = p .before .before .before in GoesOn (p .before .has-two .result) (h .loop .width) (h .loop .count) (start h .args .budget)
 on c =
     let p = c .before .before in
     let h = p .before .before .before in
-    step-cut (p .before .some-two .result) (h .loop .width) (h .loop .count) (start h .args .budget) (sym (p .next-step .ensures) ∙ c .enum-told .given .1)
+    step-cut (p .before .has-two .result) (h .loop .width) (h .loop .count) (start h .args .budget) (sym (p .next-step .ensures) ∙ c .enum-told .given .1)
 
 two : (c : tie.After-enum-told Inv-loop μ-loop) → let h = c .before .before .before .before .before in let a = start h .args in true ≡ toRemove (afterCuts (h .loop .count) (markedPicture (a .size) (a .method) (now (a .picture)) (now (a .marks))))
 two c = sym (on c .some) ∙ found (c .before .before .before)
@@ -65,17 +65,17 @@ loop-holds c =
 mul-pixels : tie.Need-mul-pixels Inv-loop μ-loop
 mul-pixels c = omega (arith, few c)
 
-slice-reshare-prefix-some-two : tie.Need-slice-reshare-prefix-some-two Inv-loop μ-loop
-slice-reshare-prefix-some-two c = let h = c in let a = start h .args in going-room (going h)
+slice-reshare-prefix-has-two : tie.Need-slice-reshare-prefix-has-two Inv-loop μ-loop
+slice-reshare-prefix-has-two c = let h = c in let a = start h .args in going-room (going h)
 
-slice-aggregate-some-two : tie.Need-slice-aggregate-some-two Inv-loop μ-loop
-slice-aggregate-some-two c =
+slice-aggregate-has-two : tie.Need-slice-aggregate-has-two Inv-loop μ-loop
+slice-aggregate-has-two c =
     let h = c .before in
     let a = start h .args in
     sym (length-take-le _ (h .loop .marks) (going-room (going h)))
 
-some-two-requires : tie.Need-some-two-requires Inv-loop μ-loop
-some-two-requires c κs = search needs
+has-two-requires : tie.Need-has-two-requires Inv-loop μ-loop
+has-two-requires c κs = search needs
 
 next-step-requires : tie.Need-next-step-requires Inv-loop μ-loop
 next-step-requires c κs = search needs
@@ -97,7 +97,7 @@ returns c =
     let p = c .before .before .before in
     let h = p .before .before .before in
     let ended = c .before .next .given in
-    going-ended (going h) (p .before .some-two .result) (found (p .before)) (ended .0 .0) (sym (p .next-step .ensures) ∙ ended .1)
+    going-ended (going h) (p .before .has-two .result) (found (p .before)) (ended .0 .0) (sym (p .next-step .ensures) ∙ ended .1)
 
 enum-told : tie.Need-enum-told Inv-loop μ-loop
 enum-told c = search needs
@@ -161,9 +161,9 @@ cut-seams-spec =
     μ-loop
     loop-holds
     mul-pixels
-    slice-reshare-prefix-some-two
-    slice-aggregate-some-two
-    some-two-requires
+    slice-reshare-prefix-has-two
+    slice-aggregate-has-two
+    has-two-requires
     next-step-requires
     enum-known-next
     same-length

@@ -54,14 +54,14 @@ returns c =
 picture-bytes-requires : tie.Need-picture-bytes-requires
 picture-bytes-requires c κs = search needs
 
-apart-in-requires : tie.Need-apart-in-requires
-apart-in-requires c κs = search needs
+lie-apart-requires : tie.Need-lie-apart-requires
+lie-apart-requires c κs = search needs
 
 exchange-places-requires : tie.Need-exchange-places-requires
 exchange-places-requires c κs =
-    let at-apart-in = c .before .before in
-    let q = at-apart-in .before in
-    let test = rw (bytes-are q) at (sym (at-apart-in .apart-in .ensures) ∙ c .before .if1 .taken) in
+    let at-lie-apart = c .before .before in
+    let q = at-lie-apart .before in
+    let test = rw (bytes-are q) at (sym (at-lie-apart .lie-apart .ensures) ∙ c .before .if1 .taken) in
     record { sides = none (q .before); all-is = bytes-are q; places = places-are _ _ _ _ test }
 
 same-length : tie.Need-same-length
@@ -71,15 +71,15 @@ returns-2 : tie.Need-returns-2
 returns-2 c =
     let at-exchange-places = c .before .before in
     let at-if1 = at-exchange-places .before .before in
-    let at-apart-in = at-if1 .before in
-    let q = at-apart-in .before in
-    let test = rw (bytes-are q) at (sym (at-apart-in .apart-in .ensures) ∙ at-if1 .if1 .taken) in
+    let at-lie-apart = at-if1 .before in
+    let q = at-lie-apart .before in
+    let test = rw (bytes-are q) at (sym (at-lie-apart .lie-apart .ensures) ∙ at-if1 .if1 .taken) in
     record { number = sym (rest (q .before) ∙ simp test); space-left = at-exchange-places .exchange-places .ensures }
 
 returns-3 : tie.Need-returns-3
 returns-3 c =
     let q = c .before .before in
-    let test = rw (bytes-are q) at (sym (c .before .apart-in .ensures) ∙ c .if1 .left) in
+    let test = rw (bytes-are q) at (sym (c .before .lie-apart .ensures) ∙ c .if1 .left) in
     record { number = sym (rest (q .before) ∙ simp test); space-left = refl }
 
 pub exchange-between-spec : {M : Type 1} → statement M
@@ -91,7 +91,7 @@ exchange-between-spec =
     enum-told-2
     returns
     picture-bytes-requires
-    apart-in-requires
+    lie-apart-requires
     exchange-places-requires
     same-length
     returns-2

@@ -1,4 +1,4 @@
--- `seam_close::rows::outside` meets its contract. The loop's invariant: the columns still to come decide.
+-- `seam_close::rows::has_outside` meets its contract. The loop's invariant: the columns still to come decide.
 use mathlib.Core.Path.{_≡_, sym, ap, _∙_}
 use mathlib.Core.List.{[]}
 use Prim.Native.Nat.{_-_, _≤_, _<_}
@@ -10,8 +10,8 @@ use lib.ListN.{length, drop, getD}
 use lib.Seq.{drop-length}
 use Rattle.seam_bounds.specs.Moves.{outside}
 use Rattle.seam_bounds.proofs.Moving.{outside-here, outside-next}
-use Rattle.seam_close.proofs.rows.outside.Statement.{statement}
-use Rattle.seam_close.proofs.rows.outside.Tie as tie
+use Rattle.seam_close.proofs.rows.has_outside.Statement.{statement}
+use Rattle.seam_close.proofs.rows.has_outside.Tie as tie
 
 abbrev Inv-loop : tie.InvT-loop
 Inv-loop seam width r₀ r-end r = (r ≤ r-end) × ((r-end ≡ length seam) × (outside width (drop r seam) ≡ outside width seam))
@@ -62,8 +62,8 @@ returns-2 c =
     let none : drop (head .loop .r) (now (a .seam)) ≡ [] = rw e (drop-length (now (a .seam))) in
     sym (ap (outside (a .width)) none) ∙ head .loop .inv .1 .1
 
-pub outside-spec : {M : Type 1} → statement M
-outside-spec =
+pub has-outside-spec : {M : Type 1} → statement M
+has-outside-spec =
     tie.close
     (tie.spec
     Inv-loop

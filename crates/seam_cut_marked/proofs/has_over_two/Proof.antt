@@ -1,4 +1,4 @@
--- `seam_cut_marked::over_two` meets its contract. The loop's invariant: what was seen, or the marks still to come, decides. The
+-- `seam_cut_marked::has_over_two` meets its contract. The loop's invariant: what was seen, or the marks still to come, decides. The
 -- measure is the count of marks still to come.
 use mathlib.Core.Path.{_≡_, refl, sym, ap, _∙_}
 use mathlib.Core.Logic.{⊎-elim}
@@ -14,8 +14,8 @@ use lib.Seq.{drop-length}
 use Rattle.seam_bounds.specs.Moves.{outside}
 use Rattle.seam_bounds.proofs.Moving.{outside-here, outside-next}
 use Rattle.seam_rules.proofs.Rooms.{mark-below, mark-over}
-use Rattle.seam_cut_marked.proofs.over_two.Statement.{statement}
-use Rattle.seam_cut_marked.proofs.over_two.Tie as tie
+use Rattle.seam_cut_marked.proofs.has_over_two.Statement.{statement}
+use Rattle.seam_cut_marked.proofs.has_over_two.Tie as tie
 
 abbrev Inv-loop : tie.InvT-loop
 Inv-loop marks over₀ i₀ i-end over i = (i ≤ i-end) × ((i-end ≡ length marks) × ((over || outside 3 (drop i marks)) ≡ outside 3 marks))
@@ -26,11 +26,11 @@ abbrev μ-loop : tie.MeasureT-loop
 loop-holds : tie.Need-loop-holds Inv-loop μ-loop
 loop-holds c = search needs
 
-shared-slice-read-mark-allowed : tie.Need-shared-slice-read-mark-allowed Inv-loop μ-loop
-shared-slice-read-mark-allowed c = search needs
+shared-slice-read-allows-mark : tie.Need-shared-slice-read-allows-mark Inv-loop μ-loop
+shared-slice-read-allows-mark c = search needs
 
-mark-allowed-requires : tie.Need-mark-allowed-requires Inv-loop μ-loop
-mark-allowed-requires c κs = search needs
+allows-mark-requires : tie.Need-allows-mark-requires Inv-loop μ-loop
+allows-mark-requires c κs = search needs
 
 add-i : tie.Need-add-i Inv-loop μ-loop
 add-i c = search needs
@@ -45,7 +45,7 @@ loop-again c =
     let marks = now (head .before .before .args .marks) in
     let i = head .loop .i in
     let mark = getD marks i 0 in
-    let allowed = judged .mark-allowed in
+    let allowed = judged .allows-mark in
     let inv = head .loop .inv .1 .1 in (
       omega arith,
       (
@@ -66,15 +66,15 @@ returns c =
     let none : drop (head .loop .i) (now (a .marks)) ≡ [] = rw e (drop-length (now (a .marks))) in
     sym (or-false (head .loop .over)) ∙ ap (λ r. head .loop .over || outside 3 r) (sym none) ∙ head .loop .inv .1 .1
 
-pub over-two-spec : {M : Type 1} → statement M
-over-two-spec =
+pub has-over-two-spec : {M : Type 1} → statement M
+has-over-two-spec =
     tie.close
     (tie.spec
     Inv-loop
     μ-loop
     loop-holds
-    shared-slice-read-mark-allowed
-    mark-allowed-requires
+    shared-slice-read-allows-mark
+    allows-mark-requires
     add-i
     loop-less
     loop-again

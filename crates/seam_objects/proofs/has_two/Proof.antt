@@ -1,4 +1,4 @@
--- `seam_objects::some_two` meets its contract. The loop's invariant: what was found and the marks still to come decide.
+-- `seam_objects::has_two` meets its contract. The loop's invariant: what was found and the marks still to come decide.
 use mathlib.Core.Path.{_≡_, ap, _∙_}
 use mathlib.Core.Logic.{⊎-elim}
 use mathlib.Core.Bool.{_||_}
@@ -11,8 +11,8 @@ use lib.ListN.{length, drop}
 use lib.Seq.{drop-length}
 use Rattle.seam_objects.specs.Objects.{someTwo}
 use Rattle.seam_objects.proofs.Twos.{two-found, two-next, or-none}
-use Rattle.seam_objects.proofs.some_two.Statement.{statement}
-use Rattle.seam_objects.proofs.some_two.Tie as tie
+use Rattle.seam_objects.proofs.has_two.Statement.{statement}
+use Rattle.seam_objects.proofs.has_two.Tie as tie
 
 abbrev Inv-loop : tie.InvT-loop
 Inv-loop marks some₀ i₀ i-end some i = (i ≤ i-end) × ((i-end ≡ length marks) × ((some || someTwo (drop i marks)) ≡ someTwo marks))
@@ -57,7 +57,7 @@ returns c =
     let none : drop (head .loop .i) m ≡ [] = rw e (drop-length m) in
     or-none (head .loop .some) (drop (head .loop .i) m) (someTwo m) none (head .loop .inv .1 .1)
 
-pub some-two-spec : {M : Type 1} → statement M
-some-two-spec =
+pub has-two-spec : {M : Type 1} → statement M
+has-two-spec =
     tie.close
     (tie.spec Inv-loop μ-loop loop-holds shared-slice-read-if1 add-i loop-less loop-again returns)
