@@ -27,7 +27,7 @@ pub(crate) fn open(file: &[u8]) -> Checked
     if !file_rules::counted(size.height, facts.rows, facts.maps, facts.full) {
         return Checked::Refused(Refusal::Count);
     }
-    if !map_rules::allowed(size.width, head.depth, head.growth) {
+    if !map_rules::is_allowed(size.width, head.depth, head.growth) {
         return Checked::Refused(Refusal::Range);
     }
     Checked::Accepted(head)

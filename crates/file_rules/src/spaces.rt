@@ -55,7 +55,7 @@ pub fn judge_wanted(head: Head, wanted: usize, out: usize, work: usize) -> Verdi
     let width = size.width;
     let height = size.height;
     let kind = size.kind;
-    if !map_rules::allowed(width, head.depth, head.growth) {
+    if !map_rules::is_allowed(width, head.depth, head.growth) {
         return Verdict::Refused(Refusal::Range);
     }
     if wanted < width - head.depth {
@@ -83,7 +83,7 @@ pub fn judge_build(head: Head, bytes: usize, work: usize) -> Verdict
     let Verdict::Served = fits else {
         return fits;
     };
-    if !map_rules::allowed(size.width, head.depth, head.growth) {
+    if !map_rules::is_allowed(size.width, head.depth, head.growth) {
         return Verdict::Refused(Refusal::Range);
     }
     if work < pictures::work_bytes(size) {

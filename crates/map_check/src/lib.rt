@@ -38,7 +38,7 @@ fn judge_rows(space: &mut [u8], size: Size, method: Method, depth: usize) -> Ver
     let built = map_rules::map_at(size);
     let at = map_rules::recorded_at(size);
     let end = at + map_rules::map_bytes(size);
-    if !numbers::numbered(&space[at..end], width, height, depth) {
+    if !numbers::is_numbered(&space[at..end], width, height, depth) {
         return Verdict::Refused(Refusal::MapRow);
     }
     map_build::map_in(&mut space[..at], size, method, depth);
@@ -52,10 +52,10 @@ fn judge_seams(maps: &[u8], width: usize, height: usize, depth: usize) -> Verdic
     ensures { λ v. ⌜ given v ≡ besideBuilt (now (maps .entry)) width height depth ⌝ }
 {
     let map = height * (2 * width);
-    if numbers::same_numbers(&maps[map..], &maps[..map]) {
+    if numbers::has_same_numbers(&maps[map..], &maps[..map]) {
         return Verdict::Served;
     }
-    if seams::connected(&maps[map..], width, height, depth) {
+    if seams::is_connected(&maps[map..], width, height, depth) {
         return Verdict::Refused(Refusal::OtherSeam);
     }
     Verdict::Refused(Refusal::BrokenSeam)

@@ -21,7 +21,7 @@ pub(crate) fn number_at(bytes: &[u8], i: usize) -> usize
 }
 
 // Whether the numbers in two parts are the same.
-pub(crate) fn same_numbers(a: &[u8], b: &[u8]) -> bool
+pub(crate) fn has_same_numbers(a: &[u8], b: &[u8]) -> bool
     requires { ⌜ length (now a) ≡ length (now b) ⌝ }
     ensures { λ t. ⌜ t ≡ same (numbersIn (now (a .entry))) (numbersIn (now (b .entry))) ⌝ }
 {
@@ -49,12 +49,12 @@ fn count_numbers(row: &[u8], depth: usize, seen: &mut [u16]) -> bool
 }
 
 // Whether each of 1 to the depth was counted once.
-fn each_once(seen: &[u16], depth: usize) -> bool
+fn has_each_once(seen: &[u16], depth: usize) -> bool
     requires { ⌜ depth < length (now seen) ⌝ }
     ensures { λ t. ⌜ t ≡ every (λ v. eqb (getD (now (seen .entry)) v 0) 1) (run 1 depth) ⌝ }
 {
     for t in 0..depth {
-        if !map_rules::once(seen[t + 1]) {
+        if !map_rules::stands_once(seen[t + 1]) {
             return false;
         }
     }
@@ -62,7 +62,7 @@ fn each_once(seen: &[u16], depth: usize) -> bool
 }
 
 // Whether a row holds each of 1 to the depth once, and nothing above it.
-fn numbered_row(row: &[u8], depth: usize) -> bool
+fn is_numbering(row: &[u8], depth: usize) -> bool
     requires { ⌜ RowNeeded (now row) depth ⌝ }
     ensures { λ t. ⌜ t ≡ numbers depth (numbersIn (now (row .entry))) ⌝ }
 {
@@ -70,18 +70,18 @@ fn numbered_row(row: &[u8], depth: usize) -> bool
     if !count_numbers(row, depth, &mut seen) {
         return false;
     }
-    each_once(&seen, depth)
+    has_each_once(&seen, depth)
 }
 
 // Whether each row of a map holds each of 1 to the depth once and nothing above it.
-pub(crate) fn numbered(map: &[u8], width: usize, height: usize, depth: usize) -> bool
+pub(crate) fn is_numbered(map: &[u8], width: usize, height: usize, depth: usize) -> bool
     requires { ⌜ MapNeeded (now map) width height depth ⌝ }
     ensures { λ t. ⌜ t ≡ every (numbers depth) (rowsOf width height (numbersIn (now (map .entry)))) ⌝ }
 {
     for r in 0..height {
         let a = r * (2 * width);
         let e = a + 2 * width;
-        if !numbered_row(&map[a..e], depth) {
+        if !is_numbering(&map[a..e], depth) {
             return false;
         }
     }

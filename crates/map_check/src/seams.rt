@@ -1,6 +1,6 @@
 // The seams that a map records, judged by 10.
 use crate::numbers;
-use map_rules::beside;
+use map_rules::is_beside;
 use map_rules::remains;
 ghost use mathlib.Core.Bool.{false};
 ghost use mathlib.Core.Path.{_≡_};
@@ -39,7 +39,7 @@ fn column_at(map: &[u8], width: usize, r: usize, t: usize) -> usize
 }
 
 // Whether each seam that a map records is connected in the picture left before it.
-pub(crate) fn connected(map: &[u8], width: usize, height: usize, depth: usize) -> bool
+pub(crate) fn is_connected(map: &[u8], width: usize, height: usize, depth: usize) -> bool
     requires { ⌜ MapNeeded (now map) width height depth ⌝ }
     ensures { λ b. ⌜ b ≡ connected (near false) width depth (rowsOf width height (numbersIn (now (map .entry)))) ⌝ }
 {
@@ -51,7 +51,7 @@ pub(crate) fn connected(map: &[u8], width: usize, height: usize, depth: usize) -
         let mut r = 0;
         while r + 1 < height {
             let next = column_at(map, width, r + 1, number);
-            if !beside(here, next) {
+            if !is_beside(here, next) {
                 good = false;
                 break 'seams;
             }

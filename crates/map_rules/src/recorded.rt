@@ -5,7 +5,7 @@ ghost use Rattle.seam_theory.specs.Paths.{beside as Paths·beside};
 ghost use Rattle.map_theory.specs.Judged.{remains as Judged·remains};
 
 // Whether a number that was counted this often stands once.
-pub fn once(count: u16) -> bool
+pub fn stands_once(count: u16) -> bool
     ensures { λ t. ⌜ t ≡ eqb count 1 ⌝ }
 {
     count == 1
@@ -19,7 +19,7 @@ pub fn remains(t: usize, v: usize) -> bool
 }
 
 // Whether two columns differ by at most 1.
-pub fn beside(c: usize, d: usize) -> bool
+pub fn is_beside(c: usize, d: usize) -> bool
     ensures { λ b. ⌜ b ≡ Paths·beside c d ⌝ }
 {
     if c < d { d - c <= 1 } else { c - d <= 1 }

@@ -4,7 +4,7 @@ ghost use Prim.Native.Nat.{_+_, _-_, _/_, _<_};
 ghost use Rattle.map_theory.specs.Widths.{allowed as Widths·allowed, stays as Widths·stays, doubled as Widths·doubled};
 
 // Whether a depth and a growth are allowed at this width.
-pub fn allowed(width: usize, depth: usize, growth: usize) -> bool
+pub fn is_allowed(width: usize, depth: usize, growth: usize) -> bool
     ensures { λ t. ⌜ t ≡ Widths·allowed width depth growth ⌝ }
 {
     if depth >= width {
@@ -24,7 +24,7 @@ pub fn stays(t: usize, number: usize) -> bool
 }
 
 // Whether a new pixel is shown for a pixel of this number with u columns more.
-pub fn doubled(u: usize, number: usize) -> bool
+pub fn is_doubled(u: usize, number: usize) -> bool
     ensures { λ b. ⌜ b ≡ Widths·doubled u number ⌝ }
 {
     if number == 0 { false } else { number <= u }

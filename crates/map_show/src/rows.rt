@@ -1,7 +1,7 @@
 // A row of pixels kept or grown by the numbers of its row of the map.
 use crate::pixels::put_mean;
 use crate::pixels::put_pixel;
-use map_rules::doubled;
+use map_rules::is_doubled;
 use map_rules::left_of;
 use map_rules::stays;
 use pictures::Kind;
@@ -27,7 +27,7 @@ fn doubled_in(u: usize, numbers: &[u16]) -> usize
 {
     let mut count = 0;
     for c in 0..numbers.len() {
-        if doubled(u, wide(numbers[c])) {
+        if is_doubled(u, wide(numbers[c])) {
             count += 1;
         }
     }
@@ -75,7 +75,7 @@ pub(crate) fn grow_row(kind: Kind, samples: &[u8], numbers: &[u16], u: usize, ou
     for c in 0..last {
         put_pixel(kind, samples, c, out, at);
         at += n;
-        if doubled(u, wide(numbers[c])) {
+        if is_doubled(u, wide(numbers[c])) {
             put_mean(kind, samples, c, c + 1, out, at);
             at += n;
         }
@@ -84,7 +84,7 @@ pub(crate) fn grow_row(kind: Kind, samples: &[u8], numbers: &[u16], u: usize, ou
         kind,
         samples,
         last,
-        doubled(u, wide(numbers[last])),
+        is_doubled(u, wide(numbers[last])),
         out,
         at,
     );

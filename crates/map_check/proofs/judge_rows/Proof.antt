@@ -59,10 +59,10 @@ ends : (m : tie.After-map-bytes) → end m ≤ length (space m)
 ends m = omega (arith, at-is m, map-is m, fits (start m) .long)
 
 -- what the rows' answer says
-rows-told : (c : tie.After-numbered) → let m = c .before .before .before in c .numbered .result ≡ every (numbers (start m .args .depth)) (recordedIn (size m) (space m))
+rows-told : (c : tie.After-is-numbered) → let m = c .before .before .before in c .is-numbered .result ≡ every (numbers (start m .args .depth)) (recordedIn (size m) (space m))
 rows-told c =
     let m = c .before .before .before in
-    c .numbered .ensures ∙ rows-at (size m) (start m .args .method) (start m .args .depth) (space m) (fits (start m)) _ _ (at-is m) (map-is m)
+    c .is-numbered .ensures ∙ rows-at (size m) (start m .args .method) (start m .args .depth) (space m) (fits (start m)) _ _ (at-is m) (map-is m)
 
 -- the space with the map built
 abbrev layout : tie.After-map-in → tie.After-map-bytes
@@ -93,17 +93,17 @@ map-bytes-requires c κs = search needs
 add-end : tie.Need-add-end
 add-end c = omega (arith, ends c)
 
-sub-numbered : tie.Need-sub-numbered
-sub-numbered c = search needs
+sub-is-numbered : tie.Need-sub-is-numbered
+sub-is-numbered c = search needs
 
-part-numbered-start : tie.Need-part-numbered-start
-part-numbered-start c = search needs
+part-is-numbered-start : tie.Need-part-is-numbered-start
+part-is-numbered-start c = search needs
 
-part-numbered-end : tie.Need-part-numbered-end
-part-numbered-end c = omega (arith, ends (c .before))
+part-is-numbered-end : tie.Need-part-is-numbered-end
+part-is-numbered-end c = omega (arith, ends (c .before))
 
-numbered-requires : tie.Need-numbered-requires
-numbered-requires c κs =
+is-numbered-requires : tie.Need-is-numbered-requires
+is-numbered-requires c κs =
     let m = c .before .before in
     let f = fits (start m) in
     let n : end m - at m ≡ mapBytes (size m) = omega (arith, map-is m) in
@@ -178,10 +178,10 @@ judge-rows-spec =
     recorded-at-requires
     map-bytes-requires
     add-end
-    sub-numbered
-    part-numbered-start
-    part-numbered-end
-    numbered-requires
+    sub-is-numbered
+    part-is-numbered-start
+    part-is-numbered-end
+    is-numbered-requires
     same-length
     returns
     slice-relend-prefix-map-in

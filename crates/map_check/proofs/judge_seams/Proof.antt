@@ -28,57 +28,57 @@ mul-map c = search needs
 mul-map-2 : tie.Need-mul-map-2
 mul-map-2 c = search needs
 
-sub-same-numbers : tie.Need-sub-same-numbers
-sub-same-numbers c = search needs
+sub-has-same-numbers : tie.Need-sub-has-same-numbers
+sub-has-same-numbers c = search needs
 
-part-same-numbers-start : tie.Need-part-same-numbers-start
-part-same-numbers-start c = search needs
+part-has-same-numbers-start : tie.Need-part-has-same-numbers-start
+part-has-same-numbers-start c = search needs
 
-part-same-numbers-end : tie.Need-part-same-numbers-end
-part-same-numbers-end c = search needs
+part-has-same-numbers-end : tie.Need-part-has-same-numbers-end
+part-has-same-numbers-end c = search needs
 
-slice-aggregate-same-numbers : tie.Need-slice-aggregate-same-numbers
-slice-aggregate-same-numbers c = sym (first-long (c .before .before .before))
+slice-aggregate-has-same-numbers : tie.Need-slice-aggregate-has-same-numbers
+slice-aggregate-has-same-numbers c = sym (first-long (c .before .before .before))
 
-same-numbers-requires : tie.Need-same-numbers-requires
-same-numbers-requires c κs = let s = c .before .before .before in second-long s ∙ sym (first-long s)
+has-same-numbers-requires : tie.Need-has-same-numbers-requires
+has-same-numbers-requires c κs = let s = c .before .before .before in second-long s ∙ sym (first-long s)
 
 returns : tie.Need-returns
 returns c =
     let s = c .before .before .before .before .before in
-    let told = rw (second s) at (c .before .same-numbers .ensures) in
+    let told = rw (second s) at (c .before .has-same-numbers .ensures) in
     rw (sym told ∙ c .if1 .taken)
 
-sub-connected : tie.Need-sub-connected
-sub-connected c = search needs
+sub-is-connected : tie.Need-sub-is-connected
+sub-is-connected c = search needs
 
-part-connected-start : tie.Need-part-connected-start
-part-connected-start c = search needs
+part-is-connected-start : tie.Need-part-is-connected-start
+part-is-connected-start c = search needs
 
-part-connected-end : tie.Need-part-connected-end
-part-connected-end c = search needs
+part-is-connected-end : tie.Need-part-is-connected-end
+part-is-connected-end c = search needs
 
-connected-requires : tie.Need-connected-requires
-connected-requires c κs =
+is-connected-requires : tie.Need-is-connected-requires
+is-connected-requires c κs =
     let s = c .before .before .before .before .before .before in
     record { long = second-long s; wide = s .pre .wide; tall = s .pre .tall; some = s .pre .some; deep = s .pre .deep }
 
 returns-2 : tie.Need-returns-2
 returns-2 c =
     let at-if1 = c .before .before .before in
-    let at-same-numbers = at-if1 .before in
-    let s = at-same-numbers .before .before .before .before in
-    let told = rw (second s) at (at-same-numbers .same-numbers .ensures) in
-    let joined = rw (second s) at (c .before .connected .ensures) in
+    let at-has-same-numbers = at-if1 .before in
+    let s = at-has-same-numbers .before .before .before .before in
+    let told = rw (second s) at (at-has-same-numbers .has-same-numbers .ensures) in
+    let joined = rw (second s) at (c .before .is-connected .ensures) in
     rw (sym told ∙ at-if1 .if1 .left, sym joined ∙ c .if2 .taken)
 
 returns-3 : tie.Need-returns-3
 returns-3 c =
     let at-if1 = c .before .before .before in
-    let at-same-numbers = at-if1 .before in
-    let s = at-same-numbers .before .before .before .before in
-    let told = rw (second s) at (at-same-numbers .same-numbers .ensures) in
-    let joined = rw (second s) at (c .before .connected .ensures) in
+    let at-has-same-numbers = at-if1 .before in
+    let s = at-has-same-numbers .before .before .before .before in
+    let told = rw (second s) at (at-has-same-numbers .has-same-numbers .ensures) in
+    let joined = rw (second s) at (c .before .is-connected .ensures) in
     rw (sym told ∙ at-if1 .if1 .left, sym joined ∙ c .if2 .left)
 
 pub judge-seams-spec : {M : Type 1} → statement M
@@ -87,15 +87,15 @@ judge-seams-spec =
     (tie.spec
     mul-map
     mul-map-2
-    sub-same-numbers
-    part-same-numbers-start
-    part-same-numbers-end
-    slice-aggregate-same-numbers
-    same-numbers-requires
+    sub-has-same-numbers
+    part-has-same-numbers-start
+    part-has-same-numbers-end
+    slice-aggregate-has-same-numbers
+    has-same-numbers-requires
     returns
-    sub-connected
-    part-connected-start
-    part-connected-end
-    connected-requires
+    sub-is-connected
+    part-is-connected-start
+    part-is-connected-end
+    is-connected-requires
     returns-2
     returns-3)

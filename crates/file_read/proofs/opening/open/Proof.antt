@@ -49,8 +49,8 @@ returns-3 c =
     let sides = sym (at-judge-sides .judge-sides .ensures) ∙ ap given (at-enum-told2 .enum-told2 .given .1) in
     open-counts _ _ told sides (sym (c .before .counted .ensures) ∙ not-true _ (c .if1 .taken))
 
-allowed-requires : tie.Need-allowed-requires
-allowed-requires c κs = search needs
+is-allowed-requires : tie.Need-is-allowed-requires
+is-allowed-requires c κs = search needs
 
 returns-4 : tie.Need-returns-4
 returns-4 c =
@@ -62,7 +62,7 @@ returns-4 c =
     let at-scan = at-facts .before .before in
     let told = rw (at-facts .facts .given .1) at (at-scan .scan .ensures) in
     let sides = sym (at-judge-sides .judge-sides .ensures) ∙ ap given (at-enum-told2 .enum-told2 .given .1) in
-    open-range _ _ told sides (sym (at-counted .counted .ensures) ∙ not-false _ (at-if1 .if1 .left)) (sym (c .before .allowed .ensures) ∙ not-true _ (c .if2 .taken))
+    open-range _ _ told sides (sym (at-counted .counted .ensures) ∙ not-false _ (at-if1 .if1 .left)) (sym (c .before .is-allowed .ensures) ∙ not-true _ (c .if2 .taken))
 
 returns-5 : tie.Need-returns-5
 returns-5 c =
@@ -74,7 +74,7 @@ returns-5 c =
     let at-scan = at-facts .before .before in
     let told = rw (at-facts .facts .given .1) at (at-scan .scan .ensures) in
     let sides = sym (at-judge-sides .judge-sides .ensures) ∙ ap given (at-enum-told2 .enum-told2 .given .1) in
-    open-served _ _ told sides (sym (at-counted .counted .ensures) ∙ not-false _ (at-if1 .if1 .left)) (sym (c .before .allowed .ensures) ∙ not-false _ (c .if2 .left))
+    open-served _ _ told sides (sym (at-counted .counted .ensures) ∙ not-false _ (at-if1 .if1 .left)) (sym (c .before .is-allowed .ensures) ∙ not-false _ (c .if2 .left))
 
 pub open-spec : {M : Type 1} → statement M
 open-spec =
@@ -90,6 +90,6 @@ open-spec =
     enum-told-2
     counted-requires
     returns-3
-    allowed-requires
+    is-allowed-requires
     returns-4
     returns-5)

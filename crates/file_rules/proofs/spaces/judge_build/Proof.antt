@@ -38,8 +38,8 @@ work-is c =
     given-out (a .head .size) _ (workBytes (a .head .size)) (sides-served (a .head .size) (a .bytes) (none e)) (c .work-bytes .ensures)
 
 -- the test of the range
-ranged : (c : tie.After-allowed) → let h = start (c .before) .args .head in c .allowed .result ≡ allowed (h .size .width) (h .depth) (h .growth)
-ranged c = c .allowed .ensures
+ranged : (c : tie.After-is-allowed) → let h = start (c .before) .args .head in c .is-allowed .result ≡ allowed (h .size .width) (h .depth) (h .growth)
+ranged c = c .is-allowed .ensures
 
 judge-picture-requires : tie.Need-judge-picture-requires
 judge-picture-requires c κs = search needs
@@ -59,8 +59,8 @@ returns c =
     let why = c .enum-told2 .given in
     refused-answer (at-judge-picture .judge-picture .result) (why .0 .0) (why .1) (sizeRules (a .head .size) (a .bytes)) (more s) (at-judge-picture .judge-picture .ensures)
 
-allowed-requires : tie.Need-allowed-requires
-allowed-requires c κs = search needs
+is-allowed-requires : tie.Need-is-allowed-requires
+is-allowed-requires c κs = search needs
 
 returns-2 : tie.Need-returns-2
 unfolding more
@@ -91,7 +91,7 @@ judge-build-spec =
     enum-told
     enum-told-2
     returns
-    allowed-requires
+    is-allowed-requires
     returns-2
     work-bytes-requires
     returns-3

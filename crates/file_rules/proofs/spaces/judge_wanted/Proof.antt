@@ -32,7 +32,7 @@ abbrev start : tie.Else1 → tie.Start
 start c = c .before .before .before .before .before .before
 
 sound : (c : tie.Else1) → Sound (start c .args .head)
-sound c = record { sides = none (c .before .before); range = sym (c .before .allowed .ensures) ∙ not-false _ (c .if1 .left) }
+sound c = record { sides = none (c .before .before); range = sym (c .before .is-allowed .ensures) ∙ not-false _ (c .if1 .left) }
 
 rest : (c : tie.Else1) → let a = start c .args in
     refusal (wantedRules (a .head) (a .wanted) (a .out) (a .work)) ≡ refusal (offerRules (a .head) (a .wanted) (a .out) (a .work))
@@ -75,15 +75,15 @@ returns c =
     let why = c .enum-told2 .given in
     refused-answer (at-judge-sides .judge-sides .result) (why .0 .0) (why .1) (sideRules (s .args .head .size)) (more s) (at-judge-sides .judge-sides .ensures)
 
-allowed-requires : tie.Need-allowed-requires
-allowed-requires c κs = search needs
+is-allowed-requires : tie.Need-is-allowed-requires
+is-allowed-requires c κs = search needs
 
 returns-2 : tie.Need-returns-2
 unfolding more
 returns-2 c =
     let e = c .before .before in
     let s = e .before .before .before .before in
-    let no = sym (c .before .allowed .ensures) ∙ not-true _ (c .if1 .taken) in
+    let no = sym (c .before .is-allowed .ensures) ∙ not-true _ (c .if1 .taken) in
     sym (served-first (sideRules (s .args .head .size)) (more s) refl (none e) ∙ rw no)
 
 sub-if2 : tie.Need-sub-if2
@@ -142,7 +142,7 @@ judge-wanted-spec =
     enum-told
     enum-told-2
     returns
-    allowed-requires
+    is-allowed-requires
     returns-2
     sub-if2
     returns-3

@@ -20,14 +20,14 @@ abbrev μ-loop : tie.MeasureT-loop
 μ-loop u numbers count₀ c₀ c-end count c = c-end - c
 
 -- the test of number c
-test : (c : tie.After-doubled Inv-loop μ-loop)
+test : (c : tie.After-is-doubled Inv-loop μ-loop)
     → let s = c .before .before .before .before .before .before in
     let a = s .args in
-    doubled (a .u) (getD (now (a .numbers)) (c .before .before .before .before .loop .c) 0) ≡ c .doubled .result
+    doubled (a .u) (getD (now (a .numbers)) (c .before .before .before .before .loop .c) 0) ≡ c .is-doubled .result
 test c =
     let s = c .before .before .before .before .before .before in
     let a = s .args in
-    sym (c .doubled .ensures ∙ ap (doubled (a .u)) (c .before .wide .ensures))
+    sym (c .is-doubled .ensures ∙ ap (doubled (a .u)) (c .before .wide .ensures))
 
 loop-holds : tie.Need-loop-holds Inv-loop μ-loop
 loop-holds c = (omega arith, (refl, (omega arith, omega arith)))
@@ -41,8 +41,8 @@ shared-slice-read-wide c = search needs
 wide-requires : tie.Need-wide-requires Inv-loop μ-loop
 wide-requires c κs = search needs
 
-doubled-requires : tie.Need-doubled-requires Inv-loop μ-loop
-doubled-requires c κs = search needs
+is-doubled-requires : tie.Need-is-doubled-requires Inv-loop μ-loop
+is-doubled-requires c κs = search needs
 
 add-count : tie.Need-add-count Inv-loop μ-loop
 add-count c = search needs
@@ -80,7 +80,7 @@ doubled-in-spec =
     mul-wide
     shared-slice-read-wide
     wide-requires
-    doubled-requires
+    is-doubled-requires
     add-count
     add-c
     loop-less

@@ -49,14 +49,14 @@ behind c =
     rw (c .put-pixel .ensures) (grow-put (a .kind) (now (a .samples)) (now (a .numbers)) (st .pre .whole) (a .u) (now (a .out)) (head .c) (head .out) (head .at) (omega (arith, at-loop-test .loop-test .taken)) (at-channels .channels .ensures) (head .inv .1 .1))
 
 -- the test of number c
-test : (c : tie.After-doubled Inv-loop μ-loop)
+test : (c : tie.After-is-doubled Inv-loop μ-loop)
     → let s = c .before .before .before .before .before .before .before .before .before .before .before .before .before .before in
     let a = s .args in
-    doubled (a .u) (getD (now (a .numbers)) (c .before .before .before .before .before .before .before .before .loop .c) 0) ≡ c .doubled .result
+    doubled (a .u) (getD (now (a .numbers)) (c .before .before .before .before .before .before .before .before .loop .c) 0) ≡ c .is-doubled .result
 test c =
     let s = c .before .before .before .before .before .before .before .before .before .before .before .before .before .before in
     let a = s .args in
-    sym (c .doubled .ensures ∙ ap (doubled (a .u)) (c .before .wide .ensures))
+    sym (c .is-doubled .ensures ∙ ap (doubled (a .u)) (c .before .wide .ensures))
 
 -- where it passes, there is room for the new pixel
 new-ready : (c : tie.Then2 Inv-loop μ-loop)
@@ -73,16 +73,16 @@ new-ready c =
     new-needed (a .kind) (now (a .samples)) (now (a .numbers)) (st .pre .whole) (a .u) (now (a .out)) (head .c) _ _ (omega (arith, p .before .before .loop-test .taken)) (test (c .before) ∙ c .if2 .taken) (behind p)
 
 -- the test of the last number, and the last pixel still to come
-new-is : (c : tie.After-doubled2 Inv-loop μ-loop)
+new-is : (c : tie.After-is-doubled2 Inv-loop μ-loop)
     → let s = c .before .before .before .before .before .before .before .before .before .before in
     let a = s .args in
-    c .doubled2 .result ≡ doubled (a .u) (getD (now (a .numbers)) (length (now (a .numbers)) - 1) 0)
+    c .is-doubled2 .result ≡ doubled (a .u) (getD (now (a .numbers)) (length (now (a .numbers)) - 1) 0)
 new-is c =
     let s = c .before .before .before .before .before .before .before .before .before .before in
     let a = s .args in
-    c .doubled2 .ensures ∙ ap (doubled (a .u)) (c .before .wide2 .ensures)
+    c .is-doubled2 .ensures ∙ ap (doubled (a .u)) (c .before .wide2 .ensures)
 
-grown-up : (c : tie.After-doubled2 Inv-loop μ-loop)
+grown-up : (c : tie.After-is-doubled2 Inv-loop μ-loop)
     → let at-loop = c .before .before .before .before in
     let s = at-loop .before .before .before .before .before .before in
     let head = at-loop .loop in let a = s .args in
@@ -133,8 +133,8 @@ shared-slice-read-wide c = search needs
 wide-requires : tie.Need-wide-requires Inv-loop μ-loop
 wide-requires c κs = search needs
 
-doubled-requires : tie.Need-doubled-requires Inv-loop μ-loop
-doubled-requires c κs = search needs
+is-doubled-requires : tie.Need-is-doubled-requires Inv-loop μ-loop
+is-doubled-requires c κs = search needs
 
 add-put-mean : tie.Need-add-put-mean Inv-loop μ-loop
 add-put-mean c = search needs
@@ -181,8 +181,8 @@ shared-slice-read-wide-2 c = search needs
 wide-requires-2 : tie.Need-wide-requires-2 Inv-loop μ-loop
 wide-requires-2 c κs = search needs
 
-doubled-requires-2 : tie.Need-doubled-requires-2 Inv-loop μ-loop
-doubled-requires-2 c κs = search needs
+is-doubled-requires-2 : tie.Need-is-doubled-requires-2 Inv-loop μ-loop
+is-doubled-requires-2 c κs = search needs
 
 put-last-requires : tie.Need-put-last-requires Inv-loop μ-loop
 put-last-requires c κs =
@@ -220,7 +220,7 @@ grow-row-spec =
     mul-wide
     shared-slice-read-wide
     wide-requires
-    doubled-requires
+    is-doubled-requires
     add-put-mean
     put-mean-requires
     add-at-2
@@ -230,7 +230,7 @@ grow-row-spec =
     mul-wide-2
     shared-slice-read-wide-2
     wide-requires-2
-    doubled-requires-2
+    is-doubled-requires-2
     put-last-requires
     same-length
     returns-2)

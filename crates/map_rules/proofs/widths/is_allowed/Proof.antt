@@ -1,8 +1,8 @@
--- `map_rules::widths::allowed` meets its contract.
+-- `map_rules::widths::is_allowed` meets its contract.
 use borrow.Author.Tests.{lt-ltb, le-ltb, le-leb, lt-leb}
 use Rattle.map_theory.specs.Widths as widths
-use Rattle.map_rules.proofs.widths.allowed.Statement.{statement}
-use Rattle.map_rules.proofs.widths.allowed.Tie as tie
+use Rattle.map_rules.proofs.widths.is_allowed.Statement.{statement}
+use Rattle.map_rules.proofs.widths.is_allowed.Tie as tie
 
 returns : tie.Need-returns
 unfolding widths.allowed
@@ -16,5 +16,5 @@ returns-3 : tie.Need-returns-3
 unfolding widths.allowed
 returns-3 c = rw (lt-ltb _ _ (c .before .if1 .left), le-leb _ _ (c .if2 .left))
 
-pub allowed-spec : {M : Type 1} → statement M
-allowed-spec = tie.close (tie.spec returns returns-2 returns-3)
+pub is-allowed-spec : {M : Type 1} → statement M
+is-allowed-spec = tie.close (tie.spec returns returns-2 returns-3)

@@ -1,4 +1,4 @@
--- `map_check::seams::connected` meets its contract. The invariant of the loop over seams: seams 1 to t are connected. Of the loop
+-- `map_check::seams::is_connected` meets its contract. The invariant of the loop over seams: seams 1 to t are connected. Of the loop
 -- over rows: `here` is the column of seam t + 1 in row r, and that seam is connected exactly when it is so from row r on. The
 -- measures are the seams and the rows left.
 use mathlib.Core.Path.{_≡_, refl, sym, ap₂, _∙_}
@@ -18,8 +18,8 @@ use Rattle.map_theory.proofs.Judged.{connected-is}
 use Rattle.pictures.specs.Numbers.{numbersIn}
 use Rattle.map_check.proofs.Turns.{Passed, passed-more}
 use Rattle.map_check.proofs.Columns.{connected-bad, linked-ok, linked-bad, linked-end, recorded-at, length-recorded}
-use Rattle.map_check.proofs.seams.connected.Statement.{statement}
-use Rattle.map_check.proofs.seams.connected.Tie as tie
+use Rattle.map_check.proofs.seams.is_connected.Statement.{statement}
+use Rattle.map_check.proofs.seams.is_connected.Tie as tie
 
 abbrev Inv-loop : tie.InvT-loop
 Inv-loop map width height depth good₀ t number here₀ r₀ good here r =
@@ -46,10 +46,10 @@ seam s t = recorded t (rowsOf (s .args .width) (s .args .height) (numbersIn (s .
 seam-long : (s : tie.Start Inv-loop μ-loop Inv-seams μ-seams) (t : ℕ) → length (seam s t) ≡ s .args .height
 seam-long s t = length-recorded t (s .args .width) (s .args .height) (numbersIn (s .args .map .now))
 
-abbrev start : tie.After-beside Inv-loop μ-loop Inv-seams μ-seams → tie.Start Inv-loop μ-loop Inv-seams μ-seams
+abbrev start : tie.After-is-beside Inv-loop μ-loop Inv-seams μ-seams → tie.Start Inv-loop μ-loop Inv-seams μ-seams
 start c = c .before .before .before .before .before .before .before .before
 
-within : (c : tie.After-beside Inv-loop μ-loop Inv-seams μ-seams)
+within : (c : tie.After-is-beside Inv-loop μ-loop Inv-seams μ-seams)
     → let at-seams = c .before .before .before .before .before .before in
     let t = at-seams .seams .t in
     c .before .before .before .loop .r + 1 < length (seam (start c) (t + 1))
@@ -59,11 +59,11 @@ within c =
     rw (seam-long (start c) (at-seams .seams .t + 1)) (at-loop-test .loop-test .taken)
 
 -- what the test of a step says
-told : (c : tie.After-beside Inv-loop μ-loop Inv-seams μ-seams)
+told : (c : tie.After-is-beside Inv-loop μ-loop Inv-seams μ-seams)
     → let at-loop = c .before .before .before in
     let at-seams = at-loop .before .before .before in
     let t = at-seams .seams .t in let r = at-loop .loop .r in
-    beside (getD (seam (start c) (t + 1)) r 0) (getD (seam (start c) (t + 1)) (r + 1) 0) ≡ c .beside .result
+    beside (getD (seam (start c) (t + 1)) r 0) (getD (seam (start c) (t + 1)) (r + 1) 0) ≡ c .is-beside .result
 told c =
     let at-loop-test = c .before .before in
     let at-loop = at-loop-test .before in
@@ -74,7 +74,7 @@ told c =
     let next = at-loop-test .loop-test .taken in
     ap₂ beside (recorded-at (t + 1) (a .width) (a .height) (numbersIn (a .map .now)) (at .r) (at .inv .0) ∙ sym (at .inv .3))
     (recorded-at (t + 1) (a .width) (a .height) (numbersIn (a .map .now)) (at .r + 1) next ∙ sym (c .before .column-at2 .ensures .is))
-    ∙ sym (c .beside .ensures)
+    ∙ sym (c .is-beside .ensures)
 
 seams-holds : tie.Need-seams-holds Inv-loop μ-loop Inv-seams μ-seams
 seams-holds c = (omega arith, refl, λ q l h. absurd (omega arith))
@@ -103,8 +103,8 @@ column-at-requires-2 c κs =
     let s = c .before .before .before .before .before .before in
     record { inside = row-in s (c .before .loop .r + 1) (c .loop-test .taken) }
 
-beside-requires : tie.Need-beside-requires Inv-loop μ-loop Inv-seams μ-seams
-beside-requires c κs = search needs
+is-beside-requires : tie.Need-is-beside-requires Inv-loop μ-loop Inv-seams μ-seams
+is-beside-requires c κs = search needs
 
 add-r : tie.Need-add-r Inv-loop μ-loop Inv-seams μ-seams
 add-r c = search needs
@@ -154,8 +154,8 @@ returns-2 c =
     sym (connected-bad (near false) (a .width) (a .depth) (rowsOf (a .width) (a .height) (numbersIn (a .map .now))) (t + 1) (omega arith) (omega arith)
     (sym (at .inv .4) ∙ linked-bad beside (seam (start k) (t + 1)) (at .r) (within k) (told k ∙ not-true _ (c .if1 .taken))))
 
-pub connected-spec : {M : Type 1} → statement M
-connected-spec =
+pub is-connected-spec : {M : Type 1} → statement M
+is-connected-spec =
     tie.close
     (tie.spec
     Inv-loop
@@ -169,7 +169,7 @@ connected-spec =
     add-loop
     add-column-at
     column-at-requires-2
-    beside-requires
+    is-beside-requires
     add-r
     loop-less
     loop-again

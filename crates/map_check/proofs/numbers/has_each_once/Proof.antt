@@ -1,4 +1,4 @@
--- `map_check::numbers::each_once` meets its contract. The invariant: the numbers passed stand once.
+-- `map_check::numbers::has_each_once` meets its contract. The invariant: the numbers passed stand once.
 use mathlib.Core.Path.{_≡_, sym, _∙_}
 use Prim.Native.Nat.{_+_, _-_, _≤_}
 use native.Mathlib.Omega.{arith}
@@ -8,8 +8,8 @@ use lib.Dec.{eqb}
 use lib.ListN.{getD}
 use Rattle.map_theory.proofs.Tests.{every-run}
 use Rattle.map_check.proofs.Turns.{Passed, passed-more, run-bad}
-use Rattle.map_check.proofs.numbers.each_once.Statement.{statement}
-use Rattle.map_check.proofs.numbers.each_once.Tie as tie
+use Rattle.map_check.proofs.numbers.has_each_once.Statement.{statement}
+use Rattle.map_check.proofs.numbers.has_each_once.Tie as tie
 
 abbrev Inv-loop : tie.InvT-loop
 Inv-loop seen depth t₀ t = (t ≤ depth) × Passed (λ v. eqb (getD seen v 0) 1) t
@@ -21,22 +21,22 @@ loop-holds : tie.Need-loop-holds Inv-loop μ-loop
 loop-holds c = (omega arith, λ q l h. absurd (omega arith))
 
 -- the test of the count of t + 1
-told : (c : tie.After-once Inv-loop μ-loop)
+told : (c : tie.After-stands-once Inv-loop μ-loop)
     → let at-loop = c .before .before .before in
-    let a = at-loop .before .before .args in eqb (getD (a .seen .now) (at-loop .loop .t + 1) 0) 1 ≡ c .once .result
-told c = sym (c .once .ensures)
+    let a = at-loop .before .before .args in eqb (getD (a .seen .now) (at-loop .loop .t + 1) 0) 1 ≡ c .stands-once .result
+told c = sym (c .stands-once .ensures)
 
-add-once : tie.Need-add-once Inv-loop μ-loop
-add-once c = search needs
+add-stands-once : tie.Need-add-stands-once Inv-loop μ-loop
+add-stands-once c = search needs
 
-mul-once : tie.Need-mul-once Inv-loop μ-loop
-mul-once c = search needs
+mul-stands-once : tie.Need-mul-stands-once Inv-loop μ-loop
+mul-stands-once c = search needs
 
-shared-slice-read-once : tie.Need-shared-slice-read-once Inv-loop μ-loop
-shared-slice-read-once c = search needs
+shared-slice-read-stands-once : tie.Need-shared-slice-read-stands-once Inv-loop μ-loop
+shared-slice-read-stands-once c = search needs
 
-once-requires : tie.Need-once-requires Inv-loop μ-loop
-once-requires c κs = search needs
+stands-once-requires : tie.Need-stands-once-requires Inv-loop μ-loop
+stands-once-requires c κs = search needs
 
 returns : tie.Need-returns Inv-loop μ-loop
 returns c =
@@ -64,17 +64,17 @@ returns-2 c =
     let a = c .before .before .before .args in
     sym (every-run (λ v. eqb (getD (a .seen .now) v 0) 1) (a .depth) .1 (λ q l h. at .inv .1 q l (omega arith)))
 
-pub each-once-spec : {M : Type 1} → statement M
-each-once-spec =
+pub has-each-once-spec : {M : Type 1} → statement M
+has-each-once-spec =
     tie.close
     (tie.spec
     Inv-loop
     μ-loop
     loop-holds
-    add-once
-    mul-once
-    shared-slice-read-once
-    once-requires
+    add-stands-once
+    mul-stands-once
+    shared-slice-read-stands-once
+    stands-once-requires
     returns
     add-t
     loop-less

@@ -1,4 +1,4 @@
--- `map_check::numbers::same_numbers` meets its contract. The invariant: the numbers to come decide.
+-- `map_check::numbers::has_same_numbers` meets its contract. The invariant: the numbers to come decide.
 use mathlib.Core.Path.{_≡_, refl, sym, _∙_}
 use Prim.Native.Nat.{_-_, _/_, _<_, _≤_}
 use native.Mathlib.Omega.{arith}
@@ -8,8 +8,8 @@ use Rattle.map_theory.specs.Judged.{same}
 use Rattle.pictures.specs.Numbers.{numbersIn}
 use Rattle.pictures.proofs.TwoBytes.{length-numbers}
 use Rattle.map_check.proofs.Turns.{same-ok, same-bad, same-end}
-use Rattle.map_check.proofs.numbers.same_numbers.Statement.{statement}
-use Rattle.map_check.proofs.numbers.same_numbers.Tie as tie
+use Rattle.map_check.proofs.numbers.has_same_numbers.Statement.{statement}
+use Rattle.map_check.proofs.numbers.has_same_numbers.Tie as tie
 
 abbrev Inv-loop : tie.InvT-loop
 Inv-loop a b i₀ i-end i = (i ≤ length a / 2) × (same (drop i (numbersIn a)) (drop i (numbersIn b)) ≡ same (numbersIn a) (numbersIn b))
@@ -70,8 +70,8 @@ returns-2 c =
     let a = s .args in
     sym (sym (h .loop .inv .1) ∙ same-end (numbersIn (a .a .now)) (numbersIn (a .b .now)) (h .loop .i) (omega (arith, length-numbers (a .a .now))) (omega (arith, length-numbers (a .b .now), s .pre)))
 
-pub same-numbers-spec : {M : Type 1} → statement M
-same-numbers-spec =
+pub has-same-numbers-spec : {M : Type 1} → statement M
+has-same-numbers-spec =
     tie.close
     (tie.spec
     Inv-loop

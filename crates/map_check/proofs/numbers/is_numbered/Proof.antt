@@ -11,8 +11,8 @@ use Rattle.map_theory.specs.Judged.{every, numbers}
 use Rattle.pictures.specs.Numbers.{numbersIn}
 use Rattle.pictures.proofs.TwoBytes.{numbers-row}
 use Rattle.map_check.proofs.Turns.{every-ok, every-bad, every-end}
-use Rattle.map_check.proofs.numbers.numbered.Statement.{statement}
-use Rattle.map_check.proofs.numbers.numbered.Tie as tie
+use Rattle.map_check.proofs.numbers.is_numbered.Statement.{statement}
+use Rattle.map_check.proofs.numbers.is_numbered.Tie as tie
 
 abbrev Inv-loop : tie.InvT-loop
 Inv-loop map width height depth r₀ r = (r ≤ height) × (every (numbers depth) (drop r (rowsOf width height (numbersIn map))) ≡ every (numbers depth) (rowsOf width height (numbersIn map)))
@@ -32,15 +32,15 @@ within c l =
     rw (length-rowsOf (a .width) (a .height) (numbersIn (a .map .now))) l
 
 -- what the row's answer says
-told : (c : tie.After-numbered-row Inv-loop μ-loop) → let h = c .before .before .before in let a = h .before .before .args in
-    numbers (a .depth) (getD (rowsOf (a .width) (a .height) (numbersIn (a .map .now))) (h .loop .r) []) ≡ c .numbered-row .result
+told : (c : tie.After-is-numbering Inv-loop μ-loop) → let h = c .before .before .before in let a = h .before .before .args in
+    numbers (a .depth) (getD (rowsOf (a .width) (a .height) (numbersIn (a .map .now))) (h .loop .r) []) ≡ c .is-numbering .result
 told c =
     let at-loop-test = c .before .before in
     let h = at-loop-test .before in
     let a = h .before .before .args in
     let n : h .loop .r * (2 * a .width) + 2 * a .width - h .loop .r * (2 * a .width) ≡ 2 * a .width = omega arith in
     ap (numbers (a .depth)) (rowsOf-at (a .width) (a .height) (numbersIn (a .map .now)) (h .loop .r) (at-loop-test .loop-test .taken) ∙ sym (numbers-row (a .width) (h .loop .r) (a .map .now)))
-    ∙ sym (rw n at (c .numbered-row .ensures))
+    ∙ sym (rw n at (c .is-numbering .ensures))
 
 loop-holds : tie.Need-loop-holds Inv-loop μ-loop
 loop-holds c = (omega arith, refl)
@@ -57,17 +57,17 @@ mul-e c = search needs
 add-e : tie.Need-add-e Inv-loop μ-loop
 add-e c = omega (arith, inside (c .before) (c .loop-test .taken))
 
-sub-numbered-row : tie.Need-sub-numbered-row Inv-loop μ-loop
-sub-numbered-row c = search needs
+sub-is-numbering : tie.Need-sub-is-numbering Inv-loop μ-loop
+sub-is-numbering c = search needs
 
-part-numbered-row-start : tie.Need-part-numbered-row-start Inv-loop μ-loop
-part-numbered-row-start c = search needs
+part-is-numbering-start : tie.Need-part-is-numbering-start Inv-loop μ-loop
+part-is-numbering-start c = search needs
 
-part-numbered-row-end : tie.Need-part-numbered-row-end Inv-loop μ-loop
-part-numbered-row-end c = omega (arith, inside (c .before) (c .loop-test .taken))
+part-is-numbering-end : tie.Need-part-is-numbering-end Inv-loop μ-loop
+part-is-numbering-end c = omega (arith, inside (c .before) (c .loop-test .taken))
 
-numbered-row-requires : tie.Need-numbered-row-requires Inv-loop μ-loop
-numbered-row-requires c κs =
+is-numbering-requires : tie.Need-is-numbering-requires Inv-loop μ-loop
+is-numbering-requires c κs =
     let h = c .before .before in
     let s = h .before .before in
     let a = h .loop .r * (2 * s .args .width) in
@@ -101,8 +101,8 @@ returns-2 c =
     let end : length (rowsOf (a .width) (a .height) (numbersIn (a .map .now))) ≤ h .loop .r = omega (arith, length-rowsOf (a .width) (a .height) (numbersIn (a .map .now))) in
     sym (sym (h .loop .inv .1) ∙ every-end (numbers (a .depth)) (rowsOf (a .width) (a .height) (numbersIn (a .map .now))) (h .loop .r) end)
 
-pub numbered-spec : {M : Type 1} → statement M
-numbered-spec =
+pub is-numbered-spec : {M : Type 1} → statement M
+is-numbered-spec =
     tie.close
     (tie.spec
     Inv-loop
@@ -112,10 +112,10 @@ numbered-spec =
     mul-a-2
     mul-e
     add-e
-    sub-numbered-row
-    part-numbered-row-start
-    part-numbered-row-end
-    numbered-row-requires
+    sub-is-numbering
+    part-is-numbering-start
+    part-is-numbering-end
+    is-numbering-requires
     returns
     add-r
     loop-less
