@@ -24,7 +24,7 @@ pub(crate) fn open(file: &[u8]) -> Checked
     if let Verdict::Refused(why) = pictures::judge_sides(size) {
         return Checked::Refused(why);
     }
-    if !file_rules::counted(size.height, facts.rows, facts.maps, facts.full) {
+    if !file_rules::counts_agree(size.height, facts.rows, facts.maps, facts.full) {
         return Checked::Refused(Refusal::Count);
     }
     if !map_rules::is_allowed(size.width, head.depth, head.growth) {

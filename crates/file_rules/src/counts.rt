@@ -5,7 +5,7 @@ ghost use Prim.Native.Nat.{_*_};
 ghost use lib.Dec.{eqb, leb};
 
 // Whether there are as many row lines and map lines as the height says, each of them full.
-pub fn counted(height: usize, rows: usize, maps: usize, full: bool) -> bool
+pub fn counts_agree(height: usize, rows: usize, maps: usize, full: bool) -> bool
     ensures { λ t. ⌜ t ≡ (eqb rows height && (eqb maps height && full)) ⌝ }
 {
     if rows != height {

@@ -7,7 +7,7 @@ pub mod spaces;
 pub use answers::Built;
 pub use answers::Checked;
 pub use answers::Shown;
-pub use counts::counted;
+pub use counts::counts_agree;
 pub use counts::lines_fit;
 pub use spaces::judge_build;
 pub use spaces::judge_read_spaces;

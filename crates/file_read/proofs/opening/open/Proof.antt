@@ -36,8 +36,8 @@ returns-2 c =
 enum-told-2 : tie.Need-enum-told-2
 enum-told-2 c = search needs
 
-counted-requires : tie.Need-counted-requires
-counted-requires c κs = search needs
+counts-agree-requires : tie.Need-counts-agree-requires
+counts-agree-requires c κs = search needs
 
 returns-3 : tie.Need-returns-3
 returns-3 c =
@@ -47,7 +47,7 @@ returns-3 c =
     let at-scan = at-facts .before .before in
     let told = rw (at-facts .facts .given .1) at (at-scan .scan .ensures) in
     let sides = sym (at-judge-sides .judge-sides .ensures) ∙ ap given (at-enum-told2 .enum-told2 .given .1) in
-    open-counts _ _ told sides (sym (c .before .counted .ensures) ∙ not-true _ (c .if1 .taken))
+    open-counts _ _ told sides (sym (c .before .counts-agree .ensures) ∙ not-true _ (c .if1 .taken))
 
 is-allowed-requires : tie.Need-is-allowed-requires
 is-allowed-requires c κs = search needs
@@ -55,26 +55,26 @@ is-allowed-requires c κs = search needs
 returns-4 : tie.Need-returns-4
 returns-4 c =
     let at-if1 = c .before .before in
-    let at-counted = at-if1 .before in
-    let at-enum-told2 = at-counted .before in
+    let at-counts-agree = at-if1 .before in
+    let at-enum-told2 = at-counts-agree .before in
     let at-judge-sides = at-enum-told2 .before .before in
     let at-facts = at-judge-sides .before .before .before .before in
     let at-scan = at-facts .before .before in
     let told = rw (at-facts .facts .given .1) at (at-scan .scan .ensures) in
     let sides = sym (at-judge-sides .judge-sides .ensures) ∙ ap given (at-enum-told2 .enum-told2 .given .1) in
-    open-range _ _ told sides (sym (at-counted .counted .ensures) ∙ not-false _ (at-if1 .if1 .left)) (sym (c .before .is-allowed .ensures) ∙ not-true _ (c .if2 .taken))
+    open-range _ _ told sides (sym (at-counts-agree .counts-agree .ensures) ∙ not-false _ (at-if1 .if1 .left)) (sym (c .before .is-allowed .ensures) ∙ not-true _ (c .if2 .taken))
 
 returns-5 : tie.Need-returns-5
 returns-5 c =
     let at-if1 = c .before .before in
-    let at-counted = at-if1 .before in
-    let at-enum-told2 = at-counted .before in
+    let at-counts-agree = at-if1 .before in
+    let at-enum-told2 = at-counts-agree .before in
     let at-judge-sides = at-enum-told2 .before .before in
     let at-facts = at-judge-sides .before .before .before .before in
     let at-scan = at-facts .before .before in
     let told = rw (at-facts .facts .given .1) at (at-scan .scan .ensures) in
     let sides = sym (at-judge-sides .judge-sides .ensures) ∙ ap given (at-enum-told2 .enum-told2 .given .1) in
-    open-served _ _ told sides (sym (at-counted .counted .ensures) ∙ not-false _ (at-if1 .if1 .left)) (sym (c .before .is-allowed .ensures) ∙ not-false _ (c .if2 .left))
+    open-served _ _ told sides (sym (at-counts-agree .counts-agree .ensures) ∙ not-false _ (at-if1 .if1 .left)) (sym (c .before .is-allowed .ensures) ∙ not-false _ (c .if2 .left))
 
 pub open-spec : {M : Type 1} → statement M
 open-spec =
@@ -88,7 +88,7 @@ open-spec =
     enum-known-why
     returns-2
     enum-told-2
-    counted-requires
+    counts-agree-requires
     returns-3
     is-allowed-requires
     returns-4
