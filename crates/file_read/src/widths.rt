@@ -11,7 +11,7 @@ use text_read::Cursor;
 use text_read::Read;
 use text_theory::Head;
 ghost use mathlib.Core.Path.{_≡_};
-ghost use lib.ListN.{length, replicate};
+ghost use lib.ListN.{length};
 ghost use Rattle.file_read.specs.Reading.{ShowGiven};
 ghost use Rattle.file_read.specs.Inner.Widths.{DrawNeeded, DrawGiven, drawnIn, LinesNeeded};
 
