@@ -1,32 +1,36 @@
--- What is answered of multi-size files, as numbers.
+-- What is answered of multi-size files.
 use mathlib.Core.Option.{Option, none, some}
 use Prim.Native.Nat.{ℕ}
-use Rattle.pictures.specs.declared.sizes.Kind.{Kind}
-use Rattle.pictures.specs.declared.sizes.Kind.the-variants.{Grey, Rgb}
 use Rattle.pictures.specs.declared.sizes.Size.{Size}
 use Rattle.text_theory.specs.declared.Head.{Head}
 use Rattle.file_rules.specs.declared.answers.Built.{Built}
 use Rattle.file_rules.specs.declared.answers.Checked.{Checked}
 use Rattle.file_rules.specs.declared.answers.Shown.{Shown}
 use Rattle.file_rules.specs.Answers.{builtNumber, builtLength, checkedNumber, checkedHead, shownNumber, shownSize}
+use Rattle.export_answers.specs.declared.names.HostSize.{HostSize}
+use Rattle.export_answers.specs.declared.names.HostMethod.{HostMethod}
 use Rattle.export_answers.specs.declared.answers.Answer.{Answer}
 use Rattle.export_answers.specs.declared.files.FileAnswer.{FileAnswer}
 use Rattle.export_answers.specs.declared.files.SizeAnswer.{SizeAnswer}
+use Rattle.export_answers.specs.Named.{hostSize, hostMethod}
 
--- Kind 0 is grey, 1 is rgb.
-abbrev pub kindNumber : Kind → ℕ
-kindNumber Grey = 0
-kindNumber Rgb = 1
+-- What stands for a size and a method beside a number that refuses.
+abbrev pub noSize : HostSize
+noSize = record { width = 0; height = 0; kind = 0 }
 
--- The number, and size and range or zeros.
+abbrev pub noMethod : HostMethod
+noMethod = record { energy = 0 }
+
+-- The number, and size, method and range or zeros.
 abbrev pub headed : ℕ → Option Head → FileAnswer
-headed n none = record { number = n; width = 0; height = 0; kind = 0; depth = 0; growth = 0 }
-headed n (some h) = record { number = n; width = h .size .width; height = h .size .height; kind = kindNumber (h .size .kind); depth = h .depth; growth = h .growth }
+headed n none = record { number = n; size = noSize; method = noMethod; depth = 0; growth = 0 }
+headed n (some h) =
+    record { number = n; size = hostSize (h .size); method = hostMethod (h .method); depth = h .depth; growth = h .growth }
 
 -- The number, and the size or zeros.
 abbrev pub framed : ℕ → Option Size → SizeAnswer
-framed n none = record { number = n; width = 0; height = 0; kind = 0 }
-framed n (some z) = record { number = n; width = z .width; height = z .height; kind = kindNumber (z .kind) }
+framed n none = record { number = n; size = noSize }
+framed n (some z) = record { number = n; size = hostSize z }
 
 -- The answers as numbers.
 abbrev pub lengthOf : Built → Answer

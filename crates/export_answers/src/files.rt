@@ -1,20 +1,22 @@
 // What is answered of multi-size files.
 use crate::Answer;
+use crate::HostMethod;
+use crate::HostSize;
+use crate::host_method;
+use crate::host_size;
 use crate::refused;
 use file_rules::Built;
 use file_rules::Checked;
 use file_rules::Shown;
-use pictures::Kind;
 ghost use mathlib.Core.Path.{_≡_};
-ghost use Rattle.export_answers.specs.Files.{kindNumber, lengthOf, headOf, sizeOf};
+ghost use Rattle.export_answers.specs.Files.{lengthOf, headOf, sizeOf};
 
-// Size and range of a file: kind 0 is grey, 1 is rgb. Or the number that it is refused by, and all else 0.
+// Size, method and range of a file. Or the number that it is refused by, and all else 0.
 #[repr(C)]
 pub struct FileAnswer {
     pub number: u64,
-    pub width: u64,
-    pub height: u64,
-    pub kind: u64,
+    pub size: HostSize,
+    pub method: HostMethod,
     pub depth: u64,
     pub growth: u64,
 }
@@ -23,18 +25,7 @@ pub struct FileAnswer {
 #[repr(C)]
 pub struct SizeAnswer {
     pub number: u64,
-    pub width: u64,
-    pub height: u64,
-    pub kind: u64,
-}
-
-fn kind_number(kind: Kind) -> u64
-    ensures { λ n. ⌜ n ≡ kindNumber kind ⌝ }
-{
-    match kind {
-        Kind::Grey => 0,
-        Kind::Rgb => 1,
-    }
+    pub size: HostSize,
 }
 
 // The value is the file's length.
@@ -56,21 +47,23 @@ pub fn head_reply(given: Checked) -> FileAnswer
     match given {
         Checked::Accepted(head) => {
             let size = head.size;
-            let kind = size.kind;
+            let method = head.method;
             FileAnswer {
                 number: 0,
-                width: size.width as u64,
-                height: size.height as u64,
-                kind: kind_number(kind),
+                size: host_size(size),
+                method: host_method(method),
                 depth: head.depth as u64,
                 growth: head.growth as u64,
             }
         }
         Checked::Refused(why) => FileAnswer {
             number: pictures::number(why),
-            width: 0,
-            height: 0,
-            kind: 0,
+            size: HostSize {
+                width: 0,
+                height: 0,
+                kind: 0,
+            },
+            method: HostMethod { energy: 0 },
             depth: 0,
             growth: 0,
         },
@@ -81,20 +74,17 @@ pub fn size_reply(given: Shown) -> SizeAnswer
     ensures { λ a. ⌜ a ≡ sizeOf given ⌝ }
 {
     match given {
-        Shown::Size(size) => {
-            let kind = size.kind;
-            SizeAnswer {
-                number: 0,
-                width: size.width as u64,
-                height: size.height as u64,
-                kind: kind_number(kind),
-            }
-        }
+        Shown::Size(size) => SizeAnswer {
+            number: 0,
+            size: host_size(size),
+        },
         Shown::Refused(why) => SizeAnswer {
             number: pictures::number(why),
-            width: 0,
-            height: 0,
-            kind: 0,
+            size: HostSize {
+                width: 0,
+                height: 0,
+                kind: 0,
+            },
         },
     }
 }

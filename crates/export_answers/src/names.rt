@@ -1,4 +1,6 @@
 // What hosts in C and Rust name by numbers, as pure functions.
+use energy::EnergyRule;
+use energy::Method;
 use pictures::Kind;
 use pictures::Size;
 use seam_rules::Axis;
@@ -6,11 +8,31 @@ use seam_rules::Columns;
 use seam_rules::Rows;
 use text_theory::Head;
 ghost use mathlib.Core.Path.{_≡_};
-ghost use Rattle.export_answers.specs.Named.{sizingOf, turningOf, headNamed, countsNamed};
+ghost use Rattle.export_answers.specs.Named.{sizingOf, findingOf, turningOf, headNamed, countsNamed, kindNumber, energyNumber, hostSize, hostMethod};
 
-// The size that a host names by numbers.
+// The size of a picture, as hosts pass it and are answered it. Kind 0 is grey, 1 is rgb.
+#[repr(C)]
+pub struct HostSize {
+    pub width: usize,
+    pub height: usize,
+    pub kind: u8,
+}
+
+// The method that seams are found by, as hosts pass it and are answered it. Energy 0 is edge.
+#[repr(C)]
+pub struct HostMethod {
+    pub energy: u8,
+}
+
+// The size that a host names.
 pub enum Sizing {
     Of(Size),
+    Unknown,
+}
+
+// The method that a host names.
+pub enum Finding {
+    By(Method),
     Unknown,
 }
 
@@ -26,10 +48,13 @@ pub struct Counts {
     pub columns: Columns,
 }
 
-// Kind 0 is grey, 1 is rgb.
-pub fn size_named(width: usize, height: usize, kind: u8) -> Sizing
-    ensures { λ s. ⌜ s ≡ sizingOf width height kind ⌝ }
+// Names the size; it is unknown where its kind is neither 0 nor 1.
+pub fn size_named(size: HostSize) -> Sizing
+    ensures { λ s. ⌜ s ≡ sizingOf size ⌝ }
 {
+    let width = size.width;
+    let height = size.height;
+    let kind = size.kind;
     if kind == 0 {
         return Sizing::Of(Size {
             width,
@@ -47,6 +72,19 @@ pub fn size_named(width: usize, height: usize, kind: u8) -> Sizing
     Sizing::Unknown
 }
 
+// Names the method; it is unknown where its energy isn't 0.
+pub fn method_named(method: HostMethod) -> Finding
+    ensures { λ f. ⌜ f ≡ findingOf method ⌝ }
+{
+    let energy = method.energy;
+    if energy == 0 {
+        return Finding::By(Method {
+            energy: EnergyRule::Edge,
+        });
+    }
+    Finding::Unknown
+}
+
 // Axis 0 is vertical, 1 is horizontal.
 pub fn axis_named(axis: u8) -> Turning
     ensures { λ t. ⌜ t ≡ turningOf axis ⌝ }
@@ -60,12 +98,13 @@ pub fn axis_named(axis: u8) -> Turning
     Turning::Nowhere
 }
 
-// The size and range of the file that a host asks for.
-pub fn head_named(size: Size, depth: usize, growth: usize) -> Head
-    ensures { λ h. ⌜ h ≡ headNamed size depth growth ⌝ }
+// The head of the file that a host asks for.
+pub fn head_named(size: Size, method: Method, depth: usize, growth: usize) -> Head
+    ensures { λ h. ⌜ h ≡ headNamed size method depth growth ⌝ }
 {
     Head {
         size,
+        method,
         depth,
         growth,
     }
@@ -77,5 +116,46 @@ pub fn counts_named(rows: usize, columns: usize) -> Counts
     Counts {
         rows: Rows(rows),
         columns: Columns(columns),
+    }
+}
+
+fn kind_number(kind: Kind) -> u8
+    ensures { λ n. ⌜ n ≡ kindNumber kind ⌝ }
+{
+    match kind {
+        Kind::Grey => 0,
+        Kind::Rgb => 1,
+    }
+}
+
+fn energy_number(energy: EnergyRule) -> u8
+    ensures { λ n. ⌜ n ≡ energyNumber energy ⌝ }
+{
+    match energy {
+        EnergyRule::Edge => 0,
+    }
+}
+
+// A size, as hosts are answered it: size_named names it again.
+pub fn host_size(size: Size) -> HostSize
+    ensures { λ s. ⌜ s ≡ hostSize size ⌝ }
+{
+    let width = size.width;
+    let height = size.height;
+    let kind = size.kind;
+    HostSize {
+        width,
+        height,
+        kind: kind_number(kind),
+    }
+}
+
+// A method, in the same way: method_named names it again.
+pub fn host_method(method: Method) -> HostMethod
+    ensures { λ m. ⌜ m ≡ hostMethod method ⌝ }
+{
+    let energy = method.energy;
+    HostMethod {
+        energy: energy_number(energy),
     }
 }
