@@ -1,3 +1,5 @@
-pub mod Answers
+pub mod Unnamed
+pub mod RowCopied
+pub mod OneSeam
 pub mod Removals
 pub mod Filed

@@ -1,48 +1,52 @@
 // Multi-size files, for hosts.
 use export_answers::Answer;
 use export_answers::FileAnswer;
+use export_answers::Finding;
+use export_answers::HostMethod;
+use export_answers::HostSize;
 use export_answers::SizeAnswer;
 use export_answers::Sizing;
 use export_answers::head_named;
 use export_answers::head_reply;
 use export_answers::length_reply;
+use export_answers::method_named;
 use export_answers::refused;
 use export_answers::size_named;
 use export_answers::size_reply;
-ghost use lib.ListN.{length};
-ghost use Rattle.export_answers.specs.Named.{sizingOf};
-ghost use Rattle.exports.specs.Files.{HostBuilt, HostChecked, HostRead, HostShown, HostRowShown};
+ghost use Rattle.exports.specs.Files.{HostBuildGiven, HostCheckGiven, HostReadGiven, HostShowGiven, HostRowAtGiven};
 
 // The file of a picture, put into the front of out; the value is its length.
 #[no_mangle]
 pub extern "C" fn multisize_build(
     picture: &[u8],
-    width: usize,
-    height: usize,
-    kind: u8,
+    size: HostSize,
+    method: HostMethod,
     depth: usize,
     growth: usize,
     out: &mut [u8],
     work: &mut [u8],
 ) -> Answer
-    ensures { λ a. ⌜ HostBuilt (now (picture .entry)) (sizingOf width height kind) depth growth (now (out .entry)) (now (work .entry)) a (now (out .exit)) (now (work .exit)) ⌝ }
+    ensures { λ a. ⌜ HostBuildGiven (now (picture .entry)) size method depth growth (now (out .entry)) (now (work .entry)) a (now (out .exit)) (now (work .exit)) ⌝ }
 {
-    let Sizing::Of(size) = size_named(width, height, kind) else {
+    let Sizing::Of(sized) = size_named(size) else {
         return refused(1);
     };
-    let head = head_named(size, depth, growth);
+    let Finding::By(how) = method_named(method) else {
+        return refused(1);
+    };
+    let head = head_named(sized, how, depth, growth);
     length_reply(file_build::build(picture, head, out, work))
 }
 
-// Checks a file; gives its size and range.
+// Checks a file; gives its size, method and range.
 #[no_mangle]
 pub extern "C" fn multisize_check(file: &[u8], work: &mut [u8]) -> FileAnswer
-    ensures { λ a. ⌜ HostChecked (now (file .entry)) (now (work .entry)) a (now (work .exit)) ⌝ }
+    ensures { λ a. ⌜ HostCheckGiven (now (file .entry)) (now (work .entry)) a (now (work .exit)) ⌝ }
 {
     head_reply(file_read::check(file, work))
 }
 
-// The picture of a file put into the front of one space, its map into the front of another; gives its size and range.
+// The picture of a file put into the front of one space, its map into the front of another; gives its size, method and range.
 #[no_mangle]
 pub extern "C" fn multisize_read(
     file: &[u8],
@@ -50,7 +54,7 @@ pub extern "C" fn multisize_read(
     map: &mut [u16],
     work: &mut [u8],
 ) -> FileAnswer
-    ensures { λ a. ⌜ HostRead (now (file .entry)) (now (picture .entry)) (now (map .entry)) (now (work .entry)) a (now (picture .exit)) (now (map .exit)) (now (work .exit)) ⌝ }
+    ensures { λ a. ⌜ HostReadGiven (now (file .entry)) (now (picture .entry)) (now (map .entry)) (now (work .entry)) a (now (picture .exit)) (now (map .exit)) (now (work .exit)) ⌝ }
 {
     head_reply(file_read::read(file, picture, map, work))
 }
@@ -63,7 +67,7 @@ pub extern "C" fn multisize_show(
     out: &mut [u8],
     work: &mut [u8],
 ) -> SizeAnswer
-    ensures { λ a. ⌜ HostShown (now (file .entry)) wanted (now (out .entry)) (now (work .entry)) a (now (out .exit)) (now (work .exit)) ⌝ }
+    ensures { λ a. ⌜ HostShowGiven (now (file .entry)) wanted (now (out .entry)) (now (work .entry)) a (now (out .exit)) (now (work .exit)) ⌝ }
 {
     size_reply(file_read::show(file, wanted, out, work))
 }
@@ -78,12 +82,18 @@ pub extern "C" fn multisize_row_at(
     wanted: usize,
     out: &mut [u8],
 ) -> Answer
-    ensures { λ a. ⌜ HostRowShown (now (samples .entry)) (sizingOf (length (now (numbers .entry))) 1 kind) (now (numbers .entry)) wanted (now (out .entry)) a (now (out .exit)) ⌝ }
+    ensures { λ a. ⌜ HostRowAtGiven (now (samples .entry)) kind (now (numbers .entry)) wanted (now (out .entry)) a (now (out .exit)) ⌝ }
 {
-    let Sizing::Of(size) = size_named(numbers.len(), 1, kind) else {
+    let width = numbers.len();
+    let size = HostSize {
+        width,
+        height: 1,
+        kind,
+    };
+    let Sizing::Of(sized) = size_named(size) else {
         return refused(1);
     };
-    let named = size.kind;
+    let named = sized.kind;
     let number = pictures::given(map_show::row_at(named, samples, numbers, wanted, out));
     if number != 0 {
         return refused(number);

@@ -1,11 +1,14 @@
 // Objects removed by seams with marks, for hosts.
 use export_answers::Ended;
+use export_answers::Finding;
+use export_answers::HostMethod;
+use export_answers::HostSize;
 use export_answers::Sizing;
+use export_answers::method_named;
 use export_answers::removal_reply;
 use export_answers::size_named;
 use export_answers::stopped;
-ghost use Rattle.export_answers.specs.Named.{sizingOf};
-ghost use Rattle.exports.specs.Objects.{HostRemoved};
+ghost use Rattle.exports.specs.Objects.{HostRemoveGiven};
 
 // Cuts at most `budget` vertical seams by the marks, until none is 2. The picture and marks left lie packed at the front of
 // each and the freed bytes are 0.
@@ -13,16 +16,18 @@ ghost use Rattle.exports.specs.Objects.{HostRemoved};
 pub extern "C" fn multisize_remove(
     picture: &mut [u8],
     marks: &mut [u8],
-    width: usize,
-    height: usize,
-    kind: u8,
+    size: HostSize,
+    method: HostMethod,
     budget: u16,
     work: &mut [u8],
 ) -> Ended
-    ensures { λ a. ⌜ HostRemoved (now (picture .entry)) (now (marks .entry)) (sizingOf width height kind) budget (now (work .entry)) a (now (picture .exit)) (now (marks .exit)) (now (work .exit)) ⌝ }
+    ensures { λ a. ⌜ HostRemoveGiven (now (picture .entry)) (now (marks .entry)) size method budget (now (work .entry)) a (now (picture .exit)) (now (marks .exit)) (now (work .exit)) ⌝ }
 {
-    let Sizing::Of(size) = size_named(width, height, kind) else {
+    let Sizing::Of(sized) = size_named(size) else {
         return stopped(1);
     };
-    removal_reply(seam_objects::remove(picture, marks, size, budget, work))
+    let Finding::By(how) = method_named(method) else {
+        return stopped(1);
+    };
+    removal_reply(seam_objects::remove(picture, marks, sized, how, budget, work))
 }

@@ -1,30 +1,43 @@
 // Rows and columns removed together, for hosts.
 use export_answers::Answer;
+use export_answers::Finding;
+use export_answers::HostMethod;
+use export_answers::HostSize;
 use export_answers::Sizing;
 use export_answers::counts_named;
+use export_answers::method_named;
 use export_answers::refused;
 use export_answers::size_named;
 use export_answers::total_reply;
-ghost use Rattle.export_answers.specs.Named.{sizingOf};
-ghost use Rattle.exports.specs.Retargets.{HostRetargeted};
+ghost use Rattle.exports.specs.Retargets.{HostRetargetGiven};
 
 // The picture with `rows` rows and `columns` columns less, put into the front of out; the value is the total of its seams.
 #[no_mangle]
 pub extern "C" fn multisize_retarget(
     picture: &[u8],
-    width: usize,
-    height: usize,
-    kind: u8,
+    size: HostSize,
+    method: HostMethod,
     rows: usize,
     columns: usize,
     out: &mut [u8],
     work: &mut [u8],
 ) -> Answer
-    ensures { λ a. ⌜ HostRetargeted (now (picture .entry)) (sizingOf width height kind) rows columns (now (out .entry)) (now (work .entry)) a (now (out .exit)) (now (work .exit)) ⌝ }
+    ensures { λ a. ⌜ HostRetargetGiven (now (picture .entry)) size method rows columns (now (out .entry)) (now (work .entry)) a (now (out .exit)) (now (work .exit)) ⌝ }
 {
-    let Sizing::Of(size) = size_named(width, height, kind) else {
+    let Sizing::Of(sized) = size_named(size) else {
+        return refused(1);
+    };
+    let Finding::By(how) = method_named(method) else {
         return refused(1);
     };
     let counts = counts_named(rows, columns);
-    total_reply(seam_retarget::retarget(picture, size, counts.rows, counts.columns, out, work))
+    total_reply(seam_retarget::retarget(
+        picture,
+        sized,
+        how,
+        counts.rows,
+        counts.columns,
+        out,
+        work,
+    ))
 }

@@ -1,36 +1,39 @@
 // One seam of a lent picture, for hosts: found or cut, without marks and with them.
 use export_answers::Answer;
+use export_answers::Finding;
+use export_answers::HostMethod;
+use export_answers::HostSize;
 use export_answers::Sizing;
 use export_answers::Turning;
 use export_answers::axis_named;
+use export_answers::method_named;
 use export_answers::refused;
 use export_answers::seam_reply;
 use export_answers::size_named;
-ghost use Rattle.seam_rules.specs.Cuts.{findRules, cutRules};
-ghost use Rattle.seam_cut_marked.specs.Marking.{markedFindRules, markedCutRules};
-ghost use Rattle.export_answers.specs.Named.{sizingOf, turningOf};
-ghost use Rattle.exports.specs.Seams.{HostFound, HostPictureCut, HostMarkedFound, HostMarkedPictureCut, HostMarkedMarksCut};
+ghost use Rattle.exports.specs.Seams.{HostFindGiven, HostCutGiven, HostFindMarkedGiven, HostCutMarkedGiven};
 
 // The seam along the axis, put into the front of seam from the top or the left; the value is its cost.
 #[no_mangle]
 pub extern "C" fn multisize_find(
     picture: &[u8],
-    width: usize,
-    height: usize,
-    kind: u8,
+    size: HostSize,
+    method: HostMethod,
     axis: u8,
     seam: &mut [u16],
     work: &mut [u8],
 ) -> Answer
-    ensures { λ a. ⌜ HostFound findRules (now (picture .entry)) (sizingOf width height kind) (turningOf axis) (now (seam .entry)) (now (work .entry)) a (now (seam .exit)) (now (work .exit)) ⌝ }
+    ensures { λ a. ⌜ HostFindGiven (now (picture .entry)) size method axis (now (seam .entry)) (now (work .entry)) a (now (seam .exit)) (now (work .exit)) ⌝ }
 {
-    let Sizing::Of(size) = size_named(width, height, kind) else {
+    let Sizing::Of(sized) = size_named(size) else {
+        return refused(1);
+    };
+    let Finding::By(how) = method_named(method) else {
         return refused(1);
     };
     let Turning::Along(turned) = axis_named(axis) else {
         return refused(1);
     };
-    seam_reply(seam_cut::find(picture, size, turned, seam, work))
+    seam_reply(seam_cut::find(picture, sized, how, turned, seam, work))
 }
 
 // Cuts the seam along the axis out of the picture and gives it as multisize_find does. The rows then lie packed at the
@@ -38,23 +41,24 @@ pub extern "C" fn multisize_find(
 #[no_mangle]
 pub extern "C" fn multisize_cut(
     picture: &mut [u8],
-    width: usize,
-    height: usize,
-    kind: u8,
+    size: HostSize,
+    method: HostMethod,
     axis: u8,
     seam: &mut [u16],
     work: &mut [u8],
 ) -> Answer
-    ensures { λ a. ⌜ HostFound cutRules (now (picture .entry)) (sizingOf width height kind) (turningOf axis) (now (seam .entry)) (now (work .entry)) a (now (seam .exit)) (now (work .exit)) ⌝ }
-    ensures { λ a. ⌜ HostPictureCut (now (picture .entry)) (sizingOf width height kind) (turningOf axis) (a .number) (now (picture .exit)) ⌝ }
+    ensures { λ a. ⌜ HostCutGiven (now (picture .entry)) size method axis (now (seam .entry)) (now (work .entry)) a (now (picture .exit)) (now (seam .exit)) (now (work .exit)) ⌝ }
 {
-    let Sizing::Of(size) = size_named(width, height, kind) else {
+    let Sizing::Of(sized) = size_named(size) else {
+        return refused(1);
+    };
+    let Finding::By(how) = method_named(method) else {
         return refused(1);
     };
     let Turning::Along(turned) = axis_named(axis) else {
         return refused(1);
     };
-    seam_reply(seam_cut::cut(picture, size, turned, seam, work))
+    seam_reply(seam_cut::cut(picture, sized, how, turned, seam, work))
 }
 
 // The seam along the axis by the marks, one byte a pixel: 0 plain, 1 protected, 2 to be removed.
@@ -62,22 +66,24 @@ pub extern "C" fn multisize_cut(
 pub extern "C" fn multisize_find_marked(
     picture: &[u8],
     marks: &[u8],
-    width: usize,
-    height: usize,
-    kind: u8,
+    size: HostSize,
+    method: HostMethod,
     axis: u8,
     seam: &mut [u16],
     work: &mut [u8],
 ) -> Answer
-    ensures { λ a. ⌜ HostMarkedFound markedFindRules (now (picture .entry)) (now (marks .entry)) (sizingOf width height kind) (turningOf axis) (now (seam .entry)) (now (work .entry)) a (now (seam .exit)) (now (work .exit)) ⌝ }
+    ensures { λ a. ⌜ HostFindMarkedGiven (now (picture .entry)) (now (marks .entry)) size method axis (now (seam .entry)) (now (work .entry)) a (now (seam .exit)) (now (work .exit)) ⌝ }
 {
-    let Sizing::Of(size) = size_named(width, height, kind) else {
+    let Sizing::Of(sized) = size_named(size) else {
+        return refused(1);
+    };
+    let Finding::By(how) = method_named(method) else {
         return refused(1);
     };
     let Turning::Along(turned) = axis_named(axis) else {
         return refused(1);
     };
-    seam_reply(seam_cut_marked::find_marked(picture, marks, size, turned, seam, work))
+    seam_reply(seam_cut_marked::find_marked(picture, marks, sized, how, turned, seam, work))
 }
 
 // Cuts that seam out of the picture and the marks and gives it as multisize_find_marked does.
@@ -85,22 +91,22 @@ pub extern "C" fn multisize_find_marked(
 pub extern "C" fn multisize_cut_marked(
     picture: &mut [u8],
     marks: &mut [u8],
-    width: usize,
-    height: usize,
-    kind: u8,
+    size: HostSize,
+    method: HostMethod,
     axis: u8,
     seam: &mut [u16],
     work: &mut [u8],
 ) -> Answer
-    ensures { λ a. ⌜ HostMarkedFound markedCutRules (now (picture .entry)) (now (marks .entry)) (sizingOf width height kind) (turningOf axis) (now (seam .entry)) (now (work .entry)) a (now (seam .exit)) (now (work .exit)) ⌝ }
-    ensures { λ a. ⌜ HostMarkedPictureCut (now (picture .entry)) (now (marks .entry)) (sizingOf width height kind) (turningOf axis) (a .number) (now (picture .exit)) ⌝ }
-    ensures { λ a. ⌜ HostMarkedMarksCut (now (picture .entry)) (now (marks .entry)) (sizingOf width height kind) (turningOf axis) (a .number) (now (marks .exit)) ⌝ }
+    ensures { λ a. ⌜ HostCutMarkedGiven (now (picture .entry)) (now (marks .entry)) size method axis (now (seam .entry)) (now (work .entry)) a (now (picture .exit)) (now (marks .exit)) (now (seam .exit)) (now (work .exit)) ⌝ }
 {
-    let Sizing::Of(size) = size_named(width, height, kind) else {
+    let Sizing::Of(sized) = size_named(size) else {
+        return refused(1);
+    };
+    let Finding::By(how) = method_named(method) else {
         return refused(1);
     };
     let Turning::Along(turned) = axis_named(axis) else {
         return refused(1);
     };
-    seam_reply(seam_cut_marked::cut_marked(picture, marks, size, turned, seam, work))
+    seam_reply(seam_cut_marked::cut_marked(picture, marks, sized, how, turned, seam, work))
 }

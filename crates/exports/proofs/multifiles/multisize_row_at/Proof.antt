@@ -14,11 +14,11 @@ use Rattle.exports.proofs.multifiles.multisize_row_at.Tie as tie
 abbrev at-row : tie.After-given → tie.After-row-at
 at-row c = c .before .before .before
 
-abbrev at-size : tie.After-given → tie.After-size
-at-size c = at-row c .before .before .before
+abbrev at-sized : tie.After-given → tie.After-sized
+at-sized c = at-row c .before .before .before
 
 abbrev named : tie.After-given → tie.After-size-named
-named c = at-size c .before .before
+named c = at-sized c .before .before
 
 abbrev start : tie.After-given → tie.Start
 start c = named c .before .before .before .before
@@ -26,8 +26,8 @@ start c = named c .before .before .before .before
 size-named-requires : tie.Need-size-named-requires
 size-named-requires c κs = search needs
 
-enum-known-size : tie.Need-enum-known-size
-enum-known-size c = search needs
+enum-known-sized : tie.Need-enum-known-sized
+enum-known-sized c = search needs
 
 enum-told : tie.Need-enum-told
 enum-told c = search needs
@@ -36,7 +36,9 @@ refused-requires : tie.Need-refused-requires
 refused-requires c κs = search needs
 
 returns : tie.Need-returns
-returns c = rw (sym (c .before .before .before .size-named .ensures) ∙ c .before .enum-told .given .1, c .refused .ensures) (record { answer = refl; value = refl; out-given = refl })
+returns c =
+    let s-is = sym (c .before .before .before .size-named .ensures) ∙ c .before .enum-told .given .1 in
+    rw (c .refused .ensures) (record { number = rw s-is refl; value = rw s-is refl; out-given = rw s-is refl })
 
 row-at-requires : tie.Need-row-at-requires
 row-at-requires c κs = search needs
@@ -53,8 +55,8 @@ same-length c = search needs
 returns-2 : tie.Need-returns-2
 returns-2 c =
     let g = c .before .before in
-    rw (sym (named g .size-named .ensures) ∙ at-size g .size .given .1, c .refused2 .ensures)
-    (refused-row-at {z = at-size g .size .given .0 .0} (at-row g .row-at .ensures) (g .given .ensures) (c .before .if1 .taken))
+    let s-is = sym (named g .size-named .ensures) ∙ at-sized g .sized .given .1 in
+    rw (c .refused2 .ensures) (refused-row-at s-is (at-row g .row-at .ensures) (g .given .ensures) (c .before .if1 .taken))
 
 pixels-at-requires : tie.Need-pixels-at-requires
 pixels-at-requires c κs = search needs
@@ -79,15 +81,16 @@ returns-3 : tie.Need-returns-3
 returns-3 c =
     let at-if1 = c .before .before in
     let g = at-if1 .before in
-    rw (sym (named g .size-named .ensures) ∙ at-size g .size .given .1, c .before .pixels-at .ensures, c .channels .ensures)
-    (served-row-at {z = at-size g .size .given .0 .0} (at-row g .row-at .ensures) (sym (g .given .ensures) ∙ at-if1 .if1 .left))
+    let s-is = sym (named g .size-named .ensures) ∙ at-sized g .sized .given .1 in
+    rw (c .before .pixels-at .ensures, c .channels .ensures)
+    (served-row-at s-is (at-row g .row-at .ensures) (sym (g .given .ensures) ∙ at-if1 .if1 .left))
 
 pub multisize-row-at-spec : {M : Type 1} → statement M
 multisize-row-at-spec =
     tie.close
     (tie.spec
     size-named-requires
-    enum-known-size
+    enum-known-sized
     enum-told
     refused-requires
     returns
