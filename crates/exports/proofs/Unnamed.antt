@@ -1,5 +1,5 @@
 -- Where a number that a host passes names no kind, no energy or no axis, what is said is what is said else.
-use mathlib.Core.Path.{_≡_, refl, sym}
+use mathlib.Core.Path.{_≡_, refl}
 use Rattle.pictures.specs.declared.sizes.Size.{Size}
 use Rattle.energy.specs.declared.methods.Method.{Method}
 use Rattle.seam_rules.specs.declared.answers.Axis.{Axis}

@@ -8,7 +8,7 @@ use seam_rules::Axis;
 use seam_rules::Found;
 ghost use mathlib.Core.Path.{_≡_};
 ghost use mathlib.Core.List.{_++_};
-ghost use lib.ListN.{length, replicate};
+ghost use lib.ListN.{replicate};
 ghost use Rattle.pictures.specs.Refusals.{given, refusal};
 ghost use Rattle.pictures.specs.Pictures.{largestSide, sizeRules};
 ghost use Rattle.seam_bounds.specs.Moves.{outside};

@@ -1,9 +1,9 @@
 -- `seam_cut_marked::cut_marked_along` meets its contract: where a seam is allowed it lies inside the picture, so closing up the
 -- picture and the marks is served.
-use mathlib.Core.Path.{_≡_, refl, sym, ap, ap₂, _∙_}
-use mathlib.Core.Bool.{Bool, true, false, cond}
+use mathlib.Core.Path.{_≡_, sym, ap, ap₂, _∙_}
+use mathlib.Core.Bool.{Bool, false}
 use mathlib.Core.List.{List, _++_}
-use Prim.Native.Nat.{ℕ, _*_, _≤_, _<_}
+use Prim.Native.Nat.{ℕ, _≤_, _<_}
 use native.Mathlib.Nat.{mul-one}
 use native.Mathlib.Omega.{arith}
 use borrow.Author.Needs.{needs}
@@ -12,15 +12,14 @@ use lib.Dec.{eqb}
 use lib.ListN.{length, take, drop, replicate}
 use lib.Seq.{take-at, length-take-le}
 use Rattle.grids.specs.Each.{Each}
-use Rattle.grids.specs.Rows.{flat}
 use Rattle.grids.proofs.Shapes.{each-length}
 use Rattle.pictures.specs.Refusals.{numberOf}
-use Rattle.pictures.specs.Pictures.{channelsOf, picture, bytes, marksOf}
+use Rattle.pictures.specs.Pictures.{picture, bytes, marksOf}
 use Rattle.pictures.proofs.Limits.{Sized, sized-is}
 use Rattle.pictures.proofs.Rules.{kept-by}
 use Rattle.seam_rules.specs.Answers.{foundNumber}
 use Rattle.seam_rules.specs.Axes.{turnedSize, greyOf}
-use Rattle.seam_cut_marked.specs.Axes.{markedSeamAlong, markedCostAlong, blockedAlong}
+use Rattle.seam_cut_marked.specs.Axes.{markedSeamAlong, blockedAlong}
 use Rattle.seam_turn.specs.Axes.{cutAlong}
 use Rattle.seam_cut.specs.Cutting.{closedAlong}
 use Rattle.seam_cut_marked.specs.Marking.{closedMarks}

@@ -1,6 +1,6 @@
 -- `seam_cut_marked::marked_along` meets its contract: both turnings are served, and the seam is found in the picture and the marks
 -- that then stand at the front of the work space.
-use mathlib.Core.Path.{_≡_, refl, sym, ap, ap₂, _∙_}
+use mathlib.Core.Path.{_≡_, ap, ap₂, _∙_}
 use mathlib.Core.Bool.{cond}
 use mathlib.Core.List.{List, _++_}
 use Prim.Native.Nat.{ℕ, _+_, _-_, _≤_}

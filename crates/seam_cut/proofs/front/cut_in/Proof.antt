@@ -14,12 +14,12 @@ use Rattle.grids.specs.Each.{Each}
 use Rattle.grids.specs.Cut.{cut}
 use Rattle.grids.proofs.Orders.{more-than-one}
 use Rattle.grids.proofs.Shapes.{each-length}
-use Rattle.pictures.specs.Refusals.{_when_, numberOf, refusal, served, worked}
+use Rattle.pictures.specs.Refusals.{_when_, refusal, served, worked}
 use Rattle.pictures.specs.Pictures.{channelsOf, pictureBytes, bytes, pixels, pictureIn}
 use Rattle.pictures.proofs.Rules.{served-first, refused-first, refusal-most, number-some, served-not}
 use Rattle.pictures.proofs.Limits.{sides-are, sized-served}
 use Rattle.seam_theory.specs.PictureSeams.{seamOf, costOf}
-use Rattle.seam_rules.specs.Answers.{foundNumber, foundCost}
+use Rattle.seam_rules.specs.Answers.{foundNumber}
 use Rattle.seam_find.specs.Finding.{findInRules}
 use Rattle.seam_find.proofs.Worked.{worked-not}
 use Rattle.seam_close.specs.Closing.{CloseGiven}
