@@ -21,6 +21,10 @@ use Rattle.export_answers.specs.declared.names.Finding.{Finding}
 use Rattle.export_answers.specs.declared.names.Finding.the-variants as findings
 use Rattle.export_answers.specs.declared.names.Turning.{Turning}
 use Rattle.export_answers.specs.declared.names.Turning.the-variants as turnings
+use Rattle.export_answers.specs.declared.names.Carving.{Carving}
+use Rattle.export_answers.specs.declared.names.Carving.the-variants as carvings
+use Rattle.export_answers.specs.declared.names.Seaming.{Seaming}
+use Rattle.export_answers.specs.declared.names.Seaming.the-variants as seamings
 use Rattle.export_answers.specs.declared.names.Counts.{Counts}
 
 -- The size that a host names: kind 0 is grey, 1 is rgb.
@@ -37,21 +41,35 @@ findingOf m = cond (eqb (m .energy) 0) (findings.By (record { energy = Edge })) 
 unfoldable pub turningOf : ℕ → Turning
 turningOf k = cond (eqb k 0) (turnings.Along Vertical) (cond (eqb k 1) (turnings.Along Horizontal) turnings.Nowhere)
 
+-- The size and the method, and with them the axis: known where each of them is.
+abbrev pub carvingFrom : Sizing → Finding → Carving
+carvingFrom (sizings.Of z) (findings.By how) = carvings.Of z how
+carvingFrom (sizings.Of z) findings.Unknown = carvings.Unknown
+carvingFrom sizings.Unknown f = carvings.Unknown
+
+unfoldable pub carvingOf : HostSize → HostMethod → Carving
+carvingOf s m = carvingFrom (sizingOf s) (findingOf m)
+
+abbrev pub seamingFrom : Carving → Turning → Seaming
+seamingFrom (carvings.Of z how) (turnings.Along x) = seamings.Along z how x
+seamingFrom (carvings.Of z how) turnings.Nowhere = seamings.Unknown
+seamingFrom carvings.Unknown t = seamings.Unknown
+
+unfoldable pub seamingOf : HostSize → HostMethod → ℕ → Seaming
+seamingOf s m k = seamingFrom (carvingOf s m) (turningOf k)
+
 -- What holds at a known size, or else; at a known size and method; and at a known size, method and axis.
 abbrev pub known : {A : Type 0} → Sizing → (Size → A) → A → A
 known (sizings.Of z) f x = f z
 known sizings.Unknown f x = x
 
-abbrev pub both : {A : Type 0} → Sizing → Finding → (Size → Method → A) → A → A
-both (sizings.Of z) (findings.By how) f y = f z how
-both (sizings.Of z) findings.Unknown f y = y
-both sizings.Unknown m f y = y
+abbrev pub both : {A : Type 0} → Carving → (Size → Method → A) → A → A
+both (carvings.Of z how) f y = f z how
+both carvings.Unknown f y = y
 
-abbrev pub all : {A : Type 0} → Sizing → Finding → Turning → (Size → Method → Axis → A) → A → A
-all (sizings.Of z) (findings.By how) (turnings.Along x) f y = f z how x
-all (sizings.Of z) (findings.By how) turnings.Nowhere f y = y
-all (sizings.Of z) findings.Unknown t f y = y
-all sizings.Unknown m t f y = y
+abbrev pub all : {A : Type 0} → Seaming → (Size → Method → Axis → A) → A → A
+all (seamings.Along z how x) f y = f z how x
+all seamings.Unknown f y = y
 
 -- The head that a host names.
 abbrev pub headNamed : Size → Method → ℕ → ℕ → Head

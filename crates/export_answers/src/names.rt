@@ -8,7 +8,7 @@ use seam_rules::Columns;
 use seam_rules::Rows;
 use text_theory::Head;
 ghost use mathlib.Core.Path.{_≡_};
-ghost use Rattle.export_answers.specs.Named.{sizingOf, findingOf, turningOf, headNamed, countsNamed, kindNumber, energyNumber, hostSize, hostMethod};
+ghost use Rattle.export_answers.specs.Named.{sizingOf, findingOf, turningOf, carvingOf, seamingOf, headNamed, countsNamed, kindNumber, energyNumber, hostSize, hostMethod};
 
 // The size of a picture, as hosts pass it and are answered it. Kind 0 is grey, 1 is rgb.
 #[repr(C)]
@@ -40,6 +40,18 @@ pub enum Finding {
 pub enum Turning {
     Along(Axis),
     Nowhere,
+}
+
+// The size and the method that a host names.
+pub enum Carving {
+    Of(Size, Method),
+    Unknown,
+}
+
+// The same, and the axis.
+pub enum Seaming {
+    Along(Size, Method, Axis),
+    Unknown,
 }
 
 // The counts of rows and of columns that a host asks to have removed.
@@ -96,6 +108,32 @@ pub fn axis_named(axis: u8) -> Turning
         return Turning::Along(Axis::Horizontal);
     }
     Turning::Nowhere
+}
+
+// Names the size and the method; unknown where one of them is.
+pub fn carving_named(size: HostSize, method: HostMethod) -> Carving
+    ensures { λ c. ⌜ c ≡ carvingOf size method ⌝ }
+{
+    let Sizing::Of(sized) = size_named(size) else {
+        return Carving::Unknown;
+    };
+    let Finding::By(how) = method_named(method) else {
+        return Carving::Unknown;
+    };
+    Carving::Of(sized, how)
+}
+
+// Names the size, the method and the axis; unknown where one of them is.
+pub fn seaming_named(size: HostSize, method: HostMethod, axis: u8) -> Seaming
+    ensures { λ s. ⌜ s ≡ seamingOf size method axis ⌝ }
+{
+    let Carving::Of(sized, how) = carving_named(size, method) else {
+        return Seaming::Unknown;
+    };
+    let Turning::Along(turned) = axis_named(axis) else {
+        return Seaming::Unknown;
+    };
+    Seaming::Along(sized, how, turned)
 }
 
 // The head of the file that a host asks for.

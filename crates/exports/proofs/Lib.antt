@@ -1,4 +1,3 @@
-pub mod Unnamed
 pub mod RowCopied
 pub mod OneSeam
 pub mod Removals

@@ -11,12 +11,10 @@ use Rattle.seam_rules.specs.Answers.{Ending, removalNumber}
 use Rattle.seam_objects.specs.Removing.{RemoveGiven}
 use Rattle.export_answers.specs.declared.names.HostSize.{HostSize}
 use Rattle.export_answers.specs.declared.names.HostMethod.{HostMethod}
-use Rattle.export_answers.specs.declared.names.Sizing.the-variants.{Of}
-use Rattle.export_answers.specs.declared.names.Finding.the-variants.{By}
-use Rattle.export_answers.specs.Named.{sizingOf, findingOf}
+use Rattle.export_answers.specs.declared.names.Carving.the-variants.{Of, Unknown}
+use Rattle.export_answers.specs.Named.{carvingOf}
 use Rattle.export_answers.specs.Objects.{endingNumber, someNumber, stoppedBy, endedOf}
 use Rattle.exports.specs.Objects.{removed, HostRemoveGiven}
-use Rattle.exports.proofs.Unnamed.{Unnamed, else-both}
 
 -- the number of an ending that is given or not
 ending-served : (n : ℕ) (e : Ending) → someNumber (served n (some e) none) ≡ served n (endingNumber e) 0
@@ -24,24 +22,24 @@ ending-served zero e = refl
 ending-served (suc n) e = refl
 
 module _ {size : HostSize} {method : HostMethod} {b m work : List ℕ} {budget : ℕ} where
-  pub remove-unnamed : Unnamed (sizingOf size) (findingOf method) → HostRemoveGiven b m size method budget work (stoppedBy 1) b m work
-  remove-unnamed u =
+  pub remove-unnamed : carvingOf size method ≡ Unknown → HostRemoveGiven b m size method budget work (stoppedBy 1) b m work
+  remove-unnamed e =
       record {
-        number = else-both u _ _;
-        ending = else-both u _ _;
-        count = else-both u _ _;
-        picture-left = else-both u _ _;
-        marks-left = else-both u _ _;
+        number = rw e refl;
+        ending = rw e refl;
+        count = rw e refl;
+        picture-left = rw e refl;
+        marks-left = rw e refl;
         work-left = refl;
       }
 
-  pub remove-named : {z : Size} {how : Method} {r : Removal} {b′ m′ work′ : List ℕ} → sizingOf size ≡ Of z → findingOf method ≡ By how → RemoveGiven b m z how budget work r b′ m′ work′ → HostRemoveGiven b m size method budget work (endedOf r) b′ m′ work′
-  remove-named {z} {how} {r} s-is m-is g =
+  pub remove-named : {z : Size} {how : Method} {r : Removal} {b′ m′ work′ : List ℕ} → carvingOf size method ≡ Of z how → RemoveGiven b m z how budget work r b′ m′ work′ → HostRemoveGiven b m size method budget work (endedOf r) b′ m′ work′
+  remove-named {z} {how} {r} e g =
       record {
-        number = rw (s-is, m-is) (g .number);
-        ending = rw (s-is, m-is) (ap someNumber (g .ending) ∙ ending-served (removalNumber r) (removed b m budget z how .ending));
-        count = rw (s-is, m-is) (g .count);
-        picture-left = rw (s-is, m-is) (g .picture-left);
-        marks-left = rw (s-is, m-is) (g .marks-left);
+        number = rw e (g .number);
+        ending = rw e (ap someNumber (g .ending) ∙ ending-served (removalNumber r) (removed b m budget z how .ending));
+        count = rw e (g .count);
+        picture-left = rw e (g .picture-left);
+        marks-left = rw e (g .marks-left);
         work-left = g .work-left;
       }

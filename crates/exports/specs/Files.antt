@@ -17,21 +17,21 @@ use Rattle.export_answers.specs.declared.names.HostSize.{HostSize}
 use Rattle.export_answers.specs.declared.names.HostMethod.{HostMethod}
 use Rattle.export_answers.specs.declared.files.FileAnswer.{FileAnswer}
 use Rattle.export_answers.specs.declared.files.SizeAnswer.{SizeAnswer}
-use Rattle.export_answers.specs.Named.{sizingOf, findingOf, known, both, headNamed}
+use Rattle.export_answers.specs.Named.{sizingOf, carvingOf, known, both, headNamed}
 use Rattle.export_answers.specs.Files.{headed, framed}
 
 -- The length, the file at the front of the output space, and the work space.
 pub record HostBuildGiven (b : List ℕ) (size : HostSize) (method : HostMethod) (depth growth : ℕ) (out work : List ℕ) (a : Answer) (out′ work′ : List ℕ) : Type 0 where
   pub number :
-      a .number ≡ both (sizingOf size) (findingOf method)
+      a .number ≡ both (carvingOf size method)
       (λ z how. refusal (buildRules b (headNamed z how depth growth) (length out) (length work)))
       1
   pub value :
-      a .value ≡ both (sizingOf size) (findingOf method)
+      a .value ≡ both (carvingOf size method)
       (λ z how. served (a .number) (length (fileIn (headNamed z how depth growth) b)) 0)
       0
   pub out-given :
-      out′ ≡ both (sizingOf size) (findingOf method)
+      out′ ≡ both (carvingOf size method)
       (λ z how. served (a .number)
       (fileIn (headNamed z how depth growth) b ++ drop (length (fileIn (headNamed z how depth growth) b)) out)
       out)

@@ -10,14 +10,14 @@ use Rattle.energy.specs.Energy.{energies, energiesRules}
 use Rattle.export_answers.specs.declared.answers.Answer.{Answer}
 use Rattle.export_answers.specs.declared.names.HostSize.{HostSize}
 use Rattle.export_answers.specs.declared.names.HostMethod.{HostMethod}
-use Rattle.export_answers.specs.Named.{sizingOf, findingOf, known, both}
+use Rattle.export_answers.specs.Named.{sizingOf, carvingOf, known, both}
 use Rattle.export_answers.specs.Answers.{rowRules}
 
 -- The energies of a row: the number, and the space, which keeps what stands after them.
 pub record HostEnergiesGiven (b : List ℕ) (size : HostSize) (method : HostMethod) (r : ℕ) (out : List ℕ) (n : ℕ) (out′ : List ℕ) : Type 0 where
-  pub number : n ≡ both (sizingOf size) (findingOf method) (λ z how. refusal (energiesRules z (length b) r (length out))) 1
+  pub number : n ≡ both (carvingOf size method) (λ z how. refusal (energiesRules z (length b) r (length out))) 1
   pub out-given :
-      out′ ≡ both (sizingOf size) (findingOf method)
+      out′ ≡ both (carvingOf size method)
       (λ z how. served n (energies how (z .width) (z .height) (picture z b) r ++ drop (z .width) out) out)
       out
 

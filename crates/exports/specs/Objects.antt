@@ -11,7 +11,7 @@ use Rattle.seam_objects.specs.Removing.{removalRules, markedPicture, pictureLef
 use Rattle.export_answers.specs.declared.names.HostSize.{HostSize}
 use Rattle.export_answers.specs.declared.names.HostMethod.{HostMethod}
 use Rattle.export_answers.specs.declared.objects.Ended.{Ended}
-use Rattle.export_answers.specs.Named.{sizingOf, findingOf, both}
+use Rattle.export_answers.specs.Named.{carvingOf, both}
 use Rattle.export_answers.specs.Objects.{endingNumber}
 
 -- The removal of what is marked 2 in lent buffers, by at most `budget` cuts.
@@ -20,14 +20,14 @@ removed b m budget z how = removal budget 0 (markedPicture z how b m)
 
 -- What is left lies packed at the front of each buffer, the freed bytes 0.
 pub record HostRemoveGiven (b m : List ℕ) (size : HostSize) (method : HostMethod) (budget : ℕ) (work : List ℕ) (a : Ended) (b′ m′ work′ : List ℕ) : Type 0 where
-  pub number : a .number ≡ both (sizingOf size) (findingOf method) (λ z how. refusal (removalRules z b m (length work))) 1
+  pub number : a .number ≡ both (carvingOf size method) (λ z how. refusal (removalRules z b m (length work))) 1
   pub ending :
-      a .ending ≡ both (sizingOf size) (findingOf method)
+      a .ending ≡ both (carvingOf size method)
       (λ z how. served (a .number) (endingNumber (removed b m budget z how .ending)) 0)
       0
-  pub count : a .count ≡ both (sizingOf size) (findingOf method) (λ z how. served (a .number) (removed b m budget z how .count) 0) 0
+  pub count : a .count ≡ both (carvingOf size method) (λ z how. served (a .number) (removed b m budget z how .count) 0) 0
   pub picture-left :
-      b′ ≡ both (sizingOf size) (findingOf method) (λ z how. served (a .number) (pictureLeft z (removed b m budget z how)) b) b
+      b′ ≡ both (carvingOf size method) (λ z how. served (a .number) (pictureLeft z (removed b m budget z how)) b) b
   pub marks-left :
-      m′ ≡ both (sizingOf size) (findingOf method) (λ z how. served (a .number) (marksLeft z (removed b m budget z how)) m) m
+      m′ ≡ both (carvingOf size method) (λ z how. served (a .number) (marksLeft z (removed b m budget z how)) m) m
   pub work-left : work′ ≡ served (a .number) (replicate (length work) 0) work

@@ -5,12 +5,12 @@ mod retargets;
 mod seams;
 
 use export_answers::Answer;
-use export_answers::Finding;
+use export_answers::Carving;
 use export_answers::HostMethod;
 use export_answers::HostSize;
 use export_answers::Sizing;
+use export_answers::carving_named;
 use export_answers::judge_row;
-use export_answers::method_named;
 use export_answers::refused;
 use export_answers::size_named;
 ghost use Rattle.exports.specs.Hosts.{HostEnergiesGiven, HostRowGiven};
@@ -26,10 +26,7 @@ pub extern "C" fn multisize_energies(
 ) -> u64
     ensures { λ n. ⌜ HostEnergiesGiven (now (picture .entry)) size method r (now (out .entry)) n (now (out .exit)) ⌝ }
 {
-    let Sizing::Of(sized) = size_named(size) else {
-        return 1;
-    };
-    let Finding::By(how) = method_named(method) else {
+    let Carving::Of(sized, how) = carving_named(size, method) else {
         return 1;
     };
     pictures::given(energy::energies(picture, sized, how, r, out))

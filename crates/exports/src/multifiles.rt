@@ -1,15 +1,15 @@
 // Multi-size files, for hosts.
 use export_answers::Answer;
+use export_answers::Carving;
 use export_answers::FileAnswer;
-use export_answers::Finding;
 use export_answers::HostMethod;
 use export_answers::HostSize;
 use export_answers::SizeAnswer;
 use export_answers::Sizing;
+use export_answers::carving_named;
 use export_answers::head_named;
 use export_answers::head_reply;
 use export_answers::length_reply;
-use export_answers::method_named;
 use export_answers::refused;
 use export_answers::size_named;
 use export_answers::size_reply;
@@ -28,10 +28,7 @@ pub extern "C" fn multisize_build(
 ) -> Answer
     ensures { λ a. ⌜ HostBuildGiven (now (picture .entry)) size method depth growth (now (out .entry)) (now (work .entry)) a (now (out .exit)) (now (work .exit)) ⌝ }
 {
-    let Sizing::Of(sized) = size_named(size) else {
-        return refused(1);
-    };
-    let Finding::By(how) = method_named(method) else {
+    let Carving::Of(sized, how) = carving_named(size, method) else {
         return refused(1);
     };
     let head = head_named(sized, how, depth, growth);

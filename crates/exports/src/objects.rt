@@ -1,12 +1,10 @@
 // Objects removed by seams with marks, for hosts.
+use export_answers::Carving;
 use export_answers::Ended;
-use export_answers::Finding;
 use export_answers::HostMethod;
 use export_answers::HostSize;
-use export_answers::Sizing;
-use export_answers::method_named;
+use export_answers::carving_named;
 use export_answers::removal_reply;
-use export_answers::size_named;
 use export_answers::stopped;
 ghost use Rattle.exports.specs.Objects.{HostRemoveGiven};
 
@@ -23,10 +21,7 @@ pub extern "C" fn multisize_remove(
 ) -> Ended
     ensures { λ a. ⌜ HostRemoveGiven (now (picture .entry)) (now (marks .entry)) size method budget (now (work .entry)) a (now (picture .exit)) (now (marks .exit)) (now (work .exit)) ⌝ }
 {
-    let Sizing::Of(sized) = size_named(size) else {
-        return stopped(1);
-    };
-    let Finding::By(how) = method_named(method) else {
+    let Carving::Of(sized, how) = carving_named(size, method) else {
         return stopped(1);
     };
     removal_reply(seam_objects::remove(picture, marks, sized, how, budget, work))

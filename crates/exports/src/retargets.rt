@@ -1,13 +1,11 @@
 // Rows and columns removed together, for hosts.
 use export_answers::Answer;
-use export_answers::Finding;
+use export_answers::Carving;
 use export_answers::HostMethod;
 use export_answers::HostSize;
-use export_answers::Sizing;
+use export_answers::carving_named;
 use export_answers::counts_named;
-use export_answers::method_named;
 use export_answers::refused;
-use export_answers::size_named;
 use export_answers::total_reply;
 ghost use Rattle.exports.specs.Retargets.{HostRetargetGiven};
 
@@ -24,10 +22,7 @@ pub extern "C" fn multisize_retarget(
 ) -> Answer
     ensures { λ a. ⌜ HostRetargetGiven (now (picture .entry)) size method rows columns (now (out .entry)) (now (work .entry)) a (now (out .exit)) (now (work .exit)) ⌝ }
 {
-    let Sizing::Of(sized) = size_named(size) else {
-        return refused(1);
-    };
-    let Finding::By(how) = method_named(method) else {
+    let Carving::Of(sized, how) = carving_named(size, method) else {
         return refused(1);
     };
     let counts = counts_named(rows, columns);

@@ -1,15 +1,11 @@
 // One seam of a lent picture, for hosts: found or cut, without marks and with them.
 use export_answers::Answer;
-use export_answers::Finding;
 use export_answers::HostMethod;
 use export_answers::HostSize;
-use export_answers::Sizing;
-use export_answers::Turning;
-use export_answers::axis_named;
-use export_answers::method_named;
+use export_answers::Seaming;
 use export_answers::refused;
 use export_answers::seam_reply;
-use export_answers::size_named;
+use export_answers::seaming_named;
 ghost use Rattle.exports.specs.Seams.{HostFindGiven, HostCutGiven, HostFindMarkedGiven, HostCutMarkedGiven};
 
 // The seam along the axis, put into the front of seam from the top or the left; the value is its cost.
@@ -24,13 +20,7 @@ pub extern "C" fn multisize_find(
 ) -> Answer
     ensures { λ a. ⌜ HostFindGiven (now (picture .entry)) size method axis (now (seam .entry)) (now (work .entry)) a (now (seam .exit)) (now (work .exit)) ⌝ }
 {
-    let Sizing::Of(sized) = size_named(size) else {
-        return refused(1);
-    };
-    let Finding::By(how) = method_named(method) else {
-        return refused(1);
-    };
-    let Turning::Along(turned) = axis_named(axis) else {
+    let Seaming::Along(sized, how, turned) = seaming_named(size, method, axis) else {
         return refused(1);
     };
     seam_reply(seam_cut::find(picture, sized, how, turned, seam, work))
@@ -49,13 +39,7 @@ pub extern "C" fn multisize_cut(
 ) -> Answer
     ensures { λ a. ⌜ HostCutGiven (now (picture .entry)) size method axis (now (seam .entry)) (now (work .entry)) a (now (picture .exit)) (now (seam .exit)) (now (work .exit)) ⌝ }
 {
-    let Sizing::Of(sized) = size_named(size) else {
-        return refused(1);
-    };
-    let Finding::By(how) = method_named(method) else {
-        return refused(1);
-    };
-    let Turning::Along(turned) = axis_named(axis) else {
+    let Seaming::Along(sized, how, turned) = seaming_named(size, method, axis) else {
         return refused(1);
     };
     seam_reply(seam_cut::cut(picture, sized, how, turned, seam, work))
@@ -74,13 +58,7 @@ pub extern "C" fn multisize_find_marked(
 ) -> Answer
     ensures { λ a. ⌜ HostFindMarkedGiven (now (picture .entry)) (now (marks .entry)) size method axis (now (seam .entry)) (now (work .entry)) a (now (seam .exit)) (now (work .exit)) ⌝ }
 {
-    let Sizing::Of(sized) = size_named(size) else {
-        return refused(1);
-    };
-    let Finding::By(how) = method_named(method) else {
-        return refused(1);
-    };
-    let Turning::Along(turned) = axis_named(axis) else {
+    let Seaming::Along(sized, how, turned) = seaming_named(size, method, axis) else {
         return refused(1);
     };
     seam_reply(seam_cut_marked::find_marked(picture, marks, sized, how, turned, seam, work))
@@ -99,13 +77,7 @@ pub extern "C" fn multisize_cut_marked(
 ) -> Answer
     ensures { λ a. ⌜ HostCutMarkedGiven (now (picture .entry)) (now (marks .entry)) size method axis (now (seam .entry)) (now (work .entry)) a (now (picture .exit)) (now (marks .exit)) (now (seam .exit)) (now (work .exit)) ⌝ }
 {
-    let Sizing::Of(sized) = size_named(size) else {
-        return refused(1);
-    };
-    let Finding::By(how) = method_named(method) else {
-        return refused(1);
-    };
-    let Turning::Along(turned) = axis_named(axis) else {
+    let Seaming::Along(sized, how, turned) = seaming_named(size, method, axis) else {
         return refused(1);
     };
     seam_reply(seam_cut_marked::cut_marked(picture, marks, sized, how, turned, seam, work))

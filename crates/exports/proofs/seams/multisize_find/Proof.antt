@@ -2,26 +2,12 @@
 -- `find` gives at them.
 use mathlib.Core.Path.{sym, _∙_}
 use borrow.Author.Needs.{needs}
-use Rattle.exports.proofs.Unnamed.{no-size, no-method, no-axis, unnamed}
 use Rattle.exports.proofs.OneSeam.{find-unnamed, find-named}
 use Rattle.exports.proofs.seams.multisize_find.Statement.{statement}
 use Rattle.exports.proofs.seams.multisize_find.Tie as tie
 
--- Places: the size known and named before the method is named, the method known and named before the axis is
-abbrev at-sized : tie.After-method-named → tie.After-sized
-at-sized c = c .before .before
-
-abbrev at-size-named : tie.After-method-named → tie.After-size-named
-at-size-named c = at-sized c .before .before
-
-abbrev at-how : tie.After-axis-named → tie.After-how
-at-how c = c .before .before
-
-abbrev at-method-named : tie.After-axis-named → tie.After-method-named
-at-method-named c = at-how c .before .before
-
-size-named-requires : tie.Need-size-named-requires
-size-named-requires c κs = search needs
+seaming-named-requires : tie.Need-seaming-named-requires
+seaming-named-requires c κs = search needs
 
 enum-known-sized : tie.Need-enum-known-sized
 enum-known-sized c = search needs
@@ -35,53 +21,7 @@ refused-requires c κs = search needs
 returns : tie.Need-returns
 returns c =
     let at-named = c .before .before .before in
-    rw (c .refused .ensures)
-    (find-unnamed (unnamed (no-size (sym (at-named .size-named .ensures) ∙ c .before .enum-told .given .1))))
-
-method-named-requires : tie.Need-method-named-requires
-method-named-requires c κs = search needs
-
-enum-known-how : tie.Need-enum-known-how
-enum-known-how c = search needs
-
-enum-told-2 : tie.Need-enum-told-2
-enum-told-2 c = search needs
-
-refused-requires-2 : tie.Need-refused-requires-2
-refused-requires-2 c κs = search needs
-
-returns-2 : tie.Need-returns-2
-returns-2 c =
-    let at-named = c .before .before .before in
-    rw (c .refused2 .ensures)
-    (find-unnamed
-    (unnamed
-    (no-method
-    (sym (at-size-named at-named .size-named .ensures) ∙ at-sized at-named .sized .given .1)
-    (sym (at-named .method-named .ensures) ∙ c .before .enum-told2 .given .1))))
-
-axis-named-requires : tie.Need-axis-named-requires
-axis-named-requires c κs = search needs
-
-enum-known-turned : tie.Need-enum-known-turned
-enum-known-turned c = search needs
-
-enum-told-3 : tie.Need-enum-told-3
-enum-told-3 c = search needs
-
-refused-requires-3 : tie.Need-refused-requires-3
-refused-requires-3 c κs = search needs
-
-returns-3 : tie.Need-returns-3
-returns-3 c =
-    let at-named = c .before .before .before in
-    let at-method = at-method-named at-named in
-    rw (c .refused3 .ensures)
-    (find-unnamed
-    (no-axis
-    (sym (at-size-named at-method .size-named .ensures) ∙ at-sized at-method .sized .given .1)
-    (sym (at-method .method-named .ensures) ∙ at-how at-named .how .given .1)
-    (sym (at-named .axis-named .ensures) ∙ c .before .enum-told3 .given .1)))
+    rw (c .refused .ensures) (find-unnamed (sym (at-named .seaming-named .ensures) ∙ c .before .enum-told .given .1))
 
 find-requires : tie.Need-find-requires
 find-requires c κs = search needs
@@ -95,40 +35,25 @@ same-length c = search needs
 same-length-2 : tie.Need-same-length-2
 same-length-2 c = search needs
 
-returns-4 : tie.Need-returns-4
-returns-4 c =
+returns-2 : tie.Need-returns-2
+returns-2 c =
     let at-find = c .before .before .before .before .before in
-    let at-turned = at-find .before .before .before .before in
-    let at-named = at-turned .before .before in
-    let at-method = at-method-named at-named in
+    let at-sized = at-find .before .before .before .before in
+    let at-named = at-sized .before .before in
     rw (c .seam-reply .ensures)
-    (find-named
-    (sym (at-size-named at-method .size-named .ensures) ∙ at-sized at-method .sized .given .1)
-    (sym (at-method .method-named .ensures) ∙ at-how at-named .how .given .1)
-    (sym (at-named .axis-named .ensures) ∙ at-turned .turned .given .1)
-    (at-find .find .ensures))
+    (find-named (sym (at-named .seaming-named .ensures) ∙ at-sized .sized .given .1) (at-find .find .ensures))
 
 pub multisize-find-spec : {M : Type 1} → statement M
 multisize-find-spec =
     tie.close
     (tie.spec
-    size-named-requires
+    seaming-named-requires
     enum-known-sized
     enum-told
     refused-requires
     returns
-    method-named-requires
-    enum-known-how
-    enum-told-2
-    refused-requires-2
-    returns-2
-    axis-named-requires
-    enum-known-turned
-    enum-told-3
-    refused-requires-3
-    returns-3
     find-requires
     seam-reply-requires
     same-length
     same-length-2
-    returns-4)
+    returns-2)
