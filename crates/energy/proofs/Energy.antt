@@ -14,7 +14,7 @@ use Rattle.grids.specs.Rows.{row_at}
 use Rattle.grids.specs.Exchange.{exchange}
 use Rattle.grids.proofs.Orders.{le-or-lt}
 use Rattle.grids.proofs.Tables.{table_same}
-use Rattle.grids.proofs.Exchange.{exchange-at, exchange-table}
+use Rattle.grids.proofs.Exchange.{exchange_at, exchange-table}
 use Rattle.pictures.specs.declared.sizes.Size.{Size}
 use Rattle.pictures.specs.Pictures.{Picture, channels_of, row_bytes, picture_bytes, picture, pixel}
 use Rattle.energy.specs.Around.{left_of, right_of, above_of, below_of, around}
@@ -128,7 +128,7 @@ energy-exchange how {w} {n} {p} g r c = by how.energy
     both q = difference_at (λ a. q a c) r n + difference_at (q r) c w
 
     pixels-same : ◌≡◌ {A = ℕ → ℕ → List ℕ} (λ r c. pixel (exchange w p) c r) (pixel p)
-    pixels-same = λ i r c. exchange-at g r c [] i
+    pixels-same = λ i r c. exchange_at g r c [] i
 
     by : (rule : EnergyRule)
         → (costs_from rule (around (wrap_of how) n w (exchange w p) c r)).up ≡ (costs_from rule (around (wrap_of how) w n p r c)).up

@@ -9,7 +9,7 @@ use borrow.Author.Tests.{lt-ltb, le-ltb}
 use lib.ListN.{length, get_or, take, drop, set, length-drop}
 use lib.Seq.{length-take-le}
 use Rattle.grids.specs.Table.{table}
-use Rattle.grids.proofs.Tables.{table-part, table_more, table_same}
+use Rattle.grids.proofs.Tables.{table_part, table_more, table_same}
 use Rattle.grids.proofs.Rows.{part_end}
 use Rattle.pictures.specs.Limits.{most_picture}
 use Rattle.pictures.specs.declared.sizes.Size.{Size}
@@ -23,12 +23,12 @@ use Rattle.energy.proofs.Energy.{neighbour_inside, energy-between}
 -- The difference of two pixels of one sample, and of three.
 pub grey_is : (a b : List ℕ) (i j : ℕ) → i + 1 ≤ length a → j + 1 ≤ length b → difference (take 1 (drop i a)) (take 1 (drop j b)) ≡ apart (get_or a i 0) (get_or b j 0)
 unfolding difference
-grey_is a b i j h k = rw (table-part a i 1 0 h, table-part b j 1 0 k, add-zero i, add-zero j) (add-zero _)
+grey_is a b i j h k = rw (table_part a i 1 0 h, table_part b j 1 0 k, add-zero i, add-zero j) (add-zero _)
 
 pub rgb_is : (a b : List ℕ) (i j : ℕ) → i + 3 ≤ length a → j + 3 ≤ length b
     → difference (take 3 (drop i a)) (take 3 (drop j b)) ≡ apart (get_or a i 0) (get_or b j 0) + apart (get_or a (i + 1) 0) (get_or b (j + 1) 0) + apart (get_or a (i + 2) 0) (get_or b (j + 2) 0)
 unfolding difference
-rgb_is a b i j h k = rw (table-part a i 3 0 h, table-part b j 3 0 k, add-zero i, add-zero j) (omega arith)
+rgb_is a b i j h k = rw (table_part a i 3 0 h, table_part b j 3 0 k, add-zero i, add-zero j) (omega arith)
 
 -- The loop over a row's pixels, for any number of channels: i is where the samples of pixel c start.
 module _ (ch : ℕ) (it lower space out : List ℕ) (width beside c i : ℕ) (at : i ≡ c * ch) (so_far : out ≡ table (between ch it lower width beside) c ++ drop c space) where
@@ -44,21 +44,21 @@ module _ (ch : ℕ) (it lower space out : List ℕ) (width beside c i : ℕ) (at
       is = rw (p, q, at, n)
 
   -- One turn.
-  pub line-turn : (right below : ℕ) → c < length space → c + 1 < width
+  pub line_turn : (right below : ℕ) → c < length space → c + 1 < width
       → right ≡ difference (take ch (drop (i + ch) it)) (take ch (drop i it))
       → below ≡ difference (take ch (drop i lower)) (take ch (drop i it))
       → set out c (right + below) ≡ table (between ch it lower width beside) (c + 1) ++ drop (c + 1) space
-  line-turn right below h l p q = line-more (i + ch) right below h next p q
+  line_turn right below h l p q = line-more (i + ch) right below h next p q
     where
       next : i + ch ≡ right_column width beside c * ch
       next = rw (lt-ltb (c + 1) width l, at, add-one c, suc-mul c ch)
 
   -- The last pixel.
-  pub line-last : (j right below : ℕ) → c + 1 ≡ width → width ≤ length space → j ≡ beside * ch
+  pub line_last : (j right below : ℕ) → c + 1 ≡ width → width ≤ length space → j ≡ beside * ch
       → right ≡ difference (take ch (drop j it)) (take ch (drop i it))
       → below ≡ difference (take ch (drop i lower)) (take ch (drop i it))
       → set out c (right + below) ≡ table (between ch it lower width beside) width ++ drop width space
-  line-last j right below w h n p q =
+  line_last j right below w h n p q =
       line-more j right below (omega arith) (rw (le-ltb (c + 1) width (le_of_eq (sym w))) n) p q
       ∙ ap (λ n. table (between ch it lower width beside) n ++ drop n space) w
 
@@ -82,9 +82,9 @@ module _ (z : Size) (how : Method) (b : List ℕ) (r s n : ℕ) (sure : Sized z 
   part_length : (at : ℕ) → at + s ≤ length b → length (take (at + s - at) (drop at b)) ≡ z.width * channels_of z.kind
   part_length at h = rw (add-sub_cancel_left at s) (length-take-le s (drop at b) (omega (arith, length-drop at b)) ∙ is)
 
-  pub lines-needed : (beside : ℕ) (out : List ℕ) → beside ≡ neighbour_of how.energy (z.width - 1) z.width → z.width ≤ length out
+  pub lines_needed : (beside : ℕ) (out : List ℕ) → beside ≡ neighbour_of how.energy (z.width - 1) z.width → z.width ≤ length out
       → LinesNeeded (channels_of z.kind) (take (r * s + s - r * s) (drop (r * s) b)) (take (n * s + s - n * s) (drop (n * s) b)) z.width beside out
-  lines-needed beside out is-beside room = record {
+  lines_needed beside out is-beside room = record {
     some = sure.width_some;
     inside = rw is-beside (neighbour_inside how.energy (z.width - 1) z.width (omega (arith, sure.width_some)));
     narrow = sure.width_small;

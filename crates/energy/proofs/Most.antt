@@ -11,7 +11,7 @@ use lib.Dec.{eqb}
 use lib.ListN.{length, get_or}
 use Rattle.grids.specs.Rows.{row_at}
 use Rattle.grids.proofs.Orders.{le-or-lt}
-use Rattle.grids.proofs.Rows.{rowAt-short, row_at-all}
+use Rattle.grids.proofs.Rows.{row_at-short, row_at-all}
 use Rattle.pictures.specs.declared.sizes.Size.{Size}
 use Rattle.pictures.specs.Pictures.{Picture, channels_of, row_bytes, picture_bytes, picture, pixel}
 use Rattle.energy.specs.Around.{left_of, right_of, above_of, below_of, around}
@@ -38,8 +38,8 @@ pub record CostsMost (most : ℕ) (k : StepCosts) : Type 0 where
   pub right : k.right ≤ most
 
 -- So does a larger bound hold,
-pub costs_within : (most more : ℕ) (k : StepCosts) → most ≤ more → CostsMost most k → CostsMost more k
-costs_within most more k l h = record { left = omega (arith, h.left); up = omega (arith, h.up); right = omega (arith, h.right) }
+pub costs-within : (most more : ℕ) (k : StepCosts) → most ≤ more → CostsMost most k → CostsMost more k
+costs-within most more k l h = record { left = omega (arith, h.left); up = omega (arith, h.up); right = omega (arith, h.right) }
 
 -- and a step costs at most that, from any column.
 pub toward-most : (most : ℕ) (wrap : Bool) (w a c : ℕ) (k : StepCosts) → CostsMost most k → toward wrap w a c k ≤ most
@@ -79,9 +79,9 @@ module _ (channels m : ℕ) (p : Picture) (short : (r c : ℕ) → length (pixel
       by Edge = record { left = most; up = most; right = most }
 
 -- The same of a picture in a buffer.
-pub buffer_costs_most : (z : Size) (how : Method) (b : List ℕ) (m : ℕ) → length b ≡ picture_bytes z → ((i : ℕ) → get_or b i 0 ≤ m)
+pub buffer_costs-most : (z : Size) (how : Method) (b : List ℕ) (m : ℕ) → length b ≡ picture_bytes z → ((i : ℕ) → get_or b i 0 ≤ m)
     → (r c : ℕ) → CostsMost (2 * (channels_of z.kind * m)) (costs_at how z.width z.height (picture z b) r c)
-buffer_costs_most z how b m e h = costs-most ch m (picture z b) short below how z.width z.height
+buffer_costs-most z how b m e h = costs-most ch m (picture z b) short below how z.width z.height
   where
     ch : ℕ
     ch = channels_of z.kind
@@ -90,7 +90,7 @@ buffer_costs_most z how b m e h = costs-most ch m (picture z b) short below how 
     short r c =
         ⊎_elim
         (λ (l : z.height ≤ r). rw (pixel-past z b r c l) (omega arith))
-        (λ (l : r < z.height). rw (pixel_at z b e r c l) (rowAt-short ch (row_at (row_bytes z) r b) c))
+        (λ (l : r < z.height). rw (pixel_at z b e r c l) (row_at-short ch (row_at (row_bytes z) r b) c))
         (le-or-lt z.height r)
 
     below : (r c k : ℕ) → get_or (pixel (picture z b) r c) k 0 ≤ m

@@ -19,14 +19,14 @@ unfolding left_of
 left_inner wrap w c h = rw (lt-ltb 0 c h)
 
 -- The first has the last to its left where the two are joined.
-pub left_first : (w : ℕ) → left_of true w 0 ≡ some (w - 1)
+pub left-first : (w : ℕ) → left_of true w 0 ≡ some (w - 1)
 unfolding left_of
-left_first w = refl
+left-first w = refl
 
 -- Otherwise it has none.
-pub left_none : (w : ℕ) → left_of false w 0 ≡ none
+pub left-none : (w : ℕ) → left_of false w 0 ≡ none
 unfolding left_of
-left_none w = refl
+left-none w = refl
 
 -- A column that isn't this one.
 not_the : (o : Option ℕ) (a : ℕ) → (o ≡ some a → ⊥) → is_the o a ≡ false
@@ -36,9 +36,9 @@ not_the (some b) a n = ne_eqb a b (λ e. n (ap some (sym e)))
 -- Which of the three costs a step to column c has, by the column that it comes from.
 module _ (wrap : Bool) (w : ℕ) where
   -- The one from straight above, from the same column.
-  pub toward-up : (c : ℕ) (k : StepCosts) → toward wrap w c c k ≡ k.up
+  pub toward_up : (c : ℕ) (k : StepCosts) → toward wrap w c c k ≡ k.up
   unfolding toward
-  toward-up c k = rw (eq-eqb c c refl)
+  toward_up c k = rw (eq-eqb c c refl)
 
   -- The one from the left, from the column to the left.
   pub toward-left : (a c : ℕ) (k : StepCosts) → (a ≡ c → ⊥) → left_of wrap w c ≡ some a → toward wrap w a c k ≡ k.left
@@ -46,9 +46,9 @@ module _ (wrap : Bool) (w : ℕ) where
   toward-left a c k n l = rw (ne_eqb a c n, l, eq-eqb a a refl)
 
   -- The one from the right, from any other.
-  pub toward-right : (a c : ℕ) (k : StepCosts) → (a ≡ c → ⊥) → (left_of wrap w c ≡ some a → ⊥) → toward wrap w a c k ≡ k.right
+  pub toward_right : (a c : ℕ) (k : StepCosts) → (a ≡ c → ⊥) → (left_of wrap w c ≡ some a → ⊥) → toward wrap w a c k ≡ k.right
   unfolding toward
-  toward-right a c k n l = rw (ne_eqb a c n, not_the (left_of wrap w c) a l)
+  toward_right a c k n l = rw (ne_eqb a c n, not_the (left_of wrap w c) a l)
 
   -- From any column, where the three are alike.
   pub toward-alike : (a c e : ℕ) → toward wrap w a c (alike e) ≡ e
@@ -65,12 +65,12 @@ rule_alike : (rule : EnergyRule) (a : Around) → costs_from rule a ≡ alike (c
 unfolding costs_from
 rule_alike Edge a = refl
 
-pub costs_alike : (how : Method) (w h : ℕ) (p : Picture) (r c : ℕ) → costs_at how w h p r c ≡ alike (energy how w h p r c)
+pub costs-alike : (how : Method) (w h : ℕ) (p : Picture) (r c : ℕ) → costs_at how w h p r c ≡ alike (energy how w h p r c)
 unfolding costs_at
-costs_alike how w h p r c = rule_alike how.energy (around (wrap_of how) w h p r c)
+costs-alike how w h p r c = rule_alike how.energy (around (wrap_of how) w h p r c)
 
 -- So a step costs the energy of the pixel that it comes to.
-pub step_energy : (how : Method) (w h : ℕ) (p : Picture) (i a c : ℕ) → step_of how w h p i a c ≡ energy how w h p i c
-step_energy how w h p i a c =
-    ap (toward (wrap_of how) w a c) (costs_alike how w h p i c)
+pub step-energy : (how : Method) (w h : ℕ) (p : Picture) (i a c : ℕ) → step_of how w h p i a c ≡ energy how w h p i c
+step-energy how w h p i a c =
+    ap (toward (wrap_of how) w a c) (costs-alike how w h p i c)
     ∙ toward-alike (wrap_of how) w a c (energy how w h p i c)

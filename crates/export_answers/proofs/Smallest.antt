@@ -5,5 +5,5 @@ use Rattle.pictures.specs.Refusals.{SmallestGiven}
 use Rattle.pictures.proofs.Rules.{given-smallest}
 use Rattle.export_answers.specs.Answers.{row_rules}
 
-pub row_smallest : (row space : ℕ) → SmallestGiven (row_rules row space)
-row_smallest row space = given-smallest _ refl
+pub row-smallest : (row space : ℕ) → SmallestGiven (row_rules row space)
+row-smallest row space = given-smallest _ refl

@@ -68,8 +68,8 @@ pub row_at-room : {k : Kind} {samples numbers out out' : List ℕ} {wanted : ℕ
 row_at-room {k} {samples} {numbers} {out} {wanted = wanted} g e = room-served k samples numbers wanted (length out) (sym g.number ∙ e)
 
 module _ {kind : ℕ} {z : Size} {samples numbers out out' : List ℕ} {wanted : ℕ} {v : Verdict} (s-is : sizing_of (row_size (length numbers) kind) ≡ Of z) (g : RowAtGiven z.kind samples numbers wanted out v out') where
-  pub refused-row-at : {n : ℕ} → n ≡ given v → (n ≡ 0 → ⊥) → HostRowAtGiven samples kind numbers wanted out (refused_by n) out'
-  refused-row-at {n} e h =
+  pub refused-row_at : {n : ℕ} → n ≡ given v → (n ≡ 0 → ⊥) → HostRowAtGiven samples kind numbers wanted out (refused_by n) out'
+  refused-row_at {n} e h =
       let some : 0 < n = omega (arith, h) in
       record {
         number = rw s-is (e ∙ g.number);
@@ -77,8 +77,8 @@ module _ {kind : ℕ} {z : Size} {samples numbers out out' : List ℕ} {wanted :
         out_given = rw (s-is, e) g.out_given;
       }
 
-  pub served-row-at : given v ≡ 0 → HostRowAtGiven samples kind numbers wanted out (record { number = 0; value = pixels_at numbers wanted * channels_of z.kind }) out'
-  served-row-at e =
+  pub served-row_at : given v ≡ 0 → HostRowAtGiven samples kind numbers wanted out (record { number = 0; value = pixels_at numbers wanted * channels_of z.kind }) out'
+  served-row_at e =
       record {
         number = rw s-is (sym e ∙ g.number);
         value = rw s-is (sym (length-served z.kind samples numbers wanted (length out) (sym g.number ∙ e)));

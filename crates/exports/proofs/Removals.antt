@@ -22,8 +22,8 @@ ending_served zero e = refl
 ending_served (suc n) e = refl
 
 module _ {size : HostSize} {method : HostMethod} {b m work : List ℕ} {budget : ℕ} where
-  pub remove-unnamed : carving_of size method ≡ Unknown → HostRemoveGiven b m size method budget work (stopped_by 1) b m work
-  remove-unnamed e =
+  pub remove_unnamed : carving_of size method ≡ Unknown → HostRemoveGiven b m size method budget work (stopped_by 1) b m work
+  remove_unnamed e =
       record {
         number = rw e refl;
         ending = rw e refl;
@@ -33,8 +33,8 @@ module _ {size : HostSize} {method : HostMethod} {b m work : List ℕ} {budget :
         work_left = refl;
       }
 
-  pub remove-named : {z : Size} {how : Method} {r : Removal} {b' m' work' : List ℕ} → carving_of size method ≡ Of z how → RemoveGiven b m z how budget work r b' m' work' → HostRemoveGiven b m size method budget work (ended_of r) b' m' work'
-  remove-named {z} {how} {r} e g =
+  pub remove_named : {z : Size} {how : Method} {r : Removal} {b' m' work' : List ℕ} → carving_of size method ≡ Of z how → RemoveGiven b m z how budget work r b' m' work' → HostRemoveGiven b m size method budget work (ended_of r) b' m' work'
+  remove_named {z} {how} {r} e g =
       record {
         number = rw e g.number;
         ending = rw e (ap some_number g.ending ∙ ending_served (removal_number r) (removed b m budget z how).ending);

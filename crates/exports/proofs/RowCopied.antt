@@ -14,8 +14,8 @@ use Rattle.export_answers.specs.Named.{sizing_of}
 use Rattle.export_answers.specs.Answers.{refused_by, row_rules}
 use Rattle.exports.specs.Hosts.{HostRowGiven}
 
-pub refused_row : {b : List ℕ} {size : HostSize} {z : Size} {r : ℕ} {out : List ℕ} {n : ℕ} → sizing_of size ≡ Of z → n ≡ refusal (row_rules (length (row_of z b r)) (length out)) → (n ≡ 0 → ⊥) → HostRowGiven b size r out (refused_by n) out
-refused_row {b} {size} {z} {r} {out} {n} s-is e h =
+pub refused-row : {b : List ℕ} {size : HostSize} {z : Size} {r : ℕ} {out : List ℕ} {n : ℕ} → sizing_of size ≡ Of z → n ≡ refusal (row_rules (length (row_of z b r)) (length out)) → (n ≡ 0 → ⊥) → HostRowGiven b size r out (refused_by n) out
+refused-row {b} {size} {z} {r} {out} {n} s-is e h =
     let some : 0 < n = omega (arith, h) in
     record {
       number = rw s-is e;

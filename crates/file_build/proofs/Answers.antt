@@ -18,14 +18,14 @@ use Rattle.pictures.specs.Refusals.{◌when◌, refusal, served}
 use Rattle.pictures.specs.Pictures.{picture_bytes, size_rules, picture, pixels, picture_in}
 use Rattle.grids.proofs.Bools.{both}
 use Rattle.pictures.proofs.Rules.{served-both, passed}
-use Rattle.pictures.proofs.Limits.{Sized, sized_is, sides_served, bytes_few}
-use Rattle.map_theory.specs.Maps.{mapOf}
+use Rattle.pictures.proofs.Limits.{Sized, sized_is, sides_served, bytes-few}
+use Rattle.map_theory.specs.Maps.{map_of}
 use Rattle.map_theory.specs.Widths.{allowed}
 use Rattle.map_theory.proofs.Maps.{map-grid}
 use Rattle.text_theory.specs.declared.Head.{Head}
 use Rattle.text_theory.specs.Files.{text}
 use Rattle.pictures.specs.Numbers.{pairs}
-use Rattle.pictures.proofs.TwoBytes.{rows_pairs}
+use Rattle.pictures.proofs.TwoBytes.{rows-pairs}
 use Rattle.map_rules.specs.Spaces.{map_bytes, map_at, map_space_rules}
 use Rattle.map_rules.proofs.Rooms.{map_bytes_lem, room-served}
 use Rattle.map_build.specs.Building.{mapped, MapInGiven}
@@ -38,19 +38,19 @@ use Rattle.file_theory.specs.Rules.{work_rule}
 use Rattle.file_build.specs.Building.{file_in}
 use Rattle.file_build.specs.Inner.Lines.{map_in, parts_in, PrintNeeded}
 use Rattle.file_build.specs.Inner.Building.{BuildNeeded, FileGiven}
-use Rattle.file_build.proofs.PictureRows.{of_size}
+use Rattle.file_build.proofs.PictureRows.{of_size_lem}
 
 -- A depth that is allowed is below the width.
-pub allowed_deep : (m k g : ℕ) → allowed m k g ≡ true → k < m
+pub allowed-deep : (m k g : ℕ) → allowed m k g ≡ true → k < m
 unfolding allowed
-allowed_deep m k g e = ltb-true k m (both (ltb k m) (leb g k && leb g (m / 2)) e).0
+allowed-deep m k g e = ltb-true k m (both (ltb k m) (leb g k && leb g (m / 2)) e).0
 
 module _ (b : List ℕ) (h : Head) (out work : List ℕ) (needed : BuildNeeded b h out work) where
   abbrev z : Size
   z = h.size
 
   abbrev m : List (List ℕ)
-  m = mapOf (choose_of h) h.depth h.size.width h.size.height (picture h.size b)
+  m = map_of (choose_of h) h.depth h.size.width h.size.height (picture h.size b)
 
   pub record Rooms : Type 0 where
     pub sized : refusal (size_rules z (length b)) ≡ 0
@@ -75,11 +75,11 @@ module _ (b : List ℕ) (h : Head) (out work : List ℕ) (needed : BuildNeeded b
       record {
         sized = parts.0;
         sure = s;
-        deep = allowed_deep _ _ _ (not-false (allowed h.size.width h.depth h.growth) p1.0);
+        deep = allowed-deep _ _ _ (not-false (allowed h.size.width h.depth h.growth) p1.0);
         out_room = ltb-false _ _ p2.0;
         few = s.pixels_most;
         map_is = map_bytes_lem h.size;
-        front = omega (arith, map_bytes_lem h.size, room, bytes_few h.size);
+        front = omega (arith, map_bytes_lem h.size, room, bytes-few h.size);
       }
 
   -- The copy at the front of the work space, and the map after it.
@@ -106,16 +106,16 @@ module _ (b : List ℕ) (h : Head) (out work : List ℕ) (needed : BuildNeeded b
         part-is =
             let r = rooms_are in
             let n : end - at ≡ map_bytes h.size = omega (arith, end_is) in
-            rw (n, at-is, two_is) (take-map h.size h.method (picture h.size b) (of_size h.size b r.sized) h.depth r.deep (drop (map_at h.size + map_bytes h.size) one))
+            rw (n, at-is, two_is) (take-map h.size h.method (picture h.size b) (of_size_lem h.size b r.sized) h.depth r.deep (drop (map_at h.size + map_bytes h.size) one))
 
         -- The file printed from it.
         text_is : text (parts_in h b (take (end - at) (drop at two))) ≡ file_in h b
         unfolding file_of
         text_is =
             let r = rooms_are in
-            let g = map-grid (choose_of h) (head_chooses h) h.depth h.size.width h.size.height (picture h.size b) (grid_of (of_size h.size b r.sized)) (omega (arith, r.deep)) in
+            let g = map-grid (choose_of h) (head_chooses h) h.depth h.size.width h.size.height (picture h.size b) (grid_of (of_size_lem h.size b r.sized)) (omega (arith, r.deep)) in
             ap (λ q. text (record { head = h; rows = picture h.size b; maps = q }))
-            (ap (map_in h.size.width h.size.height) part-is ∙ rows_pairs g)
+            (ap (map_in h.size.width h.size.height) part-is ∙ rows-pairs g)
 
         module _ (two-long : length two ≡ length one) where
           pub inside : end ≤ length two

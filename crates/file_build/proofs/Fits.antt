@@ -20,7 +20,7 @@ use Rattle.text_lengths.proofs.Rooms.{less-some, less_none, less-room, less-shor
 use Rattle.file_theory.specs.Contents.{file_of}
 use Rattle.file_theory.proofs.Lengths.{file-length}
 use Rattle.file_build.specs.Inner.Fitting.{FitNeeded}
-use Rattle.file_build.proofs.PictureRows.{of_size}
+use Rattle.file_build.proofs.PictureRows.{of_size_lem}
 
 -- `count` lines of n bytes, of which the first leaves `after`.
 module _ (space n count : ℕ) where
@@ -54,10 +54,10 @@ module _ (b : List ℕ) (h : Head) (needed : FitNeeded b h) (room : ℕ) where
   all_is : length (file_of h (picture h.size b)) ≡ length (head_text h) + total (row_length h.size.kind) (picture h.size b)
       + h.size.height * (total spaced (run 1 h.depth) + 2 * (h.size.width - h.depth) + 6) + 2
   all_is =
-      rw (head_length_lem h) (file-length h (picture h.size b) (of_size h.size b needed.sized) (omega (arith, needed.deep)))
+      rw (head_length_lem h) (file-length h (picture h.size b) (of_size_lem h.size b needed.sized) (omega (arith, needed.deep)))
 
-  pub no-head : none ≡ less room (length (head_text h)) → false ≡ leb all room
-  no-head e = sym (lt-leb all room (omega (arith, all_is, less-short room (length (head_text h)) e)))
+  pub no_head : none ≡ less room (length (head_text h)) → false ≡ leb all room
+  no_head e = sym (lt-leb all room (omega (arith, all_is, less-short room (length (head_text h)) e)))
 
   module _ (x : ℕ) (head : some x ≡ less room (length (head_text h))) where
     pub no_rows : none ≡ less x rows → false ≡ leb all room

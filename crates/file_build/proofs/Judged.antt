@@ -39,9 +39,9 @@ module _ (b : List ℕ) (h : Head) (out work : ℕ) where
   abbrev over : Bool
   over = ltb out (length (file_in h b))
 
-  pub build-refused : (v : Verdict) → given v ≡ refusal (build_space_rules h (length b) work) → (why : Refusal) → v ≡ Refused why
+  pub build_refused : (v : Verdict) → given v ≡ refusal (build_space_rules h (length b) work) → (why : Refusal) → v ≡ Refused why
       → given v ≡ refusal (build_rules b h out work)
-  build-refused v e why is =
+  build_refused v e why is =
       let some : 0 < given v = rw is (number-some why) in
       e ∙ with_first (size_rules h.size (length b)) (not range) over short (rw e at some)
 
@@ -57,7 +57,7 @@ module _ (b : List ℕ) (h : Head) (out work : ℕ) where
       let first = passed (not range) 5 (cond short 8 0) parts.1 in
       record { sized = parts.0; ranged = not-false range first.0; roomy = (passed short 7 0 first.1).0 }
 
-  pub build-ready : Ready → refusal (build_rules b h out work) ≡ cond over 8 0
-  build-ready r =
+  pub build_ready : Ready → refusal (build_rules b h out work) ≡ cond over 8 0
+  build_ready r =
       served-first (size_rules h.size (length b)) (6 when not range ∷ 8 when over ∷ work_rule h.size work ∷ []) refl r.sized
       ∙ rw (r.ranged, r.roomy)

@@ -12,7 +12,7 @@ use Rattle.text_print.specs.declared.lines.Place.TheVariants as places
 use Rattle.text_print.specs.Prints.{Put}
 use Rattle.text_print.specs.Inner.{Printed}
 use Rattle.text_theory.proofs.Many.{each_append}
-use Rattle.text_print.proofs.Written.{printed_more, printed_length, never-short, printed-next}
+use Rattle.text_print.proofs.Written.{printed_more, printed_length, never_short, printed_next}
 
 module _ {A : Type 0} (w : List ℕ) (put : A → List ℕ) (d : A) (xs : List A) (i : ℕ) where
   -- One line more.
@@ -20,8 +20,8 @@ module _ {A : Type 0} (w : List ℕ) (put : A → List ℕ) (d : A) (xs : List A
   unfolding each
   each_next h = rw (add-one, take-suc xs i d h, each_append, append-nil)
 
-  each-split : length (each w put xs) ≡ length (each w put (take (i + 1) xs)) + length (each w put (drop (i + 1) xs))
-  each-split =
+  each_split : length (each w put xs) ≡ length (each w put (take (i + 1) xs)) + length (each w put (drop (i + 1) xs))
+  each_split =
       ap (λ (l : List A). length (each w put l)) (sym (take-append-drop (i + 1) xs))
       ∙ ap length (each_append w put (take (i + 1) xs) (drop (i + 1) xs)) ∙ length-append (each w put (take (i + 1) xs)) (each w put (drop (i + 1) xs))
 
@@ -33,7 +33,7 @@ module _ {A : Type 0} (w : List ℕ) (put : A → List ℕ) (d : A) (xs : List A
           arith,
           so.end_is,
           printed_length so,
-          each-split,
+          each_split,
           ap length (each_next inside),
           length-append (each w put (take i xs)) (w ++ put (get_or xs i d)),
           ap length is,
@@ -41,10 +41,10 @@ module _ {A : Type 0} (w : List ℕ) (put : A → List ℕ) (d : A) (xs : List A
         )
 
     pub line-never : {place : Place} {then : List ℕ} → Put now end line place then → place ≡ places.Short → ⊥
-    line-never p e = never-short p line-room e
+    line-never p e = never_short p line-room e
 
     pub line-next : {place : Place} {then : List ℕ} {n : ℕ} → Put now end line place then → place ≡ places.Next n → Printed first at (each w put (take (i + 1) xs)) then n
-    line-next p e = rw (each_next inside, ← is) (printed_more so (printed-next p line-room e))
+    line-next p e = rw (each_next inside, ← is) (printed_more so (printed_next p line-room e))
 
 pub lines_none : {A : Type 0} (w : List ℕ) (put : A → List ℕ) (xs : List A) (first : List ℕ) (at : ℕ) → Printed first at (each w put (take 0 xs)) first at
 unfolding each

@@ -8,7 +8,7 @@ use lib.Seq.{take-append-add, take_at, length-take-le}
 use Rattle.grids.specs.Table.{table}
 use Rattle.grids.specs.Rows.{row_at}
 use Rattle.grids.proofs.Tables.{length-table}
-use Rattle.grids.proofs.Rows.{rowsOf-at, length-rowsOf}
+use Rattle.grids.proofs.Rows.{rows_of_at, length-rows_of}
 use Rattle.seam_theory.specs.Paths.{run}
 use Rattle.seam_theory.proofs.Members.{run-append}
 use Rattle.text_theory.specs.Decimal.{digits}
@@ -17,13 +17,13 @@ use Rattle.text_theory.specs.Lengths.{total, spaced, map_length}
 use Rattle.text_theory.proofs.Decimals.{digits_small}
 use Rattle.text_theory.proofs.Lengths.{map_length_lem}
 use Rattle.pictures.specs.Numbers.{numbers_in}
-use Rattle.pictures.proofs.TwoBytes.{length-numbers, numbers_row}
+use Rattle.pictures.proofs.TwoBytes.{length-numbers, numbers-row}
 use Rattle.map_build.proofs.Lists.{drop-replicate}
 use Rattle.file_build.specs.Inner.Lines.{map_in}
 use Rattle.pictures.specs.Pictures.{largest_side}
 
-pub maps_many : (w h : ℕ) (b : List ℕ) → length (map_in w h b) ≡ h
-maps_many w h b = length-rowsOf w h (numbers_in b)
+pub maps-many : (w h : ℕ) (b : List ℕ) → length (map_in w h b) ≡ h
+maps-many w h b = length-rows_of w h (numbers_in b)
 
 -- The line of row r, its numbers read from the part of the bytes where it stands.
 pub map_line_lem : (w h r : ℕ) (b row rest : List ℕ) → r < h → r * (2 * w) + 2 * w ≤ length b → row ≡ numbers_in (take (r * (2 * w) + 2 * w - r * (2 * w)) (drop (r * (2 * w)) b)) ++ rest
@@ -35,7 +35,7 @@ map_line_lem w h r b row rest l fits e =
     let many : length (numbers_in (row_at (2 * w) r b)) ≡ w = omega (arith, length-numbers (row_at (2 * w) r b), long) in
     let numbers : take w row ≡ numbers_in (row_at (2 * w) r b) =
     ap (take w) (e ∙ ap (λ k. numbers_in (take k (drop (r * (2 * w)) b)) ++ rest) n) ∙ take_at (numbers_in (row_at (2 * w) r b)) rest w many in
-    ap map_text (numbers ∙ numbers_row w r b ∙ sym (rowsOf-at w h (numbers_in b) r l))
+    ap map_text (numbers ∙ numbers-row w r b ∙ sym (rows_of_at w h (numbers_in b) r l))
 
 -- The numbers in their order.
 pub run-table : (k : ℕ) → table (λ t. t + 1) k ≡ run 1 k

@@ -7,12 +7,12 @@ use native.Mathlib.Omega.{arith}
 use lib.ListN.{length, get_or}
 use Rattle.grids.specs.Rows.{rows_of, row_at}
 use Rattle.grids.proofs.Shapes.{get_or-map, each_at, each-length}
-use Rattle.grids.proofs.Rows.{length-rowsOf, rowsOf-at, length-rowAt}
+use Rattle.grids.proofs.Rows.{length-rows_of, rows_of_at, length-row_at}
 use Rattle.pictures.specs.declared.sizes.Size.{Size}
 use Rattle.pictures.specs.Refusals.{refusal}
 use Rattle.pictures.specs.Pictures.{channels_of, row_bytes, size_rules, picture, row_of, OfSize}
 use Rattle.pictures.proofs.Limits.{sized_is}
-use Rattle.pictures.proofs.Buffers.{picture_of_size, row_is}
+use Rattle.pictures.proofs.Buffers.{picture-of_size, row_is}
 use Rattle.text_theory.specs.Files.{row_word, pixel_text, line_text, row_text}
 use Rattle.text_theory.specs.Lengths.{row_length}
 use Rattle.text_theory.proofs.Lengths.{row_length_lem}
@@ -20,12 +20,12 @@ use Rattle.text_lengths.specs.Rooms.{pixels_of}
 use Rattle.file_theory.proofs.Shapes.{all-each}
 
 module _ (z : Size) (b : List ℕ) (sized : refusal (size_rules z (length b)) ≡ 0) where
-  pub of_size : OfSize z (picture z b)
-  of_size = picture_of_size z b (sized_is z (length b) sized).length_is
+  pub of_size_lem : OfSize z (picture z b)
+  of_size_lem = picture-of_size z b (sized_is z (length b) sized).length_is
 
   -- As many rows as the size says.
   pub rows-many : length (picture z b) ≡ z.height
-  rows-many = each-length of_size
+  rows-many = each-length of_size_lem
 
   module _ (r : ℕ) (inside : r < z.height) where
     -- The pixels of a row's bytes are that row of the picture.
@@ -35,12 +35,12 @@ module _ (z : Size) (b : List ℕ) (sized : refusal (size_rules z (length b)) �
         let s = sized_is z (length b) sized in
         let ch = channels_of z.kind in
         let row : List ℕ = row_at (row_bytes z) r b in
-        let long : length (row_at (row_bytes z) r b) ≡ row_bytes z = length-rowAt (row_bytes z) z.height b r (omega (arith, s.length_is)) inside in
+        let long : length (row_at (row_bytes z) r b) ≡ row_bytes z = length-row_at (row_bytes z) z.height b r (omega (arith, s.length_is)) inside in
         let many : length (row_at (row_bytes z) r b) / channels_of z.kind ≡ z.width = ap (◌/ ch) long ∙ mul-div_cancel z.width s.channels_some in
-        let below : r < length (rows_of (row_bytes z) z.height b) = rw (length-rowsOf (row_bytes z) z.height b) inside in
+        let below : r < length (rows_of (row_bytes z) z.height b) = rw (length-rows_of (row_bytes z) z.height b) inside in
         ap (pixels_of z.kind) (row_is z b r sized inside)
         ∙ ap (λ n. rows_of ch n row) many
-        ∙ ap (rows_of ch z.width) (sym (rowsOf-at (row_bytes z) z.height b r inside))
+        ∙ ap (rows_of ch z.width) (sym (rows_of_at (row_bytes z) z.height b r inside))
         ∙ sym (get_or-map (rows_of ch z.width) (rows_of (row_bytes z) z.height b) r [] [] below)
 
     -- Its line, and the length of it.
@@ -53,4 +53,4 @@ module _ (z : Size) (b : List ℕ) (sized : refusal (size_rules z (length b)) �
       row-long =
           ap (λ x. length (row_text z.kind (pixels_of z.kind x))) is
           ∙ ap (λ x. length (row_text z.kind x)) row-pixels
-          ∙ row_length_lem z.kind (get_or (picture z b) r []) (all-each (λ px l. l) (each_at r [] inside of_size))
+          ∙ row_length_lem z.kind (get_or (picture z b) r []) (all-each (λ px l. l) (each_at r [] inside of_size_lem))

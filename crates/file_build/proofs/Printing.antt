@@ -12,7 +12,7 @@ use Rattle.text_print.specs.declared.lines.Place.{Place}
 use Rattle.text_print.specs.declared.lines.Place.TheVariants as places
 use Rattle.text_print.specs.Prints.{Put}
 use Rattle.text_print.specs.Inner.{Printed}
-use Rattle.text_print.proofs.Written.{printed_more, printed_length, never-short, printed-next}
+use Rattle.text_print.proofs.Written.{printed_more, printed_length, never_short, printed_next}
 use Rattle.file_build.specs.Inner.Lines.{map_in, parts_in, RowsNeeded, MapsNeeded, PrintNeeded}
 
 module _ (b : List ℕ) (h : Head) (map out : List ℕ) (needed : PrintNeeded b h map out) where
@@ -33,19 +33,19 @@ module _ (b : List ℕ) (h : Head) (map out : List ℕ) (needed : PrintNeeded b 
         length-append maps closed,
       )
 
-  head-room : 0 + length (head_text h) ≤ length out
-  head-room = omega (arith, all_room)
+  head_room : 0 + length (head_text h) ≤ length out
+  head_room = omega (arith, all_room)
 
   module _ {place : Place} {one : List ℕ} (A : Put out 0 (head_text h) place one) where
     pub head_never : place ≡ places.Short → ⊥
-    head_never e = never-short A head-room e
+    head_never e = never_short A head_room e
 
     pub head-next : {n : ℕ} → place ≡ places.Next n → Printed out 0 (head_text h) one n
-    head-next e = printed-next A head-room e
+    head-next e = printed_next A head_room e
 
   module _ {one : List ℕ} {i : ℕ} (A : Printed out 0 (head_text h) one i) where
-    pub rows-needed : RowsNeeded one i b h.size
-    rows-needed = record { sized = needed.sized; room = omega (arith, all_room, A.end_is, printed_length A) }
+    pub rows_needed : RowsNeeded one i b h.size
+    rows_needed = record { sized = needed.sized; room = omega (arith, all_room, A.end_is, printed_length A) }
 
     module _ {two : List ℕ} {j : ℕ} (B : Printed one i rows two j) where
       pub maps-needed : MapsNeeded two j map h.size.width h.size.height
@@ -62,8 +62,8 @@ module _ (b : List ℕ) (h : Head) (map out : List ℕ) (needed : PrintNeeded b 
 
         module _ {place : Place} {last : List ℕ} (D : Put three k closed place last) where
           pub end-never : place ≡ places.Short → ⊥
-          end-never e = never-short D end-room e
+          end-never e = never_short D end-room e
 
           pub all-printed : {n : ℕ} → place ≡ places.Next n → Printed out 0 (text (parts_in h b map)) last n
           unfolding text
-          all-printed e = printed_more A (printed_more B (printed_more C (printed-next D end-room e)))
+          all-printed e = printed_more A (printed_more B (printed_more C (printed_next D end-room e)))

@@ -33,17 +33,17 @@ form_most (some p) = refusal-most 6 (part_rules p) refl
 
 -- A file that opening refuses: its number, and everything lent left as it was.
 module _ (file : List ℕ) (answer : Checked) (g : OpenGiven file answer) (why : Refusal) (is : answer ≡ checks.Refused why) where
-  some_number : 0 < checked_number answer
-  some_number = rw is (number-some why)
+  some_number_lem : 0 < checked_number answer
+  some_number_lem = rw is (number-some why)
 
-  pub early-number : (more : Parts → List Rule) → checked_number answer ≡ refusal (form_rules (λ p. part_rules p ++ more p) (parse file))
-  early-number more = form_refused more (parse file) (checked_number answer) g.number some_number
+  pub early_number : (more : Parts → List Rule) → checked_number answer ≡ refusal (form_rules (λ p. part_rules p ++ more p) (parse file))
+  early_number more = form_refused more (parse file) (checked_number answer) g.number some_number_lem
 
-  pub early-kept : {A : Type 0} (x y : A) → y ≡ served (checked_number answer) x y
-  early-kept x y = sym (served-not (checked_number answer) x y some_number)
+  pub early_kept : {A : Type 0} (x y : A) → y ≡ served (checked_number answer) x y
+  early_kept x y = sym (served-not (checked_number answer) x y some_number_lem)
 
-  pub early-work : {A : Type 0} (x y : A) → y ≡ worked (checked_number answer) x y
-  early-work x y = sym (worked_not (checked_number answer) x y some_number (omega (arith, g.number, form_most (parse file))))
+  pub early_work : {A : Type 0} (x y : A) → y ≡ worked (checked_number answer) x y
+  early_work x y = sym (worked_not (checked_number answer) x y some_number_lem (omega (arith, g.number, form_most (parse file))))
 
 -- One that it doesn't refuse is open.
 pub is_open : (file : List ℕ) (answer : Checked) → OpenGiven file answer → (h : Head) → answer ≡ checks.Accepted h → Open file h
@@ -63,8 +63,8 @@ module _ (file : List ℕ) (h : Head) (o : Open file h) (own : Head → List Rul
       ap (λ q. refusal (form_rules (λ x. part_rules x ++ (own x.head ++ judged_rules x)) q)) k.parsed
       ∙ served-first (part_rules p) (own h ++ judged_rules p) refl k.served ∙ sym (ap (λ q. refusal (own h ++ judged_in q)) k.parsed)
 
-  pub own-number : (n : ℕ) → n ≡ refusal (own h) → 0 < n → n ≡ refusal (file_rules own file)
-  own-number n e l = e ∙ sym (own_first ∙ refused-first (own h) (judged_in (parse file)) (rw e at l))
+  pub own_number : (n : ℕ) → n ≡ refusal (own h) → 0 < n → n ≡ refusal (file_rules own file)
+  own_number n e l = e ∙ sym (own_first ∙ refused-first (own h) (judged_in (parse file)) (rw e at l))
 
   pub judged-number : positive (own h) ≡ true → refusal (own h) ≡ 0 → refusal (judged_in (parse file)) ≡ refusal (file_rules own file)
   judged-number t e = sym (own_first ∙ served-first (own h) (judged_in (parse file)) t e)

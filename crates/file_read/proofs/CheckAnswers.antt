@@ -24,15 +24,15 @@ use Rattle.file_read.specs.Reading.{CheckGiven}
 use Rattle.file_read.specs.Inner.Opening.{OpenGiven}
 use Rattle.file_read.specs.Inner.Checking.{MapJudged}
 use Rattle.file_read.proofs.Parsed.{opened}
-use Rattle.file_read.proofs.Answered.{early-number, early-work, is_open, own-number, judged-number, judged_work}
+use Rattle.file_read.proofs.Answered.{early_number, early_work, is_open, own_number, judged-number, judged_work}
 
 module _ (file work : List ℕ) (answer : Checked) (g : OpenGiven file answer) where
   -- 1 to 6.
-  pub check-early : (why : Refusal) → answer ≡ checks.Refused why → CheckGiven file work answer work
-  check-early why is = record {
-    number = early-number file answer g why is (λ p. work_rule p.head.size (length work) ∷ judged_rules p);
+  pub check_early : (why : Refusal) → answer ≡ checks.Refused why → CheckGiven file work answer work
+  check_early why is = record {
+    number = early_number file answer g why is (λ p. work_rule p.head.size (length work) ∷ judged_rules p);
     head = g.head;
-    work_left = early-work file answer g why is (replicate (length work) 0) work;
+    work_left = early_work file answer g why is (replicate (length work) 0) work;
   }
 
   module _ (h : Head) (is : answer ≡ checks.Accepted h) where
@@ -49,7 +49,7 @@ module _ (file work : List ℕ) (answer : Checked) (g : OpenGiven file answer) w
     check-short d e why said =
         let number : number_of why ≡ refusal (own h) = sym (ap given said) ∙ e ∙ work-own in
         record {
-          number = own-number file h (is_open file answer g h is) own (number_of why) number (number-some why);
+          number = own_number file h (is_open file answer g h is) own (number_of why) number (number-some why);
           head = kept_by why (head_in (parse file)) _;
           work_left = sym (worked_not (number_of why) (replicate (length work) 0) work (number-some why) (omega (arith, number, refusal-most 8 (own h) refl)));
         }

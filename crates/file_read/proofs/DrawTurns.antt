@@ -7,7 +7,7 @@ use lib.ListN.{length, get_or, take, drop, length-drop, take-append-drop, drop_o
 use lib.Seq.{length-take-le, length_front, take_at, drop-append-le, take-append-le}
 use borrow.Rule.Slice.PartMut.{put_mid, mid_of, same_len_mid}
 use Rattle.grids.specs.Rows.{flat, row_at}
-use Rattle.grids.proofs.Rows.{part_end, length-flat, length-rowAt}
+use Rattle.grids.proofs.Rows.{part_end, length-flat, length-row_at}
 use Rattle.grids.proofs.Shapes.{each_at}
 use Rattle.grids.proofs.Parts.{part_length}
 use Rattle.pictures.specs.Limits.{most_picture}
@@ -24,15 +24,15 @@ use Rattle.map_show.proofs.Judging.{row-served}
 use Rattle.file_theory.specs.Shows.{rows_in, maps_in, shows, drawn_bytes}
 use Rattle.file_read.specs.Inner.Widths.{LinesNeeded}
 use Rattle.file_read.proofs.Parsed.{Parsed, opened}
-use Rattle.file_read.proofs.Offered.{Roomy, sound, roomy, picture_fits}
-use Rattle.file_read.proofs.Filled.{FilledTo, filled-step, filled-done}
-use Rattle.file_read.proofs.Places.{MapsLeft, met-place, met-broken, met-filled, map-met, row-of-bytes}
+use Rattle.file_read.proofs.Offered.{Roomy, sound, roomy, picture-fits}
+use Rattle.file_read.proofs.Filled.{FilledTo, filled-step, filled_done}
+use Rattle.file_read.proofs.Places.{MapsLeft, met_place, met_broken, met_filled, map-met, row-of-bytes}
 use Rattle.file_read.proofs.Drawing.{drawn-long, drawn-row}
 use Rattle.map_theory.specs.Bounds.{most_shown}
 
 -- A row of the front of a list is a row of the list.
-front_row : (s r n : ℕ) (b : List ℕ) → r * s + s ≤ n → n ≤ length b → row_at s r b ≡ row_at s r (take n b)
-front_row s r n b l m =
+front-row : (s r n : ℕ) (b : List ℕ) → r * s + s ≤ n → n ≤ length b → row_at s r b ≡ row_at s r (take n b)
+front-row s r n b l m =
     let f = length-take-le n b m in
     ap (row_at s r) (sym (take-append-drop n b)) ∙ ap (take s) (drop-append-le (r * s) (take n b) (drop n b) (omega arith))
     ∙ take-append-le s (drop (r * s) (take n b)) (drop n b) (omega (arith, length-drop (r * s) (take n b)))
@@ -45,17 +45,17 @@ module _ (before : List ℕ) {file : List ℕ} {h : Head} {first v : ℕ} {space
   fits = roomy h v (length before) (length space) (sound known) d.drawn.room
 
   picture_room : picture_bytes h.size ≤ length space
-  picture_room = picture_fits h.size (length space) fits.work_room
+  picture_room = picture-fits h.size (length space) fits.work_room
 
   whole_long : length (drawn_bytes (shows file v)) ≡ h.size.height * (v * channels_of h.size.kind)
   whole_long = drawn-long known v d.drawn.accepted fits.offers
 
   -- All rows are there.
-  pub drawn-all : (n r : ℕ) (now : List ℕ) → n ≡ channels_of h.size.kind → r ≡ h.size.height → FilledTo (drawn_bytes (shows file v)) before (v * n) r now
+  pub drawn_all : (n r : ℕ) (now : List ℕ) → n ≡ channels_of h.size.kind → r ≡ h.size.height → FilledTo (drawn_bytes (shows file v)) before (v * n) r now
       → now ≡ drawn_bytes (shows file v) ++ drop (length (drawn_bytes (shows file v))) before
-  drawn-all n r now is e so =
+  drawn_all n r now is e so =
       let all : length (drawn_bytes (shows file v)) ≡ h.size.height * (v * n) = whole_long ∙ ap (λ i. h.size.height * (v * i)) (sym is) in
-      filled-done (drawn_bytes (shows file v)) before (v * n) h.size.height r now all e so ∙ ap (λ i. drawn_bytes (shows file v) ++ drop i before) (sym all)
+      filled_done (drawn_bytes (shows file v)) before (v * n) h.size.height r now all e so ∙ ap (λ i. drawn_bytes (shows file v) ++ drop i before) (sym all)
 
   module _ (r : ℕ) (inside : r < h.size.height) where
     -- The row's part of the picture, and the part where it is shown.
@@ -72,12 +72,12 @@ module _ (before : List ℕ) {file : List ℕ} {h : Head} {first v : ℕ} {space
       pub shown-small : r * (v * n) + v * n ≤ most_shown
       shown-small = rw is (omega (arith, part_end r h.size.height (v * channels_of h.size.kind) inside, fits.bounds.shown_most))
 
-      samples-are : mid_of (r * (h.size.width * n)) (r * (h.size.width * n) + h.size.width * n - r * (h.size.width * n)) space ≡ flat (get_or (rows_in (parse file)) r [])
-      samples-are =
+      samples_are : mid_of (r * (h.size.width * n)) (r * (h.size.width * n) + h.size.width * n - r * (h.size.width * n)) space ≡ flat (get_or (rows_in (parse file)) r [])
+      samples_are =
           let e : r * (h.size.width * n) + h.size.width * n - r * (h.size.width * n) ≡ h.size.width * n = omega arith in
           rw e
           (rw is
-          (front_row (row_bytes h.size) r (picture_bytes h.size) space (part_end r h.size.height (row_bytes h.size) inside) picture_room
+          (front-row (row_bytes h.size) r (picture_bytes h.size) space (part_end r h.size.height (row_bytes h.size) inside) picture_room
           ∙ ap (row_at (row_bytes h.size) r) d.picture_is ∙ row-of-bytes known r inside))
 
     -- Its map line is read into the front of an array.
@@ -86,13 +86,13 @@ module _ (before : List ℕ) {file : List ℕ} {h : Head} {first v : ℕ} {space
       long = sym (length-take-le h.size.width numbers (omega (arith, known.sides.width_most)))
 
       pub line-there : Taken map_line file at (take h.size.width numbers) (read reads.Broken) got → ⊥
-      line-there t = met-broken (map-met known r inside reads.Broken left long t)
+      line-there t = met_broken (map-met known r inside reads.Broken left long t)
 
       pub line_read : (n : ℕ) (c : Cursor) → Taken map_line file at (take h.size.width numbers) (read (reads.Good n c)) got
           → MapsLeft file (r + 1) c.at × (got ≡ get_or (maps_in (parse file)) r [])
       line_read n c t =
           let m = map-met known r inside (reads.Good n c) left long t in
-          (met-place n c m, met-filled (reads.Good n c) (each_at r [] inside known.maps_grid ∙ long) m)
+          (met_place n c m, met_filled (reads.Good n c) (each_at r [] inside known.maps_grid ∙ long) m)
 
       pub line-long : got ≡ get_or (maps_in (parse file)) r [] → length (got ++ drop h.size.width numbers) ≡ largest_side
       line-long e = length_front numbers got h.size.width (ap length e ∙ each_at r [] inside known.maps_grid ∙ long) ∙ many
@@ -106,7 +106,7 @@ module _ (before : List ℕ) {file : List ℕ} {h : Head} {first v : ℕ} {space
       all = whole_long ∙ ap (λ i. h.size.height * (v * i)) (sym n-is)
 
       shown-long : length (row_at (v * n) r (drawn_bytes (shows file v))) ≡ v * n
-      shown-long = length-rowAt (v * n) h.size.height (drawn_bytes (shows file v)) r (omega (arith, all)) inside
+      shown-long = length-row_at (v * n) h.size.height (drawn_bytes (shows file v)) r (omega (arith, all)) inside
 
       out-long : length (mid_of (r * (v * n)) (r * (v * n) + v * n - r * (v * n)) now) ≡ v * n
       out-long = omega (arith, part_length (r * (v * n)) (r * (v * n) + v * n) now (omega (arith, shown-end n n-is)))
@@ -121,7 +121,7 @@ module _ (before : List ℕ) {file : List ℕ} {h : Head} {first v : ℕ} {space
           let numbers-are : take h.size.width (got ++ drop h.size.width numbers) ≡ line = take_at got (drop h.size.width numbers) h.size.width (ap length got-is ∙ wide) ∙ got-is in
           let shown : row_shown h.size.kind row line v ≡ whole =
           drawn-row known v d.drawn.accepted fits.offers r inside ∙ ap (λ i. row_at (v * i) r (drawn_bytes (shows file v))) (sym n-is) in
-          let given : RowAtGiven h.size.kind row line v out answer new = rw (samples-are m m-is, numbers-are) at g in
+          let given : RowAtGiven h.size.kind row line v out answer new = rw (samples_are m m-is, numbers-are) at g in
           let samples : length row ≡ length line * channels_of h.size.kind = length-flat (each_at r [] inside known.of_size) ∙ ap (◌* channels_of h.size.kind) (sym wide) in
           row-served h.size.kind row line v out samples (rw shown (omega (arith, shown-long, out-long))) given ∙ ap (λ x. x ++ drop (length x) out) shown
           ∙ ap (whole ++◌) (drop_of_length-le out {i = length whole} (omega (arith, shown-long, out-long))) ∙ append-nil whole

@@ -8,15 +8,15 @@ use lib.ListN.{length, get_or, take, drop}
 use lib.Seq.{length_front, length-take-le, take_at}
 use Rattle.grids.specs.Each.{Each}
 use Rattle.grids.specs.Rows.{flat, row_at, rows_of}
-use Rattle.grids.proofs.Rows.{flat-at, rowsOf-flat}
+use Rattle.grids.proofs.Rows.{flat_at, rows_of-flat}
 use Rattle.grids.proofs.Shapes.{each-length, each_at, each_any, grid_of, get_or-map}
 use Rattle.pictures.specs.Refusals.{refusal}
 use Rattle.pictures.specs.Pictures.{Picture, channels_of, picture_bytes, bytes, OfSize}
 use Rattle.pictures.proofs.Buffers.{flats_grid, length-bytes}
 use Rattle.map_theory.specs.Widths.{offered, shown}
 use Rattle.map_theory.specs.Judged.{Numbering}
-use Rattle.map_theory.proofs.Judged.{judged-is}
-use Rattle.map_theory.proofs.Shown.{shown-grid, shown-at}
+use Rattle.map_theory.proofs.Judged.{judged_is}
+use Rattle.map_theory.proofs.Shown.{shown-grid, shown_at}
 use Rattle.text_theory.specs.declared.Head.{Head}
 use Rattle.text_theory.specs.Files.{parse, Pixel}
 use Rattle.map_show.specs.Showing.{row_shown}
@@ -31,23 +31,23 @@ use Rattle.file_read.specs.Inner.Lines.{RowsRead}
 use Rattle.file_read.specs.Inner.Widths.{DrawNeeded, LinesNeeded}
 use Rattle.file_read.proofs.Parsed.{Parsed, opened, parts_with}
 use Rattle.file_read.proofs.Places.{bytes-long}
-use Rattle.file_read.proofs.Offered.{roomy, picture_fits, sound}
+use Rattle.file_read.proofs.Offered.{roomy, picture-fits, sound}
 
 module _ {file : List ℕ} {h : Head} (k : Parsed file h) (v : ℕ) where
   -- The picture shown, and its bytes.
   abbrev picture : Picture
   picture = shown (mean_of h) h.size.width v (rows_in (parse file)) (maps_in (parse file))
 
-  drawn-is : drawn_bytes (shows file v) ≡ bytes picture
+  drawn_is : drawn_bytes (shows file v) ≡ bytes picture
   unfolding shows
-  drawn-is = ap (λ q. drawn_bytes (shows_in q v)) k.parsed
+  drawn_is = ap (λ q. drawn_bytes (shows_in q v)) k.parsed
 
   module _ (accepted : refusal (judged_in (parse file)) ≡ 0) (offers : offered h.size.width h.depth h.growth v ≡ true) where
     -- Each row of an accepted map is a numbering.
     numbered : Each (Numbering h.depth) h.size.height (maps_in (parse file))
     numbered =
         let e : refusal (judged_rules (parts_with h (parse file))) ≡ 0 = sym (ap (λ q. refusal (judged_in q)) k.parsed) ∙ accepted in
-        ((judged-is (near_of h) (choose_of h) h.size.width h.size.height h.depth (rows_in (parse file)) (maps_in (parse file)) k.maps_grid).0 e).numbered
+        ((judged_is (near_of h) (choose_of h) h.size.width h.size.height h.depth (rows_in (parse file)) (maps_in (parse file)) k.maps_grid).0 e).numbered
 
     -- So what is shown is a picture of width v.
     shown-size : OfSize (sized v h.size) picture
@@ -57,7 +57,7 @@ module _ {file : List ℕ} {h : Head} (k : Parsed file h) (v : ℕ) where
         each_all (λ row e c. each_all (λ px u d. d.count) (each_any v row e) c) g a
 
     pub drawn-long : length (drawn_bytes (shows file v)) ≡ h.size.height * (v * channels_of h.size.kind)
-    drawn-long = ap length drawn-is ∙ length-bytes (sized v h.size) picture shown-size
+    drawn-long = ap length drawn_is ∙ length-bytes (sized v h.size) picture shown-size
 
     -- Row r of it: the file's row and its row of the map, shown.
     pub drawn-row : (r : ℕ) → r < h.size.height
@@ -68,14 +68,14 @@ module _ {file : List ℕ} {h : Head} (k : Parsed file h) (v : ℕ) where
         let ch = channels_of h.size.kind in
         let long : length (get_or (maps_in (parse file)) r []) ≡ h.size.width = each_at r [] l k.maps_grid in
         let pixels : rows_of (channels_of h.size.kind) h.size.width (flat (get_or (rows_in (parse file)) r [])) ≡ get_or (rows_in (parse file)) r [] =
-        ap (rows_of ch h.size.width) (sym (append-nil (flat row))) ∙ rowsOf-flat [] (each_at r [] l k.of_size) in
-        rw (long, pixels, drawn-is)
-        (sym (flat-at (flats_grid shown-size) r l ∙ get_or-map flat picture r [] [] (omega (arith, each-length shown-size)) ∙ ap flat (shown-at (mean_of h) v (grid_of k.pixels) k.maps_grid r l)))
+        ap (rows_of ch h.size.width) (sym (append-nil (flat row))) ∙ rows_of-flat [] (each_at r [] l k.of_size) in
+        rw (long, pixels, drawn_is)
+        (sym (flat_at (flats_grid shown-size) r l ∙ get_or-map flat picture r [] [] (omega (arith, each-length shown-size)) ∙ ap flat (shown_at (mean_of h) v (grid_of k.pixels) k.maps_grid r l)))
 
 -- The picture stands at the front of the space when its row lines are read.
 module _ (file : List ℕ) (h : Head) (v out : ℕ) (work : List ℕ) (d : DrawNeeded file h v out (length work)) where
   pub room : picture_bytes h.size ≤ length work
-  room = picture_fits h.size (length work) (roomy h v out (length work) (sound (opened file h d.opened)) d.room).work_room
+  room = picture-fits h.size (length work) (roomy h v out (length work) (sound (opened file h d.opened)) d.room).work_room
 
   module _ {work' : List ℕ} {at : ℕ} (g : RowsRead file h work at work') where
     long : length (bytes (rows_in (parse file))) ≡ picture_bytes h.size
@@ -84,8 +84,8 @@ module _ (file : List ℕ) (h : Head) (v out : ℕ) (work : List ℕ) (d : DrawN
     pub same_long : length work' ≡ length work
     same_long = ap length g.space_is ∙ length_front work (bytes (rows_in (parse file))) (picture_bytes h.size) (long ∙ sym (length-take-le (picture_bytes h.size) work room))
 
-    pub lines-needed : LinesNeeded file h at v work' out
-    lines-needed = record {
+    pub lines_needed : LinesNeeded file h at v work' out
+    lines_needed = record {
       drawn = rw same_long d;
       place = g.place;
       picture_is = ap (take (picture_bytes h.size)) g.space_is ∙ take_at (bytes (rows_in (parse file))) (drop (picture_bytes h.size) work) (picture_bytes h.size) long;

@@ -9,7 +9,7 @@ use lib.ListN.{length, take, drop}
 use lib.Seq.{take_all, take_at, length-take-le, drop-drop, drop-append-add}
 use borrow.Rule.Slice.PartMut.{put_mid}
 use Rattle.grids.specs.Rows.{row_at}
-use Rattle.grids.proofs.Rows.{part_end, row_more}
+use Rattle.grids.proofs.Rows.{part_end, row_more_lem}
 use Rattle.grids.proofs.Parts.{put_part}
 
 -- `whole` has rows of w values, and the space had `before` in it.
@@ -31,7 +31,7 @@ module _ {A : Type 0} (whole before : List A) (w : ℕ) where
       ap (λ i. drop (i + w) now) (sym front) ∙ ap (drop (length (take (r * w) whole) + w)) so
       ∙ drop-append-add (take (r * w) whole) (drop (r * w) before) w ∙ drop-drop w (r * w) before in
       let m : (r + 1) * w ≡ r * w + w = rw (add-one r) (suc-mul r w) in
-      rw (m, q, p) (put_part (r * w) (r * w + w) now new (omega arith) ∙ rw (first, behind, is) (row_more w r whole before))
+      rw (m, q, p) (put_part (r * w) (r * w + w) now new (omega arith) ∙ rw (first, behind, is) (row_more_lem w r whole before))
 
-  pub filled-done : (n r : ℕ) (now : List A) → length whole ≡ n * w → r ≡ n → FilledTo r now → now ≡ whole ++ drop (n * w) before
-  filled-done n r now size e so = (rw e at so) ∙ ap (◌++ drop (n * w) before) (take_all (n * w) whole (omega arith))
+  pub filled_done : (n r : ℕ) (now : List A) → length whole ≡ n * w → r ≡ n → FilledTo r now → now ≡ whole ++ drop (n * w) before
+  filled_done n r now size e so = (rw e at so) ∙ ap (◌++ drop (n * w) before) (take_all (n * w) whole (omega arith))

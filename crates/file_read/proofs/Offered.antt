@@ -10,7 +10,7 @@ use Rattle.pictures.specs.declared.sizes.Size.{Size}
 use Rattle.pictures.specs.Refusals.{refusal}
 use Rattle.pictures.specs.Pictures.{channels_of, picture_bytes, pixels}
 use Rattle.pictures.proofs.Rules.{passed}
-use Rattle.pictures.proofs.Limits.{bytes_few}
+use Rattle.pictures.proofs.Limits.{bytes-few}
 use Rattle.map_theory.specs.Widths.{offered}
 use Rattle.map_theory.proofs.Shown.{offered_is}
 use Rattle.text_theory.specs.declared.Head.{Head}
@@ -45,5 +45,5 @@ roomy h v out work s e =
     }
 
 -- A picture takes at most three bytes a pixel, so the work space has room for it.
-pub picture_fits : (z : Size) (work : ℕ) → 32 * pixels z ≤ work → picture_bytes z ≤ work
-picture_fits z work l = omega (arith, bytes_few z)
+pub picture-fits : (z : Size) (work : ℕ) → 32 * pixels z ≤ work → picture_bytes z ≤ work
+picture-fits z work l = omega (arith, bytes-few z)

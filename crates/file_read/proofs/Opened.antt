@@ -12,7 +12,7 @@ use Rattle.pictures.specs.declared.refusals.Verdict.{Verdict}
 use Rattle.pictures.specs.declared.refusals.Verdict.TheVariants as verdicts
 use Rattle.pictures.specs.Refusals.{◌when◌, Rule, number_of, given, refusal}
 use Rattle.pictures.specs.Pictures.{side_rules}
-use Rattle.pictures.proofs.Rules.{served-first, refused-answer, kept_by}
+use Rattle.pictures.proofs.Rules.{served-first, refused_answer, kept_by}
 use Rattle.map_theory.specs.Widths.{allowed}
 use Rattle.map_theory.specs.Judged.{every}
 use Rattle.text_theory.specs.Files.{Parts, parse}
@@ -45,26 +45,26 @@ counts-filled p =
     rw (even_rows w p.rows, even_rows w p.maps) (and_swap (eqb (length p.rows) h) (eqb (length p.maps) h) (every (λ xs. eqb (length xs) w) p.rows) (every (λ xs. eqb (length xs) w) p.maps))
 
 -- The parts that a scan has found.
-pub facts_none : (o : Option Parts) → none ≡ facts_in o → o ≡ none
-facts_none none e = refl
-facts_none (some p) e = absurd (none-ne-some _ e)
+pub facts-none : (o : Option Parts) → none ≡ facts_in o → o ≡ none
+facts-none none e = refl
+facts-none (some p) e = absurd (none-ne-some _ e)
 
-pub facts_some : (o : Option Parts) (f : Facts) → some f ≡ facts_in o → (p : Parts) × (o ≡ some p) × (f ≡ facts_of p)
-facts_some none f e = absurd (none-ne-some _ (sym e))
-facts_some (some p) f e = (p, refl, some-injective f (facts_of p) e)
+pub facts-some : (o : Option Parts) (f : Facts) → some f ≡ facts_in o → (p : Parts) × (o ≡ some p) × (f ≡ facts_of p)
+facts-some none f e = absurd (none-ne-some _ (sym e))
+facts-some (some p) f e = (p, refl, some-injective f (facts_of p) e)
 
 pub open_broken : (file : List ℕ) → none ≡ facts_in (parse file) → OpenGiven file (checks.Refused Form)
-open_broken file e = let z = facts_none (parse file) e in record { number = rw z; head = refl }
+open_broken file e = let z = facts-none (parse file) e in record { number = rw z; head = refl }
 
 module _ (file : List ℕ) (f : Facts) (told : some f ≡ facts_in (parse file)) where
   abbrev parts : Parts
-  parts = (facts_some (parse file) f told).0
+  parts = (facts-some (parse file) f told).0
 
   parsed : parse file ≡ some parts
-  parsed = (facts_some (parse file) f told).1
+  parsed = (facts-some (parse file) f told).1
 
   facts : f ≡ facts_of parts
-  facts = (facts_some (parse file) f told).2
+  facts = (facts-some (parse file) f told).2
 
   same_head : f.head ≡ parts.head
   unfolding facts_of
@@ -76,9 +76,9 @@ module _ (file : List ℕ) (f : Facts) (told : some f ≡ facts_in (parse file))
   refused : (why : Refusal) → number_of why ≡ refusal (part_rules parts) → OpenGiven file (checks.Refused why)
   refused why e = record { number = rw parsed e; head = kept_by why (head_in (parse file)) none }
 
-  pub open-sides : (v : Verdict) (why : Refusal) → v ≡ verdicts.Refused why → given v ≡ refusal (side_rules f.head.size) → OpenGiven file (checks.Refused why)
-  open-sides v why is e =
-      refused why (sym (ap given is) ∙ refused-answer v why is (side_rules parts.head.size) more (e ∙ ap (λ h. refusal (side_rules h.size)) same_head))
+  pub open_sides : (v : Verdict) (why : Refusal) → v ≡ verdicts.Refused why → given v ≡ refusal (side_rules f.head.size) → OpenGiven file (checks.Refused why)
+  open_sides v why is e =
+      refused why (sym (ap given is) ∙ refused_answer v why is (side_rules parts.head.size) more (e ∙ ap (λ h. refusal (side_rules h.size)) same_head))
 
   module _ (sides : refusal (side_rules f.head.size) ≡ 0) where
     rest : refusal (part_rules parts) ≡ refusal more

@@ -18,7 +18,7 @@ use Rattle.text_read.specs.Answers.{Told}
 use Rattle.text_read.proofs.Callers.{head_line}
 use Rattle.file_theory.specs.Rules.{part_rules, form_rules}
 use Rattle.file_theory.specs.Shows.{head_in, rows_in, maps_in}
-use Rattle.file_theory.proofs.Shaped.{shaped_is, shaped_picture, allowed_of_size}
+use Rattle.file_theory.proofs.Shaped.{shaped_is, shaped_picture, allowed-of_size}
 use Rattle.file_read.specs.Inner.Opening.{Open, from_maps, from_rows}
 
 -- The parts of a text, with size and range h.
@@ -34,7 +34,7 @@ pub record Parsed (file : List ℕ) (h : Head) : Type 0 where
   pub sides_served : refusal (side_rules h.size) ≡ 0
   pub sides : Sides h.size
   pub pixels : Each (Each (Pixel h.size.kind) h.size.width) h.size.height (rows_in (parse file))
-  pub of_size : OfSize h.size (rows_in (parse file))
+  pub of_size_lem : OfSize h.size (rows_in (parse file))
   pub maps_grid : Grid h.size.width h.size.height (maps_in (parse file))
   pub range : allowed h.size.width h.depth h.growth ≡ true
   pub row_lines_are : from_rows (parse file) ≡ each row_word (line_text (pixel_text h.size.kind)) (rows_in (parse file)) ++ from_maps (parse file)
@@ -56,7 +56,7 @@ opened file h o =
       sides_served = k.sides;
       sides = sides_are h.size k.sides;
       pixels = a.pixels;
-      of_size = allowed_of_size h.size (rows_in (parse file)) a;
+      of_size_lem = allowed-of_size h.size (rows_in (parse file)) a;
       maps_grid = k.maps;
       range = k.range;
       row_lines_are = rows (parse file) o.head_is;
@@ -80,15 +80,15 @@ opened file h o =
 
 -- Behind the head stand the row lines.
 module _ (file : List ℕ) (h : Head) (o : Open file h) where
-  head_read : head_get file ≡ some (h, from_rows (parse file))
+  head_read_lem : head_get file ≡ some (h, from_rows (parse file))
   unfolding text
-  head_read =
+  head_read_lem =
       let k = opened file h o in
       ap head_get (sym k.whole ∙ ap (head_text h ++◌) (sym (k.row_lines_are ∙ ap (each row_word (line_text (pixel_text h.size.kind)) (rows_in (parse file)) ++◌) k.map_lines_are)))
       ∙ head_line h (from_rows (parse file)) k.within.head
 
-  pub head-place : (g : Head) (c : ℕ) → Told head_get file 0 (some (g, c)) → drop c file ≡ from_rows (parse file)
-  head-place g c t = ap (λ (r : Head × List ℕ). r.1) (some-injective (g, drop c file) (h, from_rows (parse file)) (sym t.same ∙ head_read))
+  pub head_place : (g : Head) (c : ℕ) → Told head_get file 0 (some (g, c)) → drop c file ≡ from_rows (parse file)
+  head_place g c t = ap (λ (r : Head × List ℕ). r.1) (some-injective (g, drop c file) (h, from_rows (parse file)) (sym t.same ∙ head_read_lem))
 
-  pub head-there : Told head_get file 0 none → ⊥
-  head-there t = none-ne-some _ (sym t.same ∙ head_read)
+  pub head_there : Told head_get file 0 none → ⊥
+  head_there t = none-ne-some _ (sym t.same ∙ head_read_lem)

@@ -9,7 +9,7 @@ use native.Mathlib.Omega.{arith}
 use lib.ListN.{length, get_or, drop, drop_of_length-le}
 use lib.Seq.{drop-cons}
 use Rattle.grids.specs.Rows.{flat, row_at}
-use Rattle.grids.proofs.Rows.{flat-at, length-flat}
+use Rattle.grids.proofs.Rows.{flat_at, length-flat}
 use Rattle.grids.proofs.Shapes.{each-length, each_at, get_or-map}
 use Rattle.pictures.specs.Limits.{most_pixels}
 use Rattle.pictures.specs.declared.sizes.Kind.{Kind}
@@ -17,7 +17,7 @@ use Rattle.pictures.specs.Pictures.{row_bytes, picture_bytes, bytes, pixels}
 use Rattle.pictures.proofs.Buffers.{flats_grid, length-bytes}
 use Rattle.pictures.specs.Numbers.{largest_number, pairs}
 use Rattle.map_rules.specs.Spaces.{map_bytes}
-use Rattle.pictures.proofs.TwoBytes.{pairs-flat, grid_pairs}
+use Rattle.pictures.proofs.TwoBytes.{pairs-flat, grid-pairs}
 use Rattle.text_theory.specs.declared.Head.{Head}
 use Rattle.text_theory.specs.Decimal.{digits}
 use Rattle.text_theory.specs.Files.{parse, each, row_word, map_word, line_text, pixel_text, closed, All, Pixel}
@@ -26,7 +26,7 @@ use Rattle.text_read.specs.declared.cursor.Read.{Read}
 use Rattle.text_read.specs.declared.cursor.Read.TheVariants as reads
 use Rattle.text_read.specs.Answers.{read}
 use Rattle.text_read.specs.Lines.{row_line, map_line, Taken}
-use Rattle.text_read.proofs.Callers.{LineMet, rows_next, maps_next, taken-row, taken-map}
+use Rattle.text_read.proofs.Callers.{LineMet, rows_next, maps-next, taken_row, taken_map}
 use Rattle.file_theory.specs.Shows.{rows_in, maps_in}
 use Rattle.file_read.specs.Inner.Opening.{from_maps, from_rows}
 use Rattle.file_read.proofs.Parsed.{Parsed}
@@ -38,16 +38,16 @@ all_at P (x ∷ xs) (suc r) d a h = all_at P xs r d a.1 (le_of_suc-le-suc h)
 
 -- A line that was read: the place after it, and a space that it fills. A line that stands there is read.
 module _ {text : List ℕ} {at : ℕ} {values rest out : List ℕ} {out' : List ℕ} where
-  pub met-place : (n : ℕ) (c : Cursor) → LineMet text at values rest out (reads.Good n c) out' → drop c.at text ≡ rest
-  met-place n c m =
+  pub met_place : (n : ℕ) (c : Cursor) → LineMet text at values rest out (reads.Good n c) out' → drop c.at text ≡ rest
+  met_place n c m =
       let e : c.at ≡ m.place.at = ap (λ (r : ℕ × ℕ). r.1) (some-injective (n, c.at) (length values, m.place.at) (ap read m.answer)) in
       ap (λ i. drop i text) e ∙ m.left
 
-  pub met-broken : LineMet text at values rest out reads.Broken out' → ⊥
-  met-broken m = none-ne-some _ (ap read m.answer)
+  pub met_broken : LineMet text at values rest out reads.Broken out' → ⊥
+  met_broken m = none-ne-some _ (ap read m.answer)
 
-  pub met-filled : (r : Read) → length values ≡ length out → LineMet text at values rest out r out' → out' ≡ values
-  met-filled r e m = m.space ∙ ap (values ++◌) (drop_of_length-le out {i = length values} (omega arith)) ∙ append-nil values
+  pub met_filled : (r : Read) → length values ≡ length out → LineMet text at values rest out r out' → out' ≡ values
+  met_filled r e m = m.space ∙ ap (values ++◌) (drop_of_length-le out {i = length values} (omega arith)) ∙ append-nil values
 
 -- What stands at the place of row line r, and at that of map line r.
 abbrev pub RowsLeft : List ℕ → Kind → ℕ → ℕ → Type 0
@@ -75,7 +75,7 @@ module _ {file : List ℕ} {h : Head} (k : Parsed file h) where
     row-met a p e t =
         let rows = rows_in (parse file) in
         let there : r < length (rows_in (parse file)) = omega (arith, each-length k.of_size) in
-        taken-row h.size.kind (get_or rows r []) a t
+        taken_row h.size.kind (get_or rows r []) a t
         (p ∙ rw (drop-cons rows r [] there, add-one r) (rows_next h.size.kind (get_or rows r []) (drop (suc r) rows) (from_maps (parse file))))
         (all_at (All (Pixel h.size.kind)) rows r [] k.within.rows there)
         (omega (arith, length-flat (each_at r [] inside k.of_size)))
@@ -85,8 +85,8 @@ module _ {file : List ℕ} {h : Head} (k : Parsed file h) where
     map-met a p e t =
         let maps = maps_in (parse file) in
         let there : r < length (maps_in (parse file)) = omega (arith, each-length k.maps_grid) in
-        taken-map (get_or maps r []) a t
-        (p ∙ rw (drop-cons maps r [] there, add-one r) (maps_next (get_or maps r []) (drop (suc r) maps) closed))
+        taken_map (get_or maps r []) a t
+        (p ∙ rw (drop-cons maps r [] there, add-one r) (maps-next (get_or maps r []) (drop (suc r) maps) closed))
         (all_at (All (λ (v : ℕ). v ≤ largest_number)) maps r [] k.within.maps there)
         (omega (arith, each_at r [] inside k.maps_grid))
 
@@ -94,15 +94,15 @@ module _ {file : List ℕ} {h : Head} (k : Parsed file h) where
     pub row-of-bytes : row_at (row_bytes h.size) r (bytes (rows_in (parse file))) ≡ flat (get_or (rows_in (parse file)) r [])
     unfolding bytes
     row-of-bytes =
-        flat-at (flats_grid k.of_size) r inside ∙ get_or-map flat (rows_in (parse file)) r [] [] (omega (arith, each-length k.of_size))
+        flat_at (flats_grid k.of_size) r inside ∙ get_or-map flat (rows_in (parse file)) r [] [] (omega (arith, each-length k.of_size))
 
     pub row-of-map : row_at h.size.width r (flat (maps_in (parse file))) ≡ get_or (maps_in (parse file)) r []
-    row-of-map = flat-at k.maps_grid r inside
+    row-of-map = flat_at k.maps_grid r inside
 
     pub row-of-pairs : row_at (2 * h.size.width) r (pairs (flat (maps_in (parse file)))) ≡ pairs (get_or (maps_in (parse file)) r [])
     row-of-pairs =
         ap (row_at (2 * h.size.width) r) (pairs-flat (maps_in (parse file)))
-        ∙ flat-at (grid_pairs k.maps_grid) r inside ∙ get_or-map pairs (maps_in (parse file)) r [] [] (omega (arith, each-length k.maps_grid))
+        ∙ flat_at (grid-pairs k.maps_grid) r inside ∙ get_or-map pairs (maps_in (parse file)) r [] [] (omega (arith, each-length k.maps_grid))
 
   -- How many values they have.
   pub pixels_most : pixels h.size ≤ most_pixels
@@ -115,4 +115,4 @@ module _ {file : List ℕ} {h : Head} (k : Parsed file h) where
   map-long = length-flat k.maps_grid
 
   pub pairs-long : length (pairs (flat (maps_in (parse file)))) ≡ map_bytes h.size
-  pairs-long = ap length (pairs-flat (maps_in (parse file))) ∙ length-flat (grid_pairs k.maps_grid)
+  pairs-long = ap length (pairs-flat (maps_in (parse file))) ∙ length-flat (grid-pairs k.maps_grid)

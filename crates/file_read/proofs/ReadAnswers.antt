@@ -30,7 +30,7 @@ use Rattle.file_read.specs.Inner.Lines.{RowsRead}
 use Rattle.file_read.specs.Inner.Checking.{MapJudged}
 use Rattle.file_rules.specs.Spaces.{space_rules}
 use Rattle.file_read.proofs.Parsed.{opened}
-use Rattle.file_read.proofs.Answered.{early-number, early-kept, early-work, own-number, judged-number, judged_work}
+use Rattle.file_read.proofs.Answered.{early_number, early_kept, early_work, own_number, judged-number, judged_work}
 
 -- Spaces that 8 doesn't refuse are long enough.
 pub record Roomy (z : Size) (picture map work : ℕ) : Type 0 where
@@ -48,14 +48,14 @@ roomy z picture map work e =
 
 module _ (file picture map work : List ℕ) where
   -- 1 to 6.
-  pub read-early : (answer : Checked) → OpenGiven file answer → (why : Refusal) → answer ≡ checks.Refused why
+  pub read_early : (answer : Checked) → OpenGiven file answer → (why : Refusal) → answer ≡ checks.Refused why
       → ReadGiven file picture map work answer picture map work
-  read-early answer g why is = record {
-    number = early-number file answer g why is (λ p. space_rules p.head.size (length picture) (length map) (length work) ++ judged_rules p);
+  read_early answer g why is = record {
+    number = early_number file answer g why is (λ p. space_rules p.head.size (length picture) (length map) (length work) ++ judged_rules p);
     head = g.head;
-    picture_given = early-kept file answer g why is _ picture;
-    map_given = early-kept file answer g why is _ map;
-    work_left = early-work file answer g why is (replicate (length work) 0) work;
+    picture_given = early_kept file answer g why is _ picture;
+    map_given = early_kept file answer g why is _ map;
+    work_left = early_work file answer g why is (replicate (length work) 0) work;
   }
 
   module _ (h : Head) (o : Open file h) where
@@ -68,7 +68,7 @@ module _ (file picture map work : List ℕ) where
     read_short v e why is =
         let number : number_of why ≡ refusal (own h) = sym (ap given is) ∙ e in
         record {
-          number = own-number file h o own (number_of why) number (number-some why);
+          number = own_number file h o own (number_of why) number (number-some why);
           head = kept_by why (head_in (parse file)) _;
           picture_given = kept_by why _ picture;
           map_given = kept_by why _ map;

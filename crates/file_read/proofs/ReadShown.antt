@@ -9,7 +9,7 @@ use lib.ListN.{get_or}
 use Rattle.grids.specs.Each.{Grid}
 use Rattle.grids.specs.Rows.{flat, row_at}
 use Rattle.pictures.specs.Refusals.{refusal}
-use Rattle.grids.proofs.Rows.{flat-at}
+use Rattle.grids.proofs.Rows.{flat_at}
 use Rattle.grids.proofs.Shapes.{each-length, get_or-map}
 use Rattle.pictures.specs.Pictures.{channels_of, row_bytes, bytes, OfSize}
 use Rattle.pictures.proofs.Buffers.{flats_grid}
@@ -17,34 +17,34 @@ use Rattle.text_theory.specs.Files.{Parts, parse}
 use Rattle.map_show.specs.Showing.{row_shown}
 use Rattle.file_theory.specs.Rules.{part_rules, form_rules}
 use Rattle.file_theory.specs.Shows.{Accepted, offers_in, offers, head_in, shows, drawn_bytes}
-use Rattle.file_theory.proofs.Accepting.{accepted_shaped, accepted_judged}
+use Rattle.file_theory.proofs.Accepting.{accepted_shaped, accepted-judged}
 use Rattle.file_read.specs.Inner.Checking.{judged_in}
 use Rattle.file_read.specs.Inner.Opening.{Open}
 use Rattle.file_read.proofs.Parsed.{Parsed, opened}
 use Rattle.file_read.proofs.Drawing.{drawn-row}
 
 module _ (f : List ℕ) (p : Parts) (a : Accepted f) (e : parse f ≡ some p) where
-  open-parts : Open f p.head
-  open-parts = record { sound = ap (λ q. refusal (form_rules part_rules q)) e ∙ accepted_shaped f p e a; head_is = ap head_in e }
+  open_parts : Open f p.head
+  open_parts = record { sound = ap (λ q. refusal (form_rules part_rules q)) e ∙ accepted_shaped f p e a; head_is = ap head_in e }
 
   judged-parts : refusal (judged_in (parse f)) ≡ 0
-  judged-parts = ap (λ q. refusal (judged_in q)) e ∙ accepted_judged f p e a
+  judged-parts = ap (λ q. refusal (judged_in q)) e ∙ accepted-judged f p e a
 
   pub read-shown : (v : ℕ) → offers f v ≡ true → (r : ℕ) → r < p.head.size.height
       → row_shown p.head.size.kind (flat (get_or p.rows r [])) (get_or p.maps r []) v ≡ row_at (v * channels_of p.head.size.kind) r (drawn_bytes (shows f v))
   unfolding offers
   read-shown v o r l =
-      rw e at (drawn-row (opened f p.head open-parts) v judged-parts (sym (ap (λ q. offers_in q v) e) ∙ o) r l)
+      rw e at (drawn-row (opened f p.head open_parts) v judged-parts (sym (ap (λ q. offers_in q v) e) ∙ o) r l)
 
   known : Parsed f p.head
-  known = opened f p.head open-parts
+  known = opened f p.head open_parts
 
   -- The same of the buffers that reading fills: row r of the picture's bytes and row r of the map's numbers.
-  pub buffers-shown : (v : ℕ) → offers f v ≡ true → (r : ℕ) → r < p.head.size.height
+  pub buffers_shown : (v : ℕ) → offers f v ≡ true → (r : ℕ) → r < p.head.size.height
       → let z = p.head.size in
       row_shown z.kind (row_at (row_bytes z) r (bytes p.rows)) (row_at z.width r (flat p.maps)) v ≡ row_at (v * channels_of z.kind) r (drawn_bytes (shows f v))
   unfolding bytes
-  buffers-shown v o r l = ap₂ (λ x y. row_shown p.head.size.kind x y v) row_is (flat-at maps r l) ∙ read-shown v o r l
+  buffers_shown v o r l = ap₂ (λ x y. row_shown p.head.size.kind x y v) row_is (flat_at maps r l) ∙ read-shown v o r l
     where
       maps : Grid p.head.size.width p.head.size.height p.maps
       maps = rw e at known.maps_grid
@@ -53,4 +53,4 @@ module _ (f : List ℕ) (p : Parts) (a : Accepted f) (e : parse f ≡ some p) wh
       rows = rw e at known.of_size
 
       row_is : row_at (row_bytes p.head.size) r (bytes p.rows) ≡ flat (get_or p.rows r [])
-      row_is = flat-at (flats_grid rows) r l ∙ get_or-map flat p.rows r [] [] (omega (arith, each-length rows))
+      row_is = flat_at (flats_grid rows) r l ∙ get_or-map flat p.rows r [] [] (omega (arith, each-length rows))

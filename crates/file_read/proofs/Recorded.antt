@@ -27,6 +27,6 @@ module _ (row before : List ℕ) where
       rw (low-is, high_is, add-one (2 * c), n, add-one c, take-suc row c 0 h, pairs-append)
       (sets-eq two now (2 * c) (omega arith) ∙ ap₂ (λ x y. (x ++ two) ++ y) first behind)
 
-  pub recorded-done : (c : ℕ) (now : List ℕ) → c ≡ length row → length before ≤ 2 * length row → RecordedTo c now → now ≡ pairs row
-  recorded-done c now e l so =
+  pub recorded_done : (c : ℕ) (now : List ℕ) → c ≡ length row → length before ≤ 2 * length row → RecordedTo c now → now ≡ pairs row
+  recorded_done c now e l so =
       (rw e at so) ∙ ap₂ (λ x y. pairs x ++ y) (take_all (length row) row (omega arith)) (drop_of_length-le before {i = 2 * length row} l) ∙ append-nil (pairs row)

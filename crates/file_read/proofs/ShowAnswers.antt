@@ -23,7 +23,7 @@ use Rattle.file_read.specs.Inner.Checking.{judged_in, MapJudged}
 use Rattle.file_read.specs.Inner.Widths.{DrawGiven}
 use Rattle.file_rules.specs.Spaces.{offer_rules}
 use Rattle.file_read.proofs.Parsed.{opened}
-use Rattle.file_read.proofs.Answered.{early-number, early-work, own-number, judged-number, judged_work}
+use Rattle.file_read.proofs.Answered.{early_number, early_work, own_number, judged-number, judged_work}
 
 module _ (file : List ℕ) (v : ℕ) (out work : List ℕ) where
   -- A refusal, whatever it leaves in the work space.
@@ -37,10 +37,10 @@ module _ (file : List ℕ) (v : ℕ) (out work : List ℕ) where
   }
 
   -- 1 to 6.
-  pub show-early : (why : Refusal) → OpenGiven file (checks.Refused why) → ShowGiven file v out work (showings.Refused why) out work
-  show-early why g =
-      refused why work (early-number file (checks.Refused why) g why refl (λ p. offer_rules p.head v (length out) (length work) ++ judged_rules p))
-      (early-work file (checks.Refused why) g why refl (replicate (length work) 0) work)
+  pub show_early : (why : Refusal) → OpenGiven file (checks.Refused why) → ShowGiven file v out work (showings.Refused why) out work
+  show_early why g =
+      refused why work (early_number file (checks.Refused why) g why refl (λ p. offer_rules p.head v (length out) (length work) ++ judged_rules p))
+      (early_work file (checks.Refused why) g why refl (replicate (length work) 0) work)
 
   module _ (h : Head) (o : Open file h) where
     abbrev own : Head → List Rule
@@ -51,7 +51,7 @@ module _ (file : List ℕ) (v : ℕ) (out work : List ℕ) where
         → ShowGiven file v out work (showings.Refused why) out work
     show-short d e why is =
         let number : number_of why ≡ refusal (own h) = sym (ap given is) ∙ e in
-        refused why work (own-number file h o own (number_of why) number (number-some why))
+        refused why work (own_number file h o own (number_of why) number (number-some why))
         (sym (worked_not (number_of why) (replicate (length work) 0) work (number-some why) (omega (arith, number, refusal-most 8 (own h) refl))))
 
     module _ (room : refusal (offer_rules h v (length out) (length work)) ≡ 0) where

@@ -19,9 +19,9 @@ use Rattle.grids.proofs.Bools.{both}
 use Rattle.pictures.proofs.Rules.{served-first}
 use Rattle.pictures.proofs.Buffers.{picture_bytes_lem, length-bytes}
 use Rattle.map_theory.specs.Widths.{allowed}
-use Rattle.pictures.proofs.Limits.{bytes_few}
+use Rattle.pictures.proofs.Limits.{bytes-few}
 use Rattle.pictures.specs.Numbers.{pairs, numbers_in}
-use Rattle.pictures.proofs.TwoBytes.{length_pairs, rows_pairs}
+use Rattle.pictures.proofs.TwoBytes.{length_pairs, rows-pairs}
 use Rattle.map_rules.specs.Spaces.{map_bytes, map_space_rules, recorded_at}
 use Rattle.map_rules.proofs.Rooms.{map_bytes_lem, room-served}
 use Rattle.map_check.specs.Checking.{recorded_in, recorded_rules, JudgeInGiven}
@@ -34,8 +34,8 @@ use Rattle.file_read.proofs.Parsed.{Parsed}
 
 module _ (file : List ℕ) (h : Head) (k : Parsed file h) (work : List ℕ) (room : 32 * pixels h.size ≤ length work) where
   -- There is room for the recorded map, and for what stands before it.
-  pub judge-room : recorded_at h.size + map_bytes h.size ≤ length work
-  judge-room = omega (arith, bytes_few h.size, map_bytes_lem h.size)
+  pub judge_room : recorded_at h.size + map_bytes h.size ≤ length work
+  judge_room = omega (arith, bytes-few h.size, map_bytes_lem h.size)
 
   deep : h.depth < h.size.width
   unfolding allowed
@@ -43,7 +43,7 @@ module _ (file : List ℕ) (h : Head) (k : Parsed file h) (work : List ℕ) (roo
 
   -- So nothing up to 8 refuses a space as long as this one.
   none-refused : (n : ℕ) → n ≡ length work → refusal (map_space_rules h.size h.depth n 2) ≡ 0
-  none-refused n e = room-served h.size h.depth n 2 k.sides_served deep (omega (arith, judge-room))
+  none-refused n e = room-served h.size h.depth n 2 k.sides_served deep (omega (arith, judge_room))
 
   -- The picture at the front, and the recorded map in its part of the space.
   module _ (first : List ℕ) (as_long : length first ≡ length work) (is : first ≡ bytes (rows_in (parse file)) ++ drop (picture_bytes h.size) work)
@@ -56,14 +56,14 @@ module _ (file : List ℕ) (h : Head) (k : Parsed file h) (work : List ℕ) (roo
     whole_is = put_part at e first new (omega arith)
 
     front : length (take at first) ≡ at
-    front = length-take-le at first (omega (arith, judge-room))
+    front = length-take-le at first (omega (arith, judge_room))
 
     new_is : new ≡ pairs (flat (maps_in (parse file)))
     new_is =
         let part = mid_of at (e - at) first in
         recorded
         ∙ ap (pairs (flat (maps_in (parse file))) ++◌)
-        (drop_of_length-le part {i = map_bytes h.size} (omega (arith, map_bytes_lem h.size, part_length at e first (omega (arith, judge-room)))))
+        (drop_of_length-le part {i = map_bytes h.size} (omega (arith, map_bytes_lem h.size, part_length at e first (omega (arith, judge_room)))))
         ∙ append-nil (pairs (flat (maps_in (parse file))))
 
     new-long : length new ≡ map_bytes h.size
@@ -85,7 +85,7 @@ module _ (file : List ℕ) (h : Head) (k : Parsed file h) (work : List ℕ) (roo
         ap (λ b. rows_of h.size.width h.size.height (numbers_in b))
         (ap (take (map_bytes h.size)) (ap₂ drop (sym starts) whole_is ∙ drop_at (take at first) (new ++ drop e first) at front)
         ∙ take_at new (drop e first) (map_bytes h.size) new-long ∙ new_is)
-        ∙ rows_pairs k.maps_grid
+        ∙ rows-pairs k.maps_grid
 
     -- So judging it there judges the map of the file.
     pub map-judged : (v : Verdict) (work' : List ℕ) → JudgeInGiven whole h.size h.method h.depth v work' → MapJudged file work v work'

@@ -18,30 +18,30 @@ use Rattle.text_read.specs.Lines.{row_line, map_line, Taken}
 use Rattle.file_theory.specs.Shows.{rows_in, maps_in}
 use Rattle.file_read.proofs.Parsed.{Parsed}
 use Rattle.file_read.proofs.Filled.{FilledTo, filled-step}
-use Rattle.file_read.proofs.Places.{RowsLeft, MapsLeft, met-place, met-broken, met-filled, row-met, map-met, row-of-bytes, row-of-map, row-of-pairs, bytes-long, map-long, pairs-long}
+use Rattle.file_read.proofs.Places.{RowsLeft, MapsLeft, met_place, met_broken, met_filled, row-met, map-met, row-of-bytes, row-of-map, row-of-pairs, bytes-long, map-long, pairs-long}
 
 -- A map line read into a space of just its numbers.
 module _ {file : List ℕ} {h : Head} (k : Parsed file h) (r at : ℕ) (out new : List ℕ)
     (inside : r < h.size.height) (left : MapsLeft file r at) (wide : h.size.width ≡ length out) where
-  pub map-there : Taken map_line file at out (read reads.Broken) new → ⊥
-  map-there t = met-broken (map-met k r inside reads.Broken left wide t)
+  pub map_there : Taken map_line file at out (read reads.Broken) new → ⊥
+  map_there t = met_broken (map-met k r inside reads.Broken left wide t)
 
   pub map_read : (n : ℕ) (c : Cursor) → Taken map_line file at out (read (reads.Good n c)) new → MapsLeft file (r + 1) c.at × (new ≡ get_or (maps_in (parse file)) r [])
   map_read n c t =
       let m = map-met k r inside (reads.Good n c) left wide t in
-      (met-place n c m, met-filled (reads.Good n c) (each_at r [] inside k.maps_grid ∙ wide) m)
+      (met_place n c m, met_filled (reads.Good n c) (each_at r [] inside k.maps_grid ∙ wide) m)
 
 -- A row line read into a space of just its samples.
 module _ {file : List ℕ} {h : Head} (k : Parsed file h) (r at : ℕ) (out new : List ℕ)
     (inside : r < h.size.height) (left : RowsLeft file h.size.kind r at) (wide : row_bytes h.size ≡ length out) where
-  pub row-there : Taken (row_line h.size.kind) file at out (read reads.Broken) new → ⊥
-  row-there t = met-broken (row-met k r inside reads.Broken left wide t)
+  pub row_there : Taken (row_line h.size.kind) file at out (read reads.Broken) new → ⊥
+  row_there t = met_broken (row-met k r inside reads.Broken left wide t)
 
   pub row_read : (n : ℕ) (c : Cursor) → Taken (row_line h.size.kind) file at out (read (reads.Good n c)) new
       → RowsLeft file h.size.kind (r + 1) c.at × (new ≡ flat (get_or (rows_in (parse file)) r []))
   row_read n c t =
       let m = row-met k r inside (reads.Good n c) left wide t in
-      (met-place n c m, met-filled (reads.Good n c) (length-flat (each_at r [] inside k.of_size) ∙ wide) m)
+      (met_place n c m, met_filled (reads.Good n c) (length-flat (each_at r [] inside k.of_size) ∙ wide) m)
 
 -- Into the next part of a space for all rows: samples, numbers, or the bytes of numbers.
 module _ {file : List ℕ} {h : Head} (k : Parsed file h) (s r a e : ℕ) (now new before : List ℕ)
@@ -51,12 +51,12 @@ module _ {file : List ℕ} {h : Head} (k : Parsed file h) (s r a e : ℕ) (now n
   row_put wide is = filled-step (bytes (rows_in (parse file))) before s h.size.height r a e now new
       (bytes-long k ∙ ap (h.size.height *◌) (sym wide)) inside start end (is ∙ rw wide (sym (row-of-bytes k r inside)))
 
-  pub map-put : s ≡ h.size.width → new ≡ get_or (maps_in (parse file)) r []
+  pub map_put : s ≡ h.size.width → new ≡ get_or (maps_in (parse file)) r []
       → FilledTo (flat (maps_in (parse file))) before s r now → FilledTo (flat (maps_in (parse file))) before s (r + 1) (put_mid a (e - a) now new)
-  map-put wide is = filled-step (flat (maps_in (parse file))) before s h.size.height r a e now new
+  map_put wide is = filled-step (flat (maps_in (parse file))) before s h.size.height r a e now new
       (map-long k ∙ ap (h.size.height *◌) (sym wide)) inside start end (is ∙ rw wide (sym (row-of-map k r inside)))
 
-  pub pairs-put : s ≡ 2 * h.size.width → new ≡ pairs (get_or (maps_in (parse file)) r [])
+  pub pairs_put : s ≡ 2 * h.size.width → new ≡ pairs (get_or (maps_in (parse file)) r [])
       → FilledTo (pairs (flat (maps_in (parse file)))) before s r now → FilledTo (pairs (flat (maps_in (parse file)))) before s (r + 1) (put_mid a (e - a) now new)
-  pairs-put wide is = filled-step (pairs (flat (maps_in (parse file)))) before s h.size.height r a e now new
+  pairs_put wide is = filled-step (pairs (flat (maps_in (parse file)))) before s h.size.height r a e now new
       (pairs-long k ∙ ap (h.size.height *◌) (sym wide)) inside start end (is ∙ rw wide (sym (row-of-pairs k r inside)))

@@ -10,11 +10,11 @@ use Rattle.file_rules.specs.Spaces.{work_rules, space_rules, read_space_rules, o
 pub work_smallest : (z : Size) (work : ℕ) → SmallestGiven (work_rules z work)
 work_smallest z work = given-smallest _ refl
 
-pub space_smallest : (z : Size) (picture map work : ℕ) → SmallestGiven (space_rules z picture map work)
-space_smallest z picture map work = given-smallest _ refl
+pub space-smallest : (z : Size) (picture map work : ℕ) → SmallestGiven (space_rules z picture map work)
+space-smallest z picture map work = given-smallest _ refl
 
-pub read_space_smallest : (z : Size) (picture map work : ℕ) → SmallestGiven (read_space_rules z picture map work)
-read_space_smallest z picture map work = given-smallest _ refl
+pub read-space-smallest : (z : Size) (picture map work : ℕ) → SmallestGiven (read_space_rules z picture map work)
+read-space-smallest z picture map work = given-smallest _ refl
 
 pub offer_smallest : (h : Head) (v out work : ℕ) → SmallestGiven (offer_rules h v out work)
 offer_smallest h v out work = given-smallest _ refl
@@ -22,5 +22,5 @@ offer_smallest h v out work = given-smallest _ refl
 pub wanted_smallest : (h : Head) (v out work : ℕ) → SmallestGiven (wanted_rules h v out work)
 wanted_smallest h v out work = given-smallest _ refl
 
-pub build_space_smallest : (h : Head) (bytes work : ℕ) → SmallestGiven (build_space_rules h bytes work)
-build_space_smallest h bytes work = given-smallest _ refl
+pub build_space-smallest : (h : Head) (bytes work : ℕ) → SmallestGiven (build_space_rules h bytes work)
+build_space-smallest h bytes work = given-smallest _ refl

@@ -20,11 +20,11 @@ use Rattle.file_theory.specs.Rules.{part_rules, judged_rules, work_rule}
 use Rattle.file_theory.specs.Shows.{Accepted}
 use Rattle.file_theory.specs.Demands.{AcceptedParts, Built, Shaped}
 use Rattle.file_theory.proofs.Checked.{checked, check_some, check_none, checked_work, room, room-not}
-use Rattle.file_theory.proofs.Shaped.{shaped_is, shaped_picture, built-shaped, built-within}
+use Rattle.file_theory.proofs.Shaped.{shaped_is, shaped_picture, built_shaped, built_within}
 
 -- Accepted is: the text has its form, and neither the parts nor the map are refused.
-pub accepted_parts : (f : List ℕ) → Accepted f ↔ AcceptedParts f
-accepted_parts f = (there, back)
+pub accepted-parts : (f : List ℕ) → Accepted f ↔ AcceptedParts f
+accepted-parts f = (there, back)
   where
     there : Accepted f → AcceptedParts f
     there a = go (parse f) refl
@@ -47,13 +47,13 @@ accepted_parts f = (there, back)
 -- The same of parts that are known.
 pub accepted_shaped : (f : List ℕ) (p : Parts) → parse f ≡ some p → Accepted f → refusal (part_rules p) ≡ 0
 accepted_shaped f p e a =
-    let r = (accepted_parts f).0 a in
+    let r = (accepted-parts f).0 a in
     let q : r.parts ≡ p = some-injective r.parts p (sym r.parsed ∙ e) in
     rw q at r.shaped
 
-pub accepted_judged : (f : List ℕ) (p : Parts) → parse f ≡ some p → Accepted f → refusal (judged_rules p) ≡ 0
-accepted_judged f p e a =
-    let r = (accepted_parts f).0 a in
+pub accepted-judged : (f : List ℕ) (p : Parts) → parse f ≡ some p → Accepted f → refusal (judged_rules p) ≡ 0
+accepted-judged f p e a =
+    let r = (accepted-parts f).0 a in
     let q : r.parts ≡ p = some-injective r.parts p (sym r.parsed ∙ e) in
     rw q at r.judged
 
@@ -66,7 +66,7 @@ judged_built p s =
 -- Accepted are just the files that are built from an allowed picture and an allowed range.
 pub accepted_built : (f : List ℕ) → Accepted f ↔ Built f
 unfolding file_of
-accepted_built f = (λ a. there ((accepted_parts f).0 a), λ b. (accepted_parts f).1 (back b))
+accepted_built f = (λ a. there ((accepted-parts f).0 a), λ b. (accepted-parts f).1 (back b))
   where
     there : AcceptedParts f → Built f
     there r =
@@ -80,10 +80,10 @@ accepted_built f = (λ a. there ((accepted_parts f).0 a), λ b. (accepted_parts 
     back : Built f → AcceptedParts f
     back b =
         let p : Parts = parts_of b.head b.rows in
-        let s : Shaped p = built-shaped b.head b.rows b.picture b.range in
+        let s : Shaped p = built_shaped b.head b.rows b.picture b.range in
         record {
           parts = p;
-          parsed = ap parse b.is ∙ parse-text p (built-within b.head b.rows b.picture b.range);
+          parsed = ap parse b.is ∙ parse-text p (built_within b.head b.rows b.picture b.range);
           shaped = (shaped_is p).1 s;
           judged = (judged_built p s).1 refl;
         }

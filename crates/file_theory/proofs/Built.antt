@@ -16,55 +16,55 @@ use Rattle.file_theory.specs.Contents.{mean_of, parts_of, file_of}
 use Rattle.file_theory.specs.Demands.{Built}
 use Rattle.file_theory.specs.Shows.{offers, sized, shows, original, method_of}
 use Rattle.file_theory.proofs.Shapes.{all-each, each_all}
-use Rattle.file_theory.proofs.Shaped.{built-rows, built-maps, built-numbered, built-within}
+use Rattle.file_theory.proofs.Shaped.{built_rows, built_maps, built_numbered, built_within}
 use Rattle.file_theory.proofs.Heads.{mean-pixel}
 use Rattle.file_theory.proofs.Pixels.{all_shown}
 
 -- What is read back from a file that is built.
 module _ {f : List ℕ} (b : Built f) where
-  pub built-parsed : parse f ≡ some (parts_of b.head b.rows)
+  pub built_parsed : parse f ≡ some (parts_of b.head b.rows)
   unfolding file_of
-  built-parsed = ap parse b.is ∙ parse-text (parts_of b.head b.rows) (built-within b.head b.rows b.picture b.range)
+  built_parsed = ap parse b.is ∙ parse-text (parts_of b.head b.rows) (built_within b.head b.rows b.picture b.range)
 
-  pub built-original : original f ≡ b.head.size.width
+  pub built_original : original f ≡ b.head.size.width
   unfolding original
-  built-original = rw built-parsed
+  built_original = rw built_parsed
 
-  pub built-method : method_of f ≡ some b.head.method
+  pub built_method : method_of f ≡ some b.head.method
   unfolding method_of
-  built-method = rw built-parsed
+  built_method = rw built_parsed
 
-  pub built-offers : (v : ℕ) → offers f v ≡ offered b.head.size.width b.head.depth b.head.growth v
+  pub built_offers : (v : ℕ) → offers f v ≡ offered b.head.size.width b.head.depth b.head.growth v
   unfolding offers
-  built-offers v = rw built-parsed
+  built_offers v = rw built_parsed
 
-  pub built-shows : (v : ℕ) → shows f v
+  pub built_shows : (v : ℕ) → shows f v
       ≡ some (record { size = sized v b.head.size; rows = shown (mean_of b.head) b.head.size.width v b.rows (parts_of b.head b.rows).maps })
   unfolding shows
-  built-shows v = rw built-parsed
+  built_shows v = rw built_parsed
 
   -- At the original width it is the picture.
-  pub built-picture : shows f b.head.size.width ≡ some (record { size = b.head.size; rows = b.rows })
-  built-picture =
-      built-shows b.head.size.width
+  pub built_picture : shows f b.head.size.width ≡ some (record { size = b.head.size; rows = b.rows })
+  built_picture =
+      built_shows b.head.size.width
       ∙ ap (λ (p : Picture). some (record { size = b.head.size; rows = p }))
-      (shown-original (mean_of b.head) (built-rows b.head b.rows b.picture b.range) (built-maps b.head b.rows b.picture b.range))
+      (shown-original (mean_of b.head) (built_rows b.head b.rows b.picture b.range) (built_maps b.head b.rows b.picture b.range))
 
   -- At an offered width it is a picture of this width, of the same kind of pixels.
-  pub built-pixels : (v : ℕ) → offers f v ≡ true
+  pub built_pixels : (v : ℕ) → offers f v ≡ true
       → Each (Each (Pixel b.head.size.kind) v) b.head.size.height (shown (mean_of b.head) b.head.size.width v b.rows (parts_of b.head b.rows).maps)
-  built-pixels v o =
+  built_pixels v o =
       let k = b.head.size.kind in
       let q : List (List ℕ) = (parts_of b.head b.rows).maps in
-      let g = shown-grid (mean_of b.head) b.head.size.width b.head.depth b.head.growth b.range v (sym (built-offers v) ∙ o)
-      (built-rows b.head b.rows b.picture b.range) (built-maps b.head b.rows b.picture b.range) (built-numbered b.head b.rows b.picture b.range) in
+      let g = shown-grid (mean_of b.head) b.head.size.width b.head.depth b.head.growth b.range v (sym (built_offers v) ∙ o)
+      (built_rows b.head b.rows b.picture b.range) (built_maps b.head b.rows b.picture b.range) (built_numbered b.head b.rows b.picture b.range) in
       let a = all_shown (Pixel k) (mean_of b.head) (mean-pixel b.head k) b.head.size.width v b.rows q (all-each (λ row e. all-each (λ px c. c) e) b.picture.pixels) in
       each_all (λ row e c. each_all (λ px u d. d) (each_any v row e) c) g a
 
   -- And a row at one is the row at a greater one with pixels left out.
-  pub built-left-out : (v u r : ℕ) → offers f v ≡ true → offers f u ≡ true → v ≤ u → r < b.head.size.height
+  pub built_left_out : (v u r : ℕ) → offers f v ≡ true → offers f u ≡ true → v ≤ u → r < b.head.size.height
       → LeftOut (u - v) (get_or (shown (mean_of b.head) b.head.size.width v b.rows (parts_of b.head b.rows).maps) r [])
       (get_or (shown (mean_of b.head) b.head.size.width u b.rows (parts_of b.head b.rows).maps) r [])
-  built-left-out v u r o w l h =
-      shown-left-out (mean_of b.head) b.head.size.width b.head.depth b.head.growth b.range v u (sym (built-offers v) ∙ o) (sym (built-offers u) ∙ w) l
-      (built-rows b.head b.rows b.picture b.range) (built-maps b.head b.rows b.picture b.range) (built-numbered b.head b.rows b.picture b.range) r h
+  built_left_out v u r o w l h =
+      shown-left-out (mean_of b.head) b.head.size.width b.head.depth b.head.growth b.range v u (sym (built_offers v) ∙ o) (sym (built_offers u) ∙ w) l
+      (built_rows b.head b.rows b.picture b.range) (built_maps b.head b.rows b.picture b.range) (built_numbered b.head b.rows b.picture b.range) r h

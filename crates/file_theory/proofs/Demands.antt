@@ -12,9 +12,9 @@ use Rattle.grids.proofs.Shapes.{each_weaken}
 use Rattle.pictures.specs.Pictures.{Picture, OfSize}
 use Rattle.energy.specs.declared.methods.Method.{Method}
 use Rattle.energy.proofs.OneMethod.{one_method}
-use Rattle.map_theory.specs.Maps.{carve, mapOf}
-use Rattle.map_theory.specs.Widths.{allowed, offered, growRow, shown, LeftOut}
-use Rattle.map_theory.proofs.Shown.{allowed_is, offered_is, shown_carve}
+use Rattle.map_theory.specs.Maps.{carve, map_of}
+use Rattle.map_theory.specs.Widths.{allowed, offered, grow_row, shown, LeftOut}
+use Rattle.map_theory.proofs.Shown.{allowed_is, offered_is, shown-carve}
 use Rattle.map_theory.proofs.Grown.{shown-grown}
 use Rattle.text_theory.specs.declared.Head.{Head}
 use Rattle.text_theory.specs.Files.{Parts, parse, text}
@@ -25,22 +25,22 @@ use Rattle.file_theory.specs.Shows.{Accepted, offers, Drawn, sized, shows_in, sh
 use Rattle.file_theory.specs.Demands.{AllowedPicture, Built, FileFor, ShownAt}
 use Rattle.file_theory.proofs.Shapes.{all-all}
 use Rattle.file_theory.proofs.Shaped.{shaped_is}
-use Rattle.file_theory.proofs.Accepting.{accepted_shaped, accepted_judged, judged_built, accepted_built}
-use Rattle.file_theory.proofs.Built.{built-original, built-method, built-offers, built-shows, built-picture, built-pixels, built-left-out}
+use Rattle.file_theory.proofs.Accepting.{accepted_shaped, accepted-judged, judged_built, accepted_built}
+use Rattle.file_theory.proofs.Built.{built_original, built_method, built_offers, built_shows, built_picture, built_pixels, built_left_out}
 
 -- Widths that are offered alike are those of the same depth and growth.
-more_range : (m k g l d : ℕ) → allowed m k g ≡ true → allowed m l d ≡ true → ((v : ℕ) → offered m k g v ≡ true → offered m l d v ≡ true) → (k ≤ l) × (g ≤ d)
-more_range m k g l d a b e =
+more-range : (m k g l d : ℕ) → allowed m k g ≡ true → allowed m l d ≡ true → ((v : ℕ) → offered m k g v ≡ true → offered m l d v ≡ true) → (k ≤ l) × (g ≤ d)
+more-range m k g l d a b e =
     let x = ((allowed_is m k g).0 a).0 in
     let y = ((allowed_is m l d).0 b).0 in
     let n = ((offered_is m l d (m - k)).0 (e (m - k) ((offered_is m k g (m - k)).1 (omega arith, omega arith)))).0 in
     let w = ((offered_is m l d (m + g)).0 (e (m + g) ((offered_is m k g (m + g)).1 (omega arith, omega arith)))).1 in
     (omega arith, omega arith)
 
-same_range : (m k g l d : ℕ) → allowed m k g ≡ true → allowed m l d ≡ true → ((v : ℕ) → offered m k g v ≡ offered m l d v) → (k ≡ l) × (g ≡ d)
-same_range m k g l d a b e =
-    let x = more_range m k g l d a b (λ v o. sym (e v) ∙ o) in
-    let y = more_range m l d k g b a (λ v o. e v ∙ o) in
+same-range : (m k g l d : ℕ) → allowed m k g ≡ true → allowed m l d ≡ true → ((v : ℕ) → offered m k g v ≡ offered m l d v) → (k ≡ l) × (g ≡ d)
+same-range m k g l d a b e =
+    let x = more-range m k g l d a b (λ v o. sym (e v) ∙ o) in
+    let y = more-range m l d k g b a (λ v o. e v ∙ o) in
     (omega (arith, x.0, y.0), omega (arith, x.1, y.1))
 
 -- (a) Two accepted files are the same just where they show the same picture at their original width and offer the same widths.
@@ -54,12 +54,12 @@ same-file f g a c = (
     back : Built f → Built g → shows f (original f) ≡ shows g (original g) → ((v : ℕ) → offers f v ≡ offers g v) → f ≡ g
     back x y s o =
         let drawn : ◌≡◌ {A = Drawn} (record { size = x.head.size; rows = x.rows }) (record { size = y.head.size; rows = y.rows }) =
-        some-injective _ _ (sym (ap (shows f) (built-original x) ∙ built-picture x) ∙ s ∙ ap (shows g) (built-original y) ∙ built-picture y) in
+        some-injective _ _ (sym (ap (shows f) (built_original x) ∙ built_picture x) ∙ s ∙ ap (shows g) (built_original y) ∙ built_picture y) in
         let size : x.head.size ≡ y.head.size = ap (λ (d : Drawn). d.size) drawn in
         let rows : x.rows ≡ y.rows = ap (λ (d : Drawn). d.rows) drawn in
         let wide : x.head.size.width ≡ y.head.size.width = ap (λ (z : Size). z.width) size in
-        let range = same_range x.head.size.width x.head.depth x.head.growth y.head.depth y.head.growth
-        x.range (rw (← wide) at y.range) (λ v. sym (built-offers x v) ∙ o v ∙ built-offers y v ∙ ap (λ (n : ℕ). offered n y.head.depth y.head.growth v) (sym wide)) in
+        let range = same-range x.head.size.width x.head.depth x.head.growth y.head.depth y.head.growth
+        x.range (rw (← wide) at y.range) (λ v. sym (built_offers x v) ∙ o v ∙ built_offers y v ∙ ap (λ (n : ℕ). offered n y.head.depth y.head.growth v) (sym wide)) in
         let head : x.head ≡ y.head = λ i. record { size = size i; method = one_method x.head.method y.head.method i; depth = range.0 i; growth = range.1 i } in
         x.is ∙ ap₂ file_of head rows ∙ sym y.is
 
@@ -74,10 +74,10 @@ every-picture z how p k g a r =
       record {
         bytes_are = all-all (λ c l. omega arith) (text (parts_of h p)) (text-ascii (parts_of h p));
         is_accepted = (accepted_built (file_of h p)).1 b;
-        width_is = built-original b;
-        method_is = built-method b;
-        picture_is = built-picture b;
-        widths_are = built-offers b;
+        width_is = built_original b;
+        method_is = built_method b;
+        picture_is = built_picture b;
+        widths_are = built_offers b;
       },
     )
 
@@ -87,9 +87,9 @@ pub left_out : (f : List ℕ) → Accepted f → (v u r : ℕ) → offers f v �
     → (a b : Drawn) → shows f v ≡ some a → shows f u ≡ some b → r < a.size.height → LeftOut (u - v) (get_or a.rows r []) (get_or b.rows r [])
 left_out f c v u r o w l a b s t h =
     let x = (accepted_built f).0 c in
-    let p = some-injective _ _ (sym s ∙ built-shows x v) in
-    let q = some-injective _ _ (sym t ∙ built-shows x u) in
-    rw (p, q) (built-left-out x v u r o w l (rw p at h))
+    let p = some-injective _ _ (sym s ∙ built_shows x v) in
+    let q = some-injective _ _ (sym t ∙ built_shows x u) in
+    rw (p, q) (built_left_out x v u r o w l (rw p at h))
 
 -- At each offered width an accepted file shows a picture,
 pub shows-some : (f : List ℕ) → Accepted f → (v : ℕ) → offers f v ≡ true → ShownAt f v
@@ -97,14 +97,14 @@ shows-some f a v o =
     let x = (accepted_built f).0 a in
     record {
       drawn = record { size = sized v x.head.size; rows = shown (mean_of x.head) x.head.size.width v x.rows (parts_of x.head x.rows).maps };
-      shown = built-shows x v;
+      shown = built_shows x v;
       width = refl;
-      pixels = built-pixels x v o;
+      pixels = built_pixels x v o;
     }
 
 -- of its size, so that its bytes are those of a lent picture;
-pub shown_of_size : (f : List ℕ) → Accepted f → (v : ℕ) → offers f v ≡ true → (a : Drawn) → shows f v ≡ some a → OfSize a.size a.rows
-shown_of_size f h v o a s =
+pub shown-of_size : (f : List ℕ) → Accepted f → (v : ℕ) → offers f v ≡ true → (a : Drawn) → shows f v ≡ some a → OfSize a.size a.rows
+shown-of_size f h v o a s =
     let d = shows-some f h v o in
     let e : a ≡ d.drawn = some-injective _ _ (sym s ∙ d.shown) in
     rw (e, d.width) (each_weaken (λ row g. each_weaken (λ px q. q.count) g) d.pixels)
@@ -129,8 +129,8 @@ unfolding shows
 shows-cut f p a e t l =
     let s = (shaped_is p).0 (accepted_shaped f p e a) in
     let d = ((allowed_is p.head.size.width p.head.depth p.head.growth).0 s.range).0 in
-    let c = shown_carve (mean_of p.head) (choose_of p.head) (head_chooses p.head) t p.head.depth p.head.size.width p.head.size.height p.rows s.rows l (omega arith) in
-    rw (e, (judged_built p s).0 (accepted_judged f p e a), c)
+    let c = shown-carve (mean_of p.head) (choose_of p.head) (head_chooses p.head) t p.head.depth p.head.size.width p.head.size.height p.rows s.rows l (omega arith) in
+    rw (e, (judged_built p s).0 (accepted-judged f p e a), c)
 
 -- and at width m + u the original with the first u of these seams doubled.
 pub shows-grown : (f : List ℕ) (p : Parts) → Accepted f → parse f ≡ some p → (u : ℕ) → 1 ≤ u → u ≤ p.head.growth
@@ -138,11 +138,11 @@ pub shows-grown : (f : List ℕ) (p : Parts) → Accepted f → parse f ≡ some
     ≡ some
     (record {
       size = sized (p.head.size.width + u) p.head.size;
-      rows = zip_with (growRow (mean_of p.head) u) p.rows (mapOf (choose_of p.head) u p.head.size.width p.head.size.height p.rows);
+      rows = zip_with (grow_row (mean_of p.head) u) p.rows (map_of (choose_of p.head) u p.head.size.width p.head.size.height p.rows);
     })
 unfolding shows
 shows-grown f p a e u l g =
     let s = (shaped_is p).0 (accepted_shaped f p e a) in
     let d = (allowed_is p.head.size.width p.head.depth p.head.growth).0 s.range in
     let c = shown-grown (mean_of p.head) (choose_of p.head) (head_chooses p.head) u p.head.depth p.head.size.width p.head.size.height p.rows s.rows l (omega (arith, d.1)) (omega (arith, d.0)) in
-    rw (e, (judged_built p s).0 (accepted_judged f p e a), c)
+    rw (e, (judged_built p s).0 (accepted-judged f p e a), c)

@@ -10,7 +10,7 @@ use Rattle.grids.proofs.Shapes.{grid_of}
 use Rattle.seam_theory.specs.Paths.{run}
 use Rattle.pictures.specs.declared.sizes.Kind.{Kind}
 use Rattle.pictures.specs.Pictures.{Picture, OfSize}
-use Rattle.map_theory.specs.Maps.{insert_at, later, number_row, mapOf}
+use Rattle.map_theory.specs.Maps.{insert_at, later, number_row, map_of}
 use Rattle.map_theory.specs.Judged.{column_of, Numbering, lower_row}
 use Rattle.map_theory.proofs.Lowered.{number-lower_row, length-lower_row}
 use Rattle.map_theory.proofs.Numberings.{numbering_none, numbering_lower}
@@ -76,16 +76,16 @@ unfolding spaced
 zero_spaced = rw (digits_small 0 (omega arith))
 
 -- A row of m numbers of which the depth is k: the numbers 1 to k, and m - k zeros.
-pub row_total : (k m : ℕ) (ys : List ℕ) → length ys ≡ m → Numbering k ys → total spaced ys ≡ total spaced (run 1 k) + 2 * (m - k)
-row_total k m ys e n =
+pub row-total : (k m : ℕ) (ys : List ℕ) → length ys ≡ m → Numbering k ys → total spaced ys ≡ total spaced (run 1 k) + 2 * (m - k)
+row-total k m ys e n =
     let t : total spaced ys + k * 2 ≡ total spaced (run 1 k) + length ys * 2 = rw zero_spaced at (total_numbering k spaced ys n) in
     omega (arith, t, zeros_numbering k ys n)
 
-maps_total : {k m n : ℕ} {q : List (List ℕ)} → Grid m n q → Each (Numbering k) n q → total map_length q ≡ n * (total spaced (run 1 k) + 2 * (m - k) + 6)
+maps-total : {k m n : ℕ} {q : List (List ℕ)} → Grid m n q → Each (Numbering k) n q → total map_length q ≡ n * (total spaced (run 1 k) + 2 * (m - k) + 6)
 unfolding total map_length
-maps_total {k} {m} none none = sym (zero-mul (total spaced (run 1 k) + 2 * (m - k) + 6))
-maps_total {k} {m} (more {n = n} {x = ys} e g) (more u q) =
-    omega (arith, row_total k m ys e u, maps_total g q, suc-mul n (total spaced (run 1 k) + 2 * (m - k) + 6))
+maps-total {k} {m} none none = sym (zero-mul (total spaced (run 1 k) + 2 * (m - k) + 6))
+maps-total {k} {m} (more {n = n} {x = ys} e g) (more u q) =
+    omega (arith, row-total k m ys e u, maps-total g q, suc-mul n (total spaced (run 1 k) + 2 * (m - k) + 6))
 
 row_line_lem : (k : Kind) (row : List (List ℕ)) → Counted k row → length row_word + length (line_text (pixel_text k) row) ≡ row_length k row
 unfolding row_text
@@ -104,10 +104,10 @@ file-length h p o d =
     let k : ℕ = h.depth in
     let m : ℕ = h.size.width in
     let n : ℕ = h.size.height in
-    let q : List (List ℕ) = mapOf (choose_of h) k m n p in
+    let q : List (List ℕ) = map_of (choose_of h) k m n p in
     let g : Grid m n p = grid_of o in
     let c : Kind = h.size.kind in
     let rows = each-length row_word (line_text (pixel_text c)) (row_length c) (Counted c) (row_line_lem c) p (all-each (λ row e. all-each (λ px l. l) e) o) in
     let maps = each-length map_word (line_text digits) map_length (λ a. Unit) (λ a u. map_line_lem a) q (all-each {Q = λ a. Unit} (λ a e. tt) (map-grid (choose_of h) (head_chooses h) k m n p g d)) in
     simp length-append
-    (omega (arith, head_length_lem h, rows, maps, maps_total (map-grid (choose_of h) (head_chooses h) k m n p g d) (map-numbered (choose_of h) (head_chooses h) k m n p g d)))
+    (omega (arith, head_length_lem h, rows, maps, maps-total (map-grid (choose_of h) (head_chooses h) k m n p g d) (map-numbered (choose_of h) (head_chooses h) k m n p g d)))

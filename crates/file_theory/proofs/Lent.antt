@@ -13,7 +13,7 @@ use Rattle.pictures.specs.Refusals.{Rule, ◌when◌, refusal}
 use Rattle.pictures.specs.Pictures.{channels_of, row_bytes, size_rules, picture}
 use Rattle.pictures.proofs.Rules.{served-both, passed}
 use Rattle.pictures.proofs.Limits.{sides_served, sized_is}
-use Rattle.pictures.proofs.Buffers.{picture_of_size}
+use Rattle.pictures.proofs.Buffers.{picture-of_size}
 use Rattle.map_theory.specs.Widths.{allowed}
 use Rattle.text_theory.specs.declared.Head.{Head}
 use Rattle.text_theory.specs.Files.{All}
@@ -35,24 +35,24 @@ module _ {A : Type 0} (P : A → Type 0) where
   all_drop (suc n) [] a = tt
   all_drop (suc n) (x ∷ xs) a = all_drop n xs a.1
 
-  all_rows : (w n : ℕ) (xs : List A) → All P xs → All (All P) (rows_of w n xs)
-  all_rows w zero xs a = tt
-  all_rows w (suc n) xs a = (all_take w xs a, all_rows w n (drop w xs) (all_drop w xs a))
+  all-rows : (w n : ℕ) (xs : List A) → All P xs → All (All P) (rows_of w n xs)
+  all-rows w zero xs a = tt
+  all-rows w (suc n) xs a = (all_take w xs a, all-rows w n (drop w xs) (all_drop w xs a))
 
   all-pixels : (c w : ℕ) (rows : List (List A)) → All (All P) rows → All (All (All P)) (map (rows_of c w) rows)
   all-pixels c w [] a = tt
-  all-pixels c w (x ∷ rows) a = (all_rows c w x a.0, all-pixels c w rows a.1)
+  all-pixels c w (x ∷ rows) a = (all-rows c w x a.0, all-pixels c w rows a.1)
 
 -- A buffer of bytes that 2, 3 and 4 don't refuse.
 pub lent_allowed : (z : Size) (b : List ℕ) → All (λ (a : ℕ). a < 256) b → refusal (size_rules z (length b)) ≡ 0 → AllowedPicture z (picture z b)
 unfolding picture
 lent_allowed z b a e =
     let small : All (λ (v : ℕ). v ≤ 255) b = all-all (λ v l. omega arith) b a in
-    let rows = all_rows (λ (v : ℕ). v ≤ 255) (row_bytes z) z.height b small in
+    let rows = all-rows (λ (v : ℕ). v ≤ 255) (row_bytes z) z.height b small in
     let all = all-pixels (λ (v : ℕ). v ≤ 255) (channels_of z.kind) z.width (rows_of (row_bytes z) z.height b) rows in
     record {
       sides = sides_served z (length b) e;
-      pixels = each_all (λ row g c. each_all (λ px l s. record { count = l; small = s }) g c) (picture_of_size z b (sized_is z (length b) e).length_is) all;
+      pixels = each_all (λ row g c. each_all (λ px l s. record { count = l; small = s }) g c) (picture-of_size z b (sized_is z (length b) e).length_is) all;
     }
 
 -- Building from it isn't refused: then neither the picture nor the range is, and what it gives is a file that is built.
@@ -66,21 +66,21 @@ module _ (b : List ℕ) (h : Head) (out work : ℕ) (e : refusal (build_rules b 
   both : (refusal (size_rules h.size (length b)) ≡ 0) × (refusal (6 when not ranged ∷ rooms) ≡ 0)
   both = served-both (size_rules h.size (length b)) (6 when not ranged ∷ rooms) refl e
 
-  pub lent-sized : refusal (size_rules h.size (length b)) ≡ 0
-  lent-sized = both.0
+  pub lent_sized : refusal (size_rules h.size (length b)) ≡ 0
+  lent_sized = both.0
 
-  pub lent-ranged : allowed h.size.width h.depth h.growth ≡ true
-  lent-ranged = not-false ranged (passed (not ranged) 5 (refusal rooms) both.1).0
+  pub lent_ranged : allowed h.size.width h.depth h.growth ≡ true
+  lent_ranged = not-false ranged (passed (not ranged) 5 (refusal rooms) both.1).0
 
-  unfoldable pub lent-built : All (λ (a : ℕ). a < 256) b → Built (file_of h (picture h.size b))
-  lent-built small = record {
+  unfoldable pub lent_built : All (λ (a : ℕ). a < 256) b → Built (file_of h (picture h.size b))
+  lent_built small = record {
     head = h;
     rows = picture h.size b;
-    picture = lent_allowed h.size b small lent-sized;
-    range = lent-ranged;
+    picture = lent_allowed h.size b small lent_sized;
+    range = lent_ranged;
     is = refl;
   }
 
 -- What building gives where nothing is refused is accepted.
 pub build_accepted : (b : List ℕ) (h : Head) (out work : ℕ) → All (λ (a : ℕ). a < 256) b → refusal (build_rules b h out work) ≡ 0 → Accepted (file_of h (picture h.size b))
-build_accepted b h out work small e = (accepted_built (file_of h (picture h.size b))).1 (lent-built b h out work e small)
+build_accepted b h out work small e = (accepted_built (file_of h (picture h.size b))).1 (lent_built b h out work e small)

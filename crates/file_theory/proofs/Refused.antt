@@ -17,7 +17,7 @@ use Rattle.file_theory.specs.Rules.{part_rules, judged_rules, work_rule, check_r
 use Rattle.file_theory.specs.Shows.{Accepted, offers}
 use Rattle.file_theory.specs.Demands.{AcceptedParts}
 use Rattle.file_theory.proofs.Checked.{checked, check_some, zero_or}
-use Rattle.file_theory.proofs.Accepting.{accepted_parts}
+use Rattle.file_theory.proofs.Accepting.{accepted-parts}
 
 -- An operation on parts, whose own rules stand after those of the parts and before the others.
 abbrev operated : Parts → List Rule → ℕ → ℕ
@@ -55,8 +55,8 @@ read-checked f picture map work h = go (parse f) refl
     go (some p) e = check_some f p work e ∙ operated-checked p (read_own p picture map) work refl (rw e at h)
 
 -- What is checked with success in one work space is accepted in each.
-pub checked_accepted : (f : List ℕ) (work : ℕ) → refusal (check_rules f work) ≡ 0 → Accepted f
-checked_accepted f work h = (accepted_parts f).1 (go (parse f) refl)
+pub checked-accepted : (f : List ℕ) (work : ℕ) → refusal (check_rules f work) ≡ 0 → Accepted f
+checked-accepted f work h = (accepted-parts f).1 (go (parse f) refl)
   where
     go : (o : Option Parts) → parse f ≡ o → AcceptedParts f
     go none e = let z : ◌≡◌ {A = ℕ} 1 0 = rw e at h in absurd (omega arith)
@@ -74,8 +74,8 @@ accepted_work f a work n =
 pub refused_others : (f : List ℕ) (work : ℕ) → 0 < refusal (check_rules f work) → (refusal (check_rules f work) ≡ 8 → ⊥)
     → ((v out other : ℕ) → 0 < refusal (show_rules f v out other)) × ((picture map other : ℕ) → 0 < refusal (read_rules f picture map other))
 refused_others f work l n = (
-  λ v out other. some (λ z. checked_accepted f other (show_checked f v out other z)),
-  λ picture map other. some (λ z. checked_accepted f other (read-checked f picture map other z)),
+  λ v out other. some (λ z. checked-accepted f other (show_checked f v out other z)),
+  λ picture map other. some (λ z. checked-accepted f other (read-checked f picture map other z)),
 )
   where
     some : {r : ℕ} → (r ≡ 0 → Accepted f) → 0 < r
@@ -89,7 +89,7 @@ eight false h = h
 -- An accepted file at an offered width: shown, or refused by 8.
 module _ (f : List ℕ) (a : Accepted f) where
   parts : AcceptedParts f
-  parts = (accepted_parts f).0 a
+  parts = (accepted-parts f).0 a
 
   pub accepted-shows : (v : ℕ) → offers f v ≡ true → (out work : ℕ) → (refusal (show_rules f v out work) ≡ 0) ⊎ (refusal (show_rules f v out work) ≡ 8)
   unfolding offers
@@ -101,17 +101,17 @@ module _ (f : List ℕ) (a : Accepted f) where
       (rw (w, parts.judged) (eight (ltb out (p.head.size.height * (v * channels_of p.head.size.kind))) (eight (ltb work (32 * pixels p.head.size)) (inl refl)))))
 
   -- at another width: refused by 7;
-  pub accepted-wanted : (v : ℕ) → offers f v ≡ false → (out work : ℕ) → refusal (show_rules f v out work) ≡ 7
+  pub accepted_wanted : (v : ℕ) → offers f v ≡ false → (out work : ℕ) → refusal (show_rules f v out work) ≡ 7
   unfolding offers
-  accepted-wanted v o out work =
+  accepted_wanted v o out work =
       let p : Parts = parts.parts in
       let w : offered p.head.size.width p.head.depth p.head.growth v ≡ false = rw parts.parsed at o in
       rw parts.parsed
       (served-first (part_rules p) (show_own p v out ++ (work_rule p.head.size work ∷ judged_rules p)) refl parts.shaped ∙ rw w)
 
   -- and read: given, or refused by 8.
-  pub accepted-reads : (picture map work : ℕ) → (refusal (read_rules f picture map work) ≡ 0) ⊎ (refusal (read_rules f picture map work) ≡ 8)
-  accepted-reads picture map work =
+  pub accepted_reads : (picture map work : ℕ) → (refusal (read_rules f picture map work) ≡ 0) ⊎ (refusal (read_rules f picture map work) ≡ 8)
+  accepted_reads picture map work =
       let p : Parts = parts.parts in
       rw parts.parsed
       (rw (served-first (part_rules p) (read_own p picture map ++ (work_rule p.head.size work ∷ judged_rules p)) refl parts.shaped)

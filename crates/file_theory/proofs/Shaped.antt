@@ -63,8 +63,8 @@ shaped_picture p i s = record {
   pixels = each_all (λ row e a. each_all (λ px u q. q) (each_any p.head.size.width row e) a) s.rows i.rows;
 }
 
-pub allowed_of_size : (z : Size) (p : Picture) → AllowedPicture z p → OfSize z p
-allowed_of_size z p a = each_weaken (λ row e. each_weaken (λ px q. q.count) e) a.pixels
+pub allowed-of_size : (z : Size) (p : Picture) → AllowedPicture z p → OfSize z p
+allowed-of_size z p a = each_weaken (λ row e. each_weaken (λ px q. q.count) e) a.pixels
 
 numbers_small : (k : ℕ) (ys : List ℕ) → k ≤ largest_number → every (λ v. leb v k) ys ≡ true → All (λ (v : ℕ). v ≤ largest_number) ys
 numbers_small k [] l e = tt
@@ -74,29 +74,29 @@ numbers_small k (v ∷ ys) l e =
 
 -- The parts of an allowed picture at an allowed range are so, and have a text.
 module _ (h : Head) (p : Picture) (a : AllowedPicture h.size p) (range : allowed h.size.width h.depth h.growth ≡ true) where
-  pub built-rows : Grid h.size.width h.size.height p
-  built-rows = grid_of a.pixels
+  pub built_rows : Grid h.size.width h.size.height p
+  built_rows = grid_of a.pixels
 
-  pub built-depth : h.depth < h.size.width
-  built-depth = ((allowed_is h.size.width h.depth h.growth).0 range).0
+  pub built_depth : h.depth < h.size.width
+  built_depth = ((allowed_is h.size.width h.depth h.growth).0 range).0
 
-  pub built-maps : Grid h.size.width h.size.height (parts_of h p).maps
-  built-maps = map-grid (choose_of h) (head_chooses h) h.depth h.size.width h.size.height p built-rows (omega (arith, built-depth))
+  pub built_maps : Grid h.size.width h.size.height (parts_of h p).maps
+  built_maps = map-grid (choose_of h) (head_chooses h) h.depth h.size.width h.size.height p built_rows (omega (arith, built_depth))
 
-  pub built-numbered : Each (Numbering h.depth) h.size.height (parts_of h p).maps
-  built-numbered = map-numbered (choose_of h) (head_chooses h) h.depth h.size.width h.size.height p built-rows (omega (arith, built-depth))
+  pub built_numbered : Each (Numbering h.depth) h.size.height (parts_of h p).maps
+  built_numbered = map-numbered (choose_of h) (head_chooses h) h.depth h.size.width h.size.height p built_rows (omega (arith, built_depth))
 
-  pub built-shaped : Shaped (parts_of h p)
-  built-shaped = record { sides = a.sides; rows = built-rows; maps = built-maps; range = range }
+  pub built_shaped : Shaped (parts_of h p)
+  built_shaped = record { sides = a.sides; rows = built_rows; maps = built_maps; range = range }
 
-  pub built-within : Within (parts_of h p)
-  built-within =
+  pub built_within : Within (parts_of h p)
+  built_within =
       let s = sides_are h.size a.sides in
       let w = s.width_most in
-      let d = built-depth in
+      let d = built_depth in
       let g = ((allowed_is h.size.width h.depth h.growth).0 range).1 in
       record {
         head = record { width = omega arith; height = omega (arith, s.height_most); depth = omega arith; growth = omega arith };
         rows = all-each (λ row e. all-each (λ px q. q) e) a.pixels;
-        maps = all-each (λ ys n. numbers_small h.depth ys (omega arith) (numbering_most h.depth ys n)) built-numbered;
+        maps = all-each (λ ys n. numbers_small h.depth ys (omega arith) (numbering_most h.depth ys n)) built_numbered;
       }

@@ -13,7 +13,7 @@ use Rattle.pictures.proofs.Limits.{sides_are}
 use Rattle.map_theory.specs.Judged.{every, numbers, before, recorded}
 use Rattle.map_theory.proofs.Tests.{every-each}
 use Rattle.map_theory.proofs.Numberings.{numbers_is}
-use Rattle.map_theory.proofs.Judged.{judged-is, chosen-only}
+use Rattle.map_theory.proofs.Judged.{judged_is, chosen-only}
 use Rattle.map_theory.proofs.Shown.{allowed_is}
 use Rattle.energy.specs.declared.methods.Method.{Method}
 use Rattle.text_theory.specs.Files.{Parts, parse}
@@ -27,7 +27,7 @@ use Rattle.file_theory.specs.Demands.{WellFormed, WellFormedParts, Shaped}
 use Rattle.file_theory.proofs.Heads.{head_chooses}
 use Rattle.file_theory.proofs.Checked.{checked, check_some, check_none, checked_refused, checked_work, room, judged-numbered, zero_or, room-not}
 use Rattle.file_theory.proofs.Shaped.{shaped_is}
-use Rattle.file_theory.proofs.Accepting.{accepted_parts, accepted_judged, judged_built}
+use Rattle.file_theory.proofs.Accepting.{accepted-parts, accepted-judged, judged_built}
 
 -- Well-formed is the same without 10 and 11.
 pub well_formed_parts : (f : List ℕ) → WellFormed f ↔ WellFormedParts f
@@ -113,12 +113,12 @@ module _ (f : List ℕ) (p : Parts) (e : parse f ≡ some p) (u : WellFormed f) 
   chosen-accepted c =
       let t : every (numbers k) p.maps ≡ true = rw q at r.numbered in
       let j = every-each (numbers k) (λ y. (numbers_is k y).0) s.maps t in
-      (accepted_parts f).1
+      (accepted-parts f).1
       (record { parts = p; parsed = e; shaped = z; judged = (judged_built p s).1 (chosen-only (choose_of p.head) (head_chooses p.head) m n k p.rows p.maps s.rows s.maps (omega (arith, deep)) j c) })
 
   -- It is accepted just where each seam that its map records is the one found in the picture then left,
   pub accepted-seams : Accepted f ↔ ((t : ℕ) → 1 ≤ t → t ≤ k → recorded t p.maps ≡ choose_of p.head (m + 1 - t) n (before t p.rows p.maps))
-  accepted-seams = (λ a. ((judged-is (near_of p.head) (choose_of p.head) m n k p.rows p.maps s.maps).0 (accepted_judged f p e a)).chosen, chosen-accepted)
+  accepted-seams = (λ a. ((judged_is (near_of p.head) (choose_of p.head) m n k p.rows p.maps s.maps).0 (accepted-judged f p e a)).chosen, chosen-accepted)
 
   -- that is: for each t from 1 to k the recorded seam t is connected, no connected path through the picture then left is
   -- cheaper, and among equally cheap ones it comes first, read from the bottom row upward.

@@ -4,7 +4,7 @@ use Rattle.pictures.specs.Pictures.{Picture}
 use Rattle.energy.specs.Methods.{wrap_of}
 use Rattle.seam_theory.specs.Paths.{near}
 use Rattle.seam_theory.specs.Choices.{Choice}
-use Rattle.map_theory.specs.Maps.{mapOf}
+use Rattle.map_theory.specs.Maps.{map_of}
 use Rattle.map_theory.specs.Widths.{average}
 use Rattle.text_theory.specs.declared.Head.{Head}
 use Rattle.text_theory.specs.Files.{Parts, text}
@@ -23,7 +23,7 @@ mean_of h = average
 
 -- The head, the picture's rows, and the rows of its map of the head's depth.
 abbrev pub parts_of : Head → Picture → Parts
-parts_of h p = record { head = h; rows = p; maps = mapOf (choose_of h) h.depth h.size.width h.size.height p }
+parts_of h p = record { head = h; rows = p; maps = map_of (choose_of h) h.depth h.size.width h.size.height p }
 
 -- The file that is built: their text.
 unfoldable pub file_of : Head → Picture → List ℕ

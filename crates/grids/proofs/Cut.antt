@@ -13,58 +13,58 @@ use Rattle.grids.specs.Cut.{remove_at, cut}
 use Rattle.grids.proofs.Tables.{length-table, table_at}
 
 module _ {A : Type 0} where
-  pub length-removeAt : (i : ℕ) (xs : List A) → i < length xs → suc (length (remove_at i xs)) ≡ length xs
+  pub length-remove_at : (i : ℕ) (xs : List A) → i < length xs → suc (length (remove_at i xs)) ≡ length xs
   unfolding remove_at
-  length-removeAt i [] h = absurd (omega arith)
-  length-removeAt zero (x ∷ xs) h = refl
-  length-removeAt (suc i) (x ∷ xs) h = ap suc (length-removeAt i xs (le_of_suc-le-suc h))
+  length-remove_at i [] h = absurd (omega arith)
+  length-remove_at zero (x ∷ xs) h = refl
+  length-remove_at (suc i) (x ∷ xs) h = ap suc (length-remove_at i xs (le_of_suc-le-suc h))
 
-  pub removeAt-past : (i : ℕ) (xs : List A) → length xs ≤ i → remove_at i xs ≡ xs
+  pub remove_at-past : (i : ℕ) (xs : List A) → length xs ≤ i → remove_at i xs ≡ xs
   unfolding remove_at
-  removeAt-past i [] h = refl
-  removeAt-past zero (x ∷ xs) h = absurd (omega arith)
-  removeAt-past (suc i) (x ∷ xs) h = ap (x ∷◌) (removeAt-past i xs (le_of_suc-le-suc h))
+  remove_at-past i [] h = refl
+  remove_at-past zero (x ∷ xs) h = absurd (omega arith)
+  remove_at-past (suc i) (x ∷ xs) h = ap (x ∷◌) (remove_at-past i xs (le_of_suc-le-suc h))
 
   -- What stands before the element, and what stands after it.
-  pub removeAt-parts : (i : ℕ) (xs : List A) → remove_at i xs ≡ take i xs ++ drop (suc i) xs
+  pub remove_at-parts : (i : ℕ) (xs : List A) → remove_at i xs ≡ take i xs ++ drop (suc i) xs
   unfolding remove_at
-  removeAt-parts zero [] = refl
-  removeAt-parts (suc i) [] = refl
-  removeAt-parts zero (x ∷ xs) = refl
-  removeAt-parts (suc i) (x ∷ xs) = ap (x ∷◌) (removeAt-parts i xs)
+  remove_at-parts zero [] = refl
+  remove_at-parts (suc i) [] = refl
+  remove_at-parts zero (x ∷ xs) = refl
+  remove_at-parts (suc i) (x ∷ xs) = ap (x ∷◌) (remove_at-parts i xs)
 
   -- Elements before it keep their place, those after it move down by one.
-  pub removeAt-below : (i : ℕ) (xs : List A) (j : ℕ) (d : A) → j < i → get_or (remove_at i xs) j d ≡ get_or xs j d
+  pub remove_at-below : (i : ℕ) (xs : List A) (j : ℕ) (d : A) → j < i → get_or (remove_at i xs) j d ≡ get_or xs j d
   unfolding remove_at
-  removeAt-below i [] j d h = refl
-  removeAt-below zero (x ∷ xs) j d h = absurd (omega arith)
-  removeAt-below (suc i) (x ∷ xs) zero d h = refl
-  removeAt-below (suc i) (x ∷ xs) (suc j) d h = removeAt-below i xs j d (le_of_suc-le-suc h)
+  remove_at-below i [] j d h = refl
+  remove_at-below zero (x ∷ xs) j d h = absurd (omega arith)
+  remove_at-below (suc i) (x ∷ xs) zero d h = refl
+  remove_at-below (suc i) (x ∷ xs) (suc j) d h = remove_at-below i xs j d (le_of_suc-le-suc h)
 
-  pub removeAt-from : (i : ℕ) (xs : List A) (j : ℕ) (d : A) → i ≤ j → get_or (remove_at i xs) j d ≡ get_or xs (suc j) d
+  pub remove_at-from : (i : ℕ) (xs : List A) (j : ℕ) (d : A) → i ≤ j → get_or (remove_at i xs) j d ≡ get_or xs (suc j) d
   unfolding remove_at
-  removeAt-from i [] j d h = refl
-  removeAt-from zero (x ∷ xs) j d h = refl
-  removeAt-from (suc i) (x ∷ xs) zero d h = absurd (omega arith)
-  removeAt-from (suc i) (x ∷ xs) (suc j) d h = removeAt-from i xs j d (le_of_suc-le-suc h)
+  remove_at-from i [] j d h = refl
+  remove_at-from zero (x ∷ xs) j d h = refl
+  remove_at-from (suc i) (x ∷ xs) zero d h = absurd (omega arith)
+  remove_at-from (suc i) (x ∷ xs) (suc j) d h = remove_at-from i xs j d (le_of_suc-le-suc h)
 
   -- A row of one element less, with the elements of the row.
-  pub removeAt-each : {P : A → Type 0} {n : ℕ} {xs : List A} (i : ℕ) → i < suc n → Each P (suc n) xs → Each P n (remove_at i xs)
+  pub remove_at-each : {P : A → Type 0} {n : ℕ} {xs : List A} (i : ℕ) → i < suc n → Each P (suc n) xs → Each P n (remove_at i xs)
   unfolding remove_at
-  removeAt-each zero h (more p e) = e
-  removeAt-each {n = zero} (suc i) h (more p e) = absurd (omega arith)
-  removeAt-each {n = suc n} (suc i) h (more p e) = more p (removeAt-each i (le_of_suc-le-suc h) e)
+  remove_at-each zero h (more p e) = e
+  remove_at-each {n = zero} (suc i) h (more p e) = absurd (omega arith)
+  remove_at-each {n = suc n} (suc i) h (more p e) = more p (remove_at-each i (le_of_suc-le-suc h) e)
 
   -- The grid left is again a grid, one column narrower, with the elements of the grid.
   pub cut-each : {P : A → Type 0} {w n : ℕ} {s : List ℕ} {p : List (List A)} → Each (λ c. c < suc w) n s → Each (Each P (suc w)) n p → Each (Each P w) n (cut s p)
   unfolding cut zip_with
   cut-each none none = none
-  cut-each (more {x = c} h s) (more x g) = more (removeAt-each c h x) (cut-each s g)
+  cut-each (more {x = c} h s) (more x g) = more (remove_at-each c h x) (cut-each s g)
 
   -- The same of a width that isn't written as one more.
-  pub cut-narrower : {P : A → Type 0} (w : ℕ) {n : ℕ} {s : List ℕ} {p : List (List A)} → 1 < w → Each (λ c. c < w) n s → Each (Each P w) n p → Each (Each P (w - 1)) n (cut s p)
-  cut-narrower zero h s p = absurd (omega arith)
-  cut-narrower (suc w) h s p = let e : suc w - 1 ≡ w = omega arith in rw e (cut-each s p)
+  pub cut_narrower : {P : A → Type 0} (w : ℕ) {n : ℕ} {s : List ℕ} {p : List (List A)} → 1 < w → Each (λ c. c < w) n s → Each (Each P w) n p → Each (Each P (w - 1)) n (cut s p)
+  cut_narrower zero h s p = absurd (omega arith)
+  cut_narrower (suc w) h s p = let e : suc w - 1 ≡ w = omega arith in rw e (cut-each s p)
 
   -- Row r of the grid left.
   pub cut_at : (s : List ℕ) (p : List (List A)) (r : ℕ) → length s ≡ length p → get_or (cut s p) r [] ≡ remove_at (get_or s r 0) (get_or p r [])
@@ -91,12 +91,12 @@ module _ {A : Type 0} where
       (λ r h. cut_at s p r (e ∙ sym l) ∙ sym (table_at f n r [] (omega arith)))
 
   -- In a flat list the row's c-th group of ch elements is taken out.
-  pub flat-removeAt : {ch w : ℕ} {x : List (List A)} (c : ℕ) → Grid ch w x → flat (remove_at c x) ≡ take (c * ch) (flat x) ++ drop (c * ch + ch) (flat x)
+  pub flat-remove_at : {ch w : ℕ} {x : List (List A)} (c : ℕ) → Grid ch w x → flat (remove_at c x) ≡ take (c * ch) (flat x) ++ drop (c * ch + ch) (flat x)
   unfolding remove_at
-  flat-removeAt {ch} c none = rw (take-nil, drop-nil)
-  flat-removeAt {ch} zero (more {x = x} {xs = xs} e g) = rw (zero-mul ch, zero-add ch) (sym (drop_at x (flat xs) ch e))
-  flat-removeAt {ch} (suc c) (more {x = x} {xs = xs} e g) =
-      ap (x ++◌) (flat-removeAt c g)
+  flat-remove_at {ch} c none = rw (take-nil, drop-nil)
+  flat-remove_at {ch} zero (more {x = x} {xs = xs} e g) = rw (zero-mul ch, zero-add ch) (sym (drop_at x (flat xs) ch e))
+  flat-remove_at {ch} (suc c) (more {x = x} {xs = xs} e g) =
+      ap (x ++◌) (flat-remove_at c g)
       ∙ sym (append_assoc x (take (c * ch) (flat xs)) (drop (c * ch + ch) (flat xs)))
       ∙ sym (ap₂ ◌++◌ (front) (back))
     where

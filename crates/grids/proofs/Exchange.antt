@@ -33,33 +33,33 @@ module _ {A : Type 0} where
   exchange-grid g = grid_of (exchange-each (grid_any g))
 
   -- Element r of column c is element c of row r; past the edges there is nothing in either.
-  first-at : (x : List A) (q : List (List A)) → length x ≡ length q → (c : ℕ) (d : A) → get_or (get_or (zip_with ◌∷◌ x q) c []) 0 d ≡ get_or x c d
+  first_at : (x : List A) (q : List (List A)) → length x ≡ length q → (c : ℕ) (d : A) → get_or (get_or (zip_with ◌∷◌ x q) c []) 0 d ≡ get_or x c d
   unfolding zip_with
-  first-at [] [] e c d = refl
-  first-at [] (y ∷ q) e c d = absurd (omega arith)
-  first-at (a ∷ x) [] e c d = absurd (omega arith)
-  first-at (a ∷ x) (y ∷ q) e zero d = refl
-  first-at (a ∷ x) (y ∷ q) e (suc c) d = first-at x q (suc_inj e) c d
+  first_at [] [] e c d = refl
+  first_at [] (y ∷ q) e c d = absurd (omega arith)
+  first_at (a ∷ x) [] e c d = absurd (omega arith)
+  first_at (a ∷ x) (y ∷ q) e zero d = refl
+  first_at (a ∷ x) (y ∷ q) e (suc c) d = first_at x q (suc_inj e) c d
 
-  later-at : (x : List A) (q : List (List A)) → length x ≡ length q → (c r : ℕ) (d : A) → get_or (get_or (zip_with ◌∷◌ x q) c []) (suc r) d ≡ get_or (get_or q c []) r d
+  later_at : (x : List A) (q : List (List A)) → length x ≡ length q → (c r : ℕ) (d : A) → get_or (get_or (zip_with ◌∷◌ x q) c []) (suc r) d ≡ get_or (get_or q c []) r d
   unfolding zip_with
-  later-at [] [] e c r d = refl
-  later-at [] (y ∷ q) e c r d = absurd (omega arith)
-  later-at (a ∷ x) [] e c r d = absurd (omega arith)
-  later-at (a ∷ x) (y ∷ q) e zero r d = refl
-  later-at (a ∷ x) (y ∷ q) e (suc c) r d = later-at x q (suc_inj e) c r d
+  later_at [] [] e c r d = refl
+  later_at [] (y ∷ q) e c r d = absurd (omega arith)
+  later_at (a ∷ x) [] e c r d = absurd (omega arith)
+  later_at (a ∷ x) (y ∷ q) e zero r d = refl
+  later_at (a ∷ x) (y ∷ q) e (suc c) r d = later_at x q (suc_inj e) c r d
 
-  blank-at : (w c r : ℕ) (d : A) → get_or (get_or (replicate w []) c []) r d ≡ d
-  blank-at zero c r d = refl
-  blank-at (suc w) zero r d = refl
-  blank-at (suc w) (suc c) r d = blank-at w c r d
+  blank_at : (w c r : ℕ) (d : A) → get_or (get_or (replicate w []) c []) r d ≡ d
+  blank_at zero c r d = refl
+  blank_at (suc w) zero r d = refl
+  blank_at (suc w) (suc c) r d = blank_at w c r d
 
-  pub exchange-at : {w n : ℕ} {p : List (List A)} → Grid w n p → (r c : ℕ) (d : A) → get_or (get_or (exchange w p) c []) r d ≡ get_or (get_or p r []) c d
+  pub exchange_at : {w n : ℕ} {p : List (List A)} → Grid w n p → (r c : ℕ) (d : A) → get_or (get_or (exchange w p) c []) r d ≡ get_or (get_or p r []) c d
   unfolding exchange
-  exchange-at {w} none r c d = blank-at w c r d
-  exchange-at {w} (more {x = x} {xs = p} e g) zero c d = first-at x (exchange w p) (e ∙ sym (each-length (exchange-grid g))) c d
-  exchange-at {w} (more {x = x} {xs = p} e g) (suc r) c d =
-      later-at x (exchange w p) (e ∙ sym (each-length (exchange-grid g))) c r d ∙ exchange-at g r c d
+  exchange_at {w} none r c d = blank_at w c r d
+  exchange_at {w} (more {x = x} {xs = p} e g) zero c d = first_at x (exchange w p) (e ∙ sym (each-length (exchange-grid g))) c d
+  exchange_at {w} (more {x = x} {xs = p} e g) (suc r) c d =
+      later_at x (exchange w p) (e ∙ sym (each-length (exchange-grid g))) c r d ∙ exchange_at g r c d
 
   -- Exchanged twice, a grid is as it was.
   exchange-join : (n : ℕ) (x : List A) (q : List (List A)) → length x ≡ length q → exchange (suc n) (zip_with ◌∷◌ x q) ≡ x ∷ exchange n q
@@ -74,11 +74,11 @@ module _ {A : Type 0} where
   exchange-blank zero = refl
   exchange-blank (suc w) = refl
 
-  pub exchange-twice : {w n : ℕ} {p : List (List A)} → Grid w n p → exchange n (exchange w p) ≡ p
+  pub exchange_twice : {w n : ℕ} {p : List (List A)} → Grid w n p → exchange n (exchange w p) ≡ p
   unfolding exchange
-  exchange-twice {w} none = exchange-blank w
-  exchange-twice {w} (more {n = n} {x = x} {xs = p} e g) =
-      exchange-join n x (exchange w p) (e ∙ sym (each-length (exchange-grid g))) ∙ ap (x ∷◌) (exchange-twice g)
+  exchange_twice {w} none = exchange-blank w
+  exchange_twice {w} (more {n = n} {x = x} {xs = p} e g) =
+      exchange-join n x (exchange w p) (e ∙ sym (each-length (exchange-grid g))) ∙ ap (x ∷◌) (exchange_twice g)
 
   -- Grids with the same elements are the same.
   pub grid-same : {w n : ℕ} {p q : List (List A)} (d : A) → Grid w n p → Grid w n q
@@ -100,6 +100,6 @@ module _ {A : Type 0} where
 
       at : (c r : ℕ) → c < w → r < n → get_or (get_or (exchange w (table (λ r. table (f r) w) n)) c []) r d ≡ get_or (get_or (table (λ c. table (λ r. f r c) n) w) c []) r d
       at c r l m =
-          exchange-at rows r c d
+          exchange_at rows r c d
           ∙ ap (λ x. get_or x c d) (table_at (λ r. table (f r) w) n r [] m) ∙ table_at (f r) w c d l
           ∙ sym (ap (λ x. get_or x r d) (table_at (λ c. table (λ r. f r c) n) w c [] l) ∙ table_at (λ r. f r c) n r d m)

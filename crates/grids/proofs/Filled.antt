@@ -11,11 +11,11 @@ use lib.Seq.{take_at, drop_at, drop-drop, drop-append-le, sets, sets-eq}
 use Rattle.grids.specs.Table.{table}
 use Rattle.grids.specs.Rows.{flat}
 use Rattle.grids.proofs.Tables.{each-table}
-use Rattle.grids.proofs.Rows.{length-flat, flat-snoc}
+use Rattle.grids.proofs.Rows.{length-flat, flat_snoc}
 
 -- One part more, in a loop's terms.
-pub flat_more : {A : Type 0} (f : ℕ → List A) (r : ℕ) → flat (table f (r + 1)) ≡ flat (table f r) ++ f r
-flat_more f r = rw (add-one r) (flat-snoc (table f r) (f r))
+pub flat-more : {A : Type 0} (f : ℕ → List A) (r : ℕ) → flat (table f (r + 1)) ≡ flat (table f r) ++ f r
+flat-more f r = rw (add-one r) (flat_snoc (table f r) (f r))
 
 pub map-append : {A B : Type 0} (f : A → B) (p q : List A) → map f (p ++ q) ≡ map f p ++ map f q
 map-append f [] q = refl
@@ -52,7 +52,7 @@ module _ {A : Type 0} (f : ℕ → List A) (n w : ℕ) (size : (i : ℕ) → i <
         let next : r * w + w ≡ (r + 1) * w = rw (add-one r) (sym (suc-mul r w)) in
         let front : take (r * w) now ≡ T = rw so_far (take_at T (drop (r * w) old) (r * w) (filled-length r (omega arith))) in
         let back : drop (r * w + w) now ≡ drop ((r + 1) * w) old = filled-later (r * w + w) (omega arith) ∙ ap (λ m. drop m old) next in
-        rw (front, back, flat_more f r) (sym (append_assoc T (f r) (drop ((r + 1) * w) old)))
+        rw (front, back, flat-more f r) (sym (append_assoc T (f r) (drop ((r + 1) * w) old)))
 
     -- The part that was lent from r * w on, as it comes back.
     pub filled-part : (k : ℕ) (new : List A) → w ≤ length (mid_of (r * w) k now) → new ≡ f r ++ drop w (mid_of (r * w) k now)

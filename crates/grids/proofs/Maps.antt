@@ -9,17 +9,17 @@ use Rattle.grids.specs.Exchange.{exchange}
 use Rattle.grids.specs.Cut.{remove_at, cut}
 
 module _ {A B : Type 0} (f : A → B) where
-  removeAt-map : (i : ℕ) (xs : List A) → remove_at i (map f xs) ≡ map f (remove_at i xs)
+  remove_at-map : (i : ℕ) (xs : List A) → remove_at i (map f xs) ≡ map f (remove_at i xs)
   unfolding remove_at
-  removeAt-map i [] = refl
-  removeAt-map zero (x ∷ xs) = refl
-  removeAt-map (suc i) (x ∷ xs) = ap (f x ∷◌) (removeAt-map i xs)
+  remove_at-map i [] = refl
+  remove_at-map zero (x ∷ xs) = refl
+  remove_at-map (suc i) (x ∷ xs) = ap (f x ∷◌) (remove_at-map i xs)
 
   pub cut-map : (s : List ℕ) (p : List (List A)) → cut s (map (map f) p) ≡ map (map f) (cut s p)
   unfolding cut zip_with
   cut-map [] p = refl
   cut-map (c ∷ s) [] = refl
-  cut-map (c ∷ s) (x ∷ p) = ap₂ ◌∷◌ (removeAt-map c x) (cut-map s p)
+  cut-map (c ∷ s) (x ∷ p) = ap₂ ◌∷◌ (remove_at-map c x) (cut-map s p)
 
   join-map : (x : List A) (q : List (List A)) → zip_with ◌∷◌ (map f x) (map (map f) q) ≡ map (map f) (zip_with ◌∷◌ x q)
   unfolding zip_with
@@ -41,11 +41,11 @@ abbrev pub single : {A : Type 0} → A → List A
 single a = a ∷ []
 
 module _ {A : Type 0} where
-  pub rowsOf-single : (n : ℕ) (x : List A) → length x ≡ n → rows_of 1 n x ≡ map single x
-  rowsOf-single zero [] e = refl
-  rowsOf-single zero (a ∷ x) e = absurd (omega arith)
-  rowsOf-single (suc n) [] e = absurd (omega arith)
-  rowsOf-single (suc n) (a ∷ x) e = ap (single a ∷◌) (rowsOf-single n x (omega arith))
+  pub rows_of-single : (n : ℕ) (x : List A) → length x ≡ n → rows_of 1 n x ≡ map single x
+  rows_of-single zero [] e = refl
+  rows_of-single zero (a ∷ x) e = absurd (omega arith)
+  rows_of-single (suc n) [] e = absurd (omega arith)
+  rows_of-single (suc n) (a ∷ x) e = ap (single a ∷◌) (rows_of-single n x (omega arith))
 
   flat-single : (x : List A) → flat (map single x) ≡ x
   flat-single [] = refl

@@ -20,86 +20,86 @@ pub part_next : (r n w : ℕ) → r + 1 < n → r * w + w + w ≤ n * w
 part_next r n w h = rw (add-one r, suc-mul r w) at (part_end (r + 1) n w h)
 
 module _ {A : Type 0} where
-  pub length-rowsOf : (w n : ℕ) (b : List A) → length (rows_of w n b) ≡ n
-  length-rowsOf w zero b = refl
-  length-rowsOf w (suc n) b = ap suc (length-rowsOf w n (drop w b))
+  pub length-rows_of : (w n : ℕ) (b : List A) → length (rows_of w n b) ≡ n
+  length-rows_of w zero b = refl
+  length-rows_of w (suc n) b = ap suc (length-rows_of w n (drop w b))
 
-  pub grid-rowsOf : (w n : ℕ) (b : List A) → n * w ≤ length b → Grid w n (rows_of w n b)
-  grid-rowsOf w zero b h = none
-  grid-rowsOf w (suc n) b h =
+  pub grid-rows_of : (w n : ℕ) (b : List A) → n * w ≤ length b → Grid w n (rows_of w n b)
+  grid-rows_of w zero b h = none
+  grid-rows_of w (suc n) b h =
       more (length-take-le w b (omega (arith, suc-mul n w)))
-      (grid-rowsOf w n (drop w b) (omega (arith, suc-mul n w, length-drop w b)))
+      (grid-rows_of w n (drop w b) (omega (arith, suc-mul n w, length-drop w b)))
 
   pub flat_append : (p q : List (List A)) → flat (p ++ q) ≡ flat p ++ flat q
   flat_append [] q = refl
   flat_append (x ∷ p) q = ap (x ++◌) (flat_append p q) ∙ sym (append_assoc x (flat p) (flat q))
 
-  pub flat-snoc : (p : List (List A)) (x : List A) → flat (p ++ (x ∷ [])) ≡ flat p ++ x
-  flat-snoc p x = flat_append p (x ∷ []) ∙ ap (flat p ++◌) (append-nil x)
+  pub flat_snoc : (p : List (List A)) (x : List A) → flat (p ++ (x ∷ [])) ≡ flat p ++ x
+  flat_snoc p x = flat_append p (x ∷ []) ∙ ap (flat p ++◌) (append-nil x)
 
   -- Rows and back.
-  pub flat-rowsOf : (w n : ℕ) (b : List A) → flat (rows_of w n b) ≡ take (n * w) b
-  flat-rowsOf w zero b = rw (zero-mul w)
-  flat-rowsOf w (suc n) b = rw (suc-mul n w, add_comm (n * w) w, take-add w (n * w) b) (ap (take w b ++◌) (flat-rowsOf w n (drop w b)))
+  pub flat-rows_of : (w n : ℕ) (b : List A) → flat (rows_of w n b) ≡ take (n * w) b
+  flat-rows_of w zero b = rw (zero-mul w)
+  flat-rows_of w (suc n) b = rw (suc-mul n w, add_comm (n * w) w, take-add w (n * w) b) (ap (take w b ++◌) (flat-rows_of w n (drop w b)))
 
   -- And the other way round, whatever follows the rows.
-  pub rowsOf-flat : {w n : ℕ} {p : List (List A)} (rest : List A) → Grid w n p → rows_of w n (flat p ++ rest) ≡ p
-  rowsOf-flat rest none = refl
-  rowsOf-flat {w} rest (more {n = n} {x = x} {xs = xs} e r) =
+  pub rows_of-flat : {w n : ℕ} {p : List (List A)} (rest : List A) → Grid w n p → rows_of w n (flat p ++ rest) ≡ p
+  rows_of-flat rest none = refl
+  rows_of-flat {w} rest (more {n = n} {x = x} {xs = xs} e r) =
       rw append_assoc
-      (ap₂ ◌∷◌ (take_at x (flat xs ++ rest) w e) (ap (rows_of w n) (drop_at x (flat xs ++ rest) w e) ∙ rowsOf-flat rest r))
+      (ap₂ ◌∷◌ (take_at x (flat xs ++ rest) w e) (ap (rows_of w n) (drop_at x (flat xs ++ rest) w e) ∙ rows_of-flat rest r))
 
   pub length-flat : {w n : ℕ} {p : List (List A)} → Grid w n p → length (flat p) ≡ n * w
   length-flat {w} none = sym (zero-mul w)
   length-flat {w} (more {n = n} {x = x} {xs = xs} e r) = omega (arith, length-append x (flat xs), length-flat r, suc-mul n w)
 
   -- Row r stands at r * w.
-  pub rowsOf-at : (w n : ℕ) (b : List A) (r : ℕ) → r < n → get_or (rows_of w n b) r [] ≡ row_at w r b
-  rowsOf-at w zero b r h = absurd (omega arith)
-  rowsOf-at w (suc n) b zero h = rw (zero-mul w)
-  rowsOf-at w (suc n) b (suc r) h =
-      rowsOf-at w n (drop w b) r (le_of_suc-le-suc h)
+  pub rows_of_at : (w n : ℕ) (b : List A) (r : ℕ) → r < n → get_or (rows_of w n b) r [] ≡ row_at w r b
+  rows_of_at w zero b r h = absurd (omega arith)
+  rows_of_at w (suc n) b zero h = rw (zero-mul w)
+  rows_of_at w (suc n) b (suc r) h =
+      rows_of_at w n (drop w b) r (le_of_suc-le-suc h)
       ∙ ap (take w) (drop-drop (r * w) w b ∙ rw (suc-mul r w, add_comm (r * w) w))
 
-  pub flat-at : {w n : ℕ} {p : List (List A)} → Grid w n p → (r : ℕ) → r < n → row_at w r (flat p) ≡ get_or p r []
-  flat-at {w} {n} {p} g r h =
-      let e : rows_of w n (flat p) ≡ p = ap (rows_of w n) (sym (append-nil (flat p))) ∙ rowsOf-flat [] g in
-      sym (rowsOf-at w n (flat p) r h) ∙ ap (λ q. get_or q r []) e
+  pub flat_at : {w n : ℕ} {p : List (List A)} → Grid w n p → (r : ℕ) → r < n → row_at w r (flat p) ≡ get_or p r []
+  flat_at {w} {n} {p} g r h =
+      let e : rows_of w n (flat p) ≡ p = ap (rows_of w n) (sym (append-nil (flat p))) ∙ rows_of-flat [] g in
+      sym (rows_of_at w n (flat p) r h) ∙ ap (λ q. get_or q r []) e
 
   -- One row more at the front of a list that is filled row by row.
-  pub row_more : (w r : ℕ) (b d : List A) → take (r * w) b ++ (row_at w r b ++ drop (r * w + w) d) ≡ take (r * w + w) b ++ drop (r * w + w) d
-  row_more w r b d = sym (append_assoc (take (r * w) b) (row_at w r b) (drop (r * w + w) d)) ∙ ap (◌++ drop (r * w + w) d) (sym (take-add (r * w) w b))
+  pub row_more_lem : (w r : ℕ) (b d : List A) → take (r * w) b ++ (row_at w r b ++ drop (r * w + w) d) ≡ take (r * w + w) b ++ drop (r * w + w) d
+  row_more_lem w r b d = sym (append_assoc (take (r * w) b) (row_at w r b) (drop (r * w + w) d)) ∙ ap (◌++ drop (r * w + w) d) (sym (take-add (r * w) w b))
 
   -- Past the last row there is nothing.
-  pub rowsOf-past : (w n : ℕ) (b : List A) (r : ℕ) → n ≤ r → get_or (rows_of w n b) r [] ≡ []
-  rowsOf-past w n b r h = get_or-eq_default (rows_of w n b) [] (rw (length-rowsOf) h)
+  pub rows_of-past : (w n : ℕ) (b : List A) (r : ℕ) → n ≤ r → get_or (rows_of w n b) r [] ≡ []
+  rows_of-past w n b r h = get_or-eq_default (rows_of w n b) [] (rw (length-rows_of) h)
 
   -- A list that is just its n rows has nothing at a later row.
-  pub rowAt-past : (w n : ℕ) (b : List A) (r : ℕ) → length b ≤ n * w → n ≤ r → row_at w r b ≡ []
-  rowAt-past w n b r l h = rw (drop_of_length-le b {i = r * w} (omega (arith, mul-le-mul_right w h))) (take-nil w)
+  pub row_at-past : (w n : ℕ) (b : List A) (r : ℕ) → length b ≤ n * w → n ≤ r → row_at w r b ≡ []
+  row_at-past w n b r l h = rw (drop_of_length-le b {i = r * w} (omega (arith, mul-le-mul_right w h))) (take-nil w)
 
   -- So at every r the two agree on a list that is just its n rows.
-  pub rowsOf-rowAt : (w n : ℕ) (b : List A) (r : ℕ) → length b ≤ n * w → get_or (rows_of w n b) r [] ≡ row_at w r b
-  rowsOf-rowAt w n b r l =
+  pub rows_of-row_at : (w n : ℕ) (b : List A) (r : ℕ) → length b ≤ n * w → get_or (rows_of w n b) r [] ≡ row_at w r b
+  rows_of-row_at w n b r l =
       ⊎_elim
-      (λ (h : n ≤ r). rowsOf-past w n b r h ∙ sym (rowAt-past w n b r l h))
-      (λ (h : r < n). rowsOf-at w n b r h)
+      (λ (h : n ≤ r). rows_of-past w n b r h ∙ sym (row_at-past w n b r l h))
+      (λ (h : r < n). rows_of_at w n b r h)
       (le-or-lt n r)
 
-  pub length-rowAt : (w n : ℕ) (b : List A) (r : ℕ) → n * w ≤ length b → r < n → length (row_at w r b) ≡ w
-  length-rowAt w n b r l h = length-take-le w (drop (r * w) b) (omega (arith, length-drop (r * w) b, part_end r n w h))
+  pub length-row_at : (w n : ℕ) (b : List A) (r : ℕ) → n * w ≤ length b → r < n → length (row_at w r b) ≡ w
+  length-row_at w n b r l h = length-take-le w (drop (r * w) b) (omega (arith, length-drop (r * w) b, part_end r n w h))
 
   -- Element c of row r is element r * w + c of the list.
-  pub rowAt-getD : (w : ℕ) (b : List A) (r c : ℕ) (d : A) → c < w → get_or (row_at w r b) c d ≡ get_or b (r * w + c) d
-  rowAt-getD w b r c d h = get_or-take w (drop (r * w) b) c d h ∙ get_or-drop (r * w) b c d
+  pub row_at_get_d : (w : ℕ) (b : List A) (r c : ℕ) (d : A) → c < w → get_or (row_at w r b) c d ≡ get_or b (r * w + c) d
+  row_at_get_d w b r c d h = get_or-take w (drop (r * w) b) c d h ∙ get_or-drop (r * w) b c d
 
-  pub rowAt-short : (w : ℕ) (b : List A) (r : ℕ) → length (row_at w r b) ≤ w
-  rowAt-short w b r = rw (length-take) (min-le_left w (length (drop (r * w) b)))
+  pub row_at-short : (w : ℕ) (b : List A) (r : ℕ) → length (row_at w r b) ≤ w
+  row_at-short w b r = rw (length-take) (min-le_left w (length (drop (r * w) b)))
 
 -- What holds of a default and of every element of a list holds of every element of a row.
 pub row_at-all : {A : Type 0} (P : A → Type 0) (w : ℕ) (b : List A) (d : A) → P d → ((i : ℕ) → P (get_or b i d)) → (r c : ℕ) → P (get_or (row_at w r b) c d)
 row_at-all P w b d z h r c =
     ⊎_elim
-    (λ (l : w ≤ c). rw (get_or-eq_default (row_at w r b) d {n = c} (le_trans (rowAt-short w b r) l)) z)
-    (λ (l : c < w). rw (rowAt-getD w b r c d l) (h (r * w + c)))
+    (λ (l : w ≤ c). rw (get_or-eq_default (row_at w r b) d {n = c} (le_trans (row_at-short w b r) l)) z)
+    (λ (l : c < w). rw (row_at_get_d w b r c d l) (h (r * w + c)))
     (le-or-lt w c)

@@ -52,11 +52,11 @@ module _ {A : Type 0} where
   table-end f d out n e l = e ∙ rw (l, drop-length d) (append-nil (table f (length d)))
 
   -- n elements of a list from place i on.
-  pub table-part : (xs : List A) (i n : ℕ) (d : A) → i + n ≤ length xs → take n (drop i xs) ≡ table (λ k. get_or xs (i + k) d) n
-  table-part xs i zero d h = refl
-  table-part xs i (suc n) d h =
+  pub table_part : (xs : List A) (i n : ℕ) (d : A) → i + n ≤ length xs → take n (drop i xs) ≡ table (λ k. get_or xs (i + k) d) n
+  table_part xs i zero d h = refl
+  table_part xs i (suc n) d h =
       take-suc (drop i xs) n d (omega (arith, length-drop i xs))
-      ∙ ap₂ (λ ys y. ys ++ (y ∷ [])) (table-part xs i n d (omega arith)) (get_or-drop i xs n d)
+      ∙ ap₂ (λ ys y. ys ++ (y ∷ [])) (table_part xs i n d (omega arith)) (get_or-drop i xs n d)
 
   -- A property of every value is a property of every element.
   pub each-table : {P : A → Type 0} (f : ℕ → A) (n : ℕ) → ((i : ℕ) → i < n → P (f i)) → Each P n (table f n)
@@ -71,31 +71,31 @@ pub record Stored {A : Type 0} (f : ℕ → A) (d : List A) (end n : ℕ) (out :
   pub long : length out ≡ length d
 
 module _ {A : Type 0} (f : ℕ → A) (d : List A) (end : ℕ) where
-  pub stored-start : end ≡ length d → Stored f d end 0 d
-  stored-start e = record { within = omega arith; all = e; is = refl; long = refl }
+  pub stored_start : end ≡ length d → Stored f d end 0 d
+  stored_start e = record { within = omega arith; all = e; is = refl; long = refl }
 
   -- One turn: v is stored at n.
-  pub stored-turn : (n : ℕ) (out : List A) (v z : A) → n < end → v ≡ f n → Stored f d end n out → Stored f d end (n + 1) (set out n v)
-  stored-turn n out v z h g o = record {
+  pub stored_turn : (n : ℕ) (out : List A) (v z : A) → n < end → v ≡ f n → Stored f d end n out → Stored f d end (n + 1) (set out n v)
+  stored_turn n out v z h g o = record {
     within = omega arith;
     all = o.all;
     is = ap₂ (λ x y. set x n y) o.is g ∙ table_more f d n z (omega (arith, o.all));
     long = length-set out n v ∙ o.long;
   }
 
-  pub stored-end : (n : ℕ) (out : List A) → end ≤ n → Stored f d end n out → out ≡ table f (length d)
-  stored-end n out h o = table-end f d out n o.is (omega (arith, o.within, o.all))
+  pub stored_end : (n : ℕ) (out : List A) → end ≤ n → Stored f d end n out → out ≡ table f (length d)
+  stored_end n out h o = table-end f d out n o.is (omega (arith, o.within, o.all))
 
 -- The same where the values are the elements of a list as long as the slice: a copy.
 module _ {A : Type 0} (from d : List A) (z : A) where
   abbrev pub Copied : ℕ → ℕ → List A → Type 0
   Copied end n out = Stored (λ i. get_or from i z) d end n out
 
-  pub copied-start : Copied (length d) 0 d
-  copied-start = stored-start (λ i. get_or from i z) d (length d) refl
+  pub copied_start : Copied (length d) 0 d
+  copied_start = stored_start (λ i. get_or from i z) d (length d) refl
 
-  pub copied-turn : (end n : ℕ) (out : List A) → n < end → Copied end n out → Copied end (n + 1) (set out n (get_or from n z))
-  copied-turn end n out h o = stored-turn (λ i. get_or from i z) d end n out (get_or from n z) z h refl o
+  pub copied_turn : (end n : ℕ) (out : List A) → n < end → Copied end n out → Copied end (n + 1) (set out n (get_or from n z))
+  copied_turn end n out h o = stored_turn (λ i. get_or from i z) d end n out (get_or from n z) z h refl o
 
   pub copied-end : (end n : ℕ) (out : List A) → length d ≡ length from → end ≤ n → Copied end n out → out ≡ from
-  copied-end end n out e h o = stored-end (λ i. get_or from i z) d end n out h o ∙ ap (table (λ i. get_or from i z)) e ∙ table-all from z
+  copied-end end n out e h o = stored_end (λ i. get_or from i z) d end n out h o ∙ ap (table (λ i. get_or from i z)) e ∙ table-all from z

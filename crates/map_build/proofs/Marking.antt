@@ -27,9 +27,9 @@ module _ (ys : List ℕ) (c : ℕ) (inside : c + 1 < length ys) where
 
 -- A number passed, a 0 passed, the 0 found, and the end. w is the row to come of it.
 module _ (low high : ℕ) (ys w : List ℕ) (c z : ℕ) (inside : c + 1 < length ys) where
-  pub pass-number : (get_or ys c 0 + 256 * get_or ys (c + 1) 0 ≡ 0 → ⊥) → take c ys ++ write_pair low high z (drop c ys) ≡ w
+  pub pass_number : (get_or ys c 0 + 256 * get_or ys (c + 1) 0 ≡ 0 → ⊥) → take c ys ++ write_pair low high z (drop c ys) ≡ w
       → take (c + 2) ys ++ write_pair low high z (drop (c + 2) ys) ≡ w
-  pass-number d e = go (get_or ys c 0) (get_or ys (c + 1) 0) d (drop-two ys c inside) (take-two ys c inside)
+  pass_number d e = go (get_or ys c 0) (get_or ys (c + 1) 0) d (drop-two ys c inside) (take-two ys c inside)
     where
       go : (a b : ℕ) → (a + 256 * b ≡ 0 → ⊥) → drop c ys ≡ a ∷ b ∷ drop (c + 2) ys → take (c + 2) ys ≡ take c ys ++ (a ∷ b ∷ [])
           → take (c + 2) ys ++ write_pair low high z (drop (c + 2) ys) ≡ w
@@ -37,9 +37,9 @@ module _ (low high : ℕ) (ys w : List ℕ) (c z : ℕ) (inside : c + 1 < length
       go (suc a) b n q k = rw (k, append_assoc) (rw q at e)
       go zero (suc b) n q k = rw (k, append_assoc) (rw q at e)
 
-  pub pass-zero : get_or ys c 0 + 256 * get_or ys (c + 1) 0 ≡ 0 → 0 < z → take c ys ++ write_pair low high z (drop c ys) ≡ w
+  pub pass_zero : get_or ys c 0 + 256 * get_or ys (c + 1) 0 ≡ 0 → 0 < z → take c ys ++ write_pair low high z (drop c ys) ≡ w
       → take (c + 2) ys ++ write_pair low high (z - 1) (drop (c + 2) ys) ≡ w
-  pass-zero n l e = go (get_or ys c 0) (get_or ys (c + 1) 0) z n l refl (drop-two ys c inside) (take-two ys c inside)
+  pass_zero n l e = go (get_or ys c 0) (get_or ys (c + 1) 0) z n l refl (drop-two ys c inside) (take-two ys c inside)
     where
       go : (a b k : ℕ) → a + 256 * b ≡ 0 → 0 < k → z ≡ k → drop c ys ≡ a ∷ b ∷ drop (c + 2) ys → take (c + 2) ys ≡ take c ys ++ (a ∷ b ∷ [])
           → take (c + 2) ys ++ write_pair low high (z - 1) (drop (c + 2) ys) ≡ w
@@ -71,8 +71,8 @@ module _ (low high : ℕ) (ys w : List ℕ) (c z : ℕ) (inside : c + 1 < length
           ∙ append_snoc (take c ys) low (high ∷ drop (c + 2) ys)
           ∙ (rw (r, q) at e)
 
-pub row_end : (low high : ℕ) (ys w : List ℕ) (c z : ℕ) → c ≤ length ys → length ys ≤ c + 1 → take c ys ++ write_pair low high z (drop c ys) ≡ w → ys ≡ w
-row_end low high ys w c z l h e = sym (take-append-drop c ys) ∙ ap (take c ys ++◌) (sym (short (drop c ys) (omega (arith, rest, length-take-le c ys l)))) ∙ e
+pub row-end : (low high : ℕ) (ys w : List ℕ) (c z : ℕ) → c ≤ length ys → length ys ≤ c + 1 → take c ys ++ write_pair low high z (drop c ys) ≡ w → ys ≡ w
+row-end low high ys w c z l h e = sym (take-append-drop c ys) ∙ ap (take c ys ++◌) (sym (short (drop c ys) (omega (arith, rest, length-take-le c ys l)))) ∙ e
   where
     rest : length (take c ys) + length (drop c ys) ≡ length ys
     rest = sym (length-append (take c ys) (drop c ys)) ∙ ap length (take-append-drop c ys)

@@ -16,8 +16,8 @@ module _ (ys : List ℕ) (i n t : ℕ) (inside : 2 * i + 1 < length ys) (so_far 
   next : 2 * (i + 1) ≡ 2 * i + 2
   next = omega arith
 
-  pub count-zero : get_or ys (2 * i) 0 + 256 * get_or ys (2 * i + 1) 0 ≡ 0 → n + 1 + zero_pairs (drop (2 * (i + 1)) ys) ≡ t
-  count-zero d = rw next (go (get_or ys (2 * i) 0) (get_or ys (2 * i + 1) 0) d (drop-two ys (2 * i) inside))
+  pub count_zero : get_or ys (2 * i) 0 + 256 * get_or ys (2 * i + 1) 0 ≡ 0 → n + 1 + zero_pairs (drop (2 * (i + 1)) ys) ≡ t
+  count_zero d = rw next (go (get_or ys (2 * i) 0) (get_or ys (2 * i + 1) 0) d (drop-two ys (2 * i) inside))
     where
       go : (a b : ℕ) → a + 256 * b ≡ 0 → drop (2 * i) ys ≡ a ∷ b ∷ drop (2 * i + 2) ys → n + 1 + zero_pairs (drop (2 * i + 2) ys) ≡ t
       go zero zero d q =

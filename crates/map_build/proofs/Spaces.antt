@@ -10,7 +10,7 @@ use lib.Seq.{take_at, drop_at, length-take-le}
 use Rattle.grids.proofs.Parts.{put_part}
 use Rattle.pictures.specs.declared.sizes.Size.{Size}
 use Rattle.pictures.specs.Pictures.{channels_of, picture_bytes, picture, OfSize, pixels, picture_in}
-use Rattle.pictures.proofs.Buffers.{picture_of_size}
+use Rattle.pictures.proofs.Buffers.{picture-of_size}
 use Rattle.pictures.proofs.Limits.{sides_of}
 use Rattle.energy.specs.declared.methods.Method.{Method}
 use Rattle.map_rules.specs.Spaces.{map_bytes, map_at}
@@ -21,7 +21,7 @@ use Rattle.map_build.proofs.Steps.{left_size, first-mapped}
 
 -- The picture that stands there is of its size.
 pub there_of_size : (z : Size) (space : List ℕ) → picture_bytes z ≤ length space → OfSize z (picture_in z space)
-there_of_size z space l = picture_of_size z (take (picture_bytes z) space) (length-take-le (picture_bytes z) space l)
+there_of_size z space l = picture-of_size z (take (picture_bytes z) space) (length-take-le (picture_bytes z) space l)
 
 -- The next seam can be cut.
 pub next_needed : (z : Size) (depth space t at now : ℕ) → at ≡ map_at z → now ≡ space → Room z depth space 1 → t < depth → NextNeeded (left_size z t) z.width at (t + 1) now

@@ -11,13 +11,13 @@ use Rattle.grids.specs.Each.{Grid}
 use Rattle.grids.specs.Rows.{rows_of, flat}
 use Rattle.grids.specs.Cut.{cut}
 use Rattle.grids.proofs.Shapes.{each-length, grid_of}
-use Rattle.grids.proofs.Rows.{rowsOf-flat, length-flat}
+use Rattle.grids.proofs.Rows.{rows_of-flat, length-flat}
 use Rattle.pictures.specs.declared.sizes.Size.{Size}
 use Rattle.pictures.specs.Pictures.{Picture, channels_of, picture_bytes, picture, bytes, OfSize, pixels, picture_in}
 use Rattle.pictures.specs.Numbers.{low_byte, high_byte, pairs}
-use Rattle.pictures.proofs.Buffers.{picture_of_size, picture_bytes_lem, bytes-picture, length-bytes}
-use Rattle.pictures.proofs.TwoBytes.{pairs-flat, grid_pairs}
-use Rattle.map_theory.specs.Maps.{carve, mapOf}
+use Rattle.pictures.proofs.Buffers.{picture-of_size, picture_bytes_lem, bytes-picture, length-bytes}
+use Rattle.pictures.proofs.TwoBytes.{pairs-flat, grid-pairs}
+use Rattle.map_theory.specs.Maps.{carve, map_of}
 use Rattle.map_theory.proofs.Maps.{carve-next, map-grid, map_next, carve-each}
 use Rattle.energy.specs.declared.methods.Method.{Method}
 use Rattle.seam_theory.specs.PictureSeams.{seam_of}
@@ -54,8 +54,8 @@ module _ (z : Size) (how : Method) (p : Picture) (o : OfSize z p) (t : ℕ) (dee
   abbrev q : Picture
   q = carve (seam_of how) t z.width z.height p
 
-  q-of : OfSize (left_size z t) q
-  q-of = carve-each (seam_of how) (seam_chooses how) t z.width z.height p deep o
+  q_of : OfSize (left_size z t) q
+  q_of = carve-each (seam_of how) (seam_chooses how) t z.width z.height p deep o
 
   grid : Grid z.width z.height p
   grid = grid_of o
@@ -64,10 +64,10 @@ module _ (z : Size) (how : Method) (p : Picture) (o : OfSize z p) (t : ℕ) (dee
   front = bytes q ++ replicate (t * (z.height * channels_of z.kind) + pixels z) 0
 
   abbrev m : List (List ℕ)
-  m = mapOf (seam_of how) t z.width z.height p
+  m = map_of (seam_of how) t z.width z.height p
 
   long-bytes : length (bytes q) ≡ picture_bytes (left_size z t)
-  long-bytes = length-bytes (left_size z t) q q-of
+  long-bytes = length-bytes (left_size z t) q q_of
 
   pub front_long : length (bytes (carve (seam_of how) t z.width z.height p) ++ replicate (t * (z.height * channels_of z.kind) + pixels z) 0) ≡ map_at z
   front_long =
@@ -79,8 +79,8 @@ module _ (z : Size) (how : Method) (p : Picture) (o : OfSize z p) (t : ℕ) (dee
         freed z.height z.width (channels_of z.kind) t (omega arith),
       )
 
-  pub map-long : length (pairs (flat (mapOf (seam_of how) t z.width z.height p))) ≡ map_bytes z
-  map-long = ap length (pairs-flat (mapOf (seam_of how) t z.width z.height p)) ∙ length-flat (grid_pairs (map-grid (seam_of how) (seam_chooses how) t z.width z.height p grid (omega arith)))
+  pub map-long : length (pairs (flat (map_of (seam_of how) t z.width z.height p))) ≡ map_bytes z
+  map-long = ap length (pairs-flat (map_of (seam_of how) t z.width z.height p)) ∙ length-flat (grid-pairs (map-grid (seam_of how) (seam_chooses how) t z.width z.height p grid (omega arith)))
 
   -- The front and the map, with what follows.
   module _ (rest : List ℕ) where
@@ -110,14 +110,14 @@ module _ (z : Size) (how : Method) (p : Picture) (o : OfSize z p) (t : ℕ) (dee
     picture_there =
         ap (picture_in (left_size z t)) take-front
         ∙ ap (picture (left_size z t)) (take_at (bytes q) (replicate (t * (z.height * channels_of z.kind) + pixels z) 0) (picture_bytes (left_size z t)) long-bytes)
-        ∙ picture_bytes_lem (left_size z t) q q-of
+        ∙ picture_bytes_lem (left_size z t) q q_of
 
     -- The seam cut next, and what it leaves.
     abbrev s : List ℕ
     s = seam_of how (z.width - t) z.height q
 
     seam_long : length s ≡ z.height
-    seam_long = each-length ((seam_chooses how).inside (z.width - t) z.height q (omega arith) (grid_of q-of))
+    seam_long = each-length ((seam_chooses how).inside (z.width - t) z.height q (omega arith) (grid_of q_of))
 
     rest-zero : drop (picture_bytes (left_size z t) + pixels (left_size z t)) front ≡ replicate (t * (z.height * channels_of z.kind) + pixels z - pixels (left_size z t)) 0
     rest-zero =
@@ -143,20 +143,20 @@ module _ (z : Size) (how : Method) (p : Picture) (o : OfSize z p) (t : ℕ) (dee
         ∙ ap (replicate hc 0 ++◌) (replicate-append-replicate a b 0)
         ∙ replicate-append-replicate hc (a + b) 0 ∙ ap (λ k. replicate k 0) n)
 
-    next_map : write_rows (suc t) z.width s (pairs (flat m)) ≡ pairs (flat (mapOf (seam_of how) (suc t) z.width z.height p))
+    next_map : write_rows (suc t) z.width s (pairs (flat m)) ≡ pairs (flat (map_of (seam_of how) (suc t) z.width z.height p))
     next_map =
-        let g : Grid (2 * z.width) z.height (map pairs m) = grid_pairs (map-grid (seam_of how) (seam_chooses how) t z.width z.height p grid (omega arith)) in
+        let g : Grid (2 * z.width) z.height (map pairs m) = grid-pairs (map-grid (seam_of how) (seam_chooses how) t z.width z.height p grid (omega arith)) in
         let rows : rows_of (2 * z.width) (length s) (pairs (flat m)) ≡ map pairs m =
-        ap₂ (λ n b. rows_of (2 * z.width) n b) seam_long (pairs-flat m ∙ sym (append-nil (flat (map pairs m)))) ∙ rowsOf-flat [] g in
+        ap₂ (λ n b. rows_of (2 * z.width) n b) seam_long (pairs-flat m ∙ sym (append-nil (flat (map pairs m)))) ∙ rows_of-flat [] g in
         ap (λ r. flat (zip_with (write_pair (low_byte (suc t)) (high_byte (suc t))) s r)) rows
         ∙ ap flat (write_all-pairs (suc t) s m ∙ ap (map pairs) (sym (map_next (seam_of how) (seam_chooses how) t z.width z.height p grid deep)))
-        ∙ sym (pairs-flat (mapOf (seam_of how) (suc t) z.width z.height p))
+        ∙ sym (pairs-flat (map_of (seam_of how) (suc t) z.width z.height p))
 
     next-there : (space' : List ℕ) → NextGiven (left_size z t) how z.width (map_at z) (t + 1) (mapped z how t p ++ rest) space' → space' ≡ mapped z how (t + 1) p ++ rest
     next-there space' g =
         let zeros : List ℕ = replicate (suc t * (z.height * channels_of z.kind) + pixels z) 0 in
         let left = bytes (carve (seam_of how) (suc t) z.width z.height p) in
-        let new = pairs (flat (mapOf (seam_of how) (suc t) z.width z.height p)) in
+        let new = pairs (flat (map_of (seam_of how) (suc t) z.width z.height p)) in
         rw (add-one t)
         ((rw (picture_there, take-front, take-map, drop-map, add-one t) at g.space_left)
         ∙ ap₂ (λ a b. a ++ (b ++ rest)) next-front next_map
@@ -174,8 +174,8 @@ pub first-mapped : (z : Size) (how : Method) (b rest : List ℕ) (n : ℕ) → l
     → b ++ (replicate n 0 ++ rest) ≡ mapped z how 0 (picture z b) ++ rest
 first-mapped z how b rest n e k =
     let zero-few : 0 * (z.height * channels_of z.kind) + pixels z ≡ pixels z = omega (arith, zero-mul (z.height * channels_of z.kind)) in
-    let zeros : replicate n 0 ≡ replicate (0 * (z.height * channels_of z.kind) + pixels z) 0 ++ pairs (flat (mapOf (seam_of how) 0 z.width z.height (picture z b))) =
+    let zeros : replicate n 0 ≡ replicate (0 * (z.height * channels_of z.kind) + pixels z) 0 ++ pairs (flat (map_of (seam_of how) 0 z.width z.height (picture z b))) =
     ap (λ i. replicate i 0) k ∙ sym (replicate-append-replicate (pixels z) (map_bytes z) 0)
-    ∙ sym (ap₂ (λ i r. replicate i 0 ++ r) zero-few (map-zeros (grid_of (picture_of_size z b e)))) in
+    ∙ sym (ap₂ (λ i r. replicate i 0 ++ r) zero-few (map-zeros (grid_of (picture-of_size z b e)))) in
     ap₂ (λ x r. x ++ (r ++ rest)) (sym (bytes-picture z b e)) zeros
-    ∙ sym (append_assoc (bytes (picture z b)) (replicate (0 * (z.height * channels_of z.kind) + pixels z) 0 ++ pairs (flat (mapOf (seam_of how) 0 z.width z.height (picture z b)))) rest)
+    ∙ sym (append_assoc (bytes (picture z b)) (replicate (0 * (z.height * channels_of z.kind) + pixels z) 0 ++ pairs (flat (map_of (seam_of how) 0 z.width z.height (picture z b)))) rest)

@@ -12,10 +12,10 @@ use Rattle.grids.specs.Rows.{rows_of, flat}
 
 module _ {A B : Type 0} (f : B → List A → List A) (d : B) (s : List B) (work whole new : List A) (a w i r : ℕ)
     (inside : r < length s) (fits : a + w ≤ length work) (is : new ≡ f (get_or s r d) (mid_of a w work)) (size : length new ≡ w) where
-  row-turn : take a work ++ flat (zip_with f (drop r s) (rows_of w (suc i) (drop a work))) ≡ whole
+  row_turn : take a work ++ flat (zip_with f (drop r s) (rows_of w (suc i) (drop a work))) ≡ whole
       → take (a + w) (put_mid a w work new) ++ flat (zip_with f (drop (r + 1) s) (rows_of w i (drop (a + w) (put_mid a w work new)))) ≡ whole
   unfolding zip_with
-  row-turn e = rw (front, back, append_assoc, is, add-one r) (rw (drop-cons s r d inside) at e)
+  row_turn e = rw (front, back, append_assoc, is, add-one r) (rw (drop-cons s r d inside) at e)
     where
       long : length (take a work ++ new) ≡ a + w
       long = omega (arith, length-append (take a work) new, length-take-le a work (omega arith))
@@ -40,11 +40,11 @@ module _ {A B : Type 0} (f : B → List A → List A) (d : B) (s : List B) (whol
       let m : e - a ≡ w = omega arith in
       let i : length s - r ≡ suc (length s - (r + 1)) = omega arith in
       let n : (r + 1) * w ≡ r * w + w = rw (add-one r) (suc-mul r w) in
-      rw (m, n, p) (row-turn f d s work whole new (r * w) w (length s - (r + 1)) r h (omega arith) (rw (m, p) at is) size (rw i at so))
+      rw (m, n, p) (row_turn f d s work whole new (r * w) w (length s - (r + 1)) r h (omega arith) (rw (m, p) at is) size (rw i at so))
 
-  pub rows-done : (r : ℕ) (work : List A) → length s ≤ r → length work ≤ r * w → RowsSoFar r work → work ≡ whole
+  pub rows_done : (r : ℕ) (work : List A) → length s ≤ r → length work ≤ r * w → RowsSoFar r work → work ≡ whole
   unfolding zip_with
-  rows-done r work h l so =
+  rows_done r work h l so =
       let z : length s - r ≡ 0 = omega arith in
       sym (append-nil work) ∙ (rw (z, take_all (r * w) work l, no_rows (drop r s)) at so)
     where

@@ -7,7 +7,7 @@ use Rattle.pictures.specs.Refusals.{given, refusal, served}
 use Rattle.pictures.specs.Pictures.{Picture, channels_of, bytes, pixels, picture_in}
 use Rattle.pictures.specs.Numbers.{pairs}
 use Rattle.energy.specs.declared.methods.Method.{Method}
-use Rattle.map_theory.specs.Maps.{carve, mapOf}
+use Rattle.map_theory.specs.Maps.{carve, map_of}
 use Rattle.seam_theory.specs.PictureSeams.{seam_of}
 use Rattle.map_rules.specs.Spaces.{map_bytes, map_at, map_space_rules}
 
@@ -16,7 +16,7 @@ use Rattle.map_rules.specs.Spaces.{map_bytes, map_at, map_space_rules}
 abbrev pub mapped : Size → Method → ℕ → Picture → List ℕ
 mapped z how k p =
     bytes (carve (seam_of how) k z.width z.height p)
-    ++ (replicate (k * (z.height * channels_of z.kind) + pixels z) 0 ++ pairs (flat (mapOf (seam_of how) k z.width z.height p)))
+    ++ (replicate (k * (z.height * channels_of z.kind) + pixels z) 0 ++ pairs (flat (map_of (seam_of how) k z.width z.height p)))
 
 -- The number, and the space; its rest is as it was.
 pub record MapInGiven (space : List ℕ) (z : Size) (how : Method) (depth : ℕ) (answer : Verdict) (space' : List ℕ) : Type 0 where

@@ -8,7 +8,7 @@ use lib.ListN.{length, take, drop, length-drop, drop_of_length-le}
 use lib.Seq.{take_all, take_at, drop_at, take-take, take-append-add, length-take-le}
 use Rattle.grids.specs.Each.{Grid}
 use Rattle.grids.specs.Rows.{rows_of, flat}
-use Rattle.grids.proofs.Rows.{grid-rowsOf, flat-rowsOf}
+use Rattle.grids.proofs.Rows.{grid-rows_of, flat-rows_of}
 use Rattle.grids.proofs.Shapes.{grid_of}
 use Rattle.energy.specs.declared.methods.Method.{Method}
 use Rattle.energy.specs.Methods.{wrap_of}
@@ -17,12 +17,12 @@ use Rattle.pictures.specs.declared.sizes.Size.{Size}
 use Rattle.pictures.specs.declared.refusals.Verdict.{Verdict}
 use Rattle.pictures.specs.Refusals.{◌when◌, given, refusal, served, worked}
 use Rattle.pictures.specs.Pictures.{Picture, picture_bytes, picture, picture_in}
-use Rattle.map_theory.specs.Maps.{mapOf}
+use Rattle.map_theory.specs.Maps.{map_of}
 use Rattle.map_theory.specs.Judged.{every, same, numbers, connected, found}
 use Rattle.map_theory.proofs.Tests.{same_is}
 use Rattle.map_theory.proofs.Maps.{map-grid}
 use Rattle.map_theory.proofs.Judged.{judged-map}
-use Rattle.map_theory.proofs.Building.{flat-same, judged-rebuilt}
+use Rattle.map_theory.proofs.Building.{flat-same, judged_rebuilt}
 use Rattle.seam_theory.specs.PictureSeams.{seam_of}
 use Rattle.pictures.specs.Numbers.{pairs, numbers_in}
 use Rattle.map_rules.specs.Spaces.{map_bytes, map_at, map_space_rules, recorded_at}
@@ -54,7 +54,7 @@ module _ (z : Size) (how : Method) (depth : ℕ) (space : List ℕ) (fits : Fits
   recorded = take (map_bytes z) (drop (recorded_at z) space)
 
   abbrev new : List (List ℕ)
-  new = mapOf (seam_of how) depth z.width z.height (picture_in z space)
+  new = map_of (seam_of how) depth z.width z.height (picture_in z space)
 
   recorded-long : length recorded ≡ map_bytes z
   recorded-long = length-take-le (map_bytes z) (drop (recorded_at z) space) (omega (arith, length-drop (recorded_at z) space, fits.long))
@@ -66,13 +66,13 @@ module _ (z : Size) (how : Method) (depth : ℕ) (space : List ℕ) (fits : Fits
   grid-p = grid_of (there_of_size z space (omega (arith, fits.long)))
 
   grid-m : Grid z.width z.height m
-  grid-m = grid-rowsOf z.width z.height (numbers_in recorded) (omega (arith, numbers-long))
+  grid-m = grid-rows_of z.width z.height (numbers_in recorded) (omega (arith, numbers-long))
 
   grid-new : Grid z.width z.height new
   grid-new = map-grid (seam_of how) (seam_chooses how) depth z.width z.height p grid-p (omega (arith, fits.room.deep))
 
   flat-m : flat m ≡ numbers_in recorded
-  flat-m = flat-rowsOf z.width z.height (numbers_in recorded) ∙ take_all (z.height * z.width) (numbers_in recorded) (omega (arith, numbers-long))
+  flat-m = flat-rows_of z.width z.height (numbers_in recorded) ∙ take_all (z.height * z.width) (numbers_in recorded) (omega (arith, numbers-long))
 
   -- 9 where a row isn't a numbering.
   pub nine : every (numbers depth) m ≡ false → 9 ≡ refusal (recorded_rules z how depth p m)
@@ -83,7 +83,7 @@ module _ (z : Size) (how : Method) (depth : ℕ) (space : List ℕ) (fits : Fits
       → cond {A = ℕ} t 0 (cond (connected (near (wrap_of how)) z.width depth m) 11 10) ≡ refusal (recorded_rules z how depth p m)
   compared e true q =
       sym ((judged-map (seam_of how) (seam_chooses how) z.width z.height depth p m grid-p grid-m (omega (arith, fits.room.deep))).1 (flat-same grid-m grid-new ((same_is (flat m) (flat new)).0 q)))
-  compared e false q = sym (judged-rebuilt (seam_of how) (seam_chooses how) z.width z.height depth p m grid-p grid-m (omega (arith, fits.room.deep)) ∙ rw (e, q) (swap (connected (near (wrap_of how)) z.width depth m)))
+  compared e false q = sym (judged_rebuilt (seam_of how) (seam_chooses how) z.width z.height depth p m grid-p grid-m (omega (arith, fits.room.deep)) ∙ rw (e, q) (swap (connected (near (wrap_of how)) z.width depth m)))
     where
       swap : (b : Bool) → refusal (10 when not b ∷ 11 when true ∷ []) ≡ cond {A = ℕ} b 11 10
       swap true = refl

@@ -43,9 +43,9 @@ abbrev pub Counted : ℕ → List ℕ → List ℕ → ℕ → Type 0
 Counted n seen ys c = (v : ℕ) → v < n → get_or seen v 0 ≡ count v (take c ys)
 
 -- One more at the number a that stands at c.
-pub counted_more : (n : ℕ) (seen ys : List ℕ) (c a : ℕ) → a ≡ get_or ys c 0 → c < length ys → length seen ≡ n → a < n → Counted n seen ys c
+pub counted-more : (n : ℕ) (seen ys : List ℕ) (c a : ℕ) → a ≡ get_or ys c 0 → c < length ys → length seen ≡ n → a < n → Counted n seen ys c
     → Counted n (set seen a (get_or seen a 0 + 1)) ys (c + 1)
-counted_more n seen ys c a is h l i inv v k = go (eqb a v) refl
+counted-more n seen ys c a is h l i inv v k = go (eqb a v) refl
   where
     go : (b : Bool) → eqb a v ≡ b → get_or (set seen a (get_or seen a 0 + 1)) v 0 ≡ count v (take (c + 1) ys)
     go true e =
@@ -76,6 +76,6 @@ counts_judge k n seen ys l h e =
     every-same (λ v. eqb (get_or seen v 0) 1) (λ v. eqb (count v ys) 1) k (λ t a b. ap (λ m. eqb m 1) (h t (omega arith)))
     ∙ sym (ap (every (λ v. eqb (count v ys) 1) (run 1 k) &&◌) e ∙ and-true (every (λ v. eqb (count v ys) 1) (run 1 k)))
 
-pub numbers_over : (k : ℕ) (ys : List ℕ) → every (λ v. leb v k) ys ≡ false → numbers k ys ≡ false
+pub numbers-over : (k : ℕ) (ys : List ℕ) → every (λ v. leb v k) ys ≡ false → numbers k ys ≡ false
 unfolding numbers
-numbers_over k ys e = ap (every (λ v. eqb (count v ys) 1) (run 1 k) &&◌) e ∙ and-false (every (λ v. eqb (count v ys) 1) (run 1 k))
+numbers-over k ys e = ap (every (λ v. eqb (count v ys) 1) (run 1 k) &&◌) e ∙ and-false (every (λ v. eqb (count v ys) 1) (run 1 k))

@@ -15,17 +15,17 @@ use Rattle.map_theory.proofs.Tests.{every-run}
 
 -- Elements judged one after the other, those to come deciding.
 module _ {A : Type 0} (f : A → Bool) (xs : List A) (i : ℕ) (d : A) (inside : i < length xs) where
-  every-turn : every f (drop i xs) ≡ (f (get_or xs i d) && every f (drop (i + 1) xs))
-  every-turn = rw (add-one i, drop-cons xs i d inside)
+  every_turn : every f (drop i xs) ≡ (f (get_or xs i d) && every f (drop (i + 1) xs))
+  every_turn = rw (add-one i, drop-cons xs i d inside)
 
-  pub every-ok : f (get_or xs i d) ≡ true → every f (drop (i + 1) xs) ≡ every f (drop i xs)
-  every-ok e = sym (every-turn ∙ rw e)
+  pub every_ok : f (get_or xs i d) ≡ true → every f (drop (i + 1) xs) ≡ every f (drop i xs)
+  every_ok e = sym (every_turn ∙ rw e)
 
-  pub every-bad : f (get_or xs i d) ≡ false → every f (drop i xs) ≡ false
-  every-bad e = every-turn ∙ rw e
+  pub every_bad : f (get_or xs i d) ≡ false → every f (drop i xs) ≡ false
+  every_bad e = every_turn ∙ rw e
 
-pub every_end : {A : Type 0} (f : A → Bool) (xs : List A) (i : ℕ) → length xs ≤ i → every f (drop i xs) ≡ true
-every_end f xs i h = rw (drop_of_length-le xs h)
+pub every-end : {A : Type 0} (f : A → Bool) (xs : List A) (i : ℕ) → length xs ≤ i → every f (drop i xs) ≡ true
+every-end f xs i h = rw (drop_of_length-le xs h)
 
 -- The numbers 1 to k, those before passing.
 pub run_bad : (f : ℕ → Bool) (k t : ℕ) → 1 ≤ t → t ≤ k → f t ≡ false → every f (run 1 k) ≡ false
@@ -38,8 +38,8 @@ run_bad f k t l h e = go (every f (run 1 k)) refl
 abbrev pub Passed : (ℕ → Bool) → ℕ → Type 0
 Passed f t = (q : ℕ) → 1 ≤ q → q ≤ t → f q ≡ true
 
-pub passed_more : (f : ℕ → Bool) (t : ℕ) → f (t + 1) ≡ true → Passed f t → Passed f (t + 1)
-passed_more f t e h q l m = go (leb q t) refl
+pub passed-more : (f : ℕ → Bool) (t : ℕ) → f (t + 1) ≡ true → Passed f t → Passed f (t + 1)
+passed-more f t e h q l m = go (leb q t) refl
   where
     go : (b : Bool) → leb q t ≡ b → f q ≡ true
     go true p = h q l (leb-true q t p)
@@ -53,8 +53,8 @@ module _ (xs ys : List ℕ) (i : ℕ) (inside : i < length xs) (there : i < leng
   pub same_ok : get_or xs i 0 ≡ get_or ys i 0 → same (drop (i + 1) xs) (drop (i + 1) ys) ≡ same (drop i xs) (drop i ys)
   same_ok e = sym (same_turn ∙ rw (eq-eqb (get_or xs i 0) (get_or ys i 0) e))
 
-  pub same-bad : (get_or xs i 0 ≡ get_or ys i 0 → ⊥) → same (drop i xs) (drop i ys) ≡ false
-  same-bad d = same_turn ∙ rw (ne_eqb (get_or xs i 0) (get_or ys i 0) d)
+  pub same_bad : (get_or xs i 0 ≡ get_or ys i 0 → ⊥) → same (drop i xs) (drop i ys) ≡ false
+  same_bad d = same_turn ∙ rw (ne_eqb (get_or xs i 0) (get_or ys i 0) d)
 
 pub same_end : (xs ys : List ℕ) (i : ℕ) → length xs ≤ i → length ys ≤ i → same (drop i xs) (drop i ys) ≡ true
 same_end xs ys i h k = rw (drop_of_length-le xs h, drop_of_length-le ys k)

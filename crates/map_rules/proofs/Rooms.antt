@@ -26,11 +26,11 @@ pub map_bytes_lem : (z : Size) → map_bytes z ≡ 2 * pixels z
 map_bytes_lem z = mul_left_comm z.height 2 z.width
 
 -- Sides that are served bound the pixels and the bytes of a map.
-pub pixels_few : (z : Size) → Sides z → pixels z ≤ most_pixels
-pixels_few z s = s.pixels_most
+pub pixels-few : (z : Size) → Sides z → pixels z ≤ most_pixels
+pixels-few z s = s.pixels_most
 
-pub map_few : (z : Size) → Sides z → map_bytes z ≤ most_map
-map_few z s = omega (arith, s.pixels_most, map_bytes_lem z)
+pub map-few : (z : Size) → Sides z → map_bytes z ≤ most_map
+map-few z s = omega (arith, s.pixels_most, map_bytes_lem z)
 
 -- What is given out for any size, 0 where it is refused.
 pub map_given : (z : Size) → 2 * served (refusal (side_rules z)) (pixels z) 0 ≡ served (refusal (side_rules z)) (map_bytes z) 0
@@ -43,11 +43,11 @@ pub recorded-given : (z : Size) → served (refusal (side_rules z)) (map_at z) 0
 recorded-given z = served_plus (refusal (side_rules z)) (map_at z) (map_bytes z)
 
 -- It is small.
-pub recorded_few : (z : Size) → served (refusal (side_rules z)) (recorded_at z) 0 ≤ most_picture + most_pixels + most_map
-recorded_few z = go (refusal (side_rules z)) refl
+pub recorded-few : (z : Size) → served (refusal (side_rules z)) (recorded_at z) 0 ≤ most_picture + most_pixels + most_map
+recorded-few z = go (refusal (side_rules z)) refl
   where
     go : (n : ℕ) → refusal (side_rules z) ≡ n → served n (recorded_at z) 0 ≤ most_picture + most_pixels + most_map
-    go zero e = let s = sides_are z e in omega (arith, s.picture_most, s.pixels_most, map_few z s)
+    go zero e = let s = sides_are z e in omega (arith, s.picture_most, s.pixels_most, map-few z s)
     go (suc n) e = omega arith
 
 pub record Room (z : Size) (depth space maps : ℕ) : Type 0 where
@@ -69,8 +69,8 @@ room_is z depth space maps e =
       sides = sides;
       deep = leb-false _ _ first.0;
       long = ltb-false _ _ second.0;
-      pixels_most = pixels_few z sides;
-      map_most = map_few z sides;
+      pixels_most = pixels-few z sides;
+      map_most = map-few z sides;
     }
 
 -- And where the sides are served, the depth is below the width and the maps end in the space, nothing is refused.

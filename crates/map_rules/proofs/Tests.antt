@@ -34,9 +34,9 @@ beside_right c d l = rw (le-leb c (d + 1) (omega arith)) (go (leb (d - c) 1) ref
     go true e = rw (le-leb d (c + 1) (omega (arith, leb-true (d - c) 1 e)))
     go false e = rw (lt-leb d (c + 1) (omega (arith, leb-false (d - c) 1 e)))
 
-pub beside_left : (c d : ℕ) → d ≤ c → leb (c - d) 1 ≡ beside c d
+pub beside-left : (c d : ℕ) → d ≤ c → leb (c - d) 1 ≡ beside c d
 unfolding beside
-beside_left c d l = rw (le-leb d (c + 1) (omega arith)) (go (leb (c - d) 1) refl)
+beside-left c d l = rw (le-leb d (c + 1) (omega arith)) (go (leb (c - d) 1) refl)
   where
     go : (t : Bool) → leb (c - d) 1 ≡ t → t ≡ leb c (d + 1)
     go true e = sym (le-leb c (d + 1) (omega (arith, leb-true (c - d) 1 e)))

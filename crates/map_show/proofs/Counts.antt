@@ -10,9 +10,9 @@ use borrow.Author.Tests.{le-leb, lt-leb}
 use lib.ListN.{length, get_or, drop, drop_of_length-le}
 use lib.Seq.{drop-cons}
 use Rattle.grids.proofs.Orders.{le-or-lt}
-use Rattle.map_theory.specs.Widths.{doubled, rowAtWidth}
+use Rattle.map_theory.specs.Widths.{doubled, row_at_width}
 use Rattle.map_theory.specs.Judged.{tick, doubled_in}
-use Rattle.map_theory.proofs.Widths.{length-keep, length-grow, at-narrow, at_wide}
+use Rattle.map_theory.proofs.Widths.{length_keep, length_grow, at_narrow, at_wide}
 use Rattle.map_show.specs.Showing.{pixels_at}
 
 -- The loop that counts the numbers 1 to u: what was counted and what is to come.
@@ -33,18 +33,18 @@ module _ (u : ℕ) (ys : List ℕ) (c n all : ℕ) where
       omega arith
 
 pub doubled-most : (u : ℕ) (ys : List ℕ) → doubled_in u ys ≤ length ys
-doubled-most u ys = omega (arith, length-keep u ys ys refl)
+doubled-most u ys = omega (arith, length_keep u ys ys refl)
 
 -- A row of as many pixels as numbers shows as many pixels as these say.
 pub pixels-shown : {A : Type 0} (mean : A → A → A) (xs : List A) (ys : List ℕ) (v : ℕ) → length xs ≡ length ys
-    → length (rowAtWidth mean (length ys) v xs ys) ≡ pixels_at ys v
+    → length (row_at_width mean (length ys) v xs ys) ≡ pixels_at ys v
 unfolding pixels_at
 pixels-shown mean xs ys v e = ⊎_elim narrow wide (le-or-lt v (length ys))
   where
-    narrow : v ≤ length ys → length (rowAtWidth mean (length ys) v xs ys) ≡ pixels_at ys v
+    narrow : v ≤ length ys → length (row_at_width mean (length ys) v xs ys) ≡ pixels_at ys v
     narrow h =
-        rw (at-narrow mean (length ys) v xs ys h, le-leb v (length ys) h)
-        (omega (arith, length-keep (length ys - v) xs ys e))
+        rw (at_narrow mean (length ys) v xs ys h, le-leb v (length ys) h)
+        (omega (arith, length_keep (length ys - v) xs ys e))
 
-    wide : length ys < v → length (rowAtWidth mean (length ys) v xs ys) ≡ pixels_at ys v
-    wide h = rw (at_wide mean (length ys) v xs ys h, lt-leb v (length ys) h) (length-grow mean (v - length ys) xs ys e ∙ rw e)
+    wide : length ys < v → length (row_at_width mean (length ys) v xs ys) ≡ pixels_at ys v
+    wide h = rw (at_wide mean (length ys) v xs ys h, lt-leb v (length ys) h) (length_grow mean (v - length ys) xs ys e ∙ rw e)

@@ -27,11 +27,11 @@ fill_start h = record { done = []; parts = refl; place = refl; bytes = refl; roo
 
 module _ {before whole out : List ℕ} {at : ℕ} where
   -- The same bytes to come, said in another way.
-  pub fill-as : {rest more : List ℕ} → rest ≡ more → Filling before whole out at rest → Filling before whole out at more
-  fill-as e f = record { done = f.done; parts = ap (f.done ++◌) (sym e) ∙ f.parts; place = f.place; bytes = f.bytes; room = f.room }
+  pub fill_as : {rest more : List ℕ} → rest ≡ more → Filling before whole out at rest → Filling before whole out at more
+  fill_as e f = record { done = f.done; parts = ap (f.done ++◌) (sym e) ∙ f.parts; place = f.place; bytes = f.bytes; room = f.room }
 
-  pub fill-size : {rest : List ℕ} → Filling before whole out at rest → length out ≡ length before
-  fill-size {rest} f =
+  pub fill_size : {rest : List ℕ} → Filling before whole out at rest → length out ≡ length before
+  fill_size {rest} f =
       ap length f.bytes ∙ length-append f.done (drop at before)
       ∙ omega (arith, length-drop at before, f.place, f.room, ap length f.parts, length-append f.done rest)
 
@@ -39,7 +39,7 @@ module _ {before whole out : List ℕ} {at : ℕ} where
     -- There is room for what comes next,
     pub fill-room : at + n ≤ length out
     fill-room =
-        omega (arith, fill-size f, f.place, f.room, ap length f.parts, length-append f.done (p ++ rest), length-append p rest)
+        omega (arith, fill_size f, f.place, f.room, ap length f.parts, length-append f.done (p ++ rest), length-append p rest)
 
     -- and it is written.
     pub fill_more : Filling before whole (sets out at p) (at + n) rest

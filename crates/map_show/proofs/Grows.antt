@@ -8,14 +8,14 @@ use native.Mathlib.Omega.{arith}
 use lib.ListN.{length, get_or, drop, drop_of_length-le}
 use lib.Seq.{drop-cons, sets}
 use Rattle.grids.specs.Rows.{row_at, flat}
-use Rattle.grids.proofs.Rows.{length-rowsOf}
+use Rattle.grids.proofs.Rows.{length-rows_of}
 use Rattle.seam_theory.specs.Paths.{cons_if}
 use Rattle.pictures.specs.declared.sizes.Kind.{Kind}
 use Rattle.pictures.specs.Pictures.{channels_of}
-use Rattle.map_theory.specs.Widths.{doubled, growFrom, growRow, average}
+use Rattle.map_theory.specs.Widths.{doubled, grow_from, grow_row, average}
 use Rattle.map_show.specs.Inner.Rows.{pixels_in, grown, last_pixels, LastNeeded}
 use Rattle.map_show.specs.Inner.Pixels.{PixelNeeded, MeanNeeded}
-use Rattle.map_show.proofs.Filling.{Filling, fill_start, fill-as, fill-room, fill_more, fill_end}
+use Rattle.map_show.proofs.Filling.{Filling, fill_start, fill_as, fill-room, fill_more, fill_end}
 use Rattle.map_show.proofs.Samples.{length-average}
 use Rattle.map_show.proofs.Places.{pixel_at, below, pixel-end, length-pixel}
 
@@ -23,13 +23,13 @@ use Rattle.map_show.proofs.Places.{pixel_at, below, pixel-end, length-pixel}
 abbrev pub Growing : Kind → List ℕ → List ℕ → ℕ → List ℕ → ℕ → List ℕ → ℕ → Type 0
 Growing k samples ys u before c out at =
     Filling before (grown k samples ys u) out at
-    (flat (growFrom average u (row_at (channels_of k) (c - 1) samples) (drop c (pixels_in k samples ys)) (drop c ys)))
+    (flat (grow_from average u (row_at (channels_of k) (c - 1) samples) (drop c (pixels_in k samples ys)) (drop c ys)))
 
 abbrev pub Behind : Kind → List ℕ → List ℕ → ℕ → List ℕ → ℕ → List ℕ → ℕ → Type 0
 Behind k samples ys u before c out at =
     Filling before (grown k samples ys u) out at
     (flat (cons_if (doubled u (get_or ys c 0)) (average (row_at (channels_of k) c samples) (row_at (channels_of k) (c + 1) samples))
-    (growFrom average u (row_at (channels_of k) c samples) (drop (c + 1) (pixels_in k samples ys)) (drop (c + 1) ys))))
+    (grow_from average u (row_at (channels_of k) c samples) (drop (c + 1) (pixels_in k samples ys)) (drop (c + 1) ys))))
 
 module _ (k : Kind) (samples ys : List ℕ) (whole : length samples ≡ length ys * channels_of k) where
   abbrev pixel : ℕ → List ℕ
@@ -40,10 +40,10 @@ module _ (k : Kind) (samples ys : List ℕ) (whole : length samples ≡ length y
     unfolding grown
     grow-start h room =
         let z : 0 - 1 ≡ 0 = omega arith in
-        let first : (xs : List (List ℕ)) → 0 < length xs → growRow average u xs ys ≡ growFrom average u (get_or xs 0 []) xs ys = started in
-        rw z (fill-as (ap flat (first (pixels_in k samples ys) (below k samples ys whole 0 h) ∙ ap (λ l. growFrom average u l (pixels_in k samples ys) ys) (pixel_at k samples ys whole 0 h))) (fill_start room))
+        let first : (xs : List (List ℕ)) → 0 < length xs → grow_row average u xs ys ≡ grow_from average u (get_or xs 0 []) xs ys = started in
+        rw z (fill_as (ap flat (first (pixels_in k samples ys) (below k samples ys whole 0 h) ∙ ap (λ l. grow_from average u l (pixels_in k samples ys) ys) (pixel_at k samples ys whole 0 h))) (fill_start room))
       where
-        started : (xs : List (List ℕ)) → 0 < length xs → growRow average u xs ys ≡ growFrom average u (get_or xs 0 []) xs ys
+        started : (xs : List (List ℕ)) → 0 < length xs → grow_row average u xs ys ≡ grow_from average u (get_or xs 0 []) xs ys
         started [] h = absurd (omega arith)
         started (x ∷ xs) h = refl
 
@@ -51,16 +51,16 @@ module _ (k : Kind) (samples ys : List ℕ) (whole : length samples ≡ length y
       here : c < length ys
       here = omega arith
 
-      grow-turn : growFrom average u (pixel (c - 1)) (drop c (pixels_in k samples ys)) (drop c ys)
-          ≡ pixel c ∷ cons_if (doubled u (get_or ys c 0)) (average (pixel c) (pixel (c + 1))) (growFrom average u (pixel c) (drop (c + 1) (pixels_in k samples ys)) (drop (c + 1) ys))
+      grow-turn : grow_from average u (pixel (c - 1)) (drop c (pixels_in k samples ys)) (drop c ys)
+          ≡ pixel c ∷ cons_if (doubled u (get_or ys c 0)) (average (pixel c) (pixel (c + 1))) (grow_from average u (pixel c) (drop (c + 1) (pixels_in k samples ys)) (drop (c + 1) ys))
       grow-turn =
           let xs = pixels_in k samples ys in
           let i : suc c < length ys = omega arith in
           rw (add-one c, drop-cons xs c [] (below k samples ys whole c here), drop-cons xs (suc c) [] (below k samples ys whole (suc c) i), drop-cons ys c 0 here, pixel_at k samples ys whole c here, pixel_at k samples ys whole (suc c) i)
 
       grow-next : Growing k samples ys u before c out at → Filling before (grown k samples ys u) out at
-          (pixel c ++ flat (cons_if (doubled u (get_or ys c 0)) (average (pixel c) (pixel (c + 1))) (growFrom average u (pixel c) (drop (c + 1) (pixels_in k samples ys)) (drop (c + 1) ys))))
-      grow-next f = fill-as (ap flat grow-turn) f
+          (pixel c ++ flat (cons_if (doubled u (get_or ys c 0)) (average (pixel c) (pixel (c + 1))) (grow_from average u (pixel c) (drop (c + 1) (pixels_in k samples ys)) (drop (c + 1) ys))))
+      grow-next f = fill_as (ap flat grow-turn) f
 
       pub grow-needed : Growing k samples ys u before c out at → PixelNeeded (channels_of k) samples c out at
       grow-needed f = record { inside = pixel-end k samples ys whole c here; room = fill-room (pixel c) _ (length-pixel k samples ys whole c here) (grow-next f) }
@@ -75,7 +75,7 @@ module _ (k : Kind) (samples ys : List ℕ) (whole : length samples ≡ length y
       new-pass s f = rw next (rw s at f)
 
       new-next : doubled u (get_or ys c 0) ≡ true → Behind k samples ys u before c out at
-          → Filling before (grown k samples ys u) out at (average (pixel c) (pixel (c + 1)) ++ flat (growFrom average u (pixel c) (drop (c + 1) (pixels_in k samples ys)) (drop (c + 1) ys)))
+          → Filling before (grown k samples ys u) out at (average (pixel c) (pixel (c + 1)) ++ flat (grow_from average u (pixel c) (drop (c + 1) (pixels_in k samples ys)) (drop (c + 1) ys)))
       new-next s f = rw s at f
 
       length-new : length (average (pixel c) (pixel (c + 1))) ≡ channels_of k
@@ -93,16 +93,16 @@ module _ (k : Kind) (samples ys : List ℕ) (whole : length samples ≡ length y
 
     -- The last pixel, with its new pixel to the left of it.
     module _ (c : ℕ) (out : List ℕ) (at : ℕ) (end : c + 1 ≡ length ys) where
-      last_turn : growFrom average u (pixel (c - 1)) (drop c (pixels_in k samples ys)) (drop c ys)
+      last_turn : grow_from average u (pixel (c - 1)) (drop c (pixels_in k samples ys)) (drop c ys)
           ≡ cons_if (doubled u (get_or ys c 0)) (average (pixel c) (pixel (c - 1))) (pixel c ∷ [])
       last_turn =
           let xs = pixels_in k samples ys in
           let i : c < length ys = omega arith in
-          let none : drop (suc c) xs ≡ [] = drop_of_length-le xs {i = suc c} (rw (length-rowsOf (channels_of k) (length ys) samples) (omega arith)) in
+          let none : drop (suc c) xs ≡ [] = drop_of_length-le xs {i = suc c} (rw (length-rows_of (channels_of k) (length ys) samples) (omega arith)) in
           rw (drop-cons xs c [] (below k samples ys whole c i), none, drop-cons ys c 0 i, pixel_at k samples ys whole c i)
 
       last-next : Growing k samples ys u before c out at → Filling before (grown k samples ys u) out at (last_pixels k samples c (doubled u (get_or ys c 0)) ++ [])
-      last-next f = fill-as (ap flat last_turn ∙ sym (append-nil (last_pixels k samples c (doubled u (get_or ys c 0))))) f
+      last-next f = fill_as (ap flat last_turn ∙ sym (append-nil (last_pixels k samples c (doubled u (get_or ys c 0))))) f
 
       pub last-needed : Growing k samples ys u before c out at → LastNeeded k samples c (doubled u (get_or ys c 0)) out at
       last-needed f = record { inside = pixel-end k samples ys whole c (omega arith); room = fill-room (last_pixels k samples c (doubled u (get_or ys c 0))) [] refl (last-next f) }
@@ -112,6 +112,6 @@ module _ (k : Kind) (samples ys : List ℕ) (whole : length samples ≡ length y
       last-put f = fill_end (fill_more (last_pixels k samples c (doubled u (get_or ys c 0))) [] refl (last-next f))
 
   -- A row of no pixels.
-  pub grow-none : (u : ℕ) (before : List ℕ) → length ys ≡ 0 → before ≡ grown k samples ys u ++ drop (length (grown k samples ys u)) before
+  pub grow_none : (u : ℕ) (before : List ℕ) → length ys ≡ 0 → before ≡ grown k samples ys u ++ drop (length (grown k samples ys u)) before
   unfolding grown
-  grow-none u before e = rw e
+  grow_none u before e = rw e

@@ -7,14 +7,14 @@ use native.Mathlib.Numerals.{add-one}
 use lib.ListN.{length, get_or, drop, drop_of_length-le}
 use lib.Seq.{drop-cons, sets}
 use Rattle.grids.specs.Rows.{row_at, flat}
-use Rattle.grids.proofs.Rows.{length-rowsOf}
+use Rattle.grids.proofs.Rows.{length-rows_of}
 use Rattle.seam_theory.specs.Paths.{cons_if}
 use Rattle.pictures.specs.declared.sizes.Kind.{Kind}
 use Rattle.pictures.specs.Pictures.{channels_of}
 use Rattle.map_theory.specs.Widths.{stays, keep_row}
 use Rattle.map_show.specs.Inner.Rows.{pixels_in, kept_pixels}
 use Rattle.map_show.specs.Inner.Pixels.{PixelNeeded}
-use Rattle.map_show.proofs.Filling.{Filling, fill_start, fill-as, fill-room, fill_more, fill_end}
+use Rattle.map_show.proofs.Filling.{Filling, fill_start, fill_as, fill-room, fill_more, fill_end}
 use Rattle.map_show.proofs.Places.{pixel_at, below, pixel-end, length-pixel}
 
 -- A row with t columns less goes into the space `before`; from pixel c on it is still to come.
@@ -37,11 +37,11 @@ module _ (k : Kind) (samples ys : List ℕ) (whole : length samples ≡ length y
       keep-turn = rw (add-one c, drop-cons (pixels_in k samples ys) c [] (below k samples ys whole c inside), drop-cons ys c 0 inside, pixel_at k samples ys whole c inside)
 
       pub keep-pass : stays t (get_or ys c 0) ≡ false → Keeping k samples ys t before c out at → Keeping k samples ys t before (c + 1) out at
-      keep-pass s f = fill-as (ap flat (rw s at keep-turn)) f
+      keep-pass s f = fill_as (ap flat (rw s at keep-turn)) f
 
       keep-next : stays t (get_or ys c 0) ≡ true → Keeping k samples ys t before c out at
           → Filling before (kept_pixels k samples ys t) out at (pixel c ++ flat (keep_row (stays t) (drop (c + 1) (pixels_in k samples ys)) (drop (c + 1) ys)))
-      keep-next s f = fill-as (ap flat (rw s at keep-turn)) f
+      keep-next s f = fill_as (ap flat (rw s at keep-turn)) f
 
       pub keep-needed : stays t (get_or ys c 0) ≡ true → Keeping k samples ys t before c out at → PixelNeeded (channels_of k) samples c out at
       keep-needed s f = record { inside = pixel-end k samples ys whole c inside; room = fill-room (pixel c) _ (length-pixel k samples ys whole c inside) (keep-next s f) }
@@ -52,5 +52,5 @@ module _ (k : Kind) (samples ys : List ℕ) (whole : length samples ≡ length y
     pub keep-end : (c : ℕ) (out : List ℕ) (at : ℕ) → length ys ≤ c → Keeping k samples ys t before c out at
         → out ≡ kept_pixels k samples ys t ++ drop (length (kept_pixels k samples ys t)) before
     keep-end c out at h f =
-        let none : drop c (pixels_in k samples ys) ≡ [] = drop_of_length-le (pixels_in k samples ys) {i = c} (rw (length-rowsOf (channels_of k) (length ys) samples) h) in
-        fill_end (fill-as (ap (λ xs. flat (keep_row (stays t) xs (drop c ys))) none) f)
+        let none : drop c (pixels_in k samples ys) ≡ [] = drop_of_length-le (pixels_in k samples ys) {i = c} (rw (length-rows_of (channels_of k) (length ys) samples) h) in
+        fill_end (fill_as (ap (λ xs. flat (keep_row (stays t) xs (drop c ys))) none) f)

@@ -7,5 +7,5 @@ use Rattle.pictures.specs.Refusals.{SmallestGiven}
 use Rattle.pictures.proofs.Rules.{given-smallest}
 use Rattle.map_show.specs.Showing.{row_at_rules}
 
-pub row_smallest : (k : Kind) (samples numbers : List ℕ) (v space : ℕ) → SmallestGiven (row_at_rules k samples numbers v space)
-row_smallest k samples numbers v space = given-smallest _ refl
+pub row-smallest : (k : Kind) (samples numbers : List ℕ) (v space : ℕ) → SmallestGiven (row_at_rules k samples numbers v space)
+row-smallest k samples numbers v space = given-smallest _ refl

@@ -10,18 +10,18 @@ use Rattle.grids.proofs.Shapes.{zip_with_at}
 use Rattle.grids.proofs.Tables.{length-table, table_at}
 
 module _ {A B C : Type 0} (f : A → B → C) where
-  pub length-zipWith : (n : ℕ) (xs : List A) (ys : List B) → length xs ≡ n → length ys ≡ n → length (zip_with f xs ys) ≡ n
+  pub length_zip_with : (n : ℕ) (xs : List A) (ys : List B) → length xs ≡ n → length ys ≡ n → length (zip_with f xs ys) ≡ n
   unfolding zip_with
-  length-zipWith n [] ys e g = e
-  length-zipWith n (x ∷ xs) [] e g = absurd (omega arith)
-  length-zipWith zero (x ∷ xs) (y ∷ ys) e g = absurd (omega arith)
-  length-zipWith (suc n) (x ∷ xs) (y ∷ ys) e g = ap suc (length-zipWith n xs ys (omega arith) (omega arith))
+  length_zip_with n [] ys e g = e
+  length_zip_with n (x ∷ xs) [] e g = absurd (omega arith)
+  length_zip_with zero (x ∷ xs) (y ∷ ys) e g = absurd (omega arith)
+  length_zip_with (suc n) (x ∷ xs) (y ∷ ys) e g = ap suc (length_zip_with n xs ys (omega arith) (omega arith))
 
   -- As a table.
-  pub zipWith-table : (n : ℕ) (xs : List A) (ys : List B) (d : A) (o : B) (z : C) → length xs ≡ n → length ys ≡ n → zip_with f xs ys ≡ table (λ i. f (get_or xs i d) (get_or ys i o)) n
-  zipWith-table n xs ys d o z e g =
+  pub zip_with_table : (n : ℕ) (xs : List A) (ys : List B) (d : A) (o : B) (z : C) → length xs ≡ n → length ys ≡ n → zip_with f xs ys ≡ table (λ i. f (get_or xs i d) (get_or ys i o)) n
+  zip_with_table n xs ys d o z e g =
       let h : ℕ → C = λ i. f (get_or xs i d) (get_or ys i o) in
-      let long : length (zip_with f xs ys) ≡ n = length-zipWith n xs ys e g in
+      let long : length (zip_with f xs ys) ≡ n = length_zip_with n xs ys e g in
       ext_get_or z (zip_with f xs ys) (table h n) (long ∙ sym (length-table h n))
       (λ i l.
       let below : i < n = rw long at l in

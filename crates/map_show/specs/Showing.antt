@@ -5,12 +5,12 @@ use Rattle.pictures.specs.declared.sizes.Kind.{Kind}
 use Rattle.pictures.specs.declared.refusals.Verdict.{Verdict}
 use Rattle.pictures.specs.Refusals.{Rule, ◌when◌, given, refusal, served}
 use Rattle.pictures.specs.Pictures.{channels_of}
-use Rattle.map_theory.specs.Widths.{average, rowAtWidth}
+use Rattle.map_theory.specs.Widths.{average, row_at_width}
 use Rattle.map_theory.specs.Judged.{doubled_in}
 
 -- The bytes of a row at width v: as many pixels as there are numbers, shown by them.
 unfoldable pub row_shown : Kind → List ℕ → List ℕ → ℕ → List ℕ
-row_shown k samples numbers v = flat (rowAtWidth average (length numbers) v (rows_of (channels_of k) (length numbers) samples) numbers)
+row_shown k samples numbers v = flat (row_at_width average (length numbers) v (rows_of (channels_of k) (length numbers) samples) numbers)
 
 -- How many pixels a row with these numbers shows at width v.
 unfoldable pub pixels_at : List ℕ → ℕ → ℕ

@@ -9,10 +9,10 @@ use Rattle.grids.specs.Each.{Grid}
 use Rattle.grids.specs.Rows.{rows_of, flat, row_at}
 use Rattle.grids.proofs.Bools.{same_test}
 use Rattle.grids.proofs.Shapes.{each-length, zip_with_at}
-use Rattle.grids.proofs.Rows.{rowsOf-flat, flat-at, row_more}
+use Rattle.grids.proofs.Rows.{rows_of-flat, flat_at, row_more_lem}
 use Rattle.pictures.specs.Refusals.{◌when◌, refusal}
 use Rattle.seam_theory.specs.Choices.{Choice, Chooses}
-use Rattle.map_theory.specs.Maps.{carve, mapOf}
+use Rattle.map_theory.specs.Maps.{carve, map_of}
 use Rattle.map_theory.specs.Judged.{every, same, numbers, connected, found, map_rules, IsMap}
 use Rattle.map_theory.proofs.Tests.{same_is, every-each}
 use Rattle.map_theory.proofs.Numberings.{numbers_is}
@@ -23,7 +23,7 @@ use Rattle.map_theory.proofs.Judged.{found_is, map_is, chosen-only}
 
 -- Grids whose flat lists are the same are the same.
 pub flat-same : {A : Type 0} {w h : ℕ} {p q : List (List A)} → Grid w h p → Grid w h q → flat p ≡ flat q → p ≡ q
-flat-same {A} {w} {h} {p} {q} g u e = sym (rowsOf-flat [] g) ∙ ap (λ b. rows_of w h (b ++ [])) e ∙ rowsOf-flat [] u
+flat-same {A} {w} {h} {p} {q} g u e = sym (rows_of-flat [] g) ∙ ap (λ b. rows_of w h (b ++ [])) e ∙ rows_of-flat [] u
 
 module _ {A : Type 0} (choose : Choice A) {near : ℕ → ℕ → ℕ → Bool} (good : Chooses near choose) where
   -- The step from depth t to depth t + 1.
@@ -33,40 +33,40 @@ module _ {A : Type 0} (choose : Choice A) {near : ℕ → ℕ → ℕ → Bool} 
     nextSeam = choose (w - t) h (carve choose t w h p)
 
     abbrev pub oldMap : List ℕ
-    oldMap = flat (mapOf choose t w h p)
+    oldMap = flat (map_of choose t w h p)
 
     abbrev pub newMap : List ℕ
-    newMap = flat (mapOf choose (suc t) w h p)
+    newMap = flat (map_of choose (suc t) w h p)
 
     -- Row r of the new map is that of the old one with t + 1 written over its s-th zero, s being the seam's column.
     pub build-row : (r : ℕ) → r < h → write (suc t) (get_or nextSeam r 0) (row_at w r oldMap) ≡ row_at w r newMap
     unfolding write_all
     build-row r l =
-        let old : Grid w h (mapOf choose t w h p) = map-grid choose good t w h p g (omega arith) in
+        let old : Grid w h (map_of choose t w h p) = map-grid choose good t w h p g (omega arith) in
         let columns : length nextSeam ≡ h = each-length (good.inside (w - t) h (carve choose t w h p) (omega arith) (carve-grid choose good t w h p g (omega arith))) in
-        rw (flat-at old r l, flat-at (map-grid choose good (suc t) w h p g deep) r l, map_next choose good t w h p g deep)
-        (sym (zip_with_at (write (suc t)) nextSeam (mapOf choose t w h p) r 0 [] [] (omega arith) (omega (arith, each-length old))))
+        rw (flat_at old r l, flat_at (map-grid choose good (suc t) w h p g deep) r l, map_next choose good t w h p g deep)
+        (sym (zip_with_at (write (suc t)) nextSeam (map_of choose t w h p) r 0 [] [] (omega arith) (omega (arith, each-length old))))
 
     -- One turn of a loop over the rows of one list.
     pub build-turn : (r : ℕ) → r < h
         → take (r * w) newMap ++ (write (suc t) (get_or nextSeam r 0) (row_at w r oldMap) ++ drop (r * w + w) oldMap) ≡ take (r * w + w) newMap ++ drop (r * w + w) oldMap
-    build-turn r l = rw (build-row r l) (row_more w r newMap oldMap)
+    build-turn r l = rw (build-row r l) (row_more_lem w r newMap oldMap)
 
     -- All rows at once.
     pub build-flat : flat (write_all (suc t) nextSeam (rows_of w h oldMap)) ≡ newMap
     build-flat =
-        let e : rows_of w h oldMap ≡ mapOf choose t w h p =
-        ap (rows_of w h) (sym (append-nil oldMap)) ∙ rowsOf-flat [] (map-grid choose good t w h p g (omega arith)) in
+        let e : rows_of w h oldMap ≡ map_of choose t w h p =
+        ap (rows_of w h) (sym (append-nil oldMap)) ∙ rows_of-flat [] (map-grid choose good t w h p g (omega arith)) in
         ap flat (ap (write_all (suc t) nextSeam) e ∙ sym (map_next choose good t w h p g deep))
 
   -- A map is judged alike by 9, by 10, and by comparing it with the picture's map instead of judging each seam by 11.
-  pub judged-rebuilt : (w h k : ℕ) (p : List (List A)) (m : List (List ℕ)) → Grid w h p → Grid w h m → k ≤ w
+  pub judged_rebuilt : (w h k : ℕ) (p : List (List A)) (m : List (List ℕ)) → Grid w h p → Grid w h m → k ≤ w
       → refusal (map_rules near choose w h k p m)
-      ≡ refusal (9 when not (every (numbers k) m) ∷ 10 when not (connected near w k m) ∷ 11 when not (same (flat m) (flat (mapOf choose k w h p))) ∷ [])
-  judged-rebuilt w h k p m g q l = go (every (numbers k) m) (connected near w k m) refl
+      ≡ refusal (9 when not (every (numbers k) m) ∷ 10 when not (connected near w k m) ∷ 11 when not (same (flat m) (flat (map_of choose k w h p))) ∷ [])
+  judged_rebuilt w h k p m g q l = go (every (numbers k) m) (connected near w k m) refl
     where
       new : List (List ℕ)
-      new = mapOf choose k w h p
+      new = map_of choose k w h p
 
       agree : every (numbers k) m ≡ true → found choose w h k p m ≡ same (flat m) (flat new)
       agree n = same_test (found choose w h k p m) (same (flat m) (flat new)) there back

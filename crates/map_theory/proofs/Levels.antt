@@ -6,10 +6,10 @@ use native.Mathlib.Omega.{arith}
 use lib.ListN.{length-map}
 use Rattle.grids.specs.Each.{Each, Grid, none, more}
 use Rattle.grids.specs.Cut.{remove_at, cut}
-use Rattle.grids.proofs.Cut.{length-removeAt}
+use Rattle.grids.proofs.Cut.{length-remove_at}
 use Rattle.map_theory.specs.Maps.{number_row, number, zeros}
 use Rattle.map_theory.specs.Judged.{before, lower_row, lower, column_of, recorded, Numbering}
-use Rattle.map_theory.proofs.Rows.{length-number_row, keep_all, keep-number-row, column-first_row, column-number_row, write, write-number_row, write-first_row}
+use Rattle.map_theory.proofs.Rows.{length-number_row, keep_all, keep_number_row, column-first_row, column-number_row, write, write-number_row, write-first_row}
 use Rattle.map_theory.proofs.Lowered.{lower_zero_row, lower-number_row, number-lower_row, length-lower_row, column_inside}
 use Rattle.map_theory.proofs.Numberings.{numbering_number, numbering_zeros, numbering_none, numbering_lower}
 
@@ -29,7 +29,7 @@ before-number t [] (x ∷ p) m = refl
 before-number t (c ∷ s) [] [] = refl
 before-number t (c ∷ s) [] (y ∷ m) = refl
 before-number t (c ∷ s) (x ∷ p) [] = refl
-before-number t (c ∷ s) (x ∷ p) (y ∷ m) = ap₂ ◌∷◌ (keep-number-row t c x y) (before-number t s p m)
+before-number t (c ∷ s) (x ∷ p) (y ∷ m) = ap₂ ◌∷◌ (keep_number_row t c x y) (before-number t s p m)
 
 pub write-number : (t : ℕ) (s r : List ℕ) (m : List (List ℕ)) → write_all (suc (suc t)) r (number s m) ≡ number s (write_all (suc t) r m)
 unfolding write_all number zip_with
@@ -45,23 +45,23 @@ lower_zero [] = refl
 lower_zero (y ∷ m) = ap₂ ◌∷◌ (lower_zero_row y) (lower_zero m)
 
 -- Sizes.
-pub grid_cut : {A : Type 0} {w h : ℕ} {s : List ℕ} {p : List (List A)} → Columns w h s → Grid w h p → Grid (w - 1) h (cut s p)
+pub grid-cut : {A : Type 0} {w h : ℕ} {s : List ℕ} {p : List (List A)} → Columns w h s → Grid w h p → Grid (w - 1) h (cut s p)
 unfolding cut zip_with
-grid_cut none none = none
-grid_cut (more {x = c} l s) (more {x = x} e g) = more {x = remove_at c x} (omega (arith, length-removeAt c x (omega arith))) (grid_cut s g)
+grid-cut none none = none
+grid-cut (more {x = c} l s) (more {x = x} e g) = more {x = remove_at c x} (omega (arith, length-remove_at c x (omega arith))) (grid-cut s g)
 
-pub grid_number : {w h : ℕ} {s : List ℕ} {m : List (List ℕ)} → Columns w h s → Grid (w - 1) h m → Grid w h (number s m)
+pub grid-number : {w h : ℕ} {s : List ℕ} {m : List (List ℕ)} → Columns w h s → Grid (w - 1) h m → Grid w h (number s m)
 unfolding number zip_with
-grid_number none none = none
-grid_number (more {x = c} l s) (more {x = y} e g) = more {x = number_row c y} (omega (arith, length-number_row c y)) (grid_number s g)
+grid-number none none = none
+grid-number (more {x = c} l s) (more {x = y} e g) = more {x = number_row c y} (omega (arith, length-number_row c y)) (grid-number s g)
 
-pub grid_zeros : {A : Type 0} {w h : ℕ} {p : List (List A)} → Grid w h p → Grid w h (zeros p)
-grid_zeros none = none
-grid_zeros (more {x = x} e g) = more {x = map (λ a. 0) x} (length-map {B = ℕ} x (λ a. 0) ∙ e) (grid_zeros g)
+pub grid-zeros : {A : Type 0} {w h : ℕ} {p : List (List A)} → Grid w h p → Grid w h (zeros p)
+grid-zeros none = none
+grid-zeros (more {x = x} e g) = more {x = map (λ a. 0) x} (length-map {B = ℕ} x (λ a. 0) ∙ e) (grid-zeros g)
 
-pub grid_lower : {k w h : ℕ} {m : List (List ℕ)} → Grid w h m → Each (Numbering (suc k)) h m → Grid (w - 1) h (lower 1 m)
-grid_lower none none = none
-grid_lower (more {x = y} e g) (more n u) = more {x = lower_row 1 y} (omega (arith, length-lower_row y (n.once 1 (omega arith) (omega arith)))) (grid_lower g u)
+pub grid-lower : {k w h : ℕ} {m : List (List ℕ)} → Grid w h m → Each (Numbering (suc k)) h m → Grid (w - 1) h (lower 1 m)
+grid-lower none none = none
+grid-lower (more {x = y} e g) (more n u) = more {x = lower_row 1 y} (omega (arith, length-lower_row y (n.once 1 (omega arith) (omega arith)))) (grid-lower g u)
 
 -- Before the first seam all is left.
 pub before-all : {A : Type 0} {w h : ℕ} {p : List (List A)} {m : List (List ℕ)} → Grid w h p → Grid w h m → before 1 p m ≡ p

@@ -43,8 +43,8 @@ lower-number_row t (suc c) (v ∷ ys) =
     rw (remains-later t v)
     (lower-cons t (later v) v (remains (suc t) v) (keep_row (remains (suc (suc t))) zs zs) (keep_row (remains (suc t)) ys ys) (later-less t v) (lower-number_row t c ys))
 
-remains_two : (v : ℕ) → remains 2 (suc (suc v)) ≡ true
-remains_two v = remains-le 2 (suc v) (omega arith)
+remains-two : (v : ℕ) → remains 2 (suc (suc v)) ≡ true
+remains-two v = remains-le 2 (suc v) (omega arith)
 
 not-one : (v : ℕ) → eqb (suc (suc v)) 1 ≡ false
 not-one v = eqb-suc-suc (suc v) 0 ∙ eqb-suc-zero v
@@ -56,7 +56,7 @@ lower-none (zero ∷ ys) e = rw (remains_zero 2) (ap (0 ∷◌) (lower-none ys e
 lower-none (suc zero ∷ ys) e = absurd (omega arith)
 lower-none (suc (suc v) ∷ ys) e =
     let q : suc (suc v) - 1 ≡ suc v = omega arith in
-    rw (remains_two v, q) (ap (suc (suc v) ∷◌) (lower-none ys (rw (not-one v) at e)))
+    rw (remains-two v, q) (ap (suc (suc v) ∷◌) (lower-none ys (rw (not-one v) at e)))
 
 -- A row with one 1 is its row after the first seam with this seam cut first.
 pub number-lower_row : (ys : List ℕ) → count 1 ys ≡ 1 → number_row (column_of 1 ys) (lower_row 1 ys) ≡ ys
@@ -66,7 +66,7 @@ number-lower_row (zero ∷ ys) e = rw (remains_zero 2, remains_zero 1) (ap (0 �
 number-lower_row (suc zero ∷ ys) e = rw (remains-first 0) (ap (1 ∷◌) (lower-none ys (omega arith)))
 number-lower_row (suc (suc v) ∷ ys) e =
     let q : suc (suc v) - 1 ≡ suc v = omega arith in
-    rw (not-one v, remains_two v, q, remains-all (suc (suc v))) (ap (suc (suc v) ∷◌) (number-lower_row ys (rw (not-one v) at e)))
+    rw (not-one v, remains-two v, q, remains-all (suc (suc v))) (ap (suc (suc v) ∷◌) (number-lower_row ys (rw (not-one v) at e)))
 
 pub length-lower_row : (ys : List ℕ) → count 1 ys ≡ 1 → suc (length (lower_row 1 ys)) ≡ length ys
 length-lower_row ys e = sym (length-number_row (column_of 1 ys) (lower_row 1 ys)) ∙ ap length (number-lower_row ys e)

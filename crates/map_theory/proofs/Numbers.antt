@@ -68,8 +68,8 @@ doubled-not u (suc v) = rw (leb-suc-suc 0 v, leb-zero v) (go (remains (suc u) (s
     go true e = lt-leb (suc v) u (omega (arith, remains_true (suc u) v e))
     go false e = le-leb (suc v) u (omega (arith, remains_false (suc u) v e))
 
-pub doubled_more : (t u v : ℕ) → t ≤ u → doubled t v ≡ true → doubled u v ≡ true
-doubled_more t u v h e = doubled-not u v ∙ go (remains (suc u) v) refl
+pub doubled-more : (t u v : ℕ) → t ≤ u → doubled t v ≡ true → doubled u v ≡ true
+doubled-more t u v h e = doubled-not u v ∙ go (remains (suc u) v) refl
   where
     go : (b : Bool) → remains (suc u) v ≡ b → not b ≡ true
     go true q = rw (doubled-not t v, remains_earlier (suc t) (suc u) v (omega arith) q) at e

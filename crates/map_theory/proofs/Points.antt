@@ -9,8 +9,8 @@ use Rattle.grids.specs.Cut.{remove_at, cut}
 use Rattle.seam_theory.specs.Paths.{run, beside, near}
 use Rattle.pictures.specs.Refusals.{refusal}
 use Rattle.seam_theory.specs.Choices.{Choice}
-use Rattle.map_theory.specs.Maps.{number_row, number, mapOf}
-use Rattle.map_theory.specs.Widths.{offered, stays, doubled, rowAtWidth, shown}
+use Rattle.map_theory.specs.Maps.{number_row, number, map_of}
+use Rattle.map_theory.specs.Widths.{offered, stays, doubled, row_at_width, shown}
 use Rattle.map_theory.specs.Judged.{tick, numbers, remains, before, recorded, connected, found, map_rules}
 
 -- A row of the table: what a definition gives, and what it should.
@@ -39,7 +39,7 @@ judged x y = (refusal (map_rules (near false) seams 3 2 2 example (x ∷ y ∷ [
 abbrev table : List Point
 table =
     -- at its own width the picture itself
-    record { got = shown mean 3 3 example (mapOf seams 2 3 2 example); expected = example }
+    record { got = shown mean 3 3 example (map_of seams 2 3 2 example); expected = example }
     -- widths 1 and 4 are offered
     ∷ record { got = bit (offered 3 2 1 1); expected = (1 ∷ []) ∷ [] }
     ∷ record { got = bit (offered 3 2 1 4); expected = (1 ∷ []) ∷ [] }
@@ -52,5 +52,5 @@ table =
     ∷ []
 
 pub points : map (λ p. p.got) table ≡ map (λ p. p.expected) table
-unfolding remove_at cut zip_with run beside number_row number offered stays doubled rowAtWidth shown numbers remains before connected found
+unfolding remove_at cut zip_with run beside number_row number offered stays doubled row_at_width shown numbers remains before connected found
 points = refl

@@ -27,22 +27,22 @@ module _ {A : Type 0} where
   keep_all (x ∷ xs) [] e = absurd (omega arith)
   keep_all (x ∷ xs) (v ∷ ys) e = rw (remains-all v, keep_all xs ys (omega arith))
 
-  keep-nil : (f : ℕ → Bool) (xs : List A) → keep_row f xs [] ≡ []
-  keep-nil f [] = refl
-  keep-nil f (x ∷ xs) = refl
+  keep_nil : (f : ℕ → Bool) (xs : List A) → keep_row f xs [] ≡ []
+  keep_nil f [] = refl
+  keep_nil f (x ∷ xs) = refl
 
-  keep-later : (t : ℕ) (xs : List A) (ys : List ℕ) → keep_row (remains (suc (suc t))) xs (map later ys) ≡ keep_row (remains (suc t)) xs ys
-  keep-later t [] ys = refl
-  keep-later t (x ∷ xs) [] = refl
-  keep-later t (x ∷ xs) (v ∷ ys) = rw (remains-later t v, keep-later t xs ys)
+  keep_later : (t : ℕ) (xs : List A) (ys : List ℕ) → keep_row (remains (suc (suc t))) xs (map later ys) ≡ keep_row (remains (suc t)) xs ys
+  keep_later t [] ys = refl
+  keep_later t (x ∷ xs) [] = refl
+  keep_later t (x ∷ xs) (v ∷ ys) = rw (remains-later t v, keep_later t xs ys)
 
   -- What is left of a row before seam t + 1, where one more is cut first, is what is left before seam t of the row cut.
-  pub keep-number-row : (t c : ℕ) (xs : List A) (ys : List ℕ) → keep_row (remains (suc (suc t))) xs (number_row c ys) ≡ keep_row (remains (suc t)) (remove_at c xs) ys
+  pub keep_number_row : (t c : ℕ) (xs : List A) (ys : List ℕ) → keep_row (remains (suc (suc t))) xs (number_row c ys) ≡ keep_row (remains (suc t)) (remove_at c xs) ys
   unfolding number_row remove_at
-  keep-number-row t c [] ys = refl
-  keep-number-row t zero (x ∷ xs) ys = rw (remains-first t) (keep-later t xs ys)
-  keep-number-row t (suc c) (x ∷ xs) [] = rw (remains-first t, keep-nil (remains (suc (suc t))) xs, keep-nil (remains (suc t)) (x ∷ remove_at c xs))
-  keep-number-row t (suc c) (x ∷ xs) (v ∷ ys) = rw (remains-later t v, keep-number-row t c xs ys)
+  keep_number_row t c [] ys = refl
+  keep_number_row t zero (x ∷ xs) ys = rw (remains-first t) (keep_later t xs ys)
+  keep_number_row t (suc c) (x ∷ xs) [] = rw (remains-first t, keep_nil (remains (suc (suc t))) xs, keep_nil (remains (suc t)) (x ∷ remove_at c xs))
+  keep_number_row t (suc c) (x ∷ xs) (v ∷ ys) = rw (remains-later t v, keep_number_row t c xs ys)
 
 -- The column of the seam that is cut first,
 pub column-first_row : (c : ℕ) (ys : List ℕ) → c ≤ length ys → column_of 1 (number_row c ys) ≡ c

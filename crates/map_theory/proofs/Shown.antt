@@ -13,11 +13,11 @@ use Rattle.grids.specs.Each.{Each, Grid, none, more}
 use Rattle.grids.proofs.Bools.{both, and_both}
 use Rattle.grids.proofs.Shapes.{each-length, zip_with_at}
 use Rattle.seam_theory.specs.Choices.{Choice, Chooses}
-use Rattle.map_theory.specs.Maps.{carve, mapOf}
-use Rattle.map_theory.specs.Widths.{allowed, offered, rowAtWidth, shown, LeftOut}
+use Rattle.map_theory.specs.Maps.{carve, map_of}
+use Rattle.map_theory.specs.Widths.{allowed, offered, row_at_width, shown, LeftOut}
 use Rattle.map_theory.specs.Judged.{before, Numbering}
 use Rattle.map_theory.proofs.Maps.{map-grid, before-map}
-use Rattle.map_theory.proofs.Widths.{at-narrow, at-original, length_at, row-left-out}
+use Rattle.map_theory.proofs.Widths.{at_narrow, at-original, length_at, row-left-out}
 
 -- Which depths and growths are allowed, and which widths are offered.
 pub allowed_is : (m k g : ℕ) → (allowed m k g ≡ true) ↔ ((k < m) × (g ≤ k) × (g + g ≤ m))
@@ -41,10 +41,10 @@ offered_is m k g v = (
 
 module _ {A : Type 0} (mean : A → A → A) where
   -- Row r of what is shown.
-  pub shown-at : {m h : ℕ} {p : List (List A)} {q : List (List ℕ)} (v : ℕ) → Grid m h p → Grid m h q → (r : ℕ) → r < h
-      → get_or (shown mean m v p q) r [] ≡ rowAtWidth mean m v (get_or p r []) (get_or q r [])
+  pub shown_at : {m h : ℕ} {p : List (List A)} {q : List (List ℕ)} (v : ℕ) → Grid m h p → Grid m h q → (r : ℕ) → r < h
+      → get_or (shown mean m v p q) r [] ≡ row_at_width mean m v (get_or p r []) (get_or q r [])
   unfolding shown
-  shown-at {m} {h} {p} {q} v g u r l = zip_with_at (rowAtWidth mean m v) p q r [] [] [] (omega (arith, each-length g)) (omega (arith, each-length u))
+  shown_at {m} {h} {p} {q} v g u r l = zip_with_at (row_at_width mean m v) p q r [] [] [] (omega (arith, each-length g)) (omega (arith, each-length u))
 
   -- At the original width the picture is shown, whatever the numbers.
   pub shown-original : {m h : ℕ} {p : List (List A)} {q : List (List ℕ)} → Grid m h p → Grid m h q → shown mean m m p q ≡ p
@@ -56,7 +56,7 @@ module _ {A : Type 0} (mean : A → A → A) where
   pub shown-before : {m h : ℕ} {p : List (List A)} {q : List (List ℕ)} (v : ℕ) → v ≤ m → Grid m h p → Grid m h q → shown mean m v p q ≡ before (suc (m - v)) p q
   unfolding shown before zip_with
   shown-before v l none none = refl
-  shown-before {m} v l (more {x = x} e g) (more {x = y} f u) = ap₂ ◌∷◌ (at-narrow mean m v x y l) (shown-before v l g u)
+  shown-before {m} v l (more {x = x} e g) (more {x = y} f u) = ap₂ ◌∷◌ (at_narrow mean m v x y l) (shown-before v l g u)
 
   -- A numbered map, at an allowed depth and growth.
   module _ (m k g : ℕ) (range : allowed m k g ≡ true) where
@@ -90,8 +90,8 @@ module _ {A : Type 0} (mean : A → A → A) where
         rows-left-out v z (omega (arith, a.0, b.0)) l (omega (arith, a.1, c.1))
 
 -- Width m - t of the picture's own map shows the picture after t cuts.
-pub shown_carve : {A : Type 0} (mean : A → A → A) (choose : Choice A) {near : ℕ → ℕ → ℕ → Bool} (good : Chooses near choose) (t k m h : ℕ) (p : List (List A)) → Grid m h p → t ≤ k → k ≤ m
-    → shown mean m (m - t) p (mapOf choose k m h p) ≡ carve choose t m h p
-shown_carve mean choose good t k m h p g l d =
+pub shown-carve : {A : Type 0} (mean : A → A → A) (choose : Choice A) {near : ℕ → ℕ → ℕ → Bool} (good : Chooses near choose) (t k m h : ℕ) (p : List (List A)) → Grid m h p → t ≤ k → k ≤ m
+    → shown mean m (m - t) p (map_of choose k m h p) ≡ carve choose t m h p
+shown-carve mean choose good t k m h p g l d =
     let z : m - (m - t) ≡ t = omega arith in
     shown-before mean (m - t) (omega arith) g (map-grid choose good k m h p g d) ∙ rw z (before-map choose good t k m h p g l d)

@@ -10,42 +10,42 @@ use borrow.Author.Tests.{le-leb, lt-leb}
 use lib.ListN.{length}
 use Rattle.grids.proofs.Orders.{le-or-lt}
 use Rattle.seam_theory.specs.Paths.{cons_if}
-use Rattle.map_theory.specs.Widths.{keep_row, doubled, growFrom, growRow, rowAtWidth, LeftOut}
+use Rattle.map_theory.specs.Widths.{keep_row, doubled, grow_from, grow_row, row_at_width, LeftOut}
 use Rattle.map_theory.specs.Judged.{tick, remains, Numbering, doubled_in}
-use Rattle.map_theory.proofs.Numbers.{stays-remains, remains_earlier, doubled-not, doubled_more}
+use Rattle.map_theory.proofs.Numbers.{stays-remains, remains_earlier, doubled-not, doubled-more}
 use Rattle.map_theory.proofs.Rows.{keep_all}
 use Rattle.map_theory.proofs.Doubled.{doubled_numbering}
 
 module _ {A : Type 0} where
-  consIf-sub : (a b : Bool) (x : A) (xs ys : List A) → (a ≡ true → b ≡ true) → Sublistᴰ xs ys → Sublistᴰ (cons_if a x xs) (cons_if b x ys)
-  consIf-sub true true x xs ys h s = Sublistᴰ.cons-cons refl s
-  consIf-sub true false x xs ys h s =
+  cons_if-sub : (a b : Bool) (x : A) (xs ys : List A) → (a ≡ true → b ≡ true) → Sublistᴰ xs ys → Sublistᴰ (cons_if a x xs) (cons_if b x ys)
+  cons_if-sub true true x xs ys h s = Sublistᴰ.cons-cons refl s
+  cons_if-sub true false x xs ys h s =
       let z : ◌≡◌ {A = Bool} false true = h refl in
       let o : ◌≡◌ {A = ℕ} 0 1 = cc in
       absurd (omega arith)
-  consIf-sub false true x xs ys h s = Sublistᴰ.cons s
-  consIf-sub false false x xs ys h s = s
+  cons_if-sub false true x xs ys h s = Sublistᴰ.cons s
+  cons_if-sub false false x xs ys h s = s
 
-  consIf-more : (b : Bool) (x : A) (xs ys : List A) → Sublistᴰ xs ys → Sublistᴰ xs (cons_if b x ys)
-  consIf-more true x xs ys s = Sublistᴰ.cons s
-  consIf-more false x xs ys s = s
+  cons_if-more : (b : Bool) (x : A) (xs ys : List A) → Sublistᴰ xs ys → Sublistᴰ xs (cons_if b x ys)
+  cons_if-more true x xs ys s = Sublistᴰ.cons s
+  cons_if-more false x xs ys s = s
 
-  pub length-consIf : (b : Bool) (x : A) (xs : List A) → length (cons_if b x xs) ≡ tick b (length xs)
-  length-consIf true x xs = refl
-  length-consIf false x xs = refl
+  pub length-cons_if : (b : Bool) (x : A) (xs : List A) → length (cons_if b x xs) ≡ tick b (length xs)
+  length-cons_if true x xs = refl
+  length-cons_if false x xs = refl
 
   -- Before a later seam less is left.
-  keep-sub : (t u : ℕ) (xs : List A) (ys : List ℕ) → t ≤ u → Sublistᴰ (keep_row (remains u) xs ys) (keep_row (remains t) xs ys)
-  keep-sub t u [] ys h = Sublistᴰ.slnil
-  keep-sub t u (x ∷ xs) [] h = Sublistᴰ.slnil
-  keep-sub t u (x ∷ xs) (v ∷ ys) h =
-      consIf-sub (remains u v) (remains t v) x (keep_row (remains u) xs ys) (keep_row (remains t) xs ys) (remains_earlier t u v h) (keep-sub t u xs ys h)
+  keep_sub : (t u : ℕ) (xs : List A) (ys : List ℕ) → t ≤ u → Sublistᴰ (keep_row (remains u) xs ys) (keep_row (remains t) xs ys)
+  keep_sub t u [] ys h = Sublistᴰ.slnil
+  keep_sub t u (x ∷ xs) [] h = Sublistᴰ.slnil
+  keep_sub t u (x ∷ xs) (v ∷ ys) h =
+      cons_if-sub (remains u v) (remains t v) x (keep_row (remains u) xs ys) (keep_row (remains t) xs ys) (remains_earlier t u v h) (keep_sub t u xs ys h)
 
-  pub length-keep : (t : ℕ) (xs : List A) (ys : List ℕ) → length xs ≡ length ys → length (keep_row (remains (suc t)) xs ys) + doubled_in t ys ≡ length xs
-  length-keep t [] [] e = refl
-  length-keep t [] (v ∷ ys) e = absurd (omega arith)
-  length-keep t (x ∷ xs) [] e = absurd (omega arith)
-  length-keep t (x ∷ xs) (v ∷ ys) e = rw (doubled-not t v) (go (remains (suc t) v) (length-keep t xs ys (omega arith)))
+  pub length_keep : (t : ℕ) (xs : List A) (ys : List ℕ) → length xs ≡ length ys → length (keep_row (remains (suc t)) xs ys) + doubled_in t ys ≡ length xs
+  length_keep t [] [] e = refl
+  length_keep t [] (v ∷ ys) e = absurd (omega arith)
+  length_keep t (x ∷ xs) [] e = absurd (omega arith)
+  length_keep t (x ∷ xs) (v ∷ ys) e = rw (doubled-not t v) (go (remains (suc t) v) (length_keep t xs ys (omega arith)))
     where
       go : (b : Bool) → length (keep_row (remains (suc t)) xs ys) + doubled_in t ys ≡ length xs
           → length (cons_if b x (keep_row (remains (suc t)) xs ys)) + tick (not b) (doubled_in t ys) ≡ suc (length xs)
@@ -54,27 +54,27 @@ module _ {A : Type 0} where
 
 module _ {A : Type 0} (mean : A → A → A) where
   -- A row is in each wider one, and a wide one in each wider one.
-  from-sub : (u : ℕ) (l : A) (xs : List A) (ys : List ℕ) → Sublistᴰ xs (growFrom mean u l xs ys)
+  from-sub : (u : ℕ) (l : A) (xs : List A) (ys : List ℕ) → Sublistᴰ xs (grow_from mean u l xs ys)
   from-sub u l [] ys = Sublistᴰ.slnil
   from-sub u l (x ∷ xs) [] = Sublistᴰ.refl (x ∷ xs)
-  from-sub u l (x ∷ []) (v ∷ ys) = consIf-more (doubled u v) (mean x l) (x ∷ []) (x ∷ []) (Sublistᴰ.refl (x ∷ []))
+  from-sub u l (x ∷ []) (v ∷ ys) = cons_if-more (doubled u v) (mean x l) (x ∷ []) (x ∷ []) (Sublistᴰ.refl (x ∷ []))
   from-sub u l (x ∷ r ∷ xs) (v ∷ ys) =
-      Sublistᴰ.cons-cons refl (consIf-more (doubled u v) (mean x r) (r ∷ xs) (growFrom mean u x (r ∷ xs) ys) (from-sub u x (r ∷ xs) ys))
+      Sublistᴰ.cons-cons refl (cons_if-more (doubled u v) (mean x r) (r ∷ xs) (grow_from mean u x (r ∷ xs) ys) (from-sub u x (r ∷ xs) ys))
 
-  from_more : (t u : ℕ) (l : A) (xs : List A) (ys : List ℕ) → t ≤ u → Sublistᴰ (growFrom mean t l xs ys) (growFrom mean u l xs ys)
+  from_more : (t u : ℕ) (l : A) (xs : List A) (ys : List ℕ) → t ≤ u → Sublistᴰ (grow_from mean t l xs ys) (grow_from mean u l xs ys)
   from_more t u l [] ys h = Sublistᴰ.slnil
   from_more t u l (x ∷ xs) [] h = Sublistᴰ.refl (x ∷ xs)
   from_more t u l (x ∷ []) (v ∷ ys) h =
-      consIf-sub (doubled t v) (doubled u v) (mean x l) (x ∷ []) (x ∷ []) (doubled_more t u v h) (Sublistᴰ.refl (x ∷ []))
+      cons_if-sub (doubled t v) (doubled u v) (mean x l) (x ∷ []) (x ∷ []) (doubled-more t u v h) (Sublistᴰ.refl (x ∷ []))
   from_more t u l (x ∷ r ∷ xs) (v ∷ ys) h =
       Sublistᴰ.cons-cons refl
-      (consIf-sub (doubled t v) (doubled u v) (mean x r) (growFrom mean t x (r ∷ xs) ys) (growFrom mean u x (r ∷ xs) ys) (doubled_more t u v h) (from_more t u x (r ∷ xs) ys h))
+      (cons_if-sub (doubled t v) (doubled u v) (mean x r) (grow_from mean t x (r ∷ xs) ys) (grow_from mean u x (r ∷ xs) ys) (doubled-more t u v h) (from_more t u x (r ∷ xs) ys h))
 
-  length_from : (u : ℕ) (l : A) (xs : List A) (ys : List ℕ) → length xs ≡ length ys → length (growFrom mean u l xs ys) ≡ length xs + doubled_in u ys
+  length_from : (u : ℕ) (l : A) (xs : List A) (ys : List ℕ) → length xs ≡ length ys → length (grow_from mean u l xs ys) ≡ length xs + doubled_in u ys
   length_from u l [] [] e = refl
   length_from u l [] (v ∷ ys) e = absurd (omega arith)
   length_from u l (x ∷ xs) [] e = absurd (omega arith)
-  length_from u l (x ∷ []) (v ∷ []) e = length-consIf (doubled u v) (mean x l) (x ∷ []) ∙ go (doubled u v)
+  length_from u l (x ∷ []) (v ∷ []) e = length-cons_if (doubled u v) (mean x l) (x ∷ []) ∙ go (doubled u v)
     where
       go : (b : Bool) → tick b 1 ≡ 1 + tick b 0
       go true = refl
@@ -82,65 +82,65 @@ module _ {A : Type 0} (mean : A → A → A) where
   length_from u l (x ∷ []) (v ∷ w ∷ ys) e = absurd (omega arith)
   length_from u l (x ∷ r ∷ xs) (v ∷ ys) e = go (doubled u v) (length_from u x (r ∷ xs) ys (omega arith))
     where
-      go : (b : Bool) → length (growFrom mean u x (r ∷ xs) ys) ≡ length (r ∷ xs) + doubled_in u ys
-          → suc (length (cons_if b (mean x r) (growFrom mean u x (r ∷ xs) ys))) ≡ suc (length (r ∷ xs)) + tick b (doubled_in u ys)
+      go : (b : Bool) → length (grow_from mean u x (r ∷ xs) ys) ≡ length (r ∷ xs) + doubled_in u ys
+          → suc (length (cons_if b (mean x r) (grow_from mean u x (r ∷ xs) ys))) ≡ suc (length (r ∷ xs)) + tick b (doubled_in u ys)
       go true ih = omega arith
       go false ih = omega arith
 
-  grow-sub : (u : ℕ) (xs : List A) (ys : List ℕ) → Sublistᴰ xs (growRow mean u xs ys)
-  grow-sub u [] ys = Sublistᴰ.slnil
-  grow-sub u (x ∷ xs) ys = from-sub u x (x ∷ xs) ys
+  grow_sub : (u : ℕ) (xs : List A) (ys : List ℕ) → Sublistᴰ xs (grow_row mean u xs ys)
+  grow_sub u [] ys = Sublistᴰ.slnil
+  grow_sub u (x ∷ xs) ys = from-sub u x (x ∷ xs) ys
 
-  grow-more : (t u : ℕ) (xs : List A) (ys : List ℕ) → t ≤ u → Sublistᴰ (growRow mean t xs ys) (growRow mean u xs ys)
-  grow-more t u [] ys h = Sublistᴰ.slnil
-  grow-more t u (x ∷ xs) ys h = from_more t u x (x ∷ xs) ys h
+  grow_more : (t u : ℕ) (xs : List A) (ys : List ℕ) → t ≤ u → Sublistᴰ (grow_row mean t xs ys) (grow_row mean u xs ys)
+  grow_more t u [] ys h = Sublistᴰ.slnil
+  grow_more t u (x ∷ xs) ys h = from_more t u x (x ∷ xs) ys h
 
-  pub length-grow : (u : ℕ) (xs : List A) (ys : List ℕ) → length xs ≡ length ys → length (growRow mean u xs ys) ≡ length xs + doubled_in u ys
-  length-grow u [] [] e = refl
-  length-grow u [] (v ∷ ys) e = absurd (omega arith)
-  length-grow u (x ∷ xs) ys e = length_from u x (x ∷ xs) ys e
+  pub length_grow : (u : ℕ) (xs : List A) (ys : List ℕ) → length xs ≡ length ys → length (grow_row mean u xs ys) ≡ length xs + doubled_in u ys
+  length_grow u [] [] e = refl
+  length_grow u [] (v ∷ ys) e = absurd (omega arith)
+  length_grow u (x ∷ xs) ys e = length_from u x (x ∷ xs) ys e
 
   -- At most as wide as the row, and wider.
-  pub at-narrow : (m v : ℕ) (xs : List A) (ys : List ℕ) → v ≤ m → rowAtWidth mean m v xs ys ≡ keep_row (remains (suc (m - v))) xs ys
-  unfolding rowAtWidth
-  at-narrow m v xs ys h = rw (le-leb v m h) (ap (λ f. keep_row f xs ys) (stays-remains (m - v)))
+  pub at_narrow : (m v : ℕ) (xs : List A) (ys : List ℕ) → v ≤ m → row_at_width mean m v xs ys ≡ keep_row (remains (suc (m - v))) xs ys
+  unfolding row_at_width
+  at_narrow m v xs ys h = rw (le-leb v m h) (ap (λ f. keep_row f xs ys) (stays-remains (m - v)))
 
-  pub at_wide : (m v : ℕ) (xs : List A) (ys : List ℕ) → m < v → rowAtWidth mean m v xs ys ≡ growRow mean (v - m) xs ys
-  unfolding rowAtWidth
+  pub at_wide : (m v : ℕ) (xs : List A) (ys : List ℕ) → m < v → row_at_width mean m v xs ys ≡ grow_row mean (v - m) xs ys
+  unfolding row_at_width
   at_wide m v xs ys h = rw (lt-leb v m h)
 
   -- A row of a picture and its row of the map.
   module _ (k m : ℕ) (xs : List A) (ys : List ℕ) (full : length xs ≡ m) (fits : length ys ≡ m) where
     -- At the original width it is the row.
-    pub at-original : rowAtWidth mean m m xs ys ≡ xs
+    pub at-original : row_at_width mean m m xs ys ≡ xs
     at-original =
         let z : m - m ≡ 0 = omega arith in
-        at-narrow m m xs ys (omega arith) ∙ rw z (keep_all xs ys (omega arith))
+        at_narrow m m xs ys (omega arith) ∙ rw z (keep_all xs ys (omega arith))
 
-    at-sub : (v z : ℕ) → v ≤ z → Sublistᴰ (rowAtWidth mean m v xs ys) (rowAtWidth mean m z xs ys)
+    at-sub : (v z : ℕ) → v ≤ z → Sublistᴰ (row_at_width mean m v xs ys) (row_at_width mean m z xs ys)
     at-sub v z h = go (le-or-lt v m) (le-or-lt z m)
       where
-        go : (v ≤ m) ⊎ (m < v) → (z ≤ m) ⊎ (m < z) → Sublistᴰ (rowAtWidth mean m v xs ys) (rowAtWidth mean m z xs ys)
-        go (inl p) (inl q) = rw (at-narrow m v xs ys p, at-narrow m z xs ys q) (keep-sub (suc (m - z)) (suc (m - v)) xs ys (omega arith))
+        go : (v ≤ m) ⊎ (m < v) → (z ≤ m) ⊎ (m < z) → Sublistᴰ (row_at_width mean m v xs ys) (row_at_width mean m z xs ys)
+        go (inl p) (inl q) = rw (at_narrow m v xs ys p, at_narrow m z xs ys q) (keep_sub (suc (m - z)) (suc (m - v)) xs ys (omega arith))
         go (inl p) (inr q) =
-            rw (at-narrow m v xs ys p, at_wide m z xs ys q)
+            rw (at_narrow m v xs ys p, at_wide m z xs ys q)
             (Sublistᴰ.trans
-            (subst (Sublistᴰ (keep_row (remains (suc (m - v))) xs ys)) (keep_all xs ys (omega arith)) (keep-sub 1 (suc (m - v)) xs ys (omega arith)))
-            (grow-sub (z - m) xs ys))
+            (subst (Sublistᴰ (keep_row (remains (suc (m - v))) xs ys)) (keep_all xs ys (omega arith)) (keep_sub 1 (suc (m - v)) xs ys (omega arith)))
+            (grow_sub (z - m) xs ys))
         go (inr p) (inl q) = absurd (omega arith)
-        go (inr p) (inr q) = rw (at_wide m v xs ys p, at_wide m z xs ys q) (grow-more (v - m) (z - m) xs ys (omega arith))
+        go (inr p) (inr q) = rw (at_wide m v xs ys p, at_wide m z xs ys q) (grow_more (v - m) (z - m) xs ys (omega arith))
 
     module _ (n : Numbering k ys) where
       -- A row at width v has v pixels.
-      pub length_at : (v : ℕ) → m ≤ v + k → v ≤ m + k → length (rowAtWidth mean m v xs ys) ≡ v
+      pub length_at : (v : ℕ) → m ≤ v + k → v ≤ m + k → length (row_at_width mean m v xs ys) ≡ v
       length_at v l h = ⊎_elim narrow wide (le-or-lt v m)
         where
-          narrow : v ≤ m → length (rowAtWidth mean m v xs ys) ≡ v
-          narrow q = rw (at-narrow m v xs ys q) (omega (arith, length-keep (m - v) xs ys (omega arith), doubled_numbering k (m - v) ys n (omega arith)))
+          narrow : v ≤ m → length (row_at_width mean m v xs ys) ≡ v
+          narrow q = rw (at_narrow m v xs ys q) (omega (arith, length_keep (m - v) xs ys (omega arith), doubled_numbering k (m - v) ys n (omega arith)))
 
-          wide : m < v → length (rowAtWidth mean m v xs ys) ≡ v
-          wide q = rw (at_wide m v xs ys q) (omega (arith, length-grow (v - m) xs ys (omega arith), doubled_numbering k (v - m) ys n (omega arith)))
+          wide : m < v → length (row_at_width mean m v xs ys) ≡ v
+          wide q = rw (at_wide m v xs ys q) (omega (arith, length_grow (v - m) xs ys (omega arith), doubled_numbering k (v - m) ys n (omega arith)))
 
       -- At a smaller width it is the row at the greater one with as many pixels left out as the widths differ by.
-      pub row-left-out : (v z : ℕ) → m ≤ v + k → v ≤ z → z ≤ m + k → LeftOut (z - v) (rowAtWidth mean m v xs ys) (rowAtWidth mean m z xs ys)
+      pub row-left-out : (v z : ℕ) → m ≤ v + k → v ≤ z → z ≤ m + k → LeftOut (z - v) (row_at_width mean m v xs ys) (row_at_width mean m z xs ys)
       row-left-out v z l h u = record { order = at-sub v z h; size = omega (arith, length_at v l (omega arith), length_at z (omega arith) u) }

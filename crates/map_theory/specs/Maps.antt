@@ -35,6 +35,6 @@ module _ {A : Type 0} (choose : Choice A) where
   carve (suc t) w h p = carve t (w - 1) h (cut (choose w h p) p)
 
   -- Its map of depth k: the first seam has number 1, the others are numbered by the map of the picture that is left.
-  abbrev pub mapOf : ℕ → ℕ → ℕ → List (List A) → List (List ℕ)
-  mapOf zero w h p = zeros p
-  mapOf (suc k) w h p = number (choose w h p) (mapOf k (w - 1) h (cut (choose w h p) p))
+  abbrev pub map_of : ℕ → ℕ → ℕ → List (List A) → List (List ℕ)
+  map_of zero w h p = zeros p
+  map_of (suc k) w h p = number (choose w h p) (map_of k (w - 1) h (cut (choose w h p) p))

@@ -33,24 +33,24 @@ module _ {A : Type 0} (mean : A → A → A) where
   -- "It stands directly to the right and is (pixel + right neighbour)/2 .., neighbours taken in the original. In the last
   -- column it stands directly to the left and uses the left neighbour; a new pixel of the column before stands ahead of
   -- it." A row from some pixel on, whose left neighbour is l.
-  abbrev pub growFrom : ℕ → A → List A → List ℕ → List A
-  growFrom u l [] ys = []
-  growFrom u l (x ∷ xs) [] = x ∷ xs
-  growFrom u l (x ∷ []) (v ∷ ys) = cons_if (doubled u v) (mean x l) (x ∷ [])
-  growFrom u l (x ∷ r ∷ xs) (v ∷ ys) = x ∷ cons_if (doubled u v) (mean x r) (growFrom u x (r ∷ xs) ys)
+  abbrev pub grow_from : ℕ → A → List A → List ℕ → List A
+  grow_from u l [] ys = []
+  grow_from u l (x ∷ xs) [] = x ∷ xs
+  grow_from u l (x ∷ []) (v ∷ ys) = cons_if (doubled u v) (mean x l) (x ∷ [])
+  grow_from u l (x ∷ r ∷ xs) (v ∷ ys) = x ∷ cons_if (doubled u v) (mean x r) (grow_from u x (r ∷ xs) ys)
 
   -- The first pixel has no left neighbour. It would be asked for in a row of one pixel, which has no growth.
-  abbrev pub growRow : ℕ → List A → List ℕ → List A
-  growRow u [] ys = []
-  growRow u (x ∷ xs) ys = growFrom u x (x ∷ xs) ys
+  abbrev pub grow_row : ℕ → List A → List ℕ → List A
+  grow_row u [] ys = []
+  grow_row u (x ∷ xs) ys = grow_from u x (x ∷ xs) ys
 
   -- A row of m pixels and its row of the map, at width v.
-  unfoldable pub rowAtWidth : ℕ → ℕ → List A → List ℕ → List A
-  rowAtWidth m v xs ys = cond (leb v m) (keep_row (stays (m - v)) xs ys) (growRow (v - m) xs ys)
+  unfoldable pub row_at_width : ℕ → ℕ → List A → List ℕ → List A
+  row_at_width m v xs ys = cond (leb v m) (keep_row (stays (m - v)) xs ys) (grow_row (v - m) xs ys)
 
   -- What a picture of width m and its map show at width v.
   unfoldable pub shown : ℕ → ℕ → List (List A) → List (List ℕ) → List (List A)
-  shown m v p q = zip_with (rowAtWidth m v) p q
+  shown m v p q = zip_with (row_at_width m v) p q
 
 -- "A point is a pixel, left out or kept with all its samples": xs is ys with n points left out, the others unchanged and in
 -- their order.

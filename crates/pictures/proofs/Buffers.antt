@@ -10,35 +10,35 @@ use lib.Arith.{digits_lt}
 use Rattle.grids.specs.Each.{Each, Grid, none, more}
 use Rattle.grids.specs.Rows.{rows_of, flat, row_at}
 use Rattle.grids.proofs.Shapes.{each_map, get_or-map}
-use Rattle.grids.proofs.Rows.{grid-rowsOf, flat-rowsOf, rowsOf-flat, length-flat, rowsOf-at, rowsOf-past, rowsOf-rowAt, length-rowAt, rowAt-getD, length-rowsOf}
+use Rattle.grids.proofs.Rows.{grid-rows_of, flat-rows_of, rows_of-flat, length-flat, rows_of_at, rows_of-past, rows_of-row_at, length-row_at, row_at_get_d, length-rows_of}
 use Rattle.pictures.specs.declared.sizes.Size.{Size}
 use Rattle.pictures.specs.Refusals.{refusal, served}
 use Rattle.pictures.specs.Pictures.{Picture, channels_of, row_bytes, picture_bytes, size_rules, picture, bytes, OfSize, row_of, pixel}
 use Rattle.pictures.proofs.Rules.{served-not}
 
 -- The rows of a picture, each cut into pixels.
-pub picture_of_size : (z : Size) (b : List ℕ) → length b ≡ picture_bytes z → OfSize z (picture z b)
+pub picture-of_size : (z : Size) (b : List ℕ) → length b ≡ picture_bytes z → OfSize z (picture z b)
 unfolding picture
-picture_of_size z b e =
+picture-of_size z b e =
     each_map (rows_of (channels_of z.kind) z.width)
-    (λ x l. grid-rowsOf (channels_of z.kind) z.width x (omega arith))
-    (grid-rowsOf (row_bytes z) z.height b (omega arith))
+    (λ x l. grid-rows_of (channels_of z.kind) z.width x (omega arith))
+    (grid-rows_of (row_bytes z) z.height b (omega arith))
 
 -- From a buffer to a picture and back.
 flat-pixels : (ch w : ℕ) {n : ℕ} {rows : List (List ℕ)} → Grid (w * ch) n rows → map flat (map (rows_of ch w) rows) ≡ rows
 flat-pixels ch w none = refl
-flat-pixels ch w (more {x = x} e g) = ap₂ ◌∷◌ (flat-rowsOf ch w x ∙ take_all (w * ch) x (le_of_eq e)) (flat-pixels ch w g)
+flat-pixels ch w (more {x = x} e g) = ap₂ ◌∷◌ (flat-rows_of ch w x ∙ take_all (w * ch) x (le_of_eq e)) (flat-pixels ch w g)
 
 pub bytes-picture : (z : Size) (b : List ℕ) → length b ≡ picture_bytes z → bytes (picture z b) ≡ b
 unfolding picture bytes
 bytes-picture z b e =
-    ap flat (flat-pixels (channels_of z.kind) z.width (grid-rowsOf (row_bytes z) z.height b (omega arith)))
-    ∙ flat-rowsOf (row_bytes z) z.height b ∙ take_all (picture_bytes z) b (omega arith)
+    ap flat (flat-pixels (channels_of z.kind) z.width (grid-rows_of (row_bytes z) z.height b (omega arith)))
+    ∙ flat-rows_of (row_bytes z) z.height b ∙ take_all (picture_bytes z) b (omega arith)
 
 -- From a picture to its buffer and back.
 rows_of_flats : (ch w : ℕ) {n : ℕ} {p : Picture} → Each (Grid ch w) n p → map (rows_of ch w) (map flat p) ≡ p
 rows_of_flats ch w none = refl
-rows_of_flats ch w (more {x = x} g e) = ap₂ ◌∷◌ (ap (rows_of ch w) (sym (append-nil (flat x))) ∙ rowsOf-flat [] g) (rows_of_flats ch w e)
+rows_of_flats ch w (more {x = x} g e) = ap₂ ◌∷◌ (ap (rows_of ch w) (sym (append-nil (flat x))) ∙ rows_of-flat [] g) (rows_of_flats ch w e)
 
 pub flats_grid : {ch w n : ℕ} {p : Picture} → Each (Grid ch w) n p → Grid (w * ch) n (map flat p)
 flats_grid e = each_map flat (λ x g. length-flat g) e
@@ -47,7 +47,7 @@ pub picture_bytes_lem : (z : Size) (p : Picture) → OfSize z p → picture z (b
 unfolding picture bytes
 picture_bytes_lem z p o =
     ap (map (rows_of (channels_of z.kind) z.width))
-    (ap (rows_of (row_bytes z) z.height) (sym (append-nil (flat (map flat p)))) ∙ rowsOf-flat [] (flats_grid o))
+    (ap (rows_of (row_bytes z) z.height) (sym (append-nil (flat (map flat p)))) ∙ rows_of-flat [] (flats_grid o))
     ∙ rows_of_flats (channels_of z.kind) z.width o
 
 pub length-bytes : (z : Size) (p : Picture) → OfSize z p → length (bytes p) ≡ picture_bytes z
@@ -61,15 +61,15 @@ pixel_at z b e r c h =
     let ch = channels_of z.kind in
     let rows = rows_of (row_bytes z) z.height b in
     ap (λ x. get_or x c [])
-    (get_or-map (rows_of ch z.width) rows r [] [] (rw (length-rowsOf) h) ∙ ap (rows_of ch z.width) (rowsOf-at (row_bytes z) z.height b r h))
-    ∙ rowsOf-rowAt ch z.width (row_at (row_bytes z) r b) c (le_of_eq (length-rowAt (row_bytes z) z.height b r (omega arith) h))
+    (get_or-map (rows_of ch z.width) rows r [] [] (rw (length-rows_of) h) ∙ ap (rows_of ch z.width) (rows_of_at (row_bytes z) z.height b r h))
+    ∙ rows_of-row_at ch z.width (row_at (row_bytes z) r b) c (le_of_eq (length-row_at (row_bytes z) z.height b r (omega arith) h))
 
 -- Below the last row there are no samples.
 pub pixel-past : (z : Size) (b : List ℕ) (r c : ℕ) → z.height ≤ r → pixel (picture z b) r c ≡ []
 unfolding picture
 pixel-past z b r c h =
     ap (λ x. get_or x c [])
-    (get_or-eq_default (map (rows_of (channels_of z.kind) z.width) (rows_of (row_bytes z) z.height b)) [] (rw (length-map, length-rowsOf) h))
+    (get_or-eq_default (map (rows_of (channels_of z.kind) z.width) (rows_of (row_bytes z) z.height b)) [] (rw (length-map, length-rows_of) h))
 
 -- Sample k of the pixel in row r and column c.
 pub sample_at : (z : Size) (b : List ℕ) → length b ≡ picture_bytes z → (r c k : ℕ) → r < z.height → c < z.width → k < channels_of z.kind
@@ -77,15 +77,15 @@ pub sample_at : (z : Size) (b : List ℕ) → length b ≡ picture_bytes z → (
 sample_at z b e r c k h l m =
     let ch = channels_of z.kind in
     ap (λ x. get_or x k 0) (pixel_at z b e r c h)
-    ∙ rowAt-getD ch (row_at (row_bytes z) r b) c k 0 m
-    ∙ rowAt-getD (row_bytes z) b r (c * ch + k) 0 (digits_lt l m)
+    ∙ row_at_get_d ch (row_at (row_bytes z) r b) c k 0 m
+    ∙ row_at_get_d (row_bytes z) b r (c * ch + k) 0 (digits_lt l m)
 
 -- The row given out: nothing where the picture is refused or has no such row, else the row's bytes.
-pub row_refused : (z : Size) (b : List ℕ) (r n : ℕ) → refusal (size_rules z (length b)) ≡ n → 0 < n → row_of z b r ≡ []
-row_refused z b r n e h = ap (λ m. served m (get_or (rows_of (row_bytes z) z.height b) r []) []) e ∙ served-not n (get_or (rows_of (row_bytes z) z.height b) r []) [] h
+pub row-refused : (z : Size) (b : List ℕ) (r n : ℕ) → refusal (size_rules z (length b)) ≡ n → 0 < n → row_of z b r ≡ []
+row-refused z b r n e h = ap (λ m. served m (get_or (rows_of (row_bytes z) z.height b) r []) []) e ∙ served-not n (get_or (rows_of (row_bytes z) z.height b) r []) [] h
 
-pub row_past : (z : Size) (b : List ℕ) (r : ℕ) → refusal (size_rules z (length b)) ≡ 0 → z.height ≤ r → row_of z b r ≡ []
-row_past z b r e h = ap (λ m. served m (get_or (rows_of (row_bytes z) z.height b) r []) []) e ∙ rowsOf-past (row_bytes z) z.height b r h
+pub row-past : (z : Size) (b : List ℕ) (r : ℕ) → refusal (size_rules z (length b)) ≡ 0 → z.height ≤ r → row_of z b r ≡ []
+row-past z b r e h = ap (λ m. served m (get_or (rows_of (row_bytes z) z.height b) r []) []) e ∙ rows_of-past (row_bytes z) z.height b r h
 
 pub row_is : (z : Size) (b : List ℕ) (r : ℕ) → refusal (size_rules z (length b)) ≡ 0 → r < z.height → row_of z b r ≡ row_at (row_bytes z) r b
-row_is z b r e h = ap (λ m. served m (get_or (rows_of (row_bytes z) z.height b) r []) []) e ∙ rowsOf-at (row_bytes z) z.height b r h
+row_is z b r e h = ap (λ m. served m (get_or (rows_of (row_bytes z) z.height b) r []) []) e ∙ rows_of_at (row_bytes z) z.height b r h

@@ -91,18 +91,18 @@ sides_of z p q r s =
     simp (ne_eqb _ _ w, ne_eqb _ _ h, le-ltb _ _ q, le-ltb _ _ s)
 
 -- A picture takes at most three bytes a pixel.
-pub bytes_few : (z : Size) → picture_bytes z ≤ 3 * pixels z
-bytes_few z =
+pub bytes-few : (z : Size) → picture_bytes z ≤ 3 * pixels z
+bytes-few z =
     let m = mul-le-mul_left z.height (mul-le-mul_left z.width (channels_most z.kind)) in
     omega (arith, mul_assoc z.height z.width 3, mul_comm (z.height * z.width) 3)
 
 -- A line of n pixels fits six bytes for each pixel of the largest side.
-pub line_fits : (n : ℕ) (k : Kind) → n ≤ largest_side → n * channels_of k ≤ 6 * largest_side
-line_fits n k l = let six : channels_of k ≤ 6 = omega (arith, channels_most k) in omega (arith, mul-le-mul l six)
+pub line-fits : (n : ℕ) (k : Kind) → n ≤ largest_side → n * channels_of k ≤ 6 * largest_side
+line-fits n k l = let six : channels_of k ≤ 6 = omega (arith, channels_most k) in omega (arith, mul-le-mul l six)
 
 -- The number of pixels that is given out for any size, 0 where it is refused, and a multiple of it.
-pub pixels_few : (z : Size) → served (refusal (side_rules z)) (pixels z) 0 ≤ most_pixels
-pixels_few z = go (refusal (side_rules z)) refl
+pub pixels-few : (z : Size) → served (refusal (side_rules z)) (pixels z) 0 ≤ most_pixels
+pixels-few z = go (refusal (side_rules z)) refl
   where
     go : (n : ℕ) → refusal (side_rules z) ≡ n → served n (pixels z) 0 ≤ most_pixels
     go zero e = (sides_are z e).pixels_most

@@ -135,8 +135,8 @@ module _ (v : Verdict) (why : Refusal) (is : v ≡ Refused why) where
   refused-some : 0 < given v
   refused-some = rw is (number-some why)
 
-  pub refused-answer : (rules more : List Rule) → given v ≡ refusal rules → given v ≡ refusal (rules ++ more)
-  refused-answer rules more e = e ∙ sym (refused-first rules more (rw e at refused-some))
+  pub refused_answer : (rules more : List Rule) → given v ≡ refusal rules → given v ≡ refusal (rules ++ more)
+  refused_answer rules more e = e ∙ sym (refused-first rules more (rw e at refused-some))
 
   pub refused-kept : {A : Type 0} (x y : A) → y ≡ served (given v) x y
   refused-kept x y = sym (served-not (given v) x y refused-some)

@@ -7,15 +7,15 @@ use native.Mathlib.Omega.{arith}
 use lib.ListN.{length, get_or, take, drop, replicate}
 use Rattle.grids.specs.Each.{Each, Grid, none, more}
 use Rattle.grids.specs.Rows.{rows_of, flat, row_at}
-use Rattle.grids.proofs.Rows.{rowsOf-flat}
+use Rattle.grids.proofs.Rows.{rows_of-flat}
 use Rattle.pictures.specs.Numbers.{two_bytes, low_byte, high_byte, pairs, numbers_in}
 
 -- The i-th number takes the bytes from 2 * i on.
-two_more : (i : ℕ) → 2 * suc i ≡ suc (suc (2 * i))
-two_more i = omega arith
+two-more : (i : ℕ) → 2 * suc i ≡ suc (suc (2 * i))
+two-more i = omega arith
 
-two_after : (i : ℕ) → 2 * suc i + 1 ≡ suc (suc (2 * i + 1))
-two_after i = omega arith
+two-after : (i : ℕ) → 2 * suc i + 1 ≡ suc (suc (2 * i + 1))
+two-after i = omega arith
 
 -- A number of its bytes.
 pub two_bytes_lem : (v : ℕ) → two_bytes (low_byte v) (high_byte v) ≡ v
@@ -53,7 +53,7 @@ pub numbers_at : (b : List ℕ) (i : ℕ) → 2 * i + 1 < length b → get_or (n
 numbers_at [] i h = absurd (omega arith)
 numbers_at (a ∷ []) i h = absurd (omega arith)
 numbers_at (a ∷ c ∷ r) zero h = refl
-numbers_at (a ∷ c ∷ r) (suc i) h = rw (two_after i, two_more i) (numbers_at r i (omega arith))
+numbers_at (a ∷ c ∷ r) (suc i) h = rw (two-after i, two-more i) (numbers_at r i (omega arith))
 
 -- Lists of numbers joined, and parts of them.
 pub pairs-append : (xs ys : List ℕ) → pairs (xs ++ ys) ≡ pairs xs ++ pairs ys
@@ -62,34 +62,34 @@ pairs-append (v ∷ xs) ys = ap (λ r. low_byte v ∷ high_byte v ∷ r) (pairs-
 
 pub numbers-take : (n : ℕ) (b : List ℕ) → numbers_in (take (2 * n) b) ≡ take n (numbers_in b)
 numbers-take zero b = refl
-numbers-take (suc n) [] = rw (two_more n) refl
-numbers-take (suc n) (a ∷ []) = rw (two_more n) refl
-numbers-take (suc n) (a ∷ c ∷ r) = rw (two_more n) (ap (two_bytes a c ∷◌) (numbers-take n r))
+numbers-take (suc n) [] = rw (two-more n) refl
+numbers-take (suc n) (a ∷ []) = rw (two-more n) refl
+numbers-take (suc n) (a ∷ c ∷ r) = rw (two-more n) (ap (two_bytes a c ∷◌) (numbers-take n r))
 
 pub numbers-drop : (n : ℕ) (b : List ℕ) → numbers_in (drop (2 * n) b) ≡ drop n (numbers_in b)
 numbers-drop zero b = refl
-numbers-drop (suc n) [] = rw (two_more n) refl
-numbers-drop (suc n) (a ∷ []) = rw (two_more n) refl
-numbers-drop (suc n) (a ∷ c ∷ r) = rw (two_more n) (numbers-drop n r)
+numbers-drop (suc n) [] = rw (two-more n) refl
+numbers-drop (suc n) (a ∷ []) = rw (two-more n) refl
+numbers-drop (suc n) (a ∷ c ∷ r) = rw (two-more n) (numbers-drop n r)
 
 -- Numbers that are all 0.
 pub pairs-zeros : {A : Type 0} (x : List A) → pairs (map (λ a. 0) x) ≡ replicate (2 * length x) 0
 pairs-zeros [] = refl
-pairs-zeros (a ∷ x) = rw (two_more (length x)) (ap (λ r. 0 ∷ 0 ∷ r) (pairs-zeros x))
+pairs-zeros (a ∷ x) = rw (two-more (length x)) (ap (λ r. 0 ∷ 0 ∷ r) (pairs-zeros x))
 
 -- Rows of w numbers: joined, each as long, row r, and all of them read back.
 pub pairs-flat : (m : List (List ℕ)) → pairs (flat m) ≡ flat (map pairs m)
 pairs-flat [] = refl
 pairs-flat (y ∷ m) = pairs-append y (flat m) ∙ ap (pairs y ++◌) (pairs-flat m)
 
-pub grid_pairs : {w h : ℕ} {m : List (List ℕ)} → Grid w h m → Grid (2 * w) h (map pairs m)
-grid_pairs none = none
-grid_pairs {w} (more {x = y} e g) = more (length_pairs y ∙ ap (2 *◌) e) (grid_pairs g)
+pub grid-pairs : {w h : ℕ} {m : List (List ℕ)} → Grid w h m → Grid (2 * w) h (map pairs m)
+grid-pairs none = none
+grid-pairs {w} (more {x = y} e g) = more (length_pairs y ∙ ap (2 *◌) e) (grid-pairs g)
 
-pub numbers_row : (w r : ℕ) (b : List ℕ) → numbers_in (row_at (2 * w) r b) ≡ row_at w r (numbers_in b)
-numbers_row w r b =
+pub numbers-row : (w r : ℕ) (b : List ℕ) → numbers_in (row_at (2 * w) r b) ≡ row_at w r (numbers_in b)
+numbers-row w r b =
     let e : r * (2 * w) ≡ 2 * (r * w) = sym (mul_assoc r 2 w) ∙ ap (◌* w) (mul_comm r 2) ∙ mul_assoc 2 r w in
     numbers-take w (drop (r * (2 * w)) b) ∙ ap (λ n. take w (numbers_in (drop n b))) e ∙ ap (take w) (numbers-drop (r * w) b)
 
-pub rows_pairs : {w h : ℕ} {m : List (List ℕ)} → Grid w h m → rows_of w h (numbers_in (pairs (flat m))) ≡ m
-rows_pairs {w} {h} {m} g = ap (rows_of w h) (numbers-pairs (flat m) ∙ sym (append-nil (flat m))) ∙ rowsOf-flat [] g
+pub rows-pairs : {w h : ℕ} {m : List (List ℕ)} → Grid w h m → rows_of w h (numbers_in (pairs (flat m))) ≡ m
+rows-pairs {w} {h} {m} g = ap (rows_of w h) (numbers-pairs (flat m) ∙ sym (append-nil (flat m))) ∙ rows_of-flat [] g

@@ -20,14 +20,14 @@ use Rattle.energy.specs.Methods.{wrap_of}
 use Rattle.energy.specs.Around.{left_of, right_of, above_of, below_of, around}
 use Rattle.energy.specs.Energy.{difference, away, costs_from, costs_at, energy, step_of, energies}
 use Rattle.energy.proofs.Energy.{difference_self, away_holds}
-use Rattle.energy.proofs.Steps.{step_energy}
-use Rattle.seam_theory.specs.Best.{better, firstBest}
-use Rattle.seam_theory.specs.Paths.{run, select, pathsUp, paths, cost, beside, nearby}
+use Rattle.energy.proofs.Steps.{step-energy}
+use Rattle.seam_theory.specs.Best.{better, first_best}
+use Rattle.seam_theory.specs.Paths.{run, select, paths_up, paths, cost, beside, nearby}
 use Rattle.seam_theory.specs.Seams.{cheapest}
 use Rattle.seam_theory.specs.PictureSeams.{seam_of}
 use Rattle.seam_rules.specs.Answers.{spent}
 use Rattle.seam_objects.specs.Objects.{MarkedPicture, to_remove, ends, removal}
-use Rattle.map_theory.specs.Maps.{number_row, number, mapOf}
+use Rattle.map_theory.specs.Maps.{number_row, number, map_of}
 use Rattle.map_theory.specs.Widths.{allowed}
 use Rattle.text_theory.specs.Files.{All}
 use Rattle.file_theory.specs.Contents.{parts_of, file_of}
@@ -52,10 +52,10 @@ one-sized Grey n e = rw e
 one-sized Rgb n e = rw e
 
 -- "1 by 1: range 0 0 accepted", whatever bytes its samples are.
-pub one_accepted : (how : Method) (k : Kind) (b : List ℕ) → length b ≡ channels_of k → All (λ (a : ℕ). a < 256) b
+pub one-accepted : (how : Method) (k : Kind) (b : List ℕ) → length b ≡ channels_of k → All (λ (a : ℕ). a < 256) b
     → Accepted (file_of (record { size = one k; method = how; depth = 0; growth = 0 }) (picture (one k) b))
 unfolding allowed
-one_accepted how k b long small =
+one-accepted how k b long small =
     (accepted_built (file_of (record { size = one k; method = how; depth = 0; growth = 0 }) (picture (one k) b))).1
     (record {
       head = record { size = one k; method = how; depth = 0; growth = 0 };
@@ -100,7 +100,7 @@ module _ (px : List ℕ) (p : Picture) (only : Only px p) where
           )
 
   step-none : (how : Method) (w h i a c : ℕ) → step_of how w h p i a c ≡ 0
-  step-none how w h i a c = step_energy how w h p i a c ∙ energy-none how w h i c
+  step-none how w h i a c = step-energy how w h p i a c ∙ energy-none how w h i c
 
   -- So its seam is that of no energy at all.
   seam-none : (how : Method) (w h : ℕ) → seam_of how w h p ≡ reverse (get_or (cheapest (nearby (wrap_of how) w) (λ c. 0) (λ i a c. 0) w h) [])
@@ -131,22 +131,22 @@ module _ (how : Method) (px : List ℕ) where
   only-three (suc r) c = inr refl
 
   seam-two : seam_of how 2 1 two ≡ 0 ∷ []
-  unfolding wrap_of paths pathsUp cost nearby beside select run better firstBest flat_map
+  unfolding wrap_of paths paths_up cost nearby beside select run better first_best flat_map
   seam-two = seam-none px two only_two how 2 1
 
   seam-three : seam_of how 3 1 three ≡ 0 ∷ []
-  unfolding wrap_of paths pathsUp cost nearby beside select run better firstBest flat_map
+  unfolding wrap_of paths paths_up cost nearby beside select run better first_best flat_map
   seam-three = seam-none px three only-three how 3 1
 
   -- "all samples equal, 3 by 1: map 1 2 0 at depth 2", whatever the pixel is.
-  pub equal-map : mapOf (seam_of how) 2 3 1 three ≡ (1 ∷ 2 ∷ 0 ∷ []) ∷ []
+  pub equal_map : map_of (seam_of how) 2 3 1 three ≡ (1 ∷ 2 ∷ 0 ∷ []) ∷ []
   unfolding remove_at cut zip_with number_row number
-  equal-map = rw (seam-three, seam-two)
+  equal_map = rw (seam-three, seam-two)
 
   -- The same in the file of either kind and any growth.
-  pub equal-file : (k : Kind) (g : ℕ)
+  pub equal_file : (k : Kind) (g : ℕ)
       → (parts_of (record { size = record { width = 3; height = 1; kind = k }; method = how; depth = 2; growth = g }) three).maps ≡ (1 ∷ 2 ∷ 0 ∷ []) ∷ []
-  equal-file k g = equal-map
+  equal_file k g = equal_map
 
 -- "budget 0 with a mark 2 at width 2: spent, 0", whatever picture, height and marks are; nothing is cut.
 pub spent_none : (s : MarkedPicture) → s.width ≡ 2 → to_remove s ≡ true → removal 0 0 s ≡ ends spent 0 s

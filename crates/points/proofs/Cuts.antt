@@ -29,12 +29,12 @@ use Rattle.seam_cut.specs.Cutting.{CutGiven}
 use Rattle.file_theory.specs.Shows.{Accepted, offers, Drawn, sized, shows}
 use Rattle.file_theory.proofs.Accepting.{accepted_shaped}
 use Rattle.file_theory.proofs.Shaped.{shaped_is}
-use Rattle.file_theory.proofs.Demands.{shows-cut, shown_of_size}
+use Rattle.file_theory.proofs.Demands.{shows-cut, shown-of_size}
 
 -- What the operation `cut` leaves of a picture, vertically, is the picture after one seam.
-pub cut_carve : (how : Method) (z : Size) (p : Picture) → cut_along Vertical z (seam_along how Vertical z p) p ≡ carve (seam_of how) 1 z.width z.height p
+pub cut-carve : (how : Method) (z : Size) (p : Picture) → cut_along Vertical z (seam_along how Vertical z p) p ≡ carve (seam_of how) 1 z.width z.height p
 unfolding cut_along seam_along turned
-cut_carve how z p = refl
+cut-carve how z p = refl
 
 -- An accepted file of width m, what it shows at width m - t, and what at the next smaller one that it offers.
 module _ (f : List ℕ) (p : Parts) (h : Accepted f) (e : parse f ≡ some p) (t : ℕ) (l : t < p.head.depth)
@@ -62,12 +62,12 @@ module _ (f : List ℕ) (p : Parts) (h : Accepted f) (e : parse f ≡ some p) (t
   pub shows-next : b.rows ≡ cut_along Vertical a.size (seam_along how Vertical a.size a.rows) a.rows
   shows-next =
       ap (λ (d : Drawn). d.rows) narrow ∙ carve-next (seam_of how) t m n p.rows
-      ∙ sym (cut_carve how z (carve (seam_of how) t m n p.rows))
+      ∙ sym (cut-carve how z (carve (seam_of how) t m n p.rows))
       ∙ ap (λ (d : Drawn). cut_along Vertical d.size (seam_along how Vertical d.size d.rows) d.rows) (sym wide)
 
-  ofSize : OfSize a.size a.rows
+  of_size : OfSize a.size a.rows
   unfolding offers
-  ofSize = shown_of_size f h (m - t) (rw e ((offered_is m p.head.depth p.head.growth (m - t)).1 (omega arith, omega arith))) a s
+  of_size = shown-of_size f h (m - t) (rw e ((offered_is m p.head.depth p.head.growth (m - t)).1 (omega arith, omega arith))) a s
 
   -- So where its bytes are lent to the operation and it isn't refused, the picture that it promises begins with the bytes of
   -- what the file shows at the next smaller width; the freed bytes are 0.
@@ -76,7 +76,7 @@ module _ (f : List ℕ) (p : Parts) (h : Accepted f) (e : parse f ≡ some p) (t
       → CutGiven (bytes a.rows) a.size how Vertical seam work answer left seam' work'
       → left ≡ bytes b.rows ++ replicate (a.size.height * channels_of a.size.kind) 0
   cut-shown seam work answer left seam' work' fine c =
-      let i = rw (fine, picture_bytes_lem a.size a.rows ofSize) at c.picture_left in
+      let i = rw (fine, picture_bytes_lem a.size a.rows of_size) at c.picture_left in
       i ∙ ap (λ (r : Picture). bytes r ++ replicate (a.size.height * channels_of a.size.kind) 0) (sym shows-next)
 
   -- And it isn't refused where there is a place for each column of the seam, and 32 bytes of work space a pixel.
@@ -90,6 +90,6 @@ module _ (f : List ℕ) (p : Parts) (h : Accepted f) (e : parse f ≡ some p) (t
       let two : a.size.width ≡ m - t = ap (λ (x : Size). x.width) v in
       let tall : a.size.height ≡ n = ap (λ (x : Size). x.height) v in
       let sides : refusal (side_rules a.size) ≡ 0 = sides_of a.size (omega (arith, two, d)) (omega (arith, two, k.width_most)) (omega (arith, tall, k.height_some)) (omega (arith, tall, k.height_most)) in
-      let size : refusal (size_rules a.size (length (bytes a.rows))) ≡ 0 = rw (length-bytes a.size a.rows ofSize) (sized-served a.size sides) in
+      let size : refusal (size_rules a.size (length (bytes a.rows))) ≡ 0 = rw (length-bytes a.size a.rows of_size) (sized-served a.size sides) in
       served-first (size_rules a.size (length (bytes a.rows))) (room_rules Vertical a.size seam work ++ last_rules Vertical a.size) refl size
       ∙ simp (le-ltb _ _ long, le-ltb _ _ room, ne_eqb _ _ (λ (x : a.size.width ≡ 1). omega (arith, two, d, x)))

@@ -25,8 +25,8 @@ use Rattle.program_theory.specs.Programs.{held_pixels, pixels_rule, fitted_rules
 use Rattle.program_filters.specs.Inner.{DrawNeeded}
 
 -- The spaces are just long enough for the most pixels.
-bytes_over : (k : Kind) (n : ℕ) → ltb (held_pixels * channels_of k) (n * channels_of k) ≡ ltb held_pixels n
-bytes_over k n = go k (ltb held_pixels n) refl
+bytes-over : (k : Kind) (n : ℕ) → ltb (held_pixels * channels_of k) (n * channels_of k) ≡ ltb held_pixels n
+bytes-over k n = go k (ltb held_pixels n) refl
   where
     go : (k : Kind) (t : Bool) → ltb held_pixels n ≡ t → ltb (held_pixels * channels_of k) (n * channels_of k) ≡ t
     go Grey true e = lt-ltb (held_pixels * 1) (n * 1) (omega (arith, ltb-true held_pixels n e))
@@ -58,7 +58,7 @@ same_number file v picture out work needed work_is = go (parse file) refl
     go (some p) e =
         let k : Kind = p.head.size.kind in
         let n : ℕ = p.head.size.height in
-        let written : ltb (length picture) (n * (v * channels_of k)) ≡ ltb held_pixels (n * v) = rw (needed.held p e, ← mul_assoc n v (channels_of k)) (bytes_over k (n * v)) in
+        let written : ltb (length picture) (n * (v * channels_of k)) ≡ ltb held_pixels (n * v) = rw (needed.held p e, ← mul_assoc n v (channels_of k)) (bytes-over k (n * v)) in
         let read : ltb (length work) (32 * pixels p.head.size) ≡ ltb held_pixels (pixels p.head.size) = rw work_is (work_over (pixels p.head.size)) in
         rw (e, written, read, either_order (ltb held_pixels (n * v)) (ltb held_pixels (pixels p.head.size)) 8 (refusal (judged_rules p)))
 

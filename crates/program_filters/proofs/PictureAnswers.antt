@@ -25,7 +25,7 @@ use Rattle.text_theory.proofs.Files.{parse_head}
 use Rattle.text_read.specs.Answers.{Told}
 use Rattle.file_theory.specs.Shows.{sized, Drawn, shows_in, shows, drawn_size, drawn_bytes, offers_in, offers}
 use Rattle.file_theory.specs.Demands.{ShownAt, Shaped}
-use Rattle.file_theory.proofs.Refused.{show_checked, checked_accepted}
+use Rattle.file_theory.proofs.Refused.{show_checked, checked-accepted}
 use Rattle.file_theory.proofs.Demands.{shows-some}
 use Rattle.file_rules.specs.declared.answers.Shown.TheVariants as showings
 use Rattle.file_read.specs.Reading.{ShowGiven}
@@ -43,8 +43,8 @@ use Rattle.map_theory.specs.Bounds.{most_width, most_shown_row}
 
 -- A text without the lines of a head has no parts, and those of its parts are its head's.
 module _ {file : List ℕ} where
-  pub no-head : (v : ℕ) (out : List ℕ) → Told head_get file 0 none → PictureAnswered file v out (outputs.Refused refusals.Form) out
-  no-head v out t = refused_so refusals.Form (drawn_text (shows file v)) out (go (parse file) refl)
+  pub no_head : (v : ℕ) (out : List ℕ) → Told head_get file 0 none → PictureAnswered file v out (outputs.Refused refusals.Form) out
+  no_head v out t = refused_so refusals.Form (drawn_text (shows file v)) out (go (parse file) refl)
     where
       go : (o : Option Parts) → parse file ≡ o → 1 ≡ refusal (fitted_rules v file)
       go none e = rw e
@@ -78,8 +78,8 @@ draw_served {file} {v} D {out} {out'} {n} r P =
     }
 
 module _ (file : List ℕ) (v : ℕ) (picture out work : List ℕ) (needed : DrawNeeded file picture out) (work_is : length work ≡ 32 * held_pixels) where
-  pub draw-refused : (why : Refusal) {picture' work' : List ℕ} → ShowGiven file v picture work (showings.Refused why) picture' work' → PictureAnswered file v out (outputs.Refused why) out
-  draw-refused why g = refused_so why (drawn_text (shows file v)) out (g.number ∙ same_number file v picture out work needed work_is)
+  pub draw_refused : (why : Refusal) {picture' work' : List ℕ} → ShowGiven file v picture work (showings.Refused why) picture' work' → PictureAnswered file v out (outputs.Refused why) out
+  draw_refused why g = refused_so why (drawn_text (shows file v)) out (g.number ∙ same_number file v picture out work needed work_is)
 
   module _ (z : Size) {picture' work' : List ℕ} (g : ShowGiven file v picture work (showings.Size z) picture' work') where
     nothing : refusal (fitted_rules v file) ≡ 0
@@ -93,7 +93,7 @@ module _ (file : List ℕ) (v : ℕ) (picture out work : List ℕ) (needed : Dra
     offers_it = ap (λ q. offers_in q v) fit.parsed ∙ fit.offers_it
 
     at : ShownAt file v
-    at = shows-some file (checked_accepted file (length work) (show_checked file v (length picture) (length work) (sym g.number))) v offers_it
+    at = shows-some file (checked-accepted file (length work) (show_checked file v (length picture) (length work) (sym g.number))) v offers_it
 
     size_is : z ≡ at.drawn.size
     size_is = some-injective z at.drawn.size (g.size ∙ ap drawn_size at.shown)
@@ -124,15 +124,15 @@ module _ (file : List ℕ) (v : ℕ) (picture out work : List ℕ) (needed : Dra
         let g = ((allowed_is h.size.width h.depth h.growth).0 s.range).2 in
         let o = ((offered_is h.size.width h.depth h.growth v).0 fit.offers_it).1 in
         let wide : v ≤ most_width = omega (arith, w, g, o) in
-        let bytes_few : picture_bytes z ≤ 3 * held_pixels = rw (known, ← mul_assoc h.size.height v k) (mul-le-mul fit.few m) in
+        let bytes-few : picture_bytes z ≤ 3 * held_pixels = rw (known, ← mul_assoc h.size.height v k) (mul-le-mul fit.few m) in
         let z-wide : z.width ≤ most_width = rw known wide in
         let z-high : z.height ≤ most_side = rw known (sides_are h.size s.sides).height_small in
         let six : k ≤ 6 = omega (arith, m) in
         record {
           row_most = rw known (mul-le-mul wide six);
-          few = bytes_few;
+          few = bytes-few;
           inside = omega (arith, long, ap length is, length-append (bytes at.drawn.rows) (drop (length (bytes at.drawn.rows)) picture));
           text_is = ap₂ (λ x y. header_text x ++ y) size_is front ∙ sym (ap drawn_text at.shown);
-          text_most = omega (arith, length-append (header_text z) (take (picture_bytes z) picture'), header_most z z-wide z-high, ap length front, long, bytes_few);
+          text_most = omega (arith, length-append (header_text z) (take (picture_bytes z) picture'), header_most z z-wide z-high, ap length front, long, bytes-few);
           served = nothing;
         }

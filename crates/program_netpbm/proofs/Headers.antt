@@ -47,9 +47,9 @@ module _ {B : Type 0} (g : Get B) {text : List ℕ} where
   unfolding letter_p strip
   no_letter h n = record { same = rw (front text 0 h, ne_eqb 80 (get_or text 0 0) (λ e. n (sym e))); moved = tt }
 
-  pub left-letter : 0 < length text → get_or text 0 0 ≡ 80 → Left (after letter_p g) text 0 g 1
+  pub left_letter : 0 < length text → get_or text 0 0 ≡ 80 → Left (after letter_p g) text 0 g 1
   unfolding letter_p strip
-  left-letter h e = record { same = rw (front text 0 h, e); there = omega arith }
+  left_letter h e = record { same = rw (front text 0 h, e); there = omega arith }
 
 -- The last number of a line, and the line end after it, before what is left to read.
 last_step : {B : Type 0} (f : ℕ → Get B) (s : List ℕ) → (number_get largest_number ▷ λ n. after line_end (f n)) s ≡ (last_number ▷ f) s
@@ -65,11 +65,11 @@ last_step f s = go (number_get largest_number s)
     go (some r) = end r.0 (strip line_end r.1)
 
 module _ {B : Type 0} {whole : Get B} {text : List ℕ} {from : ℕ} where
-  pub left-last : (f : ℕ → Get B) {at n c : ℕ} → Left whole text from (number_get largest_number ▷ λ n. after line_end (f n)) at → Told last_number text at (some (n, c)) → Left whole text from (f n) c
-  left-last f {at} L t = record { same = L.same ∙ last_step f (drop at text) ∙ rw t.same; there = omega (arith, L.there, t.moved.0) }
+  pub left_last : (f : ℕ → Get B) {at n c : ℕ} → Left whole text from (number_get largest_number ▷ λ n. after line_end (f n)) at → Told last_number text at (some (n, c)) → Left whole text from (f n) c
+  left_last f {at} L t = record { same = L.same ∙ last_step f (drop at text) ∙ rw t.same; there = omega (arith, L.there, t.moved.0) }
 
-  pub left-no-last : (f : ℕ → Get B) {at : ℕ} → Left whole text from (number_get largest_number ▷ λ n. after line_end (f n)) at → Told last_number text at none → Told whole text from none
-  left-no-last f {at} L t = record { same = L.same ∙ last_step f (drop at text) ∙ rw t.same; moved = tt }
+  pub left_no_last : (f : ℕ → Get B) {at : ℕ} → Left whole text from (number_get largest_number ▷ λ n. after line_end (f n)) at → Told last_number text at none → Told whole text from none
+  left_no_last f {at} L t = record { same = L.same ∙ last_step f (drop at text) ∙ rw t.same; moved = tt }
 
   -- A value that is known, or isn't.
   module _ {A : Type 0} (f : A → Get B) (o : Option A) {at : ℕ} (L : Left whole text from (known o ▷ f) at) where

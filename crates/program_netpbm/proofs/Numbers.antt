@@ -7,7 +7,7 @@ use Rattle.pictures.specs.Refusals.{refusal, SmallestGiven}
 use Rattle.pictures.proofs.Rules.{given-smallest}
 use Rattle.text_read.specs.Answers.{Told}
 use Rattle.text_read.specs.Numbers.{reader_rules}
-use Rattle.text_read.proofs.Numbers.{told-number}
+use Rattle.text_read.proofs.Numbers.{told_number}
 use Rattle.program_theory.specs.Netpbm.{kind_by, header_get}
 use Rattle.program_netpbm.specs.declared.netpbm.Header.{Header}
 use Rattle.program_netpbm.specs.declared.netpbm.Header.TheVariants as headers
@@ -16,8 +16,8 @@ use Rattle.program_netpbm.specs.declared.netpbm.KindSaid.TheVariants as said
 use Rattle.program_netpbm.specs.Headers.{header_read, header_number, kind_said, kind_said_number, kind_said_rules}
 
 pub header_number_lem : (text : List ℕ) (r : Header) → Told header_get text 0 (header_read r) → header_number r ≡ refusal (reader_rules header_get text 0)
-header_number_lem text (headers.Sized z at) t = told-number header_get text 0 (some (z, at)) t
-header_number_lem text headers.Broken t = told-number header_get text 0 none t
+header_number_lem text (headers.Sized z at) t = told_number header_get text 0 (some (z, at)) t
+header_number_lem text headers.Broken t = told_number header_get text 0 none t
 
 -- And of the kind that its numbers say.
 pub said_number : (p m : ℕ) (r : KindSaid) → kind_said r ≡ kind_by p m → kind_said_number r ≡ refusal (kind_said_rules p m)

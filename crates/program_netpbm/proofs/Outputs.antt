@@ -14,7 +14,7 @@ use Rattle.pictures.specs.declared.refusals.Refusal.TheVariants as refusals
 use Rattle.pictures.specs.declared.refusals.Verdict.{Verdict}
 use Rattle.pictures.specs.declared.refusals.Verdict.TheVariants as verdicts
 use Rattle.pictures.specs.Refusals.{Rule, ◌when◌, number_of, given, refusal, served}
-use Rattle.pictures.proofs.Rules.{passed, kept_by, refused-answer}
+use Rattle.pictures.proofs.Rules.{passed, kept_by, refused_answer}
 use Rattle.text_theory.specs.Readers.{Get}
 use Rattle.text_read.specs.Answers.{Told}
 use Rattle.text_print.specs.Inner.{Printed}
@@ -26,27 +26,27 @@ use Rattle.program_netpbm.specs.Outputs.{Wrote, output_number, output_length, Fi
 use Rattle.program_netpbm.specs.Inner.{Answered}
 
 -- A refusal has a number of at most three digits.
-pub number_below : (why : Refusal) → number_of why < 1000
-number_below refusals.Form = omega arith
-number_below refusals.ZeroSide = omega arith
-number_below refusals.TooLarge = omega arith
-number_below refusals.Count = omega arith
-number_below refusals.Mark = omega arith
-number_below refusals.Range = omega arith
-number_below refusals.NotOffered = omega arith
-number_below refusals.Space = omega arith
-number_below refusals.MapRow = omega arith
-number_below refusals.BrokenSeam = omega arith
-number_below refusals.OtherSeam = omega arith
-number_below refusals.AllProtected = omega arith
-number_below refusals.LastLine = omega arith
-number_below refusals.Join = omega arith
-number_below refusals.Rectangle = omega arith
-number_below refusals.RectangleName = omega arith
-number_below refusals.StaleSeam = omega arith
-number_below refusals.Ranges = omega arith
-number_below refusals.GridSide = omega arith
-number_below refusals.NotBlocked = omega arith
+pub number-below : (why : Refusal) → number_of why < 1000
+number-below refusals.Form = omega arith
+number-below refusals.ZeroSide = omega arith
+number-below refusals.TooLarge = omega arith
+number-below refusals.Count = omega arith
+number-below refusals.Mark = omega arith
+number-below refusals.Range = omega arith
+number-below refusals.NotOffered = omega arith
+number-below refusals.Space = omega arith
+number-below refusals.MapRow = omega arith
+number-below refusals.BrokenSeam = omega arith
+number-below refusals.OtherSeam = omega arith
+number-below refusals.AllProtected = omega arith
+number-below refusals.LastLine = omega arith
+number-below refusals.Join = omega arith
+number-below refusals.Rectangle = omega arith
+number-below refusals.RectangleName = omega arith
+number-below refusals.StaleSeam = omega arith
+number-below refusals.Ranges = omega arith
+number-below refusals.GridSide = omega arith
+number-below refusals.NotBlocked = omega arith
 
 -- A refusal printed in the answer's place.
 pub finished_refused : (why : Refusal) {out out' : List ℕ} {n : ℕ} → length (refused_text (number_of why)) ≤ length out
@@ -87,7 +87,7 @@ refused_so why answer out e = record {
 module _ {A : Type 0} (get : Get A) (rules : Option (A × List ℕ) → List Rule) (answer : Option (A × List ℕ) → List ℕ) (input out : List ℕ) where
   pub too_long : (v : Verdict) (why : Refusal) → v ≡ verdicts.Refused why → given v ≡ refusal (input_rule input ∷ [])
       → Answered (input_rule input ∷ rules (get input)) (answer (get input)) out (outputs.Refused why) out
-  too_long v why is e = refused_so why (answer (get input)) out (sym (ap given is) ∙ refused-answer v why is (input_rule input ∷ []) (rules (get input)) e)
+  too_long v why is e = refused_so why (answer (get input)) out (sym (ap given is) ∙ refused_answer v why is (input_rule input ∷ []) (rules (get input)) e)
 
   module _ (v : Verdict) (is : v ≡ verdicts.Served) (given_is : given v ≡ refusal (input_rule input ∷ [])) where
     h : length input ≤ most_input

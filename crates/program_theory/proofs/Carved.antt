@@ -24,13 +24,13 @@ use Rattle.text_theory.specs.Files.{Parts, line_end, parse, All}
 use Rattle.file_theory.specs.Contents.{parts_of, file_of}
 use Rattle.file_theory.specs.Rules.{part_rules, judged_rules}
 use Rattle.file_theory.specs.Shows.{Accepted, sized, shows}
-use Rattle.file_theory.proofs.Accepting.{accepted_shaped, accepted_judged}
+use Rattle.file_theory.proofs.Accepting.{accepted_shaped, accepted-judged}
 use Rattle.file_theory.proofs.Demands.{shows-cut, shows-grown}
 use Rattle.program_theory.specs.Netpbm.{header_text, netpbm}
 use Rattle.program_theory.specs.Programs.{most_input, held_pixels, pixels_rule, refused_text, written, full_range, seams, fitted_rules, drawn_text, fit, carved_rows, carved}
 use Rattle.program_theory.proofs.Header.{width_back}
 use Rattle.program_theory.proofs.Lengths.{number-most, file-most}
-use Rattle.program_theory.proofs.Files.{short_input, full-accepted, full-parsed, seams-served}
+use Rattle.program_theory.proofs.Files.{short_input, full_accepted, full_parsed, seams-served}
 
 -- Depth m - 1 and growth m / 2 offer the widths 1 to m + m / 2, and no others.
 full_offered : (m v : ℕ) → 0 < m → 1 ≤ v → v ≤ m + m / 2 → offered m (m - 1) (m / 2) v ≡ true
@@ -61,21 +61,21 @@ module _ (z : Size) (b : List ℕ) (small : All (λ (a : ℕ). a < 256) b) (fine
   parts = parts_of (full_range z) (picture z b)
 
   parsed : parse file ≡ some parts
-  parsed = full-parsed z b small fine
+  parsed = full_parsed z b small fine
 
   accepted : Accepted file
-  accepted = full-accepted z b small fine
+  accepted = full_accepted z b small fine
 
   sizes : Sized z (length b)
   sizes = sized_is z (length b) fine
 
   -- What is refused of it: other widths than those offered, and of these too many pixels written.
-  file-rules : (v : ℕ) → refusal (fitted_rules v file) ≡ refusal (7 when not (offered z.width (z.width - 1) (z.width / 2) v) ∷ pixels_rule (sized v z) ∷ [])
-  file-rules v =
+  file_rules_lem : (v : ℕ) → refusal (fitted_rules v file) ≡ refusal (7 when not (offered z.width (z.width - 1) (z.width / 2) v) ∷ pixels_rule (sized v z) ∷ [])
+  file_rules_lem v =
       let o : Rule = 7 when not (offered z.width (z.width - 1) (z.width / 2) v) in
       rw parsed
       (served-first (part_rules parts) (o ∷ pixels_rule z ∷ pixels_rule (sized v z) ∷ judged_rules parts) refl (accepted_shaped file parts parsed accepted)
-      ∙ rw (le-ltb held_pixels (pixels z) few, accepted_judged file parts parsed accepted))
+      ∙ rw (le-ltb held_pixels (pixels z) few, accepted-judged file parts parsed accepted))
 
   -- What it shows.
   shows-carved : (v : ℕ) → 1 ≤ v → v ≤ z.width + z.width / 2 → shows file v ≡ some (carved v z (picture z b))
@@ -101,11 +101,11 @@ module _ (z : Size) (b : List ℕ) (small : All (λ (a : ℕ). a < 256) b) (fine
       → fit (digits v ++ (line_end ++ seams (header_text z ++ b))) ≡ written (refusal (pixels_rule (sized v z) ∷ [])) (netpbm (carved v z (picture z b)))
   fit-seams v l m =
       let w : z.width ≤ most_side = sizes.width_small in
-      fit-file v (omega arith) ∙ rw (file-rules v, full_offered z.width v sizes.width_some l m, shows-carved v l m)
+      fit-file v (omega arith) ∙ rw (file_rules_lem v, full_offered z.width v sizes.width_some l m, shows-carved v l m)
 
   -- At any other width the refusal 7.
-  pub fit-others : (v : ℕ) → v ≤ largest_number → (v ≡ 0) ⊎ (z.width + z.width / 2 < v) → fit (digits v ++ (line_end ++ seams (header_text z ++ b))) ≡ refused_text 7
-  fit-others v l o = fit-file v l ∙ rw (file-rules v, full_others z.width v sizes.width_some o)
+  pub fit_others : (v : ℕ) → v ≤ largest_number → (v ≡ 0) ⊎ (z.width + z.width / 2 < v) → fit (digits v ++ (line_end ++ seams (header_text z ++ b))) ≡ refused_text 7
+  fit_others v l o = fit-file v l ∙ rw (file_rules_lem v, full_others z.width v sizes.width_some o)
 
   -- At the original width the picture as it was read.
   pub fit-original : fit (digits z.width ++ (line_end ++ seams (header_text z ++ b))) ≡ header_text z ++ b

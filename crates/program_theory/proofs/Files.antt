@@ -23,7 +23,7 @@ use Rattle.file_theory.specs.Contents.{parts_of, file_of}
 use Rattle.file_theory.specs.Shows.{Accepted}
 use Rattle.file_theory.specs.Demands.{Built}
 use Rattle.file_theory.proofs.Accepting.{accepted_built}
-use Rattle.file_theory.proofs.Built.{built-parsed}
+use Rattle.file_theory.proofs.Built.{built_parsed}
 use Rattle.file_theory.proofs.Lent.{all_drop, lent_allowed}
 use Rattle.program_theory.specs.Netpbm.{header_text, header_get}
 use Rattle.program_theory.specs.Programs.{most_input, held_pixels, pixels_rule, written, full_range, picture_rules, file_answer, seams_rules, seams}
@@ -40,17 +40,17 @@ full_allowed m l = (allowed_is m (m - 1) (m / 2)).1 (omega arith, omega arith, o
 
 -- So the file of a picture that isn't refused, with this range, is built: it is accepted, and its parts are read back.
 module _ (z : Size) (b : List ℕ) (small : All (λ (a : ℕ). a < 256) b) (fine : refusal (size_rules z (length b)) ≡ 0) where
-  full-built : Built (file_of (full_range z) (picture z b))
-  full-built =
+  full_built : Built (file_of (full_range z) (picture z b))
+  full_built =
       let s = sized_is z (length b) fine in
       record { head = full_range z; rows = picture z b; picture = lent_allowed z b small fine; range = full_allowed z.width s.width_some; is = refl }
 
-  pub full-accepted : Accepted (file_of (full_range z) (picture z b))
-  full-accepted = (accepted_built (file_of (full_range z) (picture z b))).1 full-built
+  pub full_accepted : Accepted (file_of (full_range z) (picture z b))
+  full_accepted = (accepted_built (file_of (full_range z) (picture z b))).1 full_built
 
-  pub full-parsed : parse (file_of (full_range z) (picture z b)) ≡ some (parts_of (full_range z) (picture z b))
-  unfolding full-built
-  full-parsed = built-parsed full-built
+  pub full_parsed : parse (file_of (full_range z) (picture z b)) ≡ some (parts_of (full_range z) (picture z b))
+  unfolding full_built
+  full_parsed = built_parsed full_built
 
 -- `seams` writes it, where the picture has at most 1,024 pixels.
 pub seams-served : (z : Size) (b : List ℕ) → refusal (size_rules z (length b)) ≡ 0 → pixels z ≤ held_pixels → seams (header_text z ++ b) ≡ file_of (full_range z) (picture z b)
@@ -69,9 +69,9 @@ seams-served z b fine few =
     (short_input (header_text z ++ b) (refusal (picture_rules (some (z, b)))) (file_answer (some (z, b))) l ∙ rw r)
 
 -- What it writes where it refuses nothing is accepted.
-pub seams_accepted : (input : List ℕ) → All (λ (a : ℕ). a < 256) input → refusal (seams_rules input) ≡ 0 → Accepted (seams input)
+pub seams-accepted : (input : List ℕ) → All (λ (a : ℕ). a < 256) input → refusal (seams_rules input) ≡ 0 → Accepted (seams input)
 unfolding seams
-seams_accepted input small e =
+seams-accepted input small e =
     let p = passed (ltb most_input (length input)) 7 (refusal (picture_rules (header_get input))) e in
     rw e (go (header_get input) refl p.1)
   where
@@ -82,4 +82,4 @@ seams_accepted input small e =
         let fine = (served-both (size_rules z (length b)) (pixels_rule z ∷ []) refl r).0 in
         let n : ℕ = length (header_text z) in
         let rest : All (λ (a : ℕ). a < 256) b = rw (s, drop_at (header_text z) b n refl) at (all_drop (λ (a : ℕ). a < 256) n input small) in
-        rw h (full-accepted z b rest fine)
+        rw h (full_accepted z b rest fine)

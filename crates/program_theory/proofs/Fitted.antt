@@ -15,13 +15,13 @@ use Rattle.map_theory.specs.Widths.{offered}
 use Rattle.text_theory.specs.Files.{Parts, parse}
 use Rattle.file_theory.specs.Rules.{part_rules, judged_rules}
 use Rattle.file_theory.specs.Shows.{Accepted, offers, sized}
-use Rattle.file_theory.proofs.Accepting.{accepted_parts}
+use Rattle.file_theory.proofs.Accepting.{accepted-parts}
 use Rattle.program_theory.specs.Programs.{most_input, held_pixels, pixels_rule, fitted_rules, width_rules, width_get, fit_rules}
 
 -- A width and a file that `fit` doesn't refuse.
-pub fitted_accepted : (v : ℕ) (f : List ℕ) → refusal (fitted_rules v f) ≡ 0 → Accepted f × (offers f v ≡ true)
+pub fitted-accepted : (v : ℕ) (f : List ℕ) → refusal (fitted_rules v f) ≡ 0 → Accepted f × (offers f v ≡ true)
 unfolding offers
-fitted_accepted v f h = go (parse f) refl
+fitted-accepted v f h = go (parse f) refl
   where
     go : (o : Option Parts) → parse f ≡ o → Accepted f × (offers f v ≡ true)
     go none e = let z : ◌≡◌ {A = ℕ} 1 0 = rw e at h in absurd (omega arith)
@@ -32,12 +32,12 @@ fitted_accepted v f h = go (parse f) refl
         let c = passed (not t) 6 (refusal rest) b.1 in
         let d = passed (ltb held_pixels (pixels p.head.size)) 7 (refusal (pixels_rule (sized v p.head.size) ∷ judged_rules p)) c.1 in
         let j = passed (ltb held_pixels (pixels (sized v p.head.size))) 7 (refusal (judged_rules p)) d.1 in
-        ((accepted_parts f).1 (record { parts = p; parsed = e; shaped = b.0; judged = j.1 }), rw e (not-false t c.0))
+        ((accepted-parts f).1 (record { parts = p; parsed = e; shaped = b.0; judged = j.1 }), rw e (not-false t c.0))
 
 -- "reads a line with a width, then a file, checks it": what isn't refused is a width line and after it an accepted file that
 -- offers the width.
-pub fit_accepted : (input : List ℕ) → refusal (fit_rules input) ≡ 0 → (r : ℕ × List ℕ) × (width_get input ≡ some r) × Accepted r.1 × (offers r.1 r.0 ≡ true)
-fit_accepted input h = go (width_get input) refl
+pub fit-accepted : (input : List ℕ) → refusal (fit_rules input) ≡ 0 → (r : ℕ × List ℕ) × (width_get input ≡ some r) × Accepted r.1 × (offers r.1 r.0 ≡ true)
+fit-accepted input h = go (width_get input) refl
   where
     w : refusal (width_rules (width_get input)) ≡ 0
     w = (passed (ltb most_input (length input)) 7 (refusal (width_rules (width_get input))) h).1
@@ -45,5 +45,5 @@ fit_accepted input h = go (width_get input) refl
     go : (o : Option (ℕ × List ℕ)) → width_get input ≡ o → (r : ℕ × List ℕ) × (width_get input ≡ some r) × Accepted r.1 × (offers r.1 r.0 ≡ true)
     go none e = let z : ◌≡◌ {A = ℕ} 1 0 = rw e at w in absurd (omega arith)
     go (some r) e =
-        let b = fitted_accepted r.0 r.1 (rw e at w) in
+        let b = fitted-accepted r.0 r.1 (rw e at w) in
         (r, e, b.0, b.1)

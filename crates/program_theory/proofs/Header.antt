@@ -15,8 +15,8 @@ use Rattle.pictures.specs.declared.sizes.Size.{Size}
 use Rattle.text_theory.specs.Readers.{Get, ◌▷◌, known}
 use Rattle.text_theory.specs.Decimal.{digits, is_digit}
 use Rattle.text_theory.specs.Files.{blank, line_end}
-use Rattle.text_theory.proofs.Pairs.{Reads, strip_back, Sounds, give-sounds, after-sounds, then-sounds, soundly}
-use Rattle.text_theory.proofs.Decimals.{clear, number-reads}
+use Rattle.text_theory.proofs.Pairs.{Reads, strip_back, Sounds, give_sounds, after_sounds, then_sounds, soundly}
+use Rattle.text_theory.proofs.Decimals.{clear, number_reads}
 use Rattle.text_theory.proofs.Files.{clear-blank}
 use Rattle.program_theory.specs.Netpbm.{letter_p, magic_of, maxval_of, header_text, kind_by, header_get}
 use Rattle.program_theory.specs.Programs.{width_get}
@@ -45,9 +45,9 @@ known_sounds none k = record { sounds = λ s r h. absurd (none-ne-some _ h) }
 known_sounds (some a) k = k a refl
 
 -- No digit stands after a number.
-clear_end : (t : List ℕ) → clear (line_end ++ t)
+clear-end : (t : List ℕ) → clear (line_end ++ t)
 unfolding line_end is_digit
-clear_end t = refl
+clear-end t = refl
 
 -- The numbers of a header that say its kind have the file's form.
 magic_small : (k : Kind) → magic_of k ≤ largest_number
@@ -65,17 +65,17 @@ Numbers z = (z.width ≤ largest_number) × (z.height ≤ largest_number)
 pub header_back : (z : Size) → z.width ≤ largest_number → z.height ≤ largest_number → (t : List ℕ) → header_get (header_text z ++ t) ≡ some (z, t)
 unfolding header_get header_text
 header_back z w h t =
-    let n = number-reads largest_number in
+    let n = number_reads largest_number in
     simp append_assoc
     (rw (
       strip_back,
-      n.back (magic_of z.kind) (magic_small z.kind) _ (clear_end _),
+      n.back (magic_of z.kind) (magic_small z.kind) _ (clear-end _),
       strip_back,
       n.back z.width w _ (clear-blank _),
       strip_back,
-      n.back z.height h _ (clear_end _),
+      n.back z.height h _ (clear-end _),
       strip_back,
-      n.back (maxval_of z.kind) (maxval_small z.kind) _ (clear_end _),
+      n.back (maxval_of z.kind) (maxval_small z.kind) _ (clear-end _),
       strip_back,
       kind_by_back z.kind,
     ))
@@ -83,10 +83,10 @@ header_back z w h t =
 header_sounds : Sounds Numbers header_text [] header_get
 unfolding header_get header_text
 header_sounds =
-    let n = number-reads largest_number in
-    after-sounds letter_p (then-sounds n λ p hp. after-sounds line_end (then-sounds n λ w hw. after-sounds blank (then-sounds n λ h hh.
-    after-sounds line_end (then-sounds n λ m hm. after-sounds line_end (known_sounds (kind_by p m) λ k e.
-    let q = kind_by-sound p m k e in give-sounds _ (rw (q.0, q.1) (simp append_assoc)) (hw, hh))))))
+    let n = number_reads largest_number in
+    after_sounds letter_p (then_sounds n λ p hp. after_sounds line_end (then_sounds n λ w hw. after_sounds blank (then_sounds n λ h hh.
+    after_sounds line_end (then_sounds n λ m hm. after_sounds line_end (known_sounds (kind_by p m) λ k e.
+    let q = kind_by-sound p m k e in give_sounds _ (rw (q.0, q.1) (simp append_assoc)) (hw, hh))))))
 
 pub header_reads : Reads Numbers header_text Any header_get
 header_reads = record { back = λ z b t u. header_back z b.0 b.1 t; sound = soundly header_sounds }
@@ -94,11 +94,11 @@ header_reads = record { back = λ z b t u. header_back z b.0 b.1 t; sound = soun
 -- The line with a width.
 pub width_back : (v : ℕ) → v ≤ largest_number → (t : List ℕ) → width_get (digits v ++ (line_end ++ t)) ≡ some (v, t)
 unfolding width_get
-width_back v l t = rw ((number-reads largest_number).back v l (line_end ++ t) (clear_end t), strip_back)
+width_back v l t = rw ((number_reads largest_number).back v l (line_end ++ t) (clear-end t), strip_back)
 
 width_sounds : Sounds (λ v. v ≤ largest_number) (λ v. digits v ++ line_end) [] width_get
 unfolding width_get
-width_sounds = then-sounds (number-reads largest_number) λ v h. after-sounds line_end (give-sounds v refl h)
+width_sounds = then_sounds (number_reads largest_number) λ v h. after_sounds line_end (give_sounds v refl h)
 
 pub width_reads : Reads (λ v. v ≤ largest_number) (λ v. digits v ++ line_end) Any width_get
 width_reads = record { back = λ v l t u. rw append_assoc (width_back v l t); sound = soundly width_sounds }

@@ -23,10 +23,10 @@ use Rattle.text_theory.specs.Decimal.{digits, digits_up_to}
 use Rattle.text_theory.specs.Words.{kind_text}
 use Rattle.text_theory.specs.Files.{blank, line_end, closed, All, Pixel}
 use Rattle.text_theory.specs.Lengths.{total, spaced, pixel_length, row_length, begun_length, size_length, range_length, head_length}
-use Rattle.text_theory.proofs.Decimals.{length_small, length_large}
+use Rattle.text_theory.proofs.Decimals.{length_small, length-large}
 use Rattle.file_theory.specs.Contents.{file_of}
 use Rattle.file_theory.specs.Demands.{AllowedPicture}
-use Rattle.file_theory.proofs.Shaped.{allowed_of_size}
+use Rattle.file_theory.proofs.Shaped.{allowed-of_size}
 use Rattle.file_theory.proofs.Lent.{lent_allowed}
 use Rattle.file_theory.proofs.Lengths.{file-length}
 use Rattle.program_theory.specs.Netpbm.{letter_p, magic_of, maxval_of, header_text}
@@ -39,7 +39,7 @@ one_more m c h n l = go (ltb n 10) refl
   where
     go : (x : Bool) → ltb n 10 ≡ x → length (digits n) ≤ suc c
     go true e = omega (arith, length_small n (ltb-true n 10 e))
-    go false e = omega (arith, length_large n (ltb-false n 10 e), h (n / 10) (omega arith))
+    go false e = omega (arith, length-large n (ltb-false n 10 e), h (n / 10) (omega arith))
 
 ten : (n : ℕ) → n < 10 → length (digits n) ≤ 1
 ten n l = omega (arith, length_small n l)
@@ -86,8 +86,8 @@ row_most : (k : Kind) (w : ℕ) (row : List (List ℕ)) → Each (Pixel k) w row
 unfolding row_length
 row_most k w row e = omega (arith, total-each (pixel_length k) 14 (pixel-most k) e)
 
-rows_most : (z : Size) (p : Picture) → AllowedPicture z p → total (row_length z.kind) p ≤ z.height * (z.width * 14 + 6)
-rows_most z p a = total-each (row_length z.kind) (z.width * 14 + 6) (row_most z.kind z.width) a.pixels
+rows-most : (z : Size) (p : Picture) → AllowedPicture z p → total (row_length z.kind) p ≤ z.height * (z.width * 14 + 6)
+rows-most z p a = total-each (row_length z.kind) (z.width * 14 + 6) (row_most z.kind z.width) a.pixels
 
 -- The lines up to the range.
 kind_most : (k : Kind) → length (kind_text k) ≤ 4
@@ -112,11 +112,11 @@ file-most z b a e l =
     let hm : h ≤ most_side = s.height_small in
     let ws : 0 < w = s.width_some in
     let k : ℕ = w - 1 in
-    let f = file-length (full_range z) (picture z b) (allowed_of_size z (picture z b) p) (omega arith) in
+    let f = file-length (full_range z) (picture z b) (allowed-of_size z (picture z b) p) (omega arith) in
     let t : total spaced (run 1 k) ≤ k * 4 = total-run spaced 4 1 k (λ v l. spaced-most v (omega arith)) in
     let m : h * (total spaced (run 1 k) + 2 * (w - k) + 6) ≤ h * (w * 4 + 6) = mul-le-mul (le_refl h) (omega arith) in
     let top = head_most (full_range z) (omega arith) (omega arith) (omega arith) (omega arith) in
-    let rows = rows_most z (picture z b) p in
+    let rows = rows-most z (picture z b) p in
     omega (arith, f, top, rows, m, mul-add h (w * 14) 6, mul-add h (w * 4) 6, mul_assoc h w 14, mul_assoc h w 4)
 
 -- The numbers of a header that say its kind have one digit and three.

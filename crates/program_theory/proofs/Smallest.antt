@@ -33,8 +33,8 @@ module _ (input : List ℕ) where
   fit-smallest h = smallest-after 8 _ _ (le-ltb _ _ h) (width_smallest (width_get input))
 
   -- A longer input is refused by 8, whatever else is wrong with it.
-  pub seams-longer : most_input < length input → refusal (seams_rules input) ≡ 8
-  seams-longer h = rw (lt-ltb most_input (length input) h) refl
+  pub seams_longer : most_input < length input → refusal (seams_rules input) ≡ 8
+  seams_longer h = rw (lt-ltb most_input (length input) h) refl
 
-  pub fit-longer : most_input < length input → refusal (fit_rules input) ≡ 8
-  fit-longer h = rw (lt-ltb most_input (length input) h) refl
+  pub fit_longer : most_input < length input → refusal (fit_rules input) ≡ 8
+  fit_longer h = rw (lt-ltb most_input (length input) h) refl

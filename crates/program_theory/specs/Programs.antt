@@ -7,8 +7,8 @@ use Rattle.pictures.specs.declared.sizes.Size.{Size}
 use Rattle.pictures.specs.Refusals.{Rule, ◌when◌, refusal, served}
 use Rattle.pictures.specs.Pictures.{Picture, size_rules, picture, pixels}
 use Rattle.energy.specs.Methods.{usual_method}
-use Rattle.map_theory.specs.Maps.{carve, mapOf}
-use Rattle.map_theory.specs.Widths.{offered, growRow}
+use Rattle.map_theory.specs.Maps.{carve, map_of}
+use Rattle.map_theory.specs.Widths.{offered, grow_row}
 use Rattle.text_theory.specs.declared.Head.{Head}
 use Rattle.text_theory.specs.Readers.{Get, give, ◌▷◌, after}
 use Rattle.text_theory.specs.Decimal.{digits, number_get}
@@ -106,7 +106,7 @@ unfoldable pub carved_rows : ℕ → Size → Picture → Picture
 carved_rows v z p =
     cond (leb v z.width)
     (carve (choose_of (full_range z)) (z.width - v) z.width z.height p)
-    (zip_with (growRow (mean_of (full_range z)) (v - z.width)) p (mapOf (choose_of (full_range z)) (v - z.width) z.width z.height p))
+    (zip_with (grow_row (mean_of (full_range z)) (v - z.width)) p (map_of (choose_of (full_range z)) (v - z.width) z.width z.height p))
 
 abbrev pub carved : ℕ → Size → Picture → Drawn
 carved v z p = record { size = sized v z; rows = carved_rows v z p }

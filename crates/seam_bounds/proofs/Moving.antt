@@ -31,9 +31,9 @@ each_inside none = refl
 each_inside {w} (more {x = c} h e) = rw (lt-leb w c h) (each_inside e)
 
 -- One turn of a loop that looks for a column outside: it ends here, or the columns after this one decide.
-pub outside_here : (w : ℕ) (s : List ℕ) (r : ℕ) → r < length s → w ≤ get_or s r 0 → outside w (drop r s) ≡ true
+pub outside-here : (w : ℕ) (s : List ℕ) (r : ℕ) → r < length s → w ≤ get_or s r 0 → outside w (drop r s) ≡ true
 unfolding outside
-outside_here w s r h l = rw (drop-cons s r 0 h, le-leb w (get_or s r 0) l)
+outside-here w s r h l = rw (drop-cons s r 0 h, le-leb w (get_or s r 0) l)
 
 pub outside-next : (w : ℕ) (s : List ℕ) (r : ℕ) → r < length s → get_or s r 0 < w → outside w (drop (r + 1) s) ≡ outside w (drop r s)
 unfolding outside

@@ -20,5 +20,5 @@ close_length-smallest z bytes columns = given-smallest _ refl
 pub close_column-smallest : (w : ℕ) (beyond : Bool) → SmallestGiven (close_column_rules w beyond)
 close_column-smallest w beyond = given-smallest _ refl
 
-pub space_smallest : (z : Size) (marked : Bool) (space seam : ℕ) → SmallestGiven (find_space_rules z marked space seam)
-space_smallest z marked space seam = given-smallest _ refl
+pub space-smallest : (z : Size) (marked : Bool) (space seam : ℕ) → SmallestGiven (find_space_rules z marked space seam)
+space-smallest z marked space seam = given-smallest _ refl

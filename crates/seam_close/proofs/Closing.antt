@@ -17,15 +17,15 @@ use Rattle.grids.specs.Cut.{remove_at, cut}
 use Rattle.grids.proofs.Shapes.{each-length, each_at, get_or-map}
 use Rattle.grids.proofs.Tables.{table_same}
 use Rattle.grids.proofs.Parts.{last_part}
-use Rattle.grids.proofs.Rows.{flat-rowsOf, length-rowAt, rowsOf-at, length-rowsOf, part_end}
-use Rattle.grids.proofs.Cut.{cut-each, cut-table, flat-removeAt}
+use Rattle.grids.proofs.Rows.{flat-rows_of, length-row_at, rows_of_at, length-rows_of, part_end}
+use Rattle.grids.proofs.Cut.{cut-each, cut-table, flat-remove_at}
 use Rattle.pictures.specs.Limits.{most_picture}
 use Rattle.pictures.specs.declared.sizes.Size.{Size}
 use Rattle.pictures.specs.Refusals.{◌when◌, refusal}
 use Rattle.pictures.specs.Pictures.{largest_side, channels_of, row_bytes, picture_bytes, size_rules, picture, bytes, OfSize}
 use Rattle.pictures.proofs.Rules.{served-both, passed}
-use Rattle.pictures.proofs.Limits.{line_fits, Sized, sized_is}
-use Rattle.pictures.proofs.Buffers.{picture_of_size}
+use Rattle.pictures.proofs.Limits.{line-fits, Sized, sized_is}
+use Rattle.pictures.proofs.Buffers.{picture-of_size}
 use Rattle.seam_bounds.specs.Moves.{close_length_rules, close_column_rules, outside}
 use Rattle.seam_bounds.proofs.Moving.{inside_each}
 use Rattle.seam_close.specs.Inner.{without, RowNeeded, CloseNeeded}
@@ -45,10 +45,10 @@ copied_is from to = ap (◌++ drop (length from) to) (take-length from)
 
 -- Two copies close a line: what stands before the gap, and next to it what stands after the gap.
 module _ (line out one two : List ℕ) (gap n : ℕ) (needed : RowNeeded line gap n out) where
-  pub two-copies : one ≡ copied (take gap line) out
+  pub two_copies : one ≡ copied (take gap line) out
       → two ≡ copied (mid_of (gap + n) (length line - (gap + n)) line) (mid_of gap (length one - gap) one)
       → put_mid gap (length one - gap) one two ≡ without gap n line ++ drop (length line - n) out
-  two-copies first second =
+  two_copies first second =
       let inside = needed.inside in
       let room = needed.room in
       let F = take gap line in
@@ -70,14 +70,14 @@ module _ (line out one two : List ℕ) (gap n : ℕ) (needed : RowNeeded line ga
       rw (front, none, two_is, append-nil, append_assoc)
 
 -- Row r of a picture, and its bytes.
-pub row_flat : (z : Size) (b : List ℕ) (r : ℕ) → length b ≡ picture_bytes z → r < z.height → flat (get_or (picture z b) r []) ≡ row_at (row_bytes z) r b
+pub row-flat : (z : Size) (b : List ℕ) (r : ℕ) → length b ≡ picture_bytes z → r < z.height → flat (get_or (picture z b) r []) ≡ row_at (row_bytes z) r b
 unfolding picture
-row_flat z b r e h =
+row-flat z b r e h =
     let ch = channels_of z.kind in
     let rows = rows_of (row_bytes z) z.height b in
-    ap flat (get_or-map (rows_of ch z.width) rows r [] [] (rw (length-rowsOf) h) ∙ ap (rows_of ch z.width) (rowsOf-at (row_bytes z) z.height b r h))
-    ∙ flat-rowsOf ch z.width (row_at (row_bytes z) r b)
-    ∙ take_all (row_bytes z) (row_at (row_bytes z) r b) (le_of_eq (length-rowAt (row_bytes z) z.height b r (omega arith) h))
+    ap flat (get_or-map (rows_of ch z.width) rows r [] [] (rw (length-rows_of) h) ∙ ap (rows_of ch z.width) (rows_of_at (row_bytes z) z.height b r h))
+    ∙ flat-rows_of ch z.width (row_at (row_bytes z) r b)
+    ∙ take_all (row_bytes z) (row_at (row_bytes z) r b) (le_of_eq (length-row_at (row_bytes z) z.height b r (omega arith) h))
 
 -- Row r of the bytes without the bytes of the seam's pixel: rows of `stride` bytes, pixels of n.
 abbrev pub closed_row : ℕ → ℕ → List ℕ → List ℕ → ℕ → List ℕ
@@ -89,17 +89,17 @@ pub closed_is : (z : Size) (b s : List ℕ) → length b ≡ picture_bytes z →
 unfolding bytes
 closed_is z b s e l =
     let p = picture z b in
-    let shape = picture_of_size z b e in
+    let shape = picture-of_size z b e in
     let n = channels_of z.kind in
     ap (λ q. flat (map flat q)) (cut-table s p z.height l (each-length shape))
     ∙ ap flat (map-table flat (λ r. remove_at (get_or s r 0) (get_or p r [])) z.height
     ∙ table_same (λ r. flat (remove_at (get_or s r 0) (get_or p r []))) (closed_row n (row_bytes z) b s) z.height
-    (λ r h. flat-removeAt (get_or s r 0) (each_at r [] h shape) ∙ ap (without (get_or s r 0 * n) n) (row_flat z b r e h)))
+    (λ r h. flat-remove_at (get_or s r 0) (each_at r [] h shape) ∙ ap (without (get_or s r 0 * n) n) (row-flat z b r e h)))
 
 -- The picture left is a picture of its size, one column narrower.
-pub closed_of_size : (z : Size) (b s : List ℕ) (w : ℕ) → length b ≡ picture_bytes z → length s ≡ z.height → outside z.width s ≡ false → z.width ≡ suc w
+pub closed-of_size : (z : Size) (b s : List ℕ) (w : ℕ) → length b ≡ picture_bytes z → length s ≡ z.height → outside z.width s ≡ false → z.width ≡ suc w
     → OfSize (record { width = w; height = z.height; kind = z.kind }) (cut s (picture z b))
-closed_of_size z b s w e l o is = cut-each columns (subst (λ n. Each (Grid (channels_of z.kind) n) z.height (picture z b)) is (picture_of_size z b e))
+closed-of_size z b s w e l o is = cut-each columns (subst (λ n. Each (Grid (channels_of z.kind) n) z.height (picture z b)) is (picture-of_size z b e))
   where
     columns : Each (λ c. c < suc w) z.height s
     columns = subst (λ n. Each (λ c. c < n) z.height s) is (rw l at (inside_each z.width s o))
@@ -146,7 +146,7 @@ module _ (z : Size) (b s : List ℕ) (n : ℕ) (needed : CloseNeeded b z s) (is 
   sure =
       let q = sized in
       let long : length b ≡ h * (w * n) = rw is q.length_is in
-      record { some = one; line = rw is (line_fits z.width z.kind q.width_most); short = omega (arith, q.length_is, q.picture_most); length_is = long; freed = less h }
+      record { some = one; line = rw is (line-fits z.width z.kind q.width_most); short = omega (arith, q.length_is, q.picture_most); length_is = long; freed = less h }
 
   module _ (r : ℕ) (inside : r < h) where
     pub record RowSure : Type 0 where
@@ -161,29 +161,29 @@ module _ (z : Size) (b s : List ℕ) (n : ℕ) (needed : CloseNeeded b z s) (is 
 
     pub length-closedRow : length (closed_row n (w * n) b s r) ≡ w * n - n
     length-closedRow =
-        let long = length-rowAt (w * n) h b r (omega (arith, sure.length_is)) inside in
+        let long = length-row_at (w * n) h b r (omega (arith, sure.length_is)) inside in
         length_without (get_or s r 0 * n) n (row_at (w * n) r b) (omega (arith, row_sure.gap)) ∙ ap (◌- n) long
 
   -- One turn. `now` is the picture as it is then, `line` the row's bytes with what stood after them, `new` the part that
   -- comes back.
   module _ (r k c : ℕ) (now row line old new : List ℕ) (inside : r < h) (long : length now ≡ length b) (so_far : Filled (closed_row n (w * n) b s) (w * n - n) b r now) where
-    pub row-turn : row ≡ mid_of (r * (w * n)) (r * (w * n) + w * n - r * (w * n)) now
+    pub row_turn : row ≡ mid_of (r * (w * n)) (r * (w * n) + w * n - r * (w * n)) now
         → line ≡ copied row old
         → c ≡ get_or s r 0
         → k ≡ length now - r * (w * n - n)
         → new ≡ without (c * n) n (take (w * n) line) ++ drop (length (take (w * n) line) - n) (mid_of (r * (w * n - n)) k now)
         → Filled (closed_row n (w * n) b s) (w * n - n) b (r + 1) (put_mid (r * (w * n - n)) k now new)
-    row-turn row_is line-is column k-is New-is =
+    row_turn row_is line-is column k-is New-is =
         let q = row_sure r inside in
         let f = closed_row n (w * n) b s in
         let size : (i : ℕ) → i < h → length (f i) ≡ w * n - n = length-closedRow in
         let later : drop (r * (w * n)) now ≡ drop (r * (w * n)) b = filled-later f h (w * n - n) size b r now inside so_far (r * (w * n)) q.dest in
         let same : row ≡ row_at (w * n) r b = row_is ∙ rw (add-sub_cancel_left (r * (w * n)) (w * n), later) in
-        let size-row : length row ≡ w * n = rw same (length-rowAt (w * n) h b r (omega (arith, sure.length_is)) inside) in
+        let size-row : length row ≡ w * n = rw same (length-row_at (w * n) h b r (omega (arith, sure.length_is)) inside) in
         let front : take (w * n) line ≡ row_at (w * n) r b = rw (line-is ∙ copied_is row old) (take_at row (drop (length row) old) (w * n) size-row ∙ same) in
         let D = drop (r * (w * n - n)) now in
         let room : w * n - n ≤ length (take k D) = rw (length-take-le k D (omega (arith, length-drop (r * (w * n - n)) now))) (omega (arith, sure.some)) in
-        filled-part f h (w * n - n) size b r now inside so_far k new room (rw (front, column, length-rowAt (w * n) h b r (omega (arith, sure.length_is)) inside) at New-is)
+        filled-part f h (w * n - n) size b r now inside so_far k new room (rw (front, column, length-row_at (w * n) h b r (omega (arith, sure.length_is)) inside) at New-is)
 
   -- After the last row, with what was freed cleared.
   pub rows_end : (now new : List ℕ) → length now ≡ length b → Filled (closed_row n (w * n) b s) (w * n - n) b h now

@@ -18,7 +18,7 @@ use Rattle.seam_rules.specs.declared.answers.Found.TheVariants.{Seam, Refused}
 use Rattle.seam_rules.specs.Answers.{found_number}
 use Rattle.seam_rules.specs.Cuts.{cleared, room_rules}
 use Rattle.seam_rules.specs.declared.answers.Axis.{Axis}
-use Rattle.pictures.proofs.Limits.{bytes_few}
+use Rattle.pictures.proofs.Limits.{bytes-few}
 use Rattle.seam_rules.proofs.Rooms.{find_room}
 use Rattle.seam_cut_marked.specs.Marking.{mark_rules}
 use Rattle.seam_cut_marked.specs.Inner.{MarkedNeeded}
@@ -35,20 +35,20 @@ marked_needed x z b m seam work e =
       sized = parts.0;
       marked = eqb-true _ _ (not-false (eqb (length m) (pixels z)) long.0);
       seam_room = rooms.seam_room;
-      work_room = omega (arith, bytes_few z, rooms.work_room);
+      work_room = omega (arith, bytes-few z, rooms.work_room);
     }
 
 -- Finding by marks gives a seam where one is allowed, and 12 where none is.
 module _ (t : Bool) (answer : Found) (n : found_number answer ≡ cond t 12 0) where
-  pub seam-free : (cost : ℕ) → answer ≡ Seam cost → t ≡ false
-  seam-free cost e = allowed t (sym n ∙ ap found_number e)
+  pub seam_free : (cost : ℕ) → answer ≡ Seam cost → t ≡ false
+  seam_free cost e = allowed t (sym n ∙ ap found_number e)
     where
       allowed : (t : Bool) → cond {A = ℕ} t 12 0 ≡ 0 → t ≡ false
       allowed true z = absurd (omega arith)
       allowed false z = refl
 
-  pub refused-blocked : (why : Refusal) → answer ≡ Refused why → t ≡ true
-  refused-blocked why e = blocked t (sym n ∙ ap found_number e)
+  pub refused_blocked : (why : Refusal) → answer ≡ Refused why → t ≡ true
+  refused_blocked why e = blocked t (sym n ∙ ap found_number e)
     where
       blocked : (t : Bool) → cond {A = ℕ} t 12 0 ≡ number_of why → t ≡ true
       blocked true z = refl

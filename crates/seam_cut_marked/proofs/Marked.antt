@@ -21,7 +21,7 @@ use Rattle.seam_rules.specs.declared.answers.Axis.{Axis}
 use Rattle.seam_rules.specs.Answers.{found_number, found_cost}
 use Rattle.seam_rules.specs.Axes.{turned_size}
 use Rattle.seam_theory.specs.PictureSeams.{marked_up, marked_seam_of, marked_cost_of, is_none}
-use Rattle.seam_theory.proofs.Characterised.{marked-is}
+use Rattle.seam_theory.proofs.Characterised.{marked_is}
 use Rattle.seam_find_marked.specs.Finding.{FindMarkedInGiven}
 use Rattle.seam_turn.specs.Axes.{turned}
 use Rattle.seam_cut.proofs.Inside.{path_inside}
@@ -54,7 +54,7 @@ marked_served space z how seam answer space' seam' g sides room long =
 -- The seam lies inside the picture, where one is allowed.
 marked_up_inside : (how : Method) (w h : ℕ) (p : Picture) (m : List (List ℕ)) (o : Option (List ℕ)) → marked_up how w h p m ≡ o → is_none o ≡ false → Each (λ c. c < w) h (reverse (get_or o []))
 marked_up_inside how w h p m none e t = absurd (omega (arith, ap (λ k. cond {A = ℕ} k 0 1) t))
-marked_up_inside how w h p m (some s) e t = each-reverse (path_inside (wrap_of how) w h s ((marked-is how w h p m s).0 e).path)
+marked_up_inside how w h p m (some s) e t = each-reverse (path_inside (wrap_of how) w h s ((marked_is how w h p m s).0 e).path)
 
 pub marked_inside : (how : Method) (x : Axis) (z : Size) (p : Picture) (m : List (List ℕ)) → blocked_along how x z p m ≡ false → Each (λ c. c < (turned_size x z).width) (turned_size x z).height (marked_seam_along how x z p m)
 unfolding blocked_along marked_seam_along marked_seam_of

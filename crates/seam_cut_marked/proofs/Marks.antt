@@ -9,21 +9,21 @@ use borrow.Rule.Slice.PartMut.{put_mid}
 use Rattle.grids.specs.Each.{Grid, none, more}
 use Rattle.grids.specs.Rows.{rows_of, flat}
 use Rattle.grids.specs.Cut.{cut}
-use Rattle.grids.proofs.Rows.{grid-rowsOf, rowsOf-flat, length-flat}
+use Rattle.grids.proofs.Rows.{grid-rows_of, rows_of-flat, length-flat}
 use Rattle.grids.proofs.Parts.{put_part}
 use Rattle.grids.proofs.Exchange.{exchange-grid}
-use Rattle.grids.proofs.Maps.{single, cut-map, exchange-map, rowsOf-single, rows-single}
+use Rattle.grids.proofs.Maps.{single, cut-map, exchange-map, rows_of-single, rows-single}
 use Rattle.pictures.specs.declared.sizes.Size.{Size}
 use Rattle.pictures.specs.Refusals.{refusal}
 use Rattle.pictures.specs.Pictures.{picture_bytes, size_rules, picture, bytes, pixels, marks_of, picture_in, marks_in}
 use Rattle.pictures.proofs.Limits.{Sized, sized-served, sides_of}
-use Rattle.pictures.proofs.Buffers.{picture_of_size, length-bytes}
+use Rattle.pictures.proofs.Buffers.{picture-of_size, length-bytes}
 use Rattle.seam_rules.specs.declared.answers.Axis.{Axis}
 use Rattle.seam_rules.specs.declared.answers.Axis.TheVariants.{Vertical, Horizontal}
 use Rattle.seam_rules.specs.Axes.{turned_size, grey_of}
 use Rattle.seam_turn.specs.Axes.{turned, cut_along}
 use Rattle.seam_rules.proofs.Turns.{turned-bytes, turned-pixels}
-use Rattle.seam_turn.proofs.Turned.{turned_of_size, turned-picture}
+use Rattle.seam_turn.proofs.Turned.{turned-of_size, turned-picture}
 
 pub grey-bytes : (z : Size) → picture_bytes (grey_of z) ≡ pixels z
 grey-bytes z = ap (z.height *◌) (mul-one z.width)
@@ -32,17 +32,17 @@ grey-bytes z = ap (z.height *◌) (mul-one z.width)
 pub grey-sized : (z : Size) (n : ℕ) (m : List ℕ) → Sized z n → length m ≡ pixels z → refusal (size_rules (grey_of z) (length m)) ≡ 0
 grey-sized z n m s e = rw (e ∙ sym (grey-bytes z)) (sized-served (grey_of z) (sides_of (grey_of z) s.width_some s.width_most s.height_some s.height_most))
 
-single_rows : (w : ℕ) {n : ℕ} {g : List (List ℕ)} → Grid w n g → map (rows_of 1 w) g ≡ map (map single) g
-single_rows w none = refl
-single_rows w (more {x = x} e g) = ap₂ ◌∷◌ (rowsOf-single w x e) (single_rows w g)
+single-rows : (w : ℕ) {n : ℕ} {g : List (List ℕ)} → Grid w n g → map (rows_of 1 w) g ≡ map (map single) g
+single-rows w none = refl
+single-rows w (more {x = x} e g) = ap₂ ◌∷◌ (rows_of-single w x e) (single-rows w g)
 
-marks_grid : (z : Size) (m : List ℕ) → length m ≡ pixels z → Grid z.width z.height (marks_of z m)
-marks_grid z m e = grid-rowsOf z.width z.height m (le_of_eq (sym e))
+marks-grid : (z : Size) (m : List ℕ) → length m ≡ pixels z → Grid z.width z.height (marks_of z m)
+marks-grid z m e = grid-rows_of z.width z.height m (le_of_eq (sym e))
 
 -- Each mark is a pixel of one sample.
 grey-picture : (z : Size) (m : List ℕ) → length m ≡ pixels z → picture (grey_of z) m ≡ map (map single) (marks_of z m)
 unfolding picture
-grey-picture z m e = ap (λ k. map (rows_of 1 z.width) (rows_of k z.height m)) (mul-one z.width) ∙ single_rows z.width (marks_grid z m e)
+grey-picture z m e = ap (λ k. map (rows_of 1 z.width) (rows_of k z.height m)) (mul-one z.width) ∙ single-rows z.width (marks-grid z m e)
 
 bytes-single : (g : List (List ℕ)) → bytes (map (map single) g) ≡ flat g
 unfolding bytes
@@ -53,14 +53,14 @@ unfolding turned
 turned-map f Vertical w p = refl
 turned-map f Horizontal w p = exchange-map f w p
 
-turned_grid : (x : Axis) (z : Size) (g : List (List ℕ)) → Grid z.width z.height g → Grid (turned_size x z).width (turned_size x z).height (turned x z.width g)
+turned-grid : (x : Axis) (z : Size) (g : List (List ℕ)) → Grid z.width z.height g → Grid (turned_size x z).width (turned_size x z).height (turned x z.width g)
 unfolding turned
-turned_grid Vertical z g h = h
-turned_grid Horizontal z g h = exchange-grid h
+turned-grid Vertical z g h = h
+turned-grid Horizontal z g h = exchange-grid h
 
-pub wide_grey : (x : Axis) (z : Size) → (turned_size x (grey_of z)).width ≡ (turned_size x z).width
-wide_grey Vertical z = refl
-wide_grey Horizontal z = refl
+pub wide-grey : (x : Axis) (z : Size) → (turned_size x (grey_of z)).width ≡ (turned_size x z).width
+wide-grey Vertical z = refl
+wide-grey Horizontal z = refl
 
 pub tall_grey : (x : Axis) (z : Size) → (turned_size x (grey_of z)).height ≡ (turned_size x z).height
 tall_grey Vertical z = refl
@@ -72,20 +72,20 @@ module _ (x : Axis) (z : Size) (m : List ℕ) (e : length m ≡ pixels z) where
   marks-turned = ap (λ p. bytes (turned x z.width p)) (grey-picture z m e) ∙ ap bytes (turned-map single x z.width (marks_of z m)) ∙ bytes-single (turned x z.width (marks_of z m))
 
   pub marks-long : length (flat (turned x z.width (marks_of z m))) ≡ pixels z
-  marks-long = length-flat (turned_grid x z (marks_of z m) (marks_grid z m e)) ∙ turned-pixels x z
+  marks-long = length-flat (turned-grid x z (marks_of z m) (marks-grid z m e)) ∙ turned-pixels x z
 
-  pub marks-back : marks_of (turned_size x z) (flat (turned x z.width (marks_of z m))) ≡ turned x z.width (marks_of z m)
-  marks-back =
+  pub marks_back : marks_of (turned_size x z) (flat (turned x z.width (marks_of z m))) ≡ turned x z.width (marks_of z m)
+  marks_back =
       let t = turned_size x z in
       let g = turned x z.width (marks_of z m) in
-      ap (rows_of t.width t.height) (sym (append-nil (flat g))) ∙ rowsOf-flat [] (turned_grid x z (marks_of z m) (marks_grid z m e))
+      ap (rows_of t.width t.height) (sym (append-nil (flat g))) ∙ rows_of-flat [] (turned-grid x z (marks_of z m) (marks-grid z m e))
 
   -- The bytes of the cut picture are the cut marks.
   pub marks-cut : (s : List ℕ) → bytes (cut_along x (grey_of z) s (picture (grey_of z) m)) ≡ flat (cut_along x z s (marks_of z m))
   unfolding cut_along
   marks-cut s =
       let w = (turned_size x z).width - 1 in
-      ap₂ (λ k p. bytes (turned x (k - 1) (cut s (turned x z.width p)))) (wide_grey x z) (grey-picture z m e)
+      ap₂ (λ k p. bytes (turned x (k - 1) (cut s (turned x z.width p)))) (wide-grey x z) (grey-picture z m e)
       ∙ ap (λ p. bytes (turned x w (cut s p))) (turned-map single x z.width (marks_of z m))
       ∙ ap (λ p. bytes (turned x w p)) (cut-map single s (turned x z.width (marks_of z m)))
       ∙ ap bytes (turned-map single x w (cut s (turned x z.width (marks_of z m))))
@@ -100,7 +100,7 @@ pub put_after : (x : Axis) (z : Size) (b m work space mid marks : List ℕ) → 
 put_after x z b m work space mid marks is-picture is-marks fits e f =
     let front = bytes (turned x z.width (picture z b)) in
     let more = drop (picture_bytes (grey_of z)) mid in
-    let long : length (bytes (turned x z.width (picture z b))) ≡ length b = length-bytes (turned_size x z) (turned x z.width (picture z b)) (turned_of_size x z (picture z b) (picture_of_size z b is-picture)) ∙ turned-bytes x z ∙ sym is-picture in
+    let long : length (bytes (turned x z.width (picture z b))) ≡ length b = length-bytes (turned_size x z) (turned x z.width (picture z b)) (turned-of_size x z (picture z b) (picture-of_size z b is-picture)) ∙ turned-bytes x z ∙ sym is-picture in
     put_part (length b) (length space) space marks fits
     ∙ ap₂ (λ l r. l ++ (r ++ drop (length space) space))
     (ap (take (length b)) e ∙ take_at front (drop (picture_bytes z) work) (length b) long)
@@ -118,8 +118,8 @@ module _ (x : Axis) (z : Size) (b m space rest : List ℕ) (is-picture : length 
       let t = turned_size x z in
       let front = bytes (turned x z.width (picture z b)) in
       let marks = flat (turned x z.width (marks_of z m)) in
-      let long : length (bytes (turned x z.width (picture z b))) ≡ picture_bytes (turned_size x z) = length-bytes t (turned x z.width (picture z b)) (turned_of_size x z (picture z b) (picture_of_size z b is-picture)) in
+      let long : length (bytes (turned x z.width (picture z b))) ≡ picture_bytes (turned_size x z) = length-bytes t (turned x z.width (picture z b)) (turned-of_size x z (picture z b) (picture-of_size z b is-picture)) in
       ap (λ l. marks_of t (take (pixels t) (drop (picture_bytes t) l))) stands
       ∙ ap (λ l. marks_of t (take (pixels t) l)) (drop_at front (marks ++ rest) (picture_bytes t) long)
       ∙ ap (marks_of t) (take_at marks rest (pixels t) (marks-long x z m is-marks ∙ sym (turned-pixels x z)))
-      ∙ marks-back x z m is-marks
+      ∙ marks_back x z m is-marks

@@ -9,7 +9,7 @@ use lib.Seq.{take_at}
 use Rattle.pictures.specs.declared.sizes.Size.{Size}
 use Rattle.pictures.specs.Pictures.{picture_bytes}
 use Rattle.pictures.proofs.Limits.{sized_is}
-use Rattle.seam_theory.specs.Sums.{CostRows, fenced, sumsDown}
+use Rattle.seam_theory.specs.Sums.{CostRows, fenced, sums_down}
 use Rattle.seam_theory.proofs.Bounded.{length-sums}
 use Rattle.seam_find.specs.Inner.Down.{DownNeeded, DownGiven, RowNeeded, RowGiven}
 use Rattle.seam_find.proofs.Downs.{Downs, above-long, down-start, down_turn, down-end}
@@ -41,7 +41,7 @@ module _ {fence from : ℕ} {z : Size} {costsIn : List ℕ → ℕ → CostRows}
   module _ {i : ℕ} {space above cost next : List ℕ}
       (holds : BeforeRow fence from z costsIn start above₀ cost₀ next₀ i space above cost next) where
     abbrev sums : List ℕ
-    sums = sumsDown false fence z.width (costsIn (take from start)) (i - 1)
+    sums = sums_down false fence z.width (costsIn (take from start)) (i - 1)
 
     -- The sums above row i stand between their fences.
     fenced-in : above ≡ fenced false fence z.width (take z.width (drop 1 above))

@@ -16,7 +16,7 @@ use Rattle.energy.specs.declared.methods.Method.{Method}
 use Rattle.energy.specs.Bounds.{most_energy}
 use Rattle.energy.specs.Energy.{costs_at, energy}
 use Rattle.pictures.proofs.Limits.{Sized}
-use Rattle.energy.proofs.Most.{CostsMost, costs_within, buffer_costs_most}
+use Rattle.energy.proofs.Most.{CostsMost, costs-within, buffer_costs-most}
 use Rattle.seam_find.specs.Inner.Down.{costs_of}
 
 -- A byte of a part at the front is a byte.
@@ -34,8 +34,8 @@ front-most b n m h i =
 pub pixel-most : (z : Size) (how : Method) (b : List ℕ) → Sized z (length b) → ((i : ℕ) → get_or b i 0 ≤ 255)
     → (r c : ℕ) → CostsMost most_energy (costs_at how z.width z.height (picture z b) r c)
 pixel-most z how b s h r c =
-    costs_within (2 * (channels_of z.kind * 255)) most_energy _ (omega (arith, mul-le-mul_right 255 s.channels_most))
-    (buffer_costs_most z how b 255 s.length_is h r c)
+    costs-within (2 * (channels_of z.kind * 255)) most_energy _ (omega (arith, mul-le-mul_right 255 s.channels_most))
+    (buffer_costs-most z how b 255 s.length_is h r c)
 
 -- A bound of all values is one of a table.
 pub table-most : (f : ℕ → ℕ) (n m : ℕ) → ((c : ℕ) → f c ≤ m) → (k : ℕ) → get_or (table f n) k 0 ≤ m
@@ -49,5 +49,5 @@ table-most f n m h k =
 pub cost_most : (z : Size) (how : Method) (b : List ℕ) → Sized z (length b) → ((i : ℕ) → get_or b i 0 ≤ 255) → (i k : ℕ) → get_or (costs_of z how b i).up k 0 ≤ most_energy
 cost_most z how b s h i = table-most (energy how z.width z.height (picture z b) i) z.width most_energy (λ c. (pixel-most z how b s h i c).up)
 
-pub costs_long : (z : Size) (how : Method) (b : List ℕ) (i : ℕ) → length (costs_of z how b i).up ≡ z.width
-costs_long z how b i = length-table _ z.width
+pub costs-long : (z : Size) (how : Method) (b : List ℕ) (i : ℕ) → length (costs_of z how b i).up ≡ z.width
+costs-long z how b i = length-table _ z.width

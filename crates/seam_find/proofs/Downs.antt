@@ -11,9 +11,9 @@ use lib.Seq.{take_at, drop_at, drop-drop, length-take-le}
 use Rattle.grids.specs.Table.{table}
 use Rattle.grids.specs.Rows.{flat}
 use Rattle.grids.proofs.Tables.{length-table}
-use Rattle.grids.proofs.Rows.{flat-snoc}
+use Rattle.grids.proofs.Rows.{flat_snoc}
 use Rattle.pictures.specs.declared.sizes.Size.{Size}
-use Rattle.seam_theory.specs.Sums.{CostRows, fenced, way_of3, sumsDown, waysUp}
+use Rattle.seam_theory.specs.Sums.{CostRows, fenced, way_of3, sums_down, ways_up}
 use Rattle.seam_theory.proofs.Sums.{ways-long}
 use Rattle.seam_theory.proofs.Bounded.{fenced_at, length-sums, sums-most}
 use Rattle.seam_find.specs.Inner.Down.{ways_at, DownGiven, RowGiven}
@@ -23,15 +23,15 @@ module _ (fence from : ℕ) (z : Size) (costsIn : List ℕ → ℕ → CostRows)
   costs = costsIn (take from start)
 
   abbrev sums : ℕ → List ℕ
-  sums = sumsDown false fence z.width (costsIn (take from start))
+  sums = sums_down false fence z.width (costsIn (take from start))
 
   abbrev ways : ℕ → List ℕ
-  ways = waysUp false fence z.width (costsIn (take from start))
+  ways = ways_up false fence z.width (costsIn (take from start))
 
   -- Before row i: the fenced sums of the row above it, and the ways between the rows above it.
   pub record Downs (i : ℕ) (space above : List ℕ) : Type 0 where
-    pub above-is : above ≡ fenced false fence z.width (sumsDown false fence z.width (costsIn (take from start)) (i - 1))
-    pub space_is : space ≡ take from start ++ (flat (table (waysUp false fence z.width (costsIn (take from start))) (i - 1)) ++ drop (ways_at from z i) start)
+    pub above-is : above ≡ fenced false fence z.width (sums_down false fence z.width (costsIn (take from start)) (i - 1))
+    pub space_is : space ≡ take from start ++ (flat (table (ways_up false fence z.width (costsIn (take from start))) (i - 1)) ++ drop (ways_at from z i) start)
     pub long : length space ≡ length start
 
   module _ (length-costs : (i : ℕ) → length (costsIn (take from start) i).up ≡ z.width) where
@@ -51,7 +51,7 @@ module _ (fence from : ℕ) (z : Size) (costsIn : List ℕ → ℕ → CostRows)
 
     module _ (room : from + (z.height - 1) * z.width ≤ length start) where
       pub down-start : (above : List ℕ) → above ≡ fenced false fence z.width (costs 0).up → Downs 1 start above
-      unfolding sumsDown
+      unfolding sums_down
       down-start above e = record {
         above-is = e;
         space_is = rw (zero-mul z.width, add-zero from) (sym (take-append-drop from start));
@@ -85,33 +85,33 @@ module _ (fence from : ℕ) (z : Size) (costsIn : List ℕ → ℕ → CostRows)
         here : ℕ
         here = from + j * z.width
 
-        done-long : length done ≡ here
+        done_long : length done ≡ here
         unfolding done here
-        done-long = omega (arith, length-append (take from start) (flat (table ways j)), length_front, length-ways j)
+        done_long = omega (arith, length-append (take from start) (flat (table ways j)), length_front, length-ways j)
 
         space-was : space ≡ done ++ drop here start
         unfolding done here
         space-was = rw one at d.space_is ∙ sym (append_assoc (take from start) (flat (table ways j)) (drop (from + j * z.width) start))
 
-        next-at : ways_at from z (suc (suc j)) ≡ here + z.width
+        next_at : ways_at from z (suc (suc j)) ≡ here + z.width
         unfolding here
-        next-at = rw two (omega (arith, suc-mul j z.width))
+        next_at = rw two (omega (arith, suc-mul j z.width))
 
         space-now : space' ≡ done ++ (ways j ++ drop (ways_at from z (suc (suc j))) start)
-        unfolding waysUp here
+        unfolding ways_up here
         space-now =
             (rw (one, above-was, down-front (suc j) space above d) at g.ways)
             ∙ ap₂ (λ x y. x ++ (table (way_of3 false z.width (fenced false fence z.width (sums j)) (costs (suc j))) z.width ++ y))
-            (ap (take (from + j * z.width)) space-was ∙ take_at done (drop here start) (from + j * z.width) done-long)
+            (ap (take (from + j * z.width)) space-was ∙ take_at done (drop here start) (from + j * z.width) done_long)
             (sym (drop-drop z.width (from + j * z.width) space)
-            ∙ ap (drop z.width) (ap (drop (from + j * z.width)) space-was ∙ drop_at done (drop here start) (from + j * z.width) done-long)
-            ∙ drop-drop z.width here start ∙ ap (λ n. drop n start) (sym next-at))
+            ∙ ap (drop z.width) (ap (drop (from + j * z.width)) space-was ∙ drop_at done (drop here start) (from + j * z.width) done_long)
+            ∙ drop-drop z.width here start ∙ ap (λ n. drop n start) (sym next_at))
 
         rest : List ℕ
         rest = drop (ways_at from z (suc (suc j))) start
 
         now-long : length space' ≡ length start
-        unfolding waysUp here
+        unfolding ways_up here
         now-long =
             let below : suc j * z.width ≤ (z.height - 1) * z.width = mul-le-mul_right z.width (omega arith) in
             omega (
@@ -121,20 +121,20 @@ module _ (fence from : ℕ) (z : Size) (costsIn : List ℕ → ℕ → CostRows)
               length-append (ways j) (drop (ways_at from z (suc (suc j))) start),
               length-drop (ways_at from z (suc (suc j))) start,
               length-table (way_of3 false z.width (fenced false fence z.width (sums j)) (costs (suc j))) z.width,
-              next-at,
-              done-long,
+              next_at,
+              done_long,
               suc-mul j z.width,
             )
 
         pub turn : Downs (suc (suc j)) space' above'
-        unfolding sumsDown done rest
+        unfolding sums_down done rest
         turn = record {
           above-is =
               rw (above-was, down-front (suc j) space above d) at g.sums ∙ rw two;
           space_is =
               space-now
               ∙ append_assoc (take from start) (flat (table ways j)) (ways j ++ rest)
-              ∙ ap (take from start ++◌) (sym (append_assoc (flat (table ways j)) (ways j) rest) ∙ ap (◌++ rest) (sym (flat-snoc (table ways j) (ways j)) ∙ ap (λ n. flat (table ways n)) (sym two)));
+              ∙ ap (take from start ++◌) (sym (append_assoc (flat (table ways j)) (ways j) rest) ∙ ap (◌++ rest) (sym (flat_snoc (table ways j) (ways j)) ∙ ap (λ n. flat (table ways n)) (sym two)));
           long = now-long;
         }
 

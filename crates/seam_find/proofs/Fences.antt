@@ -12,7 +12,7 @@ use lib.Seq.{take_at}
 use Rattle.grids.proofs.Parts.{put_part}
 use Rattle.pictures.specs.declared.sizes.Size.{Size}
 use Rattle.pictures.specs.Pictures.{largest_side}
-use Rattle.seam_theory.specs.Sums.{CostRows, fenced, sumsDown, least_to}
+use Rattle.seam_theory.specs.Sums.{CostRows, fenced, sums_down, least_to}
 use Rattle.seam_theory.proofs.Bounded.{fenced_at, length-sums}
 use Rattle.seam_find.specs.Inner.Down.{DownGiven}
 use Rattle.seam_find.specs.Inner.Bottom.{BottomGiven, RowsNeeded}
@@ -28,18 +28,18 @@ length-take-replicate n m a h = ap length (take-replicate n m a h) ∙ length-re
 
 -- The rows of local arrays that are lent for a picture: one that is all fence, and rows of zeros.
 module _ (z : Size) (narrow : z.width ≤ largest_side) where
-  pub fences-lent : (fence : ℕ) → z.width + 2 ≡ length (take (z.width + 2) (replicate (largest_side + 2) fence))
-  fences-lent fence = sym (length-take-replicate {A = ℕ} (z.width + 2) (largest_side + 2) fence (omega (arith, narrow)))
+  pub fences_lent : (fence : ℕ) → z.width + 2 ≡ length (take (z.width + 2) (replicate (largest_side + 2) fence))
+  fences_lent fence = sym (length-take-replicate {A = ℕ} (z.width + 2) (largest_side + 2) fence (omega (arith, narrow)))
 
-  pub row-lent : z.width ≡ length (take z.width (replicate {A = ℕ} largest_side 0))
-  row-lent = sym (length-take-replicate {A = ℕ} z.width largest_side 0 narrow)
+  pub row_lent : z.width ≡ length (take z.width (replicate {A = ℕ} largest_side 0))
+  row_lent = sym (length-take-replicate {A = ℕ} z.width largest_side 0 narrow)
 
-  pub rows-needed : (fence : ℕ)
+  pub rows_needed : (fence : ℕ)
       → RowsNeeded fence z (take (z.width + 2) (replicate (largest_side + 2) fence)) (take z.width (replicate {A = ℕ} largest_side 0)) (take z.width (replicate {A = ℕ} largest_side 0))
-  rows-needed fence = record {
+  rows_needed fence = record {
     fences = take-replicate {A = ℕ} (z.width + 2) (largest_side + 2) fence (omega (arith, narrow));
-    cost_room = sym row-lent;
-    next_room = sym row-lent;
+    cost_room = sym row_lent;
+    next_room = sym row_lent;
   }
 
 last_fence : (w fence : ℕ) → drop w (replicate (suc w) fence) ≡ fence ∷ []
@@ -67,13 +67,13 @@ between_fences fence w s e = rw (add-sub_cancel w 1) (take_at s (fence ∷ []) w
 module _ (fence from : ℕ) (z : Size) (costs : List ℕ → ℕ → CostRows) (space space' above : List ℕ)
     (wide : length (costs (take from space) 0).up ≡ z.width) (given : DownGiven fence from z costs space space' above) where
   abbrev sums : List ℕ
-  sums = sumsDown false fence z.width (costs (take from space)) (z.height - 1)
+  sums = sums_down false fence z.width (costs (take from space)) (z.height - 1)
 
   sums-long : length sums ≡ z.width
   sums-long = length-sums false fence z.width (costs (take from space)) wide (z.height - 1)
 
-  pub last-long : length above ≡ z.width + 2
-  last-long = omega (arith, ap length given.sums, length-append sums (fence ∷ []), sums-long)
+  pub last_long : length above ≡ z.width + 2
+  last_long = omega (arith, ap length given.sums, length-append sums (fence ∷ []), sums-long)
 
   last_row : take (z.width + 1 - 1) (drop 1 above) ≡ sums
   last_row = ap (λ x. take (z.width + 1 - 1) (drop 1 x)) given.sums ∙ between_fences fence z.width sums sums-long
@@ -82,9 +82,9 @@ module _ (fence from : ℕ) (z : Size) (costs : List ℕ → ℕ → CostRows) (
   row-long = ap length last_row ∙ sums-long
 
   -- It is one of the columns.
-  pub bottom-inside : (column : ℕ) → 0 < z.width
+  pub bottom_inside : (column : ℕ) → 0 < z.width
       → column ≡ least_to (take (z.width + 1 - 1) (drop 1 above)) (length (take (z.width + 1 - 1) (drop 1 above)) - 1) → column < z.width
-  bottom-inside column some is =
+  bottom_inside column some is =
       omega (arith, row-long, least_inside (take (z.width + 1 - 1) (drop 1 above)) (length (take (z.width + 1 - 1) (drop 1 above)) - 1))
 
   pub bottom-given : (column : ℕ)

@@ -13,8 +13,8 @@ use Rattle.pictures.specs.Pictures.{largest_side}
 use Rattle.grids.specs.Table.{table}
 use Rattle.grids.specs.Rows.{flat}
 use Rattle.grids.proofs.Bools.{both}
-use Rattle.seam_theory.specs.Sums.{CostRows, came_from, waysUp, columns_to}
-use Rattle.seam_theory.proofs.Ways.{came-inside}
+use Rattle.seam_theory.specs.Sums.{CostRows, came_from, ways_up, columns_to}
+use Rattle.seam_theory.proofs.Ways.{came_inside}
 use Rattle.seam_theory.proofs.Sums.{ways-long}
 use Rattle.seam_find.specs.Tracing.{traceable, traced}
 
@@ -28,9 +28,9 @@ pub record Traceable (ways w height column seam : ℕ) : Type 0 where
   pub long : ways ≡ (height - 1) * w
 
 module _ (ways w height column seam : ℕ) where
-  pub traceable-is : Traceable ways w height column seam → traceable ways w height column seam ≡ true
+  pub traceable_is : Traceable ways w height column seam → traceable ways w height column seam ≡ true
   unfolding traceable
-  traceable-is t = rw (
+  traceable_is t = rw (
     le-leb 1 height t.some,
     le-leb height largest_side t.short,
     le-leb w largest_side t.narrow,
@@ -39,9 +39,9 @@ module _ (ways w height column seam : ℕ) where
     eq-eqb ways ((height - 1) * w) t.long,
   )
 
-  pub traceable-has : traceable ways w height column seam ≡ true → Traceable ways w height column seam
+  pub traceable_has : traceable ways w height column seam ≡ true → Traceable ways w height column seam
   unfolding traceable
-  traceable-has e =
+  traceable_has e =
       let p = both (leb 1 height) (leb height largest_side && (leb w largest_side && (ltb column w && (leb height seam && eqb ways ((height - 1) * w))))) e in
       let q = both (leb height largest_side) (leb w largest_side && (ltb column w && (leb height seam && eqb ways ((height - 1) * w)))) p.1 in
       let r = both (leb w largest_side) (ltb column w && (leb height seam && eqb ways ((height - 1) * w))) q.1 in
@@ -57,10 +57,10 @@ module _ (ways w height column seam : ℕ) where
       }
 
 -- By ways that were worked out a path can be traced, in a space that is long enough.
-pub ways_traceable : (wrap : Bool) (fence w h : ℕ) (costs : ℕ → CostRows) → 0 < h → h ≤ largest_side → w ≤ largest_side
+pub ways-traceable : (wrap : Bool) (fence w h : ℕ) (costs : ℕ → CostRows) → 0 < h → h ≤ largest_side → w ≤ largest_side
     → (column seam : ℕ) → column < w → h ≤ seam
-    → Traceable (length (flat (table (waysUp wrap fence w costs) (h - 1)))) w h column seam
-ways_traceable wrap fence w h costs some-row short narrow column seam inside room = record {
+    → Traceable (length (flat (table (ways_up wrap fence w costs) (h - 1)))) w h column seam
+ways-traceable wrap fence w h costs some-row short narrow column seam inside room = record {
   some = some-row;
   short = short;
   narrow = narrow;
@@ -73,15 +73,15 @@ ways_traceable wrap fence w h costs some-row short narrow column seam inside roo
 pub traced_is : (ways : List ℕ) (w height column : ℕ) (seam : List ℕ) → Traceable (length ways) w height column (length seam)
     → traced ways w height column seam ≡ columns_to ways w (height - 1) column ++ drop height seam
 traced_is ways w height column seam t =
-    ap (λ b. cond b (columns_to ways w (height - 1) column ++ drop height seam) seam) (traceable-is (length ways) w height column (length seam) t)
+    ap (λ b. cond b (columns_to ways w (height - 1) column ++ drop height seam) seam) (traceable_is (length ways) w height column (length seam) t)
 
 -- The way back, a row at a time from the last: `full` is the whole path, of which the columns of the rows below i stand in
 -- the seam's space.
 module _ (ways seam₀ full : List ℕ) (w h : ℕ) where
-  pub length-columns : (i c : ℕ) → length (columns_to ways w i c) ≡ i + 1
+  pub length_columns : (i c : ℕ) → length (columns_to ways w i c) ≡ i + 1
   unfolding columns_to
-  length-columns zero c = refl
-  length-columns (suc i) c = omega (arith, length-append (columns_to ways w i (came_from w c (get_or ways (i * w + c) 0))) (c ∷ []), length-columns i (came_from w c (get_or ways (i * w + c) 0)))
+  length_columns zero c = refl
+  length_columns (suc i) c = omega (arith, length-append (columns_to ways w i (came_from w c (get_or ways (i * w + c) 0))) (c ∷ []), length_columns i (came_from w c (get_or ways (i * w + c) 0)))
 
   -- What holds before row i is stored.
   pub record Back (i c : ℕ) (seam : List ℕ) : Type 0 where
@@ -93,7 +93,7 @@ module _ (ways seam₀ full : List ℕ) (w h : ℕ) where
 
   pub back_start : (i c : ℕ) → full ≡ columns_to ways w i c → i + 1 ≡ h → c < w → Back i c seam₀
   back_start i c e l inside =
-      let none : drop (i + 1) full ≡ [] = drop_of_length-le full {i = i + 1} (omega (arith, ap length e, length-columns i c)) in
+      let none : drop (i + 1) full ≡ [] = drop_of_length-le full {i = i + 1} (omega (arith, ap length e, length_columns i c)) in
       record {
         row = omega arith;
         column = inside;
@@ -116,20 +116,20 @@ module _ (ways seam₀ full : List ℕ) (w h : ℕ) where
       here : drop i full ≡ c ∷ drop (i + 1) full
       here = ap (drop i) (p ∙ append_assoc front (c ∷ []) (drop (i + 1) full)) ∙ drop_at front (c ∷ drop (i + 1) full) i e
 
-  pub back-turn : (i c : ℕ) (seam : List ℕ) → 0 < i → i < length seam₀ → Back i c seam → Back (i - 1) (came_from w c (get_or ways ((i - 1) * w + c) 0)) (set seam i c)
+  pub back_turn : (i c : ℕ) (seam : List ℕ) → 0 < i → i < length seam₀ → Back i c seam → Back (i - 1) (came_from w c (get_or ways ((i - 1) * w + c) 0)) (set seam i c)
   unfolding columns_to
-  back-turn i c seam p l b = go (i - 1) (omega arith) b
+  back_turn i c seam p l b = go (i - 1) (omega arith) b
     where
       go : (j : ℕ) → i ≡ suc j → Back i c seam → Back j (came_from w c (get_or ways (j * w + c) 0)) (set seam i c)
       go j e b =
           let front = columns_to ways w j (came_from w c (get_or ways (j * w + c) 0)) in
-          let n : length front ≡ i = length-columns j (came_from w c (get_or ways (j * w + c) 0)) ∙ omega arith in
+          let n : length front ≡ i = length_columns j (came_from w c (get_or ways (j * w + c) 0)) ∙ omega arith in
           let f : full ≡ (front ++ (c ∷ [])) ++ drop (i + 1) full = b.path ∙ ap (λ k. columns_to ways w k c ++ drop (i + 1) full) e in
           let g : drop i full ≡ c ∷ drop (i + 1) full = ap (drop i) (f ∙ append_assoc front (c ∷ []) (drop (i + 1) full)) ∙ drop_at front (c ∷ drop (i + 1) full) i n in
           let m : j + 1 ≡ i = omega arith in
           record {
             row = omega (arith, b.row);
-            column = came-inside w c (get_or ways (j * w + c) 0) (omega (arith, b.column));
+            column = came_inside w c (get_or ways (j * w + c) 0) (omega (arith, b.column));
             long = length-set seam i c ∙ b.long;
             path = rw (m, g) (f ∙ append_assoc front (c ∷ []) (drop (i + 1) full));
             stored = rw m (stored_more i c seam front l n f b.stored);

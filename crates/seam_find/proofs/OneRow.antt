@@ -16,7 +16,7 @@ use Rattle.pictures.specs.Limits.{most_side, most_pixels}
 use Rattle.pictures.specs.declared.sizes.Size.{Size}
 use Rattle.pictures.specs.Pictures.{picture_bytes}
 use Rattle.pictures.proofs.Limits.{sized_is}
-use Rattle.seam_theory.specs.Sums.{CostRows, fenced, sumOf3, way_of3}
+use Rattle.seam_theory.specs.Sums.{CostRows, fenced, sum_of3, way_of3}
 use Rattle.seam_find.specs.Inner.Down.{RowNeeded, RowGiven}
 
 -- A row put between the fences of another.
@@ -29,14 +29,14 @@ refenced fence w above t e f =
     ∙ rw (add-one w) (ap (λ r. fence ∷ (t ++ r)) (drop_at s (fence ∷ []) w long))
 
 -- Its ways and its sums put in their places, where q is from and n the width.
-pub row_given : (fence from : ℕ) (z : Size) (costsIn : List ℕ → ℕ → CostRows) (i q n : ℕ) (space above ways : List ℕ) (cost : CostRows) (copied : List ℕ)
+pub row-given : (fence from : ℕ) (z : Size) (costsIn : List ℕ → ℕ → CostRows) (i q n : ℕ) (space above ways : List ℕ) (cost : CostRows) (copied : List ℕ)
     → q ≡ from → q + (i - 1) * z.width + z.width ≤ length space → cost ≡ costsIn (take from space) i → n ≡ z.width
     → length above ≡ z.width + 2 → above ≡ fenced false fence z.width (take z.width (drop 1 above))
-    → ways ≡ table (way_of3 false n above cost) n → copied ≡ table (sumOf3 above cost) n
+    → ways ≡ table (way_of3 false n above cost) n → copied ≡ table (sum_of3 above cost) n
     → RowGiven fence from z costsIn i space above
     (put_mid (q + (i - 1) * z.width) (q + (i - 1) * z.width + z.width - (q + (i - 1) * z.width)) space ways)
     (put_mid 1 (z.width + 1 - 1) above copied)
-row_given fence from z costsIn i q n space above ways cost copied e end k l long fences told m =
+row-given fence from z costsIn i q n space above ways cost copied e end k l long fences told m =
     let w = z.width in
     let a = q + (i - 1) * w in
     let row = costsIn (take from space) i in
@@ -48,7 +48,7 @@ row_given fence from z costsIn i q n space above ways cost copied e end k l long
       sums =
           put_part 1 (w + 1) above copied (omega arith)
           ∙ refenced fence w above copied long fences
-          ∙ ap (fenced false fence w) (m ∙ ap₂ (λ x y. table (sumOf3 above x) y) k l);
+          ∙ ap (fenced false fence w) (m ∙ ap₂ (λ x y. table (sum_of3 above x) y) k l);
     }
 
 -- The bounds of row i's ways, where q is from: they end within the space, and have a place for each column.
@@ -58,9 +58,9 @@ pub record WaysEnd (z : Size) (q i : ℕ) (space next : List ℕ) : Type 0 where
   pub wide :
       length (mid_of (q + (i - 1) * z.width) (q + (i - 1) * z.width + z.width - (q + (i - 1) * z.width)) space) ≡ length next
 
-pub ways_end : {fence from : ℕ} {z : Size} {bytes i : ℕ} {space above cost next : List ℕ}
+pub ways-end : {fence from : ℕ} {z : Size} {bytes i : ℕ} {space above cost next : List ℕ}
     → RowNeeded fence from z bytes i space above cost next → (q : ℕ) → q ≡ from → WaysEnd z q i space next
-ways_end {z = z} {i = i} {space = space} n q e =
+ways-end {z = z} {i = i} {space = space} n q e =
     let s = sized_is z (picture_bytes z) n.sized in
     let a = q + (i - 1) * z.width in
     let row : i - 1 ≤ most_side = omega (arith, n.inside, s.height_small) in

@@ -19,8 +19,8 @@ module _ {A : Type 0} (start front part space : List A) (p n : ℕ) (is : space 
   pub space-front : take p space ≡ front
   space-front = ap (take p) is ∙ take_at front (part ++ drop (p + n) start) p long
 
-  pub space-part : take n (drop p space) ≡ part
-  space-part = ap (take n) (ap (drop p) is ∙ drop_at front (part ++ drop (p + n) start) p long) ∙ take_at part (drop (p + n) start) n wide
+  pub space_part : take n (drop p space) ≡ part
+  space_part = ap (take n) (ap (drop p) is ∙ drop_at front (part ++ drop (p + n) start) p long) ∙ take_at part (drop (p + n) start) n wide
 
   rest : drop (p + n) space ≡ drop (p + n) start
   rest =
@@ -34,8 +34,8 @@ module _ {A : Type 0} (start front part space : List A) (p n : ℕ) (is : space 
       rw (← s) (sym (drop-drop (e - (p + n)) (p + n) space) ∙ ap (drop (e - (p + n))) rest ∙ drop-drop (e - (p + n)) (p + n) start)
 
   -- The part as it is lent, where q is p.
-  pub space-lent : (q : ℕ) → q ≡ p → take (q + n - q) (drop q space) ≡ part
-  space-lent q e = ap (λ k. take k (drop q space)) (add-sub_cancel_left q n) ∙ ap (λ k. take n (drop k space)) e ∙ space-part
+  pub space_lent : (q : ℕ) → q ≡ p → take (q + n - q) (drop q space) ≡ part
+  space_lent q e = ap (λ k. take k (drop q space)) (add-sub_cancel_left q n) ∙ ap (λ k. take n (drop k space)) e ∙ space_part
 
   -- At least the part filled with one value.
   pub space-filled : (q all : ℕ) (d : A) (filled : List A) → q ≡ p → n ≤ all → q + all ≤ length space

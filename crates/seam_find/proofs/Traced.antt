@@ -19,14 +19,14 @@ use Rattle.energy.specs.Methods.{wrap_of}
 use Rattle.energy.specs.Bounds.{most_energy}
 use Rattle.energy.specs.Energy.{costs_at, energy, step_of}
 use Rattle.seam_theory.specs.PictureSeams.{path_cost, seam_up, seam_of, cost_of}
-use Rattle.seam_theory.specs.Sums.{sumsDown, waysUp, columns_to, least_to}
+use Rattle.seam_theory.specs.Sums.{sums_down, ways_up, columns_to, least_to}
 use Rattle.seam_theory.proofs.Bounded.{sums-most}
 use Rattle.seam_theory.proofs.Toward.{rows-through}
 use Rattle.seam_theory.proofs.Sums.{Costed, FoundPath, found}
 use Rattle.seam_sums.specs.Fences.{fence32}
 use Rattle.seam_find.specs.Inner.Down.{costs_of}
 use Rattle.seam_find.proofs.Costs.{cost_most}
-use Rattle.seam_find.proofs.Loops.{Traceable, ways_traceable}
+use Rattle.seam_find.proofs.Loops.{Traceable, ways-traceable}
 
 module _ (z : Size) (how : Method) (b : List ℕ) (sized : Sized z (length b)) (byte : (i : ℕ) → get_or b i 0 ≤ 255) where
   abbrev w : ℕ
@@ -42,7 +42,7 @@ module _ (z : Size) (how : Method) (b : List ℕ) (sized : Sized z (length b)) (
   wide i = length-table (energy how w h p i) w
 
   -- Every sum is below the fence.
-  low : (i c : ℕ) → i < h - 1 → c < w → get_or (sumsDown false fence32 w (costs_of z how b) i) c 0 + get_or (costs_of z how b (suc i)).up c 0 < fence32
+  low : (i c : ℕ) → i < h - 1 → c < w → get_or (sums_down false fence32 w (costs_of z how b) i) c 0 + get_or (costs_of z how b (suc i)).up c 0 < fence32
   low i c k l =
       let rows : suc i ≤ most_side = omega (arith, sized.height_small) in
       let most = cost_most z how b sized byte in
@@ -58,24 +58,24 @@ module _ (z : Size) (how : Method) (b : List ℕ) (sized : Sized z (length b)) (
   }
 
   pub plain-traceable : (column seam : ℕ) → column < z.width → z.height ≤ seam
-      → Traceable (length (flat (table (waysUp false fence32 z.width (costs_of z how b)) (z.height - 1)))) z.width z.height column seam
-  plain-traceable = ways_traceable false fence32 w h (costs_of z how b) sized.height_some sized.height_most sized.width_most
+      → Traceable (length (flat (table (ways_up false fence32 z.width (costs_of z how b)) (z.height - 1)))) z.width z.height column seam
+  plain-traceable = ways-traceable false fence32 w h (costs_of z how b) sized.height_some sized.height_most sized.width_most
 
   seam : FoundPath false fence32 w h (costs_of z how b) (energy how w h p 0) (step_of how w h p)
   unfolding wrap_of
   seam = found false fence32 w h (costs_of z how b) (energy how w h p 0) (step_of how w h p) costed sized.width_some sized.height_some
 
   abbrev bottom : ℕ
-  bottom = least_to (sumsDown false fence32 w (costs_of z how b) (h - 1)) (w - 1)
+  bottom = least_to (sums_down false fence32 w (costs_of z how b) (h - 1)) (w - 1)
 
-  path-is : Option.get_or (seam_up how w h p) [] ≡ seam.path
+  path_is : Option.get_or (seam_up how w h p) [] ≡ seam.path
   unfolding wrap_of
-  path-is = ap (λ o. Option.get_or o []) seam.is
+  path_is = ap (λ o. Option.get_or o []) seam.is
 
-  pub seam-traced : columns_to (flat (table (waysUp false fence32 z.width (costs_of z how b)) (z.height - 1))) z.width (z.height - 1) bottom ≡ seam_of how z.width z.height (picture z b)
+  pub seam-traced : columns_to (flat (table (ways_up false fence32 z.width (costs_of z how b)) (z.height - 1))) z.width (z.height - 1) bottom ≡ seam_of how z.width z.height (picture z b)
   unfolding seam_of
-  seam-traced = seam.columns ∙ ap reverse (sym path-is)
+  seam-traced = seam.columns ∙ ap reverse (sym path_is)
 
-  pub cost-summed : get_or (sumsDown false fence32 z.width (costs_of z how b) (z.height - 1)) bottom 0 ≡ cost_of how z.width z.height (picture z b)
+  pub cost-summed : get_or (sums_down false fence32 z.width (costs_of z how b) (z.height - 1)) bottom 0 ≡ cost_of how z.width z.height (picture z b)
   unfolding cost_of wrap_of
-  cost-summed = sym seam.price ∙ ap (path_cost how w h p) (sym path-is)
+  cost-summed = sym seam.price ∙ ap (path_cost how w h p) (sym path_is)

@@ -12,7 +12,7 @@ use lib.Seq.{take-take, take-add, take_all, drop_at, drop-drop, length-take-le}
 use Rattle.grids.specs.Table.{table}
 use Rattle.grids.specs.Rows.{flat, rows_of}
 use Rattle.grids.proofs.Tables.{length-table, table_at, table_same}
-use Rattle.grids.proofs.Rows.{rowsOf-at}
+use Rattle.grids.proofs.Rows.{rows_of_at}
 use Rattle.pictures.specs.Limits.{most_side}
 use Rattle.pictures.specs.declared.sizes.Size.{Size}
 use Rattle.pictures.specs.Pictures.{Picture, picture_bytes, picture, pixels, picture_in, marks_in}
@@ -21,30 +21,30 @@ use Rattle.energy.specs.Bounds.{most_energy}
 use Rattle.energy.specs.declared.methods.Method.{Method}
 use Rattle.energy.specs.Methods.{wrap_of}
 use Rattle.energy.specs.Energy.{StepCosts, costs_at, energy, energies}
-use Rattle.energy.proofs.Steps.{costs_alike}
+use Rattle.energy.proofs.Steps.{costs-alike}
 use Rattle.energy.proofs.Most.{CostsMost}
 use Rattle.seam_theory.specs.Paths.{cost}
 use Rattle.seam_theory.specs.PictureSeams.{path_cost, mark_at, marked_up, marked_seam_of, marked_cost_of, is_none}
-use Rattle.seam_theory.specs.Sums.{cost_rows, alike_rows, sumsDown, waysUp, columns_to, least_to}
+use Rattle.seam_theory.specs.Sums.{cost_rows, alike_rows, sums_down, ways_up, columns_to, least_to}
 use Rattle.seam_theory.proofs.Bounded.{sums-most}
 use Rattle.seam_theory.proofs.Toward.{rows-through}
 use Rattle.seam_theory.proofs.Sums.{Costed, FoundPath, found}
 use Rattle.seam_sums.specs.Weights.{weight_of, kept, protected}
 use Rattle.seam_sums.specs.Fences.{fence64}
 use Rattle.seam_find.proofs.Costs.{front-most, pixel-most, table-most}
-use Rattle.seam_find.proofs.Loops.{Traceable, ways_traceable}
+use Rattle.seam_find.proofs.Loops.{Traceable, ways-traceable}
 use Rattle.seam_find_marked.specs.Inner.{most_weight, weight_in, weighed, weights_at, weights_of, marked_bytes}
 use Rattle.seam_find_marked.proofs.Weighed.{first_weight, step_weight, weight-most, light-found, light-cost, heavy-blocked}
 
 -- A row has a weight for each column.
-pub weights_wide : (z : Size) (how : Method) (b : List ℕ) (i : ℕ) → length (weights_of z how b i).up ≡ z.width
-weights_wide z how b i = length-table (λ c. (weights_at how z.width z.height (picture_in z b) (marks_in z b) i c).up) z.width
+pub weights-wide : (z : Size) (how : Method) (b : List ℕ) (i : ℕ) → length (weights_of z how b i).up ≡ z.width
+weights-wide z how b i = length-table (λ c. (weights_at how z.width z.height (picture_in z b) (marks_in z b) i c).up) z.width
 
 -- A pixel weighs the same wherever a path comes from.
 pub weights-alike : (z : Size) (how : Method) (b : List ℕ) (i : ℕ) → weights_of z how b i ≡ alike_rows (weights_of z how b i).up
 weights-alike z how b i =
     ap (λ (k : ℕ → StepCosts). cost_rows z.width (λ c. weighed (k c) (mark_at (marks_in z b) i c)))
-    (λ j c. costs_alike how z.width z.height (picture_in z b) i c j)
+    (λ j c. costs-alike how z.width z.height (picture_in z b) i c j)
 
 -- The weights of row i, from its energies and the part of the buffer that holds its marks.
 module _ (z : Size) (how : Method) (b : List ℕ) (i : ℕ) (inside : i < z.height) (long : length b ≡ marked_bytes z) where
@@ -53,7 +53,7 @@ module _ (z : Size) (how : Method) (b : List ℕ) (i : ℕ) (inside : i < z.heig
 
   row-marks : get_or (marks_in z b) i [] ≡ marks
   row-marks =
-      rowsOf-at z.width z.height (take (pixels z) (drop (picture_bytes z) b)) i inside
+      rows_of_at z.width z.height (take (pixels z) (drop (picture_bytes z) b)) i inside
       ∙ ap (λ x. take z.width (drop (i * z.width) x))
       (take_all (pixels z) (drop (picture_bytes z) b) (omega (arith, length-drop (picture_bytes z) b)))
       ∙ ap (take z.width) (drop-drop (i * z.width) (picture_bytes z) b)
@@ -97,7 +97,7 @@ module _ (z : Size) (how : Method) (b : List ℕ) (sized : Sized z (length (take
       (λ c. weight-most (energy how w h p i c) (mark_at m i c) (costs-most i c).up)
 
   abbrev sums : ℕ → List ℕ
-  sums = sumsDown false fence64 w (weights_of z how b)
+  sums = sums_down false fence64 w (weights_of z how b)
 
   abbrev first : ℕ → ℕ
   first = first_weight how w h p m
@@ -109,7 +109,7 @@ module _ (z : Size) (how : Method) (b : List ℕ) (sized : Sized z (length (take
   low : (i c : ℕ) → i < h - 1 → c < w → get_or (sums i) c 0 + get_or (weights_of z how b (suc i)).up c 0 < fence64
   low i c k l =
       let rows : suc i ≤ most_side = omega (arith, sized.height_small) in
-      let most = sums-most false fence64 w (weights_of z how b) (weights_wide z how b 0) most_weight weights-most i c l in
+      let most = sums-most false fence64 w (weights_of z how b) (weights-wide z how b 0) most_weight weights-most i c l in
       omega (arith, weights-most (suc i) c, mul-le-mul_right most_weight rows)
 
   -- The cost rows are the weights of steps.
@@ -123,11 +123,11 @@ module _ (z : Size) (how : Method) (b : List ℕ) (sized : Sized z (length (take
 
   -- The ways between the rows.
   abbrev ways : List ℕ
-  ways = flat (table (waysUp false fence64 w (weights_of z how b)) (h - 1))
+  ways = flat (table (ways_up false fence64 w (weights_of z how b)) (h - 1))
 
-  pub marked-traceable : (column seam : ℕ) → column < w → h ≤ seam → Traceable (length ways) w h column seam
-  marked-traceable =
-      ways_traceable false fence64 w h (weights_of z how b) sized.height_some sized.height_most sized.width_most
+  pub marked_traceable : (column seam : ℕ) → column < w → h ≤ seam → Traceable (length ways) w h column seam
+  marked_traceable =
+      ways-traceable false fence64 w h (weights_of z how b) sized.height_some sized.height_most sized.width_most
 
   -- The first path of least weight, and where it ends.
   seam : FoundPath false fence64 w h (weights_of z how b) first step
@@ -148,24 +148,24 @@ module _ (z : Size) (how : Method) (b : List ℕ) (sized : Sized z (length (take
     pub marked-some : is_none (marked_up how w h p m) ≡ false
     marked-some = ap is_none marked-found
 
-    path-is : Option.get_or (marked_up how w h p m) [] ≡ seam.path
-    path-is = ap (λ o. Option.get_or o []) marked-found
+    path_is : Option.get_or (marked_up how w h p m) [] ≡ seam.path
+    path_is = ap (λ o. Option.get_or o []) marked-found
 
     pub marked-seam : columns_to ways w (h - 1) bottom ≡ marked_seam_of how w h p m
     unfolding marked_seam_of
-    marked-seam = seam.columns ∙ ap reverse (sym path-is)
+    marked-seam = seam.columns ∙ ap reverse (sym path_is)
 
     pub marked-cost : get_or (sums (h - 1)) bottom 0 % kept ≡ marked_cost_of how w h p m
     unfolding marked_cost_of wrap_of
     marked-cost =
         ap (λ n. n % kept) (sym seam.price)
         ∙ sym (light-cost how w h p m sized.height_small costs-most seam.path seam.is under)
-        ∙ ap (path_cost how w h p) (sym path-is)
+        ∙ ap (path_cost how w h p) (sym path_is)
 
   -- It is not: no seam is allowed.
-  pub marked-blocked : protected ≤ get_or (sums (h - 1)) bottom 0 → is_none (marked_up how w h p m) ≡ true
+  pub marked_blocked : protected ≤ get_or (sums (h - 1)) bottom 0 → is_none (marked_up how w h p m) ≡ true
   unfolding wrap_of
-  marked-blocked l = ap is_none (heavy-blocked how w h p m sized.height_small costs-most seam.path seam.is (rw seam.price l))
+  marked_blocked l = ap is_none (heavy-blocked how w h p m sized.height_small costs-most seam.path seam.is (rw seam.price l))
 
 -- Picture and marks in a space are those in the part at its front that holds just these.
 module _ (z : Size) (space : List ℕ) where

@@ -19,11 +19,11 @@ use Rattle.seam_theory.specs.Best.{least}
 use Rattle.seam_theory.specs.Paths.{paths, cost, nearby, along}
 use Rattle.seam_theory.specs.PictureSeams.{path_cost, mark_at, is_mark, marked_up}
 use Rattle.seam_theory.proofs.Along.{along_split, along-most}
-use Rattle.seam_theory.proofs.Best.{best-mem}
-use Rattle.seam_theory.proofs.Least.{byCost, least-same}
+use Rattle.seam_theory.proofs.Best.{best_mem}
+use Rattle.seam_theory.proofs.Least.{by_cost, least-same}
 use Rattle.seam_theory.proofs.Nearby.{nearby-paths}
 use Rattle.seam_theory.proofs.Priced.{cost-weight, cost_most}
-use Rattle.seam_theory.proofs.Weights.{weight, Weighed, weight-price, weights-found, weights-blocked}
+use Rattle.seam_theory.proofs.Weights.{weight, Weighed, weight-price, weights-found, weights_blocked}
 use Rattle.seam_sums.specs.Weights.{weight_of, kept, protected}
 use Rattle.seam_find_marked.specs.Inner.{most_weight, weighed, weights_at}
 
@@ -130,9 +130,9 @@ module _ (how : Method) (w h : ℕ) (p : Picture) (m : List (List ℕ)) (few : h
     pub light-cost : heavy s < protected → price s ≡ heavy s % kept
     light-cost l =
         rw (summed s)
-        (weight-price shielded removed price keeps kept protected h all large s (best-mem (byCost heavy) all s is)
+        (weight-price shielded removed price keeps kept protected h all large s (best_mem (by_cost heavy) all s is)
         (rw (summed s) at l))
 
     -- Else no seam is allowed.
     pub heavy-blocked : protected ≤ heavy s → marked_up how w h p m ≡ none
-    heavy-blocked l = weights-blocked shielded removed price keeps kept protected h all large s lightest (rw (summed s) at l)
+    heavy-blocked l = weights_blocked shielded removed price keeps kept protected h all large s lightest (rw (summed s) at l)

@@ -2,7 +2,7 @@
 ghost use Rattle.std.specs.Prelude.{◌≡◌, ◌+◌, length};
 ghost use Rattle.grids.specs.Table.{table};
 ghost use Rattle.seam_find.specs.Inner.Sums.{SumsNeeded};
-ghost use Rattle.seam_theory.specs.Sums.{alike_rows, way_above, sumOf3};
+ghost use Rattle.seam_theory.specs.Sums.{alike_rows, way_above, sum_of3};
 ghost use Rattle.seam_sums.specs.Fences.{fence64};
 
 use seam_sums::least64;
@@ -10,7 +10,7 @@ use seam_sums::least64;
 // The sums of a row, from the row of sums above it and the row's costs. A pixel costs the same wherever a path comes from.
 pub(crate) fn next_sums(above: &[u64], cost: &[u64], next: &mut [u64])
     requires { SumsNeeded fence64 above.now cost.now next.old }
-    ensures { next.new ≡ table (sumOf3 above.now (alike_rows cost.now)) (length next.old) }
+    ensures { next.new ≡ table (sum_of3 above.now (alike_rows cost.now)) (length next.old) }
 {
     for c in 0..next.len() {
         next[c] = least64::lesser(above[c], least64::lesser(above[c + 1], above[c + 2])) + cost[c];

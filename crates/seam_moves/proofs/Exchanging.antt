@@ -17,24 +17,24 @@ use Rattle.grids.specs.Table.{table}
 use Rattle.grids.specs.Rows.{flat, row_at}
 use Rattle.grids.specs.Exchange.{exchange}
 use Rattle.grids.proofs.Shapes.{grid_of, each-length, each_at}
-use Rattle.grids.proofs.Tables.{length-table, table_at, table_same, table-all, table-part, each-table}
-use Rattle.grids.proofs.Rows.{length-rowAt, length-flat, rowAt-getD, part_end}
-use Rattle.grids.proofs.Exchange.{exchange-each, exchange-grid, exchange-at, grid-same}
+use Rattle.grids.proofs.Tables.{length-table, table_at, table_same, table-all, table_part, each-table}
+use Rattle.grids.proofs.Rows.{length-row_at, length-flat, row_at_get_d, part_end}
+use Rattle.grids.proofs.Exchange.{exchange-each, exchange-grid, exchange_at, grid-same}
 use Rattle.pictures.specs.Limits.{most_picture}
 use Rattle.pictures.specs.declared.sizes.Size.{Size}
 use Rattle.pictures.specs.Refusals.{◌when◌, refusal}
 use Rattle.pictures.specs.Pictures.{channels_of, picture_bytes, size_rules, picture, bytes, OfSize}
 use Rattle.pictures.proofs.Rules.{served-both, passed}
 use Rattle.pictures.proofs.Limits.{Sized, sized_is}
-use Rattle.pictures.proofs.Buffers.{picture_of_size, pixel_at}
+use Rattle.pictures.proofs.Buffers.{picture-of_size, pixel_at}
 use Rattle.seam_bounds.specs.Moves.{exchange_rules, column_rules}
 use Rattle.seam_moves.specs.Moving.{column_bytes}
 use Rattle.seam_moves.specs.Inner.{samples, ColumnNeeded, ExchangeNeeded}
 use Rattle.grids.proofs.Filled.{map-table, Filled, filled-sets, filled-part}
 
 -- The exchanged grid as the table of its rows.
-exchange_rows : {A : Type 0} {w n : ℕ} {p : List (List (List A))} → Grid w n p → exchange w p ≡ table (λ c. table (λ r. get_or (get_or p r []) c []) n) w
-exchange_rows {A} {w} {n} {p} g = grid-same [] (exchange-grid g) columns at
+exchange-rows : {A : Type 0} {w n : ℕ} {p : List (List (List A))} → Grid w n p → exchange w p ≡ table (λ c. table (λ r. get_or (get_or p r []) c []) n) w
+exchange-rows {A} {w} {n} {p} g = grid-same [] (exchange-grid g) columns at
   where
     column : ℕ → List (List A)
     column c = table (λ r. get_or (get_or p r []) c []) n
@@ -44,7 +44,7 @@ exchange_rows {A} {w} {n} {p} g = grid-same [] (exchange-grid g) columns at
 
     at : (c r : ℕ) → c < w → r < n → get_or (get_or (exchange w p) c []) r [] ≡ get_or (get_or (table column w) c []) r []
     at c r l m =
-        exchange-at g r c []
+        exchange_at g r c []
         ∙ sym (ap (λ x. get_or x r []) (table_at column w c [] l) ∙ table_at (λ r. get_or (get_or p r []) c []) n r [] m)
 
 -- The pixels of column c from the top, as bytes.
@@ -54,7 +54,7 @@ column ch w n b c = flat (table (samples ch w b c) n)
 -- The exchanged picture is a picture of its size, width and height exchanged.
 pub exchanged_of_size : (z : Size) (b : List ℕ) → length b ≡ picture_bytes z
     → OfSize (record { width = z.height; height = z.width; kind = z.kind }) (exchange z.width (picture z b))
-exchanged_of_size z b e = exchange-each (picture_of_size z b e)
+exchanged_of_size z b e = exchange-each (picture-of_size z b e)
 
 -- Its rows are the columns of the picture.
 pub exchanged_columns : (z : Size) (b : List ℕ) → length b ≡ picture_bytes z
@@ -74,7 +74,7 @@ pub column_is : (z : Size) (b : List ℕ) → length b ≡ picture_bytes z → (
     → column_bytes z b c ≡ column (channels_of z.kind) z.width z.height b c
 column_is z b e c l =
     let p = picture z b in
-    ap (λ q. flat (get_or q c [])) (exchange_rows (grid_of (picture_of_size z b e)))
+    ap (λ q. flat (get_or q c [])) (exchange-rows (grid_of (picture-of_size z b e)))
     ∙ ap flat (table_at (λ c. table (λ r. get_or (get_or p r []) c []) z.height) z.width c [] l
     ∙ table_same (λ r. get_or (get_or p r []) c []) (samples (channels_of z.kind) z.width b c) z.height (λ r h. pixel_at z b e r c h))
 
@@ -108,16 +108,16 @@ copy_needed b z c out e =
 -- The samples of a pixel, one after the other.
 module _ (ch : ℕ) (b : List ℕ) (w n c : ℕ) (e : length b ≡ n * (w * ch)) (l : c < w) (r : ℕ) (h : r < n) where
   long : length (row_at (w * ch) r b) ≡ w * ch
-  long = length-rowAt (w * ch) n b r (omega arith) h
+  long = length-row_at (w * ch) n b r (omega arith) h
 
   pub length-samples : length (samples ch w b c r) ≡ ch
-  length-samples = length-rowAt ch w (row_at (w * ch) r b) c (omega (arith, long)) l
+  length-samples = length-row_at ch w (row_at (w * ch) r b) c (omega (arith, long)) l
 
-  pub samples-are : samples ch w b c r ≡ table (λ k. get_or b (r * (w * ch) + c * ch + k) 0) ch
-  samples-are =
-      table-part (row_at (w * ch) r b) (c * ch) ch 0 (omega (arith, long, part_end c w ch l))
+  pub samples_are : samples ch w b c r ≡ table (λ k. get_or b (r * (w * ch) + c * ch + k) 0) ch
+  samples_are =
+      table_part (row_at (w * ch) r b) (c * ch) ch 0 (omega (arith, long, part_end c w ch l))
       ∙ table_same (λ k. get_or (row_at (w * ch) r b) (c * ch + k) 0) (λ k. get_or b (r * (w * ch) + c * ch + k) 0) ch
-      (λ k m. rowAt-getD (w * ch) b r (c * ch + k) 0 (digits_lt l m) ∙ rw (add_assoc (r * (w * ch)) (c * ch) k))
+      (λ k m. row_at_get_d (w * ch) b r (c * ch + k) 0 (digits_lt l m) ∙ rw (add_assoc (r * (w * ch)) (c * ch) k))
 
   -- Where they stand ends within the bytes.
   pub samples-end : r * (w * ch) + c * ch + ch ≤ length b
@@ -136,30 +136,30 @@ module _ (ch : ℕ) (b : List ℕ) (w n c : ℕ) (space out : List ℕ) (needed 
     to_end = omega (arith, part_end r n ch inside, needed.room);
   }
 
-  pub column-turn : Filled (samples ch w b c) ch space r out
+  pub column_turn : Filled (samples ch w b c) ch space r out
       → Filled (samples ch w b c) ch space (r + 1) (sets out (r * ch) (table (λ k. get_or b (r * (w * ch) + c * ch + k) 0) ch))
-  column-turn so_far =
-      ap (sets out (r * ch)) (sym (samples-are ch b w n c needed.length_is needed.inside r inside))
+  column_turn so_far =
+      ap (sets out (r * ch)) (sym (samples_are ch b w n c needed.length_is needed.inside r inside))
       ∙ filled-sets (samples ch w b c) n ch (λ i l. length-samples ch b w n c needed.length_is needed.inside i l) space r out inside so_far pixel-sure.to_end
 
 -- The same for one sample and for three, as the code stores them.
 module _ (b : List ℕ) (w n c : ℕ) (space out : List ℕ) (r : ℕ) (inside : r < n) (long : length out ≡ length space) where
-  pub grey-turn : ColumnNeeded 1 b w n c space → Filled (samples 1 w b c) 1 space r out
+  pub grey_turn : ColumnNeeded 1 b w n c space → Filled (samples 1 w b c) 1 space r out
       → Filled (samples 1 w b c) 1 space (r + 1) (set out r (get_or b (r * w + c) 0))
-  grey-turn needed so_far =
+  grey_turn needed so_far =
       let e : set out r (get_or b (r * w + c) 0) ≡ sets out (r * 1) (table (λ k. get_or b (r * (w * 1) + c * 1 + k) 0) 1) = rw (mul-one w, mul-one r, mul-one c, add-zero (r * w + c)) in
-      e ∙ column-turn 1 b w n c space out needed r inside long so_far
+      e ∙ column_turn 1 b w n c space out needed r inside long so_far
 
-  pub rgb-turn : ColumnNeeded 3 b w n c space → Filled (samples 3 w b c) 3 space r out
+  pub rgb_turn : ColumnNeeded 3 b w n c space → Filled (samples 3 w b c) 3 space r out
       → Filled (samples 3 w b c) 3 space (r + 1)
       (set (set (set out (r * 3) (get_or b (r * (w * 3) + c * 3) 0)) (r * 3 + 1) (get_or b (r * (w * 3) + c * 3 + 1) 0)) (r * 3 + 2) (get_or b (r * (w * 3) + c * 3 + 2) 0))
-  rgb-turn needed so_far =
+  rgb_turn needed so_far =
       let i = r * (w * 3) + c * 3 in
       let one : r * 3 + 1 ≡ suc (r * 3) = add-one (r * 3) in
       let two : r * 3 + 2 ≡ suc (suc (r * 3)) = omega arith in
       let e : set (set (set out (r * 3) (get_or b i 0)) (r * 3 + 1) (get_or b (i + 1) 0)) (r * 3 + 2) (get_or b (i + 2) 0)
       ≡ sets out (r * 3) (table (λ k. get_or b (i + k) 0) 3) = rw (one, two, add-zero i) in
-      e ∙ column-turn 3 b w n c space out needed r inside long so_far
+      e ∙ column_turn 3 b w n c space out needed r inside long so_far
 
 -- The loop over the columns, each of which becomes a row of s bytes.
 module _ (z : Size) (b space : List ℕ) (s : ℕ) (needed : ExchangeNeeded b z space) (is : s ≡ z.height * channels_of z.kind) where
@@ -204,5 +204,5 @@ module _ (z : Size) (b space : List ℕ) (s : ℕ) (needed : ExchangeNeeded b z 
         → Filled (column ch w h b) s space (c + 1) (put_mid (c * s) (c * s + s - c * s) now new)
     columns-turn new so_far New-is = filled-part (column ch w h b) w s length-column space c now inside so_far (c * s + s - c * s) new (omega (arith, part)) (rw (← is) at New-is)
 
-  pub columns-end : (now : List ℕ) → Filled (column ch w h b) s space w now → now ≡ bytes (exchange w (picture z b)) ++ drop (picture_bytes z) space
-  columns-end now so_far = so_far ∙ ap₂ ◌++◌ (sym (exchanged_is z b sized.length_is)) (ap (λ m. drop m space) whole)
+  pub columns_end : (now : List ℕ) → Filled (column ch w h b) s space w now → now ≡ bytes (exchange w (picture z b)) ++ drop (picture_bytes z) space
+  columns_end now so_far = so_far ∙ ap₂ ◌++◌ (sym (exchanged_is z b sized.length_is)) (ap (λ m. drop m space) whole)

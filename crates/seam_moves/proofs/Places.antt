@@ -56,11 +56,11 @@ module _ (at n : ℕ) (new old : List ℕ) (many : length new ≡ n) (room : at 
   both : length (take at old ++ new) ≡ at + n
   both = length-append (take at old) new ∙ ap₂ ◌+◌ front many
 
-  pub put-there : part_at at n (put_at at n new old) ≡ new
-  put-there = ap (take n) (drop_at (take at old) (new ++ drop (at + n) old) at front) ∙ take_at new (drop (at + n) old) n many
+  pub put_there : part_at at n (put_at at n new old) ≡ new
+  put_there = ap (take n) (drop_at (take at old) (new ++ drop (at + n) old) at front) ∙ take_at new (drop (at + n) old) n many
 
-  pub put-kept : Kept at n old (put_at at n new old)
-  put-kept = record {
+  pub put_kept : Kept at n old (put_at at n new old)
+  put_kept = record {
     long = omega (arith, length-append (take at old) (new ++ drop (at + n) old), length-append new (drop (at + n) old), length-drop (at + n) old, front);
     before = take_at (take at old) (new ++ drop (at + n) old) at front;
     after = ap (drop (at + n)) (sym (append_assoc (take at old) new (drop (at + n) old))) ∙ drop_at (take at old ++ new) (drop (at + n) old) (at + n) both;

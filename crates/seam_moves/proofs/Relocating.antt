@@ -18,13 +18,13 @@ use Rattle.pictures.specs.declared.sizes.Size.{Size}
 use Rattle.pictures.specs.declared.refusals.Verdict.{Verdict}
 use Rattle.pictures.specs.Refusals.{refusal}
 use Rattle.pictures.specs.Pictures.{largest_side, channels_of, picture_bytes, size_rules, picture, bytes}
-use Rattle.pictures.proofs.Limits.{line_fits, Sides, sides_are, sized-served}
+use Rattle.pictures.proofs.Limits.{line-fits, Sides, sides_are, sized-served}
 use Rattle.seam_moves.specs.Between.{part_at, put_at}
 use Rattle.seam_bounds.specs.Inner.{PlacesApart}
 use Rattle.seam_moves.specs.Moving.{column_bytes, ColumnGiven}
 use Rattle.seam_moves.specs.Inner.{PictureNeeded}
-use Rattle.grids.proofs.Filled.{flat_more, filled-length}
-use Rattle.seam_moves.proofs.Places.{Kept, kept_part, kept_wider, put-kept, length_part, append_part}
+use Rattle.grids.proofs.Filled.{flat-more, filled-length}
+use Rattle.seam_moves.proofs.Places.{Kept, kept_part, kept_wider, put_kept, length_part, append_part}
 use Rattle.seam_moves.proofs.Exchanging.{exchanged_columns, length-column_bytes}
 use Rattle.seam_moves.proofs.Served.{column-served}
 
@@ -44,7 +44,7 @@ module _ (old : List ℕ) (from to n : ℕ) (needed : PlacesApart (length old) f
         let new = take i (drop from old) in
         let is : now ≡ put_at to i (take i (drop from old)) old = so_far ∙ append_assoc (take to old) (take i (drop from old)) (drop (to + i) old) in
         rw is (kept_wider to i to n old (put_at to i (take i (drop from old)) old)
-        (put-kept to i (take i (drop from old)) old (length-take-le i (drop from old) (omega (arith, rest))) (omega arith)) (omega arith) (omega arith))
+        (put_kept to i (take i (drop from old)) old (length-take-le i (drop from old) (omega (arith, rest))) (omega arith)) (omega arith) (omega arith))
 
     read : get_or now (from + i) 0 ≡ get_or (drop from old) i 0
     read =
@@ -89,14 +89,14 @@ module _ (z : Size) (old : List ℕ) (from all to s : ℕ) (needed : PictureNeed
   length-column : (c : ℕ) → c < w → length (f c) ≡ s
   length-column c l = length-column_bytes z b b-long c l ∙ sym is
 
-  done-long : (c : ℕ) → c ≤ w → length (take to old ++ flat (table f c)) ≡ to + c * s
-  done-long c l =
+  done_long : (c : ℕ) → c ≤ w → length (take to old ++ flat (table f c)) ≡ to + c * s
+  done_long c l =
       let to_inside = needed.places.to_inside in
       length-append (take to old) (flat (table f c))
       ∙ ap₂ ◌+◌ (length-take-le to old (omega arith)) (filled-length f w s length-column [] c l)
 
-  pub exchanged-start : Exchanged z from to s old 0 old
-  exchanged-start = rw (zero-mul s, add-zero to, append-nil) (sym (take-append-drop to old))
+  pub exchanged_start : Exchanged z from to s old 0 old
+  exchanged_start = rw (zero-mul s, add-zero to, append-nil) (sym (take-append-drop to old))
 
   pub record ColumnAt (c : ℕ) : Type 0 where
     pub room : to + c * s + s ≤ length old
@@ -104,10 +104,10 @@ module _ (z : Size) (old : List ℕ) (from all to s : ℕ) (needed : PictureNeed
     pub line : s ≤ 6 * largest_side
 
   line-most : s ≤ 6 * largest_side
-  line-most = rw is (line_fits z.height z.kind sides.height_most)
+  line-most = rw is (line-fits z.height z.kind sides.height_most)
 
-  pub column-at : (c : ℕ) → c < w → ColumnAt c
-  column-at c l =
+  pub column_at : (c : ℕ) → c < w → ColumnAt c
+  column_at c l =
       let e = part_end c w s l in
       record { room = omega (arith, whole, needed.places.to_inside); small = omega (arith, whole, sides.picture_most); line = line-most }
 
@@ -119,7 +119,7 @@ module _ (z : Size) (old : List ℕ) (from all to s : ℕ) (needed : PictureNeed
         let T = flat (table f c) in
         let put : now ≡ put_at to (c * s) (flat (table f c)) old = so_far ∙ append_assoc (take to old) T (drop (to + c * s) old) in
         rw put (kept_wider to (c * s) to (picture_bytes z) old (put_at to (c * s) (flat (table f c)) old)
-        (put-kept to (c * s) T old (filled-length f w s length-column [] c (omega arith)) (omega (arith, whole))) (omega arith) (omega (arith, whole)))
+        (put_kept to (c * s) T old (filled-length f w s length-column [] c (omega arith)) (omega (arith, whole))) (omega arith) (omega (arith, whole)))
 
     -- The picture is still there.
     pub still : part_at from (picture_bytes z) now ≡ b
@@ -129,21 +129,21 @@ module _ (z : Size) (old : List ℕ) (from all to s : ℕ) (needed : PictureNeed
     exchanged-more new New-is =
         let T = flat (table f c) in
         let next : to + c * s + s ≡ to + (c + 1) * s = rw (add-one c) (omega (arith, suc-mul c s)) in
-        append_part (take to old ++ T) new old now (to + c * s) s (done-long c (omega arith)) so_far
-        ∙ ap₂ ◌++◌ (append_assoc (take to old) T new ∙ ap (take to old ++◌) (ap (T ++◌) New-is ∙ sym (flat_more f c))) (ap (λ m. drop m old) next)
+        append_part (take to old ++ T) new old now (to + c * s) s (done_long c (omega arith)) so_far
+        ∙ ap₂ ◌++◌ (append_assoc (take to old) T new ∙ ap (take to old ++◌) (ap (T ++◌) New-is ∙ sym (flat-more f c))) (ap (λ m. drop m old) next)
 
     -- One turn: the picture as it is lent, the column put into a line, and the line copied to its place.
     module _ (long : length now ≡ length old) where
       pub lent : mid_of from (from + all - from) now ≡ b
       lent = ap (λ n. mid_of from n now) (add-sub_cancel_left from all ∙ needed.all_is) ∙ still
 
-      pub column-turn : (line before new : List ℕ) (v : Verdict) → length before ≡ 6 * largest_side
+      pub column_turn : (line before new : List ℕ) (v : Verdict) → length before ≡ 6 * largest_side
           → ColumnGiven (mid_of from (from + all - from) now) z c before v line
           → new ≡ take (length (take s line)) (take s line) ++ drop (length (take s line)) (mid_of (to + c * s) (to + c * s + s - (to + c * s)) now)
           → Exchanged z from to s old (c + 1) (put_mid (to + c * s) (to + c * s + s - (to + c * s)) now new)
-      column-turn line before new v before-long given New-is =
+      column_turn line before new v before-long given New-is =
           let at = to + c * s in
-          let room = (column-at c inside).room in
+          let room = (column_at c inside).room in
           let many = length-column c inside in
           let size : refusal (size_rules z (length (mid_of from (from + all - from) now))) ≡ 0 = ap (λ x. refusal (size_rules z (length x))) lent ∙ ap (λ n. refusal (size_rules z n)) b-long ∙ sized-served z needed.sides in
           let line-is = column-served (mid_of from (from + all - from) now) z c before line v given size (omega (arith, is, line-most)) inside in
@@ -154,7 +154,7 @@ module _ (z : Size) (old : List ℕ) (from all to s : ℕ) (needed : PictureNeed
           let whole-line : new ≡ f c = New-is ∙ ap₂ ◌++◌ (take-length (take s line)) none ∙ append-nil (take s line) ∙ front in
           put_part at (at + s) now new (omega arith) ∙ exchanged-more new whole-line
 
-  pub exchanged-all : (now : List ℕ) → Exchanged z from to s old w now → now ≡ put_at to (picture_bytes z) (bytes (exchange w (picture z b))) old
-  exchanged-all now so_far =
+  pub exchanged_all : (now : List ℕ) → Exchanged z from to s old w now → now ≡ put_at to (picture_bytes z) (bytes (exchange w (picture z b))) old
+  exchanged_all now so_far =
       so_far ∙ append_assoc (take to old) (flat (table f w)) (drop (to + w * s) old)
       ∙ ap₂ (λ x y. take to old ++ (x ++ y)) (sym (exchanged_columns z b b-long)) (ap (λ m. drop (to + m) old) whole)

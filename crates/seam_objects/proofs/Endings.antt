@@ -9,10 +9,10 @@ use Rattle.seam_rules.specs.Answers.{done, narrow, spent, blocked}
 
 -- The steps, one law each.
 module _ (n : ℕ) (s : MarkedPicture) where
-  pub removal-done : (b : ℕ) → to_remove s ≡ false → removal b n s ≡ ends done n s
+  pub removal_done : (b : ℕ) → to_remove s ≡ false → removal b n s ≡ ends done n s
   unfolding removal
-  removal-done zero e = rw e
-  removal-done (suc b) e = rw e
+  removal_done zero e = rw e
+  removal_done (suc b) e = rw e
 
   module _ (some : to_remove s ≡ true) where
     pub removal-narrow : (b : ℕ) → s.width ≡ 1 → removal b n s ≡ ends narrow n s
@@ -37,7 +37,7 @@ module _ (n : ℕ) (s : MarkedPicture) where
 module _
     (P : ℕ → ℕ → MarkedPicture → Removed → Type 0)
     (at_done : (b n : ℕ) (s : MarkedPicture) → to_remove s ≡ false → P b n s (ends done n s))
-    (at-narrow : (b n : ℕ) (s : MarkedPicture) → to_remove s ≡ true → s.width ≡ 1 → P b n s (ends narrow n s))
+    (at_narrow : (b n : ℕ) (s : MarkedPicture) → to_remove s ≡ true → s.width ≡ 1 → P b n s (ends narrow n s))
     (at-spent : (n : ℕ) (s : MarkedPicture) → to_remove s ≡ true → (s.width ≡ 1 → ⊥) → P 0 n s (ends spent n s))
     (at-blocked : (b n : ℕ) (s : MarkedPicture) → to_remove s ≡ true → (s.width ≡ 1 → ⊥) → no_seam s ≡ true → P (suc b) n s (ends blocked n s))
     (at_cut : (b n : ℕ) (s : MarkedPicture) (r : Removed) → to_remove s ≡ true → (s.width ≡ 1 → ⊥) → no_seam s ≡ false → P b (suc n) (cut_once s) r → P (suc b) n s r)
@@ -46,19 +46,19 @@ module _
     by-steps zero n s = go (to_remove s) refl (eqb s.width 1) refl
       where
         go : (t : Bool) → to_remove s ≡ t → (u : Bool) → eqb s.width 1 ≡ u → P zero n s (removal zero n s)
-        go false e u f = rw (removal-done n s zero e) (at_done zero n s e)
+        go false e u f = rw (removal_done n s zero e) (at_done zero n s e)
         go true e true f =
             let one = eqb-true _ _ f in
-            rw (removal-narrow n s e zero one) (at-narrow zero n s e one)
+            rw (removal-narrow n s e zero one) (at_narrow zero n s e one)
         go true e false f = let wide = eqb-false _ _ f in rw (removal-spent n s e wide) (at-spent n s e wide)
     by-steps (suc b) n s = go (to_remove s) refl (eqb s.width 1) refl (no_seam s) refl (by-steps b (suc n) (cut_once s))
       where
         go : (t : Bool) → to_remove s ≡ t → (u : Bool) → eqb s.width 1 ≡ u → (v : Bool) → no_seam s ≡ v
             → P b (suc n) (cut_once s) (removal b (suc n) (cut_once s)) → P (suc b) n s (removal (suc b) n s)
-        go false e u f v g next = rw (removal-done n s (suc b) e) (at_done (suc b) n s e)
+        go false e u f v g next = rw (removal_done n s (suc b) e) (at_done (suc b) n s e)
         go true e true f v g next =
             let one = eqb-true _ _ f in
-            rw (removal-narrow n s e (suc b) one) (at-narrow (suc b) n s e one)
+            rw (removal-narrow n s e (suc b) one) (at_narrow (suc b) n s e one)
         go true e false f true g next =
             let wide = eqb-false _ _ f in
             rw (removal-blocked n s e wide b g) (at-blocked b n s e wide g)

@@ -22,7 +22,7 @@ use Rattle.seam_turn.specs.Axes.{turned, cut_along}
 use Rattle.seam_cut.specs.Cutting.{closed_along}
 use Rattle.seam_cut_marked.specs.Axes.{marked_seam_along, blocked_along}
 use Rattle.seam_cut_marked.specs.Marking.{marked_cut_rules, closed_marks}
-use Rattle.seam_cut_marked.proofs.Buffers.{seam-free, refused-blocked}
+use Rattle.seam_cut_marked.proofs.Buffers.{seam_free, refused_blocked}
 use Rattle.seam_objects.specs.Objects.{no_seam, cut_once}
 use Rattle.seam_objects.specs.Inner.{FrontNeeded, front, FrontCut}
 
@@ -57,8 +57,8 @@ module _ {z : Size} {b m work : List ℕ} (how : Method) (need : FrontNeeded z b
       )
 
   -- The seam of what k bytes of the picture and n marks hold.
-  abbrev seamLent : ℕ → ℕ → List ℕ
-  seamLent k n = marked_seam_along how Vertical z (picture z (take k b)) (marks_of z (take n m))
+  abbrev seam_lent : ℕ → ℕ → List ℕ
+  seam_lent k n = marked_seam_along how Vertical z (picture z (take k b)) (marks_of z (take n m))
 
   -- The number, where k bytes of the picture, n marks and this room for work are lent.
   abbrev number_at : ℕ → ℕ → ℕ → ℕ → ℕ
@@ -66,8 +66,8 @@ module _ {z : Size} {b m work : List ℕ} (how : Method) (need : FrontNeeded z b
 
   -- What stands in the buffers where this number is given.
   cut_at : (n : ℕ) → n ≡ cond (no_seam (front z how b m)) 12 0 → (b' m' : List ℕ) (t : Bool) → t ≡ not (no_seam (front z how b m))
-      → b' ≡ served n (closed_along Vertical z (seamLent (picture_bytes z) (pixels z)) (take (picture_bytes z) b)) (take (picture_bytes z) b)
-      → m' ≡ served n (closed_marks Vertical z (seamLent (picture_bytes z) (pixels z)) (take (pixels z) m)) (take (pixels z) m)
+      → b' ≡ served n (closed_along Vertical z (seam_lent (picture_bytes z) (pixels z)) (take (picture_bytes z) b)) (take (picture_bytes z) b)
+      → m' ≡ served n (closed_marks Vertical z (seam_lent (picture_bytes z) (pixels z)) (take (pixels z) m)) (take (pixels z) m)
       → FrontCut z how b m t (b' ++ drop (picture_bytes z) b) (m' ++ drop (pixels z) m)
   unfolding marked_seam_along cut_along turned cut_once
   cut_at n number b' m' t is p q =
@@ -91,14 +91,14 @@ module _ {z : Size} {b m work : List ℕ} (how : Method) (need : FrontNeeded z b
     -- The answer says whether there was a seam.
     module _ (answer : Found) (told : found_number answer ≡ number_at k n room seam) where
       pub front-found : (cost : ℕ) → answer ≡ Seam cost → true ≡ not (no_seam (front z how b m))
-      front-found cost is = sym (ap not (seam-free (no_seam (front z how b m)) answer (told ∙ number_is) cost is))
+      front-found cost is = sym (ap not (seam_free (no_seam (front z how b m)) answer (told ∙ number_is) cost is))
 
       pub front-refused : (why : Refusal) → answer ≡ Refused why → false ≡ not (no_seam (front z how b m))
-      front-refused why is = sym (ap not (refused-blocked (no_seam (front z how b m)) answer (told ∙ number_is) why is))
+      front-refused why is = sym (ap not (refused_blocked (no_seam (front z how b m)) answer (told ∙ number_is) why is))
 
       -- What stands in the buffers then.
       pub front_cut : (b' m' : List ℕ) (t : Bool) → t ≡ not (no_seam (front z how b m))
-          → b' ≡ served (found_number answer) (closed_along Vertical z (seamLent k n) (take k b)) (take k b)
-          → m' ≡ served (found_number answer) (closed_marks Vertical z (seamLent k n) (take n m)) (take n m)
+          → b' ≡ served (found_number answer) (closed_along Vertical z (seam_lent k n) (take k b)) (take k b)
+          → m' ≡ served (found_number answer) (closed_marks Vertical z (seam_lent k n) (take n m)) (take n m)
           → FrontCut z how b m t (b' ++ drop k b) (m' ++ drop n m)
       front_cut = rw (e, f) (cut_at (found_number answer) (told ∙ number_is))

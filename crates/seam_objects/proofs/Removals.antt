@@ -13,9 +13,9 @@ use Rattle.seam_objects.proofs.Shapes.{shaped_cut}
 use Rattle.seam_objects.proofs.Endings.{by-steps}
 
 -- "The buffers hold the picture and marks after that many."
-pub left_carved : (b : ℕ) (s : MarkedPicture) → (removal b 0 s).left ≡ after_cuts (removal b 0 s).count s
+pub left-carved : (b : ℕ) (s : MarkedPicture) → (removal b 0 s).left ≡ after_cuts (removal b 0 s).count s
 unfolding after_cuts
-left_carved b s =
+left-carved b s =
     by-steps
     (λ b n t r. t ≡ after_cuts n s → r.left ≡ after_cuts r.count s)
     (λ b n t _ e. e)
@@ -40,7 +40,7 @@ carved_height zero s = refl
 carved_height (suc n) s = carved_height n s
 
 pub width_left : (b : ℕ) (s : MarkedPicture) → (removal b 0 s).left.width ≡ s.width - (removal b 0 s).count
-width_left b s = ap (λ t. t.width) (left_carved b s) ∙ carved_width (removal b 0 s).count s
+width_left b s = ap (λ t. t.width) (left-carved b s) ∙ carved_width (removal b 0 s).count s
 
 -- The count never exceeds the budget,
 pub count_budget : (b : ℕ) (s : MarkedPicture) → (removal b 0 s).count ≤ b

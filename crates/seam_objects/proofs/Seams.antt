@@ -12,7 +12,7 @@ use borrow.Author.Tests.{not-true, not-false}
 use lib.ListN.{length, take, replicate, replicate-append-replicate}
 use lib.Seq.{take_all}
 use Rattle.grids.specs.Rows.{flat}
-use Rattle.grids.proofs.Rows.{flat-rowsOf}
+use Rattle.grids.proofs.Rows.{flat-rows_of}
 use Rattle.pictures.specs.declared.sizes.Size.{Size}
 use Rattle.pictures.specs.Pictures.{channels_of, picture, bytes, pixels, marks_of}
 use Rattle.pictures.proofs.Limits.{Sides, sides_are, sides_served, sized_is, sides_of}
@@ -30,8 +30,8 @@ use Rattle.seam_rules.specs.Endings.{next_step}
 use Rattle.seam_rules.proofs.Choices.{step-ended}
 use Rattle.seam_objects.specs.Inner.{SeamsNeeded, SeamsGiven, FrontNeeded, front, FrontCut}
 use Rattle.seam_objects.proofs.Shapes.{flat_inside, shaped_start, shaped_cut}
-use Rattle.seam_objects.proofs.Standing.{Standing, front-marks, front_is, bytes_after, marks-after, bytes-there, marks_there}
-use Rattle.seam_objects.proofs.Endings.{removal-done, removal-narrow, removal-spent, removal-blocked, removal-cut}
+use Rattle.seam_objects.proofs.Standing.{Standing, front-marks, front_is, bytes_after_lem, marks-after, bytes_there, marks_there}
+use Rattle.seam_objects.proofs.Endings.{removal_done, removal-narrow, removal-spent, removal-blocked, removal-cut}
 
 -- The size with this width.
 abbrev pub size_at : Size → ℕ → Size
@@ -75,7 +75,7 @@ going_start z how b m work budget need =
         high = refl;
         shaped = shaped_start z b m work need how;
         picture_is = sym (none (bytes (picture z b)) (z.height * channels_of z.kind) ∙ bytes-picture z b s.length_is);
-        marks_are = sym (none (flat (marks_of z m)) z.height ∙ flat-rowsOf z.width z.height m ∙ take_all (pixels z) m (le_of_eq need.marked));
+        marks_are = sym (none (flat (marks_of z m)) z.height ∙ flat-rows_of z.width z.height m ∙ take_all (pixels z) m (le_of_eq need.marked));
       };
     }
 
@@ -84,27 +84,27 @@ module _ {z : Size} {how : Method} {b m : List ℕ} {budget width count : ℕ} {
   left = after_cuts count (marked_picture z how b m)
 
   -- The marks that are searched.
-  pub going-marks : some_two (take (z.height * width) m') ≡ to_remove left
-  going-marks = ap some_two (front-marks g.stands)
+  pub going_marks : some_two (take (z.height * width) m') ≡ to_remove left
+  going_marks = ap some_two (front-marks g.stands)
 
-  pub going-room : z.height * width ≤ length m'
-  going-room = marks_there g.stands
+  pub going_room : z.height * width ≤ length m'
+  going_room = marks_there g.stands
 
-  pub going-few : z.height * width ≤ z.height * z.width
-  going-few = mul-le-mul_left z.height (omega (arith, g.sum))
+  pub going_few : z.height * width ≤ z.height * z.width
+  going_few = mul-le-mul_left z.height (omega (arith, g.sum))
 
   pub going_less : (count ≡ budget → ⊥) → count < budget
   going_less due = ⊎_elim (λ (e : count ≡ budget). absurd (due e)) (λ (h : count < budget). h) (eq-or-lt_of_le g.most)
 
   -- What the next cut asks.
-  pub going-needed : (work : List ℕ) → (width ≡ 1 → ⊥) → 32 * pixels z ≤ length work → FrontNeeded (size_at z width) b' m' work
-  going-needed work two room = record {
+  pub going_needed : (work : List ℕ) → (width ≡ 1 → ⊥) → 32 * pixels z ≤ length work → FrontNeeded (size_at z width) b' m' work
+  going_needed work two room = record {
     sides = sides_of (size_at z width) g.some (omega (arith, g.sum, g.sides.width_most)) g.sides.height_some g.sides.height_most;
     wide = more_than_one width g.some two;
-    picture_there = bytes-there g.stands;
-    marks_there = going-room;
+    picture_there = bytes_there g.stands;
+    marks_there = going_room;
     few = ap (outside 3) (front-marks g.stands) ∙ flat_inside g.stands.shaped.marks_of_each;
-    room = omega (arith, going-few, room);
+    room = omega (arith, going_few, room);
   }
 
   -- An ending with the count of seams cut.
@@ -121,7 +121,7 @@ module _ {z : Size} {how : Method} {b m : List ℕ} {budget width count : ℕ} {
       }
 
   pub going_done : false ≡ to_remove left → SeamsGiven b m z how budget (Done count) b' m'
-  going_done none = ended done (Done count) refl refl refl (removal-done count left (budget - count) (sym none))
+  going_done none = ended done (Done count) refl refl refl (removal_done count left (budget - count) (sym none))
 
   module _ (two : true ≡ to_remove left) where
     pub going-narrow : width ≡ 1 → SeamsGiven b m z how budget (Narrow count) b' m'
@@ -170,7 +170,7 @@ module _ {z : Size} {how : Method} {b m : List ℕ} {budget width count : ℕ} {
                 shaped = shaped_cut (channels_of z.kind) left g.stands.shaped (rw g.stands.wide some_left) seam;
                 picture_is =
                     f.picture_left
-                    ∙ ap₂ (λ t r. bytes (cut_once t).picture ++ (replicate (z.height * channels_of z.kind) 0 ++ r)) same-front (bytes_after g.stands)
+                    ∙ ap₂ (λ t r. bytes (cut_once t).picture ++ (replicate (z.height * channels_of z.kind) 0 ++ r)) same-front (bytes_after_lem g.stands)
                     ∙ ap (bytes (cut_once left).picture ++◌) (one_more (z.height * channels_of z.kind) count);
                 marks_are =
                     f.marks_left

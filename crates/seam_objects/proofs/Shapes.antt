@@ -11,12 +11,12 @@ use lib.Seq.{length-take-le}
 use Rattle.grids.specs.Each.{Each, none, more}
 use Rattle.grids.specs.Rows.{rows_of, flat}
 use Rattle.grids.proofs.Bools.{neither}
-use Rattle.grids.proofs.Cut.{cut-narrower}
+use Rattle.grids.proofs.Cut.{cut_narrower}
 use Rattle.pictures.specs.declared.sizes.Kind.TheVariants.{Grey}
 use Rattle.pictures.specs.declared.sizes.Size.{Size}
 use Rattle.pictures.specs.Pictures.{channels_of}
 use Rattle.pictures.proofs.Limits.{sized_is}
-use Rattle.pictures.proofs.Buffers.{picture_of_size}
+use Rattle.pictures.proofs.Buffers.{picture-of_size}
 use Rattle.energy.specs.declared.methods.Method.{Method}
 use Rattle.seam_bounds.specs.Moves.{outside}
 use Rattle.seam_bounds.proofs.Moving.{inside_each, each_inside}
@@ -59,7 +59,7 @@ flat_inside {k} (more {x = x} {xs = xs} e g) = outside-append k x (flat xs) ∙ 
 -- The picture and marks that are brought.
 pub shaped_start : (z : Size) (b m work : List ℕ) → SeamsNeeded z b m work → (how : Method) → LeftShaped (channels_of z.kind) (marked_picture z how b m)
 shaped_start z b m work s how = record {
-  picture_of = picture_of_size z b (sized_is z (length b) s.sized).length_is;
+  picture_of = picture-of_size z b (sized_is z (length b) s.sized).length_is;
   marks_of_each = rows_inside 3 z.width z.height m (omega (arith, s.marked)) s.few;
 }
 
@@ -72,6 +72,6 @@ seam_inside s e = marked_inside s.method Vertical (record { width = s.width; hei
 pub shaped_cut : (ch : ℕ) (s : MarkedPicture) → LeftShaped ch s → 1 < s.width → no_seam s ≡ false → LeftShaped ch (cut_once s)
 unfolding cut_once
 shaped_cut ch s k h e = record {
-  picture_of = cut-narrower s.width h (seam_inside s e) k.picture_of;
-  marks_of_each = cut-narrower s.width h (seam_inside s e) k.marks_of_each;
+  picture_of = cut_narrower s.width h (seam_inside s e) k.picture_of;
+  marks_of_each = cut_narrower s.width h (seam_inside s e) k.marks_of_each;
 }

@@ -7,7 +7,7 @@ use lib.ListN.{length, take, drop, length-append}
 use lib.Seq.{take_at, drop_at}
 use Rattle.grids.specs.Rows.{flat}
 use Rattle.grids.proofs.Shapes.{grid_of}
-use Rattle.grids.proofs.Rows.{rowsOf-flat, length-flat}
+use Rattle.grids.proofs.Rows.{rows_of-flat, length-flat}
 use Rattle.pictures.specs.declared.sizes.Size.{Size}
 use Rattle.pictures.specs.Pictures.{channels_of, picture_bytes, picture, bytes, OfSize, pixels, marks_of}
 use Rattle.pictures.proofs.Buffers.{picture_bytes_lem, length-bytes}
@@ -26,11 +26,11 @@ pub record Standing (z : Size) (how : Method) (s : MarkedPicture) (b m freed unm
   pub marks_are : m ≡ flat s.marks ++ unmarked
 
 module _ {z : Size} {how : Method} {s : MarkedPicture} {b m freed unmarked : List ℕ} (there : Standing z how s b m freed unmarked) where
-  of_size : OfSize z s.picture
-  of_size = rw (there.wide, there.high) at there.shaped.picture_of
+  of_size_lem : OfSize z s.picture
+  of_size_lem = rw (there.wide, there.high) at there.shaped.picture_of
 
   long : length (bytes s.picture) ≡ picture_bytes z
-  long = length-bytes z s.picture of_size
+  long = length-bytes z s.picture of_size_lem
 
   marks-long : length (flat s.marks) ≡ pixels z
   marks-long = rw (there.wide, there.high) at (length-flat (grid_of there.shaped.marks_of_each))
@@ -41,14 +41,14 @@ module _ {z : Size} {how : Method} {s : MarkedPicture} {b m freed unmarked : Lis
   pub front-marks : take (pixels z) m ≡ flat s.marks
   front-marks = ap (take (pixels z)) there.marks_are ∙ take_at (flat s.marks) unmarked (pixels z) marks-long
 
-  pub bytes_after : drop (picture_bytes z) b ≡ freed
-  bytes_after = ap (drop (picture_bytes z)) there.picture_is ∙ drop_at (bytes s.picture) freed (picture_bytes z) long
+  pub bytes_after_lem : drop (picture_bytes z) b ≡ freed
+  bytes_after_lem = ap (drop (picture_bytes z)) there.picture_is ∙ drop_at (bytes s.picture) freed (picture_bytes z) long
 
   pub marks-after : drop (pixels z) m ≡ unmarked
   marks-after = ap (drop (pixels z)) there.marks_are ∙ drop_at (flat s.marks) unmarked (pixels z) marks-long
 
-  pub bytes-there : picture_bytes z ≤ length b
-  bytes-there = rw there.picture_is (omega (arith, length-append (bytes s.picture) freed, long))
+  pub bytes_there : picture_bytes z ≤ length b
+  bytes_there = rw there.picture_is (omega (arith, length-append (bytes s.picture) freed, long))
 
   pub marks_there : pixels z ≤ length m
   marks_there = rw there.marks_are (omega (arith, length-append (flat s.marks) unmarked, marks-long))
@@ -56,13 +56,13 @@ module _ {z : Size} {how : Method} {s : MarkedPicture} {b m freed unmarked : Lis
   rows_are : marks_of z (flat s.marks) ≡ s.marks
   rows_are =
       ap (marks_of z) (sym (append-nil (flat s.marks)))
-      ∙ rw (← there.wide, ← there.high) (rowsOf-flat [] (grid_of there.shaped.marks_of_each))
+      ∙ rw (← there.wide, ← there.high) (rows_of-flat [] (grid_of there.shaped.marks_of_each))
 
   pub front_is : front z how b m ≡ s
   front_is = λ i. record {
     method = sym there.by i;
     width = sym there.wide i;
     height = sym there.high i;
-    picture = (ap (picture z) front_bytes ∙ picture_bytes_lem z s.picture of_size) i;
+    picture = (ap (picture z) front_bytes ∙ picture_bytes_lem z s.picture of_size_lem) i;
     marks = (ap (marks_of z) front-marks ∙ rows_are) i;
   }

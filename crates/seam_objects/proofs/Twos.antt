@@ -10,15 +10,15 @@ use borrow.Author.Tests.{eq-eqb, ne_eqb}
 use Rattle.seam_objects.specs.Objects.{some_two}
 
 -- One turn of a loop: a mark 2 stands here, or the marks after this one decide.
-pub two_found : (m : List ℕ) (i : ℕ) (t all : Bool) → i < length m → get_or m i 0 ≡ 2 → (t || some_two (drop i m)) ≡ all → (true || some_two (drop (i + 1) m)) ≡ all
+pub two-found : (m : List ℕ) (i : ℕ) (t all : Bool) → i < length m → get_or m i 0 ≡ 2 → (t || some_two (drop i m)) ≡ all → (true || some_two (drop (i + 1) m)) ≡ all
 unfolding some_two
-two_found m i t all h e f =
+two-found m i t all h e f =
     let here : some_two (drop i m) ≡ true = rw (drop-cons m i 0 h, eq-eqb (get_or m i 0) 2 e) in
     sym (or-true t) ∙ ap (t ||◌) (sym here) ∙ f
 
-pub two_next : (m : List ℕ) (i : ℕ) (t all : Bool) → i < length m → (get_or m i 0 ≡ 2 → ⊥) → (t || some_two (drop i m)) ≡ all → (t || some_two (drop (i + 1) m)) ≡ all
+pub two-next : (m : List ℕ) (i : ℕ) (t all : Bool) → i < length m → (get_or m i 0 ≡ 2 → ⊥) → (t || some_two (drop i m)) ≡ all → (t || some_two (drop (i + 1) m)) ≡ all
 unfolding some_two
-two_next m i t all h e f =
+two-next m i t all h e f =
     let same : some_two (drop (i + 1) m) ≡ some_two (drop i m) = rw (add-one i, drop-cons m i 0 h, ne_eqb (get_or m i 0) 2 e) in
     ap (t ||◌) same ∙ f
 

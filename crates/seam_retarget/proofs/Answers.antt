@@ -16,7 +16,7 @@ use Rattle.pictures.specs.declared.sizes.Size.{Size}
 use Rattle.pictures.specs.Refusals.{◌when◌, refusal}
 use Rattle.pictures.specs.Pictures.{picture_bytes, size_rules, picture, bytes}
 use Rattle.pictures.proofs.Rules.{served-both, passed}
-use Rattle.pictures.proofs.Limits.{Sized, sized_is, sides_served, bytes_few}
+use Rattle.pictures.proofs.Limits.{Sized, sized_is, sides_served, bytes-few}
 use Rattle.pictures.proofs.Buffers.{bytes-picture}
 use Rattle.energy.specs.declared.methods.Method.{Method}
 use Rattle.seam_moves.specs.Between.{part_at}
@@ -30,7 +30,7 @@ use Rattle.seam_retarget.specs.Inner.Cells.{SpaceNeeded}
 use Rattle.seam_retarget.specs.Inner.Table.{held, first_row, table_row, RowGiven, FirstRowNeeded, RowsBelowNeeded}
 use Rattle.seam_retarget.specs.Inner.Retargets.{RetargetNeeded, LastGiven}
 use Rattle.seam_retarget.proofs.Numbered.{cell_at, cell-numbers}
-use Rattle.seam_retarget.proofs.Slots.{smaller_few}
+use Rattle.seam_retarget.proofs.Slots.{smaller-few}
 use Rattle.seam_retarget.proofs.Sweep.{first_cells, table_cells}
 
 -- Counts and buffers of which nothing is refused.
@@ -83,7 +83,7 @@ module _ (b : List ℕ) (z : Size) (how : Method) (rows : Rows) (columns : Colum
   space = record {
     sides = sides_served z (length b) needed.sized;
     whole_is = sized.length_is;
-    room = omega (arith, sized.length_is, bytes_few z, needed.work_room);
+    room = omega (arith, sized.length_is, bytes-few z, needed.work_room);
   }
 
   pub record LastSure (count : ℕ) : Type 0 where
@@ -93,10 +93,10 @@ module _ (b : List ℕ) (z : Size) (how : Method) (rows : Rows) (columns : Colum
     pub whole-most : length b ≤ most_picture
     pub inside : c * length b + count ≤ length work
 
-  pub last-sure : (count : ℕ) → count ≡ picture_bytes (left_size z rows columns) → LastSure count
-  last-sure count e =
+  pub last_sure : (count : ℕ) → count ≡ picture_bytes (left_size z rows columns) → LastSure count
+  last_sure count e =
       let slot = part_end columns.0 65 (length b) (omega (arith, needed.columns_few)) in
-      let few : count ≤ length b = omega (arith, sized.length_is, smaller_few z rows.0 columns.0) in
+      let few : count ≤ length b = omega (arith, sized.length_is, smaller-few z rows.0 columns.0) in
       record {
         fits = omega (arith, space.room);
         slot = slot;
@@ -165,7 +165,7 @@ module _ (b : List ℕ) (z : Size) (how : Method) (rows : Rows) (columns : Colum
           pub part-long : length part ≡ count
           part-long =
               ap length part-is
-              ∙ length_part (columns.0 * length b) (picture_bytes (left_size z rows columns)) three (omega (arith, three-long, (last-sure count count_is).inside)) ∙ sym count_is
+              ∙ length_part (columns.0 * length b) (picture_bytes (left_size z rows columns)) three (omega (arith, three-long, (last_sure count count_is).inside)) ∙ sym count_is
 
           pub served : (out' four : List ℕ) → out' ≡ take (length part) part ++ drop (length part) out → four ≡ replicate (length three) 0
               → LastGiven b z how rows columns out work (get_or totals₃ columns.0 0) out' four

@@ -17,9 +17,9 @@ use Rattle.seam_rules.specs.Counts.{row_count, column_count, smaller}
 use Rattle.seam_retarget.specs.Inner.Seams.{picture_at, StepNeeded, StepGiven}
 use Rattle.seam_retarget.specs.Inner.Table.{largest_total, held, along_row, next_row, row_below, RowGiven, RestOfRowNeeded, NextRowNeeded}
 use Rattle.seam_retarget.specs.Inner.Cells.{CellNeeded, CellGiven}
-use Rattle.seam_rules.proofs.Left.{smaller_sides}
-use Rattle.seam_retarget.proofs.Slots.{less_row, same_picture, placed-horizontal}
-use Rattle.seam_retarget.proofs.Sweep.{along-same, next-same, held_new, held-other, set_small, step_cell, slot_kept, up_to}
+use Rattle.seam_rules.proofs.Left.{smaller-sides}
+use Rattle.seam_retarget.proofs.Slots.{less-row, same_picture, placed-horizontal}
+use Rattle.seam_retarget.proofs.Sweep.{along-same, next-same, held_new, held-other, set_small, step-cell, slot_kept, up_to}
 
 -- The row below row r up to column j; after it stands row r.
 pub record RestSoFar (z : Size) (how : Method) (whole r c : ℕ) (work₀ totals₀ : List ℕ) (j : ℕ) (work totals : List ℕ) : Type 0 where
@@ -39,9 +39,9 @@ module _ (z : Size) (how : Method) (whole r c : ℕ) (work₀ totals₀ : List �
   all_small zero = needed.first_small
   all_small (suc k) = omega (arith, needed.others_small (suc k) (omega arith))
 
-  pub rest-start : RestSoFar z how whole r c work₀ totals₀ 0 work₀ totals₀
+  pub rest_start : RestSoFar z how whole r c work₀ totals₀ 0 work₀ totals₀
   unfolding along_row
-  rest-start = record {
+  rest_start = record {
     inside = omega arith;
     long = refl;
     totals_long = needed.fits.totals_long;
@@ -104,12 +104,12 @@ module _ (z : Size) (how : Method) (whole r c : ℕ) (work₀ totals₀ : List �
 
 -- A row below row r, whose first cell comes by a step from slot 0 to slot 0.
 module _ (z : Size) (how : Method) (whole r c : ℕ) (work totals : List ℕ) (needed : NextRowNeeded z whole (row_count r) (column_count c) work totals) where
-  pub next-step : StepNeeded (length work) 0 (smaller z r 0) Horizontal (67 * whole) 0
-  next-step =
+  pub next_step_lem : StepNeeded (length work) 0 (smaller z r 0) Horizontal (67 * whole) 0
+  next_step_lem =
       let q = placed-horizontal z whole (length work) needed.fits.space 0 r 0 (omega arith) in
       subst (λ at. StepNeeded (length work) at (smaller z r 0) Horizontal (67 * whole) at) (zero-mul whole)
       (record {
-        sides = smaller_sides z r 0 needed.fits.space.sides (omega (arith, needed.fits.rows_left)) (omega (arith, needed.fits.columns_left));
+        sides = smaller-sides z r 0 needed.fits.space.sides (omega (arith, needed.fits.rows_left)) (omega (arith, needed.fits.columns_left));
         wide = omega (arith, needed.fits.rows_left);
         source = q.here;
         room = q.room;
@@ -134,8 +134,8 @@ module _ (z : Size) (how : Method) (whole r c : ℕ) (work totals : List ℕ) (n
     first_is : held z whole (row_count (r + 1)) one (set totals 0 (get_or totals 0 0 + cost)) 0 ≡ by_seam how Horizontal (smaller z r 0) (held z whole (row_count r) work totals 0)
     first_is =
         held_new z whole (r + 1) 0 (get_or totals 0 0 + cost) one totals (omega (arith, needed.fits.totals_long))
-        ∙ ap₂ (λ u at. record { picture = picture_at u at one; total = get_or totals 0 0 + cost }) (sym (less_row z r 0)) (zero-mul whole)
-        ∙ step_cell work 0 (smaller z r 0) how Horizontal (67 * whole) 0 cost one (get_or totals 0 0) g
+        ∙ ap₂ (λ u at. record { picture = picture_at u at one; total = get_or totals 0 0 + cost }) (sym (less-row z r 0)) (zero-mul whole)
+        ∙ step-cell work 0 (smaller z r 0) how Horizontal (67 * whole) 0 cost one (get_or totals 0 0) g
         ∙ ap (λ at. by_seam how Horizontal (smaller z r 0) (record { picture = picture_at (smaller z r 0) at work; total = get_or totals 0 0 })) (sym (zero-mul whole))
 
     others-are : (j : ℕ) → j ≤ c → 0 < j → held z whole (row_count r) one (set totals 0 (get_or totals 0 0 + cost)) j ≡ held z whole (row_count r) work totals j
@@ -157,12 +157,12 @@ module _ (z : Size) (how : Method) (whole r c : ℕ) (work totals : List ℕ) (n
 
 -- Row r from the first row.
 module _ (z : Size) (how : Method) (whole c : ℕ) (work₀ totals₀ : List ℕ) where
-  pub below-turn : (r : ℕ) (work totals work' totals' : List ℕ)
+  pub below_turn : (r : ℕ) (work totals work' totals' : List ℕ)
       → RowGiven z whole (row_count r) (column_count c) (row_below how z (held z whole (row_count 0) work₀ totals₀) r) work₀ work totals
       → RowGiven z whole (row_count (r + 1)) (column_count c) (next_row how z (row_count r) (held z whole (row_count r) work totals)) work work' totals'
       → RowGiven z whole (row_count (r + 1)) (column_count c) (row_below how z (held z whole (row_count 0) work₀ totals₀) (r + 1)) work₀ work' totals'
   unfolding row_below
-  below-turn r work totals work' totals' so_far row = record {
+  below_turn r work totals work' totals' so_far row = record {
     cells_are = λ j h. row.cells_are j h
         ∙ next-same how z r c (held z whole (row_count r) work totals) (row_below how z (held z whole (row_count 0) work₀ totals₀) r) so_far.cells_are j h
         ∙ ap (λ n. row_below how z (held z whole (row_count 0) work₀ totals₀) n j) (sym (add-one r));
@@ -171,6 +171,6 @@ module _ (z : Size) (how : Method) (whole c : ℕ) (work₀ totals₀ : List ℕ
     totals_long = row.totals_long;
   }
 
-  pub below-start : length totals₀ ≡ 65 → ((j : ℕ) → get_or totals₀ j 0 ≤ largest_total 0) → RowGiven z whole (row_count 0) (column_count c) (row_below how z (held z whole (row_count 0) work₀ totals₀) 0) work₀ work₀ totals₀
+  pub below_start : length totals₀ ≡ 65 → ((j : ℕ) → get_or totals₀ j 0 ≤ largest_total 0) → RowGiven z whole (row_count 0) (column_count c) (row_below how z (held z whole (row_count 0) work₀ totals₀) 0) work₀ work₀ totals₀
   unfolding row_below
-  below-start many small = record { cells_are = λ j h. refl; small = small; long = refl; totals_long = many }
+  below_start many small = record { cells_are = λ j h. refl; small = small; long = refl; totals_long = many }

@@ -23,13 +23,13 @@ use Rattle.seam_rules.specs.Counts.{row_count, column_count, smaller}
 use Rattle.seam_retarget.specs.Inner.Seams.{picture_at, left_along, SeamNeeded, SeamGiven, CutNeeded, CutGiven}
 use Rattle.seam_retarget.specs.Inner.Cells.{SpaceNeeded, CellNeeded, CellGiven}
 use Rattle.seam_retarget.proofs.Cuts.{turned_tall, found_inside, cut_is}
-use Rattle.seam_retarget.proofs.Slots.{smaller_few, less-column, less_row, same_picture, slots_apart, double_few, placed-vertical, placed-horizontal, apart-vertical, apart-horizontal}
-use Rattle.seam_rules.proofs.Left.{smaller_sides}
+use Rattle.seam_retarget.proofs.Slots.{smaller-few, less-column, less-row, same_picture, slots_apart, double_few, placed-vertical, placed-horizontal, apart-vertical, apart-horizontal}
+use Rattle.seam_rules.proofs.Left.{smaller-sides}
 
 -- A seam found with a seam's space as long as the largest side.
 module _ (z : Size) (whole work : ℕ) (needed : SpaceNeeded z whole work) (k r c n : ℕ) (slot : k < 65) (rows : r < z.height) (columns : c < z.width) (many : n ≡ largest_side) where
   sides : refusal (side_rules (smaller z r c)) ≡ 0
-  sides = smaller_sides z r c needed.sides rows columns
+  sides = smaller-sides z r c needed.sides rows columns
 
   pub seam-vertical : SeamNeeded work (k * whole) (smaller z r c) Vertical (65 * whole) n
   seam-vertical =
@@ -55,10 +55,10 @@ module _ (z : Size) (how : Method) (whole r c above left : ℕ) (work : List ℕ
   slot = (c + 1) * whole
 
   upper-sides : refusal (side_rules upper) ≡ 0
-  upper-sides = smaller_sides z r (c + 1) needed.space.sides (omega (arith, needed.rows_left)) needed.columns_left
+  upper-sides = smaller-sides z r (c + 1) needed.space.sides (omega (arith, needed.rows_left)) needed.columns_left
 
   beside-sides : refusal (side_rules beside) ≡ 0
-  beside-sides = smaller_sides z (r + 1) c needed.space.sides needed.rows_left (omega (arith, needed.columns_left))
+  beside-sides = smaller-sides z (r + 1) c needed.space.sides needed.rows_left (omega (arith, needed.columns_left))
 
   pub both_long : length two ≡ length work
   both_long = second.long ∙ first.long
@@ -67,17 +67,17 @@ module _ (z : Size) (how : Method) (whole r c above left : ℕ) (work : List ℕ
   column = omega (arith, needed.column)
 
   -- The cell to the left is still there after the first.
-  beside-still : picture_at beside (c * whole) one ≡ picture_at beside (c * whole) work
-  beside-still =
+  beside_still : picture_at beside (c * whole) one ≡ picture_at beside (c * whole) work
+  beside_still =
       same_picture z whole (r + 1) c (c * whole) one work needed.space.whole_is
       (first.others (c * whole) whole (apart-horizontal z whole (length work) needed.space c r (c + 1) column _ (double_few z whole r (c + 1) needed.space.whole_is)))
 
   -- And the picture turned for the first seam after the second.
-  upper-still : part_at (67 * whole) (picture_bytes upper) two ≡ part_at (67 * whole) (picture_bytes upper) one
-  upper-still = second.others (67 * whole) (picture_bytes upper) (inr (omega (arith, double_few z whole (r + 1) c needed.space.whole_is)))
+  upper_still : part_at (67 * whole) (picture_bytes upper) two ≡ part_at (67 * whole) (picture_bytes upper) one
+  upper_still = second.others (67 * whole) (picture_bytes upper) (inr (omega (arith, double_few z whole (r + 1) c needed.space.whole_is)))
 
-  others-still : (k : ℕ) → k < 65 → part_at (k * whole) whole two ≡ part_at (k * whole) whole work
-  others-still k l =
+  others_still : (k : ℕ) → k < 65 → part_at (k * whole) whole two ≡ part_at (k * whole) whole work
+  others_still k l =
       second.others (k * whole) whole (apart-vertical z whole (length work) needed.space k (r + 1) c l _ (double_few z whole (r + 1) c needed.space.whole_is))
       ∙ first.others (k * whole) whole (apart-horizontal z whole (length work) needed.space k r (c + 1) l _ (double_few z whole r (c + 1) needed.space.whole_is))
 
@@ -114,18 +114,18 @@ module _ (z : Size) (how : Method) (whole r c above left : ℕ) (work : List ℕ
 
   total-vertical : left + cost₂ ≡ vertical.total
   unfolding by_seam
-  total-vertical = ap (left +◌) (second.cost_is ∙ ap (cost_along how Vertical beside) beside-still)
+  total-vertical = ap (left +◌) (second.cost_is ∙ ap (cost_along how Vertical beside) beside_still)
 
   total-horizontal : above + cost₁ ≡ horizontal.total
   unfolding by_seam
   total-horizontal = ap (above +◌) first.cost_is
 
-  others-kept : (at : ℕ) (u : Size) (three : List ℕ) (seam : List ℕ) (x : Axis) → picture_bytes u ≤ whole → 65 * whole ≤ at → CutGiven two at u x seam slot three
+  others_kept : (at : ℕ) (u : Size) (three : List ℕ) (seam : List ℕ) (x : Axis) → picture_bytes u ≤ whole → 65 * whole ≤ at → CutGiven two at u x seam slot three
       → (k : ℕ) → k < 65 → (k ≡ c + 1 → ⊥) → part_at (k * whole) whole three ≡ part_at (k * whole) whole work
-  others-kept at u three seam x few behind g k l other =
+  others_kept at u three seam x few behind g k l other =
       g.others (k * whole) whole (inl (omega (arith, placed_end k l)))
       (⊎_elim (λ (h : k * whole + whole ≤ slot). inl h) (λ (h : slot + whole ≤ k * whole). inr (omega arith)) (slots_apart k (c + 1) whole other))
-      ∙ others-still k l
+      ∙ others_still k l
     where
       placed_end : (k : ℕ) → k < 65 → k * whole + whole ≤ 65 * whole
       placed_end k l = part_end k 65 whole l
@@ -137,26 +137,26 @@ module _ (z : Size) (how : Method) (whole r c above left : ℕ) (work : List ℕ
         let cut : picture_at (left_along Vertical beside) slot three ≡ cut_along Vertical beside (seam_along how Vertical beside (picture_at beside (c * whole) one)) (picture_at beside (c * whole) one) =
         cut_is one (c * whole) beside how Vertical (65 * whole) seam₂ cost₂ two down second beside-sides source₂ two refl slot three (omega (arith, needed.columns_left)) g in
         let here : picture_at (smaller z (r + 1) (c + 1)) slot three ≡ vertical.picture =
-        ap (λ u. picture_at u slot three) (sym (less-column z (r + 1) c)) ∙ cut ∙ ap (λ p. cut_along Vertical beside (seam_along how Vertical beside p) p) beside-still in
+        ap (λ u. picture_at u slot three) (sym (less-column z (r + 1) c)) ∙ cut ∙ ap (λ p. cut_along Vertical beside (seam_along how Vertical beside p) p) beside_still in
         let test : leb vertical.total horizontal.total ≡ true = le-leb _ _ (rw (total-vertical, total-horizontal) at less) in
         record {
           cell_is = ap₂ (λ p t. record { picture = p; total = t }) here total-vertical ∙ sym (ap (λ t. cond t vertical horizontal) test);
           small = omega (arith, first.cost_most);
           long = g.long ∙ both_long;
-          others = others-kept (65 * whole) beside three down Vertical (rw needed.space.whole_is (smaller_few z (r + 1) c)) (omega arith) g;
+          others = others_kept (65 * whole) beside three down Vertical (rw needed.space.whole_is (smaller-few z (r + 1) c)) (omega arith) g;
         }
 
     pub given-horizontal : above + cost₁ < left + cost₂ → CutGiven two (67 * whole) upper Horizontal across slot three → CellGiven z how whole (row_count r) (column_count c) above left work (above + cost₁) three
     unfolding chosen by_seam
     given-horizontal less g =
         let cut : picture_at (left_along Horizontal upper) slot three ≡ cut_along Horizontal upper (seam_along how Horizontal upper (picture_at upper slot work)) (picture_at upper slot work) =
-        cut_is work slot upper how Horizontal (67 * whole) seam₁ cost₁ one across first upper-sides source two upper-still slot three (omega (arith, needed.rows_left)) g in
+        cut_is work slot upper how Horizontal (67 * whole) seam₁ cost₁ one across first upper-sides source two upper_still slot three (omega (arith, needed.rows_left)) g in
         let here : picture_at (smaller z (r + 1) (c + 1)) slot three ≡ horizontal.picture =
-        ap (λ u. picture_at u slot three) (sym (less_row z r (c + 1))) ∙ cut in
+        ap (λ u. picture_at u slot three) (sym (less-row z r (c + 1))) ∙ cut in
         let test : leb vertical.total horizontal.total ≡ false = lt-leb _ _ (rw (total-vertical, total-horizontal) at less) in
         record {
           cell_is = ap₂ (λ p t. record { picture = p; total = t }) here total-horizontal ∙ sym (ap (λ t. cond t vertical horizontal) test);
           small = omega (arith, first.cost_most);
           long = g.long ∙ both_long;
-          others = others-kept (67 * whole) upper three across Horizontal (rw needed.space.whole_is (smaller_few z r (c + 1))) (omega arith) g;
+          others = others_kept (67 * whole) upper three across Horizontal (rw needed.space.whole_is (smaller-few z r (c + 1))) (omega arith) g;
         }

@@ -10,7 +10,7 @@ use lib.ListN.{length, take, drop, replicate}
 use lib.Seq.{take_at, drop_at, length-take-le}
 use Rattle.grids.specs.Each.{Each}
 use Rattle.grids.specs.Cut.{cut}
-use Rattle.grids.proofs.Cut.{cut-narrower}
+use Rattle.grids.proofs.Cut.{cut_narrower}
 use Rattle.grids.proofs.Parts.{put_part}
 use Rattle.pictures.specs.declared.sizes.Size.{Size}
 use Rattle.pictures.specs.declared.refusals.Verdict.{Verdict}
@@ -21,33 +21,33 @@ use Rattle.pictures.proofs.Buffers.{picture_bytes_lem, length-bytes}
 use Rattle.energy.specs.declared.methods.Method.{Method}
 use Rattle.seam_moves.specs.Between.{part_at, put_at}
 use Rattle.seam_close.specs.Closing.{CloseGiven}
-use Rattle.seam_moves.proofs.Places.{Kept, kept_part, put-there, put-kept, length_part}
+use Rattle.seam_moves.proofs.Places.{Kept, kept_part, put_there, put_kept, length_part}
 use Rattle.seam_close.proofs.Served.{close_served}
 use Rattle.seam_rules.specs.declared.answers.Axis.{Axis}
 use Rattle.seam_rules.specs.Axes.{turned_size, narrowed}
 use Rattle.seam_turn.specs.Axes.{turned, cut_along}
 use Rattle.seam_cut.specs.Axes.{seam_along}
-use Rattle.seam_rules.proofs.Turns.{turned-bytes, turned_sides}
-use Rattle.seam_turn.proofs.Turned.{turned_of_size}
+use Rattle.seam_rules.proofs.Turns.{turned-bytes, turned-sides}
+use Rattle.seam_turn.proofs.Turned.{turned-of_size}
 use Rattle.seam_cut.proofs.Inside.{along_inside}
 use Rattle.seam_retarget.specs.Inner.Seams.{picture_at, left_along, TurnNeeded, SeamNeeded, SeamGiven, CutNeeded, CutGiven, StepNeeded, StepGiven}
 use Rattle.seam_retarget.proofs.Steps.{sized_at, at_of_size}
 
 -- The size that a cut leaves takes no more bytes, and is allowed.
-left_few : (t : Size) → picture_bytes (narrowed t) ≤ picture_bytes t
-left_few t =
+left-few : (t : Size) → picture_bytes (narrowed t) ≤ picture_bytes t
+left-few t =
     let w : t.width - 1 ≤ t.width = omega arith in
     mul-le-mul_left t.height (mul-le-mul_right (channels_of t.kind) w)
 
-left_sides : (t : Size) → Sides t → 1 < t.width → refusal (side_rules (narrowed t)) ≡ 0
-left_sides t s wide = sides_of (narrowed t) (omega arith) (omega (arith, s.width_most)) s.height_some s.height_most
+left-sides : (t : Size) → Sides t → 1 < t.width → refusal (side_rules (narrowed t)) ≡ 0
+left-sides t s wide = sides_of (narrowed t) (omega arith) (omega (arith, s.width_most)) s.height_some s.height_most
 
-left_of_size : (t : Size) (s : List ℕ) (q : Picture) → 1 < t.width → Each (λ c. c < t.width) t.height s → OfSize t q → OfSize (narrowed t) (cut s q)
-left_of_size t s q wide inside o = cut-narrower t.width wide inside o
+left-of_size : (t : Size) (s : List ℕ) (q : Picture) → 1 < t.width → Each (λ c. c < t.width) t.height s → OfSize t q → OfSize (narrowed t) (cut s q)
+left-of_size t s q wide inside o = cut_narrower t.width wide inside o
 
 -- A seam has at most as many columns or rows as the largest side.
 pub turned_tall : (x : Axis) (z : Size) → refusal (side_rules z) ≡ 0 → (turned_size x z).height ≤ largest_side
-turned_tall x z s = (sides_are (turned_size x z) (turned_sides x z (picture_bytes z) (sized_at z s))).height_most
+turned_tall x z s = (sides_are (turned_size x z) (turned-sides x z (picture_bytes z) (sized_at z s))).height_most
 
 -- The cut at a place. `closed` is the part that comes back, `two` the space after the turn.
 module _ (work : List ℕ) (at : ℕ) (z : Size) (x : Axis) (seam : List ℕ) (to : ℕ) (needed : CutNeeded (length work) at z x seam to) where
@@ -67,7 +67,7 @@ module _ (work : List ℕ) (at : ℕ) (z : Size) (x : Axis) (seam : List ℕ) (t
   left = narrowed t
 
   sides-t : refusal (side_rules t) ≡ 0
-  sides-t = turned_sides x z (picture_bytes z) (sized_at z needed.sides)
+  sides-t = turned-sides x z (picture_bytes z) (sized_at z needed.sides)
 
   same_bytes : picture_bytes t ≡ picture_bytes z
   same_bytes = turned-bytes x z
@@ -103,14 +103,14 @@ module _ (work : List ℕ) (at : ℕ) (z : Size) (x : Axis) (seam : List ℕ) (t
     one-is = put_part at (at + all) work closed (omega arith) ∙ ap (λ n. take at work ++ (closed ++ drop (at + n) work)) all_is
 
     kept : Kept at (picture_bytes t) work one
-    kept = rw one-is (put-kept at (picture_bytes t) closed work closed-long room)
+    kept = rw one-is (put_kept at (picture_bytes t) closed work closed-long room)
 
     rest-of : OfSize left (cut s q)
-    rest-of = left_of_size t s q needed.wide needed.inside (at_of_size t at work room)
+    rest-of = left-of_size t s q needed.wide needed.inside (at_of_size t at work room)
 
     rest-is : picture_at left at one ≡ cut s q
     rest-is =
-        let few = left_few t in
+        let few = left-few t in
         let long = length-bytes left (cut s q) rest-of in
         ap (picture left)
         (ap (λ w. take (picture_bytes left) (drop at w)) one-is
@@ -120,11 +120,11 @@ module _ (work : List ℕ) (at : ℕ) (z : Size) (x : Axis) (seam : List ℕ) (t
 
     pub back-needed : TurnNeeded (length one) at left to
     back-needed = record {
-      sides = left_sides t (sides_are t sides-t) needed.wide;
+      sides = left-sides t (sides_are t sides-t) needed.wide;
       places = record {
-        from_inside = omega (arith, kept.long, room, left_few t);
-        to_inside = omega (arith, kept.long, needed.places.to_inside, left_few t, same_bytes);
-        apart = ⊎_elim (λ (l : at + picture_bytes z ≤ to). inl (omega (arith, left_few t, same_bytes))) (λ (l : to + picture_bytes z ≤ at). inr (omega (arith, left_few t, same_bytes))) needed.places.apart;
+        from_inside = omega (arith, kept.long, room, left-few t);
+        to_inside = omega (arith, kept.long, needed.places.to_inside, left-few t, same_bytes);
+        apart = ⊎_elim (λ (l : at + picture_bytes z ≤ to). inl (omega (arith, left-few t, same_bytes))) (λ (l : to + picture_bytes z ≤ at). inr (omega (arith, left-few t, same_bytes))) needed.places.apart;
       };
     }
 
@@ -133,17 +133,17 @@ module _ (work : List ℕ) (at : ℕ) (z : Size) (x : Axis) (seam : List ℕ) (t
         let n = picture_bytes left in
         let new : List ℕ = bytes (turned x left.width (cut s q)) in
         let two_is : two ≡ put_at to (picture_bytes left) (bytes (turned x left.width (cut s q))) one = is ∙ ap (λ p. put_at to (picture_bytes left) (bytes (turned x left.width p)) one) rest-is in
-        let long : length (bytes (turned x left.width (cut s q))) ≡ picture_bytes left = length-bytes (turned_size x left) (turned x left.width (cut s q)) (turned_of_size x left (cut s q) rest-of) ∙ turned-bytes x left in
+        let long : length (bytes (turned x left.width (cut s q))) ≡ picture_bytes left = length-bytes (turned_size x left) (turned x left.width (cut s q)) (turned-of_size x left (cut s q) rest-of) ∙ turned-bytes x left in
         let inside = back-needed.places.to_inside in
-        let same : Kept to (picture_bytes left) one two = rw two_is (put-kept to (picture_bytes left) (bytes (turned x left.width (cut s q))) one long inside) in
+        let same : Kept to (picture_bytes left) one two = rw two_is (put_kept to (picture_bytes left) (bytes (turned x left.width (cut s q))) one long inside) in
         record {
           picture_is =
               ap (λ k. part_at to k two) (turned-bytes x left)
-              ∙ ap (part_at to (picture_bytes left)) two_is ∙ put-there to (picture_bytes left) (bytes (turned x left.width (cut s q))) one long inside;
+              ∙ ap (part_at to (picture_bytes left)) two_is ∙ put_there to (picture_bytes left) (bytes (turned x left.width (cut s q))) one long inside;
           long = same.long ∙ kept.long;
           others = λ a k l m.
               kept_part to (picture_bytes left) one two same a k
-              (⊎_elim (λ (h : a + k ≤ to). inl h) (λ (h : to + picture_bytes z ≤ a). inr (omega (arith, left_few t, same_bytes))) m)
+              (⊎_elim (λ (h : a + k ≤ to). inl h) (λ (h : to + picture_bytes z ≤ a). inr (omega (arith, left-few t, same_bytes))) m)
               ∙ kept_part at (picture_bytes t) work one kept a k
               (⊎_elim (λ (h : a + k ≤ at). inl h) (λ (h : at + picture_bytes z ≤ a). inr (omega (arith, same_bytes))) l);
         }
@@ -154,17 +154,17 @@ module _ (work : List ℕ) (from : ℕ) (z : Size) (how : Method) (x : Axis) (at
   p : Picture
   p = picture_at z from work
 
-  p-of : OfSize z p
+  p_of : OfSize z p
   unfolding p
-  p-of = at_of_size z from work inside
+  p_of = at_of_size z from work inside
 
   -- The turned picture, where it still stands in a later space.
-  turned-there : (mid : List ℕ) → part_at at (picture_bytes z) mid ≡ part_at at (picture_bytes z) one → picture_at (turned_size x z) at mid ≡ turned x z.width (picture_at z from work)
+  turned_there : (mid : List ℕ) → part_at at (picture_bytes z) mid ≡ part_at at (picture_bytes z) one → picture_at (turned_size x z) at mid ≡ turned x z.width (picture_at z from work)
   unfolding p
-  turned-there mid still =
+  turned_there mid still =
       ap (λ n. picture (turned_size x z) (part_at at n mid)) (turned-bytes x z)
       ∙ ap (picture (turned_size x z)) (still ∙ found.turned_is)
-      ∙ picture_bytes_lem (turned_size x z) (turned x z.width p) (turned_of_size x z p p-of)
+      ∙ picture_bytes_lem (turned_size x z) (turned x z.width p) (turned-of_size x z p p_of)
 
   pub found_inside : Each (λ c. c < (turned_size x z).width) (turned_size x z).height (take (turned_size x z).height seam')
   found_inside = rw found.seam_is (along_inside how x z (picture_bytes z) (picture_at z from work) (sized_at z sides))
@@ -177,11 +177,11 @@ module _ (work : List ℕ) (from : ℕ) (z : Size) (how : Method) (x : Axis) (at
       let t = turned_size x z in
       let s = seam_along how x z (picture_at z from work) in
       let q = turned x z.width (picture_at z from work) in
-      let o : OfSize (turned_size x z) (turned x z.width (picture_at z from work)) = turned_of_size x z p p-of in
+      let o : OfSize (turned_size x z) (turned x z.width (picture_at z from work)) = turned-of_size x z p p_of in
       let i = along_inside how x z (picture_bytes z) (picture_at z from work) (sized_at z sides) in
       let left = narrowed (turned_size x z) in
-      ap (picture (left_along x z)) (g.picture_is ∙ ap₂ (λ u v. bytes (turned x ((turned_size x z).width - 1) (cut u v))) found.seam_is (turned-there mid still))
-      ∙ picture_bytes_lem (left_along x z) (turned x ((turned_size x z).width - 1) (cut s q)) (turned_of_size x left (cut s q) (left_of_size t s q wide i o))
+      ap (picture (left_along x z)) (g.picture_is ∙ ap₂ (λ u v. bytes (turned x ((turned_size x z).width - 1) (cut u v))) found.seam_is (turned_there mid still))
+      ∙ picture_bytes_lem (left_along x z) (turned x ((turned_size x z).width - 1) (cut s q)) (turned-of_size x left (cut s q) (left-of_size t s q wide i o))
 
 -- Both, one after the other.
 module _ (work : List ℕ) (from : ℕ) (z : Size) (how : Method) (x : Axis) (at to : ℕ) (needed : StepNeeded (length work) from z x at to) where

@@ -10,20 +10,20 @@ use lib.ListN.{length, get_or}
 use Rattle.grids.specs.Each.{Each, none, more}
 use Rattle.grids.specs.Cut.{cut}
 use Rattle.grids.proofs.Exchange.{exchange-each}
-use Rattle.grids.proofs.Cut.{cut-narrower}
+use Rattle.grids.proofs.Cut.{cut_narrower}
 use Rattle.pictures.specs.declared.sizes.Size.{Size}
 use Rattle.pictures.specs.Refusals.{refusal}
 use Rattle.pictures.specs.Pictures.{Picture, channels_of, picture_bytes, side_rules, OfSize, pixel}
 use Rattle.pictures.proofs.Limits.{Sides, sides_are}
 use Rattle.energy.specs.declared.methods.Method.{Method}
 use Rattle.energy.specs.Bounds.{most_energy, most_cost}
-use Rattle.energy.proofs.Most.{costs_within, costs-most}
+use Rattle.energy.proofs.Most.{costs-within, costs-most}
 use Rattle.seam_rules.specs.declared.answers.Axis.{Axis}
 use Rattle.seam_rules.specs.declared.answers.Axis.TheVariants.{Vertical, Horizontal}
 use Rattle.seam_rules.specs.Axes.{turned_size, narrowed}
 use Rattle.seam_turn.specs.Axes.{turned, cut_along}
 use Rattle.seam_cut.specs.Axes.{seam_along, cost_along}
-use Rattle.seam_rules.proofs.Turns.{turned_sides}
+use Rattle.seam_rules.proofs.Turns.{turned-sides}
 use Rattle.seam_cut.proofs.Inside.{along_inside}
 use Rattle.seam_retarget.specs.Cells.{Cell, by_seam, chosen, cell}
 use Rattle.seam_rules.specs.declared.answers.Rows.{Rows}
@@ -33,26 +33,26 @@ use Rattle.seam_retarget.specs.Inner.Seams.{left_along}
 use Rattle.seam_retarget.proofs.Numbered.{cell_at, cell-numbers}
 use Rattle.seam_retarget.proofs.Costs.{cost_bound}
 use Rattle.seam_retarget.proofs.Steps.{sized_at}
-use Rattle.seam_rules.proofs.Left.{smaller_sides}
+use Rattle.seam_rules.proofs.Left.{smaller-sides}
 
 -- A picture of this size whose pixels all have P.
 abbrev pub Of : (List ℕ → Type 0) → Size → Picture → Type 0
 Of P z p = Each (Each P z.width) z.height p
 
 module _ (P : List ℕ → Type 0) where
-  turned-of : (x : Axis) (z : Size) (p : Picture) → Of P z p → Of P (turned_size x z) (turned x z.width p)
+  turned_of : (x : Axis) (z : Size) (p : Picture) → Of P z p → Of P (turned_size x z) (turned x z.width p)
   unfolding turned
-  turned-of Vertical z p o = o
-  turned-of Horizontal z p o = exchange-each o
+  turned_of Vertical z p o = o
+  turned_of Horizontal z p o = exchange-each o
 
   -- By a seam, a row or a column less.
-  by-of : (how : Method) (x : Axis) (z : Size) (k : Cell) → refusal (side_rules z) ≡ 0 → 1 < (turned_size x z).width → Of P z k.picture → Of P (left_along x z) (by_seam how x z k).picture
+  by_of : (how : Method) (x : Axis) (z : Size) (k : Cell) → refusal (side_rules z) ≡ 0 → 1 < (turned_size x z).width → Of P z k.picture → Of P (left_along x z) (by_seam how x z k).picture
   unfolding by_seam cut_along
-  by-of how x z k s wide o =
+  by_of how x z k s wide o =
       let t = turned_size x z in
       let p = k.picture in
-      turned-of x (narrowed (turned_size x z)) (cut (seam_along how x z p) (turned x z.width p))
-      (cut-narrower t.width wide (along_inside how x z (picture_bytes z) p (sized_at z s)) (turned-of x z p o))
+      turned_of x (narrowed (turned_size x z)) (cut (seam_along how x z p) (turned x z.width p))
+      (cut_narrower t.width wide (along_inside how x z (picture_bytes z) p (sized_at z s)) (turned_of x z p o))
 
   chosen_of : (z : Size) (v h : Cell) → Of P z v.picture → Of P z h.picture → Of P z (chosen v h).picture
   unfolding chosen
@@ -62,11 +62,11 @@ module _ (P : List ℕ → Type 0) where
       go true = a
       go false = b
 
-  less-column-of : (z : Size) (r c : ℕ) (q : Picture) → Of P (left_along Vertical (smaller z r c)) q → Of P (smaller z r (suc c)) q
-  less-column-of z r c q o = let e : z.width - c - 1 ≡ z.width - suc c = omega arith in rw e at o
+  less-column_of : (z : Size) (r c : ℕ) (q : Picture) → Of P (left_along Vertical (smaller z r c)) q → Of P (smaller z r (suc c)) q
+  less-column_of z r c q o = let e : z.width - c - 1 ≡ z.width - suc c = omega arith in rw e at o
 
-  less-row-of : (z : Size) (r c : ℕ) (q : Picture) → Of P (left_along Horizontal (smaller z r c)) q → Of P (smaller z (suc r) c) q
-  less-row-of z r c q o = let e : z.height - r - 1 ≡ z.height - suc r = omega arith in rw e at o
+  less-row_of : (z : Size) (r c : ℕ) (q : Picture) → Of P (left_along Horizontal (smaller z r c)) q → Of P (smaller z (suc r) c) q
+  less-row_of z r c q o = let e : z.height - r - 1 ≡ z.height - suc r = omega arith in rw e at o
 
   -- Each cell has the pixels of the picture, r rows and c columns less.
   module _ (how : Method) (z : Size) (p : Picture) (s : refusal (side_rules z) ≡ 0) (o : Of P z p) where
@@ -77,22 +77,22 @@ module _ (P : List ℕ → Type 0) where
         let b : z.height - 0 ≡ z.height = omega arith in
         rw (a, b) o
     cell-of zero (suc c) h w =
-        less-column-of z 0 c (by_seam how Vertical (smaller z 0 c) (cell_at how z p 0 c)).picture
-        (by-of how Vertical (smaller z 0 c) (cell_at how z p 0 c) (smaller_sides z 0 c s h (omega arith)) (omega arith) (cell-of 0 c h (omega arith)))
+        less-column_of z 0 c (by_seam how Vertical (smaller z 0 c) (cell_at how z p 0 c)).picture
+        (by_of how Vertical (smaller z 0 c) (cell_at how z p 0 c) (smaller-sides z 0 c s h (omega arith)) (omega arith) (cell-of 0 c h (omega arith)))
     cell-of (suc r) zero h w =
-        less-row-of z r 0 (by_seam how Horizontal (smaller z r 0) (cell_at how z p r 0)).picture
-        (by-of how Horizontal (smaller z r 0) (cell_at how z p r 0) (smaller_sides z r 0 s (omega arith) w) (omega arith) (cell-of r 0 (omega arith) w))
+        less-row_of z r 0 (by_seam how Horizontal (smaller z r 0) (cell_at how z p r 0)).picture
+        (by_of how Horizontal (smaller z r 0) (cell_at how z p r 0) (smaller-sides z r 0 s (omega arith) w) (omega arith) (cell-of r 0 (omega arith) w))
     cell-of (suc r) (suc c) h w =
         chosen_of (smaller z (suc r) (suc c)) (by_seam how Vertical (smaller z (suc r) c) (cell_at how z p (suc r) c)) (by_seam how Horizontal (smaller z r (suc c)) (cell_at how z p r (suc c)))
-        (less-column-of z (suc r) c (by_seam how Vertical (smaller z (suc r) c) (cell_at how z p (suc r) c)).picture
-        (by-of how Vertical (smaller z (suc r) c) (cell_at how z p (suc r) c) (smaller_sides z (suc r) c s h (omega arith)) (omega arith) (cell-of (suc r) c h (omega arith))))
-        (less-row-of z r (suc c) (by_seam how Horizontal (smaller z r (suc c)) (cell_at how z p r (suc c))).picture
-        (by-of how Horizontal (smaller z r (suc c)) (cell_at how z p r (suc c)) (smaller_sides z r (suc c) s (omega arith) w) (omega arith) (cell-of r (suc c) (omega arith) w)))
+        (less-column_of z (suc r) c (by_seam how Vertical (smaller z (suc r) c) (cell_at how z p (suc r) c)).picture
+        (by_of how Vertical (smaller z (suc r) c) (cell_at how z p (suc r) c) (smaller-sides z (suc r) c s h (omega arith)) (omega arith) (cell-of (suc r) c h (omega arith))))
+        (less-row_of z r (suc c) (by_seam how Horizontal (smaller z r (suc c)) (cell_at how z p r (suc c))).picture
+        (by_of how Horizontal (smaller z r (suc c)) (cell_at how z p r (suc c)) (smaller-sides z r (suc c) s (omega arith) w) (omega arith) (cell-of r (suc c) (omega arith) w)))
 
 -- "To remove r rows and c columns": the cell's picture has the size m - c by n - r.
-pub cell_of_size : (how : Method) (z : Size) (p : Picture) → refusal (side_rules z) ≡ 0 → OfSize z p → (rows : Rows) (columns : Columns) → rows.0 < z.height → columns.0 < z.width
+pub cell-of_size : (how : Method) (z : Size) (p : Picture) → refusal (side_rules z) ≡ 0 → OfSize z p → (rows : Rows) (columns : Columns) → rows.0 < z.height → columns.0 < z.width
     → OfSize (left_size z rows columns) (cell how z p rows columns).picture
-cell_of_size how z p s o rows columns h w =
+cell-of_size how z p s o rows columns h w =
     subst (λ (k : Cell). OfSize (left_size z rows columns) k.picture) (sym (cell-numbers how z p rows columns))
     (cell-of (λ x. length x ≡ channels_of z.kind) how z p s o rows.0 columns.0 h w)
 
@@ -120,16 +120,16 @@ unfolding cost_along
 cost_most how ch few x z p s o =
     let t = turned_size x z in
     let q = turned x z.width p in
-    let sides : Sides (turned_size x z) = sides_are t (turned_sides x z (picture_bytes z) (sized_at z s)) in
-    let b = pixel-bytes ch t q (turned-of (Bytes ch) x z p o) in
+    let sides : Sides (turned_size x z) = sides_are t (turned-sides x z (picture_bytes z) (sized_at z s)) in
+    let b = pixel-bytes ch t q (turned_of (Bytes ch) x z p o) in
     cost_bound how t.width t.height q sides.width_some sides.height_some sides.height_small
-    (λ r c. costs_within (2 * (ch * 255)) most_energy _ (omega (arith, mul-le-mul_right 255 few)) (costs-most ch 255 q (λ r c. (b r c).many) (λ r c. (b r c).small) how t.width t.height r c))
+    (λ r c. costs-within (2 * (ch * 255)) most_energy _ (omega (arith, mul-le-mul_right 255 few)) (costs-most ch 255 q (λ r c. (b r c).many) (λ r c. (b r c).small) how t.width t.height r c))
 
 -- The total of r + c seams: at most 128 of them, it fits 64 bits.
 module _ (how : Method) (z : Size) (p : Picture) (s : refusal (side_rules z) ≡ 0) (ch : ℕ) (few : ch ≤ 3) (o : Of (Bytes ch) z p) where
   by_most : (x : Axis) (r c m : ℕ) → r < z.height → c < z.width → (cell_at how z p r c).total ≤ m → (by_seam how x (smaller z r c) (cell_at how z p r c)).total ≤ m + most_cost
   unfolding by_seam
-  by_most x r c m h w l = omega (arith, cost_most how ch few x (smaller z r c) (cell_at how z p r c).picture (smaller_sides z r c s h w) (cell-of (Bytes ch) how z p s o r c h w))
+  by_most x r c m h w l = omega (arith, cost_most how ch few x (smaller z r c) (cell_at how z p r c).picture (smaller-sides z r c s h w) (cell-of (Bytes ch) how z p s o r c h w))
 
   pub total-most : (r c : ℕ) → r < z.height → c < z.width → (cell_at how z p r c).total ≤ (r + c) * most_cost
   unfolding cell_at chosen

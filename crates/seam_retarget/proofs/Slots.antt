@@ -21,14 +21,14 @@ use Rattle.seam_retarget.specs.Inner.Seams.{Apart, picture_at, left_along}
 use Rattle.seam_retarget.specs.Inner.Cells.{SpaceNeeded}
 
 -- A smaller size takes no more bytes, and a picture at least a byte a pixel.
-pub smaller_few : (z : Size) (r c : ℕ) → picture_bytes (smaller z r c) ≤ picture_bytes z
-smaller_few z r c =
+pub smaller-few : (z : Size) (r c : ℕ) → picture_bytes (smaller z r c) ≤ picture_bytes z
+smaller-few z r c =
     let h : z.height - r ≤ z.height = omega arith in
     let w : z.width - c ≤ z.width = omega arith in
     mul-le-mul h (mul-le-mul_right (channels_of z.kind) w)
 
-pub pixels_few : (z : Size) → pixels z ≤ picture_bytes z
-pixels_few z =
+pub pixels-few : (z : Size) → pixels z ≤ picture_bytes z
+pixels-few z =
     let one : z.width * 1 ≤ z.width * channels_of z.kind = mul-le-mul_left z.width (channels_some z.kind) in
     mul-le-mul_left z.height (rw (mul-one z.width) at one)
 
@@ -38,8 +38,8 @@ less-column z r c =
     let e : z.width - c - 1 ≡ z.width - (c + 1) = omega arith in
     ap (λ w. record { width = w; height = z.height - r; kind = z.kind }) e
 
-pub less_row : (z : Size) (r c : ℕ) → left_along Horizontal (smaller z r c) ≡ smaller z (r + 1) c
-less_row z r c =
+pub less-row : (z : Size) (r c : ℕ) → left_along Horizontal (smaller z r c) ≡ smaller z (r + 1) c
+less-row z r c =
     let e : z.height - r - 1 ≡ z.height - (r + 1) = omega arith in
     ap (λ h. record { width = z.width - c; height = h; kind = z.kind }) e
 
@@ -50,7 +50,7 @@ part_shorter a n m u v h e = sym (take-take n m (drop a u) h) ∙ ap (take n) e 
 -- The same picture in a slot that is as it was.
 pub same_picture : (z : Size) (whole r c at : ℕ) (u v : List ℕ) → whole ≡ picture_bytes z → part_at at whole u ≡ part_at at whole v
     → picture_at (smaller z r c) at u ≡ picture_at (smaller z r c) at v
-same_picture z whole r c at u v is e = ap (picture (smaller z r c)) (part_shorter at (picture_bytes (smaller z r c)) whole u v (rw is (smaller_few z r c)) e)
+same_picture z whole r c at u v is e = ap (picture (smaller z r c)) (part_shorter at (picture_bytes (smaller z r c)) whole u v (rw is (smaller-few z r c)) e)
 
 -- Two slots don't overlap.
 pub slots_apart : (k j w : ℕ) → (k ≡ j → ⊥) → Apart (k * w) w (j * w) w
@@ -62,7 +62,7 @@ slots_apart k j w other =
 
 -- The room of a smaller picture, with a byte for each of its pixels.
 pub double_few : (z : Size) (whole r c : ℕ) → whole ≡ picture_bytes z → picture_bytes (smaller z r c) + pixels (smaller z r c) ≤ 2 * whole
-double_few z whole r c is = omega (arith, smaller_few z r c, pixels_few (smaller z r c))
+double_few z whole r c is = omega (arith, smaller-few z r c, pixels-few (smaller z r c))
 
 -- A slot, and a place for work after the slots.
 pub record Placed (z' : Size) (whole k p work : ℕ) : Type 0 where
@@ -72,7 +72,7 @@ pub record Placed (z' : Size) (whole k p work : ℕ) : Type 0 where
 
 module _ (z : Size) (whole work : ℕ) (needed : SpaceNeeded z whole work) (k r c : ℕ) (slot : k < 65) where
   few : picture_bytes (smaller z r c) ≤ whole
-  few = rw needed.whole_is (smaller_few z r c)
+  few = rw needed.whole_is (smaller-few z r c)
 
   end : k * whole + whole ≤ 65 * whole
   end = part_end k 65 whole slot

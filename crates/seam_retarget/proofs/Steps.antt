@@ -14,10 +14,10 @@ use Rattle.pictures.specs.declared.refusals.Verdict.{Verdict}
 use Rattle.pictures.specs.Refusals.{refusal}
 use Rattle.pictures.specs.Pictures.{picture_bytes, side_rules, picture, bytes, OfSize, pixels}
 use Rattle.pictures.proofs.Limits.{Sized, sides_are, sized_of}
-use Rattle.pictures.proofs.Buffers.{picture_of_size, bytes-picture, length-bytes}
+use Rattle.pictures.proofs.Buffers.{picture-of_size, bytes-picture, length-bytes}
 use Rattle.energy.specs.declared.methods.Method.{Method}
 use Rattle.seam_moves.specs.Between.{part_at, put_at, CopyBetweenGiven}
-use Rattle.seam_moves.proofs.Places.{Kept, kept_part, put-kept, length_part}
+use Rattle.seam_moves.proofs.Places.{Kept, kept_part, put_kept, length_part}
 use Rattle.seam_moves.proofs.Served.{copy_between-served}
 use Rattle.seam_rules.specs.declared.answers.Found.{Found}
 use Rattle.seam_theory.specs.PictureSeams.{seam_of, cost_of}
@@ -29,8 +29,8 @@ use Rattle.seam_rules.specs.declared.answers.Axis.TheVariants.{Vertical}
 use Rattle.seam_rules.specs.Axes.{turned_size}
 use Rattle.seam_turn.specs.Axes.{turned}
 use Rattle.seam_cut.specs.Axes.{seam_along, cost_along}
-use Rattle.seam_rules.proofs.Turns.{turned-bytes, turned-pixels, turned_sides}
-use Rattle.seam_turn.proofs.Turned.{turned_of_size, turned-picture}
+use Rattle.seam_rules.proofs.Turns.{turned-bytes, turned-pixels, turned-sides}
+use Rattle.seam_turn.proofs.Turned.{turned-of_size, turned-picture}
 use Rattle.seam_cut.proofs.FindIn.{FoundThere, find_served}
 use Rattle.seam_cut.proofs.Inside.{along_inside}
 use Rattle.seam_retarget.specs.Inner.Seams.{picture_at, TurnNeeded, SeamNeeded, SeamGiven}
@@ -42,7 +42,7 @@ sized_at z s = sized_of z (picture_bytes z) (sides_are z s) refl
 
 -- The picture read at a place inside the space is a picture of its size.
 pub at_of_size : (z : Size) (at : ℕ) (work : List ℕ) → at + picture_bytes z ≤ length work → OfSize z (picture_at z at work)
-at_of_size z at work h = picture_of_size z (part_at at (picture_bytes z) work) (length_part at (picture_bytes z) work h)
+at_of_size z at work h = picture-of_size z (part_at at (picture_bytes z) work) (length_part at (picture_bytes z) work h)
 
 -- A copy of a picture is the picture turned for a vertical seam.
 pub copied-turned : (work work' : List ℕ) (from : ℕ) (z : Size) (to all : ℕ) (v : Verdict) → TurnNeeded (length work) from z to → all ≡ picture_bytes z
@@ -77,11 +77,11 @@ module _ (work : List ℕ) (from : ℕ) (z : Size) (how : Method) (x : Axis) (at
   b-long = length_part from (picture_bytes z) work needed.places.from_inside
 
   Q-long : length Q ≡ picture_bytes z
-  Q-long = length-bytes t (turned x z.width (picture_at z from work)) (turned_of_size x z (picture_at z from work) (picture_of_size z b b-long)) ∙ turned-bytes x z
+  Q-long = length-bytes t (turned x z.width (picture_at z from work)) (turned-of_size x z (picture_at z from work) (picture-of_size z b b-long)) ∙ turned-bytes x z
 
   module _ (one : List ℕ) (is : one ≡ put_at at (picture_bytes z) (bytes (turned x z.width (picture_at z from work))) work) where
     kept : Kept at (picture_bytes z) work one
-    kept = rw is (put-kept at (picture_bytes z) Q work Q-long needed.places.to_inside)
+    kept = rw is (put_kept at (picture_bytes z) Q work Q-long needed.places.to_inside)
 
     pub turn-long : length one ≡ length work
     turn-long = kept.long
@@ -104,7 +104,7 @@ module _ (work : List ℕ) (from : ℕ) (z : Size) (how : Method) (x : Axis) (at
     module _ (found : Found) (part seam' : List ℕ) (g : FindInGiven (mid_of at (length one - at) one) (turned_size x z) how seam found part seam')
         (small : (i : ℕ) → get_or one i 0 ≤ 255) where
       sides-t : refusal (side_rules t) ≡ 0
-      sides-t = turned_sides x z (picture_bytes z) sized
+      sides-t = turned-sides x z (picture_bytes z) sized
 
       there : FoundThere lent t how seam found part seam'
       there = find_served lent t how seam found part seam' g sides-t needed.seam_room (omega (arith, needed.room, lent-long, turned-bytes x z, turned-pixels x z))
@@ -144,7 +144,7 @@ module _ (work : List ℕ) (from : ℕ) (z : Size) (how : Method) (x : Axis) (at
       seam_given =
           let all = picture_bytes z + pixels z in
           let room = needed.room in
-          let same : Kept at (picture_bytes z + pixels z) work (put_at at (picture_bytes z + pixels z) new work) = put-kept at all new work new-long room in
+          let same : Kept at (picture_bytes z + pixels z) work (put_at at (picture_bytes z + pixels z) new work) = put_kept at all new work new-long room in
           let h = t.height in
           let s = seam_of how t.width t.height (turned x z.width (picture_at z from work)) in
           let inside = along_inside how x z (picture_bytes z) (picture_at z from work) sized in

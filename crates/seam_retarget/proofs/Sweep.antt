@@ -23,8 +23,8 @@ use Rattle.seam_retarget.specs.Inner.Seams.{picture_at, left_along, StepNeeded, 
 use Rattle.seam_retarget.specs.Inner.Cells.{SpaceNeeded}
 use Rattle.seam_retarget.specs.Inner.Table.{held, first_row, along_row, next_row, row_below, RowGiven, FirstRowNeeded}
 use Rattle.seam_retarget.proofs.Numbered.{cell_at}
-use Rattle.seam_retarget.proofs.Slots.{smaller_few, less-column, same_picture, slots_apart, placed-vertical}
-use Rattle.seam_rules.proofs.Left.{smaller_sides}
+use Rattle.seam_retarget.proofs.Slots.{smaller-few, less-column, same_picture, slots_apart, placed-vertical}
+use Rattle.seam_rules.proofs.Left.{smaller-sides}
 
 -- The rows are those of the table of cells.
 pub first_cells : (how : Method) (z : Size) (p : Picture) (c : ℕ) → first_row how z (cell_at how z p 0 0) c ≡ cell_at how z p 0 c
@@ -86,17 +86,17 @@ set_small totals j v most small fits k =
         inside (inr l) = rw (get_or-set_same totals j v 0 l) fits
 
 -- A step along an axis gives the cell by its seam.
-pub step_cell : (work : List ℕ) (from : ℕ) (z : Size) (how : Method) (x : Axis) (at to cost : ℕ) (work' : List ℕ) (t : ℕ) → StepGiven work from z how x at to cost work'
+pub step-cell : (work : List ℕ) (from : ℕ) (z : Size) (how : Method) (x : Axis) (at to cost : ℕ) (work' : List ℕ) (t : ℕ) → StepGiven work from z how x at to cost work'
     → record { picture = picture_at (left_along x z) to work'; total = t + cost } ≡ by_seam how x z (record { picture = picture_at z from work; total = t })
 unfolding by_seam
-step_cell work from z how x at to cost work' t g = ap₂ (λ p n. record { picture = p; total = n }) g.picture_is (ap (t +◌) g.cost_is)
+step-cell work from z how x at to cost work' t g = ap₂ (λ p n. record { picture = p; total = n }) g.picture_is (ap (t +◌) g.cost_is)
 
 -- Both a slot and a place for work are out of the way of another slot.
 pub slot_kept : (z : Size) (how : Method) (whole n : ℕ) (work work' : List ℕ) (needed : SpaceNeeded z whole n) (from : ℕ) (r c : ℕ) (x : Axis) (p j cost : ℕ) → 65 ≤ p
     → StepGiven work from (smaller z r c) how x (p * whole) (j * whole) cost work'
     → (k : ℕ) → k < 65 → (k ≡ j → ⊥) → part_at (k * whole) whole work' ≡ part_at (k * whole) whole work
 slot_kept z how whole n work work' needed from r c x p j cost behind g k l other =
-    let few : picture_bytes (smaller z r c) ≤ whole = rw needed.whole_is (smaller_few z r c) in
+    let few : picture_bytes (smaller z r c) ≤ whole = rw needed.whole_is (smaller-few z r c) in
     g.others (k * whole) whole (inl (omega (arith, part_end k p whole (omega arith))))
     (⊎_elim (λ (h : k * whole + whole ≤ j * whole). inl h) (λ (h : j * whole + whole ≤ k * whole). inr (omega arith)) (slots_apart k j whole other))
 
@@ -117,9 +117,9 @@ up_to {P} j earlier last k h =
     (le-or-lt k j)
 
 module _ (z : Size) (how : Method) (whole c : ℕ) (work₀ totals₀ : List ℕ) (needed : FirstRowNeeded z whole (column_count c) work₀ totals₀) where
-  pub first-start : FirstSoFar z how whole c work₀ totals₀ 0 work₀ totals₀
+  pub first_start : FirstSoFar z how whole c work₀ totals₀ 0 work₀ totals₀
   unfolding first_row
-  first-start = record {
+  first_start = record {
     inside = omega arith;
     long = refl;
     totals_long = needed.fits.totals_long;
@@ -133,7 +133,7 @@ module _ (z : Size) (how : Method) (whole c : ℕ) (work₀ totals₀ : List ℕ
 
     pub first_step : StepNeeded (length work) (j * whole) (smaller z 0 j) Vertical (65 * whole) ((j + 1) * whole)
     first_step = record {
-      sides = smaller_sides z 0 j needed.fits.space.sides needed.fits.rows_left (omega (arith, needed.fits.columns_left));
+      sides = smaller-sides z 0 j needed.fits.space.sides needed.fits.rows_left (omega (arith, needed.fits.columns_left));
       wide = omega (arith, needed.fits.columns_left);
       source = (placed-vertical z whole (length work) space j 0 j (omega (arith, needed.fits.column))).here;
       room = (placed-vertical z whole (length work) space j 0 j (omega (arith, needed.fits.column))).room;
@@ -157,7 +157,7 @@ module _ (z : Size) (how : Method) (whole c : ℕ) (work₀ totals₀ : List ℕ
               ∙ so_far.cells_are k h)
               (held_new z whole 0 (j + 1) v work' totals (omega (arith, so_far.totals_long, needed.fits.column))
               ∙ ap (λ u. record { picture = picture_at u ((j + 1) * whole) work'; total = v }) (sym (less-column z 0 j))
-              ∙ step_cell work (j * whole) (smaller z 0 j) how Vertical (65 * whole) ((j + 1) * whole) cost work' (get_or totals j 0) g
+              ∙ step-cell work (j * whole) (smaller z 0 j) how Vertical (65 * whole) ((j + 1) * whole) cost work' (get_or totals j 0) g
               ∙ ap (by_seam how Vertical (smaller z 0 j)) (so_far.cells_are j (omega arith))
               ∙ ap (first_row how z (held z whole (row_count 0) work₀ totals₀ 0)) (sym (add-one j)));
           small = set_small totals (j + 1) v ((j + 1) * most_cost) (λ k. omega (arith, so_far.small k)) (omega (arith, so_far.small j, g.cost_most));

@@ -48,11 +48,11 @@ module _ (marked : Bool) (width count budget : ℕ) where
   pub step-ended : (P : Removal → Type 0) → (marked ≡ false → P (Done count)) → (marked ≡ true → width ≡ 1 → P (Narrow count))
       → (marked ≡ true → (width ≡ 1 → ⊥) → count ≡ budget → P (Spent count))
       → (how : Removal) → next_step marked width count budget ≡ Ended how → P how
-  step-ended P at_done at-narrow at-spent how = go marked refl (eqb width 1) refl (eqb count budget) refl
+  step-ended P at_done at_narrow at-spent how = go marked refl (eqb width 1) refl (eqb count budget) refl
     where
       go : (t : Bool) → marked ≡ t → (u : Bool) → eqb width 1 ≡ u → (v : Bool) → eqb count budget ≡ v
           → cond (not t) (Ended (Done count)) (cond u (Ended (Narrow count)) (cond v (Ended (Spent count)) Cut)) ≡ Ended how → P how
       go false e u f v g c = let same : how ≡ Done count = cc in rw same (at_done e)
-      go true e true f v g c = let same : how ≡ Narrow count = cc in rw same (at-narrow e (eqb-true _ _ f))
+      go true e true f v g c = let same : how ≡ Narrow count = cc in rw same (at_narrow e (eqb-true _ _ f))
       go true e false f true g c = let same : how ≡ Spent count = cc in rw same (at-spent e (eqb-false _ _ f) (eqb-true _ _ g))
       go true e false f false g c = let z : ◌≡◌ {A = ℕ} 0 1 = cc in absurd (omega arith)

@@ -9,7 +9,7 @@ use Rattle.pictures.proofs.Limits.{sides_are, sides_of}
 use Rattle.seam_rules.specs.Counts.{smaller}
 
 -- They are allowed as long as a row and a column are left.
-pub smaller_sides : (z : Size) (r c : ℕ) → refusal (side_rules z) ≡ 0 → r < z.height → c < z.width → refusal (side_rules (smaller z r c)) ≡ 0
-smaller_sides z r c s h w =
+pub smaller-sides : (z : Size) (r c : ℕ) → refusal (side_rules z) ≡ 0 → r < z.height → c < z.width → refusal (side_rules (smaller z r c)) ≡ 0
+smaller-sides z r c s h w =
     let q = sides_are z s in
     sides_of (smaller z r c) (omega arith) (omega (arith, q.width_most)) (omega arith) (omega (arith, q.height_most))

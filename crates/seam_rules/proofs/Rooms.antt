@@ -67,8 +67,8 @@ module _ (why : Refusal) (n : ℕ) (e : number_of why ≡ n) where
   some : 0 < n
   some = rw e at (number-some why)
 
-  pub left-as-was : {A : Type 0} (x y : A) → y ≡ served n x y
-  left-as-was x y = sym (served-not n x y some)
+  pub left_as_was : {A : Type 0} (x y : A) → y ≡ served n x y
+  left_as_was x y = sym (served-not n x y some)
 
-  pub work-as-was : n ≤ 8 → (work : List ℕ) → work ≡ cleared n work
-  work-as-was h work = let z : n ≡ 0 → ⊥ = λ q. omega (arith, some) in simp (ne_eqb _ _ z, le-ltb _ _ h)
+  pub work_as_was : n ≤ 8 → (work : List ℕ) → work ≡ cleared n work
+  work_as_was h work = let z : n ≡ 0 → ⊥ = λ q. omega (arith, some) in simp (ne_eqb _ _ z, le-ltb _ _ h)

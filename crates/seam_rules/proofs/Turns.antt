@@ -23,9 +23,9 @@ pub turned_kind : (x : Axis) (z : Size) → channels_of (turned_size x z).kind �
 turned_kind Vertical z = refl
 turned_kind Horizontal z = refl
 
-pub turned_sides : (x : Axis) (z : Size) (n : ℕ) → Sized z n → refusal (side_rules (turned_size x z)) ≡ 0
-turned_sides Vertical z n s = sides_of z s.width_some s.width_most s.height_some s.height_most
-turned_sides Horizontal z n s = sides_of (turned_size Horizontal z) s.height_some s.height_most s.width_some s.width_most
+pub turned-sides : (x : Axis) (z : Size) (n : ℕ) → Sized z n → refusal (side_rules (turned_size x z)) ≡ 0
+turned-sides Vertical z n s = sides_of z s.width_some s.width_most s.height_some s.height_most
+turned-sides Horizontal z n s = sides_of (turned_size Horizontal z) s.height_some s.height_most s.width_some s.width_most
 
 -- A side that isn't 1 is more.
 pub turned-some : (x : Axis) (z : Size) (n : ℕ) → Sized z n → ((turned_size x z).width ≡ 1 → ⊥) → 1 < (turned_size x z).width

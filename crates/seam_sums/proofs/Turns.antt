@@ -11,17 +11,17 @@ use Rattle.seam_theory.specs.Sums.{first_of3, least_to}
 
 -- Which of three, by the tests that decide it.
 module _ (left middle right least : ℕ) (is : least ≡ min middle right) where
-  pub way-left : left ≤ least → 0 ≡ first_of3 left middle right
+  pub way_left : left ≤ least → 0 ≡ first_of3 left middle right
   unfolding first_of3
-  way-left l = let h : left ≤ min middle right = rw is at l in rw (le-leb left (min middle right) h)
+  way_left l = let h : left ≤ min middle right = rw is at l in rw (le-leb left (min middle right) h)
 
-  pub way-middle : least < left → middle ≤ right → 1 ≡ first_of3 left middle right
+  pub way_middle : least < left → middle ≤ right → 1 ≡ first_of3 left middle right
   unfolding first_of3
-  way-middle l m = let h : min middle right < left = rw is at l in rw (lt-leb left (min middle right) h, le-leb middle right m)
+  way_middle l m = let h : min middle right < left = rw is at l in rw (lt-leb left (min middle right) h, le-leb middle right m)
 
-  pub way-right : least < left → right < middle → 2 ≡ first_of3 left middle right
+  pub way_right : least < left → right < middle → 2 ≡ first_of3 left middle right
   unfolding first_of3
-  way-right l m = let h : min middle right < left = rw is at l in rw (lt-leb left (min middle right) h, lt-leb middle right m)
+  way_right l m = let h : min middle right < left = rw is at l in rw (lt-leb left (min middle right) h, lt-leb middle right m)
 
 -- The first least is one of the columns looked at.
 pub least_inside : (s : List ℕ) (n : ℕ) → least_to s n ≤ n
@@ -42,9 +42,9 @@ pub record SoFar (s : List ℕ) (end k best : ℕ) : Type 0 where
   pub before : best < k
 
 module _ (s : List ℕ) where
-  pub so-far-start : SoFar s (length s) 1 0
+  pub so_far_start : SoFar s (length s) 1 0
   unfolding least_to
-  so-far-start = record { some = omega arith; all = refl; most = omega arith; is = refl; before = omega arith }
+  so_far_start = record { some = omega arith; all = refl; most = omega arith; is = refl; before = omega arith }
 
   -- One column more: it is less than the least so far, or it isn't.
   module _ (end k best : ℕ) (inside : k < end) (so : SoFar s end k best) where

@@ -10,10 +10,10 @@ use lib.ListN.{length, get_or}
 use Rattle.pictures.specs.Pictures.{Picture}
 use Rattle.energy.specs.declared.methods.Method.{Method}
 use Rattle.energy.specs.Energy.{costs_at, energy, energies, step_of}
-use Rattle.energy.proofs.Steps.{costs_alike, step_energy}
+use Rattle.energy.proofs.Steps.{costs-alike, step-energy}
 use Rattle.seam_theory.specs.Paths.{cost, along}
 use Rattle.seam_theory.specs.PictureSeams.{path_cost}
-use Rattle.seam_theory.specs.Sums.{first_of3, alike_rows, way_above, cost_rows, sumOf3, way_of3}
+use Rattle.seam_theory.specs.Sums.{first_of3, alike_rows, way_above, cost_rows, sum_of3, way_of3}
 use Rattle.seam_theory.proofs.Numbers.{leb_add}
 use Rattle.seam_theory.proofs.Ways.{way_plain}
 
@@ -31,8 +31,8 @@ way_alike w x k c =
     ∙ first-add (get_or x c 0) (get_or x (c + 1) 0) (get_or x (c + 2) 0) (get_or k c 0)
 
 -- and the sum is the least of these and the cost.
-pub sum_alike : (x k : List ℕ) (c : ℕ) → sumOf3 x (alike_rows k) c ≡ min (get_or x c 0) (min (get_or x (c + 1) 0) (get_or x (c + 2) 0)) + get_or k c 0
-unfolding sumOf3
+pub sum_alike : (x k : List ℕ) (c : ℕ) → sum_of3 x (alike_rows k) c ≡ min (get_or x c 0) (min (get_or x (c + 1) 0) (get_or x (c + 2) 0)) + get_or k c 0
+unfolding sum_of3
 sum_alike x k c = omega arith
 
 -- A path whose steps cost what its pixels do.
@@ -46,9 +46,9 @@ cost_along_lem first step v f g (c ∷ a ∷ q) = ap₂ ◌+◌ (cost_along_lem 
 module _ (how : Method) (w h : ℕ) (p : Picture) where
   -- "Its cost is the sum of its energies."
   pub cost-energies : (q : List ℕ) → path_cost how w h p q ≡ along (energy how w h p) q
-  cost-energies = cost_along_lem (energy how w h p 0) (step_of how w h p) (energy how w h p) (λ c. refl) (step_energy how w h p)
+  cost-energies = cost_along_lem (energy how w h p 0) (step_of how w h p) (energy how w h p) (λ c. refl) (step-energy how w h p)
 
   -- The costs of a row are its energies.
   pub rows_alike : (i : ℕ) → cost_rows w (costs_at how w h p i) ≡ alike_rows (energies how w h p i)
   rows_alike i =
-      ap (cost_rows w) (λ j c. costs_alike how w h p i c j)
+      ap (cost_rows w) (λ j c. costs-alike how w h p i c j)

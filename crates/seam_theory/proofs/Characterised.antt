@@ -14,8 +14,8 @@ use Rattle.seam_theory.specs.Paths.{paths, nearby, along}
 use Rattle.seam_theory.specs.Connected.{IsPath}
 use Rattle.seam_theory.specs.Seams.{IsCheapest, IsPreferred}
 use Rattle.seam_theory.proofs.Along.{along-nil, along-cons, along-most}
-use Rattle.seam_theory.proofs.Nearby.{nearby-paths, nearby-paths-asc}
-use Rattle.seam_theory.proofs.Seams.{cheapest-is, cheapest-some}
+use Rattle.seam_theory.proofs.Nearby.{nearby-paths, nearby-paths_asc}
+use Rattle.seam_theory.proofs.Seams.{cheapest_is, cheapest-some}
 use Rattle.seam_theory.proofs.Marks.{allowed_is, allowed-none, unmarked}
 use Rattle.pictures.specs.Pictures.{Picture}
 use Rattle.energy.specs.declared.methods.Method.{Method}
@@ -51,17 +51,17 @@ untouching m q e t = omega (arith, touched m q t)
 module _ (how : Method) (w h : ℕ) (p : Picture) where
   -- The seam found without marks is the cheapest of all paths,
   pub seam-cheapest : (s : List ℕ) → (seam_up how w h p ≡ some s) ↔ IsCheapest (path_cost how w h p) (paths (nearby (wrap_of how) w) w h) s
-  seam-cheapest s = cheapest-is (energy how w h p 0) (step_of how w h p) (wrap_of how) w h s
+  seam-cheapest s = cheapest_is (energy how w h p 0) (step_of how w h p) (wrap_of how) w h s
 
-  listed-seam : (s : List ℕ) → IsCheapest (path_cost how w h p) (paths (nearby (wrap_of how) w) w h) s → IsSeam how w h p s
-  listed-seam s k = record {
+  listed_seam : (s : List ℕ) → IsCheapest (path_cost how w h p) (paths (nearby (wrap_of how) w) w h) s → IsSeam how w h p s
+  listed_seam s k = record {
     path = (nearby-paths (wrap_of how) w h s).0 k.member;
     cheap = λ t i. k.cheap t ((nearby-paths (wrap_of how) w h t).1 i);
     early = λ t i. k.early t ((nearby-paths (wrap_of how) w h t).1 i);
   }
 
-  seam-listed : (s : List ℕ) → IsSeam how w h p s → IsCheapest (path_cost how w h p) (paths (nearby (wrap_of how) w) w h) s
-  seam-listed s k = record {
+  seam_listed : (s : List ℕ) → IsSeam how w h p s → IsCheapest (path_cost how w h p) (paths (nearby (wrap_of how) w) w h) s
+  seam_listed s k = record {
     member = (nearby-paths (wrap_of how) w h s).1 k.path;
     cheap = λ t i. k.cheap t ((nearby-paths (wrap_of how) w h t).0 i);
     early = λ t i. k.early t ((nearby-paths (wrap_of how) w h t).0 i);
@@ -69,26 +69,26 @@ module _ (how : Method) (w h : ℕ) (p : Picture) where
 
   -- said without a list of them;
   pub seam_is : (s : List ℕ) → (seam_up how w h p ≡ some s) ↔ IsSeam how w h p s
-  seam_is s = (λ e. listed-seam s ((seam-cheapest s).0 e), λ k. (seam-cheapest s).1 (seam-listed s k))
+  seam_is s = (λ e. listed_seam s ((seam-cheapest s).0 e), λ k. (seam-cheapest s).1 (seam_listed s k))
 
   -- there is one,
   pub seam-some : 0 < w → 0 < h → (s : List ℕ) × (seam_up how w h p ≡ some s) × IsSeam how w h p s
   seam-some k l =
       let t = cheapest-some (energy how w h p 0) (step_of how w h p) (wrap_of how) w h k l in
-      (t.0, t.1, listed-seam t.0 t.2)
+      (t.0, t.1, listed_seam t.0 t.2)
 
   -- and only one.
-  pub seam-unique : (s t : List ℕ) → IsSeam how w h p s → IsSeam how w h p t → s ≡ t
-  seam-unique s t a b = some-injective s t (sym ((seam_is s).1 a) ∙ (seam_is t).1 b)
+  pub seam_unique : (s t : List ℕ) → IsSeam how w h p s → IsSeam how w h p t → s ≡ t
+  seam_unique s t a b = some-injective s t (sym ((seam_is s).1 a) ∙ (seam_is t).1 b)
 
 module _ (how : Method) (w h : ℕ) (p : Picture) (m : List (List ℕ)) where
   -- The seam found with marks is the preferred one of all paths that are allowed,
-  pub marked-preferred : (s : List ℕ) → (marked_up how w h p m ≡ some s)
+  pub marked_preferred : (s : List ℕ) → (marked_up how w h p m ≡ some s)
       ↔ IsPreferred (along (is_mark 1 m)) (along (is_mark 2 m)) (path_cost how w h p) (paths (nearby (wrap_of how) w) w h) s
-  marked-preferred s = allowed_is (along (is_mark 1 m)) (along (is_mark 2 m)) (path_cost how w h p) (paths (nearby (wrap_of how) w) w h) (nearby-paths-asc (wrap_of how) w h) s
+  marked_preferred s = allowed_is (along (is_mark 1 m)) (along (is_mark 2 m)) (path_cost how w h p) (paths (nearby (wrap_of how) w) w h) (nearby-paths_asc (wrap_of how) w h) s
 
-  listed-marked : (s : List ℕ) → IsPreferred (along (is_mark 1 m)) (along (is_mark 2 m)) (path_cost how w h p) (paths (nearby (wrap_of how) w) w h) s → IsMarkedSeam how w h p m s
-  listed-marked s k = record {
+  listed_marked : (s : List ℕ) → IsPreferred (along (is_mark 1 m)) (along (is_mark 2 m)) (path_cost how w h p) (paths (nearby (wrap_of how) w) w h) s → IsMarkedSeam how w h p m s
+  listed_marked s k = record {
     path = (nearby-paths (wrap_of how) w h s).0 k.member;
     free = untouching m s k.allowed;
     most = λ t i n. k.most t ((nearby-paths (wrap_of how) w h t).1 i) (untouched m t n);
@@ -96,8 +96,8 @@ module _ (how : Method) (w h : ℕ) (p : Picture) (m : List (List ℕ)) where
     early = λ t i n. k.early t ((nearby-paths (wrap_of how) w h t).1 i) (untouched m t n);
   }
 
-  marked-listed : (s : List ℕ) → IsMarkedSeam how w h p m s → IsPreferred (along (is_mark 1 m)) (along (is_mark 2 m)) (path_cost how w h p) (paths (nearby (wrap_of how) w) w h) s
-  marked-listed s k = record {
+  marked_listed : (s : List ℕ) → IsMarkedSeam how w h p m s → IsPreferred (along (is_mark 1 m)) (along (is_mark 2 m)) (path_cost how w h p) (paths (nearby (wrap_of how) w) w h) s
+  marked_listed s k = record {
     member = (nearby-paths (wrap_of how) w h s).1 k.path;
     allowed = untouched m s k.free;
     most = λ t i n. k.most t ((nearby-paths (wrap_of how) w h t).0 i) (untouching m t n);
@@ -106,16 +106,16 @@ module _ (how : Method) (w h : ℕ) (p : Picture) (m : List (List ℕ)) where
   }
 
   -- said without a list of them;
-  pub marked-is : (s : List ℕ) → (marked_up how w h p m ≡ some s) ↔ IsMarkedSeam how w h p m s
-  marked-is s = (λ e. listed-marked s ((marked-preferred s).0 e), λ k. (marked-preferred s).1 (marked-listed s k))
+  pub marked_is : (s : List ℕ) → (marked_up how w h p m ≡ some s) ↔ IsMarkedSeam how w h p m s
+  marked_is s = (λ e. listed_marked s ((marked_preferred s).0 e), λ k. (marked_preferred s).1 (marked_listed s k))
 
   -- there is only one,
-  pub marked-unique : (s t : List ℕ) → IsMarkedSeam how w h p m s → IsMarkedSeam how w h p m t → s ≡ t
-  marked-unique s t a b = some-injective s t (sym ((marked-is s).1 a) ∙ (marked-is t).1 b)
+  pub marked_unique : (s t : List ℕ) → IsMarkedSeam how w h p m s → IsMarkedSeam how w h p m t → s ≡ t
+  marked_unique s t a b = some-injective s t (sym ((marked_is s).1 a) ∙ (marked_is t).1 b)
 
   -- and none just where each path touches a protected pixel.
-  pub marked-none : (marked_up how w h p m ≡ none) ↔ ((q : List ℕ) → IsPath (wrap_of how) w h q → Touches m q)
-  marked-none = (
+  pub marked_none : (marked_up how w h p m ≡ none) ↔ ((q : List ℕ) → IsPath (wrap_of how) w h q → Touches m q)
+  marked_none = (
     λ e q i. touching m q (pos_of_ne-zero (all.0 e q ((nearby-paths (wrap_of how) w h q).1 i))),
     λ k. all.1 (λ q i a. untouching m q a (k q ((nearby-paths (wrap_of how) w h q).0 i))),
   )

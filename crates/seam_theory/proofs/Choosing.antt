@@ -11,7 +11,7 @@ use Rattle.grids.proofs.Shapes.{each_member, each-reverse}
 use Rattle.pictures.specs.Pictures.{Picture}
 use Rattle.energy.specs.declared.methods.Method.{Method}
 use Rattle.energy.specs.Methods.{wrap_of}
-use Rattle.seam_theory.specs.Best.{firstBest}
+use Rattle.seam_theory.specs.Best.{first_best}
 use Rattle.seam_theory.specs.Paths.{near, paths}
 use Rattle.seam_theory.specs.Connected.{linked, IsPath}
 use Rattle.seam_theory.proofs.Nearby.{near-both}
@@ -26,9 +26,9 @@ module _ (near : ℕ → ℕ → Bool) (symmetric : (c d : ℕ) → near c d ≡
   Meets (c ∷ s) [] = Unit
   Meets (c ∷ s) (d ∷ r) = near c d ≡ true
 
-  meets-end : (s : List ℕ) → Meets s []
-  meets-end [] = tt
-  meets-end (c ∷ s) = tt
+  meets_end : (s : List ℕ) → Meets s []
+  meets_end [] = tt
+  meets_end (c ∷ s) = tt
 
   linked-cons : (c : ℕ) (s r : List ℕ) → Meets (c ∷ s) r → linked near r ≡ true → linked near (c ∷ r) ≡ true
   linked-cons c s [] j e = refl
@@ -43,7 +43,7 @@ module _ (near : ℕ → ℕ → Bool) (symmetric : (c d : ℕ) → near c d ≡
 
   -- Connected from the bottom row is connected from the top row, where a step may go both ways.
   pub linked-reverse : (s : List ℕ) → linked near s ≡ true → linked near (reverse s) ≡ true
-  linked-reverse s e = linked-turned s [] e refl (meets-end s)
+  linked-reverse s e = linked-turned s [] e refl (meets_end s)
 
 -- A way to choose a path from the bottom row upward is, read from the top row, a way to choose a seam.
 pub paths_choose : {A : Type 0} (wrap : Bool) (up : Choice A)
@@ -62,9 +62,9 @@ paths_choose {A} wrap up path low = record { inside = inside; joined = joined }
     joined w (suc h) p l g = linked-reverse (near wrap w) (near-both wrap w) (up w (suc h) p) (path w (suc h) p l (omega arith) g).connected
 
 -- The seam of a picture is such a path.
-seam_path : (how : Method) (w h : ℕ) (p : Picture) → 0 < w → 0 < h → Grid w h p → IsPath (wrap_of how) w h (get_or (seam_up how w h p) [])
-seam_path how w h p k l g = let s = seam-some how w h p k l in rw s.1 s.2.path
+seam-path : (how : Method) (w h : ℕ) (p : Picture) → 0 < w → 0 < h → Grid w h p → IsPath (wrap_of how) w h (get_or (seam_up how w h p) [])
+seam-path how w h p k l g = let s = seam-some how w h p k l in rw s.1 s.2.path
 
 pub seam_chooses : (how : Method) → Chooses (near (wrap_of how)) (seam_of how)
-unfolding seam_of paths firstBest
-seam_chooses how = paths_choose (wrap_of how) (λ w h p. get_or (seam_up how w h p) []) (seam_path how) (λ w p. refl)
+unfolding seam_of paths first_best
+seam_chooses how = paths_choose (wrap_of how) (λ w h p. get_or (seam_up how w h p) []) (seam-path how) (λ w p. refl)

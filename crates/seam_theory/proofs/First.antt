@@ -5,11 +5,11 @@ use mathlib.Core.Bool.{Bool, true, false}
 use mathlib.Core.Option.{Option, none, some, none-ne-some}
 use mathlib.Core.List.Memᴰ
 use mathlib.Core.List.{List, [], ◌∷◌, ◌++◌, Memᴰ}
-use Rattle.seam_theory.specs.Best.{better, firstBest}
+use Rattle.seam_theory.specs.Best.{better, first_best}
 use Rattle.seam_theory.specs.Paths.{cons_if, select}
-use Rattle.seam_theory.proofs.Best.{better-left, better-right, better-none, best_none, best-mem}
-use Rattle.seam_theory.proofs.Ordered.{Order, le-self}
-use Rattle.seam_theory.proofs.Members.{of-select, nil-fails}
+use Rattle.seam_theory.proofs.Best.{better-left, better_right, better-none, best_none, best_mem}
+use Rattle.seam_theory.proofs.Ordered.{Order, le_self}
+use Rattle.seam_theory.proofs.Members.{of_select, nil_fails}
 
 module _ {A : Type 0} (le : A → A → Bool) where
   -- m stands in xs after worse ones and before no better ones.
@@ -24,24 +24,24 @@ module _ {A : Type 0} (le : A → A → Bool) where
   pub first-mem : {xs : List A} {m : A} → First xs m → Memᴰ m xs
   first-mem r = rw r.split (Memᴰ.append_right r.pre (Memᴰ.head refl))
 
-  head-best : (m : A) (post : List A) → ((x : A) → Memᴰ x post → le m x ≡ true) → firstBest le (m ∷ post) ≡ some m
-  unfolding firstBest
-  head-best m post after = go (firstBest le post) refl
+  head_best : (m : A) (post : List A) → ((x : A) → Memᴰ x post → le m x ≡ true) → first_best le (m ∷ post) ≡ some m
+  unfolding first_best
+  head_best m post after = go (first_best le post) refl
     where
-      go : (o : Option A) → firstBest le post ≡ o → better le (some m) o ≡ some m
+      go : (o : Option A) → first_best le post ≡ o → better le (some m) o ≡ some m
       go none e = better-none le (some m)
-      go (some y) e = better-left le m y (after y (best-mem le post y e))
+      go (some y) e = better-left le m y (after y (best_mem le post y e))
 
-  later-best : (pre : List A) (m : A) (post : List A)
-      → ((x : A) → Memᴰ x pre → le x m ≡ false) → ((x : A) → Memᴰ x post → le m x ≡ true) → firstBest le (pre ++ m ∷ post) ≡ some m
-  unfolding firstBest
-  later-best [] m post before after = head-best m post after
-  later-best (x ∷ pre) m post before after =
-      rw (later-best pre m post (λ y i. before y (Memᴰ.tail i)) after) (better-right le x m (before x (Memᴰ.head refl)))
+  later_best : (pre : List A) (m : A) (post : List A)
+      → ((x : A) → Memᴰ x pre → le x m ≡ false) → ((x : A) → Memᴰ x post → le m x ≡ true) → first_best le (pre ++ m ∷ post) ≡ some m
+  unfolding first_best
+  later_best [] m post before after = head_best m post after
+  later_best (x ∷ pre) m post before after =
+      rw (later_best pre m post (λ y i. before y (Memᴰ.tail i)) after) (better_right le x m (before x (Memᴰ.head refl)))
 
   -- The element of that place is the first best.
-  pub first-best : (xs : List A) (m : A) → First xs m → firstBest le xs ≡ some m
-  first-best xs m r = rw r.split (later-best r.pre m r.post r.before r.after)
+  pub first_best_lem : (xs : List A) (m : A) → First xs m → first_best le xs ≡ some m
+  first_best_lem xs m r = rw r.split (later_best r.pre m r.post r.before r.after)
 
   module _ (order : Order le) where
     -- It is at least as good as every element.
@@ -49,14 +49,14 @@ module _ {A : Type 0} (le : A → A → Bool) where
     first-le {m} r x i =
         ⊎_elim
         (λ j. order.total x m (r.before x j))
-        (λ j. ⊎_elim (λ e. rw e (le-self le order m)) (r.after x) (Memᴰ.cases_cons j))
+        (λ j. ⊎_elim (λ e. rw e (le_self le order m)) (r.after x) (Memᴰ.cases_cons j))
         (Memᴰ.append_cases r.pre (rw r.split at i))
 
     -- The first best element stands in that place.
-    pub best-first : (xs : List A) (m : A) → firstBest le xs ≡ some m → First xs m
-    unfolding firstBest
+    pub best-first : (xs : List A) (m : A) → first_best le xs ≡ some m → First xs m
+    unfolding first_best
     best-first [] m e = absurd (none-ne-some m e)
-    best-first (x ∷ xs) m e = go (best-first xs) (firstBest le xs) refl e
+    best-first (x ∷ xs) m e = go (best-first xs) (first_best le xs) refl e
       where
         kept : ((z : A) → Memᴰ z xs → le x z ≡ true) → First (x ∷ xs) x
         kept l = record { pre = []; post = xs; split = refl; before = λ z i. absurd (Memᴰ.not-nil i); after = l }
@@ -72,9 +72,9 @@ module _ {A : Type 0} (le : A → A → Bool) where
 
         one : (y : A) → First xs y → (t : Bool) → le x y ≡ t → better le (some x) (some y) ≡ some m → First (x ∷ xs) m
         one y r true l q = subst (First (x ∷ xs)) (cc (better-left le x y l)) (kept (λ z i. order.trans x y z l (first-le r z i)))
-        one y r false l q = subst (First (x ∷ xs)) (cc (better-right le x y l)) (passed y r l)
+        one y r false l q = subst (First (x ∷ xs)) (cc (better_right le x y l)) (passed y r l)
 
-        go : ((y : A) → firstBest le xs ≡ some y → First xs y) → (o : Option A) → firstBest le xs ≡ o → better le (some x) o ≡ some m → First (x ∷ xs) m
+        go : ((y : A) → first_best le xs ≡ some y → First xs y) → (o : Option A) → first_best le xs ≡ o → better le (some x) o ≡ some m → First (x ∷ xs) m
         go ih none r q = subst (First (x ∷ xs)) (cc (better-none le (some x))) (kept (λ z i. absurd (Memᴰ.not-nil (rw ((best_none le xs).0 r) at i))))
         go ih (some y) r q = one y (ih y r) (le x y) refl q
 
@@ -82,25 +82,25 @@ module _ {A : Type 0} (le : A → A → Bool) where
 -- best of all.
 pub best_select : {A : Type 0} (le : A → A → Bool) (t : A → Bool) (xs : List A)
     → ((x y : A) → Memᴰ x xs → Memᴰ y xs → t x ≡ true → t y ≡ false → (le x y ≡ true) × (le y x ≡ false))
-    → (s : A) → firstBest le (select t xs) ≡ some s → firstBest le xs ≡ some s
-unfolding firstBest select
+    → (s : A) → first_best le (select t xs) ≡ some s → first_best le xs ≡ some s
+unfolding first_best select
 best_select le t [] h s e = e
 best_select {A} le t (x ∷ xs) h s e = go (best_select le t xs (λ y z i j. h y z (Memᴰ.tail i) (Memᴰ.tail j))) (t x) refl e
   where
-    first : (o : Option A) → firstBest le xs ≡ o → t x ≡ true → select t xs ≡ [] → better le (some x) o ≡ some x
+    first : (o : Option A) → first_best le xs ≡ o → t x ≡ true → select t xs ≡ [] → better le (some x) o ≡ some x
     first none r p n = better-none le (some x)
     first (some y) r p n =
-        let i = best-mem le xs y r in
-        better-left le x y (h x y (Memᴰ.head refl) (Memᴰ.tail i) p (nil-fails t xs n y i)).0
+        let i = best_mem le xs y r in
+        better-left le x y (h x y (Memᴰ.head refl) (Memᴰ.tail i) p (nil_fails t xs n y i)).0
 
-    pass : ((y : A) → firstBest le (select t xs) ≡ some y → firstBest le xs ≡ some y) → t x ≡ true
-        → (o : Option A) → firstBest le (select t xs) ≡ o → better le (some x) o ≡ some s → better le (some x) (firstBest le xs) ≡ some s
-    pass ih p none r q = first (firstBest le xs) refl p ((best_none le (select t xs)).0 r) ∙ sym (better-none le (some x)) ∙ q
+    pass : ((y : A) → first_best le (select t xs) ≡ some y → first_best le xs ≡ some y) → t x ≡ true
+        → (o : Option A) → first_best le (select t xs) ≡ o → better le (some x) o ≡ some s → better le (some x) (first_best le xs) ≡ some s
+    pass ih p none r q = first (first_best le xs) refl p ((best_none le (select t xs)).0 r) ∙ sym (better-none le (some x)) ∙ q
     pass ih p (some y) r q = rw (ih y r) q
 
-    go : ((y : A) → firstBest le (select t xs) ≡ some y → firstBest le xs ≡ some y)
-        → (b : Bool) → t x ≡ b → firstBest le (cons_if b x (select t xs)) ≡ some s → better le (some x) (firstBest le xs) ≡ some s
-    go ih true p q = pass ih p (firstBest le (select t xs)) refl q
+    go : ((y : A) → first_best le (select t xs) ≡ some y → first_best le xs ≡ some y)
+        → (b : Bool) → t x ≡ b → first_best le (cons_if b x (select t xs)) ≡ some s → better le (some x) (first_best le xs) ≡ some s
+    go ih true p q = pass ih p (first_best le (select t xs)) refl q
     go ih false p q =
-        let m = of-select t xs s (best-mem le (select t xs) s q) in
-        rw (ih s q) (better-right le x s (h s x (Memᴰ.tail m.0) (Memᴰ.head refl) m.1 p).1)
+        let m = of_select t xs s (best_mem le (select t xs) s q) in
+        rw (ih s q) (better_right le x s (h s x (Memᴰ.tail m.0) (Memᴰ.head refl) m.1 p).1)

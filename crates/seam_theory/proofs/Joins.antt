@@ -11,7 +11,7 @@ use Rattle.grids.proofs.Bools.{both}
 use Rattle.grids.proofs.Orders.{le-or-lt}
 use Rattle.seam_theory.specs.Paths.{near}
 use Rattle.seam_theory.specs.Sums.{joined_at}
-use Rattle.seam_theory.proofs.Nearby.{Joins, near-is}
+use Rattle.seam_theory.proofs.Nearby.{Joins, near_is}
 
 -- Column a is left of c, is c, is right of c, or is at the other end of the row.
 pub data Near (join : Bool) (w c a : ℕ) : Type 0 where
@@ -32,7 +32,7 @@ module _ (wrap : Bool) (w : ℕ) where
   module _ (c a : ℕ) where
     -- These are all ways in which columns are near.
     pub near-cases : c < w → a < w → near wrap w c a ≡ true → Near (joined_at wrap w) w c a
-    near-cases h k e = ⊎_elim (λ d. over d.1 d.0) (λ d. besides d.0 d.1) ((near-is wrap w c a).0 e)
+    near-cases h k e = ⊎_elim (λ d. over d.1 d.0) (λ d. besides d.0 d.1) ((near_is wrap w c a).0 e)
       where
         besides : a ≤ c + 1 → c ≤ a + 1 → Near (joined_at wrap w) w c a
         besides p q =
@@ -48,8 +48,8 @@ module _ (wrap : Bool) (w : ℕ) where
 
     -- Columns beside each other are near,
     pub near-beside : a ≤ c + 1 → c ≤ a + 1 → near wrap w c a ≡ true
-    near-beside p q = (near-is wrap w c a).1 (inr (p, q))
+    near-beside p q = (near_is wrap w c a).1 (inr (p, q))
 
     -- and so are the ends of a row where the join counts.
     pub near-over : joined_at wrap w ≡ true → Joins w c a → near wrap w c a ≡ true
-    near-over j d = (near-is wrap w c a).1 (inl ((joined_is j).0, d))
+    near-over j d = (near_is wrap w c a).1 (inl ((joined_is j).0, d))

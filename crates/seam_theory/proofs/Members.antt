@@ -29,26 +29,26 @@ run-append lo (suc m) n = rw (suc-add m n) (ap (lo ∷◌) (run-append (suc lo) 
 
 module _ {A B : Type 0} (g : A → List B) where
   -- A member of a flat_map is one of g a for a member a.
-  pub of-flatMap : {b : B} (xs : List A) → Memᴰ b (flat_map g xs) → (a : A) × Memᴰ a xs × Memᴰ b (g a)
+  pub of_flat_map : {b : B} (xs : List A) → Memᴰ b (flat_map g xs) → (a : A) × Memᴰ a xs × Memᴰ b (g a)
   unfolding flat_map
-  of-flatMap [] m = absurd (Memᴰ.not-nil m)
-  of-flatMap {b} (a ∷ xs) m = ⊎_elim (λ i. (a, Memᴰ.head refl, i)) (λ i. later (of-flatMap xs i)) (Memᴰ.append_cases (g a) m)
+  of_flat_map [] m = absurd (Memᴰ.not-nil m)
+  of_flat_map {b} (a ∷ xs) m = ⊎_elim (λ i. (a, Memᴰ.head refl, i)) (λ i. later (of_flat_map xs i)) (Memᴰ.append_cases (g a) m)
     where
       later : (c : A) × Memᴰ c xs × Memᴰ b (g c) → (c : A) × Memᴰ c (a ∷ xs) × Memᴰ b (g c)
       later t = (t.0, Memᴰ.tail t.1, t.2)
 
   -- And each such is a member.
-  pub in-flatMap : {b : B} {a : A} {xs : List A} → Memᴰ a xs → Memᴰ b (g a) → Memᴰ b (flat_map g xs)
+  pub in_flat_map : {b : B} {a : A} {xs : List A} → Memᴰ a xs → Memᴰ b (g a) → Memᴰ b (flat_map g xs)
   unfolding flat_map
-  in-flatMap (Memᴰ.head {xs = rest} e) i = Memᴰ.append_left (flat_map g rest) (rw e at i)
-  in-flatMap (Memᴰ.tail {x = x} m) i = Memᴰ.append_right (g x) (in-flatMap m i)
+  in_flat_map (Memᴰ.head {xs = rest} e) i = Memᴰ.append_left (flat_map g rest) (rw e at i)
+  in_flat_map (Memᴰ.tail {x = x} m) i = Memᴰ.append_right (g x) (in_flat_map m i)
 
 module _ {A : Type 0} (t : A → Bool) where
   -- A selection has members that pass the test.
-  pub of-select : (xs : List A) (a : A) → Memᴰ a (select t xs) → Memᴰ a xs × (t a ≡ true)
+  pub of_select : (xs : List A) (a : A) → Memᴰ a (select t xs) → Memᴰ a xs × (t a ≡ true)
   unfolding select
-  of-select [] a m = absurd (Memᴰ.not-nil m)
-  of-select (x ∷ xs) a m = go (of-select xs a) (t x) refl m
+  of_select [] a m = absurd (Memᴰ.not-nil m)
+  of_select (x ∷ xs) a m = go (of_select xs a) (t x) refl m
     where
       later : Memᴰ a xs × (t a ≡ true) → Memᴰ a (x ∷ xs) × (t a ≡ true)
       later r = (Memᴰ.tail r.0, r.1)
@@ -59,10 +59,10 @@ module _ {A : Type 0} (t : A → Bool) where
       go ih false e m = later (ih m)
 
   -- It has all of these.
-  pub in-select : (xs : List A) (a : A) → Memᴰ a xs → t a ≡ true → Memᴰ a (select t xs)
+  pub in_select : (xs : List A) (a : A) → Memᴰ a xs → t a ≡ true → Memᴰ a (select t xs)
   unfolding select
-  in-select [] a m e = absurd (Memᴰ.not-nil m)
-  in-select (x ∷ xs) a m e = ⊎_elim (λ q. let b : t x ≡ true = cc in rw b (Memᴰ.head q)) (λ i. go (t x) (in-select xs a i e)) (Memᴰ.cases_cons m)
+  in_select [] a m e = absurd (Memᴰ.not-nil m)
+  in_select (x ∷ xs) a m e = ⊎_elim (λ q. let b : t x ≡ true = cc in rw b (Memᴰ.head q)) (λ i. go (t x) (in_select xs a i e)) (Memᴰ.cases_cons m)
     where
       go : (b : Bool) → Memᴰ a (select t xs) → Memᴰ a (cons_if b x (select t xs))
       go true i = Memᴰ.tail i
@@ -91,9 +91,9 @@ module _ {A : Type 0} (t : A → Bool) where
   select-none (x ∷ xs) h = rw (h x (Memᴰ.head refl), select-none xs (λ y i. h y (Memᴰ.tail i)))
 
   -- Where none is selected, all failed.
-  pub nil-fails : (xs : List A) → select t xs ≡ [] → (x : A) → Memᴰ x xs → t x ≡ false
-  nil-fails xs e x i = go (t x) refl
+  pub nil_fails : (xs : List A) → select t xs ≡ [] → (x : A) → Memᴰ x xs → t x ≡ false
+  nil_fails xs e x i = go (t x) refl
     where
       go : (b : Bool) → t x ≡ b → t x ≡ false
-      go true p = absurd (Memᴰ.not-nil (rw e at (in-select xs x i p)))
+      go true p = absurd (Memᴰ.not-nil (rw e at (in_select xs x i p)))
       go false p = p

@@ -9,11 +9,11 @@ use native.Mathlib.Omega.{arith}
 use lib.Dec.{leb, eqb}
 use borrow.Author.Tests.{leb-true, le-leb, eqb-true, eq-eqb}
 use Rattle.grids.proofs.Bools.{both, and_both, either, or_left, or_right}
-use Rattle.seam_theory.specs.Paths.{run, pathsUp, paths, beside, joins, near, nearby}
+use Rattle.seam_theory.specs.Paths.{run, paths_up, paths, beside, joins, near, nearby}
 use Rattle.seam_theory.specs.Connected.{linked, IsPath}
 use Rattle.seam_theory.specs.Seams.{Before, Ascending}
-use Rattle.seam_theory.proofs.Members.{of_run, in_run, in-flatMap, of-select, in-select}
-use Rattle.seam_theory.proofs.Ascending.{run_asc, asc-select}
+use Rattle.seam_theory.proofs.Members.{of_run, in_run, in_flat_map, of_select, in_select}
+use Rattle.seam_theory.proofs.Ascending.{run_asc, asc_select}
 use Rattle.seam_theory.proofs.Listed.{Joined, Connected, paths-connected, paths-asc}
 
 -- Columns beside each other, as inequations.
@@ -41,13 +41,13 @@ joins_is w c a = (
 )
 
 -- Without the join, near is beside.
-pub near_plain : (w : ℕ) → near false w ≡ beside
-near_plain w = refl
+pub near-plain : (w : ℕ) → near false w ≡ beside
+near-plain w = refl
 
 module _ (wrap : Bool) (w : ℕ) where
   -- Columns that are near each other.
-  pub near-is : (c a : ℕ) → (near wrap w c a ≡ true) ↔ (((wrap ≡ true) × Joins w c a) ⊎ ((a ≤ c + 1) × (c ≤ a + 1)))
-  near-is c a = (
+  pub near_is : (c a : ℕ) → (near wrap w c a ≡ true) ↔ (((wrap ≡ true) × Joins w c a) ⊎ ((a ≤ c + 1) × (c ≤ a + 1)))
+  near_is c a = (
     λ e. ⊎_elim
         (λ d. let b = both wrap (joins w c a) d in inl (b.0, (joins_is w c a).0 b.1))
         (λ d. inr ((beside_is c a).0 d))
@@ -59,7 +59,7 @@ module _ (wrap : Bool) (w : ℕ) where
 
   -- A step may go both ways.
   pub near-both : (c a : ℕ) → near wrap w c a ≡ true → near wrap w a c ≡ true
-  near-both c a e = (near-is a c).1 (turned ((near-is c a).0 e))
+  near-both c a e = (near_is a c).1 (turned ((near_is c a).0 e))
     where
       turned : ((wrap ≡ true) × Joins w c a) ⊎ ((a ≤ c + 1) × (c ≤ a + 1)) → ((wrap ≡ true) × Joins w a c) ⊎ ((c ≤ a + 1) × (a ≤ c + 1))
       turned (inl (y, inl d)) = inl (y, inr d)
@@ -70,22 +70,22 @@ module _ (wrap : Bool) (w : ℕ) where
   pub nearby-mem : (c a : ℕ) → Memᴰ a (nearby wrap w c) ↔ ((a < w) × (near wrap w c a ≡ true))
   unfolding nearby
   nearby-mem c a = (
-    λ m. let r = of-select (near wrap w c) (run 0 w) a m in (omega (arith, of_run 0 w a r.0), r.1),
-    λ k. in-select (near wrap w c) (run 0 w) a (in_run 0 w a (omega arith) (omega arith)) k.1,
+    λ m. let r = of_select (near wrap w c) (run 0 w) a m in (omega (arith, of_run 0 w a r.0), r.1),
+    λ k. in_select (near wrap w c) (run 0 w) a (in_run 0 w a (omega arith) (omega arith)) k.1,
   )
 
   -- A column is nearby itself.
-  pub nearby-self : (c : ℕ) → c < w → Memᴰ c (nearby wrap w c)
-  nearby-self c h = (nearby-mem c c).1 (h, (near-is c c).1 (inr (omega arith, omega arith)))
+  pub nearby_self : (c : ℕ) → c < w → Memᴰ c (nearby wrap w c)
+  nearby_self c h = (nearby-mem c c).1 (h, (near_is c c).1 (inr (omega arith, omega arith)))
 
   -- They are columns of the grid.
-  pub nearby-stay : (c a : ℕ) → c < w → Memᴰ a (nearby wrap w c) → a < w
-  nearby-stay c a h m = ((nearby-mem c a).0 m).0
+  pub nearby_stay : (c a : ℕ) → c < w → Memᴰ a (nearby wrap w c) → a < w
+  nearby_stay c a h m = ((nearby-mem c a).0 m).0
 
   -- They ascend.
-  pub nearby-asc : (c : ℕ) → Ascending ◌<◌ (nearby wrap w c)
+  pub nearby_asc : (c : ℕ) → Ascending ◌<◌ (nearby wrap w c)
   unfolding nearby
-  nearby-asc c = asc-select ◌<◌ (near wrap w c) (run 0 w) (run_asc 0 w)
+  nearby_asc c = asc_select ◌<◌ (near wrap w c) (run 0 w) (run_asc 0 w)
 
   joined-linked : (p : List ℕ) → Joined (nearby wrap w) p → linked (near wrap w) p ≡ true
   joined-linked [] j = refl
@@ -106,7 +106,7 @@ module _ (wrap : Bool) (w : ℕ) where
   nearby-paths h [] = (λ m. absurd (all.0 m).joined, λ k. absurd (omega (arith, k.some, k.size)))
     where
       all : Memᴰ [] (paths (nearby wrap w) w h) ↔ Connected (nearby wrap w) w h []
-      all = paths-connected (nearby wrap w) w nearby-stay h []
+      all = paths-connected (nearby wrap w) w nearby_stay h []
   nearby-paths h (c ∷ p) = (
     λ m. let k = all.0 m in record {
       some = omega (arith, k.size);
@@ -118,18 +118,18 @@ module _ (wrap : Bool) (w : ℕ) where
   )
     where
       all : Memᴰ (c ∷ p) (paths (nearby wrap w) w h) ↔ Connected (nearby wrap w) w h (c ∷ p)
-      all = paths-connected (nearby wrap w) w nearby-stay h (c ∷ p)
+      all = paths-connected (nearby wrap w) w nearby_stay h (c ∷ p)
 
   -- They are listed in dictionary order, each once.
-  pub nearby-paths-asc : (h : ℕ) → Ascending Before (paths (nearby wrap w) w h)
-  nearby-paths-asc h = paths-asc (nearby wrap w) nearby-asc w h
+  pub nearby-paths_asc : (h : ℕ) → Ascending Before (paths (nearby wrap w) w h)
+  nearby-paths_asc h = paths-asc (nearby wrap w) nearby_asc w h
 
-  straight : (i c : ℕ) → c < w → (p : List ℕ) × Memᴰ p (pathsUp (nearby wrap w) i c)
-  unfolding pathsUp
+  straight : (i c : ℕ) → c < w → (p : List ℕ) × Memᴰ p (paths_up (nearby wrap w) i c)
+  unfolding paths_up
   straight zero c h = (c ∷ [], Memᴰ.head refl)
   straight (suc i) c h =
       let t = straight i c h in
-      (c ∷ t.0, Memᴰ.map (c ∷◌) (in-flatMap (pathsUp (nearby wrap w) i) (nearby-self c h) t.1))
+      (c ∷ t.0, Memᴰ.map (c ∷◌) (in_flat_map (paths_up (nearby wrap w) i) (nearby_self c h) t.1))
 
   -- There is a path, the straight one.
   pub some-path : (h : ℕ) → 0 < w → 0 < h → (p : List ℕ) × Memᴰ p (paths (nearby wrap w) w h)
@@ -137,4 +137,4 @@ module _ (wrap : Bool) (w : ℕ) where
   some-path zero k l = absurd (omega arith)
   some-path (suc i) k l =
       let t = straight i 0 k in
-      (t.0, in-flatMap (pathsUp (nearby wrap w) i) (in_run 0 w 0 (omega arith) (omega arith)) t.1)
+      (t.0, in_flat_map (paths_up (nearby wrap w) i) (in_run 0 w 0 (omega arith) (omega arith)) t.1)

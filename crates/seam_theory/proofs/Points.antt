@@ -6,8 +6,8 @@ use mathlib.Core.Option.{Option, some, map}
 use mathlib.Core.List.{List, [], ◌∷◌, flat_map}
 use Prim.Native.Nat.{ℕ}
 use lib.ListN.{get_or}
-use Rattle.seam_theory.specs.Best.{better, firstBest}
-use Rattle.seam_theory.specs.Paths.{run, select, pathsUp, paths, cost, along, beside, joins, nearby}
+use Rattle.seam_theory.specs.Best.{better, first_best}
+use Rattle.seam_theory.specs.Paths.{run, select, paths_up, paths, cost, along, beside, joins, nearby}
 use Rattle.seam_theory.specs.Seams.{cheapest}
 
 abbrev weights : ℕ → ℕ → ℕ
@@ -19,26 +19,26 @@ path wrap = cheapest (nearby wrap 3) (weights 0) (λ i a c. weights i c) 3 3
 
 -- It steps across the join between the first row and the second,
 pub joined-path : path true ≡ some (2 ∷ 2 ∷ 0 ∷ [])
-unfolding paths pathsUp cost nearby beside joins select run better firstBest flat_map
+unfolding paths paths_up cost nearby beside joins select run better first_best flat_map
 joined-path = refl
 
 pub joined-sum : map (along weights) (path true) ≡ some 3
-unfolding paths pathsUp cost nearby beside joins select run better firstBest flat_map
+unfolding paths paths_up cost nearby beside joins select run better first_best flat_map
 joined-sum = refl
 
 -- and goes the dearer way without it.
-pub plain_path : path false ≡ some (2 ∷ 1 ∷ 0 ∷ [])
-unfolding paths pathsUp cost nearby beside select run better firstBest flat_map
-plain_path = refl
+pub plain-path : path false ≡ some (2 ∷ 1 ∷ 0 ∷ [])
+unfolding paths paths_up cost nearby beside select run better first_best flat_map
+plain-path = refl
 
-pub plain_sum : map (along weights) (path false) ≡ some 4
-unfolding paths pathsUp cost nearby beside select run better firstBest flat_map
-plain_sum = refl
+pub plain-sum : map (along weights) (path false) ≡ some 4
+unfolding paths paths_up cost nearby beside select run better first_best flat_map
+plain-sum = refl
 
 -- Of two columns each is beside the other, and a single one is beside itself: the join adds nothing.
-pub joined_two : (nearby true 2 0 ≡ 0 ∷ 1 ∷ []) × (nearby true 2 1 ≡ 0 ∷ 1 ∷ []) × (nearby true 1 0 ≡ 0 ∷ [])
+pub joined-two : (nearby true 2 0 ≡ 0 ∷ 1 ∷ []) × (nearby true 2 1 ≡ 0 ∷ 1 ∷ []) × (nearby true 1 0 ≡ 0 ∷ [])
 unfolding nearby beside joins select run
-joined_two = (refl, refl, refl)
+joined-two = (refl, refl, refl)
 
 -- Of five the ends are near each other, and the columns ascend.
 pub joined_five : (nearby true 5 0 ≡ 0 ∷ 1 ∷ 4 ∷ []) × (nearby true 5 4 ≡ 0 ∷ 3 ∷ 4 ∷ []) × (nearby false 5 0 ≡ 0 ∷ 1 ∷ [])

@@ -9,13 +9,13 @@ use native.Mathlib.Omega.{arith}
 use lib.ListN.{get_or}
 use Rattle.grids.specs.Table.{table}
 use Rattle.grids.proofs.Tables.{table_at}
-use Rattle.seam_theory.specs.Best.{better, firstBest, least}
-use Rattle.seam_theory.specs.Paths.{run, pathsUp, paths, cost}
+use Rattle.seam_theory.specs.Best.{better, first_best, least}
+use Rattle.seam_theory.specs.Paths.{run, paths_up, paths, cost}
 use Rattle.seam_theory.specs.Seams.{cheapest}
-use Rattle.seam_theory.proofs.Best.{bestOf-same, bestOf-map, best-some, best-mem}
-use Rattle.seam_theory.proofs.Least.{byCost, least-flatMap, least-map, least_shift, least-same}
+use Rattle.seam_theory.proofs.Best.{best_of-same, best_of-map, best_some, best_mem}
+use Rattle.seam_theory.proofs.Least.{by_cost, least_flat_map, least-map, least_shift, least-same}
 use Rattle.seam_theory.proofs.Members.{of_run, in_run}
-use Rattle.seam_theory.proofs.Listed.{Starts, starts, starts_more, cost_more}
+use Rattle.seam_theory.proofs.Listed.{Starts, starts, starts_more, cost-more}
 
 -- The first of several columns at which f is least; c where there is none.
 unfoldable pub least_in : List ℕ → (ℕ → ℕ) → ℕ → ℕ
@@ -46,12 +46,12 @@ module _ (above : ℕ → List ℕ) (step : ℕ → ℕ → ℕ → ℕ) where
   module _ (w : ℕ) (n : Neighbours above w) where
     pub from-least : (s : List ℕ) (i c : ℕ) → c < w → least (through s i c) (above c) ≡ some (from s i c)
     from-least s i c h =
-        let t = best-some (byCost (through s i c)) (above c) c (n.self c h) in
+        let t = best_some (by_cost (through s i c)) (above c) c (n.self c h) in
         t.1 ∙ ap some (sym (least_in_is (above c) (through s i c) c t.0 t.1))
 
     -- That column is one of those above, so of the grid.
     pub from-mem : (s : List ℕ) (i c : ℕ) → c < w → Memᴰ (from s i c) (above c)
-    from-mem s i c h = best-mem (byCost (through s i c)) (above c) (from s i c) (from-least s i c h)
+    from-mem s i c h = best_mem (by_cost (through s i c)) (above c) (from s i c) (from-least s i c h)
 
     pub from-within : (s : List ℕ) (i c : ℕ) → c < w → from s i c < w
     from-within s i c h = n.stay c (from s i c) h (from-mem s i c h)
@@ -72,14 +72,14 @@ module _ (above : ℕ → List ℕ) (first : ℕ → ℕ) (step : ℕ → ℕ �
   bottom i = Option.get_or (least (λ c. get_or (sums i) c 0) (run 0 w)) 0
 
   -- Each sum of the first row.
-  pub first-at : (c : ℕ) → c < w → get_or (sums 0) c 0 ≡ first c
+  pub first_at : (c : ℕ) → c < w → get_or (sums 0) c 0 ≡ first c
   unfolding sums
-  first-at c h = table_at first w c 0 h
+  first_at c h = table_at first w c 0 h
 
   -- Each sum of the row after row i.
-  pub next-at : (i c : ℕ) → c < w → get_or (sums (suc i)) c 0 ≡ sum_at above step (sums i) (suc i) c
+  pub next_at : (i c : ℕ) → c < w → get_or (sums (suc i)) c 0 ≡ sum_at above step (sums i) (suc i) c
   unfolding sums
-  next-at i c h = table_at (sum_at above step (sums i) (suc i)) w c 0 h
+  next_at i c h = table_at (sum_at above step (sums i) (suc i)) w c 0 h
 
   -- The way back starts at its column and has one column for each row.
   pub traced : (i c : ℕ) → Starts i c (trace i c)
@@ -89,29 +89,29 @@ module _ (above : ℕ → List ℕ) (first : ℕ → ℕ) (step : ℕ → ℕ �
 
   -- What the rows hold at a column: the best path from it, and its cost.
   record Holds (i c : ℕ) : Type 0 where
-    path : least (cost first step) (pathsUp above i c) ≡ some (trace i c)
+    path : least (cost first step) (paths_up above i c) ≡ some (trace i c)
     sum : cost first step (trace i c) ≡ get_or (sums i) c 0
 
   step-cost : (i a c : ℕ) → Holds i a → cost first step (c ∷ trace i a) ≡ through above step (sums i) (suc i) c a
-  step-cost i a c k = cost_more first step i a c (trace i a) (traced i a) ∙ ap (λ n. n + step (suc i) a c) k.sum
+  step-cost i a c k = cost-more first step i a c (trace i a) (traced i a) ∙ ap (λ n. n + step (suc i) a c) k.sum
 
   -- The best of the paths from several columns of row i, by a cost f that orders those of each column as the cost does.
-  best-trace : (f : List ℕ → ℕ) (g : ℕ → ℕ) (i : ℕ) (cs : List ℕ)
-      → ((c : ℕ) → Memᴰ c cs → least f (pathsUp above i c) ≡ some (trace i c))
+  best_trace : (f : List ℕ → ℕ) (g : ℕ → ℕ) (i : ℕ) (cs : List ℕ)
+      → ((c : ℕ) → Memᴰ c cs → least f (paths_up above i c) ≡ some (trace i c))
       → ((c : ℕ) → Memᴰ c cs → f (trace i c) ≡ g c)
-      → least f (flat_map (pathsUp above i) cs) ≡ map (trace i) (least g cs)
-  best-trace f g i cs p q =
-      least-flatMap f (pathsUp above i) cs
-      ∙ bestOf-same (byCost f) _ (λ c. some (trace i c)) cs p
-      ∙ bestOf-map (trace i) (byCost f) cs
+      → least f (flat_map (paths_up above i) cs) ≡ map (trace i) (least g cs)
+  best_trace f g i cs p q =
+      least_flat_map f (paths_up above i) cs
+      ∙ best_of-same (by_cost f) _ (λ c. some (trace i c)) cs p
+      ∙ best_of-map (trace i) (by_cost f) cs
       ∙ ap (map (trace i)) (least-same (λ c. f (trace i c)) g cs q)
 
   module _ (n : Neighbours above w) where
     holds-next : (i c : ℕ) → c < w → ((a : ℕ) → a < w → Holds i a) → Holds (suc i) c
-    unfolding pathsUp trace
+    unfolding paths_up trace
     holds-next i c h ih = record {
       path = least-map (c ∷◌) (cost first step) _ ∙ ap (map (c ∷◌)) row;
-      sum = step-cost i a c (ih a (from-within above step w n (sums i) (suc i) c h)) ∙ sym (next-at i c h);
+      sum = step-cost i a c (ih a (from-within above step w n (sums i) (suc i) c h)) ∙ sym (next_at i c h);
     }
       where
         f : ℕ → ℕ
@@ -123,17 +123,17 @@ module _ (above : ℕ → List ℕ) (first : ℕ → ℕ) (step : ℕ → ℕ �
         held : (b : ℕ) → Memᴰ b (above c) → Holds i b
         held b m = ih b (n.stay c b h m)
 
-        row : least (λ p. cost first step (c ∷ p)) (flat_map (pathsUp above i) (above c)) ≡ some (trace i a)
+        row : least (λ p. cost first step (c ∷ p)) (flat_map (paths_up above i) (above c)) ≡ some (trace i a)
         row =
-            best-trace (λ p. cost first step (c ∷ p)) f i (above c)
-            (λ b m. least_shift (λ p. cost first step (c ∷ p)) (cost first step) (step (suc i) b c) (pathsUp above i b)
-            (λ p j. cost_more first step i b c p (starts above i b p j)) ∙ (held b m).path)
+            best_trace (λ p. cost first step (c ∷ p)) f i (above c)
+            (λ b m. least_shift (λ p. cost first step (c ∷ p)) (cost first step) (step (suc i) b c) (paths_up above i b)
+            (λ p j. cost-more first step i b c p (starts above i b p j)) ∙ (held b m).path)
             (λ b m. step-cost i b c (held b m))
             ∙ ap (map (trace i)) (from-least above step w n (sums i) (suc i) c h)
 
     holds : (i c : ℕ) → c < w → Holds i c
-    unfolding pathsUp trace cost firstBest better
-    holds zero c h = record { path = refl; sum = sym (first-at c h) }
+    unfolding paths_up trace cost first_best better
+    holds zero c h = record { path = refl; sum = sym (first_at c h) }
     holds (suc i) c h = holds-next i c h (holds i)
 
     -- A sum is the cost of the way back from its column.
@@ -144,14 +144,14 @@ module _ (above : ℕ → List ℕ) (first : ℕ → ℕ) (step : ℕ → ℕ �
     pub bottom-least : 0 < w → (i : ℕ) → least (λ c. get_or (sums i) c 0) (run 0 w) ≡ some (bottom i)
     unfolding bottom
     bottom-least h i =
-        let t = best-some (byCost (λ c. get_or (sums i) c 0)) (run 0 w) 0 (in_run 0 w 0 (omega arith) (omega arith)) in
+        let t = best_some (by_cost (λ c. get_or (sums i) c 0)) (run 0 w) 0 (in_run 0 w 0 (omega arith) (omega arith)) in
         rw t.1
 
     -- The cheapest path is the way back from the first of the least sums of the last row.
     pub cheapest-trace : 0 < w → (i : ℕ) → cheapest above first step w (suc i) ≡ some (trace i (bottom i))
     unfolding paths
     cheapest-trace h i =
-        best-trace (cost first step) (λ c. get_or (sums i) c 0) i (run 0 w) (λ c m. (held c m).path) (λ c m. (held c m).sum)
+        best_trace (cost first step) (λ c. get_or (sums i) c 0) i (run 0 w) (λ c m. (held c m).path) (λ c m. (held c m).sum)
         ∙ ap (map (trace i)) (bottom-least h i)
       where
         held : (c : ℕ) → Memᴰ c (run 0 w) → Holds i c

@@ -12,27 +12,27 @@ use borrow.Author.Tests.{leb-true, leb-false, le-leb, lt-leb}
 use Rattle.grids.proofs.Orders.{le-or-lt}
 use Rattle.seam_theory.specs.Best.{least}
 use Rattle.seam_theory.specs.Sums.{first_of3, pick3}
-use Rattle.seam_theory.proofs.Best.{best-some, best-mem}
+use Rattle.seam_theory.proofs.Best.{best_some, best_mem}
 use Rattle.seam_theory.proofs.First.{First, best-first, first-le}
-use Rattle.seam_theory.proofs.Least.{byCost, cost-order}
+use Rattle.seam_theory.proofs.Least.{by_cost, cost_order}
 use Rattle.seam_theory.specs.Seams.{Ascending}
-use Rattle.seam_theory.proofs.Ascending.{asc-after}
+use Rattle.seam_theory.proofs.Ascending.{asc_after}
 
 -- Of ascending numbers the first at which f is least: f is not less at another, and each at which it is the same is no smaller.
 pub least_asc : (f : ℕ → ℕ) (cs : List ℕ) → Ascending ◌<◌ cs → (m : ℕ) → Memᴰ m cs
     → ((a : ℕ) → Memᴰ a cs → f m ≤ f a) → ((a : ℕ) → Memᴰ a cs → f a ≡ f m → m ≤ a) → least f cs ≡ some m
 least_asc f cs up m i cheap early =
-    let t = best-some (byCost f) cs m i in
-    t.1 ∙ ap some (same t.0 (best-first (byCost f) (cost-order f) cs t.0 t.1) (best-mem (byCost f) cs t.0 t.1))
+    let t = best_some (by_cost f) cs m i in
+    t.1 ∙ ap some (same t.0 (best-first (by_cost f) (cost_order f) cs t.0 t.1) (best_mem (by_cost f) cs t.0 t.1))
   where
-    same : (b : ℕ) → First (byCost f) cs b → Memᴰ b cs → b ≡ m
+    same : (b : ℕ) → First (by_cost f) cs b → Memᴰ b cs → b ≡ m
     same b r j =
-        let e : f b ≡ f m = le_antisymm (leb-true (f b) (f m) (first-le (byCost f) (cost-order f) r m i)) (cheap b j) in
+        let e : f b ≡ f m = le_antisymm (leb-true (f b) (f m) (first-le (by_cost f) (cost_order f) r m i)) (cheap b j) in
         le_antisymm (go e (Memᴰ.append_cases r.pre (rw r.split at i))) (early b j e)
       where
         go : f b ≡ f m → Memᴰ m r.pre ⊎ Memᴰ m (b ∷ r.post) → b ≤ m
         go e (inl k) = absurd (omega (arith, leb-false (f m) (f b) (r.before m k)))
-        go e (inr k) = ⊎_elim (λ d. le_of_eq (sym d)) (λ l. le_of_lt (asc-after ◌<◌ r.pre b r.post (rw r.split at up) m l)) (Memᴰ.cases_cons k)
+        go e (inr k) = ⊎_elim (λ d. le_of_eq (sym d)) (λ l. le_of_lt (asc_after ◌<◌ r.pre b r.post (rw r.split at up) m l)) (Memᴰ.cases_cons k)
 
 -- A column k that is one of cs and whose cost is v; or there is none, and v is more than the cost of a column that is.
 abbrev pub Candidate : (ℕ → ℕ) → List ℕ → ℕ → ℕ → ℕ → Type 0

@@ -15,26 +15,26 @@ use Rattle.grids.specs.Table.{table}
 use Rattle.grids.specs.Rows.{flat}
 use Rattle.grids.proofs.Orders.{le-or-lt}
 use Rattle.grids.proofs.Tables.{length-table, table_at, table_same, each-table}
-use Rattle.grids.proofs.Rows.{flat-at, rowAt-getD, length-flat}
+use Rattle.grids.proofs.Rows.{flat_at, row_at_get_d, length-flat}
 use Rattle.seam_theory.specs.Best.{least}
 use Rattle.seam_theory.specs.Paths.{run, cost, nearby}
 use Rattle.seam_theory.specs.Seams.{cheapest}
-use Rattle.seam_theory.specs.Sums.{CostRows, joined_at, fenced, sumOf3, way_of3, came_from, sumsDown, waysUp, columns_to, least_to}
-use Rattle.seam_theory.proofs.Nearby.{nearby-self, nearby-stay}
+use Rattle.seam_theory.specs.Sums.{CostRows, joined_at, fenced, sum_of3, way_of3, came_from, sums_down, ways_up, columns_to, least_to}
+use Rattle.seam_theory.proofs.Nearby.{nearby_self, nearby_stay}
 use Rattle.seam_theory.proofs.Rows.{Neighbours, from, sum_at, from-within, sums, trace, bottom, cheapest-trace}
-use Rattle.seam_theory.proofs.Loops.{starts-at, keeps, moves, bottom-is, bottom-within, cheapest-cost}
+use Rattle.seam_theory.proofs.Loops.{starts_at, keeps, moves, bottom_is, bottom-within, cheapest-cost}
 use Rattle.seam_theory.proofs.Fenced.{Through, Above}
 use Rattle.seam_theory.proofs.Bounded.{length-sums}
-use Rattle.seam_theory.proofs.Kernel.{way-from, sum-from}
+use Rattle.seam_theory.proofs.Kernel.{way_from, sum-from}
 
 -- Columns nearby are such that a path can stay in its column and none leads out of the grid.
 pub near_neighbours : (wrap : Bool) (w : ℕ) → Neighbours (nearby wrap w) w
-near_neighbours wrap w = record { self = nearby-self wrap w; stay = nearby-stay wrap w }
+near_neighbours wrap w = record { self = nearby_self wrap w; stay = nearby_stay wrap w }
 
 -- The first of the least sums among columns 0 to n.
 least_to_lem : (s : List ℕ) (n : ℕ) → least (λ c. get_or s c 0) (run 0 (n + 1 - 0)) ≡ some (least_to s n)
 unfolding least_to
-least_to_lem s zero = starts-at (λ c. get_or s c 0) 0
+least_to_lem s zero = starts_at (λ c. get_or s c 0) 0
 least_to_lem s (suc n) = go (let e : n + 1 - 0 ≡ suc n - 0 = omega arith in rw e at (least_to_lem s n)) (le-or-lt (f b) (f (suc n)))
   where
     f : ℕ → ℕ
@@ -53,33 +53,33 @@ least_to_lem s (suc n) = go (let e : n + 1 - 0 ≡ suc n - 0 = omega arith in rw
 pub record Costed (wrap : Bool) (fence w h : ℕ) (costs : ℕ → CostRows) (first : ℕ → ℕ) (step : ℕ → ℕ → ℕ → ℕ) : Type 0 where
   pub first_row_is : (costs 0).up ≡ table first w
   pub rows : (i : ℕ) (s : List ℕ) → Through (joined_at wrap w) w s (costs (suc i)) (λ c a. get_or s a 0 + step (suc i) a c)
-  pub low : (i c : ℕ) → i < h - 1 → c < w → get_or (sumsDown wrap fence w costs i) c 0 + get_or (costs (suc i)).up c 0 < fence
+  pub low : (i c : ℕ) → i < h - 1 → c < w → get_or (sums_down wrap fence w costs i) c 0 + get_or (costs (suc i)).up c 0 < fence
 
 -- What is found: the cheapest path, its columns by the ways, and its cost.
 pub record FoundPath (wrap : Bool) (fence w h : ℕ) (costs : ℕ → CostRows) (first : ℕ → ℕ) (step : ℕ → ℕ → ℕ → ℕ) : Type 0 where
   pub path : List ℕ
   pub is : cheapest (nearby wrap w) first step w h ≡ some path
   pub columns :
-      columns_to (flat (table (waysUp wrap fence w costs) (h - 1))) w (h - 1) (least_to (sumsDown wrap fence w costs (h - 1)) (w - 1))
+      columns_to (flat (table (ways_up wrap fence w costs) (h - 1))) w (h - 1) (least_to (sums_down wrap fence w costs (h - 1)) (w - 1))
       ≡ reverse path
-  pub price : cost first step path ≡ get_or (sumsDown wrap fence w costs (h - 1)) (least_to (sumsDown wrap fence w costs (h - 1)) (w - 1)) 0
+  pub price : cost first step path ≡ get_or (sums_down wrap fence w costs (h - 1)) (least_to (sums_down wrap fence w costs (h - 1)) (w - 1)) 0
 
 -- The ways of n rows.
 module _ (wrap : Bool) (fence w n : ℕ) (costs : ℕ → CostRows) where
-  ways-grid : Grid w n (table (waysUp wrap fence w costs) n)
-  unfolding waysUp
+  ways-grid : Grid w n (table (ways_up wrap fence w costs) n)
+  unfolding ways_up
   ways-grid =
-      each-table (waysUp wrap fence w costs) n
-      (λ k m. length-table (way_of3 wrap w (fenced wrap fence w (sumsDown wrap fence w costs k)) (costs (suc k))) w)
+      each-table (ways_up wrap fence w costs) n
+      (λ k m. length-table (way_of3 wrap w (fenced wrap fence w (sums_down wrap fence w costs k)) (costs (suc k))) w)
 
   -- Read from the flat buffer,
-  pub ways-at : (i c : ℕ) → i < n → c < w → get_or (flat (table (waysUp wrap fence w costs) n)) (i * w + c) 0 ≡ get_or (waysUp wrap fence w costs i) c 0
-  ways-at i c h l =
-      sym (rowAt-getD w (flat (table (waysUp wrap fence w costs) n)) i c 0 l)
-      ∙ ap (λ x. get_or x c 0) (flat-at ways-grid i h ∙ table_at (waysUp wrap fence w costs) n i [] h)
+  pub ways_at_lem : (i c : ℕ) → i < n → c < w → get_or (flat (table (ways_up wrap fence w costs) n)) (i * w + c) 0 ≡ get_or (ways_up wrap fence w costs i) c 0
+  ways_at_lem i c h l =
+      sym (row_at_get_d w (flat (table (ways_up wrap fence w costs) n)) i c 0 l)
+      ∙ ap (λ x. get_or x c 0) (flat_at ways-grid i h ∙ table_at (ways_up wrap fence w costs) n i [] h)
 
   -- which holds one for each column.
-  pub ways-long : length (flat (table (waysUp wrap fence w costs) n)) ≡ n * w
+  pub ways-long : length (flat (table (ways_up wrap fence w costs) n)) ≡ n * w
   ways-long = length-flat ways-grid
 
 module _ (wrap : Bool) (fence w h : ℕ) (costs : ℕ → CostRows) (first : ℕ → ℕ) (step : ℕ → ℕ → ℕ → ℕ) (k : Costed wrap fence w h costs first step) where
@@ -87,7 +87,7 @@ module _ (wrap : Bool) (fence w h : ℕ) (costs : ℕ → CostRows) (first : ℕ
   above = nearby wrap w
 
   abbrev row : ℕ → List ℕ
-  row = sumsDown wrap fence w costs
+  row = sums_down wrap fence w costs
 
   abbrev n : ℕ
   n = h - 1
@@ -102,31 +102,31 @@ module _ (wrap : Bool) (fence w h : ℕ) (costs : ℕ → CostRows) (first : ℕ
   above-row i l = record { wide = long i; through = k.rows i (row i); low = λ c m. k.low i c l m }
 
   -- The rows of sums are the theory's.
-  sums-link : (i : ℕ) → i ≤ n → row i ≡ sums above first step w i
-  unfolding sumsDown sums
-  sums-link zero l = k.first_row_is
-  sums-link (suc i) l =
-      table_same (sumOf3 (fenced wrap fence w (row i)) (costs (suc i))) (sum_at above step (row i) (suc i)) w
+  sums_link : (i : ℕ) → i ≤ n → row i ≡ sums above first step w i
+  unfolding sums_down sums
+  sums_link zero l = k.first_row_is
+  sums_link (suc i) l =
+      table_same (sum_of3 (fenced wrap fence w (row i)) (costs (suc i))) (sum_at above step (row i) (suc i)) w
       (λ c m. sum-from wrap fence w (row i) (costs (suc i)) (f i) (above-row i (omega arith)) c m)
-      ∙ ap (λ s. table (sum_at above step s (suc i)) w) (sums-link i (omega arith))
+      ∙ ap (λ s. table (sum_at above step s (suc i)) w) (sums_link i (omega arith))
 
   -- A way leads to the column from which the theory comes.
-  way-link : (i c : ℕ) → i < n → c < w → came_from w c (get_or (waysUp wrap fence w costs i) c 0) ≡ from above step (sums above first step w i) (suc i) c
-  unfolding waysUp
-  way-link i c l m =
+  way_link : (i c : ℕ) → i < n → c < w → came_from w c (get_or (ways_up wrap fence w costs i) c 0) ≡ from above step (sums above first step w i) (suc i) c
+  unfolding ways_up
+  way_link i c l m =
       ap (came_from w c) (table_at (way_of3 wrap w (fenced wrap fence w (row i)) (costs (suc i))) w c 0 m)
-      ∙ way-from wrap fence w (row i) (costs (suc i)) (f i) (above-row i l) c m
-      ∙ ap (λ s. from above step s (suc i) c) (sums-link i (omega arith))
+      ∙ way_from wrap fence w (row i) (costs (suc i)) (f i) (above-row i l) c m
+      ∙ ap (λ s. from above step s (suc i) c) (sums_link i (omega arith))
 
   -- The columns by the ways are the theory's way back, read from the top row.
-  columns-link : (i c : ℕ) → i ≤ n → c < w → columns_to (flat (table (waysUp wrap fence w costs) n)) w i c ≡ reverse (trace above first step w i c)
+  columns_link : (i c : ℕ) → i ≤ n → c < w → columns_to (flat (table (ways_up wrap fence w costs) n)) w i c ≡ reverse (trace above first step w i c)
   unfolding columns_to trace
-  columns-link zero c l m = refl
-  columns-link (suc i) c l m =
+  columns_link zero c l m = refl
+  columns_link (suc i) c l m =
       let a : ℕ = from above step (sums above first step w i) (suc i) c in
-      ap (λ b. columns_to (flat (table (waysUp wrap fence w costs) n)) w i b ++ (c ∷ []))
-      (ap (came_from w c) (ways-at wrap fence w n costs i c l m) ∙ way-link i c l m)
-      ∙ ap (◌++ (c ∷ [])) (columns-link i a (omega arith) (from-within above step w (near_neighbours wrap w) (sums above first step w i) (suc i) c m))
+      ap (λ b. columns_to (flat (table (ways_up wrap fence w costs) n)) w i b ++ (c ∷ []))
+      (ap (came_from w c) (ways_at_lem wrap fence w n costs i c l m) ∙ way_link i c l m)
+      ∙ ap (◌++ (c ∷ [])) (columns_link i a (omega arith) (from-within above step w (near_neighbours wrap w) (sums above first step w i) (suc i) c m))
       ∙ sym (reverse-cons c (trace above first step w i a))
 
   -- So the cheapest path is found.
@@ -136,8 +136,8 @@ module _ (wrap : Bool) (fence w h : ℕ) (costs : ℕ → CostRows) (first : ℕ
       record {
         path = trace above first step w n b;
         is = rw e at (cheapest-trace above first step w (near_neighbours wrap w) some-column n);
-        columns = ap (columns_to (flat (table (waysUp wrap fence w costs) n)) w n) at ∙ columns-link n b (omega arith) within;
-        price = cheapest-cost above first step w (near_neighbours wrap w) some-column n ∙ sym (rw (at, sums-link n (omega arith)));
+        columns = ap (columns_to (flat (table (ways_up wrap fence w costs) n)) w n) at ∙ columns_link n b (omega arith) within;
+        price = cheapest-cost above first step w (near_neighbours wrap w) some-column n ∙ sym (rw (at, sums_link n (omega arith)));
       }
     where
       b : ℕ
@@ -146,8 +146,8 @@ module _ (wrap : Bool) (fence w h : ℕ) (costs : ℕ → CostRows) (first : ℕ
       at : least_to (row n) (w - 1) ≡ b
       at =
           let e : w - 1 + 1 - 0 ≡ w = omega arith in
-          sym (bottom-is above first step w n (least_to (row n) (w - 1))
-          (ap (λ s. least (λ c. get_or s c 0) (run 0 w)) (sym (sums-link n (omega arith))) ∙ rw e at (least_to_lem (row n) (w - 1))))
+          sym (bottom_is above first step w n (least_to (row n) (w - 1))
+          (ap (λ s. least (λ c. get_or s c 0) (run 0 w)) (sym (sums_link n (omega arith))) ∙ rw e at (least_to_lem (row n) (w - 1))))
 
       within : b < w
       within = bottom-within above first step w (near_neighbours wrap w) some-column n

@@ -11,10 +11,10 @@ module _ {A : Type 0} (le : A → A → Bool) where
   better (some x) (some y) = cond (le x y) (some x) (some y)
 
   -- The first of the best elements; none where there is no element.
-  unfoldable pub firstBest : List A → Option A
-  firstBest [] = none
-  firstBest (x ∷ xs) = better (some x) (firstBest xs)
+  unfoldable pub first_best : List A → Option A
+  first_best [] = none
+  first_best (x ∷ xs) = better (some x) (first_best xs)
 
 -- The first of the elements that cost least.
 abbrev pub least : {A : Type 0} → (A → ℕ) → List A → Option A
-least f = firstBest (λ x y. leb (f x) (f y))
+least f = first_best (λ x y. leb (f x) (f y))

@@ -20,14 +20,14 @@ select t (x ∷ xs) = cons_if (t x) x (select t xs)
 -- The paths, where `above c` are the columns of the row above from which a path may come to column c, ascending.
 module _ (above : ℕ → List ℕ) where
   -- All paths from column c of row i up to row 0, in dictionary order.
-  unfoldable pub pathsUp : ℕ → ℕ → List (List ℕ)
-  pathsUp zero c = (c ∷ []) ∷ []
-  pathsUp (suc i) c = map (c ∷◌) (flat_map (pathsUp i) (above c))
+  unfoldable pub paths_up : ℕ → ℕ → List (List ℕ)
+  paths_up zero c = (c ∷ []) ∷ []
+  paths_up (suc i) c = map (c ∷◌) (flat_map (paths_up i) (above c))
 
   -- All paths of a grid of w columns and h rows, in dictionary order.
   unfoldable pub paths : ℕ → ℕ → List (List ℕ)
   paths w zero = []
-  paths w (suc i) = flat_map (pathsUp i) (run 0 w)
+  paths w (suc i) = flat_map (paths_up i) (run 0 w)
 
 -- The cost of a path: `first c` at column c of row 0, and `step i a c` for coming to column c of row i from column a of
 -- the row above. The row is the number of columns that follow.

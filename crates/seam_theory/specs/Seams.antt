@@ -2,7 +2,7 @@
 use Rattle.std.specs.Prelude.{◌≡◌, ◌⊎◌, Bool, ◌&&◌, ◌||◌, ℕ, ◌≤◌, ◌<◌, leb, ltb, eqb}
 use Rattle.std.proofs.Math.Option.{Option}
 use mathlib.Core.List.{List, [], ◌∷◌, Memᴰ}
-use Rattle.seam_theory.specs.Best.{firstBest, least}
+use Rattle.seam_theory.specs.Best.{first_best, least}
 use Rattle.seam_theory.specs.Paths.{select, paths, cost}
 
 -- "The seam found is the cheapest. Among equals it is the one whose columns, read from the bottom row upward, come first
@@ -18,7 +18,7 @@ preferred removed price p q = ltb (removed q) (removed p) || (eqb (removed p) (r
 -- "A seam may not touch a protected pixel. Among those left, first the most pixels marked 2, then the least cost, then the
 -- order above."
 abbrev pub cheapest_allowed : (List ℕ → ℕ) → (List ℕ → ℕ) → (List ℕ → ℕ) → List (List ℕ) → Option (List ℕ)
-cheapest_allowed protected removed price xs = firstBest (preferred removed price) (select (λ p. eqb (protected p) 0) xs)
+cheapest_allowed protected removed price xs = first_best (preferred removed price) (select (λ p. eqb (protected p) 0) xs)
 
 -- The strict dictionary order.
 abbrev pub Before : List ℕ → List ℕ → Type 0

@@ -42,26 +42,26 @@ fenced wrap fence w s = cond (joined_at wrap w) (get_or s (w - 1) 0) fence ∷ (
 
 -- Column c, below the fenced sums x of the row above.
 module _ (x : List ℕ) (k : CostRows) (c : ℕ) where
-  abbrev pub leftSum : ℕ
-  leftSum = get_or x c 0 + get_or k.left c 0
+  abbrev pub left_sum : ℕ
+  left_sum = get_or x c 0 + get_or k.left c 0
 
-  abbrev pub upSum : ℕ
-  upSum = get_or x (c + 1) 0 + get_or k.up c 0
+  abbrev pub up_sum : ℕ
+  up_sum = get_or x (c + 1) 0 + get_or k.up c 0
 
-  abbrev pub rightSum : ℕ
-  rightSum = get_or x (c + 2) 0 + get_or k.right c 0
+  abbrev pub right_sum : ℕ
+  right_sum = get_or x (c + 2) 0 + get_or k.right c 0
 
   -- Its sum is the least of the three.
-  unfoldable pub sumOf3 : ℕ
-  sumOf3 = min leftSum (min upSum rightSum)
+  unfoldable pub sum_of3 : ℕ
+  sum_of3 = min left_sum (min up_sum right_sum)
 
 -- Which of the three it is, of equals the one at the smallest column: 0 the left one, 1 the middle one, 2 the right one. At the
 -- join the right one of the last column, and the left one of the first, stand at the other end of the row.
 unfoldable pub way_of3 : Bool → ℕ → List ℕ → CostRows → ℕ → ℕ
 way_of3 wrap w x k c =
-    cond (joined_at wrap w && eqb c 0) (pick3 1 2 0 (first_of3 (upSum x k c) (rightSum x k c) (leftSum x k c)))
-    (cond (joined_at wrap w && eqb (c + 1) w) (pick3 2 0 1 (first_of3 (rightSum x k c) (leftSum x k c) (upSum x k c)))
-    (first_of3 (leftSum x k c) (upSum x k c) (rightSum x k c)))
+    cond (joined_at wrap w && eqb c 0) (pick3 1 2 0 (first_of3 (up_sum x k c) (right_sum x k c) (left_sum x k c)))
+    (cond (joined_at wrap w && eqb (c + 1) w) (pick3 2 0 1 (first_of3 (right_sum x k c) (left_sum x k c) (up_sum x k c)))
+    (first_of3 (left_sum x k c) (up_sum x k c) (right_sum x k c)))
 
 -- The column of the row above to which a way leads from column c of w: 0 one to the left, 1 the same, 2 one to the right. A way
 -- that leads past an edge comes in at the other.
@@ -71,13 +71,13 @@ came_from w c way = cond (eqb (c + way) 0) (w - 1) (cond (ltb w (c + way)) 0 (c 
 -- All rows, from the costs of each row of w columns.
 module _ (wrap : Bool) (fence w : ℕ) (costs : ℕ → CostRows) where
   -- The sums of row i.
-  unfoldable pub sumsDown : ℕ → List ℕ
-  sumsDown zero = (costs 0).up
-  sumsDown (suc i) = table (sumOf3 (fenced wrap fence w (sumsDown i)) (costs (suc i))) w
+  unfoldable pub sums_down : ℕ → List ℕ
+  sums_down zero = (costs 0).up
+  sums_down (suc i) = table (sum_of3 (fenced wrap fence w (sums_down i)) (costs (suc i))) w
 
   -- The ways from row i + 1 up to row i.
-  unfoldable pub waysUp : ℕ → List ℕ
-  waysUp i = table (way_of3 wrap w (fenced wrap fence w (sumsDown i)) (costs (suc i))) w
+  unfoldable pub ways_up : ℕ → List ℕ
+  ways_up i = table (way_of3 wrap w (fenced wrap fence w (sums_down i)) (costs (suc i))) w
 
 -- The columns of the path to column c of row i, from the top row: ways holds, row after row of w, where each column of
 -- row i + 1 comes from.

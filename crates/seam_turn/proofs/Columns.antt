@@ -14,14 +14,14 @@ use Rattle.grids.specs.Exchange.{exchange}
 use Rattle.grids.specs.Cut.{cut}
 use Rattle.grids.proofs.Orders.{more_than_one}
 use Rattle.grids.proofs.Exchange.{exchange-each}
-use Rattle.grids.proofs.Cut.{cut-narrower}
+use Rattle.grids.proofs.Cut.{cut_narrower}
 use Rattle.pictures.specs.declared.sizes.Size.{Size}
 use Rattle.pictures.specs.declared.refusals.Verdict.{Verdict}
 use Rattle.pictures.specs.Refusals.{◌when◌, given, refusal}
 use Rattle.pictures.specs.Pictures.{Picture, channels_of, picture_bytes, side_rules, size_rules, picture, bytes, OfSize}
 use Rattle.pictures.proofs.Rules.{served-both, passed}
 use Rattle.pictures.proofs.Limits.{Sized, sized_is, sized-served, sides_of}
-use Rattle.pictures.proofs.Buffers.{picture_of_size, picture_bytes_lem, length-bytes}
+use Rattle.pictures.proofs.Buffers.{picture-of_size, picture_bytes_lem, length-bytes}
 use Rattle.seam_bounds.specs.Moves.{outside}
 use Rattle.seam_moves.specs.Moving.{ExchangeGiven}
 use Rattle.seam_close.specs.Closing.{CloseGiven}
@@ -30,9 +30,9 @@ use Rattle.seam_moves.proofs.Served.{exchange-served}
 use Rattle.seam_close.proofs.Served.{close_served}
 use Rattle.seam_rules.specs.declared.answers.Axis.TheVariants.{Horizontal}
 use Rattle.seam_rules.specs.Axes.{turned_size, narrowed}
-use Rattle.seam_rules.proofs.Turns.{turned-bytes, turned_sides}
+use Rattle.seam_rules.proofs.Turns.{turned-bytes, turned-sides}
 use Rattle.seam_turn.specs.Axes.{turned, cut_along}
-use Rattle.seam_turn.proofs.Turned.{turned_of_size}
+use Rattle.seam_turn.proofs.Turned.{turned-of_size}
 
 -- A seam that closing up doesn't refuse lies inside the picture, which has more than one column.
 pub record Inside (z : Size) (s : List ℕ) : Type 0 where
@@ -66,12 +66,12 @@ module _ (z : Size) (b s : List ℕ) (sized : Sized z (length b)) where
   abbrev left : Size
   left = narrowed (turned_size Horizontal z)
 
-  over-of : OfSize t (over_of z b)
+  over_of_lem : OfSize t (over_of z b)
   unfolding turned
-  over-of = turned_of_size Horizontal z (picture z b) (picture_of_size z b sized.length_is)
+  over_of_lem = turned-of_size Horizontal z (picture z b) (picture-of_size z b sized.length_is)
 
   over-long : length (bytes (over_of z b)) ≡ length b
-  over-long = length-bytes t (over_of z b) over-of ∙ turned-bytes Horizontal z ∙ sym sized.length_is
+  over-long = length-bytes t (over_of z b) over_of_lem ∙ turned-bytes Horizontal z ∙ sym sized.length_is
 
   -- After the first exchange.
   module _ (work work₁ : List ℕ) (v : Verdict) (g : ExchangeGiven b z work v work₁) (served : refusal (size_rules z (length b)) ≡ 0) (room : picture_bytes z ≤ length work) where
@@ -79,12 +79,12 @@ module _ (z : Size) (b s : List ℕ) (sized : Sized z (length b)) where
     front_is = ap (take (length b)) (exchange-served b z work work₁ v g served room) ∙ take_at (bytes (over_of z b)) (drop (picture_bytes z) work) (length b) over-long
 
     pub front-sized : refusal (size_rules t (length (take (length b) work₁))) ≡ 0
-    front-sized = rw (ap length front_is ∙ length-bytes t (over_of z b) over-of) (sized-served t (turned_sides Horizontal z (length b) sized))
+    front-sized = rw (ap length front_is ∙ length-bytes t (over_of z b) over_of_lem) (sized-served t (turned-sides Horizontal z (length b) sized))
 
   -- With more than one row, and a seam inside the picture.
   module _ (is : Inside (turned_size Horizontal z) s) where
     rest-of : OfSize left (rest_of z b s)
-    rest-of = cut-narrower z.height is.wide is.inside over-of
+    rest-of = cut_narrower z.height is.wide is.inside over_of_lem
 
     pub left-bytes : picture_bytes left + z.width * channels_of z.kind ≡ length b
     left-bytes =
@@ -99,15 +99,15 @@ module _ (z : Size) (b s : List ℕ) (sized : Sized z (length b)) where
           mul-add z.width ((z.height - 1) * ch) ch,
         )
 
-    pub left_sides : refusal (side_rules left) ≡ 0
-    left_sides = sides_of left (omega (arith, is.wide)) (omega (arith, sized.height_most)) sized.width_some sized.width_most
+    pub left-sides : refusal (side_rules left) ≡ 0
+    left-sides = sides_of left (omega (arith, is.wide)) (omega (arith, sized.height_most)) sized.width_some sized.width_most
 
     -- After the exchanged picture was closed up.
     module _ (work₁ front : List ℕ) (u : Verdict) (c : CloseGiven (take (length b) work₁) t s u front) (there : take (length b) work₁ ≡ bytes (over_of z b)) (fits : refusal (size_rules t (length (take (length b) work₁))) ≡ 0) where
       pub closed_is : front ≡ bytes (rest_of z b s) ++ replicate (z.width * channels_of z.kind) 0
       closed_is =
           close_served (take (length b) work₁) t s front u c fits is.inside is.wide
-          ∙ ap (λ p. bytes (cut s p) ++ replicate (z.width * channels_of z.kind) 0) (ap (picture t) there ∙ picture_bytes_lem t (over_of z b) over-of)
+          ∙ ap (λ p. bytes (cut s p) ++ replicate (z.width * channels_of z.kind) 0) (ap (picture t) there ∙ picture_bytes_lem t (over_of z b) over_of_lem)
 
       pub kept-is : (after : List ℕ) → take (picture_bytes left) (front ++ after) ≡ bytes (rest_of z b s)
       kept-is after =
@@ -124,6 +124,6 @@ module _ (z : Size) (b s : List ℕ) (sized : Sized z (length b)) where
         let c = exchange left.width (rest_of z b s) in
         let long : length (bytes (exchange left.width (rest_of z b s))) ≡ picture_bytes left = length-bytes (turned_size Horizontal left) (exchange left.width (rest_of z b s)) (exchange-each rest-of) ∙ turned-bytes Horizontal left in
         ap (take (picture_bytes left))
-        (exchange-served from left to to' v g (rw (ap length e ∙ length-bytes left (rest_of z b s) rest-of) (sized-served left left_sides)) room
+        (exchange-served from left to to' v g (rw (ap length e ∙ length-bytes left (rest_of z b s) rest-of) (sized-served left left-sides)) room
         ∙ ap (λ p. bytes (exchange left.width p) ++ drop (picture_bytes left) to) (ap (picture left) e ∙ picture_bytes_lem left (rest_of z b s) rest-of))
         ∙ take_at (bytes (exchange left.width (rest_of z b s))) (drop (picture_bytes left) to) (picture_bytes left) long

@@ -22,7 +22,7 @@ use Rattle.seam_rules.specs.declared.answers.Axis.{Axis}
 use Rattle.seam_rules.specs.declared.answers.Axis.TheVariants.{Vertical, Horizontal}
 use Rattle.seam_rules.specs.Axes.{turned_size}
 use Rattle.seam_rules.specs.Cuts.{cleared, last_along, last_rules, close_along_lengths}
-use Rattle.seam_rules.proofs.Rooms.{close_room, close_length, work-as-was}
+use Rattle.seam_rules.proofs.Rooms.{close_room, close_length, work_as_was}
 use Rattle.seam_turn.specs.Axes.{turned, cut_along}
 use Rattle.seam_turn.specs.Turning.{TurnGiven, close_along_rules, left_work, CloseAlongGiven}
 
@@ -78,7 +78,7 @@ close_served b z x s work v b' work' g sized inside wide room =
 pub work_kept : (x : Axis) (why : Refusal) (n : ℕ) → number_of why ≡ n → n ≤ 8 → (work : List ℕ) → work ≡ left_work x n work
 unfolding left_work
 work_kept Vertical why n e h work = refl
-work_kept Horizontal why n e h work = work-as-was why n e h work
+work_kept Horizontal why n e h work = work_as_was why n e h work
 
 pub ends-cleared : (o e : Bool) → 0 < cond o 10 (cond e 13 0) → (work : List ℕ) → cleared (cond o 10 (cond e 13 0)) work ≡ replicate (length work) 0
 ends-cleared true e h work = refl

@@ -7,22 +7,22 @@ use lib.Seq.{take_at}
 use Rattle.grids.proofs.Exchange.{exchange-each}
 use Rattle.pictures.specs.declared.sizes.Size.{Size}
 use Rattle.pictures.specs.Pictures.{Picture, picture_bytes, picture, bytes, OfSize}
-use Rattle.pictures.proofs.Buffers.{picture_of_size, picture_bytes_lem, length-bytes}
+use Rattle.pictures.proofs.Buffers.{picture-of_size, picture_bytes_lem, length-bytes}
 use Rattle.seam_rules.specs.declared.answers.Axis.{Axis}
 use Rattle.seam_rules.specs.declared.answers.Axis.TheVariants.{Vertical, Horizontal}
 use Rattle.seam_rules.specs.Axes.{turned_size}
 use Rattle.seam_turn.specs.Axes.{turned}
 
-pub turned_of_size : (x : Axis) (z : Size) (p : Picture) → OfSize z p → OfSize (turned_size x z) (turned x z.width p)
+pub turned-of_size : (x : Axis) (z : Size) (p : Picture) → OfSize z p → OfSize (turned_size x z) (turned x z.width p)
 unfolding turned
-turned_of_size Vertical z p o = o
-turned_of_size Horizontal z p o = exchange-each o
+turned-of_size Vertical z p o = o
+turned-of_size Horizontal z p o = exchange-each o
 
 -- The turned picture read back from the front of a space.
 pub turned-picture : (x : Axis) (z : Size) (b space rest : List ℕ) → length b ≡ picture_bytes z → space ≡ bytes (turned x z.width (picture z b)) ++ rest
     → picture (turned_size x z) (take (picture_bytes (turned_size x z)) space) ≡ turned x z.width (picture z b)
 turned-picture x z b space rest e is =
     let t = turned_size x z in
-    let o = turned_of_size x z (picture z b) (picture_of_size z b e) in
+    let o = turned-of_size x z (picture z b) (picture-of_size z b e) in
     ap (picture t) (ap (take (picture_bytes t)) is ∙ take_at (bytes (turned x z.width (picture z b))) rest (picture_bytes t) (length-bytes t (turned x z.width (picture z b)) o))
     ∙ picture_bytes_lem t (turned x z.width (picture z b)) o

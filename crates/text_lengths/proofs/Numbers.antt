@@ -27,5 +27,5 @@ left_number_lem room n l is = go (leb n room) refl
     go true e = rw (le-ltb room n (leb-true _ _ e)) (room_is (room - n) l (rw e at is))
     go false e = rw (lt-ltb room n (leb-false _ _ e)) (short_is l (rw e at is))
 
-pub left_smallest : (room n : ℕ) → SmallestGiven (left_rules room n)
-left_smallest room n = given-smallest _ refl
+pub left-smallest : (room n : ℕ) → SmallestGiven (left_rules room n)
+left-smallest room n = given-smallest _ refl

@@ -9,7 +9,7 @@ use lib.Seq.{drop-cons}
 use Rattle.grids.specs.Each.{Grid}
 use Rattle.grids.specs.Each as each_of
 use Rattle.grids.specs.Rows.{rows_of, row_at}
-use Rattle.grids.proofs.Rows.{part_end, length-rowsOf, grid-rowsOf, rowsOf-at}
+use Rattle.grids.proofs.Rows.{part_end, length-rows_of, grid-rows_of, rows_of_at}
 use Rattle.pictures.specs.declared.sizes.Kind.{Kind}
 use Rattle.pictures.specs.declared.sizes.Kind.TheVariants.{Grey, Rgb}
 use Rattle.pictures.specs.Pictures.{channels_of}
@@ -51,23 +51,23 @@ rgb_pieces_lem k b i e h = rw (rgb_pixel k b i e h, e) (omega arith)
 
 -- The pixel at i is the i-th of the row.
 pub pixel_at : (k : Kind) (b : List ℕ) (n i : ℕ) → i < n → row_at (channels_of k) i b ≡ get_or (rows_of (channels_of k) n b) i []
-pixel_at k b n i h = sym (rowsOf-at (channels_of k) n b i h)
+pixel_at k b n i h = sym (rows_of_at (channels_of k) n b i h)
 
 pub pixel_inside : (k : Kind) (n i : ℕ) (len : ℕ) → n * channels_of k ≤ len → i < n → i * channels_of k + channels_of k ≤ len
 pixel_inside k n i len h l = omega (arith, part_end i n (channels_of k) l)
 
 pub below_rows : (k : Kind) (b : List ℕ) (n i : ℕ) → i < n → i < length (rows_of (channels_of k) n b)
-below_rows k b n i h = rw (length-rowsOf) h
+below_rows k b n i h = rw (length-rows_of) h
 
-pub all_rows : (k : Kind) (b : List ℕ) (n i : ℕ) → n ≤ i → length (rows_of (channels_of k) n b) ≤ i
-all_rows k b n i h = rw (length-rowsOf) h
+pub all-rows : (k : Kind) (b : List ℕ) (n i : ℕ) → n ≤ i → length (rows_of (channels_of k) n b) ≤ i
+all-rows k b n i h = rw (length-rows_of) h
 
-grid_counted : (k : Kind) {n : ℕ} {row : List (List ℕ)} → Grid (channels_of k) n row → Counted k row
-grid_counted k each_of.none = tt
-grid_counted k (each_of.more e g) = (e, grid_counted k g)
+grid-counted : (k : Kind) {n : ℕ} {row : List (List ℕ)} → Grid (channels_of k) n row → Counted k row
+grid-counted k each_of.none = tt
+grid-counted k (each_of.more e g) = (e, grid-counted k g)
 
 counted : (k : Kind) (b : List ℕ) → Counted k (pixels_of k b)
-counted k b = grid_counted k (grid-rowsOf (channels_of k) (length b / channels_of k) b (whole-pixels k (length b)))
+counted k b = grid-counted k (grid-rows_of (channels_of k) (length b / channels_of k) b (whole-pixels k (length b)))
 
 pub row_pieces_lem : (k : Kind) (b : List ℕ) → length (row_text k (pixels_of k b)) ≡ sum (total (pixel_length k) (pixels_of k b) ∷ 6 ∷ [])
 unfolding row_length total

@@ -70,13 +70,13 @@ pub taking_first : {room whole : ℕ} (pieces : List ℕ) → whole ≡ sum piec
 taking_first {room} pieces e = record { same = ap (less room) e }
 
 module _ {room whole left piece : ℕ} {pieces : List ℕ} (T : Taking room whole left (piece ∷ pieces)) where
-  pub taking-next : {next : ℕ} → some next ≡ less left piece → Taking room whole next pieces
+  pub taking_next : {next : ℕ} → some next ≡ less left piece → Taking room whole next pieces
   unfolding total
-  taking-next {next} s = record { same = T.same ∙ less_then left piece (sum pieces) next s }
+  taking_next {next} s = record { same = T.same ∙ less_then left piece (sum pieces) next s }
 
-  pub taking-short : none ≡ less left piece → none ≡ less room whole
+  pub taking_short : none ≡ less left piece → none ≡ less room whole
   unfolding total
-  taking-short s = less_none_then left piece (sum pieces) s ∙ sym T.same
+  taking_short s = less_none_then left piece (sum pieces) s ∙ sym T.same
 
 pub taking_last : {room whole left piece : ℕ} {o : Option ℕ} → Taking room whole left (piece ∷ []) → o ≡ less left piece → o ≡ less room whole
 unfolding total
@@ -93,8 +93,8 @@ unfolding total
 total-front f d xs i h = rw (add-one, drop-cons xs i d h)
 
 module _ {A : Type 0} {f : A → ℕ} {room : ℕ} {xs : List A} where
-  pub leaving-first : Leaving f room xs 0 room
-  leaving-first = record { same = refl }
+  pub leaving_first : Leaving f room xs 0 room
+  leaving_first = record { same = refl }
 
   module _ {i left : ℕ} (L : Leaving f room xs i left) where
     pub leaving-next : (d : A) {x : A} {next : ℕ} → i < length xs → x ≡ get_or xs i d → some next ≡ less left (f x) → Leaving f room xs (i + 1) next

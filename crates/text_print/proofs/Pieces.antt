@@ -43,8 +43,8 @@ module _ {first : List ℕ} {at : ℕ} {text now : List ℕ} {end : ℕ} {piece 
       room = omega (arith, P.room, Q.end_is, length-append piece (flatten pieces), printed_length Q);
     }
 
-  pub printing-last : {last : List ℕ} {stop : ℕ} → Printing first at text now end (piece ∷ []) → Printed now end piece last stop → Printed first at text last stop
-  printing-last P Q = printing_done (printing-next P Q)
+  pub printing_last : {last : List ℕ} {stop : ℕ} → Printing first at text now end (piece ∷ []) → Printed now end piece last stop → Printed first at text last stop
+  printing_last P Q = printing_done (printing-next P Q)
 
 -- The items of a line from the i-th on, each after a blank.
 abbrev pub items : {A : Type 0} → (A → List ℕ) → List A → ℕ → List (List ℕ)

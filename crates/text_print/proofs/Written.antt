@@ -10,7 +10,7 @@ use lib.ListN.{length, get_or, take, drop, set, length-append}
 use lib.Seq.{sets, take-suc, length-take-le, length-sets, sets-eq}
 use borrow.Author.Tests.{le-leb, lt-leb}
 use Rattle.text_theory.specs.Decimal.{digits}
-use Rattle.text_theory.proofs.Decimals.{digits_small, digits_large}
+use Rattle.text_theory.proofs.Decimals.{digits_small, digits-large}
 use Rattle.text_lengths.specs.Rooms.{less}
 use Rattle.text_lengths.proofs.Rooms.{less-room, less-short}
 use Rattle.text_print.specs.declared.lines.Place.{Place}
@@ -26,14 +26,14 @@ sets_append (a ∷ vs) ws l i =
 
 -- The last digit after the others.
 pub sets_digit : (l : List ℕ) (at n : ℕ) → 10 ≤ n → sets l at (digits n) ≡ set (sets l at (digits (n / 10))) (at + length (digits (n / 10))) (48 + n % 10)
-sets_digit l at n h = rw (digits_large n h, sets_append)
+sets_digit l at n h = rw (digits-large n h, sets_append)
 
 pub sets_small : (l : List ℕ) (at n : ℕ) → n < 10 → sets l at (digits n) ≡ set l at (48 + n)
 sets_small l at n h = rw (digits_small n h)
 
 -- One byte more.
-pub bytes_more : (w l : List ℕ) (at i : ℕ) → i < length w → set (sets l at (take i w)) (at + i) (get_or w i 0) ≡ sets l at (take (i + 1) w)
-bytes_more w l at i h =
+pub bytes-more : (w l : List ℕ) (at i : ℕ) → i < length w → set (sets l at (take i w)) (at + i) (get_or w i 0) ≡ sets l at (take (i + 1) w)
+bytes-more w l at i h =
     let n = length-take-le i w (omega arith) in
     rw (add-one, take-suc w i 0 h, sets_append, n)
 
@@ -74,21 +74,21 @@ has_room space at n {room} {left} p s = omega (arith, less-room space at room p,
 
 -- What a printer gives where there is room.
 module _ {out : List ℕ} {at : ℕ} {bytes : List ℕ} {place : Place} {out' : List ℕ} (put : Put out at bytes place out') (room : at + length bytes ≤ length out) where
-  answer-is : place_read place ≡ some (at + length bytes)
-  answer-is = put.answer ∙ rw (le-leb (at + length bytes) (length out) room)
+  answer_is : place_read place ≡ some (at + length bytes)
+  answer_is = put.answer ∙ rw (le-leb (at + length bytes) (length out) room)
 
   space_is : out' ≡ sets out at bytes
   space_is =
       put.space ∙ (rw (le-leb (at + length bytes) (length out) room) (refl))
       ∙ sym (sets-eq bytes out at room ∙ append_assoc (take at out) bytes (drop (at + length bytes) out))
 
-  pub never-short : place ≡ places.Short → ⊥
-  never-short e = none-ne-some (at + length bytes) (sym (ap place_read e) ∙ answer-is)
+  pub never_short : place ≡ places.Short → ⊥
+  never_short e = none-ne-some (at + length bytes) (sym (ap place_read e) ∙ answer_is)
 
-  pub printed-next : {n : ℕ} → place ≡ places.Next n → Printed out at bytes out' n
-  printed-next {n} e = record {
+  pub printed_next : {n : ℕ} → place ≡ places.Next n → Printed out at bytes out' n
+  printed_next {n} e = record {
     same = space_is;
-    end_is = some-injective n (at + length bytes) (sym (ap place_read e) ∙ answer-is);
+    end_is = some-injective n (at + length bytes) (sym (ap place_read e) ∙ answer_is);
   }
 
 -- What is printed at the front of a space.

@@ -106,33 +106,33 @@ other_class : (ks : List ℕ) (x y : Class) → OneOf ks (tag_of x) → (OneOf k
 other_class ks x y k n e = n (rw e at k)
 
 module _ {x : Class} (b : ℕ) (f : x ≡ class_of b) where
-  pub no-digit-byte : (ks : List ℕ) → OneOf ks (tag_of x) → (OneOf ks 0 → ⊥) → is_digit b ≡ false
+  pub no_digit_byte : (ks : List ℕ) → OneOf ks (tag_of x) → (OneOf ks 0 → ⊥) → is_digit b ≡ false
   unfolding class_of
-  no-digit-byte ks k n = go (is_digit b) refl
+  no_digit_byte ks k n = go (is_digit b) refl
     where
       go : (d : Bool) → is_digit b ≡ d → is_digit b ≡ false
       go true h = absurd (other_class ks x (Digit (b - 48)) k n (f ∙ rw h))
       go false h = h
 
-  pub no-letter-byte : (ks : List ℕ) → OneOf ks (tag_of x) → (OneOf ks 1 → ⊥) → is_letter b ≡ false
+  pub no_letter_byte : (ks : List ℕ) → OneOf ks (tag_of x) → (OneOf ks 1 → ⊥) → is_letter b ≡ false
   unfolding class_of
-  no-letter-byte ks k n = go (is_letter b) refl
+  no_letter_byte ks k n = go (is_letter b) refl
     where
       go : (l : Bool) → is_letter b ≡ l → is_letter b ≡ false
       go true h = absurd (other_class ks x (Letter b) k n (f ∙ rw (letter_digit b h, h)))
       go false h = h
 
-  pub no-opening-byte : (ks : List ℕ) → OneOf ks (tag_of x) → (OneOf ks 2 → ⊥) → b ≡ 40 → ⊥
+  pub no_opening_byte : (ks : List ℕ) → OneOf ks (tag_of x) → (OneOf ks 2 → ⊥) → b ≡ 40 → ⊥
   unfolding class_of is_digit is_letter
-  no-opening-byte ks k n e = other_class ks x Opening k n (f ∙ ap class_of e)
+  no_opening_byte ks k n e = other_class ks x Opening k n (f ∙ ap class_of e)
 
-  pub no-closing-byte : (ks : List ℕ) → OneOf ks (tag_of x) → (OneOf ks 3 → ⊥) → b ≡ 41 → ⊥
+  pub no_closing_byte : (ks : List ℕ) → OneOf ks (tag_of x) → (OneOf ks 3 → ⊥) → b ≡ 41 → ⊥
   unfolding class_of is_digit is_letter
-  no-closing-byte ks k n e = other_class ks x Closing k n (f ∙ ap class_of e)
+  no_closing_byte ks k n e = other_class ks x Closing k n (f ∙ ap class_of e)
 
-  pub no-blank-byte : (ks : List ℕ) → OneOf ks (tag_of x) → (OneOf ks 4 → ⊥) → b ≡ 32 → ⊥
+  pub no_blank_byte : (ks : List ℕ) → OneOf ks (tag_of x) → (OneOf ks 4 → ⊥) → b ≡ 32 → ⊥
   unfolding class_of is_digit is_letter
-  no-blank-byte ks k n e = other_class ks x Blank k n (f ∙ ap class_of e)
+  no_blank_byte ks k n e = other_class ks x Blank k n (f ∙ ap class_of e)
 
 -- The readers' default arms: all classes but one or two.
 abbrev pub no_digits : List ℕ
@@ -151,20 +151,20 @@ abbrev pub no_items : List ℕ
 no_items = 0 ∷ 1 ∷ 2 ∷ 5 ∷ 6 ∷ []
 
 module _ {x : Class} (b : ℕ) (f : x ≡ class_of b) where
-  pub arm-no-digit : OneOf no_digits (tag_of x) → is_digit b ≡ false
-  arm-no-digit k = no-digit-byte b f no_digits k (miss no_digits 0 tt)
+  pub arm_no_digit : OneOf no_digits (tag_of x) → is_digit b ≡ false
+  arm_no_digit k = no_digit_byte b f no_digits k (miss no_digits 0 tt)
 
-  pub arm-no-letter : OneOf no_letters (tag_of x) → is_letter b ≡ false
-  arm-no-letter k = no-letter-byte b f no_letters k (miss no_letters 1 tt)
+  pub arm_no_letter : OneOf no_letters (tag_of x) → is_letter b ≡ false
+  arm_no_letter k = no_letter_byte b f no_letters k (miss no_letters 1 tt)
 
-  pub arm-no-word : OneOf no_words (tag_of x) → (is_digit b ≡ false) × (is_letter b ≡ false)
-  arm-no-word k = (no-digit-byte b f no_words k (miss no_words 0 tt), no-letter-byte b f no_words k (miss no_words 1 tt))
+  pub arm_no_word : OneOf no_words (tag_of x) → (is_digit b ≡ false) × (is_letter b ≡ false)
+  arm_no_word k = (no_digit_byte b f no_words k (miss no_words 0 tt), no_letter_byte b f no_words k (miss no_words 1 tt))
 
-  pub arm-no-opening : OneOf no_openings (tag_of x) → b ≡ 40 → ⊥
-  arm-no-opening k = no-opening-byte b f no_openings k (miss no_openings 2 tt)
+  pub arm_no_opening : OneOf no_openings (tag_of x) → b ≡ 40 → ⊥
+  arm_no_opening k = no_opening_byte b f no_openings k (miss no_openings 2 tt)
 
-  pub arm-no-item : OneOf no_items (tag_of x) → (b ≡ 41 → ⊥) × (b ≡ 32 → ⊥)
-  arm-no-item k = (no-closing-byte b f no_items k (miss no_items 3 tt), no-blank-byte b f no_items k (miss no_items 4 tt))
+  pub arm_no_item : OneOf no_items (tag_of x) → (b ≡ 41 → ⊥) × (b ≡ 32 → ⊥)
+  arm_no_item k = (no_closing_byte b f no_items k (miss no_items 3 tt), no_blank_byte b f no_items k (miss no_items 4 tt))
 
 -- The classes of one byte, by their numbers: the brackets, the blank and the line end.
 abbrev byte_of : ℕ → ℕ
@@ -200,21 +200,21 @@ pub told_as : {A : Type 0} {g k : Get A} {text : List ℕ} {at : ℕ} {found : O
 told_as {text = text} {at} e t = record { same = sym (e (drop at text)) ∙ t.same; moved = t.moved }
 
 module _ {text : List ℕ} {at : ℕ} {found : Option (ℕ × ℕ)} where
-  pub told-opening : Told (of_class Opening) text at found → Told (passing opening) text at found
+  pub told_opening : Told (of_class Opening) text at found → Told (passing opening) text at found
   unfolding opening class_of is_digit is_letter
-  told-opening = told_as (of_class_lem Opening (omega arith) (omega arith) refl)
+  told_opening = told_as (of_class_lem Opening (omega arith) (omega arith) refl)
 
-  pub told-closing : Told (of_class Closing) text at found → Told (passing closing) text at found
+  pub told_closing : Told (of_class Closing) text at found → Told (passing closing) text at found
   unfolding closing class_of is_digit is_letter
-  told-closing = told_as (of_class_lem Closing (omega arith) (omega arith) refl)
+  told_closing = told_as (of_class_lem Closing (omega arith) (omega arith) refl)
 
-  pub told-blank : Told (of_class Blank) text at found → Told (passing blank) text at found
+  pub told_blank : Told (of_class Blank) text at found → Told (passing blank) text at found
   unfolding blank class_of is_digit is_letter
-  told-blank = told_as (of_class_lem Blank (omega arith) (omega arith) refl)
+  told_blank = told_as (of_class_lem Blank (omega arith) (omega arith) refl)
 
-  pub told-line-end : Told (of_class LineEnd) text at found → Told (passing line_end) text at found
+  pub told_line_end : Told (of_class LineEnd) text at found → Told (passing line_end) text at found
   unfolding line_end class_of is_digit is_letter
-  told-line-end = told_as (of_class_lem LineEnd (omega arith) (omega arith) refl)
+  told_line_end = told_as (of_class_lem LineEnd (omega arith) (omega arith) refl)
 
 -- The method `past`, in the code's terms.
 module _ (k : Class) {text : List ℕ} {at : ℕ} where

@@ -13,7 +13,7 @@ use Rattle.text_theory.specs.Readers.{Get}
 use Rattle.text_theory.specs.Decimal.{digits}
 use Rattle.text_theory.specs.Files.{row_word, map_word, each, pixel_text, line_text, row_text, map_text, head_text, head_get, All, Pixel, Numbers}
 use Rattle.text_theory.proofs.Pairs.{strip_back}
-use Rattle.text_theory.proofs.Decimals.{number-reads}
+use Rattle.text_theory.proofs.Decimals.{number_reads}
 use Rattle.text_theory.proofs.Files.{line_reads, pixel_reads, head_reads, clear-blank, clear-closing}
 use Rattle.text_read.specs.declared.cursor.Cursor.{Cursor}
 use Rattle.text_read.specs.declared.cursor.Read.{Read}
@@ -30,7 +30,7 @@ row_line_lem k row rest h = rw (append_assoc, strip_back, (line_reads (pixel_rea
 
 pub map_line_lem : (row rest : List ℕ) → All (λ (a : ℕ). a ≤ largest_number) row → map_line (map_text row ++ rest) ≡ some (row, rest)
 unfolding map_line map_text
-map_line_lem row rest h = rw (append_assoc, strip_back) ((line_reads (number-reads largest_number) clear-blank clear-closing).back row h rest tt)
+map_line_lem row rest h = rw (append_assoc, strip_back) ((line_reads (number_reads largest_number) clear-blank clear-closing).back row h rest tt)
 
 pub head_line : (h : Head) (rest : List ℕ) → Numbers h → head_get (head_text h ++ rest) ≡ some (h, rest)
 head_line h rest n = head_reads.back h n rest tt
@@ -41,9 +41,9 @@ pub rows_next : (k : Kind) (row : List (List ℕ)) (rows : List (List (List ℕ)
 unfolding each row_text
 rows_next k row rows t = simp append_assoc
 
-pub maps_next : (row : List ℕ) (maps : List (List ℕ)) (t : List ℕ) → each map_word (line_text digits) (row ∷ maps) ++ t ≡ map_text row ++ (each map_word (line_text digits) maps ++ t)
+pub maps-next : (row : List ℕ) (maps : List (List ℕ)) (t : List ℕ) → each map_word (line_text digits) (row ∷ maps) ++ t ≡ map_text row ++ (each map_word (line_text digits) maps ++ t)
 unfolding each map_text
-maps_next row maps t = simp append_assoc
+maps-next row maps t = simp append_assoc
 
 -- A line was read: its values, the place after it, and the space.
 pub record LineMet (text : List ℕ) (at : ℕ) (values rest out : List ℕ) (r : Read) (out' : List ℕ) : Type 0 where
@@ -54,10 +54,10 @@ pub record LineMet (text : List ℕ) (at : ℕ) (values rest out : List ℕ) (r 
   pub space : out' ≡ values ++ drop (length values) out
 
 module _ {text : List ℕ} {at : ℕ} where
-  pub taken-line : {get : Get (List ℕ)} {values rest out : List ℕ} (r : Read) {out' : List ℕ}
+  pub taken_line : {get : Get (List ℕ)} {values rest out : List ℕ} (r : Read) {out' : List ℕ}
       → Taken get text at out (read r) out' → get (drop at text) ≡ some (values, rest) → length values ≤ length out → LineMet text at values rest out r out'
   unfolding counted fitting
-  taken-line {get} {values} {rest} {out} r {out'} T e h = go r (sym read-there ∙ T.told.same) T.told.moved
+  taken_line {get} {values} {rest} {out} r {out'} T e h = go r (sym read-there ∙ T.told.same) T.told.moved
     where
       read-there : counted (fitting (length out) get) (drop at text) ≡ some (length values, rest)
       read-there = rw (e, le-leb (length values) (length out) h)
@@ -74,14 +74,14 @@ module _ {text : List ℕ} {at : ℕ} where
             space = T.space ∙ rw (e, le-leb (length values) (length out) h);
           }
 
-  pub taken-row : (k : Kind) (row : List (List ℕ)) {rest out : List ℕ} (r : Read) {out' : List ℕ}
+  pub taken_row : (k : Kind) (row : List (List ℕ)) {rest out : List ℕ} (r : Read) {out' : List ℕ}
       → Taken (row_line k) text at out (read r) out' → drop at text ≡ row_text k row ++ rest → All (Pixel k) row → length (flat row) ≤ length out
       → LineMet text at (flat row) rest out r out'
-  taken-row k row {rest} r T e a h = taken-line r T (ap (row_line k) e ∙ row_line_lem k row rest a) h
+  taken_row k row {rest} r T e a h = taken_line r T (ap (row_line k) e ∙ row_line_lem k row rest a) h
 
-  pub taken-map : (row : List ℕ) {rest out : List ℕ} (r : Read) {out' : List ℕ}
+  pub taken_map : (row : List ℕ) {rest out : List ℕ} (r : Read) {out' : List ℕ}
       → Taken map_line text at out (read r) out' → drop at text ≡ map_text row ++ rest → All (λ (a : ℕ). a ≤ largest_number) row → length row ≤ length out → LineMet text at row rest out r out'
-  taken-map row {rest} r T e a h = taken-line r T (ap map_line e ∙ map_line_lem row rest a) h
+  taken_map row {rest} r T e a h = taken_line r T (ap map_line e ∙ map_line_lem row rest a) h
 
 -- A head was read.
 pub record HeadMet (text : List ℕ) (at : ℕ) (h : Head) (rest : List ℕ) (r : HeadRead) : Type 0 where

@@ -21,10 +21,10 @@ unfolding is_digit
 no_digit b (inl h) = rw (lt-leb 48 b h)
 no_digit b (inr h) = rw (lt-leb b 57 h) (and-false (leb 48 b))
 
-further_more : (s : List ℕ) (n : ℕ) → n ≤ (further n s).0
+further-more : (s : List ℕ) (n : ℕ) → n ≤ (further n s).0
 unfolding further
-further_more [] n = omega arith
-further_more (b ∷ s) n = go (is_digit b) (further_more s (n * 10 + (b - 48)))
+further-more [] n = omega arith
+further-more (b ∷ s) n = go (is_digit b) (further-more s (n * 10 + (b - 48)))
   where
     go : (x : Bool) → n * 10 + (b - 48) ≤ (further (n * 10 + (b - 48)) s).0 → n ≤ (cond x (further (n * 10 + (b - 48)) s) (n, b ∷ s)).0
     go true h = omega arith
@@ -52,13 +52,13 @@ module _ (limit : ℕ) {text : List ℕ} {start : ℕ} where
   unfolding number_get
   number-none h d = record { same = rw (front text start h, d); moved = tt }
 
-  pub number-zero : start < length text → get_or text start 0 ≡ 48 → Told (number_get limit) text start (some (0, start + 1))
+  pub number_zero : start < length text → get_or text start 0 ≡ 48 → Told (number_get limit) text start (some (0, start + 1))
   unfolding number_get is_digit
-  number-zero h e = record { same = rw (front text start h, e); moved = (omega arith, omega arith) }
+  number_zero h e = record { same = rw (front text start h, e); moved = (omega arith, omega arith) }
 
 module _ {limit : ℕ} {text : List ℕ} {start : ℕ} where
-  pub reading-first : {d : ℕ} → start < length text → DigitByte (get_or text start 0) d → (d ≡ 0 → ⊥) → Reading limit text start d (start + 1)
-  reading-first h b z = record {
+  pub reading_first : {d : ℕ} → start < length text → DigitByte (get_or text start 0) d → (d ≡ 0 → ⊥) → Reading limit text start d (start + 1)
+  reading_first h b z = record {
     same = rw (front text start h, b.value) (number_digit limit (get_or text start 0) (drop (start + 1) text) (is_digit_lem (get_or text start 0) b.least b.most) (omega (arith, b.least, b.value, z)));
     there = omega arith;
     inside = omega arith;
@@ -78,7 +78,7 @@ module _ {limit : ℕ} {text : List ℕ} {start : ℕ} where
     pub reading-over : limit < n → Told (number_get limit) text start none
     unfolding up_to
     reading-over h =
-        let l = further_more (drop at text) n in
+        let l = further-more (drop at text) n in
         record { same = R.same ∙ rw (lt-leb (further n (drop at text)).0 limit (omega arith)); moved = tt }
 
     stopped : further n (drop at text) ≡ (n, drop at text) → Told (number_get limit) text start (within limit n at)

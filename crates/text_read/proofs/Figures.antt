@@ -27,10 +27,10 @@ unfolding figure
 figure_gap b s h = rw (skip_gap b s h)
 
 -- Where a number stands, nothing is skipped.
-pub figure_here : (s : List ℕ) (r : ℕ × List ℕ) → number_get largest_number s ≡ some r → figure s ≡ some r
+pub figure-here : (s : List ℕ) (r : ℕ × List ℕ) → number_get largest_number s ≡ some r → figure s ≡ some r
 unfolding figure number_get
-figure_here [] r h = absurd (none-ne-some _ h)
-figure_here (b ∷ s) r h = go (is_digit b) refl h
+figure-here [] r h = absurd (none-ne-some _ h)
+figure-here (b ∷ s) r h = go (is_digit b) refl h
   where
     go : (x : Bool) → is_digit b ≡ x → number_get largest_number (b ∷ s) ≡ some r → number_get largest_number (skipped (b ∷ s)) ≡ some r
     go true e h = rw (skip_digit b s e) h
@@ -42,8 +42,8 @@ pub record Skipping (text : List ℕ) (from at : ℕ) : Type 0 where
   pub there : from ≤ at
 
 module _ {text : List ℕ} {from : ℕ} where
-  pub skipping-first : Skipping text from from
-  skipping-first = record { same = refl; there = omega arith }
+  pub skipping_first : Skipping text from from
+  skipping_first = record { same = refl; there = omega arith }
 
   module _ {at : ℕ} (S : Skipping text from at) where
     pub skipping-next : at < length text → is_digit (get_or text at 0) ≡ false → Skipping text from (at + 1)
@@ -78,8 +78,8 @@ pub record Writing (limit n : ℕ) (text : List ℕ) (from : ℕ) (out₀ : List
   pub room : n ≤ length out₀
 
 module _ {limit n : ℕ} {text : List ℕ} {from : ℕ} {out₀ : List ℕ} where
-  pub writing-first : Coming limit n (drop from text) → n ≤ length out₀ → Writing limit n text from out₀ 0 from out₀
-  writing-first h r = record { left = n; sum = omega arith; coming = h; done = []; count = refl; all = refl; rest = refl; same = refl; size = refl; room = r }
+  pub writing_first : Coming limit n (drop from text) → n ≤ length out₀ → Writing limit n text from out₀ 0 from out₀
+  writing_first h r = record { left = n; sum = omega arith; coming = h; done = []; count = refl; all = refl; rest = refl; same = refl; size = refl; room = r }
 
   module _ {i at : ℕ} {out : List ℕ} (W : Writing limit n text from out₀ i at out) (l : i < n) where
     pub writing-some : Told figure text at none → ⊥
@@ -126,9 +126,9 @@ module _ {limit n : ℕ} {text : List ℕ} {from : ℕ} {out₀ : List ℕ} wher
             room = W.room;
           }
 
-  pub writing-end : {i at : ℕ} {out : List ℕ} → Writing limit n text from out₀ i at out → n ≤ i → FiguresGiven n text from out₀ at out
+  pub writing_end : {i at : ℕ} {out : List ℕ} → Writing limit n text from out₀ i at out → n ≤ i → FiguresGiven n text from out₀ at out
   unfolding figures after_figures
-  writing-end {i} {at} {out} W h = go W.left W.sum W.all W.rest
+  writing_end {i} {at} {out} W h = go W.left W.sum W.all W.rest
     where
       go : (m : ℕ) → i + m ≡ n → figures n (drop from text) ≡ W.done ++ figures m (drop at text) → after_figures n (drop from text) ≡ after_figures m (drop at text)
           → FiguresGiven n text from out₀ at out

@@ -19,7 +19,7 @@ use Rattle.text_rules.specs.declared.Items.TheVariants.{Samples, Pixels, Numbers
 use Rattle.text_read.specs.Answers.{Told, counted, item_of, form_of}
 use Rattle.text_theory.proofs.Pairs.{front, Reads, short}
 use Rattle.text_theory.proofs.Many.{many-next}
-use Rattle.text_theory.proofs.Decimals.{number-reads}
+use Rattle.text_theory.proofs.Decimals.{number_reads}
 use Rattle.text_theory.proofs.Files.{pixel_reads}
 
 module _ {A : Type 0} {ok : A → Type 0} {put : A → List ℕ} {stop : List ℕ → Type 0} {g : Get A} (R : Reads ok put stop g) where
@@ -31,9 +31,9 @@ module _ {A : Type 0} {ok : A → Type 0} {put : A → List ℕ} {stop : List �
   unfolding counted items strip blank next closing
   count-nil = rw step
 
-  count-close : (t : List ℕ) → counted (items g) (41 ∷ t) ≡ some (0, t)
+  count_close : (t : List ℕ) → counted (items g) (41 ∷ t) ≡ some (0, t)
   unfolding counted items strip blank next closing
-  count-close t = rw step
+  count_close t = rw step
 
   count-other : (b : ℕ) (t : List ℕ) → (b ≡ 41 → ⊥) → (b ≡ 32 → ⊥) → counted (items g) (b ∷ t) ≡ none
   unfolding counted items strip blank next closing
@@ -57,31 +57,31 @@ module _ {A : Type 0} {ok : A → Type 0} {put : A → List ℕ} {stop : List �
 
 form_nil : (w : Items) → form_of w [] ≡ none
 unfolding form_of
-form_nil Samples = count-nil (number-reads 255)
+form_nil Samples = count-nil (number_reads 255)
 form_nil Pixels = count-nil (pixel_reads Rgb)
-form_nil Numbers = count-nil (number-reads largest_number)
+form_nil Numbers = count-nil (number_reads largest_number)
 
 form_close : (w : Items) (t : List ℕ) → form_of w (41 ∷ t) ≡ some (0, t)
 unfolding form_of
-form_close Samples = count-close (number-reads 255)
-form_close Pixels = count-close (pixel_reads Rgb)
-form_close Numbers = count-close (number-reads largest_number)
+form_close Samples = count_close (number_reads 255)
+form_close Pixels = count_close (pixel_reads Rgb)
+form_close Numbers = count_close (number_reads largest_number)
 
 form_other : (w : Items) (b : ℕ) (t : List ℕ) → (b ≡ 41 → ⊥) → (b ≡ 32 → ⊥) → form_of w (b ∷ t) ≡ none
 unfolding form_of
-form_other Samples = count-other (number-reads 255)
+form_other Samples = count-other (number_reads 255)
 form_other Pixels = count-other (pixel_reads Rgb)
-form_other Numbers = count-other (number-reads largest_number)
+form_other Numbers = count-other (number_reads largest_number)
 
 form_blank : (w : Items) (t : List ℕ) → form_of w (32 ∷ t) ≡ on (item_of w t) (λ x. form_of w ▷ λ n. give (suc n))
 unfolding form_of item_of counted
-form_blank Samples t = count-blank (number-reads 255) t
+form_blank Samples t = count-blank (number_reads 255) t
 form_blank Pixels t = count-blank (pixel_reads Rgb) t ∙ go (pixel_get Rgb t)
   where
     go : (o : Option (List ℕ × List ℕ)) → on o (λ x. counted (items (pixel_get Rgb)) ▷ λ n. give (suc n)) ≡ on (on o (λ xs. give (length xs))) (λ x. counted (items (pixel_get Rgb)) ▷ λ n. give (suc n))
     go none = refl
     go (some r) = refl
-form_blank Numbers t = count-blank (number-reads largest_number) t
+form_blank Numbers t = count-blank (number_reads largest_number) t
 
 -- The state of the form's loop: n items stand between from and at.
 pub record Counting (w : Items) (text : List ℕ) (from n at : ℕ) : Type 0 where
@@ -90,8 +90,8 @@ pub record Counting (w : Items) (text : List ℕ) (from n at : ℕ) : Type 0 whe
   pub few : n ≤ at
 
 module _ {w : Items} {text : List ℕ} {from : ℕ} where
-  pub counting-first : Counting w text from 0 from
-  counting-first = record { same = go (form_of w (drop from text)); there = omega arith; few = omega arith }
+  pub counting_first : Counting w text from 0 from
+  counting_first = record { same = go (form_of w (drop from text)); there = omega arith; few = omega arith }
     where
       go : (o : Option (ℕ × List ℕ)) → o ≡ on o (λ m. give (0 + m))
       go none = refl
@@ -118,9 +118,9 @@ module _ {w : Items} {text : List ℕ} {from : ℕ} where
     counting-end h = record { same = C.same ∙ rw (drop_of_length-le text h, form_nil); moved = tt }
 
 -- A pixel in brackets: a sample, and a form of two more.
-pixel_step : (t : List ℕ) → item_of Pixels (40 ∷ t) ≡ (number_get 255 ▷ λ a. form_of Samples ▷ λ n. cond (eqb n 2) (give 3) (λ s. none)) t
+pixel-step : (t : List ℕ) → item_of Pixels (40 ∷ t) ≡ (number_get 255 ▷ λ a. form_of Samples ▷ λ n. cond (eqb n 2) (give 3) (λ s. none)) t
 unfolding item_of form_of counted pixel_get opening strip three
-pixel_step t = go (number_get 255 t)
+pixel-step t = go (number_get 255 t)
   where
     last : (a : ℕ) (xs s : List ℕ) (x : Bool) → eqb (length xs) 2 ≡ x → on (cond x (give (a ∷ xs)) (λ s. none) s) (λ xs. give (length xs)) ≡ cond x (give 3) (λ s. none) s
     last a xs s true e = let z = eqb-true (length xs) 2 e in rw z
@@ -143,25 +143,25 @@ unfolding item_of counted pixel_get opening strip
 pixel-other b t p = rw (ne_eqb 40 b (λ e. p (sym e)))
 
 module _ {text : List ℕ} {at : ℕ} where
-  pub item-end : length text ≤ at → Told (item_of Pixels) text at none
-  item-end h = record { same = rw (drop_of_length-le text h, pixel-nil); moved = tt }
+  pub item_end : length text ≤ at → Told (item_of Pixels) text at none
+  item_end h = record { same = rw (drop_of_length-le text h, pixel-nil); moved = tt }
 
-  pub item-other : at < length text → (get_or text at 0 ≡ 40 → ⊥) → Told (item_of Pixels) text at none
-  item-other h p = record { same = rw (front text at h, pixel-other (get_or text at 0) (drop (at + 1) text) p); moved = tt }
+  pub item_other : at < length text → (get_or text at 0 ≡ 40 → ⊥) → Told (item_of Pixels) text at none
+  item_other h p = record { same = rw (front text at h, pixel-other (get_or text at 0) (drop (at + 1) text) p); moved = tt }
 
   module _ (h : at < length text) (e : get_or text at 0 ≡ 40) where
     pub item-first : Told (number_get 255) text (at + 1) none → Told (item_of Pixels) text at none
-    item-first t = record { same = rw (front text at h, e, pixel_step, t.same); moved = tt }
+    item-first t = record { same = rw (front text at h, e, pixel-step, t.same); moved = tt }
 
     module _ {v : ℕ} {c : ℕ} (t : Told (number_get 255) text (at + 1) (some (v, c))) where
       pub item-rest : Told (form_of Samples) text (c) none → Told (item_of Pixels) text at none
-      item-rest f = record { same = rw (front text at h, e, pixel_step, t.same, f.same); moved = tt }
+      item-rest f = record { same = rw (front text at h, e, pixel-step, t.same, f.same); moved = tt }
 
       pub item-three : {n : ℕ} {d : ℕ} → Told (form_of Samples) text (c) (some (n, d)) → n ≡ 2 → Told (item_of Pixels) text at (some (3, d))
-      item-three f p = record { same = rw (front text at h, e, pixel_step, t.same, f.same, p); moved = (omega (arith, t.moved.0, f.moved.0), f.moved.1) }
+      item-three f p = record { same = rw (front text at h, e, pixel-step, t.same, f.same, p); moved = (omega (arith, t.moved.0, f.moved.0), f.moved.1) }
 
       pub item_count : {n : ℕ} {d : ℕ} → Told (form_of Samples) text (c) (some (n, d)) → (n ≡ 2 → ⊥) → Told (item_of Pixels) text at none
-      item_count {n} f p = record { same = rw (front text at h, e, pixel_step, t.same, f.same, ne_eqb n 2 p); moved = tt }
+      item_count {n} f p = record { same = rw (front text at h, e, pixel-step, t.same, f.same, ne_eqb n 2 p); moved = tt }
 
 pub item_samples : {text : List ℕ} {at : ℕ} {r : Option (ℕ × ℕ)} → Told (number_get 255) text at r → Told (item_of Samples) text at r
 unfolding item_of

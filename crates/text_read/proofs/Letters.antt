@@ -26,8 +26,8 @@ pub record Matching (w text : List ℕ) (start i at : ℕ) : Type 0 where
   pub inside : 0 < i → at ≤ length text
 
 module _ {w text : List ℕ} {start : ℕ} where
-  pub matching-first : Matching w text start 0 start
-  matching-first = record { same = refl; sum = omega arith; inside = λ h. absurd (omega arith) }
+  pub matching_first : Matching w text start 0 start
+  matching_first = record { same = refl; sum = omega arith; inside = λ h. absurd (omega arith) }
 
   module _ {i at : ℕ} (M : Matching w text start i at) where
     pub matching-next : at < length text → i < length w → get_or text at 0 ≡ get_or w i 0 → Matching w text start (i + 1) (at + 1)
@@ -70,17 +70,17 @@ no_letter_first n b t s h e =
 
 -- The letters of a name as they are spelled out, at the front of a few bytes.
 module _ {n : Name} {l : Letters} (S : SpelledOut n l) where
-  pub spelled-some : 0 < l.count
-  spelled-some = omega (arith, S.count_is, name_some n)
+  pub spelled_some : 0 < l.count
+  spelled_some = omega (arith, S.count_is, name_some n)
 
-  pub spelled-most : l.count ≤ 8
-  spelled-most = omega (arith, S.count_is, leb-true (length (name_text n)) 8 (each_name (λ m. leb (length (name_text m)) 8) refl n))
+  pub spelled_most : l.count ≤ 8
+  spelled_most = omega (arith, S.count_is, leb-true (length (name_text n)) 8 (each_name (λ m. leb (length (name_text m)) 8) refl n))
 
   pub spelled_at : {i : ℕ} → i < l.count → get_or (take l.count l.bytes) i 0 ≡ get_or l.bytes i 0
   spelled_at {i} h = get_or-take l.count l.bytes i 0 h
 
-  pub spelled-no-letter : {i : ℕ} (b : ℕ) → i < l.count → is_letter b ≡ false → b ≡ get_or (take l.count l.bytes) i 0 → ⊥
-  spelled-no-letter {i} b h k e = no_letter_other n i b (omega (arith, S.count_is)) k (e ∙ ap (λ (w : List ℕ). get_or w i 0) S.letters)
+  pub spelled_no_letter : {i : ℕ} (b : ℕ) → i < l.count → is_letter b ≡ false → b ≡ get_or (take l.count l.bytes) i 0 → ⊥
+  spelled_no_letter {i} b h k e = no_letter_other n i b (omega (arith, S.count_is)) k (e ∙ ap (λ (w : List ℕ). get_or w i 0) S.letters)
 
-  pub spelled-told : {text : List ℕ} {at : ℕ} {found : Option (ℕ × ℕ)} → Told (passing (take l.count l.bytes)) text at found → Told (passing (name_text n)) text at found
-  spelled-told t = rw S.letters at t
+  pub spelled_told : {text : List ℕ} {at : ℕ} {found : Option (ℕ × ℕ)} → Told (passing (take l.count l.bytes)) text at found → Told (passing (name_text n)) text at found
+  spelled_told t = rw S.letters at t

@@ -58,11 +58,11 @@ count-line {A} g s = go (items g s)
     go none = refl
     go (some r) = last r.0 (strip line_end r.1)
 
-pub rest_map : (s : List ℕ) → line_rest Numbers s ≡ on (line (number_get largest_number) s) (λ xs. give (length xs))
+pub rest-map : (s : List ℕ) → line_rest Numbers s ≡ on (line (number_get largest_number) s) (λ xs. give (length xs))
 unfolding line_rest form_of counted
-rest_map s = sym (count-line (number_get largest_number) s)
+rest-map s = sym (count-line (number_get largest_number) s)
 
-pub rest_row : (k : Kind) (s : List ℕ) → line_rest (items_of k) s ≡ on (line (pixel_get k) s) (λ xs. give (length xs))
+pub rest-row : (k : Kind) (s : List ℕ) → line_rest (items_of k) s ≡ on (line (pixel_get k) s) (λ xs. give (length xs))
 unfolding line_rest form_of counted items_of pixel_get
-rest_row Grey s = rw (← count_map (λ a. a ∷ []) (number_get 255) s) (sym (count-line _ s))
-rest_row Rgb s = sym (count-line _ s)
+rest-row Grey s = rw (← count_map (λ a. a ∷ []) (number_get 255) s) (sym (count-line _ s))
+rest-row Rgb s = sym (count-line _ s)

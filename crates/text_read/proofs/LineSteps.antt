@@ -14,9 +14,9 @@ use Rattle.pictures.specs.Pictures.{channels_of}
 use Rattle.pictures.specs.Numbers.{largest_number}
 use Rattle.text_theory.specs.Decimal.{digits, is_digit}
 use Rattle.text_theory.specs.Files.{blank, opening, closing, each, joined, pixel_text, All, Pixel}
-use Rattle.text_theory.proofs.Decimals.{clear, number-reads}
+use Rattle.text_theory.proofs.Decimals.{clear, number_reads}
 use Rattle.text_read.specs.Inner.{figure, figures, Coming}
-use Rattle.text_read.proofs.Figures.{figure_gap, figure_here}
+use Rattle.text_read.proofs.Figures.{figure_gap, figure-here}
 
 -- The numbers xs, none over the limit, stand in the bytes one after the other, and no digit between them.
 pub data Stand (limit : ℕ) : List ℕ → List ℕ → Type 0 where
@@ -25,28 +25,28 @@ pub data Stand (limit : ℕ) : List ℕ → List ℕ → Type 0 where
   more : {x : ℕ} {xs s : List ℕ} → x ≤ limit → clear s → Stand limit xs s → Stand limit (x ∷ xs) (digits x ++ s)
 
 module _ (limit : ℕ) where
-  coming-gap : (n b : ℕ) (s : List ℕ) → is_digit b ≡ false → Coming limit n s → Coming limit n (b ∷ s)
-  coming-gap zero b s h k = tt
-  coming-gap (suc n) b s h k = (k.0, figure_gap b s h ∙ k.1, k.2, k.3)
+  coming_gap : (n b : ℕ) (s : List ℕ) → is_digit b ≡ false → Coming limit n s → Coming limit n (b ∷ s)
+  coming_gap zero b s h k = tt
+  coming_gap (suc n) b s h k = (k.0, figure_gap b s h ∙ k.1, k.2, k.3)
 
-  figures-gap : (n b : ℕ) (s : List ℕ) → is_digit b ≡ false → figures n (b ∷ s) ≡ figures n s
+  figures_gap : (n b : ℕ) (s : List ℕ) → is_digit b ≡ false → figures n (b ∷ s) ≡ figures n s
   unfolding figures
-  figures-gap zero b s h = refl
-  figures-gap (suc n) b s h = rw (figure_gap b s h)
+  figures_gap zero b s h = refl
+  figures_gap (suc n) b s h = rw (figure_gap b s h)
 
   module _ (small : limit ≤ largest_number) where
     next-figure : (x : ℕ) (s : List ℕ) → x ≤ limit → clear s → figure (digits x ++ s) ≡ some (x, s)
-    next-figure x s h c = figure_here (digits x ++ s) (x, s) ((number-reads largest_number).back x (omega arith) s c)
+    next-figure x s h c = figure-here (digits x ++ s) (x, s) ((number_reads largest_number).back x (omega arith) s c)
 
     pub stand-coming : {xs s : List ℕ} → Stand limit xs s → Coming limit (length xs) s
     stand-coming end = tt
-    stand-coming {xs} (gap {b} {s = s} h k) = coming-gap (length xs) b s h (stand-coming k)
+    stand-coming {xs} (gap {b} {s = s} h k) = coming_gap (length xs) b s h (stand-coming k)
     stand-coming (more {x} {s = s} h c k) = ((x, s), next-figure x s h c, h, stand-coming k)
 
     pub stand-figures : {xs s : List ℕ} → Stand limit xs s → figures (length xs) s ≡ xs
     unfolding figures
     stand-figures end = refl
-    stand-figures {xs} (gap {b} {s = s} h k) = figures-gap (length xs) b s h ∙ stand-figures k
+    stand-figures {xs} (gap {b} {s = s} h k) = figures_gap (length xs) b s h ∙ stand-figures k
     stand-figures (more {x} {s = s} h c k) = rw (next-figure x s h c) (ap (x ∷◌) (stand-figures k))
 
 -- The numbers of a line's text stand in it.

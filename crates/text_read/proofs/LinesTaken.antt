@@ -15,7 +15,7 @@ use Rattle.pictures.specs.Numbers.{largest_number}
 use Rattle.text_theory.specs.Readers.{Get, give, on}
 use Rattle.text_theory.specs.Decimal.{digits, number_get}
 use Rattle.text_theory.specs.Files.{closed, row_word, map_word, pixel_text, line_text, pixel_get, line, All, Pixel}
-use Rattle.text_theory.proofs.Decimals.{number-reads}
+use Rattle.text_theory.proofs.Decimals.{number_reads}
 use Rattle.text_theory.proofs.Files.{line_reads, pixel_reads, clear-blank, clear-closing, clear-closed}
 use Rattle.text_rules.specs.declared.Items.TheVariants.{Numbers}
 use Rattle.text_read.specs.Answers.{Told, counted, line_rest}
@@ -23,7 +23,7 @@ use Rattle.text_read.specs.Lines.{row_line, map_line, fitting, Taken}
 use Rattle.text_read.specs.Inner.{passing, figures, Coming}
 use Rattle.text_rules.specs.Items.{items_of}
 use Rattle.text_read.proofs.Onward.{passing-some, passing-none}
-use Rattle.text_read.proofs.LineCounts.{rest_map, rest_row}
+use Rattle.text_read.proofs.LineCounts.{rest-map, rest-row}
 use Rattle.text_read.proofs.LineSteps.{Stand, stand-coming, stand-figures, numbers_stand, row_stand, row_count_lem}
 
 -- What the first pass knows: m values are read from the place on, and their numbers stand after the word.
@@ -76,12 +76,12 @@ module _ {text : List ℕ} {at : ℕ} where
     module _ {v c : ℕ} (t : Told (passing row_word) text at (some (v, c))) where
       pub row-torn : {out : List ℕ} → Told (line_rest (items_of k)) text c none → Taken (row_line k) text at out none out
       unfolding row_line
-      row-torn r = torn (rw (passing-some row_word (drop at text) v (drop c text) t.same, none_inv (line (pixel_get k) (drop c text)) (sym (rest_row k (drop c text)) ∙ r.same)))
+      row-torn r = torn (rw (passing-some row_word (drop at text) v (drop c text) t.same, none_inv (line (pixel_get k) (drop c text)) (sym (rest-row k (drop c text)) ∙ r.same)))
 
       pub row-found : {n d ch : ℕ} → Told (line_rest (items_of k)) text c (some (n, d)) → ch ≡ channels_of k → Found (row_line k) 255 text at c (n * ch) d
       unfolding row_line line_text
       row-found {n} {d} {ch} r h =
-          let p = counted_inv (line (pixel_get k) (drop c text)) n (drop d text) (sym (rest_row k (drop c text)) ∙ r.same) in
+          let p = counted_inv (line (pixel_get k) (drop c text)) n (drop d text) (sym (rest-row k (drop c text)) ∙ r.same) in
           go p.0 p.1 p.2 ((line_reads (pixel_reads k) clear-blank clear-closing).sound (drop c text) (p.0, drop d text) p.1)
         where
           go : (row : List (List ℕ)) → line (pixel_get k) (drop c text) ≡ some (row, drop d text) → length row ≡ n
@@ -94,20 +94,20 @@ module _ {text : List ℕ} {at : ℕ} where
             moved = (omega (arith, t.moved.0, r.moved.0), r.moved.1);
           }
 
-  pub map-no-word : {out : List ℕ} → Told (passing map_word) text at none → Taken map_line text at out none out
+  pub map_no_word : {out : List ℕ} → Told (passing map_word) text at none → Taken map_line text at out none out
   unfolding map_line
-  map-no-word t = torn (rw (passing-none map_word (drop at text) t.same))
+  map_no_word t = torn (rw (passing-none map_word (drop at text) t.same))
 
   module _ {v c : ℕ} (t : Told (passing map_word) text at (some (v, c))) where
     pub map-torn : {out : List ℕ} → Told (line_rest Numbers) text c none → Taken map_line text at out none out
     unfolding map_line
-    map-torn r = torn (rw (passing-some map_word (drop at text) v (drop c text) t.same) (none_inv (line (number_get largest_number) (drop c text)) (sym (rest_map (drop c text)) ∙ r.same)))
+    map-torn r = torn (rw (passing-some map_word (drop at text) v (drop c text) t.same) (none_inv (line (number_get largest_number) (drop c text)) (sym (rest-map (drop c text)) ∙ r.same)))
 
     pub map_found : {n d : ℕ} → Told (line_rest Numbers) text c (some (n, d)) → Found map_line largest_number text at c n d
     unfolding map_line line_text
     map_found {n} {d} r =
-        let p = counted_inv (line (number_get largest_number) (drop c text)) n (drop d text) (sym (rest_map (drop c text)) ∙ r.same) in
-        go p.0 p.1 p.2 ((line_reads (number-reads largest_number) clear-blank clear-closing).sound (drop c text) (p.0, drop d text) p.1)
+        let p = counted_inv (line (number_get largest_number) (drop c text)) n (drop d text) (sym (rest-map (drop c text)) ∙ r.same) in
+        go p.0 p.1 p.2 ((line_reads (number_reads largest_number) clear-blank clear-closing).sound (drop c text) (p.0, drop d text) p.1)
       where
         go : (row : List ℕ) → line (number_get largest_number) (drop c text) ≡ some (row, drop d text) → length row ≡ n
             → (drop c text ≡ line_text digits row ++ drop d text) × All (λ (a : ℕ). a ≤ largest_number) row → Found map_line largest_number text at c n d
@@ -124,6 +124,6 @@ pub pixels-fit : (k : Kind) (ch n len : ℕ) → ch ≡ channels_of k → n ≤ 
 pixels-fit Grey ch n len e h = rw e (omega (arith, div-add-mod' len 1, rw e at h))
 pixels-fit Rgb ch n len e h = rw e (omega (arith, div-add-mod' len 3, rw e at h))
 
-pub pixels_over : (k : Kind) (ch n len : ℕ) → ch ≡ channels_of k → len / ch < n → len < n * ch
-pixels_over Grey ch n len e h = rw e (omega (arith, div-add-mod' len 1, mod-lt len {m = 1} (omega arith), rw e at h))
-pixels_over Rgb ch n len e h = rw e (omega (arith, div-add-mod' len 3, mod-lt len {m = 3} (omega arith), rw e at h))
+pub pixels-over : (k : Kind) (ch n len : ℕ) → ch ≡ channels_of k → len / ch < n → len < n * ch
+pixels-over Grey ch n len e h = rw e (omega (arith, div-add-mod' len 1, mod-lt len {m = 1} (omega arith), rw e at h))
+pixels-over Rgb ch n len e h = rw e (omega (arith, div-add-mod' len 3, mod-lt len {m = 3} (omega arith), rw e at h))

@@ -41,44 +41,44 @@ missing-number text (some x) none e = absurd (none-ne-some _ (sym e))
 missing-number text (some x) (some r) e = refl
 
 module _ {A : Type 0} (get : Get A) (text : List ℕ) (at : ℕ) where
-  pub told-number : (found : Option (A × ℕ)) → Told get text at found → missing found ≡ refusal (reader_rules get text at)
-  told-number found t = missing-number text (get (drop at text)) found t.same
+  pub told_number : (found : Option (A × ℕ)) → Told get text at found → missing found ≡ refusal (reader_rules get text at)
+  told_number found t = missing-number text (get (drop at text)) found t.same
 
 -- Of each answer, with a contract that is told so.
 pub read_number_lem : (get : Get ℕ) (text : List ℕ) (at : ℕ) (r : Read) → Told get text at (read r) → read_number r ≡ refusal (reader_rules get text at)
-read_number_lem get text at (reads.Good n c) t = told-number get text at (some (n, c.at)) t
-read_number_lem get text at reads.Broken t = told-number get text at none t
+read_number_lem get text at (reads.Good n c) t = told_number get text at (some (n, c.at)) t
+read_number_lem get text at reads.Broken t = told_number get text at none t
 
 pub kind_number_lem : (get : Get Kind) (text : List ℕ) (at : ℕ) (r : KindRead) → Told get text at (kind_read r) → kind_read_number r ≡ refusal (reader_rules get text at)
-kind_number_lem get text at (Named k c) t = told-number get text at (some (k, c.at)) t
-kind_number_lem get text at Unnamed t = told-number get text at none t
+kind_number_lem get text at (Named k c) t = told_number get text at (some (k, c.at)) t
+kind_number_lem get text at Unnamed t = told_number get text at none t
 
 pub word_number_lem : (get : Get Written) (text : List ℕ) (at : ℕ) (r : Word) → Told get text at (word_read r) → word_number r ≡ refusal (reader_rules get text at)
-word_number_lem get text at (words.Number n c) t = told-number get text at (some (numeral n, c.at)) t
-word_number_lem get text at (words.Name n c) t = told-number get text at (some (name n, c.at)) t
-word_number_lem get text at words.Broken t = told-number get text at none t
+word_number_lem get text at (words.Number n c) t = told_number get text at (some (numeral n, c.at)) t
+word_number_lem get text at (words.Name n c) t = told_number get text at (some (name n, c.at)) t
+word_number_lem get text at words.Broken t = told_number get text at none t
 
 pub head_number : (get : Get Head) (text : List ℕ) (at : ℕ) (r : HeadRead) → Told get text at (head_read r) → head_read_number r ≡ refusal (reader_rules get text at)
-head_number get text at (Begun h c) t = told-number get text at (some (h, c.at)) t
-head_number get text at Unbegun t = told-number get text at none t
+head_number get text at (Begun h c) t = told_number get text at (some (h, c.at)) t
+head_number get text at Unbegun t = told_number get text at none t
 
 pub name_number_lem : (get : Get Name) (text : List ℕ) (at : ℕ) (r : NameRead) → Told get text at (name_read r) → name_read_number r ≡ refusal (reader_rules get text at)
-name_number_lem get text at (names.Known n c) t = told-number get text at (some (n, c.at)) t
-name_number_lem get text at names.Unknown t = told-number get text at none t
+name_number_lem get text at (names.Known n c) t = told_number get text at (some (n, c.at)) t
+name_number_lem get text at names.Unknown t = told_number get text at none t
 
 pub size_number : (get : Get Size) (text : List ℕ) (at : ℕ) (r : SizeRead) → Told get text at (size_read r) → size_read_number r ≡ refusal (reader_rules get text at)
-size_number get text at (sizes.Sized z c) t = told-number get text at (some (z, c.at)) t
-size_number get text at sizes.Unsized t = told-number get text at none t
+size_number get text at (sizes.Sized z c) t = told_number get text at (some (z, c.at)) t
+size_number get text at sizes.Unsized t = told_number get text at none t
 
-pub range_number : (get : Get (ℕ × ℕ)) (text : List ℕ) (at : ℕ) (r : RangeRead) → Told get text at (range_read r) → range_read_number r ≡ refusal (reader_rules get text at)
-range_number get text at (ranges.Ranged d g c) t = told-number get text at (some ((d, g), c.at)) t
-range_number get text at ranges.Unranged t = told-number get text at none t
+pub range-number : (get : Get (ℕ × ℕ)) (text : List ℕ) (at : ℕ) (r : RangeRead) → Told get text at (range_read r) → range_read_number r ≡ refusal (reader_rules get text at)
+range-number get text at (ranges.Ranged d g c) t = told_number get text at (some ((d, g), c.at)) t
+range-number get text at ranges.Unranged t = told_number get text at none t
 
 -- A line read into a space: 1 where it breaks its form, 8 where it has it and the space is shorter than its values.
 module _ (get : Get (List ℕ)) (text : List ℕ) (at : ℕ) (out : List ℕ) (r : Read) (out' : List ℕ) (t : Taken get text at out (read r) out') where
-  pub line-number : line_number (unread (get (drop at text))) r ≡ refusal (line_rules get text at (length out))
+  pub line_number_lem : line_number (unread (get (drop at text))) r ≡ refusal (line_rules get text at (length out))
   unfolding counted fitting
-  line-number = go (get (drop at text)) refl
+  line_number_lem = go (get (drop at text)) refl
     where
       -- the answer, from what the reader gives if it fits
       none_is : (r : Read) → none ≡ read_on text (read r) → r ≡ reads.Broken

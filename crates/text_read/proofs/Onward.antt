@@ -37,25 +37,25 @@ pub record Left {B : Type 0} (whole : Get B) (text : List ℕ) (from : ℕ) (res
   pub there : from ≤ at
 
 module _ {B : Type 0} {whole : Get B} {text : List ℕ} {from : ℕ} where
-  pub left-start : Left whole text from whole from
-  left-start = record { same = refl; there = omega arith }
+  pub left_start : Left whole text from whole from
+  left_start = record { same = refl; there = omega arith }
 
   pub left-past : (w : List ℕ) {g : Get B} {at v c : ℕ} → Left whole text from (after w g) at → Told (passing w) text at (some (v, c)) → Left whole text from g c
   left-past w {at = at} {v} {c} L t = record { same = L.same ∙ rw (passing-some w (drop at text) v (drop c text) t.same); there = omega (arith, L.there, t.moved.0) }
 
-  pub left-no-past : (w : List ℕ) (g : Get B) {at : ℕ} → Left whole text from (after w g) at → Told (passing w) text at none → Told whole text from none
-  left-no-past w g {at} L t = record { same = L.same ∙ rw (passing-none w (drop at text) t.same); moved = tt }
+  pub left_no_past : (w : List ℕ) (g : Get B) {at : ℕ} → Left whole text from (after w g) at → Told (passing w) text at none → Told whole text from none
+  left_no_past w g {at} L t = record { same = L.same ∙ rw (passing-none w (drop at text) t.same); moved = tt }
 
-  pub left-then : {A : Type 0} {g : Get A} (f : A → Get B) {at : ℕ} {a : A} {c : ℕ} → Left whole text from (g ▷ f) at → Told g text at (some (a, c)) → Left whole text from (f a) c
-  left-then f L t = record { same = L.same ∙ rw t.same; there = omega (arith, L.there, t.moved.0) }
+  pub left_then : {A : Type 0} {g : Get A} (f : A → Get B) {at : ℕ} {a : A} {c : ℕ} → Left whole text from (g ▷ f) at → Told g text at (some (a, c)) → Left whole text from (f a) c
+  left_then f L t = record { same = L.same ∙ rw t.same; there = omega (arith, L.there, t.moved.0) }
 
-  pub left-no-then : {A : Type 0} {g : Get A} (f : A → Get B) {at : ℕ} → Left whole text from (g ▷ f) at → Told g text at none → Told whole text from none
-  left-no-then f L t = record { same = L.same ∙ rw t.same; moved = tt }
+  pub left_no_then : {A : Type 0} {g : Get A} (f : A → Get B) {at : ℕ} → Left whole text from (g ▷ f) at → Told g text at none → Told whole text from none
+  left_no_then f L t = record { same = L.same ∙ rw t.same; moved = tt }
 
   -- What is left is read by one more reader, and that is all.
-  pub left-tail : {g : Get B} {at : ℕ} (found : Option (B × ℕ)) → Left whole text from g at → Told g text at found → Told whole text from found
-  left-tail none L t = record { same = L.same ∙ t.same; moved = tt }
-  left-tail (some r) L t = record { same = L.same ∙ t.same; moved = (omega (arith, L.there, t.moved.0), t.moved.1) }
+  pub left_tail : {g : Get B} {at : ℕ} (found : Option (B × ℕ)) → Left whole text from g at → Told g text at found → Told whole text from found
+  left_tail none L t = record { same = L.same ∙ t.same; moved = tt }
+  left_tail (some r) L t = record { same = L.same ∙ t.same; moved = (omega (arith, L.there, t.moved.0), t.moved.1) }
 
   -- The same, with a value given at the end.
   pub left-past-give : (w : List ℕ) {b : B} {at v c : ℕ} → Left whole text from (after w (give b)) at → Told (passing w) text at (some (v, c)) → Told whole text from (some (b, c))
@@ -64,8 +64,8 @@ module _ {B : Type 0} {whole : Get B} {text : List ℕ} {from : ℕ} where
     moved = (omega (arith, L.there, t.moved.0), t.moved.1);
   }
 
-  pub left-then-give : {A : Type 0} {g : Get A} (f : A → B) {at : ℕ} {a : A} {c : ℕ} → Left whole text from (g ▷ λ a. give (f a)) at → Told g text at (some (a, c)) → Told whole text from (some (f a, c))
-  left-then-give f L t = record { same = L.same ∙ rw t.same; moved = (omega (arith, L.there, t.moved.0), t.moved.1) }
+  pub left_then_give : {A : Type 0} {g : Get A} (f : A → B) {at : ℕ} {a : A} {c : ℕ} → Left whole text from (g ▷ λ a. give (f a)) at → Told g text at (some (a, c)) → Told whole text from (some (f a, c))
+  left_then_give f L t = record { same = L.same ∙ rw t.same; moved = (omega (arith, L.there, t.moved.0), t.moved.1) }
 
   -- A reader that reads alike may stand for what is left.
   pub left_as : {g k : Get B} {at : ℕ} → ((s : List ℕ) → g s ≡ k s) → Left whole text from g at → Left whole text from k at
@@ -81,10 +81,10 @@ after_then w g f s = go (strip w s)
 
 module _ {A B : Type 0} {whole : Get B} {text : List ℕ} {from : ℕ} (w : List ℕ) (g : Get A) (f : A → Get B) {at : ℕ} (L : Left whole text from (after w (g ▷ f)) at) where
   pub left_after : {a : A} {c : ℕ} → Told (after w g) text at (some (a, c)) → Left whole text from (f a) c
-  left_after t = left-then f (left_as (after_then w g f) L) t
+  left_after t = left_then f (left_as (after_then w g f) L) t
 
-  pub left-no-after : Told (after w g) text at none → Told whole text from none
-  left-no-after t = left-no-then f (left_as (after_then w g f) L) t
+  pub left_no_after : Told (after w g) text at none → Told whole text from none
+  left_no_after t = left_no_then f (left_as (after_then w g f) L) t
 
 -- Two runs of bytes, one after the other.
 pub after-append : {A : Type 0} (v w : List ℕ) (g : Get A) (s : List ℕ) → after (v ++ w) g s ≡ after v (after w g) s

@@ -108,18 +108,18 @@ same_tag : (v w : Written) (s t : List ℕ) → ◌≡◌ {A = Option (Written �
 same_tag v w s t h = ap (λ (r : Written × List ℕ). tag r.0) (some-injective (v, s) (w, t) h)
 
 module _ (s : List ℕ) where
-  word-numeral : (n : ℕ) (t : List ℕ) → word s ≡ some (numeral n, t) → number_get largest_number s ≡ some (n, t)
+  word_numeral : (n : ℕ) (t : List ℕ) → word s ≡ some (numeral n, t) → number_get largest_number s ≡ some (n, t)
   unfolding word
-  word-numeral n t h = go (number_get largest_number s) (name_get s) h
+  word_numeral n t h = go (number_get largest_number s) (name_get s) h
     where
       go : (o : Option (ℕ × List ℕ)) (k : Option (Name × List ℕ)) → either-word o k ≡ some (numeral n, t) → o ≡ some (n, t)
       go none none h = absurd (none-ne-some _ h)
       go none (some q) h = absurd (let z = same_tag (name q.0) (numeral n) q.1 t h in omega arith)
       go (some r) k h = ap (λ (q : Written × List ℕ). some (number_in q.0, q.1)) (some-injective (numeral r.0, r.1) (numeral n, t) h)
 
-  word-name : (k : Name) (t : List ℕ) → word s ≡ some (name k, t) → (number_get largest_number s ≡ none) × (name_get s ≡ some (k, t))
+  word_name : (k : Name) (t : List ℕ) → word s ≡ some (name k, t) → (number_get largest_number s ≡ none) × (name_get s ≡ some (k, t))
   unfolding word
-  word-name k t h = go (number_get largest_number s) (name_get s) h
+  word_name k t h = go (number_get largest_number s) (name_get s) h
     where
       go : (o : Option (ℕ × List ℕ)) (p : Option (Name × List ℕ)) → either-word o p ≡ some (name k, t) → (o ≡ none) × (p ≡ some (k, t))
       go none none h = absurd (none-ne-some _ h)
@@ -136,13 +136,13 @@ module _ (s : List ℕ) where
       go (some r) k h = absurd (none-ne-some _ (sym h))
 
 module _ {text : List ℕ} {at : ℕ} where
-  pub told-word-end : length text ≤ at → Told word text at none
+  pub told_word-end : length text ≤ at → Told word text at none
   unfolding word
-  told-word-end h = record { same = rw (drop_of_length-le text h, number-nil, name_nil); moved = tt }
+  told_word-end h = record { same = rw (drop_of_length-le text h, number-nil, name_nil); moved = tt }
 
-  pub told-word-number : {n c : ℕ} → Told (number_get largest_number) text at (some (n, c)) → Told word text at (some (numeral n, c))
+  pub told_word_number : {n c : ℕ} → Told (number_get largest_number) text at (some (n, c)) → Told word text at (some (numeral n, c))
   unfolding word
-  told-word-number t = record { same = rw t.same; moved = t.moved }
+  told_word_number t = record { same = rw t.same; moved = t.moved }
 
   module _ (h : at < length text) where
     pub told-word-no-number : is_digit (get_or text at 0) ≡ true → Told (number_get largest_number) text at none → Told word text at none
@@ -165,40 +165,40 @@ module _ {text : List ℕ} {at : ℕ} where
     told-word-other d l = told-word-no-name d (record { same = rw (front text at h, name_other (get_or text at 0) (drop (at + 1) text) l); moved = tt })
 
   module _ (limit : ℕ) (l : limit ≤ largest_number) where
-    pub told-number : {n c : ℕ} → Told word text at (some (numeral n, c)) → n ≤ limit → Told (number_get limit) text at (some (n, c))
-    told-number {n} {c} t h = record { same = rw (number_limit limit l (drop at text), word-numeral (drop at text) n (drop c text) t.same, le-ltb limit n h); moved = t.moved }
+    pub told_number : {n c : ℕ} → Told word text at (some (numeral n, c)) → n ≤ limit → Told (number_get limit) text at (some (n, c))
+    told_number {n} {c} t h = record { same = rw (number_limit limit l (drop at text), word_numeral (drop at text) n (drop c text) t.same, le-ltb limit n h); moved = t.moved }
 
     pub told-number-over : {n c : ℕ} → Told word text at (some (numeral n, c)) → limit < n → Told (number_get limit) text at none
-    told-number-over {n} {c} t h = record { same = rw (number_limit limit l (drop at text), word-numeral (drop at text) n (drop c text) t.same, lt-ltb limit n h); moved = tt }
+    told-number-over {n} {c} t h = record { same = rw (number_limit limit l (drop at text), word_numeral (drop at text) n (drop c text) t.same, lt-ltb limit n h); moved = tt }
 
     pub told-number-name : {k : Name} {c : ℕ} → Told word text at (some (name k, c)) → Told (number_get limit) text at none
-    told-number-name {k} {c} t = record { same = rw (number_limit limit l (drop at text), (word-name (drop at text) k (drop c text) t.same).0); moved = tt }
+    told-number-name {k} {c} t = record { same = rw (number_limit limit l (drop at text), (word_name (drop at text) k (drop c text) t.same).0); moved = tt }
 
     pub told-number-none : Told word text at none → Told (number_get limit) text at none
     told-number-none t = record { same = rw (number_limit limit l (drop at text), (word_none (drop at text) t.same).0); moved = tt }
 
-  pub told-name : {k : Name} {c : ℕ} → Told word text at (some (name k, c)) → Told name_get text at (some (k, c))
-  told-name {k} {c} t = record { same = (word-name (drop at text) k (drop c text) t.same).1; moved = t.moved }
+  pub told_name : {k : Name} {c : ℕ} → Told word text at (some (name k, c)) → Told name_get text at (some (k, c))
+  told_name {k} {c} t = record { same = (word_name (drop at text) k (drop c text) t.same).1; moved = t.moved }
 
   -- The arm of all words that are no names.
-  pub told-no-name : (w : Word) → OneOf (0 ∷ 2 ∷ []) (tag_of w) → Told word text at (word_read w) → Told name_get text at none
-  told-no-name (words.Number n c) k t = record { same = number_name (drop at text) _ (word-numeral (drop at text) n (drop c.at text) t.same); moved = tt }
-  told-no-name (words.Name n c) k t = absurd (miss (0 ∷ 2 ∷ []) 1 tt k)
-  told-no-name words.Broken k t = record { same = (word_none (drop at text) t.same).1; moved = tt }
+  pub told_no_name : (w : Word) → OneOf (0 ∷ 2 ∷ []) (tag_of w) → Told word text at (word_read w) → Told name_get text at none
+  told_no_name (words.Number n c) k t = record { same = number_name (drop at text) _ (word_numeral (drop at text) n (drop c.at text) t.same); moved = tt }
+  told_no_name (words.Name n c) k t = absurd (miss (0 ∷ 2 ∷ []) 1 tt k)
+  told_no_name words.Broken k t = record { same = (word_none (drop at text) t.same).1; moved = tt }
 
 -- The kind of a name.
 module _ {text : List ℕ} {at : ℕ} where
-  pub told-kind : {n : Name} {k : Kind} {c : ℕ} → Told name_get text at (some (n, c)) → kind_named n ≡ some k → Told kind_get text at (some (k, c))
+  pub told_kind : {n : Name} {k : Kind} {c : ℕ} → Told name_get text at (some (n, c)) → kind_named n ≡ some k → Told kind_get text at (some (k, c))
   unfolding kind_get
-  told-kind t e = record { same = rw (t.same, e); moved = t.moved }
+  told_kind t e = record { same = rw (t.same, e); moved = t.moved }
 
-  pub told-no-kind : {n : Name} {c : ℕ} → Told name_get text at (some (n, c)) → kind_named n ≡ none → Told kind_get text at none
+  pub told_no_kind : {n : Name} {c : ℕ} → Told name_get text at (some (n, c)) → kind_named n ≡ none → Told kind_get text at none
   unfolding kind_get
-  told-no-kind t e = record { same = rw (t.same, e); moved = tt }
+  told_no_kind t e = record { same = rw (t.same, e); moved = tt }
 
-  pub told-unnamed : Told name_get text at none → Told kind_get text at none
+  pub told_unnamed : Told name_get text at none → Told kind_get text at none
   unfolding kind_get
-  told-unnamed t = record { same = rw t.same; moved = tt }
+  told_unnamed t = record { same = rw t.same; moved = tt }
 
 -- The arm of all names that are no kind's.
 abbrev no_kinds : List ℕ
@@ -215,9 +215,9 @@ no_kind n k = rw (ne_eqb 5 (name_number n) (other 5 (miss no_kinds 5 tt)), ne_eq
 
 -- One name alone.
 module _ (n : Name) {text : List ℕ} {at : ℕ} where
-  pub told-not-named : Told name_get text at none → Told (named n) text at none
+  pub told_not-named : Told name_get text at none → Told (named n) text at none
   unfolding named
-  told-not-named t = record { same = rw t.same; moved = tt }
+  told_not-named t = record { same = rw t.same; moved = tt }
 
   module _ {m : Name} {c i j : ℕ} (t : Told name_get text at (some (m, c))) (e : i ≡ name_number m) (f : j ≡ name_number n) where
     pub told_named : i ≡ j → Told (named n) text at (some (0, c))
@@ -233,9 +233,9 @@ pub record Naming (text : List ℕ) (at i : ℕ) : Type 0 where
   pub same : name_get (drop at text) ≡ one_of (drop i all_names) (drop at text)
 
 module _ {text : List ℕ} {at : ℕ} where
-  pub naming-first : Naming text at 0
+  pub naming_first : Naming text at 0
   unfolding name_get
-  naming-first = record { same = refl }
+  naming_first = record { same = refl }
 
   module _ {i : ℕ} (N : Naming text at i) where
     this : i < length all_names → one_of (drop i all_names) (drop at text) ≡ either (after (name_text (name_at i)) (give (name_at i)) (drop at text)) (one_of (drop (i + 1) all_names) (drop at text))

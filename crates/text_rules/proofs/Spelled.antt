@@ -8,8 +8,8 @@ use Rattle.text_rules.specs.declared.names.Letters.{Letters}
 use Rattle.text_rules.specs.Names.{SpelledOut}
 
 module _ {n : Name} {l : Letters} (S : SpelledOut n l) where
-  pub spelled-length : length (take l.count l.bytes) ≡ l.count
-  spelled-length = ap length S.letters ∙ sym S.count_is
+  pub spelled_length : length (take l.count l.bytes) ≡ l.count
+  spelled_length = ap length S.letters ∙ sym S.count_is
 
-  pub spelled-inside : l.count ≤ length l.bytes
-  spelled-inside = omega (arith, spelled-length, simp length-append at (ap length (take-append-drop l.count l.bytes)))
+  pub spelled_inside : l.count ≤ length l.bytes
+  spelled_inside = omega (arith, spelled_length, simp length-append at (ap length (take-append-drop l.count l.bytes)))

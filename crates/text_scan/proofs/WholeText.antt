@@ -19,7 +19,7 @@ use Rattle.text_scan.specs.Facts.{evenly, facts_of, facts_in}
 use Rattle.text_scan.specs.Inner.{Reached, lines_of, scan_of}
 use Rattle.text_rules.specs.Items.{items_of}
 use Rattle.text_theory.proofs.Pairs.{front}
-use Rattle.text_read.proofs.LineCounts.{many_change, rest_map, rest_row}
+use Rattle.text_read.proofs.LineCounts.{many_change, rest-map, rest-row}
 use Rattle.text_read.proofs.Onward.{Left}
 use Rattle.text_scan.proofs.Counting.{tally}
 
@@ -56,13 +56,13 @@ scan_file s = go (head_get s)
         → on (on o (tally_all h.size.width)) (λ r. lines_of map_word Numbers h.size.width ▷ λ m. after closed (give (record { head = h; rows = r.0; maps = m.0; full = r.1 && m.1 })))
         ≡ on (on o (λ rows. many map_word (line (number_get largest_number)) ▷ λ maps. after closed (give (record { head = h; rows = rows; maps = maps })))) (λ p. give (facts_of p))
     rows_step h none = refl
-    rows_step h (some r) = rw (lines_read_lem map_word Numbers (line (number_get largest_number)) h.size.width rest_map r.1) (maps-step h r.0 (many map_word (line (number_get largest_number)) r.1))
+    rows_step h (some r) = rw (lines_read_lem map_word Numbers (line (number_get largest_number)) h.size.width rest-map r.1) (maps-step h r.0 (many map_word (line (number_get largest_number)) r.1))
 
     go : (o : Option (Head × List ℕ))
         → on o (λ h. lines_of row_word (items_of h.size.kind) h.size.width ▷ λ r. lines_of map_word Numbers h.size.width ▷ λ m. after closed (give (record { head = h; rows = r.0; maps = m.0; full = r.1 && m.1 })))
         ≡ on (on o (λ h. many row_word (line (pixel_get h.size.kind)) ▷ λ rows. many map_word (line (number_get largest_number)) ▷ λ maps. after closed (give (record { head = h; rows = rows; maps = maps })))) (λ p. give (facts_of p))
     go none = refl
-    go (some r) = rw (lines_read_lem row_word (items_of r.0.size.kind) (line (pixel_get r.0.size.kind)) r.0.size.width (rest_row r.0.size.kind) r.1) (rows_step r.0 (many row_word (line (pixel_get r.0.size.kind)) r.1))
+    go (some r) = rw (lines_read_lem row_word (items_of r.0.size.kind) (line (pixel_get r.0.size.kind)) r.0.size.width (rest-row r.0.size.kind) r.1) (rows_step r.0 (many row_word (line (pixel_get r.0.size.kind)) r.1))
 
 facts_of-parse : (s : List ℕ) → facts_in (parse s) ≡ whole (scan_of s)
 unfolding parse whole
@@ -81,17 +81,17 @@ unfolding whole
 scan_none {text} t = facts_of-parse text ∙ rw t.same
 
 module _ {text : List ℕ} {f : Facts} {at : ℕ} (L : Left scan_of text 0 (give f) at) where
-  pub scan-more : at < length text → facts_in (parse text) ≡ none
+  pub scan_more : at < length text → facts_in (parse text) ≡ none
   unfolding whole
-  scan-more h = facts_of-parse text ∙ rw (L.same, front text at h)
+  scan_more h = facts_of-parse text ∙ rw (L.same, front text at h)
 
-  pub scan-end : length text ≤ at → facts_in (parse text) ≡ some f
+  pub scan_end : length text ≤ at → facts_in (parse text) ≡ some f
   unfolding whole
-  scan-end h = facts_of-parse text ∙ rw (L.same, drop_of_length-le text h)
+  scan_end h = facts_of-parse text ∙ rw (L.same, drop_of_length-le text h)
 
 module _ {B : Type 0} {whole : Get B} {text : List ℕ} {from : ℕ} where
-  pub left-reach : {A : Type 0} {g : Get A} (f : A → Get B) {at : ℕ} {a : A} {c : ℕ} → Left whole text from (g ▷ f) at → Reached g text at (some (a, c)) → Left whole text from (f a) c
-  left-reach f L t = record { same = L.same ∙ rw t.same; there = omega (arith, L.there, t.moved.0) }
+  pub left_reach : {A : Type 0} {g : Get A} (f : A → Get B) {at : ℕ} {a : A} {c : ℕ} → Left whole text from (g ▷ f) at → Reached g text at (some (a, c)) → Left whole text from (f a) c
+  left_reach f L t = record { same = L.same ∙ rw t.same; there = omega (arith, L.there, t.moved.0) }
 
-  pub left-no-reach : {A : Type 0} {g : Get A} (f : A → Get B) {at : ℕ} → Left whole text from (g ▷ f) at → Reached g text at none → Told whole text from none
-  left-no-reach f L t = record { same = L.same ∙ rw t.same; moved = tt }
+  pub left_no_reach : {A : Type 0} {g : Get A} (f : A → Get B) {at : ℕ} → Left whole text from (g ▷ f) at → Reached g text at none → Told whole text from none
+  left_no_reach f L t = record { same = L.same ∙ rw t.same; moved = tt }

@@ -39,9 +39,9 @@ pub digits_small : (n : ℕ) → n < 10 → digits n ≡ (48 + n) ∷ []
 unfolding digits digits_up_to
 digits_small n h = rw (lt-ltb n 10 h)
 
-pub digits_large : (n : ℕ) → 10 ≤ n → digits n ≡ digits (n / 10) ++ (48 + n % 10) ∷ []
+pub digits-large : (n : ℕ) → 10 ≤ n → digits n ≡ digits (n / 10) ++ (48 + n % 10) ∷ []
 unfolding digits digits_up_to
-digits_large n h =
+digits-large n h =
     let l = tenth n h in
     rw (le-ltb n 10 h, digits_same n (suc (n / 10)) (n / 10) l (omega arith))
 
@@ -49,11 +49,11 @@ digits_large n h =
 pub length_small : (n : ℕ) → n < 10 → length (digits n) ≡ 1
 length_small n h = rw (digits_small n h)
 
-pub length_large : (n : ℕ) → 10 ≤ n → length (digits n) ≡ length (digits (n / 10)) + 1
-length_large n h = rw (digits_large n h, length-append)
+pub length-large : (n : ℕ) → 10 ≤ n → length (digits n) ≡ length (digits (n / 10)) + 1
+length-large n h = rw (digits-large n h, length-append)
 
 pub digits_step : (q d : ℕ) → 0 < q → d < 10 → digits (q * 10 + d) ≡ digits q ++ (48 + d) ∷ []
-digits_step q d p h = digits_large (q * 10 + d) (omega arith) ∙ rw (digits_div q h, digits_mod q h)
+digits_step q d p h = digits-large (q * 10 + d) (omega arith) ∙ rw (digits_div q h, digits_mod q h)
 
 pub digit_true : (b : ℕ) → is_digit b ≡ true → (48 ≤ b) × (b ≤ 57)
 unfolding is_digit
@@ -68,9 +68,9 @@ pub is_digit_lem : (b : ℕ) → 48 ≤ b → b ≤ 57 → is_digit b ≡ true
 unfolding is_digit
 is_digit_lem b p q = rw (le-leb 48 b p, le-leb b 57 q)
 
-further_step : (n b : ℕ) (s : List ℕ) → is_digit b ≡ true → further n (b ∷ s) ≡ further (n * 10 + (b - 48)) s
+further-step : (n b : ℕ) (s : List ℕ) → is_digit b ≡ true → further n (b ∷ s) ≡ further (n * 10 + (b - 48)) s
 unfolding further
-further_step n b s h = rw h
+further-step n b s h = rw h
 
 further-clear : (n : ℕ) (t : List ℕ) → clear t → further n t ≡ (n, t)
 unfolding further
@@ -110,13 +110,13 @@ read-digits limit (suc k) n t p q = go (ltb n 10) refl (read-digits limit k (n /
         let l = tenth n h in
         let m = mod-lt n {m = 10} (omega arith) in
         let c : n / 10 * 10 + (48 + n % 10 - 48) ≡ n = omega (arith, div-add-mod' n 10) in
-        rw append_assoc (f (omega arith) (tenth-pos n h) ∙ ap (up_to limit) (further_step (n / 10) (48 + n % 10) t (is_digit_lem (48 + n % 10) (omega arith) (omega arith)) ∙ rw c))
+        rw append_assoc (f (omega arith) (tenth-pos n h) ∙ ap (up_to limit) (further-step (n / 10) (48 + n % 10) t (is_digit_lem (48 + n % 10) (omega arith) (omega arith)) ∙ rw c))
 
 module _ (limit : ℕ) where
-  number-back : (n : ℕ) → n ≤ limit → (t : List ℕ) → clear t → number_get limit (digits n ++ t) ≡ some (n, t)
+  number_back : (n : ℕ) → n ≤ limit → (t : List ℕ) → clear t → number_get limit (digits n ++ t) ≡ some (n, t)
   unfolding digits up_to number_get digits_up_to is_digit
-  number-back zero h t c = refl
-  number-back (suc n) h t c = read-digits limit (suc (suc n)) (suc n) t (omega arith) (omega arith) ∙ rw (further-clear (suc n) t c, le-leb (suc n) limit h)
+  number_back zero h t c = refl
+  number_back (suc n) h t c = read-digits limit (suc (suc n)) (suc n) t (omega arith) (omega arith) ∙ rw (further-clear (suc n) t c, le-leb (suc n) limit h)
 
   number-sound : (s : List ℕ) (r : ℕ × List ℕ) → number_get limit s ≡ some r → (s ≡ digits r.0 ++ r.1) × (r.0 ≤ limit)
   unfolding number_get up_to
@@ -139,5 +139,5 @@ module _ (limit : ℕ) where
       go true false e f h = last _ e (eqb-false b 48 f) refl h
       go false y e f h = absurd (none-ne-some _ h)
 
-  pub number-reads : Reads (λ n. n ≤ limit) digits clear (number_get limit)
-  number-reads = record { back = number-back; sound = number-sound }
+  pub number_reads : Reads (λ n. n ≤ limit) digits clear (number_get limit)
+  number_reads = record { back = number_back; sound = number-sound }

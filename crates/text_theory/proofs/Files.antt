@@ -20,9 +20,9 @@ use Rattle.energy.proofs.OneMethod.{one_method}
 use Rattle.text_theory.specs.declared.Head.{Head}
 use Rattle.text_theory.specs.declared.Name.TheVariants as name
 use Rattle.text_theory.specs.Files.{Parts, line_end, blank, opening, closing, closed, begun, row_word, map_word, each, joined, pixel_text, line_text, first_text, size_text, range_text, head_text, text, items, three, pixel_get, line, size_get, range_get, head_get, file, ended, whole, parse, All, Pixel, Numbers, Within}
-use Rattle.text_theory.proofs.Pairs.{Reads, strip_back, on-inv, after-inv, Sounds, give-sounds, after-sounds, then-sounds, soundly}
-use Rattle.text_theory.proofs.Many.{many-reads}
-use Rattle.text_theory.proofs.Decimals.{clear, number-reads}
+use Rattle.text_theory.proofs.Pairs.{Reads, strip_back, on_inv, after_inv, Sounds, give_sounds, after_sounds, then_sounds, soundly}
+use Rattle.text_theory.proofs.Many.{many_reads}
+use Rattle.text_theory.proofs.Decimals.{clear, number_reads}
 use Rattle.text_theory.proofs.Names.{kind_reads}
 
 line_end_lem : closed ≡ closing ++ line_end
@@ -32,24 +32,24 @@ line_end_lem = refl
 module _ {A : Type 0} {ok : A → Type 0} {put : A → List ℕ} {stop : List ℕ → Type 0} {g : Get A} (R : Reads ok put stop g) (again : (t : List ℕ) → stop (blank ++ t)) (last : (t : List ℕ) → stop (closing ++ t)) where
   M : Reads (All ok) (each blank put) (λ t. (strip blank t ≡ none) × stop t) (many blank g)
   unfolding blank
-  M = many-reads R blank (omega arith) again
+  M = many_reads R blank (omega arith) again
 
-  no-blank : (t : List ℕ) → strip blank (closing ++ t) ≡ none
+  no_blank : (t : List ℕ) → strip blank (closing ++ t) ≡ none
   unfolding strip blank closing
-  no-blank t = refl
+  no_blank t = refl
 
-  pub items-reads : Reads (All ok) (λ xs. each blank put xs ++ closing) Any (items g)
+  pub items_reads : Reads (All ok) (λ xs. each blank put xs ++ closing) Any (items g)
   unfolding items
-  items-reads = record {
-    back = λ xs a t u. rw (append_assoc, M.back xs a (closing ++ t) (no-blank t, last t), strip_back);
-    sound = soundly (then-sounds M λ xs h. after-sounds closing (give-sounds xs refl h));
+  items_reads = record {
+    back = λ xs a t u. rw (append_assoc, M.back xs a (closing ++ t) (no_blank t, last t), strip_back);
+    sound = soundly (then_sounds M λ xs h. after_sounds closing (give_sounds xs refl h));
   }
 
   pub line_reads : Reads (All ok) (line_text put) Any (line g)
   unfolding line line_text
   line_reads = record {
-    back = λ xs a t u. rw (line_end_lem, ← append_assoc (each blank put xs) closing line_end, append_assoc, items-reads.back xs a (line_end ++ t) tt, strip_back);
-    sound = soundly {put = line_text put} (then-sounds items-reads λ xs h. after-sounds line_end (give-sounds xs (rw line_end_lem (simp append_assoc)) h));
+    back = λ xs a t u. rw (line_end_lem, ← append_assoc (each blank put xs) closing line_end, append_assoc, items_reads.back xs a (line_end ++ t) tt, strip_back);
+    sound = soundly {put = line_text put} (then_sounds items_reads λ xs h. after_sounds line_end (give_sounds xs (rw line_end_lem (simp append_assoc)) h));
   }
 
 pub clear-blank : (t : List ℕ) → clear (blank ++ t)
@@ -61,7 +61,7 @@ unfolding closing is_digit
 clear-closing t = refl
 
 samples_reads : Reads (All (λ (a : ℕ). a ≤ 255)) (λ xs. each blank digits xs ++ closing) Any (items (number_get 255))
-samples_reads = items-reads (number-reads 255) clear-blank clear-closing
+samples_reads = items_reads (number_reads 255) clear-blank clear-closing
 
 three_inv : (a : ℕ) (xs s : List ℕ) (r : List ℕ × List ℕ) → three a xs s ≡ some r → (length xs ≡ 2) × (r ≡ (a ∷ xs, s))
 unfolding three
@@ -82,14 +82,14 @@ group a b c d t = simp append_assoc
 grey_back : (px : List ℕ) → Pixel Grey px → (t : List ℕ) → clear t → pixel_get Grey (pixel_text Grey px ++ t) ≡ some (px, t)
 unfolding pixel_get pixel_text joined each
 grey_back [] h t c = let z = h.count in absurd (omega arith)
-grey_back (a ∷ []) h t c = rw (append_assoc, (number-reads 255).back a h.small.0 t c)
+grey_back (a ∷ []) h t c = rw (append_assoc, (number_reads 255).back a h.small.0 t c)
 grey_back (a ∷ b ∷ px) h t c = let z = h.count in absurd (omega arith)
 
 grey-sound : (s : List ℕ) (r : List ℕ × List ℕ) → pixel_get Grey s ≡ some r → (s ≡ pixel_text Grey r.0 ++ r.1) × Pixel Grey r.0
 unfolding pixel_get pixel_text joined each
 grey-sound s r h =
-    let p = on-inv (number_get 255 s) (λ a. give (a ∷ [])) r h in
-    let m = (number-reads 255).sound s p.0 p.1 in
+    let p = on_inv (number_get 255 s) (λ a. give (a ∷ [])) r h in
+    let m = (number_reads 255).sound s p.0 p.1 in
     let z : r ≡ (p.0.0 ∷ [], p.0.1) = cc p.2 in
     rw z (rw append_assoc m.0, record { count = refl; small = (m.1, tt) })
 
@@ -98,16 +98,16 @@ unfolding pixel_get pixel_text joined three
 rgb_back [] h t c = let z = h.count in absurd (omega arith)
 rgb_back (a ∷ px) h t c =
     let z = h.count in
-    rw (group, strip_back, (number-reads 255).back a h.small.0 ((each blank digits px ++ closing) ++ t) (clear-items px t), samples_reads.back px h.small.1 t tt, eq-eqb (length px) 2 (omega arith))
+    rw (group, strip_back, (number_reads 255).back a h.small.0 ((each blank digits px ++ closing) ++ t) (clear-items px t), samples_reads.back px h.small.1 t tt, eq-eqb (length px) 2 (omega arith))
 
 rgb_sound : (s : List ℕ) (r : List ℕ × List ℕ) → pixel_get Rgb s ≡ some r → (s ≡ pixel_text Rgb r.0 ++ r.1) × Pixel Rgb r.0
 unfolding pixel_get pixel_text joined
 rgb_sound s r h =
-    let o = after-inv opening (number_get 255 ▷ λ a. items (number_get 255) ▷ λ xs. three a xs) s r h in
-    let p = on-inv (number_get 255 o.0) (λ a. items (number_get 255) ▷ λ xs. three a xs) r o.2 in
-    let q = on-inv (items (number_get 255) p.0.1) (λ xs. three p.0.0 xs) r p.2 in
+    let o = after_inv opening (number_get 255 ▷ λ a. items (number_get 255) ▷ λ xs. three a xs) s r h in
+    let p = on_inv (number_get 255 o.0) (λ a. items (number_get 255) ▷ λ xs. three a xs) r o.2 in
+    let q = on_inv (items (number_get 255) p.0.1) (λ xs. three p.0.0 xs) r p.2 in
     let n = three_inv p.0.0 q.0.0 q.0.1 r q.2 in
-    let l = (number-reads 255).sound o.0 p.0 p.1 in
+    let l = (number_reads 255).sound o.0 p.0 p.1 in
     let m = samples_reads.sound p.0.1 q.0 q.1 in
     rw n.1 (rw group (cc (o.1, l.0, m.0)), record { count = ap suc n.0; small = (l.1, m.1) })
 
@@ -117,11 +117,11 @@ pixel_reads Rgb = record { back = rgb_back; sound = rgb_sound }
 
 pub rows_reads : (k : Kind) → Reads (All (All (Pixel k))) (each row_word (line_text (pixel_text k))) (λ t. (strip row_word t ≡ none) × Unit) (many row_word (line (pixel_get k)))
 unfolding row_word begun opening
-rows_reads k = many-reads (line_reads (pixel_reads k) clear-blank clear-closing) row_word (omega arith) (λ t. tt)
+rows_reads k = many_reads (line_reads (pixel_reads k) clear-blank clear-closing) row_word (omega arith) (λ t. tt)
 
 pub maps_reads : Reads (All (All (λ (a : ℕ). a ≤ largest_number))) (each map_word (line_text digits)) (λ t. (strip map_word t ≡ none) × Unit) (many map_word (line (number_get largest_number)))
 unfolding map_word begun opening
-maps_reads = many-reads (line_reads (number-reads largest_number) clear-blank clear-closing) map_word (omega arith) (λ t. tt)
+maps_reads = many_reads (line_reads (number_reads largest_number) clear-blank clear-closing) map_word (omega arith) (λ t. tt)
 
 no_map : (t : List ℕ) → strip map_word (closed ++ t) ≡ none
 unfolding map_word begun opening closed strip
@@ -144,7 +144,7 @@ pub record Sides (z : Size) : Type 0 where
 size_back : (z : Size) → Sides z → (t : List ℕ) → size_get (size_text z ++ t) ≡ some (z, t)
 unfolding size_get size_text
 size_back z b t =
-    let n = number-reads largest_number in
+    let n = number_reads largest_number in
     simp append_assoc
     (rw (
       strip_back,
@@ -160,9 +160,9 @@ size_back z b t =
 size_sounds : Sounds Sides size_text [] size_get
 unfolding size_get size_text
 size_sounds =
-    let n = number-reads largest_number in
-    after-sounds (begun name.Size) (after-sounds blank (then-sounds n λ w hw. after-sounds blank (then-sounds n λ h hh. after-sounds blank (then-sounds kind_reads λ k hk.
-    after-sounds closed (give-sounds _ (simp append_assoc) (record { width = hw; height = hh }))))))
+    let n = number_reads largest_number in
+    after_sounds (begun name.Size) (after_sounds blank (then_sounds n λ w hw. after_sounds blank (then_sounds n λ h hh. after_sounds blank (then_sounds kind_reads λ k hk.
+    after_sounds closed (give_sounds _ (simp append_assoc) (record { width = hw; height = hh }))))))
 
 pub size_reads : Reads Sides size_text Any size_get
 size_reads = record { back = λ z b t u. size_back z b t; sound = soundly size_sounds }
@@ -170,7 +170,7 @@ size_reads = record { back = λ z b t u. size_back z b t; sound = soundly size_s
 range_back : (d g : ℕ) → d ≤ largest_number → g ≤ largest_number → (t : List ℕ) → range_get (range_text d g ++ t) ≡ some ((d, g), t)
 unfolding range_get range_text
 range_back d g p q t =
-    let n = number-reads largest_number in
+    let n = number_reads largest_number in
     simp append_assoc (rw (strip_back, strip_back, n.back d p _ (clear-blank _), strip_back, n.back g q _ (clear-closed _), strip_back))
 
 abbrev Ranged : ℕ × ℕ → Type 0
@@ -179,9 +179,9 @@ Ranged r = (r.0 ≤ largest_number) × (r.1 ≤ largest_number)
 range_sounds : Sounds Ranged (λ r. range_text r.0 r.1) [] range_get
 unfolding range_get range_text
 range_sounds =
-    let n = number-reads largest_number in
-    after-sounds (begun name.Range) (after-sounds blank (then-sounds n λ d hd. after-sounds blank (then-sounds n λ g hg.
-    after-sounds closed (give-sounds _ (simp append_assoc) (hd, hg)))))
+    let n = number_reads largest_number in
+    after_sounds (begun name.Range) (after_sounds blank (then_sounds n λ d hd. after_sounds blank (then_sounds n λ g hg.
+    after_sounds closed (give_sounds _ (simp append_assoc) (hd, hg)))))
 
 pub range_reads : Reads Ranged (λ r. range_text r.0 r.1) Any range_get
 range_reads = record { back = λ r b t u. range_back r.0 r.1 b.0 b.1 t; sound = soundly range_sounds }
@@ -205,8 +205,8 @@ head_back h b t =
 head_sounds : Sounds Numbers head_text [] head_get
 unfolding head_get head_text
 head_sounds =
-    after-sounds first_text (then-sounds size_reads λ z hz. then-sounds range_reads λ r hr.
-    give-sounds _ (simp append_assoc) (record { width = hz.width; height = hz.height; depth = hr.0; growth = hr.1 }))
+    after_sounds first_text (then_sounds size_reads λ z hz. then_sounds range_reads λ r hr.
+    give_sounds _ (simp append_assoc) (record { width = hz.width; height = hz.height; depth = hr.0; growth = hr.1 }))
 
 pub head_reads : Reads Numbers head_text Any head_get
 head_reads = record { back = λ h b t u. head_back h b t; sound = soundly head_sounds }
@@ -225,8 +225,8 @@ file_back p h t =
 file_sounds : Sounds Within text [] file
 unfolding file text
 file_sounds =
-    then-sounds head_reads λ h hh. then-sounds (rows_reads h.size.kind) λ rows hr. then-sounds maps_reads λ maps hm.
-    after-sounds closed (give-sounds _ (simp append_assoc) (record { head = hh; rows = hr; maps = hm }))
+    then_sounds head_reads λ h hh. then_sounds (rows_reads h.size.kind) λ rows hr. then_sounds maps_reads λ maps hm.
+    after_sounds closed (give_sounds _ (simp append_assoc) (record { head = hh; rows = hr; maps = hm }))
 
 -- (1) The parts of a text come back.
 pub parse-text : (p : Parts) → Within p → parse (text p) ≡ some p

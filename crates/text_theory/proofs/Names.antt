@@ -16,7 +16,7 @@ use Rattle.text_theory.specs.declared.Name.{Name}
 use Rattle.text_theory.specs.declared.Name.TheVariants as name
 use Rattle.text_theory.specs.Readers.{Get, give, on, strip, onward, after, either, known}
 use Rattle.text_theory.specs.Words.{name_text, name_number, all_names, name_at, one_of, name_get, named, called, kind_name, kind_named, kind_text, kind_get}
-use Rattle.text_theory.proofs.Pairs.{Reads, strip_back, on-inv, after-inv}
+use Rattle.text_theory.proofs.Pairs.{Reads, strip_back, on_inv, after_inv}
 
 -- What is read is the text of the name that was read.
 pub one-sound : (ns : List Name) (s : List ℕ) (r : Name × List ℕ) → one_of ns s ≡ some r → s ≡ name_text r.0 ++ r.1
@@ -26,7 +26,7 @@ one-sound (n ∷ ns) s r h = go (after (name_text n) (give n) s) refl h (one-sou
   where
     go : (o : Option (Name × List ℕ)) → after (name_text n) (give n) s ≡ o → either o (one_of ns s) ≡ some r → (one_of ns s ≡ some r → s ≡ name_text r.0 ++ r.1) → s ≡ name_text r.0 ++ r.1
     go (some q) e h k =
-        let p = after-inv (name_text n) (give n) s r (e ∙ h) in
+        let p = after_inv (name_text n) (give n) s r (e ∙ h) in
         let z : r ≡ (n, p.0) = cc p.2 in
         rw z p.1
     go none e h k = k h
@@ -69,7 +69,7 @@ known_inv (some a) s r h = let z : r ≡ (a, s) = cc in rw z (refl, refl)
 kind_sound : (s : List ℕ) (r : Kind × List ℕ) → kind_get s ≡ some r → s ≡ kind_text r.0 ++ r.1
 unfolding kind_get kind_text
 kind_sound s r h =
-    let p = on-inv (name_get s) (λ n. known (kind_named n)) r h in
+    let p = on_inv (name_get s) (λ n. known (kind_named n)) r h in
     let k = known_inv (kind_named p.0.0) p.0.1 r p.2 in
     cc (name_sound s p.0 p.1, called-sound kind_name (kind.Grey ∷ kind.Rgb ∷ []) p.0.0 r.0 k.0, k.1)
 

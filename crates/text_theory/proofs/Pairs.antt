@@ -43,20 +43,20 @@ module _ {A B : Type 0} where
   pub on_some : {o : Option (A × List ℕ)} (f : A → Get B) {a : A} {t : List ℕ} → o ≡ some (a, t) → on o f ≡ f a t
   on_some f e = rw e
 
-  pub on-inv : (o : Option (A × List ℕ)) (f : A → Get B) (r : B × List ℕ) → on o f ≡ some r → (q : A × List ℕ) × (o ≡ some q) × (f q.0 q.1 ≡ some r)
-  on-inv none f r h = absurd (none-ne-some _ h)
-  on-inv (some q) f r h = (q, refl, h)
+  pub on_inv : (o : Option (A × List ℕ)) (f : A → Get B) (r : B × List ℕ) → on o f ≡ some r → (q : A × List ℕ) × (o ≡ some q) × (f q.0 q.1 ≡ some r)
+  on_inv none f r h = absurd (none-ne-some _ h)
+  on_inv (some q) f r h = (q, refl, h)
 
   pub on_same : (o : Option (A × List ℕ)) (f k : A → Get B) → ((q : A × List ℕ) → o ≡ some q → f q.0 q.1 ≡ k q.0 q.1) → on o f ≡ on o k
   on_same none f k h = refl
   on_same (some q) f k h = h q refl
 
 module _ {A : Type 0} (w : List ℕ) (g : Get A) where
-  pub after-back : (t : List ℕ) → after w g (w ++ t) ≡ g t
-  after-back t = rw strip_back
+  pub after_back : (t : List ℕ) → after w g (w ++ t) ≡ g t
+  after_back t = rw strip_back
 
-  pub after-inv : (s : List ℕ) (r : A × List ℕ) → after w g s ≡ some r → (t : List ℕ) × (s ≡ w ++ t) × (g t ≡ some r)
-  after-inv s r h = go (strip w s) refl h
+  pub after_inv : (s : List ℕ) (r : A × List ℕ) → after w g s ≡ some r → (t : List ℕ) × (s ≡ w ++ t) × (g t ≡ some r)
+  after_inv s r h = go (strip w s) refl h
     where
       go : (o : Option (List ℕ)) → strip w s ≡ o → onward o g ≡ some r → (t : List ℕ) × (s ≡ w ++ t) × (g t ≡ some r)
       go none e h = absurd (none-ne-some _ h)
@@ -71,22 +71,22 @@ pub record Sounds {B : Type 0} (ok : B → Type 0) (put : B → List ℕ) (done 
   pub sounds : (s : List ℕ) (r : B × List ℕ) → k s ≡ some r → (done ++ s ≡ put r.0 ++ r.1) × ok r.0
 
 module _ {B : Type 0} {ok : B → Type 0} {put : B → List ℕ} {done : List ℕ} where
-  pub give-sounds : (b : B) → done ≡ put b → ok b → Sounds ok put done (give b)
-  give-sounds b e h = record { sounds = λ s r f. let z : r ≡ (b, s) = cc in rw z (rw e, h) }
+  pub give_sounds : (b : B) → done ≡ put b → ok b → Sounds ok put done (give b)
+  give_sounds b e h = record { sounds = λ s r f. let z : r ≡ (b, s) = cc in rw z (rw e, h) }
 
-  pub after-sounds : (w : List ℕ) {g : Get B} → Sounds ok put (done ++ w) g → Sounds ok put done (after w g)
-  after-sounds w {g} k = record {
+  pub after_sounds : (w : List ℕ) {g : Get B} → Sounds ok put (done ++ w) g → Sounds ok put done (after w g)
+  after_sounds w {g} k = record {
     sounds = λ s r h.
-        let p = after-inv w g s r h in
+        let p = after_inv w g s r h in
         let m = k.sounds p.0 r p.2 in
         (cc (p.1, append_assoc done w p.0, m.0), m.1);
   }
 
-  pub then-sounds : {A : Type 0} {ok' : A → Type 0} {put' : A → List ℕ} {stop : List ℕ → Type 0} {g : Get A} {f : A → Get B}
+  pub then_sounds : {A : Type 0} {ok' : A → Type 0} {put' : A → List ℕ} {stop : List ℕ → Type 0} {g : Get A} {f : A → Get B}
       → Reads ok' put' stop g → ((a : A) → ok' a → Sounds ok put (done ++ put' a) (f a)) → Sounds ok put done (g ▷ f)
-  then-sounds {put' = put'} {g = g} {f = f} R k = record {
+  then_sounds {put' = put'} {g = g} {f = f} R k = record {
     sounds = λ s r h.
-        let p = on-inv (g s) f r h in
+        let p = on_inv (g s) f r h in
         let l = R.sound s p.0 p.1 in
         let m = (k p.0.0 l.1).sounds p.0.1 r p.2 in
         (cc (l.0, append_assoc done (put' p.0.0) p.0.1, m.0), m.1);

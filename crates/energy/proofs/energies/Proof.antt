@@ -8,7 +8,7 @@ use lib.ListN.{length, drop}
 use Rattle.pictures.specs.Refusals.{◌when◌, given, refusal}
 use Rattle.pictures.specs.Pictures.{size_rules, picture}
 use Rattle.energy.specs.Energy.{energies, energies_rules}
-use Rattle.pictures.proofs.Rules.{served-first, refused-answer, refused-kept}
+use Rattle.pictures.proofs.Rules.{served-first, refused_answer, refused-kept}
 use Rattle.energy.proofs.energies.Statement.{statement}
 use Rattle.energy.proofs.energies.Tie as tie
 
@@ -44,7 +44,7 @@ returns c =
     let rules = size_rules a.size (length a.picture.now) in
     let more = 4 when leb a.size.height a.r ∷ 8 when ltb (length a.out.now) a.size.width ∷ [] in
     record {
-      number = refused-answer at-judge-picture.judge-picture.result why.0.0 why.1 rules more at-judge-picture.judge-picture.ensures;
+      number = refused_answer at-judge-picture.judge-picture.result why.0.0 why.1 rules more at-judge-picture.judge-picture.ensures;
       out_given = refused-kept at-judge-picture.judge-picture.result why.0.0 why.1 (energies a.method a.size.width a.size.height (picture a.size a.picture.now) a.r ++ drop a.size.width a.out.now) a.out.now;
     }
 

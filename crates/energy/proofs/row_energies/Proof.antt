@@ -9,7 +9,7 @@ use Rattle.pictures.specs.Limits.{most_side, most_row}
 use Rattle.pictures.specs.Pictures.{row_bytes}
 use Rattle.pictures.proofs.Limits.{Sized, sized_is}
 use Rattle.energy.proofs.Energy.{neighbour_inside}
-use Rattle.energy.proofs.Lines.{Ends, ends, lines-needed, lines_are}
+use Rattle.energy.proofs.Lines.{Ends, ends, lines_needed, lines_are}
 use Rattle.energy.proofs.row_energies.Statement.{statement}
 use Rattle.energy.proofs.row_energies.Tie as tie
 
@@ -99,7 +99,7 @@ line-energies-requires c κs =
     let u = strided beside in
     let s = start u in
     let a = s.args in
-    lines-needed a.size a.method a.picture.now a.r (stride u) lower.result (sure u) s.pre.inside (stride-is u) lower.ensures _ _ beside.neighbour2.ensures s.pre.room
+    lines_needed a.size a.method a.picture.now a.r (stride u) lower.result (sure u) s.pre.inside (stride-is u) lower.ensures _ _ beside.neighbour2.ensures s.pre.room
 
 same_length : tie.Need-same-length
 same_length c = search rules

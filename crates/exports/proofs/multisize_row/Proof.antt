@@ -6,7 +6,7 @@ use borrow.Author.Rules.{rules}
 use lib.ListN.{length, drop}
 use lib.Seq.{take-length}
 use Rattle.export_answers.proofs.Rows.{row_fits}
-use Rattle.exports.proofs.RowCopied.{refused_row}
+use Rattle.exports.proofs.RowCopied.{refused-row}
 use Rattle.exports.proofs.multisize_row.Statement.{statement}
 use Rattle.exports.proofs.multisize_row.Tie as tie
 
@@ -44,7 +44,7 @@ returns-2 c =
     let at-size-named = at-sized.before.before in
     let is = rw at_row.row.ensures at at-judge.judge-row.ensures in
     rw c.refused2.ensures
-    (refused_row (sym at-size-named.size-named.ensures ∙ at-sized.sized.given.1) is c.before.if1.true)
+    (refused-row (sym at-size-named.size-named.ensures ∙ at-sized.sized.given.1) is c.before.if1.true)
 
 copy-requires : tie.Need-copy-requires
 copy-requires c κs =

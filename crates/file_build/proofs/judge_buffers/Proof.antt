@@ -6,8 +6,8 @@ use borrow.Author.Tests.{lt-ltb, le-ltb, leb-true, leb-false, not-true, not-fals
 use lib.ListN.{length}
 use Rattle.pictures.specs.Refusals.{given}
 use Rattle.file_build.specs.Building.{file_in}
-use Rattle.file_build.proofs.Answers.{allowed_deep}
-use Rattle.file_build.proofs.Judged.{build-refused, Ready, ready, build-ready}
+use Rattle.file_build.proofs.Answers.{allowed-deep}
+use Rattle.file_build.proofs.Judged.{build_refused, Ready, ready, build_ready}
 use Rattle.file_build.proofs.judge_buffers.Statement.{statement}
 use Rattle.file_build.proofs.judge_buffers.Tie as tie
 
@@ -33,10 +33,10 @@ returns c =
     let j = c.before.before in
     let a = j.before.before.args in
     let why = c.enum-told2.given in
-    build-refused a.picture.now a.head a.out a.work j.judge-build.result j.judge-build.ensures why.0.0 why.1
+    build_refused a.picture.now a.head a.out a.work j.judge-build.result j.judge-build.ensures why.0.0 why.1
 
 file-fits-requires : tie.Need-file-fits-requires
-file-fits-requires c κs = let r = is-ready c in record { sized = r.sized; deep = allowed_deep _ _ _ r.ranged }
+file-fits-requires c κs = let r = is-ready c in record { sized = r.sized; deep = allowed-deep _ _ _ r.ranged }
 
 returns-2 : tie.Need-returns-2
 returns-2 c =
@@ -44,7 +44,7 @@ returns-2 c =
     let a = (start t).args in
     let n : ℕ = length (file_in a.head a.picture.now) in
     let over = lt-ltb a.out n (leb-false n a.out (sym c.before.file-fits.ensures ∙ not-true _ c.if1.true)) in
-    sym (build-ready a.picture.now a.head a.out a.work (is-ready t) ∙ rw over)
+    sym (build_ready a.picture.now a.head a.out a.work (is-ready t) ∙ rw over)
 
 returns-3 : tie.Need-returns-3
 returns-3 c =
@@ -52,7 +52,7 @@ returns-3 c =
     let a = (start t).args in
     let n : ℕ = length (file_in a.head a.picture.now) in
     let fits = le-ltb a.out n (leb-true n a.out (sym c.before.file-fits.ensures ∙ not-false _ c.if1.false)) in
-    sym (build-ready a.picture.now a.head a.out a.work (is-ready t) ∙ rw fits)
+    sym (build_ready a.picture.now a.head a.out a.work (is-ready t) ∙ rw fits)
 
 pub judge-buffers-spec : {M : Type 1} → statement M
 judge-buffers-spec =

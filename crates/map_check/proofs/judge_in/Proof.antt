@@ -5,7 +5,7 @@ use native.Mathlib.Omega.{arith}
 use borrow.Author.Rules.{rules}
 use lib.ListN.{length, replicate}
 use Rattle.pictures.specs.Refusals.{given, refusal, worked}
-use Rattle.pictures.proofs.Rules.{served-first, refused-answer, refusal-most, number-some}
+use Rattle.pictures.proofs.Rules.{served-first, refused_answer, refusal-most, number-some}
 use Rattle.pictures.specs.Pictures.{picture_in}
 use Rattle.seam_find.proofs.Worked.{worked_not}
 use Rattle.map_rules.specs.Spaces.{map_space_rules}
@@ -34,7 +34,7 @@ returns c =
     let most : given r.result ≤ 8 = omega (arith, r.ensures, refusal-most 8 rules refl) in
     let some : 0 < given r.result = rw why.1 (number-some why.0.0) in
     record {
-      number = refused-answer r.result why.0.0 why.1 rules (recorded_rules a.size a.method a.depth (picture_in a.size a.space.now) (recorded_in a.size a.space.now)) r.ensures;
+      number = refused_answer r.result why.0.0 why.1 rules (recorded_rules a.size a.method a.depth (picture_in a.size a.space.now) (recorded_in a.size a.space.now)) r.ensures;
       space_left = sym (worked_not (given r.result) _ a.space.now some most);
     }
 

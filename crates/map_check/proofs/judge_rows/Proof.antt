@@ -12,7 +12,7 @@ use Rattle.grids.proofs.Parts.{part_length}
 use Rattle.pictures.specs.declared.sizes.Size.{Size}
 use Rattle.pictures.specs.Pictures.{picture_in}
 use Rattle.pictures.proofs.Limits.{given_out}
-use Rattle.map_theory.specs.Maps.{mapOf}
+use Rattle.map_theory.specs.Maps.{map_of}
 use Rattle.map_theory.specs.Judged.{every, numbers}
 use Rattle.seam_theory.specs.PictureSeams.{seam_of}
 use Rattle.pictures.specs.Numbers.{pairs}
@@ -75,7 +75,7 @@ whole_long c = length_front (space (layout c)) c.map-in.new.0 (at (layout c)) c.
 
 maps-told : (c : tie.After-map-in) → let m = layout c in let z = size m in
     take (end m - built m) (drop (built m) (whole c))
-    ≡ pairs (flat (mapOf (seam_of (start m).args.method) (start m).args.depth z.width z.height (picture_in z (space m)))) ++ take (map_bytes z) (drop (recorded_at z) (space m))
+    ≡ pairs (flat (map_of (seam_of (start m).args.method) (start m).args.depth z.width z.height (picture_in z (space m)))) ++ take (map_bytes z) (drop (recorded_at z) (space m))
 maps-told c =
     let m = layout c in
     maps-at (size m) (start m).args.method (start m).args.depth (space m) (fits (start m)) _ _ (at-is m) (map_is m) _ c.map-in.result c.map-in.new.0 (built-is m) c.map-in.ensures

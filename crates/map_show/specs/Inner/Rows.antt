@@ -4,7 +4,7 @@ use Rattle.grids.specs.Rows.{rows_of, row_at, flat}
 use Rattle.seam_theory.specs.Paths.{cons_if}
 use Rattle.pictures.specs.declared.sizes.Kind.{Kind}
 use Rattle.pictures.specs.Pictures.{channels_of}
-use Rattle.map_theory.specs.Widths.{stays, keep_row, growRow, average}
+use Rattle.map_theory.specs.Widths.{stays, keep_row, grow_row, average}
 
 -- The pixels of a row's bytes, as many as there are numbers.
 abbrev pub pixels_in : Kind → List ℕ → List ℕ → List (List ℕ)
@@ -15,7 +15,7 @@ unfoldable pub kept_pixels : Kind → List ℕ → List ℕ → ℕ → List ℕ
 kept_pixels k samples numbers t = flat (keep_row (stays t) (pixels_in k samples numbers) numbers)
 
 unfoldable pub grown : Kind → List ℕ → List ℕ → ℕ → List ℕ
-grown k samples numbers u = flat (growRow average u (pixels_in k samples numbers) numbers)
+grown k samples numbers u = flat (grow_row average u (pixels_in k samples numbers) numbers)
 
 -- A row's bytes, and room for what is shown of it.
 pub record RowNeeded (k : Kind) (samples numbers shown out : List ℕ) : Type 0 where

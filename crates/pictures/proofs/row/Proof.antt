@@ -10,7 +10,7 @@ use Rattle.pictures.specs.Refusals.{given, refusal}
 use Rattle.pictures.specs.Pictures.{size_rules}
 use Rattle.pictures.proofs.Rules.{number-some}
 use Rattle.pictures.proofs.Limits.{Sized, sized_is}
-use Rattle.pictures.proofs.Buffers.{row_refused, row_past, row_is}
+use Rattle.pictures.proofs.Buffers.{row-refused, row-past, row_is}
 use Rattle.pictures.proofs.row.Statement.{statement}
 use Rattle.pictures.proofs.row.Tie as tie
 
@@ -50,7 +50,7 @@ returns c =
     let s = at-judge-picture.before.before in
     let a = s.args in
     let why = c.before.enum-told2.given in
-    sym (row_refused a.size a.picture.now a.r _ (sym at-judge-picture.judge-picture.ensures ∙ ap given why.1) (number-some why.0.0))
+    sym (row-refused a.size a.picture.now a.r _ (sym at-judge-picture.judge-picture.ensures ∙ ap given why.1) (number-some why.0.0))
 
 slice-aggregate-result-2 : tie.Need-slice-aggregate-result-2
 slice-aggregate-result-2 c = search rules
@@ -60,7 +60,7 @@ returns-2 c =
     let at-enum-told = c.before.before in
     let s = at-enum-told.before.before.before.before in
     let a = s.args in
-    sym (row_past a.size a.picture.now a.r (none at-enum-told) c.before.if1.true)
+    sym (row-past a.size a.picture.now a.r (none at-enum-told) c.before.if1.true)
 
 row-bytes-requires : tie.Need-row-bytes-requires
 row-bytes-requires c κs = (sure c.before).width_small

@@ -7,7 +7,7 @@ use borrow.Author.Tests.{lt-ltb, le-ltb}
 use Rattle.pictures.specs.Refusals.{given, refusal}
 use Rattle.pictures.specs.Limits.{most_pixels}
 use Rattle.pictures.specs.Pictures.{size_rules, pixels}
-use Rattle.pictures.proofs.Rules.{served-first, refused-answer}
+use Rattle.pictures.proofs.Rules.{served-first, refused_answer}
 use Rattle.pictures.proofs.Limits.{sized_is}
 use Rattle.program_theory.specs.Programs.{held_pixels, pixels_rule}
 use borrow.Author.Rules.{rules}
@@ -44,7 +44,7 @@ returns c =
     let s = at-judge-picture.before in
     let a = s.args in
     let why = c.enum-told2.given in
-    refused-answer at-judge-picture.judge-picture.result why.0.0 why.1 (size_rules a.size a.bytes) (pixels_rule a.size ∷ []) at-judge-picture.judge-picture.ensures
+    refused_answer at-judge-picture.judge-picture.result why.0.0 why.1 (size_rules a.size a.bytes) (pixels_rule a.size ∷ []) at-judge-picture.judge-picture.ensures
 
 mul-if1 : tie.Need-overflow-mul-if1
 mul-if1 c = omega (arith, few c.before)

@@ -9,7 +9,7 @@ use Rattle.grids.specs.Cut.{cut}
 use Rattle.pictures.specs.declared.sizes.Size.{Size}
 use Rattle.pictures.specs.Refusals.{Rule, given, refusal}
 use Rattle.pictures.specs.Pictures.{channels_of, picture, bytes}
-use Rattle.pictures.proofs.Rules.{served-first, refused-answer, refused-kept}
+use Rattle.pictures.proofs.Rules.{served-first, refused_answer, refused-kept}
 use Rattle.seam_bounds.specs.Moves.{close_length_rules, close_column_rules, outside}
 use Rattle.seam_close.specs.Closing.{close_rules}
 use Rattle.seam_close.proofs.Closing.{close_needed}
@@ -64,7 +64,7 @@ returns c =
     let v = at.judge-close-lengths.result in
     let why = c.enum-told2.given in
     record {
-      number = refused-answer v why.0.0 why.1 (close_length_rules z (length b) (length s)) (more z s) at.judge-close-lengths.ensures;
+      number = refused_answer v why.0.0 why.1 (close_length_rules z (length b) (length s)) (more z s) at.judge-close-lengths.ensures;
       picture_left = refused-kept v why.0.0 why.1 (bytes (cut s (picture z b)) ++ replicate (z.height * channels_of z.kind) 0) b;
     }
 

@@ -7,12 +7,12 @@ use borrow.Author.Rules.{rules}
 use lib.ListN.{length, drop}
 use Rattle.pictures.specs.Refusals.{Rule, number_of, given, refusal}
 use Rattle.pictures.specs.Pictures.{picture}
-use Rattle.pictures.proofs.Rules.{served-first, refused-answer, kept_by, refusal-most}
+use Rattle.pictures.proofs.Rules.{served-first, refused_answer, kept_by, refusal-most}
 use Rattle.seam_rules.specs.Axes.{turned_size}
 use Rattle.seam_cut.specs.Axes.{seam_along, cost_along}
 use Rattle.seam_cut.specs.Cutting.{closed_along}
 use Rattle.seam_rules.specs.Cuts.{find_rules, last_along, last_rules, cut_rules}
-use Rattle.seam_rules.proofs.Rooms.{work-as-was}
+use Rattle.seam_rules.proofs.Rooms.{work_as_was}
 use Rattle.seam_cut.proofs.cut.Statement.{statement}
 use Rattle.seam_cut.proofs.cut.Tie as tie
 
@@ -64,11 +64,11 @@ returns c =
     let first_is = sym (ap given why.1) ∙ judged.judge-find.ensures in
     let few : number_of why.0.0 ≤ 8 = rw first_is (refusal-most 8 (first s) refl) in
     record {
-      number = sym (ap given why.1) ∙ refused-answer judged.judge-find.result why.0.0 why.1 (first s) (last s) judged.judge-find.ensures;
+      number = sym (ap given why.1) ∙ refused_answer judged.judge-find.result why.0.0 why.1 (first s) (last s) judged.judge-find.ensures;
       cost = kept_by why.0.0 (cost_along a.method x z p) 0;
       picture_left = kept_by why.0.0 (closed_along x z (seam_along a.method x z p) b) b;
       seam_given = kept_by why.0.0 (seam_along a.method x z p ++ drop (turned_size x z).height a.seam.now) a.seam.now;
-      work_left = work-as-was why.0.0 (number_of why.0.0) refl few a.work.now;
+      work_left = work_as_was why.0.0 (number_of why.0.0) refl few a.work.now;
     }
 
 enum_told : tie.Need-enum-told

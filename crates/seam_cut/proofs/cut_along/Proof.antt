@@ -11,7 +11,7 @@ use Rattle.grids.specs.Each.{Each}
 use Rattle.grids.proofs.Shapes.{each-length}
 use Rattle.pictures.specs.Pictures.{picture}
 use Rattle.pictures.proofs.Rules.{served-first}
-use Rattle.pictures.proofs.Limits.{Sized, sized_is, bytes_few}
+use Rattle.pictures.proofs.Limits.{Sized, sized_is, bytes-few}
 use Rattle.seam_rules.specs.Axes.{turned_size}
 use Rattle.seam_rules.specs.Cuts.{find_rules, last_rules}
 use Rattle.seam_rules.specs.Answers.{found_number}
@@ -111,7 +111,7 @@ returns c =
     let none = served-there q in
     let zero = rw none at f.work_left ∙ ap (λ n. replicate n 0) (sym (work-long q)) in
     let k = close_served b z a.axis lent-seam q.seam-along.new.1.1.1.1.1.0 at-close.close.result at-close.close.new.0 at-close.close.new.1.1.1.1.0 at-close.close.ensures
-    (rooms start).sized (rw (lent q) (inside start)) start.requires.more (omega (arith, bytes_few z, (rooms start).work_room, work-long q)) in
+    (rooms start).sized (rw (lent q) (inside start)) start.requires.more (omega (arith, bytes-few z, (rooms start).work_room, work-long q)) in
     let rules = find_rules a.axis z (length b) (length a.seam.now) (length a.work.now) in
     let allowed = served-first rules (last_rules a.axis z) refl start.requires.found ∙ ap (λ t. cond t 13 0) start.requires.more in
     record {

@@ -10,7 +10,7 @@ use Rattle.pictures.proofs.Rules.{kept_by, refusal-most}
 use Rattle.seam_rules.specs.Axes.{turned_size}
 use Rattle.seam_cut.specs.Axes.{seam_along, cost_along}
 use Rattle.seam_rules.specs.Cuts.{find_rules}
-use Rattle.seam_rules.proofs.Rooms.{work-as-was}
+use Rattle.seam_rules.proofs.Rooms.{work_as_was}
 use Rattle.seam_cut.proofs.find.Statement.{statement}
 use Rattle.seam_cut.proofs.find.Tie as tie
 
@@ -40,7 +40,7 @@ returns c =
       number = e;
       cost = kept_by why.0.0 (cost_along a.method x z (picture z b)) 0;
       seam_given = kept_by why.0.0 (seam_along a.method x z (picture z b) ++ drop (turned_size x z).height a.seam.now) a.seam.now;
-      work_left = work-as-was why.0.0 (number_of why.0.0) refl few a.work.now;
+      work_left = work_as_was why.0.0 (number_of why.0.0) refl few a.work.now;
     }
 
 enum_told : tie.Need-enum-told

@@ -6,13 +6,13 @@ use native.Mathlib.Omega.{arith}
 use borrow.Author.Rules.{rules}
 use lib.ListN.{length, take, drop, replicate}
 use Rattle.pictures.specs.Pictures.{picture_bytes, picture, bytes}
-use Rattle.pictures.proofs.Limits.{Sized, sized_is, bytes_few}
+use Rattle.pictures.proofs.Limits.{Sized, sized_is, bytes-few}
 use Rattle.seam_theory.specs.PictureSeams.{seam_of, cost_of}
 use Rattle.seam_find.specs.Finding.{FindInGiven}
 use Rattle.seam_rules.specs.Axes.{turned_size}
 use Rattle.seam_turn.specs.Axes.{turned}
 use Rattle.seam_cut.specs.Axes.{seam_along, cost_along}
-use Rattle.seam_rules.proofs.Turns.{turned-bytes, turned-pixels, turned_sides}
+use Rattle.seam_rules.proofs.Turns.{turned-bytes, turned-pixels, turned-sides}
 use Rattle.seam_rules.proofs.Rooms.{FindRoom, find_room}
 use Rattle.seam_turn.proofs.Turned.{turned-picture}
 use Rattle.seam_turn.proofs.Served.{turn_served}
@@ -33,7 +33,7 @@ turned_is : (c : tie.After-turn)
 turned_is c =
     let s = c.before.before.before.before.before.before in
     let a = s.args in
-    turn_served a.picture.now a.size a.axis a.work.now c.turn.new.1.1.1.0 c.turn.result c.turn.ensures (rooms s).sized (omega (arith, bytes_few a.size, (rooms s).work_room))
+    turn_served a.picture.now a.size a.axis a.work.now c.turn.new.1.1.1.0 c.turn.result c.turn.ensures (rooms s).sized (omega (arith, bytes-few a.size, (rooms s).work_room))
 
 -- the turned picture stands at the front of the work space
 there : (c : tie.After-find-in)
@@ -50,8 +50,8 @@ there c =
     let found : FindInGiven at_turn.turn.new.1.1.1.0 at-turned-size.turned-size.result a.method a.seam.now c.find-in.result c.find-in.new.0 c.find-in.new.1.1.1.0 = c.find-in.ensures in
     find_served at_turn.turn.new.1.1.1.0 (turned_size a.axis a.size) a.method a.seam.now c.find-in.result c.find-in.new.0 c.find-in.new.1.1.1.0
     (rw at-turned-size.turned-size.ensures at found)
-    (turned_sides a.axis a.size (length a.picture.now) s) p.seam_room
-    (omega (arith, turned-bytes a.axis a.size, turned-pixels a.axis a.size, bytes_few a.size, p.work_room, at_turn.turn.auto.1.1.1.0))
+    (turned-sides a.axis a.size (length a.picture.now) s) p.seam_room
+    (omega (arith, turned-bytes a.axis a.size, turned-pixels a.axis a.size, bytes-few a.size, p.work_room, at_turn.turn.auto.1.1.1.0))
 
 seen : (c : tie.After-find-in)
     → let s = c.before.before.before.before.before.before.before.before.before.before.before in

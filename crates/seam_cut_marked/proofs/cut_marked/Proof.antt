@@ -8,7 +8,7 @@ use borrow.Author.Rules.{rules}
 use lib.ListN.{length, drop, replicate}
 use Rattle.pictures.specs.Refusals.{◌when◌, Rule, number_of, given, refusal}
 use Rattle.pictures.specs.Pictures.{size_rules, picture, marks_of}
-use Rattle.pictures.proofs.Rules.{served-first, refused-answer, kept_by, refusal-most}
+use Rattle.pictures.proofs.Rules.{served-first, refused_answer, kept_by, refusal-most}
 use Rattle.pictures.proofs.Limits.{sized_is}
 use Rattle.seam_rules.specs.Axes.{turned_size}
 use Rattle.seam_cut_marked.specs.Axes.{marked_seam_along, marked_cost_along, blocked_along}
@@ -18,7 +18,7 @@ use Rattle.seam_rules.specs.Cuts.{room_rules, last_along, last_rules}
 use Rattle.seam_cut_marked.specs.Marking.{mark_rules, closed_marks}
 use Rattle.seam_cut_marked.specs.Inner.{MarkedNeeded}
 use Rattle.seam_cut_marked.proofs.Buffers.{marked_needed, last_kept, last_cleared}
-use Rattle.seam_rules.proofs.Rooms.{work-as-was}
+use Rattle.seam_rules.proofs.Rooms.{work_as_was}
 use Rattle.seam_find.proofs.Worked.{worked-or}
 use Rattle.seam_rules.proofs.Turns.{turned_tall}
 use Rattle.seam_cut_marked.proofs.cut_marked.Statement.{statement}
@@ -85,12 +85,12 @@ returns c =
     let told = judged.judge-marked in
     let few : number_of why.0.0 ≤ 8 = rw (sym (ap given why.1) ∙ told.ensures) (refusal-most 8 (first s) refl) in
     record {
-      number = sym (ap given why.1) ∙ refused-answer told.result why.0.0 why.1 (first s) (last s) told.ensures;
+      number = sym (ap given why.1) ∙ refused_answer told.result why.0.0 why.1 (first s) (last s) told.ensures;
       cost = kept_by why.0.0 (marked_cost_along a.method x z p m) 0;
       picture_left = kept_by why.0.0 (closed_along x z seam a.picture.now) a.picture.now;
       marks_left = kept_by why.0.0 (closed_marks x z seam a.marks.now) a.marks.now;
       seam_given = kept_by why.0.0 (seam ++ drop (turned_size x z).height a.seam.now) a.seam.now;
-      work_left = work-as-was why.0.0 (number_of why.0.0) refl few a.work.now;
+      work_left = work_as_was why.0.0 (number_of why.0.0) refl few a.work.now;
     }
 
 enum_told : tie.Need-enum-told

@@ -24,9 +24,9 @@ use Rattle.seam_cut.specs.Cutting.{closed_along}
 use Rattle.seam_cut_marked.specs.Marking.{closed_marks}
 use Rattle.seam_turn.specs.Turning.{CloseAlongGiven}
 use Rattle.seam_turn.proofs.Served.{Closed, close_served}
-use Rattle.seam_cut_marked.proofs.Buffers.{seam-free}
+use Rattle.seam_cut_marked.proofs.Buffers.{seam_free}
 use Rattle.seam_cut_marked.proofs.Marked.{marked_inside}
-use Rattle.seam_cut_marked.proofs.Marks.{grey-bytes, grey-sized, wide_grey, tall_grey, marks-cut}
+use Rattle.seam_cut_marked.proofs.Marks.{grey-bytes, grey-sized, wide-grey, tall_grey, marks-cut}
 use Rattle.seam_cut_marked.proofs.cut_marked_along.Statement.{statement}
 use Rattle.seam_cut_marked.proofs.cut_marked_along.Tie as tie
 
@@ -53,7 +53,7 @@ free c =
     let s = at-marked-along.before.before.before.before.before.before.before.before.before.before.before in
     let f = at-marked-along.marked-along in
     let told = c.enum_told.given in
-    seam-free (blocked s) f.result f.ensures.number told.0.0 told.1
+    seam_free (blocked s) f.result f.ensures.number told.0.0 told.1
 
 inside : (c : tie.After-enum-told)
     → let s = c.before.before.before.before.before.before.before.before.before.before.before.before.before.before.before.before.before in
@@ -151,8 +151,8 @@ marks-closed c =
     let marks : CloseAlongGiven a.marks.now (grey_of a.size) a.axis (take at-turned-size.turned-size.result.height f.marked-along.new.1.1.1.1.1.0) k.close.new.1.1.1.1.0 c.close2.result c.close2.new.0 c.close2.new.1.1.1.1.0 = rw at-grey.grey.ensures at c.close2.ensures in
     close_served a.marks.now (grey_of a.size) a.axis (take at-turned-size.turned-size.result.height f.marked-along.new.1.1.1.1.1.0) k.close.new.1.1.1.1.0 c.close2.result c.close2.new.0 c.close2.new.1.1.1.1.0 marks
     (grey-sized a.size (length a.picture.now) a.marks.now (sure s) p.found.marked)
-    (rw (lent told, wide_grey a.axis a.size, tall_grey a.axis a.size) (inside told))
-    (ap (λ w. eqb w 1) (wide_grey a.axis a.size) ∙ p.more)
+    (rw (lent told, wide-grey a.axis a.size, tall_grey a.axis a.size) (inside told))
+    (ap (λ w. eqb w 1) (wide-grey a.axis a.size) ∙ p.more)
     (omega (arith, p.found.work_room, closed-long k, grey-bytes a.size))
 
 turned-size-requires : tie.Need-turned-size-requires

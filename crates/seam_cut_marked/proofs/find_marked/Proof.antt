@@ -7,13 +7,13 @@ use borrow.Author.Rules.{rules}
 use lib.ListN.{length, drop, replicate}
 use Rattle.pictures.specs.Refusals.{Rule, ◌when◌, number_of, given, refusal}
 use Rattle.pictures.specs.Pictures.{size_rules, picture, marks_of}
-use Rattle.pictures.proofs.Rules.{served-first, refused-answer, kept_by, refusal-most}
+use Rattle.pictures.proofs.Rules.{served-first, refused_answer, kept_by, refusal-most}
 use Rattle.seam_rules.specs.Axes.{turned_size}
 use Rattle.seam_cut_marked.specs.Axes.{marked_seam_along, marked_cost_along, blocked_along}
 use Rattle.seam_rules.specs.Cuts.{room_rules}
 use Rattle.seam_cut_marked.specs.Marking.{mark_rules}
 use Rattle.seam_cut_marked.proofs.Buffers.{marked_needed}
-use Rattle.seam_rules.proofs.Rooms.{work-as-was}
+use Rattle.seam_rules.proofs.Rooms.{work_as_was}
 use Rattle.seam_find.proofs.Worked.{worked-or}
 use Rattle.seam_cut_marked.proofs.find_marked.Statement.{statement}
 use Rattle.seam_cut_marked.proofs.find_marked.Tie as tie
@@ -63,10 +63,10 @@ returns c =
     let told = judged.judge-marked in
     let few : number_of why.0.0 ≤ 8 = rw (sym (ap given why.1) ∙ told.ensures) (refusal-most 8 (first s) refl) in
     record {
-      number = sym (ap given why.1) ∙ refused-answer told.result why.0.0 why.1 (first s) (last s) told.ensures;
+      number = sym (ap given why.1) ∙ refused_answer told.result why.0.0 why.1 (first s) (last s) told.ensures;
       cost = kept_by why.0.0 (marked_cost_along a.method x z p m) 0;
       seam_given = kept_by why.0.0 (marked_seam_along a.method x z p m ++ drop (turned_size x z).height a.seam.now) a.seam.now;
-      work_left = work-as-was why.0.0 (number_of why.0.0) refl few a.work.now;
+      work_left = work_as_was why.0.0 (number_of why.0.0) refl few a.work.now;
     }
 
 enum_told : tie.Need-enum-told

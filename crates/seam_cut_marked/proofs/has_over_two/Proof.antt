@@ -11,7 +11,7 @@ use borrow.Author.Tests.{not-true, not-false}
 use lib.ListN.{length, get_or, drop}
 use lib.Seq.{drop-length}
 use Rattle.seam_bounds.specs.Moves.{outside}
-use Rattle.seam_bounds.proofs.Moving.{outside_here, outside-next}
+use Rattle.seam_bounds.proofs.Moving.{outside-here, outside-next}
 use Rattle.seam_rules.proofs.Rooms.{mark_below, mark_over}
 use Rattle.seam_cut_marked.proofs.has_over_two.Statement.{statement}
 use Rattle.seam_cut_marked.proofs.has_over_two.Tie as tie
@@ -50,7 +50,7 @@ loop-again c =
       (
         refl,
         ⊎_elim
-            (λ (w : _ × _). ap (◌|| outside 3 (drop (i + 1) marks)) w.1 ∙ sym (ap (head.loop.over ||◌) (outside_here 3 marks i (omega arith) (mark_over mark (sym allowed.ensures ∙ not-true _ w.0.taken))) ∙ or-true head.loop.over) ∙ inv)
+            (λ (w : _ × _). ap (◌|| outside 3 (drop (i + 1) marks)) w.1 ∙ sym (ap (head.loop.over ||◌) (outside-here 3 marks i (omega arith) (mark_over mark (sym allowed.ensures ∙ not-true _ w.0.taken))) ∙ or-true head.loop.over) ∙ inv)
             (λ (w : _ × _). ap (◌|| outside 3 (drop (i + 1) marks)) w.1 ∙ ap (head.loop.over ||◌) (outside-next 3 marks i (omega arith) (mark_below mark (sym allowed.ensures ∙ not-false _ w.0.left))) ∙ inv)
             c.if1.branch,
       ),

@@ -6,7 +6,7 @@ use borrow.Author.Rules.{rules}
 use lib.ListN.{length}
 use Rattle.pictures.specs.Refusals.{Rule, ◌when◌, given, refusal}
 use Rattle.pictures.specs.Pictures.{size_rules}
-use Rattle.pictures.proofs.Rules.{served-first, served-both, refused-answer}
+use Rattle.pictures.proofs.Rules.{served-first, served-both, refused_answer}
 use Rattle.seam_bounds.specs.Moves.{outside}
 use Rattle.seam_rules.specs.Cuts.{room_rules, mark_length_rules}
 use Rattle.seam_cut_marked.proofs.judge_marked.Statement.{statement}
@@ -49,7 +49,7 @@ returns c =
     let judged = c.before.before in
     let s = judged.before.before in
     let why = c.enum-told2.given in
-    refused-answer judged.judge-marks.result why.0.0 why.1 (first s) (more s) judged.judge-marks.ensures
+    refused_answer judged.judge-marks.result why.0.0 why.1 (first s) (more s) judged.judge-marks.ensures
 
 has-over-two-requires : tie.Need-has-over-two-requires
 has-over-two-requires c κs = search rules

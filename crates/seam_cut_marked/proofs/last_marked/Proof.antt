@@ -6,7 +6,7 @@ use lib.ListN.{length, replicate}
 use Rattle.pictures.specs.Pictures.{picture, marks_of}
 use Rattle.seam_rules.specs.Answers.{found_cost}
 use Rattle.seam_cut_marked.specs.Axes.{blocked_along}
-use Rattle.seam_cut_marked.proofs.Buffers.{seam-free, refused-blocked}
+use Rattle.seam_cut_marked.proofs.Buffers.{seam_free, refused_blocked}
 use Rattle.seam_cut_marked.proofs.last_marked.Statement.{statement}
 use Rattle.seam_cut_marked.proofs.last_marked.Tie as tie
 
@@ -43,7 +43,7 @@ returns c =
     let s = at-marked-along.before.before.before.before.before.before in
     let f = at-marked-along.marked-along in
     let why = c.enum-told2.given in
-    let t : blocked s ≡ true = refused-blocked (blocked s) f.result f.ensures.number why.0.0 why.1 in
+    let t : blocked s ≡ true = refused_blocked (blocked s) f.result f.ensures.number why.0.0 why.1 in
     record {
       number = f.ensures.number ∙ ap (λ k. cond k 12 0) t ∙ sym (ap (λ k. cond k 12 13) t);
       cost = ap found_cost why.1;
@@ -60,7 +60,7 @@ returns-2 c =
     let s = at-marked-along.before.before.before.before.before.before in
     let f = at-marked-along.marked-along in
     let seam = c.enum_told.given in
-    let t : blocked s ≡ false = seam-free (blocked s) f.result f.ensures.number seam.0.0 seam.1 in
+    let t : blocked s ≡ false = seam_free (blocked s) f.result f.ensures.number seam.0.0 seam.1 in
     record {
       number = sym (ap (λ k. cond k 12 13) t);
       cost = refl;

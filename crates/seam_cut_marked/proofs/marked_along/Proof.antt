@@ -20,7 +20,7 @@ use Rattle.seam_turn.specs.Axes.{turned}
 use Rattle.seam_turn.specs.Turning.{TurnGiven}
 use Rattle.seam_turn.proofs.Served.{turn_served}
 use Rattle.seam_cut_marked.specs.Axes.{marked_seam_along, marked_cost_along, blocked_along}
-use Rattle.seam_rules.proofs.Turns.{turned-bytes, turned-pixels, turned_sides}
+use Rattle.seam_rules.proofs.Turns.{turned-bytes, turned-pixels, turned-sides}
 use Rattle.seam_cut_marked.proofs.Marked.{MarkedThere, marked_served}
 use Rattle.seam_cut_marked.proofs.Marks.{grey-bytes, grey-sized, put_after, picture_there, marks_there}
 use Rattle.seam_cut_marked.proofs.marked_along.Statement.{statement}
@@ -106,7 +106,7 @@ there c =
     let s = sure start in
     marked_served (space at-turn2) (turned_size a.axis a.size) a.method a.seam.now c.find-marked-in.result c.find-marked-in.new.0 c.find-marked-in.new.1.1.1.0
     (rw at-turned-size.turned-size.ensures at c.find-marked-in.ensures)
-    (turned_sides a.axis a.size (length a.picture.now) s) start.requires.seam_room
+    (turned-sides a.axis a.size (length a.picture.now) s) start.requires.seam_room
     (omega (arith, turned-bytes a.axis a.size, turned-pixels a.axis a.size, start.requires.work_room, space-long at-turn2))
 
 turned-size-requires : tie.Need-turned-size-requires

@@ -20,13 +20,13 @@ use Rattle.seam_bounds.proofs.Spaces.{Rooms, rooms_are}
 use Rattle.seam_theory.specs.PictureSeams.{seam_of, cost_of}
 use Rattle.seam_sums.specs.Fences.{fence32}
 use Rattle.seam_find.specs.Finding.{find_in_rules}
-use Rattle.seam_theory.specs.Sums.{sumsDown, waysUp, columns_to}
+use Rattle.seam_theory.specs.Sums.{sums_down, ways_up, columns_to}
 use Rattle.seam_theory.proofs.Sums.{ways-long}
 use Rattle.seam_find.specs.Inner.Down.{costs_of}
 use Rattle.seam_find.proofs.Costs.{front-most}
 use Rattle.seam_find.proofs.Loops.{traced_is}
 use Rattle.seam_find.proofs.Traced.{plain-traceable, seam-traced, cost-summed}
-use Rattle.seam_find.proofs.Spaces.{space-lent, space-filled, Ends, ends}
+use Rattle.seam_find.proofs.Spaces.{space_lent, space-filled, Ends, ends}
 use Rattle.seam_find.proofs.find_in.Statement.{statement}
 use Rattle.seam_find.proofs.find_in.Tie as tie
 
@@ -76,7 +76,7 @@ byte c = front-most (space c) (picture_bytes (size c)) 255 (λ i. omega (arith, 
 
 -- the ways between the rows, which stand after the picture
 ways : (c : tie.After-picture-bytes) → List ℕ
-ways c = flat (table (waysUp false fence32 (size c).width (costs_of (size c) (method c) (front c))) ((size c).height - 1))
+ways c = flat (table (ways_up false fence32 (size c).width (costs_of (size c) (method c) (front c))) ((size c).height - 1))
 
 ways-are : (c : tie.After-find-bottom)
     → let p = c.before.before in
@@ -93,7 +93,7 @@ ways-lent : (c : tie.After-find-bottom)
     let b = p.picture_bytes_lem.result in take (b + ((size p).height - 1) * (size p).width - b) (drop b c.find-bottom.new.0) ≡ ways p
 ways-lent c =
     let p = c.before.before in
-    space-lent (space p) (front p) (ways p) c.find-bottom.new.0 (picture_bytes (size p)) (((size p).height - 1) * (size p).width) (ways-are c) (front_long p) (ways-wide p) p.picture_bytes_lem.result (bytes_are p)
+    space_lent (space p) (front p) (ways p) c.find-bottom.new.0 (picture_bytes (size p)) (((size p).height - 1) * (size p).width) (ways-are c) (front_long p) (ways-wide p) p.picture_bytes_lem.result (bytes_are p)
 
 kept-long : (c : tie.After-find-bottom) → length c.find-bottom.new.0 ≡ length (space c.before.before)
 kept-long c = c.find-bottom.auto.0
@@ -202,7 +202,7 @@ returns-2 c =
     let fits = plain-traceable z (method p) (front p) (front-sized p) (byte p) f.find-bottom.result.column (length (seam p)) found.inside (rooms p).seam_room in
     record {
       number = sym (none p);
-      cost = c.wide.ensures ∙ found.sum_is ∙ ap (λ k. get_or (sumsDown false fence32 z.width (costs_of z (method p) (front p)) (z.height - 1)) k 0) found.column_is ∙ cost-summed z (method p) (front p) (front-sized p) (byte p);
+      cost = c.wide.ensures ∙ found.sum_is ∙ ap (λ k. get_or (sums_down false fence32 z.width (costs_of z (method p) (front p)) (z.height - 1)) k 0) found.column_is ∙ cost-summed z (method p) (front p) (front-sized p) (byte p);
       space_left = space-filled (space p) (front p) (ways p) f.find-bottom.new.0 (picture_bytes z) n (ways-are f) (front_long p) (ways-wide p) p.picture_bytes_lem.result all 0 at_clear.clear.new.0 (bytes_are p) (omega (arith, (bounds p).rows)) (omega (arith, kept-long f, bytes_are p, (rooms p).room)) at_clear.clear.ensures;
       seam_given =
           at-trace.trace-back.ensures

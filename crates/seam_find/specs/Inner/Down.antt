@@ -7,7 +7,7 @@ use Rattle.pictures.specs.Refusals.{refusal}
 use Rattle.pictures.specs.Pictures.{size_rules, picture_bytes, picture}
 use Rattle.energy.specs.declared.methods.Method.{Method}
 use Rattle.energy.specs.Energy.{costs_at}
-use Rattle.seam_theory.specs.Sums.{CostRows, cost_rows, fenced, sumOf3, way_of3, sumsDown, waysUp}
+use Rattle.seam_theory.specs.Sums.{CostRows, cost_rows, fenced, sum_of3, way_of3, sums_down, ways_up}
 
 -- The costs of row i of a picture, by a method.
 abbrev pub costs_of : Size → Method → List ℕ → ℕ → CostRows
@@ -27,9 +27,9 @@ pub record DownNeeded (fence from : ℕ) (z : Size) (costs : List ℕ → ℕ �
 pub record DownGiven (fence from : ℕ) (z : Size) (costs : List ℕ → ℕ → CostRows) (space space' above' : List ℕ) : Type 0 where
   pub ways :
       space' ≡ take from space
-      ++ (flat (table (waysUp false fence z.width (costs (take from space))) (z.height - 1))
+      ++ (flat (table (ways_up false fence z.width (costs (take from space))) (z.height - 1))
       ++ drop (from + (z.height - 1) * z.width) space)
-  pub sums : above' ≡ fenced false fence z.width (sumsDown false fence z.width (costs (take from space)) (z.height - 1))
+  pub sums : above' ≡ fenced false fence z.width (sums_down false fence z.width (costs (take from space)) (z.height - 1))
 
 -- The same for row i alone: the sums of the row above stand between their fences and are below them.
 pub record RowNeeded (fence from : ℕ) (z : Size) (bytes i : ℕ) (space above cost next : List ℕ) : Type 0 where
@@ -51,4 +51,4 @@ ways_at from z i = from + (i - 1) * z.width
 -- The ways of row i put in their place, and its fenced sums.
 pub record RowGiven (fence from : ℕ) (z : Size) (costs : List ℕ → ℕ → CostRows) (i : ℕ) (space above space' above' : List ℕ) : Type 0 where
   pub ways : space' ≡ take (ways_at from z i) space ++ (table (way_of3 false z.width above (costs (take from space) i)) z.width ++ drop (ways_at from z i + z.width) space)
-  pub sums : above' ≡ fenced false fence z.width (table (sumOf3 above (costs (take from space) i)) z.width)
+  pub sums : above' ≡ fenced false fence z.width (table (sum_of3 above (costs (take from space) i)) z.width)

@@ -17,10 +17,10 @@ use Rattle.energy.specs.declared.methods.Method.{Method}
 use Rattle.pictures.specs.declared.sizes.Size.{Size}
 use Rattle.pictures.specs.Refusals.{◌when◌, number_of, given, refusal, served}
 use Rattle.pictures.specs.Pictures.{Picture, picture_bytes, pixels, picture_in, marks_in}
-use Rattle.pictures.proofs.Rules.{refusal-most, number-some, served-first, refused-answer, kept_by}
+use Rattle.pictures.proofs.Rules.{refusal-most, number-some, served-first, refused_answer, kept_by}
 use Rattle.pictures.proofs.Limits.{Sized, sides_are, sized_of, sized-served}
 use Rattle.seam_theory.specs.PictureSeams.{marked_up, marked_seam_of, marked_cost_of, is_none}
-use Rattle.seam_theory.specs.Sums.{sumsDown, waysUp, columns_to, least_to}
+use Rattle.seam_theory.specs.Sums.{sums_down, ways_up, columns_to, least_to}
 use Rattle.seam_theory.proofs.Sums.{ways-long}
 use Rattle.seam_rules.specs.Answers.{found_number}
 use Rattle.seam_bounds.specs.Spaces.{find_space_rules}
@@ -30,12 +30,12 @@ use Rattle.seam_sums.specs.Weights.{kept, protected}
 use Rattle.seam_sums.proofs.Meant.{heavy, heavy-number, light, light-cost}
 use Rattle.seam_find.specs.Tracing.{traced}
 use Rattle.seam_find.proofs.Loops.{Traceable, traced_is}
-use Rattle.seam_find.proofs.Spaces.{space-lent, space-filled, Ends, ends}
+use Rattle.seam_find.proofs.Spaces.{space_lent, space-filled, Ends, ends}
 use Rattle.seam_find.proofs.Worked.{worked_not, worked-or}
 use Rattle.seam_find_marked.specs.Inner.{weights_of, marked_bytes}
 use Rattle.seam_find_marked.proofs.Spaces.{FrontEnds, front_ends}
 use Rattle.seam_find_marked.proofs.Marked.{front-picture, front-marks, front-sized, front_bytes}
-use Rattle.seam_find_marked.proofs.Marked.{marked-traceable, marked-some, marked-seam, marked-cost, marked-blocked}
+use Rattle.seam_find_marked.proofs.Marked.{marked_traceable, marked-some, marked-seam, marked-cost, marked_blocked}
 use Rattle.seam_find_marked.proofs.find_marked_in.Statement.{statement}
 use Rattle.seam_find_marked.proofs.find_marked_in.Tie as tie
 
@@ -166,7 +166,7 @@ same c f =
 
 -- the sums of the last row, and the least of them
 sums : (c : tie.After-picture-bytes) → List ℕ
-sums c = sumsDown false fence64 (size c).width (weights_of (size c) (method c) (front c)) ((size c).height - 1)
+sums c = sums_down false fence64 (size c).width (weights_of (size c) (method c) (front c)) ((size c).height - 1)
 
 weight : (c : tie.After-picture-bytes) → ℕ
 weight c = get_or (sums c) (least_to (sums c) ((size c).width - 1)) 0
@@ -174,7 +174,7 @@ weight c = get_or (sums c) (least_to (sums c) ((size c).width - 1)) 0
 -- from `protected` on it says that no seam is allowed
 stuck : (c : tie.After-picture-bytes) → protected ≤ weight c → blocked (start c) ≡ true
 unfolding sums weight
-stuck c over = sym (ap is_none (same c marked_up)) ∙ marked-blocked (size c) (method c) (front c) (front_is c) (byte c) over
+stuck c over = sym (ap is_none (same c marked_up)) ∙ marked_blocked (size c) (method c) (front c) (front_is c) (byte c) over
 
 -- below it that one is, and its cost
 free : (c : tie.After-picture-bytes) → weight c < protected → blocked (start c) ≡ false
@@ -205,7 +205,7 @@ ways-within f = omega (arith, pixels-within f, (bounds (at-bytes f)).rows)
 
 -- the ways between the rows, which stand there
 ways : (c : tie.After-picture-bytes) → List ℕ
-ways c = flat (table (waysUp false fence64 (size c).width (weights_of (size c) (method c) (front c))) ((size c).height - 1))
+ways c = flat (table (ways_up false fence64 (size c).width (weights_of (size c) (method c) (front c))) ((size c).height - 1))
 
 ways-wide : (c : tie.After-picture-bytes) → length (ways c) ≡ ((size c).height - 1) * (size c).width
 unfolding ways
@@ -227,7 +227,7 @@ ways-lent : (f : tie.After-find-bottom) → lent f ≡ ways (at-bytes f)
 ways-lent f =
     let p = at-bytes f in
     let n = ((size p).height - 1) * (size p).width in
-    space-lent (space p) (front p) (ways p) (filled f) (marked_bytes (size p)) n (ways-are f) (front_long p) (ways-wide p)
+    space_lent (space p) (front p) (ways p) (filled f) (marked_bytes (size p)) n (ways-are f) (front_long p) (ways-wide p)
     (from p) (front-end p).is
 
 -- the space with the ways cleared
@@ -270,7 +270,7 @@ traceable f =
     let p = at-bytes f in
     let g = f.find-bottom in
     rw (ways-lent f)
-    (marked-traceable (size p) (method p) (front p) (front_is p) (byte p) g.result.column (length (seam p)) g.ensures.inside
+    (marked_traceable (size p) (method p) (front p) (front_is p) (byte p) g.result.column (length (seam p)) g.ensures.inside
     (rooms p).seam_room)
 
 columns-are : (f : tie.After-find-bottom)
@@ -318,7 +318,7 @@ returns c =
     record {
       number =
           sym (ap given why.1)
-          ∙ refused-answer at-judge.judge-find-in.result why.0.0 why.1 rules (12 when blocked s ∷ []) told;
+          ∙ refused_answer at-judge.judge-find-in.result why.0.0 why.1 rules (12 when blocked s ∷ []) told;
       cost = kept_by why.0.0 (price s) 0;
       space_left = sym (worked_not (number_of why.0.0) (left s) a.space.now (number-some why.0.0) most);
       seam_given = kept_by why.0.0 (columns s) a.seam.now;

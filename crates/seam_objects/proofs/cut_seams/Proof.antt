@@ -12,7 +12,7 @@ use lib.Seq.{length-take-le}
 use Rattle.seam_rules.proofs.Choices.{GoesOn, step_cut}
 use Rattle.seam_objects.specs.Objects.{to_remove, after_cuts}
 use Rattle.seam_objects.specs.Removing.{marked_picture}
-use Rattle.seam_objects.proofs.Seams.{Going, going_start, going-marks, going-room, going_less, going-needed, going_ended, going-blocked, going_on}
+use Rattle.seam_objects.proofs.Seams.{Going, going_start, going_marks, going_room, going_less, going_needed, going_ended, going-blocked, going_on}
 use Rattle.seam_objects.proofs.cut_seams.Statement.{statement}
 use Rattle.seam_objects.proofs.cut_seams.Tie as tie
 use Rattle.pictures.specs.Limits.{most_side, most_pixels}
@@ -43,14 +43,14 @@ found : (c : tie.After-has-two invariant-loop decreases-loop) → let h = c.befo
 found c =
     let h = c.before.before in
     let a = (start h).args in
-    c.has-two.ensures ∙ going-marks (going h)
+    c.has-two.ensures ∙ going_marks (going h)
 
 -- what the step before a cut says where it is to go on
 on : (c : tie.After-enum-told invariant-loop decreases-loop) → let p = c.before.before in let h = p.before.before.before in GoesOn p.before.has-two.result h.loop.width h.loop.count (start h).args.budget
 on c =
     let p = c.before.before in
     let h = p.before.before.before in
-    step_cut p.before.has-two.result h.loop.width h.loop.count (start h).args.budget (sym p.next-step.ensures ∙ c.enum_told.given.1)
+    step_cut p.before.has-two.result h.loop.width h.loop.count (start h).args.budget (sym p.next_step_lem.ensures ∙ c.enum_told.given.1)
 
 two : (c : tie.After-enum-told invariant-loop decreases-loop) → let h = c.before.before.before.before.before in let a = (start h).args in true ≡ to_remove (after_cuts h.loop.count (marked_picture a.size a.method a.picture.now a.marks.now))
 two c = sym (on c).some ∙ found c.before.before.before
@@ -65,13 +65,13 @@ mul-pixels : tie.Need-overflow-mul-pixels invariant-loop decreases-loop
 mul-pixels c = omega (arith, few c)
 
 slice-reshare-prefix-has-two : tie.Need-slice-reshare-prefix-has-two invariant-loop decreases-loop
-slice-reshare-prefix-has-two c = let h = c in let a = (start h).args in going-room (going h)
+slice-reshare-prefix-has-two c = let h = c in let a = (start h).args in going_room (going h)
 
 slice-aggregate-has-two : tie.Need-slice-aggregate-has-two invariant-loop decreases-loop
 slice-aggregate-has-two c =
     let h = c.before in
     let a = (start h).args in
-    sym (length-take-le _ h.loop.marks (going-room (going h)))
+    sym (length-take-le _ h.loop.marks (going_room (going h)))
 
 has-two-requires : tie.Need-has-two-requires invariant-loop decreases-loop
 has-two-requires c κs = search rules
@@ -96,7 +96,7 @@ returns c =
     let p = c.before.before.before in
     let h = p.before.before.before in
     let ended = c.before.next.given in
-    going_ended (going h) p.before.has-two.result (found p.before) ended.0.0 (sym p.next-step.ensures ∙ ended.1)
+    going_ended (going h) p.before.has-two.result (found p.before) ended.0.0 (sym p.next_step_lem.ensures ∙ ended.1)
 
 enum_told : tie.Need-enum-told invariant-loop decreases-loop
 enum_told c = search rules
@@ -105,7 +105,7 @@ cut-front-requires : tie.Need-cut-front-requires invariant-loop decreases-loop
 cut-front-requires c κs =
     let told = c.before.before.before in
     let h = told.before.before.before.before.before in
-    going-needed (going h) h.loop.work (on told).wide (omega (arith, (start h).requires.room, h.loop.invariant.1.1.1))
+    going_needed (going h) h.loop.work (on told).wide (omega (arith, (start h).requires.room, h.loop.invariant.1.1.1))
 
 same-length-4 : tie.Need-same-length-4 invariant-loop decreases-loop
 same-length-4 c = search rules

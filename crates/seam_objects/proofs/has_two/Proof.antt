@@ -9,7 +9,7 @@ use borrow.Author.Rules.{rules}
 use lib.ListN.{length, drop}
 use lib.Seq.{drop-length}
 use Rattle.seam_objects.specs.Objects.{some_two}
-use Rattle.seam_objects.proofs.Twos.{two_found, two_next, or-none}
+use Rattle.seam_objects.proofs.Twos.{two-found, two-next, or-none}
 use Rattle.seam_objects.proofs.has_two.Statement.{statement}
 use Rattle.seam_objects.proofs.has_two.Tie as tie
 
@@ -41,8 +41,8 @@ loop-again c =
       (
         search rules,
         ⊎_elim
-            (λ w. ap (◌|| some_two (drop (i + 1) m)) w.1 ∙ two_found m i head.loop.some (some_two m) (omega arith) w.0.taken inv)
-            (λ w. ap (◌|| some_two (drop (i + 1) m)) w.1 ∙ two_next m i head.loop.some (some_two m) (omega arith) w.0.left inv)
+            (λ w. ap (◌|| some_two (drop (i + 1) m)) w.1 ∙ two-found m i head.loop.some (some_two m) (omega arith) w.0.taken inv)
+            (λ w. ap (◌|| some_two (drop (i + 1) m)) w.1 ∙ two-next m i head.loop.some (some_two m) (omega arith) w.0.left inv)
             c.if1.branch,
       ),
     )

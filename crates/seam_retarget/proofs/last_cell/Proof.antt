@@ -9,8 +9,8 @@ use Rattle.pictures.specs.Refusals.{served}
 use Rattle.pictures.specs.Pictures.{picture_bytes}
 use Rattle.pictures.proofs.Limits.{sides_served}
 use Rattle.seam_rules.specs.Counts.{left_size}
-use Rattle.seam_rules.proofs.Left.{smaller_sides}
-use Rattle.seam_retarget.proofs.Answers.{no_totals, LastSure, last-sure, first-needed, below-needed, three-long, part-long, served as answer}
+use Rattle.seam_rules.proofs.Left.{smaller-sides}
+use Rattle.seam_retarget.proofs.Answers.{no_totals, LastSure, last_sure, first-needed, below-needed, three-long, part-long, served as answer}
 use Rattle.seam_retarget.proofs.last_cell.Statement.{statement}
 use Rattle.seam_retarget.proofs.last_cell.Tie as tie
 
@@ -28,7 +28,7 @@ count_is c =
     let p = st.requires in
     rw c.before.smaller.ensures at c.picture_bytes_lem.ensures
     ∙ ap (λ n. served n (picture_bytes (left_size a.size a.rows a.columns)) 0)
-    (smaller_sides a.size a.rows.0 a.columns.0 (sides_served a.size (length a.picture.now) p.sized) p.rows_left p.columns_left)
+    (smaller-sides a.size a.rows.0 a.columns.0 (sides_served a.size (length a.picture.now) p.sized) p.rows_left p.columns_left)
 
 sure : (c : tie.After-picture-bytes)
     → let s = c.before.before.before.before.before.before.before.before.before.before.before.before.before.before.before.before.before.before.before.before.before in
@@ -38,13 +38,13 @@ sure : (c : tie.After-picture-bytes)
 sure c =
     let st = c.before.before.before.before.before.before.before.before.before.before.before.before.before.before.before.before.before.before.before.before.before in
     let a = st.args in
-    last-sure a.picture.now a.size a.method a.rows a.columns a.out.now a.work.now st.requires c.picture_bytes_lem.result (count_is c)
+    last_sure a.picture.now a.size a.method a.rows a.columns a.out.now a.work.now st.requires c.picture_bytes_lem.result (count_is c)
 
 copy-requires : tie.Need-copy-requires
 copy-requires c κs =
     let st = c.before.before.before.before in
     let a = st.args in
-    (last-sure a.picture.now a.size a.method a.rows a.columns a.out.now a.work.now st.requires _ refl).fits
+    (last_sure a.picture.now a.size a.method a.rows a.columns a.out.now a.work.now st.requires _ refl).fits
 
 slice-aggregate-first-row : tie.Need-slice-aggregate-first-row
 slice-aggregate-first-row c = search rules

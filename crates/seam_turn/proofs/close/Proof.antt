@@ -8,7 +8,7 @@ use borrow.Author.Rules.{rules}
 use lib.ListN.{length, replicate}
 use Rattle.pictures.specs.Refusals.{Rule, ◌when◌, given, refusal}
 use Rattle.pictures.specs.Pictures.{channels_of, picture, bytes}
-use Rattle.pictures.proofs.Rules.{refused-answer, refused-kept, refusal-most}
+use Rattle.pictures.proofs.Rules.{refused_answer, refused-kept, refusal-most}
 use Rattle.seam_bounds.specs.Moves.{outside}
 use Rattle.seam_rules.specs.declared.answers.Axis.TheVariants.{Vertical}
 use Rattle.seam_rules.specs.Axes.{turned_size}
@@ -56,7 +56,7 @@ returns c =
     let v = judged.judge-close-along.result in
     let why = c.enum-told2.given in
     record {
-      number = refused-answer v why.0.0 why.1 (first s) (last s) judged.judge-close-along.ensures;
+      number = refused_answer v why.0.0 why.1 (first s) (last s) judged.judge-close-along.ensures;
       picture_left = refused-kept v why.0.0 why.1 (bytes (cut_along a.axis a.size a.seam.now (picture a.size b)) ++ replicate ((turned_size a.axis a.size).height * channels_of a.size.kind) 0) b;
       work_left = work_kept a.axis why.0.0 (given v) (sym (ap given why.1)) (omega (arith, judged.judge-close-along.ensures, refusal-most 8 (first s) refl)) a.work.now;
     }

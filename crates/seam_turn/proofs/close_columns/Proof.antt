@@ -22,7 +22,7 @@ use Rattle.seam_rules.specs.Cuts.{last_rules, close_along_lengths, cleared}
 use Rattle.seam_rules.proofs.Rooms.{CloseRoom, close_room}
 use Rattle.seam_turn.specs.Axes.{cut_along}
 use Rattle.seam_turn.specs.Turning.{close_along_rules, left_work}
-use Rattle.seam_turn.proofs.Columns.{Inside, close_inside, over_of, rest_of, front_is, front-sized, left-bytes, left_sides, kept-is, back_is}
+use Rattle.seam_turn.proofs.Columns.{Inside, close_inside, over_of, rest_of, front_is, front-sized, left-bytes, left-sides, kept-is, back_is}
 use Rattle.seam_turn.proofs.Served.{close_number, ends-cleared}
 use Rattle.seam_turn.proofs.close_columns.Statement.{statement}
 use Rattle.seam_turn.proofs.close_columns.Tie as tie
@@ -110,7 +110,7 @@ kept-are c =
     let s = entry c in
     let a = s.args in
     rw (left_is c.before) at c.picture_bytes_lem.ensures
-    ∙ ap (λ n. served n (picture_bytes (narrowed (turned_size Horizontal a.size))) 0) (left_sides a.size a.picture.now a.seam.now (sure s) (inside c.before.before))
+    ∙ ap (λ n. served n (picture_bytes (narrowed (turned_size Horizontal a.size))) 0) (left-sides a.size a.picture.now a.seam.now (sure s) (inside c.before.before))
 
 kept-fits : (c : tie.After-picture-bytes) → let a = (entry c).args in c.picture_bytes_lem.result + a.size.width * channels_of a.size.kind ≡ length a.picture.now
 kept-fits c =

@@ -1,7 +1,7 @@
 -- `text_lengths::digit_count` meets its contract.
 use native.Mathlib.Omega.{arith}
 use mathlib.Core.Path.{sym}
-use Rattle.text_theory.proofs.Decimals.{tenth, length_small, length_large}
+use Rattle.text_theory.proofs.Decimals.{tenth, length_small, length-large}
 use borrow.Author.Rules.{rules}
 use Prim.Native.Nat.{ℕ, ◌<◌}
 use borrow.Fn.Kinds.{In}
@@ -36,7 +36,7 @@ module _ (t : ℕ) where
   returns-2 : lts.Need-returns-2 calls here reads.Post
   returns-2 c =
       let l = tenth _ c.before.if1.false in
-      let m = length_large _ c.before.if1.false in
+      let m = length-large _ c.before.if1.false in
       (omega arith, omega arith)
 
 pub +digit-count-spec : {M : Type 1} → statement M

@@ -3,7 +3,7 @@ use mathlib.Core.List.{[], ◌∷◌}
 use lib.ListN.{length}
 use Rattle.text_theory.specs.Files.{map_text}
 use Rattle.text_theory.specs.Lengths.{total, spaced}
-use Rattle.text_lengths.proofs.Rooms.{Taking, taking_first, taking-next, taking-short, taking_last}
+use Rattle.text_lengths.proofs.Rooms.{Taking, taking_first, taking_next, taking_short, taking_last}
 use Rattle.text_lengths.proofs.Pieces.{map_pieces_lem}
 use borrow.Author.Rules.{rules}
 use Rattle.text_lengths.proofs.map_left.Statement.{statement}
@@ -22,7 +22,7 @@ enum_told : tie.Need-enum-told
 enum_told c = search rules
 
 returns : tie.Need-returns
-returns c = taking-short (whole c.before.before.before.before) (rw c.enum_told.given.1 at c.before.before.take-numbers.ensures)
+returns c = taking_short (whole c.before.before.before.before) (rw c.enum_told.given.1 at c.before.before.take-numbers.ensures)
 
 take-requires : tie.Need-take-requires
 take-requires c κs = search rules
@@ -31,7 +31,7 @@ returns-2 : tie.Need-returns-2
 returns-2 c =
     let at_left = c.before.before in
     let at-take-numbers = at_left.before.before in
-    taking_last (taking-next (whole at-take-numbers.before.before) (rw at_left.left.given.1 at at-take-numbers.take-numbers.ensures)) c.take.ensures
+    taking_last (taking_next (whole at-take-numbers.before.before) (rw at_left.left.given.1 at at-take-numbers.take-numbers.ensures)) c.take.ensures
 
 pub map-left-spec : {M : Type 1} → statement M
 map-left-spec =

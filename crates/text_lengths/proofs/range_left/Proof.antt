@@ -4,7 +4,7 @@ use Prim.Native.Nat.{ℕ, ◌+◌}
 use lib.ListN.{length}
 use Rattle.text_theory.specs.Files.{range_text}
 use Rattle.text_theory.specs.Lengths.{spaced}
-use Rattle.text_lengths.proofs.Rooms.{Taking, taking_first, taking-next, taking-short, taking_last}
+use Rattle.text_lengths.proofs.Rooms.{Taking, taking_first, taking_next, taking_short, taking_last}
 use Rattle.text_lengths.proofs.Pieces.{range_pieces, range_pieces_lem}
 use borrow.Author.Rules.{rules}
 use Rattle.text_lengths.proofs.range_left.Statement.{statement}
@@ -26,11 +26,11 @@ whole c = taking_first _ (range_pieces_lem c.args.depth c.args.growth)
 
 after-name : (c : tie.After-named) → let s = at_name c in
     Rest s c.named.given.0.0 ((spaced s.args.depth + spaced s.args.growth) ∷ 2 ∷ [])
-after-name c = taking-next (whole (at_name c)) (rw c.named.given.1 at c.before.before.take-name.ensures)
+after-name c = taking_next (whole (at_name c)) (rw c.named.given.1 at c.before.before.take-name.ensures)
 
 after-numbers : (c : tie.After-last) → let s = at_name (at-numbers c) in
     Rest s c.last.given.0.0 (2 ∷ [])
-after-numbers c = taking-next (after-name (at-numbers c)) (rw c.last.given.1 at c.before.before.take-pair.ensures)
+after-numbers c = taking_next (after-name (at-numbers c)) (rw c.last.given.1 at c.before.before.take-pair.ensures)
 
 take-name-requires : tie.Need-take-name-requires
 take-name-requires c κs = search rules
@@ -42,7 +42,7 @@ enum_told : tie.Need-enum-told
 enum_told c = search rules
 
 returns : tie.Need-returns
-returns c = taking-short (whole c.before.before.before) (rw c.enum_told.given.1 at c.before.before.take-name.ensures)
+returns c = taking_short (whole c.before.before.before) (rw c.enum_told.given.1 at c.before.before.take-name.ensures)
 
 take-pair-requires : tie.Need-take-pair-requires
 take-pair-requires c κs = search rules
@@ -54,7 +54,7 @@ enum-told-2 : tie.Need-enum-told-2
 enum-told-2 c = search rules
 
 returns-2 : tie.Need-returns-2
-returns-2 c = taking-short (after-name c.before.before.before.before) (rw c.enum-told2.given.1 at c.before.before.take-pair.ensures)
+returns-2 c = taking_short (after-name c.before.before.before.before) (rw c.enum-told2.given.1 at c.before.before.take-pair.ensures)
 
 take-requires : tie.Need-take-requires
 take-requires c κs = search rules

@@ -5,7 +5,7 @@ use Rattle.pictures.proofs.Limits.{channels_some}
 use Rattle.text_theory.specs.Files.{row_text}
 use Rattle.text_theory.specs.Lengths.{total, pixel_length}
 use Rattle.text_lengths.specs.Rooms.{pixels_of}
-use Rattle.text_lengths.proofs.Rooms.{Taking, taking_first, taking-next, taking-short, taking_last}
+use Rattle.text_lengths.proofs.Rooms.{Taking, taking_first, taking_next, taking_short, taking_last}
 use Rattle.text_lengths.proofs.PixelRows.{whole_by, row_pieces_lem}
 use borrow.Author.Rules.{rules}
 use Rattle.text_lengths.proofs.row_left.Statement.{statement}
@@ -35,7 +35,7 @@ enum_told c = search rules
 returns : tie.Need-returns
 returns c =
     let at-channels = c.before.before.before in
-    taking-short (whole at-channels.before.before) (rw (c.enum_told.given.1, at-channels.channels.ensures) at c.before.before.take-pixels.ensures)
+    taking_short (whole at-channels.before.before) (rw (c.enum_told.given.1, at-channels.channels.ensures) at c.before.before.take-pixels.ensures)
 
 take-requires : tie.Need-take-requires
 take-requires c κs = search rules
@@ -46,7 +46,7 @@ returns-2 c =
     let at-take-pixels = at_left.before.before in
     let at-channels = at-take-pixels.before in
     let pixels = rw (at_left.left.given.1, at-channels.channels.ensures) at at-take-pixels.take-pixels.ensures in
-    taking_last (taking-next (whole at-channels.before.before) pixels) c.take.ensures
+    taking_last (taking_next (whole at-channels.before.before) pixels) c.take.ensures
 
 pub row-left-spec : {M : Type 1} → statement M
 row-left-spec =

@@ -2,7 +2,7 @@
 use Prim.Native.Nat.{◌-◌}
 use lib.ListN.{length}
 use Rattle.text_theory.specs.Lengths.{spaced}
-use Rattle.text_lengths.proofs.Rooms.{Leaving, leaving-first, leaving-next, leaving-short, leaving-end}
+use Rattle.text_lengths.proofs.Rooms.{Leaving, leaving_first, leaving-next, leaving-short, leaving-end}
 use borrow.Author.Rules.{rules}
 use Rattle.text_lengths.proofs.take_numbers.Statement.{statement}
 use Rattle.text_lengths.proofs.take_numbers.Tie as tie
@@ -14,7 +14,7 @@ abbrev decreases-loop : tie.decreases-loop
 decreases-loop room row left₀ i₀ left i = length row - i
 
 loop-holds : tie.Need-loop-init invariant-loop decreases-loop
-loop-holds c = leaving-first
+loop-holds c = leaving_first
 
 mul_wide : tie.Need-overflow-mul-wide invariant-loop decreases-loop
 mul_wide c = search rules

@@ -7,7 +7,7 @@ use lib.ListN.{length, get_or}
 use Rattle.grids.specs.Rows.{row_at}
 use Rattle.pictures.specs.Pictures.{channels_of}
 use Rattle.text_theory.specs.Lengths.{spaced, pixel_length}
-use Rattle.text_lengths.proofs.Rooms.{Taking, taking_first, taking-next, taking-short, taking_last}
+use Rattle.text_lengths.proofs.Rooms.{Taking, taking_first, taking_next, taking_short, taking_last}
 use Rattle.text_lengths.proofs.PixelRows.{grey_inside, rgb_inside, grey-length, rgb_pieces_lem}
 use borrow.Author.Rules.{rules}
 use Rattle.text_lengths.proofs.take_pixel.Statement.{statement}
@@ -46,13 +46,13 @@ after_two : (c : tie.After-left) → let s = start (two c) in
 after_two c =
     let at-sample3 = c.before.before.before in
     let at-sample2 = at-sample3.before.before in
-    taking-next (whole (two c)) (rw (c.left.given.1, at-sample2.sample2.ensures, at-sample3.sample3.ensures) at c.before.before.take-pair.ensures)
+    taking_next (whole (two c)) (rw (c.left.given.1, at-sample2.sample2.ensures, at-sample3.sample3.ensures) at c.before.before.take-pair.ensures)
 
 after-third : (c : tie.After-last) → let s = start (two (third c)) in
     Rest s c.last.given.0.0 (2 ∷ [])
 after-third c =
     let at-sample4 = c.before.before.before in
-    taking-next (after_two (third c)) (rw (c.last.given.1, at-sample4.sample4.ensures) at c.before.before.take-number2.ensures)
+    taking_next (after_two (third c)) (rw (c.last.given.1, at-sample4.sample4.ensures) at c.before.before.take-number2.ensures)
 
 enum_told : tie.Need-enum-told
 enum_told c = search rules
@@ -100,7 +100,7 @@ returns : tie.Need-returns
 returns c =
     let at-sample3 = c.before.before.before in
     let at-sample2 = at-sample3.before.before in
-    taking-short (whole at-sample2.before.before) (rw (c.enum-told3.given.1, at-sample2.sample2.ensures, at-sample3.sample3.ensures) at c.before.before.take-pair.ensures)
+    taking_short (whole at-sample2.before.before) (rw (c.enum-told3.given.1, at-sample2.sample2.ensures, at-sample3.sample3.ensures) at c.before.before.take-pair.ensures)
 
 add-sample-2 : tie.Need-overflow-add-sample-2
 add-sample-2 c = let g = rgb c.before.before.before.before.before.before.before.before in search rules
@@ -123,7 +123,7 @@ enum-told-4 c = search rules
 returns-2 : tie.Need-returns-2
 returns-2 c =
     let at-sample4 = c.before.before.before in
-    taking-short (after_two at-sample4.before.before.before) (rw (c.enum-told4.given.1, at-sample4.sample4.ensures) at c.before.before.take-number2.ensures)
+    taking_short (after_two at-sample4.before.before.before) (rw (c.enum-told4.given.1, at-sample4.sample4.ensures) at c.before.before.take-number2.ensures)
 
 take-requires : tie.Need-take-requires
 take-requires c κs = search rules

@@ -5,8 +5,8 @@ use lib.ListN.{length}
 use Rattle.grids.specs.Rows.{rows_of}
 use Rattle.pictures.specs.Pictures.{channels_of}
 use Rattle.text_theory.specs.Lengths.{pixel_length}
-use Rattle.text_lengths.proofs.Rooms.{Leaving, leaving-first, leaving-next, leaving-short, leaving-end}
-use Rattle.text_lengths.proofs.PixelRows.{pixel_at, pixel_inside, below_rows, all_rows}
+use Rattle.text_lengths.proofs.Rooms.{Leaving, leaving_first, leaving-next, leaving-short, leaving-end}
+use Rattle.text_lengths.proofs.PixelRows.{pixel_at, pixel_inside, below_rows, all-rows}
 use borrow.Author.Rules.{rules}
 use Rattle.text_lengths.proofs.take_pixels.Statement.{statement}
 use Rattle.text_lengths.proofs.take_pixels.Tie as tie
@@ -18,7 +18,7 @@ abbrev decreases-loop : tie.decreases-loop
 decreases-loop room kind samples n left₀ i₀ left i = n - i
 
 loop-holds : tie.Need-loop-init invariant-loop decreases-loop
-loop-holds c = leaving-first
+loop-holds c = leaving_first
 
 take-pixel-requires : tie.Need-take-pixel-requires invariant-loop decreases-loop
 take-pixel-requires c κs =
@@ -58,7 +58,7 @@ returns-2 : tie.Need-returns-2 invariant-loop decreases-loop
 returns-2 c =
     let at-loop = c.before in
     let s = at-loop.before.before in
-    leaving-end at-loop.loop.invariant (all_rows s.args.kind s.args.samples.now s.args.n at-loop.loop.i c.loop-test.false)
+    leaving-end at-loop.loop.invariant (all-rows s.args.kind s.args.samples.now s.args.n at-loop.loop.i c.loop-test.false)
 
 pub take-pixels-spec : {M : Type 1} → statement M
 take-pixels-spec =

@@ -5,7 +5,7 @@ use native.Mathlib.Omega.{arith}
 use lib.ListN.{length}
 use Rattle.text_theory.specs.Files.{begun}
 use Rattle.text_read.proofs.Onward.{told_begun, begun-some}
-use Rattle.text_scan.proofs.Counting.{Lining, lining-first, lining-stop, lining-torn, lining-next}
+use Rattle.text_scan.proofs.Counting.{Lining, lining_first, lining-stop, lining-torn, lining-next}
 use borrow.Author.Rules.{rules}
 use Rattle.text_scan.proofs.count_lines.Statement.{statement}
 use Rattle.text_scan.proofs.count_lines.Tie as tie
@@ -17,7 +17,7 @@ abbrev decreases-loop : tie.decreases-loop
 decreases-loop text name what width at₀ n₀ even₀ at n even = length text - at
 
 loop-holds : tie.Need-loop-init invariant-loop decreases-loop
-loop-holds c = lining-first (search rules)
+loop-holds c = lining_first (search rules)
 
 begin-requires : tie.Need-begin-requires invariant-loop decreases-loop
 begin-requires c κs = search rules

@@ -8,10 +8,10 @@ use Rattle.text_theory.specs.Readers.{Get, give, ◌▷◌, after}
 use Rattle.text_theory.specs.Files.{closed, row_word, map_word}
 use Rattle.text_rules.specs.declared.Items.TheVariants.{Numbers}
 use Rattle.text_rules.specs.Items.{items_of}
-use Rattle.text_read.proofs.Onward.{Left, left-start, left-past, left-no-past, left-then, left-no-then}
+use Rattle.text_read.proofs.Onward.{Left, left_start, left-past, left_no_past, left_then, left_no_then}
 use Rattle.text_scan.specs.declared.Facts.{Facts}
 use Rattle.text_scan.specs.Inner.{lines_of, scan_of}
-use Rattle.text_scan.proofs.WholeText.{left-reach, left-no-reach, scan_none, scan-more, scan-end}
+use Rattle.text_scan.proofs.WholeText.{left_reach, left_no_reach, scan_none, scan_more, scan_end}
 use borrow.Author.Rules.{rules}
 use Rattle.text_scan.proofs.scan.Statement.{statement}
 use Rattle.text_scan.proofs.scan.Tie as tie
@@ -48,19 +48,19 @@ maps c = (c.maps.given.0.0, c.maps.given.0.1.0)
 -- What is left after the head, the row lines, the map lines, the last line.
 after-head : (c : tie.After-head) → Left scan_of (text c) 0 (from-rows (head c)) c.head.given.0.1.0.at
 unfolding scan_of
-after-head c = left-then from-rows left-start (rw c.head.given.1 at c.before.before.header.ensures)
+after-head c = left_then from-rows left_start (rw c.head.given.1 at c.before.before.header.ensures)
 
 after-rows : (c : tie.After-rows) → let h = the-head c in Left scan_of (text h) 0 (from-maps (head h) (rows c)) c.rows.given.0.1.1.0.at
 unfolding row_word
 after-rows c =
     let at-count-lines = c.before.before in
-    left-reach (from-maps (head (the-head c))) (after-head (the-head c)) (rw (c.rows.given.1, at-count-lines.before.items_of.ensures) at at-count-lines.count-lines.ensures)
+    left_reach (from-maps (head (the-head c))) (after-head (the-head c)) (rw (c.rows.given.1, at-count-lines.before.items_of.ensures) at at-count-lines.count-lines.ensures)
 
 after-maps : (c : tie.After-maps)
     → let r = the-rows c in
     let h = the-head r in Left scan_of (text h) 0 (from_end (head h) (rows r) (maps c)) c.maps.given.0.1.1.0.at
 unfolding map_word
-after-maps c = left-reach (from_end (head (the-head (the-rows c))) (rows (the-rows c))) (after-rows (the-rows c)) (rw c.maps.given.1 at c.before.before.count-lines2.ensures)
+after-maps c = left_reach (from_end (head (the-head (the-rows c))) (rows (the-rows c))) (after-rows (the-rows c)) (rw c.maps.given.1 at c.before.before.count-lines2.ensures)
 
 after_last : (c : tie.After-f)
     → let m = c.before.before.before.before in
@@ -80,7 +80,7 @@ enum_told c = search rules
 
 returns : tie.Need-returns
 unfolding scan_of
-returns c = sym (scan_none (left-no-then from-rows left-start (rw c.enum_told.given.1 at c.before.before.header.ensures)))
+returns c = sym (scan_none (left_no_then from-rows left_start (rw c.enum_told.given.1 at c.before.before.header.ensures)))
 
 items-of-requires : tie.Need-items-of-requires
 items-of-requires c κs = search rules
@@ -103,7 +103,7 @@ unfolding row_word
 returns-2 c =
     let at-count-lines = c.before.before in
     let at_head = at-count-lines.before.before.before.before in
-    sym (scan_none (left-no-reach (from-maps (head at_head)) (after-head at_head) (rw (c.enum-told2.given.1, at-count-lines.before.items_of.ensures) at at-count-lines.count-lines.ensures)))
+    sym (scan_none (left_no_reach (from-maps (head at_head)) (after-head at_head) (rw (c.enum-told2.given.1, at-count-lines.before.items_of.ensures) at at-count-lines.count-lines.ensures)))
 
 count-lines-requires-2 : tie.Need-count-lines-requires-2
 count-lines-requires-2 c κs =
@@ -122,7 +122,7 @@ returns-3 : tie.Need-returns-3
 unfolding map_word
 returns-3 c =
     let at_rows = c.before.before.before.before in
-    sym (scan_none (left-no-reach (from_end (head (the-head at_rows)) (rows at_rows)) (after-rows at_rows) (rw c.enum-told3.given.1 at c.before.before.count-lines2.ensures)))
+    sym (scan_none (left_no_reach (from_end (head (the-head at_rows)) (rows at_rows)) (after-rows at_rows) (rw c.enum-told3.given.1 at c.before.before.count-lines2.ensures)))
 
 close-requires : tie.Need-close-requires
 close-requires c κs = search rules
@@ -134,16 +134,16 @@ enum-told-4 : tie.Need-enum-told-4
 enum-told-4 c = search rules
 
 returns-4 : tie.Need-returns-4
-returns-4 c = sym (scan_none (left-no-past closed _ (after-maps c.before.before.before.before) (rw c.enum-told4.given.1 at c.before.before.close.ensures)))
+returns-4 c = sym (scan_none (left_no_past closed _ (after-maps c.before.before.before.before) (rw c.enum-told4.given.1 at c.before.before.close.ensures)))
 
 returns-5 : tie.Need-returns-5
-returns-5 c = sym (scan-more (after_last c.before.before) c.if1.true)
+returns-5 c = sym (scan_more (after_last c.before.before) c.if1.true)
 
 are-full-requires : tie.Need-are-full-requires
 are-full-requires c κs = search rules
 
 returns-6 : tie.Need-returns-6
-returns-6 c = rw c.are-full.ensures (sym (scan-end (after_last c.before.before.before) c.before.if1.false))
+returns-6 c = rw c.are-full.ensures (sym (scan_end (after_last c.before.before.before) c.before.if1.false))
 
 pub scan-spec : {M : Type 1} → statement M
 scan-spec =

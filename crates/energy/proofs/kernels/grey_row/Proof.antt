@@ -9,7 +9,7 @@ use borrow.Author.Rules.{rules}
 use lib.ListN.{length, drop, length-set}
 use Rattle.grids.specs.Table.{table}
 use Rattle.energy.specs.Inner.{between}
-use Rattle.energy.proofs.Lines.{line-turn, line-last}
+use Rattle.energy.proofs.Lines.{line_turn, line_last}
 use Rattle.energy.proofs.kernels.grey_row.Statement.{statement}
 use Rattle.energy.proofs.kernels.grey_row.Tie as tie
 
@@ -61,7 +61,7 @@ loop-again c =
     let k = head.loop.c in (
       search rules,
       (
-        line-turn 1 a.it.now a.lower.now a.out.now head.loop.out a.width a.beside k k (sym (mul-one k)) head.loop.invariant.1.0
+        line_turn 1 a.it.now a.lower.now a.out.now head.loop.out a.width a.beside k k (sym (mul-one k)) head.loop.invariant.1.0
             _ _ (omega arith) (omega arith) c.before.grey-difference.ensures.0 c.grey-difference2.ensures.0,
         simp length-set (search rules),
       ),
@@ -91,7 +91,7 @@ returns c =
     let a = (start head).args in
     let k = a.width - 1 in
     let e : head.loop.c ≡ k = omega arith in
-    line-last 1 a.it.now a.lower.now a.out.now head.loop.out a.width a.beside k k (sym (mul-one k)) (rw e at head.loop.invariant.1.0)
+    line_last 1 a.it.now a.lower.now a.out.now head.loop.out a.width a.beside k k (sym (mul-one k)) (rw e at head.loop.invariant.1.0)
     a.beside _ _ (omega arith) (omega arith) (sym (mul-one a.beside)) c.before.grey-difference3.ensures.0 c.grey-difference4.ensures.0
 
 pub grey-row-spec : {M : Type 1} → statement M

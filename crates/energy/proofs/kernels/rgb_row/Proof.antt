@@ -8,7 +8,7 @@ use borrow.Author.Rules.{rules}
 use lib.ListN.{length, drop, length-set}
 use Rattle.grids.specs.Table.{table}
 use Rattle.energy.specs.Inner.{between}
-use Rattle.energy.proofs.Lines.{line-turn, line-last}
+use Rattle.energy.proofs.Lines.{line_turn, line_last}
 use Rattle.energy.proofs.kernels.rgb_row.Statement.{statement}
 use Rattle.energy.proofs.kernels.rgb_row.Tie as tie
 
@@ -63,7 +63,7 @@ loop-again c =
     let k = head.loop.c in (
       search rules,
       (
-        line-turn 3 a.it.now a.lower.now a.out.now head.loop.out a.width a.beside k (k * 3) refl head.loop.invariant.1.0
+        line_turn 3 a.it.now a.lower.now a.out.now head.loop.out a.width a.beside k (k * 3) refl head.loop.invariant.1.0
             _ _ (omega arith) (omega arith) c.before.rgb-difference.ensures.0 c.rgb-difference2.ensures.0,
         simp length-set (search rules),
       ),
@@ -99,7 +99,7 @@ returns c =
     let a = (start head).args in
     let k = a.width - 1 in
     let e : head.loop.c ≡ k = omega arith in
-    line-last 3 a.it.now a.lower.now a.out.now head.loop.out a.width a.beside k (k * 3) refl (rw e at head.loop.invariant.1.0)
+    line_last 3 a.it.now a.lower.now a.out.now head.loop.out a.width a.beside k (k * 3) refl (rw e at head.loop.invariant.1.0)
     (a.beside * 3) _ _ (omega arith) (omega arith) refl c.before.rgb-difference3.ensures.0 c.rgb-difference4.ensures.0
 
 pub rgb-row-spec : {M : Type 1} → statement M

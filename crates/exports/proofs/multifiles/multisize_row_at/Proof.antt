@@ -5,7 +5,7 @@ use Prim.Native.Nat.{◌*◌, ◌≤◌}
 use native.Mathlib.Omega.{arith}
 use borrow.Author.Rules.{rules}
 use lib.ListN.{length}
-use Rattle.exports.proofs.Filed.{refused-row-at, row_at-room, served-row-at}
+use Rattle.exports.proofs.Filed.{refused-row_at, row_at-room, served-row_at}
 use Rattle.exports.proofs.multifiles.multisize_row_at.Statement.{statement}
 use Rattle.exports.proofs.multifiles.multisize_row_at.Tie as tie
 
@@ -55,7 +55,7 @@ returns-2 : tie.Need-returns-2
 returns-2 c =
     let g = c.before.before in
     let s-is = sym (named g).size-named.ensures ∙ (at-sized g).sized.given.1 in
-    rw c.refused2.ensures (refused-row-at s-is (at_row g).row_at.ensures g.given.ensures c.before.if1.true)
+    rw c.refused2.ensures (refused-row_at s-is (at_row g).row_at.ensures g.given.ensures c.before.if1.true)
 
 pixels-at-requires : tie.Need-pixels-at-requires
 pixels-at-requires c κs = search rules
@@ -82,7 +82,7 @@ returns-3 c =
     let g = at-if1.before in
     let s-is = sym (named g).size-named.ensures ∙ (at-sized g).sized.given.1 in
     rw (c.before.pixels-at.ensures, c.channels.ensures)
-    (served-row-at s-is (at_row g).row_at.ensures (sym g.given.ensures ∙ at-if1.if1.false))
+    (served-row_at s-is (at_row g).row_at.ensures (sym g.given.ensures ∙ at-if1.if1.false))
 
 pub multisize-row-at-spec : {M : Type 1} → statement M
 multisize-row-at-spec =

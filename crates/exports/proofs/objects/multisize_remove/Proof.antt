@@ -2,7 +2,7 @@
 -- at them.
 use mathlib.Core.Path.{sym, ◌∙◌}
 use borrow.Author.Rules.{rules}
-use Rattle.exports.proofs.Removals.{remove-unnamed, remove-named}
+use Rattle.exports.proofs.Removals.{remove_unnamed, remove_named}
 use Rattle.exports.proofs.objects.multisize_remove.Statement.{statement}
 use Rattle.exports.proofs.objects.multisize_remove.Tie as tie
 
@@ -21,7 +21,7 @@ stopped-requires c κs = search rules
 returns : tie.Need-returns
 returns c =
     let at_named = c.before.before.before in
-    rw c.stopped.ensures (remove-unnamed (sym at_named.carving-named.ensures ∙ c.before.enum_told.given.1))
+    rw c.stopped.ensures (remove_unnamed (sym at_named.carving-named.ensures ∙ c.before.enum_told.given.1))
 
 remove-requires : tie.Need-remove-requires
 remove-requires c κs = search rules
@@ -44,7 +44,7 @@ returns-2 c =
     let at-sized = at-remove.before.before.before.before.before in
     let at_named = at-sized.before.before in
     rw c.removal-reply.ensures
-    (remove-named (sym at_named.carving-named.ensures ∙ at-sized.sized.given.1) at-remove.remove.ensures)
+    (remove_named (sym at_named.carving-named.ensures ∙ at-sized.sized.given.1) at-remove.remove.ensures)
 
 pub multisize-remove-spec : {M : Type 1} → statement M
 multisize-remove-spec =

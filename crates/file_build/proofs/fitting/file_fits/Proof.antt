@@ -12,7 +12,7 @@ use Rattle.text_theory.specs.Files.{head_text, map_text}
 use Rattle.text_theory.specs.Lengths.{total, spaced, row_length}
 use Rattle.text_lengths.specs.Rooms.{less}
 use Rattle.file_build.proofs.MapRows.{order_long}
-use Rattle.file_build.proofs.Fits.{no-head, no_rows, no-maps, whole-fits}
+use Rattle.file_build.proofs.Fits.{no_head, no_rows, no-maps, whole-fits}
 use borrow.Author.Rules.{rules}
 use Rattle.file_build.proofs.fitting.file_fits.Statement.{statement}
 use Rattle.file_build.proofs.fitting.file_fits.Tie as tie
@@ -57,7 +57,7 @@ returns : tie.Need-returns
 returns c =
     let at-head-left = c.before.before in
     let s = at-head-left.before.before.before in
-    no-head s.args.picture.now s.args.head s.requires s.args.room (rw c.enum_told.given.1 at at-head-left.head-left.ensures)
+    no_head s.args.picture.now s.args.head s.requires s.args.room (rw c.enum_told.given.1 at at-head-left.head-left.ensures)
 
 rows-left-requires : tie.Need-rows-left-requires
 rows-left-requires c κs = c.before.before.before.before.before.before.requires.sized

@@ -8,7 +8,7 @@ use Rattle.pictures.specs.Pictures.{picture as Pictures·picture}
 use Rattle.text_theory.specs.Files.{row_text}
 use Rattle.text_theory.specs.Lengths.{row_length}
 use Rattle.text_lengths.specs.Rooms.{pixels_of}
-use Rattle.text_lengths.proofs.Rooms.{Leaving, leaving-first, leaving-next, leaving-short, leaving-end}
+use Rattle.text_lengths.proofs.Rooms.{Leaving, leaving_first, leaving-next, leaving-short, leaving-end}
 use Rattle.file_build.proofs.PictureRows.{rows-many, row-long}
 use borrow.Author.Rules.{rules}
 use Rattle.file_build.proofs.fitting.rows_left.Statement.{statement}
@@ -32,7 +32,7 @@ long c =
     row-long s.args.size s.args.picture.now s.requires at-loop.loop.r c.before.loop-test.true c.row.result.now c.row.ensures
 
 loop-holds : tie.Need-loop-init invariant-loop decreases-loop
-loop-holds c = leaving-first
+loop-holds c = leaving_first
 
 row-requires : tie.Need-row-requires invariant-loop decreases-loop
 row-requires c κs = search rules

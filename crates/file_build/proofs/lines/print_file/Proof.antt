@@ -1,7 +1,7 @@
 -- `file_build::lines::print_file` meets its contract.
 use Rattle.text_theory.specs.Files.{head_text}
 use Rattle.text_print.specs.Inner.{Printed}
-use Rattle.file_build.proofs.Printing.{head_never, head-next, rows-needed, maps-needed, end-never, all-printed}
+use Rattle.file_build.proofs.Printing.{head_never, head-next, rows_needed, maps-needed, end-never, all-printed}
 use borrow.Author.Rules.{rules}
 use Rattle.file_build.proofs.lines.print_file.Statement.{statement}
 use Rattle.file_build.proofs.lines.print_file.Tie as tie
@@ -45,7 +45,7 @@ print-rows-requires c κs =
     let at_rows = c.before.before in
     let s = at_rows.before.before.before.before.before.before.before.before.before.before in
     let a = s.args in
-    rows-needed a.picture.now a.head a.map.now a.out.now s.requires (first at_rows)
+    rows_needed a.picture.now a.head a.map.now a.out.now s.requires (first at_rows)
 
 print-maps-requires : tie.Need-print-maps-requires
 print-maps-requires c κs =

@@ -14,7 +14,7 @@ use Rattle.text_print.specs.Inner.{Printed}
 use Rattle.text_print.proofs.Written.{printed_length}
 use Rattle.file_build.specs.Inner.Lines.{map_in}
 use Rattle.file_build.proofs.Lined.{lines_none, line-never, line-next, lines_all}
-use Rattle.file_build.proofs.MapRows.{maps_many, map_line_lem}
+use Rattle.file_build.proofs.MapRows.{maps-many, map_line_lem}
 use borrow.Author.Rules.{rules}
 use Rattle.file_build.proofs.lines.print_maps.Statement.{statement}
 use Rattle.file_build.proofs.lines.print_maps.Tie as tie
@@ -33,7 +33,7 @@ inside c l =
     omega (arith, part_end c.loop.r s.args.height (2 * s.args.width) l, s.requires.long)
 
 below : (s : tie.Start invariant-loop decreases-loop) (r : ℕ) → r < s.args.height → r < length (map_in s.args.width s.args.height s.args.map.now)
-below s r l = omega (arith, maps_many s.args.width s.args.height s.args.map.now)
+below s r l = omega (arith, maps-many s.args.width s.args.height s.args.map.now)
 
 row-whole : (c : tie.After-read-numbers invariant-loop decreases-loop) → length c.read-numbers.new.1.1.0 ≡ largest_side
 row-whole c = c.read-numbers.auto.1.1.0 ∙ c.before.before.before.before.loop.invariant.1
@@ -157,7 +157,7 @@ returns-2 c =
     let at-loop = c.before in
     let s = at-loop.before.before.before in
     let a = s.args in
-    lines_all map_word (line_text digits) (map_in a.width a.height a.map.now) at-loop.loop.r (omega (arith, maps_many a.width a.height a.map.now)) at-loop.loop.invariant.2
+    lines_all map_word (line_text digits) (map_in a.width a.height a.map.now) at-loop.loop.r (omega (arith, maps-many a.width a.height a.map.now)) at-loop.loop.invariant.2
 
 pub print-maps-spec : {M : Type 1} → statement M
 print-maps-spec =

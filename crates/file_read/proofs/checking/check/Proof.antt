@@ -6,7 +6,7 @@ use Rattle.pictures.specs.Refusals.{given, refusal}
 use Rattle.file_theory.specs.Rules.{work_rule}
 use Rattle.file_read.specs.Inner.Opening.{Open}
 use Rattle.file_read.proofs.Answered.{is_open}
-use Rattle.file_read.proofs.CheckAnswers.{check-early, work-own, check-short, check-room, check-refused, check-accepted}
+use Rattle.file_read.proofs.CheckAnswers.{check_early, work-own, check-short, check-room, check-refused, check-accepted}
 use borrow.Author.Rules.{rules}
 use Rattle.file_read.proofs.checking.check.Statement.{statement}
 use Rattle.file_read.proofs.checking.check.Tie as tie
@@ -38,7 +38,7 @@ enum_told : tie.Need-enum-told
 enum_told c = search rules
 
 returns : tie.Need-returns
-returns c = check-early _ _ _ c.before.before.«open».ensures c.enum_told.given.0.0 c.enum_told.given.1
+returns c = check_early _ _ _ c.before.before.«open».ensures c.enum_told.given.0.0 c.enum_told.given.1
 
 judge-work-requires : tie.Need-judge-work-requires
 judge-work-requires c κs = search rules

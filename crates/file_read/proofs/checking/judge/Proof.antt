@@ -7,9 +7,9 @@ use borrow.Rule.Slice.PartMut.{mid_len}
 use lib.ListN.{length}
 use Rattle.pictures.proofs.Limits.{given_out}
 use Rattle.map_rules.specs.Spaces.{map_bytes, recorded_at}
-use Rattle.map_rules.proofs.Rooms.{map_bytes_lem, map_few}
+use Rattle.map_rules.proofs.Rooms.{map_bytes_lem, map-few}
 use Rattle.file_read.proofs.Parsed.{Parsed, opened}
-use Rattle.file_read.proofs.Standing.{judge-room, map-judged}
+use Rattle.file_read.proofs.Standing.{judge_room, map-judged}
 use borrow.Author.Rules.{rules}
 use Rattle.file_read.proofs.checking.judge.Statement.{statement}
 use Rattle.file_read.proofs.checking.judge.Tie as tie
@@ -19,7 +19,7 @@ known : (c : tie.Start) → Parsed c.args.file.now c.args.head
 known c = opened _ _ c.requires.opened
 
 room : (c : tie.Start) → recorded_at c.args.head.size + map_bytes c.args.head.size ≤ length c.args.work.now
-room c = judge-room _ _ (known c) c.args.work.now c.requires.room
+room c = judge_room _ _ (known c) c.args.work.now c.requires.room
 
 -- where the recorded map stands, and where it ends
 abbrev start : tie.After-map-bytes → tie.Start
@@ -43,7 +43,7 @@ map-bytes-requires c κs = search rules
 add-end : tie.Need-overflow-add-end
 add-end m =
     let s = (known (start m)).sides in
-    omega (arith, at-is m, map_is m, s.picture_most, s.pixels_most, map_few _ s)
+    omega (arith, at-is m, map_is m, s.picture_most, s.pixels_most, map-few _ s)
 
 first-row-requires : tie.Need-first-row-requires
 first-row-requires c κs = search rules

@@ -11,9 +11,9 @@ use Rattle.grids.proofs.Parts.{part_length}
 use Rattle.text_theory.specs.Files.{parse}
 use Rattle.file_theory.specs.Shows.{maps_in}
 use Rattle.file_read.proofs.Parsed.{Parsed, opened}
-use Rattle.file_read.proofs.Filled.{FilledTo, filled_start, filled-done}
+use Rattle.file_read.proofs.Filled.{FilledTo, filled_start, filled_done}
 use Rattle.file_read.proofs.Places.{MapsLeft, maps-first, map-long, pixels_most}
-use Rattle.file_read.proofs.Turns.{map-there, map_read, map-put}
+use Rattle.file_read.proofs.Turns.{map_there, map_read, map_put}
 use Rattle.file_read.proofs.lines.read_maps.Statement.{statement}
 use Rattle.file_read.proofs.lines.read_maps.Tie as tie
 use Rattle.pictures.specs.Limits.{most_pixels}
@@ -55,7 +55,7 @@ broken c =
     let h = at-loop-test.before in
     let l = at-loop-test.loop-test.true in
     let m = at_map.map in
-    map-there (known h) h.loop.r h.loop.at.at _ m.new.1.1.0 l h.loop.invariant.2 (part h l) (rw c.enum_told.given.1 at m.ensures)
+    map_there (known h) h.loop.r h.loop.at.at _ m.new.1.1.0 l h.loop.invariant.2 (part h l) (rw c.enum_told.given.1 at m.ensures)
 
 loop-holds : tie.Need-loop-init invariant-loop decreases-loop
 loop-holds c =
@@ -117,7 +117,7 @@ loop-again c =
       omega arith,
       same_len_mid start (end - start) at.space m.new.1.1.0 m.auto.1.1.0 ∙ at.invariant.1,
       t.0,
-      map-put (known h) a.head.size.width at.r start end at.space m.new.1.1.0 a.space.now l refl refl refl t.1 at.invariant.3,
+      map_put (known h) a.head.size.width at.r start end at.space m.new.1.1.0 a.space.now l refl refl refl t.1 at.invariant.3,
     )
 
 same-length-2 : tie.Need-same-length-2 invariant-loop decreases-loop
@@ -129,7 +129,7 @@ returns-2 c =
     let s = at-loop.before.before.before.before in
     let at = at-loop.loop in
     let a = s.args in
-    filled-done _ a.space.now a.head.size.width a.head.size.height at.r at.space (map-long (known at-loop)) (omega arith) at.invariant.3
+    filled_done _ a.space.now a.head.size.width a.head.size.height at.r at.space (map-long (known at-loop)) (omega arith) at.invariant.3
 
 pub read-maps-spec : {M : Type 1} → statement M
 read-maps-spec =

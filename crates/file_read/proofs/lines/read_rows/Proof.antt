@@ -12,9 +12,9 @@ use Rattle.grids.proofs.Parts.{part_length}
 use Rattle.text_theory.specs.Files.{parse}
 use Rattle.file_theory.specs.Shows.{rows_in}
 use Rattle.file_read.proofs.Parsed.{Parsed, opened}
-use Rattle.file_read.proofs.Filled.{FilledTo, filled_start, filled-done}
+use Rattle.file_read.proofs.Filled.{FilledTo, filled_start, filled_done}
 use Rattle.file_read.proofs.Places.{RowsLeft, rows-first, rows_end, bytes-long}
-use Rattle.file_read.proofs.Turns.{row-there, row_read, row_put}
+use Rattle.file_read.proofs.Turns.{row_there, row_read, row_put}
 use Rattle.file_read.proofs.lines.read_rows.Statement.{statement}
 use Rattle.file_read.proofs.lines.read_rows.Tie as tie
 
@@ -73,7 +73,7 @@ broken c =
     let h = at-loop-test.before in
     let l = at-loop-test.loop-test.true in
     let m = at_row.row in
-    row-there (known h) h.loop.r h.loop.at.at _ m.new.1.1.1.0 l h.loop.invariant.2 (part h l) (rw c.enum_told.given.1 at m.ensures)
+    row_there (known h) h.loop.r h.loop.at.at _ m.new.1.1.1.0 l h.loop.invariant.2 (part h l) (rw c.enum_told.given.1 at m.ensures)
 
 channels-requires : tie.Need-channels-requires invariant-loop decreases-loop
 channels-requires c κs = search rules
@@ -156,7 +156,7 @@ returns-2 c =
     let k = known at-loop in
     record {
       place = rows_end k at.r at.at.at (omega arith) at.invariant.2;
-      space_is = filled-done _ a.space.now (row_bytes a.head.size) a.head.size.height at.r at.space (bytes-long k) (omega arith) (rw (wide at-loop) at at.invariant.3);
+      space_is = filled_done _ a.space.now (row_bytes a.head.size) a.head.size.height at.r at.space (bytes-long k) (omega arith) (rw (wide at-loop) at at.invariant.3);
     }
 
 pub read-rows-spec : {M : Type 1} → statement M

@@ -15,9 +15,9 @@ use Rattle.text_theory.specs.Files.{parse}
 use Rattle.file_theory.specs.Shows.{maps_in}
 use Rattle.map_rules.proofs.Rooms.{map_bytes_lem}
 use Rattle.file_read.proofs.Parsed.{Parsed, opened}
-use Rattle.file_read.proofs.Filled.{FilledTo, filled_start, filled-done}
+use Rattle.file_read.proofs.Filled.{FilledTo, filled_start, filled_done}
 use Rattle.file_read.proofs.Places.{MapsLeft, maps-first, pixels_most, pairs-long}
-use Rattle.file_read.proofs.Turns.{map-there, map_read, pairs-put}
+use Rattle.file_read.proofs.Turns.{map_there, map_read, pairs_put}
 use Rattle.file_read.proofs.lines.record_maps.Statement.{statement}
 use Rattle.file_read.proofs.lines.record_maps.Tie as tie
 use Rattle.pictures.specs.Pictures.{largest_side}
@@ -59,7 +59,7 @@ broken c =
     let h = at-loop-test.before in
     let l = at-loop-test.loop-test.true in
     let m = at_map.map in
-    map-there (known h) h.loop.r h.loop.at.at _ m.new.1.1.0 l h.loop.invariant.3 (part h) (rw c.enum_told.given.1 at m.ensures)
+    map_there (known h) h.loop.r h.loop.at.at _ m.new.1.1.0 l h.loop.invariant.3 (part h) (rw c.enum_told.given.1 at m.ensures)
 
 abbrev numbers : tie.After-known-told invariant-loop decreases-loop → List ℕ
 numbers c = c.before.before.before.before.map.new.1.1.0
@@ -200,7 +200,7 @@ loop-again c =
       same_len_mid start (end - start) at.space m.new.0 m.auto.0 ∙ at.invariant.1,
       whole t,
       (line t).0,
-      pairs-put (known h) w at.r start end at.space m.new.0 a.space.now l refl refl refl (m.ensures ∙ ap pairs (front t ∙ (line t).1)) at.invariant.4,
+      pairs_put (known h) w at.r start end at.space m.new.0 a.space.now l refl refl refl (m.ensures ∙ ap pairs (front t ∙ (line t).1)) at.invariant.4,
     )
 
 same-length-2 : tie.Need-same-length-2 invariant-loop decreases-loop
@@ -212,7 +212,7 @@ returns-2 c =
     let s = at-loop.before.before.before.before in
     let at = at-loop.loop in
     let a = s.args in
-    filled-done _ a.space.now (2 * a.head.size.width) a.head.size.height at.r at.space (pairs-long (known at-loop)) (omega arith) at.invariant.4
+    filled_done _ a.space.now (2 * a.head.size.width) a.head.size.height at.r at.space (pairs-long (known at-loop)) (omega arith) at.invariant.4
 
 pub record-maps-spec : {M : Type 1} → statement M
 record-maps-spec =

@@ -5,7 +5,7 @@ use Prim.Native.Nat.{◌+◌, ◌-◌, ◌*◌, ◌≤◌}
 use native.Mathlib.Omega.{arith}
 use lib.ListN.{length, set, length-set}
 use borrow.Author.Rules.{rules}
-use Rattle.file_read.proofs.Recorded.{RecordedTo, recorded-step, recorded-done}
+use Rattle.file_read.proofs.Recorded.{RecordedTo, recorded-step, recorded_done}
 use Rattle.file_read.proofs.lines.record_row.Statement.{statement}
 use Rattle.file_read.proofs.lines.record_row.Tie as tie
 
@@ -73,7 +73,7 @@ returns c =
     let s = c.before.before.before.before in
     let at = c.before.loop in
     let a = s.args in
-    recorded-done a.row.now a.space.now at.c at.space (omega arith) (omega (arith, s.requires)) at.invariant.2
+    recorded_done a.row.now a.space.now at.c at.space (omega arith) (omega (arith, s.requires)) at.invariant.2
 
 pub record-row-spec : {M : Type 1} → statement M
 record-row-spec =

@@ -1,5 +1,5 @@
 -- `file_read::opening::first_row` meets its contract.
-use Rattle.file_read.proofs.Parsed.{head-place, head-there}
+use Rattle.file_read.proofs.Parsed.{head_place, head_there}
 use borrow.Author.Rules.{rules}
 use Rattle.file_read.proofs.opening.first_row.Statement.{statement}
 use Rattle.file_read.proofs.opening.first_row.Tie as tie
@@ -18,14 +18,14 @@ returns c =
     let at-header = c.before.before in
     let s = at-header.before.before in
     let told = rw c.enum_told.given.1 at at-header.header.ensures in
-    absurd (head-there _ _ s.requires told)
+    absurd (head_there _ _ s.requires told)
 
 returns-2 : tie.Need-returns-2
 returns-2 c =
     let at-header = c.before.before.before in
     let s = at-header.before.before in
     let told = rw c.before.c.given.1 at at-header.header.ensures in
-    head-place _ _ s.requires _ _ told
+    head_place _ _ s.requires _ _ told
 
 pub first-row-spec : {M : Type 1} → statement M
 first-row-spec = tie.close (tie.spec header-requires enum-known-c enum_told returns returns-2)

@@ -2,7 +2,7 @@
 use mathlib.Core.Path.{sym, ap, ◌∙◌}
 use borrow.Author.Tests.{not-true, not-false}
 use Rattle.pictures.specs.Refusals.{given}
-use Rattle.file_read.proofs.Opened.{open_broken, open-sides, open-counts, open-range, open-served}
+use Rattle.file_read.proofs.Opened.{open_broken, open_sides, open-counts, open-range, open-served}
 use borrow.Author.Rules.{rules}
 use Rattle.file_read.proofs.opening.open.Statement.{statement}
 use Rattle.file_read.proofs.opening.open.Tie as tie
@@ -31,7 +31,7 @@ returns-2 c =
     let at-facts = at-judge-sides.before.before.before.before in
     let at-scan = at-facts.before.before in
     let told = rw at-facts.facts.given.1 at at-scan.scan.ensures in
-    open-sides _ _ told at-judge-sides.judge-sides.result _ c.before.why.given.1 at-judge-sides.judge-sides.ensures
+    open_sides _ _ told at-judge-sides.judge-sides.result _ c.before.why.given.1 at-judge-sides.judge-sides.ensures
 
 enum-told-2 : tie.Need-enum-told-2
 enum-told-2 c = search rules

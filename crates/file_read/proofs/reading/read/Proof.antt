@@ -8,7 +8,7 @@ use Rattle.file_read.specs.Inner.Opening.{Open}
 use Rattle.file_rules.specs.Spaces.{space_rules}
 use Rattle.file_read.proofs.Parsed.{opened}
 use Rattle.file_read.proofs.Answered.{is_open}
-use Rattle.file_read.proofs.ReadAnswers.{Roomy, roomy, read-early, read_short, read-refused, read-accepted}
+use Rattle.file_read.proofs.ReadAnswers.{Roomy, roomy, read_early, read_short, read-refused, read-accepted}
 use borrow.Author.Rules.{rules}
 use Rattle.file_read.proofs.reading.read.Statement.{statement}
 use Rattle.file_read.proofs.reading.read.Tie as tie
@@ -51,7 +51,7 @@ enum_told : tie.Need-enum-told
 enum_told c = search rules
 
 returns : tie.Need-returns
-returns c = read-early _ _ _ _ _ c.before.before.«open».ensures c.enum_told.given.0.0 c.enum_told.given.1
+returns c = read_early _ _ _ _ _ c.before.before.«open».ensures c.enum_told.given.0.0 c.enum_told.given.1
 
 judge-read-spaces-requires : tie.Need-judge-read-spaces-requires
 judge-read-spaces-requires c κs = search rules

@@ -1,7 +1,7 @@
 -- `file_read::widths::draw` meets its contract.
 use mathlib.Core.Path.{ap, ◌∙◌}
 use lib.ListN.{replicate}
-use Rattle.file_read.proofs.Drawing.{room, same_long, lines-needed}
+use Rattle.file_read.proofs.Drawing.{room, same_long, lines_needed}
 use borrow.Author.Rules.{rules}
 use Rattle.file_read.proofs.widths.draw.Statement.{statement}
 use Rattle.file_read.proofs.widths.draw.Tie as tie
@@ -18,7 +18,7 @@ draw-rows-requires : tie.Need-draw-rows-requires
 draw-rows-requires c κs =
     let at-read-rows = c.before.before.before.before in
     let st = at-read-rows.before.before.before.before.before.before in
-    lines-needed _ _ _ _ _ st.requires at-read-rows.read-rows.ensures
+    lines_needed _ _ _ _ _ st.requires at-read-rows.read-rows.ensures
 
 clear-requires : tie.Need-clear-requires
 clear-requires c κs = search rules

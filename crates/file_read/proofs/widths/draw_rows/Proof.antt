@@ -9,7 +9,7 @@ use Rattle.text_theory.specs.Files.{parse}
 use Rattle.file_theory.specs.Shows.{maps_in, shows, drawn_bytes}
 use Rattle.file_read.proofs.Filled.{FilledTo, filled_start}
 use Rattle.file_read.proofs.Places.{MapsLeft, maps-first}
-use Rattle.file_read.proofs.DrawTurns.{known, fits, drawn-all, samples-end, samples-small, shown-end, shown-small, line-there, line_read, line-long, row-drawn, row-long}
+use Rattle.file_read.proofs.DrawTurns.{known, fits, drawn_all, samples-end, samples-small, shown-end, shown-small, line-there, line_read, line-long, row-drawn, row-long}
 use borrow.Author.Rules.{rules}
 use Rattle.file_read.proofs.widths.draw_rows.Statement.{statement}
 use Rattle.file_read.proofs.widths.draw_rows.Tie as tie
@@ -212,7 +212,7 @@ returns-2 c =
     let at-channels2 = c.before.before in
     let st = at-channels2.before.before.before.before.before.before in
     let at = c.before.loop in
-    drawn-all st.args.out.now st.requires _ at.r at.out at-channels2.channels2.ensures (omega (arith, at.invariant.0)) at.invariant.4
+    drawn_all st.args.out.now st.requires _ at.r at.out at-channels2.channels2.ensures (omega (arith, at.invariant.0)) at.invariant.4
 
 pub draw-rows-spec : {M : Type 1} → statement M
 draw-rows-spec =

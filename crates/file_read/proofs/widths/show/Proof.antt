@@ -10,7 +10,7 @@ use Rattle.file_rules.specs.Spaces.{offer_rules}
 use Rattle.file_read.proofs.Parsed.{opened}
 use Rattle.file_read.proofs.Offered.{sound, roomy}
 use Rattle.file_read.proofs.Answered.{is_open}
-use Rattle.file_read.proofs.ShowAnswers.{show-early, show-short, show-refused, show-served}
+use Rattle.file_read.proofs.ShowAnswers.{show_early, show-short, show-refused, show-served}
 use borrow.Author.Rules.{rules}
 use Rattle.file_read.proofs.widths.show.Statement.{statement}
 use Rattle.file_read.proofs.widths.show.Tie as tie
@@ -59,7 +59,7 @@ enum-known-why : tie.Need-enum-known-why
 enum-known-why c = search rules
 
 returns : tie.Need-returns
-returns c = show-early _ _ _ _ _ (rw c.before.why.given.1 at c.before.before.before.«open».ensures)
+returns c = show_early _ _ _ _ _ (rw c.before.why.given.1 at c.before.before.before.«open».ensures)
 
 judge-wanted-requires : tie.Need-judge-wanted-requires
 judge-wanted-requires c κs = search rules

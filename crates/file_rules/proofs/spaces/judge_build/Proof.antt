@@ -6,7 +6,7 @@ use borrow.Author.Rules.{rules}
 use borrow.Author.Tests.{lt-ltb, le-ltb, not-true, not-false}
 use Rattle.pictures.specs.Refusals.{Rule, ◌when◌, given, refusal}
 use Rattle.pictures.specs.Pictures.{size_rules, work_bytes}
-use Rattle.pictures.proofs.Rules.{served-first, refused-answer}
+use Rattle.pictures.proofs.Rules.{served-first, refused_answer}
 use Rattle.pictures.proofs.Limits.{sides_served, given_out}
 use Rattle.map_theory.specs.Widths.{allowed}
 use Rattle.file_theory.specs.Rules.{work_rule}
@@ -57,7 +57,7 @@ returns c =
     let s = at-judge-picture.before.before in
     let a = s.args in
     let why = c.enum-told2.given in
-    refused-answer at-judge-picture.judge-picture.result why.0.0 why.1 (size_rules a.head.size a.bytes) (more s) at-judge-picture.judge-picture.ensures
+    refused_answer at-judge-picture.judge-picture.result why.0.0 why.1 (size_rules a.head.size a.bytes) (more s) at-judge-picture.judge-picture.ensures
 
 is-allowed-requires : tie.Need-is-allowed-requires
 is-allowed-requires c κs = search rules

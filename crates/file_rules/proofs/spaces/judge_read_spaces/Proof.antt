@@ -4,7 +4,7 @@ use borrow.Author.Rules.{rules}
 use borrow.Author.Tests.{lt-ltb, le-ltb}
 use Rattle.pictures.specs.Refusals.{given, refusal}
 use Rattle.pictures.specs.Pictures.{picture_bytes, side_rules, pixels, work_bytes}
-use Rattle.pictures.proofs.Rules.{refused-answer}
+use Rattle.pictures.proofs.Rules.{refused_answer}
 use Rattle.pictures.proofs.Limits.{given_out}
 use Rattle.file_rules.specs.Spaces.{space_rules, read_space_rules}
 use Rattle.file_rules.proofs.Ranges.{read_own_lem}
@@ -46,7 +46,7 @@ returns c =
     let at-judge-sides = c.before.before in
     let a = at-judge-sides.before.args in
     let why = c.enum-told2.given in
-    refused-answer at-judge-sides.judge-sides.result why.0.0 why.1 (side_rules a.size) (space_rules a.size a.picture a.map a.work) at-judge-sides.judge-sides.ensures
+    refused_answer at-judge-sides.judge-sides.result why.0.0 why.1 (side_rules a.size) (space_rules a.size a.picture a.map a.work) at-judge-sides.judge-sides.ensures
 
 pixels-requires : tie.Need-pixels-requires
 pixels-requires c κs = search rules

@@ -8,7 +8,7 @@ use borrow.Author.Rules.{rules}
 use borrow.Author.Tests.{lt-ltb, le-ltb, le-leb, lt-leb, not-true, not-false}
 use Rattle.pictures.specs.Refusals.{Rule, ◌when◌, given, refusal}
 use Rattle.pictures.specs.Pictures.{side_rules, work_bytes}
-use Rattle.pictures.proofs.Rules.{served-first, refused-answer}
+use Rattle.pictures.proofs.Rules.{served-first, refused_answer}
 use Rattle.pictures.proofs.Limits.{sides_are, given_out}
 use Rattle.map_theory.specs.Widths.{allowed, offered}
 use Rattle.map_theory.proofs.Shown.{allowed_is, offered_is}
@@ -73,7 +73,7 @@ returns c =
     let at-judge-sides = c.before.before in
     let s = at-judge-sides.before.before in
     let why = c.enum-told2.given in
-    refused-answer at-judge-sides.judge-sides.result why.0.0 why.1 (side_rules s.args.head.size) (more s) at-judge-sides.judge-sides.ensures
+    refused_answer at-judge-sides.judge-sides.result why.0.0 why.1 (side_rules s.args.head.size) (more s) at-judge-sides.judge-sides.ensures
 
 is-allowed-requires : tie.Need-is-allowed-requires
 is-allowed-requires c κs = search rules

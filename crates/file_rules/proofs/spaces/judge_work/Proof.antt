@@ -5,7 +5,7 @@ use borrow.Author.Rules.{rules}
 use borrow.Author.Tests.{lt-ltb, le-ltb}
 use Rattle.pictures.specs.Refusals.{given, refusal}
 use Rattle.pictures.specs.Pictures.{side_rules, work_bytes}
-use Rattle.pictures.proofs.Rules.{served-first, refused-answer}
+use Rattle.pictures.proofs.Rules.{served-first, refused_answer}
 use Rattle.pictures.proofs.Limits.{given_out}
 use Rattle.file_theory.specs.Rules.{work_rule}
 use Rattle.file_rules.proofs.spaces.judge_work.Statement.{statement}
@@ -32,7 +32,7 @@ returns c =
     let at-judge-sides = c.before.before in
     let a = at-judge-sides.before.args in
     let why = c.enum-told2.given in
-    refused-answer at-judge-sides.judge-sides.result why.0.0 why.1 (side_rules a.size) (work_rule a.size a.work ∷ []) at-judge-sides.judge-sides.ensures
+    refused_answer at-judge-sides.judge-sides.result why.0.0 why.1 (side_rules a.size) (work_rule a.size a.work ∷ []) at-judge-sides.judge-sides.ensures
 
 work-bytes-requires : tie.Need-work-bytes-requires
 work-bytes-requires c κs = search rules

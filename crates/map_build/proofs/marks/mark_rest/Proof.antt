@@ -8,7 +8,7 @@ use native.Mathlib.Omega.{arith}
 use lib.ListN.{length, drop, take}
 use borrow.Author.Rules.{rules}
 use Rattle.map_build.specs.Inner.Marks.{write_pair}
-use Rattle.map_build.proofs.Marking.{pass-number, pass-zero, put_number, row_end}
+use Rattle.map_build.proofs.Marking.{pass_number, pass_zero, put_number, row-end}
 use Rattle.map_build.proofs.marks.mark_rest.Statement.{statement}
 use Rattle.map_build.proofs.marks.mark_rest.Tie as tie
 
@@ -79,8 +79,8 @@ loop-again c =
     let told = c.before.number.ensures.0 in
     let inside = at-loop-test.loop-test.true in
     ⊎_elim
-    (λ w. (omega arith, at.invariant.1, at.invariant.2, rw w.2 (pass-zero args.low args.high at.row _ at.c at.zeros inside (sym told ∙ w.0.taken) (omega arith) at.invariant.3)))
-    (λ w. (omega arith, at.invariant.1, at.invariant.2, rw w.1 (pass-number args.low args.high at.row _ at.c at.zeros inside (λ e. w.0.left (told ∙ e)) at.invariant.3)))
+    (λ w. (omega arith, at.invariant.1, at.invariant.2, rw w.2 (pass_zero args.low args.high at.row _ at.c at.zeros inside (sym told ∙ w.0.taken) (omega arith) at.invariant.3)))
+    (λ w. (omega arith, at.invariant.1, at.invariant.2, rw w.1 (pass_number args.low args.high at.row _ at.c at.zeros inside (λ e. w.0.left (told ∙ e)) at.invariant.3)))
     c.if1.branch
 
 same-length-2 : tie.Need-same-length-2 invariant-loop decreases-loop
@@ -90,7 +90,7 @@ returns-2 : tie.Need-returns-2 invariant-loop decreases-loop
 returns-2 c =
     let at = c.before.loop in
     let args = c.before.before.before.args in
-    row_end args.low args.high at.row _ at.c at.zeros at.invariant.0 (omega arith) at.invariant.3 ∙ rw at.invariant.2
+    row-end args.low args.high at.row _ at.c at.zeros at.invariant.0 (omega arith) at.invariant.3 ∙ rw at.invariant.2
 
 pub mark-rest-spec : {M : Type 1} → statement M
 mark-rest-spec =

@@ -6,7 +6,7 @@ use native.Mathlib.Omega.{arith}
 use lib.ListN.{length, drop, drop_of_length-le}
 use borrow.Author.Rules.{rules}
 use Rattle.map_build.specs.Inner.Marks.{zero_pairs}
-use Rattle.map_build.proofs.Skipping.{count-zero, count-number}
+use Rattle.map_build.proofs.Skipping.{count_zero, count-number}
 use Rattle.map_build.proofs.marks.zeros_in.Statement.{statement}
 use Rattle.map_build.proofs.marks.zeros_in.Tie as tie
 
@@ -55,7 +55,7 @@ loop-again c =
     let told = c.before.number.ensures.0 in
     let inside : 2 * at.i + 1 < length ys = omega (arith, s.requires) in
     ⊎_elim
-    (λ w. (omega arith, omega (arith, w.1), rw w.1 (count-zero ys at.i at.n _ inside at.invariant.2 (sym told ∙ w.0.taken))))
+    (λ w. (omega arith, omega (arith, w.1), rw w.1 (count_zero ys at.i at.n _ inside at.invariant.2 (sym told ∙ w.0.taken))))
     (λ w. (omega arith, omega (arith, w.1), rw w.1 (count-number ys at.i at.n _ inside at.invariant.2 (λ e. w.0.left (told ∙ e)))))
     c.if1.branch
 

@@ -9,7 +9,7 @@ use borrow.Rule.Slice.PartMut.{mid_of, same_len_mid, mid_len}
 use Rattle.grids.proofs.Rows.{part_end}
 use Rattle.map_build.specs.Inner.Marks.{write_pair}
 use Rattle.map_build.specs.Inner.Rows.{write_bytes}
-use Rattle.map_build.proofs.Turns.{RowsSoFar, rows_start, rows_step, rows-done}
+use Rattle.map_build.proofs.Turns.{RowsSoFar, rows_start, rows_step, rows_done}
 use Rattle.map_build.proofs.rows.mark_rows.Statement.{statement}
 use Rattle.map_build.proofs.rows.mark_rows.Tie as tie
 
@@ -123,7 +123,7 @@ returns c =
     let a = s.args in
     let last : at.r ≡ length a.seam.now = omega arith in
     let whole : length at.map ≡ at.r * (2 * a.width) = at.invariant.1 ∙ s.pre.long ∙ ap (◌* (2 * a.width)) (sym last) in
-    rows-done (write_pair (low h) (high h)) 0 a.seam.now _ (2 * a.width) at.r at.map (omega arith) (omega (arith, whole)) at.invariant.2
+    rows_done (write_pair (low h) (high h)) 0 a.seam.now _ (2 * a.width) at.r at.map (omega arith) (omega (arith, whole)) at.invariant.2
     ∙ ap₂ (λ x y. write_bytes x y a.width a.seam.now a.map.now) h.before.before.low_byte.ensures h.before.high_byte.ensures
 
 pub mark-rows-spec : {M : Type 1} → statement M

@@ -8,8 +8,8 @@ use lib.ListN.{length, get_or, take, drop, length-set, length-take, length-repli
 use Rattle.map_theory.specs.Judged.{every}
 use Rattle.pictures.specs.Numbers.{numbers_in}
 use Rattle.pictures.proofs.TwoBytes.{length-numbers}
-use Rattle.map_check.proofs.Turns.{every-ok, every-bad, every_end}
-use Rattle.map_check.proofs.Counting.{count_most, Counted, counted_more, counted-all}
+use Rattle.map_check.proofs.Turns.{every_ok, every_bad, every-end}
+use Rattle.map_check.proofs.Counting.{count_most, Counted, counted-more, counted-all}
 use Rattle.map_check.proofs.numbers.count_numbers.Statement.{statement}
 use Rattle.map_check.proofs.numbers.count_numbers.Tie as tie
 use Rattle.pictures.specs.Pictures.{largest_side}
@@ -45,7 +45,7 @@ returns c =
     let a = h.before.before.before.args in
     let over = lt-leb (get_or (numbers_in a.row.now) h.loop.i 0) a.depth (rw c.before.number_at.ensures at c.if1.true) in
     record {
-      most = sym (sym h.loop.invariant.4 ∙ every-bad (λ v. leb v a.depth) (numbers_in a.row.now) h.loop.i 0 (inside h at-loop-test.loop-test.true) over);
+      most = sym (sym h.loop.invariant.4 ∙ every_bad (λ v. leb v a.depth) (numbers_in a.row.now) h.loop.i 0 (inside h at-loop-test.loop-test.true) over);
       counts = λ e. let z : ◌≡◌ {A = ℕ} 0 1 = cc in absurd (omega arith);
     }
 
@@ -94,8 +94,8 @@ loop-again c =
       omega arith,
       same ∙ h.loop.invariant.1,
       same ∙ h.loop.invariant.2,
-      counted_more largest_side h.loop.seen ys h.loop.i v is within h.loop.invariant.2 few h.loop.invariant.3,
-      every-ok (λ v. leb v a.depth) ys h.loop.i 0 within fits ∙ h.loop.invariant.4,
+      counted-more largest_side h.loop.seen ys h.loop.i v is within h.loop.invariant.2 few h.loop.invariant.3,
+      every_ok (λ v. leb v a.depth) ys h.loop.i 0 within fits ∙ h.loop.invariant.4,
     )
 
 same-length-2 : tie.Need-same-length-2 invariant-loop decreases-loop
@@ -107,7 +107,7 @@ returns-2 c =
     let a = h.before.before.before.args in
     let end : length (numbers_in a.row.now) ≤ h.loop.i = omega (arith, length-numbers a.row.now) in
     record {
-      most = sym (sym h.loop.invariant.4 ∙ every_end (λ v. leb v a.depth) (numbers_in a.row.now) h.loop.i end);
+      most = sym (sym h.loop.invariant.4 ∙ every-end (λ v. leb v a.depth) (numbers_in a.row.now) h.loop.i end);
       counts = λ e. counted-all largest_side h.loop.seen (numbers_in a.row.now) h.loop.i end h.loop.invariant.3;
     }
 

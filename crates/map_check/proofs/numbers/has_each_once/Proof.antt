@@ -7,7 +7,7 @@ use borrow.Author.Tests.{not-true, not-false}
 use lib.Dec.{eqb}
 use lib.ListN.{get_or}
 use Rattle.map_theory.proofs.Tests.{every-run}
-use Rattle.map_check.proofs.Turns.{Passed, passed_more, run_bad}
+use Rattle.map_check.proofs.Turns.{Passed, passed-more, run_bad}
 use Rattle.map_check.proofs.numbers.has_each_once.Statement.{statement}
 use Rattle.map_check.proofs.numbers.has_each_once.Tie as tie
 
@@ -56,7 +56,7 @@ loop-again c =
     let at-loop = c.before.before.before.before in
     let at = at-loop.loop in
     let a = at-loop.before.before.args in
-    (omega arith, passed_more (λ v. eqb (get_or a.seen.now v 0) 1) at.t (told c.before ∙ not-false _ c.if1.false) at.invariant.1)
+    (omega arith, passed-more (λ v. eqb (get_or a.seen.now v 0) 1) at.t (told c.before ∙ not-false _ c.if1.false) at.invariant.1)
 
 returns-2 : tie.Need-returns-2 invariant-loop decreases-loop
 returns-2 c =

@@ -7,7 +7,7 @@ use lib.ListN.{length, drop}
 use Rattle.map_theory.specs.Judged.{same}
 use Rattle.pictures.specs.Numbers.{numbers_in}
 use Rattle.pictures.proofs.TwoBytes.{length-numbers}
-use Rattle.map_check.proofs.Turns.{same_ok, same-bad, same_end}
+use Rattle.map_check.proofs.Turns.{same_ok, same_bad, same_end}
 use Rattle.map_check.proofs.numbers.has_same_numbers.Statement.{statement}
 use Rattle.map_check.proofs.numbers.has_same_numbers.Tie as tie
 
@@ -42,7 +42,7 @@ returns c =
     let h = at-loop-test.before in
     let a = h.before.before.before.args in
     let test = at-loop-test.loop-test.true in
-    sym (sym h.loop.invariant.1 ∙ same-bad (numbers_in a.a.now) (numbers_in a.b.now) h.loop.i (first h test) (second h test)
+    sym (sym h.loop.invariant.1 ∙ same_bad (numbers_in a.a.now) (numbers_in a.b.now) h.loop.i (first h test) (second h test)
     (λ e. c.if1.true (at-number-at.number_at.ensures ∙ e ∙ sym c.before.number-at2.ensures)))
 
 add-i : tie.Need-overflow-add-i invariant-loop decreases-loop

@@ -6,11 +6,11 @@ use borrow.Author.Rules.{rules}
 use borrow.Author.Tests.{not-true, not-false}
 use lib.ListN.{length, get_or, drop, length-take}
 use Rattle.grids.specs.Rows.{rows_of}
-use Rattle.grids.proofs.Rows.{part_end, length-rowsOf, rowsOf-at}
+use Rattle.grids.proofs.Rows.{part_end, length-rows_of, rows_of_at}
 use Rattle.map_theory.specs.Judged.{every, numbers}
 use Rattle.pictures.specs.Numbers.{numbers_in}
-use Rattle.pictures.proofs.TwoBytes.{numbers_row}
-use Rattle.map_check.proofs.Turns.{every-ok, every-bad, every_end}
+use Rattle.pictures.proofs.TwoBytes.{numbers-row}
+use Rattle.map_check.proofs.Turns.{every_ok, every_bad, every-end}
 use Rattle.map_check.proofs.numbers.is_numbered.Statement.{statement}
 use Rattle.map_check.proofs.numbers.is_numbered.Tie as tie
 
@@ -29,7 +29,7 @@ inside c l =
 within : (c : tie.At-loop invariant-loop decreases-loop) → let a = c.before.before.args in c.loop.r < a.height → c.loop.r < length (rows_of a.width a.height (numbers_in a.map.now))
 within c l =
     let a = c.before.before.args in
-    rw (length-rowsOf a.width a.height (numbers_in a.map.now)) l
+    rw (length-rows_of a.width a.height (numbers_in a.map.now)) l
 
 -- what the row's answer says
 told : (c : tie.After-is-numbering invariant-loop decreases-loop) → let h = c.before.before.before in let a = h.before.before.args in
@@ -39,7 +39,7 @@ told c =
     let h = at-loop-test.before in
     let a = h.before.before.args in
     let n : h.loop.r * (2 * a.width) + 2 * a.width - h.loop.r * (2 * a.width) ≡ 2 * a.width = omega arith in
-    ap (numbers a.depth) (rowsOf-at a.width a.height (numbers_in a.map.now) h.loop.r at-loop-test.loop-test.true ∙ sym (numbers_row a.width h.loop.r a.map.now))
+    ap (numbers a.depth) (rows_of_at a.width a.height (numbers_in a.map.now) h.loop.r at-loop-test.loop-test.true ∙ sym (numbers-row a.width h.loop.r a.map.now))
     ∙ sym (rw n at c.is-numbering.ensures)
 
 loop-holds : tie.Need-loop-init invariant-loop decreases-loop
@@ -79,7 +79,7 @@ returns c =
     let k = c.before in
     let h = k.before.before.before in
     let a = h.before.before.args in
-    sym (sym h.loop.invariant.1 ∙ every-bad (numbers a.depth) (rows_of a.width a.height (numbers_in a.map.now)) h.loop.r [] (within h k.before.before.loop-test.true) (told k ∙ not-true _ c.if1.true))
+    sym (sym h.loop.invariant.1 ∙ every_bad (numbers a.depth) (rows_of a.width a.height (numbers_in a.map.now)) h.loop.r [] (within h k.before.before.loop-test.true) (told k ∙ not-true _ c.if1.true))
 
 add_r : tie.Need-overflow-add-r invariant-loop decreases-loop
 add_r c = search rules
@@ -92,14 +92,14 @@ loop-again c =
     let k = c.before in
     let h = k.before.before.before in
     let a = h.before.before.args in
-    (omega arith, every-ok (numbers a.depth) (rows_of a.width a.height (numbers_in a.map.now)) h.loop.r [] (within h k.before.before.loop-test.true) (told k ∙ not-false _ c.if1.false) ∙ h.loop.invariant.1)
+    (omega arith, every_ok (numbers a.depth) (rows_of a.width a.height (numbers_in a.map.now)) h.loop.r [] (within h k.before.before.loop-test.true) (told k ∙ not-false _ c.if1.false) ∙ h.loop.invariant.1)
 
 returns-2 : tie.Need-returns-2 invariant-loop decreases-loop
 returns-2 c =
     let h = c.before in
     let a = h.before.before.args in
-    let end : length (rows_of a.width a.height (numbers_in a.map.now)) ≤ h.loop.r = omega (arith, length-rowsOf a.width a.height (numbers_in a.map.now)) in
-    sym (sym h.loop.invariant.1 ∙ every_end (numbers a.depth) (rows_of a.width a.height (numbers_in a.map.now)) h.loop.r end)
+    let end : length (rows_of a.width a.height (numbers_in a.map.now)) ≤ h.loop.r = omega (arith, length-rows_of a.width a.height (numbers_in a.map.now)) in
+    sym (sym h.loop.invariant.1 ∙ every-end (numbers a.depth) (rows_of a.width a.height (numbers_in a.map.now)) h.loop.r end)
 
 pub is-numbered-spec : {M : Type 1} → statement M
 is-numbered-spec =

@@ -6,7 +6,7 @@ use borrow.Author.Rules.{rules}
 use borrow.Author.Tests.{not-true, not-false}
 use lib.ListN.{length, length-replicate}
 use Rattle.pictures.specs.Numbers.{numbers_in}
-use Rattle.map_check.proofs.Counting.{counts_judge, numbers_over}
+use Rattle.map_check.proofs.Counting.{counts_judge, numbers-over}
 use Rattle.map_check.proofs.numbers.is_numbering.Statement.{statement}
 use Rattle.map_check.proofs.numbers.is_numbering.Tie as tie
 use Rattle.pictures.specs.Pictures.{largest_side}
@@ -24,7 +24,7 @@ returns c =
     let at-count-numbers = c.before.before in
     let s = at-count-numbers.before.before.before in
     let a = s.args in
-    sym (numbers_over a.depth (numbers_in a.row.now) (sym at-count-numbers.count-numbers.ensures.most ∙ not-true _ c.if1.true))
+    sym (numbers-over a.depth (numbers_in a.row.now) (sym at-count-numbers.count-numbers.ensures.most ∙ not-true _ c.if1.true))
 
 slice-aggregate-has-each-once : tie.Need-slice-aggregate-has-each-once
 slice-aggregate-has-each-once c = search rules

@@ -4,10 +4,10 @@ use Prim.Native.Nat.{◌+◌, ◌-◌, ◌*◌}
 use native.Mathlib.Omega.{arith}
 use borrow.Author.Rules.{rules}
 use Rattle.grids.specs.Rows.{row_at}
-use Rattle.grids.proofs.Rows.{rowAt-short}
+use Rattle.grids.proofs.Rows.{row_at-short}
 use Rattle.map_theory.specs.Judged.{column_of}
 use Rattle.pictures.specs.Numbers.{numbers_in}
-use Rattle.pictures.proofs.TwoBytes.{numbers_row}
+use Rattle.pictures.proofs.TwoBytes.{numbers-row}
 use Rattle.map_check.proofs.Columns.{column-most}
 use Rattle.map_check.proofs.seams.column_at.Statement.{statement}
 use Rattle.map_check.proofs.seams.column_at.Tie as tie
@@ -40,8 +40,8 @@ returns : tie.Need-returns
 returns c =
     let a = c.before.before.before.args in
     let n : a.r * (2 * a.width) + 2 * a.width - a.r * (2 * a.width) ≡ 2 * a.width = omega arith in
-    let is : c.column-of.result ≡ column_of a.t (row_at a.width a.r (numbers_in a.map.now)) = (rw n at c.column-of.ensures) ∙ ap (column_of a.t) (numbers_row a.width a.r a.map.now) in
-    record { is = is; most = omega (arith, is, column-most a.t (row_at a.width a.r (numbers_in a.map.now)), rowAt-short a.width (numbers_in a.map.now) a.r) }
+    let is : c.column-of.result ≡ column_of a.t (row_at a.width a.r (numbers_in a.map.now)) = (rw n at c.column-of.ensures) ∙ ap (column_of a.t) (numbers-row a.width a.r a.map.now) in
+    record { is = is; most = omega (arith, is, column-most a.t (row_at a.width a.r (numbers_in a.map.now)), row_at-short a.width (numbers_in a.map.now) a.r) }
 
 pub column-at-spec : {M : Type 1} → statement M
 column-at-spec =

@@ -8,7 +8,7 @@ use lib.ListN.{length, get_or, drop}
 use Rattle.map_theory.specs.Judged.{column_of}
 use Rattle.pictures.specs.Numbers.{numbers_in}
 use Rattle.pictures.proofs.TwoBytes.{length-numbers}
-use Rattle.map_check.proofs.Columns.{column-here, column-left, column-gone, column_end}
+use Rattle.map_check.proofs.Columns.{column-here, column-left, column_gone, column-end}
 use Rattle.map_check.proofs.seams.column_of.Statement.{statement}
 use Rattle.map_check.proofs.seams.column_of.Tie as tie
 
@@ -60,14 +60,14 @@ loop-again c =
     let told = rw is at c.before.remains.ensures in
     ⊎_elim
     (λ w. (omega arith, omega arith, rw w.1 (column-left ys a.t h.loop.i h.loop.left _ within h.loop.invariant.2 other (sym told ∙ w.0.taken))))
-    (λ w. (omega arith, omega arith, rw w.1 (column-gone ys a.t h.loop.i h.loop.left _ within h.loop.invariant.2 other (sym told ∙ w.0.left))))
+    (λ w. (omega arith, omega arith, rw w.1 (column_gone ys a.t h.loop.i h.loop.left _ within h.loop.invariant.2 other (sym told ∙ w.0.left))))
     c.if2.branch
 
 returns-2 : tie.Need-returns-2 invariant-loop decreases-loop
 returns-2 c =
     let h = c.before in
     let a = h.before.before.args in
-    omega (arith, h.loop.invariant.2, column_end (numbers_in a.row.now) a.t h.loop.i (omega (arith, length-numbers a.row.now)))
+    omega (arith, h.loop.invariant.2, column-end (numbers_in a.row.now) a.t h.loop.i (omega (arith, length-numbers a.row.now)))
 
 pub column-of-spec : {M : Type 1} → statement M
 column-of-spec =

@@ -16,8 +16,8 @@ use Rattle.seam_theory.specs.Connected.{linked}
 use Rattle.map_theory.specs.Judged.{column_of, recorded}
 use Rattle.map_theory.proofs.Judged.{connected_is}
 use Rattle.pictures.specs.Numbers.{numbers_in}
-use Rattle.map_check.proofs.Turns.{Passed, passed_more}
-use Rattle.map_check.proofs.Columns.{connected_bad, linked-ok, linked-bad, linked_end, recorded_at_lem, length-recorded}
+use Rattle.map_check.proofs.Turns.{Passed, passed-more}
+use Rattle.map_check.proofs.Columns.{connected_bad, linked_ok, linked_bad, linked-end, recorded_at_lem, length-recorded}
 use Rattle.map_check.proofs.seams.is_connected.Statement.{statement}
 use Rattle.map_check.proofs.seams.is_connected.Tie as tie
 
@@ -90,7 +90,7 @@ column-at-requires c κs = let s = c.before.before.before in record { inside = r
 loop-holds : tie.Need-loop-init invariant-loop decreases-loop invariant-seams decreases-seams
 loop-holds c =
     let k = c.before.before in
-    (omega (arith, k.before.before.requires.some), k.seams.invariant.1, c.column-at.ensures.most, c.column-at.ensures.is, refl)
+    (omega (arith, k.before.before.requires.some), k.seams.invariant.1, c.column_at.ensures.most, c.column_at.ensures.is, refl)
 
 add-loop : tie.Need-overflow-add-loop invariant-loop decreases-loop invariant-seams decreases-seams
 add-loop c = omega (arith, c.before.before.before.before.before.requires.tall)
@@ -121,7 +121,7 @@ loop-again c =
       at.invariant.1,
       k.before.column-at2.ensures.most,
       k.before.column-at2.ensures.is,
-      linked-ok beside (seam (start k) (t + 1)) at.r (within k) (told k ∙ not-false _ c.if1.false) ∙ at.invariant.4,
+      linked_ok beside (seam (start k) (t + 1)) at.r (within k) (told k ∙ not-false _ c.if1.false) ∙ at.invariant.4,
     )
 
 add-t : tie.Need-overflow-add-t invariant-loop decreases-loop invariant-seams decreases-seams
@@ -136,8 +136,8 @@ seams-again c =
     let s = at-seams.before.before in
     let at = c.before.loop in
     let out = at-seams.seams in
-    let whole = sym at.invariant.4 ∙ linked_end beside (seam s (out.t + 1)) at.r (rw (seam_long s (out.t + 1)) (omega arith)) in
-    (omega arith, at.invariant.1, passed_more (λ q. linked beside (seam s q)) out.t whole out.invariant.2)
+    let whole = sym at.invariant.4 ∙ linked-end beside (seam s (out.t + 1)) at.r (rw (seam_long s (out.t + 1)) (omega arith)) in
+    (omega arith, at.invariant.1, passed-more (λ q. linked beside (seam s q)) out.t whole out.invariant.2)
 
 returns : tie.Need-returns invariant-loop decreases-loop invariant-seams decreases-seams
 returns c =
@@ -152,7 +152,7 @@ returns-2 c =
     let at = k.before.before.before.loop in
     let a = (start k).args in
     sym (connected_bad (near false) a.width a.depth (rows_of a.width a.height (numbers_in a.map.now)) (t + 1) (omega arith) (omega arith)
-    (sym at.invariant.4 ∙ linked-bad beside (seam (start k) (t + 1)) at.r (within k) (told k ∙ not-true _ c.if1.true)))
+    (sym at.invariant.4 ∙ linked_bad beside (seam (start k) (t + 1)) at.r (within k) (told k ∙ not-true _ c.if1.true)))
 
 pub is-connected-spec : {M : Type 1} → statement M
 is-connected-spec =

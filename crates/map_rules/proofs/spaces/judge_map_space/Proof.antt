@@ -9,11 +9,11 @@ use borrow.Author.Tests.{lt-ltb, le-ltb, le-leb, lt-leb}
 use lib.Dec.{leb, ltb}
 use Rattle.pictures.specs.Refusals.{Rule, ◌when◌, given, refusal}
 use Rattle.pictures.specs.Pictures.{side_rules}
-use Rattle.pictures.proofs.Rules.{served-first, refused-answer}
+use Rattle.pictures.proofs.Rules.{served-first, refused_answer}
 use Rattle.pictures.proofs.Limits.{Sides, sides_are, given_out}
 use Rattle.map_theory.specs.Bounds.{most_map}
 use Rattle.map_rules.specs.Spaces.{map_bytes, map_at, maps_end, map_space_rules}
-use Rattle.map_rules.proofs.Rooms.{maps_end_lem, map_few}
+use Rattle.map_rules.proofs.Rooms.{maps_end_lem, map-few}
 use Rattle.map_rules.proofs.spaces.judge_map_space.Statement.{statement}
 use Rattle.map_rules.proofs.spaces.judge_map_space.Tie as tie
 
@@ -54,7 +54,7 @@ map_is c =
 maps-most : (c : tie.After-map-bytes) → c.before.wide.result * c.map_bytes_lem.result ≤ 255 * most_map
 maps-most c =
     let few : c.before.wide.result ≤ 255 = omega (arith, c.before.wide.ensures.1) in
-    let map : c.map_bytes_lem.result ≤ most_map = rw (map_is c) (map_few _ (sure c.before.before.before.before)) in
+    let map : c.map_bytes_lem.result ≤ most_map = rw (map_is c) (map-few _ (sure c.before.before.before.before)) in
     mul-le-mul few map
 
 -- what the space is compared with
@@ -80,7 +80,7 @@ returns c =
     let s = at-judge-sides.before in
     let a = s.args in
     let why = c.enum-told2.given in
-    refused-answer at-judge-sides.judge-sides.result why.0.0 why.1 (side_rules a.size) (more s) at-judge-sides.judge-sides.ensures
+    refused_answer at-judge-sides.judge-sides.result why.0.0 why.1 (side_rules a.size) (more s) at-judge-sides.judge-sides.ensures
 
 returns-2 : tie.Need-returns-2
 unfolding more

@@ -4,7 +4,7 @@ use mathlib.Core.Path.{ap₂, ◌∙◌}
 use Prim.Native.Nat.{◌+◌}
 use native.Mathlib.Omega.{arith}
 use borrow.Author.Rules.{rules}
-use Rattle.map_rules.proofs.Rooms.{at_given, recorded-given, recorded_few}
+use Rattle.map_rules.proofs.Rooms.{at_given, recorded-given, recorded-few}
 use Rattle.map_rules.proofs.spaces.map_at.Statement.{statement}
 use Rattle.map_rules.proofs.spaces.map_at.Tie as tie
 
@@ -17,7 +17,7 @@ pixels-requires c κs = search rules
 add-result : tie.Need-overflow-add-result
 add-result c =
     let z = c.before.before.args.size in
-    omega (arith, c.before.picture_bytes_lem.ensures, c.pixels.ensures, at_given z, recorded-given z, recorded_few z)
+    omega (arith, c.before.picture_bytes_lem.ensures, c.pixels.ensures, at_given z, recorded-given z, recorded-few z)
 
 returns : tie.Need-returns
 returns c = ap₂ ◌+◌ c.before.picture_bytes_lem.ensures c.pixels.ensures ∙ at_given c.before.before.args.size

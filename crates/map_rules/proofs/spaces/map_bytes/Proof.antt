@@ -3,7 +3,7 @@ use mathlib.Core.Path.{ap, ◌∙◌}
 use Prim.Native.Nat.{◌*◌}
 use native.Mathlib.Omega.{arith}
 use borrow.Author.Rules.{rules}
-use Rattle.pictures.proofs.Limits.{pixels_few}
+use Rattle.pictures.proofs.Limits.{pixels-few}
 use Rattle.map_rules.proofs.Rooms.{map_given}
 use Rattle.map_rules.proofs.spaces.map_bytes.Statement.{statement}
 use Rattle.map_rules.proofs.spaces.map_bytes.Tie as tie
@@ -12,7 +12,7 @@ pixels-requires : tie.Need-pixels-requires
 pixels-requires c κs = search rules
 
 mul-result : tie.Need-overflow-mul-result
-mul-result c = omega (arith, c.pixels.ensures, pixels_few c.before.args.size)
+mul-result c = omega (arith, c.pixels.ensures, pixels-few c.before.args.size)
 
 returns : tie.Need-returns
 returns c = ap (2 *◌) c.pixels.ensures ∙ map_given c.before.args.size

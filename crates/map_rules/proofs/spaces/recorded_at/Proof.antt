@@ -4,7 +4,7 @@ use mathlib.Core.Path.{ap₂, ◌∙◌}
 use Prim.Native.Nat.{◌+◌}
 use native.Mathlib.Omega.{arith}
 use borrow.Author.Rules.{rules}
-use Rattle.map_rules.proofs.Rooms.{recorded-given, recorded_few}
+use Rattle.map_rules.proofs.Rooms.{recorded-given, recorded-few}
 use Rattle.map_rules.proofs.spaces.recorded_at.Statement.{statement}
 use Rattle.map_rules.proofs.spaces.recorded_at.Tie as tie
 
@@ -17,7 +17,7 @@ map-bytes-requires c κs = search rules
 add-result : tie.Need-overflow-add-result
 add-result c =
     let z = c.before.before.args.size in
-    omega (arith, c.before.map_at.ensures, c.map_bytes_lem.ensures, recorded-given z, recorded_few z)
+    omega (arith, c.before.map_at.ensures, c.map_bytes_lem.ensures, recorded-given z, recorded-few z)
 
 returns : tie.Need-returns
 returns c = ap₂ ◌+◌ c.before.map_at.ensures c.map_bytes_lem.ensures ∙ recorded-given c.before.before.args.size

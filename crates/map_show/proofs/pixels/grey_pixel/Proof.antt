@@ -1,5 +1,5 @@
 -- `map_show::pixels::grey_pixel` meets its contract.
-use Rattle.map_show.proofs.Samples.{grey-put}
+use Rattle.map_show.proofs.Samples.{grey_put}
 use borrow.Author.Rules.{rules}
 use Rattle.map_show.proofs.pixels.grey_pixel.Statement.{statement}
 use Rattle.map_show.proofs.pixels.grey_pixel.Tie as tie
@@ -17,7 +17,7 @@ returns : tie.Need-returns
 returns c =
     let st = c.before in
     let a = st.args in
-    grey-put a.samples.now a.c a.out.now a.at st.requires
+    grey_put a.samples.now a.c a.out.now a.at st.requires
 
 pub grey-pixel-spec : {M : Type 1} → statement M
 grey-pixel-spec = tie.close (tie.spec shared-slice-read-out slice-write-out same_length returns)

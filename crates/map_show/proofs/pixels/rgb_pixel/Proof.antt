@@ -1,7 +1,7 @@
 -- `map_show::pixels::rgb_pixel` meets its contract.
 use native.Mathlib.Omega.{arith}
 use lib.ListN.{length-set}
-use Rattle.map_show.proofs.Samples.{rgb-put}
+use Rattle.map_show.proofs.Samples.{rgb_put}
 use borrow.Author.Rules.{rules}
 use Rattle.map_show.proofs.pixels.rgb_pixel.Statement.{statement}
 use Rattle.map_show.proofs.pixels.rgb_pixel.Tie as tie
@@ -46,7 +46,7 @@ returns : tie.Need-returns
 returns c =
     let st = c.before.before.before in
     let a = st.args in
-    rgb-put a.samples.now a.c a.out.now a.at st.requires
+    rgb_put a.samples.now a.c a.out.now a.at st.requires
 
 pub rgb-pixel-spec : {M : Type 1} → statement M
 rgb-pixel-spec =

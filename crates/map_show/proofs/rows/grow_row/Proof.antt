@@ -8,8 +8,8 @@ use lib.ListN.{length, get_or}
 use Rattle.pictures.specs.Pictures.{channels_of}
 use Rattle.map_theory.specs.Widths.{doubled}
 use Rattle.map_show.specs.Inner.Pixels.{PixelNeeded, MeanNeeded}
-use Rattle.map_show.proofs.Filling.{fill-size}
-use Rattle.map_show.proofs.Grows.{Growing, Behind, grow-start, grow-needed, grow-put, new-needed, new-put, new-pass, last-needed, last-put, grow-none}
+use Rattle.map_show.proofs.Filling.{fill_size}
+use Rattle.map_show.proofs.Grows.{Growing, Behind, grow-start, grow-needed, grow-put, new-needed, new-put, new-pass, last-needed, last-put, grow_none}
 use borrow.Author.Rules.{rules}
 use Rattle.map_show.proofs.rows.grow_row.Statement.{statement}
 use Rattle.map_show.proofs.rows.grow_row.Tie as tie
@@ -99,7 +99,7 @@ returns : tie.Need-returns invariant-loop decreases-loop
 returns c =
     let st = c.before.before.before.before in
     let a = st.args in
-    grow-none a.kind a.samples.now a.numbers.now st.requires.whole a.u a.out.now c.if1.true
+    grow_none a.kind a.samples.now a.numbers.now st.requires.whole a.u a.out.now c.if1.true
 
 channels-requires : tie.Need-channels-requires invariant-loop decreases-loop
 channels-requires c κs = search rules
@@ -164,11 +164,11 @@ loop-again c =
     (λ w.
     let f : Growing a.kind a.samples.now a.numbers.now a.u a.out.now (head.c + 1) c.if2.out c.if2.at =
     rw (w.5, w.6, w.2.ensures) (new-put a.kind a.samples.now a.numbers.now st.requires.whole a.u a.out.now head.c _ _ inside p.before.before.before.before.channels.ensures (test d ∙ w.0.taken) (behind p)) in
-    (omega arith, (fill-size f, f)))
+    (omega arith, (fill_size f, f)))
     (λ w.
     let f : Growing a.kind a.samples.now a.numbers.now a.u a.out.now (head.c + 1) c.if2.out c.if2.at =
     rw (w.1, w.2) (new-pass a.kind a.samples.now a.numbers.now st.requires.whole a.u a.out.now head.c _ _ inside (test d ∙ w.0.left) (behind p)) in
-    (omega arith, (fill-size f, f)))
+    (omega arith, (fill_size f, f)))
     c.if2.branch
 
 mul-wide-2 : tie.Need-overflow-mul-wide-2 invariant-loop decreases-loop

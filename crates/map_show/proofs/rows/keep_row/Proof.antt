@@ -8,7 +8,7 @@ use lib.ListN.{length, get_or}
 use Rattle.pictures.specs.Pictures.{channels_of}
 use Rattle.map_theory.specs.Widths.{stays}
 use Rattle.map_show.specs.Inner.Pixels.{PixelNeeded}
-use Rattle.map_show.proofs.Filling.{fill-size}
+use Rattle.map_show.proofs.Filling.{fill_size}
 use Rattle.map_show.proofs.Keeps.{Keeping, keep-start, keep-needed, keep-put, keep-pass, keep-end}
 use borrow.Author.Rules.{rules}
 use Rattle.map_show.proofs.rows.keep_row.Statement.{statement}
@@ -92,12 +92,12 @@ loop-again c =
     let f : Keeping a.kind a.samples.now a.numbers.now a.t a.out.now (head.c + 1) c.if1.out c.if1.at =
     rw (w.5, w.6, w.2.ensures)
     (keep-put a.kind a.samples.now a.numbers.now st.requires.whole a.t a.out.now head.c head.out head.at (omega arith) s.before.before.before.before.before.channels.ensures (test s ∙ w.0.taken) head.invariant.1.1.1) in
-    (omega arith, (head.invariant.1.0, (fill-size f, f))))
+    (omega arith, (head.invariant.1.0, (fill_size f, f))))
     (λ w.
     let f : Keeping a.kind a.samples.now a.numbers.now a.t a.out.now (head.c + 1) c.if1.out c.if1.at =
     rw (w.1, w.2)
     (keep-pass a.kind a.samples.now a.numbers.now st.requires.whole a.t a.out.now head.c head.out head.at (omega arith) (test s ∙ w.0.left) head.invariant.1.1.1) in
-    (omega arith, (head.invariant.1.0, (fill-size f, f))))
+    (omega arith, (head.invariant.1.0, (fill_size f, f))))
     c.if1.branch
 
 same_length : tie.Need-same-length invariant-loop decreases-loop

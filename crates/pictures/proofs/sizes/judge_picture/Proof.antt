@@ -7,7 +7,7 @@ use borrow.Author.Tests.{eq-eqb, ne_eqb}
 use lib.Dec.{eqb}
 use Rattle.pictures.specs.Refusals.{◌when◌, given, refusal, served}
 use Rattle.pictures.specs.Pictures.{side_rules, size_rules, picture_bytes}
-use Rattle.pictures.proofs.Rules.{served-first, refused-answer}
+use Rattle.pictures.proofs.Rules.{served-first, refused_answer}
 use Rattle.pictures.proofs.sizes.judge_picture.Statement.{statement}
 use Rattle.pictures.proofs.sizes.judge_picture.Tie as tie
 
@@ -40,7 +40,7 @@ returns c =
     let s = at-judge-sides.before in
     let a = s.args in
     let why = c.enum-told2.given in
-    refused-answer at-judge-sides.judge-sides.result why.0.0 why.1 (side_rules a.size) (4 when not (eqb a.bytes (picture_bytes a.size)) ∷ []) at-judge-sides.judge-sides.ensures
+    refused_answer at-judge-sides.judge-sides.result why.0.0 why.1 (side_rules a.size) (4 when not (eqb a.bytes (picture_bytes a.size)) ∷ []) at-judge-sides.judge-sides.ensures
 
 picture-bytes-requires : tie.Need-picture-bytes-requires
 picture-bytes-requires c κs = search rules

@@ -5,7 +5,7 @@ use native.Mathlib.Omega.{arith}
 use borrow.Author.Rules.{rules}
 use Rattle.pictures.specs.Refusals.{refusal}
 use Rattle.pictures.specs.Pictures.{side_rules, pixels}
-use Rattle.pictures.proofs.Limits.{pixels_few, served_times}
+use Rattle.pictures.proofs.Limits.{pixels-few, served_times}
 use Rattle.pictures.proofs.sizes.work_bytes.Statement.{statement}
 use Rattle.pictures.proofs.sizes.work_bytes.Tie as tie
 
@@ -13,7 +13,7 @@ pixels-requires : tie.Need-pixels-requires
 pixels-requires c κs = search rules
 
 mul-result : tie.Need-overflow-mul-result
-mul-result c = omega (arith, c.pixels.ensures, pixels_few c.before.args.size)
+mul-result c = omega (arith, c.pixels.ensures, pixels-few c.before.args.size)
 
 returns : tie.Need-returns
 returns c =

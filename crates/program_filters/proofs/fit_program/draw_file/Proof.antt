@@ -7,7 +7,7 @@ use Rattle.pictures.specs.Pictures.{channels_of}
 use Rattle.pictures.proofs.Limits.{channels_most}
 use Rattle.text_theory.specs.declared.Head.{Head}
 use Rattle.program_theory.specs.Programs.{held_pixels}
-use Rattle.program_filters.proofs.PictureAnswers.{no-head, same_head}
+use Rattle.program_filters.proofs.PictureAnswers.{no_head, same_head}
 use borrow.Author.Rules.{rules}
 use Rattle.program_filters.proofs.fit_program.draw_file.Statement.{statement}
 use Rattle.program_filters.proofs.fit_program.draw_file.Tie as tie
@@ -30,7 +30,7 @@ returns c =
     let at-header = c.before.before in
     let s = at-header.before.before.before in
     let a = s.args in
-    no-head a.width a.out.now (rw c.enum_told.given.1 at at-header.header.ensures)
+    no_head a.width a.out.now (rw c.enum_told.given.1 at at-header.header.ensures)
 
 channels-requires : tie.Need-channels-requires
 channels-requires c κs = search rules

@@ -5,9 +5,9 @@ use Prim.Native.Nat.{◌+◌, ◌*◌, ◌≤◌}
 use native.Mathlib.Omega.{arith}
 use lib.ListN.{length, take}
 use lib.Seq.{length-take-le}
-use Rattle.text_print.proofs.Written.{never-short, printed-next}
+use Rattle.text_print.proofs.Written.{never_short, printed_next}
 use Rattle.program_theory.specs.Netpbm.{header_text}
-use Rattle.program_filters.proofs.PictureAnswers.{Drawing, draw_served, draw-refused, drawing}
+use Rattle.program_filters.proofs.PictureAnswers.{Drawing, draw_served, draw_refused, drawing}
 use borrow.Author.Rules.{rules}
 use Rattle.program_filters.proofs.fit_program.draw_in.Statement.{statement}
 use Rattle.program_filters.proofs.fit_program.draw_in.Tie as tie
@@ -98,7 +98,7 @@ same-length-2 c = search rules
 returns : tie.Need-returns
 returns c =
     let at-known = c.before.before in
-    absurd (never-short at-known.before.before.print-picture.ensures (room at-known) c.enum_told.given.1)
+    absurd (never_short at-known.before.before.print-picture.ensures (room at-known) c.enum_told.given.1)
 
 same-length-3 : tie.Need-same-length-3
 same-length-3 c = search rules
@@ -114,7 +114,7 @@ returns-2 c =
     let at-channels = at-print.before.before.before.before.before in
     let at_size = at-channels.before.before in
     let s = at_size.before.before.before.before.before.before.before.before.before.before.before in
-    draw_served (shown at_size) s.requires.room (rw at-channels.channels.ensures at (printed-next at-print.print-picture.ensures (room at-known) at-end.end.given.1))
+    draw_served (shown at_size) s.requires.room (rw at-channels.channels.ensures at (printed_next at-print.print-picture.ensures (room at-known) at-end.end.given.1))
 
 same-length-5 : tie.Need-same-length-5
 same-length-5 c = search rules
@@ -125,7 +125,7 @@ returns-3 c =
     let at-show = at-why.before.before.before.before.before in
     let st = at-show.before.before.before.before.before.before in
     let a = st.args in
-    draw-refused a.file.now a.width a.picture.now a.out.now _ st.requires refl at-why.why.given.0.0
+    draw_refused a.file.now a.width a.picture.now a.out.now _ st.requires refl at-why.why.given.0.0
     (rw at-why.why.given.1 at at-show.show.ensures)
 
 pub draw-in-spec : {M : Type 1} → statement M

@@ -3,7 +3,7 @@ use mathlib.Core.List.{[], ◌∷◌}
 use Prim.Native.Nat.{◌+◌}
 use lib.ListN.{length}
 use Rattle.text_theory.specs.Lengths.{spaced}
-use Rattle.text_lengths.proofs.Rooms.{Taking, taking_first, taking-next, taking-short, taking_last}
+use Rattle.text_lengths.proofs.Rooms.{Taking, taking_first, taking_next, taking_short, taking_last}
 use Rattle.program_theory.specs.Netpbm.{magic_of, maxval_of, header_text}
 use Rattle.program_netpbm.proofs.Headers.{header_lengths, header_lengths_lem}
 use borrow.Author.Rules.{rules}
@@ -17,7 +17,7 @@ at-start s = taking_first (header_lengths s.args.size) (header_lengths_lem s.arg
 after-sides : (c : tie.After-sides)
     → let a = c.before.before.before.args in
     Taking a.room (length (header_text a.size)) c.sides.given.0.0 ((spaced (magic_of a.size.kind) + spaced (maxval_of a.size.kind)) ∷ 1 ∷ [])
-after-sides c = taking-next (at-start c.before.before.before) (rw c.sides.given.1 at c.before.before.take-pair.ensures)
+after-sides c = taking_next (at-start c.before.before.before) (rw c.sides.given.1 at c.before.before.take-pair.ensures)
 
 after-numbers : (c : tie.After-numbers)
     → let a = c.before.before.before.before.before.before.before.before.before.args in
@@ -25,7 +25,7 @@ after-numbers : (c : tie.After-numbers)
 after-numbers c =
     let at_pair = c.before.before in
     let at-magic = at_pair.before.before in
-    taking-next (after-sides at-magic.before.before)
+    taking_next (after-sides at-magic.before.before)
     (rw (at-magic.magic-of.ensures, at_pair.before.maxval-of.ensures, c.numbers.given.1) at at_pair.take-pair2.ensures)
 
 take-pair-requires : tie.Need-take-pair-requires
@@ -38,7 +38,7 @@ enum_told : tie.Need-enum-told
 enum_told c = search rules
 
 returns : tie.Need-returns
-returns c = taking-short (at-start c.before.before.before) (rw c.enum_told.given.1 at c.before.before.take-pair.ensures)
+returns c = taking_short (at-start c.before.before.before) (rw c.enum_told.given.1 at c.before.before.take-pair.ensures)
 
 magic-of-requires : tie.Need-magic-of-requires
 magic-of-requires c κs = search rules
@@ -59,7 +59,7 @@ returns-2 : tie.Need-returns-2
 returns-2 c =
     let at_pair = c.before.before in
     let at-magic = at_pair.before.before in
-    taking-short (after-sides at-magic.before.before)
+    taking_short (after-sides at-magic.before.before)
     (rw (at-magic.magic-of.ensures, at_pair.before.maxval-of.ensures, c.enum-told2.given.1) at at_pair.take-pair2.ensures)
 
 take-requires : tie.Need-take-requires

@@ -4,7 +4,7 @@ use Prim.Native.Nat.{ℕ}
 use native.Mathlib.Omega.{arith}
 use Rattle.text_theory.specs.Decimal.{digits}
 use Rattle.text_theory.specs.Files.{blank, line_end}
-use Rattle.text_print.proofs.Pieces.{Printing, printing_first, piece-room, printing-next, printing-last}
+use Rattle.text_print.proofs.Pieces.{Printing, printing_first, piece-room, printing-next, printing_last}
 use Rattle.program_theory.specs.Netpbm.{letter_p, magic_of, maxval_of, header_text}
 use Rattle.program_netpbm.proofs.Headers.{header_pieces, header_pieces_lem}
 use borrow.Author.Rules.{rules}
@@ -105,7 +105,7 @@ unfolding line_end
 returns c =
     let at-maxval = c.before.before in
     let at-height = at-maxval.before.before.before.before.before.before in
-    printing-last (after-height at-height) (rw at-maxval.before.before.maxval-of.ensures at at-maxval.put-numbered4.ensures)
+    printing_last (after-height at-height) (rw at-maxval.before.before.maxval-of.ensures at at-maxval.put-numbered4.ensures)
 
 pub put-header-spec : {M : Type 1} → statement M
 put-header-spec =

@@ -7,10 +7,10 @@ use Rattle.pictures.specs.declared.sizes.Size.{Size}
 use Rattle.text_theory.specs.Readers.{Get, give, ◌▷◌, after, known}
 use Rattle.text_theory.specs.Decimal.{number_get}
 use Rattle.text_theory.specs.Files.{blank, line_end}
-use Rattle.text_read.proofs.ByteClasses.{told-blank}
-use Rattle.text_read.proofs.Onward.{Left, left-then, left-no-then, left-past, left-no-past}
+use Rattle.text_read.proofs.ByteClasses.{told_blank}
+use Rattle.text_read.proofs.Onward.{Left, left_then, left_no_then, left-past, left_no_past}
 use Rattle.program_theory.specs.Netpbm.{kind_by, header_get}
-use Rattle.program_netpbm.proofs.Headers.{no_text, no_letter, left-letter, left-last, left-no-last, left-known, left-unknown, left-give}
+use Rattle.program_netpbm.proofs.Headers.{no_text, no_letter, left_letter, left_last, left_no_last, left-known, left-unknown, left-give}
 use borrow.Author.Rules.{rules}
 use Rattle.program_netpbm.proofs.netpbm.read_header.Statement.{statement}
 use Rattle.program_netpbm.proofs.netpbm.read_header.Tie as tie
@@ -53,23 +53,23 @@ text c = c.before.before.before.before.args.text.now
 -- What is left after the letter, the number of the kind, the width, the blank, the height, the largest sample.
 after-letter : (c : tie.Else2) → Left header_get (text c) 0 from-magic 1
 unfolding header_get
-after-letter c = left-letter from-magic (omega (arith, c.before.before.if1.false)) c.if2.false
+after-letter c = left_letter from-magic (omega (arith, c.before.before.if1.false)) c.if2.false
 
 after-magic : (c : tie.After-magic) → Left header_get (text (at-letter c)) 0 (from-width c.magic.given.0.0) c.magic.given.0.1.0.at
-after-magic c = left-last from-width (after-letter (at-letter c)) (rw c.magic.given.1 at c.before.before.last-number.ensures)
+after-magic c = left_last from-width (after-letter (at-letter c)) (rw c.magic.given.1 at c.before.before.last-number.ensures)
 
 after-width : (c : tie.After-width)
     → let m = at-magic c in
     Left header_get (text (at-letter m)) 0 (after blank (from-height m.magic.given.0.0 c.width.given.0.0)) c.width.given.0.1.0.at
 after-width c =
     let m = at-magic c in
-    left-then (λ w. after blank (from-height m.magic.given.0.0 w)) (after-magic m) (rw c.width.given.1 at c.before.before.number.ensures)
+    left_then (λ w. after blank (from-height m.magic.given.0.0 w)) (after-magic m) (rw c.width.given.1 at c.before.before.number.ensures)
 
 after-blank : (c : tie.After-c)
     → let w = at_width c in
     let m = at-magic w in
     Left header_get (text (at-letter m)) 0 (from-height m.magic.given.0.0 w.width.given.0.0) c.c.given.0.1.0.at
-after-blank c = left-past blank (after-width (at_width c)) (told-blank (rw c.c.given.1 at c.before.before.past.ensures))
+after-blank c = left-past blank (after-width (at_width c)) (told_blank (rw c.c.given.1 at c.before.before.past.ensures))
 
 after-height : (c : tie.After-height)
     → let w = at_width (at-blank c) in
@@ -77,7 +77,7 @@ after-height : (c : tie.After-height)
     Left header_get (text (at-letter m)) 0 (from-maxval m.magic.given.0.0 w.width.given.0.0 c.height.given.0.0) c.height.given.0.1.0.at
 after-height c =
     let w = at_width (at-blank c) in
-    left-last (from-maxval (at-magic w).magic.given.0.0 w.width.given.0.0) (after-blank (at-blank c)) (rw c.height.given.1 at c.before.before.last-number2.ensures)
+    left_last (from-maxval (at-magic w).magic.given.0.0 w.width.given.0.0) (after-blank (at-blank c)) (rw c.height.given.1 at c.before.before.last-number2.ensures)
 
 after-maxval : (c : tie.After-maxval)
     → let h = at-height c in
@@ -87,7 +87,7 @@ after-maxval : (c : tie.After-maxval)
 after-maxval c =
     let h = at-height c in
     let w = at_width (at-blank h) in
-    left-last (from-kind (at-magic w).magic.given.0.0 w.width.given.0.0 h.height.given.0.0) (after-height h) (rw c.maxval.given.1 at c.before.before.last-number3.ensures)
+    left_last (from-kind (at-magic w).magic.given.0.0 w.width.given.0.0 h.height.given.0.0) (after-height h) (rw c.maxval.given.1 at c.before.before.last-number3.ensures)
 
 returns : tie.Need-returns
 unfolding header_get
@@ -110,7 +110,7 @@ enum_told : tie.Need-enum-told
 enum_told c = search rules
 
 returns-3 : tie.Need-returns-3
-returns-3 c = left-no-last from-width (after-letter c.before.before.before) (rw c.enum_told.given.1 at c.before.before.last-number.ensures)
+returns-3 c = left_no_last from-width (after-letter c.before.before.before) (rw c.enum_told.given.1 at c.before.before.last-number.ensures)
 
 number-requires : tie.Need-number-requires
 number-requires c κs = search rules
@@ -122,7 +122,7 @@ enum-told-2 : tie.Need-enum-told-2
 enum-told-2 c = search rules
 
 returns-4 : tie.Need-returns-4
-returns-4 c = left-no-then _ (after-magic c.before.before.before.before) (rw c.enum-told2.given.1 at c.before.before.number.ensures)
+returns-4 c = left_no_then _ (after-magic c.before.before.before.before) (rw c.enum-told2.given.1 at c.before.before.number.ensures)
 
 past-requires : tie.Need-past-requires
 past-requires c κs = search rules
@@ -134,7 +134,7 @@ enum-told-3 : tie.Need-enum-told-3
 enum-told-3 c = search rules
 
 returns-5 : tie.Need-returns-5
-returns-5 c = left-no-past blank _ (after-width c.before.before.before.before) (told-blank (rw c.enum-told3.given.1 at c.before.before.past.ensures))
+returns-5 c = left_no_past blank _ (after-width c.before.before.before.before) (told_blank (rw c.enum-told3.given.1 at c.before.before.past.ensures))
 
 last-number-requires-2 : tie.Need-last-number-requires-2
 last-number-requires-2 c κs = search rules
@@ -146,7 +146,7 @@ enum-told-4 : tie.Need-enum-told-4
 enum-told-4 c = search rules
 
 returns-6 : tie.Need-returns-6
-returns-6 c = left-no-last _ (after-blank c.before.before.before.before) (rw c.enum-told4.given.1 at c.before.before.last-number2.ensures)
+returns-6 c = left_no_last _ (after-blank c.before.before.before.before) (rw c.enum-told4.given.1 at c.before.before.last-number2.ensures)
 
 last-number-requires-3 : tie.Need-last-number-requires-3
 last-number-requires-3 c κs = search rules
@@ -158,7 +158,7 @@ enum-told-5 : tie.Need-enum-told-5
 enum-told-5 c = search rules
 
 returns-7 : tie.Need-returns-7
-returns-7 c = left-no-last _ (after-height c.before.before.before.before) (rw c.enum-told5.given.1 at c.before.before.last-number3.ensures)
+returns-7 c = left_no_last _ (after-height c.before.before.before.before) (rw c.enum-told5.given.1 at c.before.before.last-number3.ensures)
 
 kind-by-requires : tie.Need-kind-by-requires
 kind-by-requires c κs = search rules

@@ -2,7 +2,7 @@
 use native.Mathlib.Omega.{arith}
 use Rattle.pictures.specs.Refusals.{number_of}
 use Rattle.program_theory.proofs.Lengths.{refused-most}
-use Rattle.program_netpbm.proofs.Outputs.{number_below, finished_refused}
+use Rattle.program_netpbm.proofs.Outputs.{number-below, finished_refused}
 use borrow.Author.Rules.{rules}
 use Rattle.program_netpbm.proofs.output.finish.Statement.{statement}
 use Rattle.program_netpbm.proofs.output.finish.Tie as tie
@@ -23,7 +23,7 @@ returns-2 : tie.Need-returns-2
 returns-2 c =
     let at-answer2 = c.before.before.before in
     rw at-answer2.answer2.given.1
-    (finished_refused at-answer2.answer2.given.0.0 (omega (arith, refused-most (number_of at-answer2.answer2.given.0.0) (number_below at-answer2.answer2.given.0.0))) c.put-refusal.ensures)
+    (finished_refused at-answer2.answer2.given.0.0 (omega (arith, refused-most (number_of at-answer2.answer2.given.0.0) (number-below at-answer2.answer2.given.0.0))) c.put-refusal.ensures)
 
 pub finish_spec : {M : Type 1} → statement M
 finish_spec =

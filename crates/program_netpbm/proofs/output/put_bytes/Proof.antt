@@ -1,5 +1,5 @@
 -- `program_netpbm::output::put_bytes` meets its contract.
-use Rattle.text_print.proofs.Written.{never-short, printed-next}
+use Rattle.text_print.proofs.Written.{never_short, printed_next}
 use borrow.Author.Rules.{rules}
 use Rattle.program_netpbm.proofs.output.put_bytes.Statement.{statement}
 use Rattle.program_netpbm.proofs.output.put_bytes.Tie as tie
@@ -20,7 +20,7 @@ returns : tie.Need-returns
 returns c =
     let at-print-bytes = c.before.before.before.before in
     let s = at-print-bytes.before.before.before.before in
-    absurd (never-short at-print-bytes.print-bytes.ensures s.requires c.enum_told.given.1)
+    absurd (never_short at-print-bytes.print-bytes.ensures s.requires c.enum_told.given.1)
 
 same-length-2 : tie.Need-same-length-2
 same-length-2 c = search rules
@@ -29,7 +29,7 @@ returns-2 : tie.Need-returns-2
 returns-2 c =
     let at-print-bytes = c.before.before.before.before.before in
     let s = at-print-bytes.before.before.before.before in
-    printed-next at-print-bytes.print-bytes.ensures s.requires c.before.end.given.1
+    printed_next at-print-bytes.print-bytes.ensures s.requires c.before.end.given.1
 
 pub put-bytes-spec : {M : Type 1} → statement M
 put-bytes-spec =

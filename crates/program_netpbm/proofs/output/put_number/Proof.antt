@@ -1,5 +1,5 @@
 -- `program_netpbm::output::put_number` meets its contract.
-use Rattle.text_print.proofs.Written.{never-short, printed-next}
+use Rattle.text_print.proofs.Written.{never_short, printed_next}
 use borrow.Author.Rules.{rules}
 use Rattle.program_netpbm.proofs.output.put_number.Statement.{statement}
 use Rattle.program_netpbm.proofs.output.put_number.Tie as tie
@@ -20,7 +20,7 @@ returns : tie.Need-returns
 returns c =
     let at-print-number = c.before.before.before.before in
     let s = at-print-number.before.before.before in
-    absurd (never-short at-print-number.print-number.ensures s.requires c.enum_told.given.1)
+    absurd (never_short at-print-number.print-number.ensures s.requires c.enum_told.given.1)
 
 same-length-2 : tie.Need-same-length-2
 same-length-2 c = search rules
@@ -29,7 +29,7 @@ returns-2 : tie.Need-returns-2
 returns-2 c =
     let at-print-number = c.before.before.before.before.before in
     let s = at-print-number.before.before.before in
-    printed-next at-print-number.print-number.ensures s.requires c.before.end.given.1
+    printed_next at-print-number.print-number.ensures s.requires c.before.end.given.1
 
 pub put-number-spec : {M : Type 1} → statement M
 put-number-spec =

@@ -5,10 +5,10 @@ use native.Mathlib.Omega.{arith}
 use Rattle.pictures.specs.Refusals.{number_of}
 use Rattle.text_theory.specs.Decimal.{digits}
 use Rattle.text_theory.specs.Files.{closed}
-use Rattle.text_print.proofs.Pieces.{Printing, printing_first, piece-room, printing-next, printing-last}
+use Rattle.text_print.proofs.Pieces.{Printing, printing_first, piece-room, printing-next, printing_last}
 use Rattle.program_theory.specs.Programs.{refused_word, refused_text}
 use Rattle.program_theory.proofs.Lengths.{refused-most}
-use Rattle.program_netpbm.proofs.Outputs.{number_below}
+use Rattle.program_netpbm.proofs.Outputs.{number-below}
 use borrow.Author.Rules.{rules}
 use Rattle.program_netpbm.proofs.output.put_refusal.Statement.{statement}
 use Rattle.program_netpbm.proofs.output.put_refusal.Tie as tie
@@ -22,7 +22,7 @@ start c = c.before.before.before.before.before
 
 whole : (s : tie.Start) → Rest s s.args.out.now 0 (refused_word ∷ (digits (number_of s.args.why) ++ closed) ∷ [])
 unfolding refused_text flatten
-whole s = printing_first _ (simp append-nil) (omega (arith, s.requires, refused-most (number_of s.args.why) (number_below s.args.why)))
+whole s = printing_first _ (simp append-nil) (omega (arith, s.requires, refused-most (number_of s.args.why) (number-below s.args.why)))
 
 after-word : (c : tie.After-put-bytes) → let s = start c in Rest s c.put-bytes.new.0 c.put-bytes.result ((digits (number_of s.args.why) ++ closed) ∷ [])
 unfolding refused_word
@@ -55,7 +55,7 @@ unfolding closed
 returns c =
     let at-numbered = c.before.before in
     let at-word = at-numbered.before.before.before.before.before in
-    printing-last (after-word at-word) (rw at-word.before.before.before.number.ensures at at-numbered.put-numbered.ensures)
+    printing_last (after-word at-word) (rw at-word.before.before.before.number.ensures at at-numbered.put-numbered.ensures)
 
 pub put-refusal-spec : {M : Type 1} → statement M
 put-refusal-spec =

@@ -1,4 +1,4 @@
--- `seam_bounds::finding::bytes_after` meets its contract: each return by its test.
+-- `seam_bounds::finding::bytes_after_lem` meets its contract: each return by its test.
 use borrow.Author.Rules.{rules}
 use Rattle.seam_bounds.proofs.finding.bytes_after.Statement.{statement}
 use Rattle.seam_bounds.proofs.finding.bytes_after.Tie as tie

@@ -11,7 +11,7 @@ use lib.Dec.{ltb}
 use Rattle.pictures.specs.Limits.{most_pixels}
 use Rattle.pictures.specs.Refusals.{Rule, ◌when◌, given, refusal}
 use Rattle.pictures.specs.Pictures.{side_rules, picture_bytes, pixels}
-use Rattle.pictures.proofs.Rules.{served-first, refused-answer}
+use Rattle.pictures.proofs.Rules.{served-first, refused_answer}
 use Rattle.pictures.proofs.Limits.{Sides, sides_are, given_out}
 use Rattle.seam_bounds.specs.Spaces.{bytes_after, find_space_rules}
 use Rattle.seam_bounds.proofs.finding.judge_find_in.Statement.{statement}
@@ -71,7 +71,7 @@ returns c =
     let at-judge-sides = c.before.before in
     let s = at-judge-sides.before in
     let why = c.enum-told2.given in
-    refused-answer at-judge-sides.judge-sides.result why.0.0 why.1 (side_rules s.args.size) (more s) at-judge-sides.judge-sides.ensures
+    refused_answer at-judge-sides.judge-sides.result why.0.0 why.1 (side_rules s.args.size) (more s) at-judge-sides.judge-sides.ensures
 
 returns-2 : tie.Need-returns-2
 returns-2 c =

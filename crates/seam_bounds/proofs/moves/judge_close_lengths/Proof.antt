@@ -9,7 +9,7 @@ use lib.Dec.{eqb}
 use Rattle.pictures.specs.declared.sizes.Size.{Size}
 use Rattle.pictures.specs.Refusals.{Rule, ◌when◌, given, refusal}
 use Rattle.pictures.specs.Pictures.{size_rules}
-use Rattle.pictures.proofs.Rules.{served-first, refused-answer}
+use Rattle.pictures.proofs.Rules.{served-first, refused_answer}
 use Rattle.seam_bounds.specs.Moves.{close_length_rules}
 use Rattle.seam_bounds.proofs.moves.judge_close_lengths.Statement.{statement}
 use Rattle.seam_bounds.proofs.moves.judge_close_lengths.Tie as tie
@@ -40,7 +40,7 @@ returns c =
     let at-judge-picture = c.before.before in
     let a = at-judge-picture.before.args in
     let why = c.enum-told2.given in
-    refused-answer at-judge-picture.judge-picture.result why.0.0 why.1 (size_rules a.size a.bytes) (more a.size a.columns) at-judge-picture.judge-picture.ensures
+    refused_answer at-judge-picture.judge-picture.result why.0.0 why.1 (size_rules a.size a.bytes) (more a.size a.columns) at-judge-picture.judge-picture.ensures
 
 returns-2 : tie.Need-returns-2
 returns-2 c = let a = c.before.before.before.before.args in sym (rest c.before ∙ simp (ne_eqb a.columns a.size.height c.if1.true))

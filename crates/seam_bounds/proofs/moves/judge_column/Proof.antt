@@ -10,7 +10,7 @@ use lib.Dec.{leb, ltb}
 use Rattle.pictures.specs.declared.sizes.Size.{Size}
 use Rattle.pictures.specs.Refusals.{Rule, ◌when◌, given, refusal}
 use Rattle.pictures.specs.Pictures.{channels_of, size_rules}
-use Rattle.pictures.proofs.Rules.{served-first, refused-answer}
+use Rattle.pictures.proofs.Rules.{served-first, refused_answer}
 use Rattle.pictures.proofs.Limits.{sized_is}
 use Rattle.seam_bounds.specs.Moves.{column_rules}
 use Rattle.seam_bounds.proofs.moves.judge_column.Statement.{statement}
@@ -53,7 +53,7 @@ returns c =
     let at-judge-picture = c.before.before in
     let a = at-judge-picture.before.args in
     let why = c.enum-told2.given in
-    refused-answer at-judge-picture.judge-picture.result why.0.0 why.1 (size_rules a.size a.bytes) (more a.size a.column a.space) at-judge-picture.judge-picture.ensures
+    refused_answer at-judge-picture.judge-picture.result why.0.0 why.1 (size_rules a.size a.bytes) (more a.size a.column a.space) at-judge-picture.judge-picture.ensures
 
 channels-requires : tie.Need-channels-requires
 channels-requires c κs = search rules

@@ -9,7 +9,7 @@ use lib.Dec.{ltb}
 use Rattle.pictures.specs.declared.sizes.Size.{Size}
 use Rattle.pictures.specs.Refusals.{Rule, ◌when◌, given, refusal}
 use Rattle.pictures.specs.Pictures.{picture_bytes, size_rules}
-use Rattle.pictures.proofs.Rules.{served-first, refused-answer}
+use Rattle.pictures.proofs.Rules.{served-first, refused_answer}
 use Rattle.pictures.proofs.Limits.{sized_is}
 use Rattle.seam_bounds.specs.Moves.{exchange_rules}
 use Rattle.seam_bounds.proofs.moves.judge_exchange.Statement.{statement}
@@ -46,7 +46,7 @@ returns c =
     let at-judge-picture = c.before.before in
     let a = at-judge-picture.before.args in
     let why = c.enum-told2.given in
-    refused-answer at-judge-picture.judge-picture.result why.0.0 why.1 (size_rules a.size a.bytes) (more a.size a.space) at-judge-picture.judge-picture.ensures
+    refused_answer at-judge-picture.judge-picture.result why.0.0 why.1 (size_rules a.size a.bytes) (more a.size a.space) at-judge-picture.judge-picture.ensures
 
 returns-2 : tie.Need-returns-2
 returns-2 c =

@@ -3,7 +3,7 @@ use mathlib.Core.Path.{sym}
 use native.Mathlib.Omega.{arith}
 use borrow.Author.Rules.{rules}
 use lib.Seq.{length-take-le}
-use Rattle.seam_close.proofs.Closing.{two-copies}
+use Rattle.seam_close.proofs.Closing.{two_copies}
 use Rattle.seam_close.proofs.rows.close_row.Statement.{statement}
 use Rattle.seam_close.proofs.rows.close_row.Tie as tie
 
@@ -50,7 +50,7 @@ returns c =
     let at_copy = at-copy2.before.before.before.before.before in
     let st = at_copy.before.before.before.before.before in
     let a = st.args in
-    two-copies a.line.now a.out.now _ _ a.gap a.n st.requires at_copy.copy.ensures.1 at-copy2.copy2.ensures.1
+    two_copies a.line.now a.out.now _ _ a.gap a.n st.requires at_copy.copy.ensures.1 at-copy2.copy2.ensures.1
 
 pub close-row-spec : {M : Type 1} → statement M
 close-row-spec =

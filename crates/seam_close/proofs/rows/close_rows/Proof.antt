@@ -9,7 +9,7 @@ use lib.ListN.{length}
 use lib.Seq.{length-take-le}
 use Rattle.pictures.specs.Pictures.{largest_side}
 use Rattle.grids.proofs.Filled.{Filled, filled_start}
-use Rattle.seam_close.proofs.Closing.{closed_row, Sure, sure, RowSure, row_sure, row-turn, rows_end}
+use Rattle.seam_close.proofs.Closing.{closed_row, Sure, sure, RowSure, row_sure, row_turn, rows_end}
 use Rattle.seam_close.proofs.rows.close_rows.Statement.{statement}
 use Rattle.seam_close.proofs.rows.close_rows.Tie as tie
 
@@ -176,7 +176,7 @@ loop-again c =
         same_len_mid dest (length head.picture - dest) head.picture closed.new.1.1.1.0 closed.auto.1.1.1.0 ∙ head.invariant.1.0,
         (
           copied.auto.1.0 ∙ head.invariant.1.1.0,
-          row-turn a.size a.picture.now a.seam.now n st.requires u.channels.ensures head.r _ _
+          row_turn a.size a.picture.now a.seam.now n st.requires u.channels.ensures head.r _ _
               head.picture _ copied.new.1.0 head.line closed.new.1.1.1.0 z.loop-test.true head.invariant.1.0 head.invariant.1.1.1 refl copied.ensures.1 at_wide.wide.ensures refl closed.ensures,
         ),
       ),

@@ -8,7 +8,7 @@ use borrow.Author.Tests.{leb-true, leb-false}
 use lib.ListN.{length, drop, get_or}
 use lib.Seq.{drop-length}
 use Rattle.seam_bounds.specs.Moves.{outside}
-use Rattle.seam_bounds.proofs.Moving.{outside_here, outside-next}
+use Rattle.seam_bounds.proofs.Moving.{outside-here, outside-next}
 use Rattle.seam_close.proofs.rows.has_outside.Statement.{statement}
 use Rattle.seam_close.proofs.rows.has_outside.Tie as tie
 
@@ -36,7 +36,7 @@ returns c =
     let a = head.before.before.args in
     let r = head.loop.r in
     let l : a.width ≤ get_or a.seam.now r 0 = leb-true _ _ (sym c.before.is-outside.ensures ∙ c.if1.true) in
-    sym (outside_here a.width a.seam.now r (omega arith) l) ∙ head.loop.invariant.1.1
+    sym (outside-here a.width a.seam.now r (omega arith) l) ∙ head.loop.invariant.1.1
 
 add_r : tie.Need-overflow-add-r invariant-loop decreases-loop
 add_r c = search rules

@@ -15,9 +15,9 @@ use Rattle.pictures.specs.Pictures.{picture_bytes}
 use Rattle.energy.proofs.Served.{energies-served}
 use Rattle.seam_sums.specs.Fences.{fence32}
 use Rattle.seam_find.specs.Inner.Down.{costs_of}
-use Rattle.seam_find.proofs.Costs.{costs_long}
+use Rattle.seam_find.proofs.Costs.{costs-long}
 use Rattle.seam_find.proofs.Spaces.{Front, front_is}
-use Rattle.seam_find.proofs.Fences.{first_row_is, last-long, bottom-inside, bottom-given}
+use Rattle.seam_find.proofs.Fences.{first_row_is, last_long, bottom_inside, bottom-given}
 use Rattle.seam_find.proofs.bottom32.bottom_with.Statement.{statement}
 use Rattle.seam_find.proofs.bottom32.bottom_with.Tie as tie
 
@@ -94,7 +94,7 @@ abbrev costs : tie.Start → ℕ → List ℕ
 costs s n = (costs_of (size s) s.args.method (take n (space s)) 0).up
 
 wide : (s : tie.Start) → length (costs s (picture_bytes (size s))) ≡ (size s).width
-wide s = costs_long (size s) s.args.method (take (picture_bytes (size s)) (space s)) 0
+wide s = costs-long (size s) s.args.method (take (picture_bytes (size s)) (space s)) 0
 
 -- they are what `energies` writes between the fences
 row-0 : (c : tie.After-energies) → let s = entry c.before.before in row c ≡ costs s (picture_bytes (size s))
@@ -110,7 +110,7 @@ row-0 c =
 
 -- the sums of the last row stand between two fences
 sums-long : (c : tie.After-down) → length (sums c) ≡ (size (start c)).width + 2
-sums-long c = last-long _ _ _ _ _ _ _ (wide (start c)) c.down.ensures
+sums-long c = last_long _ _ _ _ _ _ _ (wide (start c)) c.down.ensures
 
 -- the first of the least of them is one of the columns
 inside : (c : tie.After-first-least) → c.first-least.result < (size (start (at-down c.before.before))).width
@@ -118,7 +118,7 @@ inside c =
     let d = at-down c.before.before in
     let s = start d in
     let f = c.first-least in
-    bottom-inside _ _ _ _ _ _ _ (wide s) d.down.ensures f.result (sure s).sized.width_some f.ensures
+    bottom_inside _ _ _ _ _ _ _ (wide s) d.down.ensures f.result (sure s).sized.width_some f.ensures
 
 add-side : tie.Need-overflow-add-side
 add-side c = search rules

@@ -5,7 +5,7 @@ use native.Mathlib.Omega.{arith}
 use Rattle.pictures.specs.Pictures.{picture_bytes, largest_side}
 use Rattle.pictures.proofs.Limits.{sized_is}
 use Rattle.seam_sums.specs.Fences.{fence32}
-use Rattle.seam_find.proofs.Fences.{fences-lent, row-lent, rows-needed}
+use Rattle.seam_find.proofs.Fences.{fences_lent, row_lent, rows_needed}
 use Rattle.seam_find.proofs.bottom32.find_bottom.Statement.{statement}
 use Rattle.seam_find.proofs.bottom32.find_bottom.Tie as tie
 
@@ -26,22 +26,22 @@ array-borrow-prefix-above : tie.Need-array-borrow-prefix-above
 array-borrow-prefix-above c = omega (arith, narrow c.before.before)
 
 slice-aggregate-bottom-with : tie.Need-slice-aggregate-bottom-with
-slice-aggregate-bottom-with c = fences-lent (start c).args.size (narrow (start c)) fence32
+slice-aggregate-bottom-with c = fences_lent (start c).args.size (narrow (start c)) fence32
 
 array-borrow-prefix-cost : tie.Need-array-borrow-prefix-cost
 array-borrow-prefix-cost c = narrow (start c)
 
 slice-aggregate-bottom-with-2 : tie.Need-slice-aggregate-bottom-with-2
-slice-aggregate-bottom-with-2 c = let s = start c.before in row-lent s.args.size (narrow s)
+slice-aggregate-bottom-with-2 c = let s = start c.before in row_lent s.args.size (narrow s)
 
 array-borrow-prefix-next : tie.Need-array-borrow-prefix-next
 array-borrow-prefix-next c = narrow (start c.before)
 
 slice-aggregate-bottom-with-3 : tie.Need-slice-aggregate-bottom-with-3
-slice-aggregate-bottom-with-3 c = let s = start c.before.before in row-lent s.args.size (narrow s)
+slice-aggregate-bottom-with-3 c = let s = start c.before.before in row_lent s.args.size (narrow s)
 
 bottom-with-requires : tie.Need-bottom-with-requires
-bottom-with-requires c κs = let s = start c.before.before in record { picture = s.pre; rows = rows-needed s.args.size (narrow s) fence32 }
+bottom-with-requires c κs = let s = start c.before.before in record { picture = s.pre; rows = rows_needed s.args.size (narrow s) fence32 }
 
 same_length : tie.Need-same-length
 same_length c = (space-back c).space.given

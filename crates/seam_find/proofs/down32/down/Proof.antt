@@ -12,7 +12,7 @@ use Rattle.pictures.specs.Pictures.{picture_bytes}
 use Rattle.energy.specs.Bounds.{most_energy}
 use Rattle.seam_sums.specs.Fences.{fence32}
 use Rattle.seam_find.specs.Inner.Down.{costs_of}
-use Rattle.seam_find.proofs.Costs.{front-most, cost_most, costs_long}
+use Rattle.seam_find.proofs.Costs.{front-most, cost_most, costs-long}
 use Rattle.seam_find.proofs.Downs.{above_most}
 use Rattle.seam_find.proofs.BeforeRow.{BeforeRow, before-first, before-needed, before-next, before-end}
 use Rattle.seam_find.proofs.Spaces.{Front, front_is}
@@ -54,7 +54,7 @@ sure : (s : tie.Start invariant-loop decreases-loop) → Front (size s) (picture
 sure s = front_is (size s) (picture_bytes (size s)) (space s) refl s.requires.sized (omega (arith, s.requires.room))
 
 wide : (s : tie.Start invariant-loop decreases-loop) (i : ℕ) → length (costs_of (size s) s.args.method (front s) i).up ≡ (size s).width
-wide s = costs_long (size s) s.args.method (front s)
+wide s = costs-long (size s) s.args.method (front s)
 
 byte : (c : tie.At-loop invariant-loop decreases-loop) (i : ℕ) → get_or (front (start c)) i 0 ≤ 255
 byte c = front-most (space (start c)) (picture_bytes (size (start c))) 255 (λ i. omega (arith, (known c).slice-known.given i))

@@ -16,8 +16,8 @@ use Rattle.energy.proofs.Served.{energies-served}
 use Rattle.seam_theory.specs.Sums.{CostRows, alike_rows, way_of3}
 use Rattle.seam_theory.proofs.Alike.{rows_alike}
 use Rattle.seam_find.specs.Inner.Down.{costs_of}
-use Rattle.seam_find.proofs.Costs.{front-most, cost_most, costs_long}
-use Rattle.seam_find.proofs.OneRow.{row_given, WaysEnd, ways_end}
+use Rattle.seam_find.proofs.Costs.{front-most, cost_most, costs-long}
+use Rattle.seam_find.proofs.OneRow.{row-given, WaysEnd, ways-end}
 use Rattle.seam_find.proofs.Spaces.{Front, front_is}
 use Rattle.seam_find.proofs.down32.row_down.Statement.{statement}
 use Rattle.seam_find.proofs.down32.row_down.Tie as tie
@@ -70,7 +70,7 @@ at_copy c = c.before.before
 
 -- row i's ways end within the space
 ways-ends : (s : tie.Start) → WaysEnd (size s) s.args.bytes s.args.i (space s) s.args.next.now
-ways-ends s = ways_end s.requires s.args.bytes s.requires.bytes_are
+ways-ends s = ways-end s.requires s.args.bytes s.requires.bytes_are
 
 -- the picture at the front
 abbrev front : tie.Start → List ℕ
@@ -89,7 +89,7 @@ abbrev costs : tie.Start → List ℕ
 costs s = (costs_of (size s) s.args.method (front s) s.args.i).up
 
 wide : (s : tie.Start) → length (costs s) ≡ width s
-wide s = costs_long (size s) s.args.method (front s) s.args.i
+wide s = costs-long (size s) s.args.method (front s) s.args.i
 
 -- they are at the front of what `energies` writes
 abbrev written : tie.After-energies → List ℕ
@@ -215,7 +215,7 @@ returns c =
     let r = at-next-row (at_copy c) in
     let e = at-energies (lent r) in
     let s = start e in
-    row_given _ _ (size s) (costs_of (size s) s.args.method) s.args.i s.args.bytes _ (space s) _ _ (cost-rows e) _
+    row-given _ _ (size s) (costs_of (size s) s.args.method) s.args.i s.args.bytes _ (space s) _ _ (cost-rows e) _
     s.pre.bytes_are (ways-ends s).end (cost-rows-are e) s.pre.next_room s.pre.long s.pre.fences (ways-are r)
     ((at_copy c).copy.ensures ∙ r.next_row.ensures.next_given)
 

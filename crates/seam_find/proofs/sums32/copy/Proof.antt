@@ -1,7 +1,7 @@
 -- `seam_find::sums32::copy` meets its contract. The loop's invariant: c elements are copied. The measure is the number of elements left.
 use Prim.Native.Nat.{◌-◌}
 use borrow.Author.Rules.{rules}
-use Rattle.grids.proofs.Tables.{Copied, copied-start, copied-turn, copied-end}
+use Rattle.grids.proofs.Tables.{Copied, copied_start, copied_turn, copied-end}
 use Rattle.seam_find.proofs.sums32.copy.Statement.{statement}
 use Rattle.seam_find.proofs.sums32.copy.Tie as tie
 
@@ -12,7 +12,7 @@ abbrev decreases-loop : tie.decreases-loop
 decreases-loop from to₀ c₀ c-end to c = c-end - c
 
 loop-holds : tie.Need-loop-init invariant-loop decreases-loop
-loop-holds c = copied-start c.args.from.now c.args.to.now 0
+loop-holds c = copied_start c.args.from.now c.args.to.now 0
 
 mul-to : tie.Need-overflow-mul-to invariant-loop decreases-loop
 mul-to c = search rules
@@ -36,7 +36,7 @@ loop-again : tie.Need-loop-preserved invariant-loop decreases-loop
 loop-again c =
     let head = c.before.before in
     let a = head.before.args in
-    copied-turn a.from.now a.to.now 0 _ head.loop.c head.loop.to c.before.loop-test.true head.loop.invariant
+    copied_turn a.from.now a.to.now 0 _ head.loop.c head.loop.to c.before.loop-test.true head.loop.invariant
 
 same_length : tie.Need-same-length invariant-loop decreases-loop
 same_length c = c.before.loop.invariant.long

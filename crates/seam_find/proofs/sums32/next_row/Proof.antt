@@ -6,15 +6,15 @@ use Prim.Native.Nat.{◌+◌, ◌-◌, min}
 use native.Mathlib.Omega.{arith}
 use borrow.Author.Rules.{rules}
 use lib.ListN.{length, get_or}
-use Rattle.grids.proofs.Tables.{Stored, stored-start, stored-turn, stored-end}
-use Rattle.seam_theory.specs.Sums.{alike_rows, sumOf3, way_of3}
+use Rattle.grids.proofs.Tables.{Stored, stored_start, stored_turn, stored_end}
+use Rattle.seam_theory.specs.Sums.{alike_rows, sum_of3, way_of3}
 use Rattle.seam_theory.proofs.Alike.{sum_alike, way_alike}
 use Rattle.seam_find.proofs.sums32.next_row.Statement.{statement}
 use Rattle.seam_find.proofs.sums32.next_row.Tie as tie
 
 abbrev invariant-loop : tie.invariant-loop
 invariant-loop above cost next₀ ways₀ c₀ c-end next ways c =
-    Stored (sumOf3 above (alike_rows cost)) next₀ c-end c next
+    Stored (sum_of3 above (alike_rows cost)) next₀ c-end c next
     × Stored (way_of3 false (length ways₀) above (alike_rows cost)) ways₀ c-end c ways
 
 abbrev decreases-loop : tie.decreases-loop
@@ -30,7 +30,7 @@ turn c = c.before.before.before.before
 loop-holds : tie.Need-loop-init invariant-loop decreases-loop
 loop-holds c =
     let s = c.before.before.before.before in
-    (stored-start _ _ _ refl, stored-start _ _ _ (sym s.requires.ways_room))
+    (stored_start _ _ _ refl, stored_start _ _ _ (sym s.requires.ways_room))
 
 mul_left : tie.Need-overflow-mul-left invariant-loop decreases-loop
 mul_left c = search rules
@@ -106,10 +106,10 @@ loop-again c =
     let l = head.loop in
     let least = at-lesser2.lesser2.ensures ∙ ap (min (get_or above l.c 0)) at-lesser.lesser.ensures in
     let inside = (turn at-lesser).loop-test.true in (
-      stored-turn _ _ _ l.c l.next _ 0 inside
+      stored_turn _ _ _ l.c l.next _ 0 inside
           (ap (◌+ get_or cost l.c 0) least ∙ sym (sum_alike above cost l.c))
           l.inv.0,
-      stored-turn _ _ _ l.c l.ways _ 0 inside
+      stored_turn _ _ _ l.c l.ways _ 0 inside
           (c.way.ensures ∙ sym (way_alike (length a.ways.now) above cost l.c))
           l.inv.1,
     )
@@ -124,7 +124,7 @@ returns : tie.Need-returns invariant-loop decreases-loop
 returns c =
     let l = c.before.loop in
     let done = c.loop-test.false in
-    record { next_given = stored-end _ _ _ l.c l.next done l.invariant.0; ways_given = stored-end _ _ _ l.c l.ways done l.invariant.1 }
+    record { next_given = stored_end _ _ _ l.c l.next done l.invariant.0; ways_given = stored_end _ _ _ l.c l.ways done l.invariant.1 }
 
 pub next-row-spec : {M : Type 1} → statement M
 next-row-spec =

@@ -11,7 +11,7 @@ use lib.ListN.{length}
 use Rattle.grids.proofs.Rows.{part_end}
 use Rattle.pictures.specs.Limits.{most_side, most_pixels}
 use Rattle.seam_theory.specs.Sums.{columns_to}
-use Rattle.seam_find.proofs.Loops.{Traceable, traceable-has, traced_is, Back, back_start, back-turn, back_end, length-columns}
+use Rattle.seam_find.proofs.Loops.{Traceable, traceable_has, traced_is, Back, back_start, back_turn, back_end, length_columns}
 use Rattle.seam_find.proofs.trace.trace_back.Statement.{statement}
 use Rattle.seam_find.proofs.trace.trace_back.Tie as tie
 
@@ -44,7 +44,7 @@ path s = columns_to (ways s) s.args.width (s.args.height - 1) s.args.column
 fits : (c : tie.Else1 invariant-loop decreases-loop)
     → let s = entry c in
     let a = s.args in Traceable (length (ways s)) a.width a.height a.column (length (seam s))
-fits c = traceable-has _ _ _ _ _ (sym c.before.judge-trace.ensures ∙ not-false _ c.if1.false)
+fits c = traceable_has _ _ _ _ _ (sym c.before.judge-trace.ensures ∙ not-false _ c.if1.false)
 
 -- in a turn, the way that is read lies among the ways
 end : (c : tie.In-loop invariant-loop decreases-loop)
@@ -116,7 +116,7 @@ loop-again c =
     let room : l.i < length (seam s) = omega (arith, t.room, l.invariant.1.row) in (
       t,
       rw c.step.ensures
-          (back-turn (ways s) (seam s) (path s) a.width a.height l.i l.c l.seam some room l.invariant.1),
+          (back_turn (ways s) (seam s) (path s) a.width a.height l.i l.c l.seam some room l.invariant.1),
     )
 
 cast-seam-2 : tie.Need-overflow-cast-seam-2 invariant-loop decreases-loop
@@ -134,7 +134,7 @@ returns-2 c =
     let a = s.args in
     let l = c.before.loop in
     let t = l.invariant.0 in
-    let long = length-columns (ways s) (seam s) (path s) a.width a.height (a.height - 1) a.column in
+    let long = length_columns (ways s) (seam s) (path s) a.width a.height (a.height - 1) a.column in
     back_end (ways s) (seam s) (path s) a.width a.height l.i l.c l.seam (omega arith)
     (omega (arith, t.room, t.some)) (omega (arith, t.some, long)) l.invariant.1
     ∙ sym (traced_is (ways s) a.width a.height a.column (seam s) t)

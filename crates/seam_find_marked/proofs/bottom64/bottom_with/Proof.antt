@@ -15,10 +15,10 @@ use Rattle.pictures.specs.declared.sizes.Size.{Size}
 use Rattle.pictures.specs.Pictures.{largest_side, picture_bytes}
 use Rattle.pictures.proofs.Limits.{Sized, sized_is}
 use Rattle.seam_sums.specs.Fences.{fence64}
-use Rattle.seam_find.proofs.Fences.{first_row_is, last-long, bottom-inside, bottom-given}
+use Rattle.seam_find.proofs.Fences.{first_row_is, last_long, bottom_inside, bottom-given}
 use Rattle.seam_find_marked.specs.Inner.{weights_of, marked_bytes}
 use Rattle.seam_find_marked.proofs.Spaces.{FrontEnds, front_ends}
-use Rattle.seam_find_marked.proofs.Marked.{weights_wide}
+use Rattle.seam_find_marked.proofs.Marked.{weights-wide}
 use Rattle.seam_find_marked.proofs.bottom64.bottom_with.Statement.{statement}
 use Rattle.seam_find_marked.proofs.bottom64.bottom_with.Tie as tie
 
@@ -106,7 +106,7 @@ between-long c =
     ∙ add-sub_cancel (size c).width 1
 
 wide : (c : tie.After-slice-known5) → length (weights_of (size c) (method c) (front c) 0).up ≡ (size c).width
-wide c = weights_wide (size c) (method c) (front c) 0
+wide c = weights-wide (size c) (method c) (front c) 0
 
 weights-are : (r : tie.After-row-weights) → let c = known r in weights r ≡ (weights_of (size c) (method c) (front c) 0).up
 weights-are r =
@@ -117,7 +117,7 @@ sums-long : (d : tie.After-down) → length (sums d) ≡ (size (begun d)).width 
 sums-long d =
     let c = begun d in
     let z = size c in
-    last-long fence64 (marked_bytes z) z (weights_of z (method c)) (space c) (filled d) (sums d) (wide c) d.down.ensures
+    last_long fence64 (marked_bytes z) z (weights_of z (method c)) (space c) (filled d) (sums d) (wide c) d.down.ensures
 
 -- the first of the least sums is one of the columns
 inside : (f : tie.After-first-least)
@@ -127,7 +127,7 @@ inside f =
     let d = at-down f.before.before in
     let c = begun d in
     let z = size c in
-    bottom-inside fence64 (marked_bytes z) z (weights_of z (method c)) (space c) (filled d) (sums d) (wide c) d.down.ensures
+    bottom_inside fence64 (marked_bytes z) z (weights_of z (method c)) (space c) (filled d) (sums d) (wide c) d.down.ensures
     f.first-least.result (sure c).width_some f.first-least.ensures
 
 column-most : (f : tie.After-first-least) → f.first-least.result < largest_side

@@ -7,7 +7,7 @@ use lib.ListN.{length, take, replicate}
 use Rattle.pictures.specs.declared.sizes.Size.{Size}
 use Rattle.pictures.specs.Pictures.{largest_side, picture_bytes}
 use Rattle.pictures.proofs.Limits.{sized_is}
-use Rattle.seam_find.proofs.Fences.{fences-lent, row-lent, rows-needed}
+use Rattle.seam_find.proofs.Fences.{fences_lent, row_lent, rows_needed}
 use Rattle.seam_sums.specs.Fences.{fence64}
 use Rattle.seam_find_marked.proofs.bottom64.find_bottom.Statement.{statement}
 use Rattle.seam_find_marked.proofs.bottom64.find_bottom.Tie as tie
@@ -32,7 +32,7 @@ narrow s = (sized_is (size s) (picture_bytes (size s)) s.requires.sized).width_m
 row : (a : tie.After-bottom-with-arg)
     → let w = (size (start a)).width in
     w ≡ length (take w (replicate {A = ℕ} largest_side 0))
-row a = row-lent (size (start a)) (narrow (start a))
+row a = row_lent (size (start a)) (narrow (start a))
 
 add-both : tie.Need-overflow-add-both
 add-both c = omega (arith, narrow c.before)
@@ -43,7 +43,7 @@ array-borrow-prefix-above c = omega (arith, narrow (start c))
 slice-aggregate-bottom-with : tie.Need-slice-aggregate-bottom-with
 slice-aggregate-bottom-with c =
     let s = start c.before in
-    fences-lent (size s) (narrow s) fence64
+    fences_lent (size s) (narrow s) fence64
 
 array-borrow-prefix-energies : tie.Need-array-borrow-prefix-energies
 array-borrow-prefix-energies c = narrow (start c.before)
@@ -66,7 +66,7 @@ slice-aggregate-bottom-with-4 c = row (arrays c)
 bottom-with-requires : tie.Need-bottom-with-requires
 bottom-with-requires c κs =
     let s = start (arrays c) in
-    record { picture = s.pre; rows = rows-needed (size s) (narrow s) fence64; energy_room = sym (row (arrays c)) }
+    record { picture = s.pre; rows = rows_needed (size s) (narrow s) fence64; energy_room = sym (row (arrays c)) }
 
 same_length : tie.Need-same-length
 same_length c = (at-space c).space.given

@@ -15,7 +15,7 @@ use Rattle.seam_sums.specs.Fences.{fence64}
 use Rattle.seam_find.proofs.Downs.{above_most}
 use Rattle.seam_find.proofs.BeforeRow.{BeforeRow, before-first, before-needed, before-next, before-end}
 use Rattle.seam_find_marked.specs.Inner.{most_weight, weights_of, marked_bytes}
-use Rattle.seam_find_marked.proofs.Marked.{weights_wide, front-weights}
+use Rattle.seam_find_marked.proofs.Marked.{weights-wide, front-weights}
 use Rattle.seam_find_marked.proofs.down64.down.Statement.{statement}
 use Rattle.seam_find_marked.proofs.down64.down.Tie as tie
 
@@ -67,7 +67,7 @@ byte c i = omega (arith, c.before.before.before.before.slice-known.given i)
 
 wide : (c : tie.After-slice-known5 invariant-loop decreases-loop) (i : ℕ)
     → length (weights_of (size c) (method c) (take (marked_bytes (size c)) (space c)) i).up ≡ (size c).width
-wide c = weights_wide (size c) (method c) (take (marked_bytes (size c)) (space c))
+wide c = weights-wide (size c) (method c) (take (marked_bytes (size c)) (space c))
 
 -- the sums above row i are at most i times the largest weight, and so below the fence in a turn
 above_small : (h : tie.At-loop invariant-loop decreases-loop) (k : ℕ)

@@ -17,10 +17,10 @@ use Rattle.pictures.proofs.Limits.{Sized, sized_is}
 use Rattle.seam_sums.specs.Fences.{fence64}
 use Rattle.seam_theory.specs.Sums.{alike_rows, way_above, way_of3}
 use Rattle.seam_theory.proofs.Alike.{way_alike}
-use Rattle.seam_find.proofs.OneRow.{row_given, WaysEnd, ways_end}
+use Rattle.seam_find.proofs.OneRow.{row-given, WaysEnd, ways-end}
 use Rattle.seam_find_marked.specs.Inner.{weights_of, marked_bytes}
 use Rattle.seam_find_marked.proofs.Spaces.{FrontEnds, front_ends}
-use Rattle.seam_find_marked.proofs.Marked.{weights_wide, weights-alike, front-weights}
+use Rattle.seam_find_marked.proofs.Marked.{weights-wide, weights-alike, front-weights}
 use Rattle.seam_find_marked.proofs.down64.row_down.Statement.{statement}
 use Rattle.seam_find_marked.proofs.down64.row_down.Tie as tie
 
@@ -89,7 +89,7 @@ front-end c = front_ends (size c) (sure c) (start c).args.bytes (length (space c
 
 -- the row's ways end within the space, one for each column
 ways : (c : tie.After-slice-known5) → WaysEnd (size c) (from c) (row c) (space c) (start c).args.next.now
-ways c = ways_end (start c).requires.row (from c) (front-end c).is
+ways c = ways-end (start c).requires.row (from c) (front-end c).is
 
 byte : (c : tie.After-slice-known5) (i : ℕ) → get_or (space c) i 0 ≤ 255
 byte c i = omega (arith, c.before.before.before.before.slice-known.given i)
@@ -147,7 +147,7 @@ next-sums-requires c κs =
     let most = front-weights (size k) (space k) (method k) (sure k) (front-room k) (byte k) in
     record {
       above = omega (arith, p.long, p.next_room);
-      costs = ap length (weights-are r) ∙ weights_wide (size k) (method k) (front k) (row k) ∙ sym p.next_room;
+      costs = ap length (weights-are r) ∙ weights-wide (size k) (method k) (front k) (row k) ∙ sym p.next_room;
       small = λ j l. p.small j (omega (arith, p.next_room));
       cheap = λ j. rw (weights-are r) (omega (arith, most (row k) j));
     }
@@ -207,7 +207,7 @@ returns c =
     let z = size k in
     let x = (start k).args.above.now in
     let w = length (start k).args.next.now in
-    row_given fence64 (marked_bytes z) z (weights_of z (method k)) (row k) (from k) w (space k) x u.ways-row.last.1.0 (alike_rows (weights r))
+    row-given fence64 (marked_bytes z) z (weights_of z (method k)) (row k) (from k) w (space k) x u.ways-row.last.1.0 (alike_rows (weights r))
     at_copy.copy.new.1.0 (front-end k).is (ways k).end
     (ap alike_rows (weights-are r) ∙ sym (weights-alike z (method k) (front k) (row k)))
     (start k).pre.row.next_room (start k).pre.row.long (start k).pre.row.fences

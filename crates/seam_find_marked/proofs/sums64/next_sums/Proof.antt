@@ -6,14 +6,14 @@ use Prim.Native.Nat.{ℕ, ◌+◌, ◌-◌, min}
 use native.Mathlib.Omega.{arith}
 use borrow.Author.Rules.{rules}
 use lib.ListN.{get_or}
-use Rattle.grids.proofs.Tables.{Stored, stored-start, stored-turn, stored-end}
-use Rattle.seam_theory.specs.Sums.{alike_rows, sumOf3}
+use Rattle.grids.proofs.Tables.{Stored, stored_start, stored_turn, stored_end}
+use Rattle.seam_theory.specs.Sums.{alike_rows, sum_of3}
 use Rattle.seam_theory.proofs.Alike.{sum_alike}
 use Rattle.seam_find_marked.proofs.sums64.next_sums.Statement.{statement}
 use Rattle.seam_find_marked.proofs.sums64.next_sums.Tie as tie
 
 abbrev invariant-loop : tie.invariant-loop
-invariant-loop above cost next₀ c₀ c-end next c = Stored (sumOf3 above (alike_rows cost)) next₀ c-end c next
+invariant-loop above cost next₀ c₀ c-end next c = Stored (sum_of3 above (alike_rows cost)) next₀ c-end c next
 
 abbrev decreases-loop : tie.decreases-loop
 decreases-loop above cost next₀ c₀ c-end next c = c-end - c
@@ -32,7 +32,7 @@ abbrev cost : tie.At-loop invariant-loop decreases-loop → List ℕ
 cost h = (start h).args.cost.now
 
 loop-holds : tie.Need-loop-init invariant-loop decreases-loop
-loop-holds c = stored-start _ _ _ refl
+loop-holds c = stored_start _ _ _ refl
 
 mul-lesser : tie.Need-overflow-mul-lesser invariant-loop decreases-loop
 mul-lesser c = search rules
@@ -99,7 +99,7 @@ loop-again c =
     let test = turn lesser in
     let head = test.before in
     let l = head.loop in
-    stored-turn (sumOf3 (above head) (alike_rows (cost head))) (start head).args.next.now _ l.c l.next _ 0
+    stored_turn (sum_of3 (above head) (alike_rows (cost head))) (start head).args.next.now _ l.c l.next _ 0
     test.loop-test.taken
     (ap (◌+ get_or (cost head) l.c 0)
     (lesser2.lesser2.ensures ∙ ap (min (get_or (above head) l.c 0)) lesser.lesser.ensures)
@@ -112,7 +112,7 @@ same_length c = c.before.loop.invariant.long
 returns : tie.Need-returns invariant-loop decreases-loop
 returns c =
     let l = c.before.loop in
-    stored-end _ _ _ l.c l.next c.loop-test.false l.invariant
+    stored_end _ _ _ l.c l.next c.loop-test.false l.invariant
 
 pub next-sums-spec : {M : Type 1} → statement M
 next-sums-spec =

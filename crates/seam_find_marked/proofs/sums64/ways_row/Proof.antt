@@ -3,7 +3,7 @@
 use mathlib.Core.Path.{refl}
 use Prim.Native.Nat.{◌-◌}
 use borrow.Author.Rules.{rules}
-use Rattle.grids.proofs.Tables.{Stored, stored-start, stored-turn, stored-end}
+use Rattle.grids.proofs.Tables.{Stored, stored_start, stored_turn, stored_end}
 use Rattle.seam_theory.specs.Sums.{way_above}
 use Rattle.seam_find_marked.proofs.sums64.ways_row.Statement.{statement}
 use Rattle.seam_find_marked.proofs.sums64.ways_row.Tie as tie
@@ -15,7 +15,7 @@ abbrev decreases-loop : tie.decreases-loop
 decreases-loop above ways₀ c₀ c-end ways c = c-end - c
 
 loop-holds : tie.Need-loop-init invariant-loop decreases-loop
-loop-holds c = stored-start _ _ _ refl
+loop-holds c = stored_start _ _ _ refl
 
 mul-way : tie.Need-overflow-mul-way invariant-loop decreases-loop
 mul-way c = search rules
@@ -58,7 +58,7 @@ loop-again c =
     let turn = c.before.before.before.before in
     let l = turn.before.loop in
     let a = turn.before.before.before.before.args in
-    stored-turn (way_above a.above.now) a.ways.now _ l.c l.ways _ 0
+    stored_turn (way_above a.above.now) a.ways.now _ l.c l.ways _ 0
     turn.loop-test.true c.way.ensures l.invariant
 
 same_length : tie.Need-same-length invariant-loop decreases-loop
@@ -67,7 +67,7 @@ same_length c = c.before.loop.invariant.long
 returns : tie.Need-returns invariant-loop decreases-loop
 returns c =
     let l = c.before.loop in
-    stored-end _ _ _ l.c l.ways c.loop-test.false l.invariant
+    stored_end _ _ _ l.c l.ways c.loop-test.false l.invariant
 
 pub ways-row-spec : {M : Type 1} → statement M
 ways-row-spec =

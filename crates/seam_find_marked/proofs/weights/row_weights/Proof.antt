@@ -63,8 +63,8 @@ front-end c =
     let p = (start c).requires in
     front_ends (size c) (sure c) (bytes c) (length (front c)) p.bytes_are (le_of_eq (sym p.long))
 
-row_end : (c : tie.After-slice-known2) → RowEnds (size c) (row c) (size c).height
-row_end c = row_ends (size c) (sure c) (row c) (size c).height (start c).requires.inside (omega arith)
+row-end : (c : tie.After-slice-known2) → RowEnds (size c) (row c) (size c).height
+row-end c = row_ends (size c) (sure c) (row c) (size c).height (start c).requires.inside (omega arith)
 
 picture-within : (c : tie.After-slice-known2) → bytes c ≤ length (front c)
 picture-within c = omega (arith, (front-end c).within)
@@ -86,13 +86,13 @@ energies-are e =
     ∙ ap (λ b. energies (method c) z.width z.height (picture z (take b (front c))) (row c) ++ drop z.width (room c)) p.bytes_are
 
 mul-a : tie.Need-overflow-mul-a
-mul-a c = omega (arith, (row_end c).few)
+mul-a c = omega (arith, (row-end c).few)
 
 add_a : tie.Need-overflow-add-a
-add_a c = omega (arith, (front-end c).short, (row_end c).few)
+add_a c = omega (arith, (front-end c).short, (row-end c).few)
 
 add-e : tie.Need-overflow-add-e
-add-e c = omega (arith, (front-end c).short, (row_end c).few, (sure c).width_most)
+add-e c = omega (arith, (front-end c).short, (row-end c).few, (sure c).width_most)
 
 slice-aggregate-energies : tie.Need-slice-aggregate-energies
 slice-aggregate-energies c = sym (length-take-le _ _ (picture-within c.before))
@@ -109,7 +109,7 @@ part-weigh-start c = search rules
 part-weigh-end : tie.Need-slice-bounds-weigh-end
 part-weigh-end c =
     let k = known c.before.before.before in
-    omega (arith, (front-end k).within, (row_end k).end)
+    omega (arith, (front-end k).within, (row-end k).end)
 
 weigh-requires : tie.Need-weigh-requires
 weigh-requires c κs = search rules

@@ -3,7 +3,7 @@
 use mathlib.Core.Path.{refl}
 use Prim.Native.Nat.{◌-◌}
 use borrow.Author.Rules.{rules}
-use Rattle.grids.proofs.Tables.{Stored, stored-start, stored-turn, stored-end}
+use Rattle.grids.proofs.Tables.{Stored, stored_start, stored_turn, stored_end}
 use Rattle.seam_find_marked.specs.Inner.{weight_in}
 use Rattle.seam_find_marked.proofs.weights.weigh.Statement.{statement}
 use Rattle.seam_find_marked.proofs.weights.weigh.Tie as tie
@@ -19,7 +19,7 @@ abbrev start : tie.At-loop invariant-loop decreases-loop → tie.Start invariant
 start h = h.before.before.before.before
 
 loop-holds : tie.Need-loop-init invariant-loop decreases-loop
-loop-holds c = stored-start _ _ _ refl
+loop-holds c = stored_start _ _ _ refl
 
 mul-weight : tie.Need-overflow-mul-weight invariant-loop decreases-loop
 mul-weight c = search rules
@@ -51,7 +51,7 @@ loop-again c =
     let head = turn.before in
     let l = head.loop in
     let a = (start head).args in
-    stored-turn (weight_in a.energies.now a.marks.now) a.cost.now _ l.c l.cost _ 0
+    stored_turn (weight_in a.energies.now a.marks.now) a.cost.now _ l.c l.cost _ 0
     turn.loop-test.true c.weight.ensures l.invariant
 
 same_length : tie.Need-same-length invariant-loop decreases-loop
@@ -60,7 +60,7 @@ same_length c = c.before.loop.invariant.long
 returns : tie.Need-returns invariant-loop decreases-loop
 returns c =
     let l = c.before.loop in
-    stored-end _ _ _ l.c l.cost c.loop-test.false l.invariant
+    stored_end _ _ _ l.c l.cost c.loop-test.false l.invariant
 
 pub weigh-spec : {M : Type 1} → statement M
 weigh-spec =

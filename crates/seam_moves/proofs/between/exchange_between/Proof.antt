@@ -5,7 +5,7 @@ use lib.ListN.{length}
 use Rattle.grids.specs.Exchange.{exchange}
 use Rattle.pictures.specs.Refusals.{given, refusal, served}
 use Rattle.pictures.specs.Pictures.{side_rules, picture_bytes, picture, bytes}
-use Rattle.pictures.proofs.Rules.{served-first, refused-answer, refused-kept}
+use Rattle.pictures.proofs.Rules.{served-first, refused_answer, refused-kept}
 use Rattle.seam_moves.specs.Between.{part_at, put_at, copy_between_rules, exchange_between_rules}
 use Rattle.seam_bounds.proofs.Moving.{places_are}
 use Rattle.seam_moves.proofs.between.exchange_between.Statement.{statement}
@@ -46,7 +46,7 @@ returns c =
     let z = a.size in
     let why = c.enum-told2.given in
     record {
-      number = refused-answer at-judge-sides.judge-sides.result why.0.0 why.1 (side_rules z) (copy_between_rules (length space) a.from (picture_bytes z) a.to) at-judge-sides.judge-sides.ensures;
+      number = refused_answer at-judge-sides.judge-sides.result why.0.0 why.1 (side_rules z) (copy_between_rules (length space) a.from (picture_bytes z) a.to) at-judge-sides.judge-sides.ensures;
       space_left = refused-kept at-judge-sides.judge-sides.result why.0.0 why.1 (put_at a.to (picture_bytes z) (bytes (exchange z.width (picture z (part_at a.from (picture_bytes z) space)))) space) space;
     }
 

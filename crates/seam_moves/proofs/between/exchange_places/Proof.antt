@@ -9,7 +9,7 @@ use lib.ListN.{length}
 use lib.Seq.{length-take-le}
 use Rattle.pictures.specs.Pictures.{largest_side, channels_of}
 use Rattle.pictures.proofs.Limits.{sides_are}
-use Rattle.seam_moves.proofs.Relocating.{Exchanged, exchanged-start, ColumnAt, column-at, column-turn, exchanged-all}
+use Rattle.seam_moves.proofs.Relocating.{Exchanged, exchanged_start, ColumnAt, column_at, column_turn, exchanged_all}
 use Rattle.seam_moves.proofs.between.exchange_places.Statement.{statement}
 use Rattle.seam_moves.proofs.between.exchange_places.Tie as tie
 
@@ -33,7 +33,7 @@ sure : (c : tie.In-loop invariant-loop decreases-loop) → let u = c.before.befo
 sure c =
     let u = c.before.before in
     let st = u.before.before in let a = st.args in
-    column-at a.size a.space.now a.from a.all a.to (s u) st.requires (stride u) c.before.loop.c c.loop-test.true
+    column_at a.size a.space.now a.from a.all a.to (s u) st.requires (stride u) c.before.loop.c c.loop-test.true
 
 channels-requires : tie.Need-channels-requires invariant-loop decreases-loop
 channels-requires c κs = search rules
@@ -52,7 +52,7 @@ loop-holds : tie.Need-loop-init invariant-loop decreases-loop
 loop-holds c =
     let st = c.before.before in
     let a = st.args in
-    (omega arith, (refl, (refl, exchanged-start a.size a.space.now a.from a.all a.to (s c) st.requires (stride c))))
+    (omega arith, (refl, (refl, exchanged_start a.size a.space.now a.from a.all a.to (s c) st.requires (stride c))))
 
 sub-copy-column : tie.Need-overflow-sub-copy-column invariant-loop decreases-loop
 sub-copy-column c = search rules
@@ -137,7 +137,7 @@ loop-again c =
         same_len_mid at (at + s u - at) head.space copied.new.1.0 copied.auto.1.0 ∙ head.invariant.1.0,
         (
           put.auto.1.1.1.0 ∙ head.invariant.1.1.0,
-          column-turn a.size a.space.now a.from a.all a.to (s u) st.requires (stride u) head.c head.space z.loop-test.true head.invariant.1.1.1 head.invariant.1.0
+          column_turn a.size a.space.now a.from a.all a.to (s u) st.requires (stride u) head.c head.space z.loop-test.true head.invariant.1.1.1 head.invariant.1.0
               put.new.1.1.1.0 head.line copied.new.1.0 put.result head.invariant.1.1.0 put.ensures copied.ensures.1,
         ),
       ),
@@ -153,7 +153,7 @@ returns c =
     let st = u.before.before in
     let a = st.args in
     let e : head.c ≡ a.size.width = omega arith in
-    exchanged-all a.size a.space.now a.from a.all a.to (s u) st.requires (stride u) head.space (rw e at head.invariant.1.1.1)
+    exchanged_all a.size a.space.now a.from a.all a.to (s u) st.requires (stride u) head.space (rw e at head.invariant.1.1.1)
 
 pub exchange-places-spec : {M : Type 1} → statement M
 exchange-places-spec =

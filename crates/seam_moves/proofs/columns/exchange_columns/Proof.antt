@@ -11,7 +11,7 @@ use Rattle.pictures.specs.Limits.{most_side}
 use Rattle.pictures.specs.Pictures.{channels_of}
 use Rattle.pictures.proofs.Limits.{sized_is, channels_most}
 use Rattle.grids.proofs.Filled.{Filled, filled_start}
-use Rattle.seam_moves.proofs.Exchanging.{column, ColumnSure, column-sure, column-needed, columns-turn, columns-end}
+use Rattle.seam_moves.proofs.Exchanging.{column, ColumnSure, column-sure, column-needed, columns-turn, columns_end}
 use Rattle.seam_moves.proofs.columns.exchange_columns.Statement.{statement}
 use Rattle.seam_moves.proofs.columns.exchange_columns.Tie as tie
 
@@ -106,7 +106,7 @@ returns c =
     let st = u.before.before.before in
     let a = st.args in
     let e : l.c ≡ a.size.width = omega arith in
-    columns-end a.size a.from.now a.to.now (a.size.height * u.channels.result) st.requires (stride u) l.to (rw e at l.invariant.1.1)
+    columns_end a.size a.from.now a.to.now (a.size.height * u.channels.result) st.requires (stride u) l.to (rw e at l.invariant.1.1)
 
 pub exchange-columns-spec : {M : Type 1} → statement M
 exchange-columns-spec =

@@ -7,7 +7,7 @@ use borrow.Author.Rules.{rules}
 use lib.ListN.{length, length-set}
 use Rattle.seam_moves.specs.Inner.{samples}
 use Rattle.grids.proofs.Filled.{Filled, filled_start}
-use Rattle.seam_moves.proofs.Exchanging.{samples-end, grey-turn}
+use Rattle.seam_moves.proofs.Exchanging.{samples-end, grey_turn}
 use Rattle.seam_moves.proofs.columns.grey_column.Statement.{statement}
 use Rattle.seam_moves.proofs.columns.grey_column.Tie as tie
 
@@ -58,7 +58,7 @@ loop-again c =
       omega arith,
       (
         simp length-set l.invariant.1.0,
-        grey-turn a.from.now a.width a.height a.c a.out.now l.out l.r z.loop-test.true l.invariant.1.0 st.requires l.invariant.1.1,
+        grey_turn a.from.now a.width a.height a.c a.out.now l.out l.r z.loop-test.true l.invariant.1.0 st.requires l.invariant.1.1,
       ),
     )
 

@@ -6,7 +6,7 @@ use borrow.Author.Rules.{rules}
 use lib.ListN.{length, length-set}
 use Rattle.seam_moves.specs.Inner.{samples}
 use Rattle.grids.proofs.Filled.{Filled, filled_start}
-use Rattle.seam_moves.proofs.Exchanging.{PixelSure, pixel-sure, rgb-turn}
+use Rattle.seam_moves.proofs.Exchanging.{PixelSure, pixel-sure, rgb_turn}
 use Rattle.seam_moves.proofs.columns.rgb_column.Statement.{statement}
 use Rattle.seam_moves.proofs.columns.rgb_column.Tie as tie
 
@@ -89,7 +89,7 @@ loop-again c =
       omega arith,
       (
         simp length-set l.invariant.1.0,
-        rgb-turn a.from.now a.width a.height a.c a.out.now l.out l.r z.loop-test.true l.invariant.1.0 st.requires l.invariant.1.1,
+        rgb_turn a.from.now a.width a.height a.c a.out.now l.out l.r z.loop-test.true l.invariant.1.0 st.requires l.invariant.1.1,
       ),
     )
 

@@ -9,7 +9,7 @@ use Rattle.pictures.specs.Refusals.{served}
 use Rattle.pictures.specs.Pictures.{picture_bytes}
 use Rattle.seam_close.specs.Closing.{CloseGiven}
 use Rattle.seam_rules.specs.Axes.{turned_size, narrowed}
-use Rattle.seam_rules.proofs.Turns.{turned_sides}
+use Rattle.seam_rules.proofs.Turns.{turned-sides}
 use Rattle.seam_retarget.proofs.Steps.{sized_at}
 use Rattle.seam_retarget.proofs.Cuts.{cut-sure, back-needed, cut-given}
 use Rattle.seam_retarget.proofs.seams.cut_at.Statement.{statement}
@@ -22,7 +22,7 @@ all_is c =
     let a = st.args in
     let t = turned_size a.axis a.size in
     rw c.before.turned-size.ensures at c.picture_bytes_lem.ensures
-    ∙ ap (λ n. served n (picture_bytes (turned_size a.axis a.size)) 0) (turned_sides a.axis a.size (picture_bytes a.size) (sized_at a.size st.requires.sides))
+    ∙ ap (λ n. served n (picture_bytes (turned_size a.axis a.size)) 0) (turned-sides a.axis a.size (picture_bytes a.size) (sized_at a.size st.requires.sides))
 
 sure : (c : tie.After-picture-bytes) → let st = c.before.before.before.before in let a = st.args in c.picture_bytes_lem.result + a.at ≤ length a.work.now
 sure c =

@@ -8,7 +8,7 @@ use Rattle.seam_rules.specs.declared.answers.Axis.TheVariants.{Vertical}
 use Rattle.seam_rules.specs.Counts.{smaller}
 use Rattle.seam_retarget.specs.Inner.Seams.{StepGiven}
 use Rattle.seam_retarget.proofs.Slots.{Near, near}
-use Rattle.seam_retarget.proofs.Sweep.{FirstSoFar, first-start, first_step, first-turn, first-end}
+use Rattle.seam_retarget.proofs.Sweep.{FirstSoFar, first_start, first_step, first-turn, first-end}
 use Rattle.seam_retarget.proofs.table.first_row.Statement.{statement}
 use Rattle.seam_retarget.proofs.table.first_row.Tie as tie
 
@@ -39,7 +39,7 @@ loop-holds : tie.Need-loop-init invariant-loop decreases-loop
 loop-holds c =
     let st = c.before.before in
     let a = st.args in
-    first-start a.size a.method a.whole a.columns.0 a.work.now a.totals.now st.requires
+    first_start a.size a.method a.whole a.columns.0 a.work.now a.totals.now st.requires
 
 smaller-requires : tie.Need-smaller-requires invariant-loop decreases-loop
 smaller-requires c κs = search rules

@@ -7,7 +7,7 @@ use Rattle.pictures.proofs.Limits.{sides_are}
 use Rattle.seam_rules.specs.declared.answers.Axis.TheVariants.{Horizontal}
 use Rattle.seam_rules.specs.Counts.{smaller}
 use Rattle.seam_retarget.specs.Inner.Seams.{StepGiven}
-use Rattle.seam_retarget.proofs.Below.{next-step, next_needed, next_given}
+use Rattle.seam_retarget.proofs.Below.{next_step_lem, next_needed, next_given}
 use Rattle.seam_retarget.proofs.table.next_row.Statement.{statement}
 use Rattle.seam_retarget.proofs.table.next_row.Tie as tie
 
@@ -31,7 +31,7 @@ step-requires : tie.Need-step-requires
 step-requires c κs =
     let st = c.before.before.before.before in
     let a = st.args in
-    rw c.before.smaller.ensures (next-step a.size a.method a.whole a.rows.0 a.columns.0 a.work.now a.totals.now st.requires)
+    rw c.before.smaller.ensures (next_step_lem a.size a.method a.whole a.rows.0 a.columns.0 a.work.now a.totals.now st.requires)
 
 slice-read-totals : tie.Need-slice-read-totals
 slice-read-totals c =

@@ -3,7 +3,7 @@
 use mathlib.Core.Path.{◌≡◌, sym, ◌∙◌}
 use Prim.Native.Nat.{◌+◌, ◌-◌, ◌<◌}
 use native.Mathlib.Omega.{arith}
-use Rattle.seam_retarget.proofs.Below.{RestSoFar, rest-start, rest-cell, rest-turn, rest_end}
+use Rattle.seam_retarget.proofs.Below.{RestSoFar, rest_start, rest-cell, rest-turn, rest_end}
 use Rattle.seam_retarget.proofs.table.rest_of_row.Statement.{statement}
 use Rattle.seam_retarget.proofs.table.rest_of_row.Tie as tie
 
@@ -21,7 +21,7 @@ loop-holds : tie.Need-loop-init invariant-loop decreases-loop
 loop-holds c =
     let st = c.before.before in
     let a = st.args in
-    rest-start a.size a.method a.whole a.rows.0 a.columns.0 a.work.now a.totals.now st.requires
+    rest_start a.size a.method a.whole a.rows.0 a.columns.0 a.work.now a.totals.now st.requires
 
 add-next-cell : tie.Need-overflow-add-next-cell invariant-loop decreases-loop
 add-next-cell c = omega (arith, few c.before)

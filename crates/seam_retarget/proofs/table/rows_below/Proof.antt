@@ -4,7 +4,7 @@ use Prim.Native.Nat.{◌-◌, ◌≤◌}
 use native.Mathlib.Omega.{arith}
 use Rattle.seam_rules.specs.Counts.{row_count}
 use Rattle.seam_retarget.specs.Inner.Table.{held, table_row, RowGiven}
-use Rattle.seam_retarget.proofs.Below.{below-start, below-turn}
+use Rattle.seam_retarget.proofs.Below.{below_start, below_turn}
 use Rattle.seam_retarget.proofs.table.rows_below.Statement.{statement}
 use Rattle.seam_retarget.proofs.table.rows_below.Tie as tie
 
@@ -18,7 +18,7 @@ loop-holds : tie.Need-loop-init invariant-loop decreases-loop
 loop-holds c =
     let st = c.before.before in
     let a = st.args in
-    (omega arith, below-start a.size a.method a.whole a.columns.0 a.work.now a.totals.now st.requires.fits.totals_long st.requires.small)
+    (omega arith, below_start a.size a.method a.whole a.columns.0 a.work.now a.totals.now st.requires.fits.totals_long st.requires.small)
 
 next-row-requires : tie.Need-next-row-requires invariant-loop decreases-loop
 next-row-requires c κs =
@@ -59,7 +59,7 @@ loop-again c =
     let st = z.before.before.before.before in
     let a = st.args in
     let next = at-next-row.next_row in
-    (omega (arith, z.loop-test.true), below-turn a.size a.method a.whole a.columns.0 a.work.now a.totals.now head.i head.work head.totals next.new.0 next.new.1.1.1.1.1.1.0 head.invariant.1 next.ensures)
+    (omega (arith, z.loop-test.true), below_turn a.size a.method a.whole a.columns.0 a.work.now a.totals.now head.i head.work head.totals next.new.0 next.new.1.1.1.1.1.1.0 head.invariant.1 next.ensures)
 
 same_length : tie.Need-same-length invariant-loop decreases-loop
 same_length c = c.before.loop.invariant.1.long

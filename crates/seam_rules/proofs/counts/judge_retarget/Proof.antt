@@ -9,10 +9,10 @@ use lib.Dec.{leb, ltb}
 use Rattle.pictures.specs.Limits.{most_pixels}
 use Rattle.pictures.specs.Refusals.{◌when◌, Rule, given, refusal, served}
 use Rattle.pictures.specs.Pictures.{picture_bytes, size_rules, pixels, work_bytes}
-use Rattle.pictures.proofs.Rules.{served-first, refused-answer}
+use Rattle.pictures.proofs.Rules.{served-first, refused_answer}
 use Rattle.pictures.proofs.Limits.{Sized, sized_is, sides_served, given_out}
 use Rattle.seam_rules.specs.Counts.{left_size, retarget_bytes, retarget_rules}
-use Rattle.seam_rules.proofs.Left.{smaller_sides}
+use Rattle.seam_rules.proofs.Left.{smaller-sides}
 use Rattle.seam_rules.proofs.counts.judge_retarget.Statement.{statement}
 use Rattle.seam_rules.proofs.counts.judge_retarget.Tie as tie
 
@@ -54,7 +54,7 @@ left_is c =
     let a = s.args in
     rw c.before.smaller.ensures at c.picture_bytes_lem.ensures
     ∙ ap (λ n. served n (picture_bytes (left_size a.size a.rows a.columns)) 0)
-    (smaller_sides a.size a.rows.0 a.columns.0 (sides_served a.size a.bytes (none at-enum-told)) at-if3.if3.false at-if4.if4.false)
+    (smaller-sides a.size a.rows.0 a.columns.0 (sides_served a.size a.bytes (none at-enum-told)) at-if3.if3.false at-if4.if4.false)
 
 -- the bytes of work space
 work_is : (c : tie.After-work-bytes)
@@ -80,7 +80,7 @@ returns c =
     let s = at-judge-picture.before in
     let a = s.args in
     let why = c.enum-told2.given in
-    refused-answer at-judge-picture.judge-picture.result why.0.0 why.1 (size_rules a.size a.bytes) (more s) at-judge-picture.judge-picture.ensures
+    refused_answer at-judge-picture.judge-picture.result why.0.0 why.1 (size_rules a.size a.bytes) (more s) at-judge-picture.judge-picture.ensures
 
 returns-2 : tie.Need-returns-2
 unfolding more

@@ -8,7 +8,7 @@ use borrow.Author.Tests.{eq-eqb, ne_eqb, lt-ltb, le-ltb}
 use lib.Dec.{eqb, ltb}
 use Rattle.pictures.specs.Refusals.{Rule, ◌when◌, given, refusal}
 use Rattle.pictures.specs.Pictures.{picture_bytes, size_rules}
-use Rattle.pictures.proofs.Rules.{served-first, refused-answer}
+use Rattle.pictures.proofs.Rules.{served-first, refused_answer}
 use Rattle.pictures.proofs.Limits.{sized_is}
 use Rattle.seam_rules.specs.Axes.{turned_size}
 use Rattle.seam_rules.specs.Cuts.{close_along_lengths}
@@ -52,7 +52,7 @@ returns c =
     let at-judge-picture = c.before.before in
     let s = at-judge-picture.before in
     let why = c.enum-told2.given in
-    refused-answer at-judge-picture.judge-picture.result why.0.0 why.1 (size_rules s.args.size s.args.bytes) (more s) at-judge-picture.judge-picture.ensures
+    refused_answer at-judge-picture.judge-picture.result why.0.0 why.1 (size_rules s.args.size s.args.bytes) (more s) at-judge-picture.judge-picture.ensures
 
 turned-size-requires : tie.Need-turned-size-requires
 turned-size-requires c κs = search rules

@@ -5,7 +5,7 @@ use borrow.Author.Rules.{rules}
 use borrow.Author.Tests.{eq-eqb, ne_eqb}
 use Rattle.pictures.specs.Refusals.{given, refusal}
 use Rattle.pictures.specs.Pictures.{size_rules, pixels}
-use Rattle.pictures.proofs.Rules.{served-first, refused-answer}
+use Rattle.pictures.proofs.Rules.{served-first, refused_answer}
 use Rattle.pictures.proofs.Limits.{sides_served, given_out}
 use Rattle.seam_rules.specs.Cuts.{mark_length_rules}
 use Rattle.seam_rules.proofs.cuts.judge_marks.Statement.{statement}
@@ -44,7 +44,7 @@ returns c =
     let at-judge-picture = c.before.before in
     let a = at-judge-picture.before.args in
     let why = c.enum-told2.given in
-    refused-answer at-judge-picture.judge-picture.result why.0.0 why.1 (size_rules a.size a.bytes) (mark_length_rules a.size a.marks) at-judge-picture.judge-picture.ensures
+    refused_answer at-judge-picture.judge-picture.result why.0.0 why.1 (size_rules a.size a.bytes) (mark_length_rules a.size a.marks) at-judge-picture.judge-picture.ensures
 
 pixels-requires : tie.Need-pixels-requires
 pixels-requires c κs = search rules

@@ -1,7 +1,7 @@
 -- `seam_sums::least32::way` meets its contract: each return by the law of its tests.
 use native.Mathlib.Omega.{arith}
 use borrow.Author.Rules.{rules}
-use Rattle.seam_sums.proofs.Turns.{way-left, way-middle, way-right}
+use Rattle.seam_sums.proofs.Turns.{way_left, way_middle, way_right}
 use Rattle.seam_sums.proofs.least32.way.Statement.{statement}
 use Rattle.seam_sums.proofs.least32.way.Tie as tie
 
@@ -12,19 +12,19 @@ returns : tie.Need-returns
 returns c =
     let a = c.before.before.args in
     let l = c.before.lesser in
-    way-left a.left a.middle a.right l.result l.ensures (omega (arith, c.if1.true))
+    way_left a.left a.middle a.right l.result l.ensures (omega (arith, c.if1.true))
 
 returns-2 : tie.Need-returns-2
 returns-2 c =
     let a = c.before.before.before.args in
     let l = c.before.before.lesser in
-    way-middle a.left a.middle a.right l.result l.ensures (omega (arith, c.before.if1.false)) (omega (arith, c.if2.true))
+    way_middle a.left a.middle a.right l.result l.ensures (omega (arith, c.before.if1.false)) (omega (arith, c.if2.true))
 
 returns-3 : tie.Need-returns-3
 returns-3 c =
     let a = c.before.before.before.args in
     let l = c.before.before.lesser in
-    way-right a.left a.middle a.right l.result l.ensures (omega (arith, c.before.if1.false)) (omega (arith, c.if2.false))
+    way_right a.left a.middle a.right l.result l.ensures (omega (arith, c.before.if1.false)) (omega (arith, c.if2.false))
 
 pub way-spec : {M : Type 1} → statement M
 way-spec = tie.close (tie.spec lesser-requires returns returns-2 returns-3)

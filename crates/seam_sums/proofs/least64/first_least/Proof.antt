@@ -5,7 +5,7 @@ use Prim.Native.Nat.{◌-◌}
 use native.Mathlib.Omega.{arith}
 use borrow.Author.Rules.{rules}
 use lib.ListN.{length}
-use Rattle.seam_sums.proofs.Turns.{SoFar, so-far-start, least-moves, least_stays, least-end}
+use Rattle.seam_sums.proofs.Turns.{SoFar, so_far_start, least-moves, least_stays, least-end}
 use Rattle.seam_sums.proofs.least64.first_least.Statement.{statement}
 use Rattle.seam_sums.proofs.least64.first_least.Tie as tie
 
@@ -16,7 +16,7 @@ abbrev decreases-loop : tie.decreases-loop
 decreases-loop sums best₀ k₀ k-end best k = k-end - k
 
 loop-holds : tie.Need-loop-init invariant-loop decreases-loop
-loop-holds c = so-far-start _
+loop-holds c = so_far_start _
 
 mul-if1 : tie.Need-overflow-mul-if1 invariant-loop decreases-loop
 mul-if1 c = search rules

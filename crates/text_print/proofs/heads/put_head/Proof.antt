@@ -4,7 +4,7 @@ use Prim.Native.Nat.{ℕ}
 use Rattle.text_theory.specs.Files.{line_end, size_text, range_text, head_text}
 use Rattle.text_print.specs.Inner.{Printed}
 use Rattle.text_print.proofs.Written.{printed_length}
-use Rattle.text_print.proofs.Pieces.{Printing, printing_first, piece-room, printing-next, printing-last, head_pieces, head_pieces_lem}
+use Rattle.text_print.proofs.Pieces.{Printing, printing_first, piece-room, printing-next, printing_last, head_pieces, head_pieces_lem}
 use borrow.Author.Rules.{rules}
 use Rattle.text_print.proofs.heads.put_head.Statement.{statement}
 use Rattle.text_print.proofs.heads.put_head.Tie as tie
@@ -44,7 +44,7 @@ after-size c = printing-next (after_first (at_size c)) c.put-size.ensures
 
 after-all : (c : tie.After-put-range) → let s = at_name (at_first (at_size (at-range c))) in
     Printed s.args.out.now s.args.at (head_text s.args.head) c.put-range.new.0 c.put-range.result
-after-all c = printing-last (after-size (at-range c)) c.put-range.ensures
+after-all c = printing_last (after-size (at-range c)) c.put-range.ensures
 
 put-begun-requires : tie.Need-put-begun-requires
 put-begun-requires c κs = piece-room (whole c.before.before.before)

@@ -5,7 +5,7 @@ use Rattle.text_theory.specs.Decimal.{digits}
 use Rattle.text_theory.specs.Files.{blank, closed, range_text}
 use Rattle.text_print.specs.Inner.{Printed}
 use Rattle.text_print.proofs.Written.{printed_length}
-use Rattle.text_print.proofs.Pieces.{Printing, printing_first, piece-room, printing-next, printing-last, range_pieces, range_pieces_lem}
+use Rattle.text_print.proofs.Pieces.{Printing, printing_first, piece-room, printing-next, printing_last, range_pieces, range_pieces_lem}
 use borrow.Author.Rules.{rules}
 use Rattle.text_print.proofs.heads.put_range.Statement.{statement}
 use Rattle.text_print.proofs.heads.put_range.Tie as tie
@@ -44,7 +44,7 @@ after-growth c = printing-next (after-depth (at-growth c)) c.put-spaced2.ensures
 after-all : (c : tie.After-put-bytes) → let s = at_name (at-depth (at-growth (at-end c))) in
     Printed s.args.out.now s.args.at (range_text s.args.depth s.args.growth) c.put-bytes.new.0 c.put-bytes.result
 unfolding closed
-after-all c = printing-last (after-growth (at-end c)) c.put-bytes.ensures
+after-all c = printing_last (after-growth (at-end c)) c.put-bytes.ensures
 
 put-begun-requires : tie.Need-put-begun-requires
 put-begun-requires c κs = piece-room (whole c.before.before)

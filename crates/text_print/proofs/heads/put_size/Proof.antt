@@ -6,7 +6,7 @@ use Rattle.text_theory.specs.Words.{name_text, kind_name}
 use Rattle.text_theory.specs.Files.{blank, closed, size_text}
 use Rattle.text_print.specs.Inner.{Printed}
 use Rattle.text_print.proofs.Written.{printed_length}
-use Rattle.text_print.proofs.Pieces.{Printing, printing_first, piece-room, printing-next, printing-last, size_pieces, size_pieces_lem}
+use Rattle.text_print.proofs.Pieces.{Printing, printing_first, piece-room, printing-next, printing_last, size_pieces, size_pieces_lem}
 use borrow.Author.Rules.{rules}
 use Rattle.text_print.proofs.heads.put_size.Statement.{statement}
 use Rattle.text_print.proofs.heads.put_size.Tie as tie
@@ -62,7 +62,7 @@ after-kind c = printing-next (after-blank (at-kind c)) (rw c.before.kind-name.en
 after-all : (c : tie.After-put-bytes2) → let s = at_name (at_width (at-height (at-blank (at-kind (at-end c))))) in
     Printed s.args.out.now s.args.at (size_text s.args.size) c.put-bytes2.new.0 c.put-bytes2.result
 unfolding closed
-after-all c = printing-last (after-kind (at-end c)) c.put-bytes2.ensures
+after-all c = printing_last (after-kind (at-end c)) c.put-bytes2.ensures
 
 put-begun-requires : tie.Need-put-begun-requires
 put-begun-requires c κs = piece-room (whole c.before.before)

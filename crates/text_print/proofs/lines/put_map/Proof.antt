@@ -5,7 +5,7 @@ use Rattle.text_theory.specs.Decimal.{digits}
 use Rattle.text_theory.specs.Files.{blank, closed, each, map_text}
 use Rattle.text_print.specs.Inner.{Printed}
 use Rattle.text_print.proofs.Written.{printed_length}
-use Rattle.text_print.proofs.Pieces.{Printing, printing_first, piece-room, printing-next, printing-last, map_pieces, map_pieces_lem}
+use Rattle.text_print.proofs.Pieces.{Printing, printing_first, piece-room, printing-next, printing_last, map_pieces, map_pieces_lem}
 use borrow.Author.Rules.{rules}
 use Rattle.text_print.proofs.lines.put_map.Statement.{statement}
 use Rattle.text_print.proofs.lines.put_map.Tie as tie
@@ -36,7 +36,7 @@ after-numbers c = printing-next (after-name (at-numbers c)) c.put-numbers.ensure
 after-all : (c : tie.After-put-bytes) → let s = at_name (at-numbers (at-end c)) in
     Printed s.args.out.now s.args.at (map_text s.args.row.now) c.put-bytes.new.0 c.put-bytes.result
 unfolding closed
-after-all c = printing-last (after-numbers (at-end c)) c.put-bytes.ensures
+after-all c = printing_last (after-numbers (at-end c)) c.put-bytes.ensures
 
 put-begun-requires : tie.Need-put-begun-requires
 put-begun-requires c κs = piece-room (whole c.before.before.before)

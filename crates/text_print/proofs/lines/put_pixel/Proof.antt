@@ -11,7 +11,7 @@ use Rattle.text_theory.specs.Files.{blank, closing, pixel_text}
 use Rattle.text_lengths.proofs.PixelRows.{grey_inside, rgb_inside}
 use Rattle.text_print.specs.Inner.{Printed}
 use Rattle.text_print.proofs.Written.{printed_length}
-use Rattle.text_print.proofs.Pieces.{Printing, printing_first, piece-room, printing-next, printing-last}
+use Rattle.text_print.proofs.Pieces.{Printing, printing_first, piece-room, printing-next, printing_last}
 use Rattle.text_print.proofs.PixelRows.{grey-text, rgb_pieces, rgb_pieces_lem}
 use borrow.Author.Rules.{rules}
 use Rattle.text_print.proofs.lines.put_pixel.Statement.{statement}
@@ -97,7 +97,7 @@ after-blue c = printing-next (after-green (at-blue c)) c.put-spaced3.ensures
 rgb-all : (c : tie.After-put-bytes2) → let s = start (at-opened (at-red (at-green (at-blue (at-end c))))) in
     Printed s.args.out.now s.args.at (text s) c.put-bytes2.new.0 c.put-bytes2.result
 unfolding closing
-rgb-all c = printing-last (after-blue (at-end c)) c.put-bytes2.ensures
+rgb-all c = printing_last (after-blue (at-end c)) c.put-bytes2.ensures
 
 enum_told : tie.Need-enum-told
 enum_told c = search rules

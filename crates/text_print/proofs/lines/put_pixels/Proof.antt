@@ -5,7 +5,7 @@ use Prim.Native.Nat.{◌-◌}
 use Rattle.grids.specs.Rows.{rows_of}
 use Rattle.pictures.specs.Pictures.{channels_of}
 use Rattle.text_theory.specs.Files.{blank, each, pixel_text}
-use Rattle.text_lengths.proofs.PixelRows.{pixel_inside, pixel_at, below_rows, all_rows}
+use Rattle.text_lengths.proofs.PixelRows.{pixel_inside, pixel_at, below_rows, all-rows}
 use Rattle.text_print.specs.Inner.{Printed}
 use Rattle.text_print.proofs.Written.{printed_length}
 use Rattle.text_print.proofs.Pieces.{Printing, piece-room, printing-next, items, items-first, item-next, items-done}
@@ -60,7 +60,7 @@ done : (c : tie.After-loop invariant-loop decreases-loop) → let s = c.before.b
     Printed s.args.out.now s.args.at (each blank (pixel_text k) (rows_of (channels_of k) s.args.n s.args.samples.now)) c.before.loop.out c.before.loop.end
 done c =
     let s = c.before.before.before.before in
-    items-done (pixel_text s.args.kind) _ _ (all_rows s.args.kind s.args.samples.now s.args.n c.before.loop.i c.loop-test.false) c.before.loop.invariant
+    items-done (pixel_text s.args.kind) _ _ (all-rows s.args.kind s.args.samples.now s.args.n c.before.loop.i c.loop-test.false) c.before.loop.invariant
 
 same_length : tie.Need-same-length invariant-loop decreases-loop
 same_length c = printed_length (done c)

@@ -7,7 +7,7 @@ use Rattle.text_lengths.specs.Rooms.{pixels_of}
 use Rattle.text_lengths.proofs.PixelRows.{whole_by}
 use Rattle.text_print.specs.Inner.{Printed}
 use Rattle.text_print.proofs.Written.{printed_length}
-use Rattle.text_print.proofs.Pieces.{Printing, printing_first, piece-room, printing-next, printing-last}
+use Rattle.text_print.proofs.Pieces.{Printing, printing_first, piece-room, printing-next, printing_last}
 use Rattle.text_print.proofs.PixelRows.{row_pieces, row_pieces_lem}
 use borrow.Author.Rules.{rules}
 use Rattle.text_print.proofs.lines.put_row.Statement.{statement}
@@ -42,7 +42,7 @@ after-pixels c = printing-next (after-name (at-pixels c)) (rw (at-pixels c).befo
 after-all : (c : tie.After-put-bytes) → let s = at_name (at-pixels (at-end c)) in
     Printed s.args.out.now s.args.at (row_text s.args.kind (pixels s)) c.put-bytes.new.0 c.put-bytes.result
 unfolding closed
-after-all c = printing-last (after-pixels (at-end c)) c.put-bytes.ensures
+after-all c = printing_last (after-pixels (at-end c)) c.put-bytes.ensures
 
 channels-requires : tie.Need-channels-requires
 channels-requires c κs = search rules

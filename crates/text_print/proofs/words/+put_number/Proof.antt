@@ -1,7 +1,7 @@
 -- `text_print::words::put_number` meets its contract: the digits of a tenth, then the last digit. The number falls.
 use native.Mathlib.Omega.{arith}
 use mathlib.Core.Path.{sym}
-use Rattle.text_theory.proofs.Decimals.{tenth, length_small, length_large}
+use Rattle.text_theory.proofs.Decimals.{tenth, length_small, length-large}
 use Rattle.text_print.proofs.Written.{sets_small, sets_digit}
 use borrow.Author.Rules.{rules}
 use Prim.Native.Nat.{ℕ, ◌<◌}
@@ -40,7 +40,7 @@ module _ (t : ℕ) where
   put-number-requires : lts.Need-put-number-requires calls here reads.Post
   put-number-requires c κs =
       let l = tenth _ c.before.if1.false in
-      let m = length_large _ c.before.if1.false in
+      let m = length-large _ c.before.if1.false in
       search rules
 
   cast-out-2 : lts.Need-overflow-cast-out-2 calls here reads.Post
@@ -51,12 +51,12 @@ module _ (t : ℕ) where
 
   slice-write-out-2 : lts.Need-slice-write-out-2 calls here reads.Post
   slice-write-out-2 c =
-      let m = length_large _ c.before.before.before.before.if1.false in
+      let m = length-large _ c.before.before.before.before.if1.false in
       search rules
 
   add-result-2 : lts.Need-overflow-add-result-2 calls here reads.Post
   add-result-2 c =
-      let m = length_large _ c.before.before.before.before.if1.false in
+      let m = length-large _ c.before.before.before.before.if1.false in
       search rules
 
   same_length : lts.Need-same-length calls here reads.Post
@@ -75,7 +75,7 @@ module _ (t : ℕ) where
       let at-put-number = c.before.before in
       let at-if1 = at-put-number.before.before in
       let h = at-if1.if1.false in
-      let m = length_large _ h in
+      let m = length-large _ h in
       let e = at-put-number.put_number.ensures in
       record { same = rw (e.same, e.end_is) (sym (sets_digit _ _ _ h)); end_is = omega arith }
 

@@ -4,7 +4,7 @@ use native.Mathlib.Omega.{arith}
 use mathlib.Core.Path.{◌≡◌, ◌∙◌}
 use lib.ListN.{length, take, length-set}
 use lib.Seq.{sets, take_all}
-use Rattle.text_print.proofs.Written.{bytes_more}
+use Rattle.text_print.proofs.Written.{bytes-more}
 use borrow.Author.Rules.{rules}
 use Rattle.text_print.proofs.words.put_bytes.Statement.{statement}
 use Rattle.text_print.proofs.words.put_bytes.Tie as tie
@@ -35,7 +35,7 @@ loop-less c = search rules
 
 loop-again : tie.Need-loop-preserved invariant-loop decreases-loop
 loop-again c = let v = c.before.before.loop.invariant in
-    (rw v.0 (bytes_more _ _ _ _ c.before.loop-test.true), (omega arith, simp length-set v.1.1))
+    (rw v.0 (bytes-more _ _ _ _ c.before.loop-test.true), (omega arith, simp length-set v.1.1))
 
 add-result : tie.Need-overflow-add-result invariant-loop decreases-loop
 add-result c = search rules

@@ -2,7 +2,7 @@
 use mathlib.Core.Path.{sym}
 use Rattle.text_theory.specs.Words.{name_text}
 use Rattle.text_print.specs.Inner.{Printed}
-use Rattle.text_rules.proofs.Spelled.{spelled-length, spelled-inside}
+use Rattle.text_rules.proofs.Spelled.{spelled_length, spelled_inside}
 use Rattle.text_print.proofs.Written.{printed_length}
 use borrow.Author.Rules.{rules}
 use Rattle.text_print.proofs.words.put_name.Statement.{statement}
@@ -16,10 +16,10 @@ letters-of-requires : tie.Need-letters-of-requires
 letters-of-requires c κs = search rules
 
 array-share-prefix-bytes : tie.Need-array-share-prefix-bytes
-array-share-prefix-bytes c = spelled-inside c.before.before.letters-of.ensures
+array-share-prefix-bytes c = spelled_inside c.before.before.letters-of.ensures
 
 slice-aggregate-put-bytes : tie.Need-slice-aggregate-put-bytes
-slice-aggregate-put-bytes c = sym (spelled-length c.before.before.before.letters-of.ensures)
+slice-aggregate-put-bytes c = sym (spelled_length c.before.before.before.letters-of.ensures)
 
 put-bytes-requires : tie.Need-put-bytes-requires
 put-bytes-requires c κs = rw c.before.before.before.letters-of.ensures.letters c.before.before.before.before.before.requires

@@ -1,8 +1,8 @@
 -- The form reader and the item reader meet their contracts: the bytes left fall at each call, and the loop's state is `Counting`.
 use native.Mathlib.Omega.{arith}
 use lib.ListN.{length}
-use Rattle.text_read.proofs.ByteClasses.{opening_byte, closing_byte, blank_byte, arm-no-opening, arm-no-item}
-use Rattle.text_read.proofs.FormSteps.{Counting, counting-first, counting-next, counting-close, counting-broken, counting-other, counting-end, item-end, item-other, item-first, item-rest, item-three, item_count, item_samples, item_numbers}
+use Rattle.text_read.proofs.ByteClasses.{opening_byte, closing_byte, blank_byte, arm_no_opening, arm_no_item}
+use Rattle.text_read.proofs.FormSteps.{Counting, counting_first, counting-next, counting-close, counting-broken, counting-other, counting-end, item_end, item_other, item-first, item-rest, item-three, item_count, item_samples, item_numbers}
 use borrow.Author.Rules.{rules}
 use Prim.Native.Nat.{ℕ, ◌-◌, ◌<◌}
 use borrow.Fn.Kinds.{In}
@@ -46,7 +46,7 @@ loop-left text what n₀ at₀ n at = length text - at
 
 module _ (t : ℕ) where
   form-loop-holds : form-lts.Need-loop-init (form-calls t) (form-at t) form.Post counting loop-left
-  form-loop-holds c = counting-first
+  form-loop-holds c = counting_first
 
   form-shared-slice-read-class-of : form-lts.Need-shared-slice-read-class-of (form-calls t) (form-at t) form.Post counting loop-left
   form-shared-slice-read-class-of c = search rules
@@ -71,7 +71,7 @@ module _ (t : ℕ) where
   form-returns-2 : form-lts.Need-returns-2 (form-calls t) (form-at t) form.Post counting loop-left
   form-returns-2 c =
       let k = c.before in
-      let a = arm-no-item _ k.class_of.ensures c.match.keys3 in
+      let a = arm_no_item _ k.class_of.ensures c.match.keys3 in
       counting-other k.before.before.before.loop.invariant k.before.before.loop-test.true a.0 a.1
 
   form-add-t9 : form-lts.Need-overflow-add-t9 (form-calls t) (form-at t) form.Post counting loop-left
@@ -127,7 +127,7 @@ module _ (t : ℕ) where
   item-enum-told-3 c = search rules
 
   item-returns : item-lts.Need-returns (item-calls t) (item-at t) item.Post
-  item-returns c = rw c.before.enum-told3.given.1 (item-end c.if1.true)
+  item-returns c = rw c.before.enum-told3.given.1 (item_end c.if1.true)
 
   item-shared-slice-read-class-of : item-lts.Need-shared-slice-read-class-of (item-calls t) (item-at t) item.Post
   item-shared-slice-read-class-of c = search rules
@@ -141,7 +141,7 @@ module _ (t : ℕ) where
   item-returns-2 : item-lts.Need-returns-2 (item-calls t) (item-at t) item.Post
   item-returns-2 c =
       let k = c.before in
-      rw k.before.before.before.enum-told3.given.1 (item-other k.before.before.if1.false (arm-no-opening _ k.class_of.ensures c.match2.keys2))
+      rw k.before.before.before.enum-told3.given.1 (item_other k.before.before.if1.false (arm_no_opening _ k.class_of.ensures c.match2.keys2))
 
   item-add-t10 : item-lts.Need-overflow-add-t10 (item-calls t) (item-at t) item.Post
   item-add-t10 c = search rules

@@ -2,8 +2,8 @@
 use Prim.Native.Nat.{ℕ}
 use Rattle.text_theory.specs.Readers.{give, after}
 use Rattle.text_theory.specs.Files.{closing, line_end}
-use Rattle.text_read.proofs.ByteClasses.{told-closing, told-line-end}
-use Rattle.text_read.proofs.Onward.{left-start, left_as, left-past, left-no-past, left-tail, after-closed}
+use Rattle.text_read.proofs.ByteClasses.{told_closing, told_line_end}
+use Rattle.text_read.proofs.Onward.{left_start, left_as, left-past, left_no_past, left_tail, after-closed}
 use borrow.Author.Rules.{rules}
 use Rattle.text_read.proofs.cursor.Cursor.close.Statement.{statement}
 use Rattle.text_read.proofs.cursor.Cursor.close.Tie as tie
@@ -18,7 +18,7 @@ enum_told : tie.Need-enum-told
 enum_told c = search rules
 
 returns : tie.Need-returns
-returns c = left-no-past closing (after line_end (give 0)) (left_as (after-closed (give 0)) left-start) (told-closing (rw c.enum_told.given.1 at c.before.before.past.ensures))
+returns c = left_no_past closing (after line_end (give 0)) (left_as (after-closed (give 0)) left_start) (told_closing (rw c.enum_told.given.1 at c.before.before.past.ensures))
 
 past-requires-2 : tie.Need-past-requires-2
 past-requires-2 c κs = search rules
@@ -26,8 +26,8 @@ past-requires-2 c κs = search rules
 returns-2 : tie.Need-returns-2
 returns-2 c =
     let at_c = c.before.before in
-    let L = left-past {B = ℕ} closing (left_as (after-closed (give 0)) left-start) (told-closing (rw at_c.c.given.1 at at_c.before.before.past.ensures)) in
-    left-tail _ L (told-line-end c.past2.ensures)
+    let L = left-past {B = ℕ} closing (left_as (after-closed (give 0)) left_start) (told_closing (rw at_c.c.given.1 at at_c.before.before.past.ensures)) in
+    left_tail _ L (told_line_end c.past2.ensures)
 
 pub close_spec : {M : Type 1} → statement M
 close_spec =

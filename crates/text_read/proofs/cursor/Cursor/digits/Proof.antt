@@ -4,8 +4,8 @@ use Prim.Native.Nat.{◌-◌}
 use native.Mathlib.Omega.{arith}
 use lib.ListN.{length, get_or}
 use Rattle.pictures.specs.Numbers.{largest_number}
-use Rattle.text_read.proofs.ByteClasses.{digit_byte, arm-no-digit}
-use Rattle.text_read.proofs.DigitSteps.{DigitByte, Reading, number-end, number-none, number-zero, reading-first, reading-next, reading-over, reading-stop, reading-end}
+use Rattle.text_read.proofs.ByteClasses.{digit_byte, arm_no_digit}
+use Rattle.text_read.proofs.DigitSteps.{DigitByte, Reading, number-end, number-none, number_zero, reading_first, reading-next, reading-over, reading-stop, reading-end}
 use borrow.Author.Rules.{rules}
 use Rattle.text_read.proofs.cursor.Cursor.digits.Statement.{statement}
 use Rattle.text_read.proofs.cursor.Cursor.digits.Tie as tie
@@ -40,7 +40,7 @@ enum-known-first : tie.Need-enum-known-first invariant-loop decreases-loop
 enum-known-first c = search rules
 
 returns-2 : tie.Need-returns-2 invariant-loop decreases-loop
-returns-2 c = number-none largest_number c.before.before.before.if1.false (arm-no-digit _ c.before.class_of.ensures c.match.keys2)
+returns-2 c = number-none largest_number c.before.before.before.if1.false (arm_no_digit _ c.before.class_of.ensures c.match.keys2)
 
 add-t13 : tie.Need-overflow-add-t13 invariant-loop decreases-loop
 add-t13 c = search rules
@@ -49,7 +49,7 @@ returns-3 : tie.Need-returns-3 invariant-loop decreases-loop
 returns-3 c =
     let at_first = c.before.before in
     let d = first-digit at_first in
-    number-zero largest_number at_first.before.before.before.before.if1.false (omega (arith, d.least, d.value, c.if2.true))
+    number_zero largest_number at_first.before.before.before.before.if1.false (omega (arith, d.least, d.value, c.if2.true))
 
 add_at : tie.Need-overflow-add-at invariant-loop decreases-loop
 add_at c = search rules
@@ -57,7 +57,7 @@ add_at c = search rules
 loop-holds : tie.Need-loop-init invariant-loop decreases-loop
 loop-holds c =
     let at_first = c.before.before in
-    reading-first at_first.before.before.before.before.if1.false (first-digit at_first) c.if2.false
+    reading_first at_first.before.before.before.before.if1.false (first-digit at_first) c.if2.false
 
 shared-slice-read-class-of-2 : tie.Need-shared-slice-read-class-of-2 invariant-loop decreases-loop
 shared-slice-read-class-of-2 c = search rules
@@ -75,7 +75,7 @@ returns-4 : tie.Need-returns-4 invariant-loop decreases-loop
 returns-4 c =
     let at-class-of2 = c.before.before in
     let at-loop-test = at-class-of2.before.before in
-    rw c.judged.ensures (reading-stop at-loop-test.before.loop.invariant at-loop-test.loop-test.true (arm-no-digit _ at-class-of2.class-of2.ensures c.before.match2.keys2))
+    rw c.judged.ensures (reading-stop at-loop-test.before.loop.invariant at-loop-test.loop-test.true (arm_no_digit _ at-class-of2.class-of2.ensures c.before.match2.keys2))
 
 returns-5 : tie.Need-returns-5 invariant-loop decreases-loop
 returns-5 c = reading-over c.before.before.before.before.before.before.before.loop.invariant c.if3.true

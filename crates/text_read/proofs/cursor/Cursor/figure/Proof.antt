@@ -1,8 +1,8 @@
 -- `text_read::cursor::Cursor::figure` meets its contract.
 use Prim.Native.Nat.{◌-◌}
 use lib.ListN.{length, get_or}
-use Rattle.text_read.proofs.ByteClasses.{digit_found, arm-no-digit}
-use Rattle.text_read.proofs.Figures.{Skipping, skipping-first, skipping-next, skipping-found, skipping-end}
+use Rattle.text_read.proofs.ByteClasses.{digit_found, arm_no_digit}
+use Rattle.text_read.proofs.Figures.{Skipping, skipping_first, skipping-next, skipping-found, skipping-end}
 use borrow.Author.Rules.{rules}
 use Rattle.text_read.proofs.cursor.Cursor.figure.Statement.{statement}
 use Rattle.text_read.proofs.cursor.Cursor.figure.Tie as tie
@@ -14,7 +14,7 @@ abbrev decreases-loop : tie.decreases-loop
 decreases-loop text at₀ at = length text - at
 
 loop-holds : tie.Need-loop-init invariant-loop decreases-loop
-loop-holds c = skipping-first
+loop-holds c = skipping_first
 
 shared-slice-read-class-of : tie.Need-shared-slice-read-class-of invariant-loop decreases-loop
 shared-slice-read-class-of c = search rules
@@ -48,7 +48,7 @@ loop-again c =
     let at-loop-test = c.before.before.before in
     let at-loop = at-loop-test.before in
     let s = at-loop.before.before in
-    let d = arm-no-digit (get_or s.args.text.now at-loop.loop.at 0) c.before.class_of.ensures c.match.keys2 in
+    let d = arm_no_digit (get_or s.args.text.now at-loop.loop.at 0) c.before.class_of.ensures c.match.keys2 in
     skipping-next at-loop.loop.invariant at-loop-test.loop-test.true d
 
 returns-2 : tie.Need-returns-2 invariant-loop decreases-loop

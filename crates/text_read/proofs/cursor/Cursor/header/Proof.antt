@@ -8,8 +8,8 @@ use Rattle.text_theory.specs.declared.Head.{Head}
 use Rattle.text_theory.specs.declared.Name.TheVariants as name
 use Rattle.text_theory.specs.Readers.{Get, give, ◌▷◌, after}
 use Rattle.text_theory.specs.Files.{line_end, begun, size_get, range_get, head_get}
-use Rattle.text_read.proofs.ByteClasses.{told-line-end}
-use Rattle.text_read.proofs.Onward.{Left, left-start, left_as, left-past, left-no-past, left-then, left-no-then, left-then-give, told_begun, after_first}
+use Rattle.text_read.proofs.ByteClasses.{told_line_end}
+use Rattle.text_read.proofs.Onward.{Left, left_start, left_as, left-past, left_no_past, left_then, left_no_then, left_then_give, told_begun, after_first}
 use borrow.Author.Rules.{rules}
 use Rattle.text_read.proofs.cursor.Cursor.header.Statement.{statement}
 use Rattle.text_read.proofs.cursor.Cursor.header.Tie as tie
@@ -37,17 +37,17 @@ the-b c = c.before.before.before.before
 -- What is left after the first line's name, the first line, the line of the size.
 at-start : (text : List ℕ) (from : ℕ) → Left head_get text from (after (begun name.Multi) (after line_end (size_get ▷ from-range))) from
 unfolding head_get
-at-start text from = left_as (after_first (size_get ▷ from-range)) left-start
+at-start text from = left_as (after_first (size_get ▷ from-range)) left_start
 
 after-name : (c : tie.After-a) → Left head_get (text c) (from c) (after line_end (size_get ▷ from-range)) c.a.given.0.1.0.at
 after-name c = left-past (begun name.Multi) (at-start (text c) (from c)) (told_begun name.Multi (rw c.a.given.1 at c.before.before.begin.ensures))
 
 after-first-line : (c : tie.After-b) → Left head_get (text (the-a c)) (from (the-a c)) (size_get ▷ from-range) c.b.given.0.1.0.at
-after-first-line c = left-past line_end (after-name (the-a c)) (told-line-end (rw c.b.given.1 at c.before.before.past.ensures))
+after-first-line c = left-past line_end (after-name (the-a c)) (told_line_end (rw c.b.given.1 at c.before.before.past.ensures))
 
 after-size : (c : tie.After-size)
     → let a = the-a (the-b c) in Left head_get (text a) (from a) (from-range c.size.given.0.0) c.size.given.0.1.0.at
-after-size c = left-then from-range (after-first-line (the-b c)) (rw c.size.given.1 at c.before.before.size-line.ensures)
+after-size c = left_then from-range (after-first-line (the-b c)) (rw c.size.given.1 at c.before.before.size-line.ensures)
 
 begin-requires : tie.Need-begin-requires
 begin-requires c κs = search rules
@@ -59,7 +59,7 @@ enum_told : tie.Need-enum-told
 enum_told c = search rules
 
 returns : tie.Need-returns
-returns c = left-no-past (begun name.Multi) _ (at-start _ _) (told_begun name.Multi (rw c.enum_told.given.1 at c.before.before.begin.ensures))
+returns c = left_no_past (begun name.Multi) _ (at-start _ _) (told_begun name.Multi (rw c.enum_told.given.1 at c.before.before.begin.ensures))
 
 past-requires : tie.Need-past-requires
 past-requires c κs = search rules
@@ -71,7 +71,7 @@ enum-told-2 : tie.Need-enum-told-2
 enum-told-2 c = search rules
 
 returns-2 : tie.Need-returns-2
-returns-2 c = left-no-past line_end _ (after-name c.before.before.before.before) (told-line-end (rw c.enum-told2.given.1 at c.before.before.past.ensures))
+returns-2 c = left_no_past line_end _ (after-name c.before.before.before.before) (told_line_end (rw c.enum-told2.given.1 at c.before.before.past.ensures))
 
 size-line-requires : tie.Need-size-line-requires
 size-line-requires c κs = search rules
@@ -83,7 +83,7 @@ enum-told-3 : tie.Need-enum-told-3
 enum-told-3 c = search rules
 
 returns-3 : tie.Need-returns-3
-returns-3 c = left-no-then from-range (after-first-line c.before.before.before.before) (rw c.enum-told3.given.1 at c.before.before.size-line.ensures)
+returns-3 c = left_no_then from-range (after-first-line c.before.before.before.before) (rw c.enum-told3.given.1 at c.before.before.size-line.ensures)
 
 range-line-requires : tie.Need-range-line-requires
 range-line-requires c κs = search rules
@@ -95,7 +95,7 @@ enum-told-4 : tie.Need-enum-told-4
 enum-told-4 c = search rules
 
 returns-4 : tie.Need-returns-4
-returns-4 c = left-no-then _ (after-size c.before.before.before.before) (rw c.enum-told4.given.1 at c.before.before.range-line.ensures)
+returns-4 c = left_no_then _ (after-size c.before.before.before.before) (rw c.enum-told4.given.1 at c.before.before.range-line.ensures)
 
 usual-method-requires : tie.Need-usual-method-requires
 usual-method-requires c κs = search rules
@@ -105,7 +105,7 @@ returns-5 c =
     let at-depth = c.before.before in
     let at_size = at-depth.before.before.before.before in
     rw c.usual-method.ensures
-    (left-then-give (head_of at_size.size.given.0.0) (after-size at_size) (rw at-depth.depth.given.1 at at-depth.before.before.range-line.ensures))
+    (left_then_give (head_of at_size.size.given.0.0) (after-size at_size) (rw at-depth.depth.given.1 at at-depth.before.before.range-line.ensures))
 
 pub header-spec : {M : Type 1} → statement M
 header-spec =

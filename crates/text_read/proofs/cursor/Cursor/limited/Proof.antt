@@ -1,5 +1,5 @@
 -- `text_read::cursor::Cursor::limited` meets its contract: a word that is a number is over the limit or not; no other word is a number.
-use Rattle.text_read.proofs.WordSteps.{told-number, told-number-over, told-number-name, told-number-none}
+use Rattle.text_read.proofs.WordSteps.{told_number, told-number-over, told-number-name, told-number-none}
 use borrow.Author.Rules.{rules}
 use Rattle.text_read.proofs.cursor.Cursor.limited.Statement.{statement}
 use Rattle.text_read.proofs.cursor.Cursor.limited.Tie as tie
@@ -26,7 +26,7 @@ returns-2 : tie.Need-returns-2
 returns-2 c =
     let at_n = c.before.before in
     let at-word = at_n.before.before in
-    told-number _ (search rules) (rw at_n.n.given.1 at at-word.word.ensures) c.if1.false
+    told_number _ (search rules) (rw at_n.n.given.1 at at-word.word.ensures) c.if1.false
 
 returns-3 : tie.Need-returns-3
 returns-3 c = told-number-name _ (search rules) (rw c.enum_told.given.1 at c.before.before.word.ensures)

@@ -8,7 +8,7 @@ use Rattle.text_read.specs.Answers.{Told}
 use Rattle.text_read.specs.Lines.{map_line}
 use Rattle.text_read.specs.Inner.{passing}
 use Rattle.text_read.proofs.Onward.{told_begun}
-use Rattle.text_read.proofs.LinesTaken.{Found, map-no-word, map-torn, map_found, found_coming, found-long, found-fits}
+use Rattle.text_read.proofs.LinesTaken.{Found, map_no_word, map-torn, map_found, found_coming, found-long, found-fits}
 use borrow.Author.Rules.{rules}
 use Rattle.text_read.proofs.cursor.Cursor.map.Statement.{statement}
 use Rattle.text_read.proofs.cursor.Cursor.map.Tie as tie
@@ -41,7 +41,7 @@ enum_told c = search rules
 
 returns : tie.Need-returns
 unfolding map_word
-returns c = map-no-word (told_begun name.Map (rw c.enum_told.given.1 at c.before.before.begin.ensures))
+returns c = map_no_word (told_begun name.Map (rw c.enum_told.given.1 at c.before.before.begin.ensures))
 
 rest-requires : tie.Need-rest-requires
 rest-requires c κs = search rules

@@ -3,7 +3,7 @@
 use Prim.Native.Nat.{◌-◌}
 use lib.ListN.{length}
 use Rattle.text_theory.specs.Words.{all_names}
-use Rattle.text_read.proofs.WordSteps.{Naming, naming-first, naming-next, naming-found, naming-end}
+use Rattle.text_read.proofs.WordSteps.{Naming, naming_first, naming-next, naming-found, naming-end}
 use borrow.Author.Rules.{rules}
 use Rattle.text_read.proofs.cursor.Cursor.name.Statement.{statement}
 use Rattle.text_read.proofs.cursor.Cursor.name.Tie as tie
@@ -15,7 +15,7 @@ abbrev decreases-loop : tie.decreases-loop
 decreases-loop self text i₀ i = length all_names - i
 
 loop-holds : tie.Need-loop-init invariant-loop decreases-loop
-loop-holds c = naming-first
+loop-holds c = naming_first
 
 name-at-requires : tie.Need-name-at-requires invariant-loop decreases-loop
 name-at-requires c κs = search rules

@@ -6,7 +6,7 @@ use Rattle.text_theory.specs.declared.Name.TheVariants as name
 use Rattle.text_theory.specs.Readers.{Get, give, ◌▷◌, after}
 use Rattle.text_theory.specs.Decimal.{number_get}
 use Rattle.text_theory.specs.Files.{blank, closed, begun, range_get}
-use Rattle.text_read.proofs.Onward.{Left, left-start, left-past, left-no-past, left-past-give, left_after, left-no-after, told_begun}
+use Rattle.text_read.proofs.Onward.{Left, left_start, left-past, left_no_past, left-past-give, left_after, left_no_after, told_begun}
 use borrow.Author.Rules.{rules}
 use Rattle.text_read.proofs.cursor.Cursor.range_line.Statement.{statement}
 use Rattle.text_read.proofs.cursor.Cursor.range_line.Tie as tie
@@ -34,7 +34,7 @@ the_depth c = c.before.before.before.before
 -- What is left after the name, the depth, the growth.
 after-name : (c : tie.After-a) → Left range_get (text c) (from c) (after blank (number_get largest_number ▷ from-depth)) c.a.given.0.1.0.at
 unfolding range_get
-after-name c = left-past (begun name.Range) left-start (told_begun name.Range (rw c.a.given.1 at c.before.before.begin.ensures))
+after-name c = left-past (begun name.Range) left_start (told_begun name.Range (rw c.a.given.1 at c.before.before.begin.ensures))
 
 after-depth : (c : tie.After-depth) → Left range_get (text (the-a c)) (from (the-a c)) (from-depth c.depth.given.0.0) c.depth.given.0.1.0.at
 after-depth c = left_after blank (number_get largest_number) from-depth (after-name (the-a c)) (rw c.depth.given.1 at c.before.before.spaced.ensures)
@@ -54,7 +54,7 @@ enum_told c = search rules
 
 returns : tie.Need-returns
 unfolding range_get
-returns c = left-no-past (begun name.Range) _ left-start (told_begun name.Range (rw c.enum_told.given.1 at c.before.before.begin.ensures))
+returns c = left_no_past (begun name.Range) _ left_start (told_begun name.Range (rw c.enum_told.given.1 at c.before.before.begin.ensures))
 
 spaced-requires : tie.Need-spaced-requires
 spaced-requires c κs = search rules
@@ -66,7 +66,7 @@ enum-told-2 : tie.Need-enum-told-2
 enum-told-2 c = search rules
 
 returns-2 : tie.Need-returns-2
-returns-2 c = left-no-after blank (number_get largest_number) from-depth (after-name c.before.before.before.before) (rw c.enum-told2.given.1 at c.before.before.spaced.ensures)
+returns-2 c = left_no_after blank (number_get largest_number) from-depth (after-name c.before.before.before.before) (rw c.enum-told2.given.1 at c.before.before.spaced.ensures)
 
 spaced-requires-2 : tie.Need-spaced-requires-2
 spaced-requires-2 c κs = search rules
@@ -78,7 +78,7 @@ enum-told-3 : tie.Need-enum-told-3
 enum-told-3 c = search rules
 
 returns-3 : tie.Need-returns-3
-returns-3 c = left-no-after blank (number_get largest_number) (from-growth _) (after-depth c.before.before.before.before) (rw c.enum-told3.given.1 at c.before.before.spaced2.ensures)
+returns-3 c = left_no_after blank (number_get largest_number) (from-growth _) (after-depth c.before.before.before.before) (rw c.enum-told3.given.1 at c.before.before.spaced2.ensures)
 
 close-requires : tie.Need-close-requires
 close-requires c κs = search rules
@@ -90,7 +90,7 @@ enum-told-4 : tie.Need-enum-told-4
 enum-told-4 c = search rules
 
 returns-4 : tie.Need-returns-4
-returns-4 c = left-no-past closed _ (after-growth c.before.before.before.before) (rw c.enum-told4.given.1 at c.before.before.close.ensures)
+returns-4 c = left_no_past closed _ (after-growth c.before.before.before.before) (rw c.enum-told4.given.1 at c.before.before.close.ensures)
 
 returns-5 : tie.Need-returns-5
 returns-5 c = left-past-give closed (after-growth c.before.before.before.before.before) (rw c.before.d.given.1 at c.before.before.before.close.ensures)

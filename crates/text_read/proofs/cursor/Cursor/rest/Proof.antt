@@ -1,8 +1,8 @@
 -- `text_read::cursor::Cursor::rest` meets its contract: the form, then the line end.
 use Rattle.text_theory.specs.Files.{line_end}
 use Rattle.text_read.specs.Answers.{line_rest}
-use Rattle.text_read.proofs.ByteClasses.{told-line-end}
-use Rattle.text_read.proofs.Onward.{left-start, left-no-past, left-past-give, left-then, left-no-then}
+use Rattle.text_read.proofs.ByteClasses.{told_line_end}
+use Rattle.text_read.proofs.Onward.{left_start, left_no_past, left-past-give, left_then, left_no_then}
 use borrow.Author.Rules.{rules}
 use Rattle.text_read.proofs.cursor.Cursor.rest.Statement.{statement}
 use Rattle.text_read.proofs.cursor.Cursor.rest.Tie as tie
@@ -18,7 +18,7 @@ enum_told c = search rules
 
 returns : tie.Need-returns
 unfolding line_rest
-returns c = left-no-then _ left-start (rw c.enum_told.given.1 at c.before.before.form.ensures)
+returns c = left_no_then _ left_start (rw c.enum_told.given.1 at c.before.before.form.ensures)
 
 past-requires : tie.Need-past-requires
 past-requires c κs = search rules
@@ -34,14 +34,14 @@ unfolding line_rest
 returns-2 c =
     let at-past = c.before.before in
     let at_n = at-past.before.before in
-    left-no-past line_end _ (left-then _ left-start (rw at_n.n.given.1 at at_n.before.before.form.ensures)) (told-line-end (rw c.enum-told2.given.1 at at-past.past.ensures))
+    left_no_past line_end _ (left_then _ left_start (rw at_n.n.given.1 at at_n.before.before.form.ensures)) (told_line_end (rw c.enum-told2.given.1 at at-past.past.ensures))
 
 returns-3 : tie.Need-returns-3
 unfolding line_rest
 returns-3 c =
     let at-past = c.before.before.before in
     let at_n = at-past.before.before in
-    left-past-give line_end (left-then _ left-start (rw at_n.n.given.1 at at_n.before.before.form.ensures)) (told-line-end (rw c.before.d.given.1 at at-past.past.ensures))
+    left-past-give line_end (left_then _ left_start (rw at_n.n.given.1 at at_n.before.before.form.ensures)) (told_line_end (rw c.before.d.given.1 at at-past.past.ensures))
 
 pub rest-spec : {M : Type 1} → statement M
 rest-spec =

@@ -9,7 +9,7 @@ use Rattle.text_read.specs.Answers.{Told}
 use Rattle.text_read.specs.Lines.{row_line}
 use Rattle.text_read.specs.Inner.{passing}
 use Rattle.text_read.proofs.Onward.{told_begun}
-use Rattle.text_read.proofs.LinesTaken.{Found, row-no-word, row-torn, row-found, found_coming, found-long, found-fits, pixels-fit, pixels_over}
+use Rattle.text_read.proofs.LinesTaken.{Found, row-no-word, row-torn, row-found, found_coming, found-long, found-fits, pixels-fit, pixels-over}
 use borrow.Author.Rules.{rules}
 use Rattle.text_read.proofs.cursor.Cursor.row.Statement.{statement}
 use Rattle.text_read.proofs.cursor.Cursor.row.Tie as tie
@@ -83,7 +83,7 @@ returns-3 : tie.Need-returns-3
 returns-3 c =
     let at-channels = c.before in
     let s = at-channels.before.before.before.before.before.before.before.before.before.before.before.before in
-    found-long (found at-channels) (pixels_over s.args.kind at-channels.channels.result _ _ at-channels.channels.ensures c.if1.true)
+    found-long (found at-channels) (pixels-over s.args.kind at-channels.channels.result _ _ at-channels.channels.ensures c.if1.true)
 
 mul-count : tie.Need-overflow-mul-count
 mul-count c =

@@ -2,7 +2,7 @@
 -- here is the place after them. What falls is how many are to come.
 use Prim.Native.Nat.{◌-◌}
 use native.Mathlib.Omega.{arith}
-use Rattle.text_read.proofs.Figures.{Writing, writing-first, writing-some, writing-small, writing-next, writing-end}
+use Rattle.text_read.proofs.Figures.{Writing, writing_first, writing-some, writing-small, writing-next, writing_end}
 use borrow.Author.Rules.{rules}
 use Rattle.text_read.proofs.cursor.Cursor.samples.Statement.{statement}
 use Rattle.text_read.proofs.cursor.Cursor.samples.Tie as tie
@@ -14,7 +14,7 @@ abbrev decreases-loop : tie.decreases-loop
 decreases-loop text n out₀ here₀ i₀ out here i = n - i
 
 loop-holds : tie.Need-loop-init invariant-loop decreases-loop
-loop-holds c = let r = c.before.before.requires in writing-first r.coming r.room
+loop-holds c = let r = c.before.before.requires in writing_first r.coming r.room
 
 figure-requires : tie.Need-figure-requires invariant-loop decreases-loop
 figure-requires c κs = search rules
@@ -65,7 +65,7 @@ same-length-2 : tie.Need-same-length-2 invariant-loop decreases-loop
 same-length-2 c = c.before.loop.invariant.size
 
 returns-2 : tie.Need-returns-2 invariant-loop decreases-loop
-returns-2 c = writing-end c.before.loop.invariant c.loop-test.false
+returns-2 c = writing_end c.before.loop.invariant c.loop-test.false
 
 pub samples-spec : {M : Type 1} → statement M
 samples-spec =

@@ -9,8 +9,8 @@ use Rattle.text_theory.specs.Readers.{Get, give, ◌▷◌, after}
 use Rattle.text_theory.specs.Decimal.{number_get}
 use Rattle.text_theory.specs.Words.{kind_get}
 use Rattle.text_theory.specs.Files.{blank, closed, begun, size_get}
-use Rattle.text_read.proofs.ByteClasses.{told-blank}
-use Rattle.text_read.proofs.Onward.{Left, left-start, left-past, left-no-past, left-past-give, left-then, left-no-then, left_after, left-no-after, told_begun}
+use Rattle.text_read.proofs.ByteClasses.{told_blank}
+use Rattle.text_read.proofs.Onward.{Left, left_start, left-past, left_no_past, left-past-give, left_then, left_no_then, left_after, left_no_after, told_begun}
 use borrow.Author.Rules.{rules}
 use Rattle.text_read.proofs.cursor.Cursor.size_line.Statement.{statement}
 use Rattle.text_read.proofs.cursor.Cursor.size_line.Tie as tie
@@ -47,7 +47,7 @@ the-d c = c.before.before.before.before
 -- What is left after the name, the width, the height, the blank, the kind.
 after-name : (c : tie.After-a) → Left size_get (text c) (from c) (after blank (number_get largest_number ▷ from-width)) c.a.given.0.1.0.at
 unfolding size_get
-after-name c = left-past (begun name.Size) left-start (told_begun name.Size (rw c.a.given.1 at c.before.before.begin.ensures))
+after-name c = left-past (begun name.Size) left_start (told_begun name.Size (rw c.a.given.1 at c.before.before.begin.ensures))
 
 after-width : (c : tie.After-width) → Left size_get (text (the-a c)) (from (the-a c)) (from-width c.width.given.0.0) c.width.given.0.1.0.at
 after-width c = left_after blank (number_get largest_number) from-width (after-name (the-a c)) (rw c.width.given.1 at c.before.before.spaced.ensures)
@@ -64,13 +64,13 @@ h c = (the-height c).height.given.0.0
 
 after-blank : (c : tie.After-d)
     → let a = the-a (the_width (the-height c)) in Left size_get (text a) (from a) (kind_get ▷ from-closing (w (the-height c)) (h c)) c.d.given.0.1.0.at
-after-blank c = left-past blank (after-height (the-height c)) (told-blank (rw c.d.given.1 at c.before.before.past.ensures))
+after-blank c = left-past blank (after-height (the-height c)) (told_blank (rw c.d.given.1 at c.before.before.past.ensures))
 
 after-kind : (c : tie.After-kind2)
     → let d = the-d c in
     let a = the-a (the_width (the-height d)) in
     Left size_get (text a) (from a) (from-closing (w (the-height d)) (h d) c.kind2.given.0.0) c.kind2.given.0.1.0.at
-after-kind c = left-then (from-closing (w (the-height (the-d c))) (h (the-d c))) (after-blank (the-d c)) (rw c.kind2.given.1 at c.before.before.kind.ensures)
+after-kind c = left_then (from-closing (w (the-height (the-d c))) (h (the-d c))) (after-blank (the-d c)) (rw c.kind2.given.1 at c.before.before.kind.ensures)
 
 begin-requires : tie.Need-begin-requires
 begin-requires c κs = search rules
@@ -83,7 +83,7 @@ enum_told c = search rules
 
 returns : tie.Need-returns
 unfolding size_get
-returns c = left-no-past (begun name.Size) _ left-start (told_begun name.Size (rw c.enum_told.given.1 at c.before.before.begin.ensures))
+returns c = left_no_past (begun name.Size) _ left_start (told_begun name.Size (rw c.enum_told.given.1 at c.before.before.begin.ensures))
 
 spaced-requires : tie.Need-spaced-requires
 spaced-requires c κs = search rules
@@ -95,7 +95,7 @@ enum-told-2 : tie.Need-enum-told-2
 enum-told-2 c = search rules
 
 returns-2 : tie.Need-returns-2
-returns-2 c = left-no-after blank (number_get largest_number) from-width (after-name c.before.before.before.before) (rw c.enum-told2.given.1 at c.before.before.spaced.ensures)
+returns-2 c = left_no_after blank (number_get largest_number) from-width (after-name c.before.before.before.before) (rw c.enum-told2.given.1 at c.before.before.spaced.ensures)
 
 spaced-requires-2 : tie.Need-spaced-requires-2
 spaced-requires-2 c κs = search rules
@@ -107,7 +107,7 @@ enum-told-3 : tie.Need-enum-told-3
 enum-told-3 c = search rules
 
 returns-3 : tie.Need-returns-3
-returns-3 c = left-no-after blank (number_get largest_number) (from-height _) (after-width c.before.before.before.before) (rw c.enum-told3.given.1 at c.before.before.spaced2.ensures)
+returns-3 c = left_no_after blank (number_get largest_number) (from-height _) (after-width c.before.before.before.before) (rw c.enum-told3.given.1 at c.before.before.spaced2.ensures)
 
 past-requires : tie.Need-past-requires
 past-requires c κs = search rules
@@ -119,7 +119,7 @@ enum-told-4 : tie.Need-enum-told-4
 enum-told-4 c = search rules
 
 returns-4 : tie.Need-returns-4
-returns-4 c = left-no-past blank _ (after-height c.before.before.before.before) (told-blank (rw c.enum-told4.given.1 at c.before.before.past.ensures))
+returns-4 c = left_no_past blank _ (after-height c.before.before.before.before) (told_blank (rw c.enum-told4.given.1 at c.before.before.past.ensures))
 
 kind-requires : tie.Need-kind-requires
 kind-requires c κs = search rules
@@ -131,7 +131,7 @@ enum-told-5 : tie.Need-enum-told-5
 enum-told-5 c = search rules
 
 returns-5 : tie.Need-returns-5
-returns-5 c = left-no-then _ (after-blank c.before.before.before.before) (rw c.enum-told5.given.1 at c.before.before.kind.ensures)
+returns-5 c = left_no_then _ (after-blank c.before.before.before.before) (rw c.enum-told5.given.1 at c.before.before.kind.ensures)
 
 close-requires : tie.Need-close-requires
 close-requires c κs = search rules
@@ -143,7 +143,7 @@ enum-told-6 : tie.Need-enum-told-6
 enum-told-6 c = search rules
 
 returns-6 : tie.Need-returns-6
-returns-6 c = left-no-past closed _ (after-kind c.before.before.before.before) (rw c.enum-told6.given.1 at c.before.before.close.ensures)
+returns-6 c = left_no_past closed _ (after-kind c.before.before.before.before) (rw c.enum-told6.given.1 at c.before.before.close.ensures)
 
 returns-7 : tie.Need-returns-7
 returns-7 c = left-past-give closed (after-kind c.before.before.before.before.before) (rw c.before.f.given.1 at c.before.before.before.close.ensures)

@@ -1,7 +1,7 @@
 -- `text_read::cursor::Cursor::spaced` meets its contract: the blank, then the number.
 use Rattle.text_theory.specs.Files.{blank}
-use Rattle.text_read.proofs.ByteClasses.{told-blank}
-use Rattle.text_read.proofs.Onward.{left-start, left-past, left-no-past, left-tail}
+use Rattle.text_read.proofs.ByteClasses.{told_blank}
+use Rattle.text_read.proofs.Onward.{left_start, left-past, left_no_past, left_tail}
 use borrow.Author.Rules.{rules}
 use Rattle.text_read.proofs.cursor.Cursor.spaced.Statement.{statement}
 use Rattle.text_read.proofs.cursor.Cursor.spaced.Tie as tie
@@ -16,7 +16,7 @@ enum_told : tie.Need-enum-told
 enum_told c = search rules
 
 returns : tie.Need-returns
-returns c = left-no-past blank _ left-start (told-blank (rw c.enum_told.given.1 at c.before.before.past.ensures))
+returns c = left_no_past blank _ left_start (told_blank (rw c.enum_told.given.1 at c.before.before.past.ensures))
 
 number-requires : tie.Need-number-requires
 number-requires c κs = search rules
@@ -24,7 +24,7 @@ number-requires c κs = search rules
 returns-2 : tie.Need-returns-2
 returns-2 c =
     let at_c = c.before.before in
-    left-tail _ (left-past blank left-start (told-blank (rw at_c.c.given.1 at at_c.before.before.past.ensures))) c.number.ensures
+    left_tail _ (left-past blank left_start (told_blank (rw at_c.c.given.1 at at_c.before.before.past.ensures))) c.number.ensures
 
 pub spaced-spec : {M : Type 1} → statement M
 spaced-spec =

@@ -1,13 +1,13 @@
 -- `text_read::cursor::Cursor::word` meets its contract: the class of the first byte says whether a number, a name or no word stands here.
 use lib.ListN.{get_or}
-use Rattle.text_read.proofs.ByteClasses.{digit_found, letter_byte, letter_digit, arm-no-word}
-use Rattle.text_read.proofs.WordSteps.{told-word-end, told-word-number, told-word-no-number, told-word-name, told-word-no-name, told-word-other}
+use Rattle.text_read.proofs.ByteClasses.{digit_found, letter_byte, letter_digit, arm_no_word}
+use Rattle.text_read.proofs.WordSteps.{told_word-end, told_word_number, told-word-no-number, told-word-name, told-word-no-name, told-word-other}
 use borrow.Author.Rules.{rules}
 use Rattle.text_read.proofs.cursor.Cursor.word.Statement.{statement}
 use Rattle.text_read.proofs.cursor.Cursor.word.Tie as tie
 
 returns : tie.Need-returns
-returns c = told-word-end c.if1.true
+returns c = told_word-end c.if1.true
 
 shared-slice-read-class-of : tie.Need-shared-slice-read-class-of
 shared-slice-read-class-of c = search rules
@@ -58,7 +58,7 @@ returns-3 c =
     told-word-no-name at-if1.if1.false (letter_digit _ (letter_byte (get_or s.args.text.now s.args.self.at 0) at-enum-told3.enum-told3.given.1 at-class-of.class_of.ensures).0) (rw c.enum-told4.given.1 at at_name.name.ensures)
 
 returns-4 : tie.Need-returns-4
-returns-4 c = told-word-number (rw c.before.n.given.1 at c.before.before.before.digits.ensures)
+returns-4 c = told_word_number (rw c.before.n.given.1 at c.before.before.before.digits.ensures)
 
 returns-5 : tie.Need-returns-5
 returns-5 c =
@@ -73,7 +73,7 @@ returns-6 : tie.Need-returns-6
 returns-6 c =
     let at-if1 = c.before.before.before in
     let s = at-if1.before.before in
-    let a = arm-no-word (get_or s.args.text.now s.args.self.at 0) c.before.class_of.ensures c.match.keys3 in
+    let a = arm_no_word (get_or s.args.text.now s.args.self.at 0) c.before.class_of.ensures c.match.keys3 in
     told-word-other at-if1.if1.false a.0 a.1
 
 pub word-spec : {M : Type 1} → statement M
