@@ -1,4 +1,6 @@
 // The energy of a row's pixels.
+#![tactic(auto)]
+
 mod kernels;
 pub mod methods;
 

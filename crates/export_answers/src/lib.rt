@@ -1,4 +1,6 @@
 // What hosts in C and Rust name by numbers, and what they are answered, as pure functions.
+#![tactic(auto)]
+
 pub mod answers;
 pub mod files;
 pub mod names;

@@ -1,4 +1,6 @@
 // What hosts in C and Rust link: every operation over numbers, structs of numbers and slices, with no requires.
+#![tactic(auto)]
+
 mod multifiles;
 mod objects;
 mod retargets;

@@ -1,4 +1,6 @@
 // The multi-size file of a picture.
+#![tactic(auto)]
+
 mod fitting;
 mod lines;
 

@@ -1,4 +1,6 @@
 // Multi-size files: checked, read, and shown at the widths that they offer.
+#![tactic(auto)]
+
 pub mod checking;
 mod lines;
 mod opening;

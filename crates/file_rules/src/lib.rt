@@ -1,5 +1,7 @@
 // What the operations on files decide before they touch a buffer, as pure functions of numbers, and the forms of their
 // answers.
+#![tactic(auto)]
+
 pub mod answers;
 pub mod counts;
 pub mod spaces;

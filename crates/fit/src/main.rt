@@ -1,4 +1,6 @@
 // The program `fit`: a line with a width and a multi-size file on standard input, the picture on standard output.
+#![tactic(auto)]
+
 use libc::{STDERR_FILENO, STDIN_FILENO, STDOUT_FILENO};
 use program_netpbm::OUTPUT_SPACE;
 use program_rules::MOST_INPUT;

@@ -1,4 +1,6 @@
 // The map of a picture, built in a space.
+#![tactic(auto)]
+
 mod marks;
 mod rows;
 

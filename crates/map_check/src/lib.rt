@@ -1,4 +1,6 @@
 // A map recorded in a space, judged for the picture at its front.
+#![tactic(auto)]
+
 mod numbers;
 mod seams;
 

@@ -1,4 +1,6 @@
 // What the operations on maps decide, as pure functions of numbers.
+#![tactic(auto)]
+
 pub mod recorded;
 pub mod spaces;
 pub mod widths;

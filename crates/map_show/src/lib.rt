@@ -1,4 +1,6 @@
 // A row of a picture and its row of the map, shown at a width.
+#![tactic(auto)]
+
 mod pixels;
 pub mod rows;
 

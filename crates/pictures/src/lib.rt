@@ -1,5 +1,7 @@
 // The lowest layer: pictures in lent buffers, their rows as parts of the buffer, a space cleared, numbers of two bytes, and the
 // numbers of what is refused.
+#![tactic(auto)]
+
 pub mod numbers;
 pub mod refusals;
 pub mod sizes;

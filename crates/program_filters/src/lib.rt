@@ -1,4 +1,6 @@
 // What the programs do, each a function from its input to its output.
+#![tactic(auto)]
+
 pub mod fit_program;
 pub mod seams_program;
 

@@ -1,4 +1,6 @@
 // What the programs read and write: Netpbm pictures, and refusals.
+#![tactic(auto)]
+
 pub mod netpbm;
 pub mod output;
 

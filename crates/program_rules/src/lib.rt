@@ -1,4 +1,6 @@
 // How much the programs read and write: the most bytes and pixels, and what is refused for being more.
+#![tactic(auto)]
+
 ghost use Rattle.std.specs.Prelude.{◌≡◌};
 ghost use Rattle.pictures.specs.Refusals.{given, refusal};
 ghost use Rattle.program_rules.specs.Limits.{length_rules, held_rules};

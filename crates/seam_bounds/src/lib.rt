@@ -1,5 +1,7 @@
 // Whether places, columns and lengths lie within bounds: what moving a picture's bytes and finding a seam in a space decide
 // before they touch a buffer.
+#![tactic(auto)]
+
 pub mod finding;
 pub mod moves;
 

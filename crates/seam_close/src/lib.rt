@@ -1,4 +1,6 @@
 // A seam closed up in a lent picture.
+#![tactic(auto)]
+
 mod rows;
 
 ghost use Rattle.seam_close.specs.Closing.{CloseGiven};

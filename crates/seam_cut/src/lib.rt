@@ -1,4 +1,6 @@
 // Seams of lent pictures: finding and cutting, along either axis.
+#![tactic(auto)]
+
 pub mod front;
 
 ghost use Rattle.seam_cut.specs.Cutting.{FindGiven, CutGiven};

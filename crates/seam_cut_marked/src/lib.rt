@@ -1,4 +1,6 @@
 // Seams by marks: finding and cutting, along either axis. Marks are turned and closed up as a grey picture is.
+#![tactic(auto)]
+
 ghost use Rattle.std.specs.Prelude.{◌≡◌, ◌++◌, replicate};
 ghost use Rattle.pictures.specs.Refusals.{given, refusal};
 ghost use Rattle.pictures.specs.Pictures.{largest_side, size_rules};

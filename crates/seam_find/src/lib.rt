@@ -1,4 +1,6 @@
 // Finding the seam of a picture that stands at the front of a lent space.
+#![tactic(auto)]
+
 mod bottom32;
 mod down32;
 mod sums32;

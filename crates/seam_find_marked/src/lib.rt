@@ -1,4 +1,6 @@
 // Finding the seam of a picture with marks that stands at the front of a lent space.
+#![tactic(auto)]
+
 mod bottom64;
 mod down64;
 mod sums64;

@@ -1,5 +1,7 @@
 // Pictures moved in lent buffers: with rows and columns exchanged, the whole picture or one column, from one buffer to another
 // or from one place of a space to another.
+#![tactic(auto)]
+
 pub mod between;
 mod columns;
 

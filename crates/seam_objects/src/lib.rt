@@ -1,4 +1,6 @@
 // Object removal: vertical seams are cut by the marks until no pixel is marked 2.
+#![tactic(auto)]
+
 ghost use Rattle.std.specs.Prelude.{◌≡◌};
 ghost use Rattle.seam_objects.specs.Objects.{some_two};
 ghost use Rattle.seam_objects.specs.Removing.{RemoveGiven};

@@ -1,4 +1,6 @@
 // Rows and columns removed together: a table of cells, in which each comes from the smaller of two totals by one seam.
+#![tactic(auto)]
+
 mod cells;
 mod seams;
 mod table;

@@ -1,5 +1,7 @@
 // What finding a seam decides on single numbers, as total functions: which of the sums above a column is the least, where the
 // least sum of a row stands, what a pixel weighs by its mark, and what the least weight means.
+#![tactic(auto)]
+
 pub mod least32;
 pub mod least64;
 pub mod weights;

@@ -1,4 +1,6 @@
 // Pictures turned so that a seam along an axis is vertical, and closed up along a seam of either axis.
+#![tactic(auto)]
+
 ghost use Rattle.seam_rules.specs.declared.answers.Axis.TheVariants.{Horizontal};
 ghost use Rattle.seam_turn.specs.Turning.{TurnGiven, CloseAlongGiven};
 ghost use Rattle.seam_turn.specs.Inner.{ColumnsNeeded};

@@ -1,4 +1,6 @@
 // The program `seams`: a Netpbm picture on standard input, its multi-size file on standard output.
+#![tactic(auto)]
+
 use libc::{STDERR_FILENO, STDIN_FILENO, STDOUT_FILENO};
 use program_netpbm::OUTPUT_SPACE;
 use program_rules::MOST_INPUT;

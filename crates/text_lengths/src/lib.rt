@@ -1,4 +1,6 @@
 // How long the lines of a multi-size file are, as what is left of a room: whatever the numbers are, nothing overflows.
+#![tactic(auto)]
+
 ghost use Rattle.std.specs.Prelude.{◌≡◌, suc, ◌+◌, ◌*◌, ◌≤◌, length};
 ghost use Rattle.text_theory.specs.Decimal.{digits};
 ghost use Rattle.pictures.specs.Pictures.{channels_of};

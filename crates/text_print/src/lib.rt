@@ -1,4 +1,6 @@
 // The text of a multi-size file, printed: its lines, written into a lent space.
+#![tactic(auto)]
+
 mod heads;
 pub mod lines;
 mod words;

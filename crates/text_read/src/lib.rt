@@ -1,4 +1,6 @@
 // The text of a multi-size file, read.
+#![tactic(auto)]
+
 pub mod cursor;
 pub mod forms;
 pub mod heads;

@@ -1,4 +1,6 @@
 // What reading and printing a multi-size file decide without looking at its text.
+#![tactic(auto)]
+
 pub mod names;
 
 ghost use Rattle.std.specs.Prelude.{◌≡◌, ◌&&◌, eqb};

@@ -1,4 +1,6 @@
 // A whole text read for its form and its counts.
+#![tactic(auto)]
+
 ghost use Rattle.std.specs.Prelude.{◌≡◌, ◌≤◌, length};
 ghost use Rattle.text_theory.specs.Files.{begun, parse};
 ghost use Rattle.text_scan.specs.Facts.{scan_read, facts_in};

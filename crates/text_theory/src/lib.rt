@@ -1,5 +1,7 @@
 // The text of a multi-size file: its definitions (specs/) and their laws (proofs/). The code that reads it is in `text_read`, the
 // code that prints it in `text_print`.
+#![tactic(auto)]
+
 use energy::Method;
 use pictures::Size;
 

@@ -1,5 +1,7 @@
 // Runs the operations on generated pictures and prints what they give. The expected output is that of the second
 // implementation on the same pictures.
+#![tactic(auto)]
+
 mod answers;
 mod damaged;
 mod files;
