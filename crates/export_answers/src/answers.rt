@@ -7,7 +7,7 @@ use seam_rules::{Found, Retargeted};
 
 // An answer with a value: the number that is refused by and value 0, or number 0 and the value.
 #[repr(C)]
-#[derive(Drop)]
+#[derive(Clone, Copy)]
 pub struct Answer {
     pub number: u64,
     pub value: u64,

@@ -7,7 +7,7 @@ use file_rules::{Built, Checked, Shown};
 
 // Size, method and range of a file. Or the number that it is refused by, and all else 0.
 #[repr(C)]
-#[derive(Drop)]
+#[derive(Clone, Copy)]
 pub struct FileAnswer {
     pub number: u64,
     pub size: HostSize,
@@ -18,7 +18,7 @@ pub struct FileAnswer {
 
 // The size of a picture shown, in the same way.
 #[repr(C)]
-#[derive(Drop)]
+#[derive(Clone, Copy)]
 pub struct SizeAnswer {
     pub number: u64,
     pub size: HostSize,

@@ -9,7 +9,7 @@ use text_theory::Head;
 
 // The size of a picture, as hosts pass it and are answered it. Kind 0 is grey, 1 is rgb.
 #[repr(C)]
-#[derive(Drop)]
+#[derive(Clone, Copy)]
 pub struct HostSize {
     pub width: usize,
     pub height: usize,
@@ -18,48 +18,48 @@ pub struct HostSize {
 
 // The method that seams are found by, as hosts pass it and are answered it. Energy 0 is edge.
 #[repr(C)]
-#[derive(Drop)]
+#[derive(Clone, Copy)]
 pub struct HostMethod {
     pub energy: u8,
 }
 
 // The size that a host names.
-#[derive(Drop)]
+#[derive(Clone, Copy)]
 pub enum Sizing {
     Of(Size),
     Unknown,
 }
 
 // The method that a host names.
-#[derive(Drop)]
+#[derive(Clone, Copy)]
 pub enum Finding {
     By(Method),
     Unknown,
 }
 
 // The axis that a host names by a number.
-#[derive(Drop)]
+#[derive(Clone, Copy)]
 pub enum Turning {
     Along(Axis),
     Nowhere,
 }
 
 // The size and the method that a host names.
-#[derive(Drop)]
+#[derive(Clone, Copy)]
 pub enum Carving {
     Of(Size, Method),
     Unknown,
 }
 
 // The same, and the axis.
-#[derive(Drop)]
+#[derive(Clone, Copy)]
 pub enum Seaming {
     Along(Size, Method, Axis),
     Unknown,
 }
 
 // The counts of rows and of columns that a host asks to have removed.
-#[derive(Drop)]
+#[derive(Clone, Copy)]
 pub struct Counts {
     pub rows: Rows,
     pub columns: Columns,

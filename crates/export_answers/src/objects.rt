@@ -7,7 +7,7 @@ use seam_rules::Removal;
 // How a removal ended: ending 1 is done, 2 narrow, 3 spent, 4 blocked, and the count is of the seams cut. Or the number that
 // it is refused by, and ending and count 0.
 #[repr(C)]
-#[derive(Drop)]
+#[derive(Clone, Copy)]
 pub struct Ended {
     pub number: u64,
     pub ending: u64,

@@ -53,7 +53,7 @@ module _ {A : Type 0} where
   unfolding remove_at
   remove_at-each zero h (more p e) = e
   remove_at-each {n = zero} (suc i) h (more p e) = absurd (omega arith)
-  remove_at-each {n = suc n} (suc i) h (more p e) = more p (remove_at-each i (le_of_suc-le-suc h) e)
+  remove_at-each {n = suc n} (suc i) h (more p e) = more p (remove_at-each {n = n} i (le_of_suc-le-suc h) e)
 
   -- The grid left is again a grid, one column narrower, with the elements of the grid.
   pub cut-each : {P : A → Type 0} {w n : ℕ} {s : List ℕ} {p : List (List A)} → Each (λ c. c < suc w) n s → Each (Each P (suc w)) n p → Each (Each P w) n (cut s p)

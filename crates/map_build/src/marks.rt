@@ -20,7 +20,7 @@ fn zeros_in(block: &[u8]) -> usize
 }
 
 // A place in a row, and how many zeros are to be passed from there on.
-#[derive(Drop)]
+#[derive(Clone, Copy)]
 struct Skipped {
     at: usize,
     zeros: usize,

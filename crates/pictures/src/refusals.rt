@@ -3,7 +3,7 @@ ghost use Rattle.std.specs.Prelude.{◌≡◌};
 ghost use Rattle.pictures.specs.Refusals.{number_of, given as Refusals·given};
 
 // The refusals, each of one number, in the order of their numbers from 1. No operation gives 14 to 20 yet.
-#[derive(Drop)]
+#[derive(Clone, Copy)]
 pub enum Refusal {
     // 1: text or header breaks its form
     Form,
@@ -48,7 +48,7 @@ pub enum Refusal {
 }
 
 // The answer of a check, or of an operation that gives nothing by value.
-#[derive(Drop)]
+#[derive(Clone, Copy)]
 pub enum Verdict {
     Served,
     Refused(Refusal),

@@ -12,13 +12,13 @@ pub const LARGEST_SIDE: usize = 512;
 // Bytes of work space for each pixel.
 pub const WORK_A_PIXEL: usize = 32;
 
-#[derive(Drop)]
+#[derive(Clone, Copy)]
 pub enum Kind {
     Grey,
     Rgb,
 }
 
-#[derive(Drop)]
+#[derive(Clone, Copy)]
 pub struct Size {
     pub width: usize,
     pub height: usize,

@@ -15,14 +15,14 @@ use text_print::Place;
 use text_read::{Class, Cursor, Read};
 
 // The size that a header says and the place of the samples after it; or the header is broken.
-#[derive(Drop)]
+#[derive(Clone, Copy)]
 pub enum Header {
     Sized(Size, usize),
     Broken,
 }
 
 // The kind that the numbers of a header say; or they say none.
-#[derive(Drop)]
+#[derive(Clone, Copy)]
 pub enum KindSaid {
     Kind(Kind),
     Unknown,

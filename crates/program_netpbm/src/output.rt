@@ -13,7 +13,7 @@ use text_print::Place;
 pub const OUTPUT_SPACE: usize = 32768;
 
 // The length of an answer that stands at the front of the output; or why there is none.
-#[derive(Drop)]
+#[derive(Clone, Copy)]
 pub enum Output {
     Length(usize),
     Refused(Refusal),

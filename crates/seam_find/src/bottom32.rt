@@ -10,7 +10,7 @@ use pictures::{LARGEST_SIDE, Size};
 use seam_sums::least32;
 
 // The column where the path ends, in the last row, and what the path costs.
-#[derive(Drop)]
+#[derive(Clone, Copy)]
 pub(crate) struct Bottom {
     pub(crate) column: usize,
     pub(crate) sum: u32,

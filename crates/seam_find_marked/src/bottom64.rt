@@ -9,7 +9,7 @@ use pictures::{LARGEST_SIDE, Size};
 use seam_sums::least64;
 
 // The column where the path ends, in the last row, and what the path weighs.
-#[derive(Drop)]
+#[derive(Clone, Copy)]
 pub(crate) struct Bottom {
     pub(crate) column: usize,
     pub(crate) sum: u64,

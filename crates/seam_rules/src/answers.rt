@@ -2,21 +2,21 @@
 use pictures::Refusal;
 
 // The direction of a seam: one column for each row, or one row for each column.
-#[derive(Drop)]
+#[derive(Clone, Copy)]
 pub enum Axis {
     Vertical,
     Horizontal,
 }
 
 // A seam was found, at this cost, or there is none to give.
-#[derive(Drop)]
+#[derive(Clone, Copy)]
 pub enum Found {
     Seam(u64),
     Refused(Refusal),
 }
 
 // How a removal ended, with the count of seams cut, or why it is refused.
-#[derive(Drop)]
+#[derive(Clone, Copy)]
 pub enum Removal {
     // no pixel is marked 2
     Done(u16),
@@ -30,14 +30,14 @@ pub enum Removal {
 }
 
 // A count of rows, and a count of columns: never one for the other.
-#[derive(Drop)]
+#[derive(Clone, Copy)]
 pub struct Rows(pub usize);
 
-#[derive(Drop)]
+#[derive(Clone, Copy)]
 pub struct Columns(pub usize);
 
 // The total of the costs of the seams, or why there is none to give.
-#[derive(Drop)]
+#[derive(Clone, Copy)]
 pub enum Retargeted {
     Total(u64),
     Refused(Refusal),

@@ -5,7 +5,7 @@ ghost use Rattle.seam_rules.specs.Endings.{next_step};
 use crate::answers::Removal;
 
 // A seam is to be cut, or the removal has ended so.
-#[derive(Drop)]
+#[derive(Clone, Copy)]
 pub enum Next {
     Cut,
     Ended(Removal),

@@ -14,7 +14,7 @@ use pictures::{Kind, Size};
 use text_theory::{Head, Name};
 
 // What is left of a room; or it is too short.
-#[derive(Drop)]
+#[derive(Clone, Copy)]
 pub enum Left {
     Room(usize),
     Short,

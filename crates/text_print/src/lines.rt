@@ -14,7 +14,7 @@ use text_lengths::Left;
 use text_theory::Name;
 
 // The place after what was printed; or the space is too short, and nothing was printed.
-#[derive(Drop)]
+#[derive(Clone, Copy)]
 pub enum Place {
     Next(usize),
     Short,

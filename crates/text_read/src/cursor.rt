@@ -9,20 +9,20 @@ ghost use Rattle.text_read.specs.Inner.{passing, within};
 use pictures::numbers::LARGEST_NUMBER;
 use text_theory::Name;
 
-#[derive(Drop)]
+#[derive(Clone, Copy)]
 pub struct Cursor {
     pub at: usize,
 }
 
 // A number and the place after what was read; or the form is broken.
-#[derive(Drop)]
+#[derive(Clone, Copy)]
 pub enum Read {
     Good(usize, Cursor),
     Broken,
 }
 
 // What a byte is: a digit with its value, a small letter with its byte, or one of the bytes between words.
-#[derive(Drop)]
+#[derive(Clone, Copy)]
 pub enum Class {
     Digit(usize),
     Letter(u8),

@@ -14,21 +14,21 @@ use text_rules::name_number;
 use text_theory::{Head, Name};
 
 // A size and the place after its line; or the line is broken.
-#[derive(Drop)]
+#[derive(Clone, Copy)]
 enum SizeRead {
     Sized(Size, Cursor),
     Unsized,
 }
 
 // Depth, growth and the place after their line; or the line is broken.
-#[derive(Drop)]
+#[derive(Clone, Copy)]
 enum RangeRead {
     Ranged(usize, usize, Cursor),
     Unranged,
 }
 
 // What the head says and the place after it; or it is broken.
-#[derive(Drop)]
+#[derive(Clone, Copy)]
 pub enum HeadRead {
     Begun(Head, Cursor),
     Unbegun,

@@ -13,7 +13,7 @@ use text_rules::NAMES;
 use text_theory::Name;
 
 // A word and the place where reading goes on; or there is none.
-#[derive(Drop)]
+#[derive(Clone, Copy)]
 pub enum Word {
     Number(usize, Cursor),
     Name(Name, Cursor),
@@ -21,14 +21,14 @@ pub enum Word {
 }
 
 // A name and the place after it; or there is none.
-#[derive(Drop)]
+#[derive(Clone, Copy)]
 enum NameRead {
     Known(Name, Cursor),
     Unknown,
 }
 
 // The name of a kind and the place after it; or there is none.
-#[derive(Drop)]
+#[derive(Clone, Copy)]
 pub enum KindRead {
     Named(Kind, Cursor),
     Unnamed,

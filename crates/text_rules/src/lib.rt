@@ -11,7 +11,7 @@ use pictures::Kind;
 
 // What the items of a form are: words, or forms of words. The form of a line stands in the form of the file, so forms are
 // nested at most three deep.
-#[derive(Drop)]
+#[derive(Clone, Copy)]
 pub enum Items {
     Samples,
     Pixels,

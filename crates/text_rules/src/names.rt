@@ -10,7 +10,7 @@ use text_theory::Name;
 pub const NAMES: usize = 7;
 
 // The letters of a name at the front, and how many there are.
-#[derive(Drop)]
+#[derive(Clone, Copy)]
 pub struct Letters {
     pub bytes: [u8; 8],
     pub count: usize,

@@ -11,7 +11,7 @@ use text_rules::{Items, are_full, items_of, stays_full};
 use text_theory::{Head, Name};
 
 // How many lines, whether all have as many items as the width says, and the place after them.
-#[derive(Drop)]
+#[derive(Clone, Copy)]
 enum Lines {
     Counted(usize, bool, Cursor),
     Torn,
@@ -19,7 +19,7 @@ enum Lines {
 
 // What is known of a file before its numbers are judged: its head, the numbers of row and map lines, and whether each
 // of them has as many items as the width says.
-#[derive(Drop)]
+#[derive(Clone, Copy)]
 pub struct Facts {
     pub head: Head,
     pub rows: usize,
@@ -27,7 +27,7 @@ pub struct Facts {
     pub full: bool,
 }
 
-#[derive(Drop)]
+#[derive(Clone, Copy)]
 pub enum Scanned {
     Formed(Facts),
     Broken,

@@ -6,7 +6,7 @@ use energy::Method;
 use pictures::Size;
 
 // The words of a file that are no numbers: those that begin lines, and those that name a kind.
-#[derive(Drop)]
+#[derive(Clone, Copy)]
 pub enum Name {
     Multi,
     Size,
@@ -18,7 +18,7 @@ pub enum Name {
 }
 
 // What the lines of size and range say, and the method by which the seams of the map are found.
-#[derive(Drop)]
+#[derive(Clone, Copy)]
 pub struct Head {
     pub size: Size,
     pub method: Method,
