@@ -1,6 +1,6 @@
 -- How two columns can be near each other, by the side on which one is of the other. The join counts from three columns on.
 use mathlib.Core.Path.{◌≡◌, sym}
-use mathlib.Core.Logic.{◌⊎◌, inl, inr, ⊎_elim}
+use mathlib.Core.Logic.{inl, inr, ⊎_elim}
 use mathlib.Core.Bool.{Bool, true}
 use Prim.Native.Nat.{ℕ, ◌+◌, ◌≤◌, ◌<◌}
 use native.Mathlib.Nat.{eq-or-lt_of_le}
