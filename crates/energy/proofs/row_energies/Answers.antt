@@ -1,0 +1,27 @@
+-- `energy::row_energies` meets its contract: the two rows of bytes lie within the picture, and their energies are those of its row.
+use mathlib.Core.Path.{◌≡◌, ap}
+use Prim.Native.Nat.{◌*◌}
+use native.Mathlib.Omega.{arith}
+use lib.ListN.{length}
+use Rattle.pictures.specs.Pictures.{row_bytes}
+use Rattle.pictures.proofs.Limits.{Sized, sized_is}
+use Rattle.energy.proofs.Lines.{ends, lines_are}
+use Rattle.energy.proofs.row_energies.Goals as goal
+
+-- both rows end within the picture
+pub slice_bounds-line_energies-end-2 : goal.slice_bounds-line_energies-end-2
+slice_bounds-line_energies-end-2 c =
+    let a = c.args in
+    let sure : Sized a.size (length a.picture.now) = sized_is _ _ c.requires.sized in
+    let strided : a.size.width * c.channels.result ≡ row_bytes a.size = ap (a.size.width *◌) c.channels.ensures in
+    let e = ends a.size a.method a.picture.now a.r (a.size.width * c.channels.result) c.neighbour.result sure c.requires.inside strided c.neighbour.ensures in
+    omega arith
+
+pub returns : goal.returns
+returns c =
+    let a = c.args in
+    let sure : Sized a.size (length a.picture.now) = sized_is _ _ c.requires.sized in
+    let strided : a.size.width * c.channels.result ≡ row_bytes a.size = ap (a.size.width *◌) c.channels.ensures in
+    rw (lines_are a.size a.method a.picture.now a.r (a.size.width * c.channels.result) c.neighbour.result sure c.requires.inside strided c.neighbour.ensures _
+    c.neighbour-beside.ensures) at
+    c.line_energies.ensures
