@@ -31,9 +31,18 @@ Behind k samples ys u before c out at =
     (flat (cons_if (doubled u (get_or ys c 0)) (average (row_at (channels_of k) c samples) (row_at (channels_of k) (c + 1) samples))
     (grow_from average u (row_at (channels_of k) c samples) (drop (c + 1) (pixels_in k samples ys)) (drop (c + 1) ys))))
 
+-- One pixel more, which isn't the last.
+grow_step : (u : ℕ) (l x r : List ℕ) (xs : List (List ℕ)) (v : ℕ) (vs : List ℕ) {zs rs : List (List ℕ)} {ws : List ℕ}
+    → zs ≡ x ∷ r ∷ xs → rs ≡ r ∷ xs → ws ≡ v ∷ vs
+    → grow_from average u l zs ws ≡ x ∷ cons_if (doubled u v) (average x r) (grow_from average u x rs vs)
+grow_step u l x r xs v vs e f g = rw (e, f, g)
+
 module _ (k : Kind) (samples ys : List ℕ) (whole : length samples ≡ length ys * channels_of k) where
   abbrev pixel : ℕ → List ℕ
   pixel c = row_at (channels_of k) c samples
+
+  front : (i : ℕ) → i < length ys → drop i (pixels_in k samples ys) ≡ pixel i ∷ drop (suc i) (pixels_in k samples ys)
+  front i h = drop-cons (pixels_in k samples ys) i [] (below k samples ys whole i h) ∙ ap (◌∷ drop (suc i) (pixels_in k samples ys)) (pixel_at k samples ys whole i h)
 
   module _ (u : ℕ) (before : List ℕ) where
     pub grow-start : 0 < length ys → length (grown k samples ys u) ≤ length before → Growing k samples ys u before 0 before 0
@@ -54,9 +63,12 @@ module _ (k : Kind) (samples ys : List ℕ) (whole : length samples ≡ length y
       grow-turn : grow_from average u (pixel (c - 1)) (drop c (pixels_in k samples ys)) (drop c ys)
           ≡ pixel c ∷ cons_if (doubled u (get_or ys c 0)) (average (pixel c) (pixel (c + 1))) (grow_from average u (pixel c) (drop (c + 1) (pixels_in k samples ys)) (drop (c + 1) ys))
       grow-turn =
-          let xs = pixels_in k samples ys in
-          let i : suc c < length ys = omega arith in
-          rw (add-one c, drop-cons xs c [] (below k samples ys whole c here), drop-cons xs (suc c) [] (below k samples ys whole (suc c) i), drop-cons ys c 0 here, pixel_at k samples ys whole c here, pixel_at k samples ys whole (suc c) i)
+          let second : drop (c + 1) (pixels_in k samples ys) ≡ pixel (c + 1) ∷ drop (suc (suc c)) (pixels_in k samples ys) =
+          rw (add-one c) (front (suc c) (omega arith)) in
+          let first : drop c (pixels_in k samples ys) ≡ pixel c ∷ pixel (c + 1) ∷ drop (suc (suc c)) (pixels_in k samples ys) =
+          front c here ∙ ap (pixel c ∷◌) (rw (add-one c) (front (suc c) (omega arith))) in
+          let numbers : drop c ys ≡ get_or ys c 0 ∷ drop (c + 1) ys = rw (add-one c) (drop-cons ys c 0 here) in
+          grow_step u (pixel (c - 1)) (pixel c) (pixel (c + 1)) (drop (suc (suc c)) (pixels_in k samples ys)) (get_or ys c 0) (drop (c + 1) ys) first second numbers
 
       grow-next : Growing k samples ys u before c out at → Filling before (grown k samples ys u) out at
           (pixel c ++ flat (cons_if (doubled u (get_or ys c 0)) (average (pixel c) (pixel (c + 1))) (grow_from average u (pixel c) (drop (c + 1) (pixels_in k samples ys)) (drop (c + 1) ys))))

@@ -1,0 +1,13 @@
+-- `map_show::rows::put_last` meets its contract.
+use Rattle.map_show.proofs.Lasts.{pixel-needed, both-put}
+use Rattle.map_show.proofs.rows.put_last.Goals as goal
+
+pub put_pixel-requires : goal.put_pixel-requires
+put_pixel-requires c =
+    let a = c.args in
+    pixel-needed a.kind a.samples.now a.last a.new a.out.now a.at c.requires c.if-new.true c.left_of.ensures c.channels.ensures c.put_mean.ensures
+
+pub returns-then-new : goal.returns-then-new
+returns-then-new c =
+    let a = c.args in
+    both-put a.kind a.samples.now a.last a.new a.out.now a.at c.requires c.if-new.true c.left_of.ensures c.channels.ensures c.put_mean.ensures c.put_pixel.ensures
