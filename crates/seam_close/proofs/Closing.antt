@@ -1,22 +1,21 @@
 -- Laws of a seam closed up: the rows that are left, in the terms of the loop that closes them.
 use mathlib.Core.Path.{◌≡◌, refl, sym, ap, ap₂, subst, ◌∙◌}
 use mathlib.Core.Bool.{false, cond, not}
-use mathlib.Core.List.{List, [], ◌∷◌, ◌++◌, append-nil, append_assoc, map}
+use mathlib.Core.List.{List, [], ◌∷◌, ◌++◌, map}
 use Prim.Native.Nat.{ℕ, suc, ◌+◌, ◌-◌, ◌*◌, ◌≤◌, ◌<◌}
 use native.Mathlib.Nat.{le_of_eq, one-mul, mul-add, mul-le-mul_right, add-sub_cancel_left}
 use native.Mathlib.Omega.{arith}
 use borrow.Author.Tests.{eqb-true, not-false}
 use borrow.Rule.Slice.PartMut.{mid_of, put_mid, mid_len}
 use lib.Dec.{eqb}
-use lib.ListN.{length, get_or, take, drop, replicate, length-append, length-drop, drop_of_length-le}
-use lib.Seq.{drop-drop, take_at, drop_at, take_all, take-length, length-take-le}
+use lib.ListN.{length, get_or, take, drop, replicate, length-append, length-drop}
+use lib.Seq.{take_at, take_all, length-take-le}
 use Rattle.grids.specs.Each.{Each, Grid}
 use Rattle.grids.specs.Table.{table}
 use Rattle.grids.specs.Rows.{rows_of, flat, row_at}
 use Rattle.grids.specs.Cut.{remove_at, cut}
 use Rattle.grids.proofs.Shapes.{each-length, each_at, get_or-map}
 use Rattle.grids.proofs.Tables.{table_same}
-use Rattle.grids.proofs.Parts.{last_part}
 use Rattle.grids.proofs.Rows.{flat-rows_of, length-row_at, rows_of_at, length-rows_of, part_end}
 use Rattle.grids.proofs.Cut.{cut-each, cut-table, flat-remove_at}
 use Rattle.pictures.specs.Limits.{most_picture}
@@ -28,46 +27,13 @@ use Rattle.pictures.proofs.Limits.{line-fits, Sized, sized_is}
 use Rattle.pictures.proofs.Buffers.{picture-of_size}
 use Rattle.seam_bounds.specs.Moves.{close_length_rules, close_column_rules, outside}
 use Rattle.seam_bounds.proofs.Moving.{inside_each}
-use Rattle.seam_close.specs.Inner.{without, RowNeeded, CloseNeeded}
+use Rattle.seam_close.specs.Inner.{without, CloseNeeded}
 use Rattle.grids.proofs.Filled.{map-table, Filled, filled-later, filled-part, filled-rest}
 
 -- How long a line is without the bytes of a pixel.
 pub length_without : (gap n : ℕ) (line : List ℕ) → gap + n ≤ length line → length (without gap n line) ≡ length line - n
 length_without gap n line h =
     omega (arith, length-append (take gap line) (drop (gap + n) line), length-take-le gap line (omega arith), length-drop (gap + n) line)
-
--- A list copied to the front of another, as `bytes::copy` says it.
-abbrev copied : List ℕ → List ℕ → List ℕ
-copied from to = take (length from) from ++ drop (length from) to
-
-copied_is : (from to : List ℕ) → copied from to ≡ from ++ drop (length from) to
-copied_is from to = ap (◌++ drop (length from) to) (take-length from)
-
--- Two copies close a line: what stands before the gap, and next to it what stands after the gap.
-module _ (line out one two : List ℕ) (gap n : ℕ) (needed : RowNeeded line gap n out) where
-  pub two_copies : one ≡ copied (take gap line) out
-      → two ≡ copied (mid_of (gap + n) (length line - (gap + n)) line) (mid_of gap (length one - gap) one)
-      → put_mid gap (length one - gap) one two ≡ without gap n line ++ drop (length line - n) out
-  two_copies first second =
-      let inside = needed.inside in
-      let room = needed.room in
-      let F = take gap line in
-      let B = drop (gap + n) line in
-      let lf : length F ≡ gap = length-take-le gap line (omega arith) in
-      let lb : length B ≡ length line - (gap + n) = length-drop (gap + n) line in
-      let one-is : one ≡ F ++ drop gap out = rw lf at (first ∙ copied_is F out) in
-      let past : drop gap one ≡ drop gap out = rw one-is (drop_at F (drop gap out) gap lf) in
-      let front : take gap one ≡ F = rw one-is (take_at F (drop gap out) gap lf) in
-      let lo : length (drop gap out) ≡ length out - gap = length-drop gap out in
-      let long : length one ≡ length out = ap length one-is ∙ length-append F (drop gap out) ∙ omega arith in
-      let k : ℕ = length one - gap in
-      let mid : take k (drop gap one) ≡ drop gap out = last_part gap one ∙ past in
-      let none : drop k (drop gap one) ≡ [] = ap (drop k) past ∙ drop_of_length-le (drop gap out) {i = k} (omega arith) in
-      let part : take (length line - (gap + n)) B ≡ B = last_part (gap + n) line in
-      let end : gap + (length line - (gap + n)) ≡ length line - n = omega arith in
-      let whole = copied_is (mid_of (gap + n) (length line - (gap + n)) line) (mid_of gap k one) in
-      let two_is : two ≡ B ++ drop (length line - n) out = rw (part, mid, lb, drop-drop, end) at (second ∙ whole) in
-      rw (front, none, two_is, append-nil, append_assoc)
 
 -- Row r of a picture, and its bytes.
 pub row-flat : (z : Size) (b : List ℕ) (r : ℕ) → length b ≡ picture_bytes z → r < z.height → flat (get_or (picture z b) r []) ≡ row_at (row_bytes z) r b
@@ -168,7 +134,7 @@ module _ (z : Size) (b s : List ℕ) (n : ℕ) (needed : CloseNeeded b z s) (is 
   -- comes back.
   module _ (r k c : ℕ) (now row line old new : List ℕ) (inside : r < h) (long : length now ≡ length b) (so_far : Filled (closed_row n (w * n) b s) (w * n - n) b r now) where
     pub row_turn : row ≡ mid_of (r * (w * n)) (r * (w * n) + w * n - r * (w * n)) now
-        → line ≡ copied row old
+        → line ≡ row ++ drop (w * n) old
         → c ≡ get_or s r 0
         → k ≡ length now - r * (w * n - n)
         → new ≡ without (c * n) n (take (w * n) line) ++ drop (length (take (w * n) line) - n) (mid_of (r * (w * n - n)) k now)
@@ -180,7 +146,7 @@ module _ (z : Size) (b s : List ℕ) (n : ℕ) (needed : CloseNeeded b z s) (is 
         let later : drop (r * (w * n)) now ≡ drop (r * (w * n)) b = filled-later f h (w * n - n) size b r now inside so_far (r * (w * n)) q.dest in
         let same : row ≡ row_at (w * n) r b = row_is ∙ rw (add-sub_cancel_left (r * (w * n)) (w * n), later) in
         let size-row : length row ≡ w * n = rw same (length-row_at (w * n) h b r (omega (arith, sure.length_is)) inside) in
-        let front : take (w * n) line ≡ row_at (w * n) r b = rw (line-is ∙ copied_is row old) (take_at row (drop (length row) old) (w * n) size-row ∙ same) in
+        let front : take (w * n) line ≡ row_at (w * n) r b = rw line-is (take_at row (drop (w * n) old) (w * n) size-row ∙ same) in
         let D = drop (r * (w * n - n)) now in
         let room : w * n - n ≤ length (take k D) = rw (length-take-le k D (omega (arith, length-drop (r * (w * n - n)) now))) (omega (arith, sure.some)) in
         filled-part f h (w * n - n) size b r now inside so_far k new room (rw (front, column, length-row_at (w * n) h b r (omega (arith, sure.length_is)) inside) at New-is)

@@ -33,8 +33,10 @@ fn close_row(line: &[u8], gap: usize, n: usize, out: &mut [u8])
     ensures { out.new ≡ without gap n line.now ++ drop (length line.now - n) out.old }
 {
     let past = gap + n;
-    bytes::copy(&line[..gap], out);
-    bytes::copy(&line[past..], &mut out[gap..]);
+    out[..gap].copy_from_slice(&line[..gap]);
+    let rest = &line[past..];
+    let end = gap + rest.len();
+    out[gap..end].copy_from_slice(rest);
 }
 
 // Takes the seam's pixel out of each row. A row's bytes pass through `line`, since where they go overlaps where they are.
@@ -51,7 +53,7 @@ pub(crate) fn close_rows(picture: &mut [u8], size: Size, seam: &[u16])
     let mut line = [0u8; 6 * LARGEST_SIDE];
     for r in 0..height {
         let at = r * stride;
-        bytes::copy(&picture[at..at + stride], &mut line);
+        line[..stride].copy_from_slice(&picture[at..at + stride]);
         let gap = wide(seam[r]) * n;
         let dest = r * kept;
         close_row(&line[..stride], gap, n, &mut picture[dest..]);
