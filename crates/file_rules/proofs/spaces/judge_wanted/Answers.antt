@@ -38,7 +38,7 @@ returns-then-wanted-width c =
 pub overflow_add-width : goal.overflow_add-width
 overflow_add-width c =
     let s : Sound c.args.head = record { sides = sym c.in-Served.ensures; range = sym c.is_allowed.ensures ∙ c.if-not-is_allowed.false } in
-    omega (arith, most c.args.head 0 0 0 s)
+    omega (arith, most c.args.head 0 0 0 s, ((allowed_is c.args.head.size.width c.args.head.depth c.args.head.growth).0 s.range).0)
 
 pub returns-then-width-head : goal.returns-then-width-head
 unfolding offered
