@@ -9,9 +9,6 @@ use native.Mathlib.Omega.{arith}
 use lib.Dec.{leb, eqb}
 use lib.ListN.{length, get_or, drop, drop_of_length-le}
 use borrow.Author.Tests.{le-leb, lt-leb, leb-true, eq-eqb, ne_eqb, eqb-true, eqb-false}
-use denote.Enum.Declared
-use types.Run.{OneOf, miss}
-use Rattle.text_read.specs.contracts.cursor.Class as class
 use Rattle.grids.proofs.Bools.{both}
 use Rattle.text_theory.specs.Readers.{Get, give, onward, strip}
 use Rattle.text_theory.specs.Decimal.{is_digit}
@@ -23,9 +20,6 @@ use Rattle.text_read.specs.declared.cursor.Class.TheVariants.{Digit, Letter, Ope
 use Rattle.text_read.specs.Answers.{Told, is_letter, class_of, class_number, of_class}
 use Rattle.text_read.specs.Inner.{passing}
 use Rattle.text_read.proofs.DigitSteps.{no_digit, DigitByte}
-
-abbrev pub tag_of : Class → ℕ
-tag_of x = Declared.tag_of class.the_type x
 
 pub class_digit : (b d : ℕ) → 48 ≤ b → b < 58 → d ≡ b - 48 → Digit d ≡ class_of b
 unfolding class_of
@@ -101,70 +95,35 @@ closing_byte {b = b} e f = rw (found b e f) at (class_says b)
 pub blank_byte : {x : Class} {b : ℕ} → x ≡ Blank → x ≡ class_of b → b ≡ 32
 blank_byte {b = b} e f = rw (found b e f) at (class_says b)
 
--- An arm that doesn't have the class y: it isn't y.
-other_class : (ks : List ℕ) (x y : Class) → OneOf ks (tag_of x) → (OneOf ks (tag_of y) → ⊥) → x ≡ y → ⊥
-other_class ks x y k n e = n (rw e at k)
-
+-- The readers' default arms: the class is none of those that the arms before take.
 module _ {x : Class} (b : ℕ) (f : x ≡ class_of b) where
-  pub no_digit_byte : (ks : List ℕ) → OneOf ks (tag_of x) → (OneOf ks 0 → ⊥) → is_digit b ≡ false
+  pub arm_no_digit : ((d : ℕ) → x ≡ Digit d → ⊥) → is_digit b ≡ false
   unfolding class_of
-  no_digit_byte ks k n = go (is_digit b) refl
+  arm_no_digit n = go (is_digit b) refl
     where
       go : (d : Bool) → is_digit b ≡ d → is_digit b ≡ false
-      go true h = absurd (other_class ks x (Digit (b - 48)) k n (f ∙ rw h))
+      go true h = absurd (n (b - 48) (f ∙ rw h))
       go false h = h
 
-  pub no_letter_byte : (ks : List ℕ) → OneOf ks (tag_of x) → (OneOf ks 1 → ⊥) → is_letter b ≡ false
+  pub arm_no_letter : ((l : ℕ) → x ≡ Letter l → ⊥) → is_letter b ≡ false
   unfolding class_of
-  no_letter_byte ks k n = go (is_letter b) refl
+  arm_no_letter n = go (is_letter b) refl
     where
       go : (l : Bool) → is_letter b ≡ l → is_letter b ≡ false
-      go true h = absurd (other_class ks x (Letter b) k n (f ∙ rw (letter_digit b h, h)))
+      go true h = absurd (n b (f ∙ rw (letter_digit b h, h)))
       go false h = h
 
-  pub no_opening_byte : (ks : List ℕ) → OneOf ks (tag_of x) → (OneOf ks 2 → ⊥) → b ≡ 40 → ⊥
+  pub arm_no_opening : (x ≡ Opening → ⊥) → b ≡ 40 → ⊥
   unfolding class_of is_digit is_letter
-  no_opening_byte ks k n e = other_class ks x Opening k n (f ∙ ap class_of e)
+  arm_no_opening n e = n (f ∙ ap class_of e)
 
-  pub no_closing_byte : (ks : List ℕ) → OneOf ks (tag_of x) → (OneOf ks 3 → ⊥) → b ≡ 41 → ⊥
+  pub arm_no_closing : (x ≡ Closing → ⊥) → b ≡ 41 → ⊥
   unfolding class_of is_digit is_letter
-  no_closing_byte ks k n e = other_class ks x Closing k n (f ∙ ap class_of e)
+  arm_no_closing n e = n (f ∙ ap class_of e)
 
-  pub no_blank_byte : (ks : List ℕ) → OneOf ks (tag_of x) → (OneOf ks 4 → ⊥) → b ≡ 32 → ⊥
+  pub arm_no_blank : (x ≡ Blank → ⊥) → b ≡ 32 → ⊥
   unfolding class_of is_digit is_letter
-  no_blank_byte ks k n e = other_class ks x Blank k n (f ∙ ap class_of e)
-
--- The readers' default arms: all classes but one or two.
-abbrev pub no_digits : List ℕ
-no_digits = 1 ∷ 2 ∷ 3 ∷ 4 ∷ 5 ∷ 6 ∷ []
-
-abbrev pub no_letters : List ℕ
-no_letters = 0 ∷ 2 ∷ 3 ∷ 4 ∷ 5 ∷ 6 ∷ []
-
-abbrev pub no_words : List ℕ
-no_words = 2 ∷ 3 ∷ 4 ∷ 5 ∷ 6 ∷ []
-
-abbrev pub no_openings : List ℕ
-no_openings = 0 ∷ 1 ∷ 3 ∷ 4 ∷ 5 ∷ 6 ∷ []
-
-abbrev pub no_items : List ℕ
-no_items = 0 ∷ 1 ∷ 2 ∷ 5 ∷ 6 ∷ []
-
-module _ {x : Class} (b : ℕ) (f : x ≡ class_of b) where
-  pub arm_no_digit : OneOf no_digits (tag_of x) → is_digit b ≡ false
-  arm_no_digit k = no_digit_byte b f no_digits k (miss no_digits 0 tt)
-
-  pub arm_no_letter : OneOf no_letters (tag_of x) → is_letter b ≡ false
-  arm_no_letter k = no_letter_byte b f no_letters k (miss no_letters 1 tt)
-
-  pub arm_no_word : OneOf no_words (tag_of x) → (is_digit b ≡ false) × (is_letter b ≡ false)
-  arm_no_word k = (no_digit_byte b f no_words k (miss no_words 0 tt), no_letter_byte b f no_words k (miss no_words 1 tt))
-
-  pub arm_no_opening : OneOf no_openings (tag_of x) → b ≡ 40 → ⊥
-  arm_no_opening k = no_opening_byte b f no_openings k (miss no_openings 2 tt)
-
-  pub arm_no_item : OneOf no_items (tag_of x) → (b ≡ 41 → ⊥) × (b ≡ 32 → ⊥)
-  arm_no_item k = (no_closing_byte b f no_items k (miss no_items 3 tt), no_blank_byte b f no_items k (miss no_items 4 tt))
+  arm_no_blank n e = n (f ∙ ap class_of e)
 
 -- The classes of one byte, by their numbers: the brackets, the blank and the line end.
 abbrev byte_of : ℕ → ℕ

@@ -9,11 +9,7 @@ use native.Mathlib.Omega.{arith}
 use lib.Dec.{leb, ltb, eqb}
 use lib.ListN.{length, get_or, drop, drop_of_length-le}
 use lib.Seq.{drop-cons}
-use borrow.Author.Tests.{leb-true, leb-false, le-ltb, lt-ltb, eqb-true, eq-eqb, ne_eqb}
-use denote.Enum.Declared
-use types.Run.{OneOf, miss}
-use Rattle.text_read.specs.contracts.words.Word as word-type
-use Rattle.text_theory.specs.contracts.Name as name-type
+use borrow.Author.Tests.{leb-true, leb-false, le-ltb, lt-ltb, eq-eqb, ne_eqb}
 use Rattle.pictures.specs.declared.sizes.Kind.{Kind}
 use Rattle.pictures.specs.Numbers.{largest_number}
 use Rattle.text_theory.specs.declared.Name.{Name}
@@ -22,7 +18,8 @@ use Rattle.text_theory.specs.Readers.{give, on, strip, after, either}
 use Rattle.text_theory.specs.Decimal.{is_digit, further, up_to, number_get}
 use Rattle.text_theory.specs.Words.{name_text, name_number, all_names, name_at, one_of, name_get, named, kind_named, kind_get}
 use Rattle.text_theory.proofs.Pairs.{front}
-use Rattle.text_theory.proofs.Names.{each_name, name_sound}
+use Rattle.text_theory.proofs.Names.{name_sound}
+use Rattle.text_read.specs.declared.cursor.Cursor.{Cursor}
 use Rattle.text_read.specs.declared.words.Word.{Word}
 use Rattle.text_read.specs.declared.words.Word.TheVariants as words
 use Rattle.text_read.specs.Answers.{Told, is_letter, Written, numeral, name, word, word_read}
@@ -30,12 +27,6 @@ use Rattle.text_read.specs.Inner.{passing}
 use Rattle.text_read.proofs.ByteClasses.{digit_letter}
 use Rattle.text_read.proofs.Letters.{no_letter_first}
 use Rattle.text_read.proofs.Onward.{passing-some, passing-none}
-
-abbrev name_tag : Name → ℕ
-name_tag x = Declared.tag_of name-type.the_type x
-
-abbrev tag_of : Word → ℕ
-tag_of x = Declared.tag_of word-type.the_type x
 
 -- A name begins with a small letter.
 name_nil : name_get [] ≡ none
@@ -181,10 +172,10 @@ module _ {text : List ℕ} {at : ℕ} where
   told_name {k} {c} t = record { same = (word_name (drop at text) k (drop c text) t.same).1; moved = t.moved }
 
   -- The arm of all words that are no names.
-  pub told_no_name : (w : Word) → OneOf (0 ∷ 2 ∷ []) (tag_of w) → Told word text at (word_read w) → Told name_get text at none
-  told_no_name (words.Number n c) k t = record { same = number_name (drop at text) _ (word_numeral (drop at text) n (drop c.at text) t.same); moved = tt }
-  told_no_name (words.Name n c) k t = absurd (miss (0 ∷ 2 ∷ []) 1 tt k)
-  told_no_name words.Broken k t = record { same = (word_none (drop at text) t.same).1; moved = tt }
+  pub told_no_name : (w : Word) → ((k : Name) (c : Cursor) → w ≡ words.Name k c → ⊥) → Told word text at (word_read w) → Told name_get text at none
+  told_no_name (words.Number n c) h t = record { same = number_name (drop at text) _ (word_numeral (drop at text) n (drop c.at text) t.same); moved = tt }
+  told_no_name (words.Name n c) h t = absurd (h n c refl)
+  told_no_name words.Broken h t = record { same = (word_none (drop at text) t.same).1; moved = tt }
 
 -- The kind of a name.
 module _ {text : List ℕ} {at : ℕ} where
@@ -201,17 +192,14 @@ module _ {text : List ℕ} {at : ℕ} where
   told_unnamed t = record { same = rw t.same; moved = tt }
 
 -- The arm of all names that are no kind's.
-abbrev no_kinds : List ℕ
-no_kinds = 0 ∷ 1 ∷ 2 ∷ 3 ∷ 4 ∷ []
-
-name_tag_lem : (n : Name) → name_tag n ≡ name_number n
-name_tag_lem n = eqb-true _ _ (each_name (λ m. eqb (name_tag m) (name_number m)) refl n)
-
-pub no_kind : (n : Name) → OneOf no_kinds (name_tag n) → kind_named n ≡ none
-no_kind n k = rw (ne_eqb 5 (name_number n) (other 5 (miss no_kinds 5 tt)), ne_eqb 6 (name_number n) (other 6 (miss no_kinds 6 tt)))
-  where
-    other : (i : ℕ) → (OneOf no_kinds i → ⊥) → i ≡ name_number n → ⊥
-    other i h e = h (rw (name_tag_lem n ∙ sym e) at k)
+pub no_kind : (n : Name) → (n ≡ names.Grey → ⊥) → (n ≡ names.Rgb → ⊥) → kind_named n ≡ none
+no_kind names.Multi g r = refl
+no_kind names.Size g r = refl
+no_kind names.Range g r = refl
+no_kind names.Row g r = refl
+no_kind names.Map g r = refl
+no_kind names.Grey g r = absurd (g refl)
+no_kind names.Rgb g r = absurd (r refl)
 
 -- One name alone.
 module _ (n : Name) {text : List ℕ} {at : ℕ} where

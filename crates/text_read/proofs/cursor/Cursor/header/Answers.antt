@@ -1,0 +1,57 @@
+-- `text_read::cursor::Cursor::header` meets its contract: after each line, what is left of the head is left to read. The method
+-- is that of `usual_method`.
+use Rattle.std.proofs.Common.{List, ℕ}
+use Rattle.std.proofs.Math.Option.{some}
+use Rattle.pictures.specs.declared.sizes.Size.{Size}
+use Rattle.energy.specs.Methods.{usual_method}
+use Rattle.text_theory.specs.declared.Head.{Head}
+use Rattle.text_theory.specs.declared.Name.TheVariants as name
+use Rattle.text_theory.specs.Readers.{Get, give, ◌▷◌, after}
+use Rattle.text_theory.specs.Files.{line_end, begun, size_get, range_get, head_get}
+use Rattle.text_read.specs.declared.cursor.Class.TheVariants.{LineEnd}
+use Rattle.text_read.specs.Answers.{Told, of_class, beginning}
+use Rattle.text_read.proofs.ByteClasses.{told_line_end}
+use Rattle.text_read.proofs.Onward.{Left, left_start, left_as, left-past, left_no_past, left_then, left_no_then, left_then_give, told_begun, after_first}
+use Rattle.text_read.proofs.cursor.Cursor.header.Goals as goal
+
+-- The head from each line on.
+abbrev head_of : Size → ℕ × ℕ → Head
+head_of z r = record { size = z; method = usual_method; depth = r.0; growth = r.1 }
+
+abbrev from-range : Size → Get Head
+from-range z = range_get ▷ λ r. give (head_of z r)
+
+-- What is left after the first line's name, the first line, the line of the size.
+at-start : (text : List ℕ) (from : ℕ) → Left head_get text from (after (begun name.Multi) (after line_end (size_get ▷ from-range))) from
+unfolding head_get
+at-start text from = left_as (after_first (size_get ▷ from-range)) left_start
+
+module _ {text : List ℕ} {from v a : ℕ} (N : Told (beginning name.Multi) text from (some (v, a))) where
+  after-name : Left head_get text from (after line_end (size_get ▷ from-range)) a
+  after-name = left-past (begun name.Multi) (at-start text from) (told_begun name.Multi N)
+
+  module _ {u b : ℕ} (E : Told (of_class LineEnd) text a (some (u, b))) where
+    after-first-line : Left head_get text from (size_get ▷ from-range) b
+    after-first-line = left-past line_end after-name (told_line_end E)
+
+    after-size : {z : Size} {c : ℕ} → Told size_get text b (some (z, c)) → Left head_get text from (from-range z) c
+    after-size S = left_then from-range after-first-line S
+
+pub returns-in_default : goal.returns-in_default
+returns-in_default c = left_no_past (begun name.Multi) _ (at-start _ _) (told_begun name.Multi c.in_default.ensures)
+
+pub returns-in_default-past : goal.returns-in_default-past
+returns-in_default-past c = left_no_past line_end _ (after-name c.in-Good.ensures) (told_line_end c.in_default-past.ensures)
+
+pub returns-in_default-size_line : goal.returns-in_default-size_line
+returns-in_default-size_line c =
+    left_no_then from-range (after-first-line c.in-Good.ensures c.in-Good-past.ensures) c.in_default-size_line.ensures
+
+pub returns-in_default-range_line : goal.returns-in_default-range_line
+returns-in_default-range_line c =
+    left_no_then _ (after-size c.in-Good.ensures c.in-Good-past.ensures c.in-Sized.ensures) c.in_default-range_line.ensures
+
+pub returns : goal.returns
+returns c =
+    rw c.usual_method-method.ensures
+    (left_then_give (head_of c.in-Sized.size) (after-size c.in-Good.ensures c.in-Good-past.ensures c.in-Sized.ensures) c.in-Ranged.ensures)

@@ -1,0 +1,82 @@
+-- `text_read::cursor::Cursor::size_line` meets its contract: after each word, what is left of the line is left to read.
+use Rattle.std.proofs.Common.{List, ℕ}
+use Rattle.std.proofs.Math.Option.{some}
+use Rattle.pictures.specs.declared.sizes.Kind.{Kind}
+use Rattle.pictures.specs.declared.sizes.Size.{Size}
+use Rattle.pictures.specs.Numbers.{largest_number}
+use Rattle.text_theory.specs.declared.Name.TheVariants as name
+use Rattle.text_theory.specs.Readers.{Get, give, ◌▷◌, after}
+use Rattle.text_theory.specs.Decimal.{number_get}
+use Rattle.text_theory.specs.Words.{kind_get}
+use Rattle.text_theory.specs.Files.{blank, closed, begun, size_get}
+use Rattle.text_read.specs.declared.cursor.Class.TheVariants.{Blank}
+use Rattle.text_read.specs.Answers.{Told, of_class, beginning}
+use Rattle.text_read.proofs.ByteClasses.{told_blank}
+use Rattle.text_read.proofs.Onward.{Left, left_start, left-past, left_no_past, left-past-give, left_then, left_no_then, left_after, left_no_after, told_begun}
+use Rattle.text_read.proofs.cursor.Cursor.size_line.Goals as goal
+
+-- The line from each word on.
+abbrev from-closing : ℕ → ℕ → Kind → Get Size
+from-closing w h k = after closed (give (record { width = w; height = h; kind = k }))
+
+abbrev from-height : ℕ → ℕ → Get Size
+from-height w h = after blank (kind_get ▷ from-closing w h)
+
+abbrev from-width : ℕ → Get Size
+from-width w = after blank (number_get largest_number ▷ from-height w)
+
+-- What is left after the name, the width, the height, the blank, the kind.
+module _ {text : List ℕ} {from v a : ℕ} (N : Told (beginning name.Size) text from (some (v, a))) where
+  after-name : Left size_get text from (after blank (number_get largest_number ▷ from-width)) a
+  unfolding size_get
+  after-name = left-past (begun name.Size) left_start (told_begun name.Size N)
+
+  module _ {w b : ℕ} (W : Told (after blank (number_get largest_number)) text a (some (w, b))) where
+    after-width : Left size_get text from (from-width w) b
+    after-width = left_after blank (number_get largest_number) from-width after-name W
+
+    module _ {h c : ℕ} (H : Told (after blank (number_get largest_number)) text b (some (h, c))) where
+      after-height : Left size_get text from (from-height w h) c
+      after-height = left_after blank (number_get largest_number) (from-height w) after-width H
+
+      module _ {u d : ℕ} (B : Told (of_class Blank) text c (some (u, d))) where
+        after-blank : Left size_get text from (kind_get ▷ from-closing w h) d
+        after-blank = left-past blank after-height (told_blank B)
+
+        after-kind : {k : Kind} {e : ℕ} → Told kind_get text d (some (k, e)) → Left size_get text from (from-closing w h k) e
+        after-kind K = left_then (from-closing w h) after-blank K
+
+pub returns-in_default : goal.returns-in_default
+unfolding size_get
+returns-in_default c = left_no_past (begun name.Size) _ left_start (told_begun name.Size c.in_default.ensures)
+
+pub returns-in_default-spaced : goal.returns-in_default-spaced
+returns-in_default-spaced c =
+    left_no_after blank (number_get largest_number) from-width (after-name c.in-Good.ensures) c.in_default-spaced.ensures
+
+pub returns-in_default-spaced-2 : goal.returns-in_default-spaced-2
+returns-in_default-spaced-2 c =
+    left_no_after blank (number_get largest_number) (from-height _) (after-width c.in-Good.ensures c.in-Good-spaced.ensures)
+    c.in_default-spaced-2.ensures
+
+pub returns-in_default-past : goal.returns-in_default-past
+returns-in_default-past c =
+    left_no_past blank _ (after-height c.in-Good.ensures c.in-Good-spaced.ensures c.in-Good-spaced-2.ensures)
+    (told_blank c.in_default-past.ensures)
+
+pub returns-in_default-kind : goal.returns-in_default-kind
+returns-in_default-kind c =
+    left_no_then _ (after-blank c.in-Good.ensures c.in-Good-spaced.ensures c.in-Good-spaced-2.ensures c.in-Good-past.ensures)
+    c.in_default-kind.ensures
+
+pub returns-in_default-close : goal.returns-in_default-close
+returns-in_default-close c =
+    left_no_past closed _
+    (after-kind c.in-Good.ensures c.in-Good-spaced.ensures c.in-Good-spaced-2.ensures c.in-Good-past.ensures c.in-Named.ensures)
+    c.in_default-close.ensures
+
+pub returns : goal.returns
+returns c =
+    left-past-give closed
+    (after-kind c.in-Good.ensures c.in-Good-spaced.ensures c.in-Good-spaced-2.ensures c.in-Good-past.ensures c.in-Named.ensures)
+    c.in-Good-close.ensures
