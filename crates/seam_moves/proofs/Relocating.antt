@@ -6,12 +6,12 @@ use native.Mathlib.Nat.{zero-mul, suc-mul, add-zero, mul_left_comm, add-sub_canc
 use native.Mathlib.Numerals.{add-one}
 use native.Mathlib.Omega.{arith}
 use borrow.Rule.Slice.PartMut.{mid_of, put_mid}
-use lib.ListN.{length, get_or, take, drop, set, length-append, length-drop, take-append-drop, drop_of_length-le}
-use lib.Seq.{paste, paste-suc, get_or-take, get_or-drop, length-take-le, take_at, take-length}
+use lib.ListN.{length, get_or, take, drop, set, length-append, length-drop, take-append-drop}
+use lib.Seq.{paste, paste-suc, get_or-take, get_or-drop, length-take-le, take_at}
 use Rattle.grids.specs.Table.{table}
 use Rattle.grids.specs.Rows.{flat}
 use Rattle.grids.specs.Exchange.{exchange}
-use Rattle.grids.proofs.Parts.{put_part, part_length}
+use Rattle.grids.proofs.Parts.{put_part}
 use Rattle.grids.proofs.Rows.{part_end}
 use Rattle.pictures.specs.Limits.{most_picture}
 use Rattle.pictures.specs.declared.sizes.Size.{Size}
@@ -139,7 +139,7 @@ module _ (z : Size) (old : List ℕ) (from all to s : ℕ) (needed : PictureNeed
 
       pub column_turn : (line before new : List ℕ) (v : Verdict) → length before ≡ 6 * largest_side
           → ColumnGiven (mid_of from (from + all - from) now) z c before v line
-          → new ≡ take (length (take s line)) (take s line) ++ drop (length (take s line)) (mid_of (to + c * s) (to + c * s + s - (to + c * s)) now)
+          → new ≡ take s line
           → Exchanged z from to s old (c + 1) (put_mid (to + c * s) (to + c * s + s - (to + c * s)) now new)
       column_turn line before new v before-long given New-is =
           let at = to + c * s in
@@ -148,11 +148,7 @@ module _ (z : Size) (old : List ℕ) (from all to s : ℕ) (needed : PictureNeed
           let size : refusal (size_rules z (length (mid_of from (from + all - from) now))) ≡ 0 = ap (λ x. refusal (size_rules z (length x))) lent ∙ ap (λ n. refusal (size_rules z n)) b-long ∙ sized-served z needed.sides in
           let line-is = column-served (mid_of from (from + all - from) now) z c before line v given size (omega (arith, is, line-most)) inside in
           let front : take s line ≡ f c = ap (take s) (line-is ∙ ap (λ x. column_bytes z x c ++ drop (z.height * channels_of z.kind) before) lent) ∙ take_at (f c) (drop (z.height * channels_of z.kind) before) s many in
-          let here : length (take s line) ≡ s = ap length front ∙ many in
-          let part : length (mid_of (to + c * s) (to + c * s + s - (to + c * s)) now) ≡ s = part_length at (at + s) now (omega arith) ∙ add-sub_cancel_left at s in
-          let none : drop (length (take s line)) (mid_of (to + c * s) (to + c * s + s - (to + c * s)) now) ≡ [] = drop_of_length-le (mid_of (to + c * s) (to + c * s + s - (to + c * s)) now) {i = length (take s line)} (omega arith) in
-          let whole-line : new ≡ f c = New-is ∙ ap₂ ◌++◌ (take-length (take s line)) none ∙ append-nil (take s line) ∙ front in
-          put_part at (at + s) now new (omega arith) ∙ exchanged-more new whole-line
+          put_part at (at + s) now new (omega arith) ∙ exchanged-more new (New-is ∙ front)
 
   pub exchanged_all : (now : List ℕ) → Exchanged z from to s old w now → now ≡ put_at to (picture_bytes z) (bytes (exchange w (picture z b))) old
   exchanged_all now so_far =

@@ -65,6 +65,6 @@ fn exchange_places(space: &mut [u8], from: usize, size: Size, all: usize, to: us
         copy_column(&space[from..past], size, c, &mut line);
         let at = to + c * stride;
         let end = at + stride;
-        bytes::copy(&line[..stride], &mut space[at..end]);
+        space[at..end].copy_from_slice(&line[..stride]);
     }
 }
