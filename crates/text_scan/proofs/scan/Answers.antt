@@ -1,0 +1,89 @@
+-- `text_scan::scan` meets its contract: after the head, the row lines and the map lines, what is left of the text is left to read.
+use Rattle.std.proofs.Common.{◌≡◌, sym, Bool, ◌&&◌, List, ℕ}
+use Rattle.std.proofs.Math.Option.{some}
+use Rattle.text_theory.specs.declared.Head.{Head}
+use Rattle.text_theory.specs.declared.Name.TheVariants as name
+use Rattle.text_theory.specs.Readers.{Get, give, ◌▷◌, after}
+use Rattle.text_theory.specs.Files.{begun, closed, row_word, map_word, head_get}
+use Rattle.text_rules.specs.declared.Items.{Items}
+use Rattle.text_rules.specs.declared.Items.TheVariants.{Numbers}
+use Rattle.text_rules.specs.Items.{items_of}
+use Rattle.text_read.specs.Answers.{Told}
+use Rattle.text_read.proofs.Onward.{Left, left_start, left-past, left_no_past, left_then, left_no_then}
+use Rattle.text_scan.specs.declared.Facts.{Facts}
+use Rattle.text_scan.specs.Inner.{Reached, lines_of, scan_of}
+use Rattle.text_scan.proofs.WholeText.{left_reach, left_no_reach, scan_none, scan_more, scan_end}
+use Rattle.text_scan.proofs.scan.Goals as goal
+
+-- The text from each part on.
+abbrev from_end : Head → ℕ × Bool → ℕ × Bool → Get Facts
+from_end h r m = after closed (give (record { head = h; rows = r.0; maps = m.0; full = r.1 && m.1 }))
+
+abbrev from-maps : Head → ℕ × Bool → Get Facts
+from-maps h r = lines_of map_word Numbers h.size.width ▷ from_end h r
+
+abbrev from-rows : Head → Get Facts
+from-rows h = lines_of row_word (items_of h.size.kind) h.size.width ▷ from-maps h
+
+-- What is left after the head, the row lines, the map lines.
+module _ {text : List ℕ} {h : Head} {a : ℕ} (H : Told head_get text 0 (some (h, a))) where
+  after-head : Left scan_of text 0 (from-rows h) a
+  unfolding scan_of
+  after-head = left_then from-rows left_start H
+
+  module _ {i : Items} (e : i ≡ items_of h.size.kind) where
+    after-rows : {r : ℕ × Bool} {b : ℕ} → Reached (lines_of (begun name.Row) i h.size.width) text a (some (r, b)) → Left scan_of text 0 (from-maps h r) b
+    unfolding row_word
+    after-rows R = left_reach (from-maps h) after-head (rw e at R)
+
+    after-maps : {r m : ℕ × Bool} {b c : ℕ} → Reached (lines_of (begun name.Row) i h.size.width) text a (some (r, b))
+        → Reached (lines_of (begun name.Map) Numbers h.size.width) text b (some (m, c)) → Left scan_of text 0 (from_end h r m) c
+    unfolding map_word
+    after-maps {r} R M = left_reach (from_end h r) (after-rows R) M
+
+pub returns-in_default : goal.returns-in_default
+unfolding scan_of
+returns-in_default c = sym (scan_none (left_no_then from-rows left_start c.in_default.ensures))
+
+pub returns-in_default-count_lines : goal.returns-in_default-count_lines
+unfolding row_word
+returns-in_default-count_lines c =
+    sym
+    (scan_none
+    (left_no_reach (from-maps c.in-Begun.head) (after-head c.in-Begun.ensures)
+    (rw c.items_of.ensures at c.in_default-count_lines.ensures)))
+
+pub returns-in_default-count_lines-2 : goal.returns-in_default-count_lines-2
+unfolding map_word
+returns-in_default-count_lines-2 c =
+    sym
+    (scan_none
+    (left_no_reach (from_end c.in-Begun.head _) (after-rows c.in-Begun.ensures c.items_of.ensures c.in-Counted.ensures)
+    c.in_default-count_lines-2.ensures))
+
+pub returns-in_default-close : goal.returns-in_default-close
+returns-in_default-close c =
+    sym
+    (scan_none
+    (left_no_past closed _
+    (after-maps c.in-Begun.ensures c.items_of.ensures c.in-Counted.ensures c.in-Counted-count_lines.ensures)
+    c.in_default-close.ensures))
+
+pub returns-then-at-text : goal.returns-then-at-text
+returns-then-at-text c =
+    sym
+    (scan_more
+    (left-past closed
+    (after-maps c.in-Begun.ensures c.items_of.ensures c.in-Counted.ensures c.in-Counted-count_lines.ensures)
+    c.in-Good.ensures)
+    c.if-at-text.true)
+
+pub returns : goal.returns
+returns c =
+    rw c.are_full.ensures
+    (sym
+    (scan_end
+    (left-past closed
+    (after-maps c.in-Begun.ensures c.items_of.ensures c.in-Counted.ensures c.in-Counted-count_lines.ensures)
+    c.in-Good.ensures)
+    c.if-at-text.false))
