@@ -20,7 +20,7 @@ pub fn turn(picture: &[u8], size: Size, axis: Axis, to: &mut [u8]) -> Verdict
             let Verdict::Served = fits else {
                 return fits;
             };
-            bytes::copy(picture, to);
+            to[..picture.len()].copy_from_slice(picture);
             Verdict::Served
         }
         Axis::Horizontal => seam_moves::exchange(picture, size, to),

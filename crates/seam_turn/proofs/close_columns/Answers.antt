@@ -1,0 +1,189 @@
+-- `seam_turn::close_columns` meets its contract. The exchanged picture stands at the front of the work space; what closing it up
+-- says of the seam is the answer, and where the seam is served the picture left is exchanged back.
+use mathlib.Core.Path.{◌≡◌, refl, sym, ap, ap₂, ◌∙◌}
+use mathlib.Core.List.{List, ◌∷◌, ◌++◌, append-nil}
+use Prim.Native.Nat.{ℕ, ◌+◌, ◌-◌, ◌*◌, ◌≤◌, ◌<◌}
+use native.Mathlib.Omega.{arith}
+use lib.Dec.{eqb}
+use lib.ListN.{length, take, drop, replicate, length-append, length-drop}
+use lib.Seq.{length-take-le, drop-length}
+use Rattle.grids.proofs.Parts.{put_part, part_length}
+use Rattle.pictures.specs.Refusals.{◌when◌, given, refusal, served}
+use Rattle.pictures.specs.Pictures.{channels_of, picture_bytes, size_rules, picture, bytes}
+use Rattle.pictures.proofs.Rules.{served-first, number-some, refused-kept}
+use Rattle.pictures.proofs.Limits.{Sized, sized_is}
+use Rattle.seam_bounds.specs.Moves.{outside}
+use Rattle.seam_moves.specs.Moving.{ExchangeGiven}
+use Rattle.seam_close.specs.Closing.{CloseGiven}
+use Rattle.seam_rules.specs.declared.answers.Axis.TheVariants.{Horizontal}
+use Rattle.seam_rules.specs.Axes.{turned_size, narrowed}
+use Rattle.seam_rules.specs.Cuts.{last_rules, close_along_lengths, cleared}
+use Rattle.seam_rules.proofs.Rooms.{CloseRoom, close_room}
+use Rattle.seam_turn.specs.Axes.{cut_along}
+use Rattle.seam_turn.specs.Turning.{close_along_rules, left_work}
+use Rattle.seam_turn.proofs.Columns.{Inside, close_inside, over_of, rest_of, front_is, front-sized, left-bytes, left-sides, kept-is, back_is}
+use Rattle.seam_turn.proofs.Served.{close_number, ends-cleared}
+use borrow.Rule.Slice.PartMut.{mid_of, put_mid}
+use Rattle.pictures.specs.Pictures.{side_rules}
+use Rattle.pictures.specs.declared.refusals.Refusal.{Refusal}
+use Rattle.pictures.specs.declared.refusals.Verdict.TheVariants.{Refused}
+use Rattle.pictures.specs.declared.sizes.Size.{Size}
+use Rattle.pictures.specs.declared.refusals.Verdict.{Verdict}
+use Rattle.seam_turn.proofs.close_columns.Goals as goal
+
+-- After the first exchange, and after the exchanged picture was closed up at the front of the work space.
+module _ (z : Size) (b s work : List ℕ) (lengths : refusal (close_along_lengths Horizontal z (length b) (length s) (length work)) ≡ 0)
+    (work₁ front : List ℕ) (v u : Verdict) (g : ExchangeGiven b z work v work₁) (long₁ : length work₁ ≡ length work)
+    (c : CloseGiven (take (length b) work₁) (turned_size Horizontal z) s u front) (long₂ : length front ≡ length (take (length b) work₁)) where
+  -- what the lengths say
+  fits : CloseRoom Horizontal z (length b) (length s) (length work)
+  fits = close_room Horizontal z (length b) (length s) (length work) lengths
+
+  sure : Sized z (length b)
+  sure = sized_is _ _ fits.sized
+
+  room : length b ≤ length work
+  room = omega (arith, sure.length_is, fits.room)
+
+  -- the exchanged picture at the front of the work space
+  over : take (length b) work₁ ≡ bytes (over_of z b)
+  over = front_is z b s sure work work₁ v g fits.sized fits.room
+
+  over_sized : refusal (size_rules (turned_size Horizontal z) (length (take (length b) work₁))) ≡ 0
+  over_sized = front-sized z b s sure work work₁ v g fits.sized fits.room
+
+  number_is : given u ≡ refusal (close_along_rules Horizontal z (length b) s (length work))
+  number_is = c.number ∙ close_number Horizontal z (length b) s (length work) lengths (length (take (length b) work₁)) over_sized
+
+  front_long : length front ≡ length b
+  front_long = long₂ ∙ length-take-le (length b) work₁ (omega (arith, room))
+
+  -- the work space, with the picture closed up at its front
+  abbrev closed : List ℕ
+  closed = front ++ drop (length b) work₁
+
+  closed-long : length closed ≡ length work
+  closed-long = omega (arith, length-append front (drop (length b) work₁), length-drop (length b) work₁, front_long, room)
+
+  -- where the seam is refused
+  refused-work : (why : Refusal) → u ≡ Refused why → (work₂ : List ℕ) → work₂ ≡ replicate (length closed) 0 → work₂ ≡ cleared (given u) work
+  refused-work why is work₂ zero =
+      let ends = 10 when outside z.height s ∷ last_rules Horizontal z in
+      let n : given u ≡ refusal (10 when outside z.height s ∷ last_rules Horizontal z) = number_is ∙ served-first (close_along_lengths Horizontal z (length b) (length s) (length work)) ends refl lengths in
+      let some : 0 < refusal (10 when outside z.height s ∷ last_rules Horizontal z) = omega (arith, n, ap given is, number-some why) in
+      zero ∙ ap (λ m. replicate m 0) closed-long ∙ sym (ap (λ m. cleared m work) n ∙ ends-cleared (outside z.height s) (eqb z.height 1) some work)
+
+  -- where it is served, it lies inside
+  module _ (done : given u ≡ 0) where
+    inside : Inside (turned_size Horizontal z) s
+    inside = close_inside (take (length b) work₁) (turned_size Horizontal z) s front u c done
+
+    -- the bytes of the picture left
+    abbrev kept : ℕ
+    kept = picture_bytes (narrowed (turned_size Horizontal z))
+
+    kept-are : (n : ℕ) (left : Size) → left ≡ narrowed (turned_size Horizontal z) → n ≡ served (refusal (side_rules left)) (picture_bytes left) 0 → n ≡ kept
+    kept-are n left is many = rw is at many ∙ ap (λ m. served m kept 0) (left-sides z b s sure inside)
+
+    kept-fits : kept + z.width * channels_of z.kind ≡ length b
+    kept-fits = left-bytes z b s sure inside
+
+    lent_is : take kept closed ≡ bytes (rest_of z b s)
+    lent_is = kept-is z b s sure inside work₁ front u c over over_sized (drop (length b) work₁)
+
+    -- where n bytes are kept, they fit
+    kept-within : (n : ℕ) → n ≡ kept → (pic : List ℕ) → length pic ≡ length b → n ≤ length pic
+    kept-within n many pic long = omega (arith, kept-fits)
+
+    -- exchanged back, with what was freed cleared
+    back : (n : ℕ) → n ≡ kept → (pic end : List ℕ) (t : Verdict) → ExchangeGiven (take n closed) (narrowed (turned_size Horizontal z)) b t pic → length pic ≡ length b
+        → end ≡ replicate (length (mid_of n (length pic - n) pic)) 0
+        → put_mid n (length pic - n) pic end ≡ bytes (cut_along Horizontal z s (picture z b)) ++ replicate (z.width * channels_of z.kind) 0
+    back n many pic end t gb long zero =
+        let enough : n ≤ length pic = kept-within n many pic long in
+        let freed : length pic - n ≡ z.width * channels_of z.kind = omega (arith, kept-fits) in
+        let lent : take n closed ≡ bytes (rest_of z b s) = ap (λ m. take m closed) many ∙ lent_is in
+        put_part n (length pic) pic end enough
+        ∙ ap₂ (λ front rest. front ++ (end ++ rest))
+        (ap (λ m. take m pic) many ∙ back_is z b s sure inside (take n closed) b pic t gb lent (omega (arith, kept-fits)))
+        (drop-length pic)
+        ∙ ap (bytes (cut_along Horizontal z s (picture z b)) ++◌)
+        (append-nil end ∙ zero ∙ ap (λ m. replicate m 0) (part_length n (length pic) pic (omega arith) ∙ freed))
+
+pub returns-in_default : goal.returns-in_default
+unfolding left_work
+returns-in_default c =
+    let a = c.args in
+    let z = a.size in
+    let b = a.picture.now in
+    let s = a.seam.now in
+    let k = c.close_up-closed in
+    let why = c.in_default.field-0 in
+    let closed-as : CloseGiven (take (length b) c.exchange.new.to) (turned_size Horizontal z) s k.result k.new.picture = rw c.turned_size-turned.ensures at k.ensures in
+    record {
+      number = number_is z b s a.work.now c.requires.lengths c.exchange.new.to k.new.picture c.exchange.result k.result c.exchange.ensures c.exchange.auto.to closed-as k.auto.picture;
+      picture_left = refused-kept k.result why c.in_default.is (bytes (cut_along Horizontal z s (picture z b)) ++ replicate (z.width * channels_of z.kind) 0) b;
+      work_left =
+          refused-work z b s a.work.now c.requires.lengths c.exchange.new.to k.new.picture c.exchange.result k.result c.exchange.ensures c.exchange.auto.to closed-as k.auto.picture
+          why c.in_default.is c.clear.new.space c.clear.ensures;
+    }
+
+pub slice_bounds-clear-count : goal.slice_bounds-clear-count
+slice_bounds-clear-count c =
+    let a = c.args in
+    let z = a.size in
+    let b = a.picture.now in
+    let s = a.seam.now in
+    let x = c.exchange in
+    let k = c.close_up-closed in
+    let closed-as : CloseGiven (take (length b) x.new.to) (turned_size Horizontal z) s k.result k.new.picture = rw c.turned_size-turned.ensures at k.ensures in
+    let done : given k.result ≡ 0 = ap given c.in-Served.is in
+    let left : c.narrower-left.result ≡ narrowed (turned_size Horizontal z) = c.narrower-left.ensures ∙ ap narrowed c.turned_size-turned.ensures in
+    let many =
+    kept-are z b s a.work.now c.requires.lengths x.new.to k.new.picture x.result k.result x.ensures x.auto.to closed-as k.auto.picture
+    done c.picture_bytes-kept.result c.narrower-left.result left c.picture_bytes-kept.ensures in
+    kept-within z b s a.work.now c.requires.lengths x.new.to k.new.picture x.result k.result x.ensures x.auto.to closed-as k.auto.picture
+    done c.picture_bytes-kept.result many c.exchange-2.new.to c.exchange-2.auto.to
+
+pub slice_bounds-clear-start : goal.slice_bounds-clear-start
+slice_bounds-clear-start c =
+    let a = c.args in
+    let z = a.size in
+    let b = a.picture.now in
+    let s = a.seam.now in
+    let x = c.exchange in
+    let k = c.close_up-closed in
+    let closed-as : CloseGiven (take (length b) x.new.to) (turned_size Horizontal z) s k.result k.new.picture = rw c.turned_size-turned.ensures at k.ensures in
+    let done : given k.result ≡ 0 = ap given c.in-Served.is in
+    let left : c.narrower-left.result ≡ narrowed (turned_size Horizontal z) = c.narrower-left.ensures ∙ ap narrowed c.turned_size-turned.ensures in
+    let many =
+    kept-are z b s a.work.now c.requires.lengths x.new.to k.new.picture x.result k.result x.ensures x.auto.to closed-as k.auto.picture
+    done c.picture_bytes-kept.result c.narrower-left.result left c.picture_bytes-kept.ensures in
+    kept-within z b s a.work.now c.requires.lengths x.new.to k.new.picture x.result k.result x.ensures x.auto.to closed-as k.auto.picture
+    done c.picture_bytes-kept.result many c.exchange-2.new.to c.exchange-2.auto.to
+
+pub returns : goal.returns
+unfolding left_work
+returns c =
+    let a = c.args in
+    let z = a.size in
+    let b = a.picture.now in
+    let s = a.seam.now in
+    let x = c.exchange in
+    let k = c.close_up-closed in
+    let closed-as : CloseGiven (take (length b) x.new.to) (turned_size Horizontal z) s k.result k.new.picture = rw c.turned_size-turned.ensures at k.ensures in
+    let done : given k.result ≡ 0 = ap given c.in-Served.is in
+    let left : c.narrower-left.result ≡ narrowed (turned_size Horizontal z) = c.narrower-left.ensures ∙ ap narrowed c.turned_size-turned.ensures in
+    let many =
+    kept-are z b s a.work.now c.requires.lengths x.new.to k.new.picture x.result k.result x.ensures x.auto.to closed-as k.auto.picture
+    done c.picture_bytes-kept.result c.narrower-left.result left c.picture_bytes-kept.ensures in
+    let given_back : ExchangeGiven (take c.picture_bytes-kept.result (k.new.picture ++ drop (length b) x.new.to)) c.narrower-left.result b c.exchange-2.result c.exchange-2.new.to = c.exchange-2.ensures in
+    record {
+      number = sym done ∙ number_is z b s a.work.now c.requires.lengths x.new.to k.new.picture x.result k.result x.ensures x.auto.to closed-as k.auto.picture;
+      picture_left =
+          back z b s a.work.now c.requires.lengths x.new.to k.new.picture x.result k.result x.ensures x.auto.to closed-as k.auto.picture
+          done c.picture_bytes-kept.result many c.exchange-2.new.to c.clear-2.new.space c.exchange-2.result (rw left at given_back) c.exchange-2.auto.to c.clear-2.ensures;
+      work_left =
+          c.clear-3.ensures
+          ∙ ap (λ m. replicate m 0) (closed-long z b s a.work.now c.requires.lengths x.new.to k.new.picture x.result k.result x.ensures x.auto.to closed-as k.auto.picture);
+    }
