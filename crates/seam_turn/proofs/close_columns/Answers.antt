@@ -4,12 +4,17 @@ use mathlib.Core.Path.{◌≡◌, refl, sym, ap, ap₂, ◌∙◌}
 use mathlib.Core.List.{List, ◌∷◌, ◌++◌, append-nil}
 use Prim.Native.Nat.{ℕ, ◌+◌, ◌-◌, ◌*◌, ◌≤◌, ◌<◌}
 use native.Mathlib.Omega.{arith}
+use borrow.Rule.Slice.PartMut.{mid_of, put_mid}
 use lib.Dec.{eqb}
 use lib.ListN.{length, take, drop, replicate, length-append, length-drop}
 use lib.Seq.{length-take-le, drop-length}
 use Rattle.grids.proofs.Parts.{put_part, part_length}
+use Rattle.pictures.specs.declared.sizes.Size.{Size}
+use Rattle.pictures.specs.declared.refusals.Refusal.{Refusal}
+use Rattle.pictures.specs.declared.refusals.Verdict.{Verdict}
+use Rattle.pictures.specs.declared.refusals.Verdict.TheVariants.{Refused}
 use Rattle.pictures.specs.Refusals.{◌when◌, given, refusal, served}
-use Rattle.pictures.specs.Pictures.{channels_of, picture_bytes, size_rules, picture, bytes}
+use Rattle.pictures.specs.Pictures.{channels_of, picture_bytes, size_rules, side_rules, picture, bytes}
 use Rattle.pictures.proofs.Rules.{served-first, number-some, refused-kept}
 use Rattle.pictures.proofs.Limits.{Sized, sized_is}
 use Rattle.seam_bounds.specs.Moves.{outside}
@@ -23,12 +28,6 @@ use Rattle.seam_turn.specs.Axes.{cut_along}
 use Rattle.seam_turn.specs.Turning.{close_along_rules, left_work}
 use Rattle.seam_turn.proofs.Columns.{Inside, close_inside, over_of, rest_of, front_is, front-sized, left-bytes, left-sides, kept-is, back_is}
 use Rattle.seam_turn.proofs.Served.{close_number, ends-cleared}
-use borrow.Rule.Slice.PartMut.{mid_of, put_mid}
-use Rattle.pictures.specs.Pictures.{side_rules}
-use Rattle.pictures.specs.declared.refusals.Refusal.{Refusal}
-use Rattle.pictures.specs.declared.refusals.Verdict.TheVariants.{Refused}
-use Rattle.pictures.specs.declared.sizes.Size.{Size}
-use Rattle.pictures.specs.declared.refusals.Verdict.{Verdict}
 use Rattle.seam_turn.proofs.close_columns.Goals as goal
 
 -- After the first exchange, and after the exchanged picture was closed up at the front of the work space.
