@@ -141,8 +141,10 @@ slice_bounds-clear-count c =
     let many =
     kept-are z b s a.work.now c.requires.lengths x.new.to k.new.picture x.result k.result x.ensures x.auto.to closed-as k.auto.picture
     done c.picture_bytes-kept.result c.narrower-left.result left c.picture_bytes-kept.ensures in
-    kept-within z b s a.work.now c.requires.lengths x.new.to k.new.picture x.result k.result x.ensures x.auto.to closed-as k.auto.picture
-    done c.picture_bytes-kept.result many c.exchange-2.new.to c.exchange-2.auto.to
+    let fits =
+        kept-within z b s a.work.now c.requires.lengths x.new.to k.new.picture x.result k.result x.ensures x.auto.to closed-as k.auto.picture
+        done c.picture_bytes-kept.result many c.exchange-2.new.to c.exchange-2.auto.to in
+    omega (arith, fits, c.exchange-2.auto.to)
 
 pub slice_bounds-clear-start : goal.slice_bounds-clear-start
 slice_bounds-clear-start c =
@@ -158,8 +160,10 @@ slice_bounds-clear-start c =
     let many =
     kept-are z b s a.work.now c.requires.lengths x.new.to k.new.picture x.result k.result x.ensures x.auto.to closed-as k.auto.picture
     done c.picture_bytes-kept.result c.narrower-left.result left c.picture_bytes-kept.ensures in
-    kept-within z b s a.work.now c.requires.lengths x.new.to k.new.picture x.result k.result x.ensures x.auto.to closed-as k.auto.picture
-    done c.picture_bytes-kept.result many c.exchange-2.new.to c.exchange-2.auto.to
+    let fits =
+        kept-within z b s a.work.now c.requires.lengths x.new.to k.new.picture x.result k.result x.ensures x.auto.to closed-as k.auto.picture
+        done c.picture_bytes-kept.result many c.exchange-2.new.to c.exchange-2.auto.to in
+    omega (arith, fits, c.exchange-2.auto.to)
 
 pub returns : goal.returns
 unfolding left_work
