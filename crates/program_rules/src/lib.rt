@@ -1,10 +1,13 @@
-// How much the programs read and write: the most bytes and pixels, and what is refused for being more.
+// How much the programs read and write: the most bytes and pixels, and what is refused for being more. An input read.
 #![tactic(auto)]
+
+pub mod inputs;
 
 ghost use Rattle.std.specs.Prelude.{◌≡◌};
 ghost use Rattle.pictures.specs.Refusals.{given, refusal};
 ghost use Rattle.program_rules.specs.Limits.{length_rules, held_rules};
 
+pub use inputs::read_full;
 use pictures::{Refusal, Size, Verdict};
 
 // The most bytes that a program reads.
