@@ -106,7 +106,8 @@ impl Cursor {
         let Class::Digit(first) = class_of(text[start]) else {
             return Read::Broken;
         };
-        if first == 0 {
+        let lone = first == 0;
+        if lone {
             return Read::Good(0, Cursor { at: start + 1 });
         }
         let mut n = first;

@@ -75,7 +75,8 @@ impl Cursor {
             return Read::Broken;
         };
         let channels = pictures::channels(kind);
-        if out.len() / channels < n {
+        let room = out.len() / channels;
+        if room < n {
             return Read::Broken;
         }
         let count = n * channels;

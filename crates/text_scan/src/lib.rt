@@ -78,7 +78,8 @@ pub fn scan(text: &[u8]) -> Scanned
         return Scanned::Broken;
     };
     let at = f.at;
-    if at < text.len() {
+    let more = at < text.len();
+    if more {
         return Scanned::Broken;
     }
     Scanned::Formed(Facts {

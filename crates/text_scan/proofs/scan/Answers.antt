@@ -69,14 +69,14 @@ returns-in_default-close c =
     (after-maps c.in-Begun.ensures c.items_of.ensures c.in-Counted.ensures c.in-Counted-count_lines.ensures)
     c.in_default-close.ensures))
 
-pub returns-then-at-text : goal.returns-then-at-text
-returns-then-at-text c =
+pub returns-then-more : goal.returns-then-more
+returns-then-more c =
     sym
     (scan_more
     (left-past closed
     (after-maps c.in-Begun.ensures c.items_of.ensures c.in-Counted.ensures c.in-Counted-count_lines.ensures)
     c.in-Good.ensures)
-    c.if-at-text.true)
+    c.if-more.true)
 
 pub returns : goal.returns
 returns c =
@@ -86,4 +86,4 @@ returns c =
     (left-past closed
     (after-maps c.in-Begun.ensures c.items_of.ensures c.in-Counted.ensures c.in-Counted-count_lines.ensures)
     c.in-Good.ensures)
-    c.if-at-text.false))
+    c.if-more.false))

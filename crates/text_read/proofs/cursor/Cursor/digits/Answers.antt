@@ -12,13 +12,13 @@ returns-then-text-start c = number-end largest_number c.if-text-start.true
 pub returns-in_default : goal.returns-in_default
 returns-in_default c = number-none largest_number c.if-text-start.false (arm_no_digit _ c.class_of.ensures c.in_default.not-Digit)
 
-pub returns-then-first-eq0 : goal.returns-then-first-eq0
-returns-then-first-eq0 c =
+pub returns-then-lone : goal.returns-then-lone
+returns-then-lone c =
     let d = digit_byte _ c.in-Digit.is c.class_of.ensures in
-    number_zero largest_number c.if-text-start.false (omega (arith, d.least, d.value, c.if-first-eq0.true))
+    number_zero largest_number c.if-text-start.false (omega (arith, d.least, d.value, c.if-lone.true))
 
 pub loop-at-init : goal.loop-at-init
-loop-at-init c = reading_first c.if-text-start.false (digit_byte _ c.in-Digit.is c.class_of.ensures) c.if-first-eq0.false
+loop-at-init c = reading_first c.if-text-start.false (digit_byte _ c.in-Digit.is c.class_of.ensures) c.if-lone.false
 
 pub returns-in_default-class_of : goal.returns-in_default-class_of
 returns-in_default-class_of c =

@@ -30,18 +30,18 @@ returns-in_default c = row-no-word c.args.kind (begun c.in_default.ensures)
 pub returns-in_default-rest : goal.returns-in_default-rest
 returns-in_default-rest c = row-torn c.args.kind (begun c.in-Good.ensures) (rw c.items_of.ensures at c.in_default-rest.ensures)
 
-pub returns-then-out-channels : goal.returns-then-out-channels
-returns-then-out-channels c =
+pub returns-then-room-n : goal.returns-then-room-n
+returns-then-room-n c =
     found-long (found c.args.kind c.in-Good.ensures c.items_of.ensures c.in-Good-rest.ensures c.channels-channels.ensures)
-    (pixels-over c.args.kind c.channels-channels.result _ _ c.channels-channels.ensures c.if-out-channels.true)
+    (pixels-over c.args.kind c.channels-channels.result _ _ c.channels-channels.ensures c.if-room-n.true)
 
 pub samples-requires : goal.samples-requires
 samples-requires c = record {
   coming = found_coming (found c.args.kind c.in-Good.ensures c.items_of.ensures c.in-Good-rest.ensures c.channels-channels.ensures) (omega arith);
-  room = pixels-fit c.args.kind c.channels-channels.result _ _ c.channels-channels.ensures c.if-out-channels.false;
+  room = pixels-fit c.args.kind c.channels-channels.result _ _ c.channels-channels.ensures c.if-room-n.false;
 }
 
 pub returns : goal.returns
 returns c =
     found-fits (found c.args.kind c.in-Good.ensures c.items_of.ensures c.in-Good-rest.ensures c.channels-channels.ensures) (omega arith)
-    (pixels-fit c.args.kind c.channels-channels.result _ _ c.channels-channels.ensures c.if-out-channels.false) c.samples.ensures.space
+    (pixels-fit c.args.kind c.channels-channels.result _ _ c.channels-channels.ensures c.if-room-n.false) c.samples.ensures.space
