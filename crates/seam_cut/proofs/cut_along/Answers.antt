@@ -40,14 +40,14 @@ returns c =
     -- and so it is lent, with the work space cleared
     let lent-seam = take c.turned_size-turned.result.height q.new.seam in
     let lent : lent-seam ≡ s =
-        ap (λ t. take t.height q.new.seam) c.turned_size-turned.ensures
-        ∙ ap (take t.height) (rw none at f.seam_given) ∙ take_at s (drop t.height a.seam.now) t.height (each-length inside)
+    ap (λ t. take t.height q.new.seam) c.turned_size-turned.ensures
+    ∙ ap (take t.height) (rw none at f.seam_given) ∙ take_at s (drop t.height a.seam.now) t.height (each-length inside)
     in
     let work-long : length q.new.work ≡ length a.work.now = q.auto.work in
     let zero = rw none at f.work_left ∙ ap (λ n. replicate n 0) (sym work-long) in
     let k =
-        close_served b z a.axis lent-seam q.new.work c.close.result c.close.new.picture c.close.new.work c.close.ensures
-        rooms.sized (rw lent inside) c.requires.more (omega (arith, bytes-few z, rooms.work_room, work-long))
+    close_served b z a.axis lent-seam q.new.work c.close.result c.close.new.picture c.close.new.work c.close.ensures
+    rooms.sized (rw lent inside) c.requires.more (omega (arith, bytes-few z, rooms.work_room, work-long))
     in
     let rules = find_rules a.axis z (length b) (length a.seam.now) (length a.work.now) in
     let allowed = served-first rules (last_rules a.axis z) refl c.requires.found ∙ ap (λ t. cond t 13 0) c.requires.more in

@@ -28,18 +28,18 @@ returns c =
     let sure = sized_is _ _ rooms.sized in
     -- what turning leaves in the work space
     let turned_is : front ≡ bytes (turned a.axis z.width (picture z b)) ++ drop (picture_bytes z) a.work.now =
-        turn_served b z a.axis a.work.now front c.turn.result c.turn.ensures rooms.sized (omega (arith, bytes-few z, rooms.work_room))
+    turn_served b z a.axis a.work.now front c.turn.result c.turn.ensures rooms.sized (omega (arith, bytes-few z, rooms.work_room))
     in
     -- the turned picture stands at its front
     let found : FindInGiven front c.turned_size-turned.result a.method a.seam.now f.result f.new.space f.new.seam = f.ensures in
     let there =
-        find_served front t a.method a.seam.now f.result f.new.space f.new.seam
-        (rw c.turned_size-turned.ensures at found)
-        (turned-sides a.axis z (length b) sure) rooms.seam_room
-        (omega (arith, turned-bytes a.axis z, turned-pixels a.axis z, bytes-few z, rooms.work_room, c.turn.auto.to))
+    find_served front t a.method a.seam.now f.result f.new.space f.new.seam
+    (rw c.turned_size-turned.ensures at found)
+    (turned-sides a.axis z (length b) sure) rooms.seam_room
+    (omega (arith, turned-bytes a.axis z, turned-pixels a.axis z, bytes-few z, rooms.work_room, c.turn.auto.to))
     in
     let seen : picture t (take (picture_bytes t) front) ≡ turned a.axis z.width (picture z b) =
-        turned-picture a.axis z b front (drop (picture_bytes z) a.work.now) sure.length_is turned_is
+    turned-picture a.axis z b front (drop (picture_bytes z) a.work.now) sure.length_is turned_is
     in
     record {
       number = there.number ∙ sym c.requires.found;

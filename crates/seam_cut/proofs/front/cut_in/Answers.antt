@@ -54,8 +54,8 @@ returns c =
     let two = eqb-false _ _ some in
     let wide : 1 < z.width = more_than_one z.width sides.width_some two in
     let none =
-        served-first (find_in_rules z (length space) (length room)) (13 when eqb z.width 1 ∷ []) refl (sym f.ensures.number ∙ there.number)
-        ∙ ap (λ t. refusal (13 when t ∷ [])) some
+    served-first (find_in_rules z (length space) (length room)) (13 when eqb z.width 1 ∷ []) refl (sym f.ensures.number ∙ there.number)
+    ∙ ap (λ t. refusal (13 when t ∷ [])) some
     in
     let k = c.close_up in
     let back : CloseGiven front z s k.result k.new.picture = rw (lent-front, lent-seam) at k.ensures in
