@@ -58,7 +58,8 @@ returns c =
     ∙ ap (λ t. refusal (13 when t ∷ [])) some
     in
     let k = c.close_up in
-    let back : CloseGiven front z s k.result k.new.picture = rw (lent-front, lent-seam) at k.ensures in
+    let lent : CloseGiven (take q f.new.space) z (take h f.new.seam) k.result k.new.picture = k.ensures in
+    let back : CloseGiven front z s k.result k.new.picture = rw (lent-front, lent-seam) at lent in
     let closed = close_served front z s k.new.picture k.result back (rw front_long (sized-served z rooms.sides)) inside wide in
     record {
       number = there.number ∙ sym none;
