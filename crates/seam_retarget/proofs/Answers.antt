@@ -8,8 +8,8 @@ use native.Mathlib.Omega.{arith}
 use lib.Dec.{leb, ltb}
 use borrow.Author.Tests.{ltb-false, leb-false}
 use borrow.Rule.Slice.PartMut.{mid_of}
-use lib.ListN.{length, get_or, take, drop, replicate}
-use lib.Seq.{take_at, take-length}
+use lib.ListN.{length, get_or, take, drop, replicate, length-append, length-drop}
+use lib.Seq.{take_at}
 use Rattle.grids.proofs.Rows.{part_end}
 use Rattle.pictures.specs.Limits.{most_picture}
 use Rattle.pictures.specs.declared.sizes.Size.{Size}
@@ -105,7 +105,10 @@ module _ (b : List ℕ) (z : Size) (how : Method) (rows : Rows) (columns : Colum
         inside = omega (arith, space.room);
       }
 
-  module _ (one : List ℕ) (copied : one ≡ take (length b) b ++ drop (length b) work) (one-long : length one ≡ length work) where
+  module _ (one : List ℕ) (copied : one ≡ b ++ drop (length b) work) where
+    pub one-long : length one ≡ length work
+    one-long = ap length copied ∙ simp (length-append, length-drop) (omega (arith, space.room))
+
     pub first-needed : (totals : List ℕ) → length totals ≡ 65 → ((j : ℕ) → get_or totals j 0 ≡ 0) → FirstRowNeeded z (length b) columns one totals
     first-needed totals many none = record {
       fits = record {
@@ -123,7 +126,7 @@ module _ (b : List ℕ) (z : Size) (how : Method) (rows : Rows) (columns : Colum
     unfolding cell_at
     first_is totals none =
         let zero-less : smaller z 0 0 ≡ z = ap₂ (λ w h. record { width = w; height = h; kind = z.kind }) (omega arith) (omega arith) in
-        let front : take (picture_bytes z) one ≡ b = ap₂ take (sym sized.length_is) copied ∙ take_at (take (length b) b) (drop (length b) work) (length b) (ap length (take-length b)) ∙ take-length b in
+        let front : take (picture_bytes z) one ≡ b = ap₂ take (sym sized.length_is) copied ∙ take_at b (drop (length b) work) (length b) refl in
         ap₂ (λ p t. record { picture = p; total = t })
         (ap₂ (λ u at. picture_at u at one) zero-less (zero-mul (length b)) ∙ ap (picture z) front)
         (none 0)
@@ -167,7 +170,7 @@ module _ (b : List ℕ) (z : Size) (how : Method) (rows : Rows) (columns : Colum
               ap length part-is
               ∙ length_part (columns.0 * length b) (picture_bytes (left_size z rows columns)) three (omega (arith, three-long, (last_sure count count_is).inside)) ∙ sym count_is
 
-          pub served : (out' four : List ℕ) → out' ≡ take (length part) part ++ drop (length part) out → four ≡ replicate (length three) 0
+          pub served : (out' four : List ℕ) → out' ≡ part ++ drop count out → four ≡ replicate (length three) 0
               → LastGiven b z how rows columns out work (get_or totals₃ columns.0 0) out' four
           served out' four out_is four_is =
               let left = left_size z rows columns in
@@ -177,6 +180,6 @@ module _ (b : List ℕ) (z : Size) (how : Method) (rows : Rows) (columns : Colum
               ∙ ap (λ k. bytes k.picture) cell_is in
               record {
                 total = ap (λ k. k.total) cell_is;
-                out_given = out_is ∙ ap₂ ◌++◌ (take-length part ∙ shown) (ap (λ n. drop n out) (part-long ∙ count_is));
+                out_given = out_is ∙ ap₂ ◌++◌ shown (ap (λ n. drop n out) count_is);
                 work_left = four_is ∙ ap (λ n. replicate n 0) three-long;
               }

@@ -8,7 +8,6 @@ use native.Mathlib.Omega.{arith}
 use lib.ListN.{length, get_or, set, length-set}
 use lib.Seq.{get_or-set_same, get_or-set_other}
 use Rattle.pictures.specs.declared.sizes.Size.{Size}
-use Rattle.pictures.specs.Pictures.{picture}
 use Rattle.energy.specs.declared.methods.Method.{Method}
 use Rattle.seam_moves.specs.Between.{part_at}
 use Rattle.seam_rules.specs.declared.answers.Axis.TheVariants.{Vertical, Horizontal}

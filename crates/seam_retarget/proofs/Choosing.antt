@@ -11,7 +11,7 @@ use lib.ListN.{length}
 use Rattle.grids.proofs.Rows.{part_end}
 use Rattle.pictures.specs.declared.sizes.Size.{Size}
 use Rattle.pictures.specs.Refusals.{refusal}
-use Rattle.pictures.specs.Pictures.{largest_side, picture_bytes, side_rules, picture}
+use Rattle.pictures.specs.Pictures.{largest_side, picture_bytes, side_rules}
 use Rattle.energy.specs.declared.methods.Method.{Method}
 use Rattle.seam_moves.specs.Between.{part_at}
 use Rattle.seam_rules.specs.declared.answers.Axis.{Axis}

@@ -12,8 +12,8 @@ use Rattle.seam_retarget.specs.Cells.{Cell, by_seam, chosen, as_rows, as_columns
 
 unfoldable pub cell_at : Method → Size → Picture → ℕ → ℕ → Cell
 cell_at how z p zero zero = record { picture = p; total = 0 }
-cell_at how z p zero (suc c) = by_seam how Vertical (smaller z 0 c) (cell_at how z p 0 c)
-cell_at how z p (suc r) zero = by_seam how Horizontal (smaller z r 0) (cell_at how z p r 0)
+cell_at how z p zero (suc c) = by_seam how Vertical (smaller z 0 c) (cell_at how z p zero c)
+cell_at how z p (suc r) zero = by_seam how Horizontal (smaller z r 0) (cell_at how z p r zero)
 cell_at how z p (suc r) (suc c) =
     chosen
     (by_seam how Vertical (smaller z (suc r) c) (cell_at how z p (suc r) c))
@@ -34,8 +34,8 @@ size_in z r c = ap₂ (smaller z) (rows_in_lem r) (columns_in c)
 after-numbers : (how : Method) (z : Size) (p : Picture) (r c : ℕ) → cell_after how z p (many_rows r) (many_columns c) ≡ cell_at how z p r c
 unfolding cell_after cell_at
 after-numbers how z p zero zero = refl
-after-numbers how z p zero (suc c) = ap₂ (by_seam how Vertical) (size_in z 0 c) (after-numbers how z p 0 c)
-after-numbers how z p (suc r) zero = ap₂ (by_seam how Horizontal) (size_in z r 0) (after-numbers how z p r 0)
+after-numbers how z p zero (suc c) = ap₂ (by_seam how Vertical) (size_in z 0 c) (after-numbers how z p zero c)
+after-numbers how z p (suc r) zero = ap₂ (by_seam how Horizontal) (size_in z r 0) (after-numbers how z p r zero)
 after-numbers how z p (suc r) (suc c) =
     ap₂ chosen
     (ap₂ (by_seam how Vertical) (size_in z (suc r) c) (after-numbers how z p (suc r) c))

@@ -78,10 +78,10 @@ module _ (P : List ℕ → Type 0) where
         rw (a, b) o
     cell-of zero (suc c) h w =
         less-column_of z 0 c (by_seam how Vertical (smaller z 0 c) (cell_at how z p 0 c)).picture
-        (by_of how Vertical (smaller z 0 c) (cell_at how z p 0 c) (smaller-sides z 0 c s h (omega arith)) (omega arith) (cell-of 0 c h (omega arith)))
+        (by_of how Vertical (smaller z 0 c) (cell_at how z p 0 c) (smaller-sides z 0 c s h (omega arith)) (omega arith) (cell-of zero c h (omega arith)))
     cell-of (suc r) zero h w =
         less-row_of z r 0 (by_seam how Horizontal (smaller z r 0) (cell_at how z p r 0)).picture
-        (by_of how Horizontal (smaller z r 0) (cell_at how z p r 0) (smaller-sides z r 0 s (omega arith) w) (omega arith) (cell-of r 0 (omega arith) w))
+        (by_of how Horizontal (smaller z r 0) (cell_at how z p r 0) (smaller-sides z r 0 s (omega arith) w) (omega arith) (cell-of r zero (omega arith) w))
     cell-of (suc r) (suc c) h w =
         chosen_of (smaller z (suc r) (suc c)) (by_seam how Vertical (smaller z (suc r) c) (cell_at how z p (suc r) c)) (by_seam how Horizontal (smaller z r (suc c)) (cell_at how z p r (suc c)))
         (less-column_of z (suc r) c (by_seam how Vertical (smaller z (suc r) c) (cell_at how z p (suc r) c)).picture
@@ -134,8 +134,8 @@ module _ (how : Method) (z : Size) (p : Picture) (s : refusal (side_rules z) ≡
   pub total-most : (r c : ℕ) → r < z.height → c < z.width → (cell_at how z p r c).total ≤ (r + c) * most_cost
   unfolding cell_at chosen
   total-most zero zero h w = omega arith
-  total-most zero (suc c) h w = omega (arith, by_most Vertical 0 c ((0 + c) * most_cost) h (omega arith) (total-most 0 c h (omega arith)))
-  total-most (suc r) zero h w = omega (arith, by_most Horizontal r 0 ((r + 0) * most_cost) (omega arith) w (total-most r 0 (omega arith) w))
+  total-most zero (suc c) h w = omega (arith, by_most Vertical 0 c ((0 + c) * most_cost) h (omega arith) (total-most zero c h (omega arith)))
+  total-most (suc r) zero h w = omega (arith, by_most Horizontal r 0 ((r + 0) * most_cost) (omega arith) w (total-most r zero (omega arith) w))
   total-most (suc r) (suc c) h w =
       less (by_seam how Vertical (smaller z (suc r) c) (cell_at how z p (suc r) c)) (by_seam how Horizontal (smaller z r (suc c)) (cell_at how z p r (suc c)))
       (omega (arith, by_most Vertical (suc r) c ((suc r + c) * most_cost) h (omega arith) (total-most (suc r) c h (omega arith))))

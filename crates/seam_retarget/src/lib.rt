@@ -56,12 +56,13 @@ fn last_cell(
     let whole = picture.len();
     let last = columns.0;
     let mut totals = [0u64; 65];
-    bytes::copy(picture, work);
+    work[..whole].copy_from_slice(picture);
     table::first_row(work, size, method, whole, columns, &mut totals);
     table::rows_below(work, size, method, whole, rows, columns, &mut totals);
     let count = pictures::picture_bytes(seam_rules::smaller(size, rows, columns));
     let at = last * whole;
-    bytes::copy(&work[at..at + count], out);
+    let shown = &work[at..at + count];
+    out[..count].copy_from_slice(shown);
     pictures::clear(work);
     totals[last]
 }
