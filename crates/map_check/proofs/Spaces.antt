@@ -3,7 +3,7 @@ use mathlib.Core.Path.{◌≡◌}
 use Prim.Native.Nat.{ℕ, ◌+◌, ◌≤◌}
 use native.Mathlib.Omega.{arith}
 use Rattle.pictures.specs.declared.sizes.Size.{Size}
-use Rattle.pictures.specs.Refusals.{refusal, served}
+use Rattle.pictures.specs.Refusals.{refusal}
 use Rattle.map_rules.specs.Spaces.{map_bytes, map_space_rules, recorded_at}
 use Rattle.map_rules.proofs.Rooms.{Room, room_is}
 

@@ -1,5 +1,5 @@
 -- The map recorded in a space, judged for the picture at its front: when it is refused, and what it gives.
-use Rattle.std.specs.Prelude.{◌≡◌, List, [], ◌++◌, ℕ, length, take, drop, replicate}
+use Rattle.std.specs.Prelude.{◌≡◌, List, ◌++◌, ℕ, length, take, drop, replicate}
 use Rattle.grids.specs.Rows.{rows_of}
 use Rattle.seam_theory.specs.Paths.{near}
 use Rattle.pictures.specs.declared.sizes.Size.{Size}
