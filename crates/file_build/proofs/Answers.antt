@@ -7,7 +7,7 @@ use native.Mathlib.Omega.{arith}
 use borrow.Author.Tests.{ltb-true, ltb-false, not-false}
 use lib.Dec.{leb, ltb}
 use lib.ListN.{length, take, drop, replicate}
-use lib.Seq.{take_at, take-length}
+use lib.Seq.{take_at}
 use Rattle.grids.specs.Rows.{flat}
 use Rattle.grids.proofs.Shapes.{grid_of}
 use Rattle.grids.proofs.Parts.{part_length}
@@ -83,12 +83,11 @@ module _ (b : List ℕ) (h : Head) (out work : List ℕ) (needed : BuildNeeded b
       }
 
   -- The copy at the front of the work space, and the map after it.
-  module _ (one : List ℕ) (copied : one ≡ take (length b) b ++ drop (length b) work) (one-long : length one ≡ length work) where
+  module _ (one : List ℕ) (copied : one ≡ b ++ drop (length b) work) (one-long : length one ≡ length work) where
     there : picture_in h.size one ≡ picture h.size b
     there =
         let r = rooms_are in
-        let front : one ≡ b ++ drop (length b) work = copied ∙ ap (◌++ drop (length b) work) (take-length b) in
-        ap (picture h.size) (ap (take (picture_bytes h.size)) front ∙ take_at b (drop (length b) work) (picture_bytes h.size) r.sure.length_is)
+        ap (picture h.size) (ap (take (picture_bytes h.size)) copied ∙ take_at b (drop (length b) work) (picture_bytes h.size) r.sure.length_is)
 
     none : refusal (map_space_rules h.size h.depth (length one) 1) ≡ 0
     none = let r = rooms_are in room-served h.size h.depth (length one) 1 (sides_served h.size (length b) r.sized) r.deep (omega (arith, r.front, one-long))

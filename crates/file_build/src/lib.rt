@@ -45,7 +45,7 @@ fn put_file(picture: &[u8], head: Head, out: &mut [u8], work: &mut [u8]) -> usiz
     ensures { FileGiven picture.now head out.old work.old result out.new work.new }
 {
     let size = head.size;
-    bytes::copy(picture, work);
+    work[..picture.len()].copy_from_slice(picture);
     map_build::map_in(work, size, head.method, head.depth);
     let at = map_rules::map_at(size);
     let end = at + map_rules::map_bytes(size);
