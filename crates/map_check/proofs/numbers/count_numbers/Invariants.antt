@@ -1,3 +1,5 @@
+-- `map_check::numbers::count_numbers` meets its contract. The invariant: each number is counted as often as it stands in what was
+-- passed, and the numbers to come decide whether one is over the depth.
 use mathlib.Core.Path.{◌≡◌}
 use Prim.Native.Nat.{◌/◌, ◌≤◌}
 use lib.Dec.{leb}

@@ -1,3 +1,4 @@
+-- `map_check::numbers::is_numbered` meets its contract. The invariant: the rows to come decide.
 use mathlib.Core.Path.{◌≡◌}
 use Prim.Native.Nat.{◌≤◌}
 use lib.ListN.{drop}
