@@ -142,8 +142,8 @@ slice_bounds-clear-count c =
     kept-are z b s a.work.now c.requires.lengths x.new.to k.new.picture x.result k.result x.ensures x.auto.to closed-as k.auto.picture
     done c.picture_bytes-kept.result c.narrower-left.result left c.picture_bytes-kept.ensures in
     let fits =
-        kept-within z b s a.work.now c.requires.lengths x.new.to k.new.picture x.result k.result x.ensures x.auto.to closed-as k.auto.picture
-        done c.picture_bytes-kept.result many c.exchange-2.new.to c.exchange-2.auto.to in
+    kept-within z b s a.work.now c.requires.lengths x.new.to k.new.picture x.result k.result x.ensures x.auto.to closed-as k.auto.picture
+    done c.picture_bytes-kept.result many c.exchange-2.new.to c.exchange-2.auto.to in
     omega (arith, fits, c.exchange-2.auto.to)
 
 pub slice_bounds-clear-start : goal.slice_bounds-clear-start
@@ -161,8 +161,8 @@ slice_bounds-clear-start c =
     kept-are z b s a.work.now c.requires.lengths x.new.to k.new.picture x.result k.result x.ensures x.auto.to closed-as k.auto.picture
     done c.picture_bytes-kept.result c.narrower-left.result left c.picture_bytes-kept.ensures in
     let fits =
-        kept-within z b s a.work.now c.requires.lengths x.new.to k.new.picture x.result k.result x.ensures x.auto.to closed-as k.auto.picture
-        done c.picture_bytes-kept.result many c.exchange-2.new.to c.exchange-2.auto.to in
+    kept-within z b s a.work.now c.requires.lengths x.new.to k.new.picture x.result k.result x.ensures x.auto.to closed-as k.auto.picture
+    done c.picture_bytes-kept.result many c.exchange-2.new.to c.exchange-2.auto.to in
     omega (arith, fits, c.exchange-2.auto.to)
 
 pub returns : goal.returns
