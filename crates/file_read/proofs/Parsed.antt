@@ -34,7 +34,7 @@ pub record Parsed (file : List ℕ) (h : Head) : Type 0 where
   pub sides_served : refusal (side_rules h.size) ≡ 0
   pub sides : Sides h.size
   pub pixels : Each (Each (Pixel h.size.kind) h.size.width) h.size.height (rows_in (parse file))
-  pub of_size_lem : OfSize h.size (rows_in (parse file))
+  pub of_size : OfSize h.size (rows_in (parse file))
   pub maps_grid : Grid h.size.width h.size.height (maps_in (parse file))
   pub range : allowed h.size.width h.depth h.growth ≡ true
   pub row_lines_are : from_rows (parse file) ≡ each row_word (line_text (pixel_text h.size.kind)) (rows_in (parse file)) ++ from_maps (parse file)
@@ -56,7 +56,7 @@ opened file h o =
       sides_served = k.sides;
       sides = sides_are h.size k.sides;
       pixels = a.pixels;
-      of_size_lem = allowed-of_size h.size (rows_in (parse file)) a;
+      of_size = allowed-of_size h.size (rows_in (parse file)) a;
       maps_grid = k.maps;
       range = k.range;
       row_lines_are = rows (parse file) o.head_is;
