@@ -22,12 +22,14 @@ loop-i-preserved c =
         elim c.if-not-allows_mark.branch [
           | then-not-allows_mark w ↦
               ap (◌|| rest) w.over-is
-              ∙ sym (ap (l.over ||◌) (outside-here 3 marks i (omega arith) (mark_over mark (sym c.allows_mark.ensures ∙ w.if-not-allows_mark.true)))
+              ∙ sym (ap (l.over ||◌) (outside-here 3 marks i (omega arith)
+              (mark_over mark (sym c.allows_mark.ensures ∙ w.if-not-allows_mark.true)))
               ∙ or-true l.over)
               ∙ inv
           | else-not-allows_mark w ↦
               ap (◌|| rest) w.over-is
-              ∙ ap (l.over ||◌) (outside-next 3 marks i (omega arith) (mark_below mark (sym c.allows_mark.ensures ∙ w.if-not-allows_mark.false)))
+              ∙ ap (l.over ||◌) (outside-next 3 marks i (omega arith)
+              (mark_below mark (sym c.allows_mark.ensures ∙ w.if-not-allows_mark.false)))
               ∙ inv
         ],
       ),

@@ -101,7 +101,8 @@ returns c =
     let turns-marks : TurnGiven m (grey_of z) x (mid_of (length b) (length front - length b) front) u marks =
     rw c.grey-marked.ensures at c.turn-2.ensures
     in
-    let given : FindMarkedInGiven (space b m z x room work p v front turns kept u marks turns-marks marks_kept) t how room f.result f.new.space f.new.seam =
+    let given : FindMarkedInGiven (space b m z x room work p v front turns kept u marks turns-marks marks_kept)
+    t how room f.result f.new.space f.new.seam =
     rw c.turned_size-turned.ensures at f.ensures
     in
     let g = there b m z x room work p v front turns kept u marks turns-marks marks_kept how f.result f.new.space f.new.seam given in

@@ -18,7 +18,8 @@ returns-in_default c =
     let q = c.cut_marked-found in
     let told = q.ensures in
     let is = front-refused how need bytes_are pixels-are room_is tall q.result told.number c.in_default.field-0 c.in_default.is in
-    front_cut how need bytes_are pixels-are room_is tall q.result told.number q.new.picture q.new.marks false is told.picture_left told.marks_left
+    front_cut how need bytes_are pixels-are room_is tall q.result told.number q.new.picture q.new.marks false is
+    told.picture_left told.marks_left
 
 pub returns : goal.returns
 returns c =
@@ -32,4 +33,5 @@ returns c =
     let q = c.cut_marked-found in
     let told = q.ensures in
     let is = front-found how need bytes_are pixels-are room_is tall q.result told.number c.in-Seam.field-0 c.in-Seam.is in
-    front_cut how need bytes_are pixels-are room_is tall q.result told.number q.new.picture q.new.marks true is told.picture_left told.marks_left
+    front_cut how need bytes_are pixels-are room_is tall q.result told.number q.new.picture q.new.marks true is
+    told.picture_left told.marks_left

@@ -7,8 +7,10 @@ use Rattle.seam_objects.proofs.cut_seams.Given as goal
 
 abbrev pub invariant-loop-how : goal.invariant-loop-how
 invariant-loop-how l =
-    Going (record { width = l.initial.width; height = l.height; kind = l.kind }) l.method l.initial.picture l.initial.marks l.budget l.width l.count l.picture l.marks
-    × ((length l.picture ≡ length l.initial.picture) × ((length l.marks ≡ length l.initial.marks) × (length l.work ≡ length l.initial.work)))
+    Going (record { width = l.initial.width; height = l.height; kind = l.kind }) l.method
+    l.initial.picture l.initial.marks l.budget l.width l.count l.picture l.marks
+    × ((length l.picture ≡ length l.initial.picture)
+    × ((length l.marks ≡ length l.initial.marks) × (length l.work ≡ length l.initial.work)))
 
 abbrev pub decreases-loop-how : goal.decreases-loop-how
 decreases-loop-how l = l.width

@@ -42,7 +42,8 @@ module _ (z : Size) (how : Method) (bytes : ℕ) (space above energy cost next :
     sums-long = last_long fence64 (marked_bytes z) z (weights_of z how) space filled sums wide given
 
     -- the first of the least sums is one of the columns
-    module _ (column : ℕ) (first : column ≡ least_to (take (z.width + 1 - 1) (drop 1 sums)) (length (take (z.width + 1 - 1) (drop 1 sums)) - 1)) where
+    module _ (column : ℕ)
+        (first : column ≡ least_to (take (z.width + 1 - 1) (drop 1 sums)) (length (take (z.width + 1 - 1) (drop 1 sums)) - 1)) where
       inside : column < z.width
       inside = bottom_inside fence64 (marked_bytes z) z (weights_of z how) space filled sums wide given column sure.width_some first
 

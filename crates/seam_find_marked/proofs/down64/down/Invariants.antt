@@ -10,5 +10,6 @@ use Rattle.seam_find_marked.proofs.down64.down.Given as goal
 
 abbrev pub invariant-loop-i : goal.invariant-loop-i
 invariant-loop-i l =
-    BeforeRow fence64 (marked_bytes l.size) l.size (weights_of l.size l.method) l.initial.space l.initial.above l.initial.cost l.initial.next l.i l.space l.above l.cost l.next
+    BeforeRow fence64 (marked_bytes l.size) l.size (weights_of l.size l.method)
+    l.initial.space l.initial.above l.initial.cost l.initial.next l.i l.space l.above l.cost l.next
     × (length l.energies ≡ length l.initial.energies)
