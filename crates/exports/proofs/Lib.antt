@@ -1,4 +1,1 @@
-pub mod RowCopied
-pub mod OneSeam
-pub mod Removals
 pub mod Filed
