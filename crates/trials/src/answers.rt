@@ -1,23 +1,29 @@
 // The operations on files, with what they give and leave in a line.
 ghost use Rattle.std.specs.Prelude.{◌≤◌, length};
 
-use crate::{print_bytes, print_number, print_seam};
+use crate::{print_bytes, print_number, print_seam, put};
 use file_rules::{Built, Checked, Shown};
-use libc::STDOUT_FILENO;
 use pictures::Size;
+use std::io::Stdout;
 use text_theory::Head;
 
 // The number given and the file's length, and how many bytes of each space aren't 0. Gives the length, 0 where there is no
 // file.
-pub(crate) fn print_build(picture: &[u8], head: Head, out: &mut [u8], work: &mut [u8]) -> usize
+pub(crate) fn print_build(
+    stdout: Stdout,
+    picture: &[u8],
+    head: Head,
+    out: &mut [u8],
+    work: &mut [u8],
+) -> usize
     ensures { result ≤ length out.new }
 {
     let built = file_build::build(picture, head, out, work);
-    io::write_all(STDOUT_FILENO, b"build");
-    print_built(built);
-    print_used(out);
-    print_used(work);
-    io::write_all(STDOUT_FILENO, b"\n");
+    put(stdout, b"build");
+    print_built(stdout, built);
+    print_used(stdout, out);
+    print_used(stdout, work);
+    put(stdout, b"\n");
     length_in(built, out.len())
 }
 
@@ -34,85 +40,97 @@ fn length_in(built: Built, most: usize) -> usize
     n
 }
 
-fn print_built(built: Built) {
+fn print_built(stdout: Stdout, built: Built) {
     match built {
         Built::Length(n) => {
-            print_number(0);
-            print_number(wide_length(n));
+            print_number(stdout, 0);
+            print_number(stdout, wide_length(n));
         }
         Built::Refused(why) => {
-            print_number(pictures::number(why));
+            print_number(stdout, pictures::number(why));
         }
     }
 }
 
 // The number given, size and range, and how many bytes of the work space aren't 0.
-pub(crate) fn print_check(file: &[u8], work: &mut [u8]) {
+pub(crate) fn print_check(stdout: Stdout, file: &[u8], work: &mut [u8]) {
     let checked = file_read::check(file, work);
-    io::write_all(STDOUT_FILENO, b"check");
-    print_checked(checked);
-    print_used(work);
-    io::write_all(STDOUT_FILENO, b"\n");
+    put(stdout, b"check");
+    print_checked(stdout, checked);
+    print_used(stdout, work);
+    put(stdout, b"\n");
 }
 
 // The same, and the spaces of picture and map.
-pub(crate) fn print_read(file: &[u8], picture: &mut [u8], map: &mut [u16], work: &mut [u8]) {
+pub(crate) fn print_read(
+    stdout: Stdout,
+    file: &[u8],
+    picture: &mut [u8],
+    map: &mut [u16],
+    work: &mut [u8],
+) {
     let checked = file_read::read(file, picture, map, work);
-    io::write_all(STDOUT_FILENO, b"read");
-    print_checked(checked);
-    print_used(work);
-    io::write_all(STDOUT_FILENO, b" |");
-    print_bytes(picture);
-    io::write_all(STDOUT_FILENO, b" |");
-    print_seam(map);
-    io::write_all(STDOUT_FILENO, b"\n");
+    put(stdout, b"read");
+    print_checked(stdout, checked);
+    print_used(stdout, work);
+    put(stdout, b" |");
+    print_bytes(stdout, picture);
+    put(stdout, b" |");
+    print_seam(stdout, map);
+    put(stdout, b"\n");
 }
 
 // The width, the number given, the size shown, how many bytes of the work space aren't 0, and the output space.
-pub(crate) fn print_show(file: &[u8], wanted: usize, out: &mut [u8], work: &mut [u8]) {
+pub(crate) fn print_show(
+    stdout: Stdout,
+    file: &[u8],
+    wanted: usize,
+    out: &mut [u8],
+    work: &mut [u8],
+) {
     let shown = file_read::show(file, wanted, out, work);
-    io::write_all(STDOUT_FILENO, b"show");
-    print_number(wide_length(wanted));
-    print_shown(shown);
-    print_used(work);
-    io::write_all(STDOUT_FILENO, b" |");
-    print_bytes(out);
-    io::write_all(STDOUT_FILENO, b"\n");
+    put(stdout, b"show");
+    print_number(stdout, wide_length(wanted));
+    print_shown(stdout, shown);
+    print_used(stdout, work);
+    put(stdout, b" |");
+    print_bytes(stdout, out);
+    put(stdout, b"\n");
 }
 
-fn print_checked(checked: Checked) {
+fn print_checked(stdout: Stdout, checked: Checked) {
     match checked {
         Checked::Accepted(head) => {
             let size = head.size;
-            print_number(0);
-            print_size(size);
-            print_number(wide_length(head.depth));
-            print_number(wide_length(head.growth));
+            print_number(stdout, 0);
+            print_size(stdout, size);
+            print_number(stdout, wide_length(head.depth));
+            print_number(stdout, wide_length(head.growth));
         }
         Checked::Refused(why) => {
-            print_number(pictures::number(why));
+            print_number(stdout, pictures::number(why));
         }
     }
 }
 
-fn print_shown(shown: Shown) {
+fn print_shown(stdout: Stdout, shown: Shown) {
     match shown {
         Shown::Size(size) => {
-            print_number(0);
-            print_size(size);
+            print_number(stdout, 0);
+            print_size(stdout, size);
         }
         Shown::Refused(why) => {
-            print_number(pictures::number(why));
+            print_number(stdout, pictures::number(why));
         }
     }
 }
 
 // Width, height, and samples a pixel.
-fn print_size(size: Size) {
+fn print_size(stdout: Stdout, size: Size) {
     let kind = size.kind;
-    print_number(wide_length(size.width));
-    print_number(wide_length(size.height));
-    print_number(wide_length(pictures::channels(kind)));
+    print_number(stdout, wide_length(size.width));
+    print_number(stdout, wide_length(size.height));
+    print_number(stdout, wide_length(pictures::channels(kind)));
 }
 
 // The number that a file is refused by, 0 where it is accepted.
@@ -132,12 +150,12 @@ pub(crate) fn shown_number(shown: Shown) -> u64 {
 }
 
 // How many bytes of the space aren't 0.
-fn print_used(space: &[u8]) {
+fn print_used(stdout: Stdout, space: &[u8]) {
     let mut n: usize = 0;
     for i in 0..space.len() {
         n += used(space[i]);
     }
-    print_number(wide_length(n));
+    print_number(stdout, wide_length(n));
 }
 
 // 1 for a byte that isn't 0.

@@ -12,30 +12,31 @@ mod rooms;
 ghost use Rattle.std.specs.Prelude.{◌<◌, ◌≤◌, length};
 
 use energy::Method;
-use libc::STDOUT_FILENO;
 use pictures::{Kind, Size};
 use seam_rules::{Axis, Found};
+use std::io::{Stdout, Write};
 
 // Pictures of every width to 6 and height to 4, of both kinds; then objects removed, rows and columns together, and files.
-fn main() {
+fn main(rt: HostRuntime) {
+    let stdout = rt.stdout();
     let method = energy::usual_method();
     let mut seed: u64 = 1;
     for height in 1..5 {
         for width in 1..7 {
-            seed = trial(width, height, Kind::Grey, method, seed);
-            seed = trial(width, height, Kind::Rgb, method, seed);
+            seed = trial(stdout, width, height, Kind::Grey, method, seed);
+            seed = trial(stdout, width, height, Kind::Rgb, method, seed);
         }
     }
-    seed = objects::trials(method, seed);
-    seed = retargets::trial(4, 2, Kind::Grey, method, seed);
-    seed = retargets::trial(3, 3, Kind::Rgb, method, seed);
-    seed = files::trials(method, seed);
-    rooms::trials(method, seed);
+    seed = objects::trials(stdout, method, seed);
+    seed = retargets::trial(stdout, 4, 2, Kind::Grey, method, seed);
+    seed = retargets::trial(stdout, 3, 3, Kind::Rgb, method, seed);
+    seed = files::trials(stdout, method, seed);
+    rooms::trials(stdout, method, seed);
 }
 
 // One picture: its seams and cuts along both axes, without marks and with them, and what is given of each of its rows and of
 // the row below the last.
-fn trial(width: usize, height: usize, kind: Kind, method: Method, seed: u64) -> u64
+fn trial(stdout: Stdout, width: usize, height: usize, kind: Kind, method: Method, seed: u64) -> u64
     requires { (width ≤ 6) × (height ≤ 4) × (seed < 65536) }
     ensures { result < 65536 }
 {
@@ -49,12 +50,30 @@ fn trial(width: usize, height: usize, kind: Kind, method: Method, seed: u64) -> 
         kind,
     };
     let bytes = count(height, width, pictures::channels(kind));
-    print_seams(space, bytes, size, method);
+    print_seams(stdout, space, bytes, size, method);
     let pixels = count(height, width, 1);
-    print_marked(space, bytes, marks, pixels, size, method, Axis::Vertical);
-    print_marked(space, bytes, marks, pixels, size, method, Axis::Horizontal);
+    print_marked(
+        stdout,
+        space,
+        bytes,
+        marks,
+        pixels,
+        size,
+        method,
+        Axis::Vertical,
+    );
+    print_marked(
+        stdout,
+        space,
+        bytes,
+        marks,
+        pixels,
+        size,
+        method,
+        Axis::Horizontal,
+    );
     for r in 0..height + 1 {
-        print_row(&space[..bytes], size, method, r);
+        print_row(stdout, &space[..bytes], size, method, r);
     }
     next
 }
@@ -118,28 +137,29 @@ fn mark(n: u64) -> u8 {
     }
 }
 
-fn print_seams(space: [u8; 72], bytes: usize, size: Size, method: Method)
+fn print_seams(stdout: Stdout, space: [u8; 72], bytes: usize, size: Size, method: Method)
     requires { bytes ≤ 72 }
 {
-    print_find(&space[..bytes], size, method, Axis::Vertical);
-    print_find(&space[..bytes], size, method, Axis::Horizontal);
-    print_cut(space, bytes, size, method, Axis::Vertical);
-    print_cut(space, bytes, size, method, Axis::Horizontal);
+    print_find(stdout, &space[..bytes], size, method, Axis::Vertical);
+    print_find(stdout, &space[..bytes], size, method, Axis::Horizontal);
+    print_cut(stdout, space, bytes, size, method, Axis::Vertical);
+    print_cut(stdout, space, bytes, size, method, Axis::Horizontal);
 }
 
 // The number given, the cost, the seam's space and an end of the work space, in a line.
-fn print_find(picture: &[u8], size: Size, method: Method, axis: Axis) {
+fn print_find(stdout: Stdout, picture: &[u8], size: Size, method: Method, axis: Axis) {
     let mut seam = [9u16; 8];
     let mut work = [1u8; 768];
     let found = seam_cut::find(picture, size, method, axis, &mut seam, &mut work);
-    print_found(found);
-    print_seam(&seam);
-    print_number(wide_byte(work[767]));
-    io::write_all(STDOUT_FILENO, b"\n");
+    print_found(stdout, found);
+    print_seam(stdout, &seam);
+    print_number(stdout, wide_byte(work[767]));
+    put(stdout, b"\n");
 }
 
 // The same by marks, and what a cut by marks gives, in a line.
 fn print_marked(
+    stdout: Stdout,
     space: [u8; 72],
     bytes: usize,
     marks: [u8; 72],
@@ -150,25 +170,40 @@ fn print_marked(
 )
     requires { (bytes ≤ 72) × (pixels ≤ 72) }
 {
-    print_find_marked(&space[..bytes], &marks[..pixels], size, method, axis);
-    io::write_all(STDOUT_FILENO, b" | ");
-    print_cut_marked(space, bytes, marks, pixels, size, method, axis);
-    io::write_all(STDOUT_FILENO, b"\n");
+    print_find_marked(
+        stdout,
+        &space[..bytes],
+        &marks[..pixels],
+        size,
+        method,
+        axis,
+    );
+    put(stdout, b" | ");
+    print_cut_marked(stdout, space, bytes, marks, pixels, size, method, axis);
+    put(stdout, b"\n");
 }
 
-fn print_find_marked(picture: &[u8], marks: &[u8], size: Size, method: Method, axis: Axis) {
+fn print_find_marked(
+    stdout: Stdout,
+    picture: &[u8],
+    marks: &[u8],
+    size: Size,
+    method: Method,
+    axis: Axis,
+) {
     let mut seam = [9u16; 8];
     let mut work = [1u8; 768];
     let found = seam_cut_marked::find_marked(
         picture, marks, size, method, axis, &mut seam, &mut work,
     );
-    print_found(found);
-    print_seam(&seam);
-    print_number(wide_byte(work[767]));
+    print_found(stdout, found);
+    print_seam(stdout, &seam);
+    print_number(stdout, wide_byte(work[767]));
 }
 
 // The number given, the cost, the picture's bytes and the marks.
 fn print_cut_marked(
+    stdout: Stdout,
     space: [u8; 72],
     bytes: usize,
     marks: [u8; 72],
@@ -192,40 +227,40 @@ fn print_cut_marked(
         &mut seam,
         &mut work,
     );
-    print_found(found);
-    print_bytes(&copy[..bytes]);
-    io::write_all(STDOUT_FILENO, b" |");
-    print_bytes(&left[..pixels]);
+    print_found(stdout, found);
+    print_bytes(stdout, &copy[..bytes]);
+    put(stdout, b" |");
+    print_bytes(stdout, &left[..pixels]);
 }
 
 // The number given, the cost, and the picture's bytes, in a line.
-fn print_cut(space: [u8; 72], bytes: usize, size: Size, method: Method, axis: Axis)
+fn print_cut(stdout: Stdout, space: [u8; 72], bytes: usize, size: Size, method: Method, axis: Axis)
     requires { bytes ≤ 72 }
 {
     let mut copy = space;
     let mut seam = [9u16; 8];
     let mut work = [1u8; 768];
     let found = seam_cut::cut(&mut copy[..bytes], size, method, axis, &mut seam, &mut work);
-    print_found(found);
-    print_bytes(&copy[..bytes]);
-    io::write_all(STDOUT_FILENO, b"\n");
+    print_found(stdout, found);
+    print_bytes(stdout, &copy[..bytes]);
+    put(stdout, b"\n");
 }
 
-fn print_found(found: Found) {
+fn print_found(stdout: Stdout, found: Found) {
     match found {
         Found::Seam(cost) => {
-            io::print_decimal(STDOUT_FILENO, 0);
-            print_number(cost);
+            put_decimal(stdout, 0);
+            print_number(stdout, cost);
         }
         Found::Refused(why) => {
-            io::print_decimal(STDOUT_FILENO, pictures::number(why));
+            put_decimal(stdout, pictures::number(why));
         }
     }
 }
 
-fn print_seam(seam: &[u16]) {
+fn print_seam(stdout: Stdout, seam: &[u16]) {
     for i in 0..seam.len() {
-        print_number(wide_column(seam[i]));
+        print_number(stdout, wide_column(seam[i]));
     }
 }
 
@@ -234,32 +269,32 @@ pub(crate) fn wide_column(n: u16) -> u64 {
 }
 
 // The number given, the energies' space and the row, in a line.
-fn print_row(picture: &[u8], size: Size, method: Method, r: usize) {
+fn print_row(stdout: Stdout, picture: &[u8], size: Size, method: Method, r: usize) {
     let mut out = [7u32; 8];
     let verdict = energy::energies(picture, size, method, r, &mut out);
-    io::print_decimal(STDOUT_FILENO, pictures::given(verdict));
-    print_numbers(&out);
-    io::write_all(STDOUT_FILENO, b" |");
-    print_bytes(pictures::row(picture, size, r));
-    io::write_all(STDOUT_FILENO, b"\n");
+    put_decimal(stdout, pictures::given(verdict));
+    print_numbers(stdout, &out);
+    put(stdout, b" |");
+    print_bytes(stdout, pictures::row(picture, size, r));
+    put(stdout, b"\n");
 }
 
-fn print_numbers(numbers: &[u32]) {
+fn print_numbers(stdout: Stdout, numbers: &[u32]) {
     for i in 0..numbers.len() {
-        print_number(wide(numbers[i]));
+        print_number(stdout, wide(numbers[i]));
     }
 }
 
-pub(crate) fn print_bytes(row: &[u8]) {
+pub(crate) fn print_bytes(stdout: Stdout, row: &[u8]) {
     for i in 0..row.len() {
-        print_number(wide_byte(row[i]));
+        print_number(stdout, wide_byte(row[i]));
     }
 }
 
 // A blank and a number.
-pub(crate) fn print_number(n: u64) {
-    io::write_all(STDOUT_FILENO, b" ");
-    io::print_decimal(STDOUT_FILENO, n);
+pub(crate) fn print_number(stdout: Stdout, n: u64) {
+    put(stdout, b" ");
+    put_decimal(stdout, n);
 }
 
 fn wide(n: u32) -> u64 {
@@ -268,4 +303,13 @@ fn wide(n: u32) -> u64 {
 
 pub(crate) fn wide_byte(n: u8) -> u64 {
     n as u64
+}
+
+// What can't be written is let go.
+pub(crate) fn put(mut stdout: Stdout, text: &[u8]) {
+    let _ = stdout.write_all(text);
+}
+
+fn put_decimal(mut stdout: Stdout, n: u64) {
+    let _ = write!(stdout, "{n}");
 }
