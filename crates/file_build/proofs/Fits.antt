@@ -34,9 +34,6 @@ module _ (space n count : ℕ) where
     pub lines-short : leb (count * (space - after)) space ≡ false → none ≡ less space (count * n)
     lines-short e = sym (less_none space (count * n) (leb-false _ _ (rw line-is at e)))
 
-    pub lines-room : leb (count * (space - after)) space ≡ true → count * (space - after) ≤ space
-    lines-room e = leb-true _ _ e
-
     pub lines_left : leb (count * (space - after)) space ≡ true → some (space - count * (space - after)) ≡ less space (count * n)
     lines_left e = rw line-is (sym (less-some space (count * n) (leb-true _ _ (rw line-is at e))))
 

@@ -1,17 +1,15 @@
 -- The answers of checking a file.
 use mathlib.Core.Path.{◌≡◌, refl, sym, ap, ◌∙◌}
 use mathlib.Core.List.{List, [], ◌∷◌}
-use Prim.Native.Nat.{ℕ, ◌*◌, ◌≤◌}
+use Prim.Native.Nat.{ℕ}
 use native.Mathlib.Omega.{arith}
-use borrow.Author.Tests.{ltb-false}
-use lib.Dec.{ltb}
 use lib.ListN.{length, replicate}
 use Rattle.pictures.specs.declared.refusals.Refusal.{Refusal}
 use Rattle.pictures.specs.declared.refusals.Verdict.{Verdict}
 use Rattle.pictures.specs.declared.refusals.Verdict.TheVariants as verdicts
 use Rattle.pictures.specs.Refusals.{Rule, number_of, given, refusal, worked}
-use Rattle.pictures.specs.Pictures.{side_rules, pixels}
-use Rattle.pictures.proofs.Rules.{served-first, passed, refusal-most, number-some, kept_by}
+use Rattle.pictures.specs.Pictures.{side_rules}
+use Rattle.pictures.proofs.Rules.{served-first, refusal-most, number-some, kept_by}
 use Rattle.seam_find.proofs.Worked.{worked_not}
 use Rattle.text_theory.specs.declared.Head.{Head}
 use Rattle.text_theory.specs.Files.{parse}
@@ -54,9 +52,6 @@ module _ (file work : List ℕ) (answer : Checked) (g : OpenGiven file answer) w
           work_left = sym (worked_not (number_of why) (replicate (length work) 0) work (number-some why) (omega (arith, number, refusal-most 8 (own h) refl)));
         }
 
-    pub check-room : refusal (own h) ≡ 0 → 32 * pixels h.size ≤ length work
-    check-room e = ltb-false _ _ (passed (ltb (length work) (32 * pixels h.size)) 7 0 e).0
-
     module _ (none : refusal (own h) ≡ 0) (v : Verdict) (work' : List ℕ) (j : MapJudged file work v work') where
       same_number : given v ≡ refusal (check_rules file (length work))
       same_number = j.number ∙ judged-number file h (is_open file answer g h is) own refl none
@@ -66,12 +61,5 @@ module _ (file work : List ℕ) (answer : Checked) (g : OpenGiven file answer) w
       check-refused why e = record {
         number = sym (ap given e) ∙ same_number;
         head = kept_by why (head_in (parse file)) _;
-        work_left = judged_work file work v work' j ∙ ap (λ x. worked (given x) (replicate (length work) 0) work) e;
-      }
-
-      pub check-accepted : v ≡ verdicts.Served → CheckGiven file work (checks.Accepted h) work'
-      check-accepted e = record {
-        number = sym (ap given e) ∙ same_number;
-        head = sym (is_open file answer g h is).head_is;
         work_left = judged_work file work v work' j ∙ ap (λ x. worked (given x) (replicate (length work) 0) work) e;
       }

@@ -7,7 +7,7 @@ use Prim.Native.Nat.{ℕ}
 use lib.Dec.{eqb}
 use lib.ListN.{length}
 use Rattle.pictures.specs.declared.refusals.Refusal.{Refusal}
-use Rattle.pictures.specs.declared.refusals.Refusal.TheVariants.{Form, Count, Range}
+use Rattle.pictures.specs.declared.refusals.Refusal.TheVariants.{Count, Range}
 use Rattle.pictures.specs.declared.refusals.Verdict.{Verdict}
 use Rattle.pictures.specs.declared.refusals.Verdict.TheVariants as verdicts
 use Rattle.pictures.specs.Refusals.{◌when◌, Rule, number_of, given, refusal}
@@ -44,17 +44,9 @@ counts-filled p =
     let h = p.head.size.height in
     rw (even_rows w p.rows, even_rows w p.maps) (and_swap (eqb (length p.rows) h) (eqb (length p.maps) h) (every (λ xs. eqb (length xs) w) p.rows) (every (λ xs. eqb (length xs) w) p.maps))
 
--- The parts that a scan has found.
-pub facts-none : (o : Option Parts) → none ≡ facts_in o → o ≡ none
-facts-none none e = refl
-facts-none (some p) e = absurd (none-ne-some _ e)
-
 pub facts-some : (o : Option Parts) (f : Facts) → some f ≡ facts_in o → (p : Parts) × (o ≡ some p) × (f ≡ facts_of p)
 facts-some none f e = absurd (none-ne-some _ (sym e))
 facts-some (some p) f e = (p, refl, some-injective f (facts_of p) e)
-
-pub open_broken : (file : List ℕ) → none ≡ facts_in (parse file) → OpenGiven file (checks.Refused Form)
-open_broken file e = let z = facts-none (parse file) e in record { number = rw z; head = refl }
 
 module _ (file : List ℕ) (f : Facts) (told : some f ≡ facts_in (parse file)) where
   abbrev parts : Parts

@@ -28,7 +28,7 @@ use Rattle.text_read.specs.Answers.{read}
 use Rattle.text_read.specs.Lines.{row_line, map_line, Taken}
 use Rattle.text_read.proofs.Callers.{LineMet, rows_next, maps-next, taken_row, taken_map}
 use Rattle.file_theory.specs.Shows.{rows_in, maps_in}
-use Rattle.file_read.specs.Inner.Opening.{from_maps, from_rows}
+use Rattle.file_read.specs.Inner.Opening.{from_maps}
 use Rattle.file_read.proofs.Parsed.{Parsed}
 
 pub all_at : {A : Type 0} (P : A → Type 0) (xs : List A) (r : ℕ) (d : A) → All P xs → r < length xs → P (get_or xs r d)
@@ -57,13 +57,7 @@ abbrev pub MapsLeft : List ℕ → ℕ → ℕ → Type 0
 MapsLeft file r at = drop at file ≡ each map_word (line_text digits) (drop r (maps_in (parse file))) ++ closed
 
 module _ {file : List ℕ} {h : Head} (k : Parsed file h) where
-  -- The first line stands after what comes before, and after the last row line stand the map lines.
-  pub rows-first : (at : ℕ) → drop at file ≡ from_rows (parse file) → RowsLeft file h.size.kind 0 at
-  rows-first at p = p ∙ k.row_lines_are
-
-  pub maps-first : (at : ℕ) → drop at file ≡ from_maps (parse file) → MapsLeft file 0 at
-  maps-first at p = p ∙ k.map_lines_are
-
+  -- After the last row line stand the map lines.
   pub rows_end : (r at : ℕ) → h.size.height ≤ r → RowsLeft file h.size.kind r at → drop at file ≡ from_maps (parse file)
   unfolding each
   rows_end r at l p = p ∙ rw (drop_of_length-le (rows_in (parse file)) {i = r} (omega (arith, each-length k.of_size)))

@@ -1,11 +1,11 @@
 -- A row of numbers written into a space, two bytes a number.
 use mathlib.Core.Path.{◌≡◌, sym, ap, ap₂, ◌∙◌}
-use mathlib.Core.List.{List, [], ◌∷◌, ◌++◌, append-nil}
+use mathlib.Core.List.{List, [], ◌∷◌, ◌++◌}
 use Prim.Native.Nat.{ℕ, ◌+◌, ◌*◌, ◌≤◌, ◌<◌}
 use native.Mathlib.Numerals.{add-one}
 use native.Mathlib.Omega.{arith}
-use lib.ListN.{length, get_or, take, drop, set, drop_of_length-le}
-use lib.Seq.{take_all, take-suc, take_at, length-take-le, drop-drop, drop-append-add, sets-eq}
+use lib.ListN.{length, get_or, take, drop, set}
+use lib.Seq.{take-suc, take_at, length-take-le, drop-drop, drop-append-add, sets-eq}
 use Rattle.pictures.specs.Numbers.{low_byte, high_byte, pairs}
 use Rattle.pictures.proofs.TwoBytes.{length_pairs, pairs-append}
 
@@ -26,7 +26,3 @@ module _ (row before : List ℕ) where
       let n : 2 * (c + 1) ≡ 2 * c + 2 = omega arith in
       rw (low-is, high_is, add-one (2 * c), n, add-one c, take-suc row c 0 h, pairs-append)
       (sets-eq two now (2 * c) (omega arith) ∙ ap₂ (λ x y. (x ++ two) ++ y) first behind)
-
-  pub recorded_done : (c : ℕ) (now : List ℕ) → c ≡ length row → length before ≤ 2 * length row → RecordedTo c now → now ≡ pairs row
-  recorded_done c now e l so =
-      (rw e at so) ∙ ap₂ (λ x y. pairs x ++ y) (take_all (length row) row (omega arith)) (drop_of_length-le before {i = 2 * length row} l) ∙ append-nil (pairs row)

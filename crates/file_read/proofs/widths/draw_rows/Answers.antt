@@ -1,12 +1,18 @@
 -- `file_read::widths::draw_rows` meets its contract. The invariant: r rows are shown, and at the place stands map line r.
 use Rattle.std.proofs.Common.{◌+◌, ◌*◌, ◌≤◌, length, arith}
-use Rattle.file_read.proofs.DrawTurns.{drawn_all, samples-end, shown-end, shown-small, line-there, line_read, line-long, row-drawn, row-long}
+use Rattle.file_read.proofs.DrawTurns.{drawn_all, samples-end, samples-small, shown-end, shown-small, line-there, line_read, line-long, row-drawn, row-long}
 use Rattle.file_read.proofs.widths.draw_rows.Goals as goal
 
 pub returns-in_default : goal.returns-in_default
 returns-in_default c =
     let at = c.loop-r in
     absurd (line-there c.args.out.now c.requires at.r c.loop-r-test.true at.numbers at.invariant.2 at.at.at at.invariant.3 _ c.in_default.ensures)
+
+pub overflow_mul-a : goal.overflow_mul-a
+overflow_mul-a c = omega (arith, samples-small c.args.out.now c.requires c.loop-r.r c.loop-r-test.true c.channels.result c.channels.ensures)
+
+pub overflow_add-a : goal.overflow_add-a
+overflow_add-a c = omega (arith, samples-small c.args.out.now c.requires c.loop-r.r c.loop-r-test.true c.channels.result c.channels.ensures)
 
 pub slice_bounds-row_at-end : goal.slice_bounds-row_at-end
 slice_bounds-row_at-end c = samples-end c.args.out.now c.requires c.loop-r.r c.loop-r-test.true _ c.channels.ensures
