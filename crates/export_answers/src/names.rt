@@ -66,6 +66,7 @@ pub struct Counts {
 }
 
 // Names the size; it is unknown where its kind is neither 0 nor 1.
+#[tactic(auto, unfolding(crate::specs::Named::sizing_of))]
 pub fn size_named(size: HostSize) -> Sizing
     ensures { result ≡ sizing_of size }
 {
@@ -90,6 +91,7 @@ pub fn size_named(size: HostSize) -> Sizing
 }
 
 // Names the method; it is unknown where its energy isn't 0.
+#[tactic(auto, unfolding(crate::specs::Named::finding_of))]
 pub fn method_named(method: HostMethod) -> Finding
     ensures { result ≡ finding_of method }
 {
@@ -103,6 +105,7 @@ pub fn method_named(method: HostMethod) -> Finding
 }
 
 // Axis 0 is vertical, 1 is horizontal.
+#[tactic(auto, unfolding(crate::specs::Named::turning_of))]
 pub fn axis_named(axis: u8) -> Turning
     ensures { result ≡ turning_of axis }
 {
@@ -116,6 +119,7 @@ pub fn axis_named(axis: u8) -> Turning
 }
 
 // Names the size and the method; unknown where one of them is.
+#[tactic(auto, unfolding(crate::specs::Named::carving_of))]
 pub fn carving_named(size: HostSize, method: HostMethod) -> Carving
     ensures { result ≡ carving_of size method }
 {
@@ -129,6 +133,7 @@ pub fn carving_named(size: HostSize, method: HostMethod) -> Carving
 }
 
 // Names the size, the method and the axis; unknown where one of them is.
+#[tactic(auto, unfolding(crate::specs::Named::seaming_of))]
 pub fn seaming_named(size: HostSize, method: HostMethod, axis: u8) -> Seaming
     ensures { result ≡ seaming_of size method axis }
 {
