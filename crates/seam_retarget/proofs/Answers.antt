@@ -11,7 +11,6 @@ use borrow.Rule.Slice.PartMut.{mid_of}
 use lib.ListN.{length, get_or, take, drop, replicate, length-append, length-drop}
 use lib.Seq.{take_at}
 use Rattle.grids.proofs.Rows.{part_end}
-use Rattle.pictures.specs.Limits.{most_picture}
 use Rattle.pictures.specs.declared.sizes.Size.{Size}
 use Rattle.pictures.specs.Refusals.{◌when◌, refusal}
 use Rattle.pictures.specs.Pictures.{picture_bytes, size_rules, picture, bytes}
@@ -27,7 +26,7 @@ use Rattle.seam_rules.specs.Counts.{row_count, smaller, left_size, retarget_byte
 use Rattle.seam_retarget.specs.Retargeting.{cell_of}
 use Rattle.seam_retarget.specs.Inner.Seams.{picture_at}
 use Rattle.seam_retarget.specs.Inner.Cells.{SpaceNeeded}
-use Rattle.seam_retarget.specs.Inner.Table.{held, first_row, table_row, RowGiven, FirstRowNeeded, RowsBelowNeeded}
+use Rattle.seam_retarget.specs.Inner.Table.{held, first_row, table_row, RowGiven, FirstRowNeeded}
 use Rattle.seam_retarget.specs.Inner.Retargets.{RetargetNeeded, LastGiven}
 use Rattle.seam_retarget.proofs.Numbered.{cell_at, cell-numbers}
 use Rattle.seam_retarget.proofs.Slots.{smaller-few}
@@ -90,7 +89,6 @@ module _ (b : List ℕ) (z : Size) (how : Method) (rows : Rows) (columns : Colum
     pub fits : length b ≤ length work
     pub slot : c * length b + length b ≤ 65 * length b
     pub count_most : count ≤ length b
-    pub whole-most : length b ≤ most_picture
     pub inside : c * length b + count ≤ length work
 
   pub last_sure : (count : ℕ) → count ≡ picture_bytes (left_size z rows columns) → LastSure count
@@ -101,7 +99,6 @@ module _ (b : List ℕ) (z : Size) (how : Method) (rows : Rows) (columns : Colum
         fits = omega (arith, space.room);
         slot = slot;
         count_most = few;
-        whole-most = omega (arith, sized.length_is, sized.picture_most);
         inside = omega (arith, space.room);
       }
 
@@ -133,19 +130,6 @@ module _ (b : List ℕ) (z : Size) (how : Method) (rows : Rows) (columns : Colum
 
     module _ (totals two totals₂ : List ℕ) (none : (j : ℕ) → get_or totals j 0 ≡ 0)
         (row : RowGiven z (length b) (row_count 0) columns (first_row how z (held z (length b) (row_count 0) one totals 0)) one two totals₂) where
-      pub below-needed : RowsBelowNeeded z (length b) rows columns two totals₂
-      below-needed = record {
-        fits = record {
-          space = rw (row.long ∙ one-long) space;
-          rows_left = needed.rows_left;
-          row = omega (arith, needed.rows_few);
-          columns_left = needed.columns_left;
-          column = omega (arith, needed.columns_few);
-          totals_long = row.totals_long;
-        };
-        small = row.small;
-      }
-
       module _ (three totals₃ : List ℕ) (last : RowGiven z (length b) rows columns (table_row how z (held z (length b) (row_count 0) two totals₂) rows) two three totals₃) where
         pub three-long : length three ≡ length work
         three-long = last.long ∙ row.long ∙ one-long

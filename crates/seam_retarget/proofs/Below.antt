@@ -15,7 +15,7 @@ use Rattle.seam_retarget.specs.Cells.{Cell, by_seam, chosen}
 use Rattle.seam_rules.specs.Counts.{row_count, column_count, smaller}
 use Rattle.seam_retarget.specs.Inner.Seams.{picture_at, StepNeeded, StepGiven}
 use Rattle.seam_retarget.specs.Inner.Table.{largest_total, held, along_row, next_row, row_below, RowGiven, RestOfRowNeeded, NextRowNeeded}
-use Rattle.seam_retarget.specs.Inner.Cells.{CellNeeded, CellGiven}
+use Rattle.seam_retarget.specs.Inner.Cells.{CellGiven}
 use Rattle.seam_rules.proofs.Left.{smaller-sides}
 use Rattle.seam_retarget.proofs.Slots.{less-row, same_picture, placed-horizontal}
 use Rattle.seam_retarget.proofs.Sweep.{along-same, next-same, held_new, held-other, set_small, step-cell, slot_kept, up_to}
@@ -54,16 +54,6 @@ module _ (z : Size) (how : Method) (whole r c : ℕ) (work₀ totals₀ : List �
     upper-small : get_or totals (j + 1) 0 ≤ largest_total r
     upper-small = rw (so_far.later_totals (j + 1) (omega arith)) (needed.others_small (j + 1) (omega arith))
 
-    pub rest-cell : CellNeeded z whole (row_count r) (column_count j) (get_or totals (j + 1) 0) (get_or totals j 0) (length work)
-    rest-cell = record {
-      space = rw so_far.long needed.fits.space;
-      rows_left = needed.fits.rows_left;
-      columns_left = omega (arith, needed.fits.columns_left);
-      column = omega (arith, needed.fits.column);
-      above_small = omega (arith, upper-small, needed.fits.row);
-      left_small = omega (arith, so_far.small j, needed.fits.row);
-    }
-
     pub rest-turn : (v : ℕ) (work' : List ℕ) → CellGiven z how whole (row_count r) (column_count j) (get_or totals (j + 1) 0) (get_or totals j 0) work v work'
         → RestSoFar z how whole r c work₀ totals₀ (j + 1) work' (set totals (j + 1) v)
     unfolding along_row
@@ -91,15 +81,6 @@ module _ (z : Size) (how : Method) (whole r c : ℕ) (work₀ totals₀ : List �
           later = λ k h l. g.others k l (λ e. omega arith) ∙ so_far.later k (omega arith) l;
           later_totals = λ k h. get_or-set_other totals (j + 1) k v 0 (λ e. omega arith) ∙ so_far.later_totals k (omega arith);
         }
-
-  pub rest_end : (work totals : List ℕ) → RestSoFar z how whole r c work₀ totals₀ c work totals
-      → RowGiven z whole (row_count (r + 1)) (column_count c) (along_row how z (row_count r) (held z whole (row_count (r + 1)) work₀ totals₀ 0) (held z whole (row_count r) work₀ totals₀)) work₀ work totals
-  rest_end work totals so_far = record {
-    cells_are = so_far.cells_are;
-    small = so_far.small;
-    long = so_far.long;
-    totals_long = so_far.totals_long;
-  }
 
 -- A row below row r, whose first cell comes by a step from slot 0 to slot 0.
 module _ (z : Size) (how : Method) (whole r c : ℕ) (work totals : List ℕ) (needed : NextRowNeeded z whole (row_count r) (column_count c) work totals) where

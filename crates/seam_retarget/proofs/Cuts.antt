@@ -30,7 +30,7 @@ use Rattle.seam_cut.specs.Axes.{seam_along}
 use Rattle.seam_rules.proofs.Turns.{turned-bytes, turned-sides}
 use Rattle.seam_turn.proofs.Turned.{turned-of_size}
 use Rattle.seam_cut.proofs.Inside.{along_inside}
-use Rattle.seam_retarget.specs.Inner.Seams.{picture_at, left_along, TurnNeeded, SeamNeeded, SeamGiven, CutNeeded, CutGiven, StepNeeded, StepGiven}
+use Rattle.seam_retarget.specs.Inner.Seams.{picture_at, left_along, TurnNeeded, SeamGiven, CutNeeded, CutGiven, StepNeeded, StepGiven}
 use Rattle.seam_retarget.proofs.Steps.{sized_at, at_of_size}
 
 -- The size that a cut leaves takes no more bytes, and is allowed.
@@ -74,13 +74,6 @@ module _ (work : List ℕ) (at : ℕ) (z : Size) (x : Axis) (seam : List ℕ) (t
 
   room : at + picture_bytes t ≤ length work
   room = omega (arith, same_bytes, needed.places.from_inside)
-
-  pub record CutSure (all : ℕ) : Type 0 where
-    pub end : at + all ≤ length work
-    pub some : 0 < (turned_size x z).width
-
-  pub cut-sure : (all : ℕ) → all ≡ picture_bytes (turned_size x z) → CutSure all
-  cut-sure all e = record { end = omega (arith, room); some = omega (arith, needed.wide) }
 
   module _ (all : ℕ) (all_is : all ≡ picture_bytes (turned_size x z)) (v : Verdict) (closed : List ℕ)
       (g : CloseGiven (mid_of at (at + all - at) work) (turned_size x z) (take (turned_size x z).height seam) v closed)
@@ -185,14 +178,6 @@ module _ (work : List ℕ) (from : ℕ) (z : Size) (how : Method) (x : Axis) (at
 
 -- Both, one after the other.
 module _ (work : List ℕ) (from : ℕ) (z : Size) (how : Method) (x : Axis) (at to : ℕ) (needed : StepNeeded (length work) from z x at to) where
-  pub step-seam : (n : ℕ) → n ≡ largest_side → SeamNeeded (length work) from z x at n
-  step-seam n is = record {
-    sides = needed.sides;
-    places = needed.source;
-    room = needed.room;
-    seam_room = rw is (turned_tall x z needed.sides);
-  }
-
   module _ (seam : List ℕ) (cost : ℕ) (one seam' : List ℕ) (found : SeamGiven work from z how x at seam cost one seam') (many : length seam ≡ largest_side) where
     pub step_cut : CutNeeded (length one) at z x seam' to
     step_cut = record {

@@ -9,10 +9,9 @@ use lib.ListN.{take, drop}
 use lib.Seq.{take-take}
 use Rattle.grids.proofs.Orders.{le-or-lt}
 use Rattle.grids.proofs.Rows.{part_end}
-use Rattle.pictures.specs.Limits.{most_picture}
 use Rattle.pictures.specs.declared.sizes.Size.{Size}
 use Rattle.pictures.specs.Pictures.{channels_of, picture_bytes, picture, pixels}
-use Rattle.pictures.proofs.Limits.{sides_are, channels_some}
+use Rattle.pictures.proofs.Limits.{channels_some}
 use Rattle.seam_moves.specs.Between.{part_at}
 use Rattle.seam_bounds.specs.Inner.{PlacesApart}
 use Rattle.seam_rules.specs.declared.answers.Axis.TheVariants.{Vertical, Horizontal}
@@ -100,16 +99,3 @@ module _ (z : Size) (whole work : ℕ) (needed : SpaceNeeded z whole work) (k r 
 
   pub apart-horizontal : (n : ℕ) → n ≤ 2 * whole → Apart (k * whole) whole (67 * whole) n
   apart-horizontal n h = inl (omega (arith, end))
-
--- No place is far away.
-pub record Near (whole c : ℕ) : Type 0 where
-  pub most : whole ≤ most_picture
-  pub left : c * whole + whole ≤ 65 * whole
-  pub here : (c + 1) * whole + whole ≤ 65 * whole
-
-pub near : (z : Size) (whole work c : ℕ) → SpaceNeeded z whole work → c + 1 < 65 → Near whole c
-near z whole work c needed h = record {
-  most = omega (arith, needed.whole_is, (sides_are z needed.sides).picture_most);
-  left = part_end c 65 whole (omega arith);
-  here = part_end (c + 1) 65 whole h;
-}

@@ -21,7 +21,7 @@ use Rattle.seam_retarget.specs.Cells.{Cell, by_seam, chosen}
 use Rattle.seam_rules.specs.Counts.{row_count, column_count, smaller}
 use Rattle.seam_retarget.specs.Inner.Seams.{picture_at, left_along, StepNeeded, StepGiven}
 use Rattle.seam_retarget.specs.Inner.Cells.{SpaceNeeded}
-use Rattle.seam_retarget.specs.Inner.Table.{held, first_row, along_row, next_row, row_below, RowGiven, FirstRowNeeded}
+use Rattle.seam_retarget.specs.Inner.Table.{held, first_row, along_row, next_row, row_below, FirstRowNeeded}
 use Rattle.seam_retarget.proofs.Numbered.{cell_at}
 use Rattle.seam_retarget.proofs.Slots.{smaller-few, less-column, same_picture, slots_apart, placed-vertical}
 use Rattle.seam_rules.proofs.Left.{smaller-sides}
@@ -162,11 +162,3 @@ module _ (z : Size) (how : Method) (whole c : ℕ) (work₀ totals₀ : List ℕ
               ∙ ap (first_row how z (held z whole (row_count 0) work₀ totals₀ 0)) (sym (add-one j)));
           small = set_small totals (j + 1) v ((j + 1) * most_cost) (λ k. omega (arith, so_far.small k)) (omega (arith, so_far.small j, g.cost_most));
         }
-
-  pub first-end : (work totals : List ℕ) → FirstSoFar z how whole c work₀ totals₀ c work totals → RowGiven z whole (row_count 0) (column_count c) (first_row how z (held z whole (row_count 0) work₀ totals₀ 0)) work₀ work totals
-  first-end work totals so_far = record {
-    cells_are = so_far.cells_are;
-    small = λ k. omega (arith, so_far.small k, needed.fits.column);
-    long = so_far.long;
-    totals_long = so_far.totals_long;
-  }
