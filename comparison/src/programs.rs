@@ -148,7 +148,7 @@ pub fn missing() -> Option<String> {
     let missing = all.find(|program| !program.path().is_file())?;
     let path = missing.path();
     Some(format!(
-        "{} is missing: run `rt check seams fit` first",
+        "{} is missing: run `./carve programs` first",
         path.display()
     ))
 }
