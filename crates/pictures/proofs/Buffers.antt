@@ -14,7 +14,6 @@ use Rattle.grids.proofs.Rows.{grid-rows_of, flat-rows_of, rows_of-flat, length-f
 use Rattle.pictures.specs.declared.sizes.Size.{Size}
 use Rattle.pictures.specs.Refusals.{refusal, served}
 use Rattle.pictures.specs.Pictures.{Picture, channels_of, row_bytes, picture_bytes, size_rules, picture, bytes, OfSize, row_of, pixel}
-use Rattle.pictures.proofs.Rules.{served-not}
 
 -- The rows of a picture, each cut into pixels.
 pub picture-of_size : (z : Size) (b : List ℕ) → length b ≡ picture_bytes z → OfSize z (picture z b)
@@ -81,9 +80,6 @@ sample_at z b e r c k h l m =
     ∙ row_at_get_d (row_bytes z) b r (c * ch + k) 0 (digits_lt l m)
 
 -- The row given out: nothing where the picture is refused or has no such row, else the row's bytes.
-pub row-refused : (z : Size) (b : List ℕ) (r n : ℕ) → refusal (size_rules z (length b)) ≡ n → 0 < n → row_of z b r ≡ []
-row-refused z b r n e h = ap (λ m. served m (get_or (rows_of (row_bytes z) z.height b) r []) []) e ∙ served-not n (get_or (rows_of (row_bytes z) z.height b) r []) [] h
-
 pub row-past : (z : Size) (b : List ℕ) (r : ℕ) → refusal (size_rules z (length b)) ≡ 0 → z.height ≤ r → row_of z b r ≡ []
 row-past z b r e h = ap (λ m. served m (get_or (rows_of (row_bytes z) z.height b) r []) []) e ∙ rows_of-past (row_bytes z) z.height b r h
 

@@ -2,8 +2,8 @@
 use mathlib.Core.Path.{◌≡◌, refl, sym, ap, ◌∙◌}
 use mathlib.Core.Bool.{false, cond, not, ◌||◌}
 use mathlib.Core.List.{[], ◌∷◌}
-use Prim.Native.Nat.{ℕ, zero, suc, ◌+◌, ◌*◌, ◌≤◌, ◌<◌}
-use native.Mathlib.Nat.{mul-le-mul, mul-le-mul_left, mul_comm, mul_assoc, mul-zero}
+use Prim.Native.Nat.{ℕ, zero, suc, ◌*◌, ◌≤◌, ◌<◌}
+use native.Mathlib.Nat.{mul-le-mul, mul-le-mul_left, mul_comm, mul_assoc}
 use native.Mathlib.Omega.{arith}
 use lib.Dec.{eqb, ltb}
 use borrow.Author.Tests.{ltb-false, le-ltb, eqb-true, eqb-false, ne_eqb, not-false, eq-eqb}
@@ -111,14 +111,6 @@ pixels-few z = go (refusal (side_rules z)) refl
 -- What is given out for a size whose sides are served.
 pub given_out : (z : Size) (n x : ℕ) → refusal (side_rules z) ≡ 0 → n ≡ served (refusal (side_rules z)) x 0 → n ≡ x
 given_out z n x e is = is ∙ ap (λ r. served r x 0) e
-
-pub served_times : (n k x : ℕ) → k * served n x 0 ≡ served n (k * x) 0
-served_times zero k x = refl
-served_times (suc n) k x = mul-zero k
-
-pub served_plus : (n x y : ℕ) → served n x 0 + served n y 0 ≡ served n (x + y) 0
-served_plus zero x y = refl
-served_plus (suc n) x y = omega arith
 
 -- A picture that is served has sides that are, and the length that they say.
 pub sides_served : (z : Size) (bytes : ℕ) → refusal (size_rules z bytes) ≡ 0 → refusal (side_rules z) ≡ 0

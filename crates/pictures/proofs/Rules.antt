@@ -11,8 +11,7 @@ use borrow.Author.Tests.{leb-true, ltb-true}
 use Rattle.grids.proofs.Bools.{both}
 use Rattle.pictures.specs.declared.refusals.Refusal.{Refusal}
 use Rattle.pictures.specs.declared.refusals.Refusal.TheVariants.{Form, ZeroSide, TooLarge, Count, Mark, Range, NotOffered, Space, MapRow, BrokenSeam, OtherSeam, AllProtected, LastLine, Join, Rectangle, RectangleName, StaleSeam, Ranges, GridSide, NotBlocked}
-use Rattle.pictures.specs.declared.refusals.Verdict.{Verdict}
-use Rattle.pictures.specs.declared.refusals.Verdict.TheVariants.{Refused}
+use Rattle.std.specs.Prelude.{Result, Err}
 use Rattle.pictures.specs.Refusals.{Rule, ◌when◌, number_of, given, refusal, SmallestGiven, ascending, served}
 
 -- Every number is above 0, as a test that computes.
@@ -130,8 +129,8 @@ served-not (suc n) x y h = refl
 pub kept_by : {A : Type 0} (why : Refusal) (x y : A) → y ≡ served (number_of why) x y
 kept_by why x y = sym (served-not (number_of why) x y (number-some why))
 
--- A verdict that refuses stands, whatever other rules follow, and leaves what was lent as it was.
-module _ (v : Verdict) (why : Refusal) (is : v ≡ Refused why) where
+-- An answer that refuses stands, whatever other rules follow, and leaves what was lent as it was.
+module _ {B : Type 0} (v : Result B Refusal) (why : Refusal) (is : v ≡ Err why) where
   refused-some : 0 < given v
   refused-some = rw is (number-some why)
 

@@ -1,10 +1,8 @@
 -- "When it says no": the refusals, their numbers, and which of several is given.
-use Rattle.std.specs.Prelude.{Bool, true, cond, ◌||◌, ◌&&◌, ℕ, zero, suc, ◌≤◌, ◌<◌, eqb, leb, ltb}
+use Rattle.std.specs.Prelude.{Result, Ok, Err, Bool, true, cond, ◌||◌, ◌&&◌, ℕ, zero, suc, ◌≤◌, ◌<◌, eqb, leb, ltb}
 use mathlib.Core.List.{List, [], ◌∷◌, Memᴰ}
 use Rattle.pictures.specs.declared.refusals.Refusal.{Refusal}
 use Rattle.pictures.specs.declared.refusals.Refusal.TheVariants.{Form, ZeroSide, TooLarge, Count, Mark, Range, NotOffered, Space, MapRow, BrokenSeam, OtherSeam, AllProtected, LastLine, Join, Rectangle, RectangleName, StaleSeam, Ranges, GridSide, NotBlocked}
-use Rattle.pictures.specs.declared.refusals.Verdict.{Verdict}
-use Rattle.pictures.specs.declared.refusals.Verdict.TheVariants.{Served, Refused}
 
 -- The number of a refusal. No operation gives 14 to 20 yet.
 abbrev pub number_of : Refusal → ℕ
@@ -29,10 +27,10 @@ number_of Ranges = 18
 number_of GridSide = 19
 number_of NotBlocked = 20
 
--- The number that a verdict gives; 0 where nothing is refused.
-abbrev pub given : Verdict → ℕ
-given Served = 0
-given (Refused why) = number_of why
+-- The number that an answer gives; 0 where nothing is refused.
+abbrev pub given : {A : Type 0} → Result A Refusal → ℕ
+given (Ok x) = 0
+given (Err why) = number_of why
 
 -- A line of the table: a number, and whether it is given.
 infix 68 ◌when◌

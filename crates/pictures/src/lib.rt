@@ -2,6 +2,7 @@
 // numbers of what is refused.
 #![tactic(auto)]
 
+pub mod allowed;
 pub mod numbers;
 pub mod refusals;
 pub mod sizes;
@@ -10,7 +11,8 @@ pub mod spaces;
 ghost use Rattle.std.specs.Prelude.{◌≡◌};
 ghost use Rattle.pictures.specs.Pictures.{row_of};
 
-pub use refusals::{Refusal, Verdict, given, number};
+pub use allowed::AllowedSize;
+pub use refusals::{Refusal, given, number};
 pub use sizes::{
     Kind, LARGEST_SIDE, Size, WORK_A_PIXEL, channels, judge_picture, judge_sides, picture_bytes,
     pixels, work_bytes,
@@ -21,14 +23,13 @@ pub use spaces::clear;
 pub fn row<'a>(picture: &'a [u8], size: Size, r: usize) -> &'a [u8]
     ensures { result.now ≡ row_of size picture.now r }
 {
-    let Verdict::Served = judge_picture(size, picture.len()) else {
+    let Ok(()) = judge_picture(size, picture.len()) else {
         return &picture[..0];
     };
-    let height = size.height;
-    if height <= r {
+    if size.height <= r {
         return &picture[..0];
     }
-    let stride = sizes::row_bytes(size);
+    let stride = size.width * channels(size.kind);
     let at = r * stride;
     &picture[at..at + stride]
 }

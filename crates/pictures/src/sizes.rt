@@ -1,10 +1,10 @@
 // Kinds and sizes of pictures, the bytes that they take, and which sizes are refused.
-ghost use Rattle.std.specs.Prelude.{◌≡◌, ◌≤◌};
+ghost use Rattle.std.specs.Prelude.{◌≡◌};
 ghost use Rattle.pictures.specs.Refusals.{given, refusal, served};
-ghost use Rattle.pictures.specs.Limits.{most_side, most_row};
-ghost use Rattle.pictures.specs.Pictures.{channels_of, row_bytes, picture_bytes, pixels as Pictures·pixels, work_bytes, side_rules, size_rules};
+ghost use Rattle.pictures.specs.Pictures.{channels_of, picture_bytes, pixels as Pictures·pixels, work_bytes, side_rules, size_rules};
 
-use crate::refusals::{Refusal, Verdict};
+use crate::allowed::AllowedSize;
+use crate::refusals::Refusal;
 
 // The largest width and the largest height of a picture.
 pub const LARGEST_SIDE: usize = 512;
@@ -12,13 +12,13 @@ pub const LARGEST_SIDE: usize = 512;
 // Bytes of work space for each pixel.
 pub const WORK_A_PIXEL: usize = 32;
 
-#[derive(Clone, Copy)]
+#[derive(Clone, Copy, Debug, PartialEq, Eq)]
 pub enum Kind {
     Grey,
     Rgb,
 }
 
-#[derive(Clone, Copy)]
+#[derive(Clone, Copy, Debug, PartialEq, Eq)]
 pub struct Size {
     pub width: usize,
     pub height: usize,
@@ -35,75 +35,47 @@ pub fn channels(kind: Kind) -> usize
     }
 }
 
-// Bytes a row.
-pub(crate) fn row_bytes(size: Size) -> usize
-    requires { size.width ≤ most_side }
-    ensures { (result ≡ row_bytes size) × (result ≤ most_row) }
-{
-    let width = size.width;
-    let kind = size.kind;
-    width * channels(kind)
-}
-
 // Whether the sides are allowed, or which of 2 and 3 refuses them.
-pub fn judge_sides(size: Size) -> Verdict
+pub fn judge_sides(size: Size) -> Result<(), Refusal>
     ensures { given result ≡ refusal (side_rules size) }
 {
-    let width = size.width;
-    let height = size.height;
-    if width == 0 {
-        return Verdict::Refused(Refusal::ZeroSide);
+    if size.width == 0 || size.height == 0 {
+        return Err(Refusal::ZeroSide);
     }
-    if height == 0 {
-        return Verdict::Refused(Refusal::ZeroSide);
+    if LARGEST_SIDE < size.width || LARGEST_SIDE < size.height {
+        return Err(Refusal::TooLarge);
     }
-    if LARGEST_SIDE < width {
-        return Verdict::Refused(Refusal::TooLarge);
-    }
-    if LARGEST_SIDE < height {
-        return Verdict::Refused(Refusal::TooLarge);
-    }
-    Verdict::Served
+    Ok(())
 }
 
 // Bytes of a picture of this size; 0 where its sides are refused.
 pub fn picture_bytes(size: Size) -> usize
     ensures { result ≡ served (refusal (side_rules size)) (picture_bytes size) 0 }
 {
-    let Verdict::Served = judge_sides(size) else {
-        return 0;
-    };
-    let height = size.height;
-    height * row_bytes(size)
+    AllowedSize::new(size).map_or(0, |allowed| allowed.picture_bytes())
 }
 
 // Pixels of a picture of this size; 0 where its sides are refused.
 pub fn pixels(size: Size) -> usize
     ensures { result ≡ served (refusal (side_rules size)) (Pictures·pixels size) 0 }
 {
-    match judge_sides(size) {
-        Verdict::Served => size.height * size.width,
-        Verdict::Refused(_) => 0,
-    }
+    AllowedSize::new(size).map_or(0, |allowed| allowed.pixels())
 }
 
 // Bytes of work space that an operation on a picture of this size asks for; 0 where its sides are refused.
 pub fn work_bytes(size: Size) -> usize
     ensures { result ≡ served (refusal (side_rules size)) (work_bytes size) 0 }
 {
-    WORK_A_PIXEL * pixels(size)
+    AllowedSize::new(size).map_or(0, |allowed| allowed.work_bytes())
 }
 
 // Whether a buffer of this many bytes is a picture of this size, or which of 2, 3 and 4 refuses it.
-pub fn judge_picture(size: Size, bytes: usize) -> Verdict
+pub fn judge_picture(size: Size, bytes: usize) -> Result<(), Refusal>
     ensures { given result ≡ refusal (size_rules size bytes) }
 {
-    let allowed = judge_sides(size);
-    let Verdict::Served = allowed else {
-        return allowed;
-    };
-    if bytes != picture_bytes(size) {
-        return Verdict::Refused(Refusal::Count);
+    let allowed = AllowedSize::new(size)?;
+    if bytes != allowed.picture_bytes() {
+        return Err(Refusal::Count);
     }
-    Verdict::Served
+    Ok(())
 }

@@ -5,7 +5,5 @@ ghost use Rattle.std.specs.Prelude.{◌≡◌, length, replicate};
 pub fn clear(space: &mut [u8])
     ensures { space.new ≡ replicate (length space.old) 0 }
 {
-    for i in 0..space.len() {
-        space[i] = 0;
-    }
+    space.fill(0);
 }
