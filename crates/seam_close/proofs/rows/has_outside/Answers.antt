@@ -1,34 +1,23 @@
--- `seam_close::rows::has_outside` meets its contract. The loop's invariant: the columns still to come decide.
-use mathlib.Core.Path.{◌≡◌, sym, ap, ◌∙◌}
-use mathlib.Core.List.{[]}
-use Prim.Native.Nat.{◌≤◌, ◌<◌}
-use native.Mathlib.Omega.{arith}
+-- `seam_close::rows::has_outside` meets its contract: `outside` is whether any column passes the test of the closure.
+use mathlib.Core.Path.{◌≡◌, refl, ap, ◌∙◌}
+use mathlib.Core.Bool.{◌||◌}
+use mathlib.Core.List.{List, [], ◌∷◌}
+use Prim.Native.Nat.{ℕ}
 use borrow.Author.Rules.{rules}
-use borrow.Author.Tests.{leb-true, leb-false}
-use lib.ListN.{length, drop, get_or}
-use lib.Seq.{drop-length}
+use borrow.Author.Tests.{tests}
+use lib.Dec.{leb}
+use Rattle.std.specs.List.{list_any}
+use Rattle.std.proofs.lemmas.Iterator.{YieldsList-from_slice}
+use Rattle.std.proofs.lemmas.Iterator.Search.{any_from_yields_List}
 use Rattle.seam_bounds.specs.Moves.{outside}
-use Rattle.seam_bounds.proofs.Moving.{outside-here, outside-next}
 use Rattle.seam_close.proofs.rows.has_outside.Goals as goal
 
-pub returns-then-is_outside : goal.returns-then-is_outside
-returns-then-is_outside c =
-    let a = c.args in
-    let r = c.loop-r.r in
-    let l : a.width ≤ get_or a.seam.now r 0 = leb-true _ _ (sym c.is_outside.ensures ∙ c.if-is_outside.true) in
-    sym (outside-here a.width a.seam.now r (omega arith) l) ∙ c.loop-r.invariant.1.1
-
-pub loop-r-preserved : goal.loop-r-preserved
-loop-r-preserved c =
-    let a = c.args in
-    let r = c.loop-r.r in
-    let l : get_or a.seam.now r 0 < a.width = leb-false _ _ (sym c.is_outside.ensures ∙ c.if-is_outside.false) in
-    (omega arith, (search rules, outside-next a.width a.seam.now r (omega arith) l ∙ c.loop-r.invariant.1.1))
+any_outside : (w : ℕ) (s : List ℕ) → list_any (leb w) s ≡ outside w s
+unfolding outside
+any_outside w [] = refl
+any_outside w (c ∷ s) = ap (leb w c ||◌) (any_outside w s)
 
 pub returns : goal.returns
-unfolding outside
 returns c =
-    let a = c.args in
-    let e : c.loop-r.r ≡ length a.seam.now = omega arith in
-    let none : drop c.loop-r.r a.seam.now ≡ [] = rw e (drop-length a.seam.now) in
-    sym (ap (outside a.width) none) ∙ c.loop-r.invariant.1.1
+    any_from_yields_List (leb c.args.width) _ _ _ c.any.ensures.ran (YieldsList-from_slice c.args.seam.now cc) (λ x b q k. search (rules, tests))
+    ∙ any_outside c.args.width c.args.seam.now
