@@ -31,18 +31,21 @@ left_size z rows columns = smaller z rows.0 columns.0
 abbrev pub retarget_bytes : Size → ℕ
 retarget_bytes z = work_bytes z + 66 * picture_bytes z
 
--- Refused as the picture is; by 7, "a retarget to less than 1 row or column, or by more than 64"; and by 8 where the output
--- space is shorter than the picture left, or the work space too short.
-abbrev pub retarget_rules : Size → Rows → Columns → ℕ → ℕ → ℕ → List Rule
-retarget_rules z rows columns bytes out work =
-    size_rules z bytes
-    ++ (7 when ltb largest_count rows.0
+-- By 7, "a retarget to less than 1 row or column, or by more than 64"; and by 8 where the output space is shorter than the
+-- picture left, or the work space too short.
+abbrev pub count_rules : Size → Rows → Columns → ℕ → ℕ → List Rule
+count_rules z rows columns out work =
+    7 when ltb largest_count rows.0
     ∷ 7 when ltb largest_count columns.0
     ∷ 7 when leb z.height rows.0
     ∷ 7 when leb z.width columns.0
     ∷ 8 when ltb out (picture_bytes (left_size z rows columns))
     ∷ 8 when ltb work (retarget_bytes z)
-    ∷ [])
+    ∷ []
+
+-- A retarget is refused as the picture is, and by its counts and spaces.
+abbrev pub retarget_rules : Size → Rows → Columns → ℕ → ℕ → ℕ → List Rule
+retarget_rules z rows columns bytes out work = size_rules z bytes ++ count_rules z rows columns out work
 
 -- "The smaller total is chosen; on a tie the vertical cut."
 abbrev pub chosen_axis : ℕ → ℕ → Axis

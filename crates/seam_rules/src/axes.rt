@@ -1,5 +1,5 @@
 // Sizes: turned so that a seam along an axis is vertical, with a column less, and of the marks of a picture.
-ghost use Rattle.std.specs.Prelude.{◌≡◌, ◌-◌};
+ghost use Rattle.std.specs.Prelude.{◌≡◌};
 ghost use Rattle.seam_rules.specs.Axes.{turned_size, narrowed, grey_of};
 
 use crate::answers::Axis;
@@ -9,19 +9,12 @@ use pictures::{Kind, Size};
 pub fn turned_size(axis: Axis, size: Size) -> Size
     ensures { result ≡ turned_size axis size }
 {
-    let width = size.width;
-    let height = size.height;
-    let kind = size.kind;
     match axis {
-        Axis::Vertical => Size {
-            width,
-            height,
-            kind,
-        },
+        Axis::Vertical => size,
         Axis::Horizontal => Size {
-            width: height,
-            height: width,
-            kind,
+            width: size.height,
+            height: size.width,
+            ..size
         },
     }
 }
@@ -30,13 +23,9 @@ pub fn turned_size(axis: Axis, size: Size) -> Size
 pub fn narrower(size: Size) -> Size
     ensures { result ≡ narrowed size }
 {
-    let width = less(size.width, 1);
-    let height = size.height;
-    let kind = size.kind;
     Size {
-        width,
-        height,
-        kind,
+        width: size.width.saturating_sub(1),
+        ..size
     }
 }
 
@@ -44,21 +33,8 @@ pub fn narrower(size: Size) -> Size
 pub fn grey(size: Size) -> Size
     ensures { result ≡ grey_of size }
 {
-    let width = size.width;
-    let height = size.height;
     Size {
-        width,
-        height,
         kind: Kind::Grey,
+        ..size
     }
-}
-
-// `a` less `b`, and 0 where `b` is greater.
-pub(crate) fn less(a: usize, b: usize) -> usize
-    ensures { result ≡ a - b }
-{
-    if a < b {
-        return 0;
-    }
-    a - b
 }

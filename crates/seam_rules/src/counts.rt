@@ -4,8 +4,7 @@ ghost use Rattle.pictures.specs.Refusals.{given, refusal};
 ghost use Rattle.seam_rules.specs.Counts.{left_size, retarget_rules, chosen_axis};
 
 use crate::answers::{Axis, Columns, Rows};
-use crate::axes::less;
-use pictures::{Refusal, Size, Verdict};
+use pictures::{Refusal, Size};
 
 // The largest count of rows, and of columns, that are removed.
 pub const LARGEST_COUNT: usize = 64;
@@ -14,13 +13,10 @@ pub const LARGEST_COUNT: usize = 64;
 pub fn smaller(size: Size, rows: Rows, columns: Columns) -> Size
     ensures { result ≡ left_size size rows columns }
 {
-    let width = less(size.width, columns.0);
-    let height = less(size.height, rows.0);
-    let kind = size.kind;
     Size {
-        width,
-        height,
-        kind,
+        width: size.width.saturating_sub(columns.0),
+        height: size.height.saturating_sub(rows.0),
+        ..size
     }
 }
 
@@ -32,34 +28,21 @@ pub fn judge_retarget(
     bytes: usize,
     out: usize,
     work: usize,
-) -> Verdict
+) -> Result<(), Refusal>
     ensures { given result ≡ refusal (retarget_rules size rows columns bytes out work) }
 {
-    let fits = pictures::judge_picture(size, bytes);
-    let Verdict::Served = fits else {
-        return fits;
-    };
-    if LARGEST_COUNT < rows.0 {
-        return Verdict::Refused(Refusal::NotOffered);
+    pictures::judge_picture(size, bytes)?;
+    if LARGEST_COUNT < rows.0 || LARGEST_COUNT < columns.0 {
+        return Err(Refusal::NotOffered);
     }
-    if LARGEST_COUNT < columns.0 {
-        return Verdict::Refused(Refusal::NotOffered);
+    if size.height <= rows.0 || size.width <= columns.0 {
+        return Err(Refusal::NotOffered);
     }
-    let width = size.width;
-    let height = size.height;
-    if height <= rows.0 {
-        return Verdict::Refused(Refusal::NotOffered);
+    let left = pictures::picture_bytes(smaller(size, rows, columns));
+    if out < left || work < pictures::work_bytes(size) + 66 * bytes {
+        return Err(Refusal::Space);
     }
-    if width <= columns.0 {
-        return Verdict::Refused(Refusal::NotOffered);
-    }
-    if out < pictures::picture_bytes(smaller(size, rows, columns)) {
-        return Verdict::Refused(Refusal::Space);
-    }
-    if work < pictures::work_bytes(size) + 66 * bytes {
-        return Verdict::Refused(Refusal::Space);
-    }
-    Verdict::Served
+    Ok(())
 }
 
 // The axis of the cut to a cell, from the totals of its two ways: the smaller, on a tie the vertical cut.
@@ -67,7 +50,8 @@ pub fn smaller_total(vertical: u64, horizontal: u64) -> Axis
     ensures { result ≡ chosen_axis vertical horizontal }
 {
     if vertical <= horizontal {
-        return Axis::Vertical;
+        Axis::Vertical
+    } else {
+        Axis::Horizontal
     }
-    Axis::Horizontal
 }

@@ -6,39 +6,34 @@ ghost use Rattle.pictures.specs.Pictures.{size_rules};
 
 use crate::answers::Axis;
 use crate::axes::turned_size;
-use pictures::{Refusal, Size, Verdict};
+use pictures::{Refusal, Size};
 
 // Which of 2, 3, 4 and 8 refuses finding a seam along the axis in buffers of these lengths, or none.
-pub fn judge_find(size: Size, axis: Axis, bytes: usize, seam: usize, work: usize) -> Verdict
+pub fn judge_find(
+    size: Size,
+    axis: Axis,
+    bytes: usize,
+    seam: usize,
+    work: usize,
+) -> Result<(), Refusal>
     ensures { given result ≡ refusal (find_rules axis size bytes seam work) }
 {
-    let fits = pictures::judge_picture(size, bytes);
-    let Verdict::Served = fits else {
-        return fits;
-    };
-    let turned = turned_size(axis, size);
-    let needed = turned.height;
-    if seam < needed {
-        return Verdict::Refused(Refusal::Space);
+    pictures::judge_picture(size, bytes)?;
+    if seam < turned_size(axis, size).height || work < pictures::work_bytes(size) {
+        return Err(Refusal::Space);
     }
-    if work < pictures::work_bytes(size) {
-        return Verdict::Refused(Refusal::Space);
-    }
-    Verdict::Served
+    Ok(())
 }
 
 // Which of 2, 3 and 4 refuses a picture of `bytes` bytes with `marks` marks, or none.
-pub fn judge_marks(size: Size, bytes: usize, marks: usize) -> Verdict
+pub fn judge_marks(size: Size, bytes: usize, marks: usize) -> Result<(), Refusal>
     ensures { given result ≡ refusal (size_rules size bytes ++ mark_length_rules size marks) }
 {
-    let fits = pictures::judge_picture(size, bytes);
-    let Verdict::Served = fits else {
-        return fits;
-    };
+    pictures::judge_picture(size, bytes)?;
     if marks != pictures::pixels(size) {
-        return Verdict::Refused(Refusal::Count);
+        return Err(Refusal::Count);
     }
-    Verdict::Served
+    Ok(())
 }
 
 // Whether the mark is one of 0, 1 and 2; 5 refuses every other.
@@ -49,29 +44,28 @@ pub fn allows_mark(mark: u8) -> bool
 }
 
 // Which of 2, 3, 4 and 8 refuses closing up a seam along the axis in buffers of these lengths, or none.
-pub fn judge_close_along(size: Size, axis: Axis, bytes: usize, seam: usize, work: usize) -> Verdict
+pub fn judge_close_along(
+    size: Size,
+    axis: Axis,
+    bytes: usize,
+    seam: usize,
+    work: usize,
+) -> Result<(), Refusal>
     ensures { given result ≡ refusal (close_along_lengths axis size bytes seam work) }
 {
-    let fits = pictures::judge_picture(size, bytes);
-    let Verdict::Served = fits else {
-        return fits;
-    };
-    let turned = turned_size(axis, size);
-    let long = turned.height;
-    if seam != long {
-        return Verdict::Refused(Refusal::Count);
+    pictures::judge_picture(size, bytes)?;
+    if seam != turned_size(axis, size).height {
+        return Err(Refusal::Count);
     }
     if work < bytes {
-        return Verdict::Refused(Refusal::Space);
+        return Err(Refusal::Space);
     }
-    Verdict::Served
+    Ok(())
 }
 
 // Whether a cut along the axis takes the last column or row, which 13 refuses.
 pub fn takes_last(axis: Axis, size: Size) -> bool
     ensures { result ≡ last_along axis size }
 {
-    let turned = turned_size(axis, size);
-    let wide = turned.width;
-    wide == 1
+    turned_size(axis, size).width == 1
 }

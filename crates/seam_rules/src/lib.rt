@@ -8,8 +8,8 @@ pub mod counts;
 pub mod cuts;
 pub mod endings;
 
-pub use answers::{Axis, Columns, Found, Removal, Retargeted, Rows};
+pub use answers::{Axis, Columns, Ending, Removal, Rows};
 pub use axes::{grey, narrower, turned_size};
 pub use counts::{LARGEST_COUNT, judge_retarget, smaller, smaller_total};
 pub use cuts::{allows_mark, judge_close_along, judge_find, judge_marks, takes_last};
-pub use endings::{Next, next_step};
+pub use endings::next_step;
