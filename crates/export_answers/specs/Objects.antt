@@ -2,15 +2,15 @@
 use Rattle.std.proofs.Math.Option.{Option, none, some}
 use Rattle.std.specs.Prelude.{ℕ}
 use Rattle.seam_rules.specs.declared.answers.Removal.{Removal}
-use Rattle.seam_rules.specs.Answers.{Ending, done, narrow, spent, blocked, removal_number, removal_ending, removal_count}
+use Rattle.seam_rules.specs.Answers.{Ending, Done, Narrow, Spent, Blocked, removal_number, removal_ending, removal_count}
 use Rattle.export_answers.specs.declared.objects.Ended.{Ended}
 
 -- The number of an ending; 0 where there is none.
 abbrev pub ending_number : Ending → ℕ
-ending_number done = 1
-ending_number narrow = 2
-ending_number spent = 3
-ending_number blocked = 4
+ending_number Done = 1
+ending_number Narrow = 2
+ending_number Spent = 3
+ending_number Blocked = 4
 
 abbrev pub some_number : Option Ending → ℕ
 some_number none = 0

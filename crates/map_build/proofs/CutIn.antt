@@ -1,4 +1,6 @@
 -- A cut at the front of a space where nothing refuses it.
+use Rattle.pictures.specs.declared.refusals.Refusal.{Refusal}
+use Rattle.std.specs.Prelude.{Result}
 use mathlib.Core.Path.{◌≡◌, refl, sym, ap, ap₂, ◌∙◌}
 use mathlib.Core.List.{List, [], ◌∷◌, ◌++◌}
 use Prim.Native.Nat.{ℕ, ◌+◌, ◌-◌, ◌*◌, ◌≤◌, ◌<◌}
@@ -15,14 +17,13 @@ use Rattle.pictures.specs.Refusals.{◌when◌, refusal}
 use Rattle.pictures.specs.Pictures.{channels_of, side_rules, picture_bytes, bytes, pixels, picture_in}
 use Rattle.pictures.proofs.Rules.{served-first}
 use Rattle.energy.specs.declared.methods.Method.{Method}
-use Rattle.seam_rules.specs.declared.answers.Found.{Found}
 use Rattle.seam_theory.specs.PictureSeams.{seam_of}
 use Rattle.seam_find.specs.Finding.{find_in_rules}
 use Rattle.seam_cut.specs.Cutting.{cut_in_rules, CutInGiven}
 use Rattle.map_build.specs.Inner.Rows.{write_rows}
 use Rattle.map_build.specs.Inner.Seams.{NextGiven}
 
-module _ (space : List ℕ) (z : Size) (how : Method) (seam : List ℕ) (answer : Found) (space' seam' : List ℕ)
+module _ (space : List ℕ) (z : Size) (how : Method) (seam : List ℕ) (answer : Result ℕ Refusal) (space' seam' : List ℕ)
     (g : CutInGiven space z how seam answer space' seam')
     (sides : refusal (side_rules z) ≡ 0) (tall : z.height ≤ length seam) (room : picture_bytes z + pixels z ≤ length space) (wide : 1 < z.width) where
   none : refusal (cut_in_rules z (length space) (length seam)) ≡ 0

@@ -25,7 +25,7 @@ use Rattle.seam_theory.specs.Best.{better, first_best}
 use Rattle.seam_theory.specs.Paths.{run, select, paths_up, paths, cost, beside, nearby}
 use Rattle.seam_theory.specs.Seams.{cheapest}
 use Rattle.seam_theory.specs.PictureSeams.{seam_of}
-use Rattle.seam_rules.specs.Answers.{spent}
+use Rattle.seam_rules.specs.Answers.{Spent}
 use Rattle.seam_objects.specs.Objects.{MarkedPicture, to_remove, ends, removal}
 use Rattle.map_theory.specs.Maps.{number_row, number, map_of}
 use Rattle.map_theory.specs.Widths.{allowed}
@@ -149,6 +149,6 @@ module _ (how : Method) (px : List ℕ) where
   equal_file k g = equal_map
 
 -- "budget 0 with a mark 2 at width 2: spent, 0", whatever picture, height and marks are; nothing is cut.
-pub spent_none : (s : MarkedPicture) → s.width ≡ 2 → to_remove s ≡ true → removal 0 0 s ≡ ends spent 0 s
+pub spent_none : (s : MarkedPicture) → s.width ≡ 2 → to_remove s ≡ true → removal 0 0 s ≡ ends Spent 0 s
 unfolding removal
 spent_none s wide two = rw (two, wide)

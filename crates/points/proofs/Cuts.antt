@@ -1,5 +1,7 @@
 -- "At each narrower width it shows what cutting that many seams one by one leaves": the cut of the theorems on files is the cut
 -- of the operation `cut`.
+use Rattle.pictures.specs.declared.refusals.Refusal.{Refusal}
+use Rattle.std.specs.Prelude.{Result}
 use mathlib.Core.Path.{◌≡◌, refl, sym, ap, ◌∙◌}
 use mathlib.Core.Option.{some, some-injective}
 use mathlib.Core.List.{List, ◌++◌}
@@ -19,7 +21,6 @@ use Rattle.map_theory.proofs.Shown.{offered_is, allowed_is}
 use Rattle.text_theory.specs.Files.{Parts, parse}
 use Rattle.seam_theory.specs.PictureSeams.{seam_of}
 use Rattle.energy.specs.declared.methods.Method.{Method}
-use Rattle.seam_rules.specs.declared.answers.Found.{Found}
 use Rattle.seam_rules.specs.Answers.{found_number}
 use Rattle.seam_rules.specs.declared.answers.Axis.TheVariants.{Vertical}
 use Rattle.seam_rules.specs.Cuts.{room_rules, last_rules, cut_rules}
@@ -71,7 +72,7 @@ module _ (f : List ℕ) (p : Parts) (h : Accepted f) (e : parse f ≡ some p) (t
 
   -- So where its bytes are lent to the operation and it isn't refused, the picture that it promises begins with the bytes of
   -- what the file shows at the next smaller width; the freed bytes are 0.
-  pub cut-shown : (seam work : List ℕ) (answer : Found) (left seam' work' : List ℕ)
+  pub cut-shown : (seam work : List ℕ) (answer : Result ℕ Refusal) (left seam' work' : List ℕ)
       → found_number answer ≡ 0
       → CutGiven (bytes a.rows) a.size how Vertical seam work answer left seam' work'
       → left ≡ bytes b.rows ++ replicate (a.size.height * channels_of a.size.kind) 0

@@ -16,7 +16,7 @@ use Rattle.text_theory.specs.Example.{shown_text}
 use Rattle.seam_theory.specs.PictureSeams.{seam_of, cost_of}
 use Rattle.seam_rules.specs.declared.answers.Axis.TheVariants.{Horizontal}
 use Rattle.seam_rules.specs.Counts.{row_count, column_count}
-use Rattle.seam_rules.specs.Answers.{Ending, done, narrow, spent, blocked}
+use Rattle.seam_rules.specs.Answers.{Ending, Done, Narrow, Spent, Blocked}
 use Rattle.seam_cut.specs.Axes.{seam_along, cost_along}
 use Rattle.seam_objects.specs.Objects.{Removed, removal}
 use Rattle.seam_objects.specs.Removing.{marked_picture}
@@ -76,10 +76,10 @@ drawn_rows (some d) = map flat d.rows
 
 -- An ending by its place among the four, and its count.
 abbrev pub place_of : Ending → ℕ
-place_of done = 1
-place_of narrow = 2
-place_of spent = 3
-place_of blocked = 4
+place_of Done = 1
+place_of Narrow = 2
+place_of Spent = 3
+place_of Blocked = 4
 
 abbrev pub ending_row : Removed → List ℕ
 ending_row r = place_of r.ending ∷ r.count ∷ []
@@ -122,7 +122,7 @@ point_table =
     -- all samples equal, 3 by 1: map 1 2 0 at depth 2
     ∷ record { got = (parts_of (grey_head 3 1 2 0) (picture (grey 3 1) (7 ∷ 7 ∷ 7 ∷ []))).maps; expected = (1 ∷ 2 ∷ 0 ∷ []) ∷ [] }
     -- budget 0 with a mark 2 at width 2: spent, 0
-    ∷ list (ending_row (removal 0 0 (marked_picture (grey 2 1) usual_method (10 ∷ 40 ∷ []) (0 ∷ 2 ∷ [])))) (place_of spent ∷ 0 ∷ [])
+    ∷ list (ending_row (removal 0 0 (marked_picture (grey 2 1) usual_method (10 ∷ 40 ∷ []) (0 ∷ 2 ∷ [])))) (place_of Spent ∷ 0 ∷ [])
     -- the table of refusals, of the example: its own map accepted; `(range 3 1)` at width 3; `(map 2 2 1)`; seam 1 at columns
     -- 0 and 2; maps 1 0 2 and 1 2 0; and the seams of the older rule, of which the first costs 40 too and comes later
     ∷ gives (check_rules (recorded_file 2 1 (1 ∷ 0 ∷ 2 ∷ []) (1 ∷ 0 ∷ 2 ∷ [])) 192) 0

@@ -1,12 +1,12 @@
 -- What the operations on one seam of a lent picture give.
-use Rattle.std.specs.Prelude.{◌≡◌, List, ◌++◌, ℕ, ◌+◌, ◌*◌, length, take, drop, replicate}
+use Rattle.pictures.specs.declared.refusals.Refusal.{Refusal}
+use Rattle.std.specs.Prelude.{◌≡◌, List, ◌++◌, ℕ, ◌+◌, ◌*◌, length, take, drop, replicate, Result}
 use Rattle.grids.specs.Cut.{cut}
 use Rattle.pictures.specs.declared.sizes.Size.{Size}
 use Rattle.pictures.specs.Refusals.{Rule, refusal, served, worked}
 use Rattle.pictures.specs.Pictures.{channels_of, picture_bytes, picture, bytes, pixels, picture_in}
 use Rattle.energy.specs.declared.methods.Method.{Method}
 use Rattle.seam_theory.specs.PictureSeams.{seam_of, cost_of}
-use Rattle.seam_rules.specs.declared.answers.Found.{Found}
 use Rattle.seam_rules.specs.declared.answers.Axis.{Axis}
 use Rattle.seam_rules.specs.declared.answers.Axis.TheVariants.{Vertical}
 use Rattle.seam_rules.specs.Answers.{found_number, found_cost}
@@ -17,7 +17,7 @@ use Rattle.seam_turn.specs.Axes.{cut_along}
 use Rattle.seam_cut.specs.Axes.{seam_along, cost_along}
 
 -- Finding along an axis: the number; the seam's cost; the seam, after which its space is kept; and the work space.
-pub record FindGiven (b : List ℕ) (z : Size) (how : Method) (x : Axis) (seam work : List ℕ) (answer : Found) (seam' work' : List ℕ) : Type 0 where
+pub record FindGiven (b : List ℕ) (z : Size) (how : Method) (x : Axis) (seam work : List ℕ) (answer : Result ℕ Refusal) (seam' work' : List ℕ) : Type 0 where
   pub number : found_number answer ≡ refusal (find_rules x z (length b) (length seam) (length work))
   pub cost : found_cost answer ≡ served (found_number answer) (cost_along how x z (picture z b)) 0
   pub seam_given : seam' ≡ served (found_number answer) (seam_along how x z (picture z b) ++ drop (turned_size x z).height seam) seam
@@ -28,7 +28,7 @@ abbrev pub closed_along : Axis → Size → List ℕ → List ℕ → List ℕ
 closed_along x z s b = bytes (cut_along x z s (picture z b)) ++ replicate ((turned_size x z).height * channels_of z.kind) 0
 
 -- Cutting gives the same, and leaves the picture without the seam.
-pub record CutGiven (b : List ℕ) (z : Size) (how : Method) (x : Axis) (seam work : List ℕ) (answer : Found) (b' seam' work' : List ℕ) : Type 0 where
+pub record CutGiven (b : List ℕ) (z : Size) (how : Method) (x : Axis) (seam work : List ℕ) (answer : Result ℕ Refusal) (b' seam' work' : List ℕ) : Type 0 where
   pub number : found_number answer ≡ refusal (cut_rules x z (length b) (length seam) (length work))
   pub cost : found_cost answer ≡ served (found_number answer) (cost_along how x z (picture z b)) 0
   pub picture_left : b' ≡ served (found_number answer) (closed_along x z (seam_along how x z (picture z b)) b) b
@@ -41,7 +41,7 @@ cut_in_rules z space seam = find_in_rules z space seam ++ last_rules Vertical z
 
 -- The number, the seam and its cost, and what is left: the picture without the seam and its freed bytes 0, zeros for its
 -- pixels after it, the rest as it was. After 13 only the zeros are new.
-pub record CutInGiven (space : List ℕ) (z : Size) (how : Method) (seam : List ℕ) (answer : Found) (space' seam' : List ℕ) : Type 0 where
+pub record CutInGiven (space : List ℕ) (z : Size) (how : Method) (seam : List ℕ) (answer : Result ℕ Refusal) (space' seam' : List ℕ) : Type 0 where
   pub number : found_number answer ≡ refusal (cut_in_rules z (length space) (length seam))
   pub cost : found_cost answer ≡ served (found_number answer) (cost_of how z.width z.height (picture_in z space)) 0
   pub space_left :

@@ -1,9 +1,9 @@
 -- What the private functions of this crate ask and promise. No public promise cites it.
-use Rattle.std.specs.Prelude.{◌≡◌, true, false, List, [], ◌∷◌, ◌++◌, ℕ, ◌+◌, length, take, drop, replicate}
+use Rattle.pictures.specs.declared.refusals.Refusal.{Refusal}
+use Rattle.std.specs.Prelude.{◌≡◌, true, false, List, [], ◌∷◌, ◌++◌, ℕ, ◌+◌, length, take, drop, replicate, Result}
 use Rattle.pictures.specs.declared.sizes.Size.{Size}
 use Rattle.pictures.specs.Refusals.{◌when◌, refusal, worked}
 use Rattle.pictures.specs.Pictures.{picture_bytes, pixels}
-use Rattle.seam_rules.specs.declared.answers.Found.{Found}
 use Rattle.seam_rules.specs.declared.answers.Axis.{Axis}
 use Rattle.seam_rules.specs.Cuts.{find_rules, last_along}
 use Rattle.seam_rules.specs.Answers.{found_number, found_cost}
@@ -19,7 +19,7 @@ pub record CutNeeded (b : List ℕ) (z : Size) (x : Axis) (seam work : List ℕ)
   pub more : last_along x z ≡ false
 
 -- What refuses finding with so much room for the seam, else 13; the places after the picture cleared unless 1 to 8 refuse.
-pub record LastInGiven (space : List ℕ) (z : Size) (room : ℕ) (answer : Found) (space' : List ℕ) : Type 0 where
+pub record LastInGiven (space : List ℕ) (z : Size) (room : ℕ) (answer : Result ℕ Refusal) (space' : List ℕ) : Type 0 where
   pub number : found_number answer ≡ refusal (find_in_rules z (length space) room ++ (13 when true ∷ []))
   pub cost : found_cost answer ≡ 0
   pub space_left :

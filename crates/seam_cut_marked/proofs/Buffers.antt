@@ -1,4 +1,5 @@
 -- What the rules of finding and cutting by marks say of the buffers.
+use Rattle.std.specs.Prelude.{Result, Ok, Err}
 use mathlib.Core.Path.{◌≡◌, refl, sym, ap, ◌∙◌}
 use mathlib.Core.Bool.{Bool, true, false, not, cond}
 use mathlib.Core.List.{List, ◌++◌}
@@ -13,8 +14,6 @@ use Rattle.pictures.specs.Refusals.{number_of, refusal, served}
 use Rattle.pictures.specs.Pictures.{size_rules, pixels}
 use Rattle.pictures.proofs.Rules.{served-first, served-both, passed, number-some}
 use Rattle.seam_bounds.specs.Moves.{outside}
-use Rattle.seam_rules.specs.declared.answers.Found.{Found}
-use Rattle.seam_rules.specs.declared.answers.Found.TheVariants.{Seam, Refused}
 use Rattle.seam_rules.specs.Answers.{found_number}
 use Rattle.seam_rules.specs.Cuts.{cleared, room_rules}
 use Rattle.seam_rules.specs.declared.answers.Axis.{Axis}
@@ -39,15 +38,15 @@ marked_needed x z b m seam work e =
     }
 
 -- Finding by marks gives a seam where one is allowed, and 12 where none is.
-module _ (t : Bool) (answer : Found) (n : found_number answer ≡ cond t 12 0) where
-  pub seam_free : (cost : ℕ) → answer ≡ Seam cost → t ≡ false
+module _ (t : Bool) (answer : Result ℕ Refusal) (n : found_number answer ≡ cond t 12 0) where
+  pub seam_free : (cost : ℕ) → answer ≡ Ok cost → t ≡ false
   seam_free cost e = allowed t (sym n ∙ ap found_number e)
     where
       allowed : (t : Bool) → cond {A = ℕ} t 12 0 ≡ 0 → t ≡ false
       allowed true z = absurd (omega arith)
       allowed false z = refl
 
-  pub refused_blocked : (why : Refusal) → answer ≡ Refused why → t ≡ true
+  pub refused_blocked : (why : Refusal) → answer ≡ Err why → t ≡ true
   refused_blocked why e = blocked t (sym n ∙ ap found_number e)
     where
       blocked : (t : Bool) → cond {A = ℕ} t 12 0 ≡ number_of why → t ≡ true

@@ -1,4 +1,6 @@
 -- What is known of the seam found by marks where nothing below 12 refuses it.
+use Rattle.pictures.specs.declared.refusals.Refusal.{Refusal}
+use Rattle.std.specs.Prelude.{Result}
 use mathlib.Core.Path.{◌≡◌, refl, ap, ◌∙◌}
 use mathlib.Core.Bool.{Bool, false, cond}
 use mathlib.Core.Option.{Option, get_or, none, some}
@@ -16,7 +18,6 @@ use Rattle.pictures.specs.Pictures.{Picture, side_rules, picture_bytes, pixels, 
 use Rattle.pictures.proofs.Rules.{served-first}
 use Rattle.energy.specs.declared.methods.Method.{Method}
 use Rattle.energy.specs.Methods.{wrap_of}
-use Rattle.seam_rules.specs.declared.answers.Found.{Found}
 use Rattle.seam_rules.specs.declared.answers.Axis.{Axis}
 use Rattle.seam_rules.specs.Answers.{found_number, found_cost}
 use Rattle.seam_rules.specs.Axes.{turned_size}
@@ -28,12 +29,12 @@ use Rattle.seam_cut.proofs.Inside.{path_inside}
 use Rattle.seam_cut_marked.specs.Axes.{marked_seam_along, blocked_along}
 
 -- At the front of a space: a seam, or 12 where none is allowed.
-pub record MarkedThere (space : List ℕ) (z : Size) (how : Method) (seam : List ℕ) (answer : Found) (space' seam' : List ℕ) : Type 0 where
+pub record MarkedThere (space : List ℕ) (z : Size) (how : Method) (seam : List ℕ) (answer : Result ℕ Refusal) (space' seam' : List ℕ) : Type 0 where
   pub number : found_number answer ≡ cond (is_none (marked_up how z.width z.height (picture_in z space) (marks_in z space))) 12 0
   pub cost : found_cost answer ≡ served (found_number answer) (marked_cost_of how z.width z.height (picture_in z space) (marks_in z space)) 0
   pub seam_given : seam' ≡ served (found_number answer) (marked_seam_of how z.width z.height (picture_in z space) (marks_in z space) ++ drop z.height seam) seam
 
-pub marked_served : (space : List ℕ) (z : Size) (how : Method) (seam : List ℕ) (answer : Found) (space' seam' : List ℕ) → FindMarkedInGiven space z how seam answer space' seam'
+pub marked_served : (space : List ℕ) (z : Size) (how : Method) (seam : List ℕ) (answer : Result ℕ Refusal) (space' seam' : List ℕ) → FindMarkedInGiven space z how seam answer space' seam'
     → refusal (side_rules z) ≡ 0 → z.height ≤ length seam → picture_bytes z + (pixels z + pixels z) ≤ length space → MarkedThere space z how seam answer space' seam'
 marked_served space z how seam answer space' seam' g sides room long =
     record {

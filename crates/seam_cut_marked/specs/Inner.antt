@@ -1,10 +1,10 @@
 -- What the private functions of this crate ask and promise. No public promise cites it.
-use Rattle.std.specs.Prelude.{◌≡◌, false, cond, List, ◌++◌, ℕ, ◌+◌, ◌≤◌, length, drop, replicate}
+use Rattle.pictures.specs.declared.refusals.Refusal.{Refusal}
+use Rattle.std.specs.Prelude.{◌≡◌, false, cond, List, ◌++◌, ℕ, ◌+◌, ◌≤◌, length, drop, replicate, Result}
 use Rattle.pictures.specs.declared.sizes.Size.{Size}
 use Rattle.pictures.specs.Refusals.{refusal, served}
 use Rattle.pictures.specs.Pictures.{size_rules, picture_bytes, picture, pixels, marks_of}
 use Rattle.energy.specs.declared.methods.Method.{Method}
-use Rattle.seam_rules.specs.declared.answers.Found.{Found}
 use Rattle.seam_rules.specs.Answers.{found_number, found_cost}
 use Rattle.seam_rules.specs.Axes.{turned_size}
 use Rattle.seam_rules.specs.declared.answers.Axis.{Axis}
@@ -30,7 +30,7 @@ abbrev pub blocked_number : Method → Axis → Size → List ℕ → List ℕ �
 blocked_number how x z b m = cond (blocked_along how x z (picture z b) (marks_of z m)) 12 0
 
 -- The seam by the marks where no smaller number refuses it, or 12.
-pub record MarkedAlongGiven (b m : List ℕ) (z : Size) (how : Method) (x : Axis) (seam work : List ℕ) (answer : Found) (seam' work' : List ℕ) : Type 0 where
+pub record MarkedAlongGiven (b m : List ℕ) (z : Size) (how : Method) (x : Axis) (seam work : List ℕ) (answer : Result ℕ Refusal) (seam' work' : List ℕ) : Type 0 where
   pub number : found_number answer ≡ blocked_number how x z b m
   pub cost : found_cost answer ≡ served (found_number answer) (marked_cost_along how x z (picture z b) (marks_of z m)) 0
   pub seam_given :
@@ -40,13 +40,13 @@ pub record MarkedAlongGiven (b m : List ℕ) (z : Size) (how : Method) (x : Axis
   pub work_left : work' ≡ replicate (length work) 0
 
 -- And picture and marks without it.
-pub record CutAlongGiven (b m : List ℕ) (z : Size) (how : Method) (x : Axis) (seam work : List ℕ) (answer : Found) (b' m' seam' work' : List ℕ) : Type 0 where
+pub record CutAlongGiven (b m : List ℕ) (z : Size) (how : Method) (x : Axis) (seam work : List ℕ) (answer : Result ℕ Refusal) (b' m' seam' work' : List ℕ) : Type 0 where
   pub found : MarkedAlongGiven b m z how x seam work answer seam' work'
   pub picture_left : b' ≡ served (found_number answer) (closed_along x z (marked_seam_along how x z (picture z b) (marks_of z m)) b) b
   pub marks_left : m' ≡ served (found_number answer) (closed_marks x z (marked_seam_along how x z (picture z b) (marks_of z m)) m) m
 
 -- At the last column or row 12, else 13, and no seam.
-pub record LastGiven (b m : List ℕ) (z : Size) (how : Method) (x : Axis) (work : List ℕ) (answer : Found) (work' : List ℕ) : Type 0 where
+pub record LastGiven (b m : List ℕ) (z : Size) (how : Method) (x : Axis) (work : List ℕ) (answer : Result ℕ Refusal) (work' : List ℕ) : Type 0 where
   pub number : found_number answer ≡ cond (blocked_along how x z (picture z b) (marks_of z m)) 12 13
   pub cost : found_cost answer ≡ 0
   pub work_left : work' ≡ replicate (length work) 0

@@ -1,12 +1,12 @@
 -- The operations on one seam of a lent picture by marks: when they are refused, and what they give.
-use Rattle.std.specs.Prelude.{◌≡◌, List, [], ◌∷◌, ◌++◌, ℕ, length, drop, replicate}
+use Rattle.pictures.specs.declared.refusals.Refusal.{Refusal}
+use Rattle.std.specs.Prelude.{◌≡◌, List, [], ◌∷◌, ◌++◌, ℕ, length, drop, replicate, Result}
 use Rattle.grids.specs.Rows.{flat}
 use Rattle.pictures.specs.declared.sizes.Size.{Size}
 use Rattle.pictures.specs.Refusals.{Rule, ◌when◌, refusal, served}
 use Rattle.pictures.specs.Pictures.{size_rules, picture, marks_of}
 use Rattle.seam_bounds.specs.Moves.{outside}
 use Rattle.energy.specs.declared.methods.Method.{Method}
-use Rattle.seam_rules.specs.declared.answers.Found.{Found}
 use Rattle.seam_rules.specs.declared.answers.Axis.{Axis}
 use Rattle.seam_rules.specs.Answers.{found_number, found_cost}
 use Rattle.seam_rules.specs.Axes.{turned_size}
@@ -30,7 +30,7 @@ abbrev pub marked_cut_rules : Method → Axis → Size → List ℕ → List ℕ
 marked_cut_rules how x z b marks seam work = marked_find_rules how x z b marks seam work ++ last_rules x z
 
 -- Finding by marks: the number; the seam's cost; the seam, after which its space is kept; and the work space.
-pub record FindMarkedGiven (b m : List ℕ) (z : Size) (how : Method) (x : Axis) (seam work : List ℕ) (answer : Found) (seam' work' : List ℕ) : Type 0 where
+pub record FindMarkedGiven (b m : List ℕ) (z : Size) (how : Method) (x : Axis) (seam work : List ℕ) (answer : Result ℕ Refusal) (seam' work' : List ℕ) : Type 0 where
   pub number : found_number answer ≡ refusal (marked_find_rules how x z b m (length seam) (length work))
   pub cost : found_cost answer ≡ served (found_number answer) (marked_cost_along how x z (picture z b) (marks_of z m)) 0
   pub seam_given :
@@ -44,7 +44,7 @@ abbrev pub closed_marks : Axis → Size → List ℕ → List ℕ → List ℕ
 closed_marks x z s m = flat (cut_along x z s (marks_of z m)) ++ replicate (turned_size x z).height 0
 
 -- Cutting by marks gives the same, and leaves picture and marks without the seam.
-pub record CutMarkedGiven (b m : List ℕ) (z : Size) (how : Method) (x : Axis) (seam work : List ℕ) (answer : Found) (b' m' seam' work' : List ℕ) : Type 0 where
+pub record CutMarkedGiven (b m : List ℕ) (z : Size) (how : Method) (x : Axis) (seam work : List ℕ) (answer : Result ℕ Refusal) (b' m' seam' work' : List ℕ) : Type 0 where
   pub number : found_number answer ≡ refusal (marked_cut_rules how x z b m (length seam) (length work))
   pub cost : found_cost answer ≡ served (found_number answer) (marked_cost_along how x z (picture z b) (marks_of z m)) 0
   pub picture_left : b' ≡ served (found_number answer) (closed_along x z (marked_seam_along how x z (picture z b) (marks_of z m)) b) b

@@ -10,18 +10,17 @@ ghost use Rattle.std.specs.Prelude.{◌≡◌};
 ghost use Rattle.seam_find.specs.Finding.{FindInGiven};
 
 use energy::Method;
-use pictures::{Size, Verdict};
-use seam_rules::Found;
+use pictures::{Refusal, Size};
 pub use trace::trace_back;
 
 // The vertical seam of the picture at the front of the space, put into the front of seam from the top row. The rest of the
 // space is for work: a byte for each pixel is cleared after the picture. Refused by 2, 3 and 8.
-pub fn find_in(space: &mut [u8], size: Size, method: Method, seam: &mut [u16]) -> Found
+pub fn find_in(space: &mut [u8], size: Size, method: Method, seam: &mut [u16]) -> Result<u64, Refusal>
     ensures { FindInGiven space.old size method seam.old result space.new seam.new }
 {
     let allowed = seam_bounds::judge_find_in(size, false, space.len(), seam.len());
-    if let Verdict::Refused(why) = allowed {
-        return Found::Refused(why);
+    if let Err(why) = allowed {
+        return Err(why);
     }
     let width = size.width;
     let height = size.height;
@@ -32,7 +31,7 @@ pub fn find_in(space: &mut [u8], size: Size, method: Method, seam: &mut [u16]) -
     let column = bottom.column;
     trace::trace_back(&space[bytes..last], width, height, column, seam);
     pictures::clear(&mut space[bytes..end]);
-    Found::Seam(wide(bottom.sum))
+    Ok(wide(bottom.sum))
 }
 
 fn wide(sum: u32) -> u64

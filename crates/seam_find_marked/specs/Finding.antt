@@ -1,10 +1,10 @@
 -- Finding the seam of a picture with marks that stands at the front of a space: when it is refused, and what it gives.
-use Rattle.std.specs.Prelude.{◌≡◌, Bool, true, List, [], ◌∷◌, ◌++◌, ℕ, ◌+◌, length, take, drop, replicate}
+use Rattle.pictures.specs.declared.refusals.Refusal.{Refusal}
+use Rattle.std.specs.Prelude.{◌≡◌, Bool, true, List, [], ◌∷◌, ◌++◌, ℕ, ◌+◌, length, take, drop, replicate, Result}
 use Rattle.pictures.specs.declared.sizes.Size.{Size}
 use Rattle.pictures.specs.Refusals.{Rule, ◌when◌, refusal, served, worked}
 use Rattle.pictures.specs.Pictures.{picture_bytes, pixels, picture_in, marks_in}
 use Rattle.energy.specs.declared.methods.Method.{Method}
-use Rattle.seam_rules.specs.declared.answers.Found.{Found}
 use Rattle.seam_rules.specs.Answers.{found_number, found_cost}
 use Rattle.seam_bounds.specs.Spaces.{find_space_rules}
 use Rattle.seam_theory.specs.PictureSeams.{marked_up, marked_seam_of, marked_cost_of, is_none}
@@ -15,7 +15,7 @@ find_marked_in_rules z space seam blocked = find_space_rules z true space seam +
 
 -- The number, the seam of the picture at the front by the marks after it and its cost, and what is left: picture and marks, zeros for its pixels
 -- after them, the rest as it was.
-pub record FindMarkedInGiven (space : List ℕ) (z : Size) (how : Method) (seam : List ℕ) (answer : Found) (space' seam' : List ℕ) : Type 0 where
+pub record FindMarkedInGiven (space : List ℕ) (z : Size) (how : Method) (seam : List ℕ) (answer : Result ℕ Refusal) (space' seam' : List ℕ) : Type 0 where
   pub number :
       found_number answer ≡ refusal (find_marked_in_rules z (length space) (length seam)
       (is_none (marked_up how z.width z.height (picture_in z space) (marks_in z space))))

@@ -9,18 +9,17 @@ mod weights;
 ghost use Rattle.seam_find_marked.specs.Finding.{FindMarkedInGiven};
 
 use energy::Method;
-use pictures::{Size, Verdict};
-use seam_rules::Found;
+use pictures::{Refusal, Size};
 
 // The vertical seam of the picture at the front of the space by the marks after it, one byte a pixel: 1 protected, 2 to be
 // removed, any other number plain. It is put into the front of seam from the top row. The rest of the space is for work: a
 // byte for each pixel is cleared after the marks. Refused by 2, 3 and 8, and by 12 where no seam is allowed.
-pub fn find_marked_in(space: &mut [u8], size: Size, method: Method, seam: &mut [u16]) -> Found
+pub fn find_marked_in(space: &mut [u8], size: Size, method: Method, seam: &mut [u16]) -> Result<u64, Refusal>
     ensures { FindMarkedInGiven space.old size method seam.old result space.new seam.new }
 {
     let allowed = seam_bounds::judge_find_in(size, true, space.len(), seam.len());
-    if let Verdict::Refused(why) = allowed {
-        return Found::Refused(why);
+    if let Err(why) = allowed {
+        return Err(why);
     }
     let width = size.width;
     let height = size.height;
@@ -31,9 +30,9 @@ pub fn find_marked_in(space: &mut [u8], size: Size, method: Method, seam: &mut [
     let bottom = bottom64::find_bottom(space, size, method, bytes);
     let column = bottom.column;
     let found = seam_sums::found_by(bottom.sum);
-    if let Found::Refused(why) = found {
+    if let Err(why) = found {
         pictures::clear(&mut space[from..end]);
-        return Found::Refused(why);
+        return Err(why);
     }
     seam_find::trace_back(&space[from..last], width, height, column, seam);
     pictures::clear(&mut space[from..end]);

@@ -5,27 +5,27 @@ use Prim.Native.Nat.{ℕ, zero, suc}
 use lib.Dec.{eqb}
 use borrow.Author.Tests.{eq-eqb, ne_eqb, eqb-true, eqb-false}
 use Rattle.seam_objects.specs.Objects.{MarkedPicture, to_remove, no_seam, cut_once, Removed, ends, removal}
-use Rattle.seam_rules.specs.Answers.{done, narrow, spent, blocked}
+use Rattle.seam_rules.specs.Answers.{Done, Narrow, Spent, Blocked}
 
 -- The steps, one law each.
 module _ (n : ℕ) (s : MarkedPicture) where
-  pub removal_done : (b : ℕ) → to_remove s ≡ false → removal b n s ≡ ends done n s
+  pub removal_done : (b : ℕ) → to_remove s ≡ false → removal b n s ≡ ends Done n s
   unfolding removal
   removal_done zero e = rw e
   removal_done (suc b) e = rw e
 
   module _ (some : to_remove s ≡ true) where
-    pub removal-narrow : (b : ℕ) → s.width ≡ 1 → removal b n s ≡ ends narrow n s
+    pub removal-narrow : (b : ℕ) → s.width ≡ 1 → removal b n s ≡ ends Narrow n s
     unfolding removal
     removal-narrow zero e = rw (some, eq-eqb _ _ e)
     removal-narrow (suc b) e = rw (some, eq-eqb _ _ e)
 
     module _ (wide : s.width ≡ 1 → ⊥) where
-      pub removal-spent : removal 0 n s ≡ ends spent n s
+      pub removal-spent : removal 0 n s ≡ ends Spent n s
       unfolding removal
       removal-spent = rw (some, ne_eqb _ _ wide)
 
-      pub removal-blocked : (b : ℕ) → no_seam s ≡ true → removal (suc b) n s ≡ ends blocked n s
+      pub removal-blocked : (b : ℕ) → no_seam s ≡ true → removal (suc b) n s ≡ ends Blocked n s
       unfolding removal
       removal-blocked b e = rw (some, ne_eqb _ _ wide, e)
 
@@ -36,10 +36,10 @@ module _ (n : ℕ) (s : MarkedPicture) where
 -- What holds of each ending, and before a cut of whatever follows it, holds of every removal.
 module _
     (P : ℕ → ℕ → MarkedPicture → Removed → Type 0)
-    (at_done : (b n : ℕ) (s : MarkedPicture) → to_remove s ≡ false → P b n s (ends done n s))
-    (at_narrow : (b n : ℕ) (s : MarkedPicture) → to_remove s ≡ true → s.width ≡ 1 → P b n s (ends narrow n s))
-    (at-spent : (n : ℕ) (s : MarkedPicture) → to_remove s ≡ true → (s.width ≡ 1 → ⊥) → P 0 n s (ends spent n s))
-    (at-blocked : (b n : ℕ) (s : MarkedPicture) → to_remove s ≡ true → (s.width ≡ 1 → ⊥) → no_seam s ≡ true → P (suc b) n s (ends blocked n s))
+    (at_done : (b n : ℕ) (s : MarkedPicture) → to_remove s ≡ false → P b n s (ends Done n s))
+    (at_narrow : (b n : ℕ) (s : MarkedPicture) → to_remove s ≡ true → s.width ≡ 1 → P b n s (ends Narrow n s))
+    (at-spent : (n : ℕ) (s : MarkedPicture) → to_remove s ≡ true → (s.width ≡ 1 → ⊥) → P 0 n s (ends Spent n s))
+    (at-blocked : (b n : ℕ) (s : MarkedPicture) → to_remove s ≡ true → (s.width ≡ 1 → ⊥) → no_seam s ≡ true → P (suc b) n s (ends Blocked n s))
     (at_cut : (b n : ℕ) (s : MarkedPicture) (r : Removed) → to_remove s ≡ true → (s.width ≡ 1 → ⊥) → no_seam s ≡ false → P b (suc n) (cut_once s) r → P (suc b) n s r)
   where
     pub by-steps : (b n : ℕ) (s : MarkedPicture) → P b n s (removal b n s)

@@ -1,4 +1,5 @@
 -- A cut of the picture and marks that stand at the front of their buffers: which number it is refused by, and what it leaves.
+use Rattle.std.specs.Prelude.{Result, Ok, Err}
 use mathlib.Core.Path.{◌≡◌, sym, ap, ◌∙◌}
 use mathlib.Core.Bool.{Bool, true, false, not, cond}
 use mathlib.Core.List.{List, ◌++◌, append_assoc}
@@ -14,8 +15,6 @@ use Rattle.pictures.specs.Refusals.{refusal, served}
 use Rattle.pictures.specs.Pictures.{channels_of, picture_bytes, picture, bytes, pixels, work_bytes, marks_of}
 use Rattle.pictures.proofs.Limits.{sides_are}
 use Rattle.energy.specs.declared.methods.Method.{Method}
-use Rattle.seam_rules.specs.declared.answers.Found.{Found}
-use Rattle.seam_rules.specs.declared.answers.Found.TheVariants.{Seam, Refused}
 use Rattle.seam_rules.specs.Answers.{found_number}
 use Rattle.seam_rules.specs.declared.answers.Axis.TheVariants.{Vertical}
 use Rattle.seam_turn.specs.Axes.{turned, cut_along}
@@ -89,11 +88,11 @@ module _ {z : Size} {b m work : List ℕ} (how : Method) (need : FrontNeeded z b
     number_is = rw (e, f, g) (front-number seam long)
 
     -- The answer says whether there was a seam.
-    module _ (answer : Found) (told : found_number answer ≡ number_at k n room seam) where
-      pub front-found : (cost : ℕ) → answer ≡ Seam cost → true ≡ not (no_seam (front z how b m))
+    module _ (answer : Result ℕ Refusal) (told : found_number answer ≡ number_at k n room seam) where
+      pub front-found : (cost : ℕ) → answer ≡ Ok cost → true ≡ not (no_seam (front z how b m))
       front-found cost is = sym (ap not (seam_free (no_seam (front z how b m)) answer (told ∙ number_is) cost is))
 
-      pub front-refused : (why : Refusal) → answer ≡ Refused why → false ≡ not (no_seam (front z how b m))
+      pub front-refused : (why : Refusal) → answer ≡ Err why → false ≡ not (no_seam (front z how b m))
       front-refused why is = sym (ap not (refused_blocked (no_seam (front z how b m)) answer (told ∙ number_is) why is))
 
       -- What stands in the buffers then.

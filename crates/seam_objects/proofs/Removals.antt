@@ -7,7 +7,7 @@ use native.Mathlib.Nat.{eq-or-lt_of_le}
 use native.Mathlib.Omega.{arith}
 use Rattle.grids.proofs.Orders.{more_than_one}
 use Rattle.seam_objects.specs.Objects.{MarkedPicture, to_remove, cut_once, after_cuts, removal}
-use Rattle.seam_rules.specs.Answers.{done}
+use Rattle.seam_rules.specs.Answers.{Done}
 use Rattle.seam_objects.specs.Endings.{LeftShaped, Reason, Due}
 use Rattle.seam_objects.proofs.Shapes.{shaped_cut}
 use Rattle.seam_objects.proofs.Endings.{by-steps}
@@ -72,7 +72,7 @@ ending_reason b s =
     (omega arith)
 
 -- "Done" leaves no pixel marked 2.
-pub done_clean : (b : ℕ) (s : MarkedPicture) → (removal b 0 s).ending ≡ done → to_remove (removal b 0 s).left ≡ false
+pub done_clean : (b : ℕ) (s : MarkedPicture) → (removal b 0 s).ending ≡ Done → to_remove (removal b 0 s).left ≡ false
 done_clean b s e = rw e at (ending_reason b s)
 
 -- Before each of the cuts none of the endings applied.

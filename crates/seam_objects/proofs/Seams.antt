@@ -23,7 +23,7 @@ use Rattle.grids.proofs.Orders.{more_than_one}
 use Rattle.seam_rules.specs.declared.answers.Removal.{Removal}
 use Rattle.seam_rules.specs.declared.answers.Removal.TheVariants.{Done, Narrow, Spent, Blocked}
 use Rattle.seam_objects.specs.Objects.{MarkedPicture, some_two, to_remove, no_seam, cut_once, after_cuts, Removed, ends, removal}
-use Rattle.seam_rules.specs.Answers.{Ending, done, narrow, spent, blocked, removal_number, removal_count, removal_ending}
+use Rattle.seam_rules.specs.Answers.{Ending, Done, Narrow, Spent, Blocked, removal_number, removal_count, removal_ending}
 use Rattle.seam_objects.specs.Removing.{marked_picture, left_picture, left_marks}
 use Rattle.seam_rules.specs.declared.endings.Next.TheVariants.{Ended}
 use Rattle.seam_rules.specs.Endings.{next_step}

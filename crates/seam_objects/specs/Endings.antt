@@ -1,15 +1,15 @@
 -- What the theorems on object removal say: why it ended, what held before each cut, and the shape of what is left.
 use Rattle.std.specs.Prelude.{◌≡◌, true, false, ℕ, ◌<◌}
 use Rattle.grids.specs.Each.{Each, Grid}
-use Rattle.seam_rules.specs.Answers.{Ending, done, narrow, spent, blocked}
+use Rattle.seam_rules.specs.Answers.{Ending, Done, Narrow, Spent, Blocked}
 use Rattle.seam_objects.specs.Objects.{MarkedPicture, to_remove, no_seam, Removed}
 
 -- Why a removal with b seams allowed ended.
 abbrev pub Reason : Ending → ℕ → Removed → Type 0
-Reason done b r = to_remove r.left ≡ false
-Reason narrow b r = (to_remove r.left ≡ true) × (r.left.width ≡ 1)
-Reason spent b r = (to_remove r.left ≡ true) × ((r.left.width ≡ 1 → ⊥) × (r.count ≡ b))
-Reason blocked b r = (to_remove r.left ≡ true) × ((r.left.width ≡ 1 → ⊥) × ((r.count < b) × (no_seam r.left ≡ true)))
+Reason Done b r = to_remove r.left ≡ false
+Reason Narrow b r = (to_remove r.left ≡ true) × (r.left.width ≡ 1)
+Reason Spent b r = (to_remove r.left ≡ true) × ((r.left.width ≡ 1 → ⊥) × (r.count ≡ b))
+Reason Blocked b r = (to_remove r.left ≡ true) × ((r.left.width ≡ 1 → ⊥) × ((r.count < b) × (no_seam r.left ≡ true)))
 
 -- Before each of the cuts none of the endings applied.
 pub record Due (s : MarkedPicture) : Type 0 where

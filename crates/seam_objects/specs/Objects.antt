@@ -4,7 +4,7 @@ use Rattle.grids.specs.Rows.{flat}
 use Rattle.grids.specs.Cut.{cut}
 use Rattle.pictures.specs.Pictures.{Picture}
 use Rattle.energy.specs.declared.methods.Method.{Method}
-use Rattle.seam_rules.specs.Answers.{Ending, done, narrow, spent, blocked}
+use Rattle.seam_rules.specs.Answers.{Ending, Done, Narrow, Spent, Blocked}
 use Rattle.seam_theory.specs.PictureSeams.{marked_up, marked_seam_of, is_none}
 
 -- A picture and its marks, with their width and height, and the method that their seams are found by.
@@ -59,11 +59,11 @@ ends e n s = record { ending = e; count = n; left = s }
 -- stands where none is allowed any more. Otherwise the seam is cut, and so on.
 unfoldable pub removal : ℕ → ℕ → MarkedPicture → Removed
 removal zero n s =
-    cond (not (to_remove s)) (ends done n s)
-    (cond (eqb s.width 1) (ends narrow n s)
-    (ends spent n s))
+    cond (not (to_remove s)) (ends Done n s)
+    (cond (eqb s.width 1) (ends Narrow n s)
+    (ends Spent n s))
 removal (suc b) n s =
-    cond (not (to_remove s)) (ends done n s)
-    (cond (eqb s.width 1) (ends narrow n s)
-    (cond (no_seam s) (ends blocked n s)
+    cond (not (to_remove s)) (ends Done n s)
+    (cond (eqb s.width 1) (ends Narrow n s)
+    (cond (no_seam s) (ends Blocked n s)
     (removal b (suc n) (cut_once s))))

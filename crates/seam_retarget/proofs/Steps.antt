@@ -1,4 +1,6 @@
 -- A seam found at places of the work space, in the terms of the code.
+use Rattle.pictures.specs.declared.refusals.Refusal.{Refusal}
+use Rattle.std.specs.Prelude.{Result}
 use mathlib.Core.Path.{◌≡◌, refl, sym, ap, ap₂, ◌∙◌}
 use mathlib.Core.List.{List, ◌++◌, append_assoc, append-nil}
 use Prim.Native.Nat.{ℕ, ◌+◌, ◌-◌, ◌≤◌}
@@ -19,7 +21,6 @@ use Rattle.energy.specs.declared.methods.Method.{Method}
 use Rattle.seam_moves.specs.Between.{part_at, put_at, CopyBetweenGiven}
 use Rattle.seam_moves.proofs.Places.{Kept, kept_part, put_kept, length_part}
 use Rattle.seam_moves.proofs.Served.{copy_between-served}
-use Rattle.seam_rules.specs.declared.answers.Found.{Found}
 use Rattle.seam_theory.specs.PictureSeams.{seam_of, cost_of}
 use Rattle.seam_rules.specs.Answers.{found_cost}
 use Rattle.seam_find.specs.Finding.{FindInGiven}
@@ -101,7 +102,7 @@ module _ (work : List ℕ) (from : ℕ) (z : Size) (how : Method) (x : Axis) (at
         let room = needed.room in
         part_length at (length one) one (omega arith) ∙ ap (◌- at) turn-long
 
-    module _ (found : Found) (part seam' : List ℕ) (g : FindInGiven (mid_of at (length one - at) one) (turned_size x z) how seam found part seam')
+    module _ (found : Result ℕ Refusal) (part seam' : List ℕ) (g : FindInGiven (mid_of at (length one - at) one) (turned_size x z) how seam found part seam')
         (small : (i : ℕ) → get_or one i 0 ≤ 255) where
       sides-t : refusal (side_rules t) ≡ 0
       sides-t = turned-sides x z (picture_bytes z) sized

@@ -9,8 +9,8 @@ ghost use Rattle.seam_retarget.specs.Retargeting.{RetargetGiven};
 ghost use Rattle.seam_retarget.specs.Inner.Retargets.{RetargetNeeded, LastGiven};
 
 use energy::Method;
-use pictures::{Size, Verdict};
-use seam_rules::{Columns, Retargeted, Rows};
+use pictures::{Refusal, Size};
+use seam_rules::{Columns, Rows};
 
 // Puts the picture with `rows` rows and `columns` columns less into the front of out and gives the total of its seams, each
 // found by the method. Refused by 2, 3 and 4 as every picture is, by 7 where either count is over 64 or leaves nothing, and
@@ -23,7 +23,7 @@ pub fn retarget(
     columns: Columns,
     out: &mut [u8],
     work: &mut [u8],
-) -> Retargeted
+) -> Result<u64, Refusal>
     ensures { RetargetGiven picture.now size method rows columns out.old work.old result out.new work.new }
 {
     let fits = seam_rules::judge_retarget(
@@ -34,10 +34,10 @@ pub fn retarget(
         out.len(),
         work.len(),
     );
-    if let Verdict::Refused(why) = fits {
-        return Retargeted::Refused(why);
+    if let Err(why) = fits {
+        return Err(why);
     }
-    Retargeted::Total(last_cell(picture, size, method, rows, columns, out, work))
+    Ok(last_cell(picture, size, method, rows, columns, out, work))
 }
 
 // The last cell, where nothing is refused: its picture put into the front of out, and its total.

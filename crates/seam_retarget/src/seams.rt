@@ -7,7 +7,7 @@ ghost use Rattle.seam_retarget.specs.Inner.Seams.{picture_at, TurnNeeded, SeamNe
 
 use energy::Method;
 use pictures::{LARGEST_SIDE, Size};
-use seam_rules::{Axis, Found, narrower, turned_size};
+use seam_rules::{Axis, narrower, turned_size};
 
 // The picture at `from`, put turned at `to`.
 fn turn(work: &mut [u8], from: usize, size: Size, axis: Axis, to: usize)
@@ -43,9 +43,9 @@ pub(crate) fn seam_at(
     let over = turned_size(axis, size);
     let found = seam_find::find_in(&mut work[at..], over, method, seam);
     match found {
-        Found::Seam(cost) => cost,
+        Ok(cost) => cost,
         // unreachable: the size is allowed and there is room
-        Found::Refused(_) => 0,
+        Err(_) => 0,
     }
 }
 

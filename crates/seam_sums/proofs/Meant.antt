@@ -1,4 +1,5 @@
 -- What an answer says of the weight that it was given by.
+use Rattle.std.specs.Prelude.{Result, Ok, Err}
 use mathlib.Core.Path.{◌≡◌, refl, sym, ap, ◌∙◌}
 use mathlib.Core.Bool.{Bool, true, false, cond}
 use Prim.Native.Nat.{ℕ, ◌%◌, ◌≤◌, ◌<◌}
@@ -8,14 +9,12 @@ use borrow.Author.Tests.{leb-true, leb-false}
 use Rattle.pictures.specs.declared.refusals.Refusal.{Refusal}
 use Rattle.pictures.specs.Refusals.{number_of}
 use Rattle.pictures.proofs.Rules.{number-some}
-use Rattle.seam_rules.specs.declared.answers.Found.{Found}
-use Rattle.seam_rules.specs.declared.answers.Found.TheVariants.{Seam, Refused}
 use Rattle.seam_rules.specs.Answers.{found_number, found_cost}
 use Rattle.seam_sums.specs.Weights.{kept, protected, FoundByGiven}
 
-module _ (weight : ℕ) (answer : Found) (by : FoundByGiven weight answer) where
+module _ (weight : ℕ) (answer : Result ℕ Refusal) (by : FoundByGiven weight answer) where
   -- A refusal was given for a protected pixel, and is 12;
-  module _ (why : Refusal) (is : answer ≡ Refused why) where
+  module _ (why : Refusal) (is : answer ≡ Err why) where
     told : (t : Bool) → number_of why ≡ cond t 12 0 → t ≡ true
     told true n = refl
     told false n = absurd (omega (arith, number-some why))
@@ -30,7 +29,7 @@ module _ (weight : ℕ) (answer : Found) (by : FoundByGiven weight answer) where
     heavy-number = sym (ap found_number is) ∙ by.number ∙ ap (λ t. cond t 12 0) above
 
   -- a seam was given where there was none, at the cost that the weight says.
-  module _ (cost : ℕ) (is : answer ≡ Seam cost) where
+  module _ (cost : ℕ) (is : answer ≡ Ok cost) where
     served : (t : Bool) → ◌≡◌ {A = ℕ} 0 (cond t 12 0) → t ≡ false
     served true n = absurd (omega arith)
     served false n = refl

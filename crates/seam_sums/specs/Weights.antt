@@ -1,6 +1,6 @@
 -- A pixel's energy and mark in one number, so that the path of least weight is the seam found with marks.
-use Rattle.std.specs.Prelude.{◌≡◌, cond, ℕ, ◌+◌, ◌*◌, ◌%◌, leb, eqb}
-use Rattle.seam_rules.specs.declared.answers.Found.{Found}
+use Rattle.pictures.specs.declared.refusals.Refusal.{Refusal}
+use Rattle.std.specs.Prelude.{◌≡◌, cond, ℕ, ◌+◌, ◌*◌, ◌%◌, leb, eqb, Result}
 use Rattle.seam_rules.specs.Answers.{found_number, found_cost}
 
 -- What a pixel adds that is kept, that is not marked 2: more than any path costs. 2 ^ 32.
@@ -17,6 +17,6 @@ abbrev pub weight_of : ℕ → ℕ → ℕ
 weight_of energy mark = energy + (cond (eqb mark 2) 0 1 * kept + cond (eqb mark 1) 1 0 * protected)
 
 -- What the least weight of a path means: 12 where the path has a protected pixel, and else what it costs.
-pub record FoundByGiven (weight : ℕ) (answer : Found) : Type 0 where
+pub record FoundByGiven (weight : ℕ) (answer : Result ℕ Refusal) : Type 0 where
   pub number : found_number answer ≡ cond (leb protected weight) 12 0
   pub cost : found_cost answer ≡ cond (leb protected weight) 0 (weight % kept)

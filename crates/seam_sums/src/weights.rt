@@ -3,7 +3,6 @@ ghost use Rattle.std.specs.Prelude.{◌≡◌};
 ghost use Rattle.seam_sums.specs.Weights.{weight_of, FoundByGiven};
 
 use pictures::Refusal;
-use seam_rules::Found;
 
 // What a pixel adds that is kept, that is not marked 2: more than any path costs.
 pub const KEPT: u64 = 4294967296;
@@ -26,11 +25,11 @@ pub fn weight(energy: u32, mark: u8) -> u64
 
 // What the least weight of a path means: a seam and its cost, or 12 where the path has a protected pixel, since then every
 // path has one.
-pub fn found_by(weight: u64) -> Found
+pub fn found_by(weight: u64) -> Result<u64, Refusal>
     ensures { FoundByGiven weight result }
 {
     if PROTECTED <= weight {
-        return Found::Refused(Refusal::AllProtected);
+        return Err(Refusal::AllProtected);
     }
-    Found::Seam(weight % KEPT)
+    Ok(weight % KEPT)
 }

@@ -1,4 +1,6 @@
 -- `map_build::next_seam` meets its contract.
+use Rattle.pictures.specs.declared.refusals.Refusal.{Refusal}
+use Rattle.std.specs.Prelude.{Result}
 use mathlib.Core.Path.{◌≡◌, ap, ◌∙◌}
 use mathlib.Core.List.{List, ◌++◌}
 use Prim.Native.Nat.{ℕ, ◌+◌, ◌*◌, ◌≤◌}
@@ -12,7 +14,6 @@ use Rattle.pictures.specs.declared.sizes.Size.{Size}
 use Rattle.pictures.specs.Pictures.{largest_side, channels_of, picture_bytes, bytes, pixels, picture_in}
 use Rattle.pictures.proofs.Limits.{sides_are}
 use Rattle.energy.specs.declared.methods.Method.{Method}
-use Rattle.seam_rules.specs.declared.answers.Found.{Found}
 use Rattle.seam_theory.specs.PictureSeams.{seam_of}
 use Rattle.seam_cut.specs.Cutting.{CutInGiven}
 use Rattle.seam_cut.proofs.Inside.{seam_inside}
@@ -31,7 +32,7 @@ module _ (z : Size) (how : Method) (w at number : ℕ) (space : List ℕ) (neede
   front_long = length-take-le at space (omega (arith, needed.map_room))
 
   -- What the cut leaves, and its seam.
-  module _ (answer : Found) (front seam : List ℕ) (g : CutInGiven (take at space) z how (replicate largest_side 0) answer front seam) where
+  module _ (answer : Result ℕ Refusal) (front seam : List ℕ) (g : CutInGiven (take at space) z how (replicate largest_side 0) answer front seam) where
     found-space : front ≡ (bytes (cut (seam_of how z.width z.height (picture_in z (take at space))) (picture_in z (take at space))) ++ replicate (z.height * channels_of z.kind) 0)
         ++ (replicate (pixels z) 0 ++ drop (picture_bytes z + pixels z) (take at space))
     found-space =

@@ -1,5 +1,7 @@
 -- `seam_cut_marked::marked_along` meets its contract: both turnings are served, and the seam is found in the picture and the marks
 -- that then stand at the front of the work space.
+use Rattle.pictures.specs.declared.refusals.Refusal.{Refusal}
+use Rattle.std.specs.Prelude.{Result}
 use Rattle.std.proofs.Common.{◌≡◌, List, ◌++◌, ℕ, ◌+◌, ◌-◌, ◌≤◌, cond, length, drop, replicate, ap, ap₂, ◌∙◌, arith}
 use borrow.Rule.Slice.PartMut.{put_mid, mid_of, same_len_mid}
 use Rattle.grids.specs.Rows.{flat}
@@ -12,7 +14,6 @@ use Rattle.pictures.proofs.Limits.{Sized, sized_is}
 use Rattle.energy.specs.declared.methods.Method.{Method}
 use Rattle.seam_theory.specs.PictureSeams.{marked_up, marked_seam_of, marked_cost_of, is_none}
 use Rattle.seam_rules.specs.declared.answers.Axis.{Axis}
-use Rattle.seam_rules.specs.declared.answers.Found.{Found}
 use Rattle.seam_rules.specs.Answers.{found_number}
 use Rattle.seam_rules.specs.Axes.{turned_size, grey_of}
 use Rattle.seam_rules.proofs.Turns.{turned-bytes, turned-pixels, turned-sides}
@@ -64,7 +65,7 @@ module _ (b m : List ℕ) (z : Size) (x : Axis) (seam work : List ℕ) (p : Mark
   unfolding space
   space-long = same_len_mid (length b) (length front - length b) front marks marks_kept ∙ front_kept
 
-  there : (how : Method) (answer : Found) (space' seam' : List ℕ) → FindMarkedInGiven space (turned_size x z) how seam answer space' seam'
+  there : (how : Method) (answer : Result ℕ Refusal) (space' seam' : List ℕ) → FindMarkedInGiven space (turned_size x z) how seam answer space' seam'
       → MarkedThere space (turned_size x z) how seam answer space' seam'
   there how answer space' seam' given =
       marked_served space (turned_size x z) how seam answer space' seam' given

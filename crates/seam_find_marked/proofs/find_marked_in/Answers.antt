@@ -1,6 +1,7 @@
 -- `seam_find_marked::find_marked_in` meets its contract. Where 2, 3 and 8 don't refuse it, the ways stand after the marks. The
 -- least weight of the last row says whether a seam is allowed; if one is, the columns traced back are that seam, and the weight
 -- says its cost.
+use Rattle.std.specs.Prelude.{Result, Ok, Err}
 use Rattle.std.proofs.Common.{◌≡◌, Bool, true, false, cond, List, [], ◌∷◌, ◌++◌, ℕ, ◌+◌, ◌-◌, ◌*◌, ◌%◌, ◌≤◌, ◌<◌, length, get_or, take, drop, replicate, refl, sym, ap, ap₂, ◌∙◌, add_assoc, length-take-le, arith, Fits, w8, rules}
 use borrow.Rule.Slice.PartMut.{put_mid, mid_of}
 use Rattle.grids.specs.Table.{table}
@@ -15,8 +16,6 @@ use Rattle.pictures.proofs.Limits.{Sized, sides_are, sized_of}
 use Rattle.seam_theory.specs.PictureSeams.{marked_up, marked_seam_of, marked_cost_of, is_none}
 use Rattle.seam_theory.specs.Sums.{sums_down, ways_up, columns_to, least_to}
 use Rattle.seam_theory.proofs.Sums.{ways-long}
-use Rattle.seam_rules.specs.declared.answers.Found.{Found}
-use Rattle.seam_rules.specs.declared.answers.Found.TheVariants.{Seam, Refused}
 use Rattle.seam_rules.specs.Answers.{found_number}
 use Rattle.seam_bounds.specs.Spaces.{find_space_rules}
 use Rattle.seam_bounds.proofs.Spaces.{Rooms, rooms_are}
@@ -202,11 +201,11 @@ module _ (z : Size) (how : Method) (space seam : List ℕ) where
           ∙ ap (◌++ rest) (columns-are under)
 
       -- What the weight says.
-      module _ (answer : Found) (by : FoundByGiven sum answer) (zeros : List ℕ)
+      module _ (answer : Result ℕ Refusal) (by : FoundByGiven sum answer) (zeros : List ℕ)
           (are : zeros ≡ replicate (length (mid_of from (from + all - from) filled)) 0) where
         -- refused by 12: the ways are cleared
-        refused : (why : Refusal) → answer ≡ Refused why
-            → FindMarkedInGiven space z how seam (Refused why) (put_mid from (from + all - from) filled zeros) seam
+        refused : (why : Refusal) → answer ≡ Err why
+            → FindMarkedInGiven space z how seam (Err why) (put_mid from (from + all - from) filled zeros) seam
         refused why is =
             let over : protected ≤ weight = rw weight_is at (heavy sum answer by why is) in
             let n : number_of why ≡ cond blocked 12 0 = heavy-number sum answer by why is ∙ sym (ap (λ t. cond t 12 0) (stuck over)) in
@@ -218,7 +217,7 @@ module _ (z : Size) (how : Method) (space seam : List ℕ) where
             }
 
         -- a seam is allowed: it is given, and the ways are cleared
-        allowed : (cost : ℕ) → answer ≡ Seam cost → (seam' : List ℕ) → seam' ≡ traced lent z.width z.height column seam
+        allowed : (cost : ℕ) → answer ≡ Ok cost → (seam' : List ℕ) → seam' ≡ traced lent z.width z.height column seam
             → FindMarkedInGiven space z how seam answer (put_mid from (from + all - from) filled zeros) seam'
         allowed cost is seam' are-traced =
             let under : weight < protected = rw weight_is at (light sum answer by cost is) in

@@ -5,18 +5,18 @@ use Rattle.seam_rules.specs.Answers.{found_cost}
 use Rattle.seam_retarget.proofs.Steps.{seam_given}
 use Rattle.seam_retarget.proofs.seams.seam_at.Goals as goal
 
-pub returns-in-Seam : goal.returns-in-Seam
-returns-in-Seam c =
+pub returns-in-Ok : goal.returns-in-Ok
+returns-in-Ok c =
     let a = c.args in
     let found = c.find_in-found in
-    rw (ap found_cost c.in-Seam.is)
+    rw (ap found_cost c.in-Ok.is)
     at (seam_given a.work.now a.from a.size a.method a.axis a.at a.seam.now c.requires c.turn.new.work c.turn.ensures
     found.result found.new.space found.new.seam (rw c.turned_size-over.ensures at found.ensures) (λ i. search rules))
 
-pub returns-in-Refused : goal.returns-in-Refused
-returns-in-Refused c =
+pub returns-in-Err : goal.returns-in-Err
+returns-in-Err c =
     let a = c.args in
     let found = c.find_in-found in
-    rw (ap found_cost c.in-Refused.is)
+    rw (ap found_cost c.in-Err.is)
     at (seam_given a.work.now a.from a.size a.method a.axis a.at a.seam.now c.requires c.turn.new.work c.turn.ensures
     found.result found.new.space found.new.seam (rw c.turned_size-over.ensures at found.ensures) (λ i. search rules))
