@@ -2,7 +2,9 @@
 #![tactic(auto)]
 
 pub mod fit_program;
+pub mod programs;
 pub mod seams_program;
 
 pub use fit_program::fit;
+pub use programs::{Filter, Ran, run};
 pub use seams_program::seams;

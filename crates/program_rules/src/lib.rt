@@ -8,7 +8,7 @@ ghost use Rattle.pictures.specs.Refusals.{given, refusal};
 ghost use Rattle.program_rules.specs.Limits.{length_rules, held_rules};
 
 pub use inputs::read_full;
-use pictures::{Refusal, Size, Verdict};
+use pictures::{Refusal, Size};
 
 // The most bytes that a program reads.
 pub const MOST_INPUT: usize = 65536;
@@ -17,25 +17,22 @@ pub const MOST_INPUT: usize = 65536;
 pub const HELD_PIXELS: usize = 1024;
 
 // Whether an input of this many bytes is read, or refused by 8.
-pub fn judge_input(bytes: usize) -> Verdict
+pub fn judge_input(bytes: usize) -> Result<(), Refusal>
     ensures { given result ≡ refusal (length_rules bytes) }
 {
     if MOST_INPUT < bytes {
-        return Verdict::Refused(Refusal::Space);
+        return Err(Refusal::Space);
     }
-    Verdict::Served
+    Ok(())
 }
 
 // Whether a picture of this size is held that comes in this many bytes, or which of 2, 3, 4 and 8 refuses it.
-pub fn judge_held(size: Size, bytes: usize) -> Verdict
+pub fn judge_held(size: Size, bytes: usize) -> Result<(), Refusal>
     ensures { given result ≡ refusal (held_rules size bytes) }
 {
-    let fits = pictures::judge_picture(size, bytes);
-    let Verdict::Served = fits else {
-        return fits;
-    };
+    pictures::judge_picture(size, bytes)?;
     if HELD_PIXELS < size.height * size.width {
-        return Verdict::Refused(Refusal::Space);
+        return Err(Refusal::Space);
     }
-    fits
+    Ok(())
 }

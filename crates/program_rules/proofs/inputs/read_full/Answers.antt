@@ -20,6 +20,5 @@ loop-done-preserved g c =
     let e = joined done room c.in-Ok.n c.loop-done.space c.read.new.buf c.loop-done.invariant.within c.in-Ok.ensures.bound.0 in
     record {
       within = search rules;
-      same_length = search rules;
       moved = subst (Consumes _ _) e (Consumes-trans _ _ _ _ _ c.loop-done.invariant.moved c.in-Ok.ensures.bytes.0);
     }

@@ -1,5 +1,5 @@
 -- What was read stands at the front of the space, in turn.
-use Rattle.std.proofs.Common.{length, ◌-◌, ◌≤◌, ◌≡◌, take}
+use Rattle.std.proofs.Common.{length, ◌-◌, ◌≤◌, take}
 use Rattle.std.specs.Io.KnownBytes.{Consumes}
 use Rattle.program_rules.proofs.inputs.read_full.Given as goal
 
@@ -7,7 +7,6 @@ abbrev pub invariant-loop-done : goal.invariant-loop-done
 invariant-loop-done g l =
     record {
       within : l.done ≤ length l.space;
-      same_length : length l.space ≡ length l.initial.space;
       moved : Consumes (g.R.Read.remaining l.initial.reader) (g.R.Read.remaining l.reader) (take l.done l.space);
     }
 
