@@ -5,3 +5,4 @@ pub mod Steps
 pub mod Lines
 pub mod Served
 pub mod Smallest
+pub mod Differences

@@ -2,64 +2,42 @@
 use mathlib.Core.Path.{◌≡◌, sym, ap, ap₂, ◌∙◌}
 use mathlib.Core.List.{List, ◌++◌}
 use Prim.Native.Nat.{ℕ, ◌+◌, ◌-◌, ◌*◌, ◌≤◌, ◌<◌}
-use native.Mathlib.Nat.{add-zero, suc-mul, add-sub_cancel_left, le_of_eq}
-use native.Mathlib.Numerals.{add-one}
+use native.Mathlib.Nat.{add-sub_cancel_left, le_of_eq}
 use native.Mathlib.Omega.{arith}
 use borrow.Author.Tests.{lt-ltb, le-ltb}
-use lib.ListN.{length, get_or, take, drop, set, length-drop}
+use lib.ListN.{length, take, drop, set, length-drop}
 use lib.Seq.{length-take-le}
 use Rattle.grids.specs.Table.{table}
-use Rattle.grids.proofs.Tables.{table_part, table_more, table_same}
+use Rattle.grids.proofs.Tables.{table_more, table_same}
 use Rattle.grids.proofs.Rows.{part_end}
 use Rattle.pictures.specs.Limits.{most_picture}
 use Rattle.pictures.specs.declared.sizes.Size.{Size}
 use Rattle.pictures.specs.Pictures.{channels_of, row_bytes, picture}
 use Rattle.energy.specs.declared.methods.Method.{Method}
-use Rattle.energy.specs.Energy.{apart, difference, energy, energies}
-use Rattle.energy.specs.Inner.{LinesNeeded, right_column, between, neighbour_of}
+use Rattle.energy.specs.Energy.{energy, energies}
+use Rattle.energy.specs.Inner.{LinesNeeded, energy_between, between, neighbour_of}
 use Rattle.pictures.proofs.Limits.{Sized}
 use Rattle.energy.proofs.Energy.{neighbour_inside, energy-between}
 
--- The difference of two pixels of one sample, and of three.
-pub grey_is : (a b : List ℕ) (i j : ℕ) → i + 1 ≤ length a → j + 1 ≤ length b → difference (take 1 (drop i a)) (take 1 (drop j b)) ≡ apart (get_or a i 0) (get_or b j 0)
-unfolding difference
-grey_is a b i j h k = rw (table_part a i 1 0 h, table_part b j 1 0 k, add-zero i, add-zero j) (add-zero _)
-
-pub rgb_is : (a b : List ℕ) (i j : ℕ) → i + 3 ≤ length a → j + 3 ≤ length b
-    → difference (take 3 (drop i a)) (take 3 (drop j b)) ≡ apart (get_or a i 0) (get_or b j 0) + apart (get_or a (i + 1) 0) (get_or b (j + 1) 0) + apart (get_or a (i + 2) 0) (get_or b (j + 2) 0)
-unfolding difference
-rgb_is a b i j h k = rw (table_part a i 3 0 h, table_part b j 3 0 k, add-zero i, add-zero j) (omega arith)
-
--- The loop over a row's pixels, for any number of channels: i is where the samples of pixel c start.
-module _ (ch : ℕ) (it lower space out : List ℕ) (width beside c i : ℕ) (at : i ≡ c * ch) (so_far : out ≡ table (between ch it lower width beside) c ++ drop c space) where
-  -- One pixel more: its difference to the right, whose samples start at j, and the one below are stored.
-  line-more : (j right below : ℕ) → c < length space → j ≡ right_column width beside c * ch
-      → right ≡ difference (take ch (drop j it)) (take ch (drop i it))
-      → below ≡ difference (take ch (drop i lower)) (take ch (drop i it))
-      → set out c (right + below) ≡ table (between ch it lower width beside) (c + 1) ++ drop (c + 1) space
-  unfolding between
-  line-more j right below h n p q = ap₂ (λ xs x. set xs c x) so_far is ∙ table_more (between ch it lower width beside) space c 0 h
-    where
-      is : right + below ≡ between ch it lower width beside c
-      is = rw (p, q, at, n)
+-- The loop over a row's pixels, for any number of channels.
+module _ (ch : ℕ) (it lower space out : List ℕ) (width beside c : ℕ) (so_far : out ≡ table (between ch it lower width beside) c ++ drop c space) where
+  -- One pixel more: its energy is stored.
+  line-more : (e : ℕ) → c < length space → e ≡ between ch it lower width beside c
+      → set out c e ≡ table (between ch it lower width beside) (c + 1) ++ drop (c + 1) space
+  line-more e h is = ap₂ (λ xs x. set xs c x) so_far is ∙ table_more (between ch it lower width beside) space c 0 h
 
   -- One turn.
-  pub line_turn : (right below : ℕ) → c < length space → c + 1 < width
-      → right ≡ difference (take ch (drop (i + ch) it)) (take ch (drop i it))
-      → below ≡ difference (take ch (drop i lower)) (take ch (drop i it))
-      → set out c (right + below) ≡ table (between ch it lower width beside) (c + 1) ++ drop (c + 1) space
-  line_turn right below h l p q = line-more (i + ch) right below h next p q
-    where
-      next : i + ch ≡ right_column width beside c * ch
-      next = rw (lt-ltb (c + 1) width l, at, add-one c, suc-mul c ch)
+  pub line_turn : (e : ℕ) → c < length space → c + 1 < width → e ≡ energy_between ch it lower c (c + 1)
+      → set out c e ≡ table (between ch it lower width beside) (c + 1) ++ drop (c + 1) space
+  unfolding between
+  line_turn e h l is = line-more e h (rw (lt-ltb (c + 1) width l) is)
 
   -- The last pixel.
-  pub line_last : (j right below : ℕ) → c + 1 ≡ width → width ≤ length space → j ≡ beside * ch
-      → right ≡ difference (take ch (drop j it)) (take ch (drop i it))
-      → below ≡ difference (take ch (drop i lower)) (take ch (drop i it))
-      → set out c (right + below) ≡ table (between ch it lower width beside) width ++ drop width space
-  line_last j right below w h n p q =
-      line-more j right below (omega arith) (rw (le-ltb (c + 1) width (le_of_eq (sym w))) n) p q
+  pub line_last : (e : ℕ) → c + 1 ≡ width → width ≤ length space → e ≡ energy_between ch it lower c beside
+      → set out c e ≡ table (between ch it lower width beside) width ++ drop width space
+  unfolding between
+  line_last e w h is =
+      line-more e (omega arith) (rw (le-ltb (c + 1) width (le_of_eq (sym w))) is)
       ∙ ap (λ n. table (between ch it lower width beside) n ++ drop n space) w
 
 -- The two parts of the buffer that are lent to the loop, in its terms: s bytes at r * s, and s bytes at n * s.

@@ -6,7 +6,8 @@ use lib.Dec.{leb, ltb}
 use borrow.Author.Tests.{lt-leb, le-ltb}
 use lib.ListN.{length, drop}
 use Rattle.pictures.specs.declared.sizes.Size.{Size}
-use Rattle.pictures.specs.declared.refusals.Verdict.{Verdict}
+use Rattle.pictures.specs.declared.refusals.Refusal.{Refusal}
+use Rattle.std.specs.Prelude.{Result}
 use Rattle.pictures.specs.Refusals.{◌when◌, refusal, served}
 use Rattle.pictures.specs.Pictures.{size_rules, picture}
 use Rattle.energy.specs.declared.methods.Method.{Method}
@@ -14,7 +15,7 @@ use Rattle.energy.specs.Energy.{energies, EnergiesGiven}
 use Rattle.pictures.proofs.Rules.{served-first}
 
 -- A row of a picture of its size, and room for it: the energies stand at the front of the space.
-pub energies-served : (b : List ℕ) (z : Size) (how : Method) (r : ℕ) (out out' : List ℕ) (v : Verdict) → EnergiesGiven b z how r out v out'
+pub energies-served : (b : List ℕ) (z : Size) (how : Method) (r : ℕ) (out out' : List ℕ) (v : Result (Unit {0}) Refusal) → EnergiesGiven b z how r out v out'
     → refusal (size_rules z (length b)) ≡ 0 → r < z.height → z.width ≤ length out
     → out' ≡ energies how z.width z.height (picture z b) r ++ drop z.width out
 energies-served b z how r out out' v g s h l =

@@ -1,9 +1,9 @@
 -- "Energy and seams", what a pixel costs, by its neighbours; and the operation that gives a row's energies.
-use Rattle.std.specs.Prelude.{◌≡◌, Bool, false, cond, List, [], ◌∷◌, ◌++◌, ℕ, ◌+◌, ◌-◌, leb, ltb, eqb, length, drop}
+use Rattle.std.specs.Prelude.{◌≡◌, Result, Bool, false, cond, List, [], ◌∷◌, ◌++◌, ℕ, ◌+◌, ◌-◌, leb, ltb, eqb, length, drop}
 use Rattle.std.proofs.Math.Option.{Option, none, some, or_else}
 use Rattle.grids.specs.Table.{table}
 use Rattle.pictures.specs.declared.sizes.Size.{Size}
-use Rattle.pictures.specs.declared.refusals.Verdict.{Verdict}
+use Rattle.pictures.specs.declared.refusals.Refusal.{Refusal}
 use Rattle.pictures.specs.Refusals.{◌when◌, Rule, given, refusal, served}
 use Rattle.pictures.specs.Pictures.{Picture, picture, size_rules}
 use Rattle.energy.specs.declared.methods.EnergyRule.{EnergyRule}
@@ -81,6 +81,6 @@ abbrev pub energies_rules : Size → ℕ → ℕ → ℕ → List Rule
 energies_rules z bytes r space = size_rules z bytes ++ (4 when leb z.height r ∷ 8 when ltb space z.width ∷ [])
 
 -- What the operation gives: the number, and the space, which keeps what stands after the row's energies.
-pub record EnergiesGiven (b : List ℕ) (z : Size) (how : Method) (r : ℕ) (out : List ℕ) (answer : Verdict) (out' : List ℕ) : Type 0 where
+pub record EnergiesGiven (b : List ℕ) (z : Size) (how : Method) (r : ℕ) (out : List ℕ) (answer : Result (Unit {0}) Refusal) (out' : List ℕ) : Type 0 where
   pub number : given answer ≡ refusal (energies_rules z (length b) r (length out))
   pub out_given : out' ≡ served (given answer) (energies how z.width z.height (picture z b) r ++ drop z.width out) out

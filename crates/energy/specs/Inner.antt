@@ -29,10 +29,15 @@ pub record LinesNeeded (channels : ℕ) (it lower : List ℕ) (width beside : �
 abbrev pub right_column : ℕ → ℕ → ℕ → ℕ
 right_column width beside c = cond (ltb (c + 1) width) (c + 1) beside
 
--- The energy of pixel c of a row, from its bytes and those of the row that stands for the one below.
+-- The energy of pixel c of a row, from its bytes, those of the row that stands for the one below, and the column that stands for
+-- the one to its right.
+abbrev pub energy_between : ℕ → List ℕ → List ℕ → ℕ → ℕ → ℕ
+energy_between channels it lower c right =
+    difference (row_at channels right it) (row_at channels c it) + difference (row_at channels c lower) (row_at channels c it)
+
+-- Of each pixel of a row of `width`.
 unfoldable pub between : ℕ → List ℕ → List ℕ → ℕ → ℕ → ℕ → ℕ
-between channels it lower width beside c =
-    difference (row_at channels (right_column width beside c) it) (row_at channels c it) + difference (row_at channels c lower) (row_at channels c it)
+between channels it lower width beside c = energy_between channels it lower c (right_column width beside c)
 
 -- The line, column or row, that stands for the one after the last, line i: the one before it; of the only one the line itself,
 -- from which it doesn't differ (0 - 1 is 0).

@@ -1,39 +1,13 @@
 // The energies of one row of pixels, given its bytes and those of the row that stands for the one below it. One function for
-// each number of channels, with one contract: three channels written out are much faster than a loop over them.
+// any number of channels, which is a constant to the compiler: the loop over them is unrolled.
 ghost use Rattle.std.specs.Prelude.{◌≡◌, ◌++◌, ◌+◌, ◌*◌, ◌≤◌, length, take, drop};
 ghost use Rattle.grids.specs.Table.{table};
-ghost use Rattle.energy.specs.Energy.{apart as Energy·apart, difference};
+ghost use Rattle.energy.specs.Energy.{difference as Energy·difference};
 ghost use Rattle.pictures.specs.Pictures.{channels_of};
-ghost use Rattle.energy.specs.Inner.{LinesNeeded, between};
+ghost use Rattle.energy.specs.Inner.{LinesNeeded, energy_between, between};
+ghost use Rattle.grids.specs.Rows.{row_at};
 
 use pictures::Kind;
-
-// How far two samples are apart.
-fn apart(a: u8, b: u8) -> u32
-    ensures { (result ≡ Energy·apart a b) × (result ≤ 255) }
-{
-    if a < b {
-        (b - a) as u32
-    } else {
-        (a - b) as u32
-    }
-}
-
-// The difference of the grey pixels at i of a and at j of b.
-fn grey_difference(a: &[u8], i: usize, b: &[u8], j: usize) -> u32
-    requires { (i + 1 ≤ length a.now) × (j + 1 ≤ length b.now) }
-    ensures { (result ≡ difference (take 1 (drop i a.now)) (take 1 (drop j b.now))) × (result ≤ 255) }
-{
-    apart(a[i], b[j])
-}
-
-// The difference of the rgb pixels whose first samples are at i of a and at j of b.
-fn rgb_difference(a: &[u8], i: usize, b: &[u8], j: usize) -> u32
-    requires { (i + 3 ≤ length a.now) × (j + 3 ≤ length b.now) }
-    ensures { (result ≡ difference (take 3 (drop i a.now)) (take 3 (drop j b.now))) × (result ≤ 765) }
-{
-    apart(a[i], b[j]) + apart(a[i + 1], b[j + 1]) + apart(a[i + 2], b[j + 2])
-}
 
 // The energies of a row of pixels of this kind, put into the first `width` places of out. Column `beside` stands for the one to
 // the right of the last.
@@ -49,31 +23,46 @@ pub(crate) fn line_energies(
     ensures { out.new ≡ table (between (channels_of kind) it.now lower.now width beside) width ++ drop width out.old }
 {
     match kind {
-        Kind::Grey => grey_row(it, lower, width, beside, out),
-        Kind::Rgb => rgb_row(it, lower, width, beside, out),
+        Kind::Grey => row::<1>(it, lower, width, beside, out),
+        Kind::Rgb => row::<3>(it, lower, width, beside, out),
     }
 }
 
-fn grey_row(it: &[u8], lower: &[u8], width: usize, beside: usize, out: &mut [u32])
-    requires { LinesNeeded 1 it.now lower.now width beside out.old }
-    ensures { out.new ≡ table (between 1 it.now lower.now width beside) width ++ drop width out.old }
+fn row<const N: usize>(it: &[u8], lower: &[u8], width: usize, beside: usize, out: &mut [u32])
+    requires few { N ≤ 3 }
+    requires lines { LinesNeeded N it.now lower.now width beside out.old }
+    ensures { out.new ≡ table (between N it.now lower.now width beside) width ++ drop width out.old }
 {
     let last = width - 1;
     for c in 0..last {
-        out[c] = grey_difference(it, c + 1, it, c) + grey_difference(lower, c, it, c);
+        out[c] = energy_at::<N>(it, lower, c, c + 1);
     }
-    out[last] = grey_difference(it, beside, it, last) + grey_difference(lower, last, it, last);
+    out[last] = energy_at::<N>(it, lower, last, beside);
 }
 
-fn rgb_row(it: &[u8], lower: &[u8], width: usize, beside: usize, out: &mut [u32])
-    requires { LinesNeeded 3 it.now lower.now width beside out.old }
-    ensures { out.new ≡ table (between 3 it.now lower.now width beside) width ++ drop width out.old }
+// The energy of the pixel in column c: how far the pixel of its row in column `beside` is from it, and how far the lower one is.
+fn energy_at<const N: usize>(it: &[u8], lower: &[u8], c: usize, beside: usize) -> u32
+    requires few { N ≤ 3 }
+    requires inside { (c * N + N ≤ length it.now) × (c * N + N ≤ length lower.now) × (beside * N + N ≤ length it.now) }
+    ensures { result ≡ energy_between N it.now lower.now c beside }
 {
-    let last = width - 1;
-    for c in 0..last {
-        let i = c * 3;
-        out[c] = rgb_difference(it, i + 3, it, i) + rgb_difference(lower, i, it, i);
-    }
-    let i = last * 3;
-    out[last] = rgb_difference(it, beside * 3, it, i) + rgb_difference(lower, i, it, i);
+    let pixel = pixel_at::<N>(it, c);
+    difference(pixel_at::<N>(it, beside), pixel) + difference(pixel_at::<N>(lower, c), pixel)
+}
+
+// The samples of the pixel in column c of a row.
+fn pixel_at<const N: usize>(row: &[u8], c: usize) -> &[u8]
+    requires { c * N + N ≤ length row.now }
+    ensures { result.now ≡ row_at N c row.now }
+{
+    let at = c * N;
+    &row[at..at + N]
+}
+
+// How far two pixels are apart, the channels added.
+fn difference(a: &[u8], b: &[u8]) -> u32
+    requires { length a.now ≤ 3 }
+    ensures { (result ≡ Energy·difference a.now b.now) × (result ≤ 765) }
+{
+    a.iter().zip(b).map(|(x, y)| x.abs_diff(*y) as u32).sum()
 }

@@ -11,27 +11,28 @@ ghost use Rattle.energy.specs.Inner.{RowNeeded, neighbour_of};
 ghost use Rattle.std.specs.Prelude.{◌≡◌, ◌++◌, ◌-◌, ◌≤◌, ◌<◌, drop};
 
 pub use methods::{EnergyRule, Method, usual_method};
-use pictures::{Refusal, Size, Verdict, channels, judge_picture};
+use pictures::{Refusal, Size, channels, judge_picture};
 
 // The energies of row r, put into the first `width` places of out. Refused by 2, 3 and 4 as every picture is, by 4 where
 // there is no row r, and by 8 where out is shorter than the row.
-pub fn energies(picture: &[u8], size: Size, method: Method, r: usize, out: &mut [u32]) -> Verdict
+pub fn energies(
+    picture: &[u8],
+    size: Size,
+    method: Method,
+    r: usize,
+    out: &mut [u32],
+) -> Result<(), Refusal>
     ensures { EnergiesGiven picture.now size method r out.old result out.new }
 {
-    let fits = judge_picture(size, picture.len());
-    let Verdict::Served = fits else {
-        return fits;
-    };
-    let height = size.height;
-    if height <= r {
-        return Verdict::Refused(Refusal::Count);
+    judge_picture(size, picture.len())?;
+    if size.height <= r {
+        return Err(Refusal::Count);
     }
-    let width = size.width;
-    if out.len() < width {
-        return Verdict::Refused(Refusal::Space);
+    if out.len() < size.width {
+        return Err(Refusal::Space);
     }
     row_energies(picture, size, method, r, out);
-    Verdict::Served
+    Ok(())
 }
 
 // The line, column or row, that stands for the one after line i of n: the next one; of the last, the one that the rule says.
@@ -43,15 +44,9 @@ fn neighbour(rule: EnergyRule, i: usize, n: usize) -> usize
         return i + 1;
     }
     match rule {
-        EnergyRule::Edge => before(i),
+        // The line before; of the first the line itself, from which it doesn't differ.
+        EnergyRule::Edge => i.saturating_sub(1),
     }
-}
-
-// The line before line i; of the first the line itself, from which it doesn't differ.
-fn before(i: usize) -> usize
-    ensures { result ≡ i - 1 }
-{
-    if 0 < i { i - 1 } else { i }
 }
 
 // The energies of row r of a picture that is of its size.

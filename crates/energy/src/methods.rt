@@ -4,13 +4,13 @@ ghost use Rattle.energy.specs.Methods.{usual_method};
 
 // What a pixel costs, by its neighbours. Edge: the differences to the right and the lower one, at the last column to the left
 // one and at the last row to the upper one.
-#[derive(Clone, Copy)]
+#[derive(Clone, Copy, Debug, PartialEq, Eq)]
 pub enum EnergyRule {
     Edge,
 }
 
 // All that finding a seam depends on besides the picture. Operations take it after the size, and a file's head has it.
-#[derive(Clone, Copy)]
+#[derive(Clone, Copy, Debug, PartialEq, Eq)]
 pub struct Method {
     pub energy: EnergyRule,
 }
