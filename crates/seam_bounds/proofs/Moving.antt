@@ -1,9 +1,9 @@
 -- Laws of what is decided of moves: columns of a seam inside a picture, and two places of a space.
-use mathlib.Core.Path.{◌≡◌, refl, sym, ◌∙◌}
+use mathlib.Core.Path.{◌≡◌, refl}
 use mathlib.Core.Logic.{◌⊎◌, inl, inr}
 use mathlib.Core.Bool.{Bool, true, false, ◌&&◌, ◌||◌}
 use mathlib.Core.List.{List, [], ◌∷◌}
-use Prim.Native.Nat.{ℕ, suc, ◌+◌, ◌-◌, ◌≤◌, ◌<◌}
+use Prim.Native.Nat.{ℕ, suc, ◌+◌, ◌≤◌, ◌<◌}
 use native.Mathlib.Numerals.{add-one}
 use native.Mathlib.Omega.{arith}
 use borrow.Author.Tests.{leb-true, leb-false, le-leb, lt-leb}
@@ -62,11 +62,3 @@ are_places space from to n p = go p.apart
         other : (t : Bool) → leb (from + n) to ≡ t → apart_in space from to n ≡ true
         other true e = simp (le-leb _ _ p.from_inside, le-leb _ _ p.to_inside, e)
         other false e = simp (le-leb _ _ p.from_inside, le-leb _ _ p.to_inside, e, le-leb _ _ h)
-
--- Whether n bytes at a place lie inside a space that reaches as far, without a sum.
-pub within_is : (space at n : ℕ) → at ≤ space → leb n (space - at) ≡ leb (at + n) space
-within_is space at n h = go (leb n (space - at)) refl
-  where
-    go : (t : Bool) → leb n (space - at) ≡ t → leb n (space - at) ≡ leb (at + n) space
-    go true e = let l = leb-true n (space - at) e in e ∙ sym (le-leb (at + n) space (omega arith))
-    go false e = let l = leb-false n (space - at) e in e ∙ sym (lt-leb (at + n) space (omega arith))

@@ -4,72 +4,59 @@ ghost use Rattle.std.specs.Prelude.{◌≡◌, ◌+◌, leb};
 ghost use Rattle.pictures.specs.Refusals.{given, refusal};
 ghost use Rattle.seam_bounds.specs.Moves.{exchange_rules, column_rules, close_length_rules, close_column_rules, apart_in};
 
-use pictures::{Refusal, Size, Verdict, channels, judge_picture};
+use pictures::{Refusal, Size, channels, judge_picture};
 
 // Whether a picture may be put with rows and columns exchanged into a space of `space` bytes. Refused by 2, 3 and 4 as every
 // picture is, and by 8 where the space is shorter than the picture.
-pub fn judge_exchange(size: Size, bytes: usize, space: usize) -> Verdict
+pub fn judge_exchange(size: Size, bytes: usize, space: usize) -> Result<(), Refusal>
     ensures { given result ≡ refusal (exchange_rules size bytes space) }
 {
-    let fits = judge_picture(size, bytes);
-    let Verdict::Served = fits else {
-        return fits;
-    };
+    judge_picture(size, bytes)?;
     if space < bytes {
-        return Verdict::Refused(Refusal::Space);
+        return Err(Refusal::Space);
     }
-    Verdict::Served
+    Ok(())
 }
 
 // Whether a column of a picture may be put into a space of `space` bytes. Refused by 2, 3 and 4 as every picture is, by 8
 // where the space is shorter than the column, and by 10 where the column is outside the picture.
-pub fn judge_column(size: Size, bytes: usize, column: usize, space: usize) -> Verdict
+pub fn judge_column(size: Size, bytes: usize, column: usize, space: usize) -> Result<(), Refusal>
     ensures { given result ≡ refusal (column_rules size bytes column space) }
 {
-    let fits = judge_picture(size, bytes);
-    let Verdict::Served = fits else {
-        return fits;
-    };
-    let height = size.height;
-    let kind = size.kind;
-    if space < height * channels(kind) {
-        return Verdict::Refused(Refusal::Space);
+    judge_picture(size, bytes)?;
+    if space < size.height * channels(size.kind) {
+        return Err(Refusal::Space);
     }
-    let width = size.width;
-    if width <= column {
-        return Verdict::Refused(Refusal::BrokenSeam);
+    if size.width <= column {
+        return Err(Refusal::BrokenSeam);
     }
-    Verdict::Served
+    Ok(())
 }
 
 // Whether a seam of `columns` columns may be read for a picture. Refused by 2, 3 and 4 as every picture is, and by 4 where
 // the seam hasn't one column for each row.
-pub fn judge_close_lengths(size: Size, bytes: usize, columns: usize) -> Verdict
+pub fn judge_close_lengths(size: Size, bytes: usize, columns: usize) -> Result<(), Refusal>
     ensures { given result ≡ refusal (close_length_rules size bytes columns) }
 {
-    let fits = judge_picture(size, bytes);
-    let Verdict::Served = fits else {
-        return fits;
-    };
-    let height = size.height;
-    if columns != height {
-        return Verdict::Refused(Refusal::Count);
+    judge_picture(size, bytes)?;
+    if columns != size.height {
+        return Err(Refusal::Count);
     }
-    Verdict::Served
+    Ok(())
 }
 
 // Whether a seam may be closed up in a picture of this width. Refused by 10 where one of its columns is outside the picture,
 // which `beyond` says, and by 13 at the last column.
-pub fn judge_close_columns(width: usize, beyond: bool) -> Verdict
+pub fn judge_close_columns(width: usize, beyond: bool) -> Result<(), Refusal>
     ensures { given result ≡ refusal (close_column_rules width beyond) }
 {
     if beyond {
-        return Verdict::Refused(Refusal::BrokenSeam);
+        return Err(Refusal::BrokenSeam);
     }
     if width == 1 {
-        return Verdict::Refused(Refusal::LastLine);
+        return Err(Refusal::LastLine);
     }
-    Verdict::Served
+    Ok(())
 }
 
 // Whether a column of a seam isn't below the width.
@@ -83,24 +70,14 @@ pub fn is_outside(width: usize, column: u16) -> bool
 fn lies_within(space: usize, at: usize, count: usize) -> bool
     ensures { result ≡ leb (at + count) space }
 {
-    if space < at {
-        return false;
-    }
-    count <= space - at
+    at <= space && count <= space - at
 }
 
 // Whether `count` bytes at `from` and `count` bytes at `to` lie inside a space and don't overlap.
 pub fn lie_apart(space: usize, from: usize, to: usize, count: usize) -> bool
     ensures { result ≡ apart_in space from to count }
 {
-    if lies_within(space, from, count) {
-        if lies_within(space, to, count) {
-            if lies_within(to, from, count) {
-                return true;
-            }
-            return lies_within(from, to, count);
-        }
-        return false;
-    }
-    false
+    lies_within(space, from, count)
+        && lies_within(space, to, count)
+        && (lies_within(to, from, count) || lies_within(from, to, count))
 }

@@ -18,10 +18,7 @@ pub use trace::trace_back;
 pub fn find_in(space: &mut [u8], size: Size, method: Method, seam: &mut [u16]) -> Result<u64, Refusal>
     ensures { FindInGiven space.old size method seam.old result space.new seam.new }
 {
-    let allowed = seam_bounds::judge_find_in(size, false, space.len(), seam.len());
-    if let Err(why) = allowed {
-        return Err(why);
-    }
+    seam_bounds::judge_find_in(size, space.len(), seam.len())?;
     let width = size.width;
     let height = size.height;
     let bytes = pictures::picture_bytes(size);
