@@ -52,7 +52,7 @@ fn bottom_with(
 {
     let width = size.width;
     let side = width + 1;
-    energy::energies(&space[..bytes], size, method, 0, &mut above[1..side]);
+    let _ = energy::energies(&space[..bytes], size, method, 0, &mut above[1..side]);
     down32::down(space, size, method, bytes, above, cost, next);
     let column = least32::first_least(&above[1..side]);
     let at = column + 1;

@@ -48,7 +48,7 @@ fn row_down(
     let side = width + 1;
     let a = bytes + (i - 1) * width;
     let e = a + width;
-    energy::energies(&space[..bytes], size, method, i, cost);
+    let _ = energy::energies(&space[..bytes], size, method, i, cost);
     sums32::next_row(above, &cost[..width], next, &mut space[a..e]);
     sums32::copy(next, &mut above[1..side]);
 }

@@ -14,13 +14,18 @@ use pictures::{Refusal, Size};
 // The vertical seam of the picture at the front of the space by the marks after it, one byte a pixel: 1 protected, 2 to be
 // removed, any other number plain. It is put into the front of seam from the top row. The rest of the space is for work: a
 // byte for each pixel is cleared after the marks. Refused by 2, 3 and 8, and by 12 where no seam is allowed.
-pub fn find_marked_in(space: &mut [u8], size: Size, method: Method, seam: &mut [u16]) -> Result<u64, Refusal>
+pub fn find_marked_in(
+    space: &mut [u8],
+    size: Size,
+    method: Method,
+    seam: &mut [u16],
+) -> Result<u64, Refusal>
     ensures { FindMarkedInGiven space.old size method seam.old result space.new seam.new }
 {
-    seam_bounds::judge_find_marked_in(size, space.len(), seam.len())?;
+    let allowed = seam_bounds::judge_find_marked_in(size, space.len(), seam.len())?;
     let width = size.width;
     let height = size.height;
-    let bytes = pictures::picture_bytes(size);
+    let bytes = allowed.picture_bytes();
     let from = bytes + height * width;
     let last = from + (height - 1) * width;
     let end = from + height * width;

@@ -32,6 +32,6 @@ pub(crate) fn row_weights(
     let width = size.width;
     let a = bytes + i * width;
     let e = a + width;
-    energy::energies(&front[..bytes], size, method, i, energies);
+    let _ = energy::energies(&front[..bytes], size, method, i, energies);
     weigh(energies, &front[a..e], cost);
 }

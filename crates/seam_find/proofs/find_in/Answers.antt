@@ -5,7 +5,6 @@ use mathlib.Core.Path.{ap₂}
 use lib.Seq.{length-take-le}
 use Rattle.grids.specs.Table.{table}
 use Rattle.grids.specs.Rows.{flat}
-use Rattle.pictures.specs.Refusals.{served}
 use Rattle.pictures.specs.Pictures.{picture_bytes}
 use Rattle.pictures.proofs.Limits.{Sized, sides_are, sized_of}
 use Rattle.seam_bounds.proofs.Spaces.{rooms_are}
@@ -25,10 +24,10 @@ returns c =
     let how = c.args.method in
     let space = c.args.space.now in
     let seam = c.args.seam.now in
-    let rooms = rooms_are z false (length space) (length seam) (sym c.in_default.ensures) in
+    let rooms = rooms_are z false (length space) (length seam) (sym c.in_ok-allowed.ensures.number) in
     let bounds = ends z (sides_are z rooms.sides) in
     let b = c.picture_bytes-bytes.result in
-    let bytes_are : b ≡ picture_bytes z = c.picture_bytes-bytes.ensures ∙ ap (λ n. served n (picture_bytes z) 0) rooms.sides in
+    let bytes_are : b ≡ picture_bytes z = c.picture_bytes-bytes.ensures.0 ∙ ap picture_bytes c.in_ok-allowed.ensures.same in
     let front = take (picture_bytes z) space in
     let front_long : length front ≡ picture_bytes z = length-take-le _ _ (omega (arith, rooms.room)) in
     let sized : Sized z (length front) = sized_of z (length front) (sides_are z rooms.sides) front_long in
@@ -45,9 +44,9 @@ returns c =
     in
     let fits = plain-traceable z how front sized byte f.result.column (length seam) found.inside rooms.seam_room in
     record {
-      number = c.in_default.ensures;
+      number = c.in_ok-allowed.ensures.number;
       cost =
-          c.wide.ensures ∙ found.sum_is
+          c.from.ensures ∙ found.sum_is
           ∙ ap (λ k. get_or (sums_down false fence32 z.width (costs_of z how front) (z.height - 1)) k 0) found.column_is
           ∙ cost-summed z how front sized byte;
       space_left =

@@ -10,7 +10,7 @@ use Rattle.energy.specs.declared.methods.Method.{Method}
 use Rattle.pictures.specs.declared.sizes.Size.{Size}
 use Rattle.pictures.specs.declared.refusals.Refusal.{Refusal}
 use Rattle.pictures.specs.Refusals.{◌when◌, number_of, refusal, served}
-use Rattle.pictures.specs.Pictures.{Picture, side_rules, picture_bytes, pixels, picture_in, marks_in}
+use Rattle.pictures.specs.Pictures.{Picture, picture_bytes, pixels, picture_in, marks_in}
 use Rattle.pictures.proofs.Rules.{served-first, kept_by}
 use Rattle.pictures.proofs.Limits.{Sized, sides_are, sized_of}
 use Rattle.seam_theory.specs.PictureSeams.{marked_up, marked_seam_of, marked_cost_of, is_none}
@@ -55,7 +55,7 @@ module _ (z : Size) (how : Method) (space seam : List ℕ) where
 
   -- The rules of 2, 3 and 8 don't apply.
   module _ (bytes : ℕ) (none : 0 ≡ refusal (find_space_rules z true (length space) (length seam)))
-      (told : bytes ≡ served (refusal (side_rules z)) (picture_bytes z) 0) (byte : (i : ℕ) → get_or space i 0 ≤ 255) where
+      (told : bytes ≡ picture_bytes z) (byte : (i : ℕ) → get_or space i 0 ≤ 255) where
     -- then 12 decides
     last-rule : refusal (find_space_rules z true (length space) (length seam) ++ (12 when blocked ∷ [])) ≡ cond blocked 12 0
     last-rule = served-first (find_space_rules z true (length space) (length seam)) (12 when blocked ∷ []) refl (sym none)
@@ -67,7 +67,7 @@ module _ (z : Size) (how : Method) (space seam : List ℕ) where
     sure = sized_of z (picture_bytes z) (sides_are z rooms.sides) refl
 
     bytes_are : bytes ≡ picture_bytes z
-    bytes_are = told ∙ ap (λ n. served n (picture_bytes z) 0) rooms.sides
+    bytes_are = told
 
     -- the bounds of the parts of the space
     bounds : Ends z
@@ -234,15 +234,15 @@ module _ (z : Size) (how : Method) (space seam : List ℕ) where
               seam_given = are-traced ∙ seam-traced under ∙ sym (ap (λ k. served k columns seam) zero);
             }
 
-pub returns-in-Refused-found : goal.returns-in-Refused-found
-returns-in-Refused-found c =
+pub returns-in-Err : goal.returns-in-Err
+returns-in-Err c =
     let a = c.args in
     let b = c.find_bottom-bottom in
     let fits : (i : ℕ) → Fits w8 (get_or a.space.now i 0) = search rules in
     let byte : (i : ℕ) → get_or a.space.now i 0 ≤ 255 = λ i. omega (arith, fits i) in
-    refused a.size a.method a.space.now a.seam.now c.picture_bytes-bytes.result c.in_default.ensures c.picture_bytes-bytes.ensures byte
+    refused a.size a.method a.space.now a.seam.now c.picture_bytes-bytes.result c.in_ok-allowed.ensures.number (c.picture_bytes-bytes.ensures.0 ∙ ap picture_bytes c.in_ok-allowed.ensures.same) byte
     b.new.space b.result.column b.result.sum b.auto.space b.ensures c.found_by-found.result c.found_by-found.ensures
-    c.clear.new.space c.clear.ensures c.in-Refused-found.why c.in-Refused-found.is
+    c.clear.new.space c.clear.ensures c.in-Err.why c.in-Err.is
 
 pub returns : goal.returns
 returns c =
@@ -250,6 +250,6 @@ returns c =
     let b = c.find_bottom-bottom in
     let fits : (i : ℕ) → Fits w8 (get_or a.space.now i 0) = search rules in
     let byte : (i : ℕ) → get_or a.space.now i 0 ≤ 255 = λ i. omega (arith, fits i) in
-    allowed a.size a.method a.space.now a.seam.now c.picture_bytes-bytes.result c.in_default.ensures c.picture_bytes-bytes.ensures byte
+    allowed a.size a.method a.space.now a.seam.now c.picture_bytes-bytes.result c.in_ok-allowed.ensures.number (c.picture_bytes-bytes.ensures.0 ∙ ap picture_bytes c.in_ok-allowed.ensures.same) byte
     b.new.space b.result.column b.result.sum b.auto.space b.ensures c.found_by-found.result c.found_by-found.ensures
-    c.clear-2.new.space c.clear-2.ensures c.in_default-found.field-0 c.in_default-found.is c.trace_back.new.seam c.trace_back.ensures
+    c.clear-2.new.space c.clear-2.ensures c.in_default.field-0 c.in_default.is c.trace_back.new.seam c.trace_back.ensures

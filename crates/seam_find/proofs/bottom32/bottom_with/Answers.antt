@@ -7,7 +7,8 @@ use borrow.Rule.Slice.PartMut.{mid_of}
 use lib.ListN.{length-replicate, drop_of_length-le}
 use Rattle.grids.proofs.Parts.{part_length}
 use Rattle.pictures.specs.declared.sizes.Size.{Size}
-use Rattle.pictures.specs.declared.refusals.Verdict.{Verdict}
+use Rattle.pictures.specs.declared.refusals.Refusal.{Refusal}
+use Rattle.std.specs.Prelude.{Result}
 use Rattle.pictures.specs.Pictures.{picture_bytes}
 use Rattle.energy.specs.declared.methods.Method.{Method}
 use Rattle.energy.specs.Energy.{EnergiesGiven}
@@ -33,7 +34,7 @@ module _ {z : Size} {bytes : ℕ} {space above cost next : List ℕ} (how : Meth
       part_length 1 (z.width + 1) above (omega arith) ∙ add-sub_cancel z.width 1
 
   -- the costs of row 0 are what `energies` writes between the fences
-  row-0 : (v : Verdict) (row : List ℕ) → EnergiesGiven (take bytes space) z how 0 (mid_of 1 (z.width + 1 - 1) above) v row
+  row-0 : (v : Result (Unit {0}) Refusal) (row : List ℕ) → EnergiesGiven (take bytes space) z how 0 (mid_of 1 (z.width + 1 - 1) above) v row
       → row ≡ (costs_of z how (take (picture_bytes z) space) 0).up
   row-0 v row g =
       let old = mid_of 1 (z.width + 1 - 1) above in

@@ -5,7 +5,8 @@ use native.Mathlib.Nat.{le_of_eq}
 use lib.Seq.{take_at}
 use Rattle.grids.specs.Table.{table}
 use Rattle.pictures.specs.declared.sizes.Size.{Size}
-use Rattle.pictures.specs.declared.refusals.Verdict.{Verdict}
+use Rattle.pictures.specs.declared.refusals.Refusal.{Refusal}
+use Rattle.std.specs.Prelude.{Result}
 use Rattle.pictures.specs.Pictures.{picture_bytes, picture}
 use Rattle.energy.specs.declared.methods.Method.{Method}
 use Rattle.energy.specs.Energy.{EnergiesGiven}
@@ -26,7 +27,7 @@ module _ {z : Size} {bytes i : ℕ} {space above cost next : List ℕ} (how : Me
   sure = front_is z bytes space n.bytes_are n.sized (omega (arith, n.room))
 
   -- the costs of row i are at the front of what `energies` writes
-  cost-front : (v : Verdict) (written : List ℕ) → EnergiesGiven (take bytes space) z how i cost v written
+  cost-front : (v : Result (Unit {0}) Refusal) (written : List ℕ) → EnergiesGiven (take bytes space) z how i cost v written
       → take z.width written ≡ (costs_of z how (take bytes space) i).up
   cost-front v written g =
       ap (take z.width)
@@ -34,7 +35,7 @@ module _ {z : Size} {bytes i : ℕ} {space above cost next : List ℕ} (how : Me
       ∙ take_at (costs_of z how (take bytes space) i).up (drop z.width cost) z.width (costs-long z how (take bytes space) i)
 
   -- as `next_row` takes them: the same wherever a path comes from
-  cost-rows-are : (v : Verdict) (written : List ℕ) → EnergiesGiven (take bytes space) z how i cost v written
+  cost-rows-are : (v : Result (Unit {0}) Refusal) (written : List ℕ) → EnergiesGiven (take bytes space) z how i cost v written
       → alike_rows (take z.width written) ≡ costs_of z how (take (picture_bytes z) space) i
   cost-rows-are v written g =
       ap alike_rows (cost-front v written g)

@@ -3,7 +3,8 @@
 use Rattle.std.proofs.Common.{◌≡◌, List, ℕ, ◌+◌, ◌*◌, ◌≤◌, ◌++◌, length, take, drop, sym, ap, ap₂, ◌∙◌, le_of_eq, length-take-le, arith}
 use native.Mathlib.Nat.{add-sub_cancel_left}
 use Rattle.grids.specs.Table.{table}
-use Rattle.pictures.specs.declared.refusals.Verdict.{Verdict}
+use Rattle.pictures.specs.declared.refusals.Refusal.{Refusal}
+use Rattle.std.specs.Prelude.{Result}
 use Rattle.pictures.specs.declared.sizes.Size.{Size}
 use Rattle.pictures.specs.Pictures.{picture_bytes, picture, picture_in}
 use Rattle.pictures.proofs.Limits.{sized_is}
@@ -16,7 +17,7 @@ use Rattle.seam_find_marked.proofs.Marked.{row-weighed}
 use Rattle.seam_find_marked.proofs.weights.row_weights.Goals as goal
 
 -- The row's energies stand at the front of their room.
-energies-are : (z : Size) (how : Method) (bytes i : ℕ) (front room cost filled : List ℕ) (answer : Verdict)
+energies-are : (z : Size) (how : Method) (bytes i : ℕ) (front room cost filled : List ℕ) (answer : Result (Unit {0}) Refusal)
     → WeightsNeeded z bytes i front room cost → EnergiesGiven (take bytes front) z how i room answer filled
     → filled ≡ energies how z.width z.height (picture_in z front) i ++ drop z.width room
 energies-are z how bytes i front room cost filled answer p given =
