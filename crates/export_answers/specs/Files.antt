@@ -1,12 +1,11 @@
 -- What is answered of multi-size files.
 use Rattle.std.proofs.Math.Option.{Option, none, some}
-use Rattle.std.specs.Prelude.{ℕ}
+use Rattle.std.specs.Prelude.{Result, ℕ}
+use Rattle.pictures.specs.declared.refusals.Refusal.{Refusal}
+use Rattle.pictures.specs.Refusals.{given}
 use Rattle.pictures.specs.declared.sizes.Size.{Size}
 use Rattle.text_theory.specs.declared.Head.{Head}
-use Rattle.file_rules.specs.declared.answers.Built.{Built}
-use Rattle.file_rules.specs.declared.answers.Checked.{Checked}
-use Rattle.file_rules.specs.declared.answers.Shown.{Shown}
-use Rattle.file_rules.specs.Answers.{built_number, built_length, checked_number, checked_head, shown_number, shown_size}
+use Rattle.file_rules.specs.Answers.{answer_of, built_length}
 use Rattle.export_answers.specs.declared.names.HostSize.{HostSize}
 use Rattle.export_answers.specs.declared.names.HostMethod.{HostMethod}
 use Rattle.export_answers.specs.declared.answers.Answer.{Answer}
@@ -33,11 +32,11 @@ framed n none = record { number = n; size = no_size }
 framed n (some z) = record { number = n; size = host_size z }
 
 -- The answers as numbers.
-abbrev pub length_of : Built → Answer
-length_of b = record { number = built_number b; value = built_length b }
+abbrev pub length_of : Result ℕ Refusal → Answer
+length_of b = record { number = given b; value = built_length b }
 
-abbrev pub head_of : Checked → FileAnswer
-head_of c = headed (checked_number c) (checked_head c)
+abbrev pub head_of : Result Head Refusal → FileAnswer
+head_of c = headed (given c) (answer_of c)
 
-abbrev pub size_of : Shown → SizeAnswer
-size_of s = framed (shown_number s) (shown_size s)
+abbrev pub size_of : Result Size Refusal → SizeAnswer
+size_of s = framed (given s) (answer_of s)

@@ -3,7 +3,8 @@ ghost use Rattle.std.specs.Prelude.{◌≡◌};
 ghost use Rattle.export_answers.specs.Files.{length_of, head_of, size_of};
 
 use crate::{Answer, HostMethod, HostSize, host_method, host_size, refused};
-use file_rules::{Built, Checked, Shown};
+use pictures::{Refusal, Size};
+use text_theory::Head;
 
 // Size, method and range of a file. Or the number that it is refused by, and all else 0.
 #[repr(C)]
@@ -25,23 +26,23 @@ pub struct SizeAnswer {
 }
 
 // The value is the file's length.
-pub fn length_reply(given: Built) -> Answer
+pub fn length_reply(given: Result<usize, Refusal>) -> Answer
     ensures { result ≡ length_of given }
 {
     match given {
-        Built::Length(length) => Answer {
+        Ok(length) => Answer {
             number: 0,
             value: length as u64,
         },
-        Built::Refused(why) => refused(pictures::number(why)),
+        Err(why) => refused(pictures::number(why)),
     }
 }
 
-pub fn head_reply(given: Checked) -> FileAnswer
+pub fn head_reply(given: Result<Head, Refusal>) -> FileAnswer
     ensures { result ≡ head_of given }
 {
     match given {
-        Checked::Accepted(head) => {
+        Ok(head) => {
             let size = head.size;
             let method = head.method;
             FileAnswer {
@@ -52,7 +53,7 @@ pub fn head_reply(given: Checked) -> FileAnswer
                 growth: head.growth as u64,
             }
         }
-        Checked::Refused(why) => FileAnswer {
+        Err(why) => FileAnswer {
             number: pictures::number(why),
             size: HostSize {
                 width: 0,
@@ -66,15 +67,15 @@ pub fn head_reply(given: Checked) -> FileAnswer
     }
 }
 
-pub fn size_reply(given: Shown) -> SizeAnswer
+pub fn size_reply(given: Result<Size, Refusal>) -> SizeAnswer
     ensures { result ≡ size_of given }
 {
     match given {
-        Shown::Size(size) => SizeAnswer {
+        Ok(size) => SizeAnswer {
             number: 0,
             size: host_size(size),
         },
-        Shown::Refused(why) => SizeAnswer {
+        Err(why) => SizeAnswer {
             number: pictures::number(why),
             size: HostSize {
                 width: 0,

@@ -10,33 +10,26 @@ ghost use Rattle.file_theory.specs.Rules.{build_rules};
 ghost use Rattle.file_build.specs.Building.{BuildGiven};
 ghost use Rattle.file_build.specs.Inner.Building.{BuildNeeded, FileGiven};
 
-use file_rules::Built;
-use pictures::{Refusal, Verdict};
+use pictures::Refusal;
 use text_theory::Head;
 
 // The multi-size file of a picture, put into the front of out: its length. Refused by 2, 3, 4, 6 and 8.
-pub fn build(picture: &[u8], head: Head, out: &mut [u8], work: &mut [u8]) -> Built
+pub fn build(picture: &[u8], head: Head, out: &mut [u8], work: &mut [u8]) -> Result<usize, Refusal>
     ensures { BuildGiven picture.now head out.old work.old result out.new work.new }
 {
-    let fits = judge_buffers(picture, head, out.len(), work.len());
-    if let Verdict::Refused(why) = fits {
-        return Built::Refused(why);
-    }
-    Built::Length(put_file(picture, head, out, work))
+    judge_buffers(picture, head, out.len(), work.len())?;
+    Ok(put_file(picture, head, out, work))
 }
 
 // Which of 2, 3, 4, 6 and 8 refuses this picture, range and buffers of these lengths, or none.
-fn judge_buffers(picture: &[u8], head: Head, out: usize, work: usize) -> Verdict
+fn judge_buffers(picture: &[u8], head: Head, out: usize, work: usize) -> Result<(), Refusal>
     ensures { given result ≡ refusal (build_rules picture.now head out work) }
 {
-    let fits = file_rules::judge_build(head, picture.len(), work);
-    let Verdict::Served = fits else {
-        return fits;
-    };
+    file_rules::judge_build(head, picture.len(), work)?;
     if !fitting::file_fits(picture, head, out) {
-        return Verdict::Refused(Refusal::Space);
+        return Err(Refusal::Space);
     }
-    Verdict::Served
+    Ok(())
 }
 
 // The file where nothing is refused. The map is built in the work space, from a copy of the picture.

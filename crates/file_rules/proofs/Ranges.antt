@@ -1,6 +1,6 @@
 -- Size and range that are allowed: what they bound, and which rules are then left to decide.
 use mathlib.Core.Path.{◌≡◌, refl, ◌∙◌}
-use mathlib.Core.Bool.{true, not}
+use mathlib.Core.Bool.{not}
 use mathlib.Core.List.{◌∷◌}
 use Prim.Native.Nat.{ℕ, ◌+◌, ◌*◌, ◌/◌, ◌≤◌}
 use native.Mathlib.Nat.{mul-le-mul}
@@ -14,17 +14,13 @@ use Rattle.pictures.proofs.Limits.{sides_are}
 use Rattle.map_theory.specs.Widths.{allowed}
 use Rattle.map_theory.proofs.Shown.{allowed_is}
 use Rattle.text_theory.specs.declared.Head.{Head}
+use Rattle.file_rules.specs.Inner.{Sound}
 use Rattle.file_rules.specs.Spaces.{space_rules, read_space_rules, offer_rules, wanted_rules}
 use Rattle.map_theory.specs.Bounds.{most_width, most_shown_row, most_shown}
 
 -- Where they are served, 8 alone is left of what reading refuses.
 pub read_own_lem : (z : Size) (picture map work : ℕ) → refusal (side_rules z) ≡ 0 → refusal (read_space_rules z picture map work) ≡ refusal (space_rules z picture map work)
 read_own_lem z picture map work e = served-first (side_rules z) (space_rules z picture map work) refl e
-
--- Size and range that are allowed.
-pub record Sound (h : Head) : Type 0 where
-  pub sides : refusal (side_rules h.size) ≡ 0
-  pub range : allowed h.size.width h.depth h.growth ≡ true
 
 -- Then 7 and 8 are left of what showing refuses.
 pub wanted_own : (h : Head) (v out work : ℕ) → Sound h → refusal (wanted_rules h v out work) ≡ refusal (offer_rules h v out work)

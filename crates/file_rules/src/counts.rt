@@ -5,22 +5,12 @@ ghost use Rattle.std.specs.Prelude.{◌≡◌, ◌&&◌, ◌*◌, eqb, leb};
 pub fn counts_agree(height: usize, rows: usize, maps: usize, full: bool) -> bool
     ensures { result ≡ (eqb rows height && (eqb maps height && full)) }
 {
-    if rows != height {
-        return false;
-    }
-    if maps != height {
-        return false;
-    }
-    full
+    rows == height && maps == height && full
 }
 
-// Whether this many lines, each as long as the first, fit a space of this length. By division: the product of any two numbers
-// could be too large.
+// Whether this many lines, each as long as the first, fit a space of this length.
 pub fn lines_fit(space: usize, line: usize, count: usize) -> bool
     ensures { result ≡ leb (count * line) space }
 {
-    if line == 0 {
-        return true;
-    }
-    count <= space / line
+    count.checked_mul(line).is_some_and(|all| all <= space)
 }

@@ -2,8 +2,7 @@
 ghost use Rattle.std.specs.Prelude.{◌≤◌, length};
 
 use crate::{print_bytes, print_number, print_seam, put};
-use file_rules::{Built, Checked, Shown};
-use pictures::Size;
+use pictures::{Refusal, Size};
 use std::io::Stdout;
 use text_theory::Head;
 
@@ -28,10 +27,10 @@ pub(crate) fn print_build(
 }
 
 // The length of a file in a space of this length.
-fn length_in(built: Built, most: usize) -> usize
+fn length_in(built: Result<usize, Refusal>, most: usize) -> usize
     ensures { result ≤ most }
 {
-    let Built::Length(n) = built else {
+    let Ok(n) = built else {
         return 0;
     };
     if most < n {
@@ -40,13 +39,13 @@ fn length_in(built: Built, most: usize) -> usize
     n
 }
 
-fn print_built(stdout: Stdout, built: Built) {
+fn print_built(stdout: Stdout, built: Result<usize, Refusal>) {
     match built {
-        Built::Length(n) => {
+        Ok(n) => {
             print_number(stdout, 0);
             print_number(stdout, wide_length(n));
         }
-        Built::Refused(why) => {
+        Err(why) => {
             print_number(stdout, pictures::number(why));
         }
     }
@@ -98,28 +97,28 @@ pub(crate) fn print_show(
     put(stdout, b"\n");
 }
 
-fn print_checked(stdout: Stdout, checked: Checked) {
+fn print_checked(stdout: Stdout, checked: Result<Head, Refusal>) {
     match checked {
-        Checked::Accepted(head) => {
+        Ok(head) => {
             let size = head.size;
             print_number(stdout, 0);
             print_size(stdout, size);
             print_number(stdout, wide_length(head.depth));
             print_number(stdout, wide_length(head.growth));
         }
-        Checked::Refused(why) => {
+        Err(why) => {
             print_number(stdout, pictures::number(why));
         }
     }
 }
 
-fn print_shown(stdout: Stdout, shown: Shown) {
+fn print_shown(stdout: Stdout, shown: Result<Size, Refusal>) {
     match shown {
-        Shown::Size(size) => {
+        Ok(size) => {
             print_number(stdout, 0);
             print_size(stdout, size);
         }
-        Shown::Refused(why) => {
+        Err(why) => {
             print_number(stdout, pictures::number(why));
         }
     }
@@ -134,18 +133,18 @@ fn print_size(stdout: Stdout, size: Size) {
 }
 
 // The number that a file is refused by, 0 where it is accepted.
-pub(crate) fn checked_number(checked: Checked) -> u64 {
+pub(crate) fn checked_number(checked: Result<Head, Refusal>) -> u64 {
     match checked {
-        Checked::Accepted(_) => 0,
-        Checked::Refused(why) => pictures::number(why),
+        Ok(_) => 0,
+        Err(why) => pictures::number(why),
     }
 }
 
 // The number that a width is refused by, 0 where it is shown.
-pub(crate) fn shown_number(shown: Shown) -> u64 {
+pub(crate) fn shown_number(shown: Result<Size, Refusal>) -> u64 {
     match shown {
-        Shown::Size(_) => 0,
-        Shown::Refused(why) => pictures::number(why),
+        Ok(_) => 0,
+        Err(why) => pictures::number(why),
     }
 }
 
