@@ -1,6 +1,7 @@
 -- What a layer above knows of closing up where nothing is refused.
 use mathlib.Core.Path.{◌≡◌, refl, ap, ◌∙◌}
 use mathlib.Core.Bool.{not}
+use Rattle.std.specs.Prelude.{Result}
 use mathlib.Core.List.{List, [], ◌∷◌, ◌++◌}
 use Prim.Native.Nat.{ℕ, ◌*◌, ◌<◌}
 use native.Mathlib.Omega.{arith}
@@ -11,7 +12,7 @@ use Rattle.grids.specs.Each.{Each}
 use Rattle.grids.specs.Cut.{cut}
 use Rattle.grids.proofs.Shapes.{each-length}
 use Rattle.pictures.specs.declared.sizes.Size.{Size}
-use Rattle.pictures.specs.declared.refusals.Verdict.{Verdict}
+use Rattle.pictures.specs.declared.refusals.Refusal.{Refusal}
 use Rattle.pictures.specs.Refusals.{◌when◌, refusal, served}
 use Rattle.pictures.specs.Pictures.{channels_of, size_rules, picture, bytes}
 use Rattle.pictures.proofs.Rules.{served-first}
@@ -20,7 +21,7 @@ use Rattle.seam_bounds.proofs.Moving.{each_inside}
 use Rattle.seam_close.specs.Closing.{CloseGiven}
 
 -- A picture of its size with more than one column, and a seam inside it: the picture left stands at the front.
-pub close_served : (b : List ℕ) (z : Size) (s b' : List ℕ) (v : Verdict) → CloseGiven b z s v b'
+pub close_served : (b : List ℕ) (z : Size) (s b' : List ℕ) (v : Result (Unit {0}) Refusal) → CloseGiven b z s v b'
     → refusal (size_rules z (length b)) ≡ 0 → Each (λ c. c < z.width) z.height s → 1 < z.width
     → b' ≡ bytes (cut s (picture z b)) ++ replicate (z.height * channels_of z.kind) 0
 close_served b z s b' v g e columns wide =

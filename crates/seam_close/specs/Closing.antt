@@ -1,8 +1,8 @@
 -- What closing up a seam gives.
-use Rattle.std.specs.Prelude.{◌≡◌, List, ◌++◌, ℕ, ◌*◌, length, replicate}
+use Rattle.std.specs.Prelude.{◌≡◌, Result, List, ◌++◌, ℕ, ◌*◌, length, replicate}
 use Rattle.grids.specs.Cut.{cut}
 use Rattle.pictures.specs.declared.sizes.Size.{Size}
-use Rattle.pictures.specs.declared.refusals.Verdict.{Verdict}
+use Rattle.pictures.specs.declared.refusals.Refusal.{Refusal}
 use Rattle.pictures.specs.Refusals.{Rule, given, refusal, served}
 use Rattle.pictures.specs.Pictures.{channels_of, picture, bytes}
 use Rattle.seam_bounds.specs.Moves.{close_length_rules, close_column_rules, outside}
@@ -14,6 +14,6 @@ close_rules z bytes s = close_length_rules z bytes (length s) ++ close_column_ru
 
 -- What closing up gives: the number, and the picture. "The rows then lie packed at the front of the lent picture and the
 -- freed bytes are 0."
-pub record CloseGiven (b : List ℕ) (z : Size) (s : List ℕ) (answer : Verdict) (b' : List ℕ) : Type 0 where
+pub record CloseGiven (b : List ℕ) (z : Size) (s : List ℕ) (answer : Result (Unit {0}) Refusal) (b' : List ℕ) : Type 0 where
   pub number : given answer ≡ refusal (close_rules z (length b) s)
   pub picture_left : b' ≡ served (given answer) (bytes (cut s (picture z b)) ++ replicate (z.height * channels_of z.kind) 0) b

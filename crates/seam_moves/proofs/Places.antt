@@ -1,16 +1,19 @@
 -- Places of a space: what a write at one of them leaves elsewhere.
 use mathlib.Core.Path.{◌≡◌, refl, sym, ap, ap₂, ◌∙◌}
 use mathlib.Core.Logic.{◌⊎◌, inl, inr}
-use mathlib.Core.List.{List, [], ◌∷◌, ◌++◌, append_assoc}
-use Prim.Native.Nat.{ℕ, zero, suc, ◌+◌, ◌-◌, ◌≤◌}
-use native.Mathlib.Nat.{add-sub_of_le}
+use mathlib.Core.List.{List, [], ◌∷◌, ◌++◌, append-nil, append_assoc}
+use Prim.Native.Nat.{ℕ, zero, suc, ◌+◌, ◌-◌, ◌≤◌, ◌<◌}
+use native.Mathlib.Nat.{add-sub_of_le, add-sub_cancel_left}
 use native.Mathlib.Omega.{arith}
-use lib.ListN.{length, take, drop, length-append, length-drop}
-use lib.Seq.{take-take, drop-drop, take_at, drop_at, length-take-le}
+use lib.ListN.{length, take, drop, length-append, length-drop, drop_of_length-le, take-append-drop}
+use lib.Seq.{take-take, drop-drop, take_at, drop_at, drop-append-le, length-take-le}
+use borrow.Rule.Slice.PartMut.{put_mid}
+use Rattle.grids.proofs.Parts.{put_part}
+use Rattle.seam_bounds.specs.Inner.{PlacesApart}
 use Rattle.seam_moves.specs.Between.{part_at, put_at}
 
 -- A part that lies in the front is a part of the front.
-part_front : (a n t : ℕ) (xs : List ℕ) → a + n ≤ t → part_at a n (take t xs) ≡ part_at a n xs
+pub part_front : (a n t : ℕ) (xs : List ℕ) → a + n ≤ t → part_at a n (take t xs) ≡ part_at a n xs
 part_front zero n t xs h = take-take n t xs (omega arith)
 part_front (suc a) n zero xs h = absurd (omega arith)
 part_front (suc a) n (suc t) [] h = refl
@@ -31,22 +34,6 @@ kept_part at n old new same a k (inr h) =
     (sym (drop-drop (a - (at + n)) (at + n) new ∙ ap (λ i. drop i new) e)
     ∙ ap (drop (a - (at + n))) same.after
     ∙ drop-drop (a - (at + n)) (at + n) old ∙ ap (λ i. drop i old) e)
-
--- What is kept outside a place is kept outside a larger one.
-pub kept_wider : (at n a k : ℕ) (old new : List ℕ) → Kept at n old new → a ≤ at → at + n ≤ a + k → Kept a k old new
-kept_wider at n a k old new same l m =
-    let e : at + n + (a + k - (at + n)) ≡ a + k = add-sub_of_le m in
-    record {
-      long = same.long;
-      before = sym (take-take a at new l) ∙ ap (take a) same.before ∙ take-take a at old l;
-      after =
-          sym (drop-drop (a + k - (at + n)) (at + n) new ∙ ap (λ i. drop i new) e)
-          ∙ ap (drop (a + k - (at + n))) same.after
-          ∙ drop-drop (a + k - (at + n)) (at + n) old ∙ ap (λ i. drop i old) e;
-    }
-
-pub kept_twice : (at n : ℕ) (one two three : List ℕ) → Kept at n one two → Kept at n two three → Kept at n one three
-kept_twice at n one two three f g = record { long = g.long ∙ f.long; before = g.before ∙ f.before; after = g.after ∙ f.after }
 
 -- A write of n bytes: they stand at their place, and the rest is kept.
 module _ (at n : ℕ) (new old : List ℕ) (many : length new ≡ n) (room : at + n ≤ length old) where
@@ -69,9 +56,47 @@ module _ (at n : ℕ) (new old : List ℕ) (many : length new ≡ n) (room : at 
 pub length_part : (a n : ℕ) (xs : List ℕ) → a + n ≤ length xs → length (part_at a n xs) ≡ n
 length_part a n xs h = length-take-le n (drop a xs) (omega (arith, length-drop a xs))
 
--- A space in which something stands in front of what stood there, and what follows it is written.
-pub append_part : (done new old now : List ℕ) (a n : ℕ) → length done ≡ a → now ≡ done ++ drop a old
-    → put_at a n new now ≡ (done ++ new) ++ drop (a + n) old
-append_part done new old now a n long is =
-    let past : drop (a + n) now ≡ drop (a + n) old = sym (drop-drop n a now) ∙ ap (drop n) (ap (drop a) is ∙ drop_at done (drop a old) a long) ∙ drop-drop n a old in
-    ap₂ (λ x y. x ++ (new ++ y)) (ap (take a) is ∙ take_at done (drop a old) a long) past ∙ sym (append_assoc done new (drop (a + n) old))
+-- What is made of the n bytes at `from`, put at `to`, where the space is cut between the two places. Cut at `to`, where the first
+-- place is the lower one, or at `from`. m is how n is written in the code.
+module _ (old : List ℕ) (from n to : ℕ) (places : PlacesApart (length old) from to n) (make : List ℕ → List ℕ) (m : ℕ) (is : m ≡ n) where
+  lower : from < to → (from + n ≤ to) ⊎ (to + n ≤ from) → from + n ≤ to
+  lower h (inl l) = l
+  lower h (inr l) = absurd (omega arith)
+
+  higher : to ≤ from → (from + n ≤ to) ⊎ (to + n ≤ from) → to + n ≤ from
+  higher h (inl l) = omega arith
+  higher h (inr l) = l
+
+  full : (xs : List ℕ) → length xs ≡ n → drop n xs ≡ []
+  full xs e = drop_of_length-le xs {i = n} (omega arith)
+
+  pub into_back : (front back new : List ℕ) → from < to → front ≡ take to old → back ≡ drop to old
+      → new ≡ make (take (from + m - from) (drop from front)) ++ drop n (take m back)
+      → front ++ (new ++ drop m back) ≡ put_at to n (make (part_at from n old)) old
+  into_back front back new h front-is back-is New-is =
+      let to_inside = places.to_inside in
+      let lent : take (from + m - from) (drop from front) ≡ part_at from n old = rw (front-is, add-sub_cancel_left from m, is) (part_front from n to old (lower h places.apart)) in
+      let none : drop n (take m back) ≡ [] = rw (back-is, is) (full (take n (drop to old)) (length_part to n old to_inside)) in
+      let one : new ≡ make (part_at from n old) = New-is ∙ ap₂ (λ x y. make x ++ y) lent none ∙ append-nil (make (part_at from n old)) in
+      ap₂ ◌++◌ front-is (ap₂ ◌++◌ one (ap₂ drop is back-is ∙ drop-drop n to old))
+
+  pub into_front : (front back new : List ℕ) → to ≤ from → front ≡ take from old → back ≡ drop from old
+      → new ≡ make (take m back) ++ drop n (take (to + m - to) (drop to front))
+      → put_mid to (to + m - to) front new ++ back ≡ put_at to n (make (part_at from n old)) old
+  into_front front back new h front-is back-is New-is =
+      let from_inside = places.from_inside in
+      let l : to + n ≤ from = higher h places.apart in
+      let front-long : length (take from old) ≡ from = length-take-le from old (omega arith) in
+      let room : to + n ≤ length (take from old) = omega arith in
+      let lent : take m back ≡ part_at from n old = rw (back-is, is) in
+      let none : drop n (take (to + m - to) (drop to front)) ≡ [] = rw (front-is, add-sub_cancel_left to m, is) (full (take n (drop to (take from old))) (length_part to n (take from old) room)) in
+      let one : new ≡ make (part_at from n old) = New-is ∙ ap₂ (λ x y. make x ++ y) lent none ∙ append-nil (make (part_at from n old)) in
+      let tail : drop (to + n) (take from old) ++ drop from old ≡ drop (to + n) old =
+      sym (drop-append-le (to + n) (take from old) (drop from old) room) ∙ ap (drop (to + n)) (take-append-drop from old) in
+      let x = make (part_at from n old) in
+      ap (◌++ back) (put_part to (to + m) front new (omega arith))
+      ∙ ap (λ k. (take to front ++ (new ++ drop (to + k) front)) ++ back) is
+      ∙ ap₂ (λ f b. (take to f ++ (new ++ drop (to + n) f)) ++ b) front-is back-is
+      ∙ ap₂ (λ f y. (f ++ (y ++ drop (to + n) (take from old))) ++ drop from old) (take-take to from old h) one
+      ∙ append_assoc (take to old) (x ++ drop (to + n) (take from old)) (drop from old)
+      ∙ ap (take to old ++◌) (append_assoc x (drop (to + n) (take from old)) (drop from old) ∙ ap (x ++◌) tail)

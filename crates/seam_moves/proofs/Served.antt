@@ -1,5 +1,6 @@
 -- What a layer above knows of these operations where nothing is refused.
 use mathlib.Core.Path.{◌≡◌, refl, ap, ◌∙◌}
+use Rattle.std.specs.Prelude.{Result}
 use mathlib.Core.List.{List, [], ◌∷◌, ◌++◌}
 use Prim.Native.Nat.{ℕ, ◌*◌, ◌≤◌, ◌<◌}
 use lib.Dec.{leb, ltb}
@@ -7,7 +8,7 @@ use borrow.Author.Tests.{lt-leb, le-ltb}
 use lib.ListN.{length, drop}
 use Rattle.grids.specs.Exchange.{exchange}
 use Rattle.pictures.specs.declared.sizes.Size.{Size}
-use Rattle.pictures.specs.declared.refusals.Verdict.{Verdict}
+use Rattle.pictures.specs.declared.refusals.Refusal.{Refusal}
 use Rattle.pictures.specs.Refusals.{◌when◌, refusal, served}
 use Rattle.pictures.specs.Pictures.{channels_of, picture_bytes, size_rules, picture, bytes, side_rules}
 use Rattle.pictures.proofs.Rules.{served-first}
@@ -17,7 +18,7 @@ use Rattle.seam_bounds.proofs.Moving.{are_places}
 use Rattle.seam_moves.specs.Between.{part_at, put_at, copy_between_rules, CopyBetweenGiven, ExchangeBetweenGiven}
 
 -- A picture of its size, and room for it: the exchanged picture stands at the front of the space.
-pub exchange-served : (b : List ℕ) (z : Size) (to to' : List ℕ) (v : Verdict) → ExchangeGiven b z to v to'
+pub exchange-served : (b : List ℕ) (z : Size) (to to' : List ℕ) (v : Result (Unit {0}) Refusal) → ExchangeGiven b z to v to'
     → refusal (size_rules z (length b)) ≡ 0 → picture_bytes z ≤ length to
     → to' ≡ bytes (exchange z.width (picture z b)) ++ drop (picture_bytes z) to
 exchange-served b z to to' v g s l =
@@ -28,7 +29,7 @@ exchange-served b z to to' v g s l =
     (g.number ∙ served-first (size_rules z (length b)) rules refl s ∙ none)
 
 -- A picture of its size, a column of it, and room for it: the column stands at the front of the space.
-pub column-served : (b : List ℕ) (z : Size) (c : ℕ) (out out' : List ℕ) (v : Verdict) → ColumnGiven b z c out v out'
+pub column-served : (b : List ℕ) (z : Size) (c : ℕ) (out out' : List ℕ) (v : Result (Unit {0}) Refusal) → ColumnGiven b z c out v out'
     → refusal (size_rules z (length b)) ≡ 0 → z.height * channels_of z.kind ≤ length out → c < z.width
     → out' ≡ column_bytes z b c ++ drop (z.height * channels_of z.kind) out
 column-served b z c out out' v g s l m =
@@ -39,13 +40,13 @@ column-served b z c out out' v g s l m =
     (g.number ∙ served-first (size_rules z (length b)) (8 when short ∷ 10 when leb z.width c ∷ []) refl s ∙ none)
 
 -- Two places inside the space that don't overlap: what stands at one is put at the other.
-pub copy_between-served : (space : List ℕ) (from n to : ℕ) (v : Verdict) (space' : List ℕ) → CopyBetweenGiven space from n to v space'
+pub copy_between-served : (space : List ℕ) (from n to : ℕ) (v : Result (Unit {0}) Refusal) (space' : List ℕ) → CopyBetweenGiven space from n to v space'
     → PlacesApart (length space) from to n → space' ≡ put_at to n (part_at from n space) space
 copy_between-served space from n to v space' g p =
     let none : refusal (copy_between_rules (length space) from n to) ≡ 0 = simp (are_places (length space) from to n p) in
     g.space_left ∙ ap (λ k. served k (put_at to n (part_at from n space) space) space) (g.number ∙ none)
 
-pub exchange-between-served : (space : List ℕ) (from : ℕ) (z : Size) (to : ℕ) (v : Verdict) (space' : List ℕ) → ExchangeBetweenGiven space from z to v space'
+pub exchange-between-served : (space : List ℕ) (from : ℕ) (z : Size) (to : ℕ) (v : Result (Unit {0}) Refusal) (space' : List ℕ) → ExchangeBetweenGiven space from z to v space'
     → refusal (side_rules z) ≡ 0 → PlacesApart (length space) from to (picture_bytes z)
     → space' ≡ put_at to (picture_bytes z) (bytes (exchange z.width (picture z (part_at from (picture_bytes z) space)))) space
 exchange-between-served space from z to v space' g s p =

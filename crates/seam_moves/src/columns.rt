@@ -1,11 +1,9 @@
-// Rows and columns exchanged, column by column. One function for each number of channels, with one contract: three
-// channels written out are much faster than a loop over them.
+// Rows and columns exchanged, column by column.
 ghost use Rattle.std.specs.Prelude.{◌≡◌, ◌++◌, ◌*◌, drop};
-ghost use Rattle.grids.specs.Table.{table};
-ghost use Rattle.grids.specs.Rows.{flat};
 ghost use Rattle.grids.specs.Exchange.{exchange};
 ghost use Rattle.pictures.specs.Pictures.{picture, bytes, channels_of, picture_bytes};
-ghost use Rattle.seam_moves.specs.Inner.{samples, ColumnNeeded, ExchangeNeeded};
+ghost use Rattle.seam_moves.specs.Moving.{column_bytes};
+ghost use Rattle.seam_moves.specs.Inner.{ColumnNeeded, ExchangeNeeded};
 
 use pictures::{Kind, Size, channels};
 
@@ -14,55 +12,35 @@ pub(crate) fn exchange_columns(from: &[u8], size: Size, to: &mut [u8])
     requires { ExchangeNeeded from.now size to.old }
     ensures { to.new ≡ bytes (exchange size.width (picture size from.now)) ++ drop (picture_bytes size) to.old }
 {
-    let width = size.width;
-    let height = size.height;
-    let kind = size.kind;
-    let stride = height * channels(kind);
-    for c in 0..width {
+    let stride = size.height * channels(size.kind);
+    for c in 0..size.width {
         let at = c * stride;
-        let end = at + stride;
-        put_column(kind, from, width, height, c, &mut to[at..end]);
+        put_column(from, size, c, &mut to[at..at + stride]);
     }
 }
 
 // The pixels of column c from the top, put into the front of out.
-pub(crate) fn put_column(
-    kind: Kind,
-    from: &[u8],
-    width: usize,
-    height: usize,
-    c: usize,
-    out: &mut [u8],
-)
-    requires { ColumnNeeded (channels_of kind) from.now width height c out.old }
-    ensures { out.new ≡ flat (table (samples (channels_of kind) width from.now c) height) ++ drop (height * channels_of kind) out.old }
+pub(crate) fn put_column(from: &[u8], size: Size, c: usize, out: &mut [u8])
+    requires { ColumnNeeded from.now size c out.old }
+    ensures { out.new ≡ column_bytes size from.now c ++ drop (size.height * channels_of size.kind) out.old }
 {
-    match kind {
-        Kind::Grey => grey_column(from, width, height, c, out),
-        Kind::Rgb => rgb_column(from, width, height, c, out),
+    match size.kind {
+        Kind::Grey => put_pixels::<1>(from, size, c, out),
+        Kind::Rgb => put_pixels::<3>(from, size, c, out),
     }
 }
 
-fn grey_column(from: &[u8], width: usize, height: usize, c: usize, out: &mut [u8])
-    requires { ColumnNeeded 1 from.now width height c out.old }
-    ensures { out.new ≡ flat (table (samples 1 width from.now c) height) ++ drop (height * 1) out.old }
+// The same for pixels of N bytes: a number of bytes that is known is copied much faster.
+fn put_pixels<const N: usize>(from: &[u8], size: Size, c: usize, out: &mut [u8])
+    requires bytes { N ≡ channels_of size.kind }
+    requires column { ColumnNeeded from.now size c out.old }
+    ensures { out.new ≡ column_bytes size from.now c ++ drop (size.height * N) out.old }
 {
-    for r in 0..height {
-        out[r] = from[r * width + c];
-    }
-}
-
-fn rgb_column(from: &[u8], width: usize, height: usize, c: usize, out: &mut [u8])
-    requires { ColumnNeeded 3 from.now width height c out.old }
-    ensures { out.new ≡ flat (table (samples 3 width from.now c) height) ++ drop (height * 3) out.old }
-{
-    let stride = width * 3;
-    let left = c * 3;
-    for r in 0..height {
+    let stride = size.width * N;
+    let left = c * N;
+    for r in 0..size.height {
         let i = r * stride + left;
-        let j = r * 3;
-        out[j] = from[i];
-        out[j + 1] = from[i + 1];
-        out[j + 2] = from[i + 2];
+        let j = r * N;
+        out[j..j + N].copy_from_slice(&from[i..i + N]);
     }
 }

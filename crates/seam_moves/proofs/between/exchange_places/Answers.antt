@@ -1,35 +1,22 @@
--- `seam_moves::between::exchange_places` meets its contract. The loop's invariant: c columns stand at the new place as rows.
-use mathlib.Core.Path.{◌≡◌, ap, ◌∙◌}
-use Prim.Native.Nat.{◌+◌, ◌-◌, ◌*◌}
-use native.Mathlib.Omega.{arith}
-use borrow.Rule.Slice.PartMut.{same_len_mid}
-use Rattle.pictures.specs.Pictures.{channels_of}
-use Rattle.seam_moves.proofs.Relocating.{column_turn, exchanged_all}
+-- `seam_moves::between::exchange_places` meets its contract: the exchanged picture is put at its place in the half that is written.
+use Rattle.grids.specs.Exchange.{exchange}
+use Rattle.pictures.specs.Pictures.{picture_bytes, picture, bytes}
+use Rattle.seam_moves.proofs.Places.{into_back, into_front}
 use Rattle.seam_moves.proofs.between.exchange_places.Goals as goal
 
-pub loop-c-preserved : goal.loop-c-preserved
-loop-c-preserved c =
-    let head = c.loop-c in
+pub returns-then-from-to : goal.returns-then-from-to
+returns-then-from-to c =
     let a = c.args in
-    let s = a.size.height * c.channels.result in
-    let is : s ≡ a.size.height * channels_of a.size.kind = ap (a.size.height *◌) c.channels.ensures in
-    let put = c.copy_column in
-    let copied = c.copy_from_slice in
-    let at = a.to + head.c * s in (
-      omega arith,
-      (
-        same_len_mid at (at + s - at) head.space copied.new.self copied.auto.self ∙ head.invariant.1.0,
-        (
-          put.auto.out ∙ head.invariant.1.1.0,
-          column_turn a.size a.space.now a.from a.all a.to s c.requires is head.c head.space c.loop-c-test.true head.invariant.1.1.1 head.invariant.1.0
-              put.new.out head.line copied.new.self put.result head.invariant.1.1.0 put.ensures copied.ensures.after,
-        ),
-      ),
-    )
+    let z = a.allowed.size in
+    let cut = c.split_at_mut-front in
+    into_back a.space.now a.from (picture_bytes z) a.to c.requires (λ b. bytes (exchange z.width (picture z b))) _ c.picture_bytes-all.ensures.0
+    cut.result.0.now cut.result.1.now c.exchange_columns.new.to c.if-from-to.true cut.ensures.front cut.ensures.back c.exchange_columns.ensures
 
-pub returns : goal.returns
-returns c =
-    let head = c.loop-c in
+pub returns-else-from-to : goal.returns-else-from-to
+returns-else-from-to c =
     let a = c.args in
-    let e : head.c ≡ a.size.width = omega arith in
-    exchanged_all a.size a.space.now a.from a.all a.to (a.size.height * c.channels.result) c.requires (ap (a.size.height *◌) c.channels.ensures) head.space (rw e at head.invariant.1.1.1)
+    let z = a.allowed.size in
+    let cut = c.split_at_mut-front-else-from-to in
+    let made = c.exchange_columns-else-from-to in
+    into_front a.space.now a.from (picture_bytes z) a.to c.requires (λ b. bytes (exchange z.width (picture z b))) _ c.picture_bytes-all.ensures.0
+    cut.result.0.now cut.result.1.now made.new.to c.if-from-to.false cut.ensures.front cut.ensures.back made.ensures

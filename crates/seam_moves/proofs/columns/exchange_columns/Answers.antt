@@ -14,17 +14,16 @@ loop-c-preserved c =
     let a = c.args in
     let s = a.size.height * c.channels.result in
     let is : s ≡ a.size.height * channels_of a.size.kind = ap (a.size.height *◌) c.channels.ensures in
-    let put = c.put_column in (
-      omega arith,
-      (
-        same_len_mid (l.c * s) (l.c * s + s - l.c * s) l.to put.new.out put.auto.out ∙ l.invariant.1.0,
-        columns-turn a.size a.from.now a.to.now s c.requires is l.c l.to c.loop-c-test.true l.invariant.1.0 put.new.out l.invariant.1.1 put.ensures,
-      ),
-    )
+    let put = c.put_column in
+    record {
+      within = omega arith;
+      long = same_len_mid (l.c * s) (l.c * s + s - l.c * s) l.to put.new.out put.auto.out ∙ l.invariant.long;
+      filled = columns-turn a.size a.from.now a.to.now s c.requires is l.c l.to c.loop-c-test.true l.invariant.long put.new.out l.invariant.filled put.ensures;
+    }
 
 pub returns : goal.returns
 returns c =
     let l = c.loop-c in
     let a = c.args in
     let e : l.c ≡ a.size.width = omega arith in
-    columns_end a.size a.from.now a.to.now (a.size.height * c.channels.result) c.requires (ap (a.size.height *◌) c.channels.ensures) l.to (rw e at l.invariant.1.1)
+    columns_end a.size a.from.now a.to.now (a.size.height * c.channels.result) c.requires (ap (a.size.height *◌) c.channels.ensures) l.to (rw e at l.invariant.filled)

@@ -3,10 +3,13 @@
 use mathlib.Core.Path.{◌≡◌}
 use Prim.Native.Nat.{◌≤◌}
 use lib.ListN.{length}
-use Rattle.pictures.specs.Pictures.{channels_of}
 use Rattle.grids.proofs.Filled.{Filled}
-use Rattle.seam_moves.proofs.Exchanging.{column}
+use Rattle.seam_moves.specs.Moving.{column_bytes}
 use Rattle.seam_moves.proofs.columns.exchange_columns.Given as goal
 
 abbrev pub invariant-loop-c : goal.invariant-loop-c
-invariant-loop-c l = (l.c ≤ l.width) × ((length l.to ≡ length l.initial.to) × Filled (column (channels_of l.kind) l.width l.height l.from) l.stride l.initial.to l.c l.to)
+invariant-loop-c l = record {
+  within : l.c ≤ l.c-end;
+  long : length l.to ≡ length l.initial.to;
+  filled : Filled (column_bytes l.fn.size l.from) l.stride l.initial.to l.c l.to;
+}
