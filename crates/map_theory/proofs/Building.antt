@@ -1,15 +1,15 @@
 -- The builder's step and the check by building anew, for maps that lie in one flat list.
 use mathlib.Core.Path.{◌≡◌, refl, sym, ap, subst, ◌∙◌}
 use mathlib.Core.Bool.{Bool, true, false, not}
-use mathlib.Core.List.{List, [], ◌∷◌, ◌++◌, append-nil}
-use Prim.Native.Nat.{ℕ, suc, ◌+◌, ◌-◌, ◌*◌, ◌≤◌, ◌<◌}
+use mathlib.Core.List.{List, [], ◌∷◌, ◌++◌}
+use Prim.Native.Nat.{ℕ, suc, ◌-◌, ◌≤◌, ◌<◌}
 use native.Mathlib.Omega.{arith}
-use lib.ListN.{length, get_or, take, drop}
+use lib.ListN.{length, get_or}
 use Rattle.grids.specs.Each.{Grid}
 use Rattle.grids.specs.Rows.{rows_of, flat, row_at}
 use Rattle.grids.proofs.Bools.{same_test}
 use Rattle.grids.proofs.Shapes.{each-length, zip_with_at}
-use Rattle.grids.proofs.Rows.{rows_of-flat, flat_at, row_more_lem}
+use Rattle.grids.proofs.Rows.{rows_of-flat, flat_at}
 use Rattle.pictures.specs.Refusals.{◌when◌, refusal}
 use Rattle.seam_theory.specs.Choices.{Choice, Chooses}
 use Rattle.map_theory.specs.Maps.{carve, map_of}
@@ -46,18 +46,6 @@ module _ {A : Type 0} (choose : Choice A) {near : ℕ → ℕ → ℕ → Bool} 
         let columns : length nextSeam ≡ h = each-length (good.inside (w - t) h (carve choose t w h p) (omega arith) (carve-grid choose good t w h p g (omega arith))) in
         rw (flat_at old r l, flat_at (map-grid choose good (suc t) w h p g deep) r l, map_next choose good t w h p g deep)
         (sym (zip_with_at (write (suc t)) nextSeam (map_of choose t w h p) r 0 [] [] (omega arith) (omega (arith, each-length old))))
-
-    -- One turn of a loop over the rows of one list.
-    pub build-turn : (r : ℕ) → r < h
-        → take (r * w) newMap ++ (write (suc t) (get_or nextSeam r 0) (row_at w r oldMap) ++ drop (r * w + w) oldMap) ≡ take (r * w + w) newMap ++ drop (r * w + w) oldMap
-    build-turn r l = rw (build-row r l) (row_more_lem w r newMap oldMap)
-
-    -- All rows at once.
-    pub build-flat : flat (write_all (suc t) nextSeam (rows_of w h oldMap)) ≡ newMap
-    build-flat =
-        let e : rows_of w h oldMap ≡ map_of choose t w h p =
-        ap (rows_of w h) (sym (append-nil oldMap)) ∙ rows_of-flat [] (map-grid choose good t w h p g (omega arith)) in
-        ap flat (ap (write_all (suc t) nextSeam) e ∙ sym (map_next choose good t w h p g deep))
 
   -- A map is judged alike by 9, by 10, and by comparing it with the picture's map instead of judging each seam by 11.
   pub judged_rebuilt : (w h k : ℕ) (p : List (List A)) (m : List (List ℕ)) → Grid w h p → Grid w h m → k ≤ w
