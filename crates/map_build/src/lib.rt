@@ -9,20 +9,17 @@ ghost use Rattle.map_build.specs.Building.{MapInGiven};
 ghost use Rattle.map_build.specs.Inner.Seams.{NextNeeded, NextGiven, SeamsNeeded, SeamsGiven};
 
 use energy::Method;
-use pictures::{LARGEST_SIDE, Size, Verdict};
+use pictures::{LARGEST_SIDE, Refusal, Size};
 
 // The map of this depth of the picture at the front of the space. After the picture stand a byte for each pixel, for work,
 // and two bytes for each pixel, for the map. The picture is left without its first `depth` seams, packed at the front, and
 // the freed bytes and those for work are 0. Refused by 2, 3, 6 and 8.
-pub fn map_in(space: &mut [u8], size: Size, method: Method, depth: usize) -> Verdict
+pub fn map_in(space: &mut [u8], size: Size, method: Method, depth: usize) -> Result<(), Refusal>
     ensures { MapInGiven space.old size method depth result space.new }
 {
-    let fits = map_rules::judge_map_space(size, depth, space.len(), 1);
-    let Verdict::Served = fits else {
-        return fits;
-    };
+    map_rules::judge_map_space(size, depth, space.len(), 1)?;
     cut_seams(space, size, method, depth);
-    fits
+    Ok(())
 }
 
 // The map where nothing is refused.

@@ -2,7 +2,7 @@
 ghost use Rattle.std.specs.Prelude.{◌≡◌, length};
 ghost use Rattle.map_build.specs.Inner.Marks.{write_pair, zero_pairs, SkipGiven};
 
-use pictures::numbers::{number, wide};
+use pictures::numbers::number;
 
 // How many of the 16 numbers in these bytes are 0. One test for both bytes of a number, not one for each, so that the loop
 // compiles to operations on all 16 at once.
@@ -16,7 +16,7 @@ fn zeros_in(block: &[u8]) -> usize
             n += 1;
         }
     }
-    wide(n)
+    n as usize
 }
 
 // A place in a row, and how many zeros are to be passed from there on.

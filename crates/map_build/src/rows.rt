@@ -3,7 +3,6 @@ ghost use Rattle.std.specs.Prelude.{◌≡◌};
 ghost use Rattle.map_build.specs.Inner.Rows.{write_rows, RowsNeeded};
 
 use crate::marks;
-use pictures::numbers;
 
 // A seam's column as a number to count with.
 fn column(c: u16) -> usize
@@ -18,9 +17,7 @@ pub(crate) fn mark_rows(map: &mut [u8], width: usize, seam: &[u16], number: usiz
     ensures { map.new ≡ write_rows number width seam.now map.old }
 {
     let height = seam.len();
-    let v = number as u16;
-    let low = numbers::low_byte(v);
-    let high = numbers::high_byte(v);
+    let [low, high] = (number as u16).to_le_bytes();
     let mut r = 0;
     while r < height {
         let a = r * (2 * width);

@@ -1,9 +1,9 @@
 -- The map recorded in a space, judged for the picture at its front: when it is refused, and what it gives.
-use Rattle.std.specs.Prelude.{◌≡◌, List, ◌++◌, ℕ, length, take, drop, replicate}
+use Rattle.std.specs.Prelude.{◌≡◌, Result, List, ◌++◌, ℕ, length, take, drop, replicate}
 use Rattle.grids.specs.Rows.{rows_of}
 use Rattle.seam_theory.specs.Paths.{near}
 use Rattle.pictures.specs.declared.sizes.Size.{Size}
-use Rattle.pictures.specs.declared.refusals.Verdict.{Verdict}
+use Rattle.pictures.specs.declared.refusals.Refusal.{Refusal}
 use Rattle.pictures.specs.Refusals.{Rule, given, refusal, worked}
 use Rattle.pictures.specs.Pictures.{Picture, picture_in}
 use Rattle.energy.specs.declared.methods.Method.{Method}
@@ -26,6 +26,6 @@ abbrev pub judge_rules : Size → Method → ℕ → List ℕ → List Rule
 judge_rules z how depth space = map_space_rules z depth (length space) 2 ++ recorded_rules z how depth (picture_in z space) (recorded_in z space)
 
 -- The number, and the space: all 0 after success and after 9, 10 and 11, else as it was.
-pub record JudgeInGiven (space : List ℕ) (z : Size) (how : Method) (depth : ℕ) (answer : Verdict) (space' : List ℕ) : Type 0 where
+pub record JudgeInGiven (space : List ℕ) (z : Size) (how : Method) (depth : ℕ) (answer : Result (Unit {0}) Refusal) (space' : List ℕ) : Type 0 where
   pub number : given answer ≡ refusal (judge_rules z how depth space)
   pub space_left : space' ≡ worked (given answer) (replicate (length space) 0) space

@@ -1,20 +1,21 @@
 -- What it says of a space that nothing refuses: the sides are within the limits, and the maps end in it.
-use mathlib.Core.Path.{◌≡◌, refl, sym, ap, ◌∙◌}
+use mathlib.Core.Path.{◌≡◌, refl, ap, ◌∙◌}
 use mathlib.Core.Bool.{cond}
 use mathlib.Core.List.{[], ◌∷◌}
-use Prim.Native.Nat.{ℕ, zero, suc, ◌+◌, ◌*◌, ◌≤◌, ◌<◌}
+use Prim.Native.Nat.{ℕ, zero, suc, ◌+◌, ◌-◌, ◌*◌, ◌/◌, ◌≤◌, ◌<◌}
 use native.Mathlib.Nat.{mul_left_comm, suc-mul}
+use Rattle.std.proofs.Math.Nat.{mul-pos, div-lt_iff_lt-mul, le-div_iff_mul-le}
 use native.Mathlib.Omega.{arith}
 use borrow.Author.Tests.{leb-false, ltb-false, lt-leb, le-ltb}
 use lib.Dec.{leb, ltb}
-use Rattle.pictures.specs.Limits.{most_pixels, most_picture}
+use Rattle.pictures.specs.Limits.{most_pixels}
 use Rattle.pictures.specs.declared.sizes.Size.{Size}
-use Rattle.pictures.specs.Refusals.{◌when◌, refusal, served}
-use Rattle.pictures.specs.Pictures.{side_rules, picture_bytes, pixels}
+use Rattle.pictures.specs.Refusals.{◌when◌, refusal}
+use Rattle.pictures.specs.Pictures.{side_rules, pixels}
 use Rattle.pictures.proofs.Rules.{served-first, served-both, passed}
-use Rattle.pictures.proofs.Limits.{Sides, sides_are, served_times, served_plus}
+use Rattle.pictures.proofs.Limits.{Sides, sides_are}
 use Rattle.map_theory.specs.Bounds.{most_map}
-use Rattle.map_rules.specs.Spaces.{map_bytes, map_at, recorded_at, maps_end, map_space_rules}
+use Rattle.map_rules.specs.Spaces.{map_bytes, map_at, maps_end, map_space_rules}
 
 -- The maps end after as many times the bytes of one.
 pub maps_end_lem : (z : Size) (n : ℕ) → maps_end z n ≡ map_at z + n * map_bytes z
@@ -32,23 +33,21 @@ pixels-few z s = s.pixels_most
 pub map-few : (z : Size) → Sides z → map_bytes z ≤ most_map
 map-few z s = omega (arith, s.pixels_most, map_bytes_lem z)
 
--- What is given out for any size, 0 where it is refused.
-pub map_given : (z : Size) → 2 * served (refusal (side_rules z)) (pixels z) 0 ≡ served (refusal (side_rules z)) (map_bytes z) 0
-map_given z = served_times (refusal (side_rules z)) 2 (pixels z) ∙ ap (λ n. served (refusal (side_rules z)) n 0) (sym (map_bytes_lem z))
+-- The sides are some, so a map has some bytes.
+pub map-some : (z : Size) → Sides z → 0 < map_bytes z
+map-some z s = omega (arith, map_bytes_lem z, mul-pos s.height_some s.width_some)
 
-pub at_given : (z : Size) → served (refusal (side_rules z)) (picture_bytes z) 0 + served (refusal (side_rules z)) (pixels z) 0 ≡ served (refusal (side_rules z)) (map_at z) 0
-at_given z = served_plus (refusal (side_rules z)) (picture_bytes z) (pixels z)
+-- Whether the maps end in a space is whether it has room for as many after the picture and a byte for each pixel.
+module _ (z : Size) (space maps : ℕ) {at : ℕ} (at_is : at ≡ map_at z) where
+  pub maps-none : space < at → space < maps_end z maps
+  maps-none h = omega (arith, maps_end_lem z maps)
 
-pub recorded-given : (z : Size) → served (refusal (side_rules z)) (map_at z) 0 + served (refusal (side_rules z)) (map_bytes z) 0 ≡ served (refusal (side_rules z)) (recorded_at z) 0
-recorded-given z = served_plus (refusal (side_rules z)) (map_at z) (map_bytes z)
+  module _ {bytes : ℕ} (bytes_is : bytes ≡ map_bytes z) (some : 0 < bytes) (past : at ≤ space) where
+    pub maps-short : (space - at) / bytes < maps → space < maps_end z maps
+    maps-short h = omega (arith, maps_end_lem z maps, ap (maps *◌) bytes_is, (div-lt_iff_lt-mul some).0 h)
 
--- It is small.
-pub recorded-few : (z : Size) → served (refusal (side_rules z)) (recorded_at z) 0 ≤ most_picture + most_pixels + most_map
-recorded-few z = go (refusal (side_rules z)) refl
-  where
-    go : (n : ℕ) → refusal (side_rules z) ≡ n → served n (recorded_at z) 0 ≤ most_picture + most_pixels + most_map
-    go zero e = let s = sides_are z e in omega (arith, s.picture_most, s.pixels_most, map-few z s)
-    go (suc n) e = omega arith
+    pub maps_fit : maps ≤ (space - at) / bytes → maps_end z maps ≤ space
+    maps_fit h = omega (arith, maps_end_lem z maps, ap (maps *◌) bytes_is, (le-div_iff_mul-le some).0 h)
 
 pub record Room (z : Size) (depth space maps : ℕ) : Type 0 where
   pub served : refusal (side_rules z) ≡ 0

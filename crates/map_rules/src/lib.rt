@@ -1,10 +1,11 @@
 // What the operations on maps decide, as pure functions of numbers.
 #![tactic(auto)]
 
+pub mod allowed;
 pub mod recorded;
 pub mod spaces;
 pub mod widths;
 
 pub use recorded::{is_beside, remains, stands_once};
 pub use spaces::{has_pixels, holds_pixels, judge_map_space, map_at, map_bytes, recorded_at};
-pub use widths::{is_allowed, is_doubled, left_of, mean, stays};
+pub use widths::{is_allowed, is_doubled, mean, stays};

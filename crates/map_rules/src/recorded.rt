@@ -11,15 +11,17 @@ pub fn stands_once(count: u16) -> bool
 }
 
 // Whether a pixel numbered v is left before seam t.
+#[tactic(auto, unfolding(map_theory::specs::Judged::remains))]
 pub fn remains(t: usize, v: usize) -> bool
     ensures { result ≡ Judged·remains t v }
 {
-    if v == 0 { true } else { t <= v }
+    v == 0 || t <= v
 }
 
 // Whether two columns differ by at most 1.
+#[tactic(auto, unfolding(seam_theory::specs::Paths::beside))]
 pub fn is_beside(c: usize, d: usize) -> bool
     ensures { result ≡ Paths·beside c d }
 {
-    if c < d { d - c <= 1 } else { c - d <= 1 }
+    c.abs_diff(d) <= 1
 }
