@@ -9,7 +9,7 @@ use lib.ListN.{length, drop}
 use Rattle.grids.specs.Exchange.{exchange}
 use Rattle.pictures.specs.declared.sizes.Size.{Size}
 use Rattle.pictures.specs.declared.refusals.Refusal.{Refusal}
-use Rattle.pictures.specs.Refusals.{◌when◌, refusal, served}
+use Rattle.pictures.specs.Refusals.{◌when◌, given, refusal, served}
 use Rattle.pictures.specs.Pictures.{channels_of, picture_bytes, size_rules, picture, bytes, side_rules}
 use Rattle.pictures.proofs.Rules.{served-first}
 use Rattle.seam_moves.specs.Moving.{ExchangeGiven, column_bytes, ColumnGiven}
@@ -18,15 +18,14 @@ use Rattle.seam_bounds.proofs.Moving.{are_places}
 use Rattle.seam_moves.specs.Between.{part_at, put_at, copy_between_rules, CopyBetweenGiven, ExchangeBetweenGiven}
 
 -- A picture of its size, and room for it: the exchanged picture stands at the front of the space.
-pub exchange-served : (b : List ℕ) (z : Size) (to to' : List ℕ) (v : Result (Unit {0}) Refusal) → ExchangeGiven b z to v to'
-    → refusal (size_rules z (length b)) ≡ 0 → picture_bytes z ≤ length to
-    → to' ≡ bytes (exchange z.width (picture z b)) ++ drop (picture_bytes z) to
-exchange-served b z to to' v g s l =
-    let rules = 8 when ltb (length to) (picture_bytes z) ∷ [] in
-    let none : refusal (8 when ltb (length to) (picture_bytes z) ∷ []) ≡ 0 = simp (le-ltb _ _ l) in
-    g.to_given
-    ∙ ap (λ n. served n (bytes (exchange z.width (picture z b)) ++ drop (picture_bytes z) to) to)
-    (g.number ∙ served-first (size_rules z (length b)) rules refl s ∙ none)
+module _ (b : List ℕ) (z : Size) (to to' : List ℕ) (v : Result (Unit {0}) Refusal) (g : ExchangeGiven b z to v to') (s : refusal (size_rules z (length b)) ≡ 0) (l : picture_bytes z ≤ length to) where
+  pub exchange_none : given v ≡ 0
+  exchange_none =
+      let room : refusal (8 when ltb (length to) (picture_bytes z) ∷ []) ≡ 0 = simp (le-ltb _ _ l) in
+      g.number ∙ served-first (size_rules z (length b)) (8 when ltb (length to) (picture_bytes z) ∷ []) refl s ∙ room
+
+  pub exchange-served : to' ≡ bytes (exchange z.width (picture z b)) ++ drop (picture_bytes z) to
+  exchange-served = g.to_given ∙ ap (λ n. served n (bytes (exchange z.width (picture z b)) ++ drop (picture_bytes z) to) to) exchange_none
 
 -- A picture of its size, a column of it, and room for it: the column stands at the front of the space.
 pub column-served : (b : List ℕ) (z : Size) (c : ℕ) (out out' : List ℕ) (v : Result (Unit {0}) Refusal) → ColumnGiven b z c out v out'

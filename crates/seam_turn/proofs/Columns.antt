@@ -1,6 +1,7 @@
 -- A horizontal cut, through the exchanged picture and back.
 use mathlib.Core.Path.{◌≡◌, refl, sym, ap, ◌∙◌}
 use mathlib.Core.Bool.{not, cond}
+use Rattle.std.specs.Prelude.{Result}
 use mathlib.Core.List.{List, [], ◌∷◌, ◌++◌, append_assoc}
 use Prim.Native.Nat.{ℕ, suc, ◌+◌, ◌-◌, ◌*◌, ◌≤◌, ◌<◌}
 use native.Mathlib.Nat.{mul_left_comm, mul-add, suc-mul}
@@ -16,7 +17,7 @@ use Rattle.grids.proofs.Orders.{more_than_one}
 use Rattle.grids.proofs.Exchange.{exchange-each}
 use Rattle.grids.proofs.Cut.{cut_narrower}
 use Rattle.pictures.specs.declared.sizes.Size.{Size}
-use Rattle.pictures.specs.declared.refusals.Verdict.{Verdict}
+use Rattle.pictures.specs.declared.refusals.Refusal.{Refusal}
 use Rattle.pictures.specs.Refusals.{◌when◌, given, refusal}
 use Rattle.pictures.specs.Pictures.{Picture, channels_of, picture_bytes, side_rules, size_rules, picture, bytes, OfSize}
 use Rattle.pictures.proofs.Rules.{served-both, passed}
@@ -26,7 +27,7 @@ use Rattle.seam_bounds.specs.Moves.{outside}
 use Rattle.seam_moves.specs.Moving.{ExchangeGiven}
 use Rattle.seam_close.specs.Closing.{CloseGiven}
 use Rattle.seam_bounds.proofs.Moving.{inside_each}
-use Rattle.seam_moves.proofs.Served.{exchange-served}
+use Rattle.seam_moves.proofs.Served.{exchange_none, exchange-served}
 use Rattle.seam_close.proofs.Served.{close_served}
 use Rattle.seam_rules.specs.declared.answers.Axis.TheVariants.{Horizontal}
 use Rattle.seam_rules.specs.Axes.{turned_size, narrowed}
@@ -39,7 +40,7 @@ pub record Inside (z : Size) (s : List ℕ) : Type 0 where
   pub wide : 1 < z.width
   pub inside : Each (λ c. c < z.width) z.height s
 
-pub close_inside : (b : List ℕ) (z : Size) (s b' : List ℕ) (v : Verdict) → CloseGiven b z s v b' → given v ≡ 0 → Inside z s
+pub close_inside : (b : List ℕ) (z : Size) (s b' : List ℕ) (v : Result (Unit {0}) Refusal) → CloseGiven b z s v b' → given v ≡ 0 → Inside z s
 close_inside b z s b' v g e =
     let ends = 10 when outside z.width s ∷ 13 when eqb z.width 1 ∷ [] in
     let parts = served-both (size_rules z (length b)) (4 when not (eqb (length s) z.height) ∷ 10 when outside z.width s ∷ 13 when eqb z.width 1 ∷ []) refl (sym g.number ∙ e) in
@@ -74,7 +75,7 @@ module _ (z : Size) (b s : List ℕ) (sized : Sized z (length b)) where
   over-long = length-bytes t (over_of z b) over_of_lem ∙ turned-bytes Horizontal z ∙ sym sized.length_is
 
   -- After the first exchange.
-  module _ (work work₁ : List ℕ) (v : Verdict) (g : ExchangeGiven b z work v work₁) (served : refusal (size_rules z (length b)) ≡ 0) (room : picture_bytes z ≤ length work) where
+  module _ (work work₁ : List ℕ) (v : Result (Unit {0}) Refusal) (g : ExchangeGiven b z work v work₁) (served : refusal (size_rules z (length b)) ≡ 0) (room : picture_bytes z ≤ length work) where
     pub front_is : take (length b) work₁ ≡ bytes (over_of z b)
     front_is = ap (take (length b)) (exchange-served b z work work₁ v g served room) ∙ take_at (bytes (over_of z b)) (drop (picture_bytes z) work) (length b) over-long
 
@@ -103,7 +104,7 @@ module _ (z : Size) (b s : List ℕ) (sized : Sized z (length b)) where
     left-sides = sides_of left (omega (arith, is.wide)) (omega (arith, sized.height_most)) sized.width_some sized.width_most
 
     -- After the exchanged picture was closed up.
-    module _ (work₁ front : List ℕ) (u : Verdict) (c : CloseGiven (take (length b) work₁) t s u front) (there : take (length b) work₁ ≡ bytes (over_of z b)) (fits : refusal (size_rules t (length (take (length b) work₁))) ≡ 0) where
+    module _ (work₁ front : List ℕ) (u : Result (Unit {0}) Refusal) (c : CloseGiven (take (length b) work₁) t s u front) (there : take (length b) work₁ ≡ bytes (over_of z b)) (fits : refusal (size_rules t (length (take (length b) work₁))) ≡ 0) where
       pub closed_is : front ≡ bytes (rest_of z b s) ++ replicate (z.width * channels_of z.kind) 0
       closed_is =
           close_served (take (length b) work₁) t s front u c fits is.inside is.wide
@@ -117,13 +118,19 @@ module _ (z : Size) (b s : List ℕ) (sized : Sized z (length b)) where
           ∙ take_at (bytes (rest_of z b s)) ends (picture_bytes left) (length-bytes left (rest_of z b s) rest-of)
 
     -- After it was exchanged back.
-    pub back_is : (from to to' : List ℕ) (v : Verdict) → ExchangeGiven from left to v to' → from ≡ bytes (rest_of z b s) → picture_bytes left ≤ length to
-        → take (picture_bytes left) to' ≡ bytes (cut_along Horizontal z s (picture z b))
-    unfolding cut_along turned
-    back_is from to to' v g e room =
-        let c = exchange left.width (rest_of z b s) in
-        let long : length (bytes (exchange left.width (rest_of z b s))) ≡ picture_bytes left = length-bytes (turned_size Horizontal left) (exchange left.width (rest_of z b s)) (exchange-each rest-of) ∙ turned-bytes Horizontal left in
-        ap (take (picture_bytes left))
-        (exchange-served from left to to' v g (rw (ap length e ∙ length-bytes left (rest_of z b s) rest-of) (sized-served left left-sides)) room
-        ∙ ap (λ p. bytes (exchange left.width p) ++ drop (picture_bytes left) to) (ap (picture left) e ∙ picture_bytes_lem left (rest_of z b s) rest-of))
-        ∙ take_at (bytes (exchange left.width (rest_of z b s))) (drop (picture_bytes left) to) (picture_bytes left) long
+    module _ (from to to' : List ℕ) (v : Result (Unit {0}) Refusal) (g : ExchangeGiven from left to v to') (e : from ≡ bytes (rest_of z b s)) (room : picture_bytes left ≤ length to) where
+      from-sized : refusal (size_rules left (length from)) ≡ 0
+      from-sized = rw (ap length e ∙ length-bytes left (rest_of z b s) rest-of) (sized-served left left-sides)
+
+      pub back_none : given v ≡ 0
+      back_none = exchange_none from left to to' v g from-sized room
+
+      pub back_is : take (picture_bytes left) to' ≡ bytes (cut_along Horizontal z s (picture z b))
+      unfolding cut_along turned
+      back_is =
+          let c = exchange left.width (rest_of z b s) in
+          let long : length (bytes (exchange left.width (rest_of z b s))) ≡ picture_bytes left = length-bytes (turned_size Horizontal left) (exchange left.width (rest_of z b s)) (exchange-each rest-of) ∙ turned-bytes Horizontal left in
+          ap (take (picture_bytes left))
+          (exchange-served from left to to' v g from-sized room
+          ∙ ap (λ p. bytes (exchange left.width p) ++ drop (picture_bytes left) to) (ap (picture left) e ∙ picture_bytes_lem left (rest_of z b s) rest-of))
+          ∙ take_at (bytes (exchange left.width (rest_of z b s))) (drop (picture_bytes left) to) (picture_bytes left) long

@@ -1,16 +1,15 @@
 -- What a layer above knows of these operations where nothing is refused.
 use mathlib.Core.Path.{◌≡◌, refl, sym, ap, ◌∙◌}
 use mathlib.Core.Bool.{Bool, true, false, not, cond}
+use Rattle.std.specs.Prelude.{Result}
 use mathlib.Core.List.{List, [], ◌∷◌, ◌++◌}
 use Prim.Native.Nat.{ℕ, ◌*◌, ◌≤◌, ◌<◌}
-use native.Mathlib.Omega.{arith}
 use lib.Dec.{eqb, ltb}
 use borrow.Author.Tests.{eq-eqb, le-ltb}
 use lib.ListN.{length, drop, replicate}
 use Rattle.grids.specs.Each.{Each}
 use Rattle.grids.proofs.Shapes.{each-length}
 use Rattle.pictures.specs.declared.sizes.Size.{Size}
-use Rattle.pictures.specs.declared.refusals.Verdict.{Verdict}
 use Rattle.pictures.specs.declared.refusals.Refusal.{Refusal}
 use Rattle.pictures.specs.Refusals.{◌when◌, number_of, given, refusal, served}
 use Rattle.pictures.specs.Pictures.{channels_of, picture_bytes, size_rules, picture, bytes}
@@ -27,7 +26,7 @@ use Rattle.seam_turn.specs.Axes.{turned, cut_along}
 use Rattle.seam_turn.specs.Turning.{TurnGiven, close_along_rules, left_work, CloseAlongGiven}
 
 -- A picture of its size, and room for it: the turned picture stands at the front of the space.
-pub turn_served : (b : List ℕ) (z : Size) (x : Axis) (to to' : List ℕ) (v : Verdict) → TurnGiven b z x to v to'
+pub turn_served : (b : List ℕ) (z : Size) (x : Axis) (to to' : List ℕ) (v : Result (Unit {0}) Refusal) → TurnGiven b z x to v to'
     → refusal (size_rules z (length b)) ≡ 0 → picture_bytes z ≤ length to
     → to' ≡ bytes (turned x z.width (picture z b)) ++ drop (picture_bytes z) to
 turn_served b z x to to' v g s l =
@@ -56,7 +55,7 @@ unfolding left_work
 zero_left Vertical work e = e
 zero_left Horizontal work e = refl
 
-pub close_served : (b : List ℕ) (z : Size) (x : Axis) (s work : List ℕ) (v : Verdict) (b' work' : List ℕ) → CloseAlongGiven b z x s work v b' work'
+pub close_served : (b : List ℕ) (z : Size) (x : Axis) (s work : List ℕ) (v : Result (Unit {0}) Refusal) (b' work' : List ℕ) → CloseAlongGiven b z x s work v b' work'
     → refusal (size_rules z (length b)) ≡ 0 → Each (λ c. c < (turned_size x z).width) (turned_size x z).height s → last_along x z ≡ false → picture_bytes z ≤ length work
     → Closed b z x s work b' work'
 close_served b z x s work v b' work' g sized inside wide room =
@@ -74,13 +73,14 @@ close_served b z x s work v b' work' g sized inside wide room =
         ∙ served-first (close_along_lengths x z (length b) (length s) (length work)) (10 when outside (turned_size x z).width s ∷ last_rules x z) refl lengths
         ∙ simp (each_inside inside, wide)
 
--- The work space as it was where 1 to 8 refuse, and zero after 10 and 13.
+-- The work space as it was where 1 to 8 refuse.
 pub work_kept : (x : Axis) (why : Refusal) (n : ℕ) → number_of why ≡ n → n ≤ 8 → (work : List ℕ) → work ≡ left_work x n work
 unfolding left_work
 work_kept Vertical why n e h work = refl
 work_kept Horizontal why n e h work = work_as_was why n e h work
 
-pub ends-cleared : (o e : Bool) → 0 < cond o 10 (cond e 13 0) → (work : List ℕ) → cleared (cond o 10 (cond e 13 0)) work ≡ replicate (length work) 0
-ends-cleared true e h work = refl
-ends-cleared false true h work = refl
-ends-cleared false false h work = absurd (omega arith)
+-- The work space is zero after 10 and 13, as after success.
+pub ends-cleared : (o e : Bool) (work : List ℕ) → cleared (cond o 10 (cond e 13 0)) work ≡ replicate (length work) 0
+ends-cleared true e work = refl
+ends-cleared false true work = refl
+ends-cleared false false work = refl

@@ -1,29 +1,27 @@
 // Pictures turned so that a seam along an axis is vertical, and closed up along a seam of either axis.
 #![tactic(auto)]
 
-ghost use Rattle.seam_rules.specs.declared.answers.Axis.TheVariants.{Horizontal};
 ghost use Rattle.seam_turn.specs.Turning.{TurnGiven, CloseAlongGiven};
-ghost use Rattle.seam_turn.specs.Inner.{ColumnsNeeded};
+ghost use Rattle.seam_turn.specs.Inner.{ColumnsNeeded, ColumnsGiven};
 
-use pictures::{Size, Verdict};
+use pictures::{Refusal, Size, clear};
 use seam_bounds::judge_exchange;
-use seam_rules::Axis;
+use seam_close::close_up;
+use seam_moves::exchange;
+use seam_rules::{Axis, judge_close_along, narrower, turned_size};
 
 // Puts the picture, turned for a seam along the axis, into the front of `to`. Refused by 2, 3 and 4 as every picture is, and by
 // 8 where `to` is shorter than the picture.
-pub fn turn(picture: &[u8], size: Size, axis: Axis, to: &mut [u8]) -> Verdict
+pub fn turn(picture: &[u8], size: Size, axis: Axis, to: &mut [u8]) -> Result<(), Refusal>
     ensures { TurnGiven picture.now size axis to.old result to.new }
 {
     match axis {
         Axis::Vertical => {
-            let fits = judge_exchange(size, picture.len(), to.len());
-            let Verdict::Served = fits else {
-                return fits;
-            };
+            judge_exchange(size, picture.len(), to.len())?;
             to[..picture.len()].copy_from_slice(picture);
-            Verdict::Served
+            Ok(())
         }
-        Axis::Horizontal => seam_moves::exchange(picture, size, to),
+        Axis::Horizontal => exchange(picture, size, to),
     }
 }
 
@@ -31,36 +29,43 @@ pub fn turn(picture: &[u8], size: Size, axis: Axis, to: &mut [u8]) -> Verdict
 // at the front and the freed bytes are 0. A horizontal seam leaves the work space zero, a vertical one as it was. Refused by 2,
 // 3 and 4 as every picture is, by 4 where the seam is too short or too long, by 8 where the work space is shorter than the
 // picture, by 10 where the seam leaves the picture, and by 13 at the last column or row.
-pub fn close(picture: &mut [u8], size: Size, axis: Axis, seam: &[u16], work: &mut [u8]) -> Verdict
+pub fn close(
+    picture: &mut [u8],
+    size: Size,
+    axis: Axis,
+    seam: &[u16],
+    work: &mut [u8],
+) -> Result<(), Refusal>
     ensures { CloseAlongGiven picture.old size axis seam.now work.old result picture.new work.new }
 {
-    let fits = seam_rules::judge_close_along(size, axis, picture.len(), seam.len(), work.len());
-    let Verdict::Served = fits else {
-        return fits;
-    };
+    judge_close_along(size, axis, picture.len(), seam.len(), work.len())?;
     match axis {
-        Axis::Vertical => seam_close::close_up(picture, size, seam),
-        Axis::Horizontal => close_columns(picture, size, seam, work),
+        Axis::Vertical => close_up(picture, size, seam),
+        Axis::Horizontal => {
+            let closed = close_columns(picture, size, seam, work);
+            clear(work);
+            closed
+        }
     }
 }
 
 // Closes each column upward: the exchanged picture is closed up to the left in the work space and exchanged back.
-fn close_columns(picture: &mut [u8], size: Size, seam: &[u16], work: &mut [u8]) -> Verdict
+fn close_columns(
+    picture: &mut [u8],
+    size: Size,
+    seam: &[u16],
+    work: &mut [u8],
+) -> Result<(), Refusal>
     requires { ColumnsNeeded picture.old size seam.now work.old }
-    ensures { CloseAlongGiven picture.old size Horizontal seam.now work.old result picture.new work.new }
+    ensures { ColumnsGiven picture.old size seam.now work.old result picture.new }
 {
     let bytes = picture.len();
-    let turned = seam_rules::turned_size(Axis::Horizontal, size);
-    seam_moves::exchange(picture, size, work);
-    let closed = seam_close::close_up(&mut work[..bytes], turned, seam);
-    let Verdict::Served = closed else {
-        pictures::clear(work);
-        return closed;
-    };
-    let left = seam_rules::narrower(turned);
+    let turned = turned_size(Axis::Horizontal, size);
+    exchange(picture, size, work)?;
+    close_up(&mut work[..bytes], turned, seam)?;
+    let left = narrower(turned);
     let kept = pictures::picture_bytes(left);
-    seam_moves::exchange(&work[..kept], left, picture);
-    pictures::clear(&mut picture[kept..]);
-    pictures::clear(work);
-    Verdict::Served
+    exchange(&work[..kept], left, picture)?;
+    clear(&mut picture[kept..]);
+    Ok(())
 }

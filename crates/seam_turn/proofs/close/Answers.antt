@@ -4,35 +4,39 @@ use mathlib.Core.Path.{◌≡◌, refl, sym, ap, ◌∙◌}
 use mathlib.Core.List.{List, ◌∷◌, ◌++◌}
 use Prim.Native.Nat.{◌*◌}
 use native.Mathlib.Omega.{arith}
+use borrow.Author.Rules.{rules}
+use Rattle.std.specs.Prelude.{Err}
+use lib.Dec.{eqb}
 use lib.ListN.{length, replicate}
 use Rattle.pictures.specs.Refusals.{Rule, ◌when◌, given, refusal}
 use Rattle.pictures.specs.Pictures.{channels_of, picture, bytes}
-use Rattle.pictures.proofs.Rules.{refused_answer, refused-kept, refusal-most}
+use Rattle.pictures.proofs.Rules.{served-first, refused_answer, refused-kept, refusal-most}
 use Rattle.seam_bounds.specs.Moves.{outside}
-use Rattle.seam_rules.specs.declared.answers.Axis.TheVariants.{Vertical}
+use Rattle.seam_rules.specs.declared.answers.Axis.TheVariants.{Vertical, Horizontal}
 use Rattle.seam_rules.specs.Axes.{turned_size}
-use Rattle.seam_rules.specs.Cuts.{last_rules, close_along_lengths}
+use Rattle.seam_rules.specs.Cuts.{cleared, last_rules, close_along_lengths}
 use Rattle.seam_rules.proofs.Rooms.{close_room}
 use Rattle.seam_turn.specs.Axes.{turned, cut_along}
 use Rattle.seam_turn.specs.Turning.{left_work}
-use Rattle.seam_turn.proofs.Served.{close_number, work_kept}
+use Rattle.seam_turn.proofs.Served.{close_number, work_kept, ends-cleared}
 use Rattle.seam_turn.proofs.close.Goals as goal
 
-pub returns-in_default : goal.returns-in_default
-returns-in_default c =
-    let judged = c.judge_close_along-fits in
+pub returns-in_err-judge_close_along : goal.returns-in_err-judge_close_along
+returns-in_err-judge_close_along c =
     let a = c.args in
     let b = a.picture.now in
     let s = a.seam.now in
-    let v = judged.result in
-    let why = c.in_default.field-0 in
+    let v = c.from_residual.result in
+    let why = c.in_err-judge_close_along.field-0.0 in
+    let is : v ≡ Err why = search rules in
     -- the rules of the lengths, and those of the seam
     let first : List Rule = close_along_lengths a.axis a.size (length b) (length s) (length a.work.now) in
     let last : List Rule = 10 when outside (turned_size a.axis a.size).width s ∷ last_rules a.axis a.size in
+    let number : given v ≡ refusal (close_along_lengths a.axis a.size (length b) (length s) (length a.work.now)) = ap given is ∙ c.in_err-judge_close_along.ensures in
     record {
-      number = refused_answer v why c.in_default.is first last judged.ensures;
-      picture_left = refused-kept v why c.in_default.is (bytes (cut_along a.axis a.size s (picture a.size b)) ++ replicate ((turned_size a.axis a.size).height * channels_of a.size.kind) 0) b;
-      work_left = work_kept a.axis why (given v) (sym (ap given c.in_default.is)) (omega (arith, judged.ensures, refusal-most 8 first refl)) a.work.now;
+      number = refused_answer v why is first last number;
+      picture_left = refused-kept v why is (bytes (cut_along a.axis a.size s (picture a.size b)) ++ replicate ((turned_size a.axis a.size).height * channels_of a.size.kind) 0) b;
+      work_left = work_kept a.axis why (given v) (sym (ap given is)) (omega (arith, number, refusal-most 8 first refl)) a.work.now;
     }
 
 pub returns-in-Vertical : goal.returns-in-Vertical
@@ -42,11 +46,29 @@ returns-in-Vertical c =
     let n = length a.picture.now in
     let s = a.seam.now in
     let work = length a.work.now in
-    let none : refusal (close_along_lengths a.axis a.size (length a.picture.now) (length a.seam.now) (length a.work.now)) ≡ 0 = sym c.in-Served.ensures in
+    let none : refusal (close_along_lengths a.axis a.size (length a.picture.now) (length a.seam.now) (length a.work.now)) ≡ 0 = sym c.in_ok-judge_close_along.ensures in
     let lengths : refusal (close_along_lengths Vertical a.size (length a.picture.now) (length a.seam.now) (length a.work.now)) ≡ 0 = rw c.in-Vertical.is at none in
     rw c.in-Vertical.is
     (record {
       number = c.close_up.ensures.number ∙ close_number Vertical a.size n s work lengths n (close_room Vertical a.size n (length s) work lengths).sized;
       picture_left = c.close_up.ensures.picture_left;
       work_left = refl;
+    })
+
+pub returns-in-Horizontal : goal.returns-in-Horizontal
+unfolding turned cut_along left_work
+returns-in-Horizontal c =
+    let a = c.args in
+    let none : refusal (close_along_lengths a.axis a.size (length a.picture.now) (length a.seam.now) (length a.work.now)) ≡ 0 = sym c.in_ok-judge_close_along.ensures in
+    let lengths : refusal (close_along_lengths Horizontal a.size (length a.picture.now) (length a.seam.now) (length a.work.now)) ≡ 0 = rw c.in-Horizontal.is at none in
+    let ends : List Rule = 10 when outside a.size.height a.seam.now ∷ last_rules Horizontal a.size in
+    rw c.in-Horizontal.is
+    (record {
+      number = c.close_columns-closed.ensures.number;
+      picture_left = c.close_columns-closed.ensures.picture_left;
+      work_left =
+          c.clear.ensures
+          ∙ ap (λ m. replicate m 0) c.close_columns-closed.auto.work
+          ∙ sym (ap (λ m. cleared m a.work.now) (c.close_columns-closed.ensures.number ∙ served-first (close_along_lengths Horizontal a.size (length a.picture.now) (length a.seam.now) (length a.work.now)) ends refl lengths)
+          ∙ ends-cleared (outside a.size.height a.seam.now) (eqb a.size.height 1) a.work.now);
     })

@@ -1,38 +1,36 @@
 -- `seam_turn::close_columns` meets its contract. The exchanged picture stands at the front of the work space; what closing it up
 -- says of the seam is the answer, and where the seam is served the picture left is exchanged back.
-use mathlib.Core.Path.{◌≡◌, refl, sym, ap, ap₂, ◌∙◌}
-use mathlib.Core.List.{List, ◌∷◌, ◌++◌, append-nil}
-use Prim.Native.Nat.{ℕ, ◌+◌, ◌-◌, ◌*◌, ◌≤◌, ◌<◌}
+use mathlib.Core.Path.{◌≡◌, sym, ap, ap₂, ◌∙◌}
+use mathlib.Core.List.{List, ◌++◌, append-nil}
+use Prim.Native.Nat.{ℕ, ◌+◌, ◌-◌, ◌*◌, ◌≤◌}
 use native.Mathlib.Omega.{arith}
 use borrow.Rule.Slice.PartMut.{mid_of, put_mid}
-use lib.Dec.{eqb}
-use lib.ListN.{length, take, drop, replicate, length-append, length-drop}
+use borrow.Author.Rules.{rules}
+use Rattle.std.specs.Prelude.{Result, Err}
+use lib.ListN.{length, take, drop, replicate}
 use lib.Seq.{length-take-le, drop-length}
 use Rattle.grids.proofs.Parts.{put_part, part_length}
 use Rattle.pictures.specs.declared.sizes.Size.{Size}
 use Rattle.pictures.specs.declared.refusals.Refusal.{Refusal}
-use Rattle.pictures.specs.declared.refusals.Verdict.{Verdict}
-use Rattle.pictures.specs.declared.refusals.Verdict.TheVariants.{Refused}
-use Rattle.pictures.specs.Refusals.{◌when◌, given, refusal, served}
+use Rattle.pictures.specs.Refusals.{number_of, given, refusal, served}
 use Rattle.pictures.specs.Pictures.{channels_of, picture_bytes, size_rules, side_rules, picture, bytes}
-use Rattle.pictures.proofs.Rules.{served-first, number-some, refused-kept}
+use Rattle.pictures.proofs.Rules.{number-some, refused-kept}
 use Rattle.pictures.proofs.Limits.{Sized, sized_is}
-use Rattle.seam_bounds.specs.Moves.{outside}
 use Rattle.seam_moves.specs.Moving.{ExchangeGiven}
 use Rattle.seam_close.specs.Closing.{CloseGiven}
 use Rattle.seam_rules.specs.declared.answers.Axis.TheVariants.{Horizontal}
 use Rattle.seam_rules.specs.Axes.{turned_size, narrowed}
-use Rattle.seam_rules.specs.Cuts.{last_rules, close_along_lengths, cleared}
+use Rattle.seam_rules.specs.Cuts.{close_along_lengths}
 use Rattle.seam_rules.proofs.Rooms.{CloseRoom, close_room}
 use Rattle.seam_turn.specs.Axes.{cut_along}
-use Rattle.seam_turn.specs.Turning.{close_along_rules, left_work}
-use Rattle.seam_turn.proofs.Columns.{Inside, close_inside, over_of, rest_of, front_is, front-sized, left-bytes, left-sides, kept-is, back_is}
-use Rattle.seam_turn.proofs.Served.{close_number, ends-cleared}
+use Rattle.seam_turn.specs.Turning.{close_along_rules}
+use Rattle.seam_turn.proofs.Columns.{Inside, close_inside, over_of, rest_of, front_is, front-sized, left-bytes, left-sides, kept-is, back_none, back_is}
+use Rattle.seam_turn.proofs.Served.{close_number}
 use Rattle.seam_turn.proofs.close_columns.Goals as goal
 
 -- After the first exchange, and after the exchanged picture was closed up at the front of the work space.
 module _ (z : Size) (b s work : List ℕ) (lengths : refusal (close_along_lengths Horizontal z (length b) (length s) (length work)) ≡ 0)
-    (work₁ front : List ℕ) (v u : Verdict) (g : ExchangeGiven b z work v work₁) (long₁ : length work₁ ≡ length work)
+    (work₁ front : List ℕ) (v u : Result (Unit {0}) Refusal) (g : ExchangeGiven b z work v work₁) (long₁ : length work₁ ≡ length work)
     (c : CloseGiven (take (length b) work₁) (turned_size Horizontal z) s u front) (long₂ : length front ≡ length (take (length b) work₁)) where
   -- what the lengths say
   fits : CloseRoom Horizontal z (length b) (length s) (length work)
@@ -61,17 +59,6 @@ module _ (z : Size) (b s work : List ℕ) (lengths : refusal (close_along_length
   abbrev closed : List ℕ
   closed = front ++ drop (length b) work₁
 
-  closed-long : length closed ≡ length work
-  closed-long = omega (arith, length-append front (drop (length b) work₁), length-drop (length b) work₁, front_long, room)
-
-  -- where the seam is refused
-  refused-work : (why : Refusal) → u ≡ Refused why → (work₂ : List ℕ) → work₂ ≡ replicate (length closed) 0 → work₂ ≡ cleared (given u) work
-  refused-work why is work₂ zero =
-      let ends = 10 when outside z.height s ∷ last_rules Horizontal z in
-      let n : given u ≡ refusal (10 when outside z.height s ∷ last_rules Horizontal z) = number_is ∙ served-first (close_along_lengths Horizontal z (length b) (length s) (length work)) ends refl lengths in
-      let some : 0 < refusal (10 when outside z.height s ∷ last_rules Horizontal z) = omega (arith, n, ap given is, number-some why) in
-      zero ∙ ap (λ m. replicate m 0) closed-long ∙ sym (ap (λ m. cleared m work) n ∙ ends-cleared (outside z.height s) (eqb z.height 1) some work)
-
   -- where it is served, it lies inside
   module _ (done : given u ≡ 0) where
     inside : Inside (turned_size Horizontal z) s
@@ -90,92 +77,75 @@ module _ (z : Size) (b s work : List ℕ) (lengths : refusal (close_along_length
     lent_is : take kept closed ≡ bytes (rest_of z b s)
     lent_is = kept-is z b s sure inside work₁ front u c over over_sized (drop (length b) work₁)
 
-    -- where n bytes are kept, they fit
-    kept-within : (n : ℕ) → n ≡ kept → (pic : List ℕ) → length pic ≡ length b → n ≤ length pic
-    kept-within n many pic long = omega (arith, kept-fits)
+    -- exchanged back, which isn't refused, with what was freed cleared
+    module _ (n : ℕ) (many : n ≡ kept) (pic : List ℕ) (t : Result (Unit {0}) Refusal) (gb : ExchangeGiven (take n closed) (narrowed (turned_size Horizontal z)) b t pic) where
+      lent : take n closed ≡ bytes (rest_of z b s)
+      lent = ap (λ m. take m closed) many ∙ lent_is
 
-    -- exchanged back, with what was freed cleared
-    back : (n : ℕ) → n ≡ kept → (pic end : List ℕ) (t : Verdict) → ExchangeGiven (take n closed) (narrowed (turned_size Horizontal z)) b t pic → length pic ≡ length b
-        → end ≡ replicate (length (mid_of n (length pic - n) pic)) 0
-        → put_mid n (length pic - n) pic end ≡ bytes (cut_along Horizontal z s (picture z b)) ++ replicate (z.width * channels_of z.kind) 0
-    back n many pic end t gb long zero =
-        let enough : n ≤ length pic = kept-within n many pic long in
-        let freed : length pic - n ≡ z.width * channels_of z.kind = omega (arith, kept-fits) in
-        let lent : take n closed ≡ bytes (rest_of z b s) = ap (λ m. take m closed) many ∙ lent_is in
-        put_part n (length pic) pic end enough
-        ∙ ap₂ (λ front rest. front ++ (end ++ rest))
-        (ap (λ m. take m pic) many ∙ back_is z b s sure inside (take n closed) b pic t gb lent (omega (arith, kept-fits)))
-        (drop-length pic)
-        ∙ ap (bytes (cut_along Horizontal z s (picture z b)) ++◌)
-        (append-nil end ∙ zero ∙ ap (λ m. replicate m 0) (part_length n (length pic) pic (omega arith) ∙ freed))
+      back_served : given t ≡ 0
+      back_served = back_none z b s sure inside (take n closed) b pic t gb lent (omega (arith, kept-fits))
 
-pub returns-in_default : goal.returns-in_default
-unfolding left_work
-returns-in_default c =
+      back : (end : List ℕ) → length pic ≡ length b → end ≡ replicate (length (mid_of n (length pic - n) pic)) 0
+          → put_mid n (length pic - n) pic end ≡ bytes (cut_along Horizontal z s (picture z b)) ++ replicate (z.width * channels_of z.kind) 0
+      back end long zero =
+          let enough : n ≤ length pic = omega (arith, kept-fits) in
+          let freed : length pic - n ≡ z.width * channels_of z.kind = omega (arith, kept-fits) in
+          put_part n (length pic) pic end enough
+          ∙ ap₂ (λ front rest. front ++ (end ++ rest))
+          (ap (λ m. take m pic) many ∙ back_is z b s sure inside (take n closed) b pic t gb lent (omega (arith, kept-fits)))
+          (drop-length pic)
+          ∙ ap (bytes (cut_along Horizontal z s (picture z b)) ++◌)
+          (append-nil end ∙ zero ∙ ap (λ m. replicate m 0) (part_length n (length pic) pic (omega arith) ∙ freed))
+
+pub returns-in_err-close_up : goal.returns-in_err-close_up
+returns-in_err-close_up c =
     let a = c.args in
     let z = a.size in
     let b = a.picture.now in
     let s = a.seam.now in
-    let k = c.close_up-closed in
-    let why = c.in_default.field-0 in
+    let k = c.close_up in
+    let v = c.from_residual-in_err-close_up.result in
+    let why = c.in_err-close_up.field-0.0 in
+    let is : v ≡ Err why = search rules in
     let closed-as : CloseGiven (take (length b) c.exchange.new.to) (turned_size Horizontal z) s k.result k.new.picture = rw c.turned_size-turned.ensures at k.ensures in
     record {
-      number = number_is z b s a.work.now c.requires.lengths c.exchange.new.to k.new.picture c.exchange.result k.result c.exchange.ensures c.exchange.auto.to closed-as k.auto.picture;
-      picture_left = refused-kept k.result why c.in_default.is (bytes (cut_along Horizontal z s (picture z b)) ++ replicate (z.width * channels_of z.kind) 0) b;
-      work_left =
-          refused-work z b s a.work.now c.requires.lengths c.exchange.new.to k.new.picture c.exchange.result k.result c.exchange.ensures c.exchange.auto.to closed-as k.auto.picture
-          why c.in_default.is c.clear.new.space c.clear.ensures;
+      number =
+          ap given (is ∙ sym c.in_err-close_up.was)
+          ∙ number_is z b s a.work.now c.requires.lengths c.exchange.new.to k.new.picture c.exchange.result k.result c.exchange.ensures c.exchange.auto.to closed-as k.auto.picture;
+      picture_left = refused-kept v why is (bytes (cut_along Horizontal z s (picture z b)) ++ replicate (z.width * channels_of z.kind) 0) b;
     }
 
-pub slice_bounds-clear-count : goal.slice_bounds-clear-count
-slice_bounds-clear-count c =
+pub returns-in_err-exchange-2 : goal.returns-in_err-exchange-2
+returns-in_err-exchange-2 c =
     let a = c.args in
     let z = a.size in
     let b = a.picture.now in
     let s = a.seam.now in
     let x = c.exchange in
-    let k = c.close_up-closed in
+    let k = c.close_up in
     let closed-as : CloseGiven (take (length b) x.new.to) (turned_size Horizontal z) s k.result k.new.picture = rw c.turned_size-turned.ensures at k.ensures in
-    let done : given k.result ≡ 0 = ap given c.in-Served.is in
+    let done : given k.result ≡ 0 = ap given c.in_ok-close_up.was in
     let left : c.narrower-left.result ≡ narrowed (turned_size Horizontal z) = c.narrower-left.ensures ∙ ap narrowed c.turned_size-turned.ensures in
     let many =
     kept-are z b s a.work.now c.requires.lengths x.new.to k.new.picture x.result k.result x.ensures x.auto.to closed-as k.auto.picture
     done c.picture_bytes-kept.result c.narrower-left.result left c.picture_bytes-kept.ensures in
-    let fits =
-    kept-within z b s a.work.now c.requires.lengths x.new.to k.new.picture x.result k.result x.ensures x.auto.to closed-as k.auto.picture
-    done c.picture_bytes-kept.result many c.exchange-2.new.to c.exchange-2.auto.to in
-    omega (arith, fits, c.exchange-2.auto.to)
-
-pub slice_bounds-clear-start : goal.slice_bounds-clear-start
-slice_bounds-clear-start c =
-    let a = c.args in
-    let z = a.size in
-    let b = a.picture.now in
-    let s = a.seam.now in
-    let x = c.exchange in
-    let k = c.close_up-closed in
-    let closed-as : CloseGiven (take (length b) x.new.to) (turned_size Horizontal z) s k.result k.new.picture = rw c.turned_size-turned.ensures at k.ensures in
-    let done : given k.result ≡ 0 = ap given c.in-Served.is in
-    let left : c.narrower-left.result ≡ narrowed (turned_size Horizontal z) = c.narrower-left.ensures ∙ ap narrowed c.turned_size-turned.ensures in
-    let many =
-    kept-are z b s a.work.now c.requires.lengths x.new.to k.new.picture x.result k.result x.ensures x.auto.to closed-as k.auto.picture
-    done c.picture_bytes-kept.result c.narrower-left.result left c.picture_bytes-kept.ensures in
-    let fits =
-    kept-within z b s a.work.now c.requires.lengths x.new.to k.new.picture x.result k.result x.ensures x.auto.to closed-as k.auto.picture
-    done c.picture_bytes-kept.result many c.exchange-2.new.to c.exchange-2.auto.to in
-    omega (arith, fits, c.exchange-2.auto.to)
+    let given_back : ExchangeGiven (take c.picture_bytes-kept.result (k.new.picture ++ drop (length b) x.new.to)) c.narrower-left.result b c.exchange-2.result c.exchange-2.new.to = c.exchange-2.ensures in
+    let none =
+    back_served z b s a.work.now c.requires.lengths x.new.to k.new.picture x.result k.result x.ensures x.auto.to closed-as k.auto.picture
+    done c.picture_bytes-kept.result many c.exchange-2.new.to c.exchange-2.result (rw left at given_back) in
+    let refused : given c.exchange-2.result ≡ number_of c.in_err-exchange-2.field-0.0 = ap given c.in_err-exchange-2.was in
+    absurd (omega (arith, none, refused, number-some c.in_err-exchange-2.field-0.0))
 
 pub returns : goal.returns
-unfolding left_work
 returns c =
     let a = c.args in
     let z = a.size in
     let b = a.picture.now in
     let s = a.seam.now in
     let x = c.exchange in
-    let k = c.close_up-closed in
+    let k = c.close_up in
     let closed-as : CloseGiven (take (length b) x.new.to) (turned_size Horizontal z) s k.result k.new.picture = rw c.turned_size-turned.ensures at k.ensures in
-    let done : given k.result ≡ 0 = ap given c.in-Served.is in
+    let done : given k.result ≡ 0 = ap given c.in_ok-close_up.was in
     let left : c.narrower-left.result ≡ narrowed (turned_size Horizontal z) = c.narrower-left.ensures ∙ ap narrowed c.turned_size-turned.ensures in
     let many =
     kept-are z b s a.work.now c.requires.lengths x.new.to k.new.picture x.result k.result x.ensures x.auto.to closed-as k.auto.picture
@@ -185,8 +155,5 @@ returns c =
       number = sym done ∙ number_is z b s a.work.now c.requires.lengths x.new.to k.new.picture x.result k.result x.ensures x.auto.to closed-as k.auto.picture;
       picture_left =
           back z b s a.work.now c.requires.lengths x.new.to k.new.picture x.result k.result x.ensures x.auto.to closed-as k.auto.picture
-          done c.picture_bytes-kept.result many c.exchange-2.new.to c.clear-2.new.space c.exchange-2.result (rw left at given_back) c.exchange-2.auto.to c.clear-2.ensures;
-      work_left =
-          c.clear-3.ensures
-          ∙ ap (λ m. replicate m 0) (closed-long z b s a.work.now c.requires.lengths x.new.to k.new.picture x.result k.result x.ensures x.auto.to closed-as k.auto.picture);
+          done c.picture_bytes-kept.result many c.exchange-2.new.to c.exchange-2.result (rw left at given_back) c.clear.new.space c.exchange-2.auto.to c.clear.ensures;
     }

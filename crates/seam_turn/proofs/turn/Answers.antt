@@ -12,14 +12,14 @@ use Rattle.seam_moves.proofs.Exchanging.{exchange_needed}
 use Rattle.seam_turn.specs.Axes.{turned}
 use Rattle.seam_turn.proofs.turn.Goals as goal
 
-pub returns-in-Served : goal.returns-in-Served
+pub returns-in_ok-judge_exchange-in-Vertical : goal.returns-in_ok-judge_exchange-in-Vertical
 unfolding turned
-returns-in-Served c =
+returns-in_ok-judge_exchange-in-Vertical c =
     let a = c.args in
     let z = a.size in
     let b = a.picture.now in
     -- no rule applies
-    let none : refusal (exchange_rules z (length b) (length a.to.now)) ≡ 0 = sym c.in-Served.ensures in
+    let none : refusal (exchange_rules z (length b) (length a.to.now)) ≡ 0 = sym c.in_ok-judge_exchange-in-Vertical.ensures in
     let long : length b ≡ picture_bytes z = (sized_is z (length b) (exchange_needed b z a.to.now none).sized).length_is in
     rw c.in-Vertical.is
     (record {
