@@ -1,3 +1,4 @@
 pub mod Closing
 pub mod Served
 pub mod Smallest
+pub mod Answered

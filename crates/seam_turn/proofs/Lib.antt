@@ -2,3 +2,4 @@ pub mod Turned
 pub mod Columns
 pub mod Served
 pub mod Smallest
+pub mod Answered
