@@ -1,7 +1,8 @@
 -- A space that is filled from the front: what was written, what is still to come, and after it what stood there.
 use mathlib.Core.Path.{◌≡◌, refl, sym, ap, ◌∙◌}
 use mathlib.Core.List.{List, [], ◌∷◌, ◌++◌, append-nil, append_assoc}
-use Prim.Native.Nat.{ℕ, suc, ◌+◌, ◌≤◌}
+use Prim.Native.Nat.{ℕ, suc, ◌+◌, ◌-◌, ◌≤◌}
+use borrow.Rule.Slice.PartMut.{put_mid}
 use native.Mathlib.Nat.{add-zero}
 use native.Mathlib.Omega.{arith}
 use lib.ListN.{length, take, drop, set, length-append, length-drop}
@@ -13,6 +14,12 @@ sets_append [] q out at = rw add-zero
 sets_append (a ∷ p) q out at =
     let z : at + suc (length p) ≡ suc at + length p = omega arith in
     rw z (sets_append p q (set out at a) (suc at))
+
+-- A part of the space in which n bytes were put.
+pub part-put : (at n : ℕ) (out p : List ℕ) → at + n ≤ length out → length p ≡ n → put_mid at (at + n - at) out p ≡ sets out at p
+part-put at n out p h e =
+    let k : at + n - at ≡ length p = omega (arith, e) in
+    rw (k, drop-drop (length p) at out) (sym (sets-eq p out at (omega (arith, e)) ∙ append_assoc (take at out) p (drop (at + length p) out)))
 
 -- `whole` goes into the space `before`; now the space is `out`, and from the place `at` on `rest` is still to come.
 pub record Filling (before whole out : List ℕ) (at : ℕ) (rest : List ℕ) : Type 0 where

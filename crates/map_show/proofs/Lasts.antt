@@ -1,46 +1,32 @@
--- The pixel of the last column, put alone or after its new pixel.
+-- The pixel of the last column, put after its new pixel.
 use mathlib.Core.Path.{◌≡◌, sym, ap, ◌∙◌}
-use mathlib.Core.Bool.{Bool, true, false}
+use mathlib.Core.Bool.{Bool, true}
 use mathlib.Core.List.{List, [], ◌++◌, append-nil}
 use Prim.Native.Nat.{ℕ, ◌+◌, ◌-◌, ◌*◌, ◌≤◌}
 use native.Mathlib.Nat.{mul-le-mul_right}
 use native.Mathlib.Omega.{arith}
-use lib.ListN.{length, drop, length-append, length-drop}
-use lib.Seq.{length-take-le, sets, length-sets}
+use lib.ListN.{length, length-append}
+use lib.Seq.{sets, length-sets}
 use Rattle.grids.specs.Rows.{row_at}
-use Rattle.pictures.specs.declared.sizes.Kind.{Kind}
-use Rattle.pictures.specs.Pictures.{channels_of}
 use Rattle.map_theory.specs.Widths.{average}
 use Rattle.map_show.specs.Inner.Rows.{last_pixels, LastNeeded}
-use Rattle.map_show.specs.Inner.Pixels.{PixelNeeded, MeanNeeded}
+use Rattle.map_show.specs.Inner.Pixels.{PixelNeeded}
 use Rattle.map_show.proofs.Filling.{sets_append}
+use Rattle.map_show.proofs.Places.{length_part}
 use Rattle.map_show.proofs.Samples.{length-average}
 
-module _ (k : Kind) (samples : List ℕ) (c : ℕ) (new : Bool) (out : List ℕ) (at : ℕ) (needed : LastNeeded k samples c new out at) where
-  abbrev ch : ℕ
-  ch = channels_of k
-
+module _ (ch : ℕ) (samples : List ℕ) (c : ℕ) (new : Bool) (out : List ℕ) (at : ℕ) (needed : LastNeeded ch samples c new out at) where
   abbrev pixel : ℕ → List ℕ
-  pixel i = row_at (channels_of k) i samples
+  pixel i = row_at ch i samples
 
   left_end : (c - 1) * ch + ch ≤ length samples
   left_end = let less : c - 1 ≤ c = omega arith in omega (arith, mul-le-mul_right ch less, needed.inside)
 
   length-pixel : (i : ℕ) → i * ch + ch ≤ length samples → length (pixel i) ≡ ch
-  length-pixel i h = length-take-le ch (drop (i * ch) samples) (omega (arith, length-drop (i * ch) samples))
+  length-pixel i h = length_part ch samples i h
 
   length-new : length (average (pixel c) (pixel (c - 1))) ≡ ch
   length-new = length-average ch (pixel c) (pixel (c - 1)) (length-pixel c needed.inside) (length-pixel (c - 1) left_end)
-
-  -- Alone.
-  module _ (is : new ≡ false) where
-    pub alone-needed : PixelNeeded (channels_of k) samples c out at
-    alone-needed =
-        let room : at + length (pixel c ++ []) ≤ length out = rw is at needed.room in
-        record { inside = needed.inside; room = omega (arith, length-append (pixel c) [], length-pixel c needed.inside) }
-
-    pub alone-put : {then : List ℕ} → then ≡ sets out at (pixel c) → then ≡ sets out at (last_pixels k samples c new)
-    alone-put e = e ∙ rw is (ap (sets out at) (sym (append-nil (pixel c))))
 
   -- Behind its new pixel.
   module _ (is : new ≡ true) {left : ℕ} (left_is : left ≡ c - 1) where
@@ -49,16 +35,13 @@ module _ (k : Kind) (samples : List ℕ) (c : ℕ) (new : Bool) (out : List ℕ)
         let r : at + length (average (pixel c) (pixel (c - 1)) ++ (pixel c ++ [])) ≤ length out = rw is at needed.room in
         omega (arith, length-append (average (pixel c) (pixel (c - 1))) (pixel c ++ []), length-append (pixel c) [], length-new, length-pixel c needed.inside)
 
-    pub mean-needed : MeanNeeded (channels_of k) samples c left out at
-    mean-needed = rw left_is (record { inside = needed.inside; beside = left_end; room = omega (arith, room) })
-
-    module _ {n : ℕ} (n-is : n ≡ channels_of k) {now : List ℕ} (now_is : now ≡ sets out at (average (pixel c) (pixel left))) where
-      pub pixel-needed : PixelNeeded (channels_of k) samples c now (at + n)
+    module _ {n : ℕ} (n-is : n ≡ ch) {now : List ℕ} (now_is : now ≡ sets out at (average (pixel c) (pixel left))) where
+      pub pixel-needed : PixelNeeded ch samples c now (at + n)
       pixel-needed =
           let same : length now ≡ length out = ap length now_is ∙ length-sets out at (average (pixel c) (pixel left)) in
           record { inside = needed.inside; room = omega (arith, room) }
 
-      pub both-put : {then : List ℕ} → then ≡ sets now (at + n) (pixel c) → then ≡ sets out at (last_pixels k samples c new)
+      pub both-put : {then : List ℕ} → then ≡ sets now (at + n) (pixel c) → then ≡ sets out at (last_pixels ch samples c new)
       both-put e =
           let mean = average (pixel c) (pixel (c - 1)) in
           let long : n ≡ length mean = n-is ∙ sym length-new in

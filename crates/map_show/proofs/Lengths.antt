@@ -1,5 +1,5 @@
 -- How many bytes a row shows at a width.
-use mathlib.Core.Path.{◌≡◌, ap, ◌∙◌}
+use mathlib.Core.Path.{◌≡◌, refl, ap, ◌∙◌}
 use mathlib.Core.Logic.{⊎_elim}
 use mathlib.Core.Bool.{Bool, true, false}
 use mathlib.Core.List.{List, [], ◌∷◌}
@@ -16,7 +16,7 @@ use Rattle.pictures.specs.Pictures.{channels_of}
 use Rattle.map_theory.specs.Widths.{doubled, keep_row, grow_from, grow_row, row_at_width, average}
 use Rattle.map_theory.proofs.Widths.{at_narrow, at_wide}
 use Rattle.map_show.specs.Showing.{row_shown, pixels_at}
-use Rattle.map_show.specs.Inner.Rows.{pixels_in, kept_pixels, grown}
+use Rattle.map_show.specs.Inner.Rows.{pixels_in, shown, kept_pixels, grown}
 use Rattle.map_show.proofs.Samples.{length-average}
 use Rattle.map_show.proofs.Counts.{pixels-shown}
 
@@ -55,20 +55,24 @@ module _ {A : Type 0} {P : A → Type 0} (mean : A → A → A) (closed : (x y :
       wide : m < v → Each P (length (row_at_width mean m v xs ys)) (row_at_width mean m v xs ys)
       wide h = rw (at_wide mean m v xs ys h) (each_grow (v - m) ys e)
 
--- A row's bytes.
-module _ (k : Kind) (samples ys : List ℕ) (v : ℕ) (whole : length samples ≡ length ys * channels_of k) where
-  pub length-shown : length (row_shown k samples ys v) ≡ pixels_at ys v * channels_of k
-  unfolding row_shown
+-- A row's bytes, for any number of channels.
+module _ (ch : ℕ) (samples ys : List ℕ) (v : ℕ) (whole : length samples ≡ length ys * ch) where
+  pub length-shown : length (shown ch samples ys v) ≡ pixels_at ys v * ch
+  unfolding shown
   length-shown =
-      let ch = channels_of k in
-      let xs = pixels_in k samples ys in
+      let xs = pixels_in ch samples ys in
       length-flat (each-shown {P = λ x. length x ≡ ch} average (λ x y p q. length-average ch x y p q) (length ys) v ys (grid-rows_of ch (length ys) samples (omega arith)))
       ∙ ap (◌* ch) (pixels-shown average xs ys v (length-rows_of ch (length ys) samples))
 
-pub narrow_is : (k : Kind) (samples ys : List ℕ) (v : ℕ) → v ≤ length ys → row_shown k samples ys v ≡ kept_pixels k samples ys (length ys - v)
-unfolding row_shown kept_pixels row_at_width
-narrow_is k samples ys v h = rw (le-leb v (length ys) h)
+pub narrow_is : (ch : ℕ) (samples ys : List ℕ) (v : ℕ) → v ≤ length ys → shown ch samples ys v ≡ kept_pixels ch samples ys (length ys - v)
+unfolding shown kept_pixels row_at_width
+narrow_is ch samples ys v h = rw (le-leb v (length ys) h)
 
-pub wide_is : (k : Kind) (samples ys : List ℕ) (v : ℕ) → length ys < v → row_shown k samples ys v ≡ grown k samples ys (v - length ys)
-unfolding row_shown grown row_at_width
-wide_is k samples ys v h = rw (lt-leb v (length ys) h)
+pub wide_is : (ch : ℕ) (samples ys : List ℕ) (v : ℕ) → length ys < v → shown ch samples ys v ≡ grown ch samples ys (v - length ys)
+unfolding shown grown row_at_width
+wide_is ch samples ys v h = rw (lt-leb v (length ys) h)
+
+-- And of a row of a kind.
+pub row_shown_is : (k : Kind) (samples ys : List ℕ) (v : ℕ) → row_shown k samples ys v ≡ shown (channels_of k) samples ys v
+unfolding row_shown shown
+row_shown_is k samples ys v = refl

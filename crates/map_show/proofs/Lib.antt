@@ -8,5 +8,4 @@ pub mod Keeps
 pub mod Grows
 pub mod Lasts
 pub mod Judging
-pub mod Pictures
 pub mod Smallest

@@ -1,8 +1,8 @@
 -- A row of a picture and its row of the map, shown at a width.
-use Rattle.std.specs.Prelude.{◌≡◌, not, cond, List, [], ◌∷◌, ◌++◌, ℕ, ◌+◌, ◌-◌, ◌*◌, eqb, leb, ltb, length, drop}
+use Rattle.std.specs.Prelude.{Result, ◌≡◌, not, cond, List, [], ◌∷◌, ◌++◌, ℕ, ◌+◌, ◌-◌, ◌*◌, eqb, leb, ltb, length, drop}
 use Rattle.grids.specs.Rows.{rows_of, flat}
 use Rattle.pictures.specs.declared.sizes.Kind.{Kind}
-use Rattle.pictures.specs.declared.refusals.Verdict.{Verdict}
+use Rattle.pictures.specs.declared.refusals.Refusal.{Refusal}
 use Rattle.pictures.specs.Refusals.{Rule, ◌when◌, given, refusal, served}
 use Rattle.pictures.specs.Pictures.{channels_of}
 use Rattle.map_theory.specs.Widths.{average, row_at_width}
@@ -23,7 +23,7 @@ row_at_rules k samples numbers v space =
     4 when not (eqb (length samples) (length numbers * channels_of k)) ∷ 8 when ltb space (length (row_shown k samples numbers v)) ∷ []
 
 -- What showing a row gives: the number, and the space, which keeps what stands after the row.
-pub record RowAtGiven (k : Kind) (samples numbers : List ℕ) (v : ℕ) (out : List ℕ) (answer : Verdict) (out' : List ℕ) : Type 0 where
+pub record RowAtGiven (k : Kind) (samples numbers : List ℕ) (v : ℕ) (out : List ℕ) (answer : Result (Unit {0}) Refusal) (out' : List ℕ) : Type 0 where
   pub number : given answer ≡ refusal (row_at_rules k samples numbers v (length out))
   pub out_given :
       out' ≡ served (given answer) (row_shown k samples numbers v ++ drop (length (row_shown k samples numbers v)) out) out

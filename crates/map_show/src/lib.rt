@@ -6,26 +6,27 @@ pub mod rows;
 
 ghost use Rattle.map_show.specs.Showing.{RowAtGiven};
 
-use pictures::{Kind, Refusal, Verdict};
+use pictures::{Kind, Refusal};
 pub use rows::pixels_at;
 
 // A row of pixels and its row of the map, shown at the wanted width, at the front of out. The row has as many pixels as the
 // map has numbers; it may be of any length, and any width may be wanted. Refused by 4 where the samples aren't as many as
 // the numbers say, and by 8 where out is shorter than what is shown.
-pub fn row_at(kind: Kind, samples: &[u8], numbers: &[u16], wanted: usize, out: &mut [u8]) -> Verdict
+pub fn row_at(
+    kind: Kind,
+    samples: &[u8],
+    numbers: &[u16],
+    wanted: usize,
+    out: &mut [u8],
+) -> Result<(), Refusal>
     ensures { RowAtGiven kind samples.now numbers.now wanted out.old result out.new }
 {
-    let width = numbers.len();
-    if !map_rules::has_pixels(kind, samples.len(), width) {
-        return Verdict::Refused(Refusal::Count);
+    if !map_rules::has_pixels(kind, samples.len(), numbers.len()) {
+        return Err(Refusal::Count);
     }
-    if !map_rules::holds_pixels(kind, out.len(), rows::pixels_at(numbers, wanted)) {
-        return Verdict::Refused(Refusal::Space);
+    if !map_rules::holds_pixels(kind, out.len(), pixels_at(numbers, wanted)) {
+        return Err(Refusal::Space);
     }
-    if wanted <= width {
-        rows::keep_row(kind, samples, numbers, width - wanted, out);
-        return Verdict::Served;
-    }
-    rows::grow_row(kind, samples, numbers, wanted - width, out);
-    Verdict::Served
+    rows::show(kind, samples, numbers, wanted, out);
+    Ok(())
 }

@@ -1,68 +1,54 @@
-// A pixel put into a row, as it is or as the mean of two. One function for each number of channels, with one contract: three
-// channels written out are much faster than a loop over them.
-ghost use Rattle.std.specs.Prelude.{◌≡◌};
+// A pixel put into a row, as it is or as the mean of two. One function for any number of channels, which is a constant to the
+// compiler: three channels written out are much faster than a loop over them.
+ghost use Rattle.std.specs.Prelude.{◌≡◌, ◌+◌, ◌*◌, ◌≤◌, length};
 ghost use Rattle.std.proofs.lemmas.List.Edits.{sets};
 ghost use Rattle.grids.specs.Rows.{row_at};
-ghost use Rattle.pictures.specs.Pictures.{channels_of};
 ghost use Rattle.map_theory.specs.Widths.{average};
-ghost use Rattle.map_show.specs.Inner.Pixels.{PixelNeeded, MeanNeeded};
+ghost use Rattle.map_show.specs.Inner.Pixels.{PixelNeeded, MeanNeeded, MeansNeeded};
 
 use map_rules::mean;
-use pictures::Kind;
+
+// The samples of pixel c of a row.
+fn pixel_at<const N: usize>(samples: &[u8], c: usize) -> &[u8]
+    requires { c * N + N ≤ length samples.now }
+    ensures { result.now ≡ row_at N c samples.now }
+{
+    let at = c * N;
+    &samples[at..at + N]
+}
 
 // The samples of pixel c, at the place.
-pub(crate) fn put_pixel(kind: Kind, samples: &[u8], c: usize, out: &mut [u8], at: usize)
-    requires { PixelNeeded (channels_of kind) samples.now c out.old at }
-    ensures { out.new ≡ sets out.old at (row_at (channels_of kind) c samples.now) }
+pub(crate) fn put_pixel<const N: usize>(samples: &[u8], c: usize, out: &mut [u8], at: usize)
+    requires { PixelNeeded N samples.now c out.old at }
+    ensures { out.new ≡ sets out.old at (row_at N c samples.now) }
 {
-    match kind {
-        Kind::Grey => grey_pixel(samples, c, out, at),
-        Kind::Rgb => rgb_pixel(samples, c, out, at),
-    }
-}
-
-fn grey_pixel(samples: &[u8], c: usize, out: &mut [u8], at: usize)
-    requires { PixelNeeded 1 samples.now c out.old at }
-    ensures { out.new ≡ sets out.old at (row_at 1 c samples.now) }
-{
-    out[at] = samples[c];
-}
-
-fn rgb_pixel(samples: &[u8], c: usize, out: &mut [u8], at: usize)
-    requires { PixelNeeded 3 samples.now c out.old at }
-    ensures { out.new ≡ sets out.old at (row_at 3 c samples.now) }
-{
-    let i = c * 3;
-    out[at] = samples[i];
-    out[at + 1] = samples[i + 1];
-    out[at + 2] = samples[i + 2];
+    out[at..at + N].copy_from_slice(pixel_at::<N>(samples, c));
 }
 
 // The mean of pixels c and d, at the place.
-pub(crate) fn put_mean(kind: Kind, samples: &[u8], c: usize, d: usize, out: &mut [u8], at: usize)
-    requires { MeanNeeded (channels_of kind) samples.now c d out.old at }
-    ensures { out.new ≡ sets out.old at (average (row_at (channels_of kind) c samples.now) (row_at (channels_of kind) d samples.now)) }
+pub(crate) fn put_mean<const N: usize>(
+    samples: &[u8],
+    c: usize,
+    d: usize,
+    out: &mut [u8],
+    at: usize,
+)
+    requires { MeanNeeded N samples.now c d out.old at }
+    ensures { out.new ≡ sets out.old at (average (row_at N c samples.now) (row_at N d samples.now)) }
 {
-    match kind {
-        Kind::Grey => grey_mean(samples, c, d, out, at),
-        Kind::Rgb => rgb_mean(samples, c, d, out, at),
+    put_means(
+        pixel_at::<N>(samples, c),
+        pixel_at::<N>(samples, d),
+        &mut out[at..at + N],
+    );
+}
+
+// The mean of each two samples of two pixels.
+fn put_means(a: &[u8], b: &[u8], out: &mut [u8])
+    requires { MeansNeeded a.now b.now out.old }
+    ensures { out.new ≡ average a.now b.now }
+{
+    for (i, sample) in out.iter_mut().enumerate() {
+        *sample = mean(a[i], b[i]);
     }
-}
-
-fn grey_mean(samples: &[u8], c: usize, d: usize, out: &mut [u8], at: usize)
-    requires { MeanNeeded 1 samples.now c d out.old at }
-    ensures { out.new ≡ sets out.old at (average (row_at 1 c samples.now) (row_at 1 d samples.now)) }
-{
-    out[at] = mean(samples[c], samples[d]);
-}
-
-fn rgb_mean(samples: &[u8], c: usize, d: usize, out: &mut [u8], at: usize)
-    requires { MeanNeeded 3 samples.now c d out.old at }
-    ensures { out.new ≡ sets out.old at (average (row_at 3 c samples.now) (row_at 3 d samples.now)) }
-{
-    let i = c * 3;
-    let j = d * 3;
-    out[at] = mean(samples[i], samples[j]);
-    out[at + 1] = mean(samples[i + 1], samples[j + 1]);
-    out[at + 2] = mean(samples[i + 2], samples[j + 2]);
 }

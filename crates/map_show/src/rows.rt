@@ -1,32 +1,23 @@
 // A row of pixels kept or grown by the numbers of its row of the map.
 ghost use Rattle.std.specs.Prelude.{◌≡◌, ◌++◌, length, drop};
 ghost use Rattle.std.proofs.lemmas.List.Edits.{sets};
+ghost use Rattle.pictures.specs.Pictures.{channels_of};
 ghost use Rattle.map_theory.specs.Judged.{doubled_in};
 ghost use Rattle.map_show.specs.Showing.{pixels_at};
-ghost use Rattle.map_show.specs.Inner.Rows.{kept_pixels, grown, last_pixels, RowNeeded, LastNeeded};
+ghost use Rattle.map_show.specs.Inner.Rows.{shown, kept_pixels, grown, last_pixels, RowNeeded, LastNeeded};
 
 use crate::pixels::{put_mean, put_pixel};
-use map_rules::{is_doubled, left_of, stays};
-use pictures::{Kind, channels};
-
-// A number of the map to count with.
-fn wide(number: u16) -> usize
-    ensures { result ≡ number }
-{
-    number as usize
-}
+use map_rules::{is_doubled, stays};
+use pictures::Kind;
 
 // How many of the numbers are 1 to u.
 fn doubled_in(u: usize, numbers: &[u16]) -> usize
     ensures { result ≡ doubled_in u numbers.now }
 {
-    let mut count = 0;
-    for c in 0..numbers.len() {
-        if is_doubled(u, wide(numbers[c])) {
-            count += 1;
-        }
-    }
-    count
+    numbers
+        .iter()
+        .filter(|number| is_doubled(u, **number as usize))
+        .count()
 }
 
 // How many pixels a row with these numbers shows at the wanted width.
@@ -41,60 +32,73 @@ pub fn pixels_at(numbers: &[u16], wanted: usize) -> usize
     }
 }
 
-// The pixels whose number is 0 or greater than t, put into the front of out.
-pub(crate) fn keep_row(kind: Kind, samples: &[u8], numbers: &[u16], t: usize, out: &mut [u8])
-    requires { RowNeeded kind samples.now numbers.now (kept_pixels kind samples.now numbers.now t) out.old }
-    ensures { out.new ≡ kept_pixels kind samples.now numbers.now t ++ drop (length (kept_pixels kind samples.now numbers.now t)) out.old }
+// What is shown of a row of this kind at the wanted width, put into the front of out.
+pub(crate) fn show(kind: Kind, samples: &[u8], numbers: &[u16], wanted: usize, out: &mut [u8])
+    requires { RowNeeded (channels_of kind) samples.now numbers.now (shown (channels_of kind) samples.now numbers.now wanted) out.old }
+    ensures { out.new ≡ shown (channels_of kind) samples.now numbers.now wanted ++ drop (length (shown (channels_of kind) samples.now numbers.now wanted)) out.old }
 {
-    let n = channels(kind);
+    match kind {
+        Kind::Grey => show_row::<1>(samples, numbers, wanted, out),
+        Kind::Rgb => show_row::<3>(samples, numbers, wanted, out),
+    }
+}
+
+fn show_row<const N: usize>(samples: &[u8], numbers: &[u16], wanted: usize, out: &mut [u8])
+    requires { RowNeeded N samples.now numbers.now (shown N samples.now numbers.now wanted) out.old }
+    ensures { out.new ≡ shown N samples.now numbers.now wanted ++ drop (length (shown N samples.now numbers.now wanted)) out.old }
+{
+    let width = numbers.len();
+    if wanted <= width {
+        keep_row::<N>(samples, numbers, width - wanted, out);
+    } else {
+        grow_row::<N>(samples, numbers, wanted - width, out);
+    }
+}
+
+// The pixels whose number is 0 or greater than t, put into the front of out.
+fn keep_row<const N: usize>(samples: &[u8], numbers: &[u16], t: usize, out: &mut [u8])
+    requires { RowNeeded N samples.now numbers.now (kept_pixels N samples.now numbers.now t) out.old }
+    ensures { out.new ≡ kept_pixels N samples.now numbers.now t ++ drop (length (kept_pixels N samples.now numbers.now t)) out.old }
+{
     let mut at = 0;
-    for c in 0..numbers.len() {
-        if stays(t, wide(numbers[c])) {
-            put_pixel(kind, samples, c, out, at);
-            at += n;
+    for (c, number) in numbers.iter().enumerate() {
+        if stays(t, *number as usize) {
+            put_pixel::<N>(samples, c, out, at);
+            at += N;
         }
     }
 }
 
 // All pixels, with a new one for each whose number is 1 to u, put into the front of out.
-pub(crate) fn grow_row(kind: Kind, samples: &[u8], numbers: &[u16], u: usize, out: &mut [u8])
-    requires { RowNeeded kind samples.now numbers.now (grown kind samples.now numbers.now u) out.old }
-    ensures { out.new ≡ grown kind samples.now numbers.now u ++ drop (length (grown kind samples.now numbers.now u)) out.old }
+fn grow_row<const N: usize>(samples: &[u8], numbers: &[u16], u: usize, out: &mut [u8])
+    requires { RowNeeded N samples.now numbers.now (grown N samples.now numbers.now u) out.old }
+    ensures { out.new ≡ grown N samples.now numbers.now u ++ drop (length (grown N samples.now numbers.now u)) out.old }
 {
-    if numbers.len() == 0 {
+    let Some((last, front)) = numbers.split_last() else {
         return;
-    }
-    let n = channels(kind);
-    let last = numbers.len() - 1;
+    };
     let mut at = 0;
-    for c in 0..last {
-        put_pixel(kind, samples, c, out, at);
-        at += n;
-        if is_doubled(u, wide(numbers[c])) {
-            put_mean(kind, samples, c, c + 1, out, at);
-            at += n;
+    for (c, number) in front.iter().enumerate() {
+        put_pixel::<N>(samples, c, out, at);
+        at += N;
+        if is_doubled(u, *number as usize) {
+            put_mean::<N>(samples, c, c + 1, out, at);
+            at += N;
         }
     }
-    put_last(
-        kind,
-        samples,
-        last,
-        is_doubled(u, wide(numbers[last])),
-        out,
-        at,
-    );
+    put_last::<N>(samples, front.len(), is_doubled(u, *last as usize), out, at);
 }
 
 // The pixel of the last column, with its new pixel to the left of it.
-fn put_last(kind: Kind, samples: &[u8], last: usize, new: bool, out: &mut [u8], at: usize)
-    requires { LastNeeded kind samples.now last new out.old at }
-    ensures { out.new ≡ sets out.old at (last_pixels kind samples.now last new) }
+fn put_last<const N: usize>(samples: &[u8], last: usize, new: bool, out: &mut [u8], at: usize)
+    requires { LastNeeded N samples.now last new out.old at }
+    ensures { out.new ≡ sets out.old at (last_pixels N samples.now last new) }
 {
     if new {
-        let next = at + channels(kind);
-        put_mean(kind, samples, last, left_of(last), out, at);
-        put_pixel(kind, samples, last, out, next);
+        let next = at + N;
+        put_mean::<N>(samples, last, last.saturating_sub(1), out, at);
+        put_pixel::<N>(samples, last, out, next);
     } else {
-        put_pixel(kind, samples, last, out, at);
+        put_pixel::<N>(samples, last, out, at);
     }
 }
