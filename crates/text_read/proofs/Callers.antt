@@ -1,6 +1,7 @@
 -- What a caller knows who meets the text of a head or of a line: the answer, the place after it, and the space.
 use mathlib.Core.Path.{◌≡◌, sym, ap, ◌∙◌}
 use mathlib.Core.Option.{some, none-ne-some, some-injective}
+use Rattle.std.specs.Prelude as code
 use mathlib.Core.List.{List, ◌∷◌, ◌++◌, append_assoc}
 use Prim.Native.Nat.{ℕ, ◌≤◌, ◌<◌}
 use lib.ListN.{length, drop}
@@ -16,11 +17,7 @@ use Rattle.text_theory.proofs.Pairs.{strip_back}
 use Rattle.text_theory.proofs.Decimals.{number_reads}
 use Rattle.text_theory.proofs.Files.{line_reads, pixel_reads, head_reads, clear-blank, clear-closing}
 use Rattle.text_read.specs.declared.cursor.Cursor.{Cursor}
-use Rattle.text_read.specs.declared.cursor.Read.{Read}
-use Rattle.text_read.specs.declared.cursor.Read.TheVariants as reads
-use Rattle.text_read.specs.declared.heads.HeadRead.{HeadRead}
-use Rattle.text_read.specs.declared.heads.HeadRead.TheVariants.{Begun, Unbegun}
-use Rattle.text_read.specs.Answers.{read_on, ahead, Told, counted, read, head_read}
+use Rattle.text_read.specs.Answers.{read_on, ahead, Told, counted, read}
 use Rattle.text_read.specs.Lines.{row_line, map_line, fitting, Taken}
 
 -- The text of a line gives its values, the text of a head the head, and what stands after is left.
@@ -46,15 +43,15 @@ unfolding each map_text
 maps-next row maps t = simp append_assoc
 
 -- A line was read: its values, the place after it, and the space.
-pub record LineMet (text : List ℕ) (at : ℕ) (values rest out : List ℕ) (r : Read) (out' : List ℕ) : Type 0 where
+pub record LineMet (text : List ℕ) (at : ℕ) (values rest out : List ℕ) (r : code.Option (ℕ × Cursor)) (out' : List ℕ) : Type 0 where
   pub place : Cursor
-  pub answer : r ≡ reads.Good (length values) place
+  pub answer : r ≡ code.Some (length values, place)
   pub left : drop place.at text ≡ rest
   pub moved : (at < place.at) × (place.at ≤ length text)
   pub space : out' ≡ values ++ drop (length values) out
 
 module _ {text : List ℕ} {at : ℕ} where
-  pub taken_line : {get : Get (List ℕ)} {values rest out : List ℕ} (r : Read) {out' : List ℕ}
+  pub taken_line : {get : Get (List ℕ)} {values rest out : List ℕ} (r : code.Option (ℕ × Cursor)) {out' : List ℕ}
       → Taken get text at out (read r) out' → get (drop at text) ≡ some (values, rest) → length values ≤ length out → LineMet text at values rest out r out'
   unfolding counted fitting
   taken_line {get} {values} {rest} {out} r {out'} T e h = go r (sym read-there ∙ T.told.same) T.told.moved
@@ -62,39 +59,39 @@ module _ {text : List ℕ} {at : ℕ} where
       read-there : counted (fitting (length out) get) (drop at text) ≡ some (length values, rest)
       read-there = rw (e, le-leb (length values) (length out) h)
 
-      go : (r : Read) → some (length values, rest) ≡ read_on text (read r) → ahead (length text) at (read r) → LineMet text at values rest out r out'
-      go reads.Broken f m = absurd (none-ne-some _ (sym f))
-      go (reads.Good n c) f m =
+      go : (r : code.Option (ℕ × Cursor)) → some (length values, rest) ≡ read_on text (read r) → ahead (length text) at (read r) → LineMet text at values rest out r out'
+      go code.None f m = absurd (none-ne-some _ (sym f))
+      go (code.Some (n, c)) f m =
           let q = some-injective (length values, rest) (n, drop c.at text) f in
           record {
             place = c;
-            answer = ap (λ (p : ℕ × List ℕ). reads.Good p.0 c) (sym q);
+            answer = ap (λ (p : ℕ × List ℕ). code.Some (p.0, c)) (sym q);
             left = ap (λ (p : ℕ × List ℕ). p.1) (sym q);
             moved = m;
             space = T.space ∙ rw (e, le-leb (length values) (length out) h);
           }
 
-  pub taken_row : (k : Kind) (row : List (List ℕ)) {rest out : List ℕ} (r : Read) {out' : List ℕ}
+  pub taken_row : (k : Kind) (row : List (List ℕ)) {rest out : List ℕ} (r : code.Option (ℕ × Cursor)) {out' : List ℕ}
       → Taken (row_line k) text at out (read r) out' → drop at text ≡ row_text k row ++ rest → All (Pixel k) row → length (flat row) ≤ length out
       → LineMet text at (flat row) rest out r out'
   taken_row k row {rest} r T e a h = taken_line r T (ap (row_line k) e ∙ row_line_lem k row rest a) h
 
-  pub taken_map : (row : List ℕ) {rest out : List ℕ} (r : Read) {out' : List ℕ}
+  pub taken_map : (row : List ℕ) {rest out : List ℕ} (r : code.Option (ℕ × Cursor)) {out' : List ℕ}
       → Taken map_line text at out (read r) out' → drop at text ≡ map_text row ++ rest → All (λ (a : ℕ). a ≤ largest_number) row → length row ≤ length out → LineMet text at row rest out r out'
   taken_map row {rest} r T e a h = taken_line r T (ap map_line e ∙ map_line_lem row rest a) h
 
 -- A head was read.
-pub record HeadMet (text : List ℕ) (at : ℕ) (h : Head) (rest : List ℕ) (r : HeadRead) : Type 0 where
+pub record HeadMet (text : List ℕ) (at : ℕ) (h : Head) (rest : List ℕ) (r : code.Option (Head × Cursor)) : Type 0 where
   pub place : Cursor
-  pub answer : r ≡ Begun h place
+  pub answer : r ≡ code.Some (h, place)
   pub left : drop place.at text ≡ rest
   pub moved : (at < place.at) × (place.at ≤ length text)
 
-pub told_head : {text : List ℕ} {at : ℕ} (h : Head) {rest : List ℕ} (r : HeadRead) → Told head_get text at (head_read r) → drop at text ≡ head_text h ++ rest → Numbers h → HeadMet text at h rest r
+pub told_head : {text : List ℕ} {at : ℕ} (h : Head) {rest : List ℕ} (r : code.Option (Head × Cursor)) → Told head_get text at (read r) → drop at text ≡ head_text h ++ rest → Numbers h → HeadMet text at h rest r
 told_head {text} {at} h {rest} r T e n = go r (sym (ap head_get e ∙ head_line h rest n) ∙ T.same) T.moved
   where
-    go : (r : HeadRead) → some (h, rest) ≡ read_on text (head_read r) → ahead (length text) at (head_read r) → HeadMet text at h rest r
-    go Unbegun f m = absurd (none-ne-some _ (sym f))
-    go (Begun g c) f m =
+    go : (r : code.Option (Head × Cursor)) → some (h, rest) ≡ read_on text (read r) → ahead (length text) at (read r) → HeadMet text at h rest r
+    go code.None f m = absurd (none-ne-some _ (sym f))
+    go (code.Some (g, c)) f m =
         let q = some-injective (h, rest) (g, drop c.at text) f in
-        record { place = c; answer = ap (λ (p : Head × List ℕ). Begun p.0 c) (sym q); left = ap (λ (p : Head × List ℕ). p.1) (sym q); moved = m }
+        record { place = c; answer = ap (λ (p : Head × List ℕ). code.Some (p.0, c)) (sym q); left = ap (λ (p : Head × List ℕ). p.1) (sym q); moved = m }

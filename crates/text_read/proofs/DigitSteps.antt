@@ -1,5 +1,5 @@
 -- The readers at a place of a text, one step at a time, in the code's terms.
-use mathlib.Core.Path.{◌≡◌, refl, ◌∙◌}
+use mathlib.Core.Path.{◌≡◌, refl, ap, ◌∙◌}
 use mathlib.Core.Bool.{Bool, true, false, cond, and-false}
 use mathlib.Core.Logic.{◌⊎◌, inl, inr}
 use mathlib.Core.Option.{none, some}
@@ -8,6 +8,9 @@ use Prim.Native.Nat.{ℕ, ◌+◌, ◌-◌, ◌*◌, ◌≤◌, ◌<◌}
 use native.Mathlib.Omega.{arith}
 use lib.Dec.{leb, ltb}
 use lib.ListN.{length, get_or, drop, drop_of_length-le}
+use lib.Seq.{take-length}
+use Rattle.std.specs.Prelude.{slice_range}
+use Rattle.std.proofs.lemmas.List.{length-drop, get_or-drop}
 use borrow.Author.Tests.{le-leb, lt-leb, ltb-true, ltb-false}
 use Rattle.pictures.specs.Numbers.{largest_number}
 use Rattle.text_theory.specs.Decimal.{is_digit, further, up_to, number_get}
@@ -20,6 +23,20 @@ pub no_digit : (b : ℕ) → (b < 48) ⊎ (58 ≤ b) → is_digit b ≡ false
 unfolding is_digit
 no_digit b (inl h) = rw (lt-leb 48 b h)
 no_digit b (inr h) = rw (lt-leb b 57 h) (and-false (leb 48 b))
+
+-- What follows a place.
+pub rest_of : (text : List ℕ) (at : ℕ) → slice_range text at (length text) ≡ drop at text
+rest_of text at = let l : length (drop at text) ≡ length text - at = length-drop at text in rw (← l) (take-length (drop at text))
+
+-- The bytes from a place on, one by one.
+module _ (text : List ℕ) (k : ℕ) {i at : ℕ} (e : at ≡ k + i) where
+  pub further_byte : i < length (slice_range text k (length text)) → (at < length text) × (get_or (slice_range text k (length text)) i 0 ≡ get_or text at 0)
+  further_byte h =
+      let l : length (slice_range text k (length text)) ≡ length text - k = ap length (rest_of text k) ∙ length-drop k text in
+      (omega arith, ap (λ (s : List ℕ). get_or s i 0) (rest_of text k) ∙ get_or-drop k text i 0 ∙ rw e refl)
+
+  pub further_end : k ≤ length text → length (slice_range text k (length text)) ≤ i → length text ≤ at
+  further_end m h = let l : length (slice_range text k (length text)) ≡ length text - k = ap length (rest_of text k) ∙ length-drop k text in omega arith
 
 further-more : (s : List ℕ) (n : ℕ) → n ≤ (further n s).0
 unfolding further

@@ -1,18 +1,23 @@
 -- Numbers one after the other, whatever stands between them, and the loop that writes them.
-use mathlib.Core.Path.{◌≡◌, refl, sym, ap, ◌∙◌}
-use mathlib.Core.Bool.{Bool, true, false}
+use mathlib.Core.Path.{◌≡◌, refl, sym, ◌∙◌}
+use mathlib.Core.Bool.{Bool, true, false, not, cond}
 use mathlib.Core.Option.{Option, none, some, none-ne-some, some-injective}
-use mathlib.Core.List.{List, [], ◌∷◌, ◌++◌, append-nil}
+use mathlib.Core.List.{List, [], ◌∷◌, ◌++◌, append-nil, map}
+use Rattle.std.specs.Prelude as code
+use Rattle.std.specs.Prelude.{nat_lt}
+use Rattle.std.specs.List.{position, position_or_len}
+use Rattle.std.specs.Char.{is_ascii_digit}
+use Rattle.std.proofs.lemmas.List.{drop-drop, map-append}
+use borrow.Author.Tests.{ltb-false}
 use Prim.Native.Nat.{ℕ, zero, suc, ◌+◌, ◌≤◌, ◌<◌}
-use native.Mathlib.Numerals.{add-one}
+use native.Mathlib.Numerals.{add-one, one-add}
 use native.Mathlib.Omega.{arith}
-use lib.ListN.{length, get_or, drop, set, drop_of_length-le, length-append, length-set}
-use lib.Seq.{drop-cons, set_at, append_snoc}
+use lib.ListN.{length, take, drop, set, drop_of_length-le, length-set}
+use lib.Seq.{take-suc-set, take-length, append_snoc}
 use Rattle.pictures.specs.Numbers.{largest_number}
 use Rattle.text_theory.specs.Decimal.{is_digit, number_get}
-use Rattle.text_theory.proofs.Pairs.{front}
-use Rattle.text_read.specs.Answers.{read_on, ahead, Told}
-use Rattle.text_read.specs.Inner.{skipped, figure, figures, Coming, after_figures, FiguresGiven}
+use Rattle.text_read.specs.Answers.{ahead, Told}
+use Rattle.text_read.specs.Inner.{skipped, figure, figures, Coming}
 
 skip_gap : (b : ℕ) (s : List ℕ) → is_digit b ≡ false → skipped (b ∷ s) ≡ skipped s
 unfolding skipped
@@ -36,56 +41,59 @@ figure-here (b ∷ s) r h = go (is_digit b) refl h
     go true e h = rw (skip_digit b s e) h
     go false e h = absurd (none-ne-some _ (rw e at h))
 
--- The state of the loop that looks for a digit.
-pub record Skipping (text : List ℕ) (from at : ℕ) : Type 0 where
-  pub same : skipped (drop from text) ≡ skipped (drop at text)
-  pub there : from ≤ at
+-- What is skipped, by the place of the first digit.
+skip_by : (s : List ℕ) → skipped s ≡ drop (position_or_len is_ascii_digit s) s
+unfolding skipped is_digit
+skip_by [] = refl
+skip_by (b ∷ s) = go (is_digit b) (skip_by s)
+  where
+    go : (x : Bool) → skipped s ≡ drop (position_or_len is_ascii_digit s) s
+        → cond x (b ∷ s) (skipped s) ≡ drop (cond (not x) (1 + position_or_len is_ascii_digit s) 0) (b ∷ s)
+    go true k = refl
+    go false k = k ∙ rw one-add refl
 
-module _ {text : List ℕ} {from : ℕ} where
-  pub skipping_first : Skipping text from from
-  skipping_first = record { same = refl; there = omega arith }
+module _ {text : List ℕ} {at : ℕ} where
+  pub figure_past : length text ≤ at → Told figure text at none
+  unfolding figure number_get skipped
+  figure_past h = record { same = rw (drop_of_length-le text h); moved = tt }
 
-  module _ {at : ℕ} (S : Skipping text from at) where
-    pub skipping-next : at < length text → is_digit (get_or text at 0) ≡ false → Skipping text from (at + 1)
-    skipping-next h d = record { same = S.same ∙ rw (front text at h, skip_gap (get_or text at 0) (drop (at + 1) text) d); there = omega (arith, S.there) }
+  pub figure_none : code.None ≡ position is_ascii_digit (drop at text) → Told figure text at none
+  unfolding figure number_get
+  figure_none h = go (nat_lt (position_or_len is_ascii_digit (drop at text)) (length (drop at text))) refl h
+    where
+      go : (x : Bool) → nat_lt (position_or_len is_ascii_digit (drop at text)) (length (drop at text)) ≡ x
+          → code.None ≡ cond x (code.Some (position_or_len is_ascii_digit (drop at text))) code.None → Told figure text at none
+      go true e h = absurd cc
+      go false e h = record { same = rw (skip_by (drop at text), drop_of_length-le (drop at text) (ltb-false _ _ e)); moved = tt }
 
-    pub skipping-found : {r : Option (ℕ × ℕ)} → at < length text → is_digit (get_or text at 0) ≡ true → Told (number_get largest_number) text at r → Told figure text from r
-    unfolding figure
-    skipping-found {r} h d t = record { same = same; moved = further r t.moved }
-      where
-        same : figure (drop from text) ≡ read_on text r
-        same = rw (S.same, front text at h, skip_digit (get_or text at 0) (drop (at + 1) text) d, ← front text at h) t.same
+  pub figure_at : {i : ℕ} {found : Option (ℕ × ℕ)} → code.Some i ≡ position is_ascii_digit (drop at text) → Told (number_get largest_number) text (at + i) found → Told figure text at found
+  unfolding figure
+  figure_at {i} {found} h t = record { same = rw (skip_by (drop at text), ← is (nat_lt (position_or_len is_ascii_digit (drop at text)) (length (drop at text))) h, drop-drop i at text) t.same; moved = further found t.moved }
+    where
+      is : (x : Bool) → code.Some i ≡ cond x (code.Some (position_or_len is_ascii_digit (drop at text))) code.None → i ≡ position_or_len is_ascii_digit (drop at text)
+      is true h = cc
+      is false h = absurd cc
 
-        further : (r : Option (ℕ × ℕ)) → ahead (length text) at r → ahead (length text) from r
-        further none m = tt
-        further (some q) m = (omega (arith, S.there, m.0), m.1)
+      further : (r : Option (ℕ × ℕ)) → ahead (length text) (at + i) r → ahead (length text) at r
+      further none m = tt
+      further (some q) m = (omega (arith, m.0), m.1)
 
-    pub skipping-end : length text ≤ at → Told figure text from none
-    unfolding figure number_get skipped
-    skipping-end h = record { same = rw (S.same, drop_of_length-le text h); moved = tt }
-
--- The state of the loop that writes: i numbers were written, and as many are to come as make n.
-pub record Writing (limit n : ℕ) (text : List ℕ) (from : ℕ) (out₀ : List ℕ) (i at : ℕ) (out : List ℕ) : Type 0 where
+-- The state of the loop that writes: i numbers were written, and as many are to come as there is room.
+pub record Filling {T : Type 0} (value : T → ℕ) (limit : ℕ) (text : List ℕ) (from i at : ℕ) (out : List T) : Type 0 where
   pub left : ℕ
-  pub sum : i + left ≡ n
+  pub sum : i + left ≡ length out
   pub coming : Coming limit left (drop at text)
-  pub done : List ℕ
-  pub count : length done ≡ i
-  pub all : figures n (drop from text) ≡ done ++ figures left (drop at text)
-  pub rest : after_figures n (drop from text) ≡ after_figures left (drop at text)
-  pub same : out ≡ done ++ drop i out₀
-  pub size : length out ≡ length out₀
-  pub room : n ≤ length out₀
+  pub all : figures (length out) (drop from text) ≡ map value (take i out) ++ figures left (drop at text)
 
-module _ {limit n : ℕ} {text : List ℕ} {from : ℕ} {out₀ : List ℕ} where
-  pub writing_first : Coming limit n (drop from text) → n ≤ length out₀ → Writing limit n text from out₀ 0 from out₀
-  writing_first h r = record { left = n; sum = omega arith; coming = h; done = []; count = refl; all = refl; rest = refl; same = refl; size = refl; room = r }
+module _ {T : Type 0} {value : T → ℕ} {limit : ℕ} {text : List ℕ} {from : ℕ} where
+  pub filling_first : (out : List T) → Coming limit (length out) (drop from text) → Filling value limit text from 0 from out
+  filling_first out h = record { left = length out; sum = omega arith; coming = h; all = refl }
 
-  module _ {i at : ℕ} {out : List ℕ} (W : Writing limit n text from out₀ i at out) (l : i < n) where
-    pub writing-some : Told figure text at none → ⊥
-    writing-some t = go W.left W.sum W.coming
+  module _ {i at : ℕ} {out : List T} (F : Filling value limit text from i at out) (l : i < length out) where
+    pub filling_some : Told figure text at none → ⊥
+    filling_some t = go F.left F.sum F.coming
       where
-        go : (m : ℕ) → i + m ≡ n → Coming limit m (drop at text) → ⊥
+        go : (m : ℕ) → i + m ≡ length out → Coming limit m (drop at text) → ⊥
         go zero e k = omega arith
         go (suc m) e k = none-ne-some _ (sym t.same ∙ k.1)
 
@@ -93,44 +101,31 @@ module _ {limit n : ℕ} {text : List ℕ} {from : ℕ} {out₀ : List ℕ} wher
       same-pair : (r : ℕ × List ℕ) → figure (drop at text) ≡ some r → r ≡ (v, drop c text)
       same-pair r e = some-injective r (v, drop c text) (sym e ∙ t.same)
 
-      pub writing-small : v ≤ limit
-      writing-small = go W.left W.sum W.coming
+      pub filling_small : v ≤ limit
+      filling_small = go F.left F.sum F.coming
         where
-          go : (m : ℕ) → i + m ≡ n → Coming limit m (drop at text) → v ≤ limit
+          go : (m : ℕ) → i + m ≡ length out → Coming limit m (drop at text) → v ≤ limit
           go zero e k = absurd (omega arith)
           go (suc m) e k = rw (same-pair k.0 k.1) at k.2
 
-      pub writing-next : Writing limit n text from out₀ (i + 1) c (set out i v)
-      unfolding figures after_figures
-      writing-next = go W.left W.sum W.coming W.all W.rest
+      pub filling_next : (x : T) → value x ≡ v → Filling value limit text from (i + 1) c (set out i x)
+      unfolding figures
+      filling_next x is = go F.left F.sum F.coming F.all
         where
-          stored : set (W.done ++ drop i out₀) i v ≡ (W.done ++ (v ∷ [])) ++ drop (i + 1) out₀
-          stored =
-              rw add-one (ap (λ (r : List ℕ). set (W.done ++ r) i v) (drop-cons out₀ i 0 (omega (arith, W.room)))
-              ∙ set_at W.done (get_or out₀ i 0) (drop (suc i) out₀) v i W.count
-              ∙ sym (append_snoc W.done v (drop (suc i) out₀)))
-
-          go : (m : ℕ) → i + m ≡ n → Coming limit m (drop at text) → figures n (drop from text) ≡ W.done ++ figures m (drop at text)
-              → after_figures n (drop from text) ≡ after_figures m (drop at text) → Writing limit n text from out₀ (i + 1) c (set out i v)
-          go zero e k a b = absurd (omega arith)
-          go (suc m) e k a b = record {
+          go : (m : ℕ) → i + m ≡ length out → Coming limit m (drop at text) → figures (length out) (drop from text) ≡ map value (take i out) ++ figures m (drop at text)
+              → Filling value limit text from (i + 1) c (set out i x)
+          go zero e k a = absurd (omega arith)
+          go (suc m) e k a = record {
             left = m;
-            sum = omega arith;
+            sum = rw length-set (omega arith);
             coming = rw (same-pair k.0 k.1) at k.3;
-            done = W.done ++ (v ∷ []);
-            count = rw length-append (omega (arith, W.count));
-            all = a ∙ rw t.same (sym (append_snoc W.done v (figures m (drop c text))));
-            rest = b ∙ rw t.same;
-            same = rw W.same stored;
-            size = rw length-set W.size;
-            room = W.room;
+            all = rw (length-set, add-one, take-suc-set, map-append) (a ∙ rw (t.same, is) (sym (append_snoc (map value (take i out)) v (figures m (drop c text)))));
           }
 
-  pub writing_end : {i at : ℕ} {out : List ℕ} → Writing limit n text from out₀ i at out → n ≤ i → FiguresGiven n text from out₀ at out
-  unfolding figures after_figures
-  writing_end {i} {at} {out} W h = go W.left W.sum W.all W.rest
+  pub filling_end : {i at : ℕ} {out : List T} → Filling value limit text from i at out → length out ≤ i → map value out ≡ figures (length out) (drop from text)
+  unfolding figures
+  filling_end {i} {at} {out} F h = go F.left F.sum F.all
     where
-      go : (m : ℕ) → i + m ≡ n → figures n (drop from text) ≡ W.done ++ figures m (drop at text) → after_figures n (drop from text) ≡ after_figures m (drop at text)
-          → FiguresGiven n text from out₀ at out
-      go zero e a b = let z : i ≡ n = omega arith in record { space = W.same ∙ rw (a, append-nil, z); left = sym b }
-      go (suc m) e a b = absurd (omega arith)
+      go : (m : ℕ) → i + m ≡ length out → figures (length out) (drop from text) ≡ map value (take i out) ++ figures m (drop at text) → map value out ≡ figures (length out) (drop from text)
+      go zero e a = let z : i ≡ length out = omega arith in sym (a ∙ rw (append-nil, z, take-length))
+      go (suc m) e a = absurd (omega arith)

@@ -17,6 +17,8 @@ use Rattle.text_theory.specs.Files.{blank, opening, closing, items, three, pixel
 use Rattle.text_rules.specs.declared.Items.{Items}
 use Rattle.text_rules.specs.declared.Items.TheVariants.{Samples, Pixels, Numbers}
 use Rattle.text_read.specs.Answers.{Told, counted, item_of, form_of}
+use Rattle.text_read.specs.Inner.{passing}
+use Rattle.text_read.proofs.Onward.{passing-some, passing-none}
 use Rattle.text_theory.proofs.Pairs.{front, Reads, short}
 use Rattle.text_theory.proofs.Many.{many-next}
 use Rattle.text_theory.proofs.Decimals.{number_reads}
@@ -134,34 +136,41 @@ pixel-step t = go (number_get 255 t)
     go none = refl
     go (some r) = more r.0 (items (number_get 255) r.1)
 
-pixel-nil : item_of Pixels [] ≡ none
-unfolding item_of counted pixel_get opening strip
-pixel-nil = refl
+abbrev from_sample : Get ℕ
+from_sample = number_get 255 ▷ λ a. form_of Samples ▷ λ n. cond (eqb n 2) (give 3) (λ s. none)
 
-pixel-other : (b : ℕ) (t : List ℕ) → (b ≡ 40 → ⊥) → item_of Pixels (b ∷ t) ≡ none
+pixel_is : (s : List ℕ) → item_of Pixels s ≡ after opening from_sample s
 unfolding item_of counted pixel_get opening strip
-pixel-other b t p = rw (ne_eqb 40 b (λ e. p (sym e)))
+pixel_is [] = refl
+pixel_is (b ∷ t) = go (eqb 40 b) refl
+  where
+    go : (x : Bool) → eqb 40 b ≡ x → item_of Pixels (b ∷ t) ≡ onward (cond x (some t) none) from_sample
+    go true e = rw (← eqb-true 40 b e) (pixel-step t)
+    go false e = rw e
 
 module _ {text : List ℕ} {at : ℕ} where
-  pub item_end : length text ≤ at → Told (item_of Pixels) text at none
-  item_end h = record { same = rw (drop_of_length-le text h, pixel-nil); moved = tt }
+  pub item_none : Told (passing opening) text at none → Told (item_of Pixels) text at none
+  item_none t = record { same = rw (pixel_is, passing-none opening (drop at text) t.same); moved = tt }
 
-  pub item_other : at < length text → (get_or text at 0 ≡ 40 → ⊥) → Told (item_of Pixels) text at none
-  item_other h p = record { same = rw (front text at h, pixel-other (get_or text at 0) (drop (at + 1) text) p); moved = tt }
+  module _ {u a : ℕ} (o : Told (passing opening) text at (some (u, a))) where
+    bracket : (s : List ℕ) → strip opening s ≡ some (drop a text) → item_of Pixels s ≡ from_sample (drop a text)
+    bracket s e = pixel_is s ∙ rw e
 
-  module _ (h : at < length text) (e : get_or text at 0 ≡ 40) where
-    pub item-first : Told (number_get 255) text (at + 1) none → Told (item_of Pixels) text at none
-    item-first t = record { same = rw (front text at h, e, pixel-step, t.same); moved = tt }
+    open_at : item_of Pixels (drop at text) ≡ from_sample (drop a text)
+    open_at = bracket (drop at text) (passing-some opening (drop at text) u (drop a text) o.same)
 
-    module _ {v : ℕ} {c : ℕ} (t : Told (number_get 255) text (at + 1) (some (v, c))) where
-      pub item-rest : Told (form_of Samples) text (c) none → Told (item_of Pixels) text at none
-      item-rest f = record { same = rw (front text at h, e, pixel-step, t.same, f.same); moved = tt }
+    pub item_no_sample : Told (number_get 255) text a none → Told (item_of Pixels) text at none
+    item_no_sample t = record { same = open_at ∙ rw t.same; moved = tt }
 
-      pub item-three : {n : ℕ} {d : ℕ} → Told (form_of Samples) text (c) (some (n, d)) → n ≡ 2 → Told (item_of Pixels) text at (some (3, d))
-      item-three f p = record { same = rw (front text at h, e, pixel-step, t.same, f.same, p); moved = (omega (arith, t.moved.0, f.moved.0), f.moved.1) }
+    module _ {v b : ℕ} (t : Told (number_get 255) text a (some (v, b))) where
+      pub item_no_form : Told (form_of Samples) text b none → Told (item_of Pixels) text at none
+      item_no_form f = record { same = open_at ∙ rw (t.same, f.same); moved = tt }
 
-      pub item_count : {n : ℕ} {d : ℕ} → Told (form_of Samples) text (c) (some (n, d)) → (n ≡ 2 → ⊥) → Told (item_of Pixels) text at none
-      item_count {n} f p = record { same = rw (front text at h, e, pixel-step, t.same, f.same, ne_eqb n 2 p); moved = tt }
+      pub item_three : {n d : ℕ} → Told (form_of Samples) text b (some (n, d)) → n ≡ 2 → Told (item_of Pixels) text at (some (3, d))
+      item_three f p = record { same = open_at ∙ rw (t.same, f.same, p); moved = (omega (arith, o.moved.0, t.moved.0, f.moved.0), f.moved.1) }
+
+      pub item_count : {n d : ℕ} → Told (form_of Samples) text b (some (n, d)) → (n ≡ 2 → ⊥) → Told (item_of Pixels) text at none
+      item_count {n} f p = record { same = open_at ∙ rw (t.same, f.same, ne_eqb n 2 p); moved = tt }
 
 pub item_samples : {text : List ℕ} {at : ℕ} {r : Option (ℕ × ℕ)} → Told (number_get 255) text at r → Told (item_of Samples) text at r
 unfolding item_of

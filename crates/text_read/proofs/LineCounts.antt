@@ -63,6 +63,6 @@ unfolding line_rest form_of counted
 rest-map s = sym (count-line (number_get largest_number) s)
 
 pub rest-row : (k : Kind) (s : List ℕ) → line_rest (items_of k) s ≡ on (line (pixel_get k) s) (λ xs. give (length xs))
-unfolding line_rest form_of counted items_of pixel_get
+unfolding line_rest form_of counted pixel_get
 rest-row Grey s = rw (← count_map (λ a. a ∷ []) (number_get 255) s) (sym (count-line _ s))
 rest-row Rgb s = sym (count-line _ s)

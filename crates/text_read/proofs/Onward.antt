@@ -3,6 +3,8 @@ use mathlib.Core.Path.{◌≡◌, refl, sym, ap, ◌∙◌}
 use mathlib.Core.Bool.{Bool, true, false, cond}
 use mathlib.Core.Option.{Option, none, some, none-ne-some, some-injective}
 use mathlib.Core.List.{List, [], ◌∷◌, ◌++◌}
+use Rattle.std.specs.Prelude as code
+use Rattle.std.specs.Bool.{then_some}
 use Prim.Native.Nat.{ℕ, ◌≤◌, ◌<◌}
 use native.Mathlib.Omega.{arith}
 use lib.Dec.{eqb}
@@ -13,7 +15,8 @@ use Rattle.text_theory.specs.Readers.{Get, give, on, ◌▷◌, strip, onward, a
 use Rattle.text_theory.specs.Words.{name_text, named}
 use Rattle.text_theory.specs.Files.{opening, closing, line_end, closed, begun, first_text}
 use Rattle.text_theory.proofs.Names.{named_is}
-use Rattle.text_read.specs.Answers.{Told, beginning}
+use Rattle.text_read.specs.declared.cursor.Cursor.{Cursor}
+use Rattle.text_read.specs.Answers.{Told, read, passed, beginning}
 use Rattle.text_read.specs.Inner.{passing}
 use Rattle.text_read.proofs.ByteClasses.{told_as}
 
@@ -30,6 +33,25 @@ passing-none w s h = go (strip w s) h
     go : (o : Option (List ℕ)) → onward {A = ℕ} o (give 0) ≡ none → o ≡ none
     go none h = refl
     go (some u) h = absurd (none-ne-some _ (sym h))
+
+-- What code answers, told: nothing, and a value where a test holds.
+module _ {A : Type 0} {get : Get A} {text : List ℕ} {at : ℕ} where
+  pub refused : {r : code.Option (A × Cursor)} → r ≡ code.None → Told get text at none → Told get text at (read r)
+  refused e t = rw e t
+
+  pub when : (b : Bool) {v : A × Cursor} {r : code.Option (A × Cursor)} → r ≡ then_some b v
+      → (b ≡ true → Told get text at (some (v.0, v.1.at))) → (b ≡ false → Told get text at none) → Told get text at (read r)
+  when true e t f = rw e (t refl)
+  when false e t f = rw e (f refl)
+
+module _ {get : Get ℕ} {text : List ℕ} {at : ℕ} where
+  pub refused_past : {r : code.Option Cursor} → r ≡ code.None → Told get text at none → Told get text at (passed r)
+  refused_past e t = rw e t
+
+  pub when_past : (b : Bool) {c : Cursor} {r : code.Option Cursor} → r ≡ then_some b c
+      → (b ≡ true → Told get text at (some (0, c.at))) → (b ≡ false → Told get text at none) → Told get text at (passed r)
+  when_past true e t f = rw e (t refl)
+  when_past false e t f = rw e (f refl)
 
 -- From `from` on, `whole` reads what `rest` reads from `at` on.
 pub record Left {B : Type 0} (whole : Get B) (text : List ℕ) (from : ℕ) (rest : Get B) (at : ℕ) : Type 0 where

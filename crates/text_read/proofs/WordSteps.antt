@@ -18,11 +18,10 @@ use Rattle.text_theory.specs.Readers.{give, on, strip, after, either}
 use Rattle.text_theory.specs.Decimal.{is_digit, further, up_to, number_get}
 use Rattle.text_theory.specs.Words.{name_text, name_number, all_names, name_at, one_of, name_get, named, kind_named, kind_get}
 use Rattle.text_theory.proofs.Pairs.{front}
-use Rattle.text_theory.proofs.Names.{name_sound}
-use Rattle.text_read.specs.declared.cursor.Cursor.{Cursor}
+use Rattle.text_theory.proofs.Names.{name_sound, number_same}
 use Rattle.text_read.specs.declared.words.Word.{Word}
 use Rattle.text_read.specs.declared.words.Word.TheVariants as words
-use Rattle.text_read.specs.Answers.{Told, is_letter, Written, numeral, name, word, word_read}
+use Rattle.text_read.specs.Answers.{Told, is_letter, word}
 use Rattle.text_read.specs.Inner.{passing}
 use Rattle.text_read.proofs.ByteClasses.{digit_letter}
 use Rattle.text_read.proofs.Letters.{no_letter_first}
@@ -80,42 +79,42 @@ number_limit limit l (b ∷ s) = go (is_digit b) (eqb b 48)
     go false y = refl
 
 -- What a word is: what it is as a number and as a name.
-abbrev either-word : Option (ℕ × List ℕ) → Option (Name × List ℕ) → Option (Written × List ℕ)
-either-word o k = either (on o (λ n. give (numeral n))) (on k (λ k. give (name k)))
+abbrev either-word : Option (ℕ × List ℕ) → Option (Name × List ℕ) → Option (Word × List ℕ)
+either-word o k = either (on o (λ n. give (words.Number n))) (on k (λ k. give (words.Name k)))
 
-abbrev tag : Written → ℕ
-tag (numeral n) = 0
-tag (name k) = 1
+abbrev tag : Word → ℕ
+tag (words.Number n) = 0
+tag (words.Name k) = 1
 
-abbrev number_in : Written → ℕ
-number_in (numeral n) = n
-number_in (name k) = 0
+abbrev number_in : Word → ℕ
+number_in (words.Number n) = n
+number_in (words.Name k) = 0
 
-abbrev name_in : Written → Name
-name_in (numeral n) = names.Multi
-name_in (name k) = k
+abbrev name_in : Word → Name
+name_in (words.Number n) = names.Multi
+name_in (words.Name k) = k
 
-same_tag : (v w : Written) (s t : List ℕ) → ◌≡◌ {A = Option (Written × List ℕ)} (some (v, s)) (some (w, t)) → tag v ≡ tag w
-same_tag v w s t h = ap (λ (r : Written × List ℕ). tag r.0) (some-injective (v, s) (w, t) h)
+same_tag : (v w : Word) (s t : List ℕ) → ◌≡◌ {A = Option (Word × List ℕ)} (some (v, s)) (some (w, t)) → tag v ≡ tag w
+same_tag v w s t h = ap (λ (r : Word × List ℕ). tag r.0) (some-injective (v, s) (w, t) h)
 
 module _ (s : List ℕ) where
-  word_numeral : (n : ℕ) (t : List ℕ) → word s ≡ some (numeral n, t) → number_get largest_number s ≡ some (n, t)
+  word_numeral : (n : ℕ) (t : List ℕ) → word s ≡ some (words.Number n, t) → number_get largest_number s ≡ some (n, t)
   unfolding word
   word_numeral n t h = go (number_get largest_number s) (name_get s) h
     where
-      go : (o : Option (ℕ × List ℕ)) (k : Option (Name × List ℕ)) → either-word o k ≡ some (numeral n, t) → o ≡ some (n, t)
+      go : (o : Option (ℕ × List ℕ)) (k : Option (Name × List ℕ)) → either-word o k ≡ some (words.Number n, t) → o ≡ some (n, t)
       go none none h = absurd (none-ne-some _ h)
-      go none (some q) h = absurd (let z = same_tag (name q.0) (numeral n) q.1 t h in omega arith)
-      go (some r) k h = ap (λ (q : Written × List ℕ). some (number_in q.0, q.1)) (some-injective (numeral r.0, r.1) (numeral n, t) h)
+      go none (some q) h = absurd (let z = same_tag (words.Name q.0) (words.Number n) q.1 t h in omega arith)
+      go (some r) k h = ap (λ (q : Word × List ℕ). some (number_in q.0, q.1)) (some-injective (words.Number r.0, r.1) (words.Number n, t) h)
 
-  word_name : (k : Name) (t : List ℕ) → word s ≡ some (name k, t) → (number_get largest_number s ≡ none) × (name_get s ≡ some (k, t))
+  word_name : (k : Name) (t : List ℕ) → word s ≡ some (words.Name k, t) → (number_get largest_number s ≡ none) × (name_get s ≡ some (k, t))
   unfolding word
   word_name k t h = go (number_get largest_number s) (name_get s) h
     where
-      go : (o : Option (ℕ × List ℕ)) (p : Option (Name × List ℕ)) → either-word o p ≡ some (name k, t) → (o ≡ none) × (p ≡ some (k, t))
+      go : (o : Option (ℕ × List ℕ)) (p : Option (Name × List ℕ)) → either-word o p ≡ some (words.Name k, t) → (o ≡ none) × (p ≡ some (k, t))
       go none none h = absurd (none-ne-some _ h)
-      go none (some q) h = (refl, ap (λ (q : Written × List ℕ). some (name_in q.0, q.1)) (some-injective (name q.0, q.1) (name k, t) h))
-      go (some r) p h = absurd (let z = same_tag (numeral r.0) (name k) r.1 t h in omega arith)
+      go none (some q) h = (refl, ap (λ (q : Word × List ℕ). some (name_in q.0, q.1)) (some-injective (words.Name q.0, q.1) (words.Name k, t) h))
+      go (some r) p h = absurd (let z = same_tag (words.Number r.0) (words.Name k) r.1 t h in omega arith)
 
   word_none : word s ≡ none → (number_get largest_number s ≡ none) × (name_get s ≡ none)
   unfolding word
@@ -131,7 +130,7 @@ module _ {text : List ℕ} {at : ℕ} where
   unfolding word
   told_word-end h = record { same = rw (drop_of_length-le text h, number-nil, name_nil); moved = tt }
 
-  pub told_word_number : {n c : ℕ} → Told (number_get largest_number) text at (some (n, c)) → Told word text at (some (numeral n, c))
+  pub told_word_number : {n c : ℕ} → Told (number_get largest_number) text at (some (n, c)) → Told word text at (some (words.Number n, c))
   unfolding word
   told_word_number t = record { same = rw t.same; moved = t.moved }
 
@@ -140,7 +139,7 @@ module _ {text : List ℕ} {at : ℕ} where
     unfolding word
     told-word-no-number d t = record { same = rw (t.same, front text at h, name_digit (get_or text at 0) (drop (at + 1) text) d); moved = tt }
 
-    pub told-word-name : {k : Name} {c : ℕ} → is_digit (get_or text at 0) ≡ false → Told name_get text at (some (k, c)) → Told word text at (some (name k, c))
+    pub told-word-name : {k : Name} {c : ℕ} → is_digit (get_or text at 0) ≡ false → Told name_get text at (some (k, c)) → Told word text at (some (words.Name k, c))
     unfolding word
     told-word-name d t =
         let n = number-other largest_number (get_or text at 0) (drop (at + 1) text) d in
@@ -156,26 +155,33 @@ module _ {text : List ℕ} {at : ℕ} where
     told-word-other d l = told-word-no-name d (record { same = rw (front text at h, name_other (get_or text at 0) (drop (at + 1) text) l); moved = tt })
 
   module _ (limit : ℕ) (l : limit ≤ largest_number) where
-    pub told_number : {n c : ℕ} → Told word text at (some (numeral n, c)) → n ≤ limit → Told (number_get limit) text at (some (n, c))
+    pub told_number : {n c : ℕ} → Told word text at (some (words.Number n, c)) → n ≤ limit → Told (number_get limit) text at (some (n, c))
     told_number {n} {c} t h = record { same = rw (number_limit limit l (drop at text), word_numeral (drop at text) n (drop c text) t.same, le-ltb limit n h); moved = t.moved }
 
-    pub told-number-over : {n c : ℕ} → Told word text at (some (numeral n, c)) → limit < n → Told (number_get limit) text at none
+    pub told-number-over : {n c : ℕ} → Told word text at (some (words.Number n, c)) → limit < n → Told (number_get limit) text at none
     told-number-over {n} {c} t h = record { same = rw (number_limit limit l (drop at text), word_numeral (drop at text) n (drop c text) t.same, lt-ltb limit n h); moved = tt }
 
-    pub told-number-name : {k : Name} {c : ℕ} → Told word text at (some (name k, c)) → Told (number_get limit) text at none
+    pub told-number-name : {k : Name} {c : ℕ} → Told word text at (some (words.Name k, c)) → Told (number_get limit) text at none
     told-number-name {k} {c} t = record { same = rw (number_limit limit l (drop at text), (word_name (drop at text) k (drop c text) t.same).0); moved = tt }
+
+    -- The arm of all words that are no numbers.
+    pub told-no-number : (w : Word) {c : ℕ} → ((n : ℕ) → w ≡ words.Number n → ⊥) → Told word text at (some (w, c)) → Told (number_get limit) text at none
+    told-no-number (words.Number n) h t = absurd (h n refl)
+    told-no-number (words.Name k) h t = told-number-name t
 
     pub told-number-none : Told word text at none → Told (number_get limit) text at none
     told-number-none t = record { same = rw (number_limit limit l (drop at text), (word_none (drop at text) t.same).0); moved = tt }
 
-  pub told_name : {k : Name} {c : ℕ} → Told word text at (some (name k, c)) → Told name_get text at (some (k, c))
+  pub told_name : {k : Name} {c : ℕ} → Told word text at (some (words.Name k, c)) → Told name_get text at (some (k, c))
   told_name {k} {c} t = record { same = (word_name (drop at text) k (drop c text) t.same).1; moved = t.moved }
 
-  -- The arm of all words that are no names.
-  pub told_no_name : (w : Word) → ((k : Name) (c : Cursor) → w ≡ words.Name k c → ⊥) → Told word text at (word_read w) → Told name_get text at none
-  told_no_name (words.Number n c) h t = record { same = number_name (drop at text) _ (word_numeral (drop at text) n (drop c.at text) t.same); moved = tt }
-  told_no_name (words.Name n c) h t = absurd (h n c refl)
-  told_no_name words.Broken h t = record { same = (word_none (drop at text) t.same).1; moved = tt }
+  -- The arm of all words that are no names, and that of none.
+  pub told_no_name : (w : Word) {c : ℕ} → ((k : Name) → w ≡ words.Name k → ⊥) → Told word text at (some (w, c)) → Told name_get text at none
+  told_no_name (words.Number n) {c} h t = record { same = number_name (drop at text) _ (word_numeral (drop at text) n (drop c text) t.same); moved = tt }
+  told_no_name (words.Name n) h t = absurd (h n refl)
+
+  pub told_no_word : Told word text at none → Told name_get text at none
+  told_no_word t = record { same = (word_none (drop at text) t.same).1; moved = tt }
 
 -- The kind of a name.
 module _ {text : List ℕ} {at : ℕ} where
@@ -191,30 +197,20 @@ module _ {text : List ℕ} {at : ℕ} where
   unfolding kind_get
   told_unnamed t = record { same = rw t.same; moved = tt }
 
--- The arm of all names that are no kind's.
-pub no_kind : (n : Name) → (n ≡ names.Grey → ⊥) → (n ≡ names.Rgb → ⊥) → kind_named n ≡ none
-no_kind names.Multi g r = refl
-no_kind names.Size g r = refl
-no_kind names.Range g r = refl
-no_kind names.Row g r = refl
-no_kind names.Map g r = refl
-no_kind names.Grey g r = absurd (g refl)
-no_kind names.Rgb g r = absurd (r refl)
-
 -- One name alone.
 module _ (n : Name) {text : List ℕ} {at : ℕ} where
   pub told_not-named : Told name_get text at none → Told (named n) text at none
   unfolding named
   told_not-named t = record { same = rw t.same; moved = tt }
 
-  module _ {m : Name} {c i j : ℕ} (t : Told name_get text at (some (m, c))) (e : i ≡ name_number m) (f : j ≡ name_number n) where
-    pub told_named : i ≡ j → Told (named n) text at (some (0, c))
+  module _ {m : Name} {c : ℕ} (t : Told name_get text at (some (m, c))) where
+    pub told_named : m ≡ n → Told (named n) text at (some (0, c))
     unfolding named
-    told_named h = record { same = rw (t.same, eq-eqb (name_number m) (name_number n) (sym e ∙ h ∙ f)); moved = t.moved }
+    told_named h = record { same = rw (t.same, eq-eqb (name_number m) (name_number n) (ap name_number h)); moved = t.moved }
 
-    pub told-other-name : (i ≡ j → ⊥) → Told (named n) text at none
+    pub told-other-name : (m ≡ n → ⊥) → Told (named n) text at none
     unfolding named
-    told-other-name h = record { same = rw (t.same, ne_eqb (name_number m) (name_number n) (λ g. h (e ∙ g ∙ sym f))); moved = tt }
+    told-other-name h = record { same = rw (t.same, ne_eqb (name_number m) (name_number n) (λ g. h (number_same n m g))); moved = tt }
 
 -- The state of the loop over the names: none of the first i stands here.
 pub record Naming (text : List ℕ) (at i : ℕ) : Type 0 where

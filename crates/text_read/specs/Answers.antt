@@ -1,10 +1,9 @@
 -- What reading a text answers, in terms of its definition.
 use Rattle.std.specs.Prelude.{◌≡◌, Bool, ◌&&◌, cond, List, [], ◌∷◌, ℕ, ◌-◌, ◌≤◌, ◌<◌, leb, eqb, length, drop}
+use Rattle.std.specs.Prelude as code
 use Rattle.std.proofs.Math.Option.{Option, none, some}
-use Rattle.pictures.specs.declared.sizes.Kind.{Kind}
 use Rattle.pictures.specs.declared.sizes.Kind.TheVariants.{Rgb}
 use Rattle.pictures.specs.Numbers.{largest_number}
-use Rattle.text_theory.specs.declared.Head.{Head}
 use Rattle.text_theory.specs.declared.Name.{Name}
 use Rattle.text_theory.specs.Readers.{Get, give, ◌▷◌, after, either}
 use Rattle.text_theory.specs.Decimal.{number_get, is_digit}
@@ -12,16 +11,11 @@ use Rattle.text_theory.specs.Words.{name_get, named}
 use Rattle.text_theory.specs.Files.{line_end, opening, items, pixel_get}
 use Rattle.text_read.specs.declared.cursor.Class.{Class}
 use Rattle.text_read.specs.declared.cursor.Class.TheVariants.{Digit, Letter, Opening, Closing, Blank, LineEnd, Other}
-use Rattle.text_read.specs.declared.cursor.Read.{Read}
-use Rattle.text_read.specs.declared.cursor.Read.TheVariants as reads
+use Rattle.text_read.specs.declared.cursor.Cursor.{Cursor}
 use Rattle.text_read.specs.declared.words.Word.{Word}
 use Rattle.text_read.specs.declared.words.Word.TheVariants as words
-use Rattle.text_read.specs.declared.words.KindRead.{KindRead}
-use Rattle.text_read.specs.declared.words.KindRead.TheVariants.{Named, Unnamed}
 use Rattle.text_rules.specs.declared.Items.{Items}
 use Rattle.text_rules.specs.declared.Items.TheVariants.{Samples, Pixels, Numbers}
-use Rattle.text_read.specs.declared.heads.HeadRead.{HeadRead}
-use Rattle.text_read.specs.declared.heads.HeadRead.TheVariants.{Begun, Unbegun}
 
 -- "Each byte read is a digit, a small letter, a bracket, a blank, a line end or refused."
 unfoldable pub is_letter : ℕ → Bool
@@ -62,28 +56,18 @@ pub record Told {A : Type 0} (get : Get A) (text : List ℕ) (at : ℕ) (found :
   pub same : get (drop at text) ≡ read_on text found
   pub moved : ahead (length text) at found
 
--- Answers of the code.
-abbrev pub read : Read → Option (ℕ × ℕ)
-read (reads.Good n c) = some (n, c.at)
-read reads.Broken = none
+-- Answers of the code: a value and the place after it, and a place alone, where bytes were read that say no value.
+abbrev pub read : {A : Type 0} → code.Option (A × Cursor) → Option (A × ℕ)
+read code.None = none
+read (code.Some r) = some (r.0, r.1.at)
 
-abbrev pub kind_read : KindRead → Option (Kind × ℕ)
-kind_read (Named k c) = some (k, c.at)
-kind_read Unnamed = none
+abbrev pub passed : code.Option Cursor → Option (ℕ × ℕ)
+passed code.None = none
+passed (code.Some c) = some (0, c.at)
 
--- A word of a file: a number or a name.
-pub data Written : Type 0 where
-  numeral : ℕ → Written
-  name : Name → Written
-
--- "Reading a word gives the word and the place where reading goes on."
-unfoldable pub word : Get Written
-word s = either ((number_get largest_number ▷ λ n. give (numeral n)) s) ((name_get ▷ λ n. give (name n)) s)
-
-abbrev pub word_read : Word → Option (Written × ℕ)
-word_read (words.Number n c) = some (numeral n, c.at)
-word_read (words.Name n c) = some (name n, c.at)
-word_read words.Broken = none
+-- "Reading a word gives the word and the place where reading goes on." A word of a file is a number or a name.
+unfoldable pub word : Get Word
+word s = either ((number_get largest_number ▷ λ n. give (words.Number n)) s) ((name_get ▷ λ n. give (words.Name n)) s)
 
 -- How a line begins: its opening bracket and its name, read as a word.
 unfoldable pub beginning : Name → Get ℕ
@@ -108,7 +92,3 @@ form_of Numbers = counted (items (number_get largest_number))
 -- The items of a line, the closing bracket, the line end.
 unfoldable pub line_rest : Items → Get ℕ
 line_rest w = form_of w ▷ λ n. after line_end (give n)
-
-abbrev pub head_read : HeadRead → Option (Head × ℕ)
-head_read (Begun h c) = some (h, c.at)
-head_read Unbegun = none

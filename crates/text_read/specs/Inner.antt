@@ -1,17 +1,23 @@
 -- What the functions inside this crate promise each other.
-use Rattle.std.specs.Prelude.{◌≡◌, cond, List, [], ◌∷◌, ◌++◌, ℕ, zero, suc, ◌≤◌, ltb, length, drop}
+use Rattle.std.specs.Prelude.{◌≡◌, cond, List, [], ◌∷◌, ◌++◌, ℕ, zero, suc, ◌≤◌, ◌<◌, ltb, length, get_or, drop}
+use Rattle.std.specs.Prelude as code
 use Rattle.std.proofs.Math.Option.{Option, none, some}
-use Rattle.pictures.specs.declared.sizes.Size.{Size}
+use Rattle.grids.specs.Rows.{flat}
+use Rattle.pictures.specs.declared.sizes.Kind.TheVariants.{Grey, Rgb}
 use Rattle.pictures.specs.Numbers.{largest_number}
 use Rattle.text_theory.specs.declared.Name.{Name}
-use Rattle.text_theory.specs.Readers.{Get, give, after}
+use Rattle.text_theory.specs.Readers.{Get, give, ◌▷◌, after}
 use Rattle.text_theory.specs.Decimal.{number_get, is_digit}
-use Rattle.text_read.specs.declared.words.NameRead.{NameRead}
-use Rattle.text_read.specs.declared.words.NameRead.TheVariants as names
-use Rattle.text_read.specs.declared.heads.SizeRead.{SizeRead}
-use Rattle.text_read.specs.declared.heads.SizeRead.TheVariants as sizes
-use Rattle.text_read.specs.declared.heads.RangeRead.{RangeRead}
-use Rattle.text_read.specs.declared.heads.RangeRead.TheVariants as ranges
+use Rattle.text_theory.specs.Files.{begun, pixel_get, line}
+use Rattle.text_rules.specs.declared.Items.{Items}
+use Rattle.text_rules.specs.declared.Items.TheVariants.{Samples, Pixels, Numbers}
+use Rattle.text_read.specs.declared.cursor.Class.{Class}
+use Rattle.text_read.specs.Answers.{class_of}
+
+-- The class of the byte at a place, or the text's end.
+abbrev pub ClassAt : List ℕ → ℕ → code.Option Class → Type 0
+ClassAt text at code.None = length text ≤ at
+ClassAt text at (code.Some k) = (at < length text) × (k ≡ class_of (get_or text at 0))
 
 -- n at the place, if the limit admits it.
 abbrev pub within : ℕ → ℕ → ℕ → Option (ℕ × ℕ)
@@ -20,32 +26,6 @@ within limit n at = cond (ltb limit n) none (some (n, at))
 -- The bytes w.
 abbrev pub passing : List ℕ → Get ℕ
 passing w = after w (give 0)
-
--- Answers of the code: a name, a size, a range.
-abbrev pub name_read : NameRead → Option (Name × ℕ)
-name_read (names.Known n c) = some (n, c.at)
-name_read names.Unknown = none
-
-abbrev pub size_read : SizeRead → Option (Size × ℕ)
-size_read (sizes.Sized z c) = some (z, c.at)
-size_read sizes.Unsized = none
-
-abbrev pub range_read : RangeRead → Option ((ℕ × ℕ) × ℕ)
-range_read (ranges.Ranged d g c) = some ((d, g), c.at)
-range_read ranges.Unranged = none
-
--- Their numbers: 1, "text .. breaks its form", and 0 where something was read.
-abbrev pub name_read_number : NameRead → ℕ
-name_read_number (names.Known n c) = 0
-name_read_number names.Unknown = 1
-
-abbrev pub size_read_number : SizeRead → ℕ
-size_read_number (sizes.Sized z c) = 0
-size_read_number sizes.Unsized = 1
-
-abbrev pub range_read_number : RangeRead → ℕ
-range_read_number (ranges.Ranged d g c) = 0
-range_read_number ranges.Unranged = 1
 
 -- The bytes from the first digit on.
 unfoldable pub skipped : List ℕ → List ℕ
@@ -64,26 +44,26 @@ unfoldable pub figures : ℕ → List ℕ → List ℕ
 figures zero s = []
 figures (suc n) s = also (figure s) (figures n)
 
--- What is left after the next n numbers.
-abbrev pub beyond : Option (ℕ × List ℕ) → (List ℕ → List ℕ) → List ℕ → List ℕ
-beyond none f s = s
-beyond (some r) f s = f r.1
-
-unfoldable pub after_figures : ℕ → List ℕ → List ℕ
-after_figures zero s = s
-after_figures (suc n) s = beyond (figure s) (after_figures n) s
-
 -- n numbers come next, none over the limit.
 abbrev pub Coming : ℕ → ℕ → List ℕ → Type 0
 Coming limit zero s = Unit
 Coming limit (suc n) s = (r : ℕ × List ℕ) × (figure s ≡ some r) × (r.0 ≤ limit) × Coming limit n r.1
 
--- n numbers come next at a place of a text, and the space has room for them.
-pub record FiguresNeeded (limit n : ℕ) (text : List ℕ) (at : ℕ) (out : List ℕ) : Type 0 where
-  pub coming : Coming limit n (drop at text)
-  pub room : n ≤ length out
+-- Lines of every name and of all items, as one reader of numbers: how large a number may be, how many an item has.
+abbrev pub limit_of : Items → ℕ
+limit_of Samples = 255
+limit_of Pixels = 255
+limit_of Numbers = largest_number
 
--- They stand at the front of the space, and the place is the one after them.
-pub record FiguresGiven (n : ℕ) (text : List ℕ) (at : ℕ) (out : List ℕ) (place : ℕ) (out' : List ℕ) : Type 0 where
-  pub space : out' ≡ figures n (drop at text) ++ drop n out
-  pub left : drop place text ≡ after_figures n (drop at text)
+abbrev pub numbers_of : Items → ℕ
+numbers_of Samples = 1
+numbers_of Pixels = 3
+numbers_of Numbers = 1
+
+abbrev pub values_get : Items → Get (List ℕ)
+values_get Samples = line (pixel_get Grey) ▷ λ row. give (flat row)
+values_get Pixels = line (pixel_get Rgb) ▷ λ row. give (flat row)
+values_get Numbers = line (number_get largest_number)
+
+abbrev pub line_of : Name → Items → Get (List ℕ)
+line_of n what = after (begun n) (values_get what)

@@ -1,28 +1,24 @@
-// A place of a text, by value: its methods take it and hand back the moved one.
-ghost use Rattle.std.specs.Prelude.{◌≡◌, ◌-◌, ◌≤◌, ◌<◌};
+// A place of a text, by value: its methods take it and hand back the moved one. The text is lent beside it: a place that held its
+// text would have to promise at each step that the text is still the same.
+ghost use Rattle.std.specs.Prelude.{◌≡◌};
 ghost use Rattle.pictures.specs.Numbers.{largest_number};
+ghost use Rattle.text_theory.specs.Readers.{answered};
 ghost use Rattle.text_theory.specs.Words.{name_text};
 ghost use Rattle.text_theory.specs.Decimal.{number_get};
-ghost use Rattle.text_read.specs.Answers.{Told, read, class_of, class_number, of_class};
-ghost use Rattle.text_read.specs.Inner.{passing, within};
+ghost use Rattle.text_read.specs.Answers.{Told, read, passed, class_of, class_number, of_class};
+ghost use Rattle.text_read.specs.Inner.{ClassAt, passing, within};
 
 use pictures::numbers::LARGEST_NUMBER;
+use text_rules::letters_of;
 use text_theory::Name;
 
-#[derive(Clone, Copy)]
+#[derive(Clone, Copy, Debug, PartialEq, Eq)]
 pub struct Cursor {
     pub at: usize,
 }
 
-// A number and the place after what was read; or the form is broken.
-#[derive(Clone, Copy)]
-pub enum Read {
-    Good(usize, Cursor),
-    Broken,
-}
-
 // What a byte is: a digit with its value, a small letter with its byte, or one of the bytes between words.
-#[derive(Clone, Copy)]
+#[derive(Clone, Copy, Debug, PartialEq, Eq)]
 pub enum Class {
     Digit(usize),
     Letter(u8),
@@ -33,18 +29,11 @@ pub enum Class {
     Other,
 }
 
-fn digit(b: u8) -> usize
-    requires { (48 ≤ b) × (b ≤ 57) }
-    ensures { result ≡ b - 48 }
-{
-    (b - b'0') as usize
-}
-
 pub fn class_of(b: u8) -> Class
     ensures { result ≡ class_of b }
 {
     match b {
-        b'0'..=b'9' => Class::Digit(digit(b)),
+        b'0'..=b'9' => Class::Digit((b - b'0') as usize),
         b'a'..=b'z' => Class::Letter(b),
         b'(' => Class::Opening,
         b')' => Class::Closing,
@@ -54,7 +43,7 @@ pub fn class_of(b: u8) -> Class
     }
 }
 
-// The number of a class, by which two are told apart.
+// The number of a class, by which two are told apart: two digits are of one class, which == on their values would not say.
 fn class_number(class: Class) -> usize
     ensures { result ≡ class_number class }
 {
@@ -70,54 +59,49 @@ fn class_number(class: Class) -> usize
 }
 
 // The number n and the place after it, if it isn't too large.
-fn judged(n: usize, at: usize) -> Read
+fn judged(n: usize, at: usize) -> Option<(usize, Cursor)>
     ensures { read result ≡ within largest_number n at }
 {
-    if LARGEST_NUMBER < n {
-        Read::Broken
-    } else {
-        Read::Good(n, Cursor { at })
-    }
+    (n <= LARGEST_NUMBER).then_some((n, Cursor { at }))
 }
 
 impl Cursor {
-    // Past one byte of this class, if one stands here.
-    pub fn past(self, text: &[u8], class: Class) -> Read
-        ensures { Told (of_class class) text.now self.at (read result) }
+    // What the byte here is; None at the end of the text.
+    pub(crate) fn class(self, text: &[u8]) -> Option<Class>
+        ensures { ClassAt text.now self.at result }
     {
-        let at = self.at;
-        if text.len() <= at {
-            return Read::Broken;
-        }
-        if class_number(class_of(text[at])) != class_number(class) {
-            return Read::Broken;
-        }
-        Read::Good(0, Cursor { at: at + 1 })
+        let byte = text.get(self.at)?;
+        Some(class_of(*byte))
+    }
+
+    // Past one byte of this class, if one stands here.
+    pub fn past(self, text: &[u8], class: Class) -> Option<Cursor>
+        ensures { Told (of_class class) text.now self.at (passed result) }
+    {
+        let found = self.class(text)?;
+        (class_number(found) == class_number(class)).then_some(Cursor { at: self.at + 1 })
     }
 
     // A number without leading zeros, up to the largest. It is too large as soon as its first digits are.
-    pub(crate) fn digits(self, text: &[u8]) -> Read
+    pub(crate) fn digits(self, text: &[u8]) -> Option<(usize, Cursor)>
         ensures { Told (number_get largest_number) text.now self.at (read result) }
     {
-        let start = self.at;
-        if text.len() <= start {
-            return Read::Broken;
-        }
-        let Class::Digit(first) = class_of(text[start]) else {
-            return Read::Broken;
+        let Class::Digit(first) = self.class(text)? else {
+            return None;
         };
+        let mut at = self.at + 1;
         let lone = first == 0;
         if lone {
-            return Read::Good(0, Cursor { at: start + 1 });
+            return Some((0, Cursor { at }));
         }
         let mut n = first;
-        let mut at = start + 1;
-        while at < text.len() {
-            let Class::Digit(d) = class_of(text[at]) else {
+        let further = &text[at..];
+        for b in further {
+            let Class::Digit(d) = class_of(*b) else {
                 return judged(n, at);
             };
             if LARGEST_NUMBER < n {
-                return Read::Broken;
+                return None;
             }
             n = n * 10 + d;
             at += 1;
@@ -126,27 +110,12 @@ impl Cursor {
     }
 
     // Past the letters of a name, if they stand here.
-    pub(crate) fn letters(self, text: &[u8], name: Name) -> Read
-        ensures { Told (passing (name_text name)) text.now self.at (read result) }
+    pub(crate) fn letters(self, text: &[u8], name: Name) -> Option<Cursor>
+        ensures { Told (passing (name_text name)) text.now self.at (passed result) }
     {
-        let spelled = text_rules::letters_of(name);
-        let bytes = spelled.bytes;
-        let count = spelled.count;
-        let mut at = self.at;
-        let mut i: usize = 0;
-        while i < count {
-            if text.len() <= at {
-                return Read::Broken;
-            }
-            let Class::Letter(letter) = class_of(text[at]) else {
-                return Read::Broken;
-            };
-            if letter != bytes[i] {
-                return Read::Broken;
-            }
-            i += 1;
-            at += 1;
-        }
-        Read::Good(0, Cursor { at })
+        let rest = text.get(self.at..)?.strip_prefix(letters_of(name))?;
+        Some(Cursor {
+            at: text.len() - rest.len(),
+        })
     }
 }

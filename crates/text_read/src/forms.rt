@@ -1,81 +1,56 @@
 // Forms: an opening bracket, words or further forms, a closing bracket. The form reader and the item reader call each other.
 ghost use Rattle.text_read.specs.Answers.{Told, read, item_of, form_of, line_rest};
 
-use crate::cursor::{Class, Cursor, Read, class_of};
+use crate::cursor::{Class, Cursor};
 use pictures::numbers::LARGEST_NUMBER;
 use text_rules::Items;
 
 impl Cursor {
-    // The items of a form, each after a blank, up to the closing bracket: how many there are.
+    // The items of a form, each after a blank, up to the closing bracket: how many there are. Each turn reads a whole item, so no
+    // iterator of the bytes would do.
     #[cycle(form_item)]
-    pub fn form(self, text: &[u8], what: Items) -> Read
+    pub fn form(self, text: &[u8], what: Items) -> Option<(usize, Cursor)>
         ensures { Told (form_of what) text.now self.at (read result) }
     {
         let mut n: usize = 0;
-        let mut at = self.at;
-        while at < text.len() {
-            let class = class_of(text[at]);
+        let mut here = self;
+        while let Some(class) = here.class(text) {
+            let next = Cursor { at: here.at + 1 };
             match class {
-                Class::Closing => return Read::Good(n, Cursor { at: at + 1 }),
+                Class::Closing => return Some((n, next)),
                 Class::Blank => {}
-                _ => return Read::Broken,
+                _ => return None,
             }
-            let next = Cursor { at: at + 1 };
-            match next.item(text, what) {
-                Read::Good(_, c) => {
-                    n += 1;
-                    at = c.at;
-                }
-                Read::Broken => return Read::Broken,
-            }
+            let (_, after) = next.item(text, what)?;
+            n += 1;
+            here = after;
         }
-        Read::Broken
+        None
     }
 
     // One item: a number, or the form of a pixel with three samples.
     #[cycle(form_item)]
-    pub fn item(self, text: &[u8], what: Items) -> Read
+    pub fn item(self, text: &[u8], what: Items) -> Option<(usize, Cursor)>
         ensures { Told (item_of what) text.now self.at (read result) }
     {
         match what {
             Items::Samples => self.limited(text, 255),
             Items::Numbers => self.limited(text, LARGEST_NUMBER),
             Items::Pixels => {
-                let at = self.at;
-                if text.len() <= at {
-                    return Read::Broken;
-                }
-                let Class::Opening = class_of(text[at]) else {
-                    return Read::Broken;
-                };
-                let inner = Cursor { at: at + 1 };
-                match inner.limited(text, 255) {
-                    Read::Good(_, c) => match c.form(text, Items::Samples) {
-                        Read::Good(n, end) => {
-                            if n == 2 {
-                                Read::Good(3, end)
-                            } else {
-                                Read::Broken
-                            }
-                        }
-                        Read::Broken => Read::Broken,
-                    },
-                    Read::Broken => Read::Broken,
-                }
+                let a = self.past(text, Class::Opening)?;
+                let (_, b) = a.limited(text, 255)?;
+                let (n, c) = b.form(text, Items::Samples)?;
+                (n == 2).then_some((3, c))
             }
         }
     }
 
     // The items of a line, the closing bracket, the line end: how many items there are.
-    pub fn rest(self, text: &[u8], what: Items) -> Read
+    pub fn rest(self, text: &[u8], what: Items) -> Option<(usize, Cursor)>
         ensures { Told (line_rest what) text.now self.at (read result) }
     {
-        let Read::Good(n, c) = self.form(text, what) else {
-            return Read::Broken;
-        };
-        let Read::Good(_, d) = c.past(text, Class::LineEnd) else {
-            return Read::Broken;
-        };
-        Read::Good(n, d)
+        let (n, c) = self.form(text, what)?;
+        let d = c.past(text, Class::LineEnd)?;
+        Some((n, d))
     }
 }

@@ -7,6 +7,5 @@ pub mod heads;
 pub mod lines;
 pub mod words;
 
-pub use cursor::{Class, Cursor, Read, class_of};
-pub use heads::HeadRead;
-pub use words::{KindRead, Word};
+pub use cursor::{Class, Cursor, class_of};
+pub use words::Word;

@@ -5,6 +5,6 @@ use Rattle.text_rules.specs.declared.Items.{Items}
 use Rattle.text_rules.specs.declared.Items.TheVariants.{Samples, Pixels}
 
 -- A grey row's items are samples, an rgb row's are pixels.
-unfoldable pub items_of : Kind → Items
+abbrev pub items_of : Kind → Items
 items_of Grey = Samples
 items_of Rgb = Pixels

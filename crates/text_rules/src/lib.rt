@@ -6,12 +6,12 @@ pub mod names;
 ghost use Rattle.std.specs.Prelude.{◌≡◌, ◌&&◌, eqb};
 ghost use Rattle.text_rules.specs.Items.{items_of};
 
-pub use names::{Letters, NAMES, kind_name, letters_of, name_at, name_number};
+pub use names::{NAMES, kind_name, kind_named, letters_of};
 use pictures::Kind;
 
 // What the items of a form are: words, or forms of words. The form of a line stands in the form of the file, so forms are
 // nested at most three deep.
-#[derive(Clone, Copy)]
+#[derive(Clone, Copy, Debug, PartialEq, Eq)]
 pub enum Items {
     Samples,
     Pixels,
@@ -32,12 +32,12 @@ pub fn items_of(kind: Kind) -> Items
 pub fn are_full(rows: bool, maps: bool) -> bool
     ensures { result ≡ rows && maps }
 {
-    if rows { maps } else { false }
+    rows && maps
 }
 
 // Whether all lines are still full, with one more of `count` items.
 pub fn stays_full(full: bool, count: usize, width: usize) -> bool
     ensures { result ≡ full && eqb count width }
 {
-    if count == width { full } else { false }
+    full && count == width
 }

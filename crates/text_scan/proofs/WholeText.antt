@@ -1,15 +1,16 @@
 -- The whole text: counting its lines is counting the lines of its parts.
-use mathlib.Core.Path.{◌≡◌, refl, ◌∙◌}
+use mathlib.Core.Path.{◌≡◌, refl, sym, ◌∙◌}
 use mathlib.Core.Bool.{Bool, ◌&&◌}
 use mathlib.Core.Option.{Option, none, some}
 use mathlib.Core.List.{List, [], ◌∷◌, map}
+use Rattle.std.specs.Prelude as code
 use Prim.Native.Nat.{ℕ, suc, ◌≤◌, ◌<◌}
 use native.Mathlib.Omega.{arith}
 use lib.ListN.{length, length-map, drop_of_length-le}
 use Rattle.pictures.specs.Numbers.{largest_number}
 use Rattle.text_rules.specs.declared.Items.{Items}
 use Rattle.text_rules.specs.declared.Items.TheVariants.{Numbers}
-use Rattle.text_theory.specs.Readers.{Get, give, on, ◌▷◌, strip, onward, after, many_up_to, many}
+use Rattle.text_theory.specs.Readers.{answered, Get, give, on, ◌▷◌, strip, onward, after, many_up_to, many}
 use Rattle.text_theory.specs.Decimal.{number_get}
 use Rattle.text_theory.specs.declared.Head.{Head}
 use Rattle.text_theory.specs.Files.{Parts, closed, row_word, map_word, pixel_get, line, head_get, file, ended, whole, parse}
@@ -76,18 +77,18 @@ facts_of-parse s = rw scan_file (go (file s))
     go none = refl
     go (some r) = last r.0 r.1
 
-pub scan_none : {text : List ℕ} → Told scan_of text 0 none → facts_in (parse text) ≡ none
+pub scan_none : {text : List ℕ} {r : code.Option Facts} → r ≡ code.None → Told scan_of text 0 none → answered r ≡ facts_in (parse text)
 unfolding whole
-scan_none {text} t = facts_of-parse text ∙ rw t.same
+scan_none {text} e t = rw e (sym (facts_of-parse text ∙ rw t.same))
 
 module _ {text : List ℕ} {f : Facts} {at : ℕ} (L : Left scan_of text 0 (give f) at) where
-  pub scan_more : at < length text → facts_in (parse text) ≡ none
+  pub scan_more : at < length text → none ≡ facts_in (parse text)
   unfolding whole
-  scan_more h = facts_of-parse text ∙ rw (L.same, front text at h)
+  scan_more h = sym (facts_of-parse text ∙ rw (L.same, front text at h))
 
-  pub scan_end : length text ≤ at → facts_in (parse text) ≡ some f
+  pub scan_end : length text ≤ at → some f ≡ facts_in (parse text)
   unfolding whole
-  scan_end h = facts_of-parse text ∙ rw (L.same, drop_of_length-le text h)
+  scan_end h = sym (facts_of-parse text ∙ rw (L.same, drop_of_length-le text h))
 
 module _ {B : Type 0} {whole : Get B} {text : List ℕ} {from : ℕ} where
   pub left_reach : {A : Type 0} {g : Get A} (f : A → Get B) {at : ℕ} {a : A} {c : ℕ} → Left whole text from (g ▷ f) at → Reached g text at (some (a, c)) → Left whole text from (f a) c

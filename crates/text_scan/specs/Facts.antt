@@ -1,12 +1,11 @@
 -- What is known of a whole text.
 use Rattle.std.specs.Prelude.{Bool, true, ◌&&◌, List, [], ◌∷◌, map, ℕ, eqb, length}
+use Rattle.std.specs.Prelude as code
 use Rattle.std.proofs.Math.Option.{Option, none, some}
 use Rattle.pictures.specs.Refusals.{Rule, ◌when◌}
 use Rattle.text_theory.specs.Files.{Parts, parse}
 use Rattle.text_read.specs.Numbers.{unread}
 use Rattle.text_scan.specs.declared.Facts.{Facts}
-use Rattle.text_scan.specs.declared.Scanned.{Scanned}
-use Rattle.text_scan.specs.declared.Scanned.TheVariants as scans
 
 -- Whether every count is the width.
 unfoldable pub evenly : ℕ → List ℕ → Bool
@@ -27,14 +26,10 @@ abbrev pub facts_in : Option Parts → Option Facts
 facts_in none = none
 facts_in (some p) = some (facts_of p)
 
-abbrev pub scan_read : Scanned → Option Facts
-scan_read (scans.Formed f) = some f
-scan_read scans.Broken = none
-
--- Its number: 1, "text .. breaks its form", and 0 where it has it; and the rule that gives it.
-abbrev pub scan_number : Scanned → ℕ
-scan_number (scans.Formed f) = 0
-scan_number scans.Broken = 1
+-- The number of an answer: 1, "text .. breaks its form", and 0 where it has it; and the rule that gives it.
+abbrev pub scan_number : code.Option Facts → ℕ
+scan_number (code.Some f) = 0
+scan_number code.None = 1
 
 abbrev pub scan_rules : List ℕ → List Rule
 scan_rules text = 1 when unread (parse text) ∷ []

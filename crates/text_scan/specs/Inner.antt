@@ -8,8 +8,6 @@ use Rattle.text_rules.specs.declared.Items.TheVariants.{Numbers}
 use Rattle.text_rules.specs.Items.{items_of}
 use Rattle.text_read.specs.Answers.{read_on, line_rest}
 use Rattle.text_scan.specs.declared.Facts.{Facts}
-use Rattle.text_scan.specs.declared.Lines.{Lines}
-use Rattle.text_scan.specs.declared.Lines.TheVariants.{Counted, Torn}
 use Rattle.text_scan.specs.Facts.{evenly}
 
 -- Told, where the place may stay.
@@ -24,15 +22,6 @@ pub record Reached {A : Type 0} (get : Get A) (text : List ℕ) (at : ℕ) (foun
 -- How many lines begin with the word, and whether all have as many items as the width says.
 unfoldable pub lines_of : List ℕ → Items → ℕ → Get (ℕ × Bool)
 lines_of word w width = many word (line_rest w) ▷ λ ns. give (length ns, evenly width ns)
-
-abbrev pub lines_read : Lines → Option ((ℕ × Bool) × ℕ)
-lines_read (Counted n full c) = some ((n, full), c.at)
-lines_read Torn = none
-
--- Its number: 1 where a line breaks its form.
-abbrev pub lines_number : Lines → ℕ
-lines_number (Counted n full c) = 0
-lines_number Torn = 1
 
 -- A whole text, its lines counted.
 unfoldable pub scan_of : Get Facts

@@ -2,20 +2,15 @@
 #![tactic(auto)]
 
 ghost use Rattle.std.specs.Prelude.{◌≡◌, ◌≤◌, length};
+ghost use Rattle.text_theory.specs.Readers.{answered};
 ghost use Rattle.text_theory.specs.Files.{begun, parse};
-ghost use Rattle.text_scan.specs.Facts.{scan_read, facts_in};
-ghost use Rattle.text_scan.specs.Inner.{Reached, lines_of, lines_read};
+ghost use Rattle.text_read.specs.Answers.{read};
+ghost use Rattle.text_scan.specs.Facts.{facts_in};
+ghost use Rattle.text_scan.specs.Inner.{Reached, lines_of};
 
-use text_read::{Cursor, HeadRead, Read};
+use text_read::Cursor;
 use text_rules::{Items, are_full, items_of, stays_full};
 use text_theory::{Head, Name};
-
-// How many lines, whether all have as many items as the width says, and the place after them.
-#[derive(Clone, Copy)]
-enum Lines {
-    Counted(usize, bool, Cursor),
-    Torn,
-}
 
 // What is known of a file before its numbers are judged: its head, the numbers of row and map lines, and whether each
 // of them has as many items as the width says.
@@ -27,65 +22,49 @@ pub struct Facts {
     pub full: bool,
 }
 
-#[derive(Clone, Copy)]
-pub enum Scanned {
-    Formed(Facts),
-    Broken,
-}
-
-// Counts lines, as long as they begin with the name.
-fn count_lines(start: Cursor, text: &[u8], name: Name, what: Items, width: usize) -> Lines
+// Counts lines, as long as they begin with the name: how many there are, and whether all have as many items as the width says.
+fn count_lines(
+    start: Cursor,
+    text: &[u8],
+    name: Name,
+    what: Items,
+    width: usize,
+) -> Option<((usize, bool), Cursor)>
     requires { start.at ≤ length text.now }
-    ensures { Reached (lines_of (begun name) what width) text.now start.at (lines_read result) }
+    ensures { Reached (lines_of (begun name) what width) text.now start.at (read result) }
 {
-    let mut at = start.at;
     let mut n: usize = 0;
     let mut full = true;
-    loop {
-        let here = Cursor { at };
-        let Read::Good(_, c) = here.begin(text, name) else {
-            return Lines::Counted(n, full, here);
-        };
-        let Read::Good(m, d) = c.rest(text, what) else {
-            return Lines::Torn;
-        };
+    let mut here = start;
+    while let Some(c) = here.begin(text, name) {
+        let (m, d) = c.rest(text, what)?;
         n += 1;
         full = stays_full(full, m, width);
-        at = d.at;
+        here = d;
     }
+    Some(((n, full), here))
 }
 
 // Reads a whole text for its form: what its head says, how many lines it has, and whether all are as wide as the head says.
-pub fn scan(text: &[u8]) -> Scanned
-    ensures { scan_read result ≡ facts_in (parse text.now) }
+pub fn scan(text: &[u8]) -> Option<Facts>
+    ensures { answered result ≡ facts_in (parse text.now) }
 {
     let start = Cursor { at: 0 };
-    let HeadRead::Begun(head, c) = start.header(text) else {
-        return Scanned::Broken;
-    };
-    let size = head.size;
-    let width = size.width;
-    let kind = size.kind;
-    let Lines::Counted(rows, wide, d) = count_lines(c, text, Name::Row, items_of(kind), width)
-    else {
-        return Scanned::Broken;
-    };
-    let Lines::Counted(maps, filled, e) = count_lines(d, text, Name::Map, Items::Numbers, width)
-    else {
-        return Scanned::Broken;
-    };
-    let Read::Good(_, f) = e.close(text) else {
-        return Scanned::Broken;
-    };
-    let at = f.at;
-    let more = at < text.len();
+    let (head, c) = start.header(text)?;
+    let width = head.size.width;
+    let items = items_of(head.size.kind);
+    let ((rows, wide), d) = count_lines(c, text, Name::Row, items, width)?;
+    let ((maps, filled), e) = count_lines(d, text, Name::Map, Items::Numbers, width)?;
+    let end = e.close(text)?;
+    let more = end.at < text.len();
     if more {
-        return Scanned::Broken;
+        return None;
     }
-    Scanned::Formed(Facts {
+    let full = are_full(wide, filled);
+    Some(Facts {
         head,
         rows,
         maps,
-        full: are_full(wide, filled),
+        full,
     })
 }

@@ -45,7 +45,7 @@ number_name name.Map = (omega arith, refl)
 number_name name.Grey = (omega arith, refl)
 number_name name.Rgb = (omega arith, refl)
 
-number_same : (n m : Name) → name_number m ≡ name_number n → m ≡ n
+pub number_same : (n m : Name) → name_number m ≡ name_number n → m ≡ n
 number_same n m e = sym (number_name m).1 ∙ ap name_at e ∙ (number_name n).1
 
 -- The value that a name gives has that name.

@@ -1,6 +1,12 @@
 -- Readers: a reader takes a value off the front of a list of bytes and gives it with the bytes that are left, or refuses.
 use Rattle.std.specs.Prelude.{cond, List, [], ◌∷◌, ℕ, zero, suc, eqb, length}
 use Rattle.std.proofs.Math.Option.{Option, none, some}
+use Rattle.std.specs.Prelude as code
+
+-- What code answers, as the definitions say it.
+abbrev pub answered : {A : Type 0} → code.Option A → Option A
+answered code.None = none
+answered (code.Some a) = some a
 
 abbrev pub Get : Type 0 → Type 0
 Get A = List ℕ → Option (A × List ℕ)

@@ -6,7 +6,7 @@ use energy::Method;
 use pictures::Size;
 
 // The words of a file that are no numbers: those that begin lines, and those that name a kind.
-#[derive(Clone, Copy)]
+#[derive(Clone, Copy, Debug, PartialEq, Eq)]
 pub enum Name {
     Multi,
     Size,

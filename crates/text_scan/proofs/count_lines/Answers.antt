@@ -4,13 +4,14 @@ use Rattle.text_read.proofs.Onward.{told_begun, begun-some}
 use Rattle.text_scan.proofs.Counting.{lining-stop, lining-torn, lining-next}
 use Rattle.text_scan.proofs.count_lines.Goals as goal
 
-pub returns-in_default : goal.returns-in_default
-returns-in_default c = lining-stop (begun-some _) c.loop-c.invariant (told_begun _ c.in_default.ensures)
-
-pub returns-in_default-rest : goal.returns-in_default-rest
-returns-in_default-rest c =
-    lining-torn (begun-some _) c.loop-c.invariant (told_begun _ c.in-Good.ensures) c.in_default-rest.ensures
+pub returns-in_err-m : goal.returns-in_err-m
+returns-in_err-m c =
+    rw c.from_residual.ensures
+    (lining-torn (begun-some _) c.loop-c.invariant (told_begun _ c.in-Some.ensures) c.in_err-m.ensures)
 
 pub loop-c-preserved : goal.loop-c-preserved
 loop-c-preserved c =
-    lining-next (begun-some _) c.loop-c.invariant (told_begun _ c.in-Good.ensures) c.in-Good-rest.ensures c.stays_full-full.ensures
+    lining-next (begun-some _) c.loop-c.invariant (told_begun _ c.in-Some.ensures) c.in_ok-m.ensures c.stays_full-full.ensures
+
+pub returns : goal.returns
+returns c = lining-stop (begun-some _) c.loop-c.invariant (told_begun _ c.in_default.ensures)

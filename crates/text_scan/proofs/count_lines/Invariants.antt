@@ -6,7 +6,7 @@ use Rattle.text_scan.proofs.Counting.{Lining}
 use Rattle.text_scan.proofs.count_lines.Given as goal
 
 abbrev pub invariant-loop-c : goal.invariant-loop-c
-invariant-loop-c l = Lining (begun l.name) l.what l.width l.text l.initial.at l.n l.full l.at
+invariant-loop-c l = Lining (begun l.name) l.what l.width l.text l.initial.here.at l.n l.full l.here.at
 
 abbrev pub decreases-loop-c : goal.decreases-loop-c
-decreases-loop-c l = length l.text - l.at
+decreases-loop-c l = length l.text - l.here.at

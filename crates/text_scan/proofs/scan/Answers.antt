@@ -1,5 +1,5 @@
 -- `text_scan::scan` meets its contract: after the head, the row lines and the map lines, what is left of the text is left to read.
-use Rattle.std.proofs.Common.{◌≡◌, sym, Bool, ◌&&◌, List, ℕ}
+use Rattle.std.proofs.Common.{◌≡◌, Bool, ◌&&◌, List, ℕ}
 use Rattle.std.proofs.Math.Option.{some}
 use Rattle.text_theory.specs.declared.Head.{Head}
 use Rattle.text_theory.specs.declared.Name.TheVariants as name
@@ -41,49 +41,40 @@ module _ {text : List ℕ} {h : Head} {a : ℕ} (H : Told head_get text 0 (some 
     unfolding map_word
     after-maps {r} R M = left_reach (from_end h r) (after-rows R) M
 
-pub returns-in_default : goal.returns-in_default
+pub returns-in_err-head : goal.returns-in_err-head
 unfolding scan_of
-returns-in_default c = sym (scan_none (left_no_then from-rows left_start c.in_default.ensures))
+returns-in_err-head c = scan_none c.from_residual.ensures (left_no_then from-rows left_start c.in_err-head.ensures)
 
-pub returns-in_default-count_lines : goal.returns-in_default-count_lines
+pub returns-in_err-rows : goal.returns-in_err-rows
 unfolding row_word
-returns-in_default-count_lines c =
-    sym
-    (scan_none
-    (left_no_reach (from-maps c.in-Begun.head) (after-head c.in-Begun.ensures)
-    (rw c.items_of.ensures at c.in_default-count_lines.ensures)))
+returns-in_err-rows c =
+    scan_none c.from_residual-in_err-rows.ensures
+    (left_no_reach (from-maps c.in_ok-head.head) (after-head c.in_ok-head.ensures) (rw c.items_of-items.ensures at c.in_err-rows.ensures))
 
-pub returns-in_default-count_lines-2 : goal.returns-in_default-count_lines-2
+pub returns-in_err-maps : goal.returns-in_err-maps
 unfolding map_word
-returns-in_default-count_lines-2 c =
-    sym
-    (scan_none
-    (left_no_reach (from_end c.in-Begun.head _) (after-rows c.in-Begun.ensures c.items_of.ensures c.in-Counted.ensures)
-    c.in_default-count_lines-2.ensures))
+returns-in_err-maps c =
+    scan_none c.from_residual-in_err-maps.ensures
+    (left_no_reach (from_end c.in_ok-head.head _) (after-rows c.in_ok-head.ensures c.items_of-items.ensures c.in_ok-rows.ensures)
+    c.in_err-maps.ensures)
 
-pub returns-in_default-close : goal.returns-in_default-close
-returns-in_default-close c =
-    sym
-    (scan_none
-    (left_no_past closed _
-    (after-maps c.in-Begun.ensures c.items_of.ensures c.in-Counted.ensures c.in-Counted-count_lines.ensures)
-    c.in_default-close.ensures))
+pub returns-in_err-end : goal.returns-in_err-end
+returns-in_err-end c =
+    scan_none c.from_residual-in_err-end.ensures
+    (left_no_past closed _ (after-maps c.in_ok-head.ensures c.items_of-items.ensures c.in_ok-rows.ensures c.in_ok-maps.ensures)
+    c.in_err-end.ensures)
 
 pub returns-then-more : goal.returns-then-more
 returns-then-more c =
-    sym
-    (scan_more
-    (left-past closed
-    (after-maps c.in-Begun.ensures c.items_of.ensures c.in-Counted.ensures c.in-Counted-count_lines.ensures)
-    c.in-Good.ensures)
-    c.if-more.true)
+    scan_more
+    (left-past closed (after-maps c.in_ok-head.ensures c.items_of-items.ensures c.in_ok-rows.ensures c.in_ok-maps.ensures)
+    c.in_ok-end.ensures)
+    c.if-more.true
 
 pub returns : goal.returns
 returns c =
-    rw c.are_full.ensures
-    (sym
+    rw c.are_full-full.ensures
     (scan_end
-    (left-past closed
-    (after-maps c.in-Begun.ensures c.items_of.ensures c.in-Counted.ensures c.in-Counted-count_lines.ensures)
-    c.in-Good.ensures)
-    c.if-more.false))
+    (left-past closed (after-maps c.in_ok-head.ensures c.items_of-items.ensures c.in_ok-rows.ensures c.in_ok-maps.ensures)
+    c.in_ok-end.ensures)
+    c.if-more.false)

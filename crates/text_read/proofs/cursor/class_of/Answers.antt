@@ -1,5 +1,5 @@
 -- `text_read::cursor::class_of` meets its contract: each arm by the byte or the range that it matches.
-use Rattle.std.proofs.Common.{arith, inl, inr}
+use Rattle.std.proofs.Common.{refl, arith, inl, inr}
 use Rattle.text_theory.specs.Decimal.{is_digit}
 use Rattle.text_read.specs.Answers.{is_letter, class_of}
 use Rattle.text_read.proofs.ByteClasses.{class_digit, class_letter, class_other}
@@ -22,7 +22,7 @@ unfolding class_of is_digit is_letter
 returns-in-10 c = rw c.in-10.is
 
 pub returns-in-48-to-57 : goal.returns-in-48-to-57
-returns-in-48-to-57 c = class_digit _ _ (omega arith) (omega arith) c.digit.ensures
+returns-in-48-to-57 c = class_digit _ _ (omega arith) (omega arith) refl
 
 pub returns-in-97-to-122 : goal.returns-in-97-to-122
 returns-in-97-to-122 c = class_letter _ (omega arith) (omega arith)

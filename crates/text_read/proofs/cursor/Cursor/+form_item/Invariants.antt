@@ -10,8 +10,8 @@ decreases-form l = length l.text.now - l.self.at
 abbrev pub decreases-item : goal.decreases-item
 decreases-item l = length l.text.now - l.self.at
 
-abbrev pub invariant-form-loop-at : goal.invariant-form-loop-at
-invariant-form-loop-at l = Counting l.what l.text l.initial.at l.n l.at
+abbrev pub invariant-form-loop-class : goal.invariant-form-loop-class
+invariant-form-loop-class l = Counting l.what l.text l.initial.here.at l.n l.here.at
 
-abbrev pub decreases-form-loop-at : goal.decreases-form-loop-at
-decreases-form-loop-at l = length l.text - l.at
+abbrev pub decreases-form-loop-class : goal.decreases-form-loop-class
+decreases-form-loop-class l = length l.text - l.here.at

@@ -1,5 +1,7 @@
--- `text_read::cursor::Cursor::begin` meets its contract: the bracket, then a word, which is a name with the number asked for or not.
-use Rattle.std.proofs.Common.{List, ℕ}
+-- `text_read::cursor::Cursor::begin` meets its contract: the bracket, then a word, which is the name asked for or not.
+use Rattle.std.proofs.Common.{List, ℕ, sym, ◌∙◌, rules}
+use denote.Enum.Bare.{same_true, same_false}
+use Rattle.text_theory.specs.contracts.Name.{the_type}
 use Rattle.std.proofs.Math.Option.{some}
 use Rattle.text_theory.specs.declared.Name.{Name}
 use Rattle.text_theory.specs.Files.{opening}
@@ -7,8 +9,8 @@ use Rattle.text_theory.specs.Words.{named}
 use Rattle.text_read.specs.declared.cursor.Class.TheVariants.{Opening}
 use Rattle.text_read.specs.Answers.{Told, of_class, beginning}
 use Rattle.text_read.proofs.ByteClasses.{told_opening}
-use Rattle.text_read.proofs.Onward.{Left, left_start, left-past, left_no_past, left_tail}
-use Rattle.text_read.proofs.WordSteps.{told_name, told_no_name, told_named, told-other-name, told_not-named}
+use Rattle.text_read.proofs.Onward.{refused_past, when_past, Left, left_start, left-past, left_no_past, left_tail}
+use Rattle.text_read.proofs.WordSteps.{told_name, told_no_name, told_no_word, told_named, told-other-name, told_not-named}
 use Rattle.text_read.proofs.cursor.Cursor.begin.Goals as goal
 
 -- After the bracket the name is left to read.
@@ -16,21 +18,22 @@ bracket : (n : Name) {text : List ℕ} {at v c : ℕ} → Told (of_class Opening
 unfolding beginning
 bracket n t = left-past opening left_start (told_opening t)
 
-pub returns-in_default : goal.returns-in_default
+pub returns-in_err-c : goal.returns-in_err-c
 unfolding beginning
-returns-in_default c = left_no_past opening _ left_start (told_opening c.in_default.ensures)
+returns-in_err-c c = refused_past c.from_residual.ensures (left_no_past opening _ left_start (told_opening c.in_err-c.ensures))
 
-pub returns-in_default-word : goal.returns-in_default-word
-returns-in_default-word c =
-    left_tail _ (bracket c.args.name c.in-Good.ensures)
-    (told_not-named _ (told_no_name c.word.result c.in_default-word.not-Name c.word.ensures))
+pub returns-in_err-word : goal.returns-in_err-word
+returns-in_err-word c =
+    refused_past c.from_residual-in_err-word.ensures
+    (left_tail _ (bracket c.args.name c.in_ok-c.ensures) (told_not-named _ (told_no_word c.in_err-word.ensures)))
 
-pub returns-then-name_number : goal.returns-then-name_number
-returns-then-name_number c =
-    left_tail _ (bracket c.args.name c.in-Good.ensures)
-    (told-other-name _ (told_name c.in-Name.ensures) c.name_number.ensures c.name_number-2.ensures c.if-name_number.true)
+pub returns-in_default : goal.returns-in_default
+returns-in_default c =
+    left_tail _ (bracket c.args.name c.in_ok-c.ensures)
+    (told_not-named _ (told_no_name c.in_ok-word.word c.in_default.not-Name c.in_ok-word.ensures))
 
 pub returns : goal.returns
 returns c =
-    left_tail _ (bracket c.args.name c.in-Good.ensures)
-    (told_named _ (told_name c.in-Name.ensures) c.name_number.ensures c.name_number-2.ensures c.if-name_number.false)
+    let L = bracket c.args.name c.in_ok-c.ensures in
+    let t = told_name (rw c.in-Name.is at c.in_ok-word.ensures) in
+    when_past _ c.then_some.ensures (λ e. left_tail _ L (told_named _ t (same_true the_type (search rules) _ _ (sym c.eq.ensures ∙ e)))) (λ e. left_tail _ L (told-other-name _ t (same_false the_type _ _ (sym c.eq.ensures ∙ e))))

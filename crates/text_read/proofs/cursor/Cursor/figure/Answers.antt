@@ -1,15 +1,23 @@
--- `text_read::cursor::Cursor::figure` meets its contract.
-use Rattle.text_read.proofs.ByteClasses.{digit_found, arm_no_digit}
-use Rattle.text_read.proofs.Figures.{skipping-next, skipping-found, skipping-end}
+-- `text_read::cursor::Cursor::figure` meets its contract: the digits from the first one on, if there is one.
+use Rattle.std.proofs.Common.{◌∙◌, ap, arith, inl, inr}
+use Rattle.std.specs.List.{position}
+use Rattle.std.specs.Char.{is_ascii_digit}
+use Rattle.text_read.proofs.Figures.{figure_past, figure_none, figure_at}
+use Rattle.text_read.proofs.DigitSteps.{rest_of}
+use Rattle.text_read.proofs.Onward.{refused}
 use Rattle.text_read.proofs.cursor.Cursor.figure.Goals as goal
 
-pub returns-in-Digit : goal.returns-in-Digit
-returns-in-Digit c =
-    skipping-found c.loop-at.invariant c.loop-at-test.true (digit_found _ c.in-Digit.is c.class_of.ensures) c.digits.ensures
+pub returns-in_err-rest : goal.returns-in_err-rest
+returns-in_err-rest c =
+    refused c.from_residual.ensures
+    (elim c.in_err-rest.ensures.lookup.0 [ inl l ↦ figure_past (omega arith) | inr l ↦ absurd (omega arith) ])
 
-pub loop-at-preserved : goal.loop-at-preserved
-loop-at-preserved c =
-    skipping-next c.loop-at.invariant c.loop-at-test.true (arm_no_digit _ c.class_of.ensures c.in_default.not-Digit)
+pub returns-in_err-gap : goal.returns-in_err-gap
+returns-in_err-gap c =
+    let e = c.in_ok-rest.ensures.lookup.0.2 ∙ rest_of c.args.text.now c.args.self.at in
+    refused c.from_residual-in_err-gap.ensures (figure_none (c.in_err-gap.ensures ∙ ap (position is_ascii_digit) e))
 
 pub returns : goal.returns
-returns c = skipping-end c.loop-at.invariant c.loop-at-test.false
+returns c =
+    let e = c.in_ok-rest.ensures.lookup.0.2 ∙ rest_of c.args.text.now c.args.self.at in
+    figure_at (c.in_ok-gap.ensures ∙ ap (position is_ascii_digit) e) c.digits.ensures

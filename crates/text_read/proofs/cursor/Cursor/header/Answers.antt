@@ -11,7 +11,7 @@ use Rattle.text_theory.specs.Files.{line_end, begun, size_get, range_get, head_g
 use Rattle.text_read.specs.declared.cursor.Class.TheVariants.{LineEnd}
 use Rattle.text_read.specs.Answers.{Told, of_class, beginning}
 use Rattle.text_read.proofs.ByteClasses.{told_line_end}
-use Rattle.text_read.proofs.Onward.{Left, left_start, left_as, left-past, left_no_past, left_then, left_no_then, left_then_give, told_begun, after_first}
+use Rattle.text_read.proofs.Onward.{refused, Left, left_start, left_as, left-past, left_no_past, left_then, left_no_then, left_then_give, told_begun, after_first}
 use Rattle.text_read.proofs.cursor.Cursor.header.Goals as goal
 
 -- The head from each line on.
@@ -37,21 +37,27 @@ module _ {text : List ℕ} {from v a : ℕ} (N : Told (beginning name.Multi) tex
     after-size : {z : Size} {c : ℕ} → Told size_get text b (some (z, c)) → Left head_get text from (from-range z) c
     after-size S = left_then from-range after-first-line S
 
-pub returns-in_default : goal.returns-in_default
-returns-in_default c = left_no_past (begun name.Multi) _ (at-start _ _) (told_begun name.Multi c.in_default.ensures)
+pub returns-in_err-a : goal.returns-in_err-a
+returns-in_err-a c =
+    refused c.from_residual.ensures
+    (left_no_past (begun name.Multi) _ (at-start _ _) (told_begun name.Multi c.in_err-a.ensures))
 
-pub returns-in_default-past : goal.returns-in_default-past
-returns-in_default-past c = left_no_past line_end _ (after-name c.in-Good.ensures) (told_line_end c.in_default-past.ensures)
+pub returns-in_err-b : goal.returns-in_err-b
+returns-in_err-b c =
+    refused c.from_residual-in_err-b.ensures
+    (left_no_past line_end _ (after-name c.in_ok-a.ensures) (told_line_end c.in_err-b.ensures))
 
-pub returns-in_default-size_line : goal.returns-in_default-size_line
-returns-in_default-size_line c =
-    left_no_then from-range (after-first-line c.in-Good.ensures c.in-Good-past.ensures) c.in_default-size_line.ensures
+pub returns-in_err-size : goal.returns-in_err-size
+returns-in_err-size c =
+    refused c.from_residual-in_err-size.ensures
+    (left_no_then from-range (after-first-line c.in_ok-a.ensures c.in_ok-b.ensures) c.in_err-size.ensures)
 
-pub returns-in_default-range_line : goal.returns-in_default-range_line
-returns-in_default-range_line c =
-    left_no_then _ (after-size c.in-Good.ensures c.in-Good-past.ensures c.in-Sized.ensures) c.in_default-range_line.ensures
+pub returns-in_err-depth : goal.returns-in_err-depth
+returns-in_err-depth c =
+    refused c.from_residual-in_err-depth.ensures
+    (left_no_then _ (after-size c.in_ok-a.ensures c.in_ok-b.ensures c.in_ok-size.ensures) c.in_err-depth.ensures)
 
 pub returns : goal.returns
 returns c =
     rw c.usual_method-method.ensures
-    (left_then_give (head_of c.in-Sized.size) (after-size c.in-Good.ensures c.in-Good-past.ensures c.in-Sized.ensures) c.in-Ranged.ensures)
+    (left_then_give (head_of c.in_ok-size.size) (after-size c.in_ok-a.ensures c.in_ok-b.ensures c.in_ok-size.ensures) c.in_ok-depth.ensures)

@@ -1,42 +1,29 @@
--- `text_read::cursor::Cursor::letters` meets its contract. The invariant: the first i letters of the name were found, and at is
--- the place after them. What falls is the number of letters left.
-use Rattle.std.proofs.Common.{sym, ◌∙◌, arith}
-use Rattle.text_rules.proofs.Spelled.{spelled_length}
-use Rattle.text_read.proofs.ByteClasses.{letter_byte, arm_no_letter}
-use Rattle.text_read.proofs.Letters.{matching-next, matching-short, matching-other, matching-end, spelled_some, spelled_at, spelled_no_letter, spelled_told}
+-- `text_read::cursor::Cursor::letters` meets its contract: the rest of the text begins with the letters, or not.
+use Rattle.std.proofs.Common.{List, ℕ, ◌++◌, sym, ap, ◌∙◌, arith, inl, inr}
+use Rattle.std.proofs.lemmas.Slice.Eq.{strip_prefix_is}
+use Rattle.std.proofs.lemmas.Bool.Decides.{Decides-eqb}
+use Rattle.std.specs.Prelude as code
+use Rattle.text_read.proofs.Letters.{letters_none, letters_some, letters_past}
+use Rattle.text_read.proofs.DigitSteps.{rest_of}
+use Rattle.text_read.proofs.Onward.{refused_past}
 use Rattle.text_read.proofs.cursor.Cursor.letters.Goals as goal
 
-pub returns-then-text-at : goal.returns-then-text-at
-returns-then-text-at c =
-    let S = c.letters_of-spelled.ensures in
-    spelled_told S (matching-short c.loop-i.invariant c.if-text-at.true (omega (arith, spelled_length S, c.loop-i-test.true)))
+pub returns-in_err-get : goal.returns-in_err-get
+returns-in_err-get c =
+    refused_past c.from_residual.ensures
+    (elim c.in_err-get.ensures.lookup.0 [ inl l ↦ letters_past c.args.name (omega arith) | inr l ↦ absurd (omega arith) ])
 
-pub returns-in_default : goal.returns-in_default
-returns-in_default c =
-    let S = c.letters_of-spelled.ensures in
-    let l = arm_no_letter _ c.class_of.ensures c.in_default.not-Letter in
-    spelled_told S
-    (matching-other c.loop-i.invariant c.if-text-at.false (omega (arith, spelled_length S, c.loop-i-test.true))
-    (spelled_no_letter S _ c.loop-i-test.true l))
-
-pub returns-then-letter-bytes : goal.returns-then-letter-bytes
-returns-then-letter-bytes c =
-    let S = c.letters_of-spelled.ensures in
-    let l = letter_byte _ c.in-Letter.is c.class_of.ensures in
-    spelled_told S
-    (matching-other c.loop-i.invariant c.if-text-at.false (omega (arith, spelled_length S, c.loop-i-test.true))
-    (λ e. c.if-letter-bytes.true (l.1 ∙ e ∙ spelled_at S c.loop-i-test.true)))
-
-pub loop-i-preserved : goal.loop-i-preserved
-loop-i-preserved c =
-    let S = c.letters_of-spelled.ensures in
-    let l = letter_byte _ c.in-Letter.is c.class_of.ensures in
-    matching-next c.loop-i.invariant c.if-text-at.false (omega (arith, spelled_length S, c.loop-i-test.true))
-    (sym l.1 ∙ c.if-letter-bytes.false ∙ sym (spelled_at S c.loop-i-test.true))
+pub returns-in_err-rest : goal.returns-in_err-rest
+returns-in_err-rest c =
+    let s = c.in_ok-get.field-0.now in
+    let e = c.in_ok-get.ensures.lookup.0.2 ∙ rest_of c.args.text.now c.args.self.at in
+    let n = strip_prefix_is Decides-eqb s c.letters_of.result.now code.None c.in_err-rest.ensures.cases in
+    refused_past c.from_residual-in_err-rest.ensures
+    (letters_none c.args.name (λ rest f. n rest (e ∙ f ∙ ap (λ (w : List ℕ). w ++ rest) (sym c.letters_of.ensures))))
 
 pub returns : goal.returns
 returns c =
-    let S = c.letters_of-spelled.ensures in
-    spelled_told S
-    (matching-end c.loop-i.invariant (omega (arith, spelled_length S, c.loop-i-test.false))
-    (omega (arith, spelled_length S, spelled_some S)))
+    let s = c.in_ok-get.field-0.now in
+    let e = c.in_ok-get.ensures.lookup.0.2 ∙ rest_of c.args.text.now c.args.self.at in
+    let n = strip_prefix_is Decides-eqb s c.letters_of.result.now (code.Some c.in_ok-rest.rest) c.in_ok-rest.ensures.cases in
+    letters_some c.args.name c.in_ok-rest.rest.now (sym e ∙ n ∙ ap (λ (w : List ℕ). w ++ c.in_ok-rest.rest.now) c.letters_of.ensures)

@@ -7,7 +7,7 @@ use Rattle.text_theory.specs.Readers.{Get, give, ◌▷◌, after}
 use Rattle.text_theory.specs.Decimal.{number_get}
 use Rattle.text_theory.specs.Files.{blank, closed, begun, range_get}
 use Rattle.text_read.specs.Answers.{Told, beginning}
-use Rattle.text_read.proofs.Onward.{Left, left_start, left-past, left_no_past, left-past-give, left_after, left_no_after, told_begun}
+use Rattle.text_read.proofs.Onward.{refused, Left, left_start, left-past, left_no_past, left-past-give, left_after, left_no_after, told_begun}
 use Rattle.text_read.proofs.cursor.Cursor.range_line.Goals as goal
 
 -- The line from each word on.
@@ -30,23 +30,27 @@ module _ {text : List ℕ} {from v a : ℕ} (N : Told (beginning name.Range) tex
     after-growth : {g c : ℕ} → Told (after blank (number_get largest_number)) text b (some (g, c)) → Left range_get text from (from-growth d g) c
     after-growth G = left_after blank (number_get largest_number) (from-growth d) after-depth G
 
-pub returns-in_default : goal.returns-in_default
+pub returns-in_err-a : goal.returns-in_err-a
 unfolding range_get
-returns-in_default c = left_no_past (begun name.Range) _ left_start (told_begun name.Range c.in_default.ensures)
+returns-in_err-a c =
+    refused c.from_residual.ensures
+    (left_no_past (begun name.Range) _ left_start (told_begun name.Range c.in_err-a.ensures))
 
-pub returns-in_default-spaced : goal.returns-in_default-spaced
-returns-in_default-spaced c =
-    left_no_after blank (number_get largest_number) from-depth (after-name c.in-Good.ensures) c.in_default-spaced.ensures
+pub returns-in_err-depth : goal.returns-in_err-depth
+returns-in_err-depth c =
+    refused c.from_residual-in_err-depth.ensures
+    (left_no_after blank (number_get largest_number) from-depth (after-name c.in_ok-a.ensures) c.in_err-depth.ensures)
 
-pub returns-in_default-spaced-2 : goal.returns-in_default-spaced-2
-returns-in_default-spaced-2 c =
-    left_no_after blank (number_get largest_number) (from-growth _) (after-depth c.in-Good.ensures c.in-Good-spaced.ensures)
-    c.in_default-spaced-2.ensures
+pub returns-in_err-growth : goal.returns-in_err-growth
+returns-in_err-growth c =
+    refused c.from_residual-in_err-growth.ensures
+    (left_no_after blank (number_get largest_number) (from-growth _) (after-depth c.in_ok-a.ensures c.in_ok-depth.ensures) c.in_err-growth.ensures)
 
-pub returns-in_default-close : goal.returns-in_default-close
-returns-in_default-close c =
-    left_no_past closed _ (after-growth c.in-Good.ensures c.in-Good-spaced.ensures c.in-Good-spaced-2.ensures) c.in_default-close.ensures
+pub returns-in_err-d : goal.returns-in_err-d
+returns-in_err-d c =
+    refused c.from_residual-in_err-d.ensures
+    (left_no_past closed _ (after-growth c.in_ok-a.ensures c.in_ok-depth.ensures c.in_ok-growth.ensures) c.in_err-d.ensures)
 
 pub returns : goal.returns
 returns c =
-    left-past-give closed (after-growth c.in-Good.ensures c.in-Good-spaced.ensures c.in-Good-spaced-2.ensures) c.in-Good-close.ensures
+    left-past-give closed (after-growth c.in_ok-a.ensures c.in_ok-depth.ensures c.in_ok-growth.ensures) c.in_ok-d.ensures

@@ -12,7 +12,7 @@ use Rattle.text_theory.specs.Files.{blank, closed, begun, size_get}
 use Rattle.text_read.specs.declared.cursor.Class.TheVariants.{Blank}
 use Rattle.text_read.specs.Answers.{Told, of_class, beginning}
 use Rattle.text_read.proofs.ByteClasses.{told_blank}
-use Rattle.text_read.proofs.Onward.{Left, left_start, left-past, left_no_past, left-past-give, left_then, left_no_then, left_after, left_no_after, told_begun}
+use Rattle.text_read.proofs.Onward.{refused, Left, left_start, left-past, left_no_past, left-past-give, left_then, left_no_then, left_after, left_no_after, told_begun}
 use Rattle.text_read.proofs.cursor.Cursor.size_line.Goals as goal
 
 -- The line from each word on.
@@ -46,37 +46,39 @@ module _ {text : List ℕ} {from v a : ℕ} (N : Told (beginning name.Size) text
         after-kind : {k : Kind} {e : ℕ} → Told kind_get text d (some (k, e)) → Left size_get text from (from-closing w h k) e
         after-kind K = left_then (from-closing w h) after-blank K
 
-pub returns-in_default : goal.returns-in_default
+pub returns-in_err-a : goal.returns-in_err-a
 unfolding size_get
-returns-in_default c = left_no_past (begun name.Size) _ left_start (told_begun name.Size c.in_default.ensures)
+returns-in_err-a c =
+    refused c.from_residual.ensures
+    (left_no_past (begun name.Size) _ left_start (told_begun name.Size c.in_err-a.ensures))
 
-pub returns-in_default-spaced : goal.returns-in_default-spaced
-returns-in_default-spaced c =
-    left_no_after blank (number_get largest_number) from-width (after-name c.in-Good.ensures) c.in_default-spaced.ensures
+pub returns-in_err-width : goal.returns-in_err-width
+returns-in_err-width c =
+    refused c.from_residual-in_err-width.ensures
+    (left_no_after blank (number_get largest_number) from-width (after-name c.in_ok-a.ensures) c.in_err-width.ensures)
 
-pub returns-in_default-spaced-2 : goal.returns-in_default-spaced-2
-returns-in_default-spaced-2 c =
-    left_no_after blank (number_get largest_number) (from-height _) (after-width c.in-Good.ensures c.in-Good-spaced.ensures)
-    c.in_default-spaced-2.ensures
+pub returns-in_err-height : goal.returns-in_err-height
+returns-in_err-height c =
+    refused c.from_residual-in_err-height.ensures
+    (left_no_after blank (number_get largest_number) (from-height _) (after-width c.in_ok-a.ensures c.in_ok-width.ensures) c.in_err-height.ensures)
 
-pub returns-in_default-past : goal.returns-in_default-past
-returns-in_default-past c =
-    left_no_past blank _ (after-height c.in-Good.ensures c.in-Good-spaced.ensures c.in-Good-spaced-2.ensures)
-    (told_blank c.in_default-past.ensures)
+pub returns-in_err-d : goal.returns-in_err-d
+returns-in_err-d c =
+    refused c.from_residual-in_err-d.ensures
+    (left_no_past blank _ (after-height c.in_ok-a.ensures c.in_ok-width.ensures c.in_ok-height.ensures) (told_blank c.in_err-d.ensures))
 
-pub returns-in_default-kind : goal.returns-in_default-kind
-returns-in_default-kind c =
-    left_no_then _ (after-blank c.in-Good.ensures c.in-Good-spaced.ensures c.in-Good-spaced-2.ensures c.in-Good-past.ensures)
-    c.in_default-kind.ensures
+pub returns-in_err-kind : goal.returns-in_err-kind
+returns-in_err-kind c =
+    refused c.from_residual-in_err-kind.ensures
+    (left_no_then _ (after-blank c.in_ok-a.ensures c.in_ok-width.ensures c.in_ok-height.ensures c.in_ok-d.ensures) c.in_err-kind.ensures)
 
-pub returns-in_default-close : goal.returns-in_default-close
-returns-in_default-close c =
-    left_no_past closed _
-    (after-kind c.in-Good.ensures c.in-Good-spaced.ensures c.in-Good-spaced-2.ensures c.in-Good-past.ensures c.in-Named.ensures)
-    c.in_default-close.ensures
+pub returns-in_err-f : goal.returns-in_err-f
+returns-in_err-f c =
+    refused c.from_residual-in_err-f.ensures
+    (left_no_past closed _ (after-kind c.in_ok-a.ensures c.in_ok-width.ensures c.in_ok-height.ensures c.in_ok-d.ensures c.in_ok-kind.ensures) c.in_err-f.ensures)
 
 pub returns : goal.returns
 returns c =
     left-past-give closed
-    (after-kind c.in-Good.ensures c.in-Good-spaced.ensures c.in-Good-spaced-2.ensures c.in-Good-past.ensures c.in-Named.ensures)
-    c.in-Good-close.ensures
+    (after-kind c.in_ok-a.ensures c.in_ok-width.ensures c.in_ok-height.ensures c.in_ok-d.ensures c.in_ok-kind.ensures)
+    c.in_ok-f.ensures
