@@ -10,7 +10,7 @@ ghost use Rattle.file_read.specs.Inner.Lines.{RowsNeeded, RowsRead, MapsNeeded};
 
 use pictures::LARGEST_SIDE;
 use pictures::numbers::{high_byte, low_byte};
-use text_read::{Cursor, Read};
+use text_read::Cursor;
 use text_theory::Head;
 
 // Reads the row lines into the front of the space, the picture of the file, and gives the place after them.
@@ -27,7 +27,7 @@ pub(crate) fn read_rows(file: &[u8], head: Head, rows: Cursor, space: &mut [u8])
     while r < height {
         let a = r * stride;
         let e = a + stride;
-        let Read::Good(_, next) = at.row(file, kind, &mut space[a..e]) else {
+        let Some((_, next)) = at.row(file, kind, &mut space[a..e]) else {
             // unreachable: the line has its form
             return at;
         };
@@ -50,7 +50,7 @@ pub(crate) fn read_maps(file: &[u8], head: Head, maps: Cursor, space: &mut [u16]
     while r < height {
         let a = r * width;
         let e = a + width;
-        let Read::Good(_, next) = at.map(file, &mut space[a..e]) else {
+        let Some((_, next)) = at.map(file, &mut space[a..e]) else {
             // unreachable: the line has its form
             return;
         };
@@ -85,7 +85,7 @@ pub(crate) fn record_maps(file: &[u8], head: Head, maps: Cursor, space: &mut [u8
     let mut at = maps;
     let mut r: usize = 0;
     while r < height {
-        let Read::Good(_, next) = at.map(file, &mut numbers[..width]) else {
+        let Some((_, next)) = at.map(file, &mut numbers[..width]) else {
             // unreachable: the line has its form
             return;
         };

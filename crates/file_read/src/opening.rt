@@ -5,15 +5,15 @@ ghost use Rattle.file_read.specs.Inner.Opening.{OpenGiven, Open, from_rows};
 
 use file_rules::Checked;
 use pictures::{Refusal, Verdict};
-use text_read::{Cursor, HeadRead};
-use text_scan::{Facts, Scanned};
+use text_read::Cursor;
+use text_scan::Facts;
 use text_theory::Head;
 
 // Which of 1 to 6 refuses a file; else its size and range.
 pub(crate) fn open(file: &[u8]) -> Checked
     ensures { OpenGiven file.now result }
 {
-    let Scanned::Formed(facts) = text_scan::scan(file) else {
+    let Some(facts) = text_scan::scan(file) else {
         return Checked::Refused(Refusal::Form);
     };
     let head = facts.head;
@@ -36,7 +36,7 @@ pub(crate) fn first_row(file: &[u8], head: Head) -> Cursor
     ensures { drop result.at file.now ≡ from_rows (parse file.now) }
 {
     let start = Cursor { at: 0 };
-    let HeadRead::Begun(_, c) = start.header(file) else {
+    let Some((_, c)) = start.header(file) else {
         // unreachable: the text has its form
         return start;
     };

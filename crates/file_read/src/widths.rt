@@ -6,7 +6,7 @@ ghost use Rattle.file_read.specs.Inner.Widths.{DrawNeeded, DrawGiven, drawn_in, 
 use crate::{checking, lines, opening};
 use file_rules::{Checked, Shown};
 use pictures::{LARGEST_SIDE, Size, Verdict};
-use text_read::{Cursor, Read};
+use text_read::Cursor;
 use text_theory::Head;
 
 // The picture that a file shows at the wanted width, put into the front of out, and its size. Refused by what checking
@@ -60,7 +60,7 @@ fn draw_rows(file: &[u8], head: Head, maps: Cursor, wanted: usize, space: &[u8],
     let mut at = maps;
     let mut r: usize = 0;
     while r < height {
-        let Read::Good(_, next) = at.map(file, &mut numbers[..width]) else {
+        let Some((_, next)) = at.map(file, &mut numbers[..width]) else {
             // unreachable: the line has its form
             return;
         };

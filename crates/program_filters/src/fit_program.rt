@@ -11,7 +11,7 @@ use pictures::{Refusal, Verdict, WORK_A_PIXEL};
 use program_netpbm::{OUTPUT_SPACE, Output};
 use program_rules::HELD_PIXELS;
 use text_print::Place;
-use text_read::{Cursor, HeadRead, Read};
+use text_read::Cursor;
 
 // What `fit` writes for an input: the picture that the file shows at the width, or a refusal.
 pub fn fit(input: &[u8], out: &mut [u8; OUTPUT_SPACE]) -> usize
@@ -22,7 +22,7 @@ pub fn fit(input: &[u8], out: &mut [u8; OUTPUT_SPACE]) -> usize
 }
 
 // The width line at the front of an input.
-fn width_line(input: &[u8]) -> Read
+fn width_line(input: &[u8]) -> Option<(usize, Cursor)>
     ensures { Told width_get input.now 0 (read result) }
 {
     program_netpbm::last_number(input, Cursor { at: 0 })
@@ -36,7 +36,7 @@ fn draw(input: &[u8], out: &mut [u8]) -> Output
     if let Verdict::Refused(why) = program_rules::judge_input(input.len()) {
         return Output::Refused(why);
     }
-    let Read::Good(width, c) = width_line(input) else {
+    let Some((width, c)) = width_line(input) else {
         return Output::Refused(Refusal::Form);
     };
     let at = c.at;
@@ -49,7 +49,7 @@ fn draw_file(file: &[u8], width: usize, out: &mut [u8]) -> Output
     ensures { PictureAnswered file.now width out.old result out.new }
 {
     let start = Cursor { at: 0 };
-    let HeadRead::Begun(head, _) = start.header(file) else {
+    let Some((head, _)) = start.header(file) else {
         return Output::Refused(Refusal::Form);
     };
     let size = head.size;

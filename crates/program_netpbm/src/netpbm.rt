@@ -12,7 +12,7 @@ use crate::output;
 use pictures::{Kind, Size};
 use text_lengths::Left;
 use text_print::Place;
-use text_read::{Class, Cursor, Read};
+use text_read::{Class, Cursor};
 
 // The size that a header says and the place of the samples after it; or the header is broken.
 #[derive(Clone, Copy)]
@@ -63,16 +63,12 @@ fn kind_by(magic: usize, maxval: usize) -> KindSaid
 }
 
 // The last number of a line, and the line end after it.
-pub fn last_number(text: &[u8], from: Cursor) -> Read
+pub fn last_number(text: &[u8], from: Cursor) -> Option<(usize, Cursor)>
     ensures { Told last_number text.now from.at (read result) }
 {
-    let Read::Good(n, c) = from.number(text) else {
-        return Read::Broken;
-    };
-    let Read::Good(_, d) = c.past(text, Class::LineEnd) else {
-        return Read::Broken;
-    };
-    Read::Good(n, d)
+    let (n, c) = from.number(text)?;
+    let d = c.past(text, Class::LineEnd)?;
+    Some((n, d))
 }
 
 // The header at the front of a text.
@@ -85,19 +81,19 @@ pub fn read_header(text: &[u8]) -> Header
     if text[0] != b'P' {
         return Header::Broken;
     }
-    let Read::Good(magic, a) = last_number(text, Cursor { at: 1 }) else {
+    let Some((magic, a)) = last_number(text, Cursor { at: 1 }) else {
         return Header::Broken;
     };
-    let Read::Good(width, b) = a.number(text) else {
+    let Some((width, b)) = a.number(text) else {
         return Header::Broken;
     };
-    let Read::Good(_, c) = b.past(text, Class::Blank) else {
+    let Some(c) = b.past(text, Class::Blank) else {
         return Header::Broken;
     };
-    let Read::Good(height, d) = last_number(text, c) else {
+    let Some((height, d)) = last_number(text, c) else {
         return Header::Broken;
     };
-    let Read::Good(maxval, e) = last_number(text, d) else {
+    let Some((maxval, e)) = last_number(text, d) else {
         return Header::Broken;
     };
     let KindSaid::Kind(kind) = kind_by(magic, maxval) else {

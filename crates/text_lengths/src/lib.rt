@@ -59,9 +59,7 @@ fn take_number(room: usize, n: usize) -> Left
 fn take_name(room: usize, name: Name) -> Left
     ensures { left_read result ≡ less room (suc (length (name_text name))) }
 {
-    let letters = text_rules::letters_of(name);
-    let count = letters.count;
-    take_after(room, count)
+    take_after(room, text_rules::letters_of(name).len())
 }
 
 // A number of a map as a count.

@@ -49,10 +49,7 @@ pub(crate) fn put_name(out: &mut [u8], at: usize, name: Name) -> usize
     requires { at + length (name_text name) ≤ length out.old }
     ensures { Printed out.old at (name_text name) out.new result }
 {
-    let letters = text_rules::letters_of(name);
-    let bytes = letters.bytes;
-    let count = letters.count;
-    put_bytes(out, at, &bytes[..count])
+    put_bytes(out, at, text_rules::letters_of(name))
 }
 
 // Writes an opening bracket and a line's name.

@@ -14,7 +14,7 @@ use text_theory::{Head, Name};
 
 // What is known of a file before its numbers are judged: its head, the numbers of row and map lines, and whether each
 // of them has as many items as the width says.
-#[derive(Clone, Copy)]
+#[derive(Clone, Copy, Debug, PartialEq, Eq)]
 pub struct Facts {
     pub head: Head,
     pub rows: usize,

@@ -18,7 +18,7 @@ pub enum Name {
 }
 
 // What the lines of size and range say, and the method by which the seams of the map are found.
-#[derive(Clone, Copy)]
+#[derive(Clone, Copy, Debug, PartialEq, Eq)]
 pub struct Head {
     pub size: Size,
     pub method: Method,
