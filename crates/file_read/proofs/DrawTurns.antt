@@ -16,7 +16,7 @@ use Rattle.pictures.specs.Pictures.{largest_side, channels_of, row_bytes, pictur
 use Rattle.text_theory.specs.declared.Head.{Head}
 use Rattle.text_theory.specs.Files.{parse}
 use Rattle.text_read.specs.declared.cursor.Cursor.{Cursor}
-use Rattle.text_read.specs.declared.cursor.Read.TheVariants as reads
+use Rattle.std.specs.Prelude as code
 use Rattle.text_read.specs.Answers.{read}
 use Rattle.text_read.specs.Lines.{map_line, Taken}
 use Rattle.map_show.specs.Showing.{row_shown, RowAtGiven}
@@ -85,14 +85,14 @@ module _ (before : List ℕ) {file : List ℕ} {h : Head} {first v : ℕ} {space
       long : h.size.width ≡ length (take h.size.width numbers)
       long = sym (length-take-le h.size.width numbers (omega (arith, known.sides.width_most)))
 
-      pub line-there : Taken map_line file at (take h.size.width numbers) (read reads.Broken) got → ⊥
-      line-there t = met_broken (map-met known r inside reads.Broken left long t)
+      pub line-there : Taken map_line file at (take h.size.width numbers) (read code.None) got → ⊥
+      line-there t = met_broken (map-met known r inside code.None left long t)
 
-      pub line_read : (n : ℕ) (c : Cursor) → Taken map_line file at (take h.size.width numbers) (read (reads.Good n c)) got
+      pub line_read : (n : ℕ) (c : Cursor) → Taken map_line file at (take h.size.width numbers) (read (code.Some (n, c))) got
           → MapsLeft file (r + 1) c.at × (got ≡ get_or (maps_in (parse file)) r [])
       line_read n c t =
-          let m = map-met known r inside (reads.Good n c) left long t in
-          (met_place n c m, met_filled (reads.Good n c) (each_at r [] inside known.maps_grid ∙ long) m)
+          let m = map-met known r inside (code.Some (n, c)) left long t in
+          (met_place n c m, met_filled (code.Some (n, c)) (each_at r [] inside known.maps_grid ∙ long) m)
 
       pub line-long : got ≡ get_or (maps_in (parse file)) r [] → length (got ++ drop h.size.width numbers) ≡ largest_side
       line-long e = length_front numbers got h.size.width (ap length e ∙ each_at r [] inside known.maps_grid ∙ long) ∙ many

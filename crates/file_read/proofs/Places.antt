@@ -22,8 +22,7 @@ use Rattle.text_theory.specs.declared.Head.{Head}
 use Rattle.text_theory.specs.Decimal.{digits}
 use Rattle.text_theory.specs.Files.{parse, each, row_word, map_word, line_text, pixel_text, closed, All, Pixel}
 use Rattle.text_read.specs.declared.cursor.Cursor.{Cursor}
-use Rattle.text_read.specs.declared.cursor.Read.{Read}
-use Rattle.text_read.specs.declared.cursor.Read.TheVariants as reads
+use Rattle.std.specs.Prelude as code
 use Rattle.text_read.specs.Answers.{read}
 use Rattle.text_read.specs.Lines.{row_line, map_line, Taken}
 use Rattle.text_read.proofs.Callers.{LineMet, rows_next, maps-next, taken_row, taken_map}
@@ -38,15 +37,15 @@ all_at P (x ∷ xs) (suc r) d a h = all_at P xs r d a.1 (le_of_suc-le-suc h)
 
 -- A line that was read: the place after it, and a space that it fills. A line that stands there is read.
 module _ {text : List ℕ} {at : ℕ} {values rest out : List ℕ} {out' : List ℕ} where
-  pub met_place : (n : ℕ) (c : Cursor) → LineMet text at values rest out (reads.Good n c) out' → drop c.at text ≡ rest
+  pub met_place : (n : ℕ) (c : Cursor) → LineMet text at values rest out (code.Some (n, c)) out' → drop c.at text ≡ rest
   met_place n c m =
       let e : c.at ≡ m.place.at = ap (λ (r : ℕ × ℕ). r.1) (some-injective (n, c.at) (length values, m.place.at) (ap read m.answer)) in
       ap (λ i. drop i text) e ∙ m.left
 
-  pub met_broken : LineMet text at values rest out reads.Broken out' → ⊥
+  pub met_broken : LineMet text at values rest out code.None out' → ⊥
   met_broken m = none-ne-some _ (ap read m.answer)
 
-  pub met_filled : (r : Read) → length values ≡ length out → LineMet text at values rest out r out' → out' ≡ values
+  pub met_filled : (r : code.Option (ℕ × Cursor)) → length values ≡ length out → LineMet text at values rest out r out' → out' ≡ values
   met_filled r e m = m.space ∙ ap (values ++◌) (drop_of_length-le out {i = length values} (omega arith)) ∙ append-nil values
 
 -- What stands at the place of row line r, and at that of map line r.
@@ -64,7 +63,7 @@ module _ {file : List ℕ} {h : Head} (k : Parsed file h) where
 
   -- The line at a place, read into a space that it fits.
   module _ (r : ℕ) (inside : r < h.size.height) where
-    pub row-met : {at : ℕ} {out out' : List ℕ} (a : Read) → RowsLeft file h.size.kind r at → row_bytes h.size ≡ length out → Taken (row_line h.size.kind) file at out (read a) out'
+    pub row-met : {at : ℕ} {out out' : List ℕ} (a : code.Option (ℕ × Cursor)) → RowsLeft file h.size.kind r at → row_bytes h.size ≡ length out → Taken (row_line h.size.kind) file at out (read a) out'
         → LineMet file at (flat (get_or (rows_in (parse file)) r [])) (each row_word (line_text (pixel_text h.size.kind)) (drop (r + 1) (rows_in (parse file))) ++ from_maps (parse file)) out a out'
     row-met a p e t =
         let rows = rows_in (parse file) in
@@ -74,7 +73,7 @@ module _ {file : List ℕ} {h : Head} (k : Parsed file h) where
         (all_at (All (Pixel h.size.kind)) rows r [] k.within.rows there)
         (omega (arith, length-flat (each_at r [] inside k.of_size)))
 
-    pub map-met : {at : ℕ} {out out' : List ℕ} (a : Read) → MapsLeft file r at → h.size.width ≡ length out → Taken map_line file at out (read a) out'
+    pub map-met : {at : ℕ} {out out' : List ℕ} (a : code.Option (ℕ × Cursor)) → MapsLeft file r at → h.size.width ≡ length out → Taken map_line file at out (read a) out'
         → LineMet file at (get_or (maps_in (parse file)) r []) (each map_word (line_text digits) (drop (r + 1) (maps_in (parse file))) ++ closed) out a out'
     map-met a p e t =
         let maps = maps_in (parse file) in

@@ -12,7 +12,7 @@ use Rattle.pictures.specs.Numbers.{pairs}
 use Rattle.text_theory.specs.declared.Head.{Head}
 use Rattle.text_theory.specs.Files.{parse}
 use Rattle.text_read.specs.declared.cursor.Cursor.{Cursor}
-use Rattle.text_read.specs.declared.cursor.Read.TheVariants as reads
+use Rattle.std.specs.Prelude as code
 use Rattle.text_read.specs.Answers.{read}
 use Rattle.text_read.specs.Lines.{row_line, map_line, Taken}
 use Rattle.file_theory.specs.Shows.{rows_in, maps_in}
@@ -23,25 +23,25 @@ use Rattle.file_read.proofs.Places.{RowsLeft, MapsLeft, met_place, met_broken, m
 -- A map line read into a space of just its numbers.
 module _ {file : List ℕ} {h : Head} (k : Parsed file h) (r at : ℕ) (out new : List ℕ)
     (inside : r < h.size.height) (left : MapsLeft file r at) (wide : h.size.width ≡ length out) where
-  pub map_there : Taken map_line file at out (read reads.Broken) new → ⊥
-  map_there t = met_broken (map-met k r inside reads.Broken left wide t)
+  pub map_there : Taken map_line file at out (read code.None) new → ⊥
+  map_there t = met_broken (map-met k r inside code.None left wide t)
 
-  pub map_read : (n : ℕ) (c : Cursor) → Taken map_line file at out (read (reads.Good n c)) new → MapsLeft file (r + 1) c.at × (new ≡ get_or (maps_in (parse file)) r [])
+  pub map_read : (n : ℕ) (c : Cursor) → Taken map_line file at out (read (code.Some (n, c))) new → MapsLeft file (r + 1) c.at × (new ≡ get_or (maps_in (parse file)) r [])
   map_read n c t =
-      let m = map-met k r inside (reads.Good n c) left wide t in
-      (met_place n c m, met_filled (reads.Good n c) (each_at r [] inside k.maps_grid ∙ wide) m)
+      let m = map-met k r inside (code.Some (n, c)) left wide t in
+      (met_place n c m, met_filled (code.Some (n, c)) (each_at r [] inside k.maps_grid ∙ wide) m)
 
 -- A row line read into a space of just its samples.
 module _ {file : List ℕ} {h : Head} (k : Parsed file h) (r at : ℕ) (out new : List ℕ)
     (inside : r < h.size.height) (left : RowsLeft file h.size.kind r at) (wide : row_bytes h.size ≡ length out) where
-  pub row_there : Taken (row_line h.size.kind) file at out (read reads.Broken) new → ⊥
-  row_there t = met_broken (row-met k r inside reads.Broken left wide t)
+  pub row_there : Taken (row_line h.size.kind) file at out (read code.None) new → ⊥
+  row_there t = met_broken (row-met k r inside code.None left wide t)
 
-  pub row_read : (n : ℕ) (c : Cursor) → Taken (row_line h.size.kind) file at out (read (reads.Good n c)) new
+  pub row_read : (n : ℕ) (c : Cursor) → Taken (row_line h.size.kind) file at out (read (code.Some (n, c))) new
       → RowsLeft file h.size.kind (r + 1) c.at × (new ≡ flat (get_or (rows_in (parse file)) r []))
   row_read n c t =
-      let m = row-met k r inside (reads.Good n c) left wide t in
-      (met_place n c m, met_filled (reads.Good n c) (length-flat (each_at r [] inside k.of_size) ∙ wide) m)
+      let m = row-met k r inside (code.Some (n, c)) left wide t in
+      (met_place n c m, met_filled (code.Some (n, c)) (length-flat (each_at r [] inside k.of_size) ∙ wide) m)
 
 -- Into the next part of a space for all rows: samples, numbers, or the bytes of numbers.
 module _ {file : List ℕ} {h : Head} (k : Parsed file h) (s r a e : ℕ) (now new before : List ℕ)

@@ -30,7 +30,7 @@ loop-r-preserved c =
     let p = part a.head.size.width a.head.size.height at.r at.space (omega (arith, at.invariant.1, c.requires.room)) l in
     let start = at.r * a.head.size.width in
     let end = at.r * a.head.size.width + a.head.size.width in
-    let t = map_read k at.r at.at.at _ c.map.new.out l at.invariant.2 p c.in-Good.field-0 c.in-Good.next c.in-Good.ensures in (
+    let t = map_read k at.r at.at.at _ c.map.new.out l at.invariant.2 p c.in-Some.field-0 c.in-Some.next c.in-Some.ensures in (
       omega arith,
       same_len_mid start (end - start) at.space c.map.new.out c.map.auto.out ∙ at.invariant.1,
       t.0,

@@ -41,7 +41,7 @@ loop-r-preserved c =
     let s = a.head.size.width * c.channels.result in
     let start = at.r * (a.head.size.width * c.channels.result) in
     let end = at.r * (a.head.size.width * c.channels.result) + a.head.size.width * c.channels.result in
-    let t = row_read k at.r at.at.at _ c.row.new.out l at.invariant.2 p c.in-Good.field-0 c.in-Good.next c.in-Good.ensures in (
+    let t = row_read k at.r at.at.at _ c.row.new.out l at.invariant.2 p c.in-Some.field-0 c.in-Some.next c.in-Some.ensures in (
       omega arith,
       same_len_mid start (end - start) at.space c.row.new.out c.row.auto.out ∙ at.invariant.1,
       t.0,

@@ -6,4 +6,4 @@ pub returns-in_default : goal.returns-in_default
 returns-in_default c = absurd (head_there c.args.file.now c.args.head c.requires c.in_default.ensures)
 
 pub returns : goal.returns
-returns c = head_place c.args.file.now c.args.head c.requires c.in-Begun.field-0 c.in-Begun.c.at c.in-Begun.ensures
+returns c = head_place c.args.file.now c.args.head c.requires c.in-Some.field-0 c.in-Some.c.at c.in-Some.ensures

@@ -33,7 +33,7 @@ loop-r-preserved c =
     let at = c.loop-r in
     let inside = c.loop-r-test.true in
     let got = c.map.new.out in
-    let line = line_read c.args.out.now c.requires at.r inside at.numbers at.invariant.2 at.at.at at.invariant.3 got c.in-Good.field-0 c.in-Good.next c.in-Good.ensures in (
+    let line = line_read c.args.out.now c.requires at.r inside at.numbers at.invariant.2 at.at.at at.invariant.3 got c.in-Some.field-0 c.in-Some.next c.in-Some.ensures in (
       omega arith,
       row-long c.args.out.now c.requires at.r inside at.numbers got line.1 _ _ c.channels.ensures c.channels-2.ensures at.out _ at.invariant.1 _ c.row_at.ensures,
       line-long c.args.out.now c.requires at.r inside at.numbers at.invariant.2 at.at.at at.invariant.3 got line.1,

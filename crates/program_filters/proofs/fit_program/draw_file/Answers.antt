@@ -23,7 +23,7 @@ draw_in-requires c =
     let by = c.channels-room.ensures in
     record {
       held = λ p e.
-          length-take-le _ _ (room_most c.in-Begun.head.size.kind _ by)
-          ∙ ap (λ n. held_pixels * n) (by ∙ sym (ap (λ (h : Head). channels_of h.size.kind) (same_head c.in-Begun.ensures p e)));
+          length-take-le _ _ (room_most c.in-Some.head.size.kind _ by)
+          ∙ ap (λ n. held_pixels * n) (by ∙ sym (ap (λ (h : Head). channels_of h.size.kind) (same_head c.in-Some.ensures p e)));
       room = c.requires;
     }

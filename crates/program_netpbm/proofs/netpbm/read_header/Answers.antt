@@ -49,54 +49,54 @@ returns-in_default c = left_no_last from-width (letter (omega (arith, c.if-text-
 
 pub returns-in_default-number : goal.returns-in_default-number
 returns-in_default-number c =
-    let magic = left_last from-width (letter (omega (arith, c.if-text-eq0.false)) c.if-text-ne80.false) c.in-Good.ensures in
+    let magic = left_last from-width (letter (omega (arith, c.if-text-eq0.false)) c.if-text-ne80.false) c.in-Some.ensures in
     left_no_then _ magic c.in_default-number.ensures
 
 pub returns-in_default-past : goal.returns-in_default-past
 returns-in_default-past c =
-    let p = c.in-Good.magic in
-    let magic = left_last from-width (letter (omega (arith, c.if-text-eq0.false)) c.if-text-ne80.false) c.in-Good.ensures in
-    let width = left_then (λ w. after blank (from-height p w)) magic c.in-Good-number.ensures in
+    let p = c.in-Some.magic in
+    let magic = left_last from-width (letter (omega (arith, c.if-text-eq0.false)) c.if-text-ne80.false) c.in-Some.ensures in
+    let width = left_then (λ w. after blank (from-height p w)) magic c.in-Some-number.ensures in
     left_no_past blank _ width (told_blank c.in_default-past.ensures)
 
 pub returns-in_default-last_number : goal.returns-in_default-last_number
 returns-in_default-last_number c =
-    let p = c.in-Good.magic in
-    let magic = left_last from-width (letter (omega (arith, c.if-text-eq0.false)) c.if-text-ne80.false) c.in-Good.ensures in
-    let width = left_then (λ w. after blank (from-height p w)) magic c.in-Good-number.ensures in
-    let sep = left-past blank width (told_blank c.in-Good-past.ensures) in
+    let p = c.in-Some.magic in
+    let magic = left_last from-width (letter (omega (arith, c.if-text-eq0.false)) c.if-text-ne80.false) c.in-Some.ensures in
+    let width = left_then (λ w. after blank (from-height p w)) magic c.in-Some-number.ensures in
+    let sep = left-past blank width (told_blank c.in-Some-past.ensures) in
     left_no_last _ sep c.in_default-last_number.ensures
 
 pub returns-in_default-last_number-2 : goal.returns-in_default-last_number-2
 returns-in_default-last_number-2 c =
-    let p = c.in-Good.magic in
-    let w = c.in-Good-number.width in
-    let magic = left_last from-width (letter (omega (arith, c.if-text-eq0.false)) c.if-text-ne80.false) c.in-Good.ensures in
-    let width = left_then (λ w. after blank (from-height p w)) magic c.in-Good-number.ensures in
-    let sep = left-past blank width (told_blank c.in-Good-past.ensures) in
-    let height = left_last (from-maxval p w) sep c.in-Good-last_number.ensures in
+    let p = c.in-Some.magic in
+    let w = c.in-Some-number.width in
+    let magic = left_last from-width (letter (omega (arith, c.if-text-eq0.false)) c.if-text-ne80.false) c.in-Some.ensures in
+    let width = left_then (λ w. after blank (from-height p w)) magic c.in-Some-number.ensures in
+    let sep = left-past blank width (told_blank c.in-Some-past.ensures) in
+    let height = left_last (from-maxval p w) sep c.in-Some-last_number.ensures in
     left_no_last _ height c.in_default-last_number-2.ensures
 
 pub returns-in_default-kind_by : goal.returns-in_default-kind_by
 returns-in_default-kind_by c =
-    let p = c.in-Good.magic in
-    let w = c.in-Good-number.width in
-    let h = c.in-Good-last_number.height in
-    let magic = left_last from-width (letter (omega (arith, c.if-text-eq0.false)) c.if-text-ne80.false) c.in-Good.ensures in
-    let width = left_then (λ w. after blank (from-height p w)) magic c.in-Good-number.ensures in
-    let sep = left-past blank width (told_blank c.in-Good-past.ensures) in
-    let height = left_last (from-maxval p w) sep c.in-Good-last_number.ensures in
-    let maxval = left_last (from-kind p w h) height c.in-Good-last_number-2.ensures in
+    let p = c.in-Some.magic in
+    let w = c.in-Some-number.width in
+    let h = c.in-Some-last_number.height in
+    let magic = left_last from-width (letter (omega (arith, c.if-text-eq0.false)) c.if-text-ne80.false) c.in-Some.ensures in
+    let width = left_then (λ w. after blank (from-height p w)) magic c.in-Some-number.ensures in
+    let sep = left-past blank width (told_blank c.in-Some-past.ensures) in
+    let height = left_last (from-maxval p w) sep c.in-Some-last_number.ensures in
+    let maxval = left_last (from-kind p w h) height c.in-Some-last_number-2.ensures in
     left-unknown _ _ maxval c.in_default-kind_by.ensures
 
 pub returns : goal.returns
 returns c =
-    let p = c.in-Good.magic in
-    let w = c.in-Good-number.width in
-    let h = c.in-Good-last_number.height in
-    let magic = left_last from-width (letter (omega (arith, c.if-text-eq0.false)) c.if-text-ne80.false) c.in-Good.ensures in
-    let width = left_then (λ w. after blank (from-height p w)) magic c.in-Good-number.ensures in
-    let sep = left-past blank width (told_blank c.in-Good-past.ensures) in
-    let height = left_last (from-maxval p w) sep c.in-Good-last_number.ensures in
-    let maxval = left_last (from-kind p w h) height c.in-Good-last_number-2.ensures in
-    left-give (left-known _ _ maxval c.in-Kind.ensures) (omega arith) c.in-Good-last_number-2.ensures.moved
+    let p = c.in-Some.magic in
+    let w = c.in-Some-number.width in
+    let h = c.in-Some-last_number.height in
+    let magic = left_last from-width (letter (omega (arith, c.if-text-eq0.false)) c.if-text-ne80.false) c.in-Some.ensures in
+    let width = left_then (λ w. after blank (from-height p w)) magic c.in-Some-number.ensures in
+    let sep = left-past blank width (told_blank c.in-Some-past.ensures) in
+    let height = left_last (from-maxval p w) sep c.in-Some-last_number.ensures in
+    let maxval = left_last (from-kind p w h) height c.in-Some-last_number-2.ensures in
+    left-give (left-known _ _ maxval c.in-Kind.ensures) (omega arith) c.in-Some-last_number-2.ensures.moved
