@@ -1,12 +1,11 @@
 -- What the private functions of this crate ask and promise. No public promise cites it.
 use Rattle.pictures.specs.declared.refusals.Refusal.{Refusal}
-use Rattle.std.specs.Prelude.{◌≡◌, true, false, List, [], ◌∷◌, ◌++◌, ℕ, ◌+◌, length, take, drop, replicate, Result}
+use Rattle.std.specs.Prelude.{◌≡◌, true, false, List, [], ◌∷◌, ◌++◌, ℕ, ◌+◌, length, take, drop, replicate}
 use Rattle.pictures.specs.declared.sizes.Size.{Size}
-use Rattle.pictures.specs.Refusals.{◌when◌, refusal, worked}
+use Rattle.pictures.specs.Refusals.{◌when◌, number_of, refusal, worked}
 use Rattle.pictures.specs.Pictures.{picture_bytes, pixels}
 use Rattle.seam_rules.specs.declared.answers.Axis.{Axis}
 use Rattle.seam_rules.specs.Cuts.{find_rules, last_along}
-use Rattle.seam_rules.specs.Answers.{found_number, found_cost}
 use Rattle.seam_find.specs.Finding.{find_in_rules}
 
 -- Nothing refuses finding.
@@ -19,10 +18,9 @@ pub record CutNeeded (b : List ℕ) (z : Size) (x : Axis) (seam work : List ℕ)
   pub more : last_along x z ≡ false
 
 -- What refuses finding with so much room for the seam, else 13; the places after the picture cleared unless 1 to 8 refuse.
-pub record LastInGiven (space : List ℕ) (z : Size) (room : ℕ) (answer : Result ℕ Refusal) (space' : List ℕ) : Type 0 where
-  pub number : found_number answer ≡ refusal (find_in_rules z (length space) room ++ (13 when true ∷ []))
-  pub cost : found_cost answer ≡ 0
+pub record LastInGiven (space : List ℕ) (z : Size) (room : ℕ) (why : Refusal) (space' : List ℕ) : Type 0 where
+  pub number : number_of why ≡ refusal (find_in_rules z (length space) room ++ (13 when true ∷ []))
   pub space_left :
-      space' ≡ worked (found_number answer)
+      space' ≡ worked (number_of why)
       (take (picture_bytes z) space ++ (replicate (pixels z) 0 ++ drop (picture_bytes z + pixels z) space))
       space

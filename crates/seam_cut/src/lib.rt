@@ -3,13 +3,14 @@
 
 pub mod front;
 
+ghost use Rattle.std.specs.Prelude.{Ok};
 ghost use Rattle.seam_cut.specs.Cutting.{FindGiven, CutGiven};
 ghost use Rattle.seam_cut.specs.Inner.{FindNeeded, CutNeeded};
 
 use energy::Method;
 pub use front::cut_in;
-use pictures::{Refusal, Size, Verdict};
-use seam_rules::{Axis, Found};
+use pictures::{Refusal, Size};
+use seam_rules::Axis;
 
 // The seam along the axis, put into the front of seam, and its cost. Refused by 2, 3, 4 and 8.
 pub fn find(
@@ -19,14 +20,11 @@ pub fn find(
     axis: Axis,
     seam: &mut [u16],
     work: &mut [u8],
-) -> Found
+) -> Result<u64, Refusal>
     ensures { FindGiven picture.now size method axis seam.old work.old result seam.new work.new }
 {
-    let fits = seam_rules::judge_find(size, axis, picture.len(), seam.len(), work.len());
-    if let Verdict::Refused(why) = fits {
-        return Found::Refused(why);
-    }
-    seam_along(picture, size, method, axis, seam, work)
+    seam_rules::judge_find(size, axis, picture.len(), seam.len(), work.len())?;
+    Ok(seam_along(picture, size, method, axis, seam, work))
 }
 
 // Cuts the seam along the axis out of the picture and gives it as `find` does. The rows then lie packed at the front of the
@@ -38,18 +36,15 @@ pub fn cut(
     axis: Axis,
     seam: &mut [u16],
     work: &mut [u8],
-) -> Found
+) -> Result<u64, Refusal>
     ensures { CutGiven picture.old size method axis seam.old work.old result picture.new seam.new work.new }
 {
-    let fits = seam_rules::judge_find(size, axis, picture.len(), seam.len(), work.len());
-    if let Verdict::Refused(why) = fits {
-        return Found::Refused(why);
-    }
+    seam_rules::judge_find(size, axis, picture.len(), seam.len(), work.len())?;
     if seam_rules::takes_last(axis, size) {
         pictures::clear(work);
-        return Found::Refused(Refusal::LastLine);
+        return Err(Refusal::LastLine);
     }
-    cut_along(picture, size, method, axis, seam, work)
+    Ok(cut_along(picture, size, method, axis, seam, work))
 }
 
 // The seam where nothing is refused: found in the picture turned, which stands in the work space.
@@ -60,15 +55,15 @@ fn seam_along(
     axis: Axis,
     seam: &mut [u16],
     work: &mut [u8],
-) -> Found
+) -> u64
     requires { FindNeeded picture.now size axis seam.old work.old }
-    ensures { FindGiven picture.now size method axis seam.old work.old result seam.new work.new }
+    ensures { FindGiven picture.now size method axis seam.old work.old (Ok result) seam.new work.new }
 {
     let turned = seam_rules::turned_size(axis, size);
-    seam_turn::turn(picture, size, axis, work);
-    let found = seam_find::find_in(work, turned, method, seam);
+    seam_turn::turn(picture, size, axis, work).unwrap();
+    let cost = seam_find::find_in(work, turned, method, seam).unwrap();
     pictures::clear(work);
-    found
+    cost
 }
 
 // The cut where nothing is refused.
@@ -79,13 +74,12 @@ fn cut_along(
     axis: Axis,
     seam: &mut [u16],
     work: &mut [u8],
-) -> Found
+) -> u64
     requires { CutNeeded picture.old size axis seam.old work.old }
-    ensures { CutGiven picture.old size method axis seam.old work.old result picture.new seam.new work.new }
+    ensures { CutGiven picture.old size method axis seam.old work.old (Ok result) picture.new seam.new work.new }
 {
     let turned = seam_rules::turned_size(axis, size);
-    let long = turned.height;
-    let found = seam_along(picture, size, method, axis, seam, work);
-    seam_turn::close(picture, size, axis, &seam[..long], work);
-    found
+    let cost = seam_along(picture, size, method, axis, seam, work);
+    seam_turn::close(picture, size, axis, &seam[..turned.height], work).unwrap();
+    cost
 }

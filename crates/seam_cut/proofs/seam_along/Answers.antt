@@ -1,19 +1,60 @@
 -- `seam_cut::seam_along` meets its contract: turning is served, and the seam is found in the picture that then stands at the
 -- front of the work space.
-use Rattle.std.proofs.Common.{◌≡◌, ◌++◌, length, take, drop, replicate, ap, sym, ◌∙◌, arith}
+use Rattle.std.proofs.Common.{◌≡◌, List, ℕ, Result, ◌++◌, ◌≤◌, length, take, drop, replicate, ap, sym, ◌∙◌, arith}
+use Rattle.pictures.specs.declared.refusals.Refusal.{Refusal}
+use Rattle.pictures.specs.declared.sizes.Size.{Size}
 use Rattle.pictures.specs.Pictures.{picture_bytes, picture, bytes}
 use Rattle.pictures.proofs.Limits.{sized_is, bytes-few}
+use Rattle.energy.specs.declared.methods.Method.{Method}
 use Rattle.seam_theory.specs.PictureSeams.{seam_of, cost_of}
 use Rattle.seam_find.specs.Finding.{FindInGiven}
+use Rattle.seam_rules.specs.Answers.{found_cost}
 use Rattle.seam_rules.specs.Axes.{turned_size}
+use Rattle.seam_rules.specs.declared.answers.Axis.{Axis}
 use Rattle.seam_turn.specs.Axes.{turned}
 use Rattle.seam_cut.specs.Axes.{seam_along, cost_along}
+use Rattle.seam_cut.specs.Inner.{FindNeeded}
 use Rattle.seam_rules.proofs.Turns.{turned-bytes, turned-pixels, turned-sides}
-use Rattle.seam_rules.proofs.Rooms.{find_room}
+use Rattle.seam_rules.proofs.Rooms.{FindRoom, find_room}
+use Rattle.seam_close.proofs.Answered.{is_served}
 use Rattle.seam_turn.proofs.Turned.{turned-picture}
 use Rattle.seam_turn.proofs.Served.{turn_served}
-use Rattle.seam_cut.proofs.FindIn.{find_served}
+use Rattle.seam_turn.proofs.Answered.{turn_ok}
+use Rattle.seam_cut.proofs.FindIn.{FoundThere, find_served}
 use Rattle.seam_cut.proofs.seam_along.Goals as goal
+
+module _ (x : Axis) (z : Size) (b seam work : List ℕ) (needed : FindNeeded b z x seam work) where
+  -- the buffers have room
+  rooms : FindRoom x z (length b) (length seam) (length work)
+  rooms = find_room x z (length b) (length seam) (length work) needed.found
+
+  fits : picture_bytes z ≤ length work
+  fits = omega (arith, bytes-few z, rooms.work_room)
+
+  -- in the picture turned, which stands at the front of the work space, the seam is found
+  there : (front : List ℕ) → length front ≡ length work → (how : Method) (answer : Result ℕ Refusal) (front' seam' : List ℕ)
+      → FindInGiven front (turned_size x z) how seam answer front' seam' → FoundThere front (turned_size x z) how seam answer front' seam'
+  there front kept how answer front' seam' found =
+      find_served front (turned_size x z) how seam answer front' seam' found
+      (turned-sides x z (length b) (sized_is _ _ rooms.sized)) rooms.seam_room
+      (omega (arith, turned-bytes x z, turned-pixels x z, bytes-few z, rooms.work_room, kept))
+
+pub unwrap-requires : goal.unwrap-requires
+unwrap-requires c =
+    let a = c.args in
+    let r = rooms a.axis a.size a.picture.now a.seam.now a.work.now c.requires in
+    turn_ok a.picture.now a.size a.axis a.work.now c.turn.new.to c.turn.result c.turn.ensures r.sized
+    (fits a.axis a.size a.picture.now a.seam.now a.work.now c.requires)
+
+pub unwrap-cost-requires : goal.unwrap-cost-requires
+unwrap-cost-requires c =
+    let a = c.args in
+    let f = c.find_in in
+    let found : FindInGiven c.turn.new.to (turned_size a.axis a.size) a.method a.seam.now f.result f.new.space f.new.seam =
+    rw c.turned_size-turned.ensures at f.ensures
+    in
+    is_served f.result
+    (there a.axis a.size a.picture.now a.seam.now a.work.now c.requires c.turn.new.to c.turn.auto.to a.method f.result f.new.space f.new.seam found).number
 
 pub returns : goal.returns
 unfolding seam_along cost_along
@@ -23,27 +64,24 @@ returns c =
     let b = a.picture.now in
     let t = turned_size a.axis z in
     let front = c.turn.new.to in
-    let f = c.find_in-found in
-    let rooms = find_room a.axis z (length b) (length a.seam.now) (length a.work.now) c.requires.found in
-    let sure = sized_is _ _ rooms.sized in
+    let f = c.find_in in
+    let sure = sized_is _ _ (rooms a.axis z b a.seam.now a.work.now c.requires).sized in
     -- what turning leaves in the work space
     let turned_is : front ≡ bytes (turned a.axis z.width (picture z b)) ++ drop (picture_bytes z) a.work.now =
-    turn_served b z a.axis a.work.now front c.turn.result c.turn.ensures rooms.sized (omega (arith, bytes-few z, rooms.work_room))
+    turn_served b z a.axis a.work.now front c.turn.result c.turn.ensures
+    (rooms a.axis z b a.seam.now a.work.now c.requires).sized
+    (fits a.axis z b a.seam.now a.work.now c.requires)
     in
-    -- the turned picture stands at its front
-    let found : FindInGiven front c.turned_size-turned.result a.method a.seam.now f.result f.new.space f.new.seam = f.ensures in
-    let there =
-    find_served front t a.method a.seam.now f.result f.new.space f.new.seam
-    (rw c.turned_size-turned.ensures at found)
-    (turned-sides a.axis z (length b) sure) rooms.seam_room
-    (omega (arith, turned-bytes a.axis z, turned-pixels a.axis z, bytes-few z, rooms.work_room, c.turn.auto.to))
+    let found : FindInGiven front t a.method a.seam.now f.result f.new.space f.new.seam =
+    rw c.turned_size-turned.ensures at f.ensures
     in
+    let known = there a.axis z b a.seam.now a.work.now c.requires front c.turn.auto.to a.method f.result f.new.space f.new.seam found in
     let seen : picture t (take (picture_bytes t) front) ≡ turned a.axis z.width (picture z b) =
     turned-picture a.axis z b front (drop (picture_bytes z) a.work.now) sure.length_is turned_is
     in
     record {
-      number = there.number ∙ sym c.requires.found;
-      cost = rw there.number (there.cost ∙ ap (cost_of a.method t.width t.height) seen);
-      seam_given = rw there.number (there.seam_given ∙ ap (λ p. seam_of a.method t.width t.height p ++ drop t.height a.seam.now) seen);
-      work_left = rw there.number (c.clear.ensures ∙ ap (λ n. replicate n 0) (f.auto.space ∙ c.turn.auto.to));
+      number = sym c.requires.found;
+      cost = sym (ap found_cost c.unwrap-cost.ensures) ∙ known.cost ∙ ap (cost_of a.method t.width t.height) seen;
+      seam_given = known.seam_given ∙ ap (λ p. seam_of a.method t.width t.height p ++ drop t.height a.seam.now) seen;
+      work_left = c.clear.ensures ∙ ap (λ n. replicate n 0) (f.auto.space ∙ c.turn.auto.to);
     }
