@@ -2,7 +2,7 @@
 use Rattle.pictures.specs.declared.refusals.Refusal.{Refusal}
 use Rattle.std.specs.Prelude.{◌≡◌, false, cond, List, ◌++◌, ℕ, ◌+◌, ◌≤◌, length, drop, replicate, Result}
 use Rattle.pictures.specs.declared.sizes.Size.{Size}
-use Rattle.pictures.specs.Refusals.{refusal, served}
+use Rattle.pictures.specs.Refusals.{number_of, refusal, served}
 use Rattle.pictures.specs.Pictures.{size_rules, picture_bytes, picture, pixels, marks_of}
 use Rattle.energy.specs.declared.methods.Method.{Method}
 use Rattle.seam_rules.specs.Answers.{found_number, found_cost}
@@ -45,8 +45,7 @@ pub record CutAlongGiven (b m : List ℕ) (z : Size) (how : Method) (x : Axis) (
   pub picture_left : b' ≡ served (found_number answer) (closed_along x z (marked_seam_along how x z (picture z b) (marks_of z m)) b) b
   pub marks_left : m' ≡ served (found_number answer) (closed_marks x z (marked_seam_along how x z (picture z b) (marks_of z m)) m) m
 
--- At the last column or row 12, else 13, and no seam.
-pub record LastGiven (b m : List ℕ) (z : Size) (how : Method) (x : Axis) (work : List ℕ) (answer : Result ℕ Refusal) (work' : List ℕ) : Type 0 where
-  pub number : found_number answer ≡ cond (blocked_along how x z (picture z b) (marks_of z m)) 12 13
-  pub cost : found_cost answer ≡ 0
+-- At the last column or row 12, else 13.
+pub record LastGiven (b m : List ℕ) (z : Size) (how : Method) (x : Axis) (work : List ℕ) (why : Refusal) (work' : List ℕ) : Type 0 where
+  pub number : number_of why ≡ cond (blocked_along how x z (picture z b) (marks_of z m)) 12 13
   pub work_left : work' ≡ replicate (length work) 0

@@ -10,8 +10,8 @@ ghost use Rattle.seam_cut_marked.specs.Marking.{mark_rules, FindMarkedGiven, Cut
 ghost use Rattle.seam_cut_marked.specs.Inner.{MarkedNeeded, MarkedAlongGiven, CutMarkedNeeded, CutAlongGiven, LastGiven};
 
 use energy::Method;
-use pictures::{LARGEST_SIDE, Refusal, Size, Verdict};
-use seam_rules::{Axis, Found};
+use pictures::{LARGEST_SIDE, Refusal, Size};
+use seam_rules::Axis;
 
 // The seam along the axis by the marks, put into the front of seam, and its cost. Refused by 2, 3, 4, 5 and 8, and by 12
 // where every seam meets a protected pixel.
@@ -23,13 +23,10 @@ pub fn find_marked(
     axis: Axis,
     seam: &mut [u16],
     work: &mut [u8],
-) -> Found
+) -> Result<u64, Refusal>
     ensures { FindMarkedGiven picture.now marks.now size method axis seam.old work.old result seam.new work.new }
 {
-    let fits = judge_marked(picture.len(), marks, size, axis, seam.len(), work.len());
-    if let Verdict::Refused(why) = fits {
-        return Found::Refused(why);
-    }
+    judge_marked(picture.len(), marks, size, axis, seam.len(), work.len())?;
     marked_along(picture, marks, size, method, axis, seam, work)
 }
 
@@ -43,15 +40,12 @@ pub fn cut_marked(
     axis: Axis,
     seam: &mut [u16],
     work: &mut [u8],
-) -> Found
+) -> Result<u64, Refusal>
     ensures { CutMarkedGiven picture.old marks.old size method axis seam.old work.old result picture.new marks.new seam.new work.new }
 {
-    let fits = judge_marked(picture.len(), marks, size, axis, seam.len(), work.len());
-    if let Verdict::Refused(why) = fits {
-        return Found::Refused(why);
-    }
+    judge_marked(picture.len(), marks, size, axis, seam.len(), work.len())?;
     if seam_rules::takes_last(axis, size) {
-        return last_marked(picture, marks, size, method, axis, work);
+        return Err(last_marked(picture, marks, size, method, axis, work));
     }
     cut_marked_along(picture, marks, size, method, axis, seam, work)
 }
@@ -64,15 +58,12 @@ pub fn judge_marked(
     axis: Axis,
     seam: usize,
     work: usize,
-) -> Verdict
+) -> Result<(), Refusal>
     ensures { given result ≡ refusal (size_rules size bytes ++ (mark_rules size marks.now ++ room_rules axis size seam work)) }
 {
-    let fits = seam_rules::judge_marks(size, bytes, marks.len());
-    let Verdict::Served = fits else {
-        return fits;
-    };
+    seam_rules::judge_marks(size, bytes, marks.len())?;
     if has_over_two(marks) {
-        return Verdict::Refused(Refusal::Mark);
+        return Err(Refusal::Mark);
     }
     seam_rules::judge_find(size, axis, bytes, seam, work)
 }
@@ -82,10 +73,9 @@ fn has_over_two(marks: &[u8]) -> bool
     ensures { result ≡ outside 3 marks.now }
 {
     let mut over = false;
-    for i in 0..marks.len() {
-        if !seam_rules::allows_mark(marks[i]) {
-            over = true;
-        }
+    // `any` ends early, and then looks at one mark at a time: it takes 25 times as long where none is over 2
+    for mark in marks {
+        over |= !seam_rules::allows_mark(*mark);
     }
     over
 }
@@ -100,15 +90,14 @@ fn marked_along(
     axis: Axis,
     seam: &mut [u16],
     work: &mut [u8],
-) -> Found
+) -> Result<u64, Refusal>
     requires { MarkedNeeded picture.now marks.now size axis seam.old work.old }
     ensures { MarkedAlongGiven picture.now marks.now size method axis seam.old work.old result seam.new work.new }
 {
-    let bytes = picture.len();
     let turned = seam_rules::turned_size(axis, size);
     let marked = seam_rules::grey(size);
-    seam_turn::turn(picture, size, axis, work);
-    seam_turn::turn(marks, marked, axis, &mut work[bytes..]);
+    seam_turn::turn(picture, size, axis, work).unwrap();
+    seam_turn::turn(marks, marked, axis, &mut work[picture.len()..]).unwrap();
     let found = seam_find_marked::find_marked_in(work, turned, method, seam);
     pictures::clear(work);
     found
@@ -122,16 +111,15 @@ fn last_marked(
     method: Method,
     axis: Axis,
     work: &mut [u8],
-) -> Found
+) -> Refusal
     requires { MarkedNeeded picture.now marks.now size axis (replicate largest_side 0) work.old }
     ensures { LastGiven picture.now marks.now size method axis work.old result work.new }
 {
     let mut spare = [0u16; LARGEST_SIDE];
-    let found = marked_along(picture, marks, size, method, axis, &mut spare, work);
-    let Found::Seam(_) = found else {
-        return found;
-    };
-    Found::Refused(Refusal::LastLine)
+    match marked_along(picture, marks, size, method, axis, &mut spare, work) {
+        Ok(_) => Refusal::LastLine,
+        Err(why) => why,
+    }
 }
 
 // The cut where only 12 may refuse it.
@@ -143,18 +131,14 @@ fn cut_marked_along(
     axis: Axis,
     seam: &mut [u16],
     work: &mut [u8],
-) -> Found
+) -> Result<u64, Refusal>
     requires { CutMarkedNeeded picture.old marks.old size axis seam.old work.old }
     ensures { CutAlongGiven picture.old marks.old size method axis seam.old work.old result picture.new marks.new seam.new work.new }
 {
     let turned = seam_rules::turned_size(axis, size);
-    let long = turned.height;
     let marked = seam_rules::grey(size);
-    let found = marked_along(picture, marks, size, method, axis, seam, work);
-    let Found::Seam(_) = found else {
-        return found;
-    };
-    seam_turn::close(picture, size, axis, &seam[..long], work);
-    seam_turn::close(marks, marked, axis, &seam[..long], work);
-    found
+    let cost = marked_along(picture, marks, size, method, axis, seam, work)?;
+    seam_turn::close(picture, size, axis, &seam[..turned.height], work).unwrap();
+    seam_turn::close(marks, marked, axis, &seam[..turned.height], work).unwrap();
+    Ok(cost)
 }

@@ -1,13 +1,12 @@
 -- `seam_cut_marked::cut_marked` meets its contract: `judge_marked` gives the numbers to 8; `last_marked` gives 12 or 13 at the
 -- last column or row, and `cut_marked_along` all else.
-use Rattle.std.proofs.Common.{◌≡◌, Bool, true, false, cond, List, ◌∷◌, ◌++◌, ℕ, ◌≤◌, length, drop, replicate, refl, sym, ap, ◌∙◌}
+use Rattle.std.proofs.Common.{◌≡◌, Bool, true, false, cond, List, ◌∷◌, ◌++◌, ℕ, length, drop, replicate, Err, refl, sym, ap, ◌∙◌, rules}
 use Rattle.pictures.specs.declared.sizes.Size.{Size}
-use Rattle.pictures.specs.Refusals.{◌when◌, Rule, number_of, given, refusal}
+use Rattle.pictures.specs.Refusals.{◌when◌, Rule, number_of, refusal}
 use Rattle.pictures.specs.Pictures.{size_rules, picture, marks_of}
 use Rattle.pictures.proofs.Rules.{served-first, refused_answer, kept_by, refusal-most}
 use Rattle.energy.specs.declared.methods.Method.{Method}
 use Rattle.seam_rules.specs.declared.answers.Axis.{Axis}
-use Rattle.seam_rules.specs.Answers.{found_number}
 use Rattle.seam_rules.specs.Axes.{turned_size}
 use Rattle.seam_rules.specs.Cuts.{room_rules, last_along, last_rules}
 use Rattle.seam_rules.proofs.Rooms.{work_as_was}
@@ -34,27 +33,27 @@ rest : (how : Method) (x : Axis) (z : Size) (b m seam work : List ℕ) → refus
 unfolding first
 rest how x z b m seam work none = served-first (first x z b m seam work) (last how x z b m) refl none
 
-pub returns-in-Refused : goal.returns-in-Refused
+pub returns-in_err-judge_marked : goal.returns-in_err-judge_marked
 unfolding first last blocked
-returns-in-Refused c =
+returns-in_err-judge_marked c =
     let a = c.args in
     let x = a.axis in
     let z = a.size in
     let b = a.picture.now in
     let m = a.marks.now in
     let seam = marked_seam_along a.method x z (picture z b) (marks_of z m) in
-    let why = c.in-Refused.why in
-    let is = c.in-Refused.is in
-    let told = c.judge_marked-fits in
-    let rules = first x z b m a.seam.now a.work.now in
-    let few : number_of why ≤ 8 = rw (sym (ap given is) ∙ told.ensures) (refusal-most 8 rules refl) in
+    let why = c.in_err-judge_marked.field-0.0 in
+    let is : c.from_residual.result ≡ Err why = search rules in
+    let told = c.in_err-judge_marked.ensures in
+    let order = first x z b m a.seam.now a.work.now in
+    rw is
     record {
-      number = sym (ap given is) ∙ refused_answer told.result why is rules (last a.method x z b m) told.ensures;
+      number = refused_answer {B = ℕ} (Err why) why refl order (last a.method x z b m) told;
       cost = kept_by why (marked_cost_along a.method x z (picture z b) (marks_of z m)) 0;
       picture_left = kept_by why (closed_along x z seam b) b;
       marks_left = kept_by why (closed_marks x z seam m) m;
       seam_given = kept_by why (seam ++ drop (turned_size x z).height a.seam.now) a.seam.now;
-      work_left = work_as_was why (number_of why) refl few a.work.now;
+      work_left = work_as_was why (number_of why) refl (rw told (refusal-most 8 order refl)) a.work.now;
     }
 
 pub returns-then-takes_last : goal.returns-then-takes_last
@@ -68,13 +67,13 @@ returns-then-takes_last c =
     let seam = marked_seam_along a.method x z (picture z b) (marks_of z m) in
     let stuck = blocked a.method x z b m in
     let g = c.last_marked.ensures in
-    let k = found_number c.last_marked.result in
+    let k = number_of c.last_marked.result in
     let narrow : last_along x z ≡ true = sym c.if-takes_last.ensures in
     record {
       number =
           g.number
-          ∙ sym (rest a.method x z b m a.seam.now a.work.now (sym c.in_default.ensures) ∙ ap (λ t. cond stuck 12 (cond t 13 0)) narrow);
-      cost = g.cost ∙ last_kept stuck k g.number (marked_cost_along a.method x z (picture z b) (marks_of z m)) 0;
+          ∙ sym (rest a.method x z b m a.seam.now a.work.now (sym c.in_ok-judge_marked.ensures) ∙ ap (λ t. cond stuck 12 (cond t 13 0)) narrow);
+      cost = last_kept stuck k g.number (marked_cost_along a.method x z (picture z b) (marks_of z m)) 0;
       picture_left = last_kept stuck k g.number (closed_along x z seam b) b;
       marks_left = last_kept stuck k g.number (closed_marks x z seam m) m;
       seam_given = last_kept stuck k g.number (seam ++ drop (turned_size x z).height a.seam.now) a.seam.now;
@@ -85,7 +84,7 @@ pub cut_marked_along-requires : goal.cut_marked_along-requires
 cut_marked_along-requires c =
     let a = c.args in
     record {
-      found = marked_needed a.axis a.size a.picture.now a.marks.now a.seam.now a.work.now (sym c.in_default.ensures);
+      found = marked_needed a.axis a.size a.picture.now a.marks.now a.seam.now a.work.now (sym c.in_ok-judge_marked.ensures);
       more = sym c.if-takes_last.ensures;
     }
 
@@ -102,7 +101,7 @@ returns c =
     record {
       number =
           g.found.number
-          ∙ sym (rest a.method x z a.picture.now a.marks.now a.seam.now work (sym c.in_default.ensures)
+          ∙ sym (rest a.method x z a.picture.now a.marks.now a.seam.now work (sym c.in_ok-judge_marked.ensures)
           ∙ ap (λ t. cond stuck 12 (cond t 13 0)) some);
       cost = g.found.cost;
       picture_left = g.picture_left;

@@ -1,94 +1,130 @@
 -- `seam_cut_marked::cut_marked_along` meets its contract: where a seam is allowed it lies inside the picture, so closing up the
 -- picture and the marks is served.
-use Rattle.std.proofs.Common.{◌≡◌, Bool, false, eqb, List, ◌++◌, ℕ, ◌<◌, length, take, drop, replicate, sym, ap, ap₂, ◌∙◌, mul-one, take_at, arith}
+use Rattle.std.proofs.Common.{◌≡◌, Result, Ok, IsOk, false, eqb, List, ◌++◌, ℕ, ◌<◌, ◌≤◌, refl, length, take, drop, replicate, sym, ap, ap₂, ◌∙◌, mul-one, take_at, arith}
 use Rattle.grids.specs.Each.{Each}
 use Rattle.grids.proofs.Shapes.{each-length}
 use Rattle.pictures.specs.declared.sizes.Size.{Size}
-use Rattle.pictures.specs.Pictures.{picture, bytes, marks_of}
+use Rattle.pictures.specs.declared.refusals.Refusal.{Refusal}
+use Rattle.pictures.specs.Refusals.{refusal}
+use Rattle.pictures.specs.Pictures.{size_rules, picture_bytes, picture, bytes, marks_of}
 use Rattle.pictures.proofs.Limits.{sized_is}
 use Rattle.energy.specs.declared.methods.Method.{Method}
 use Rattle.seam_rules.specs.declared.answers.Axis.{Axis}
-use Rattle.seam_rules.specs.Answers.{found_number}
+use Rattle.seam_rules.specs.Cuts.{last_along}
 use Rattle.seam_rules.specs.Axes.{turned_size, grey_of}
 use Rattle.seam_turn.specs.Axes.{cut_along}
 use Rattle.seam_turn.specs.Turning.{CloseAlongGiven}
-use Rattle.seam_turn.proofs.Served.{close_served}
+use Rattle.seam_turn.proofs.Served.{Closed, close_served}
+use Rattle.seam_turn.proofs.Answered.{close_ok}
 use Rattle.seam_cut.specs.Cutting.{closed_along}
 use Rattle.seam_cut_marked.specs.Axes.{marked_seam_along, blocked_along}
+use Rattle.seam_cut_marked.specs.Inner.{MarkedAlongGiven, CutMarkedNeeded, CutAlongGiven}
 use Rattle.seam_cut_marked.proofs.Buffers.{seam_free}
 use Rattle.seam_cut_marked.proofs.Marked.{marked_inside}
 use Rattle.seam_cut_marked.proofs.Marks.{grey-bytes, grey-sized, wide-grey, tall_grey, marks-cut}
 use Rattle.seam_cut_marked.proofs.cut_marked_along.Goals as goal
 
--- whether every seam meets a protected pixel, and the seam where not
-blocked : Method → Axis → Size → (b m : List ℕ) → Bool
-blocked how x z b m = blocked_along how x z (picture z b) (marks_of z m)
+-- A seam is allowed.
+module _ (how : Method) (x : Axis) (z : Size) (b m room work : List ℕ) (p : CutMarkedNeeded b m z x room work)
+    (k : ℕ) (seam' work' : List ℕ) (found : MarkedAlongGiven b m z how x room work (Ok k) seam' work') (work-long : length work' ≡ length work) where
+  seam : List ℕ
+  seam = marked_seam_along how x z (picture z b) (marks_of z m)
 
-seam : Method → Axis → Size → (b m : List ℕ) → List ℕ
-seam how x z b m = marked_seam_along how x z (picture z b) (marks_of z m)
+  -- it lies inside the picture,
+  inside : Each (λ k. k < (turned_size x z).width) (turned_size x z).height seam
+  unfolding seam
+  inside = marked_inside how x z (picture z b) (marks_of z m) (seam_free (blocked_along how x z (picture z b) (marks_of z m)) (Ok k) found.number k refl)
 
--- The seam lies inside the picture.
-inside : (how : Method) (x : Axis) (z : Size) (b m : List ℕ) → blocked how x z b m ≡ false
-    → Each (λ k. k < (turned_size x z).width) (turned_size x z).height (seam how x z b m)
-unfolding seam blocked
-inside how x z b m free = marked_inside how x z (picture z b) (marks_of z m) free
+  -- and is what is lent on of the seam's space
+  lent : (t : Size) → t ≡ turned_size x z → take t.height seam' ≡ seam
+  unfolding seam
+  lent t is =
+      ap (λ (t : Size). take t.height seam') is
+      ∙ ap (take (turned_size x z).height) found.seam_given
+      ∙ take_at (marked_seam_along how x z (picture z b) (marks_of z m)) (drop (turned_size x z).height room) (turned_size x z).height (each-length inside)
+
+  -- so the picture is closed up along what is lent,
+  module _ (s : List ℕ) (s-is : s ≡ seam) (v : Result Unit Refusal) (b' work'' : List ℕ) (closes : CloseAlongGiven b z x s work' v b' work'') (kept : length work'' ≡ length work') where
+    fits : picture_bytes z ≤ length work'
+    fits = omega (arith, p.found.work_room, work-long)
+
+    picture_ok : IsOk v
+    picture_ok = close_ok b z x s work' v b' work'' closes p.found.sized (rw s-is inside) p.more fits
+
+    closed : Closed b z x s work' b' work''
+    closed = close_served b z x s work' v b' work'' closes p.found.sized (rw s-is inside) p.more fits
+
+    closed-long : length work'' ≡ length work
+    closed-long = kept ∙ work-long
+
+    closed-zero : work'' ≡ replicate (length work'') 0
+    closed-zero =
+        closed.work_is (found.work_left ∙ ap (λ n. replicate n 0) (sym work-long)) ∙ ap (λ n. replicate n 0) (sym kept)
+
+    -- and the marks, as a grey picture of its sides.
+    module _ (g : Size) (grey-is : g ≡ grey_of z) (u : Result Unit Refusal) (m' left : List ℕ) (marks : CloseAlongGiven m g x s work'' u m' left) where
+      grey : CloseAlongGiven m (grey_of z) x s work'' u m' left
+      grey = rw grey-is at marks
+
+      within : Each (λ k. k < (turned_size x (grey_of z)).width) (turned_size x (grey_of z)).height s
+      within = rw (s-is, wide-grey x z, tall_grey x z) inside
+
+      sized : refusal (size_rules (grey_of z) (length m)) ≡ 0
+      sized = grey-sized z (length b) m (sized_is _ _ p.found.sized) p.found.marked
+
+      more : last_along x (grey_of z) ≡ false
+      more = ap (λ w. eqb w 1) (wide-grey x z) ∙ p.more
+
+      grey-fits : picture_bytes (grey_of z) ≤ length work''
+      grey-fits = omega (arith, p.found.work_room, closed-long, grey-bytes z)
+
+      marks_ok : IsOk u
+      marks_ok = close_ok m (grey_of z) x s work'' u m' left grey sized within more grey-fits
+
+      given : CutAlongGiven b m z how x room work (Ok k) b' m' seam' left
+      unfolding seam
+      given =
+          let lost = close_served m (grey_of z) x s work'' u m' left grey sized within more grey-fits in
+          record {
+            found = record {
+              number = found.number;
+              cost = found.cost;
+              seam_given = found.seam_given;
+              work_left = lost.work_is closed-zero ∙ ap (λ n. replicate n 0) closed-long;
+            };
+            picture_left = closed.picture_is ∙ ap (λ s. closed_along x z s b) s-is;
+            marks_left =
+                lost.picture_is
+                ∙ ap₂ ◌++◌
+                (ap (λ s. bytes (cut_along x (grey_of z) s (picture (grey_of z) m))) s-is ∙ marks-cut x z m p.found.marked seam)
+                (ap (λ n. replicate n 0) (mul-one (turned_size x (grey_of z)).height ∙ tall_grey x z));
+          }
+
+pub unwrap-requires : goal.unwrap-requires
+unwrap-requires c =
+    let a = c.args in
+    let f = c.marked_along.new in
+    let s = take c.turned_size-turned.result.height f.seam in
+    picture_ok a.method a.axis a.size a.picture.now a.marks.now a.seam.now a.work.now c.requires c.in_ok-cost.cost f.seam f.work c.in_ok-cost.ensures c.marked_along.auto.work
+    s (lent a.method a.axis a.size a.picture.now a.marks.now a.seam.now a.work.now c.requires c.in_ok-cost.cost f.seam f.work c.in_ok-cost.ensures c.marked_along.auto.work c.turned_size-turned.result c.turned_size-turned.ensures)
+    c.close.result c.close.new.picture c.close.new.work c.close.ensures c.close.auto.work
+
+pub unwrap-requires-2 : goal.unwrap-requires-2
+unwrap-requires-2 c =
+    let a = c.args in
+    let f = c.marked_along.new in
+    let s = take c.turned_size-turned.result.height f.seam in
+    marks_ok a.method a.axis a.size a.picture.now a.marks.now a.seam.now a.work.now c.requires c.in_ok-cost.cost f.seam f.work c.in_ok-cost.ensures c.marked_along.auto.work
+    s (lent a.method a.axis a.size a.picture.now a.marks.now a.seam.now a.work.now c.requires c.in_ok-cost.cost f.seam f.work c.in_ok-cost.ensures c.marked_along.auto.work c.turned_size-turned.result c.turned_size-turned.ensures)
+    c.close.result c.close.new.picture c.close.new.work c.close.ensures c.close.auto.work
+    c.grey-marked.result c.grey-marked.ensures c.close-2.result c.close-2.new.picture c.close-2.new.work c.close-2.ensures
 
 pub returns : goal.returns
-unfolding blocked seam
 returns c =
     let a = c.args in
-    let x = a.axis in
-    let z = a.size in
-    let b = a.picture.now in
-    let m = a.marks.now in
-    let work = a.work.now in
-    let t = turned_size x z in
-    let s = seam a.method x z b m in
-    let p = c.requires in
-    let f = c.marked_along-found in
-    let g = f.ensures in
-    let free : blocked a.method x z b m ≡ false = seam_free (blocked a.method x z b m) f.result g.number c.in-Seam.field-0 c.in-Seam.is in
-    let within : Each (λ k. k < t.width) t.height s = inside a.method x z b m free in
-    let none : found_number f.result ≡ 0 = ap found_number c.in-Seam.is in
-    -- the work space when the seam was found
-    let work-long : length f.new.work ≡ length work = f.auto.work in
-    -- what is lent on of the seam's space is the seam
-    let lent-seam = take c.turned_size-turned.result.height f.new.seam in
-    let lent : lent-seam ≡ s =
-    ap (λ t. take t.height f.new.seam) c.turned_size-turned.ensures
-    ∙ ap (take t.height) (rw none at g.seam_given) ∙ take_at s (drop t.height a.seam.now) t.height (each-length within)
-    in
-    -- the picture closed up, and the marks, as a grey picture of its sides
-    let closed =
-    close_served b z x lent-seam f.new.work c.close.result c.close.new.picture c.close.new.work c.close.ensures
-    p.found.sized (rw lent within) p.more (omega (arith, p.found.work_room, work-long))
-    in
-    let closed-long : length c.close.new.work ≡ length work = c.close.auto.work ∙ work-long in
-    let closed-zero : c.close.new.work ≡ replicate (length c.close.new.work) 0 =
-    closed.work_is (g.work_left ∙ ap (λ n. replicate n 0) (sym work-long)) ∙ ap (λ n. replicate n 0) (sym c.close.auto.work)
-    in
-    let marks : CloseAlongGiven m (grey_of z) x lent-seam c.close.new.work c.close-2.result c.close-2.new.picture c.close-2.new.work =
-    rw c.grey-marked.ensures at c.close-2.ensures
-    in
-    let lost =
-    close_served m (grey_of z) x lent-seam c.close.new.work c.close-2.result c.close-2.new.picture c.close-2.new.work marks
-    (grey-sized z (length b) m (sized_is _ _ p.found.sized) p.found.marked)
-    (rw (lent, wide-grey x z, tall_grey x z) within)
-    (ap (λ w. eqb w 1) (wide-grey x z) ∙ p.more)
-    (omega (arith, p.found.work_room, closed-long, grey-bytes z))
-    in
-    record {
-      found = record {
-        number = g.number;
-        cost = g.cost;
-        seam_given = g.seam_given;
-        work_left = lost.work_is closed-zero ∙ ap (λ n. replicate n 0) closed-long;
-      };
-      picture_left = rw none (closed.picture_is ∙ ap (λ s. closed_along x z s b) lent);
-      marks_left =
-          rw none
-          (lost.picture_is
-          ∙ ap₂ ◌++◌
-          (ap (λ s. bytes (cut_along x (grey_of z) s (picture (grey_of z) m))) lent ∙ marks-cut x z m p.found.marked s)
-          (ap (λ n. replicate n 0) (mul-one (turned_size x (grey_of z)).height ∙ tall_grey x z)));
-    }
+    let f = c.marked_along.new in
+    let s = take c.turned_size-turned.result.height f.seam in
+    given a.method a.axis a.size a.picture.now a.marks.now a.seam.now a.work.now c.requires c.in_ok-cost.cost f.seam f.work c.in_ok-cost.ensures c.marked_along.auto.work
+    s (lent a.method a.axis a.size a.picture.now a.marks.now a.seam.now a.work.now c.requires c.in_ok-cost.cost f.seam f.work c.in_ok-cost.ensures c.marked_along.auto.work c.turned_size-turned.result c.turned_size-turned.ensures)
+    c.close.result c.close.new.picture c.close.new.work c.close.ensures c.close.auto.work
+    c.grey-marked.result c.grey-marked.ensures c.close-2.result c.close-2.new.picture c.close-2.new.work c.close-2.ensures

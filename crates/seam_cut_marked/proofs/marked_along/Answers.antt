@@ -1,13 +1,12 @@
 -- `seam_cut_marked::marked_along` meets its contract: both turnings are served, and the seam is found in the picture and the marks
 -- that then stand at the front of the work space.
 use Rattle.pictures.specs.declared.refusals.Refusal.{Refusal}
-use Rattle.std.specs.Prelude.{Result}
+use Rattle.std.specs.Prelude.{Result, IsOk}
 use Rattle.std.proofs.Common.{◌≡◌, List, ◌++◌, ℕ, ◌+◌, ◌-◌, ◌≤◌, cond, length, drop, replicate, ap, ap₂, ◌∙◌, arith}
 use borrow.Rule.Slice.PartMut.{put_mid, mid_of, same_len_mid}
 use Rattle.grids.specs.Rows.{flat}
 use Rattle.grids.proofs.Parts.{part_length}
 use Rattle.pictures.specs.declared.sizes.Size.{Size}
-use Rattle.pictures.specs.declared.refusals.Verdict.{Verdict}
 use Rattle.pictures.specs.Refusals.{served}
 use Rattle.pictures.specs.Pictures.{picture_bytes, picture, bytes, pixels, marks_of, picture_in, marks_in}
 use Rattle.pictures.proofs.Limits.{Sized, sized_is}
@@ -20,6 +19,7 @@ use Rattle.seam_rules.proofs.Turns.{turned-bytes, turned-pixels, turned-sides}
 use Rattle.seam_turn.specs.Axes.{turned}
 use Rattle.seam_turn.specs.Turning.{TurnGiven}
 use Rattle.seam_turn.proofs.Served.{turn_served}
+use Rattle.seam_turn.proofs.Answered.{turn_ok}
 use Rattle.seam_find_marked.specs.Finding.{FindMarkedInGiven}
 use Rattle.seam_cut_marked.specs.Axes.{marked_seam_along, marked_cost_along, blocked_along}
 use Rattle.seam_cut_marked.specs.Inner.{MarkedNeeded}
@@ -27,13 +27,14 @@ use Rattle.seam_cut_marked.proofs.Marked.{MarkedThere, marked_served}
 use Rattle.seam_cut_marked.proofs.Marks.{grey-bytes, grey-sized, put_after, picture_there, marks_there}
 use Rattle.seam_cut_marked.proofs.marked_along.Goals as goal
 
--- What is lent; what turning the picture leaves in the work space, and what turning the marks leaves after it.
+-- What is lent; what turning the picture leaves in the work space.
 module _ (b m : List ℕ) (z : Size) (x : Axis) (seam work : List ℕ) (p : MarkedNeeded b m z x seam work)
-    (v : Verdict) (front : List ℕ) (turns : TurnGiven b z x work v front) (front_kept : length front ≡ length work)
-    (u : Verdict) (marks : List ℕ) (turns-marks : TurnGiven m (grey_of z) x (mid_of (length b) (length front - length b) front) u marks)
-    (marks_kept : length marks ≡ length (mid_of (length b) (length front - length b) front)) where
+    (v : Result Unit Refusal) (front : List ℕ) (turns : TurnGiven b z x work v front) (front_kept : length front ≡ length work) where
   sure : Sized z (length b)
   sure = sized_is _ _ p.sized
+
+  turned_ok : IsOk v
+  turned_ok = turn_ok b z x work front v turns p.sized (omega (arith, p.work_room))
 
   -- the picture turned stands at the front of the work space, with room for the marks
   fits : length b + (pixels z + pixels z) ≤ length front
@@ -42,41 +43,62 @@ module _ (b m : List ℕ) (z : Size) (x : Axis) (seam work : List ℕ) (p : Mark
   turned_is : front ≡ bytes (turned x z.width (picture z b)) ++ drop (picture_bytes z) work
   turned_is = turn_served b z x work front v turns p.sized (omega (arith, p.work_room))
 
-  -- and then the marks turned after it
-  space : List ℕ
-  space = put_mid (length b) (length front - length b) front marks
+  -- what turning the marks leaves after it
+  module _ (u : Result Unit Refusal) (marks : List ℕ) (turns-marks : TurnGiven m (grey_of z) x (mid_of (length b) (length front - length b) front) u marks)
+      (marks_kept : length marks ≡ length (mid_of (length b) (length front - length b) front)) where
+    after_fits : picture_bytes (grey_of z) ≤ length (mid_of (length b) (length front - length b) front)
+    after_fits = omega (arith, grey-bytes z, part_length (length b) (length front) front (omega arith), fits)
 
-  after : List ℕ
-  after = drop (picture_bytes (grey_of z)) (mid_of (length b) (length front - length b) front) ++ drop (length front) front
+    marks_ok : IsOk u
+    marks_ok = turn_ok m (grey_of z) x (mid_of (length b) (length front - length b) front) marks u turns-marks (grey-sized z (length b) m sure p.marked) after_fits
 
-  stands : space ≡ bytes (turned x z.width (picture z b)) ++ (flat (turned x z.width (marks_of z m)) ++ after)
-  unfolding space after
-  stands =
-      let n = length b in
-      let mid = mid_of n (length front - n) front in
-      let back =
-      turn_served m (grey_of z) x mid marks u turns-marks
-      (grey-sized z n m sure p.marked)
-      (omega (arith, grey-bytes z, part_length n (length front) front (omega arith), fits))
-      in
-      put_after x z b m work front mid marks sure.length_is p.marked (omega (arith, fits)) turned_is back
+    -- and then the marks turned stand after it
+    space : List ℕ
+    space = put_mid (length b) (length front - length b) front marks
 
-  space-long : length space ≡ length work
-  unfolding space
-  space-long = same_len_mid (length b) (length front - length b) front marks marks_kept ∙ front_kept
+    after : List ℕ
+    after = drop (picture_bytes (grey_of z)) (mid_of (length b) (length front - length b) front) ++ drop (length front) front
 
-  there : (how : Method) (answer : Result ℕ Refusal) (space' seam' : List ℕ) → FindMarkedInGiven space (turned_size x z) how seam answer space' seam'
-      → MarkedThere space (turned_size x z) how seam answer space' seam'
-  there how answer space' seam' given =
-      marked_served space (turned_size x z) how seam answer space' seam' given
-      (turned-sides x z (length b) sure) p.seam_room
-      (omega (arith, turned-bytes x z, turned-pixels x z, p.work_room, space-long))
+    stands : space ≡ bytes (turned x z.width (picture z b)) ++ (flat (turned x z.width (marks_of z m)) ++ after)
+    unfolding space after
+    stands =
+        let n = length b in
+        let mid = mid_of n (length front - n) front in
+        let back = turn_served m (grey_of z) x mid marks u turns-marks (grey-sized z n m sure p.marked) after_fits in
+        put_after x z b m work front mid marks sure.length_is p.marked (omega (arith, fits)) turned_is back
 
-  seen : picture_in (turned_size x z) space ≡ turned x z.width (picture z b)
-  seen = picture_there x z b m space after sure.length_is p.marked stands
+    space-long : length space ≡ length work
+    unfolding space
+    space-long = same_len_mid (length b) (length front - length b) front marks marks_kept ∙ front_kept
 
-  marks-seen : marks_in (turned_size x z) space ≡ turned x z.width (marks_of z m)
-  marks-seen = marks_there x z b m space after sure.length_is p.marked stands
+    there : (how : Method) (answer : Result ℕ Refusal) (space' seam' : List ℕ) → FindMarkedInGiven space (turned_size x z) how seam answer space' seam'
+        → MarkedThere space (turned_size x z) how seam answer space' seam'
+    there how answer space' seam' given =
+        marked_served space (turned_size x z) how seam answer space' seam' given
+        (turned-sides x z (length b) sure) p.seam_room
+        (omega (arith, turned-bytes x z, turned-pixels x z, p.work_room, space-long))
+
+    seen : picture_in (turned_size x z) space ≡ turned x z.width (picture z b)
+    seen = picture_there x z b m space after sure.length_is p.marked stands
+
+    marks-seen : marks_in (turned_size x z) space ≡ turned x z.width (marks_of z m)
+    marks-seen = marks_there x z b m space after sure.length_is p.marked stands
+
+pub unwrap-requires : goal.unwrap-requires
+unwrap-requires c =
+    let a = c.args in
+    turned_ok a.picture.now a.marks.now a.size a.axis a.seam.now a.work.now c.requires c.turn.result c.turn.new.to c.turn.ensures c.turn.auto.to
+
+pub unwrap-requires-2 : goal.unwrap-requires-2
+unwrap-requires-2 c =
+    let a = c.args in
+    let b = a.picture.now in
+    let front = c.turn.new.to in
+    let turns-marks : TurnGiven a.marks.now (grey_of a.size) a.axis (mid_of (length b) (length front - length b) front) c.turn-2.result c.turn-2.new.to =
+    rw c.grey-marked.ensures at c.turn-2.ensures
+    in
+    marks_ok b a.marks.now a.size a.axis a.seam.now a.work.now c.requires c.turn.result front c.turn.ensures c.turn.auto.to
+    c.turn-2.result c.turn-2.new.to turns-marks c.turn-2.auto.to
 
 pub returns : goal.returns
 unfolding marked_seam_along marked_cost_along blocked_along space
