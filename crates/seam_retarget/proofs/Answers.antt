@@ -15,7 +15,7 @@ use Rattle.pictures.specs.declared.sizes.Size.{Size}
 use Rattle.pictures.specs.Refusals.{◌when◌, refusal}
 use Rattle.pictures.specs.Pictures.{picture_bytes, size_rules, picture, bytes}
 use Rattle.pictures.proofs.Rules.{served-both, passed}
-use Rattle.pictures.proofs.Limits.{Sized, sized_is, sides_served, bytes-few}
+use Rattle.pictures.proofs.Limits.{Sized, sized_is, bytes-few}
 use Rattle.pictures.proofs.Buffers.{bytes-picture}
 use Rattle.energy.specs.declared.methods.Method.{Method}
 use Rattle.seam_moves.specs.Between.{part_at}
@@ -23,10 +23,11 @@ use Rattle.seam_moves.proofs.Places.{length_part}
 use Rattle.seam_rules.specs.declared.answers.Rows.{Rows}
 use Rattle.seam_rules.specs.declared.answers.Columns.{Columns}
 use Rattle.seam_rules.specs.Counts.{row_count, smaller, left_size, retarget_bytes, retarget_rules}
+use Rattle.seam_retarget.specs.declared.table.Table.{Table}
 use Rattle.seam_retarget.specs.Retargeting.{cell_of}
 use Rattle.seam_retarget.specs.Inner.Seams.{picture_at}
 use Rattle.seam_retarget.specs.Inner.Cells.{SpaceNeeded}
-use Rattle.seam_retarget.specs.Inner.Table.{held, first_row, table_row, RowGiven, FirstRowNeeded}
+use Rattle.seam_retarget.specs.Inner.Table.{held, first_row, table_row, RowGiven, FirstRowNeeded, RowsBelowNeeded}
 use Rattle.seam_retarget.specs.Inner.Retargets.{RetargetNeeded, LastGiven}
 use Rattle.seam_retarget.proofs.Numbered.{cell_at, cell-numbers}
 use Rattle.seam_retarget.proofs.Slots.{smaller-few}
@@ -65,9 +66,16 @@ no_totals zero j = refl
 no_totals (suc n) zero = refl
 no_totals (suc n) (suc j) = no_totals n j
 
-module _ (b : List ℕ) (z : Size) (how : Method) (rows : Rows) (columns : Columns) (out work : List ℕ) (needed : RetargetNeeded b z rows columns out work) where
+-- The table of the picture of the bytes b.
+module _ (tab : Table) (b : List ℕ) (is : tab.whole ≡ length b) (rows : Rows) (columns : Columns) (out work : List ℕ) (needed : RetargetNeeded b tab.size.size rows columns out work) where
+  abbrev z : Size
+  z = tab.size.size
+
+  abbrev how : Method
+  how = tab.method
+
   abbrev whole : ℕ
-  whole = length b
+  whole = tab.whole
 
   abbrev r : ℕ
   r = rows.0
@@ -78,22 +86,18 @@ module _ (b : List ℕ) (z : Size) (how : Method) (rows : Rows) (columns : Colum
   sized : Sized z (length b)
   sized = sized_is z (length b) needed.sized
 
-  space : SpaceNeeded z (length b) (length work)
-  space = record {
-    sides = sides_served z (length b) needed.sized;
-    whole_is = sized.length_is;
-    room = omega (arith, sized.length_is, bytes-few z, needed.work_room);
-  }
+  space : SpaceNeeded tab (length work)
+  space = record { room = omega (arith, is, sized.length_is, bytes-few z, needed.work_room) }
 
   pub record LastSure (count : ℕ) : Type 0 where
     pub fits : length b ≤ length work
-    pub slot : c * length b + length b ≤ 65 * length b
+    pub slot : c * whole + whole ≤ 65 * whole
     pub count_most : count ≤ length b
-    pub inside : c * length b + count ≤ length work
+    pub inside : c * whole + count ≤ length work
 
   pub last_sure : (count : ℕ) → count ≡ picture_bytes (left_size z rows columns) → LastSure count
   last_sure count e =
-      let slot = part_end columns.0 65 (length b) (omega (arith, needed.columns_few)) in
+      let slot = part_end columns.0 65 whole (omega (arith, needed.columns_few)) in
       let few : count ≤ length b = omega (arith, sized.length_is, smaller-few z rows.0 columns.0) in
       record {
         fits = omega (arith, space.room);
@@ -106,7 +110,7 @@ module _ (b : List ℕ) (z : Size) (how : Method) (rows : Rows) (columns : Colum
     pub one-long : length one ≡ length work
     one-long = ap length copied ∙ simp (length-append, length-drop) (omega (arith, space.room))
 
-    pub first-needed : (totals : List ℕ) → length totals ≡ 65 → ((j : ℕ) → get_or totals j 0 ≡ 0) → FirstRowNeeded z (length b) columns one totals
+    pub first-needed : (totals : List ℕ) → length totals ≡ 65 → ((j : ℕ) → get_or totals j 0 ≡ 0) → FirstRowNeeded tab columns one totals
     first-needed totals many none = record {
       fits = record {
         space = rw one-long space;
@@ -119,40 +123,53 @@ module _ (b : List ℕ) (z : Size) (how : Method) (rows : Rows) (columns : Colum
       none = none;
     }
 
-    first_is : (totals : List ℕ) → ((j : ℕ) → get_or totals j 0 ≡ 0) → held z (length b) (row_count 0) one totals 0 ≡ cell_at how z (picture z b) 0 0
+    first_is : (totals : List ℕ) → ((j : ℕ) → get_or totals j 0 ≡ 0) → held z whole (row_count 0) one totals 0 ≡ cell_at how z (picture z b) 0 0
     unfolding cell_at
     first_is totals none =
         let zero-less : smaller z 0 0 ≡ z = ap₂ (λ w h. record { width = w; height = h; kind = z.kind }) (omega arith) (omega arith) in
         let front : take (picture_bytes z) one ≡ b = ap₂ take (sym sized.length_is) copied ∙ take_at b (drop (length b) work) (length b) refl in
         ap₂ (λ p t. record { picture = p; total = t })
-        (ap₂ (λ u at. picture_at u at one) zero-less (zero-mul (length b)) ∙ ap (picture z) front)
+        (ap₂ (λ u at. picture_at u at one) zero-less (zero-mul whole) ∙ ap (picture z) front)
         (none 0)
 
     module _ (totals two totals₂ : List ℕ) (none : (j : ℕ) → get_or totals j 0 ≡ 0)
-        (row : RowGiven z (length b) (row_count 0) columns (first_row how z (held z (length b) (row_count 0) one totals 0)) one two totals₂) where
-      module _ (three totals₃ : List ℕ) (last : RowGiven z (length b) rows columns (table_row how z (held z (length b) (row_count 0) two totals₂) rows) two three totals₃) where
+        (row : RowGiven z whole (row_count 0) columns (first_row how z (held z whole (row_count 0) one totals 0)) one two totals₂) where
+      pub below-needed : RowsBelowNeeded tab rows columns two totals₂
+      below-needed = record {
+        fits = record {
+          space = rw (row.long ∙ one-long) space;
+          rows_left = needed.rows_left;
+          row = omega (arith, needed.rows_few);
+          columns_left = needed.columns_left;
+          column = omega (arith, needed.columns_few);
+          totals_long = row.totals_long;
+        };
+        small = row.small;
+      }
+
+      module _ (three totals₃ : List ℕ) (last : RowGiven z whole rows columns (table_row how z (held z whole (row_count 0) two totals₂) rows) two three totals₃) where
         pub three-long : length three ≡ length work
         three-long = last.long ∙ row.long ∙ one-long
 
-        cell_is : held z (length b) rows three totals₃ columns.0 ≡ cell_of how z b rows columns
+        cell_is : held z whole rows three totals₃ columns.0 ≡ cell_of how z b rows columns
         cell_is =
             last.cells_are columns.0 (omega arith)
-            ∙ table_cells how z (picture z b) columns.0 (held z (length b) (row_count 0) two totals₂)
+            ∙ table_cells how z (picture z b) columns.0 (held z whole (row_count 0) two totals₂)
             (λ j h. row.cells_are j h ∙ ap (λ k. first_row how z k j) (first_is totals none) ∙ first_cells how z (picture z b) j)
             rows.0 columns.0 (omega arith)
             ∙ sym (cell-numbers how z (picture z b) rows columns)
 
         module _ (count : ℕ) (count_is : count ≡ picture_bytes (left_size z rows columns)) where
           abbrev part : List ℕ
-          part = mid_of (columns.0 * length b) (columns.0 * length b + count - columns.0 * length b) three
+          part = mid_of (columns.0 * whole) (columns.0 * whole + count - columns.0 * whole) three
 
-          part-is : part ≡ part_at (columns.0 * length b) (picture_bytes (left_size z rows columns)) three
-          part-is = ap (λ n. take n (drop (columns.0 * length b) three)) (add-sub_cancel_left (columns.0 * length b) count ∙ count_is)
+          part-is : part ≡ part_at (columns.0 * whole) (picture_bytes (left_size z rows columns)) three
+          part-is = ap (λ n. take n (drop (columns.0 * whole) three)) (add-sub_cancel_left (columns.0 * whole) count ∙ count_is)
 
           pub part-long : length part ≡ count
           part-long =
               ap length part-is
-              ∙ length_part (columns.0 * length b) (picture_bytes (left_size z rows columns)) three (omega (arith, three-long, (last_sure count count_is).inside)) ∙ sym count_is
+              ∙ length_part (columns.0 * whole) (picture_bytes (left_size z rows columns)) three (omega (arith, three-long, (last_sure count count_is).inside)) ∙ sym count_is
 
           pub served : (out' four : List ℕ) → out' ≡ part ++ drop count out → four ≡ replicate (length three) 0
               → LastGiven b z how rows columns out work (get_or totals₃ columns.0 0) out' four
@@ -160,7 +177,7 @@ module _ (b : List ℕ) (z : Size) (how : Method) (rows : Rows) (columns : Colum
               let left = left_size z rows columns in
               let shown : part ≡ bytes (cell_of how z b rows columns).picture =
               part-is
-              ∙ sym (bytes-picture left (part_at (columns.0 * length b) (picture_bytes left) three) (sym (ap length part-is) ∙ part-long ∙ count_is))
+              ∙ sym (bytes-picture left (part_at (columns.0 * whole) (picture_bytes left) three) (sym (ap length part-is) ∙ part-long ∙ count_is))
               ∙ ap (λ k. bytes k.picture) cell_is in
               record {
                 total = ap (λ k. k.total) cell_is;

@@ -18,6 +18,7 @@ use Rattle.seam_rules.specs.declared.answers.Axis.{Axis}
 use Rattle.seam_rules.specs.declared.answers.Axis.TheVariants.{Vertical, Horizontal}
 use Rattle.seam_cut.specs.Axes.{seam_along, cost_along}
 use Rattle.seam_turn.specs.Axes.{cut_along}
+use Rattle.seam_retarget.specs.declared.table.Table.{Table}
 use Rattle.seam_retarget.specs.Cells.{Cell, by_seam, chosen}
 use Rattle.seam_rules.specs.Counts.{row_count, column_count, smaller}
 use Rattle.seam_retarget.specs.Inner.Seams.{picture_at, left_along, SeamNeeded, SeamGiven, CutNeeded, CutGiven}
@@ -26,137 +27,145 @@ use Rattle.seam_retarget.proofs.Cuts.{turned_tall, found_inside, cut_is}
 use Rattle.seam_retarget.proofs.Slots.{smaller-few, less-column, less-row, same_picture, slots_apart, double_few, placed-vertical, placed-horizontal, apart-vertical, apart-horizontal}
 use Rattle.seam_rules.proofs.Left.{smaller-sides}
 
--- A seam found with a seam's space as long as the largest side.
-module _ (z : Size) (whole work : ℕ) (needed : SpaceNeeded z whole work) (k r c n : ℕ) (slot : k < 65) (rows : r < z.height) (columns : c < z.width) (many : n ≡ largest_side) where
-  sides : refusal (side_rules (smaller z r c)) ≡ 0
-  sides = smaller-sides z r c needed.sides rows columns
+module _ (tab : Table) where
+  abbrev z : Size
+  z = tab.size.size
 
-  pub seam-vertical : SeamNeeded work (k * whole) (smaller z r c) Vertical (65 * whole) n
-  seam-vertical =
-      let q = placed-vertical z whole work needed k r c slot in
-      record { sides = sides; places = q.here; room = q.room; seam_room = rw many (turned_tall Vertical (smaller z r c) sides) }
+  abbrev how : Method
+  how = tab.method
 
-  pub seam-horizontal : SeamNeeded work (k * whole) (smaller z r c) Horizontal (67 * whole) n
-  seam-horizontal =
-      let q = placed-horizontal z whole work needed k r c slot in
-      record { sides = sides; places = q.here; room = q.room; seam_room = rw many (turned_tall Horizontal (smaller z r c) sides) }
+  abbrev whole : ℕ
+  whole = tab.whole
 
--- The space as it is after both seams were found.
-module _ (z : Size) (how : Method) (whole r c above left : ℕ) (work : List ℕ) (needed : CellNeeded z whole (row_count r) (column_count c) above left (length work))
-    (seam₁ one across : List ℕ) (cost₁ : ℕ) (first : SeamGiven work ((c + 1) * whole) (smaller z r (c + 1)) how Horizontal (67 * whole) seam₁ cost₁ one across)
-    (seam₂ two down : List ℕ) (cost₂ : ℕ) (second : SeamGiven one (c * whole) (smaller z (r + 1) c) how Vertical (65 * whole) seam₂ cost₂ two down) where
-  abbrev upper : Size
-  upper = smaller z r (c + 1)
+  -- A seam found with a seam's space as long as the largest side.
+  module _ (work : ℕ) (needed : SpaceNeeded tab work) (k r c n : ℕ) (slot : k < 65) (rows : r < z.height) (columns : c < z.width) (many : n ≡ largest_side) where
+    sides : refusal (side_rules (smaller z r c)) ≡ 0
+    sides = smaller-sides z r c tab.size.allowed rows columns
 
-  abbrev beside : Size
-  beside = smaller z (r + 1) c
+    pub seam-vertical : SeamNeeded work (k * whole) (smaller z r c) Vertical (65 * whole) n
+    seam-vertical =
+        let q = placed-vertical tab work needed k r c slot in
+        record { places = q.here; room = q.room; seam_room = rw many (turned_tall Vertical (smaller z r c) sides) }
 
-  abbrev slot : ℕ
-  slot = (c + 1) * whole
+    pub seam-horizontal : SeamNeeded work (k * whole) (smaller z r c) Horizontal (67 * whole) n
+    seam-horizontal =
+        let q = placed-horizontal tab work needed k r c slot in
+        record { places = q.here; room = q.room; seam_room = rw many (turned_tall Horizontal (smaller z r c) sides) }
 
-  upper-sides : refusal (side_rules upper) ≡ 0
-  upper-sides = smaller-sides z r (c + 1) needed.space.sides (omega (arith, needed.rows_left)) needed.columns_left
+  -- The space as it is after both seams were found.
+  module _ (r c above left : ℕ) (work : List ℕ) (needed : CellNeeded tab (row_count r) (column_count c) above left (length work))
+      (seam₁ one across : List ℕ) (cost₁ : ℕ) (first : SeamGiven work ((c + 1) * whole) (smaller z r (c + 1)) how Horizontal (67 * whole) seam₁ cost₁ one across)
+      (seam₂ two down : List ℕ) (cost₂ : ℕ) (second : SeamGiven one (c * whole) (smaller z (r + 1) c) how Vertical (65 * whole) seam₂ cost₂ two down) where
+    abbrev upper : Size
+    upper = smaller z r (c + 1)
 
-  beside-sides : refusal (side_rules beside) ≡ 0
-  beside-sides = smaller-sides z (r + 1) c needed.space.sides needed.rows_left (omega (arith, needed.columns_left))
+    abbrev beside : Size
+    beside = smaller z (r + 1) c
 
-  pub both_long : length two ≡ length work
-  both_long = second.long ∙ first.long
+    abbrev slot : ℕ
+    slot = (c + 1) * whole
 
-  column : c < 65
-  column = omega (arith, needed.column)
+    upper-sides : refusal (side_rules upper) ≡ 0
+    upper-sides = smaller-sides z r (c + 1) tab.size.allowed (omega (arith, needed.rows_left)) needed.columns_left
 
-  -- The cell to the left is still there after the first.
-  beside_still : picture_at beside (c * whole) one ≡ picture_at beside (c * whole) work
-  beside_still =
-      same_picture z whole (r + 1) c (c * whole) one work needed.space.whole_is
-      (first.others (c * whole) whole (apart-horizontal z whole (length work) needed.space c r (c + 1) column _ (double_few z whole r (c + 1) needed.space.whole_is)))
+    beside-sides : refusal (side_rules beside) ≡ 0
+    beside-sides = smaller-sides z (r + 1) c tab.size.allowed needed.rows_left (omega (arith, needed.columns_left))
 
-  -- And the picture turned for the first seam after the second.
-  upper_still : part_at (67 * whole) (picture_bytes upper) two ≡ part_at (67 * whole) (picture_bytes upper) one
-  upper_still = second.others (67 * whole) (picture_bytes upper) (inr (omega (arith, double_few z whole (r + 1) c needed.space.whole_is)))
+    pub both_long : length two ≡ length work
+    both_long = second.long ∙ first.long
 
-  others_still : (k : ℕ) → k < 65 → part_at (k * whole) whole two ≡ part_at (k * whole) whole work
-  others_still k l =
-      second.others (k * whole) whole (apart-vertical z whole (length work) needed.space k (r + 1) c l _ (double_few z whole (r + 1) c needed.space.whole_is))
-      ∙ first.others (k * whole) whole (apart-horizontal z whole (length work) needed.space k r (c + 1) l _ (double_few z whole r (c + 1) needed.space.whole_is))
+    column : c < 65
+    column = omega (arith, needed.column)
 
-  source : (c + 1) * whole + picture_bytes upper ≤ length work
-  source = (placed-vertical z whole (length work) needed.space (c + 1) r (c + 1) needed.column).here.from_inside
+    -- The cell to the left is still there after the first.
+    beside_still : picture_at beside (c * whole) one ≡ picture_at beside (c * whole) work
+    beside_still =
+        same_picture z whole (r + 1) c (c * whole) one work tab.whole_is
+        (first.others (c * whole) whole (apart-horizontal tab (length work) needed.space c r (c + 1) column _ (double_few z whole r (c + 1) tab.whole_is)))
 
-  source₂ : c * whole + picture_bytes beside ≤ length one
-  source₂ = rw first.long (placed-vertical z whole (length work) needed.space c (r + 1) c column).here.from_inside
+    -- And the picture turned for the first seam after the second.
+    upper_still : part_at (67 * whole) (picture_bytes upper) two ≡ part_at (67 * whole) (picture_bytes upper) one
+    upper_still = second.others (67 * whole) (picture_bytes upper) (inr (omega (arith, double_few z whole (r + 1) c tab.whole_is)))
 
-  pub cut-vertical : length down ≡ largest_side → CutNeeded (length two) (65 * whole) beside Vertical down slot
-  cut-vertical many = record {
-    sides = beside-sides;
-    wide = omega (arith, needed.columns_left);
-    seam_room = rw many (turned_tall Vertical beside beside-sides);
-    inside = found_inside one (c * whole) beside how Vertical (65 * whole) seam₂ cost₂ two down second beside-sides source₂;
-    places = rw both_long (placed-vertical z whole (length work) needed.space (c + 1) (r + 1) c needed.column).there;
-  }
+    others_still : (k : ℕ) → k < 65 → part_at (k * whole) whole two ≡ part_at (k * whole) whole work
+    others_still k l =
+        second.others (k * whole) whole (apart-vertical tab (length work) needed.space k (r + 1) c l _ (double_few z whole (r + 1) c tab.whole_is))
+        ∙ first.others (k * whole) whole (apart-horizontal tab (length work) needed.space k r (c + 1) l _ (double_few z whole r (c + 1) tab.whole_is))
 
-  pub cut-horizontal : length across ≡ largest_side → CutNeeded (length two) (67 * whole) upper Horizontal across slot
-  cut-horizontal many = record {
-    sides = upper-sides;
-    wide = omega (arith, needed.rows_left);
-    seam_room = rw many (turned_tall Horizontal upper upper-sides);
-    inside = found_inside work slot upper how Horizontal (67 * whole) seam₁ cost₁ one across first upper-sides source;
-    places = rw both_long (placed-horizontal z whole (length work) needed.space (c + 1) r (c + 1) needed.column).there;
-  }
+    source : (c + 1) * whole + picture_bytes upper ≤ length work
+    source = (placed-vertical tab (length work) needed.space (c + 1) r (c + 1) needed.column).here.from_inside
 
-  -- The two cells to choose from.
-  abbrev vertical : Cell
-  vertical = by_seam how Vertical beside (record { picture = picture_at beside (c * whole) work; total = left })
+    source₂ : c * whole + picture_bytes beside ≤ length one
+    source₂ = rw first.long (placed-vertical tab (length work) needed.space c (r + 1) c column).here.from_inside
 
-  abbrev horizontal : Cell
-  horizontal = by_seam how Horizontal upper (record { picture = picture_at upper slot work; total = above })
+    pub cut-vertical : length down ≡ largest_side → CutNeeded (length two) (65 * whole) beside Vertical down slot
+    cut-vertical many = record {
+      wide = omega (arith, needed.columns_left);
+      seam_room = rw many (turned_tall Vertical beside beside-sides);
+      inside = found_inside one (c * whole) beside how Vertical (65 * whole) seam₂ cost₂ two down second beside-sides source₂;
+      places = rw both_long (placed-vertical tab (length work) needed.space (c + 1) (r + 1) c needed.column).there;
+    }
 
-  total-vertical : left + cost₂ ≡ vertical.total
-  unfolding by_seam
-  total-vertical = ap (left +◌) (second.cost_is ∙ ap (cost_along how Vertical beside) beside_still)
+    pub cut-horizontal : length across ≡ largest_side → CutNeeded (length two) (67 * whole) upper Horizontal across slot
+    cut-horizontal many = record {
+      wide = omega (arith, needed.rows_left);
+      seam_room = rw many (turned_tall Horizontal upper upper-sides);
+      inside = found_inside work slot upper how Horizontal (67 * whole) seam₁ cost₁ one across first upper-sides source;
+      places = rw both_long (placed-horizontal tab (length work) needed.space (c + 1) r (c + 1) needed.column).there;
+    }
 
-  total-horizontal : above + cost₁ ≡ horizontal.total
-  unfolding by_seam
-  total-horizontal = ap (above +◌) first.cost_is
+    -- The two cells to choose from.
+    abbrev vertical : Cell
+    vertical = by_seam how Vertical beside (record { picture = picture_at beside (c * whole) work; total = left })
 
-  others_kept : (at : ℕ) (u : Size) (three : List ℕ) (seam : List ℕ) (x : Axis) → picture_bytes u ≤ whole → 65 * whole ≤ at → CutGiven two at u x seam slot three
-      → (k : ℕ) → k < 65 → (k ≡ c + 1 → ⊥) → part_at (k * whole) whole three ≡ part_at (k * whole) whole work
-  others_kept at u three seam x few behind g k l other =
-      g.others (k * whole) whole (inl (omega (arith, placed_end k l)))
-      (⊎_elim (λ (h : k * whole + whole ≤ slot). inl h) (λ (h : slot + whole ≤ k * whole). inr (omega arith)) (slots_apart k (c + 1) whole other))
-      ∙ others_still k l
-    where
-      placed_end : (k : ℕ) → k < 65 → k * whole + whole ≤ 65 * whole
-      placed_end k l = part_end k 65 whole l
+    abbrev horizontal : Cell
+    horizontal = by_seam how Horizontal upper (record { picture = picture_at upper slot work; total = above })
 
-  module _ (three : List ℕ) where
-    pub given-vertical : left + cost₂ ≤ above + cost₁ → CutGiven two (65 * whole) beside Vertical down slot three → CellGiven z how whole (row_count r) (column_count c) above left work (left + cost₂) three
-    unfolding chosen by_seam
-    given-vertical less g =
-        let cut : picture_at (left_along Vertical beside) slot three ≡ cut_along Vertical beside (seam_along how Vertical beside (picture_at beside (c * whole) one)) (picture_at beside (c * whole) one) =
-        cut_is one (c * whole) beside how Vertical (65 * whole) seam₂ cost₂ two down second beside-sides source₂ two refl slot three (omega (arith, needed.columns_left)) g in
-        let here : picture_at (smaller z (r + 1) (c + 1)) slot three ≡ vertical.picture =
-        ap (λ u. picture_at u slot three) (sym (less-column z (r + 1) c)) ∙ cut ∙ ap (λ p. cut_along Vertical beside (seam_along how Vertical beside p) p) beside_still in
-        let test : leb vertical.total horizontal.total ≡ true = le-leb _ _ (rw (total-vertical, total-horizontal) at less) in
-        record {
-          cell_is = ap₂ (λ p t. record { picture = p; total = t }) here total-vertical ∙ sym (ap (λ t. cond t vertical horizontal) test);
-          small = omega (arith, first.cost_most);
-          long = g.long ∙ both_long;
-          others = others_kept (65 * whole) beside three down Vertical (rw needed.space.whole_is (smaller-few z (r + 1) c)) (omega arith) g;
-        }
+    total-vertical : left + cost₂ ≡ vertical.total
+    unfolding by_seam
+    total-vertical = ap (left +◌) (second.cost_is ∙ ap (cost_along how Vertical beside) beside_still)
 
-    pub given-horizontal : above + cost₁ < left + cost₂ → CutGiven two (67 * whole) upper Horizontal across slot three → CellGiven z how whole (row_count r) (column_count c) above left work (above + cost₁) three
-    unfolding chosen by_seam
-    given-horizontal less g =
-        let cut : picture_at (left_along Horizontal upper) slot three ≡ cut_along Horizontal upper (seam_along how Horizontal upper (picture_at upper slot work)) (picture_at upper slot work) =
-        cut_is work slot upper how Horizontal (67 * whole) seam₁ cost₁ one across first upper-sides source two upper_still slot three (omega (arith, needed.rows_left)) g in
-        let here : picture_at (smaller z (r + 1) (c + 1)) slot three ≡ horizontal.picture =
-        ap (λ u. picture_at u slot three) (sym (less-row z r (c + 1))) ∙ cut in
-        let test : leb vertical.total horizontal.total ≡ false = lt-leb _ _ (rw (total-vertical, total-horizontal) at less) in
-        record {
-          cell_is = ap₂ (λ p t. record { picture = p; total = t }) here total-horizontal ∙ sym (ap (λ t. cond t vertical horizontal) test);
-          small = omega (arith, first.cost_most);
-          long = g.long ∙ both_long;
-          others = others_kept (67 * whole) upper three across Horizontal (rw needed.space.whole_is (smaller-few z r (c + 1))) (omega arith) g;
-        }
+    total-horizontal : above + cost₁ ≡ horizontal.total
+    unfolding by_seam
+    total-horizontal = ap (above +◌) first.cost_is
+
+    others_kept : (at : ℕ) (u : Size) (three : List ℕ) (seam : List ℕ) (x : Axis) → picture_bytes u ≤ whole → 65 * whole ≤ at → CutGiven two at u x seam slot three
+        → (k : ℕ) → k < 65 → (k ≡ c + 1 → ⊥) → part_at (k * whole) whole three ≡ part_at (k * whole) whole work
+    others_kept at u three seam x few behind g k l other =
+        g.others (k * whole) whole (inl (omega (arith, placed_end k l)))
+        (⊎_elim (λ (h : k * whole + whole ≤ slot). inl h) (λ (h : slot + whole ≤ k * whole). inr (omega arith)) (slots_apart k (c + 1) whole other))
+        ∙ others_still k l
+      where
+        placed_end : (k : ℕ) → k < 65 → k * whole + whole ≤ 65 * whole
+        placed_end k l = part_end k 65 whole l
+
+    module _ (three : List ℕ) where
+      pub given-vertical : left + cost₂ ≤ above + cost₁ → CutGiven two (65 * whole) beside Vertical down slot three → CellGiven z how whole (row_count r) (column_count c) above left work (left + cost₂) three
+      unfolding chosen by_seam
+      given-vertical less g =
+          let cut : picture_at (left_along Vertical beside) slot three ≡ cut_along Vertical beside (seam_along how Vertical beside (picture_at beside (c * whole) one)) (picture_at beside (c * whole) one) =
+          cut_is one (c * whole) beside how Vertical (65 * whole) seam₂ cost₂ two down second beside-sides source₂ two refl slot three (omega (arith, needed.columns_left)) g in
+          let here : picture_at (smaller z (r + 1) (c + 1)) slot three ≡ vertical.picture =
+          ap (λ u. picture_at u slot three) (sym (less-column z (r + 1) c)) ∙ cut ∙ ap (λ p. cut_along Vertical beside (seam_along how Vertical beside p) p) beside_still in
+          let test : leb vertical.total horizontal.total ≡ true = le-leb _ _ (rw (total-vertical, total-horizontal) at less) in
+          record {
+            cell_is = ap₂ (λ p t. record { picture = p; total = t }) here total-vertical ∙ sym (ap (λ t. cond t vertical horizontal) test);
+            small = omega (arith, first.cost_most);
+            long = g.long ∙ both_long;
+            others = others_kept (65 * whole) beside three down Vertical (omega (arith, smaller-few z (r + 1) c, tab.whole_is)) (omega arith) g;
+          }
+
+      pub given-horizontal : above + cost₁ < left + cost₂ → CutGiven two (67 * whole) upper Horizontal across slot three → CellGiven z how whole (row_count r) (column_count c) above left work (above + cost₁) three
+      unfolding chosen by_seam
+      given-horizontal less g =
+          let cut : picture_at (left_along Horizontal upper) slot three ≡ cut_along Horizontal upper (seam_along how Horizontal upper (picture_at upper slot work)) (picture_at upper slot work) =
+          cut_is work slot upper how Horizontal (67 * whole) seam₁ cost₁ one across first upper-sides source two upper_still slot three (omega (arith, needed.rows_left)) g in
+          let here : picture_at (smaller z (r + 1) (c + 1)) slot three ≡ horizontal.picture =
+          ap (λ u. picture_at u slot three) (sym (less-row z r (c + 1))) ∙ cut in
+          let test : leb vertical.total horizontal.total ≡ false = lt-leb _ _ (rw (total-vertical, total-horizontal) at less) in
+          record {
+            cell_is = ap₂ (λ p t. record { picture = p; total = t }) here total-horizontal ∙ sym (ap (λ t. cond t vertical horizontal) test);
+            small = omega (arith, first.cost_most);
+            long = g.long ∙ both_long;
+            others = others_kept (67 * whole) upper three across Horizontal (omega (arith, smaller-few z r (c + 1), tab.whole_is)) (omega arith) g;
+          }

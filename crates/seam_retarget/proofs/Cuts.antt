@@ -13,15 +13,18 @@ use Rattle.grids.specs.Cut.{cut}
 use Rattle.grids.proofs.Cut.{cut_narrower}
 use Rattle.grids.proofs.Parts.{put_part}
 use Rattle.pictures.specs.declared.sizes.Size.{Size}
-use Rattle.pictures.specs.declared.refusals.Verdict.{Verdict}
+use Rattle.pictures.specs.declared.refusals.Refusal.{Refusal}
+use Rattle.std.specs.Prelude.{Result, IsOk}
 use Rattle.pictures.specs.Refusals.{refusal}
 use Rattle.pictures.specs.Pictures.{largest_side, Picture, channels_of, picture_bytes, side_rules, picture, bytes, OfSize, pixels}
 use Rattle.pictures.proofs.Limits.{Sides, sides_are, sized-served, sides_of}
 use Rattle.pictures.proofs.Buffers.{picture_bytes_lem, length-bytes}
 use Rattle.energy.specs.declared.methods.Method.{Method}
+use Rattle.seam_bounds.specs.Inner.{PlacesApart}
 use Rattle.seam_moves.specs.Between.{part_at, put_at}
 use Rattle.seam_close.specs.Closing.{CloseGiven}
 use Rattle.seam_moves.proofs.Places.{Kept, kept_part, put_there, put_kept, length_part}
+use Rattle.seam_close.proofs.Answered.{close_up_ok}
 use Rattle.seam_close.proofs.Served.{close_served}
 use Rattle.seam_rules.specs.declared.answers.Axis.{Axis}
 use Rattle.seam_rules.specs.Axes.{turned_size, narrowed}
@@ -30,7 +33,7 @@ use Rattle.seam_cut.specs.Axes.{seam_along}
 use Rattle.seam_rules.proofs.Turns.{turned-bytes, turned-sides}
 use Rattle.seam_turn.proofs.Turned.{turned-of_size}
 use Rattle.seam_cut.proofs.Inside.{along_inside}
-use Rattle.seam_retarget.specs.Inner.Seams.{picture_at, left_along, TurnNeeded, SeamGiven, CutNeeded, CutGiven, StepNeeded, StepGiven}
+use Rattle.seam_retarget.specs.Inner.Seams.{picture_at, left_along, SeamGiven, CutNeeded, CutGiven, StepNeeded, StepGiven}
 use Rattle.seam_retarget.proofs.Steps.{sized_at, at_of_size}
 
 -- The size that a cut leaves takes no more bytes, and is allowed.
@@ -50,7 +53,7 @@ pub turned_tall : (x : Axis) (z : Size) → refusal (side_rules z) ≡ 0 → (tu
 turned_tall x z s = (sides_are (turned_size x z) (turned-sides x z (picture_bytes z) (sized_at z s))).height_most
 
 -- The cut at a place. `closed` is the part that comes back, `two` the space after the turn.
-module _ (work : List ℕ) (at : ℕ) (z : Size) (x : Axis) (seam : List ℕ) (to : ℕ) (needed : CutNeeded (length work) at z x seam to) where
+module _ (work : List ℕ) (at : ℕ) (z : Size) (x : Axis) (seam : List ℕ) (to : ℕ) (sides : refusal (side_rules z) ≡ 0) (needed : CutNeeded (length work) at z x seam to) where
   abbrev t : Size
   t = turned_size x z
 
@@ -67,15 +70,18 @@ module _ (work : List ℕ) (at : ℕ) (z : Size) (x : Axis) (seam : List ℕ) (t
   left = narrowed t
 
   sides-t : refusal (side_rules t) ≡ 0
-  sides-t = turned-sides x z (picture_bytes z) (sized_at z needed.sides)
+  sides-t = turned-sides x z (picture_bytes z) (sized_at z sides)
 
   same_bytes : picture_bytes t ≡ picture_bytes z
   same_bytes = turned-bytes x z
 
+  pub left_allowed : refusal (side_rules left) ≡ 0
+  left_allowed = left-sides t (sides_are t sides-t) needed.wide
+
   room : at + picture_bytes t ≤ length work
   room = omega (arith, same_bytes, needed.places.from_inside)
 
-  module _ (all : ℕ) (all_is : all ≡ picture_bytes (turned_size x z)) (v : Verdict) (closed : List ℕ)
+  module _ (all : ℕ) (all_is : all ≡ picture_bytes (turned_size x z)) (v : Result (Unit {0}) Refusal) (closed : List ℕ)
       (g : CloseGiven (mid_of at (at + all - at) work) (turned_size x z) (take (turned_size x z).height seam) v closed)
       (as_long : length closed ≡ length (mid_of at (at + all - at) work)) where
     lent : mid_of at (at + all - at) work ≡ part_at at (picture_bytes t) work
@@ -84,6 +90,11 @@ module _ (work : List ℕ) (at : ℕ) (z : Size) (x : Axis) (seam : List ℕ) (t
     closed_is : closed ≡ bytes (cut s q) ++ replicate (t.height * channels_of t.kind) 0
     closed_is =
         close_served (part_at at (picture_bytes t) work) t s closed v (rw lent at g)
+        (rw (length_part at (picture_bytes t) work room) (sized-served t sides-t)) needed.inside needed.wide
+
+    pub closed_ok : IsOk v
+    closed_ok =
+        close_up_ok (part_at at (picture_bytes t) work) t s closed v (rw lent at g)
         (rw (length_part at (picture_bytes t) work room) (sized-served t sides-t)) needed.inside needed.wide
 
     closed-long : length closed ≡ picture_bytes t
@@ -111,14 +122,11 @@ module _ (work : List ℕ) (at : ℕ) (z : Size) (x : Axis) (seam : List ℕ) (t
         ∙ take_at (bytes (cut s q)) (replicate (t.height * channels_of t.kind) 0 ++ drop (at + picture_bytes t) work) (picture_bytes left) long)
         ∙ picture_bytes_lem left (cut s q) rest-of
 
-    pub back-needed : TurnNeeded (length one) at left to
-    back-needed = record {
-      sides = left-sides t (sides_are t sides-t) needed.wide;
-      places = record {
-        from_inside = omega (arith, kept.long, room, left-few t);
-        to_inside = omega (arith, kept.long, needed.places.to_inside, left-few t, same_bytes);
-        apart = ⊎_elim (λ (l : at + picture_bytes z ≤ to). inl (omega (arith, left-few t, same_bytes))) (λ (l : to + picture_bytes z ≤ at). inr (omega (arith, left-few t, same_bytes))) needed.places.apart;
-      };
+    pub back_places : PlacesApart (length one) at to (picture_bytes left)
+    back_places = record {
+      from_inside = omega (arith, kept.long, room, left-few t);
+      to_inside = omega (arith, kept.long, needed.places.to_inside, left-few t, same_bytes);
+      apart = ⊎_elim (λ (l : at + picture_bytes z ≤ to). inl (omega (arith, left-few t, same_bytes))) (λ (l : to + picture_bytes z ≤ at). inr (omega (arith, left-few t, same_bytes))) needed.places.apart;
     }
 
     pub cut-given : (two : List ℕ) → two ≡ put_at to (picture_bytes left) (bytes (turned x left.width (picture_at left at one))) one → CutGiven work at z x seam to two
@@ -127,7 +135,7 @@ module _ (work : List ℕ) (at : ℕ) (z : Size) (x : Axis) (seam : List ℕ) (t
         let new : List ℕ = bytes (turned x left.width (cut s q)) in
         let two_is : two ≡ put_at to (picture_bytes left) (bytes (turned x left.width (cut s q))) one = is ∙ ap (λ p. put_at to (picture_bytes left) (bytes (turned x left.width p)) one) rest-is in
         let long : length (bytes (turned x left.width (cut s q))) ≡ picture_bytes left = length-bytes (turned_size x left) (turned x left.width (cut s q)) (turned-of_size x left (cut s q) rest-of) ∙ turned-bytes x left in
-        let inside = back-needed.places.to_inside in
+        let inside = back_places.to_inside in
         let same : Kept to (picture_bytes left) one two = rw two_is (put_kept to (picture_bytes left) (bytes (turned x left.width (cut s q))) one long inside) in
         record {
           picture_is =
@@ -177,14 +185,13 @@ module _ (work : List ℕ) (from : ℕ) (z : Size) (how : Method) (x : Axis) (at
       ∙ picture_bytes_lem (left_along x z) (turned x ((turned_size x z).width - 1) (cut s q)) (turned-of_size x left (cut s q) (left-of_size t s q wide i o))
 
 -- Both, one after the other.
-module _ (work : List ℕ) (from : ℕ) (z : Size) (how : Method) (x : Axis) (at to : ℕ) (needed : StepNeeded (length work) from z x at to) where
+module _ (work : List ℕ) (from : ℕ) (z : Size) (how : Method) (x : Axis) (at to : ℕ) (sides : refusal (side_rules z) ≡ 0) (needed : StepNeeded (length work) from z x at to) where
   module _ (seam : List ℕ) (cost : ℕ) (one seam' : List ℕ) (found : SeamGiven work from z how x at seam cost one seam') (many : length seam ≡ largest_side) where
     pub step_cut : CutNeeded (length one) at z x seam' to
     step_cut = record {
-      sides = needed.sides;
       wide = needed.wide;
-      seam_room = rw (found.seam_long ∙ many) (turned_tall x z needed.sides);
-      inside = found_inside work from z how x at seam cost one seam' found needed.sides needed.source.from_inside;
+      seam_room = rw (found.seam_long ∙ many) (turned_tall x z sides);
+      inside = found_inside work from z how x at seam cost one seam' found sides needed.source.from_inside;
       places = rw found.long needed.target;
     }
 
@@ -192,7 +199,7 @@ module _ (work : List ℕ) (from : ℕ) (z : Size) (how : Method) (x : Axis) (at
     step_given two g = record {
       cost_is = found.cost_is;
       cost_most = found.cost_most;
-      picture_is = cut_is work from z how x at seam cost one seam' found needed.sides needed.source.from_inside one refl to two needed.wide g;
+      picture_is = cut_is work from z how x at seam cost one seam' found sides needed.source.from_inside one refl to two needed.wide g;
       long = g.long ∙ found.long;
       others = λ a n l m.
           g.others a n (⊎_elim (λ (h : a + n ≤ at). inl h) (λ (h : at + (picture_bytes z + pixels z) ≤ a). inr (omega arith)) l) m

@@ -16,6 +16,7 @@ use Rattle.seam_moves.specs.Between.{part_at}
 use Rattle.seam_bounds.specs.Inner.{PlacesApart}
 use Rattle.seam_rules.specs.declared.answers.Axis.TheVariants.{Vertical, Horizontal}
 use Rattle.seam_rules.specs.Counts.{smaller}
+use Rattle.seam_retarget.specs.declared.table.Table.{Table}
 use Rattle.seam_retarget.specs.Inner.Seams.{Apart, picture_at, left_along}
 use Rattle.seam_retarget.specs.Inner.Cells.{SpaceNeeded}
 
@@ -69,9 +70,15 @@ pub record Placed (z' : Size) (whole k p work : ℕ) : Type 0 where
   pub there : PlacesApart work (p * whole) (k * whole) (picture_bytes z')
   pub room : p * whole + (picture_bytes z' + pixels z') ≤ work
 
-module _ (z : Size) (whole work : ℕ) (needed : SpaceNeeded z whole work) (k r c : ℕ) (slot : k < 65) where
+module _ (tab : Table) (work : ℕ) (needed : SpaceNeeded tab work) (k r c : ℕ) (slot : k < 65) where
+  abbrev z : Size
+  z = tab.size.size
+
+  abbrev whole : ℕ
+  whole = tab.whole
+
   few : picture_bytes (smaller z r c) ≤ whole
-  few = rw needed.whole_is (smaller-few z r c)
+  few = omega (arith, smaller-few z r c, tab.whole_is)
 
   end : k * whole + whole ≤ 65 * whole
   end = part_end k 65 whole slot
@@ -80,7 +87,7 @@ module _ (z : Size) (whole work : ℕ) (needed : SpaceNeeded z whole work) (k r 
   placed p from to =
       let n = few in
       let e = end in
-      let d = double_few z whole r c needed.whole_is in
+      let d = double_few z whole r c tab.whole_is in
       record {
         here = record { from_inside = omega arith; to_inside = omega arith; apart = inl (omega arith) };
         there = record { from_inside = omega arith; to_inside = omega arith; apart = inr (omega arith) };

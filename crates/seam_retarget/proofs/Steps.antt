@@ -12,12 +12,12 @@ use lib.Seq.{take_at, drop_at, drop-drop, length-take-le, get_or-drop}
 use Rattle.grids.proofs.Shapes.{each-length}
 use Rattle.grids.proofs.Parts.{put_part, part_length, last_part}
 use Rattle.pictures.specs.declared.sizes.Size.{Size}
-use Rattle.pictures.specs.declared.refusals.Verdict.{Verdict}
 use Rattle.pictures.specs.Refusals.{refusal}
 use Rattle.pictures.specs.Pictures.{picture_bytes, side_rules, picture, bytes, OfSize, pixels}
 use Rattle.pictures.proofs.Limits.{Sized, sides_are, sized_of}
 use Rattle.pictures.proofs.Buffers.{picture-of_size, bytes-picture, length-bytes}
 use Rattle.energy.specs.declared.methods.Method.{Method}
+use Rattle.seam_bounds.specs.Inner.{PlacesApart}
 use Rattle.seam_moves.specs.Between.{part_at, put_at, CopyBetweenGiven}
 use Rattle.seam_moves.proofs.Places.{Kept, kept_part, put_kept, length_part}
 use Rattle.seam_moves.proofs.Served.{copy_between-served}
@@ -34,7 +34,7 @@ use Rattle.seam_rules.proofs.Turns.{turned-bytes, turned-pixels, turned-sides}
 use Rattle.seam_turn.proofs.Turned.{turned-of_size, turned-picture}
 use Rattle.seam_cut.proofs.FindIn.{FoundThere, find_served}
 use Rattle.seam_cut.proofs.Inside.{along_inside}
-use Rattle.seam_retarget.specs.Inner.Seams.{picture_at, TurnNeeded, SeamNeeded, SeamGiven}
+use Rattle.seam_retarget.specs.Inner.Seams.{picture_at, SeamNeeded, SeamGiven}
 use Rattle.seam_retarget.proofs.Costs.{cost_small}
 
 -- A size that is allowed, with its bytes.
@@ -46,16 +46,17 @@ pub at_of_size : (z : Size) (at : ℕ) (work : List ℕ) → at + picture_bytes 
 at_of_size z at work h = picture-of_size z (part_at at (picture_bytes z) work) (length_part at (picture_bytes z) work h)
 
 -- A copy of a picture is the picture turned for a vertical seam.
-pub copied-turned : (work work' : List ℕ) (from : ℕ) (z : Size) (to all : ℕ) (v : Verdict) → TurnNeeded (length work) from z to → all ≡ picture_bytes z
+pub copied-turned : (work work' : List ℕ) (from : ℕ) (z : Size) (to all : ℕ) (v : Result (Unit {0}) Refusal) → PlacesApart (length work) from to (picture_bytes z) → all ≡ picture_bytes z
     → CopyBetweenGiven work from all to v work'
     → work' ≡ put_at to (picture_bytes z) (bytes (turned Vertical z.width (picture_at z from work))) work
 unfolding turned
 copied-turned work work' from z to all v needed is g =
-    copy_between-served work from (picture_bytes z) to v work' (rw is at g) needed.places
-    ∙ ap (λ x. put_at to (picture_bytes z) x work) (sym (bytes-picture z (part_at from (picture_bytes z) work) (length_part from (picture_bytes z) work needed.places.from_inside)))
+    copy_between-served work from (picture_bytes z) to v work' (rw is at g) needed
+    ∙ ap (λ x. put_at to (picture_bytes z) x work) (sym (bytes-picture z (part_at from (picture_bytes z) work) (length_part from (picture_bytes z) work needed.from_inside)))
 
 -- The seam found where the picture stands turned. `one` is the space after the turn, `part` the part that comes back.
-module _ (work : List ℕ) (from : ℕ) (z : Size) (how : Method) (x : Axis) (at : ℕ) (seam : List ℕ) (needed : SeamNeeded (length work) from z x at (length seam)) where
+module _ (work : List ℕ) (from : ℕ) (z : Size) (how : Method) (x : Axis) (at : ℕ) (seam : List ℕ) (sides : refusal (side_rules z) ≡ 0)
+    (needed : SeamNeeded (length work) from z x at (length seam)) where
   abbrev t : Size
   t = turned_size x z
 
@@ -72,7 +73,7 @@ module _ (work : List ℕ) (from : ℕ) (z : Size) (how : Method) (x : Axis) (at
   Q = bytes (turned x z.width (picture_at z from work))
 
   sized : Sized z (picture_bytes z)
-  sized = sized_at z needed.sides
+  sized = sized_at z sides
 
   b-long : length b ≡ picture_bytes z
   b-long = length_part from (picture_bytes z) work needed.places.from_inside
@@ -107,7 +108,7 @@ module _ (work : List ℕ) (from : ℕ) (z : Size) (how : Method) (x : Axis) (at
       sides-t : refusal (side_rules t) ≡ 0
       sides-t = turned-sides x z (picture_bytes z) sized
 
-      there : FoundThere lent t how seam found part seam'
+      pub there : FoundThere lent t how seam found part seam'
       there = find_served lent t how seam found part seam' g sides-t needed.seam_room (omega (arith, needed.room, lent-long, turned-bytes x z, turned-pixels x z))
 
       seen : picture t (take (picture_bytes t) lent) ≡ turned x z.width (picture_at z from work)

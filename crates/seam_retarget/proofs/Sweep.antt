@@ -17,6 +17,7 @@ use Rattle.energy.specs.Bounds.{most_cost}
 use Rattle.seam_moves.specs.Between.{part_at}
 use Rattle.seam_rules.specs.declared.answers.Axis.{Axis}
 use Rattle.seam_rules.specs.declared.answers.Axis.TheVariants.{Vertical, Horizontal}
+use Rattle.seam_retarget.specs.declared.table.Table.{Table}
 use Rattle.seam_retarget.specs.Cells.{Cell, by_seam, chosen}
 use Rattle.seam_rules.specs.Counts.{row_count, column_count, smaller}
 use Rattle.seam_retarget.specs.Inner.Seams.{picture_at, left_along, StepNeeded, StepGiven}
@@ -24,7 +25,6 @@ use Rattle.seam_retarget.specs.Inner.Cells.{SpaceNeeded}
 use Rattle.seam_retarget.specs.Inner.Table.{held, first_row, along_row, next_row, row_below, FirstRowNeeded}
 use Rattle.seam_retarget.proofs.Numbered.{cell_at}
 use Rattle.seam_retarget.proofs.Slots.{smaller-few, less-column, same_picture, slots_apart, placed-vertical}
-use Rattle.seam_rules.proofs.Left.{smaller-sides}
 
 -- The rows are those of the table of cells.
 pub first_cells : (how : Method) (z : Size) (p : Picture) (c : ℕ) → first_row how z (cell_at how z p 0 0) c ≡ cell_at how z p 0 c
@@ -92,11 +92,11 @@ unfolding by_seam
 step-cell work from z how x at to cost work' t g = ap₂ (λ p n. record { picture = p; total = n }) g.picture_is (ap (t +◌) g.cost_is)
 
 -- Both a slot and a place for work are out of the way of another slot.
-pub slot_kept : (z : Size) (how : Method) (whole n : ℕ) (work work' : List ℕ) (needed : SpaceNeeded z whole n) (from : ℕ) (r c : ℕ) (x : Axis) (p j cost : ℕ) → 65 ≤ p
+pub slot_kept : (z : Size) (how : Method) (whole : ℕ) (work work' : List ℕ) → whole ≡ picture_bytes z → (from : ℕ) (r c : ℕ) (x : Axis) (p j cost : ℕ) → 65 ≤ p
     → StepGiven work from (smaller z r c) how x (p * whole) (j * whole) cost work'
     → (k : ℕ) → k < 65 → (k ≡ j → ⊥) → part_at (k * whole) whole work' ≡ part_at (k * whole) whole work
-slot_kept z how whole n work work' needed from r c x p j cost behind g k l other =
-    let few : picture_bytes (smaller z r c) ≤ whole = rw needed.whole_is (smaller-few z r c) in
+slot_kept z how whole work work' is from r c x p j cost behind g k l other =
+    let few : picture_bytes (smaller z r c) ≤ whole = rw is (smaller-few z r c) in
     g.others (k * whole) whole (inl (omega (arith, part_end k p whole (omega arith))))
     (⊎_elim (λ (h : k * whole + whole ≤ j * whole). inl h) (λ (h : j * whole + whole ≤ k * whole). inr (omega arith)) (slots_apart k j whole other))
 
@@ -116,7 +116,16 @@ up_to {P} j earlier last k h =
     (λ (l : j < k). let e : j + 1 ≡ k = omega arith in subst P e last)
     (le-or-lt k j)
 
-module _ (z : Size) (how : Method) (whole c : ℕ) (work₀ totals₀ : List ℕ) (needed : FirstRowNeeded z whole (column_count c) work₀ totals₀) where
+module _ (tab : Table) (c : ℕ) (work₀ totals₀ : List ℕ) (needed : FirstRowNeeded tab (column_count c) work₀ totals₀) where
+  abbrev z : Size
+  z = tab.size.size
+
+  abbrev how : Method
+  how = tab.method
+
+  abbrev whole : ℕ
+  whole = tab.whole
+
   pub first_start : FirstSoFar z how whole c work₀ totals₀ 0 work₀ totals₀
   unfolding first_row
   first_start = record {
@@ -128,16 +137,15 @@ module _ (z : Size) (how : Method) (whole c : ℕ) (work₀ totals₀ : List ℕ
   }
 
   module _ (j : ℕ) (work totals : List ℕ) (inside : j < c) (so_far : FirstSoFar z how whole c work₀ totals₀ j work totals) where
-    space : SpaceNeeded z whole (length work)
+    space : SpaceNeeded tab (length work)
     space = rw so_far.long needed.fits.space
 
     pub first_step : StepNeeded (length work) (j * whole) (smaller z 0 j) Vertical (65 * whole) ((j + 1) * whole)
     first_step = record {
-      sides = smaller-sides z 0 j needed.fits.space.sides needed.fits.rows_left (omega (arith, needed.fits.columns_left));
       wide = omega (arith, needed.fits.columns_left);
-      source = (placed-vertical z whole (length work) space j 0 j (omega (arith, needed.fits.column))).here;
-      room = (placed-vertical z whole (length work) space j 0 j (omega (arith, needed.fits.column))).room;
-      target = (placed-vertical z whole (length work) space (j + 1) 0 j (omega (arith, needed.fits.column))).there;
+      source = (placed-vertical tab (length work) space j 0 j (omega (arith, needed.fits.column))).here;
+      room = (placed-vertical tab (length work) space j 0 j (omega (arith, needed.fits.column))).room;
+      target = (placed-vertical tab (length work) space (j + 1) 0 j (omega (arith, needed.fits.column))).there;
     }
 
     pub first-turn : (cost : ℕ) (work' : List ℕ) → StepGiven work (j * whole) (smaller z 0 j) how Vertical (65 * whole) ((j + 1) * whole) cost work'
@@ -152,8 +160,8 @@ module _ (z : Size) (how : Method) (whole c : ℕ) (work₀ totals₀ : List ℕ
           totals_long = length-set totals (j + 1) v ∙ so_far.totals_long;
           cells_are = up_to {P = λ k. held z whole (row_count 0) work' (set totals (j + 1) (get_or totals j 0 + cost)) k ≡ first_row how z (held z whole (row_count 0) work₀ totals₀ 0) k} j
               (λ k h.
-              held-other z whole 0 (j + 1) v work' totals work k needed.fits.space.whole_is (λ e. omega arith)
-              (slot_kept z how whole (length work) work work' space (j * whole) 0 j Vertical 65 (j + 1) cost (omega arith) g k (omega (arith, needed.fits.column)) (λ e. omega arith))
+              held-other z whole 0 (j + 1) v work' totals work k tab.whole_is (λ e. omega arith)
+              (slot_kept z how whole work work' tab.whole_is (j * whole) 0 j Vertical 65 (j + 1) cost (omega arith) g k (omega (arith, needed.fits.column)) (λ e. omega arith))
               ∙ so_far.cells_are k h)
               (held_new z whole 0 (j + 1) v work' totals (omega (arith, so_far.totals_long, needed.fits.column))
               ∙ ap (λ u. record { picture = picture_at u ((j + 1) * whole) work'; total = v }) (sym (less-column z 0 j))

@@ -2,6 +2,7 @@
 #![tactic(auto)]
 
 mod cells;
+mod rows;
 mod seams;
 mod table;
 
@@ -9,8 +10,9 @@ ghost use Rattle.seam_retarget.specs.Retargeting.{RetargetGiven};
 ghost use Rattle.seam_retarget.specs.Inner.Retargets.{RetargetNeeded, LastGiven};
 
 use energy::Method;
-use pictures::{Refusal, Size};
-use seam_rules::{Columns, Rows};
+use pictures::{AllowedSize, Refusal, Size};
+use seam_rules::{Columns, Rows, judge_retarget};
+use table::Table;
 
 // Puts the picture with `rows` rows and `columns` columns less into the front of out and gives the total of its seams, each
 // found by the method. Refused by 2, 3 and 4 as every picture is, by 7 where either count is over 64 or leaves nothing, and
@@ -26,17 +28,7 @@ pub fn retarget(
 ) -> Result<u64, Refusal>
     ensures { RetargetGiven picture.now size method rows columns out.old work.old result out.new work.new }
 {
-    let fits = seam_rules::judge_retarget(
-        size,
-        rows,
-        columns,
-        picture.len(),
-        out.len(),
-        work.len(),
-    );
-    if let Err(why) = fits {
-        return Err(why);
-    }
+    judge_retarget(size, rows, columns, picture.len(), out.len(), work.len())?;
     Ok(last_cell(picture, size, method, rows, columns, out, work))
 }
 
@@ -53,16 +45,18 @@ fn last_cell(
     requires { RetargetNeeded picture.now size rows columns out.old work.old }
     ensures { LastGiven picture.now size method rows columns out.old work.old result out.new work.new }
 {
-    let whole = picture.len();
-    let last = columns.0;
+    let table = Table {
+        size: AllowedSize { size },
+        method,
+        whole: picture.len(),
+    };
     let mut totals = [0u64; 65];
-    work[..whole].copy_from_slice(picture);
-    table::first_row(work, size, method, whole, columns, &mut totals);
-    table::rows_below(work, size, method, whole, rows, columns, &mut totals);
-    let count = pictures::picture_bytes(seam_rules::smaller(size, rows, columns));
-    let at = last * whole;
-    let shown = &work[at..at + count];
-    out[..count].copy_from_slice(shown);
+    work[..picture.len()].copy_from_slice(picture);
+    table.first_row(work, columns, &mut totals);
+    table.rows_below(work, rows, columns, &mut totals);
+    let count = table.cell_size(rows, columns).picture_bytes();
+    let at = columns.0 * table.whole;
+    out[..count].copy_from_slice(&work[at..at + count]);
     pictures::clear(work);
-    totals[last]
+    totals[columns.0]
 }

@@ -1,82 +1,71 @@
 // One seam of a picture that stands at a place of the work space: found, and cut.
 ghost use Rattle.std.specs.Prelude.{◌≡◌, length};
 ghost use Rattle.pictures.specs.Pictures.{picture_bytes, bytes};
+ghost use Rattle.seam_bounds.specs.Inner.{PlacesApart};
 ghost use Rattle.seam_moves.specs.Between.{put_at};
 ghost use Rattle.seam_turn.specs.Axes.{turned};
-ghost use Rattle.seam_retarget.specs.Inner.Seams.{picture_at, TurnNeeded, SeamNeeded, SeamGiven, CutNeeded, CutGiven, StepNeeded, StepGiven};
+ghost use Rattle.seam_retarget.specs.Inner.Seams.{picture_at, SeamNeeded, SeamGiven, CutNeeded, CutGiven, StepNeeded, StepGiven};
 
 use energy::Method;
-use pictures::{LARGEST_SIDE, Size};
+use pictures::{AllowedSize, LARGEST_SIDE};
+use seam_close::close_up;
+use seam_moves::{copy_between, exchange_between};
 use seam_rules::{Axis, narrower, turned_size};
 
-// The picture at `from`, put turned at `to`.
-fn turn(work: &mut [u8], from: usize, size: Size, axis: Axis, to: usize)
-    requires { TurnNeeded (length work.old) from size to }
-    ensures { work.new ≡ put_at to (picture_bytes size) (bytes (turned axis size.width (picture_at size from work.old))) work.old }
+// Which seam: of a picture of this size, along this axis, as this method finds it. The picture is turned at the place `at` of the
+// work space.
+#[derive(Clone, Copy)]
+pub(crate) struct Seam {
+    pub(crate) size: AllowedSize,
+    pub(crate) axis: Axis,
+    pub(crate) method: Method,
+    pub(crate) at: usize,
+}
+
+impl Seam {
+    // Puts the seam of the picture at `from` into the front of seam and gives its cost. The picture then stands turned.
+    pub(crate) fn find(self, work: &mut [u8], from: usize, seam: &mut [u16]) -> u64
+        requires { SeamNeeded (length work.old) from self.size.size self.axis self.at (length seam.old) }
+        ensures { SeamGiven work.old from self.size.size self.method self.axis self.at seam.old result work.new seam.new }
+    {
+        turn(work, from, self.size, self.axis, self.at);
+        let over = turned_size(self.axis, self.size.size);
+        seam_find::find_in(&mut work[self.at..], over, self.method, seam).unwrap()
+    }
+
+    // Puts the picture that stands turned, without the seam, at `to`.
+    pub(crate) fn cut(self, work: &mut [u8], seam: &[u16], to: usize)
+        requires { CutNeeded (length work.old) self.at self.size.size self.axis seam.now to }
+        ensures { CutGiven work.old self.at self.size.size self.axis seam.now to work.new }
+    {
+        let over = turned_size(self.axis, self.size.size);
+        let end = self.at + self.size.picture_bytes();
+        close_up(&mut work[self.at..end], over, &seam[..over.height]).unwrap();
+        let left = AllowedSize {
+            size: narrower(over),
+        };
+        turn(work, self.at, left, self.axis, to);
+    }
+
+    // Puts the picture at `from`, without its seam, at `to`; gives the seam's cost.
+    pub(crate) fn step(self, work: &mut [u8], from: usize, to: usize) -> u64
+        requires { StepNeeded (length work.old) from self.size.size self.axis self.at to }
+        ensures { StepGiven work.old from self.size.size self.method self.axis self.at to result work.new }
+    {
+        let mut seam = [0u16; LARGEST_SIDE];
+        let cost = self.find(work, from, &mut seam);
+        self.cut(work, &seam, to);
+        cost
+    }
+}
+
+// Puts the picture at `from`, turned, at `to`.
+fn turn(work: &mut [u8], from: usize, size: AllowedSize, axis: Axis, to: usize)
+    requires { PlacesApart (length work.old) from to (picture_bytes size.size) }
+    ensures { work.new ≡ put_at to (picture_bytes size.size) (bytes (turned axis size.size.width (picture_at size.size from work.old))) work.old }
 {
     match axis {
-        Axis::Vertical => {
-            let all = pictures::picture_bytes(size);
-            seam_moves::copy_between(work, from, all, to);
-        }
-        Axis::Horizontal => {
-            seam_moves::exchange_between(work, from, size, to);
-        }
+        Axis::Vertical => copy_between(work, from, size.picture_bytes(), to).unwrap(),
+        Axis::Horizontal => exchange_between(work, from, size.size, to).unwrap(),
     }
-}
-
-// The seam along the axis of the picture at `from`, put into the front of seam, and its cost. The picture then stands turned
-// at `at`.
-pub(crate) fn seam_at(
-    work: &mut [u8],
-    from: usize,
-    size: Size,
-    method: Method,
-    axis: Axis,
-    at: usize,
-    seam: &mut [u16],
-) -> u64
-    requires { SeamNeeded (length work.old) from size axis at (length seam.old) }
-    ensures { SeamGiven work.old from size method axis at seam.old result work.new seam.new }
-{
-    turn(work, from, size, axis, at);
-    let over = turned_size(axis, size);
-    let found = seam_find::find_in(&mut work[at..], over, method, seam);
-    match found {
-        Ok(cost) => cost,
-        // unreachable: the size is allowed and there is room
-        Err(_) => 0,
-    }
-}
-
-// The picture that stands turned at `at`, without the seam, put at `to`.
-pub(crate) fn cut_at(work: &mut [u8], at: usize, size: Size, axis: Axis, seam: &[u16], to: usize)
-    requires { CutNeeded (length work.old) at size axis seam.now to }
-    ensures { CutGiven work.old at size axis seam.now to work.new }
-{
-    let over = turned_size(axis, size);
-    let all = pictures::picture_bytes(over);
-    let long = over.height;
-    let end = at + all;
-    seam_close::close_up(&mut work[at..end], over, &seam[..long]);
-    turn(work, at, narrower(over), axis, to);
-}
-
-// The picture at `from` without its seam along the axis, put at `to`; gives the seam's cost. `at` is for the work.
-pub(crate) fn step(
-    work: &mut [u8],
-    from: usize,
-    size: Size,
-    method: Method,
-    axis: Axis,
-    at: usize,
-    to: usize,
-) -> u64
-    requires { StepNeeded (length work.old) from size axis at to }
-    ensures { StepGiven work.old from size method axis at to result work.new }
-{
-    let mut seam = [0u16; LARGEST_SIDE];
-    let cost = seam_at(work, from, size, method, axis, at, &mut seam);
-    cut_at(work, at, size, axis, &seam, to);
-    cost
 }

@@ -6,4 +6,4 @@ use Rattle.seam_retarget.proofs.retarget.Goals as goal
 pub last_cell-requires : goal.last_cell-requires
 last_cell-requires c =
     let a = c.args in
-    needed_are a.picture.now a.size a.rows a.columns a.out.now a.work.now (sym c.in_default.ensures)
+    needed_are a.picture.now a.size a.rows a.columns a.out.now a.work.now (sym c.in_ok-judge_retarget.ensures)

@@ -1,12 +1,13 @@
 -- One cell of the table, in its slot of the work space. What private functions ask and promise; no public promise cites it.
 use Rattle.std.specs.Prelude.{◌≡◌, List, ℕ, ◌+◌, ◌*◌, ◌≤◌, ◌<◌, length}
 use Rattle.pictures.specs.declared.sizes.Size.{Size}
-use Rattle.pictures.specs.Refusals.{refusal}
-use Rattle.pictures.specs.Pictures.{side_rules, picture_bytes}
 use Rattle.energy.specs.declared.methods.Method.{Method}
 use Rattle.energy.specs.Bounds.{most_cost}
 use Rattle.seam_moves.specs.Between.{part_at}
+use Rattle.seam_rules.specs.declared.answers.Axis.{Axis}
 use Rattle.seam_rules.specs.declared.answers.Axis.TheVariants.{Vertical, Horizontal}
+use Rattle.seam_retarget.specs.declared.seams.Seam.{Seam}
+use Rattle.seam_retarget.specs.declared.table.Table.{Table}
 use Rattle.seam_retarget.specs.Cells.{by_seam, chosen}
 use Rattle.seam_rules.specs.declared.answers.Rows.{Rows}
 use Rattle.seam_rules.specs.declared.answers.Columns.{Columns}
@@ -25,11 +26,21 @@ places = 69
 abbrev pub slot_at : ℕ → Columns → ℕ
 slot_at whole columns = columns.0 * whole
 
--- A size that is allowed, its bytes, and room for the slots and the work.
-pub record SpaceNeeded (z : Size) (whole work : ℕ) : Type 0 where
-  pub sides : refusal (side_rules z) ≡ 0
-  pub whole_is : whole ≡ picture_bytes z
-  pub room : places * whole ≤ work
+-- Where the picture is turned for a seam along an axis.
+abbrev pub place_of : Axis → ℕ
+place_of Vertical = 65
+place_of Horizontal = 67
+
+-- Room for the slots and the work.
+pub record SpaceNeeded (tab : Table) (work : ℕ) : Type 0 where
+  pub room : places * tab.whole ≤ work
+
+-- The seam along the axis of the cell with these rows and columns removed.
+pub record SeamOf (tab : Table) (rows : Rows) (columns : Columns) (x : Axis) (seam : Seam) : Type 0 where
+  pub size_is : seam.size.size ≡ left_size tab.size.size rows columns
+  pub axis_is : seam.axis ≡ x
+  pub method_is : seam.method ≡ tab.method
+  pub at_is : seam.at ≡ place_of x * tab.whole
 
 -- A row more, and a column more.
 abbrev pub row_more : Rows → Rows
@@ -40,10 +51,10 @@ column_more columns = record { 0 = columns.0 + 1 }
 
 -- The cell with a row and a column more removed than `rows` and `columns`, given the totals of the cell above it and of the
 -- cell to its left, neither of them large.
-pub record CellNeeded (z : Size) (whole : ℕ) (rows : Rows) (columns : Columns) (above left work : ℕ) : Type 0 where
-  pub space : SpaceNeeded z whole work
-  pub rows_left : rows.0 + 1 < z.height
-  pub columns_left : columns.0 + 1 < z.width
+pub record CellNeeded (tab : Table) (rows : Rows) (columns : Columns) (above left work : ℕ) : Type 0 where
+  pub space : SpaceNeeded tab work
+  pub rows_left : rows.0 + 1 < tab.size.size.height
+  pub columns_left : columns.0 + 1 < tab.size.size.width
   pub column : columns.0 + 1 < slots
   pub above_small : above ≤ 2 * largest_count * most_cost
   pub left_small : left ≤ 2 * largest_count * most_cost

@@ -3,8 +3,7 @@ use Rattle.std.specs.Prelude.{◌≡◌, ◌⊎◌, List, ℕ, ◌+◌, ◌≤�
 use Rattle.grids.specs.Each.{Each}
 use Rattle.grids.specs.Cut.{cut}
 use Rattle.pictures.specs.declared.sizes.Size.{Size}
-use Rattle.pictures.specs.Refusals.{refusal}
-use Rattle.pictures.specs.Pictures.{Picture, side_rules, picture_bytes, picture, bytes, pixels}
+use Rattle.pictures.specs.Pictures.{Picture, picture_bytes, picture, bytes, pixels}
 use Rattle.energy.specs.declared.methods.Method.{Method}
 use Rattle.energy.specs.Bounds.{most_cost}
 use Rattle.seam_moves.specs.Between.{part_at}
@@ -22,14 +21,8 @@ Apart a n b m = (a + n ≤ b) ⊎ (b + m ≤ a)
 abbrev pub picture_at : Size → ℕ → List ℕ → Picture
 picture_at z at work = picture z (part_at at (picture_bytes z) work)
 
--- A size that is allowed, and two places for its picture.
-pub record TurnNeeded (work : ℕ) (from : ℕ) (z : Size) (to : ℕ) : Type 0 where
-  pub sides : refusal (side_rules z) ≡ 0
-  pub places : PlacesApart work from to (picture_bytes z)
-
--- The same, with a byte for each pixel after the second, and room for the seam.
+-- Two places for a picture, with a byte for each pixel after the second, and room for the seam.
 pub record SeamNeeded (work : ℕ) (from : ℕ) (z : Size) (x : Axis) (at seam : ℕ) : Type 0 where
-  pub sides : refusal (side_rules z) ≡ 0
   pub places : PlacesApart work from at (picture_bytes z)
   pub room : at + (picture_bytes z + pixels z) ≤ work
   pub seam_room : (turned_size x z).height ≤ seam
@@ -46,7 +39,6 @@ pub record SeamGiven (work : List ℕ) (from : ℕ) (z : Size) (how : Method) (x
 
 -- A picture turned at `at`, more than one column or row for the seam to leave, and a seam inside it.
 pub record CutNeeded (work : ℕ) (at : ℕ) (z : Size) (x : Axis) (seam : List ℕ) (to : ℕ) : Type 0 where
-  pub sides : refusal (side_rules z) ≡ 0
   pub wide : 1 < (turned_size x z).width
   pub seam_room : (turned_size x z).height ≤ length seam
   pub inside : Each (λ c. c < (turned_size x z).width) (turned_size x z).height (take (turned_size x z).height seam)
@@ -66,7 +58,6 @@ pub record CutGiven (work : List ℕ) (at : ℕ) (z : Size) (x : Axis) (seam : L
 
 -- A picture at `from`, a place `at` for the work, with a byte for each pixel after it, and a place for the picture left.
 pub record StepNeeded (work : ℕ) (from : ℕ) (z : Size) (x : Axis) (at to : ℕ) : Type 0 where
-  pub sides : refusal (side_rules z) ≡ 0
   pub wide : 1 < (turned_size x z).width
   pub source : PlacesApart work from at (picture_bytes z)
   pub room : at + (picture_bytes z + pixels z) ≤ work

@@ -4,6 +4,7 @@ use Rattle.pictures.specs.declared.sizes.Size.{Size}
 use Rattle.energy.specs.declared.methods.Method.{Method}
 use Rattle.energy.specs.Bounds.{most_cost}
 use Rattle.seam_rules.specs.declared.answers.Axis.TheVariants.{Vertical, Horizontal}
+use Rattle.seam_retarget.specs.declared.table.Table.{Table}
 use Rattle.seam_retarget.specs.Cells.{Cell, by_seam, chosen}
 use Rattle.seam_rules.specs.declared.answers.Rows.{Rows}
 use Rattle.seam_rules.specs.declared.answers.Columns.{Columns}
@@ -43,11 +44,11 @@ abbrev pub largest_total : ℕ → ℕ
 largest_total r = (64 + r) * most_cost
 
 -- Columns up to this count to be removed from this row of the table.
-pub record RowNeeded (z : Size) (whole : ℕ) (rows : Rows) (columns : Columns) (work totals : List ℕ) : Type 0 where
-  pub space : SpaceNeeded z whole (length work)
-  pub rows_left : rows.0 < z.height
+pub record RowNeeded (tab : Table) (rows : Rows) (columns : Columns) (work totals : List ℕ) : Type 0 where
+  pub space : SpaceNeeded tab (length work)
+  pub rows_left : rows.0 < tab.size.size.height
   pub row : rows.0 < slots
-  pub columns_left : columns.0 < z.width
+  pub columns_left : columns.0 < tab.size.size.width
   pub column : columns.0 < slots
   pub totals_long : length totals ≡ slots
 
@@ -59,22 +60,22 @@ pub record RowGiven (z : Size) (whole : ℕ) (rows : Rows) (columns : Columns) (
   pub totals_long : length totals' ≡ slots
 
 -- For the first row: no totals yet.
-pub record FirstRowNeeded (z : Size) (whole : ℕ) (columns : Columns) (work totals : List ℕ) : Type 0 where
-  pub fits : RowNeeded z whole (row_count 0) columns work totals
+pub record FirstRowNeeded (tab : Table) (columns : Columns) (work totals : List ℕ) : Type 0 where
+  pub fits : RowNeeded tab (row_count 0) columns work totals
   pub none : (j : ℕ) → get_or totals j 0 ≡ 0
 
 -- For the rest of the row below row `rows`: the totals of that row, but in the first column the one of the row below it.
-pub record RestOfRowNeeded (z : Size) (whole : ℕ) (rows : Rows) (columns : Columns) (work totals : List ℕ) : Type 0 where
-  pub fits : RowNeeded z whole (row_more rows) columns work totals
+pub record RestOfRowNeeded (tab : Table) (rows : Rows) (columns : Columns) (work totals : List ℕ) : Type 0 where
+  pub fits : RowNeeded tab (row_more rows) columns work totals
   pub first_small : get_or totals 0 0 ≤ largest_total (rows.0 + 1)
   pub others_small : (j : ℕ) → 0 < j → get_or totals j 0 ≤ largest_total rows.0
 
 -- For the whole row below row `rows`: the totals of that row.
-pub record NextRowNeeded (z : Size) (whole : ℕ) (rows : Rows) (columns : Columns) (work totals : List ℕ) : Type 0 where
-  pub fits : RowNeeded z whole (row_more rows) columns work totals
+pub record NextRowNeeded (tab : Table) (rows : Rows) (columns : Columns) (work totals : List ℕ) : Type 0 where
+  pub fits : RowNeeded tab (row_more rows) columns work totals
   pub small : (j : ℕ) → get_or totals j 0 ≤ largest_total rows.0
 
 -- For row `rows` from row 0: the totals of row 0.
-pub record RowsBelowNeeded (z : Size) (whole : ℕ) (rows : Rows) (columns : Columns) (work totals : List ℕ) : Type 0 where
-  pub fits : RowNeeded z whole rows columns work totals
+pub record RowsBelowNeeded (tab : Table) (rows : Rows) (columns : Columns) (work totals : List ℕ) : Type 0 where
+  pub fits : RowNeeded tab rows columns work totals
   pub small : (j : ℕ) → get_or totals j 0 ≤ largest_total 0
