@@ -2,7 +2,9 @@
 use Rattle.std.proofs.Math.Option.{Option, none, some}
 use Rattle.std.specs.Prelude.{ℕ}
 use Rattle.seam_rules.specs.declared.answers.Removal.{Removal}
-use Rattle.seam_rules.specs.Answers.{Ending, Done, Narrow, Spent, Blocked, removal_number, removal_ending, removal_count}
+use Rattle.seam_rules.specs.declared.answers.Ending.{Ending}
+use Rattle.seam_rules.specs.declared.answers.Ending.TheVariants.{Done, Narrow, Spent, Blocked}
+use Rattle.seam_rules.specs.Answers.{removal_number, removal_ending, removal_count}
 use Rattle.export_answers.specs.declared.objects.Ended.{Ended}
 
 -- The number of an ending; 0 where there is none.

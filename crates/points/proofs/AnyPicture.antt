@@ -25,7 +25,7 @@ use Rattle.seam_theory.specs.Best.{better, first_best}
 use Rattle.seam_theory.specs.Paths.{run, select, paths_up, paths, cost, beside, nearby}
 use Rattle.seam_theory.specs.Seams.{cheapest}
 use Rattle.seam_theory.specs.PictureSeams.{seam_of}
-use Rattle.seam_rules.specs.Answers.{Spent}
+use Rattle.seam_rules.specs.declared.answers.Ending.TheVariants.{Spent}
 use Rattle.seam_objects.specs.Objects.{MarkedPicture, to_remove, ends, removal}
 use Rattle.map_theory.specs.Maps.{number_row, number, map_of}
 use Rattle.map_theory.specs.Widths.{allowed}

@@ -16,7 +16,8 @@ use Rattle.text_theory.specs.Example.{shown_text}
 use Rattle.seam_theory.specs.PictureSeams.{seam_of, cost_of}
 use Rattle.seam_rules.specs.declared.answers.Axis.TheVariants.{Horizontal}
 use Rattle.seam_rules.specs.Counts.{row_count, column_count}
-use Rattle.seam_rules.specs.Answers.{Ending, Done, Narrow, Spent, Blocked}
+use Rattle.seam_rules.specs.declared.answers.Ending.{Ending}
+use Rattle.seam_rules.specs.declared.answers.Ending.TheVariants.{Done, Narrow, Spent, Blocked}
 use Rattle.seam_cut.specs.Axes.{seam_along, cost_along}
 use Rattle.seam_objects.specs.Objects.{Removed, removal}
 use Rattle.seam_objects.specs.Removing.{marked_picture}

@@ -1,6 +1,6 @@
 -- What the rules of finding and cutting by marks say of the buffers.
-use Rattle.std.specs.Prelude.{Result, Ok, Err}
-use mathlib.Core.Path.{◌≡◌, refl, sym, ap, ◌∙◌}
+use Rattle.std.specs.Prelude.{Result, Ok, Err, is_ok}
+use mathlib.Core.Path.{◌≡◌, refl, ◌∙◌}
 use mathlib.Core.Bool.{Bool, true, false, not, cond}
 use mathlib.Core.List.{List, ◌++◌}
 use Prim.Native.Nat.{ℕ}
@@ -10,7 +10,7 @@ use borrow.Author.Tests.{eqb-true, not-false}
 use lib.ListN.{length, replicate}
 use Rattle.pictures.specs.declared.sizes.Size.{Size}
 use Rattle.pictures.specs.declared.refusals.Refusal.{Refusal}
-use Rattle.pictures.specs.Refusals.{number_of, refusal, served}
+use Rattle.pictures.specs.Refusals.{refusal, served}
 use Rattle.pictures.specs.Pictures.{size_rules, pixels}
 use Rattle.pictures.proofs.Rules.{served-first, served-both, passed, number-some}
 use Rattle.seam_bounds.specs.Moves.{outside}
@@ -38,20 +38,11 @@ marked_needed x z b m seam work e =
     }
 
 -- Finding by marks gives a seam where one is allowed, and 12 where none is.
-module _ (t : Bool) (answer : Result ℕ Refusal) (n : found_number answer ≡ cond t 12 0) where
-  pub seam_free : (cost : ℕ) → answer ≡ Ok cost → t ≡ false
-  seam_free cost e = allowed t (sym n ∙ ap found_number e)
-    where
-      allowed : (t : Bool) → cond {A = ℕ} t 12 0 ≡ 0 → t ≡ false
-      allowed true z = absurd (omega arith)
-      allowed false z = refl
-
-  pub refused_blocked : (why : Refusal) → answer ≡ Err why → t ≡ true
-  refused_blocked why e = blocked t (sym n ∙ ap found_number e)
-    where
-      blocked : (t : Bool) → cond {A = ℕ} t 12 0 ≡ number_of why → t ≡ true
-      blocked true z = refl
-      blocked false z = absurd (omega (arith, number-some why))
+pub ok_free : (t : Bool) (answer : Result ℕ Refusal) → found_number answer ≡ cond t 12 0 → is_ok answer ≡ not t
+ok_free true (Ok cost) n = absurd (omega (arith, n))
+ok_free false (Ok cost) n = refl
+ok_free true (Err why) n = refl
+ok_free false (Err why) n = absurd (omega (arith, number-some why, n))
 
 -- At the last column or row nothing is given but the number, and the work space is zero.
 pub last_kept : {A : Type 0} (t : Bool) (n : ℕ) → n ≡ cond t 12 13 → (x y : A) → y ≡ served n x y

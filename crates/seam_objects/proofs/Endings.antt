@@ -5,7 +5,7 @@ use Prim.Native.Nat.{ℕ, zero, suc}
 use lib.Dec.{eqb}
 use borrow.Author.Tests.{eq-eqb, ne_eqb, eqb-true, eqb-false}
 use Rattle.seam_objects.specs.Objects.{MarkedPicture, to_remove, no_seam, cut_once, Removed, ends, removal}
-use Rattle.seam_rules.specs.Answers.{Done, Narrow, Spent, Blocked}
+use Rattle.seam_rules.specs.declared.answers.Ending.TheVariants.{Done, Narrow, Spent, Blocked}
 
 -- The steps, one law each.
 module _ (n : ℕ) (s : MarkedPicture) where

@@ -1,5 +1,5 @@
 -- A cut of the picture and marks that stand at the front of their buffers: which number it is refused by, and what it leaves.
-use Rattle.std.specs.Prelude.{Result, Ok, Err}
+use Rattle.std.specs.Prelude.{Result, is_ok}
 use mathlib.Core.Path.{◌≡◌, sym, ap, ◌∙◌}
 use mathlib.Core.Bool.{Bool, true, false, not, cond}
 use mathlib.Core.List.{List, ◌++◌, append_assoc}
@@ -21,7 +21,7 @@ use Rattle.seam_turn.specs.Axes.{turned, cut_along}
 use Rattle.seam_cut.specs.Cutting.{closed_along}
 use Rattle.seam_cut_marked.specs.Axes.{marked_seam_along, blocked_along}
 use Rattle.seam_cut_marked.specs.Marking.{marked_cut_rules, closed_marks}
-use Rattle.seam_cut_marked.proofs.Buffers.{seam_free, refused_blocked}
+use Rattle.seam_cut_marked.proofs.Buffers.{ok_free}
 use Rattle.seam_objects.specs.Objects.{no_seam, cut_once}
 use Rattle.seam_objects.specs.Inner.{FrontNeeded, front, FrontCut}
 
@@ -89,11 +89,8 @@ module _ {z : Size} {b m work : List ℕ} (how : Method) (need : FrontNeeded z b
 
     -- The answer says whether there was a seam.
     module _ (answer : Result ℕ Refusal) (told : found_number answer ≡ number_at k n room seam) where
-      pub front-found : (cost : ℕ) → answer ≡ Ok cost → true ≡ not (no_seam (front z how b m))
-      front-found cost is = sym (ap not (seam_free (no_seam (front z how b m)) answer (told ∙ number_is) cost is))
-
-      pub front-refused : (why : Refusal) → answer ≡ Err why → false ≡ not (no_seam (front z how b m))
-      front-refused why is = sym (ap not (refused_blocked (no_seam (front z how b m)) answer (told ∙ number_is) why is))
+      pub front_told : is_ok answer ≡ not (no_seam (front z how b m))
+      front_told = ok_free (no_seam (front z how b m)) answer (told ∙ number_is)
 
       -- What stands in the buffers then.
       pub front_cut : (b' m' : List ℕ) (t : Bool) → t ≡ not (no_seam (front z how b m))

@@ -5,5 +5,4 @@ pub mod Removals
 pub mod Front
 pub mod Standing
 pub mod Seams
-pub mod Rooms
 pub mod Smallest

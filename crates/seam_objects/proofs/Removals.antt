@@ -7,7 +7,7 @@ use native.Mathlib.Nat.{eq-or-lt_of_le}
 use native.Mathlib.Omega.{arith}
 use Rattle.grids.proofs.Orders.{more_than_one}
 use Rattle.seam_objects.specs.Objects.{MarkedPicture, to_remove, cut_once, after_cuts, removal}
-use Rattle.seam_rules.specs.Answers.{Done}
+use Rattle.seam_rules.specs.declared.answers.Ending.TheVariants.{Done}
 use Rattle.seam_objects.specs.Endings.{LeftShaped, Reason, Due}
 use Rattle.seam_objects.proofs.Shapes.{shaped_cut}
 use Rattle.seam_objects.proofs.Endings.{by-steps}

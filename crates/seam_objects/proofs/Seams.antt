@@ -2,7 +2,6 @@
 use mathlib.Core.Path.{◌≡◌, refl, sym, ap, ap₂, ◌∙◌}
 use mathlib.Core.Logic.{⊎_elim}
 use mathlib.Core.Bool.{Bool, true, false, not}
-use mathlib.Core.Option.{some}
 use mathlib.Core.List.{List, ◌++◌, append-nil}
 use Prim.Native.Nat.{ℕ, suc, ◌+◌, ◌-◌, ◌*◌, ◌≤◌, ◌<◌}
 use native.Mathlib.Nat.{suc-mul, zero-mul, le_of_eq, mul-le-mul_left, eq-or-lt_of_le}
@@ -21,11 +20,11 @@ use Rattle.energy.specs.declared.methods.Method.{Method}
 use Rattle.seam_bounds.specs.Moves.{outside}
 use Rattle.grids.proofs.Orders.{more_than_one}
 use Rattle.seam_rules.specs.declared.answers.Removal.{Removal}
-use Rattle.seam_rules.specs.declared.answers.Removal.TheVariants.{Done, Narrow, Spent, Blocked}
 use Rattle.seam_objects.specs.Objects.{MarkedPicture, some_two, to_remove, no_seam, cut_once, after_cuts, Removed, ends, removal}
-use Rattle.seam_rules.specs.Answers.{Ending, Done, Narrow, Spent, Blocked, removal_number, removal_count, removal_ending}
+use Rattle.seam_rules.specs.declared.answers.Ending.{Ending}
+use Rattle.seam_rules.specs.declared.answers.Ending.TheVariants.{Done, Narrow, Spent, Blocked}
 use Rattle.seam_objects.specs.Removing.{marked_picture, left_picture, left_marks}
-use Rattle.seam_rules.specs.declared.endings.Next.TheVariants.{Ended}
+use Rattle.std.specs.Prelude.{Some}
 use Rattle.seam_rules.specs.Endings.{next_step}
 use Rattle.seam_rules.proofs.Choices.{step-ended}
 use Rattle.seam_objects.specs.Inner.{SeamsNeeded, SeamsGiven, FrontNeeded, front, FrontCut}
@@ -108,33 +107,31 @@ module _ {z : Size} {how : Method} {b m : List ℕ} {budget width count : ℕ} {
   }
 
   -- An ending with the count of seams cut.
-  ended : (e : Ending) (answer : Removal) → removal_number answer ≡ 0 → removal_ending answer ≡ some e → removal_count answer ≡ count
-      → removal (budget - count) count left ≡ ends e count left → SeamsGiven b m z how budget answer b' m'
-  ended e answer number ending counted is =
+  ended : (e : Ending) → removal (budget - count) count left ≡ ends e count left → SeamsGiven b m z how budget (record { ending = e; count = count }) b' m'
+  ended e is =
       let all : removal budget 0 (marked_picture z how b m) ≡ ends e count left = g.same ∙ is in
       record {
-        number = number;
-        ending = ending ∙ sym (ap (λ (r : Removed). some r.ending) all);
-        count = counted ∙ sym (ap (λ (r : Removed). r.count) all);
+        ending = sym (ap (λ (r : Removed). r.ending) all);
+        count = sym (ap (λ (r : Removed). r.count) all);
         picture_left = g.stands.picture_is ∙ sym (ap (left_picture z) all);
         marks_left = g.stands.marks_are ∙ sym (ap (left_marks z) all);
       }
 
-  pub going_done : false ≡ to_remove left → SeamsGiven b m z how budget (Done count) b' m'
-  going_done none = ended done (Done count) refl refl refl (removal_done count left (budget - count) (sym none))
+  pub going_done : false ≡ to_remove left → SeamsGiven b m z how budget (record { ending = Done; count = count }) b' m'
+  going_done none = ended Done (removal_done count left (budget - count) (sym none))
 
   module _ (two : true ≡ to_remove left) where
-    pub going-narrow : width ≡ 1 → SeamsGiven b m z how budget (Narrow count) b' m'
-    going-narrow one = ended narrow (Narrow count) refl refl refl (removal-narrow count left (sym two) (budget - count) (g.stands.wide ∙ one))
+    pub going-narrow : width ≡ 1 → SeamsGiven b m z how budget (record { ending = Narrow; count = count }) b' m'
+    going-narrow one = ended Narrow (removal-narrow count left (sym two) (budget - count) (g.stands.wide ∙ one))
 
     module _ (more : width ≡ 1 → ⊥) where
       not-one : left.width ≡ 1 → ⊥
       not-one e = more (sym g.stands.wide ∙ e)
 
-      pub going-spent : count ≡ budget → SeamsGiven b m z how budget (Spent count) b' m'
+      pub going-spent : count ≡ budget → SeamsGiven b m z how budget (record { ending = Spent; count = count }) b' m'
       going-spent e =
           let rest : budget - count ≡ 0 = omega arith in
-          ended spent (Spent count) refl refl refl (rw rest (removal-spent count left (sym two) not-one))
+          ended Spent (rw rest (removal-spent count left (sym two) not-one))
 
       module _ (due : count ≡ budget → ⊥) (b'' m'' : List ℕ) where
         before : count < budget
@@ -146,11 +143,11 @@ module _ {z : Size} {how : Method} {b m : List ℕ} {budget width count : ℕ} {
         same-front : front (size_at z width) how b' m' ≡ left
         same-front = front_is g.stands
 
-        pub going-blocked : FrontCut (size_at z width) how b' m' false b'' m'' → SeamsGiven b m z how budget (Blocked count) b'' m''
+        pub going-blocked : FrontCut (size_at z width) how b' m' false b'' m'' → SeamsGiven b m z how budget (record { ending = Blocked; count = count }) b'' m''
         going-blocked f =
             let none : no_seam left ≡ true = not-false (no_seam left) (ap (λ t. not (no_seam t)) (sym same-front) ∙ sym f.cut_is) in
             rw (f.picture_left, f.marks_left)
-            (ended blocked (Blocked count) refl refl refl (rw rest (removal-blocked count left (sym two) not-one (budget - suc count) none)))
+            (ended Blocked (rw rest (removal-blocked count left (sym two) not-one (budget - suc count) none)))
 
         next : FrontCut (size_at z width) how b' m' true b'' m'' → Going z how b m budget (width - 1) (suc count) b'' m''
         unfolding after_cuts cut_once
@@ -185,7 +182,7 @@ module _ {z : Size} {how : Method} {b m : List ℕ} {budget width count : ℕ} {
 
 -- An ending that the step before a cut gives.
 pub going_ended : {z : Size} {how : Method} {b m : List ℕ} {budget width count : ℕ} {b' m' : List ℕ} (g : Going z how b m budget width count b' m') (marked : Bool)
-    → marked ≡ to_remove (after_cuts count (marked_picture z how b m)) → (answer : Removal) → next_step marked width count budget ≡ Ended answer → SeamsGiven b m z how budget answer b' m'
+    → marked ≡ to_remove (after_cuts count (marked_picture z how b m)) → (answer : Removal) → next_step marked width count budget ≡ Some answer → SeamsGiven b m z how budget answer b' m'
 going_ended {z} {how} {b} {m} {budget} {width} {count} {b'} {m'} g marked is =
     step-ended marked width count budget (λ answer. SeamsGiven b m z how budget answer b' m')
     (λ e. going_done g (sym e ∙ is))

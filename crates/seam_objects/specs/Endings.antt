@@ -1,7 +1,8 @@
 -- What the theorems on object removal say: why it ended, what held before each cut, and the shape of what is left.
 use Rattle.std.specs.Prelude.{◌≡◌, true, false, ℕ, ◌<◌}
 use Rattle.grids.specs.Each.{Each, Grid}
-use Rattle.seam_rules.specs.Answers.{Ending, Done, Narrow, Spent, Blocked}
+use Rattle.seam_rules.specs.declared.answers.Ending.{Ending}
+use Rattle.seam_rules.specs.declared.answers.Ending.TheVariants.{Done, Narrow, Spent, Blocked}
 use Rattle.seam_objects.specs.Objects.{MarkedPicture, to_remove, no_seam, Removed}
 
 -- Why a removal with b seams allowed ended.

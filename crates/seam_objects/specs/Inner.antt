@@ -1,6 +1,5 @@
 -- What the private functions of this crate ask and promise. No public promise cites it.
 use Rattle.std.specs.Prelude.{◌≡◌, Bool, false, not, cond, List, ◌++◌, ℕ, ◌*◌, ◌≤◌, ◌<◌, length, take, drop, replicate}
-use Rattle.std.proofs.Math.Option.{some}
 use Rattle.grids.specs.Rows.{flat}
 use Rattle.pictures.specs.declared.sizes.Size.{Size}
 use Rattle.pictures.specs.Refusals.{refusal}
@@ -8,7 +7,6 @@ use Rattle.pictures.specs.Pictures.{channels_of, side_rules, size_rules, picture
 use Rattle.seam_bounds.specs.Moves.{outside}
 use Rattle.energy.specs.declared.methods.Method.{Method}
 use Rattle.seam_rules.specs.declared.answers.Removal.{Removal}
-use Rattle.seam_rules.specs.Answers.{removal_number, removal_ending, removal_count}
 use Rattle.seam_objects.specs.Objects.{MarkedPicture, no_seam, cut_once, removal}
 use Rattle.seam_objects.specs.Removing.{marked_picture, left_picture, left_marks}
 
@@ -21,9 +19,8 @@ pub record SeamsNeeded (z : Size) (b m work : List ℕ) : Type 0 where
 
 -- The removal where nothing is refused: how it ended, after how many cuts, and what it left.
 pub record SeamsGiven (b m : List ℕ) (z : Size) (how : Method) (budget : ℕ) (answer : Removal) (b' m' : List ℕ) : Type 0 where
-  pub number : removal_number answer ≡ 0
-  pub ending : removal_ending answer ≡ some (removal budget 0 (marked_picture z how b m)).ending
-  pub count : removal_count answer ≡ (removal budget 0 (marked_picture z how b m)).count
+  pub ending : answer.ending ≡ (removal budget 0 (marked_picture z how b m)).ending
+  pub count : answer.count ≡ (removal budget 0 (marked_picture z how b m)).count
   pub picture_left : b' ≡ left_picture z (removal budget 0 (marked_picture z how b m))
   pub marks_left : m' ≡ left_marks z (removal budget 0 (marked_picture z how b m))
 

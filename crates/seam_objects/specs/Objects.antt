@@ -4,7 +4,8 @@ use Rattle.grids.specs.Rows.{flat}
 use Rattle.grids.specs.Cut.{cut}
 use Rattle.pictures.specs.Pictures.{Picture}
 use Rattle.energy.specs.declared.methods.Method.{Method}
-use Rattle.seam_rules.specs.Answers.{Ending, Done, Narrow, Spent, Blocked}
+use Rattle.seam_rules.specs.declared.answers.Ending.{Ending}
+use Rattle.seam_rules.specs.declared.answers.Ending.TheVariants.{Done, Narrow, Spent, Blocked}
 use Rattle.seam_theory.specs.PictureSeams.{marked_up, marked_seam_of, is_none}
 
 -- A picture and its marks, with their width and height, and the method that their seams are found by.

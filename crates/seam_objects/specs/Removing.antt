@@ -1,8 +1,9 @@
 -- Object removal on lent buffers: when it is refused, and what it gives.
-use Rattle.std.specs.Prelude.{◌≡◌, List, [], ◌∷◌, ◌++◌, ℕ, ◌*◌, ltb, length, replicate}
+use Rattle.std.specs.Prelude.{Result, ◌≡◌, List, [], ◌∷◌, ◌++◌, ℕ, ◌*◌, ltb, length, replicate}
 use Rattle.std.proofs.Math.Option.{none, some}
 use Rattle.grids.specs.Rows.{flat}
 use Rattle.pictures.specs.declared.sizes.Size.{Size}
+use Rattle.pictures.specs.declared.refusals.Refusal.{Refusal}
 use Rattle.pictures.specs.Refusals.{◌when◌, Rule, refusal, served}
 use Rattle.pictures.specs.Pictures.{channels_of, size_rules, picture, bytes, work_bytes, marks_of}
 use Rattle.energy.specs.declared.methods.Method.{Method}
@@ -27,7 +28,7 @@ abbrev pub left_marks : Size → Removed → List ℕ
 left_marks z r = flat r.left.marks ++ replicate (r.count * z.height) 0
 
 -- By at most `budget` cuts: the number, the ending and its count, and the buffers.
-pub record RemoveGiven (b m : List ℕ) (z : Size) (how : Method) (budget : ℕ) (work : List ℕ) (answer : Removal) (b' m' work' : List ℕ) : Type 0 where
+pub record RemoveGiven (b m : List ℕ) (z : Size) (how : Method) (budget : ℕ) (work : List ℕ) (answer : Result Removal Refusal) (b' m' work' : List ℕ) : Type 0 where
   pub number : removal_number answer ≡ refusal (removal_rules z b m (length work))
   pub ending : removal_ending answer ≡ served (removal_number answer) (some (removal budget 0 (marked_picture z how b m)).ending) none
   pub count : removal_count answer ≡ served (removal_number answer) (removal budget 0 (marked_picture z how b m)).count 0

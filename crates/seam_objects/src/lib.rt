@@ -7,8 +7,8 @@ ghost use Rattle.seam_objects.specs.Removing.{RemoveGiven};
 ghost use Rattle.seam_objects.specs.Inner.{SeamsNeeded, SeamsGiven, FrontNeeded, FrontCut};
 
 use energy::Method;
-use pictures::{LARGEST_SIDE, Size, Verdict};
-use seam_rules::{Axis, Found, Next, Removal};
+use pictures::{LARGEST_SIDE, Refusal, Size};
+use seam_rules::{Axis, Ending, Removal};
 
 // Cuts at most `budget` seams by the marks. The picture and marks left lie packed at the front of each buffer and the freed
 // bytes are 0. Refused by 2, 3, 4, 5 and 8.
@@ -19,23 +19,20 @@ pub fn remove(
     method: Method,
     budget: u16,
     work: &mut [u8],
-) -> Removal
+) -> Result<Removal, Refusal>
     ensures { RemoveGiven picture.old marks.old size method budget work.old result picture.new marks.new work.new }
 {
-    let fits = seam_cut_marked::judge_marked(
+    seam_cut_marked::judge_marked(
         picture.len(),
         marks,
         size,
         Axis::Vertical,
         LARGEST_SIDE,
         work.len(),
-    );
-    if let Verdict::Refused(why) = fits {
-        return Removal::Refused(why);
-    }
-    let ended = cut_seams(picture, marks, size, method, budget, work);
+    )?;
+    let removal = cut_seams(picture, marks, size, method, budget, work);
     pictures::clear(work);
-    ended
+    Ok(removal)
 }
 
 // The removal where nothing is refused.
@@ -50,24 +47,19 @@ fn cut_seams(
     requires { SeamsNeeded size picture.old marks.old work.old }
     ensures { SeamsGiven picture.old marks.old size method budget result picture.new marks.new }
 {
-    let height = size.height;
-    let kind = size.kind;
     let mut width = size.width;
     let mut count = 0u16;
     loop {
-        let pixels = height * width;
-        let marked = has_two(&marks[..pixels]);
-        let next = seam_rules::next_step(marked, width, count, budget);
-        if let Next::Ended(how) = next {
-            return how;
+        let marked = has_two(&marks[..size.height * width]);
+        if let Some(ended) = seam_rules::next_step(marked, width, count, budget) {
+            return ended;
         }
-        let left = Size {
-            width,
-            height,
-            kind,
-        };
+        let left = Size { width, ..size };
         if !cut_front(picture, marks, left, method, work) {
-            return Removal::Blocked(count);
+            return Removal {
+                ending: Ending::Blocked,
+                count,
+            };
         }
         width -= 1;
         count += 1;
@@ -90,7 +82,7 @@ fn cut_front(
     let pixels = pictures::pixels(size);
     let room = pictures::work_bytes(size);
     let mut seam = [0u16; LARGEST_SIDE];
-    let found = seam_cut_marked::cut_marked(
+    seam_cut_marked::cut_marked(
         &mut picture[..bytes],
         &mut marks[..pixels],
         size,
@@ -98,22 +90,13 @@ fn cut_front(
         Axis::Vertical,
         &mut seam,
         &mut work[..room],
-    );
-    let Found::Seam(_) = found else {
-        return false;
-    };
-    true
+    )
+    .is_ok()
 }
 
 // Whether some mark is 2.
 fn has_two(marks: &[u8]) -> bool
     ensures { result ≡ some_two marks.now }
 {
-    let mut some = false;
-    for i in 0..marks.len() {
-        if marks[i] == 2 {
-            some = true;
-        }
-    }
-    some
+    marks.contains(&2)
 }

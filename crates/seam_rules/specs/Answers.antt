@@ -3,8 +3,7 @@ use Rattle.std.proofs.Math.Option.{Option, none, some}
 use Rattle.std.specs.Prelude.{Result, Ok, Err, ℕ}
 use Rattle.pictures.specs.declared.refusals.Refusal.{Refusal}
 use Rattle.pictures.specs.Refusals.{given}
-pub use Rattle.seam_rules.specs.declared.answers.Ending.{Ending}
-pub use Rattle.seam_rules.specs.declared.answers.Ending.TheVariants.{Done, Narrow, Spent, Blocked}
+use Rattle.seam_rules.specs.declared.answers.Ending.{Ending}
 use Rattle.seam_rules.specs.declared.answers.Removal.{Removal}
 
 -- The number that an answer is refused by, 0 where a seam is given; and the seam's cost.

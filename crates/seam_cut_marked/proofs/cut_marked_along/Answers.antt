@@ -1,6 +1,7 @@
 -- `seam_cut_marked::cut_marked_along` meets its contract: where a seam is allowed it lies inside the picture, so closing up the
 -- picture and the marks is served.
-use Rattle.std.proofs.Common.{◌≡◌, Result, Ok, IsOk, false, eqb, List, ◌++◌, ℕ, ◌<◌, ◌≤◌, refl, length, take, drop, replicate, sym, ap, ap₂, ◌∙◌, mul-one, take_at, arith}
+use Rattle.std.proofs.Common.{◌≡◌, Result, Ok, IsOk, false, eqb, List, ◌++◌, ℕ, ◌<◌, ◌≤◌, length, take, drop, replicate, sym, ap, ap₂, ◌∙◌, mul-one, take_at, arith}
+use borrow.Author.Tests.{not-true}
 use Rattle.grids.specs.Each.{Each}
 use Rattle.grids.proofs.Shapes.{each-length}
 use Rattle.pictures.specs.declared.sizes.Size.{Size}
@@ -19,7 +20,7 @@ use Rattle.seam_turn.proofs.Answered.{close_ok}
 use Rattle.seam_cut.specs.Cutting.{closed_along}
 use Rattle.seam_cut_marked.specs.Axes.{marked_seam_along, blocked_along}
 use Rattle.seam_cut_marked.specs.Inner.{MarkedAlongGiven, CutMarkedNeeded, CutAlongGiven}
-use Rattle.seam_cut_marked.proofs.Buffers.{seam_free}
+use Rattle.seam_cut_marked.proofs.Buffers.{ok_free}
 use Rattle.seam_cut_marked.proofs.Marked.{marked_inside}
 use Rattle.seam_cut_marked.proofs.Marks.{grey-bytes, grey-sized, wide-grey, tall_grey, marks-cut}
 use Rattle.seam_cut_marked.proofs.cut_marked_along.Goals as goal
@@ -33,7 +34,7 @@ module _ (how : Method) (x : Axis) (z : Size) (b m room work : List ℕ) (p : Cu
   -- it lies inside the picture,
   inside : Each (λ k. k < (turned_size x z).width) (turned_size x z).height seam
   unfolding seam
-  inside = marked_inside how x z (picture z b) (marks_of z m) (seam_free (blocked_along how x z (picture z b) (marks_of z m)) (Ok k) found.number k refl)
+  inside = marked_inside how x z (picture z b) (marks_of z m) (not-true (blocked_along how x z (picture z b) (marks_of z m)) (sym (ok_free (blocked_along how x z (picture z b) (marks_of z m)) (Ok k) found.number)))
 
   -- and is what is lent on of the seam's space
   lent : (t : Size) → t ≡ turned_size x z → take t.height seam' ≡ seam

@@ -1,12 +1,12 @@
 -- `seam_objects::cut_front` meets its contract.
-use Rattle.std.proofs.Common.{◌≤◌, true, false}
+use Rattle.std.proofs.Common.{◌≤◌, ◌∙◌}
 use Rattle.pictures.specs.Pictures.{largest_side, picture_bytes, pixels, work_bytes}
 use Rattle.pictures.proofs.Limits.{sides_are, given_out}
-use Rattle.seam_objects.proofs.Front.{front-found, front-refused, front_cut}
+use Rattle.seam_objects.proofs.Front.{front_told, front_cut}
 use Rattle.seam_objects.proofs.cut_front.Goals as goal
 
-pub returns-in_default : goal.returns-in_default
-returns-in_default c =
+pub returns : goal.returns
+returns c =
     let z = c.args.size in
     let how = c.args.method in
     let need = c.requires in
@@ -15,23 +15,9 @@ returns-in_default c =
     let pixels-are = given_out z c.pixels-pixels.result (pixels z) need.sides c.pixels-pixels.ensures in
     let room_is = given_out z c.work_bytes-room.result (work_bytes z) need.sides c.work_bytes-room.ensures in
     let tall : z.height ≤ largest_side = (sides_are z need.sides).height_most in
-    let q = c.cut_marked-found in
+    let q = c.cut_marked in
     let told = q.ensures in
-    let is = front-refused how need bytes_are pixels-are room_is tall q.result told.number c.in_default.field-0 c.in_default.is in
-    front_cut how need bytes_are pixels-are room_is tall q.result told.number q.new.picture q.new.marks false is
-    told.picture_left told.marks_left
-
-pub returns : goal.returns
-returns c =
-    let z = c.args.size in
-    let how = c.args.method in
-    let need = c.requires in
-    let bytes_are = given_out z c.picture_bytes-bytes.result (picture_bytes z) need.sides c.picture_bytes-bytes.ensures in
-    let pixels-are = given_out z c.pixels-pixels.result (pixels z) need.sides c.pixels-pixels.ensures in
-    let room_is = given_out z c.work_bytes-room.result (work_bytes z) need.sides c.work_bytes-room.ensures in
-    let tall : z.height ≤ largest_side = (sides_are z need.sides).height_most in
-    let q = c.cut_marked-found in
-    let told = q.ensures in
-    let is = front-found how need bytes_are pixels-are room_is tall q.result told.number c.in-Seam.field-0 c.in-Seam.is in
-    front_cut how need bytes_are pixels-are room_is tall q.result told.number q.new.picture q.new.marks true is
+    -- it is told by the answer whether a seam was cut
+    let is = c.is_ok.ensures.value ∙ front_told how need bytes_are pixels-are room_is tall q.result told.number in
+    front_cut how need bytes_are pixels-are room_is tall q.result told.number q.new.picture q.new.marks c.is_ok.result is
     told.picture_left told.marks_left
