@@ -86,9 +86,6 @@ letter_digit b h = no_digit b (inr (omega (arith, leb-true 97 b (both (leb 97 b)
 pub digit_letter : (b : ℕ) → is_digit b ≡ true → is_letter b ≡ false
 digit_letter b h = no_letter b (inl (omega (arith, (digit_true b h).1)))
 
-pub opening_byte : {x : Class} {b : ℕ} → x ≡ Opening → x ≡ class_of b → b ≡ 40
-opening_byte {b = b} e f = rw (found b e f) at (class_says b)
-
 pub closing_byte : {x : Class} {b : ℕ} → x ≡ Closing → x ≡ class_of b → b ≡ 41
 closing_byte {b = b} e f = rw (found b e f) at (class_says b)
 
@@ -112,10 +109,6 @@ module _ {x : Class} (b : ℕ) (f : x ≡ class_of b) where
       go : (l : Bool) → is_letter b ≡ l → is_letter b ≡ false
       go true h = absurd (n b (f ∙ rw (letter_digit b h, h)))
       go false h = h
-
-  pub arm_no_opening : (x ≡ Opening → ⊥) → b ≡ 40 → ⊥
-  unfolding class_of is_digit is_letter
-  arm_no_opening n e = n (f ∙ ap class_of e)
 
   pub arm_no_closing : (x ≡ Closing → ⊥) → b ≡ 41 → ⊥
   unfolding class_of is_digit is_letter

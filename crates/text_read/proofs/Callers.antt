@@ -17,7 +17,7 @@ use Rattle.text_theory.proofs.Pairs.{strip_back}
 use Rattle.text_theory.proofs.Decimals.{number_reads}
 use Rattle.text_theory.proofs.Files.{line_reads, pixel_reads, head_reads, clear-blank, clear-closing}
 use Rattle.text_read.specs.declared.cursor.Cursor.{Cursor}
-use Rattle.text_read.specs.Answers.{read_on, ahead, Told, counted, read}
+use Rattle.text_read.specs.Answers.{read_on, ahead, counted, read}
 use Rattle.text_read.specs.Lines.{row_line, map_line, fitting, Taken}
 
 -- The text of a line gives its values, the text of a head the head, and what stands after is left.
@@ -79,19 +79,3 @@ module _ {text : List ℕ} {at : ℕ} where
   pub taken_map : (row : List ℕ) {rest out : List ℕ} (r : code.Option (ℕ × Cursor)) {out' : List ℕ}
       → Taken map_line text at out (read r) out' → drop at text ≡ map_text row ++ rest → All (λ (a : ℕ). a ≤ largest_number) row → length row ≤ length out → LineMet text at row rest out r out'
   taken_map row {rest} r T e a h = taken_line r T (ap map_line e ∙ map_line_lem row rest a) h
-
--- A head was read.
-pub record HeadMet (text : List ℕ) (at : ℕ) (h : Head) (rest : List ℕ) (r : code.Option (Head × Cursor)) : Type 0 where
-  pub place : Cursor
-  pub answer : r ≡ code.Some (h, place)
-  pub left : drop place.at text ≡ rest
-  pub moved : (at < place.at) × (place.at ≤ length text)
-
-pub told_head : {text : List ℕ} {at : ℕ} (h : Head) {rest : List ℕ} (r : code.Option (Head × Cursor)) → Told head_get text at (read r) → drop at text ≡ head_text h ++ rest → Numbers h → HeadMet text at h rest r
-told_head {text} {at} h {rest} r T e n = go r (sym (ap head_get e ∙ head_line h rest n) ∙ T.same) T.moved
-  where
-    go : (r : code.Option (Head × Cursor)) → some (h, rest) ≡ read_on text (read r) → ahead (length text) at (read r) → HeadMet text at h rest r
-    go code.None f m = absurd (none-ne-some _ (sym f))
-    go (code.Some (g, c)) f m =
-        let q = some-injective (h, rest) (g, drop c.at text) f in
-        record { place = c; answer = ap (λ (p : Head × List ℕ). code.Some (p.0, c)) (sym q); left = ap (λ (p : Head × List ℕ). p.1) (sym q); moved = m }

@@ -29,14 +29,10 @@ pub rest_of : (text : List ℕ) (at : ℕ) → slice_range text at (length text)
 rest_of text at = let l : length (drop at text) ≡ length text - at = length-drop at text in rw (← l) (take-length (drop at text))
 
 -- The bytes from a place on, one by one.
-module _ (text : List ℕ) (k : ℕ) {i at : ℕ} (e : at ≡ k + i) where
-  pub further_byte : i < length (slice_range text k (length text)) → (at < length text) × (get_or (slice_range text k (length text)) i 0 ≡ get_or text at 0)
-  further_byte h =
-      let l : length (slice_range text k (length text)) ≡ length text - k = ap length (rest_of text k) ∙ length-drop k text in
-      (omega arith, ap (λ (s : List ℕ). get_or s i 0) (rest_of text k) ∙ get_or-drop k text i 0 ∙ rw e refl)
-
-  pub further_end : k ≤ length text → length (slice_range text k (length text)) ≤ i → length text ≤ at
-  further_end m h = let l : length (slice_range text k (length text)) ≡ length text - k = ap length (rest_of text k) ∙ length-drop k text in omega arith
+pub further_byte : (text : List ℕ) (k i : ℕ) → i < length (slice_range text k (length text)) → (k + i < length text) × (get_or (slice_range text k (length text)) i 0 ≡ get_or text (k + i) 0)
+further_byte text k i h =
+    let l : length (slice_range text k (length text)) ≡ length text - k = ap length (rest_of text k) ∙ length-drop k text in
+    (omega arith, ap (λ (s : List ℕ). get_or s i 0) (rest_of text k) ∙ get_or-drop k text i 0)
 
 further-more : (s : List ℕ) (n : ℕ) → n ≤ (further n s).0
 unfolding further
@@ -113,3 +109,11 @@ module _ {limit : ℕ} {text : List ℕ} {start : ℕ} where
     pub reading-end : length text ≤ at → Told (number_get limit) text start (within limit n at)
     unfolding further
     reading-end h = stopped (rw (drop_of_length-le text h))
+
+-- The loop has passed all bytes.
+pub further_end : {limit : ℕ} (text : List ℕ) {start n : ℕ} (k i : ℕ) → Reading limit text start n (k + i) → k ≤ length text
+    → length (slice_range text k (length text)) ≤ i → Told (number_get limit) text start (within limit n (length text))
+further_end text k i R m h =
+    let l : length (slice_range text k (length text)) ≡ length text - k = ap length (rest_of text k) ∙ length-drop k text in
+    let e : k + i ≡ length text = omega (arith, R.inside) in
+    rw (← e) (reading-end R (omega arith))

@@ -86,27 +86,10 @@ pub record Filling {T : Type 0} (value : T → ℕ) (limit : ℕ) (text : List �
   pub all : figures (length out) (drop from text) ≡ map value (take i out) ++ figures left (drop at text)
 
 module _ {T : Type 0} {value : T → ℕ} {limit : ℕ} {text : List ℕ} {from : ℕ} where
-  pub filling_first : (out : List T) → Coming limit (length out) (drop from text) → Filling value limit text from 0 from out
-  filling_first out h = record { left = length out; sum = omega arith; coming = h; all = refl }
-
   module _ {i at : ℕ} {out : List T} (F : Filling value limit text from i at out) (l : i < length out) where
-    pub filling_some : Told figure text at none → ⊥
-    filling_some t = go F.left F.sum F.coming
-      where
-        go : (m : ℕ) → i + m ≡ length out → Coming limit m (drop at text) → ⊥
-        go zero e k = omega arith
-        go (suc m) e k = none-ne-some _ (sym t.same ∙ k.1)
-
     module _ {v c : ℕ} (t : Told figure text at (some (v, c))) where
       same-pair : (r : ℕ × List ℕ) → figure (drop at text) ≡ some r → r ≡ (v, drop c text)
       same-pair r e = some-injective r (v, drop c text) (sym e ∙ t.same)
-
-      pub filling_small : v ≤ limit
-      filling_small = go F.left F.sum F.coming
-        where
-          go : (m : ℕ) → i + m ≡ length out → Coming limit m (drop at text) → v ≤ limit
-          go zero e k = absurd (omega arith)
-          go (suc m) e k = rw (same-pair k.0 k.1) at k.2
 
       pub filling_next : (x : T) → value x ≡ v → Filling value limit text from (i + 1) c (set out i x)
       unfolding figures

@@ -23,7 +23,7 @@ unfolding is_letter
 name_letters n i h = every_at is_letter (name_text n) (each_name (λ m. every is_letter (name_text m)) refl n) i 0 h
 
 -- A byte that is no letter is none of a name's.
-pub no_letter_other : (n : Name) (i b : ℕ) → i < length (name_text n) → is_letter b ≡ false → b ≡ get_or (name_text n) i 0 → ⊥
+no_letter_other : (n : Name) (i b : ℕ) → i < length (name_text n) → is_letter b ≡ false → b ≡ get_or (name_text n) i 0 → ⊥
 no_letter_other n i b h k e = false≢true (sym k ∙ ap is_letter e ∙ name_letters n i h)
 
 -- Nor does it begin one.

@@ -89,24 +89,23 @@ impl Cursor {
         let Class::Digit(first) = self.class(text)? else {
             return None;
         };
-        let mut at = self.at + 1;
+        let start = self.at + 1;
         let lone = first == 0;
         if lone {
-            return Some((0, Cursor { at }));
+            return Some((0, Cursor { at: start }));
         }
+        let further = &text[start..];
         let mut n = first;
-        let further = &text[at..];
-        for b in further {
+        for (i, b) in further.iter().enumerate() {
             let Class::Digit(d) = class_of(*b) else {
-                return judged(n, at);
+                return judged(n, start + i);
             };
             if LARGEST_NUMBER < n {
                 return None;
             }
             n = n * 10 + d;
-            at += 1;
         }
-        judged(n, at)
+        judged(n, text.len())
     }
 
     // Past the letters of a name, if they stand here.

@@ -40,9 +40,6 @@ pub strip_shorter : (w s t : List ℕ) → 0 < length w → strip w s ≡ some t
 strip_shorter w s t p h = omega (arith, simp length-append at (ap length (strip-sound w s t h)))
 
 module _ {A B : Type 0} where
-  pub on_some : {o : Option (A × List ℕ)} (f : A → Get B) {a : A} {t : List ℕ} → o ≡ some (a, t) → on o f ≡ f a t
-  on_some f e = rw e
-
   pub on_inv : (o : Option (A × List ℕ)) (f : A → Get B) (r : B × List ℕ) → on o f ≡ some r → (q : A × List ℕ) × (o ≡ some q) × (f q.0 q.1 ≡ some r)
   on_inv none f r h = absurd (none-ne-some _ h)
   on_inv (some q) f r h = (q, refl, h)
@@ -52,9 +49,6 @@ module _ {A B : Type 0} where
   on_same (some q) f k h = h q refl
 
 module _ {A : Type 0} (w : List ℕ) (g : Get A) where
-  pub after_back : (t : List ℕ) → after w g (w ++ t) ≡ g t
-  after_back t = rw strip_back
-
   pub after_inv : (s : List ℕ) (r : A × List ℕ) → after w g s ≡ some r → (t : List ℕ) × (s ≡ w ++ t) × (g t ≡ some r)
   after_inv s r h = go (strip w s) refl h
     where
