@@ -4,8 +4,8 @@ use mathlib.Core.List.{List, [], ◌∷◌, ◌++◌, append_assoc}
 use Prim.Native.Nat.{ℕ, zero, suc, ◌+◌, ◌-◌, ◌*◌, ◌≤◌, ◌<◌}
 use native.Mathlib.Numerals.{add-one}
 use native.Mathlib.Omega.{arith}
-use lib.ListN.{length, get_or, take, drop, set, length-append, take-append-drop}
-use lib.Seq.{drop-cons, take-suc, set_at, append_snoc, length-take-le}
+use lib.ListN.{length, get_or, take, drop, length-append, take-append-drop}
+use lib.Seq.{drop-cons, take-suc, length-take-le}
 use Rattle.map_build.specs.Inner.Marks.{write_pair}
 
 -- The two bytes at c, and what follows them.
@@ -25,7 +25,7 @@ module _ (ys : List ℕ) (c : ℕ) (inside : c + 1 < length ys) where
       ∙ ap (◌++ (get_or ys (c + 1) 0 ∷ [])) one
       ∙ append_assoc (take c ys) (get_or ys c 0 ∷ []) (get_or ys (c + 1) 0 ∷ []))
 
--- A number passed, a 0 passed, the 0 found, and the end. w is the row to come of it.
+-- A number passed, a 0 passed, and the end. w is the row to come of it.
 module _ (low high : ℕ) (ys w : List ℕ) (c z : ℕ) (inside : c + 1 < length ys) where
   pub pass_number : (get_or ys c 0 + 256 * get_or ys (c + 1) 0 ≡ 0 → ⊥) → take c ys ++ write_pair low high z (drop c ys) ≡ w
       → take (c + 2) ys ++ write_pair low high z (drop (c + 2) ys) ≡ w
@@ -49,27 +49,6 @@ module _ (low high : ℕ) (ys w : List ℕ) (c z : ℕ) (inside : c + 1 < length
       go zero zero (suc k) n l r q t =
           let o : z - 1 ≡ k = omega arith in
           rw (o, t, append_assoc) (rw (r, q) at e)
-
-  pub put_number : get_or ys c 0 + 256 * get_or ys (c + 1) 0 ≡ 0 → z ≡ 0 → take c ys ++ write_pair low high z (drop c ys) ≡ w
-      → set (set ys c low) (c + 1) high ≡ w
-  put_number n r e = go (get_or ys c 0) (get_or ys (c + 1) 0) n (drop-two ys c inside)
-    where
-      long : length (take c ys) ≡ c
-      long = length-take-le c ys (omega arith)
-
-      front : length (take c ys ++ (low ∷ [])) ≡ c + 1
-      front = omega (arith, length-append (take c ys) (low ∷ []), long)
-
-      go : (a b : ℕ) → a + 256 * b ≡ 0 → drop c ys ≡ a ∷ b ∷ drop (c + 2) ys → set (set ys c low) (c + 1) high ≡ w
-      go (suc a) b n q = absurd (omega arith)
-      go zero (suc b) n q = absurd (omega arith)
-      go zero zero n q =
-          let rest : List ℕ = drop (c + 2) ys in
-          ap (λ x. set (set x c low) (c + 1) high) (sym (take-append-drop c ys) ∙ ap (take c ys ++◌) q)
-          ∙ ap (λ x. set x (c + 1) high) (set_at (take c ys) 0 (0 ∷ drop (c + 2) ys) low c long ∙ sym (append_snoc (take c ys) low (0 ∷ drop (c + 2) ys)))
-          ∙ set_at (take c ys ++ (low ∷ [])) 0 (drop (c + 2) ys) high (c + 1) front
-          ∙ append_snoc (take c ys) low (high ∷ drop (c + 2) ys)
-          ∙ (rw (r, q) at e)
 
 pub row-end : (low high : ℕ) (ys w : List ℕ) (c z : ℕ) → c ≤ length ys → length ys ≤ c + 1 → take c ys ++ write_pair low high z (drop c ys) ≡ w → ys ≡ w
 row-end low high ys w c z l h e = sym (take-append-drop c ys) ∙ ap (take c ys ++◌) (sym (short (drop c ys) (omega (arith, rest, length-take-le c ys l)))) ∙ e

@@ -1,38 +1,42 @@
 -- Zeros counted, and blocks of numbers passed whole.
-use mathlib.Core.Path.{◌≡◌, refl, sym, ap, ◌∙◌}
+use mathlib.Core.Path.{◌≡◌, refl, sym, ap, ap₂, ◌∙◌}
 use mathlib.Core.List.{List, [], ◌∷◌, ◌++◌, append_assoc, append-nil}
-use Prim.Native.Nat.{ℕ, zero, suc, ◌+◌, ◌-◌, ◌*◌, ◌≤◌, ◌<◌}
+use Prim.Native.Nat.{ℕ, zero, suc, ◌+◌, ◌-◌, ◌*◌, ◌≤◌}
 use native.Mathlib.Omega.{arith}
-use lib.ListN.{length, get_or, take, drop, take-append-drop}
-use lib.Seq.{take-add, drop-drop, drop-length}
+use lib.ListN.{length, get_or, take, drop, length-append, length-drop}
+use lib.Seq.{take-add, take_at, drop_at, drop-drop, drop-length}
 use borrow.Author.Rules.{part_to_end}
 use borrow.Rule.Slice.PartMut.{mid_of, put_mid}
-use Rattle.grids.proofs.Parts.{put_part, part_length}
+use Rattle.grids.proofs.Parts.{put_part}
 use Rattle.map_build.specs.Inner.Marks.{zero_pairs, SkipGiven, write_pair}
-use Rattle.map_build.proofs.Marking.{drop-two}
 
--- One turn of the count: a 0, and a number that isn't. t is the count to come of it.
-module _ (ys : List ℕ) (i n t : ℕ) (inside : 2 * i + 1 < length ys) (so_far : n + zero_pairs (drop (2 * i) ys) ≡ t) where
-  next : 2 * (i + 1) ≡ 2 * i + 2
-  next = omega arith
-
-  pub count_zero : get_or ys (2 * i) 0 + 256 * get_or ys (2 * i + 1) 0 ≡ 0 → n + 1 + zero_pairs (drop (2 * (i + 1)) ys) ≡ t
-  count_zero d = rw next (go (get_or ys (2 * i) 0) (get_or ys (2 * i + 1) 0) d (drop-two ys (2 * i) inside))
+-- One turn of the count: a 0, and a number that isn't.
+module _ (pair more : List ℕ) {rest : List ℕ} (split : rest ≡ pair ++ more) (long : length pair ≡ 2) where
+  pub count_zero : get_or pair 0 0 + 256 * get_or pair 1 0 ≡ 0 → zero_pairs rest ≡ suc (zero_pairs more)
+  count_zero d = rw split (go pair long d)
     where
-      go : (a b : ℕ) → a + 256 * b ≡ 0 → drop (2 * i) ys ≡ a ∷ b ∷ drop (2 * i + 2) ys → n + 1 + zero_pairs (drop (2 * i + 2) ys) ≡ t
-      go zero zero d q =
-          let one : zero_pairs (drop (2 * i) ys) ≡ suc (zero_pairs (drop (2 * i + 2) ys)) = ap zero_pairs q in
-          omega (arith, one, so_far)
-      go zero (suc b) d q = absurd (omega arith)
-      go (suc a) b d q = absurd (omega arith)
+      go : (p : List ℕ) → length p ≡ 2 → get_or p 0 0 + 256 * get_or p 1 0 ≡ 0 → zero_pairs (p ++ more) ≡ suc (zero_pairs more)
+      go [] l d = absurd (omega arith)
+      go (a ∷ []) l d = absurd (omega arith)
+      go (zero ∷ zero ∷ []) l d = refl
+      go (zero ∷ suc b ∷ []) l d = absurd (omega arith)
+      go (suc a ∷ b ∷ []) l d = absurd (omega arith)
+      go (a ∷ b ∷ e ∷ p) l d = absurd (omega arith)
 
-  pub count-number : (get_or ys (2 * i) 0 + 256 * get_or ys (2 * i + 1) 0 ≡ 0 → ⊥) → n + zero_pairs (drop (2 * (i + 1)) ys) ≡ t
-  count-number d = rw next (go (get_or ys (2 * i) 0) (get_or ys (2 * i + 1) 0) d (drop-two ys (2 * i) inside))
+  pub count-number : (get_or pair 0 0 + 256 * get_or pair 1 0 ≡ 0 → ⊥) → zero_pairs rest ≡ zero_pairs more
+  count-number d = rw split (go pair long d)
     where
-      go : (a b : ℕ) → (a + 256 * b ≡ 0 → ⊥) → drop (2 * i) ys ≡ a ∷ b ∷ drop (2 * i + 2) ys → n + zero_pairs (drop (2 * i + 2) ys) ≡ t
-      go zero zero d q = absurd (d refl)
-      go zero (suc b) d q = rw q at so_far
-      go (suc a) b d q = rw q at so_far
+      go : (p : List ℕ) → length p ≡ 2 → (get_or p 0 0 + 256 * get_or p 1 0 ≡ 0 → ⊥) → zero_pairs (p ++ more) ≡ zero_pairs more
+      go [] l d = absurd (omega arith)
+      go (a ∷ []) l d = absurd (omega arith)
+      go (zero ∷ zero ∷ []) l d = absurd (d refl)
+      go (zero ∷ suc b ∷ []) l d = refl
+      go (suc a ∷ b ∷ []) l d = refl
+      go (a ∷ b ∷ e ∷ p) l d = absurd (omega arith)
+
+  -- A zero for every two bytes at most.
+  pub count-fits : length rest ≡ 2 + length more
+  count-fits = ap length split ∙ length-append pair more ∙ ap (◌+ length more) long
 
 -- A block of whole numbers that holds at most s zeros is passed.
 past : (low high s : ℕ) (b r : List ℕ) (n : ℕ) → length b ≡ 2 * n → zero_pairs b ≤ s → write_pair low high s (b ++ r) ≡ b ++ write_pair low high (s - zero_pairs b) r
@@ -46,19 +50,23 @@ past low high (suc s) (zero ∷ zero ∷ xs) r n e l =
     rw z (ap (λ q. 0 ∷ 0 ∷ q) (past low high s xs r (n - 1) (omega arith) (omega arith)))
 
 -- One turn of the loop that passes blocks.
-pub pass_block : (low high : ℕ) (ys w : List ℕ) (at end z n : ℕ) → end ≡ at + 32 → end ≤ length ys → n ≡ zero_pairs (mid_of at (end - at) ys) → n ≤ z
-    → take at ys ++ write_pair low high z (drop at ys) ≡ w → take end ys ++ write_pair low high (z - n) (drop end ys) ≡ w
-pass_block low high ys w at end z n long fits counted few so_far =
-    let size : at + (end - at) ≡ end = omega arith in
-    let front : take end ys ≡ take at ys ++ mid_of at (end - at) ys = ap (λ k. take k ys) (sym size) ∙ take-add at (end - at) ys in
-    let rest : drop (end - at) (drop at ys) ≡ drop end ys = drop-drop (end - at) at ys ∙ ap (λ k. drop k ys) size in
-    let split : drop at ys ≡ mid_of at (end - at) ys ++ drop end ys = sym (take-append-drop (end - at) (drop at ys)) ∙ ap (mid_of at (end - at) ys ++◌) rest in
-    let written : write_pair low high z (drop at ys) ≡ mid_of at (end - at) ys ++ write_pair low high (z - n) (drop end ys) =
-    ap (write_pair low high z) split
-    ∙ past low high z (mid_of at (end - at) ys) (drop end ys) 16 (omega (arith, part_length at end ys fits)) (omega arith)
-    ∙ ap (λ k. mid_of at (end - at) ys ++ write_pair low high (z - k) (drop end ys)) (sym counted) in
-    ap (◌++ write_pair low high (z - n) (drop end ys)) front
-    ∙ append_assoc (take at ys) (mid_of at (end - at) ys) (write_pair low high (z - n) (drop end ys)) ∙ ap (take at ys ++◌) (sym written) ∙ so_far
+module _ (ys : List ℕ) (at : ℕ) (block more : List ℕ) (split : drop at ys ≡ block ++ more) (long : length block ≡ 32) where
+  pub block-inside : at + 32 ≤ length ys
+  block-inside = omega (arith, ap length split, length-append block more, length-drop at ys)
+
+  pub block-rest : more ≡ drop (at + 32) ys
+  block-rest = sym (sym (drop-drop 32 at ys) ∙ ap (drop 32) split ∙ drop_at block more 32 long)
+
+  pub pass_block : (low high z n : ℕ) (w : List ℕ) → n ≡ zero_pairs block → n ≤ z
+      → take at ys ++ write_pair low high z (drop at ys) ≡ w → take (at + 32) ys ++ write_pair low high (z - n) (drop (at + 32) ys) ≡ w
+  pass_block low high z n w counted few so_far =
+      let front : take (at + 32) ys ≡ take at ys ++ block = take-add at 32 ys ∙ ap (take at ys ++◌) (ap (take 32) split ∙ take_at block more 32 long) in
+      let written : write_pair low high z (drop at ys) ≡ block ++ write_pair low high (z - n) (drop (at + 32) ys) =
+      ap (write_pair low high z) split
+      ∙ past low high z block more 16 (omega (arith, long)) (omega arith)
+      ∙ ap₂ (λ k r. block ++ write_pair low high (z - k) r) (sym counted) block-rest in
+      ap (◌++ write_pair low high (z - n) (drop (at + 32) ys)) front
+      ∙ append_assoc (take at ys) block (write_pair low high (z - n) (drop (at + 32) ys)) ∙ ap (take at ys ++◌) (sym written) ∙ so_far
 
 -- The rest of the row marked from there on, and come back.
 pub mark_behind : (low high s at z : ℕ) (ys rest : List ℕ) → SkipGiven ys s at z → rest ≡ write_pair low high z (mid_of at (length ys - at) ys)

@@ -24,7 +24,7 @@ pub there_of_size : (z : Size) (space : List ℕ) → picture_bytes z ≤ length
 there_of_size z space l = picture-of_size z (take (picture_bytes z) space) (length-take-le (picture_bytes z) space l)
 
 -- The next seam can be cut.
-pub next_needed : (z : Size) (depth space t at now : ℕ) → at ≡ map_at z → now ≡ space → Room z depth space 1 → t < depth → NextNeeded (left_size z t) z.width at (t + 1) now
+pub next_needed : (z : Size) (depth space t at now : ℕ) → at ≡ map_at z → now ≡ space → Room z depth space 1 → t < depth → NextNeeded (left_size z t) z.width at now
 next_needed z depth space t at now a e r l =
     let less : z.width - t ≤ z.width = omega arith in
     rw (a, e)
@@ -33,7 +33,6 @@ next_needed z depth space t at now a e r l =
       wide = omega (arith, r.deep);
       work_room = omega (arith, mul-le-mul_left z.height less, mul-le-mul_left z.height (mul-le-mul_right (channels_of z.kind) less));
       map_room = r.long;
-      small = omega (arith, r.deep, r.sides.width_most);
     }
 
 -- The picture and what stands after the map as they were, zeros between them.

@@ -9,7 +9,8 @@ ghost use Rattle.map_build.specs.Building.{MapInGiven};
 ghost use Rattle.map_build.specs.Inner.Seams.{NextNeeded, NextGiven, SeamsNeeded, SeamsGiven};
 
 use energy::Method;
-use pictures::{LARGEST_SIDE, Refusal, Size};
+use map_rules::allowed;
+use pictures::{AllowedSize, LARGEST_SIDE, Refusal, Size};
 
 // The map of this depth of the picture at the front of the space. After the picture stand a byte for each pixel, for work,
 // and two bytes for each pixel, for the map. The picture is left without its first `depth` seams, packed at the front, and
@@ -17,41 +18,38 @@ use pictures::{LARGEST_SIDE, Refusal, Size};
 pub fn map_in(space: &mut [u8], size: Size, method: Method, depth: usize) -> Result<(), Refusal>
     ensures { MapInGiven space.old size method depth result space.new }
 {
-    map_rules::judge_map_space(size, depth, space.len(), 1)?;
-    cut_seams(space, size, method, depth);
+    let allowed = map_rules::judge_map_space(size, depth, space.len(), 1)?;
+    cut_seams(space, allowed, method, depth);
     Ok(())
 }
 
 // The map where nothing is refused.
-fn cut_seams(space: &mut [u8], size: Size, method: Method, depth: usize)
-    requires { SeamsNeeded size depth (length space.old) }
-    ensures { SeamsGiven size method depth space.old space.new }
+fn cut_seams(space: &mut [u8], allowed: AllowedSize, method: Method, depth: usize)
+    requires { SeamsNeeded allowed.size depth (length space.old) }
+    ensures { SeamsGiven allowed.size method depth space.old space.new }
 {
-    let width = size.width;
-    let height = size.height;
-    let kind = size.kind;
-    let bytes = pictures::picture_bytes(size);
-    let at = map_rules::map_at(size);
-    let end = at + map_rules::map_bytes(size);
+    let size = allowed.size;
+    let bytes = allowed.picture_bytes();
+    let at = allowed::map_at(allowed);
+    let end = at + allowed::map_bytes(allowed);
     pictures::clear(&mut space[bytes..end]);
     for t in 0..depth {
         let left = Size {
-            width: width - t,
-            height,
-            kind,
+            width: size.width - t,
+            ..size
         };
-        next_seam(space, left, method, width, at, t + 1);
+        next_seam(space, left, method, size.width, at, (t + 1) as u16);
     }
 }
 
 // Cuts the seam of the picture at the front and writes its number into the map at `at`, whose rows have `width` numbers.
-fn next_seam(space: &mut [u8], size: Size, method: Method, width: usize, at: usize, number: usize)
-    requires { NextNeeded size width at number (length space.old) }
+fn next_seam(space: &mut [u8], size: Size, method: Method, width: usize, at: usize, number: u16)
+    requires { NextNeeded size width at (length space.old) }
     ensures { NextGiven size method width at number space.old space.new }
 {
-    let height = size.height;
     let mut seam = [0u16; LARGEST_SIDE];
-    seam_cut::cut_in(&mut space[..at], size, method, &mut seam);
-    let end = at + height * (2 * width);
-    rows::mark_rows(&mut space[at..end], width, &seam[..height], number);
+    // never refused: there is room, and more than one column
+    let _ = seam_cut::cut_in(&mut space[..at], size, method, &mut seam);
+    let end = at + size.height * (2 * width);
+    rows::mark_rows(&mut space[at..end], width, &seam[..size.height], number);
 }

@@ -1,5 +1,6 @@
 // A row of a map in bytes, two a number: a number written over the s-th number that is 0.
 ghost use Rattle.std.specs.Prelude.{◌≡◌, length};
+ghost use Rattle.pictures.specs.Numbers.{low_byte, high_byte};
 ghost use Rattle.map_build.specs.Inner.Marks.{write_pair, zero_pairs, SkipGiven};
 
 use pictures::numbers::number;
@@ -10,17 +11,17 @@ fn zeros_in(block: &[u8]) -> usize
     requires { length block.now ≡ 32 }
     ensures { result ≡ zero_pairs block.now }
 {
-    let mut n = 0u8;
-    for i in 0..16 {
-        if number(block[2 * i], block[2 * i + 1]) == 0 {
-            n += 1;
+    let mut zeros = 0u8;
+    for pair in block.chunks_exact(2) {
+        if number(pair[0], pair[1]) == 0 {
+            zeros += 1;
         }
     }
-    n as usize
+    zeros as usize
 }
 
 // A place in a row, and how many zeros are to be passed from there on.
-#[derive(Clone, Copy)]
+#[derive(Clone, Copy, Debug, PartialEq, Eq)]
 struct Skipped {
     at: usize,
     zeros: usize,
@@ -32,9 +33,8 @@ fn skip(row: &[u8], s: usize) -> Skipped
 {
     let mut zeros = s;
     let mut at = 0;
-    while at + 32 <= row.len() {
-        let end = at + 32;
-        let n = zeros_in(&row[at..end]);
+    for block in row.chunks_exact(32) {
+        let n = zeros_in(block);
         if zeros < n {
             return Skipped { at, zeros };
         }
@@ -44,30 +44,27 @@ fn skip(row: &[u8], s: usize) -> Skipped
     Skipped { at, zeros }
 }
 
-// Writes the two bytes over the s-th number that is 0.
-pub(crate) fn mark_row(row: &mut [u8], s: usize, low: u8, high: u8)
-    ensures { row.new ≡ write_pair low high s row.old }
+// Writes the number over the s-th number that is 0.
+pub(crate) fn mark_row(row: &mut [u8], s: usize, number: u16)
+    ensures { row.new ≡ write_pair (low_byte number) (high_byte number) s row.old }
 {
     let skipped = skip(row, s);
-    let at = skipped.at;
-    mark_rest(&mut row[at..], skipped.zeros, low, high);
+    mark_rest(&mut row[skipped.at..], skipped.zeros, number);
 }
 
 // The same, number by number: for the block in which that 0 stands, or the end of the row.
-fn mark_rest(row: &mut [u8], s: usize, low: u8, high: u8)
-    ensures { row.new ≡ write_pair low high s row.old }
+fn mark_rest(row: &mut [u8], s: usize, mark: u16)
+    ensures { row.new ≡ write_pair (low_byte mark) (high_byte mark) s row.old }
 {
     let mut zeros = s;
-    let mut c = 0;
-    while c + 1 < row.len() {
-        if number(row[c], row[c + 1]) == 0 {
+    for c in 0..row.len() / 2 {
+        let at = 2 * c;
+        if number(row[at], row[at + 1]) == 0 {
             if zeros == 0 {
-                row[c] = low;
-                row[c + 1] = high;
+                row[at..at + 2].copy_from_slice(&mark.to_le_bytes());
                 return;
             }
             zeros -= 1;
         }
-        c += 2;
     }
 }

@@ -21,7 +21,7 @@ use Rattle.map_build.specs.Inner.Seams.{NextNeeded}
 use Rattle.map_build.proofs.CutIn.{cut-space, cut-seam, next_put}
 use Rattle.map_build.proofs.next_seam.Goals as goal
 
-module _ (z : Size) (how : Method) (w at number : ℕ) (space : List ℕ) (needed : NextNeeded z w at number (length space)) where
+module _ (z : Size) (how : Method) (w at : ℕ) (space : List ℕ) (needed : NextNeeded z w at (length space)) where
   tall : z.height ≤ largest_side
   tall = (sides_are z needed.sides).height_most
 
@@ -51,14 +51,14 @@ module _ (z : Size) (how : Method) (w at number : ℕ) (space : List ℕ) (neede
 pub overflow_mul-end : goal.overflow_mul-end
 overflow_mul-end c =
     let a = c.args in
-    omega (arith, row-some a.size a.method a.width a.at a.number a.space.now c.requires, c.requires.map_room)
+    omega (arith, row-some a.size a.method a.width a.at a.space.now c.requires, c.requires.map_room)
 
 pub returns : goal.returns
 returns c =
     let a = c.args in
     let k = c.cut_in in
     next_put a.size a.method a.width a.at a.number a.space.now k.new.space (take a.size.height k.new.seam) c.mark_rows.new.map
-    (k.auto.space ∙ front_long a.size a.method a.width a.at a.number a.space.now c.requires)
-    (found-space a.size a.method a.width a.at a.number a.space.now c.requires k.result k.new.space k.new.seam k.ensures)
-    (found-seam a.size a.method a.width a.at a.number a.space.now c.requires k.result k.new.space k.new.seam k.ensures)
+    (k.auto.space ∙ front_long a.size a.method a.width a.at a.space.now c.requires)
+    (found-space a.size a.method a.width a.at a.space.now c.requires k.result k.new.space k.new.seam k.ensures)
+    (found-seam a.size a.method a.width a.at a.space.now c.requires k.result k.new.space k.new.seam k.ensures)
     c.mark_rows.ensures

@@ -1,8 +1,8 @@
 -- A number written into each row of a map. What private functions ask and promise; no public promise cites it.
-use Rattle.std.specs.Prelude.{◌≡◌, ℕ, ◌*◌, ◌≤◌, length}
+use Rattle.std.specs.Prelude.{ℕ, ◌*◌, length}
 use mathlib.Core.List.{List, zip_with}
 use Rattle.grids.specs.Rows.{rows_of, flat}
-use Rattle.pictures.specs.Numbers.{largest_number, low_byte, high_byte}
+use Rattle.pictures.specs.Numbers.{low_byte, high_byte}
 use Rattle.map_build.specs.Inner.Marks.{write_pair}
 
 -- Two bytes written in each row of a map of w columns, over the s-th zero of the row, s being the seam's column; and the bytes of
@@ -12,8 +12,3 @@ write_bytes low high w s map = flat (zip_with (write_pair low high) s (rows_of (
 
 abbrev pub write_rows : ℕ → ℕ → List ℕ → List ℕ → List ℕ
 write_rows v w s map = write_bytes (low_byte v) (high_byte v) w s map
-
--- A map of w columns with a row for each column of the seam, and a number of two bytes.
-pub record RowsNeeded (map : List ℕ) (w : ℕ) (seam : List ℕ) (number : ℕ) : Type 0 where
-  pub long : length map ≡ length seam * (2 * w)
-  pub small : number ≤ largest_number

@@ -4,7 +4,6 @@ use Rattle.grids.specs.Cut.{cut}
 use Rattle.pictures.specs.declared.sizes.Size.{Size}
 use Rattle.pictures.specs.Refusals.{refusal}
 use Rattle.pictures.specs.Pictures.{channels_of, side_rules, picture_bytes, bytes, pixels, picture_in}
-use Rattle.pictures.specs.Numbers.{largest_number}
 use Rattle.energy.specs.declared.methods.Method.{Method}
 use Rattle.seam_theory.specs.PictureSeams.{seam_of}
 use Rattle.map_rules.specs.Spaces.{map_bytes, map_at, map_space_rules}
@@ -13,12 +12,11 @@ use Rattle.map_build.specs.Inner.Rows.{write_rows}
 
 -- A picture of its size with more than one column, at the front of a space of which the map stands at `at`, its rows of w
 -- numbers.
-pub record NextNeeded (z : Size) (w at number space : ℕ) : Type 0 where
+pub record NextNeeded (z : Size) (w at space : ℕ) : Type 0 where
   pub sides : refusal (side_rules z) ≡ 0
   pub wide : 1 < z.width
   pub work_room : picture_bytes z + pixels z ≤ at
   pub map_room : at + z.height * (2 * w) ≤ space
-  pub small : number ≤ largest_number
 
 -- The picture without its seam, and the map with the number written where the seam counts out; the rest as it was.
 pub record NextGiven (z : Size) (how : Method) (w at number : ℕ) (space space' : List ℕ) : Type 0 where

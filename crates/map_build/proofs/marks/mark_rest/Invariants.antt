@@ -2,14 +2,12 @@
 -- make the answer.
 use mathlib.Core.Path.{◌≡◌}
 use mathlib.Core.List.{◌++◌}
-use Prim.Native.Nat.{◌-◌, ◌≤◌}
-use lib.ListN.{length, drop, take}
+use Prim.Native.Nat.{◌*◌}
+use lib.ListN.{drop, take}
+use Rattle.pictures.specs.Numbers.{low_byte, high_byte}
 use Rattle.map_build.specs.Inner.Marks.{write_pair}
 use Rattle.map_build.proofs.marks.mark_rest.Given as goal
 
 abbrev pub invariant-loop-c : goal.invariant-loop-c
 invariant-loop-c l =
-    (l.c ≤ length l.row) × (length l.row ≡ length l.initial.row) × (l.row ≡ l.initial.row) × (take l.c l.row ++ write_pair l.low l.high l.zeros (drop l.c l.row) ≡ write_pair l.low l.high l.s l.row)
-
-abbrev pub decreases-loop-c : goal.decreases-loop-c
-decreases-loop-c l = length l.row - l.c
+    (l.row ≡ l.initial.row) × (take (2 * l.c) l.row ++ write_pair (low_byte l.mark) (high_byte l.mark) l.zeros (drop (2 * l.c) l.row) ≡ write_pair (low_byte l.mark) (high_byte l.mark) l.s l.row)

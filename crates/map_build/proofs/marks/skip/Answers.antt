@@ -1,15 +1,20 @@
 -- `map_build::marks::skip` meets its contract: a block passed.
-use mathlib.Core.Path.{refl}
-use Prim.Native.Nat.{◌+◌}
-use native.Mathlib.Omega.{arith}
-use Rattle.map_build.proofs.Skipping.{pass_block}
+use mathlib.Core.Path.{sym, ◌∙◌}
+use Rattle.map_build.proofs.Skipping.{block-inside, block-rest, pass_block}
 use Rattle.map_build.proofs.marks.skip.Goals as goal
 
-pub loop-at-preserved : goal.loop-at-preserved
-loop-at-preserved c =
-    let at = c.loop-at in
+pub loop-block-preserved : goal.loop-block-preserved
+loop-block-preserved c =
+    let l = c.loop-block in
     let row = c.args.row.now in
-    record {
-      within = omega arith;
-      written = λ low high. pass_block low high row _ at.at (at.at + 32) at.zeros _ refl c.loop-at-test.true c.zeros_in-n.ensures (omega arith) (at.invariant.written low high);
-    }
+    let block = c.in-Some.block.now in
+    let steps = c.in-Some.ensures.steps in
+    let long = steps.1.1 ∙ l.invariant.0 in
+    let split = sym l.invariant.1 ∙ steps.1.0 in (
+      steps.0 ∙ l.invariant.0,
+      block-rest row l.at block _ split long,
+      record {
+        within = block-inside row l.at block _ split long;
+        written = λ low high. pass_block row l.at block _ split long low high l.zeros _ _ c.zeros_in-n.ensures c.if-zeros-n.false (l.invariant.2.written low high);
+      },
+    )
