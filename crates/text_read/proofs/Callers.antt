@@ -1,4 +1,4 @@
--- What a caller knows who meets the text of a head or of a line: the answer, the place after it, and the space.
+-- What a caller knows who meets the text of a head or of a line: what is read, the place after it, and the space.
 use mathlib.Core.Path.{◌≡◌, sym, ap, ◌∙◌}
 use mathlib.Core.Option.{some, none-ne-some, some-injective}
 use Rattle.std.specs.Prelude as code
