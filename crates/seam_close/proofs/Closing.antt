@@ -1,7 +1,7 @@
 -- Laws of a seam closed up: the rows that are left, in the terms of the loop that closes them.
 use mathlib.Core.Path.{◌≡◌, refl, sym, ap, ap₂, subst, ◌∙◌}
 use mathlib.Core.Bool.{false, cond, not}
-use mathlib.Core.List.{List, [], ◌∷◌, ◌++◌, append_assoc, map}
+use mathlib.Core.List.{List, [], ◌∷◌, ◌++◌, map}
 use Prim.Native.Nat.{ℕ, suc, ◌+◌, ◌-◌, ◌*◌, ◌≤◌, ◌<◌}
 use native.Mathlib.Nat.{le_of_eq, one-mul, mul-add, mul-le-mul_right, add-sub_cancel_left}
 use native.Mathlib.Omega.{arith}
@@ -9,10 +9,7 @@ use borrow.Author.Tests.{eqb-true, not-false}
 use borrow.Rule.Slice.PartMut.{mid_of, put_mid, mid_len}
 use lib.Dec.{eqb}
 use lib.ListN.{length, get_or, take, drop, replicate, length-append, length-drop}
-use lib.Seq.{take_all, take-take, drop-drop, length-take-le, paste, sets, sets-eq}
-use Rattle.std.proofs.lemmas.List.{drop-take}
-use Rattle.std.proofs.lemmas.List.Edits.{drop-paste, paste-paste, paste_all}
-use Rattle.std.specs.List.{copy_within}
+use lib.Seq.{take_at, take_all, length-take-le}
 use Rattle.grids.specs.Each.{Each, Grid}
 use Rattle.grids.specs.Table.{table}
 use Rattle.grids.specs.Rows.{rows_of, flat, row_at}
@@ -24,62 +21,19 @@ use Rattle.grids.proofs.Cut.{cut-each, cut-table, flat-remove_at}
 use Rattle.pictures.specs.Limits.{most_picture}
 use Rattle.pictures.specs.declared.sizes.Size.{Size}
 use Rattle.pictures.specs.Refusals.{◌when◌, refusal}
-use Rattle.pictures.specs.Pictures.{channels_of, row_bytes, picture_bytes, size_rules, picture, bytes, OfSize}
+use Rattle.pictures.specs.Pictures.{largest_side, channels_of, row_bytes, picture_bytes, size_rules, picture, bytes, OfSize}
 use Rattle.pictures.proofs.Rules.{served-both, passed}
-use Rattle.pictures.proofs.Limits.{Sized, sized_is}
+use Rattle.pictures.proofs.Limits.{line-fits, Sized, sized_is}
 use Rattle.pictures.proofs.Buffers.{picture-of_size}
 use Rattle.seam_bounds.specs.Moves.{close_length_rules, close_column_rules, outside}
 use Rattle.seam_bounds.proofs.Moving.{inside_each}
-use Rattle.seam_close.specs.Inner.{CloseNeeded}
-use Rattle.grids.proofs.Filled.{map-table, Filled, filled-later, filled-sets, filled-rest}
+use Rattle.seam_close.specs.Inner.{without, CloseNeeded}
+use Rattle.grids.proofs.Filled.{map-table, Filled, filled-later, filled-part, filled-rest}
 
--- A line of bytes without the n bytes from `gap` on.
-abbrev pub without : ℕ → ℕ → List ℕ → List ℕ
-without gap n line = take gap line ++ drop (gap + n) line
-
-length_without : (gap n : ℕ) (line : List ℕ) → gap + n ≤ length line → length (without gap n line) ≡ length line - n
+-- How long a line is without the bytes of a pixel.
+pub length_without : (gap n : ℕ) (line : List ℕ) → gap + n ≤ length line → length (without gap n line) ≡ length line - n
 length_without gap n line h =
     omega (arith, length-append (take gap line) (drop (gap + n) line), length-take-le gap line (omega arith), length-drop (gap + n) line)
-
-drop-later : (m n : ℕ) (x y : List ℕ) → drop m x ≡ drop m y → m ≤ n → drop n x ≡ drop n y
-drop-later m n x y e h =
-    let s : m + (n - m) ≡ n = omega arith in
-    sym (drop-drop (n - m) m x ∙ ap (λ i. drop i x) s) ∙ ap (drop (n - m)) e ∙ drop-drop (n - m) m y ∙ ap (λ i. drop i y) s
-
--- n bytes from `from` on, copied to `to`.
-copied : (b : List ℕ) (from n to : ℕ) → copy_within b from (from + n) to ≡ paste b to (take n (drop from b)) n
-copied b from n to =
-    let e : from + n - from ≡ n = add-sub_cancel_left from n in
-    rw (e, take-take n n (drop from b) (omega arith))
-
--- The bytes before a pixel and those after it, moved up to `to`: the row without the pixel stands there.
-moved : (b : List ℕ) (at to gap n stride : ℕ) → to ≤ at → gap + n ≤ stride → at + stride ≤ length b
-    → copy_within (copy_within b at (at + gap) to) (at + (gap + n)) (at + stride) (to + gap) ≡ sets b to (without gap n (take stride (drop at b)))
-moved b at to gap n stride h m l =
-    let line = take stride (drop at b) in
-    let k = stride - (gap + n) in
-    let X = copy_within b at (at + gap) to in
-    let split : gap + n + k ≡ stride = omega arith in
-    let end : at + stride ≡ at + (gap + n) + k = omega arith in
-    let room : gap ≤ length (take gap (drop at b)) = omega (arith, length-take-le gap (drop at b) (omega (arith, length-drop at b)), length-drop at b) in
-    let same : take gap (drop at b) ≡ take gap line = sym (take-take gap stride (drop at b) (omega arith)) in
-    let past : drop (to + gap) X ≡ drop (to + gap) b = ap (drop (to + gap)) (copied b at gap to) ∙ drop-paste b to (take gap (drop at b)) gap (omega arith) room in
-    let later : drop (at + (gap + n)) X ≡ drop (at + (gap + n)) b = drop-later (to + gap) (at + (gap + n)) X b past (omega arith) in
-    let back : take k (drop (at + (gap + n)) X) ≡ drop (gap + n) line =
-    ap (take k) (later ∙ sym (drop-drop (gap + n) at b)) ∙ sym (drop-take (gap + n) k (drop at b)) ∙ ap (λ i. drop (gap + n) (take i (drop at b))) split in
-    let front-long : gap ≡ length (take gap line) = sym (length-take-le gap line (omega (arith, length-take-le stride (drop at b) (omega (arith, length-drop at b))))) in
-    let back-long : k ≡ length (drop (gap + n) line) = omega (arith, length-drop (gap + n) line, length-take-le stride (drop at b) (omega (arith, length-drop at b)), length-drop at b) in
-    let u = without gap n line in
-    let long : gap + k ≡ length u = omega (arith, front-long, back-long, length-append (take gap line) (drop (gap + n) line)) in
-    ap (λ e. copy_within X (at + (gap + n)) e (to + gap)) end
-    ∙ copied X (at + (gap + n)) k (to + gap)
-    ∙ ap (λ t. paste X (to + gap) t k) back
-    ∙ ap (λ x. paste x (to + gap) (drop (gap + n) line) k) (copied b at gap to ∙ ap (λ s. paste b to s gap) same)
-    ∙ paste-paste b to (take gap line) (drop (gap + n) line) gap k front-long back-long (omega arith)
-    ∙ paste_all b to u (gap + k) long
-    ∙ ap (λ m. take to b ++ (u ++ drop (to + m) b)) long
-    ∙ sym (append_assoc (take to b) u (drop (to + length u) b))
-    ∙ sym (sets-eq u b to (omega (arith, long)))
 
 -- Row r of a picture, and its bytes.
 pub row-flat : (z : Size) (b : List ℕ) (r : ℕ) → length b ≡ picture_bytes z → r < z.height → flat (get_or (picture z b) r []) ≡ row_at (row_bytes z) r b
@@ -139,6 +93,7 @@ module _ (z : Size) (b s : List ℕ) (n : ℕ) (needed : CloseNeeded b z s) (is 
 
   pub record Sure : Type 0 where
     pub some : n ≤ w * n
+    pub line : w * n ≤ 6 * largest_side
     pub short : length b ≤ most_picture
     pub length_is : length b ≡ h * (w * n)
     pub freed : h * (w * n - n) + h * n ≡ h * (w * n)
@@ -157,43 +112,44 @@ module _ (z : Size) (b s : List ℕ) (n : ℕ) (needed : CloseNeeded b z s) (is 
   sure =
       let q = sized in
       let long : length b ≡ h * (w * n) = rw is q.length_is in
-      record { some = one; short = omega (arith, q.length_is, q.picture_most); length_is = long; freed = less h }
+      record { some = one; line = rw is (line-fits z.width z.kind q.width_most); short = omega (arith, q.length_is, q.picture_most); length_is = long; freed = less h }
 
   module _ (r : ℕ) (inside : r < h) where
     pub record RowSure : Type 0 where
       pub end : r * (w * n) + w * n ≤ length b
       pub dest : r * (w * n - n) ≤ r * (w * n)
-      pub room : r * (w * n - n) + (w * n - n) ≤ length b
       pub gap : get_or s r 0 * n + n ≤ w * n
 
     pub row_sure : RowSure
     row_sure =
         let c : get_or s r 0 < w = each_at r 0 (omega (arith, needed.columns)) (inside_each w s needed.inside) in
-        record { end = omega (arith, part_end r h (w * n) inside, sure.length_is); dest = omega (arith, less r); room = omega (arith, part_end r h (w * n) inside, sure.length_is, less r); gap = part_end (get_or s r 0) w n c }
+        record { end = omega (arith, part_end r h (w * n) inside, sure.length_is); dest = omega (arith, less r); gap = part_end (get_or s r 0) w n c }
 
     pub length-closedRow : length (closed_row n (w * n) b s r) ≡ w * n - n
     length-closedRow =
         let long = length-row_at (w * n) h b r (omega (arith, sure.length_is)) inside in
         length_without (get_or s r 0 * n) n (row_at (w * n) r b) (omega (arith, row_sure.gap)) ∙ ap (◌- n) long
 
-  -- One turn: `mid` and `new` are the picture after each of the two moves, which leave row r without its pixel after the rows that
-  -- are closed.
-  module _ (r : ℕ) (now mid new : List ℕ) (inside : r < h) (long : length now ≡ length b) (so_far : Filled (closed_row n (w * n) b s) (w * n - n) b r now) where
-    pub row_turn : mid ≡ copy_within now (r * (w * n)) (r * (w * n) + get_or s r 0 * n) (r * (w * n - n))
-        → new ≡ copy_within mid (r * (w * n) + (get_or s r 0 * n + n)) (r * (w * n) + w * n) (r * (w * n - n) + get_or s r 0 * n)
-        → Filled (closed_row n (w * n) b s) (w * n - n) b (r + 1) new
-    row_turn first second =
+  -- One turn. `now` is the picture as it is then, `line` the row's bytes with what stood after them, `new` the part that
+  -- comes back.
+  module _ (r k c : ℕ) (now row line old new : List ℕ) (inside : r < h) (long : length now ≡ length b) (so_far : Filled (closed_row n (w * n) b s) (w * n - n) b r now) where
+    pub row_turn : row ≡ mid_of (r * (w * n)) (r * (w * n) + w * n - r * (w * n)) now
+        → line ≡ row ++ drop (w * n) old
+        → c ≡ get_or s r 0
+        → k ≡ length now - r * (w * n - n)
+        → new ≡ without (c * n) n (take (w * n) line) ++ drop (length (take (w * n) line) - n) (mid_of (r * (w * n - n)) k now)
+        → Filled (closed_row n (w * n) b s) (w * n - n) b (r + 1) (put_mid (r * (w * n - n)) k now new)
+    row_turn row_is line-is column k-is New-is =
         let q = row_sure r inside in
-        let at = r * (w * n) in
-        let to = r * (w * n - n) in
-        let gap = get_or s r 0 * n in
-        let size : (i : ℕ) → i < h → length (closed_row n (w * n) b s i) ≡ w * n - n = length-closedRow in
-        let later : drop at now ≡ drop at b = filled-later (closed_row n (w * n) b s) h (w * n - n) size b r now inside so_far at q.dest in
-        second
-        ∙ ap (λ x. copy_within x (at + (gap + n)) (at + w * n) (to + gap)) first
-        ∙ moved now at to gap n (w * n) q.dest q.gap (omega (arith, q.end))
-        ∙ ap (λ d. sets now to (without gap n (take (w * n) d))) later
-        ∙ filled-sets (closed_row n (w * n) b s) h (w * n - n) size b r now inside so_far (omega (arith, q.room))
+        let f = closed_row n (w * n) b s in
+        let size : (i : ℕ) → i < h → length (f i) ≡ w * n - n = length-closedRow in
+        let later : drop (r * (w * n)) now ≡ drop (r * (w * n)) b = filled-later f h (w * n - n) size b r now inside so_far (r * (w * n)) q.dest in
+        let same : row ≡ row_at (w * n) r b = row_is ∙ rw (add-sub_cancel_left (r * (w * n)) (w * n), later) in
+        let size-row : length row ≡ w * n = rw same (length-row_at (w * n) h b r (omega (arith, sure.length_is)) inside) in
+        let front : take (w * n) line ≡ row_at (w * n) r b = rw line-is (take_at row (drop (w * n) old) (w * n) size-row ∙ same) in
+        let D = drop (r * (w * n - n)) now in
+        let room : w * n - n ≤ length (take k D) = rw (length-take-le k D (omega (arith, length-drop (r * (w * n - n)) now))) (omega (arith, sure.some)) in
+        filled-part f h (w * n - n) size b r now inside so_far k new room (rw (front, column, length-row_at (w * n) h b r (omega (arith, sure.length_is)) inside) at New-is)
 
   -- After the last row, with what was freed cleared.
   pub rows_end : (now new : List ℕ) → length now ≡ length b → Filled (closed_row n (w * n) b s) (w * n - n) b h now

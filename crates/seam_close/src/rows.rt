@@ -1,11 +1,11 @@
 // A seam closed up, row by row.
-ghost use Rattle.std.specs.Prelude.{◌≡◌, ◌++◌, ◌*◌, replicate};
+ghost use Rattle.std.specs.Prelude.{◌≡◌, ◌++◌, ◌-◌, ◌*◌, length, drop, replicate};
 ghost use Rattle.grids.specs.Cut.{cut};
 ghost use Rattle.pictures.specs.Pictures.{picture as Pictures·picture, bytes, channels_of};
 ghost use Rattle.seam_bounds.specs.Moves.{outside as Moves·outside};
-ghost use Rattle.seam_close.specs.Inner.{CloseNeeded};
+ghost use Rattle.seam_close.specs.Inner.{without, RowNeeded, CloseNeeded};
 
-use pictures::{Size, channels, clear};
+use pictures::{LARGEST_SIDE, Size, channels, clear};
 use seam_bounds::is_outside;
 
 // Whether some column of the seam isn't below the width.
@@ -15,7 +15,19 @@ pub(crate) fn has_outside(seam: &[u16], width: usize) -> bool
     seam.iter().any(|column| is_outside(width, *column))
 }
 
-// Takes the seam's pixel out of each row: what stands before it and what stands after it move up to the rows that are closed.
+// The line without the n bytes from `gap` on, put into the front of out.
+fn close_row(line: &[u8], gap: usize, n: usize, out: &mut [u8])
+    requires { RowNeeded line.now gap n out.old }
+    ensures { out.new ≡ without gap n line.now ++ drop (length line.now - n) out.old }
+{
+    let past = gap + n;
+    let rest = &line[past..];
+    out[..gap].copy_from_slice(&line[..gap]);
+    out[gap..gap + rest.len()].copy_from_slice(rest);
+}
+
+// Takes the seam's pixel out of each row. A row's bytes pass through `line`, since where they go overlaps where they are: by
+// copy_within, which copies byte by byte, a retarget of a grey picture takes a tenth longer.
 pub(crate) fn close_rows(picture: &mut [u8], size: Size, seam: &[u16])
     requires { CloseNeeded picture.old size seam.now }
     ensures { picture.new ≡ bytes (cut seam.now (Pictures·picture size picture.old)) ++ replicate (size.height * channels_of size.kind) 0 }
@@ -24,13 +36,13 @@ pub(crate) fn close_rows(picture: &mut [u8], size: Size, seam: &[u16])
     let n = channels(size.kind);
     let stride = size.width * n;
     let kept = stride - n;
+    let mut line = [0u8; 6 * LARGEST_SIDE];
     for (r, column) in seam.iter().enumerate() {
         let at = r * stride;
-        let dest = r * kept;
+        line[..stride].copy_from_slice(&picture[at..at + stride]);
         let gap = *column as usize * n;
-        let past = gap + n;
-        picture.copy_within(at..at + gap, dest);
-        picture.copy_within(at + past..at + stride, dest + gap);
+        let dest = r * kept;
+        close_row(&line[..stride], gap, n, &mut picture[dest..]);
     }
     let freed = height * kept;
     clear(&mut picture[freed..]);

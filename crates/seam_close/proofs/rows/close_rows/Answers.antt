@@ -1,46 +1,61 @@
 -- `seam_close::rows::close_rows` meets its contract. The loop's invariant: r rows are closed and stand at the front of the
 -- picture, and after them stands what stood there.
-use mathlib.Core.Path.{◌≡◌, ◌∙◌}
-use Prim.Native.Nat.{◌+◌, ◌-◌, ◌*◌, ◌≤◌}
+use mathlib.Core.Path.{◌≡◌, refl, ◌∙◌}
+use mathlib.Core.List.{List, ◌++◌}
+use Prim.Native.Nat.{ℕ, ◌+◌, ◌-◌, ◌*◌, ◌≤◌}
 use native.Mathlib.Omega.{arith}
+use borrow.Rule.Slice.PartMut.{same_len_mid, mid_len}
 use borrow.Author.Rules.{rules}
-use lib.ListN.{length, get_or}
-use Rattle.seam_close.proofs.Closing.{row_sure, row_turn, rows_end}
+use lib.ListN.{length, take, drop, length-append, length-drop}
+use lib.Seq.{length-take-le}
+use Rattle.pictures.specs.Pictures.{largest_side}
+use Rattle.seam_close.proofs.Closing.{sure, row_sure, row_turn, rows_end}
 use Rattle.seam_close.proofs.rows.close_rows.Goals as goal
 
-pub copy_within-requires : goal.copy_within-requires
-copy_within-requires c =
-    let a = c.args in
-    let n = c.channels-n.result in
-    let r = c.loop-r.r in
-    let at = r * (a.size.width * n) in
-    let gap = get_or a.seam.now r 0 * n in
-    let u = row_sure a.size a.picture.now a.seam.now n c.requires c.channels-n.ensures r (omega arith) in
-    let room : r * (a.size.width * n - n) + (at + gap - at) ≤ length c.loop-r.picture = omega (arith, u.end, u.gap, u.dest, c.loop-r.invariant.long) in
-    record { start_le_end = omega arith; in_bounds = omega (arith, u.end, u.gap, c.loop-r.invariant.long); dest_in_bounds = room; not_exhausted = search rules }
+-- the line is as long as it was when its front has been copied over
+long : (s : ℕ) (front line : List ℕ) → length front ≡ length (take s line) → s ≤ length line → length (front ++ drop s line) ≡ length line
+long s front line same h = omega (arith, length-append front (drop s line), length-drop s line, length-take-le s line h)
 
-pub copy_within-requires-in-loop-r : goal.copy_within-requires-in-loop-r
-copy_within-requires-in-loop-r c =
+pub slice_bounds-copy_from_slice-end-in-loop-r : goal.slice_bounds-copy_from_slice-end-in-loop-r
+slice_bounds-copy_from_slice-end-in-loop-r c =
     let a = c.args in
     let n = c.channels-n.result in
-    let r = c.loop-r.r in
-    let at = r * (a.size.width * n) in
-    let gap = get_or a.seam.now r 0 * n in
-    let u = row_sure a.size a.picture.now a.seam.now n c.requires c.channels-n.ensures r (omega arith) in
-    let same = c.copy_within.ensures.len ∙ c.loop-r.invariant.long in
-    let room : r * (a.size.width * n - n) + gap + (at + a.size.width * n - (at + (gap + n))) ≤ length c.copy_within.new.self = omega (arith, u.end, u.gap, u.dest, same) in
-    record { start_le_end = omega (arith, u.gap); in_bounds = omega (arith, u.end, same); dest_in_bounds = room; not_exhausted = search rules }
+    let s = a.size.width * n in
+    let u = row_sure a.size a.picture.now a.seam.now n c.requires c.channels-n.ensures c.loop-r.r (omega arith) in
+    let inside : c.loop-r.r * s + s ≤ length c.loop-r.picture = omega (arith, u.end, c.loop-r.invariant.long) in
+    search rules
+
+pub close_row-requires : goal.close_row-requires
+close_row-requires c =
+    let a = c.args in
+    let n = c.channels-n.result in
+    let q = sure a.size a.picture.now a.seam.now n c.requires c.channels-n.ensures in
+    let u = row_sure a.size a.picture.now a.seam.now n c.requires c.channels-n.ensures c.loop-r.r (omega arith) in
+    let w = u.gap in
+    let s = a.size.width * n in
+    let line = c.copy_from_slice.new.self ++ drop s c.loop-r.line in
+    let whole : length line ≡ 6 * largest_side = long s c.copy_from_slice.new.self c.loop-r.line c.copy_from_slice.auto.self (omega (arith, q.line)) ∙ c.loop-r.invariant.line_long in
+    let front = length-take-le s line (omega (arith, q.line)) in
+    let dest = c.loop-r.r * (s - n) in
+    let picture = c.loop-r.picture in
+    record { inside = omega arith; room = omega (arith, mid_len dest (length picture) picture (omega arith)) }
 
 pub loop-r-preserved : goal.loop-r-preserved
 loop-r-preserved c =
     let a = c.args in
     let n = c.channels-n.result in
     let head = c.loop-r in
+    let s = a.size.width * n in
+    let dest = head.r * (s - n) in
+    let q = sure a.size a.picture.now a.seam.now n c.requires c.channels-n.ensures in
     record {
       within = omega arith;
-      long = c.copy_within-in-loop-r.ensures.len ∙ c.copy_within.ensures.len ∙ head.invariant.long;
-      closed = row_turn a.size a.picture.now a.seam.now n c.requires c.channels-n.ensures head.r head.picture _ _ (omega arith) head.invariant.long head.invariant.closed
-          c.copy_within.ensures.after c.copy_within-in-loop-r.ensures.after;
+      long = same_len_mid dest (length head.picture - dest) head.picture c.close_row.new.out c.close_row.auto.out ∙ head.invariant.long;
+      line_long = long s c.copy_from_slice.new.self head.line c.copy_from_slice.auto.self (omega (arith, q.line)) ∙ head.invariant.line_long;
+      closed =
+          row_turn a.size a.picture.now a.seam.now n c.requires c.channels-n.ensures head.r _ _
+          head.picture _ _ head.line c.close_row.new.out (omega arith) head.invariant.long head.invariant.closed
+          c.copy_from_slice.ensures.after refl refl refl c.close_row.ensures;
     }
 
 pub returns : goal.returns
