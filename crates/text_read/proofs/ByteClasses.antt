@@ -9,11 +9,11 @@ use native.Mathlib.Omega.{arith}
 use lib.Dec.{leb, eqb}
 use lib.ListN.{length, get_or, drop, drop_of_length-le}
 use borrow.Author.Tests.{le-leb, lt-leb, leb-true, eq-eqb, ne_eqb, eqb-true, eqb-false}
+use Rattle.std.proofs.lemmas.List.{drop_more}
 use Rattle.grids.proofs.Bools.{both}
 use Rattle.text_theory.specs.Readers.{Get, give, onward, strip}
 use Rattle.text_theory.specs.Decimal.{is_digit}
 use Rattle.text_theory.specs.Files.{opening, closing, blank, line_end}
-use Rattle.text_theory.proofs.Pairs.{front}
 use Rattle.text_theory.proofs.Decimals.{is_digit_lem, digit_true}
 use Rattle.text_read.specs.declared.cursor.Class.{Class}
 use Rattle.text_read.specs.declared.cursor.Class.TheVariants.{Digit, Letter, Opening, Closing, Blank, LineEnd, Other}
@@ -177,8 +177,8 @@ module _ (k : Class) {text : List ℕ} {at : ℕ} where
   module _ (h : at < length text) where
     pub past-other : (class_number (class_of (get_or text at 0)) ≡ class_number k → ⊥) → Told (of_class k) text at none
     unfolding of_class
-    past-other n = record { same = rw (front text at h, ne_eqb (class_number (class_of (get_or text at 0))) (class_number k) n); moved = tt }
+    past-other n = record { same = rw (drop_more text at 0 h, ne_eqb (class_number (class_of (get_or text at 0))) (class_number k) n); moved = tt }
 
     pub past_one : class_number (class_of (get_or text at 0)) ≡ class_number k → Told (of_class k) text at (some (0, at + 1))
     unfolding of_class
-    past_one e = record { same = rw (front text at h, eq-eqb (class_number (class_of (get_or text at 0))) (class_number k) e); moved = (omega arith, omega arith) }
+    past_one e = record { same = rw (drop_more text at 0 h, eq-eqb (class_number (class_of (get_or text at 0))) (class_number k) e); moved = (omega arith, omega arith) }

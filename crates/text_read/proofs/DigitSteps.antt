@@ -10,13 +10,12 @@ use lib.Dec.{leb, ltb}
 use lib.ListN.{length, get_or, drop, drop_of_length-le}
 use lib.Seq.{take-length}
 use Rattle.std.specs.Prelude.{slice_range}
-use Rattle.std.proofs.lemmas.List.{length-drop, get_or-drop}
+use Rattle.std.proofs.lemmas.List.{length-drop, get_or-drop, drop_more}
 use borrow.Author.Tests.{le-leb, lt-leb, ltb-true, ltb-false}
 use Rattle.pictures.specs.Numbers.{largest_number}
 use Rattle.text_theory.specs.Decimal.{is_digit, further, up_to, number_get}
 use Rattle.text_read.specs.Answers.{Told}
 use Rattle.text_read.specs.Inner.{within}
-use Rattle.text_theory.proofs.Pairs.{front}
 use Rattle.text_theory.proofs.Decimals.{is_digit_lem, number_digit}
 
 pub no_digit : (b : ℕ) → (b < 48) ⊎ (58 ≤ b) → is_digit b ≡ false
@@ -63,16 +62,16 @@ module _ (limit : ℕ) {text : List ℕ} {start : ℕ} where
 
   pub number-none : start < length text → is_digit (get_or text start 0) ≡ false → Told (number_get limit) text start none
   unfolding number_get
-  number-none h d = record { same = rw (front text start h, d); moved = tt }
+  number-none h d = record { same = rw (drop_more text start 0 h, d); moved = tt }
 
   pub number_zero : start < length text → get_or text start 0 ≡ 48 → Told (number_get limit) text start (some (0, start + 1))
   unfolding number_get is_digit
-  number_zero h e = record { same = rw (front text start h, e); moved = (omega arith, omega arith) }
+  number_zero h e = record { same = rw (drop_more text start 0 h, e); moved = (omega arith, omega arith) }
 
 module _ {limit : ℕ} {text : List ℕ} {start : ℕ} where
   pub reading_first : {d : ℕ} → start < length text → DigitByte (get_or text start 0) d → (d ≡ 0 → ⊥) → Reading limit text start d (start + 1)
   reading_first h b z = record {
-    same = rw (front text start h, b.value) (number_digit limit (get_or text start 0) (drop (start + 1) text) (is_digit_lem (get_or text start 0) b.least b.most) (omega (arith, b.least, b.value, z)));
+    same = rw (drop_more text start 0 h, b.value) (number_digit limit (get_or text start 0) (drop (start + 1) text) (is_digit_lem (get_or text start 0) b.least b.most) (omega (arith, b.least, b.value, z)));
     there = omega arith;
     inside = omega arith;
     small = omega (arith, b.most, b.value);
@@ -82,7 +81,7 @@ module _ {limit : ℕ} {text : List ℕ} {start : ℕ} where
     pub reading-next : {d : ℕ} → limit ≤ largest_number → n ≤ limit → at < length text → DigitByte (get_or text at 0) d → Reading limit text start (n * 10 + d) (at + 1)
     unfolding further
     reading-next m k h b = record {
-      same = R.same ∙ rw (front text at h, is_digit_lem (get_or text at 0) b.least b.most, b.value);
+      same = R.same ∙ rw (drop_more text at 0 h, is_digit_lem (get_or text at 0) b.least b.most, b.value);
       there = omega arith;
       inside = omega arith;
       small = omega (arith, b.most, b.value);
@@ -104,7 +103,7 @@ module _ {limit : ℕ} {text : List ℕ} {start : ℕ} where
 
     pub reading-stop : at < length text → is_digit (get_or text at 0) ≡ false → Told (number_get limit) text start (within limit n at)
     unfolding further
-    reading-stop h d = stopped (rw (front text at h, d))
+    reading-stop h d = stopped (rw (drop_more text at 0 h, d))
 
     pub reading-end : length text ≤ at → Told (number_get limit) text start (within limit n at)
     unfolding further

@@ -9,6 +9,7 @@ use native.Mathlib.Omega.{arith}
 use lib.Dec.{eqb}
 use lib.ListN.{length, get_or, drop, drop_of_length-le}
 use borrow.Author.Tests.{eqb-true, ne_eqb}
+use Rattle.std.proofs.lemmas.List.{drop_more}
 use Rattle.text_theory.specs.Readers.{Get, give, on, ◌▷◌, strip, onward, after, next, many}
 use Rattle.text_theory.specs.Decimal.{number_get}
 use Rattle.pictures.specs.declared.sizes.Kind.TheVariants.{Rgb}
@@ -19,7 +20,7 @@ use Rattle.text_rules.specs.declared.Items.TheVariants.{Samples, Pixels, Numbers
 use Rattle.text_read.specs.Answers.{Told, counted, item_of, form_of}
 use Rattle.text_read.specs.Inner.{passing}
 use Rattle.text_read.proofs.Onward.{passing-some, passing-none}
-use Rattle.text_theory.proofs.Pairs.{front, Reads, short}
+use Rattle.text_theory.proofs.Pairs.{Reads, short}
 use Rattle.text_theory.proofs.Many.{many-next}
 use Rattle.text_theory.proofs.Decimals.{number_reads}
 use Rattle.text_theory.proofs.Files.{pixel_reads}
@@ -101,20 +102,20 @@ module _ {w : Items} {text : List ℕ} {from : ℕ} where
 
   module _ {n at : ℕ} (C : Counting w text from n at) where
     pub counting-next : {v : ℕ} {c : ℕ} → at < length text → get_or text at 0 ≡ 32 → Told (item_of w) text (at + 1) (some (v, c)) → Counting w text from (n + 1) (c)
-    counting-next {c = c} h e t = record { same = C.same ∙ rw (front text at h, e, form_blank, t.same) (go (form_of w (drop (c) text))); there = omega (arith, t.moved.0); few = omega (arith, t.moved.0) }
+    counting-next {c = c} h e t = record { same = C.same ∙ rw (drop_more text at 0 h, e, form_blank, t.same) (go (form_of w (drop (c) text))); there = omega (arith, t.moved.0); few = omega (arith, t.moved.0) }
       where
         go : (o : Option (ℕ × List ℕ)) → on (on o (λ n. give (suc n))) (λ m. give (n + m)) ≡ on o (λ m. give (n + 1 + m))
         go none = refl
         go (some r) = let z : n + suc r.0 ≡ n + 1 + r.0 = omega arith in rw z
 
     pub counting-close : at < length text → get_or text at 0 ≡ 41 → Told (form_of w) text from (some (n, at + 1))
-    counting-close h e = record { same = C.same ∙ rw (front text at h, e, form_close, add-zero); moved = (omega arith, omega arith) }
+    counting-close h e = record { same = C.same ∙ rw (drop_more text at 0 h, e, form_close, add-zero); moved = (omega arith, omega arith) }
 
     pub counting-broken : at < length text → get_or text at 0 ≡ 32 → Told (item_of w) text (at + 1) none → Told (form_of w) text from none
-    counting-broken h e t = record { same = C.same ∙ rw (front text at h, e, form_blank, t.same); moved = tt }
+    counting-broken h e t = record { same = C.same ∙ rw (drop_more text at 0 h, e, form_blank, t.same); moved = tt }
 
     pub counting-other : at < length text → (get_or text at 0 ≡ 41 → ⊥) → (get_or text at 0 ≡ 32 → ⊥) → Told (form_of w) text from none
-    counting-other h p q = record { same = C.same ∙ rw (front text at h, form_other w (get_or text at 0) (drop (at + 1) text) p q); moved = tt }
+    counting-other h p q = record { same = C.same ∙ rw (drop_more text at 0 h, form_other w (get_or text at 0) (drop (at + 1) text) p q); moved = tt }
 
     pub counting-end : length text ≤ at → Told (form_of w) text from none
     counting-end h = record { same = C.same ∙ rw (drop_of_length-le text h, form_nil); moved = tt }

@@ -10,6 +10,7 @@ use lib.Dec.{leb, ltb, eqb}
 use lib.ListN.{length, get_or, drop, drop_of_length-le}
 use lib.Seq.{drop-cons}
 use borrow.Author.Tests.{leb-true, leb-false, le-ltb, lt-ltb, eq-eqb, ne_eqb}
+use Rattle.std.proofs.lemmas.List.{drop_more}
 use Rattle.pictures.specs.declared.sizes.Kind.{Kind}
 use Rattle.pictures.specs.Numbers.{largest_number}
 use Rattle.text_theory.specs.declared.Name.{Name}
@@ -17,7 +18,6 @@ use Rattle.text_theory.specs.declared.Name.TheVariants as names
 use Rattle.text_theory.specs.Readers.{give, on, strip, after, either}
 use Rattle.text_theory.specs.Decimal.{is_digit, further, up_to, number_get}
 use Rattle.text_theory.specs.Words.{name_text, name_number, all_names, name_at, one_of, name_get, named, kind_named, kind_get}
-use Rattle.text_theory.proofs.Pairs.{front}
 use Rattle.text_theory.proofs.Names.{name_sound, number_same}
 use Rattle.text_read.specs.declared.words.Word.{Word}
 use Rattle.text_read.specs.declared.words.Word.TheVariants as words
@@ -137,22 +137,22 @@ module _ {text : List ℕ} {at : ℕ} where
   module _ (h : at < length text) where
     pub told-word-no-number : is_digit (get_or text at 0) ≡ true → Told (number_get largest_number) text at none → Told word text at none
     unfolding word
-    told-word-no-number d t = record { same = rw (t.same, front text at h, name_digit (get_or text at 0) (drop (at + 1) text) d); moved = tt }
+    told-word-no-number d t = record { same = rw (t.same, drop_more text at 0 h, name_digit (get_or text at 0) (drop (at + 1) text) d); moved = tt }
 
     pub told-word-name : {k : Name} {c : ℕ} → is_digit (get_or text at 0) ≡ false → Told name_get text at (some (k, c)) → Told word text at (some (words.Name k, c))
     unfolding word
     told-word-name d t =
         let n = number-other largest_number (get_or text at 0) (drop (at + 1) text) d in
-        record { same = rw (t.same, front text at h, n); moved = t.moved }
+        record { same = rw (t.same, drop_more text at 0 h, n); moved = t.moved }
 
     pub told-word-no-name : is_digit (get_or text at 0) ≡ false → Told name_get text at none → Told word text at none
     unfolding word
     told-word-no-name d t =
         let n = number-other largest_number (get_or text at 0) (drop (at + 1) text) d in
-        record { same = rw (t.same, front text at h, n); moved = tt }
+        record { same = rw (t.same, drop_more text at 0 h, n); moved = tt }
 
     pub told-word-other : is_digit (get_or text at 0) ≡ false → is_letter (get_or text at 0) ≡ false → Told word text at none
-    told-word-other d l = told-word-no-name d (record { same = rw (front text at h, name_other (get_or text at 0) (drop (at + 1) text) l); moved = tt })
+    told-word-other d l = told-word-no-name d (record { same = rw (drop_more text at 0 h, name_other (get_or text at 0) (drop (at + 1) text) l); moved = tt })
 
   module _ (limit : ℕ) (l : limit ≤ largest_number) where
     pub told_number : {n c : ℕ} → Told word text at (some (words.Number n, c)) → n ≤ limit → Told (number_get limit) text at (some (n, c))

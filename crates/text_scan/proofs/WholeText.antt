@@ -3,6 +3,7 @@ use mathlib.Core.Path.{◌≡◌, refl, sym, ◌∙◌}
 use mathlib.Core.Bool.{Bool, ◌&&◌}
 use mathlib.Core.Option.{Option, none, some}
 use mathlib.Core.List.{List, [], ◌∷◌, map}
+use Rattle.std.proofs.lemmas.List.{drop_more}
 use Rattle.std.specs.Prelude as code
 use Prim.Native.Nat.{ℕ, suc, ◌≤◌, ◌<◌}
 use native.Mathlib.Omega.{arith}
@@ -19,7 +20,6 @@ use Rattle.text_read.specs.Answers.{Told, line_rest}
 use Rattle.text_scan.specs.Facts.{evenly, facts_of, facts_in}
 use Rattle.text_scan.specs.Inner.{Reached, lines_of, scan_of}
 use Rattle.text_rules.specs.Items.{items_of}
-use Rattle.text_theory.proofs.Pairs.{front}
 use Rattle.text_read.proofs.LineCounts.{many_change, rest-map, rest-row}
 use Rattle.text_read.proofs.Onward.{Left}
 use Rattle.text_scan.proofs.Counting.{tally}
@@ -84,7 +84,7 @@ scan_none {text} e t = rw e (sym (facts_of-parse text ∙ rw t.same))
 module _ {text : List ℕ} {f : Facts} {at : ℕ} (L : Left scan_of text 0 (give f) at) where
   pub scan_more : at < length text → none ≡ facts_in (parse text)
   unfolding whole
-  scan_more h = sym (facts_of-parse text ∙ rw (L.same, front text at h))
+  scan_more h = sym (facts_of-parse text ∙ rw (L.same, drop_more text at 0 h))
 
   pub scan_end : length text ≤ at → some f ≡ facts_in (parse text)
   unfolding whole
