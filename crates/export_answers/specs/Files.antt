@@ -4,11 +4,12 @@ use Rattle.std.specs.Prelude.{Result, ℕ}
 use Rattle.pictures.specs.declared.refusals.Refusal.{Refusal}
 use Rattle.pictures.specs.Refusals.{given}
 use Rattle.pictures.specs.declared.sizes.Size.{Size}
+use Rattle.pictures.specs.declared.refusals.Refusal.{Refusal}
+use Rattle.pictures.specs.Refusals.{given}
 use Rattle.text_theory.specs.declared.Head.{Head}
-use Rattle.file_rules.specs.Answers.{answer_of, built_length}
+use Rattle.file_rules.specs.Answers.{answer_of}
 use Rattle.export_answers.specs.declared.names.HostSize.{HostSize}
 use Rattle.export_answers.specs.declared.names.HostMethod.{HostMethod}
-use Rattle.export_answers.specs.declared.answers.Answer.{Answer}
 use Rattle.export_answers.specs.declared.files.FileAnswer.{FileAnswer}
 use Rattle.export_answers.specs.declared.files.SizeAnswer.{SizeAnswer}
 use Rattle.export_answers.specs.Named.{host_size, host_method}
@@ -32,11 +33,8 @@ framed n none = record { number = n; size = no_size }
 framed n (some z) = record { number = n; size = host_size z }
 
 -- The answers as numbers.
-abbrev pub length_of : Result ℕ Refusal → Answer
-length_of b = record { number = given b; value = built_length b }
-
 abbrev pub head_of : Result Head Refusal → FileAnswer
-head_of c = headed (given c) (answer_of c)
+head_of answer = headed (given answer) (answer_of answer)
 
 abbrev pub size_of : Result Size Refusal → SizeAnswer
-size_of s = framed (given s) (answer_of s)
+size_of answer = framed (given answer) (answer_of answer)

@@ -1,9 +1,11 @@
 -- What hosts name by numbers. A kind, an energy and an axis are numbers; one that names none is refused by 1, as a word that
 -- names none is in a file.
-use Rattle.std.specs.Prelude.{cond, ℕ, eqb}
+use Rattle.std.specs.Prelude.{Result, Ok, Err, cond, ℕ, eqb}
 use Rattle.pictures.specs.declared.sizes.Kind.{Kind}
 use Rattle.pictures.specs.declared.sizes.Kind.TheVariants.{Grey, Rgb}
 use Rattle.pictures.specs.declared.sizes.Size.{Size}
+use Rattle.pictures.specs.declared.refusals.Refusal.{Refusal}
+use Rattle.pictures.specs.declared.refusals.Refusal.TheVariants.{Form}
 use Rattle.energy.specs.declared.methods.EnergyRule.{EnergyRule}
 use Rattle.energy.specs.declared.methods.EnergyRule.TheVariants.{Edge}
 use Rattle.energy.specs.declared.methods.Method.{Method}
@@ -13,61 +15,53 @@ use Rattle.seam_rules.specs.Counts.{row_count, column_count}
 use Rattle.text_theory.specs.declared.Head.{Head}
 use Rattle.export_answers.specs.declared.names.HostSize.{HostSize}
 use Rattle.export_answers.specs.declared.names.HostMethod.{HostMethod}
-use Rattle.export_answers.specs.declared.names.Sizing.{Sizing}
-use Rattle.export_answers.specs.declared.names.Sizing.TheVariants as sizings
-use Rattle.export_answers.specs.declared.names.Finding.{Finding}
-use Rattle.export_answers.specs.declared.names.Finding.TheVariants as findings
-use Rattle.export_answers.specs.declared.names.Turning.{Turning}
-use Rattle.export_answers.specs.declared.names.Turning.TheVariants as turnings
 use Rattle.export_answers.specs.declared.names.Carving.{Carving}
-use Rattle.export_answers.specs.declared.names.Carving.TheVariants as carvings
 use Rattle.export_answers.specs.declared.names.Seaming.{Seaming}
-use Rattle.export_answers.specs.declared.names.Seaming.TheVariants as seamings
 use Rattle.export_answers.specs.declared.names.Counts.{Counts}
 
 -- The size that a host names: kind 0 is grey, 1 is rgb.
-unfoldable pub sizing_of : HostSize → Sizing
+unfoldable pub sizing_of : HostSize → Result Size Refusal
 sizing_of s =
-    cond (eqb s.kind 0) (sizings.Of (record { width = s.width; height = s.height; kind = Grey }))
-    (cond (eqb s.kind 1) (sizings.Of (record { width = s.width; height = s.height; kind = Rgb })) sizings.Unknown)
+    cond (eqb s.kind 0) (Ok (record { width = s.width; height = s.height; kind = Grey }))
+    (cond (eqb s.kind 1) (Ok (record { width = s.width; height = s.height; kind = Rgb })) (Err Form))
 
 -- The method that a host names: energy 0 is edge.
-unfoldable pub finding_of : HostMethod → Finding
-finding_of m = cond (eqb m.energy 0) (findings.By (record { energy = Edge })) findings.Unknown
+unfoldable pub finding_of : HostMethod → Result Method Refusal
+finding_of m = cond (eqb m.energy 0) (Ok (record { energy = Edge })) (Err Form)
 
 -- The axis that a host names: 0 is vertical, 1 horizontal.
-unfoldable pub turning_of : ℕ → Turning
-turning_of k = cond (eqb k 0) (turnings.Along Vertical) (cond (eqb k 1) (turnings.Along Horizontal) turnings.Nowhere)
+unfoldable pub turning_of : ℕ → Result Axis Refusal
+turning_of k = cond (eqb k 0) (Ok Vertical) (cond (eqb k 1) (Ok Horizontal) (Err Form))
 
 -- The size and the method, and with them the axis: known where each of them is.
-abbrev pub carving_from : Sizing → Finding → Carving
-carving_from (sizings.Of z) (findings.By how) = carvings.Of z how
-carving_from (sizings.Of z) findings.Unknown = carvings.Unknown
-carving_from sizings.Unknown f = carvings.Unknown
+abbrev pub carving_from : Result Size Refusal → Result Method Refusal → Result Carving Refusal
+carving_from (Ok z) (Ok how) = Ok (record { size = z; method = how })
+carving_from (Ok z) (Err why) = Err why
+carving_from (Err why) f = Err why
 
-unfoldable pub carving_of : HostSize → HostMethod → Carving
+unfoldable pub carving_of : HostSize → HostMethod → Result Carving Refusal
 carving_of s m = carving_from (sizing_of s) (finding_of m)
 
-abbrev pub seaming_from : Carving → Turning → Seaming
-seaming_from (carvings.Of z how) (turnings.Along x) = seamings.Along z how x
-seaming_from (carvings.Of z how) turnings.Nowhere = seamings.Unknown
-seaming_from carvings.Unknown t = seamings.Unknown
+abbrev pub seaming_from : Result Carving Refusal → Result Axis Refusal → Result Seaming Refusal
+seaming_from (Ok c) (Ok x) = Ok (record { size = c.size; method = c.method; axis = x })
+seaming_from (Ok c) (Err why) = Err why
+seaming_from (Err why) t = Err why
 
-unfoldable pub seaming_of : HostSize → HostMethod → ℕ → Seaming
+unfoldable pub seaming_of : HostSize → HostMethod → ℕ → Result Seaming Refusal
 seaming_of s m k = seaming_from (carving_of s m) (turning_of k)
 
 -- What holds at a known size, or else; at a known size and method; and at a known size, method and axis.
-abbrev pub known : {A : Type 0} → Sizing → (Size → A) → A → A
-known (sizings.Of z) f x = f z
-known sizings.Unknown f x = x
+abbrev pub known : {A : Type 0} → Result Size Refusal → (Size → A) → A → A
+known (Ok z) f x = f z
+known (Err why) f x = x
 
-abbrev pub both : {A : Type 0} → Carving → (Size → Method → A) → A → A
-both (carvings.Of z how) f y = f z how
-both carvings.Unknown f y = y
+abbrev pub both : {A : Type 0} → Result Carving Refusal → (Size → Method → A) → A → A
+both (Ok c) f y = f c.size c.method
+both (Err why) f y = y
 
-abbrev pub all : {A : Type 0} → Seaming → (Size → Method → Axis → A) → A → A
-all (seamings.Along z how x) f y = f z how x
-all seamings.Unknown f y = y
+abbrev pub all : {A : Type 0} → Result Seaming Refusal → (Size → Method → Axis → A) → A → A
+all (Ok s) f y = f s.size s.method s.axis
+all (Err why) f y = y
 
 -- The head that a host names.
 abbrev pub head_named : Size → Method → ℕ → ℕ → Head

@@ -1,6 +1,7 @@
 -- How a removal ended, as numbers.
 use Rattle.std.proofs.Math.Option.{Option, none, some}
-use Rattle.std.specs.Prelude.{ℕ}
+use Rattle.std.specs.Prelude.{Result, ℕ}
+use Rattle.pictures.specs.declared.refusals.Refusal.{Refusal}
 use Rattle.seam_rules.specs.declared.answers.Removal.{Removal}
 use Rattle.seam_rules.specs.declared.answers.Ending.{Ending}
 use Rattle.seam_rules.specs.declared.answers.Ending.TheVariants.{Done, Narrow, Spent, Blocked}
@@ -18,12 +19,6 @@ abbrev pub some_number : Option Ending → ℕ
 some_number none = 0
 some_number (some e) = ending_number e
 
--- The answer as three numbers, refused by one of them or not.
-abbrev pub stopped_by : ℕ → Ended
-stopped_by n = record { number = n; ending = 0; count = 0 }
-
-abbrev pub ended_as : ℕ → ℕ → Ended
-ended_as e n = record { number = 0; ending = e; count = n }
-
-abbrev pub ended_of : Removal → Ended
+-- The answer as three numbers.
+abbrev pub ended_of : Result Removal Refusal → Ended
 ended_of r = record { number = removal_number r; ending = some_number (removal_ending r); count = removal_count r }

@@ -1,15 +1,16 @@
-// What hosts in C and Rust name by numbers, as pure functions.
+// What hosts in C and Rust name by numbers, as pure functions. The numbers are the C interface's. One that names none is refused
+// by 1, as a word that names none is in a file.
 ghost use Rattle.std.specs.Prelude.{◌≡◌};
 ghost use Rattle.export_answers.specs.Named.{sizing_of, finding_of, turning_of, carving_of, seaming_of, head_named, counts_named, kind_number, energy_number, host_size, host_method};
 
 use energy::{EnergyRule, Method};
-use pictures::{Kind, Size};
+use pictures::{Kind, Refusal, Size};
 use seam_rules::{Axis, Columns, Rows};
 use text_theory::Head;
 
 // The size of a picture, as hosts pass it and are answered it. Kind 0 is grey, 1 is rgb.
 #[repr(C)]
-#[derive(Clone, Copy)]
+#[derive(Clone, Copy, Debug, Default, PartialEq, Eq)]
 pub struct HostSize {
     pub width: usize,
     pub height: usize,
@@ -18,132 +19,100 @@ pub struct HostSize {
 
 // The method that seams are found by, as hosts pass it and are answered it. Energy 0 is edge.
 #[repr(C)]
-#[derive(Clone, Copy)]
+#[derive(Clone, Copy, Debug, Default, PartialEq, Eq)]
 pub struct HostMethod {
     pub energy: u8,
 }
 
-// The size that a host names.
-#[derive(Clone, Copy)]
-pub enum Sizing {
-    Of(Size),
-    Unknown,
-}
-
-// The method that a host names.
-#[derive(Clone, Copy)]
-pub enum Finding {
-    By(Method),
-    Unknown,
-}
-
-// The axis that a host names by a number.
-#[derive(Clone, Copy)]
-pub enum Turning {
-    Along(Axis),
-    Nowhere,
-}
-
 // The size and the method that a host names.
-#[derive(Clone, Copy)]
-pub enum Carving {
-    Of(Size, Method),
-    Unknown,
+#[derive(Clone, Copy, Debug, PartialEq, Eq)]
+pub struct Carving {
+    pub size: Size,
+    pub method: Method,
 }
 
 // The same, and the axis.
-#[derive(Clone, Copy)]
-pub enum Seaming {
-    Along(Size, Method, Axis),
-    Unknown,
+#[derive(Clone, Copy, Debug, PartialEq, Eq)]
+pub struct Seaming {
+    pub size: Size,
+    pub method: Method,
+    pub axis: Axis,
 }
 
 // The counts of rows and of columns that a host asks to have removed.
-#[derive(Clone, Copy)]
+#[derive(Clone, Copy, Debug, PartialEq, Eq)]
 pub struct Counts {
     pub rows: Rows,
     pub columns: Columns,
 }
 
-// Names the size; it is unknown where its kind is neither 0 nor 1.
+// Names the size; refused where its kind is neither 0 nor 1.
 #[tactic(auto, unfolding(crate::specs::Named::sizing_of))]
-pub fn size_named(size: HostSize) -> Sizing
-    ensures { result ≡ sizing_of size }
-{
-    let width = size.width;
-    let height = size.height;
-    let kind = size.kind;
-    if kind == 0 {
-        return Sizing::Of(Size {
-            width,
-            height,
-            kind: Kind::Grey,
-        });
+impl TryFrom<HostSize> for Size {
+    type Error = Refusal;
+
+    ghost try_from_gives = { λ named size. size ≡ sizing_of named };
+
+    fn try_from(named: HostSize) -> Result<Size, Refusal> {
+        let kind = match named.kind {
+            0 => Kind::Grey,
+            1 => Kind::Rgb,
+            _ => return Err(Refusal::Form),
+        };
+        Ok(Size {
+            width: named.width,
+            height: named.height,
+            kind,
+        })
     }
-    if kind == 1 {
-        return Sizing::Of(Size {
-            width,
-            height,
-            kind: Kind::Rgb,
-        });
-    }
-    Sizing::Unknown
 }
 
-// Names the method; it is unknown where its energy isn't 0.
+// Names the method; refused where its energy isn't 0.
 #[tactic(auto, unfolding(crate::specs::Named::finding_of))]
-pub fn method_named(method: HostMethod) -> Finding
-    ensures { result ≡ finding_of method }
-{
-    let energy = method.energy;
-    if energy == 0 {
-        return Finding::By(Method {
-            energy: EnergyRule::Edge,
-        });
+impl TryFrom<HostMethod> for Method {
+    type Error = Refusal;
+
+    ghost try_from_gives = { λ named method. method ≡ finding_of named };
+
+    fn try_from(named: HostMethod) -> Result<Method, Refusal> {
+        let energy = match named.energy {
+            0 => EnergyRule::Edge,
+            _ => return Err(Refusal::Form),
+        };
+        Ok(Method { energy })
     }
-    Finding::Unknown
 }
 
 // Axis 0 is vertical, 1 is horizontal.
 #[tactic(auto, unfolding(crate::specs::Named::turning_of))]
-pub fn axis_named(axis: u8) -> Turning
+pub fn axis_named(axis: u8) -> Result<Axis, Refusal>
     ensures { result ≡ turning_of axis }
 {
-    if axis == 0 {
-        return Turning::Along(Axis::Vertical);
+    match axis {
+        0 => Ok(Axis::Vertical),
+        1 => Ok(Axis::Horizontal),
+        _ => Err(Refusal::Form),
     }
-    if axis == 1 {
-        return Turning::Along(Axis::Horizontal);
-    }
-    Turning::Nowhere
 }
 
-// Names the size and the method; unknown where one of them is.
+// Names the size and the method; refused where one of them is.
 #[tactic(auto, unfolding(crate::specs::Named::carving_of))]
-pub fn carving_named(size: HostSize, method: HostMethod) -> Carving
+pub fn carving_named(size: HostSize, method: HostMethod) -> Result<Carving, Refusal>
     ensures { result ≡ carving_of size method }
 {
-    let Sizing::Of(sized) = size_named(size) else {
-        return Carving::Unknown;
-    };
-    let Finding::By(how) = method_named(method) else {
-        return Carving::Unknown;
-    };
-    Carving::Of(sized, how)
+    let size = Size::try_from(size)?;
+    let method = Method::try_from(method)?;
+    Ok(Carving { size, method })
 }
 
-// Names the size, the method and the axis; unknown where one of them is.
+// Names the size, the method and the axis; refused where one of them is.
 #[tactic(auto, unfolding(crate::specs::Named::seaming_of))]
-pub fn seaming_named(size: HostSize, method: HostMethod, axis: u8) -> Seaming
+pub fn seaming_named(size: HostSize, method: HostMethod, axis: u8) -> Result<Seaming, Refusal>
     ensures { result ≡ seaming_of size method axis }
 {
-    let Carving::Of(sized, how) = carving_named(size, method) else {
-        return Seaming::Unknown;
-    };
-    let Turning::Along(turned) = axis_named(axis) else {
-        return Seaming::Unknown;
-    };
-    Seaming::Along(sized, how, turned)
+    let Carving { size, method } = carving_named(size, method)?;
+    let axis = axis_named(axis)?;
+    Ok(Seaming { size, method, axis })
 }
 
 // The head of the file that a host asks for.
@@ -184,26 +153,26 @@ fn energy_number(energy: EnergyRule) -> u8
     }
 }
 
-// A size, as hosts are answered it: size_named names it again.
-pub fn host_size(size: Size) -> HostSize
-    ensures { result ≡ host_size size }
-{
-    let width = size.width;
-    let height = size.height;
-    let kind = size.kind;
-    HostSize {
-        width,
-        height,
-        kind: kind_number(kind),
+// A size, as hosts are answered it: Size::try_from names it again.
+impl From<Size> for HostSize {
+    ghost from_gives = { λ size told. told ≡ host_size size };
+
+    fn from(size: Size) -> HostSize {
+        HostSize {
+            width: size.width,
+            height: size.height,
+            kind: kind_number(size.kind),
+        }
     }
 }
 
-// A method, in the same way: method_named names it again.
-pub fn host_method(method: Method) -> HostMethod
-    ensures { result ≡ host_method method }
-{
-    let energy = method.energy;
-    HostMethod {
-        energy: energy_number(energy),
+// A method, in the same way: Method::try_from names it again.
+impl From<Method> for HostMethod {
+    ghost from_gives = { λ method told. told ≡ host_method method };
+
+    fn from(method: Method) -> HostMethod {
+        HostMethod {
+            energy: energy_number(method.energy),
+        }
     }
 }

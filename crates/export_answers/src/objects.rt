@@ -1,47 +1,46 @@
 // How a removal ended, as numbers.
 ghost use Rattle.std.specs.Prelude.{◌≡◌};
-ghost use Rattle.export_answers.specs.Objects.{stopped_by, ended_as, ended_of};
+ghost use Rattle.export_answers.specs.Objects.{ending_number, ended_of};
 
-use seam_rules::Removal;
+use pictures::Refusal;
+use seam_rules::{Ending, Removal};
 
 // How a removal ended: ending 1 is done, 2 narrow, 3 spent, 4 blocked, and the count is of the seams cut. Or the number that
 // it is refused by, and ending and count 0.
 #[repr(C)]
-#[derive(Clone, Copy)]
+#[derive(Clone, Copy, Debug, PartialEq, Eq)]
 pub struct Ended {
     pub number: u64,
     pub ending: u64,
     pub count: u64,
 }
 
-pub fn stopped(number: u64) -> Ended
-    ensures { result ≡ stopped_by number }
-{
-    Ended {
-        number,
-        ending: 0,
-        count: 0,
+impl From<Result<Removal, Refusal>> for Ended {
+    ghost from_gives = { λ answer told. told ≡ ended_of answer };
+
+    fn from(answer: Result<Removal, Refusal>) -> Ended {
+        match answer {
+            Ok(removal) => Ended {
+                number: 0,
+                ending: ending_number(removal.ending),
+                count: removal.count as u64,
+            },
+            Err(why) => Ended {
+                number: pictures::number(why),
+                ending: 0,
+                count: 0,
+            },
+        }
     }
 }
 
-fn served(ending: u64, count: u16) -> Ended
-    ensures { result ≡ ended_as ending count }
+fn ending_number(ending: Ending) -> u64
+    ensures { result ≡ ending_number ending }
 {
-    Ended {
-        number: 0,
-        ending,
-        count: count as u64,
-    }
-}
-
-pub fn removal_reply(how: Removal) -> Ended
-    ensures { result ≡ ended_of how }
-{
-    match how {
-        Removal::Done(count) => served(1, count),
-        Removal::Narrow(count) => served(2, count),
-        Removal::Spent(count) => served(3, count),
-        Removal::Blocked(count) => served(4, count),
-        Removal::Refused(why) => stopped(pictures::number(why)),
+    match ending {
+        Ending::Done => 1,
+        Ending::Narrow => 2,
+        Ending::Spent => 3,
+        Ending::Blocked => 4,
     }
 }

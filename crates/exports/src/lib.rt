@@ -1,16 +1,16 @@
 // What hosts in C and Rust link: every operation over numbers, structs of numbers and slices, with no requires.
-#![tactic(auto)]
+#![tactic(auto, using(crate::proofs::Unknown::size_unknown, crate::proofs::Unknown::carving_unknown, crate::proofs::Unknown::seaming_unknown))]
 
 mod multifiles;
 mod objects;
 mod retargets;
 mod seams;
 
+ghost use Rattle.export_answers.specs.Answers.{reply_of};
 ghost use Rattle.exports.specs.Hosts.{HostEnergiesGiven, HostRowGiven};
 
-use export_answers::{
-    Answer, Carving, HostMethod, HostSize, Sizing, carving_named, judge_row, refused, size_named,
-};
+use export_answers::{Answer, Carving, HostMethod, HostSize, carving_named, judge_row};
+use pictures::{Refusal, Size};
 
 // The energies of row r, put into the front of out; gives the number that is refused by, or 0.
 #[unsafe(no_mangle)]
@@ -23,10 +23,12 @@ pub extern "C" fn multisize_energies(
 ) -> u64
     ensures { HostEnergiesGiven picture.now size method r out.old result out.new }
 {
-    let Carving::Of(sized, how) = carving_named(size, method) else {
-        return 1;
-    };
-    pictures::given(energy::energies(picture, sized, how, r, out))
+    match carving_named(size, method) {
+        Ok(Carving { size, method }) => {
+            pictures::given(energy::energies(picture, size, method, r, out))
+        }
+        Err(why) => pictures::number(why),
+    }
 }
 
 // Row r copied to the front of out; the value is its length.
@@ -34,18 +36,14 @@ pub extern "C" fn multisize_energies(
 pub extern "C" fn multisize_row(picture: &[u8], size: HostSize, r: usize, out: &mut [u8]) -> Answer
     ensures { HostRowGiven picture.now size r out.old result out.new }
 {
-    let Sizing::Of(sized) = size_named(size) else {
-        return refused(1);
-    };
-    let row = pictures::row(picture, sized, r);
-    let number = judge_row(row.len(), out.len());
-    if number != 0 {
-        return refused(number);
-    }
-    let length = row.len();
-    out[..length].copy_from_slice(row);
-    Answer {
-        number: 0,
-        value: length as u64,
-    }
+    Answer::from(copy_row(picture, size, r, out))
+}
+
+fn copy_row(picture: &[u8], size: HostSize, r: usize, out: &mut [u8]) -> Result<u64, Refusal>
+    ensures { HostRowGiven picture.now size r out.old (reply_of result) out.new }
+{
+    let row = pictures::row(picture, Size::try_from(size)?, r);
+    judge_row(row.len(), out.len())?;
+    out[..row.len()].copy_from_slice(row);
+    Ok(row.len() as u64)
 }

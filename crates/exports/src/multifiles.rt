@@ -1,10 +1,11 @@
 // Multi-size files, for hosts.
+ghost use Rattle.export_answers.specs.Answers.{reply_of};
 ghost use Rattle.exports.specs.Files.{HostBuildGiven, HostCheckGiven, HostReadGiven, HostShowGiven, HostRowAtGiven};
 
 use export_answers::{
-    Answer, Carving, FileAnswer, HostMethod, HostSize, SizeAnswer, Sizing, carving_named,
-    head_named, head_reply, length_reply, refused, size_named, size_reply,
+    Answer, Carving, FileAnswer, HostMethod, HostSize, SizeAnswer, carving_named, head_named,
 };
+use pictures::{Refusal, Size};
 
 // The file of a picture, put into the front of out; the value is its length.
 #[unsafe(no_mangle)]
@@ -19,11 +20,14 @@ pub extern "C" fn multisize_build(
 ) -> Answer
     ensures { HostBuildGiven picture.now size method depth growth out.old work.old result out.new work.new }
 {
-    let Carving::Of(sized, how) = carving_named(size, method) else {
-        return refused(1);
-    };
-    let head = head_named(sized, how, depth, growth);
-    length_reply(file_build::build(picture, head, out, work))
+    match carving_named(size, method) {
+        Ok(Carving { size, method }) => {
+            let head = head_named(size, method, depth, growth);
+            let built = file_build::build(picture, head, out, work);
+            Answer::from(built.map(|length| length as u64))
+        }
+        Err(why) => Answer::from(Err(why)),
+    }
 }
 
 // Checks a file; gives its size, method and range.
@@ -31,7 +35,7 @@ pub extern "C" fn multisize_build(
 pub extern "C" fn multisize_check(file: &[u8], work: &mut [u8]) -> FileAnswer
     ensures { HostCheckGiven file.now work.old result work.new }
 {
-    head_reply(file_read::check(file, work))
+    FileAnswer::from(file_read::check(file, work))
 }
 
 // The picture of a file put into the front of one space, its map into the front of another; gives its size, method and range.
@@ -44,7 +48,7 @@ pub extern "C" fn multisize_read(
 ) -> FileAnswer
     ensures { HostReadGiven file.now picture.old map.old work.old result picture.new map.new work.new }
 {
-    head_reply(file_read::read(file, picture, map, work))
+    FileAnswer::from(file_read::read(file, picture, map, work))
 }
 
 // What a file shows at the wanted width, put into the front of out; gives its size.
@@ -57,7 +61,7 @@ pub extern "C" fn multisize_show(
 ) -> SizeAnswer
     ensures { HostShowGiven file.now wanted out.old work.old result out.new work.new }
 {
-    size_reply(file_read::show(file, wanted, out, work))
+    SizeAnswer::from(file_read::show(file, wanted, out, work))
 }
 
 // A row of samples and its row of the map, shown at the wanted width and put into the front of out; the value is how many
@@ -72,23 +76,24 @@ pub extern "C" fn multisize_row_at(
 ) -> Answer
     ensures { HostRowAtGiven samples.now kind numbers.now wanted out.old result out.new }
 {
-    let width = numbers.len();
-    let size = HostSize {
-        width,
+    Answer::from(put_row(samples, kind, numbers, wanted, out))
+}
+
+fn put_row(
+    samples: &[u8],
+    kind: u8,
+    numbers: &[u16],
+    wanted: usize,
+    out: &mut [u8],
+) -> Result<u64, Refusal>
+    ensures { HostRowAtGiven samples.now kind numbers.now wanted out.old (reply_of result) out.new }
+{
+    let named = Size::try_from(HostSize {
+        width: numbers.len(),
         height: 1,
         kind,
-    };
-    let Sizing::Of(sized) = size_named(size) else {
-        return refused(1);
-    };
-    let named = sized.kind;
-    let number = pictures::given(map_show::row_at(named, samples, numbers, wanted, out));
-    if number != 0 {
-        return refused(number);
-    }
-    let shown = map_show::pixels_at(numbers, wanted) * pictures::channels(named);
-    Answer {
-        number: 0,
-        value: shown as u64,
-    }
+    })?;
+    map_show::row_at(named.kind, samples, numbers, wanted, out)?;
+    let shown = map_show::pixels_at(numbers, wanted) * pictures::channels(named.kind);
+    Ok(shown as u64)
 }

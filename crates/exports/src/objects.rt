@@ -1,7 +1,7 @@
 // Objects removed by seams with marks, for hosts.
 ghost use Rattle.exports.specs.Objects.{HostRemoveGiven};
 
-use export_answers::{Carving, Ended, HostMethod, HostSize, carving_named, removal_reply, stopped};
+use export_answers::{Carving, Ended, HostMethod, HostSize, carving_named};
 
 // Cuts at most `budget` vertical seams by the marks, until none is 2. The picture and marks left lie packed at the front of
 // each and the freed bytes are 0.
@@ -16,8 +16,10 @@ pub extern "C" fn multisize_remove(
 ) -> Ended
     ensures { HostRemoveGiven picture.old marks.old size method budget work.old result picture.new marks.new work.new }
 {
-    let Carving::Of(sized, how) = carving_named(size, method) else {
-        return stopped(1);
-    };
-    removal_reply(seam_objects::remove(picture, marks, sized, how, budget, work))
+    match carving_named(size, method) {
+        Ok(Carving { size, method }) => {
+            Ended::from(seam_objects::remove(picture, marks, size, method, budget, work))
+        }
+        Err(why) => Ended::from(Err(why)),
+    }
 }

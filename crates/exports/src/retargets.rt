@@ -1,9 +1,7 @@
 // Rows and columns removed together, for hosts.
 ghost use Rattle.exports.specs.Retargets.{HostRetargetGiven};
 
-use export_answers::{
-    Answer, Carving, HostMethod, HostSize, carving_named, counts_named, refused, total_reply,
-};
+use export_answers::{Answer, Carving, HostMethod, HostSize, carving_named, counts_named};
 
 // The picture with `rows` rows and `columns` columns less, put into the front of out; the value is the total of its seams.
 #[unsafe(no_mangle)]
@@ -18,17 +16,17 @@ pub extern "C" fn multisize_retarget(
 ) -> Answer
     ensures { HostRetargetGiven picture.now size method rows columns out.old work.old result out.new work.new }
 {
-    let Carving::Of(sized, how) = carving_named(size, method) else {
-        return refused(1);
-    };
     let counts = counts_named(rows, columns);
-    total_reply(seam_retarget::retarget(
-        picture,
-        sized,
-        how,
-        counts.rows,
-        counts.columns,
-        out,
-        work,
-    ))
+    match carving_named(size, method) {
+        Ok(Carving { size, method }) => Answer::from(seam_retarget::retarget(
+            picture,
+            size,
+            method,
+            counts.rows,
+            counts.columns,
+            out,
+            work,
+        )),
+        Err(why) => Answer::from(Err(why)),
+    }
 }

@@ -1,7 +1,7 @@
 // One seam of a lent picture, for hosts: found or cut, without marks and with them.
 ghost use Rattle.exports.specs.Seams.{HostFindGiven, HostCutGiven, HostFindMarkedGiven, HostCutMarkedGiven};
 
-use export_answers::{Answer, HostMethod, HostSize, Seaming, refused, seam_reply, seaming_named};
+use export_answers::{Answer, HostMethod, HostSize, Seaming, seaming_named};
 
 // The seam along the axis, put into the front of seam from the top or the left; the value is its cost.
 #[unsafe(no_mangle)]
@@ -15,10 +15,12 @@ pub extern "C" fn multisize_find(
 ) -> Answer
     ensures { HostFindGiven picture.now size method axis seam.old work.old result seam.new work.new }
 {
-    let Seaming::Along(sized, how, turned) = seaming_named(size, method, axis) else {
-        return refused(1);
-    };
-    seam_reply(seam_cut::find(picture, sized, how, turned, seam, work))
+    match seaming_named(size, method, axis) {
+        Ok(Seaming { size, method, axis }) => Answer::from(seam_cut::find(
+            picture, size, method, axis, seam, work,
+        )),
+        Err(why) => Answer::from(Err(why)),
+    }
 }
 
 // Cuts the seam along the axis out of the picture and gives it as multisize_find does. The rows then lie packed at the
@@ -34,10 +36,12 @@ pub extern "C" fn multisize_cut(
 ) -> Answer
     ensures { HostCutGiven picture.old size method axis seam.old work.old result picture.new seam.new work.new }
 {
-    let Seaming::Along(sized, how, turned) = seaming_named(size, method, axis) else {
-        return refused(1);
-    };
-    seam_reply(seam_cut::cut(picture, sized, how, turned, seam, work))
+    match seaming_named(size, method, axis) {
+        Ok(Seaming { size, method, axis }) => Answer::from(seam_cut::cut(
+            picture, size, method, axis, seam, work,
+        )),
+        Err(why) => Answer::from(Err(why)),
+    }
 }
 
 // The seam along the axis by the marks, one byte a pixel: 0 plain, 1 protected, 2 to be removed.
@@ -53,10 +57,15 @@ pub extern "C" fn multisize_find_marked(
 ) -> Answer
     ensures { HostFindMarkedGiven picture.now marks.now size method axis seam.old work.old result seam.new work.new }
 {
-    let Seaming::Along(sized, how, turned) = seaming_named(size, method, axis) else {
-        return refused(1);
-    };
-    seam_reply(seam_cut_marked::find_marked(picture, marks, sized, how, turned, seam, work))
+    match seaming_named(size, method, axis) {
+        Ok(Seaming { size, method, axis }) => {
+            let found = seam_cut_marked::find_marked(
+                picture, marks, size, method, axis, seam, work,
+            );
+            Answer::from(found)
+        }
+        Err(why) => Answer::from(Err(why)),
+    }
 }
 
 // Cuts that seam out of the picture and the marks and gives it as multisize_find_marked does.
@@ -72,8 +81,11 @@ pub extern "C" fn multisize_cut_marked(
 ) -> Answer
     ensures { HostCutMarkedGiven picture.old marks.old size method axis seam.old work.old result picture.new marks.new seam.new work.new }
 {
-    let Seaming::Along(sized, how, turned) = seaming_named(size, method, axis) else {
-        return refused(1);
-    };
-    seam_reply(seam_cut_marked::cut_marked(picture, marks, sized, how, turned, seam, work))
+    match seaming_named(size, method, axis) {
+        Ok(Seaming { size, method, axis }) => {
+            let cut = seam_cut_marked::cut_marked(picture, marks, size, method, axis, seam, work);
+            Answer::from(cut)
+        }
+        Err(why) => Answer::from(Err(why)),
+    }
 }
