@@ -13,6 +13,7 @@ pub(crate) fn exchange_columns(from: &[u8], size: Size, to: &mut [u8])
     ensures { to.new ≡ bytes (exchange size.width (picture size from.now)) ++ drop (picture_bytes size) to.old }
 {
     let stride = size.height * channels(size.kind);
+    // by index: chunks_exact_mut promises nothing of what is written through its parts
     for c in 0..size.width {
         let at = c * stride;
         put_column(from, size, c, &mut to[at..at + stride]);
@@ -38,6 +39,7 @@ fn put_pixels<const N: usize>(from: &[u8], size: Size, c: usize, out: &mut [u8])
 {
     let stride = size.width * N;
     let left = c * N;
+    // by index, for the same reason
     for r in 0..size.height {
         let i = r * stride + left;
         let j = r * N;

@@ -110,15 +110,14 @@ module _ (tab : Table) (b : List ℕ) (is : tab.whole ≡ length b) (rows : Rows
     pub one-long : length one ≡ length work
     one-long = ap length copied ∙ simp (length-append, length-drop) (omega (arith, space.room))
 
-    pub first-needed : (totals : List ℕ) → length totals ≡ 65 → ((j : ℕ) → get_or totals j 0 ≡ 0) → FirstRowNeeded tab columns one totals
-    first-needed totals many none = record {
+    pub first-needed : (totals : List ℕ) → ((j : ℕ) → get_or totals j 0 ≡ 0) → FirstRowNeeded tab columns one totals
+    first-needed totals none = record {
       fits = record {
         space = rw one-long space;
         rows_left = sized.height_some;
         row = omega arith;
         columns_left = needed.columns_left;
         column = omega (arith, needed.columns_few);
-        totals_long = many;
       };
       none = none;
     }
@@ -142,7 +141,6 @@ module _ (tab : Table) (b : List ℕ) (is : tab.whole ≡ length b) (rows : Rows
           row = omega (arith, needed.rows_few);
           columns_left = needed.columns_left;
           column = omega (arith, needed.columns_few);
-          totals_long = row.totals_long;
         };
         small = row.small;
       }

@@ -40,7 +40,7 @@ module _ (tab : Table) where
   abbrev whole : ℕ
   whole = tab.whole
 
-  module _ (r c : ℕ) (work₀ totals₀ : List ℕ) (needed : RestOfRowNeeded tab (row_count r) (column_count c) work₀ totals₀) where
+  module _ (r c : ℕ) (work₀ totals₀ : List ℕ) (needed : RestOfRowNeeded tab (row_count r) (column_count c) work₀ totals₀) (many : length totals₀ ≡ 65) where
     abbrev above : ℕ → Cell
     above = held z whole (row_count r) work₀ totals₀
 
@@ -53,7 +53,7 @@ module _ (tab : Table) where
     rest_start = record {
       inside = omega arith;
       long = refl;
-      totals_long = needed.fits.totals_long;
+      totals_long = many;
       cells_are = λ k h. let e : 0 ≡ k = omega arith in subst (λ i. held z whole (row_count (r + 1)) work₀ totals₀ i ≡ along_row how z (row_count r) (held z whole (row_count (r + 1)) work₀ totals₀ 0) (held z whole (row_count r) work₀ totals₀) i) e refl;
       small = all_small;
       later = λ k h l. refl;
@@ -93,7 +93,7 @@ module _ (tab : Table) where
           }
 
   -- A row below row r, whose first cell comes by a step from slot 0 to slot 0.
-  module _ (r c : ℕ) (work totals : List ℕ) (needed : NextRowNeeded tab (row_count r) (column_count c) work totals) where
+  module _ (r c : ℕ) (work totals : List ℕ) (needed : NextRowNeeded tab (row_count r) (column_count c) work totals) (many : length totals ≡ 65) where
     pub next_step_lem : StepNeeded (length work) 0 (smaller z r 0) Horizontal (67 * whole) 0
     next_step_lem =
         let q = placed-horizontal tab (length work) needed.fits.space 0 r 0 (omega arith) in
@@ -114,15 +114,14 @@ module _ (tab : Table) where
           row = needed.fits.row;
           columns_left = needed.fits.columns_left;
           column = needed.fits.column;
-          totals_long = length-set totals 0 (get_or totals 0 0 + cost) ∙ needed.fits.totals_long;
         };
-        first_small = rw (get_or-set_same totals 0 (get_or totals 0 0 + cost) 0 (omega (arith, needed.fits.totals_long))) (omega (arith, needed.small 0, g.cost_most));
+        first_small = rw (get_or-set_same totals 0 (get_or totals 0 0 + cost) 0 (omega (arith, many))) (omega (arith, needed.small 0, g.cost_most));
         others_small = λ j h. rw (get_or-set_other totals 0 j (get_or totals 0 0 + cost) 0 (λ e. omega arith)) (needed.small j);
       }
 
       first_is : held z whole (row_count (r + 1)) one (set totals 0 (get_or totals 0 0 + cost)) 0 ≡ by_seam how Horizontal (smaller z r 0) (held z whole (row_count r) work totals 0)
       first_is =
-          held_new z whole (r + 1) 0 (get_or totals 0 0 + cost) one totals (omega (arith, needed.fits.totals_long))
+          held_new z whole (r + 1) 0 (get_or totals 0 0 + cost) one totals (omega (arith, many))
           ∙ ap₂ (λ u at. record { picture = picture_at u at one; total = get_or totals 0 0 + cost }) (sym (less-row z r 0)) (zero-mul whole)
           ∙ step-cell work 0 (smaller z r 0) how Horizontal (67 * whole) 0 cost one (get_or totals 0 0) g
           ∙ ap (λ at. by_seam how Horizontal (smaller z r 0) (record { picture = picture_at (smaller z r 0) at work; total = get_or totals 0 0 })) (sym (zero-mul whole))
@@ -141,7 +140,6 @@ module _ (tab : Table) where
             (held z whole (row_count r) one (set totals 0 (get_or totals 0 0 + cost))) (held z whole (row_count r) work totals) first_is others-are j h;
         small = row.small;
         long = row.long ∙ g.long;
-        totals_long = row.totals_long;
       }
 
 -- Row r from the first row.
@@ -157,9 +155,8 @@ module _ (z : Size) (how : Method) (whole c : ℕ) (work₀ totals₀ : List ℕ
         ∙ ap (λ n. row_below how z (held z whole (row_count 0) work₀ totals₀) n j) (sym (add-one r));
     small = row.small;
     long = row.long ∙ so_far.long;
-    totals_long = row.totals_long;
   }
 
-  pub below_start : length totals₀ ≡ 65 → ((j : ℕ) → get_or totals₀ j 0 ≤ largest_total 0) → RowGiven z whole (row_count 0) (column_count c) (row_below how z (held z whole (row_count 0) work₀ totals₀) 0) work₀ work₀ totals₀
+  pub below_start : ((j : ℕ) → get_or totals₀ j 0 ≤ largest_total 0) → RowGiven z whole (row_count 0) (column_count c) (row_below how z (held z whole (row_count 0) work₀ totals₀) 0) work₀ work₀ totals₀
   unfolding row_below
-  below_start many small = record { cells_are = λ j h. refl; small = small; long = refl; totals_long = many }
+  below_start small = record { cells_are = λ j h. refl; small = small; long = refl }

@@ -116,7 +116,7 @@ up_to {P} j earlier last k h =
     (λ (l : j < k). let e : j + 1 ≡ k = omega arith in subst P e last)
     (le-or-lt k j)
 
-module _ (tab : Table) (c : ℕ) (work₀ totals₀ : List ℕ) (needed : FirstRowNeeded tab (column_count c) work₀ totals₀) where
+module _ (tab : Table) (c : ℕ) (work₀ totals₀ : List ℕ) (needed : FirstRowNeeded tab (column_count c) work₀ totals₀) (many : length totals₀ ≡ 65) where
   abbrev z : Size
   z = tab.size.size
 
@@ -131,7 +131,7 @@ module _ (tab : Table) (c : ℕ) (work₀ totals₀ : List ℕ) (needed : FirstR
   first_start = record {
     inside = omega arith;
     long = refl;
-    totals_long = needed.fits.totals_long;
+    totals_long = many;
     cells_are = λ k h. let e : 0 ≡ k = omega arith in subst (λ i. held z whole (row_count 0) work₀ totals₀ i ≡ first_row how z (held z whole (row_count 0) work₀ totals₀ 0) i) e refl;
     small = λ k. omega (arith, needed.none k);
   }

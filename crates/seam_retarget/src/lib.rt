@@ -12,7 +12,7 @@ ghost use Rattle.seam_retarget.specs.Inner.Retargets.{RetargetNeeded, LastGiven}
 use energy::Method;
 use pictures::{AllowedSize, Refusal, Size};
 use seam_rules::{Columns, Rows, judge_retarget};
-use table::Table;
+use table::{SLOTS, Table};
 
 // Puts the picture with `rows` rows and `columns` columns less into the front of out and gives the total of its seams, each
 // found by the method. Refused by 2, 3 and 4 as every picture is, by 7 where either count is over 64 or leaves nothing, and
@@ -50,7 +50,7 @@ fn last_cell(
         method,
         whole: picture.len(),
     };
-    let mut totals = [0u64; 65];
+    let mut totals = [0u64; SLOTS];
     work[..picture.len()].copy_from_slice(picture);
     table.first_row(work, columns, &mut totals);
     table.rows_below(work, rows, columns, &mut totals);

@@ -5,10 +5,13 @@ ghost use Rattle.pictures.specs.Pictures.{picture_bytes};
 use energy::Method;
 use pictures::AllowedSize;
 
-// Where the places for work stand, counted in pictures: after the 65 slots, each of two pictures.
-pub(crate) const VERTICAL: usize = 65;
+// The slots, one for each count of columns that may be removed.
+pub(crate) const SLOTS: usize = 65;
 
-pub(crate) const HORIZONTAL: usize = 67;
+// Where the places for work stand, counted in pictures: after the slots, each of two pictures.
+pub(crate) const VERTICAL: usize = SLOTS;
+
+pub(crate) const HORIZONTAL: usize = SLOTS + 2;
 
 // The table of a picture: its size, the method by which seams are found, and the bytes of a slot. Slot j of the work space holds
 // the picture of cell j of a row.

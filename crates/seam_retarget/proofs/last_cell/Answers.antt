@@ -26,7 +26,7 @@ pub first_row-requires : goal.first_row-requires
 first_row-requires c =
     let a = c.args in
     let b = a.picture.now in
-    first-needed _ b refl a.rows a.columns a.out.now a.work.now c.requires _ (ap (◌++ drop (length b) a.work.now) c.copy_from_slice.ensures.after) _ refl (no_totals 65)
+    first-needed _ b refl a.rows a.columns a.out.now a.work.now c.requires _ (ap (◌++ drop (length b) a.work.now) c.copy_from_slice.ensures.after) _ (no_totals 65)
 
 pub rows_below-requires : goal.rows_below-requires
 rows_below-requires c =

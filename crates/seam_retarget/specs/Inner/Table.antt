@@ -50,14 +50,12 @@ pub record RowNeeded (tab : Table) (rows : Rows) (columns : Columns) (work total
   pub row : rows.0 < slots
   pub columns_left : columns.0 < tab.size.size.width
   pub column : columns.0 < slots
-  pub totals_long : length totals ≡ slots
 
 -- A row up to a count of columns, with its totals.
 pub record RowGiven (z : Size) (whole : ℕ) (rows : Rows) (columns : Columns) (cells : ℕ → Cell) (work work' totals' : List ℕ) : Type 0 where
   pub cells_are : (j : ℕ) → j ≤ columns.0 → held z whole rows work' totals' j ≡ cells j
   pub small : (j : ℕ) → get_or totals' j 0 ≤ largest_total rows.0
   pub long : length work' ≡ length work
-  pub totals_long : length totals' ≡ slots
 
 -- For the first row: no totals yet.
 pub record FirstRowNeeded (tab : Table) (columns : Columns) (work totals : List ℕ) : Type 0 where

@@ -6,7 +6,7 @@ use Rattle.seam_retarget.proofs.table.Table.rows_below.Goals as goal
 pub loop-i-init : goal.loop-i-init
 loop-i-init c =
     let a = c.args in
-    (omega arith, below_start a.self.size.size a.self.method a.self.whole a.columns.0 a.work.now a.totals.now c.requires.fits.totals_long c.requires.small)
+    (omega arith, below_start a.self.size.size a.self.method a.self.whole a.columns.0 a.work.now a.totals.now c.requires.small)
 
 pub loop-i-preserved : goal.loop-i-preserved
 loop-i-preserved c =
