@@ -7,18 +7,15 @@ use Prim.Native.Nat.{ℕ, ◌≤◌, ◌<◌}
 use native.Mathlib.Omega.{arith}
 use lib.ListN.{length, replicate}
 use Rattle.pictures.specs.declared.refusals.Refusal.{Refusal}
-use Rattle.pictures.specs.declared.refusals.Verdict.{Verdict}
-use Rattle.pictures.specs.Refusals.{Rule, given, refusal, served, worked}
-use Rattle.pictures.proofs.Rules.{positive, served-first, refused-first, refusal-most, number-some, served-not}
+use Rattle.std.specs.Prelude.{Result}
+use Rattle.pictures.specs.Refusals.{Rule, number_of, given, refusal, worked}
+use Rattle.pictures.proofs.Rules.{positive, served-first, refused-first, refusal-most, number-some}
 use Rattle.seam_find.proofs.Worked.{worked_not}
 use Rattle.map_check.proofs.Answers.{worked-judged}
 use Rattle.text_theory.specs.declared.Head.{Head}
 use Rattle.text_theory.specs.Files.{Parts, parse}
 use Rattle.file_theory.specs.Rules.{part_rules, judged_rules, form_rules}
-use Rattle.file_rules.specs.declared.answers.Checked.{Checked}
-use Rattle.file_rules.specs.declared.answers.Checked.TheVariants as checks
-use Rattle.file_rules.specs.Answers.{checked_number}
-use Rattle.file_read.specs.Inner.Opening.{OpenGiven, Open}
+use Rattle.file_read.specs.Inner.Opening.{Open}
 use Rattle.file_read.specs.Inner.Checking.{judged_in, MapJudged}
 use Rattle.file_read.proofs.Parsed.{parts_with, opened}
 
@@ -32,24 +29,12 @@ form_most none = omega arith
 form_most (some p) = refusal-most 6 (part_rules p) refl
 
 -- A file that opening refuses: its number, and everything lent left as it was.
-module _ (file : List ℕ) (answer : Checked) (g : OpenGiven file answer) (why : Refusal) (is : answer ≡ checks.Refused why) where
-  some_number_lem : 0 < checked_number answer
-  some_number_lem = rw is (number-some why)
+module _ (file : List ℕ) (why : Refusal) (e : number_of why ≡ refusal (form_rules part_rules (parse file))) where
+  pub early_number : (more : Parts → List Rule) → number_of why ≡ refusal (form_rules (λ p. part_rules p ++ more p) (parse file))
+  early_number more = form_refused more (parse file) (number_of why) e (number-some why)
 
-  pub early_number : (more : Parts → List Rule) → checked_number answer ≡ refusal (form_rules (λ p. part_rules p ++ more p) (parse file))
-  early_number more = form_refused more (parse file) (checked_number answer) g.number some_number_lem
-
-  pub early_kept : {A : Type 0} (x y : A) → y ≡ served (checked_number answer) x y
-  early_kept x y = sym (served-not (checked_number answer) x y some_number_lem)
-
-  pub early_work : {A : Type 0} (x y : A) → y ≡ worked (checked_number answer) x y
-  early_work x y = sym (worked_not (checked_number answer) x y some_number_lem (omega (arith, g.number, form_most (parse file))))
-
--- One that it doesn't refuse is open.
-pub is_open : (file : List ℕ) (answer : Checked) → OpenGiven file answer → (h : Head) → answer ≡ checks.Accepted h → Open file h
-is_open file answer g h is =
-    let k : OpenGiven file (checks.Accepted h) = rw is at g in
-    record { sound = sym k.number; head_is = sym k.head }
+  pub early_work : {A : Type 0} (x y : A) → y ≡ worked (number_of why) x y
+  early_work x y = sym (worked_not (number_of why) x y (number-some why) (omega (arith, e, form_most (parse file))))
 
 -- Then the operation's own rules decide, and after them the map.
 abbrev pub file_rules : (Head → List Rule) → List ℕ → List Rule
@@ -74,6 +59,6 @@ worked-map : {A : Type 0} (o : Option Parts) (x y : A) → worked (refusal (judg
 worked-map none x y = refl
 worked-map (some p) x y = worked-judged p.head.size p.head.method p.head.depth p.rows p.maps x y
 
-pub judged_work : (file work : List ℕ) (v : Verdict) (work' : List ℕ) → MapJudged file work v work' → work' ≡ worked (given v) (replicate (length work) 0) work
+pub judged_work : (file work : List ℕ) (v : Result (Unit {0}) Refusal) (work' : List ℕ) → MapJudged file work v work' → work' ≡ worked (given v) (replicate (length work) 0) work
 judged_work file work v work' j =
     j.work_left ∙ sym (ap (λ n. worked n (replicate (length work) 0) work) j.number ∙ worked-map (parse file) (replicate (length work) 0) work)

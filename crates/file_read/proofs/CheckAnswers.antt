@@ -1,65 +1,61 @@
 -- The answers of checking a file.
-use mathlib.Core.Path.{◌≡◌, refl, sym, ap, ◌∙◌}
+use mathlib.Core.Path.{◌≡◌, refl, sym, ◌∙◌}
 use mathlib.Core.List.{List, [], ◌∷◌}
 use Prim.Native.Nat.{ℕ}
 use native.Mathlib.Omega.{arith}
 use lib.ListN.{length, replicate}
+use Rattle.std.specs.Prelude.{Result, Err}
 use Rattle.pictures.specs.declared.refusals.Refusal.{Refusal}
-use Rattle.pictures.specs.declared.refusals.Verdict.{Verdict}
-use Rattle.pictures.specs.declared.refusals.Verdict.TheVariants as verdicts
-use Rattle.pictures.specs.Refusals.{Rule, number_of, given, refusal, worked}
+use Rattle.pictures.specs.Refusals.{Rule, number_of, given, refusal}
 use Rattle.pictures.specs.Pictures.{side_rules}
 use Rattle.pictures.proofs.Rules.{served-first, refusal-most, number-some, kept_by}
 use Rattle.seam_find.proofs.Worked.{worked_not}
 use Rattle.text_theory.specs.declared.Head.{Head}
 use Rattle.text_theory.specs.Files.{parse}
-use Rattle.file_theory.specs.Rules.{judged_rules, work_rule, check_rules}
+use Rattle.file_theory.specs.Rules.{part_rules, judged_rules, form_rules, work_rule, check_rules}
 use Rattle.file_theory.specs.Shows.{head_in}
-use Rattle.file_rules.specs.declared.answers.Checked.{Checked}
-use Rattle.file_rules.specs.declared.answers.Checked.TheVariants as checks
 use Rattle.file_rules.specs.Spaces.{work_rules}
 use Rattle.file_read.specs.Reading.{CheckGiven}
-use Rattle.file_read.specs.Inner.Opening.{OpenGiven}
+use Rattle.file_read.specs.Inner.Opening.{Open}
 use Rattle.file_read.specs.Inner.Checking.{MapJudged}
 use Rattle.file_read.proofs.Parsed.{opened}
-use Rattle.file_read.proofs.Answered.{early_number, early_work, is_open, own_number, judged-number, judged_work}
+use Rattle.file_read.proofs.Answered.{early_number, early_work, own_number, judged-number, judged_work}
 
-module _ (file work : List ℕ) (answer : Checked) (g : OpenGiven file answer) where
+module _ (file work : List ℕ) where
   -- 1 to 6.
-  pub check_early : (why : Refusal) → answer ≡ checks.Refused why → CheckGiven file work answer work
-  check_early why is = record {
-    number = early_number file answer g why is (λ p. work_rule p.head.size (length work) ∷ judged_rules p);
-    head = g.head;
-    work_left = early_work file answer g why is (replicate (length work) 0) work;
+  pub check_early : (why : Refusal) → number_of why ≡ refusal (form_rules part_rules (parse file)) → CheckGiven file work (Err why) work
+  check_early why e = record {
+    number = early_number file why e (λ p. work_rule p.head.size (length work) ∷ judged_rules p);
+    head = kept_by why (head_in (parse file)) _;
+    work_left = early_work file why e (replicate (length work) 0) work;
   }
 
-  module _ (h : Head) (is : answer ≡ checks.Accepted h) where
+  module _ (h : Head) (o : Open file h) where
     abbrev own : Head → List Rule
     own x = work_rule x.size (length work) ∷ []
 
     -- 2 and 3 don't refuse what is opened, so 8 alone decides.
     pub work-own : refusal (work_rules h.size (length work)) ≡ refusal (own h)
-    work-own = served-first (side_rules h.size) (own h) refl (opened file h (is_open file answer g h is)).sides_served
+    work-own = served-first (side_rules h.size) (own h) refl (opened file h o).sides_served
 
     -- 8.
-    pub check-short : (d : Verdict) → given d ≡ refusal (work_rules h.size (length work)) → (why : Refusal) → d ≡ verdicts.Refused why
-        → CheckGiven file work (checks.Refused why) work
-    check-short d e why said =
-        let number : number_of why ≡ refusal (own h) = sym (ap given said) ∙ e ∙ work-own in
+    pub check-short : (why : Refusal) → number_of why ≡ refusal (work_rules h.size (length work)) → CheckGiven file work (Err why) work
+    check-short why e =
+        let number : number_of why ≡ refusal (own h) = e ∙ work-own in
         record {
-          number = own_number file h (is_open file answer g h is) own (number_of why) number (number-some why);
+          number = own_number file h o own (number_of why) number (number-some why);
           head = kept_by why (head_in (parse file)) _;
           work_left = sym (worked_not (number_of why) (replicate (length work) 0) work (number-some why) (omega (arith, number, refusal-most 8 (own h) refl)));
         }
 
-    module _ (none : refusal (own h) ≡ 0) (v : Verdict) (work' : List ℕ) (j : MapJudged file work v work') where
-      same_number : given v ≡ refusal (check_rules file (length work))
-      same_number = j.number ∙ judged-number file h (is_open file answer g h is) own refl none
+    module _ (none : refusal (own h) ≡ 0) (work' : List ℕ) where
+      same_number : {v : Result (Unit {0}) Refusal} → MapJudged file work v work' → given v ≡ refusal (check_rules file (length work))
+      same_number j = j.number ∙ judged-number file h o own refl none
 
       -- 9 to 11.
-      pub check-refused : (why : Refusal) → v ≡ verdicts.Refused why → CheckGiven file work (checks.Refused why) work'
-      check-refused why e = record {
-        number = sym (ap given e) ∙ same_number;
+      pub check-refused : (why : Refusal) → MapJudged file work (Err why) work' → CheckGiven file work (Err why) work'
+      check-refused why j = record {
+        number = same_number j;
         head = kept_by why (head_in (parse file)) _;
-        work_left = judged_work file work v work' j ∙ ap (λ x. worked (given x) (replicate (length work) 0) work) e;
+        work_left = judged_work file work (Err why) work' j;
       }

@@ -27,11 +27,12 @@ use Rattle.file_theory.proofs.Shapes.{all-each, each_all}
 use Rattle.file_theory.proofs.Heads.{mean-pixel}
 use Rattle.file_theory.proofs.Pixels.{all_shown}
 use Rattle.file_read.specs.Inner.Checking.{judged_in}
-use Rattle.file_read.specs.Inner.Lines.{RowsRead}
-use Rattle.file_read.specs.Inner.Widths.{DrawNeeded, LinesNeeded}
+use Rattle.file_read.specs.Inner.Opening.{Open}
+use Rattle.file_read.specs.Inner.Lines.{PictureRead}
+use Rattle.file_read.specs.Inner.Widths.{DrawNeeded, Showing}
 use Rattle.file_read.proofs.Parsed.{Parsed, opened, parts_with}
 use Rattle.file_read.proofs.Places.{bytes-long}
-use Rattle.file_read.proofs.Offered.{roomy, picture-fits, sound}
+use Rattle.file_read.proofs.Offered.{Roomy, roomy, picture-fits, sound}
 
 module _ {file : List ℕ} {h : Head} (k : Parsed file h) (v : ℕ) where
   -- The picture shown, and its bytes.
@@ -73,20 +74,31 @@ module _ {file : List ℕ} {h : Head} (k : Parsed file h) (v : ℕ) where
         (sym (flat_at (flats_grid shown-size) r l ∙ get_or-map flat picture r [] [] (omega (arith, each-length shown-size)) ∙ ap flat (shown_at (mean_of h) v (grid_of k.pixels) k.maps_grid r l)))
 
 -- The picture stands at the front of the space when its row lines are read.
-module _ (file : List ℕ) (h : Head) (v out : ℕ) (work : List ℕ) (d : DrawNeeded file h v out (length work)) where
-  pub room : picture_bytes h.size ≤ length work
-  room = picture-fits h.size (length work) (roomy h v out (length work) (sound (opened file h d.opened)) d.room).work_room
+module _ (file : List ℕ) (h : Head) (o : Open file h) (v out : ℕ) (work : List ℕ) (d : DrawNeeded file h v out (length work)) where
+  known : Parsed file h
+  known = opened file h o
 
-  module _ {work' : List ℕ} {at : ℕ} (g : RowsRead file h work at work') where
+  fits : Roomy h v out (length work)
+  fits = roomy h v out (length work) (sound known) d.room
+
+  pub room : picture_bytes h.size ≤ length work
+  room = picture-fits h.size (length work) fits.work_room
+
+  -- What is shown fits.
+  pub out_room : length (drawn_bytes (shows file v)) ≤ out
+  out_room = omega (arith, drawn-long known v d.accepted fits.offers, fits.out_room)
+
+  module _ {work' : List ℕ} {at : ℕ} (g : PictureRead file h work at work') where
     long : length (bytes (rows_in (parse file))) ≡ picture_bytes h.size
-    long = bytes-long (opened file h d.opened)
+    long = bytes-long known
 
     pub same_long : length work' ≡ length work
     same_long = ap length g.space_is ∙ length_front work (bytes (rows_in (parse file))) (picture_bytes h.size) (long ∙ sym (length-take-le (picture_bytes h.size) work room))
 
-    pub lines_needed : LinesNeeded file h at v work' out
-    lines_needed = record {
-      drawn = rw same_long d;
-      place = g.place;
+    pub showing : Showing file h v work'
+    showing = record {
+      accepted = d.accepted;
+      offers = fits.offers;
       picture_is = ap (take (picture_bytes h.size)) g.space_is ∙ take_at (bytes (rows_in (parse file))) (drop (picture_bytes h.size) work) (picture_bytes h.size) long;
+      inside = omega (arith, same_long, room);
     }

@@ -1,7 +1,6 @@
 pub mod Opened
 pub mod Parsed
 pub mod Filled
-pub mod Recorded
 pub mod Places
 pub mod Turns
 pub mod Answered
@@ -10,6 +9,6 @@ pub mod ReadAnswers
 pub mod Standing
 pub mod Offered
 pub mod Drawing
-pub mod DrawTurns
+pub mod ShownRows
 pub mod ShowAnswers
 pub mod ReadShown

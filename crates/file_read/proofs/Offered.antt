@@ -15,7 +15,8 @@ use Rattle.map_theory.specs.Widths.{offered}
 use Rattle.map_theory.proofs.Shown.{offered_is}
 use Rattle.text_theory.specs.declared.Head.{Head}
 use Rattle.file_rules.specs.Spaces.{offer_rules}
-use Rattle.file_rules.proofs.Ranges.{Sound, Bounded, bounded}
+use Rattle.file_rules.specs.Inner.{Sound}
+use Rattle.file_rules.proofs.Ranges.{Bounded, bounded}
 use Rattle.file_read.proofs.Parsed.{Parsed}
 
 -- Size and range of a file that is opened are allowed.

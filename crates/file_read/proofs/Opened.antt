@@ -7,22 +7,18 @@ use Prim.Native.Nat.{ℕ}
 use lib.Dec.{eqb}
 use lib.ListN.{length}
 use Rattle.pictures.specs.declared.refusals.Refusal.{Refusal}
-use Rattle.pictures.specs.declared.refusals.Refusal.TheVariants.{Count, Range}
-use Rattle.pictures.specs.declared.refusals.Verdict.{Verdict}
-use Rattle.pictures.specs.declared.refusals.Verdict.TheVariants as verdicts
+use Rattle.std.specs.Prelude.{Result, Err}
 use Rattle.pictures.specs.Refusals.{◌when◌, Rule, number_of, given, refusal}
 use Rattle.pictures.specs.Pictures.{side_rules}
-use Rattle.pictures.proofs.Rules.{served-first, refused_answer, kept_by}
+use Rattle.pictures.proofs.Rules.{served-first, refused_answer}
 use Rattle.map_theory.specs.Widths.{allowed}
 use Rattle.map_theory.specs.Judged.{every}
 use Rattle.text_theory.specs.Files.{Parts, parse}
 use Rattle.text_scan.specs.declared.Facts.{Facts}
 use Rattle.grids.proofs.Bools.{and_swap}
 use Rattle.text_scan.specs.Facts.{evenly, facts_of, facts_in}
-use Rattle.file_theory.specs.Rules.{filled, part_rules}
-use Rattle.file_theory.specs.Shows.{head_in}
-use Rattle.file_rules.specs.declared.answers.Checked.TheVariants as checks
-use Rattle.file_read.specs.Inner.Opening.{OpenGiven}
+use Rattle.file_theory.specs.Rules.{filled, part_rules, form_rules}
+use Rattle.file_read.specs.Inner.Opening.{Open}
 
 -- Whether all rows are as long as the width says: said of their lengths, and of the rows.
 even_rows : {A : Type 0} (w : ℕ) (rows : List (List A)) → evenly w (map length rows) ≡ every (λ xs. eqb (length xs) w) rows
@@ -65,12 +61,12 @@ module _ (file : List ℕ) (f : Facts) (told : some f ≡ facts_in (parse file))
   abbrev more : List Rule
   more = 4 when not (both parts) ∷ 6 when not (allowed parts.head.size.width parts.head.depth parts.head.growth) ∷ []
 
-  refused : (why : Refusal) → number_of why ≡ refusal (part_rules parts) → OpenGiven file (checks.Refused why)
-  refused why e = record { number = rw parsed e; head = kept_by why (head_in (parse file)) none }
+  refused : (n : ℕ) → n ≡ refusal (part_rules parts) → n ≡ refusal (form_rules part_rules (parse file))
+  refused n e = rw parsed e
 
-  pub open_sides : (v : Verdict) (why : Refusal) → v ≡ verdicts.Refused why → given v ≡ refusal (side_rules f.head.size) → OpenGiven file (checks.Refused why)
+  pub open_sides : {A : Type 0} (v : Result A Refusal) (why : Refusal) → v ≡ Err why → given v ≡ refusal (side_rules f.head.size) → number_of why ≡ refusal (form_rules part_rules (parse file))
   open_sides v why is e =
-      refused why (sym (ap given is) ∙ refused_answer v why is (side_rules parts.head.size) more (e ∙ ap (λ h. refusal (side_rules h.size)) same_head))
+      refused (number_of why) (sym (ap given is) ∙ refused_answer v why is (side_rules parts.head.size) more (e ∙ ap (λ h. refusal (side_rules h.size)) same_head))
 
   module _ (sides : refusal (side_rules f.head.size) ≡ 0) where
     rest : refusal (part_rules parts) ≡ refusal more
@@ -82,14 +78,14 @@ module _ (file : List ℕ) (f : Facts) (told : some f ≡ facts_in (parse file))
     range : (t : Bool) → allowed f.head.size.width f.head.depth f.head.growth ≡ t → allowed parts.head.size.width parts.head.depth parts.head.growth ≡ t
     range t e = sym (ap (λ h. allowed h.size.width h.depth h.growth) same_head) ∙ e
 
-    pub open-counts : counts_of f ≡ false → OpenGiven file (checks.Refused Count)
-    open-counts e = refused Count (sym (rest ∙ rw (counts false e)))
+    pub open-counts : counts_of f ≡ false → 4 ≡ refusal (form_rules part_rules (parse file))
+    open-counts e = refused 4 (sym (rest ∙ rw (counts false e)))
 
-    pub open-range : counts_of f ≡ true → allowed f.head.size.width f.head.depth f.head.growth ≡ false → OpenGiven file (checks.Refused Range)
-    open-range e a = refused Range (sym (rest ∙ rw (counts true e, range false a)))
+    pub open-range : counts_of f ≡ true → allowed f.head.size.width f.head.depth f.head.growth ≡ false → 6 ≡ refusal (form_rules part_rules (parse file))
+    open-range e a = refused 6 (sym (rest ∙ rw (counts true e, range false a)))
 
-    pub open-served : counts_of f ≡ true → allowed f.head.size.width f.head.depth f.head.growth ≡ true → OpenGiven file (checks.Accepted f.head)
+    pub open-served : counts_of f ≡ true → allowed f.head.size.width f.head.depth f.head.growth ≡ true → Open file f.head
     open-served e a = record {
-      number = rw parsed (sym (rest ∙ rw (counts true e, range true a)));
-      head = rw parsed (ap some same_head);
+      sound = sym (refused 0 (sym (rest ∙ rw (counts true e, range true a))));
+      head_is = rw parsed (ap some (sym same_head));
     }

@@ -2,7 +2,7 @@
 use mathlib.Core.Path.{◌≡◌, refl, sym, ap, ◌∙◌}
 use mathlib.Core.Bool.{true}
 use mathlib.Core.Option.{Option, none, some, none-ne-some, some-injective}
-use mathlib.Core.List.{List, ◌++◌}
+use mathlib.Core.List.{List}
 use Prim.Native.Nat.{ℕ}
 use lib.ListN.{drop}
 use Rattle.grids.specs.Each.{Each, Grid}
@@ -11,15 +11,17 @@ use Rattle.pictures.specs.Pictures.{side_rules, OfSize}
 use Rattle.pictures.proofs.Limits.{Sides, sides_are}
 use Rattle.map_theory.specs.Widths.{allowed}
 use Rattle.text_theory.specs.declared.Head.{Head}
-use Rattle.text_theory.specs.Decimal.{digits}
-use Rattle.text_theory.specs.Files.{Parts, parse, text, each, row_word, map_word, line_text, pixel_text, closed, head_text, head_get, Pixel, Within}
+use Rattle.text_theory.specs.Files.{Parts, parse, text, head_get, Pixel, Within}
 use Rattle.text_theory.proofs.Files.{parse-sound}
-use Rattle.text_read.specs.Answers.{Told}
+use Rattle.std.specs.Prelude as code
+use Rattle.std.specs.Prelude.{IsSome}
+use Rattle.text_read.specs.declared.cursor.Cursor.{Cursor}
+use Rattle.text_read.specs.Answers.{Told, read}
 use Rattle.text_read.proofs.Callers.{head_line}
 use Rattle.file_theory.specs.Rules.{part_rules, form_rules}
 use Rattle.file_theory.specs.Shows.{head_in, rows_in, maps_in}
 use Rattle.file_theory.proofs.Shaped.{shaped_is, shaped_picture, allowed-of_size}
-use Rattle.file_read.specs.Inner.Opening.{Open, from_maps, from_rows}
+use Rattle.file_read.specs.Inner.Opening.{Open, rows_from}
 
 -- The parts of a text, with size and range h.
 abbrev pub parts_with : Head → Option Parts → Parts
@@ -37,8 +39,6 @@ pub record Parsed (file : List ℕ) (h : Head) : Type 0 where
   pub of_size : OfSize h.size (rows_in (parse file))
   pub maps_grid : Grid h.size.width h.size.height (maps_in (parse file))
   pub range : allowed h.size.width h.depth h.growth ≡ true
-  pub row_lines_are : from_rows (parse file) ≡ each row_word (line_text (pixel_text h.size.kind)) (rows_in (parse file)) ++ from_maps (parse file)
-  pub map_lines_are : from_maps (parse file) ≡ each map_word (line_text digits) (maps_in (parse file)) ++ closed
 
 pub opened : (file : List ℕ) (h : Head) → Open file h → Parsed file h
 opened file h o =
@@ -59,8 +59,6 @@ opened file h o =
       of_size = allowed-of_size h.size (rows_in (parse file)) a;
       maps_grid = k.maps;
       range = k.range;
-      row_lines_are = rows (parse file) o.head_is;
-      map_lines_are = maps (parse file) o.head_is;
     }
   where
     same : (p : Parts) → head_in (some p) ≡ some h → p.head ≡ h
@@ -70,25 +68,15 @@ opened file h o =
     go none e = absurd (none-ne-some _ e)
     go (some p) e = λ i. some (record { head = same p e i; rows = p.rows; maps = p.maps })
 
-    rows : (q : Option Parts) → head_in q ≡ some h → from_rows q ≡ each row_word (line_text (pixel_text h.size.kind)) (rows_in q) ++ from_maps q
-    rows none e = absurd (none-ne-some _ e)
-    rows (some p) e = ap (λ g. each row_word (line_text (pixel_text g.size.kind)) p.rows ++ from_maps (some p)) (same p e)
-
-    maps : (q : Option Parts) → head_in q ≡ some h → from_maps q ≡ each map_word (line_text digits) (maps_in q) ++ closed
-    maps none e = absurd (none-ne-some _ e)
-    maps (some p) e = refl
-
--- Behind the head stand the row lines.
+-- After the head stand the row lines.
 module _ (file : List ℕ) (h : Head) (o : Open file h) where
-  head_read_lem : head_get file ≡ some (h, from_rows (parse file))
+  head_read_lem : head_get file ≡ some (h, rows_from h.size.kind (parse file) 0)
   unfolding text
-  head_read_lem =
-      let k = opened file h o in
-      ap head_get (sym k.whole ∙ ap (head_text h ++◌) (sym (k.row_lines_are ∙ ap (each row_word (line_text (pixel_text h.size.kind)) (rows_in (parse file)) ++◌) k.map_lines_are)))
-      ∙ head_line h (from_rows (parse file)) k.within.head
+  head_read_lem = let k = opened file h o in ap head_get (sym k.whole) ∙ head_line h (rows_from h.size.kind (parse file) 0) k.within.head
 
-  pub head_place : (g : Head) (c : ℕ) → Told head_get file 0 (some (g, c)) → drop c file ≡ from_rows (parse file)
-  head_place g c t = ap (λ (r : Head × List ℕ). r.1) (some-injective (g, drop c file) (h, from_rows (parse file)) (sym t.same ∙ head_read_lem))
+  pub head_place : (g : Head) (c : ℕ) → Told head_get file 0 (some (g, c)) → drop c file ≡ rows_from h.size.kind (parse file) 0
+  head_place g c t = ap (λ (r : Head × List ℕ). r.1) (some-injective (g, drop c file) (h, rows_from h.size.kind (parse file) 0) (sym t.same ∙ head_read_lem))
 
-  pub head_there : Told head_get file 0 none → ⊥
-  head_there t = none-ne-some _ (sym t.same ∙ head_read_lem)
+  pub head_there : (a : code.Option (Head × Cursor)) → Told head_get file 0 (read a) → IsSome a
+  head_there code.None t = absurd (none-ne-some _ (sym t.same ∙ head_read_lem))
+  head_there (code.Some r) t = refl

@@ -1,6 +1,6 @@
 -- The places of a file's lines: at each of them stands the next line, and after it the others.
 use mathlib.Core.Path.{◌≡◌, ap, ◌∙◌}
-use mathlib.Core.Option.{none-ne-some, some-injective}
+use mathlib.Core.Option.{some-injective}
 use mathlib.Core.List.{List, [], ◌∷◌, ◌++◌, append-nil}
 use Prim.Native.Nat.{ℕ, zero, suc, ◌+◌, ◌*◌, ◌≤◌, ◌<◌}
 use native.Mathlib.Nat.{le_of_suc-le-suc}
@@ -11,24 +11,22 @@ use lib.Seq.{drop-cons}
 use Rattle.grids.specs.Rows.{flat, row_at}
 use Rattle.grids.proofs.Rows.{flat_at, length-flat}
 use Rattle.grids.proofs.Shapes.{each-length, each_at, get_or-map}
-use Rattle.pictures.specs.Limits.{most_pixels}
-use Rattle.pictures.specs.declared.sizes.Kind.{Kind}
 use Rattle.pictures.specs.Pictures.{row_bytes, picture_bytes, bytes, pixels}
 use Rattle.pictures.proofs.Buffers.{flats_grid, length-bytes}
 use Rattle.pictures.specs.Numbers.{largest_number, pairs}
 use Rattle.map_rules.specs.Spaces.{map_bytes}
 use Rattle.pictures.proofs.TwoBytes.{pairs-flat, grid-pairs}
 use Rattle.text_theory.specs.declared.Head.{Head}
-use Rattle.text_theory.specs.Decimal.{digits}
-use Rattle.text_theory.specs.Files.{parse, each, row_word, map_word, line_text, pixel_text, closed, All, Pixel}
+use Rattle.text_theory.specs.Files.{parse, each, closed, All, Pixel}
 use Rattle.text_read.specs.declared.cursor.Cursor.{Cursor}
 use Rattle.std.specs.Prelude as code
 use Rattle.text_read.specs.Answers.{read}
 use Rattle.text_read.specs.Lines.{row_line, map_line, Taken}
 use Rattle.text_read.proofs.Callers.{LineMet, rows_next, maps-next, taken_row, taken_map}
 use Rattle.file_theory.specs.Shows.{rows_in, maps_in}
-use Rattle.file_read.specs.Inner.Opening.{from_maps}
-use Rattle.file_read.proofs.Parsed.{Parsed}
+use Rattle.file_read.specs.Inner.Opening.{Open, maps_from, rows_from}
+use Rattle.file_read.specs.Inner.Lines.{MapRead}
+use Rattle.file_read.proofs.Parsed.{Parsed, opened}
 
 pub all_at : {A : Type 0} (P : A → Type 0) (xs : List A) (r : ℕ) (d : A) → All P xs → r < length xs → P (get_or xs r d)
 all_at P [] r d a h = absurd (omega arith)
@@ -42,39 +40,29 @@ module _ {text : List ℕ} {at : ℕ} {values rest out : List ℕ} {out' : List 
       let e : c.at ≡ m.place.at = ap (λ (r : ℕ × ℕ). r.1) (some-injective (n, c.at) (length values, m.place.at) (ap read m.answer)) in
       ap (λ i. drop i text) e ∙ m.left
 
-  pub met_broken : LineMet text at values rest out code.None out' → ⊥
-  met_broken m = none-ne-some _ (ap read m.answer)
-
   pub met_filled : (r : code.Option (ℕ × Cursor)) → length values ≡ length out → LineMet text at values rest out r out' → out' ≡ values
   met_filled r e m = m.space ∙ ap (values ++◌) (drop_of_length-le out {i = length values} (omega arith)) ∙ append-nil values
 
--- What stands at the place of row line r, and at that of map line r.
-abbrev pub RowsLeft : List ℕ → Kind → ℕ → ℕ → Type 0
-RowsLeft file k r at = drop at file ≡ each row_word (line_text (pixel_text k)) (drop r (rows_in (parse file))) ++ from_maps (parse file)
-
-abbrev pub MapsLeft : List ℕ → ℕ → ℕ → Type 0
-MapsLeft file r at = drop at file ≡ each map_word (line_text digits) (drop r (maps_in (parse file))) ++ closed
-
 module _ {file : List ℕ} {h : Head} (k : Parsed file h) where
   -- After the last row line stand the map lines.
-  pub rows_end : (r at : ℕ) → h.size.height ≤ r → RowsLeft file h.size.kind r at → drop at file ≡ from_maps (parse file)
+  pub rows_end : (at : ℕ) → drop at file ≡ rows_from h.size.kind (parse file) h.size.height → drop at file ≡ maps_from (parse file) 0
   unfolding each
-  rows_end r at l p = p ∙ rw (drop_of_length-le (rows_in (parse file)) {i = r} (omega (arith, each-length k.of_size)))
+  rows_end at p = p ∙ rw (drop_of_length-le (rows_in (parse file)) {i = h.size.height} (omega (arith, each-length k.of_size)))
 
   -- The line at a place, read into a space that it fits.
   module _ (r : ℕ) (inside : r < h.size.height) where
-    pub row-met : {at : ℕ} {out out' : List ℕ} (a : code.Option (ℕ × Cursor)) → RowsLeft file h.size.kind r at → row_bytes h.size ≡ length out → Taken (row_line h.size.kind) file at out (read a) out'
-        → LineMet file at (flat (get_or (rows_in (parse file)) r [])) (each row_word (line_text (pixel_text h.size.kind)) (drop (r + 1) (rows_in (parse file))) ++ from_maps (parse file)) out a out'
+    pub row-met : {at : ℕ} {out out' : List ℕ} (a : code.Option (ℕ × Cursor)) → drop at file ≡ rows_from h.size.kind (parse file) r → row_bytes h.size ≡ length out → Taken (row_line h.size.kind) file at out (read a) out'
+        → LineMet file at (flat (get_or (rows_in (parse file)) r [])) (rows_from h.size.kind (parse file) (r + 1)) out a out'
     row-met a p e t =
         let rows = rows_in (parse file) in
         let there : r < length (rows_in (parse file)) = omega (arith, each-length k.of_size) in
         taken_row h.size.kind (get_or rows r []) a t
-        (p ∙ rw (drop-cons rows r [] there, add-one r) (rows_next h.size.kind (get_or rows r []) (drop (suc r) rows) (from_maps (parse file))))
+        (p ∙ rw (drop-cons rows r [] there, add-one r) (rows_next h.size.kind (get_or rows r []) (drop (suc r) rows) (maps_from (parse file) 0)))
         (all_at (All (Pixel h.size.kind)) rows r [] k.within.rows there)
         (omega (arith, length-flat (each_at r [] inside k.of_size)))
 
-    pub map-met : {at : ℕ} {out out' : List ℕ} (a : code.Option (ℕ × Cursor)) → MapsLeft file r at → h.size.width ≡ length out → Taken map_line file at out (read a) out'
-        → LineMet file at (get_or (maps_in (parse file)) r []) (each map_word (line_text digits) (drop (r + 1) (maps_in (parse file))) ++ closed) out a out'
+    pub map-met : {at : ℕ} {out out' : List ℕ} (a : code.Option (ℕ × Cursor)) → drop at file ≡ maps_from (parse file) r → h.size.width ≡ length out → Taken map_line file at out (read a) out'
+        → LineMet file at (get_or (maps_in (parse file)) r []) (maps_from (parse file) (r + 1)) out a out'
     map-met a p e t =
         let maps = maps_in (parse file) in
         let there : r < length (maps_in (parse file)) = omega (arith, each-length k.maps_grid) in
@@ -98,9 +86,6 @@ module _ {file : List ℕ} {h : Head} (k : Parsed file h) where
         ∙ flat_at (grid-pairs k.maps_grid) r inside ∙ get_or-map pairs (maps_in (parse file)) r [] [] (omega (arith, each-length k.maps_grid))
 
   -- How many values they have.
-  pub pixels_most : pixels h.size ≤ most_pixels
-  pixels_most = k.sides.pixels_most
-
   pub bytes-long : length (bytes (rows_in (parse file))) ≡ picture_bytes h.size
   bytes-long = length-bytes h.size (rows_in (parse file)) k.of_size
 
@@ -109,3 +94,7 @@ module _ {file : List ℕ} {h : Head} (k : Parsed file h) where
 
   pub pairs-long : length (pairs (flat (maps_in (parse file)))) ≡ map_bytes h.size
   pairs-long = ap length (pairs-flat (maps_in (parse file))) ∙ length-flat (grid-pairs k.maps_grid)
+
+-- A map line that was read has as many numbers as the width says.
+pub map-wide : {file : List ℕ} {h : Head} → Open file h → (r : ℕ) → r < h.size.height → {at : ℕ} {got : List ℕ} → MapRead file r at got → length got ≡ h.size.width
+map-wide {file} {h} o r inside m = ap length m.numbers ∙ each_at r [] inside (opened file h o).maps_grid

@@ -10,9 +10,9 @@ use lib.Dec.{leb, ltb}
 use lib.ListN.{length, take, drop, replicate, drop_of_length-le}
 use lib.Seq.{take_at, drop_at, take-take, take-append-le, length-take-le}
 use Rattle.grids.specs.Rows.{rows_of, flat}
-use Rattle.grids.proofs.Rows.{length-flat}
 use Rattle.grids.proofs.Parts.{put_part, part_length}
-use Rattle.pictures.specs.declared.refusals.Verdict.{Verdict}
+use Rattle.std.specs.Prelude.{Result}
+use Rattle.pictures.specs.declared.refusals.Refusal.{Refusal}
 use Rattle.pictures.specs.Refusals.{given, refusal, worked}
 use Rattle.pictures.specs.Pictures.{picture_bytes, picture, bytes, pixels, picture_in}
 use Rattle.grids.proofs.Bools.{both}
@@ -21,7 +21,7 @@ use Rattle.pictures.proofs.Buffers.{picture_bytes_lem, length-bytes}
 use Rattle.map_theory.specs.Widths.{allowed}
 use Rattle.pictures.proofs.Limits.{bytes-few}
 use Rattle.pictures.specs.Numbers.{pairs, numbers_in}
-use Rattle.pictures.proofs.TwoBytes.{length_pairs, rows-pairs}
+use Rattle.pictures.proofs.TwoBytes.{rows-pairs}
 use Rattle.map_rules.specs.Spaces.{map_bytes, map_space_rules, recorded_at}
 use Rattle.map_rules.proofs.Rooms.{map_bytes_lem, room-served}
 use Rattle.map_check.specs.Checking.{recorded_in, recorded_rules, JudgeInGiven}
@@ -31,6 +31,7 @@ use Rattle.text_theory.specs.Files.{parse}
 use Rattle.file_theory.specs.Shows.{rows_in, maps_in}
 use Rattle.file_read.specs.Inner.Checking.{judged_in, MapJudged}
 use Rattle.file_read.proofs.Parsed.{Parsed}
+use Rattle.file_read.proofs.Places.{pairs-long}
 
 module _ (file : List ℕ) (h : Head) (k : Parsed file h) (work : List ℕ) (room : 32 * pixels h.size ≤ length work) where
   -- There is room for the recorded map, and for what stands before it.
@@ -48,7 +49,7 @@ module _ (file : List ℕ) (h : Head) (k : Parsed file h) (work : List ℕ) (roo
   -- The picture at the front, and the recorded map in its part of the space.
   module _ (first : List ℕ) (as_long : length first ≡ length work) (is : first ≡ bytes (rows_in (parse file)) ++ drop (picture_bytes h.size) work)
       (at e : ℕ) (starts : at ≡ recorded_at h.size) (ends : e ≡ at + map_bytes h.size)
-      (new : List ℕ) (kept : length new ≡ length (mid_of at (e - at) first)) (recorded : new ≡ pairs (flat (maps_in (parse file))) ++ drop (map_bytes h.size) (mid_of at (e - at) first)) where
+      (new : List ℕ) (kept : length new ≡ length (mid_of at (e - at) first)) (recorded : new ≡ pairs (flat (maps_in (parse file))) ++ drop (length (pairs (flat (maps_in (parse file))))) (mid_of at (e - at) first)) where
     abbrev whole : List ℕ
     whole = put_mid at (e - at) first new
 
@@ -63,13 +64,11 @@ module _ (file : List ℕ) (h : Head) (k : Parsed file h) (work : List ℕ) (roo
         let part = mid_of at (e - at) first in
         recorded
         ∙ ap (pairs (flat (maps_in (parse file))) ++◌)
-        (drop_of_length-le part {i = map_bytes h.size} (omega (arith, map_bytes_lem h.size, part_length at e first (omega (arith, judge_room)))))
+        (drop_of_length-le part {i = length (pairs (flat (maps_in (parse file))))} (omega (arith, pairs-long k, part_length at e first (omega (arith, judge_room)))))
         ∙ append-nil (pairs (flat (maps_in (parse file))))
 
     new-long : length new ≡ map_bytes h.size
-    new-long =
-        let long : length (flat (maps_in (parse file))) ≡ pixels h.size = length-flat k.maps_grid in
-        omega (arith, ap length new_is, length_pairs (flat (maps_in (parse file))), long, map_bytes_lem h.size)
+    new-long = ap length new_is ∙ pairs-long k
 
     picture_there : picture_in h.size whole ≡ rows_in (parse file)
     picture_there =
@@ -88,7 +87,7 @@ module _ (file : List ℕ) (h : Head) (k : Parsed file h) (work : List ℕ) (roo
         ∙ rows-pairs k.maps_grid
 
     -- So judging it there judges the map of the file.
-    pub map-judged : (v : Verdict) (work' : List ℕ) → JudgeInGiven whole h.size h.method h.depth v work' → MapJudged file work v work'
+    pub map-judged : (v : Result (Unit {0}) Refusal) (work' : List ℕ) → JudgeInGiven whole h.size h.method h.depth v work' → MapJudged file work v work'
     map-judged v work' g =
         let same : length whole ≡ length work = same_len_mid at (e - at) first new kept ∙ as_long in
         let number : given v ≡ refusal (recorded_rules h.size h.method h.depth (picture_in h.size whole) (recorded_in h.size whole)) =

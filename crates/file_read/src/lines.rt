@@ -1,61 +1,170 @@
-// The lines of a file that is opened, read into lent spaces.
-ghost use Rattle.std.specs.Prelude.{◌≡◌, ◌++◌, ◌*◌, ◌≤◌, length, drop};
-ghost use Rattle.grids.specs.Rows.{flat};
-ghost use Rattle.pictures.specs.Pictures.{pixels};
+// The lines of a file that is opened, read one after the other, each into its part of a space.
+ghost use Rattle.std.specs.Prelude.{◌≡◌, ◌++◌, ◌+◌, ◌*◌, ◌≤◌, ◌<◌, ℕ, List, length, drop};
+ghost use Rattle.grids.specs.Rows.{flat, row_at};
 ghost use Rattle.pictures.specs.Numbers.{pairs};
-ghost use Rattle.map_rules.specs.Spaces.{map_bytes};
+ghost use Rattle.pictures.specs.Pictures.{bytes, row_bytes, picture_bytes};
 ghost use Rattle.text_theory.specs.Files.{parse};
-ghost use Rattle.file_theory.specs.Shows.{maps_in};
-ghost use Rattle.file_read.specs.Inner.Lines.{RowsNeeded, RowsRead, MapsNeeded};
+ghost use Rattle.file_theory.specs.Shows.{rows_in, maps_in};
+ghost use Rattle.file_read.specs.Inner.Opening.{rows_from, maps_from};
+ghost use Rattle.file_read.specs.Inner.Lines.{AtMap, ReadsMap, PictureRead};
 
-use pictures::LARGEST_SIDE;
-use pictures::numbers::{high_byte, low_byte};
+use crate::opening::Opened;
+use pictures::{LARGEST_SIDE, channels};
 use text_read::Cursor;
-use text_theory::Head;
 
-// Reads the row lines into the front of the space, the picture of the file, and gives the place after them.
-pub(crate) fn read_rows(file: &[u8], head: Head, rows: Cursor, space: &mut [u8]) -> Cursor
-    requires { RowsNeeded file.now head rows.at (length space.old) }
-    ensures { RowsRead file.now head space.old result.at space.new }
-{
-    let size = head.size;
-    let height = size.height;
-    let kind = size.kind;
-    let stride = size.width * pictures::channels(kind);
-    let mut at = rows;
-    let mut r: usize = 0;
-    while r < height {
-        let a = r * stride;
-        let e = a + stride;
-        let Some((_, next)) = at.row(file, kind, &mut space[a..e]) else {
-            // unreachable: the line has its form
-            return at;
-        };
-        at = next;
-        r += 1;
-    }
-    at
+// Lines that follow one another, one for each row of the picture. Line r fills part r of a space.
+pub(crate) trait Lines<T> {
+    // The text, and what stands in it from line r on.
+    ghost text: { Self → List ℕ };
+
+    ghost from: { Self → ℕ → List ℕ };
+
+    // How many lines there are, how long a part is, and all parts one after the other.
+    ghost count: { Self → ℕ };
+
+    ghost long: { Self → ℕ };
+
+    ghost whole: { Self → List T };
+
+    fn count(&self) -> usize
+        ensures { result ≡ count self.now };
+
+    fn long(&self) -> usize
+        ensures { result ≡ long self.now };
+
+    // Reads line r at its place, fills its part, and gives the place after it.
+    fn part(&self, r: usize, at: Cursor, part: &mut [T]) -> Cursor
+        requires there { drop at.at (text self.now) ≡ from self.now r }
+        requires inside { r < count self.now }
+        requires fits { length part.old ≡ long self.now }
+        ensures next { drop result.at (text self.now) ≡ from self.now (r + 1) }
+        ensures filled { part.new ≡ row_at (long self.now) r (whole self.now) };
 }
 
-// Reads the map lines into the front of the space, the map of the file.
-pub(crate) fn read_maps(file: &[u8], head: Head, maps: Cursor, space: &mut [u16])
-    requires { MapsNeeded file.now head maps.at 1 (length space.old) }
-    ensures { space.new ≡ flat (maps_in (parse file.now)) ++ drop (pixels head.size) space.old }
+// Reads the lines from the first one on into the front of a space, and gives the place after them. Each part is lent by its place,
+// as the promise of its line says it: chunks would be counted beside it, and no plainer.
+pub(crate) fn fill<T, L: Lines<T>>(lines: &L, first: Cursor, space: &mut [T]) -> Cursor
+    requires there { drop first.at (L.text lines.now) ≡ L.from lines.now 0 }
+    requires size { length (L.whole lines.now) ≡ L.count lines.now * L.long lines.now }
+    requires room { length (L.whole lines.now) ≤ length space.old }
+    ensures next { drop result.at (L.text lines.now) ≡ L.from lines.now (L.count lines.now) }
+    ensures filled { space.new ≡ L.whole lines.now ++ drop (length (L.whole lines.now)) space.old }
 {
-    let size = head.size;
-    let height = size.height;
-    let width = size.width;
-    let mut at = maps;
-    let mut r: usize = 0;
-    while r < height {
-        let a = r * width;
-        let e = a + width;
-        let Some((_, next)) = at.map(file, &mut space[a..e]) else {
-            // unreachable: the line has its form
-            return;
-        };
-        at = next;
-        r += 1;
+    let long = lines.long();
+    let mut here = first;
+    for r in 0..lines.count() {
+        let a = r * long;
+        here = lines.part(r, here, &mut space[a..a + long]);
+    }
+    here
+}
+
+impl<'a> Opened<'a> {
+    // Reads all row lines into the front of a space, and gives the place of the first map line.
+    pub(crate) fn read_picture(&self, space: &mut [u8]) -> Cursor
+        requires { picture_bytes self.now.head.size ≤ length space.old }
+        ensures { PictureRead self.now.text.now self.now.head space.old result.at space.new }
+    {
+        fill(&RowLines(*self), self.rows, space)
+    }
+
+    // Reads the map line at a place into a space of just its numbers, and gives the place after it.
+    pub(crate) fn map_line(&self, at: Cursor, out: &mut [u16]) -> Cursor
+        requires there { AtMap self.now.text.now self.now.head at.at }
+        requires fits { length out.old ≡ self.now.head.size.width }
+        ensures { ReadsMap self.now.text.now self.now.head at.at result.at out.new }
+    {
+        let (_, next) = at.map(self.text, out).unwrap();
+        next
+    }
+}
+
+// The row lines: the samples of the picture.
+#[derive(Clone, Copy)]
+struct RowLines<'a>(Opened<'a>);
+
+impl<'a> Lines<u8> for RowLines<'a> {
+    ghost text = { λ s. s.0.text.now };
+
+    ghost from = { λ s r. rows_from s.0.head.size.kind (parse s.0.text.now) r };
+
+    ghost count = { λ s. s.0.head.size.height };
+
+    ghost long = { λ s. row_bytes s.0.head.size };
+
+    ghost whole = { λ s. bytes (rows_in (parse s.0.text.now)) };
+
+    fn count(&self) -> usize {
+        self.0.head.size.height
+    }
+
+    fn long(&self) -> usize {
+        self.0.head.size.width * channels(self.0.head.size.kind)
+    }
+
+    fn part(&self, _r: usize, at: Cursor, part: &mut [u8]) -> Cursor {
+        let (_, next) = at.row(self.0.text, self.0.head.size.kind, part).unwrap();
+        next
+    }
+}
+
+// The map lines: the numbers of the map.
+#[derive(Clone, Copy)]
+pub(crate) struct MapLines<'a>(pub(crate) Opened<'a>);
+
+impl<'a> Lines<u16> for MapLines<'a> {
+    ghost text = { λ s. s.0.text.now };
+
+    ghost from = { λ s r. maps_from (parse s.0.text.now) r };
+
+    ghost count = { λ s. s.0.head.size.height };
+
+    ghost long = { λ s. s.0.head.size.width };
+
+    ghost whole = { λ s. flat (maps_in (parse s.0.text.now)) };
+
+    fn count(&self) -> usize {
+        self.0.head.size.height
+    }
+
+    fn long(&self) -> usize {
+        self.0.head.size.width
+    }
+
+    fn part(&self, _r: usize, at: Cursor, part: &mut [u16]) -> Cursor {
+        self.0.map_line(at, part)
+    }
+}
+
+// The map lines again, each number as two bytes: the recorded map.
+#[derive(Clone, Copy)]
+pub(crate) struct RecordLines<'a>(pub(crate) Opened<'a>);
+
+impl<'a> Lines<u8> for RecordLines<'a> {
+    ghost text = { λ s. s.0.text.now };
+
+    ghost from = { λ s r. maps_from (parse s.0.text.now) r };
+
+    ghost count = { λ s. s.0.head.size.height };
+
+    ghost long = { λ s. 2 * s.0.head.size.width };
+
+    ghost whole = { λ s. pairs (flat (maps_in (parse s.0.text.now))) };
+
+    fn count(&self) -> usize {
+        self.0.head.size.height
+    }
+
+    fn long(&self) -> usize {
+        2 * self.0.head.size.width
+    }
+
+    fn part(&self, _r: usize, at: Cursor, part: &mut [u8]) -> Cursor {
+        let width = self.0.head.size.width;
+        let mut numbers = [0u16; LARGEST_SIDE];
+        let next = self.0.map_line(at, &mut numbers[..width]);
+        record_row(part, &numbers[..width]);
+        next
     }
 }
 
@@ -64,35 +173,7 @@ fn record_row(space: &mut [u8], row: &[u16])
     requires { length space.old ≡ 2 * length row.now }
     ensures { space.new ≡ pairs row.now }
 {
-    let mut c: usize = 0;
-    while c < row.len() {
-        let n = row[c];
-        space[2 * c] = low_byte(n);
-        space[2 * c + 1] = high_byte(n);
-        c += 1;
-    }
-}
-
-// Reads the map lines into the space, two bytes a number: the recorded map.
-pub(crate) fn record_maps(file: &[u8], head: Head, maps: Cursor, space: &mut [u8])
-    requires { MapsNeeded file.now head maps.at 2 (length space.old) }
-    ensures { space.new ≡ pairs (flat (maps_in (parse file.now))) ++ drop (map_bytes head.size) space.old }
-{
-    let size = head.size;
-    let height = size.height;
-    let width = size.width;
-    let mut numbers = [0u16; LARGEST_SIDE];
-    let mut at = maps;
-    let mut r: usize = 0;
-    while r < height {
-        let Some((_, next)) = at.map(file, &mut numbers[..width]) else {
-            // unreachable: the line has its form
-            return;
-        };
-        let a = r * (2 * width);
-        let e = a + 2 * width;
-        record_row(&mut space[a..e], &numbers[..width]);
-        at = next;
-        r += 1;
+    for (c, n) in row.iter().enumerate() {
+        space[2 * c..2 * c + 2].copy_from_slice(&n.to_le_bytes());
     }
 }

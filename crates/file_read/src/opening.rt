@@ -1,44 +1,42 @@
-// A file opened: its form, its counts and its range judged, and the place of its row lines.
-ghost use Rattle.std.specs.Prelude.{◌≡◌, drop};
+// A file opened: its form, its counts and its range judged.
+ghost use Rattle.std.specs.Prelude.{◌≡◌, IfOk, drop};
+ghost use Rattle.pictures.specs.Refusals.{given, refusal};
 ghost use Rattle.text_theory.specs.Files.{parse};
-ghost use Rattle.file_read.specs.Inner.Opening.{OpenGiven, Open, from_rows};
+ghost use Rattle.file_theory.specs.Rules.{part_rules, form_rules};
+ghost use Rattle.file_read.specs.Inner.Opening.{Open, rows_from};
 
-use file_rules::Checked;
-use pictures::{Refusal, Verdict};
+use pictures::{Refusal, judge_sides};
 use text_read::Cursor;
-use text_scan::Facts;
 use text_theory::Head;
 
-// Which of 1 to 6 refuses a file; else its size and range.
-pub(crate) fn open(file: &[u8]) -> Checked
-    ensures { OpenGiven file.now result }
-{
-    let Some(facts) = text_scan::scan(file) else {
-        return Checked::Refused(Refusal::Form);
-    };
-    let head = facts.head;
-    let size = head.size;
-    if let Verdict::Refused(why) = pictures::judge_sides(size) {
-        return Checked::Refused(why);
-    }
-    if !file_rules::counts_agree(size.height, facts.rows, facts.maps, facts.full) {
-        return Checked::Refused(Refusal::Count);
-    }
-    if !map_rules::is_allowed(size.width, head.depth, head.growth) {
-        return Checked::Refused(Refusal::Range);
-    }
-    Checked::Accepted(head)
+// A file that 1 to 6 don't refuse: its text, its size and range, and the place of its first row line.
+#[derive(Clone, Copy)]
+pub(crate) struct Opened<'a> {
+    pub(crate) text: &'a [u8],
+    pub(crate) head: Head,
+    pub(crate) rows: Cursor,
+    ghost open: { Open text.now head },
+    ghost place: { drop rows.at text.now ≡ rows_from head.size.kind (parse text.now) 0 },
 }
 
-// The place of the first row line.
-pub(crate) fn first_row(file: &[u8], head: Head) -> Cursor
-    requires { Open file.now head }
-    ensures { drop result.at file.now ≡ from_rows (parse file.now) }
-{
-    let start = Cursor { at: 0 };
-    let Some((_, c)) = start.header(file) else {
-        // unreachable: the text has its form
-        return start;
-    };
-    c
+impl<'a> Opened<'a> {
+    // The file of a text, or which of 1 to 6 refuses it.
+    pub(crate) fn new(text: &'a [u8]) -> Result<Opened<'a>, Refusal>
+        ensures number { given result ≡ refusal (form_rules part_rules (parse text.now)) }
+        ensures same { IfOk result (λ file. file.text.now ≡ text.now) }
+    {
+        let facts = text_scan::scan(text).ok_or(Refusal::Form)?;
+        let head = facts.head;
+        let size = head.size;
+        judge_sides(size)?;
+        if !file_rules::counts_agree(size.height, facts.rows, facts.maps, facts.full) {
+            return Err(Refusal::Count);
+        }
+        if !map_rules::is_allowed(size.width, head.depth, head.growth) {
+            return Err(Refusal::Range);
+        }
+        let start = Cursor { at: 0 };
+        let (_, rows) = start.header(text).unwrap();
+        Ok(Opened { text, head, rows })
+    }
 }

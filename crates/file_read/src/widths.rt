@@ -1,79 +1,84 @@
 // A file shown at a width.
-ghost use Rattle.std.specs.Prelude.{◌≡◌, length};
+ghost use Rattle.std.specs.Prelude.{◌*◌, ℕ, length};
+ghost use Rattle.pictures.specs.Pictures.{channels_of};
+ghost use Rattle.text_theory.specs.Files.{parse};
+ghost use Rattle.file_theory.specs.Shows.{shows, drawn_bytes};
 ghost use Rattle.file_read.specs.Reading.{ShowGiven};
-ghost use Rattle.file_read.specs.Inner.Widths.{DrawNeeded, DrawGiven, drawn_in, LinesNeeded};
+ghost use Rattle.file_read.specs.Inner.Opening.{maps_from};
+ghost use Rattle.file_read.specs.Inner.Widths.{DrawNeeded, DrawGiven, Showing};
 
-use crate::{checking, lines, opening};
-use file_rules::{Checked, Shown};
-use pictures::{LARGEST_SIDE, Size, Verdict};
+use crate::lines;
+use crate::lines::Lines;
+use crate::opening::Opened;
+use pictures::{LARGEST_SIDE, Refusal, Size, channels};
 use text_read::Cursor;
-use text_theory::Head;
 
 // The picture that a file shows at the wanted width, put into the front of out, and its size. Refused by what checking
 // refuses, by 7 where the width isn't offered, and by 8 where out is shorter than the picture.
-pub fn show(file: &[u8], wanted: usize, out: &mut [u8], work: &mut [u8]) -> Shown
+pub fn show(file: &[u8], wanted: usize, out: &mut [u8], work: &mut [u8]) -> Result<Size, Refusal>
     ensures { ShowGiven file.now wanted out.old work.old result out.new work.new }
 {
-    let head = match opening::open(file) {
-        Checked::Accepted(head) => head,
-        Checked::Refused(why) => return Shown::Refused(why),
-    };
-    if let Verdict::Refused(why) = file_rules::judge_wanted(head, wanted, out.len(), work.len()) {
-        return Shown::Refused(why);
-    }
-    if let Verdict::Refused(why) = checking::judge(file, head, work) {
-        return Shown::Refused(why);
-    }
-    draw(file, head, wanted, out, work);
-    let size = head.size;
-    let kind = size.kind;
-    Shown::Size(Size {
+    let opened = Opened::new(file)?;
+    file_rules::judge_wanted(opened.head, wanted, out.len(), work.len())?;
+    opened.judge(work)?;
+    draw(opened, wanted, out, work);
+    Ok(Size {
         width: wanted,
-        height: size.height,
-        kind,
+        ..opened.head.size
     })
 }
 
 // Puts what an accepted file shows into the front of out. The picture stands in the work space meanwhile.
-fn draw(file: &[u8], head: Head, wanted: usize, out: &mut [u8], work: &mut [u8])
-    requires { DrawNeeded file.now head wanted (length out.old) (length work.old) }
-    ensures { DrawGiven file.now wanted out.old work.old out.new work.new }
+fn draw(file: Opened, wanted: usize, out: &mut [u8], work: &mut [u8])
+    requires { DrawNeeded file.text.now file.head wanted (length out.old) (length work.old) }
+    ensures { DrawGiven file.entry.text.now wanted out.old work.old out.new work.new }
 {
-    let rows = opening::first_row(file, head);
-    let maps = lines::read_rows(file, head, rows, work);
-    draw_rows(file, head, maps, wanted, work, out);
-    pictures::clear(work);
+    let maps = file.read_picture(work);
+    let shown = ShownLines {
+        file,
+        space: work,
+        wanted,
+    };
+    lines::fill(&shown, maps, out);
+    work.fill(0);
 }
 
-// The same, the picture standing at the front of a space.
-fn draw_rows(file: &[u8], head: Head, maps: Cursor, wanted: usize, space: &[u8], out: &mut [u8])
-    requires { LinesNeeded file.now head maps.at wanted space.now (length out.old) }
-    ensures { out.new ≡ drawn_in file.now wanted out.old }
-{
-    let size = head.size;
-    let width = size.width;
-    let height = size.height;
-    let kind = size.kind;
-    let stride = width * pictures::channels(kind);
-    let shown = wanted * pictures::channels(kind);
-    let mut numbers = [0u16; LARGEST_SIDE];
-    let mut at = maps;
-    let mut r: usize = 0;
-    while r < height {
-        let Some((_, next)) = at.map(file, &mut numbers[..width]) else {
-            // unreachable: the line has its form
-            return;
-        };
+// The map lines, each with its row of the picture at the front of a space: the row shown at a width that the file offers.
+#[derive(Clone, Copy)]
+struct ShownLines<'a> {
+    file: Opened<'a>,
+    space: &'a [u8],
+    wanted: usize,
+    ghost shown: { Showing file.text.now file.head wanted space.now },
+}
+
+impl<'a> Lines<u8> for ShownLines<'a> {
+    ghost text = { λ s. s.file.text.now };
+
+    ghost from = { λ s r. maps_from (parse s.file.text.now) r };
+
+    ghost count = { λ s. s.file.head.size.height };
+
+    ghost long = { λ s. s.wanted * channels_of s.file.head.size.kind };
+
+    ghost whole = { λ s. drawn_bytes (shows s.file.text.now s.wanted) };
+
+    fn count(&self) -> usize {
+        self.file.head.size.height
+    }
+
+    fn long(&self) -> usize {
+        self.wanted * channels(self.file.head.size.kind)
+    }
+
+    fn part(&self, r: usize, at: Cursor, part: &mut [u8]) -> Cursor {
+        let size = self.file.head.size;
+        let mut numbers = [0u16; LARGEST_SIDE];
+        let next = self.file.map_line(at, &mut numbers[..size.width]);
+        let stride = size.width * channels(size.kind);
         let a = r * stride;
-        let b = r * shown;
-        map_show::row_at(
-            kind,
-            &space[a..a + stride],
-            &numbers[..width],
-            wanted,
-            &mut out[b..b + shown],
-        );
-        at = next;
-        r += 1;
+        let row = &self.space[a..a + stride];
+        let _ = map_show::row_at(size.kind, row, &numbers[..size.width], self.wanted, part);
+        next
     }
 }

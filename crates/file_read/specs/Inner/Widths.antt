@@ -1,17 +1,16 @@
 -- It is shown at a width. What private functions ask and promise; no public promise cites it.
-use Rattle.std.specs.Prelude.{◌≡◌, List, ◌++◌, ℕ, length, take, drop, replicate}
+use Rattle.std.specs.Prelude.{◌≡◌, ◌≤◌, true, List, ◌++◌, ℕ, length, take, drop, replicate}
 use Rattle.pictures.specs.Refusals.{refusal}
 use Rattle.pictures.specs.Pictures.{picture_bytes, bytes}
+use Rattle.map_theory.specs.Widths.{offered}
 use Rattle.text_theory.specs.declared.Head.{Head}
 use Rattle.text_theory.specs.Files.{parse}
 use Rattle.file_theory.specs.Shows.{rows_in, shows, drawn_bytes}
 use Rattle.file_rules.specs.Spaces.{offer_rules}
-use Rattle.file_read.specs.Inner.Opening.{from_maps, Open}
 use Rattle.file_read.specs.Inner.Checking.{judged_in}
 
--- A file that is accepted, a width that it offers, and room for what is shown.
+-- An accepted file, a width that it offers, and room for what is shown.
 pub record DrawNeeded (file : List ℕ) (h : Head) (v out work : ℕ) : Type 0 where
-  pub opened : Open file h
   pub accepted : refusal (judged_in (parse file)) ≡ 0
   pub room : refusal (offer_rules h v out work) ≡ 0
 
@@ -24,8 +23,9 @@ pub record DrawGiven (file : List ℕ) (v : ℕ) (out work out' work' : List ℕ
   pub out_given : out' ≡ drawn_in file v out
   pub work_left : work' ≡ replicate (length work) 0
 
--- The same from the first map line on, the picture standing at the front of a space.
-pub record LinesNeeded (file : List ℕ) (h : Head) (at v : ℕ) (space : List ℕ) (out : ℕ) : Type 0 where
-  pub drawn : DrawNeeded file h v out (length space)
-  pub place : drop at file ≡ from_maps (parse file)
+-- An accepted file whose picture stands at the front of a space, and a width that it offers.
+pub record Showing (file : List ℕ) (h : Head) (v : ℕ) (space : List ℕ) : Type 0 where
+  pub accepted : refusal (judged_in (parse file)) ≡ 0
+  pub offers : offered h.size.width h.depth h.growth v ≡ true
   pub picture_is : take (picture_bytes h.size) space ≡ bytes (rows_in (parse file))
+  pub inside : picture_bytes h.size ≤ length space
