@@ -1,11 +1,13 @@
 -- Laws of the least of sums, over plain numbers: the proofs of the functions of 32 and of 64 bits cite them.
 use mathlib.Core.Path.{◌≡◌, refl, sym, ◌∙◌}
+use mathlib.Core.Logic.{⊎_elim}
+use Rattle.grids.proofs.Orders.{le-or-lt}
 use Prim.Native.Nat.{ℕ, zero, suc, ◌+◌, ◌-◌, ◌≤◌, ◌<◌, min}
 use mathlib.Core.Bool.{Bool, true, false, cond}
 use mathlib.Core.List.{List}
 use native.Mathlib.Omega.{arith}
 use lib.Dec.{ltb}
-use lib.ListN.{length, get_or}
+use lib.ListN.{get_or}
 use borrow.Author.Tests.{lt-ltb, le-ltb, le-leb, lt-leb}
 use Rattle.seam_theory.specs.Sums.{first_of3, least_to}
 
@@ -34,41 +36,46 @@ least_inside s (suc n) = go (ltb (get_or s (suc n) 0) (get_or s (least_to s n) 0
     go false h = omega arith
 
 -- What holds before column k is looked at: `best` is the first of the least before it.
-pub record SoFar (s : List ℕ) (end k best : ℕ) : Type 0 where
-  pub some : 0 < k
-  pub all : end ≡ length s
-  pub most : k ≤ suc (end - 1)
+pub record SoFar (s : List ℕ) (k best : ℕ) : Type 0 where
   pub is : best ≡ least_to s (k - 1)
-  pub before : best < k
+  pub before : best ≤ k - 1
 
 module _ (s : List ℕ) where
-  pub so_far_start : SoFar s (length s) 1 0
+  pub so_far_start : SoFar s 0 0
   unfolding least_to
-  so_far_start = record { some = omega arith; all = refl; most = omega arith; is = refl; before = omega arith }
+  so_far_start = record { is = refl; before = omega arith }
 
   -- One column more: it is less than the least so far, or it isn't.
-  module _ (end k best : ℕ) (inside : k < end) (so : SoFar s end k best) where
-    next : k + 1 - 1 ≡ suc (k - 1)
-    next = omega arith
+  module _ (k best : ℕ) (so : SoFar s k best) where
+    next : 0 < k → k + 1 - 1 ≡ suc (k - 1)
+    next some = omega arith
 
-    here : suc (k - 1) ≡ k
-    here = omega (arith, so.some)
+    here : 0 < k → suc (k - 1) ≡ k
+    here some = omega arith
 
-    pub least-moves : (best' : ℕ) → best' ≡ k → get_or s k 0 < get_or s best 0 → SoFar s end (k + 1) best'
+    pub least-moves : get_or s k 0 < get_or s best 0 → SoFar s (k + 1) k
     unfolding least_to
-    least-moves best' e l =
-        let m : get_or s (suc (k - 1)) 0 < get_or s (least_to s (k - 1)) 0 = rw (here, ← so.is) l in
-        let f : least_to s (k + 1 - 1) ≡ k = rw (next, lt-ltb (get_or s (suc (k - 1)) 0) (get_or s (least_to s (k - 1)) 0) m) here in
-        record { some = omega arith; all = so.all; most = omega arith; is = e ∙ sym f; before = omega arith }
+    least-moves l = ⊎_elim first later (le-or-lt k 0)
+      where
+        later : 0 < k → SoFar s (k + 1) k
+        later some =
+            let m : get_or s (suc (k - 1)) 0 < get_or s (least_to s (k - 1)) 0 = rw (here some, ← so.is) l in
+            let f : least_to s (k + 1 - 1) ≡ k = rw (next some, lt-ltb (get_or s (suc (k - 1)) 0) (get_or s (least_to s (k - 1)) 0) m) (here some) in
+            record { is = sym f; before = omega arith }
 
-    pub least_stays : (best' : ℕ) → best' ≡ best → get_or s best 0 ≤ get_or s k 0 → SoFar s end (k + 1) best'
+        -- column 0 isn't less than itself
+        first : k ≤ 0 → SoFar s (k + 1) k
+        first none = let e : best ≡ k = omega (arith, so.before) in absurd (let h : get_or s k 0 < get_or s k 0 = rw e at l in omega arith)
+
+    pub least_stays : get_or s best 0 ≤ get_or s k 0 → SoFar s (k + 1) best
     unfolding least_to
-    least_stays best' e l =
-        let m : get_or s (least_to s (k - 1)) 0 ≤ get_or s (suc (k - 1)) 0 = rw (here, ← so.is) l in
-        let f : least_to s (k + 1 - 1) ≡ least_to s (k - 1) = rw (next, le-ltb (get_or s (suc (k - 1)) 0) (get_or s (least_to s (k - 1)) 0) m) in
-        record { some = omega arith; all = so.all; most = omega arith; is = e ∙ so.is ∙ sym f; before = omega (arith, so.before) }
+    least_stays l = ⊎_elim first later (le-or-lt k 0)
+      where
+        later : 0 < k → SoFar s (k + 1) best
+        later some =
+            let m : get_or s (least_to s (k - 1)) 0 ≤ get_or s (suc (k - 1)) 0 = rw (here some, ← so.is) l in
+            let f : least_to s (k + 1 - 1) ≡ least_to s (k - 1) = rw (next some, le-ltb (get_or s (suc (k - 1)) 0) (get_or s (least_to s (k - 1)) 0) m) in
+            record { is = so.is ∙ sym f; before = omega (arith, so.before) }
 
-  pub least-end : (end k best : ℕ) → end ≤ k → SoFar s end k best → best ≡ least_to s (length s - 1)
-  least-end end k best h so =
-      let e : k - 1 ≡ length s - 1 = omega (arith, so.some, so.most, so.all) in
-      rw e at so.is
+        first : k ≤ 0 → SoFar s (k + 1) best
+        first none = let e : k + 1 - 1 ≡ k - 1 = omega arith in record { is = rw e so.is; before = omega (arith, so.before) }

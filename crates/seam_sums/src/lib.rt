@@ -2,8 +2,10 @@
 // least sum of a row stands, what a pixel weighs by its mark, and what the least weight means.
 #![tactic(auto)]
 
-pub mod least32;
-pub mod least64;
+pub mod least;
+pub mod numbers;
 pub mod weights;
 
+pub use least::{first_least, way};
+pub use numbers::Number;
 pub use weights::{found_by, weight};

@@ -14,12 +14,11 @@ pub const PROTECTED: u64 = 281474976710656;
 pub fn weight(energy: u32, mark: u8) -> u64
     ensures { result ≡ weight_of energy mark }
 {
-    if mark == 1 {
-        energy as u64 + (KEPT + PROTECTED)
-    } else if mark == 2 {
-        energy as u64
-    } else {
-        energy as u64 + KEPT
+    let energy = energy as u64;
+    match mark {
+        1 => energy + (KEPT + PROTECTED),
+        2 => energy,
+        _ => energy + KEPT,
     }
 }
 
