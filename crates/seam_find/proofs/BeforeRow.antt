@@ -7,8 +7,6 @@ use native.Mathlib.Omega.{arith}
 use lib.ListN.{length, get_or, take, drop}
 use lib.Seq.{take_at}
 use Rattle.pictures.specs.declared.sizes.Size.{Size}
-use Rattle.pictures.specs.Pictures.{picture_bytes}
-use Rattle.pictures.proofs.Limits.{sized_is}
 use Rattle.seam_theory.specs.Sums.{CostRows, fenced, sums_down}
 use Rattle.seam_theory.proofs.Bounded.{length-sums}
 use Rattle.seam_find.specs.Inner.Down.{DownNeeded, DownGiven, RowNeeded, RowGiven}
@@ -16,30 +14,28 @@ use Rattle.seam_find.proofs.Downs.{Downs, above-long, down-start, down_turn, dow
 
 -- The loop over the rows. Before row i, which is not the first, the ways and the sums are those of the rows above it, and the
 -- rows that are lent are as long as they were.
-pub record BeforeRow (fence from : ℕ) (z : Size) (costsIn : List ℕ → ℕ → CostRows) (start above₀ cost₀ next₀ : List ℕ) (i : ℕ)
-    (space above cost next : List ℕ) : Type 0 where
+pub record BeforeRow (fence from : ℕ) (z : Size) (costsIn : List ℕ → ℕ → CostRows) (start : List ℕ) (cost₀ next₀ i : ℕ)
+    (space above : List ℕ) (cost next : ℕ) : Type 0 where
   pub some : 0 < i
   pub within : i ≤ z.height
   pub downs : Downs fence from z costsIn start i space above
-  pub above_kept : length above ≡ length above₀
-  pub cost_kept : length cost ≡ length cost₀
-  pub next_kept : length next ≡ length next₀
+  pub cost_kept : cost ≡ cost₀
+  pub next_kept : next ≡ next₀
 
-module _ {fence from : ℕ} {z : Size} {costsIn : List ℕ → ℕ → CostRows} {bytes : ℕ} {start above₀ cost₀ next₀ : List ℕ}
-    (needed : DownNeeded fence from z costsIn bytes start above₀ cost₀ next₀)
+module _ {fence from : ℕ} {z : Size} {costsIn : List ℕ → ℕ → CostRows} {start above₀ : List ℕ} {cost₀ next₀ : ℕ}
+    (needed : DownNeeded fence from z costsIn start above₀ cost₀ next₀) (some : 0 < z.height)
     (length-costs : (i : ℕ) → length (costsIn (take from start) i).up ≡ z.width) where
-  pub before-first : BeforeRow fence from z costsIn start above₀ cost₀ next₀ 1 start above₀ cost₀ next₀
+  pub before-first : BeforeRow fence from z costsIn start cost₀ next₀ 1 start above₀ cost₀ next₀
   before-first = record {
     some = omega arith;
-    within = (sized_is z (picture_bytes z) needed.sized).height_some;
+    within = some;
     downs = down-start fence from z costsIn start length-costs needed.room above₀ needed.first;
-    above_kept = refl;
     cost_kept = refl;
     next_kept = refl;
   }
 
-  module _ {i : ℕ} {space above cost next : List ℕ}
-      (holds : BeforeRow fence from z costsIn start above₀ cost₀ next₀ i space above cost next) where
+  module _ {i : ℕ} {space above : List ℕ} {cost next : ℕ}
+      (holds : BeforeRow fence from z costsIn start cost₀ next₀ i space above cost next) where
     abbrev sums : List ℕ
     sums = sums_down false fence z.width (costsIn (take from start)) (i - 1)
 
@@ -52,10 +48,8 @@ module _ {fence from : ℕ} {z : Size} {costsIn : List ℕ → ℕ → CostRows}
 
     -- What row i takes.
     pub before-needed : i < z.height → ((k : ℕ) → k < z.width → get_or above (k + 1) 0 < fence)
-        → RowNeeded fence from z bytes i space above cost next
+        → RowNeeded fence from z i space above cost next
     before-needed inside small = record {
-      bytes_are = needed.bytes_are;
-      sized = needed.sized;
       later = holds.some;
       inside = inside;
       room = rw holds.downs.long needed.room;
@@ -67,16 +61,15 @@ module _ {fence from : ℕ} {z : Size} {costsIn : List ℕ → ℕ → CostRows}
     }
 
     -- What it leaves holds before the row after it.
-    pub before-next : {space' above' cost' next' : List ℕ} → i < z.height → RowGiven fence from z costsIn i space above space' above'
-        → length above' ≡ length above → length cost' ≡ length cost → length next' ≡ length next
-        → BeforeRow fence from z costsIn start above₀ cost₀ next₀ (i + 1) space' above' cost' next'
-    before-next {space' = space'} {above' = above'} inside given a c n = record {
+    pub before-next : {space' above' : List ℕ} {cost' next' : ℕ} → i < z.height → RowGiven fence from z costsIn i space above space' above'
+        → cost' ≡ cost → next' ≡ next
+        → BeforeRow fence from z costsIn start cost₀ next₀ (i + 1) space' above' cost' next'
+    before-next {space' = space'} {above' = above'} inside given c n = record {
       some = omega arith;
       within = omega (arith, inside);
       downs =
           down_turn fence from z costsIn start length-costs needed.room i space above space' above'
           holds.some inside holds.downs given;
-      above_kept = a ∙ holds.above_kept;
       cost_kept = c ∙ holds.cost_kept;
       next_kept = n ∙ holds.next_kept;
     }

@@ -17,7 +17,7 @@ use Rattle.energy.specs.Bounds.{most_energy}
 use Rattle.energy.specs.Energy.{costs_at, energy}
 use Rattle.pictures.proofs.Limits.{Sized}
 use Rattle.energy.proofs.Most.{CostsMost, costs-within, buffer_costs-most}
-use Rattle.seam_find.specs.Inner.Down.{costs_of}
+use Rattle.seam_find.specs.Costing.{plain_costs}
 
 -- A byte of a part at the front is a byte.
 pub front-most : (b : List ℕ) (n m : ℕ) → ((i : ℕ) → get_or b i 0 ≤ m) → (i : ℕ) → get_or (take n b) i 0 ≤ m
@@ -46,8 +46,8 @@ table-most f n m h k =
     (le-or-lt n k)
 
 -- The costs of a row, of coming from straight above.
-pub cost_most : (z : Size) (how : Method) (b : List ℕ) → Sized z (length b) → ((i : ℕ) → get_or b i 0 ≤ 255) → (i k : ℕ) → get_or (costs_of z how b i).up k 0 ≤ most_energy
+pub cost_most : (z : Size) (how : Method) (b : List ℕ) → Sized z (length b) → ((i : ℕ) → get_or b i 0 ≤ 255) → (i k : ℕ) → get_or (plain_costs z how b i).up k 0 ≤ most_energy
 cost_most z how b s h i = table-most (energy how z.width z.height (picture z b) i) z.width most_energy (λ c. (pixel-most z how b s h i c).up)
 
-pub costs-long : (z : Size) (how : Method) (b : List ℕ) (i : ℕ) → length (costs_of z how b i).up ≡ z.width
+pub costs-long : (z : Size) (how : Method) (b : List ℕ) (i : ℕ) → length (plain_costs z how b i).up ≡ z.width
 costs-long z how b i = length-table _ z.width

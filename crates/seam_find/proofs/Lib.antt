@@ -1,3 +1,4 @@
+pub mod Plain
 pub mod Loops
 pub mod Costs
 pub mod Downs
@@ -8,3 +9,6 @@ pub mod Traced
 pub mod Spaces
 pub mod Worked
 pub mod Smallest
+pub mod Priced
+pub mod Found
+pub mod ByEnergies

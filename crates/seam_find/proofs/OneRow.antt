@@ -14,8 +14,7 @@ use Rattle.grids.proofs.Rows.{part_end}
 use Rattle.grids.proofs.Parts.{put_part, part_length}
 use Rattle.pictures.specs.Limits.{most_side, most_pixels}
 use Rattle.pictures.specs.declared.sizes.Size.{Size}
-use Rattle.pictures.specs.Pictures.{picture_bytes}
-use Rattle.pictures.proofs.Limits.{sized_is}
+use Rattle.pictures.proofs.Limits.{Sides}
 use Rattle.seam_theory.specs.Sums.{CostRows, fenced, sum_of3, way_of3}
 use Rattle.seam_find.specs.Inner.Down.{RowNeeded, RowGiven}
 
@@ -52,16 +51,15 @@ row-given fence from z costsIn i q n space above ways cost copied e end k l long
     }
 
 -- The bounds of row i's ways, where q is from: they end within the space, and have a place for each column.
-pub record WaysEnd (z : Size) (q i : ℕ) (space next : List ℕ) : Type 0 where
+pub record WaysEnd (z : Size) (q i : ℕ) (space : List ℕ) (next : ℕ) : Type 0 where
   pub few : (i - 1) * z.width ≤ most_pixels
   pub end : q + (i - 1) * z.width + z.width ≤ length space
   pub wide :
-      length (mid_of (q + (i - 1) * z.width) (q + (i - 1) * z.width + z.width - (q + (i - 1) * z.width)) space) ≡ length next
+      length (mid_of (q + (i - 1) * z.width) (q + (i - 1) * z.width + z.width - (q + (i - 1) * z.width)) space) ≡ next
 
-pub ways-end : {fence from : ℕ} {z : Size} {bytes i : ℕ} {space above cost next : List ℕ}
-    → RowNeeded fence from z bytes i space above cost next → (q : ℕ) → q ≡ from → WaysEnd z q i space next
-ways-end {z = z} {i = i} {space = space} n q e =
-    let s = sized_is z (picture_bytes z) n.sized in
+pub ways-end : {fence from : ℕ} {z : Size} {i : ℕ} {space above : List ℕ} {cost next : ℕ}
+    → RowNeeded fence from z i space above cost next → Sides z → (q : ℕ) → q ≡ from → WaysEnd z q i space next
+ways-end {z = z} {i = i} {space = space} n s q e =
     let a = q + (i - 1) * z.width in
     let row : i - 1 ≤ most_side = omega (arith, n.inside, s.height_small) in
     let last = part_end (i - 1) (z.height - 1) z.width (omega (arith, n.later, n.inside)) in

@@ -24,7 +24,7 @@ use Rattle.seam_theory.proofs.Bounded.{sums-most}
 use Rattle.seam_theory.proofs.Toward.{rows-through}
 use Rattle.seam_theory.proofs.Sums.{Costed, FoundPath, found}
 use Rattle.seam_sums.specs.Fences.{fence32}
-use Rattle.seam_find.specs.Inner.Down.{costs_of}
+use Rattle.seam_find.specs.Costing.{plain_costs}
 use Rattle.seam_find.proofs.Costs.{cost_most}
 use Rattle.seam_find.proofs.Loops.{Traceable, ways-traceable}
 
@@ -38,18 +38,18 @@ module _ (z : Size) (how : Method) (b : List ℕ) (sized : Sized z (length b)) (
   abbrev p : Picture
   p = picture z b
 
-  wide : (i : ℕ) → length (costs_of z how b i).up ≡ w
+  wide : (i : ℕ) → length (plain_costs z how b i).up ≡ w
   wide i = length-table (energy how w h p i) w
 
   -- Every sum is below the fence.
-  low : (i c : ℕ) → i < h - 1 → c < w → get_or (sums_down false fence32 w (costs_of z how b) i) c 0 + get_or (costs_of z how b (suc i)).up c 0 < fence32
+  low : (i c : ℕ) → i < h - 1 → c < w → get_or (sums_down false fence32 w (plain_costs z how b) i) c 0 + get_or (plain_costs z how b (suc i)).up c 0 < fence32
   low i c k l =
       let rows : suc i ≤ most_side = omega (arith, sized.height_small) in
       let most = cost_most z how b sized byte in
-      omega (arith, sums-most false fence32 w (costs_of z how b) (wide 0) most_energy most i c l, most (suc i) c, mul-le-mul_right most_energy rows)
+      omega (arith, sums-most false fence32 w (plain_costs z how b) (wide 0) most_energy most i c l, most (suc i) c, mul-le-mul_right most_energy rows)
 
   -- The cost rows are those of the picture's steps.
-  costed : Costed false fence32 w h (costs_of z how b) (energy how w h p 0) (step_of how w h p)
+  costed : Costed false fence32 w h (plain_costs z how b) (energy how w h p 0) (step_of how w h p)
   unfolding wrap_of
   costed = record {
     first_row_is = refl;
@@ -58,24 +58,24 @@ module _ (z : Size) (how : Method) (b : List ℕ) (sized : Sized z (length b)) (
   }
 
   pub plain-traceable : (column seam : ℕ) → column < z.width → z.height ≤ seam
-      → Traceable (length (flat (table (ways_up false fence32 z.width (costs_of z how b)) (z.height - 1)))) z.width z.height column seam
-  plain-traceable = ways-traceable false fence32 w h (costs_of z how b) sized.height_some sized.height_most sized.width_most
+      → Traceable (length (flat (table (ways_up false fence32 z.width (plain_costs z how b)) (z.height - 1)))) z.width z.height column seam
+  plain-traceable = ways-traceable false fence32 w h (plain_costs z how b) sized.height_some sized.height_most sized.width_most
 
-  seam : FoundPath false fence32 w h (costs_of z how b) (energy how w h p 0) (step_of how w h p)
+  seam : FoundPath false fence32 w h (plain_costs z how b) (energy how w h p 0) (step_of how w h p)
   unfolding wrap_of
-  seam = found false fence32 w h (costs_of z how b) (energy how w h p 0) (step_of how w h p) costed sized.width_some sized.height_some
+  seam = found false fence32 w h (plain_costs z how b) (energy how w h p 0) (step_of how w h p) costed sized.width_some sized.height_some
 
   abbrev bottom : ℕ
-  bottom = least_to (sums_down false fence32 w (costs_of z how b) (h - 1)) (w - 1)
+  bottom = least_to (sums_down false fence32 w (plain_costs z how b) (h - 1)) (w - 1)
 
   path_is : Option.get_or (seam_up how w h p) [] ≡ seam.path
   unfolding wrap_of
   path_is = ap (λ o. Option.get_or o []) seam.is
 
-  pub seam-traced : columns_to (flat (table (ways_up false fence32 z.width (costs_of z how b)) (z.height - 1))) z.width (z.height - 1) bottom ≡ seam_of how z.width z.height (picture z b)
+  pub seam-traced : columns_to (flat (table (ways_up false fence32 z.width (plain_costs z how b)) (z.height - 1))) z.width (z.height - 1) bottom ≡ seam_of how z.width z.height (picture z b)
   unfolding seam_of
   seam-traced = seam.columns ∙ ap reverse (sym path_is)
 
-  pub cost-summed : get_or (sums_down false fence32 z.width (costs_of z how b) (z.height - 1)) bottom 0 ≡ cost_of how z.width z.height (picture z b)
+  pub cost-summed : get_or (sums_down false fence32 z.width (plain_costs z how b) (z.height - 1)) bottom 0 ≡ cost_of how z.width z.height (picture z b)
   unfolding cost_of wrap_of
   cost-summed = sym seam.price ∙ ap (path_cost how w h p) (sym path_is)

@@ -1,14 +1,16 @@
-// Finding the seam of a picture that stands at the front of a lent space.
+// Finding the seam of a picture that stands at the front of a lent space, by any costs, and by the energies of its pixels.
 #![tactic(auto)]
 
-mod bottom32;
-mod down32;
-mod sums32;
+mod bottom;
+pub mod costing;
+mod down;
+mod sums;
 pub mod trace;
 
-ghost use Rattle.std.specs.Prelude.{◌≡◌};
+ghost use Rattle.seam_find.specs.ByCosts.{FindByGiven};
 ghost use Rattle.seam_find.specs.Finding.{FindInGiven};
 
+pub use costing::{Costing, Energies};
 use energy::Method;
 use pictures::{Refusal, Size};
 pub use trace::trace_back;
@@ -23,15 +25,29 @@ pub fn find_in(
 ) -> Result<u64, Refusal>
     ensures { FindInGiven space.old size method seam.old result space.new seam.new }
 {
-    let allowed = seam_bounds::judge_find_in(size, space.len(), seam.len())?;
+    find_by::<Energies>(space, size, method, seam)
+}
+
+// The same by any costs that are read from the front of the space.
+pub fn find_by<C: Costing>(
+    space: &mut [u8],
+    size: Size,
+    method: Method,
+    seam: &mut [u16],
+) -> Result<u64, Refusal>
+    ensures { FindByGiven C.marked (C.front size) C.Sum.fence (C.costs size method) C.means space.old size seam.old result space.new seam.new }
+{
+    let allowed = C::judge(size, space.len(), seam.len())?;
     let width = size.width;
     let height = size.height;
-    let bytes = allowed.picture_bytes();
-    let last = bytes + (height - 1) * width;
-    let end = bytes + height * width;
-    let bottom = bottom32::find_bottom(space, size, method, bytes);
-    let column = bottom.column;
-    trace::trace_back(&space[bytes..last], width, height, column, seam);
-    pictures::clear(&mut space[bytes..end]);
-    Ok(u64::from(bottom.sum))
+    let front = C::front_bytes(allowed);
+    let last = front + (height - 1) * width;
+    let end = front + height * width;
+    let bottom = bottom::find_bottom::<C>(space, allowed, method);
+    let found = C::found(bottom.sum);
+    if found.is_ok() {
+        trace_back(&space[front..last], width, height, bottom.column, seam);
+    }
+    pictures::clear(&mut space[front..end]);
+    found
 }

@@ -1,4 +1,5 @@
 pub mod Weighed
 pub mod Marked
-pub mod Spaces
 pub mod Smallest
+pub mod Laws
+pub mod ByWeights

@@ -32,7 +32,6 @@ use Rattle.seam_theory.proofs.Sums.{Costed, FoundPath, found}
 use Rattle.seam_sums.specs.Weights.{weight_of, kept, protected}
 use Rattle.seam_sums.specs.Fences.{fence64}
 use Rattle.seam_find.proofs.Costs.{front-most, pixel-most, table-most}
-use Rattle.seam_find.proofs.Loops.{Traceable, ways-traceable}
 use Rattle.seam_find_marked.specs.Inner.{most_weight, weight_in, weighed, weights_at, weights_of, marked_bytes}
 use Rattle.seam_find_marked.proofs.Weighed.{first_weight, step_weight, weight-most, light-found, light-cost, heavy-blocked}
 
@@ -91,7 +90,7 @@ module _ (z : Size) (how : Method) (b : List ℕ) (sized : Sized z (length (take
   costs-most : (r c : ℕ) → CostsMost most_energy (costs_at how w h p r c)
   costs-most = pixel-most z how (take (picture_bytes z) b) sized byte
 
-  weights-most : (i k : ℕ) → get_or (weights_of z how b i).up k 0 ≤ most_weight
+  pub weights-most : (i k : ℕ) → get_or (weights_of z how b i).up k 0 ≤ most_weight
   weights-most i =
       table-most (λ c. (weights_at how w h p m i c).up) w most_weight
       (λ c. weight-most (energy how w h p i c) (mark_at m i c) (costs-most i c).up)
@@ -124,10 +123,6 @@ module _ (z : Size) (how : Method) (b : List ℕ) (sized : Sized z (length (take
   -- The ways between the rows.
   abbrev ways : List ℕ
   ways = flat (table (ways_up false fence64 w (weights_of z how b)) (h - 1))
-
-  pub marked_traceable : (column seam : ℕ) → column < w → h ≤ seam → Traceable (length ways) w h column seam
-  marked_traceable =
-      ways-traceable false fence64 w h (weights_of z how b) sized.height_some sized.height_most sized.width_most
 
   -- The first path of least weight, and where it ends.
   seam : FoundPath false fence64 w h (weights_of z how b) first step
@@ -189,7 +184,3 @@ module _ (z : Size) (space : List ℕ) where
   pub front_bytes : ((i : ℕ) → get_or space i 0 ≤ 255)
       → (i : ℕ) → get_or (take (picture_bytes z) (take (marked_bytes z) space)) i 0 ≤ 255
   front_bytes byte = front-most (take (marked_bytes z) space) (picture_bytes z) 255 (front-most space (marked_bytes z) 255 byte)
-
-  pub front-weights : (how : Method) → Sized z (picture_bytes z) → marked_bytes z ≤ length space → ((i : ℕ) → get_or space i 0 ≤ 255)
-      → (i k : ℕ) → get_or (weights_of z how (take (marked_bytes z) space) i).up k 0 ≤ most_weight
-  front-weights how s l byte = weights-most z how (take (marked_bytes z) space) (front-sized s l) (front_bytes byte)

@@ -1,17 +1,13 @@
 -- What the private functions of this crate ask and promise besides those of finding without marks. No public promise cites
 -- it.
-use Rattle.std.specs.Prelude.{◌≡◌, List, ℕ, ◌+◌, ◌<◌, length, get_or}
+use Rattle.std.specs.Prelude.{◌≡◌, List, ℕ, ◌+◌, length, get_or}
 use Rattle.pictures.specs.declared.sizes.Size.{Size}
-use Rattle.pictures.specs.Refusals.{refusal}
-use Rattle.pictures.specs.Pictures.{Picture, size_rules, picture_bytes, pixels, picture_in, marks_in}
+use Rattle.pictures.specs.Pictures.{Picture, picture_bytes, pixels, picture_in, marks_in}
 use Rattle.energy.specs.declared.methods.Method.{Method}
 use Rattle.energy.specs.Energy.{StepCosts, costs_at}
 use Rattle.seam_theory.specs.PictureSeams.{mark_at}
 use Rattle.seam_theory.specs.Sums.{CostRows, cost_rows}
 use Rattle.energy.specs.Bounds.{most_energy}
-use Rattle.seam_sums.specs.Fences.{fence64}
-use Rattle.seam_find.specs.Inner.Down.{DownNeeded, RowNeeded}
-use Rattle.seam_find.specs.Inner.Bottom.{BottomNeeded, RowsNeeded}
 use Rattle.seam_sums.specs.Weights.{kept, protected, weight_of}
 
 -- A bound for the arithmetic: no pixel weighs more.
@@ -42,26 +38,3 @@ marked_bytes z = picture_bytes z + pixels z
 pub record WeighNeeded (energy marks cost : List ℕ) : Type 0 where
   pub energies : length energy ≡ length cost
   pub marked : length marks ≡ length cost
-
--- A picture of its size with its marks after it, and room for the energies and the weights of row i.
-pub record WeightsNeeded (z : Size) (bytes i : ℕ) (front energy cost : List ℕ) : Type 0 where
-  pub bytes_are : bytes ≡ picture_bytes z
-  pub sized : refusal (size_rules z (picture_bytes z)) ≡ 0
-  pub inside : i < z.height
-  pub long : length front ≡ marked_bytes z
-  pub energy_room : length energy ≡ z.width
-  pub cost_room : length cost ≡ z.width
-
--- What works out all rows, one row, and the end of the path ask besides: room for a row of energies.
-pub record DownMarkedNeeded (z : Size) (how : Method) (bytes : ℕ) (space above energy cost next : List ℕ) : Type 0 where
-  pub down : DownNeeded fence64 (marked_bytes z) z (weights_of z how) bytes space above cost next
-  pub energy_room : length energy ≡ z.width
-
-pub record RowMarkedNeeded (z : Size) (bytes i : ℕ) (space above energy cost next : List ℕ) : Type 0 where
-  pub row : RowNeeded fence64 (marked_bytes z) z bytes i space above cost next
-  pub energy_room : length energy ≡ z.width
-
-pub record BottomMarkedNeeded (z : Size) (bytes : ℕ) (space above energy cost next : List ℕ) : Type 0 where
-  pub picture : BottomNeeded (marked_bytes z) z bytes space
-  pub rows : RowsNeeded fence64 z above cost next
-  pub energy_room : length energy ≡ z.width

@@ -1,15 +1,13 @@
 // Finding the seam of a picture with marks that stands at the front of a lent space.
 #![tactic(auto)]
 
-mod bottom64;
-mod down64;
-mod sums64;
 mod weights;
 
 ghost use Rattle.seam_find_marked.specs.Finding.{FindMarkedInGiven};
 
 use energy::Method;
 use pictures::{Refusal, Size};
+use weights::Weights;
 
 // The vertical seam of the picture at the front of the space by the marks after it, one byte a pixel: 1 protected, 2 to be
 // removed, any other number plain. It is put into the front of seam from the top row. The rest of the space is for work: a
@@ -22,21 +20,5 @@ pub fn find_marked_in(
 ) -> Result<u64, Refusal>
     ensures { FindMarkedInGiven space.old size method seam.old result space.new seam.new }
 {
-    let allowed = seam_bounds::judge_find_marked_in(size, space.len(), seam.len())?;
-    let width = size.width;
-    let height = size.height;
-    let bytes = allowed.picture_bytes();
-    let from = bytes + height * width;
-    let last = from + (height - 1) * width;
-    let end = from + height * width;
-    let bottom = bottom64::find_bottom(space, size, method, bytes);
-    let column = bottom.column;
-    let found = seam_sums::found_by(bottom.sum);
-    if let Err(why) = found {
-        pictures::clear(&mut space[from..end]);
-        return Err(why);
-    }
-    seam_find::trace_back(&space[from..last], width, height, column, seam);
-    pictures::clear(&mut space[from..end]);
-    found
+    seam_find::find_by::<Weights>(space, size, method, seam)
 }

@@ -1,10 +1,59 @@
-// A row of weights: each pixel's energy and mark in one number.
-ghost use Rattle.std.specs.Prelude.{◌≡◌, length};
+// The weights of a picture with marks: each pixel's energy and mark in one number.
+ghost use Rattle.std.specs.Prelude.{◌≡◌, true, length};
 ghost use Rattle.grids.specs.Table.{table};
-ghost use Rattle.seam_find_marked.specs.Inner.{weight_in, weights_of, WeighNeeded, WeightsNeeded};
+ghost use Rattle.seam_sums.specs.Weights.{FoundByGiven};
+ghost use Rattle.seam_find_marked.specs.Inner.{most_weight, marked_bytes, weight_in, weights_of, WeighNeeded};
 
 use energy::Method;
-use pictures::Size;
+use pictures::{AllowedSize, Refusal, Size};
+use seam_find::Costing;
+use seam_sums::{found_by, weight};
+
+// The weights of the pixels of a picture with its marks after it.
+pub struct Weights;
+
+impl Costing for Weights {
+    type Sum = u64;
+
+    ghost marked = { true };
+
+    ghost front = { marked_bytes };
+
+    ghost costs = { weights_of };
+
+    ghost most = { most_weight };
+
+    ghost means = { FoundByGiven };
+
+    fn judge(size: Size, space: usize, seam: usize) -> Result<AllowedSize, Refusal> {
+        seam_bounds::judge_find_marked_in(size, space, seam)
+    }
+
+    fn front_bytes(allowed: AllowedSize) -> usize {
+        allowed.picture_bytes() + allowed.pixels()
+    }
+
+    fn cost_row(
+        bytes: &[u8],
+        allowed: AllowedSize,
+        method: Method,
+        i: usize,
+        energies: &mut [u32],
+        cost: &mut [u64],
+    ) {
+        let width = allowed.size.width;
+        let picture = allowed.picture_bytes();
+        let a = picture + i * width;
+        let e = a + width;
+        // Not refused: the picture is of its size, and there is room.
+        let _ = energy::energies(&bytes[..picture], allowed.size, method, i, energies);
+        weigh(energies, &bytes[a..e], cost);
+    }
+
+    fn found(least: u64) -> Result<u64, Refusal> {
+        found_by(least)
+    }
+}
 
 // The weights of a row, from its energies and marks.
 fn weigh(energies: &[u32], marks: &[u8], cost: &mut [u64])
@@ -12,26 +61,6 @@ fn weigh(energies: &[u32], marks: &[u8], cost: &mut [u64])
     ensures { cost.new ≡ table (weight_in energies.now marks.now) (length cost.old) }
 {
     for c in 0..cost.len() {
-        cost[c] = seam_sums::weight(energies[c], marks[c]);
+        cost[c] = weight(energies[c], marks[c]);
     }
-}
-
-// The weights of row i of the picture at the front, of `bytes` bytes, with its marks after it.
-pub(crate) fn row_weights(
-    front: &[u8],
-    size: Size,
-    method: Method,
-    bytes: usize,
-    i: usize,
-    energies: &mut [u32],
-    cost: &mut [u64],
-)
-    requires { WeightsNeeded size bytes i front.now energies.old cost.old }
-    ensures { cost.new ≡ (weights_of size method front.now i).up }
-{
-    let width = size.width;
-    let a = bytes + i * width;
-    let e = a + width;
-    let _ = energy::energies(&front[..bytes], size, method, i, energies);
-    weigh(energies, &front[a..e], cost);
 }

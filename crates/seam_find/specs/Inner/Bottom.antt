@@ -3,15 +3,11 @@ use Rattle.std.specs.Prelude.{◌≡◌, false, List, ◌++◌, ℕ, ◌+◌, �
 use Rattle.grids.specs.Table.{table}
 use Rattle.grids.specs.Rows.{flat}
 use Rattle.pictures.specs.declared.sizes.Size.{Size}
-use Rattle.pictures.specs.Refusals.{refusal}
-use Rattle.pictures.specs.Pictures.{size_rules, picture_bytes}
 use Rattle.seam_theory.specs.Sums.{CostRows, sums_down, ways_up, least_to}
 
--- Below, the first `from` bytes of a space hold what the costs of each row are read from; after them is room for the ways.
--- A picture of its size at the front of a space, with room for the ways between its rows.
-pub record BottomNeeded (from : ℕ) (z : Size) (bytes : ℕ) (space : List ℕ) : Type 0 where
-  pub bytes_are : bytes ≡ picture_bytes z
-  pub sized : refusal (size_rules z (picture_bytes z)) ≡ 0
+-- Below, the first `from` bytes of a space hold what the costs of each row are read from; after them is room for the ways
+-- between the rows.
+pub record BottomNeeded (from : ℕ) (z : Size) (space : List ℕ) : Type 0 where
   pub room : from + (z.height - 1) * z.width ≤ length space
 
 -- The ways, and the first of the least sums of the last row.
@@ -24,13 +20,9 @@ pub record BottomGiven (fence from : ℕ) (z : Size) (costs : List ℕ → ℕ �
   pub inside : column < z.width
   pub sum_is : sum ≡ get_or (sums_down false fence z.width (costs (take from space)) (z.height - 1)) column 0
 
--- Room for the fenced sums of a row, which is all fence, for a row of costs and for one of sums.
-pub record RowsNeeded (fence : ℕ) (z : Size) (above cost next : List ℕ) : Type 0 where
+-- Besides, room for the fenced sums of a row, which is all fence, for a row of costs and for one of sums.
+pub record BottomWithNeeded (fence from : ℕ) (z : Size) (space above : List ℕ) (cost next : ℕ) : Type 0 where
+  pub room : from + (z.height - 1) * z.width ≤ length space
   pub fences : above ≡ replicate (z.width + 2) fence
-  pub cost_room : length cost ≡ z.width
-  pub next_room : length next ≡ z.width
-
--- Both.
-pub record BottomWithNeeded (fence from : ℕ) (z : Size) (bytes : ℕ) (space above cost next : List ℕ) : Type 0 where
-  pub picture : BottomNeeded from z bytes space
-  pub rows : RowsNeeded fence z above cost next
+  pub cost_room : cost ≡ z.width
+  pub next_room : next ≡ z.width

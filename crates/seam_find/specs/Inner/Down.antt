@@ -3,25 +3,14 @@ use Rattle.std.specs.Prelude.{◌≡◌, false, List, ◌++◌, ℕ, ◌+◌, �
 use Rattle.grids.specs.Table.{table}
 use Rattle.grids.specs.Rows.{flat}
 use Rattle.pictures.specs.declared.sizes.Size.{Size}
-use Rattle.pictures.specs.Refusals.{refusal}
-use Rattle.pictures.specs.Pictures.{size_rules, picture_bytes, picture}
-use Rattle.energy.specs.declared.methods.Method.{Method}
-use Rattle.energy.specs.Energy.{costs_at}
-use Rattle.seam_theory.specs.Sums.{CostRows, cost_rows, fenced, sum_of3, way_of3, sums_down, ways_up}
+use Rattle.seam_theory.specs.Sums.{CostRows, fenced, sum_of3, way_of3, sums_down, ways_up}
 
--- The costs of row i of a picture, by a method.
-abbrev pub costs_of : Size → Method → List ℕ → ℕ → CostRows
-costs_of z how b i = cost_rows z.width (costs_at how z.width z.height (picture z b) i)
-
--- A picture of its size at the front of a space, with room for the ways between its rows; the fenced sums of row 0; and room
--- for a row of costs and a row of sums.
-pub record DownNeeded (fence from : ℕ) (z : Size) (costs : List ℕ → ℕ → CostRows) (bytes : ℕ) (space above cost next : List ℕ) : Type 0 where
-  pub bytes_are : bytes ≡ picture_bytes z
-  pub sized : refusal (size_rules z (picture_bytes z)) ≡ 0
+-- Room for the ways between the rows; the fenced sums of row 0; and room for a row of costs and a row of sums.
+pub record DownNeeded (fence from : ℕ) (z : Size) (costs : List ℕ → ℕ → CostRows) (space above : List ℕ) (cost next : ℕ) : Type 0 where
   pub room : from + (z.height - 1) * z.width ≤ length space
   pub first : above ≡ fenced false fence z.width (costs (take from space) 0).up
-  pub cost_room : length cost ≡ z.width
-  pub next_room : length next ≡ z.width
+  pub cost_room : cost ≡ z.width
+  pub next_room : next ≡ z.width
 
 -- The ways between rows, the rest as it was; and the fenced sums of the last row.
 pub record DownGiven (fence from : ℕ) (z : Size) (costs : List ℕ → ℕ → CostRows) (space space' above' : List ℕ) : Type 0 where
@@ -32,17 +21,15 @@ pub record DownGiven (fence from : ℕ) (z : Size) (costs : List ℕ → ℕ →
   pub sums : above' ≡ fenced false fence z.width (sums_down false fence z.width (costs (take from space)) (z.height - 1))
 
 -- The same for row i alone: the sums of the row above stand between their fences and are below them.
-pub record RowNeeded (fence from : ℕ) (z : Size) (bytes i : ℕ) (space above cost next : List ℕ) : Type 0 where
-  pub bytes_are : bytes ≡ picture_bytes z
-  pub sized : refusal (size_rules z (picture_bytes z)) ≡ 0
+pub record RowNeeded (fence from : ℕ) (z : Size) (i : ℕ) (space above : List ℕ) (cost next : ℕ) : Type 0 where
   pub later : 0 < i
   pub inside : i < z.height
   pub room : from + (z.height - 1) * z.width ≤ length space
   pub long : length above ≡ z.width + 2
   pub fences : above ≡ fenced false fence z.width (take z.width (drop 1 above))
   pub small : (k : ℕ) → k < z.width → get_or above (k + 1) 0 < fence
-  pub cost_room : length cost ≡ z.width
-  pub next_room : length next ≡ z.width
+  pub cost_room : cost ≡ z.width
+  pub next_room : next ≡ z.width
 
 -- Where row i's ways stand.
 abbrev pub ways_at : ℕ → Size → ℕ → ℕ

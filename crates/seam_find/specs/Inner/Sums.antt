@@ -3,19 +3,15 @@ use Rattle.std.specs.Prelude.{◌≡◌, false, List, ℕ, ◌+◌, ◌<◌, len
 use Rattle.grids.specs.Table.{table}
 use Rattle.seam_theory.specs.Sums.{alike_rows, sum_of3, way_of3}
 
--- The row above with its two sides, the costs of a row, and room for the row's sums, which fit.
-pub record SumsNeeded (fence : ℕ) (x cost next : List ℕ) : Type 0 where
-  pub above : length x ≡ length next + 2
-  pub costs : length cost ≡ length next
-  pub small : (k : ℕ) → k < length next → get_or x (k + 1) 0 < fence
+-- The row above with its two sides, the costs of a row of n, and room for the row's sums, which fit, and for the ways.
+pub record NextRowNeeded (fence : ℕ) (x cost : List ℕ) (n ways : ℕ) : Type 0 where
+  pub above : length x ≡ n + 2
+  pub costs : length cost ≡ n
+  pub small : (k : ℕ) → k < n → get_or x (k + 1) 0 < fence
   pub cheap : (k : ℕ) → get_or cost k 0 < fence
-
--- And room for the ways.
-pub record NextRowNeeded (fence : ℕ) (x cost next ways : List ℕ) : Type 0 where
-  pub sums : SumsNeeded fence x cost next
-  pub ways_room : length ways ≡ length next
+  pub ways_room : ways ≡ n
 
 -- The row's sums, and where each comes from.
-pub record NextRowGiven (x cost next ways next' ways' : List ℕ) : Type 0 where
-  pub next_given : next' ≡ table (sum_of3 x (alike_rows cost)) (length next)
-  pub ways_given : ways' ≡ table (way_of3 false (length ways) x (alike_rows cost)) (length ways)
+pub record NextRowGiven (x cost : List ℕ) (n : ℕ) (next' ways' : List ℕ) : Type 0 where
+  pub next_given : next' ≡ table (sum_of3 x (alike_rows cost)) n
+  pub ways_given : ways' ≡ table (way_of3 false n x (alike_rows cost)) n

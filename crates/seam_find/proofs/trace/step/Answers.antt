@@ -1,5 +1,5 @@
 -- `seam_find::trace::step` meets its contract: each return by its tests.
-use Rattle.std.proofs.Common.{◌+◌, ◌-◌, sym, ap, ◌∙◌, arith}
+use Rattle.std.proofs.Common.{sym, arith}
 use Rattle.seam_theory.proofs.Ways.{came_last, came_first, came_inner}
 use Rattle.seam_find.proofs.trace.step.Goals as goal
 
@@ -10,7 +10,4 @@ pub returns-then-width-right : goal.returns-then-width-right
 returns-then-width-right c = sym (came_first _ _ _ (omega arith))
 
 pub returns-else-width-right : goal.returns-else-width-right
-returns-else-width-right c =
-    let a = c.args in
-    ap (λ n. a.column + n - 1) c.wide.ensures
-    ∙ sym (came_inner a.width a.column a.way (omega (arith, c.wide.ensures)) (omega (arith, c.wide.ensures)))
+returns-else-width-right c = sym (came_inner _ _ _ (omega arith) (omega arith))

@@ -1,11 +1,11 @@
 -- `seam_find::trace::trace_back` meets its contract: past the test there is a path, and a column more of it is stored.
-use Rattle.std.proofs.Common.{◌-◌, ◌<◌, length, refl, sym, ◌∙◌, arith}
+use Rattle.std.proofs.Common.{◌≡◌, ◌+◌, ◌-◌, ◌<◌, length, refl, sym, ◌∙◌, arith}
 use Rattle.seam_theory.specs.Sums.{columns_to}
 use Rattle.seam_find.proofs.Loops.{traceable_has, traced_is, back_start, back_turn, back_end, length_columns}
 use Rattle.seam_find.proofs.trace.trace_back.Goals as goal
 
-pub overflow_sub-i : goal.overflow_sub-i
-overflow_sub-i c = (traceable_has _ _ _ _ _ (sym c.judge_trace.ensures ∙ c.if-not-judge_trace.false)).some
+pub overflow_step-i : goal.overflow_step-i
+overflow_step-i c = (traceable_has _ _ _ _ _ (sym c.judge_trace.ensures ∙ c.if-not-judge_trace.false)).some
 
 pub loop-i-init : goal.loop-i-init
 loop-i-init c =
@@ -23,14 +23,15 @@ loop-i-preserved c =
     let seam = a.seam.now in
     let l = c.loop-i in
     let t = l.invariant.0 in
-    let room : l.i < length seam = omega (arith, t.room, l.invariant.1.row) in (
+    let room : l.i < length seam = omega (arith, t.room, l.invariant.1.row) in
+    let here : l.i - 1 + 1 ≡ l.i = omega arith in (
       t,
-      rw c.step-c.ensures
+      rw (here, c.step-c.ensures)
           (back_turn ways seam (columns_to ways a.width (a.height - 1) a.column) a.width a.height l.i l.c l.seam c.loop-i-test.true room l.invariant.1),
     )
 
-pub returns : goal.returns
-returns c =
+pub returns-clause-columns : goal.returns-clause-columns
+returns-clause-columns c =
     let a = c.args in
     let ways = a.ways.now in
     let seam = a.seam.now in

@@ -9,6 +9,3 @@ abbrev pub invariant-loop-i : goal.invariant-loop-i
 invariant-loop-i l =
     Traceable (length l.ways) l.width l.height l.column (length l.initial.seam)
     × Back l.ways l.initial.seam (columns_to l.ways l.width (l.height - 1) l.column) l.width l.height l.i l.c l.seam
-
-abbrev pub decreases-loop-i : goal.decreases-loop-i
-decreases-loop-i l = l.i

@@ -1,0 +1,54 @@
+-- `seam_find::bottom::bottom_with` meets its contract. The costs of row 0, written between the fences, are its sums; from them
+-- `down` comes to the sums of the last row, and the first of the least of these is where the path ends.
+use Rattle.std.proofs.Common.{◌+◌, ◌-◌, take, ap, ◌∙◌, arith}
+use mathlib.Core.List.{map}
+use Rattle.pictures.proofs.Limits.{sides_are}
+use Rattle.seam_sums.proofs.Values.{values_put}
+use Rattle.seam_find.proofs.Fences.{first_row_is, column-inside, bottom-given}
+use Rattle.seam_find.proofs.bottom.bottom_with.Goals as goal
+
+pub down-requires-clause-rows : goal.down-requires-clause-rows
+down-requires-clause-rows g c =
+    let a = c.args in
+    let z = a.allowed.size in
+    let p = c.requires.rows in
+    let value = g.C.Sum.Number.value in
+    let front = c.front_bytes-front in
+    let costs = g.C.Costing.costs z a.method in
+    record {
+      room = p.room;
+      first =
+          values_put value 1 (z.width + 1 - 1) a.above.now c.cost_row.new.cost
+          ∙ first_row_is g.C.Sum.Number.fence z.width (map value a.above.now) (map value c.cost_row.new.cost) (costs (take (g.C.Costing.front z) a.space.now) 0).up
+          p.fences (c.cost_row.ensures ∙ ap (λ n. (costs (take n a.space.now) 0).up) front.ensures.bytes);
+      cost_room = p.cost_room;
+      next_room = p.next_room;
+    }
+
+pub bounds-sums-column : goal.bounds-sums-column
+bounds-sums-column g c =
+    let a = c.args in
+    let z = a.allowed.size in
+    column-inside g.C.Sum.Number.value g.C.Sum.Number.fence (g.C.Costing.front z) z (g.C.Costing.costs z a.method) a.space.now c.down.new.space
+    c.down.new.above (c.front_bytes-front.ensures.laws.wide z a.method (take (g.C.Costing.front z) a.space.now) 0) c.down.ensures
+    c.first_least-column.result (sides_are z a.allowed.allowed).width_some c.first_least-column.ensures
+
+pub offset_bounds-sums-column : goal.offset_bounds-sums-column
+offset_bounds-sums-column g c =
+    let a = c.args in
+    let z = a.allowed.size in
+    let inside =
+    column-inside g.C.Sum.Number.value g.C.Sum.Number.fence (g.C.Costing.front z) z (g.C.Costing.costs z a.method) a.space.now c.down.new.space
+    c.down.new.above (c.front_bytes-front.ensures.laws.wide z a.method (take (g.C.Costing.front z) a.space.now) 0) c.down.ensures
+    c.first_least-column.result (sides_are z a.allowed.allowed).width_some c.first_least-column.ensures
+    in
+    omega (arith, inside)
+
+pub returns : goal.returns
+returns g c =
+    let a = c.args in
+    let z = a.allowed.size in
+    bottom-given g.C.Sum.Number.value g.C.Sum.Number.fence (g.C.Costing.front z) z (g.C.Costing.costs z a.method) a.space.now c.down.new.space
+    c.down.new.above (c.front_bytes-front.ensures.laws.wide z a.method (take (g.C.Costing.front z) a.space.now) 0) c.down.ensures
+    c.first_least-column.result c.index-sums-column.result (sides_are z a.allowed.allowed).width_some c.first_least-column.ensures
+    c.index-sums-column.is

@@ -1,6 +1,0 @@
--- `seam_find::sums32::copy` meets its contract. The loop's invariant: c elements are copied.
-use Rattle.grids.proofs.Tables.{Copied}
-use Rattle.seam_find.proofs.sums32.copy.Given as goal
-
-abbrev pub invariant-loop-c : goal.invariant-loop-c
-invariant-loop-c l = Copied l.from l.initial.to 0 l.c-end l.c l.to

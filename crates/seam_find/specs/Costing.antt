@@ -1,0 +1,31 @@
+-- The costs that a seam is found by, whatever they are.
+use Rattle.std.specs.Prelude.{◌≡◌, Bool, List, ℕ, ◌+◌, ◌*◌, ◌≤◌, ◌<◌, length, get_or}
+use Rattle.pictures.specs.declared.sizes.Size.{Size}
+use Rattle.pictures.specs.Limits.{most_side}
+use Rattle.pictures.specs.Refusals.{refusal}
+use Rattle.pictures.specs.Pictures.{side_rules, picture_bytes, pixels, picture}
+use Rattle.energy.specs.declared.methods.Method.{Method}
+use Rattle.energy.specs.Energy.{costs_at}
+use Rattle.seam_theory.specs.Sums.{CostRows, cost_rows, alike_rows}
+use Rattle.seam_bounds.specs.Spaces.{bytes_after}
+
+-- The costs of row i of a picture without marks, by a method.
+abbrev pub plain_costs : Size → Method → List ℕ → ℕ → CostRows
+plain_costs z how b i = cost_rows z.width (costs_at how z.width z.height (picture z b) i)
+
+-- What holds of costs that are read from the front of a space: they and a byte for each pixel take the room that is asked for, a row has a cost
+-- for each column, wherever a path comes from, and no sum reaches the fence.
+pub record CostingLaws (marked : Bool) (front : Size → ℕ) (costs : Size → Method → List ℕ → ℕ → CostRows) (most fence : ℕ) : Type 0 where
+  pub room : (z : Size) → front z + pixels z ≡ picture_bytes z + bytes_after z marked
+  pub wide : (z : Size) (how : Method) (b : List ℕ) (i : ℕ) → length (costs z how b i).up ≡ z.width
+  pub alike : (z : Size) (how : Method) (b : List ℕ) (i : ℕ) → costs z how b i ≡ alike_rows (costs z how b i).up
+  pub cheap : (z : Size) (how : Method) (b : List ℕ) → refusal (side_rules z) ≡ 0 → length b ≡ front z → ((i : ℕ) → get_or b i 0 ≤ 255)
+      → (i k : ℕ) → get_or (costs z how b i).up k 0 ≤ most
+  pub low : most_side * most + most < fence
+
+-- Row i of a picture of this size, and rows that are as long as it.
+pub record RowAsked (front : ℕ) (z : Size) (i bytes energies cost : ℕ) : Type 0 where
+  pub inside : i < z.height
+  pub long : bytes ≡ front
+  pub energies_room : energies ≡ z.width
+  pub cost_room : cost ≡ z.width

@@ -1,0 +1,75 @@
+// The end of the cheapest path of a picture.
+ghost use Rattle.std.specs.Prelude.{◌≡◌, map, length};
+ghost use Rattle.seam_find.specs.Inner.Bottom.{BottomNeeded, BottomGiven, BottomWithNeeded};
+
+use crate::costing::Costing;
+use crate::down::down;
+use energy::Method;
+use pictures::{AllowedSize, LARGEST_SIDE};
+use seam_sums::{Number, first_least};
+
+// The column where the path ends, in the last row, and what the path costs.
+#[derive(Clone, Copy, Debug, PartialEq, Eq)]
+pub(crate) struct Bottom<N> {
+    pub(crate) column: usize,
+    pub(crate) sum: N,
+}
+
+// Works out all sums of the picture at the front of the space. After what costs are read from is written where each column of
+// a row comes from.
+pub(crate) fn find_bottom<C: Costing>(
+    space: &mut [u8],
+    allowed: AllowedSize,
+    method: Method,
+) -> Bottom<C::Sum>
+    requires { BottomNeeded (C.front allowed.size) allowed.size space.old }
+    ensures { BottomGiven C.Sum.fence (C.front allowed.size) allowed.size (C.costs allowed.size method) space.old space.new result.column (C.Sum.value result.sum) }
+{
+    let width = allowed.size.width;
+    let both = width + 2;
+    let fence = C::Sum::make_fence();
+    let mut above = [fence; LARGEST_SIDE + 2];
+    let mut energies = [0u32; LARGEST_SIDE];
+    let mut cost = [fence; LARGEST_SIDE];
+    let mut next = [fence; LARGEST_SIDE];
+    bottom_with::<C>(
+        space,
+        allowed,
+        method,
+        &mut above[..both],
+        &mut energies[..width],
+        &mut cost[..width],
+        &mut next[..width],
+    )
+}
+
+// The same with room for the fenced sums of a row, which is all fence, and for a row of energies, of costs and of sums.
+fn bottom_with<C: Costing>(
+    space: &mut [u8],
+    allowed: AllowedSize,
+    method: Method,
+    above: &mut [C::Sum],
+    energies: &mut [u32],
+    cost: &mut [C::Sum],
+    next: &mut [C::Sum],
+) -> Bottom<C::Sum>
+    requires room { length energies.old ≡ allowed.size.width }
+    requires rows { BottomWithNeeded C.Sum.fence (C.front allowed.size) allowed.size space.old (map C.Sum.value above.old) (length cost.old) (length next.old) }
+    ensures { BottomGiven C.Sum.fence (C.front allowed.size) allowed.size (C.costs allowed.size method) space.old space.new result.column (C.Sum.value result.sum) }
+{
+    let side = allowed.size.width + 1;
+    let front = C::front_bytes(allowed);
+    C::cost_row(
+        &space[..front],
+        allowed,
+        method,
+        0,
+        energies,
+        &mut above[1..side],
+    );
+    down::<C>(space, allowed, method, above, energies, cost, next);
+    let sums = &above[1..side];
+    let column = first_least(sums);
+    let sum = sums[column];
+    Bottom { column, sum }
+}
