@@ -1,28 +1,14 @@
 -- Zeros counted, and blocks of numbers passed whole.
 use mathlib.Core.Path.{◌≡◌, refl, sym, ap, ap₂, ◌∙◌}
-use mathlib.Core.List.{List, [], ◌∷◌, ◌++◌, append_assoc, append-nil}
+use mathlib.Core.List.{List, [], ◌∷◌, ◌++◌, append_assoc}
 use Prim.Native.Nat.{ℕ, zero, suc, ◌+◌, ◌-◌, ◌*◌, ◌≤◌}
 use native.Mathlib.Omega.{arith}
 use lib.ListN.{length, get_or, take, drop, length-append, length-drop}
-use lib.Seq.{take-add, take_at, drop_at, drop-drop, drop-length}
-use borrow.Author.Rules.{part_to_end}
-use borrow.Rule.Slice.PartMut.{mid_of, put_mid}
-use Rattle.grids.proofs.Parts.{put_part}
-use Rattle.map_build.specs.Inner.Marks.{zero_pairs, SkipGiven, write_pair}
+use lib.Seq.{take-add, take_at, drop_at, drop-drop}
+use Rattle.map_build.specs.Inner.Marks.{zero_pairs, write_pair}
 
--- One turn of the count: a 0, and a number that isn't.
+-- One turn of the count: a number that isn't 0.
 module _ (pair more : List ℕ) {rest : List ℕ} (split : rest ≡ pair ++ more) (long : length pair ≡ 2) where
-  pub count_zero : get_or pair 0 0 + 256 * get_or pair 1 0 ≡ 0 → zero_pairs rest ≡ suc (zero_pairs more)
-  count_zero d = rw split (go pair long d)
-    where
-      go : (p : List ℕ) → length p ≡ 2 → get_or p 0 0 + 256 * get_or p 1 0 ≡ 0 → zero_pairs (p ++ more) ≡ suc (zero_pairs more)
-      go [] l d = absurd (omega arith)
-      go (a ∷ []) l d = absurd (omega arith)
-      go (zero ∷ zero ∷ []) l d = refl
-      go (zero ∷ suc b ∷ []) l d = absurd (omega arith)
-      go (suc a ∷ b ∷ []) l d = absurd (omega arith)
-      go (a ∷ b ∷ e ∷ p) l d = absurd (omega arith)
-
   pub count-number : (get_or pair 0 0 + 256 * get_or pair 1 0 ≡ 0 → ⊥) → zero_pairs rest ≡ zero_pairs more
   count-number d = rw split (go pair long d)
     where
@@ -67,11 +53,3 @@ module _ (ys : List ℕ) (at : ℕ) (block more : List ℕ) (split : drop at ys 
       ∙ ap₂ (λ k r. block ++ write_pair low high (z - k) r) (sym counted) block-rest in
       ap (◌++ write_pair low high (z - n) (drop (at + 32) ys)) front
       ∙ append_assoc (take at ys) block (write_pair low high (z - n) (drop (at + 32) ys)) ∙ ap (take at ys ++◌) (sym written) ∙ so_far
-
--- The rest of the row marked from there on, and come back.
-pub mark_behind : (low high s at z : ℕ) (ys rest : List ℕ) → SkipGiven ys s at z → rest ≡ write_pair low high z (mid_of at (length ys - at) ys)
-    → put_mid at (length ys - at) ys rest ≡ write_pair low high s ys
-mark_behind low high s at z ys rest skipped told =
-    put_part at (length ys) ys rest skipped.within
-    ∙ ap (λ r. take at ys ++ (rest ++ r)) (drop-length ys)
-    ∙ ap (take at ys ++◌) (append-nil rest ∙ told ∙ ap (write_pair low high z) (part_to_end ys at)) ∙ skipped.written low high

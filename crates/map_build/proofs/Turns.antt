@@ -2,7 +2,7 @@
 use mathlib.Core.Path.{◌≡◌, refl, sym, ap, ◌∙◌}
 use mathlib.Core.List.{List, [], ◌∷◌, ◌++◌, append-nil, append_assoc, zip_with}
 use Prim.Native.Nat.{ℕ, suc, ◌+◌, ◌-◌, ◌*◌, ◌≤◌, ◌<◌}
-use native.Mathlib.Nat.{sub-zero, zero-mul, suc-mul}
+use native.Mathlib.Nat.{suc-mul}
 use native.Mathlib.Numerals.{add-one}
 use native.Mathlib.Omega.{arith}
 use lib.ListN.{length, get_or, take, drop, length-append}
@@ -51,7 +51,3 @@ module _ {A B : Type 0} (f : B → List A → List A) (d : B) (s : List B) (whol
       no_rows : (t : List B) → flat (zip_with f t []) ≡ []
       no_rows [] = refl
       no_rows (x ∷ t) = refl
-
-pub rows_start : {A B : Type 0} (f : B → List A → List A) (d : B) (s : List B) (w : ℕ) (work : List A)
-    → RowsSoFar f d s (flat (zip_with f s (rows_of w (length s) work))) w 0 work
-rows_start f d s w work = rw (zero-mul w, sub-zero (length s))

@@ -2,19 +2,20 @@
 use mathlib.Core.Path.{◌≡◌, refl, sym, ap, ap₂, ◌∙◌}
 use mathlib.Core.Bool.{Bool, true, false, cond, not}
 use mathlib.Core.List.{List, [], ◌∷◌, ◌++◌, append-nil}
-use Prim.Native.Nat.{ℕ, ◌+◌, ◌-◌, ◌*◌}
+use Prim.Native.Nat.{ℕ, ◌+◌, ◌*◌}
 use native.Mathlib.Omega.{arith}
 use lib.ListN.{length, take, drop, length-drop, drop_of_length-le}
-use lib.Seq.{take_all, take_at, drop_at, take-take, take-append-add, length-take-le}
+use lib.Seq.{take_all, take-take, length-take-le}
 use Rattle.grids.specs.Each.{Grid}
-use Rattle.grids.specs.Rows.{rows_of, flat}
+use Rattle.grids.specs.Rows.{flat}
 use Rattle.grids.proofs.Rows.{grid-rows_of, flat-rows_of}
 use Rattle.grids.proofs.Shapes.{grid_of}
 use Rattle.energy.specs.declared.methods.Method.{Method}
 use Rattle.energy.specs.Methods.{wrap_of}
 use Rattle.seam_theory.specs.Paths.{near}
 use Rattle.pictures.specs.declared.sizes.Size.{Size}
-use Rattle.pictures.specs.declared.refusals.Verdict.{Verdict}
+use Rattle.pictures.specs.declared.refusals.Refusal.{Refusal}
+use Rattle.std.specs.Prelude.{Result}
 use Rattle.pictures.specs.Refusals.{◌when◌, given, refusal, served, worked}
 use Rattle.pictures.specs.Pictures.{Picture, picture_bytes, picture, picture_in}
 use Rattle.map_theory.specs.Maps.{map_of}
@@ -30,7 +31,7 @@ use Rattle.map_rules.proofs.Rooms.{map_bytes_lem, room-served}
 use Rattle.map_build.specs.Building.{mapped, MapInGiven}
 use Rattle.seam_theory.proofs.Choosing.{seam_chooses}
 use Rattle.map_build.proofs.Spaces.{there_of_size}
-use Rattle.map_build.proofs.Steps.{map-long, drop-front}
+use Rattle.map_build.proofs.Steps.{drop-front}
 use Rattle.map_check.specs.Checking.{recorded_in, recorded_rules}
 use Rattle.map_check.specs.Inner.Judging.{beside_built}
 use Rattle.pictures.proofs.TwoBytes.{numbers-pairs, length-numbers}
@@ -74,11 +75,7 @@ module _ (z : Size) (how : Method) (depth : ℕ) (space : List ℕ) (fits : Fits
   flat-m : flat m ≡ numbers_in recorded
   flat-m = flat-rows_of z.width z.height (numbers_in recorded) ∙ take_all (z.height * z.width) (numbers_in recorded) (omega (arith, numbers-long))
 
-  -- 9 where a row isn't a numbering.
-  pub nine : every (numbers depth) m ≡ false → 9 ≡ refusal (recorded_rules z how depth p m)
-  nine e = rw e
-
-  -- Else what the comparison with the map built gives.
+  -- Where each row is a numbering, what the comparison with the map built gives.
   compared : every (numbers depth) m ≡ true → (t : Bool) → same (flat m) (flat new) ≡ t
       → cond {A = ℕ} t 0 (cond (connected (near (wrap_of how)) z.width depth m) 11 10) ≡ refusal (recorded_rules z how depth p m)
   compared e true q =
@@ -89,16 +86,11 @@ module _ (z : Size) (how : Method) (depth : ℕ) (space : List ℕ) (fits : Fits
       swap true = refl
       swap false = refl
 
-  pub compared_is : (maps : List ℕ) → every (numbers depth) m ≡ true → maps ≡ pairs (flat new) ++ recorded → beside_built maps z.width z.height depth ≡ refusal (recorded_rules z how depth p m)
+  pub compared_is : (built : List ℕ) → every (numbers depth) m ≡ true → built ≡ pairs (flat new) → beside_built recorded built z.width z.height depth ≡ refusal (recorded_rules z how depth p m)
   unfolding wrap_of
-  compared_is maps e is =
-      let long : length (pairs (flat new)) ≡ map_bytes z = map-long z how p (there_of_size z space (omega (arith, fits.long))) depth fits.room.deep in
-      let first : take (map_bytes z) maps ≡ pairs (flat new) = ap (take (map_bytes z)) is ∙ take_at (pairs (flat new)) recorded (map_bytes z) long in
-      let second : drop (map_bytes z) maps ≡ recorded = ap (drop (map_bytes z)) is ∙ drop_at (pairs (flat new)) recorded (map_bytes z) long in
-      let test : same (numbers_in (drop (map_bytes z) maps)) (numbers_in (take (map_bytes z) maps)) ≡ same (flat m) (flat new) = ap₂ same (ap numbers_in second ∙ sym flat-m) (ap numbers_in first ∙ numbers-pairs (flat new)) in
-      let seams : connected (near false) z.width depth (rows_of z.width z.height (numbers_in (drop (map_bytes z) maps))) ≡ connected (near false) z.width depth m =
-      ap (λ b. connected (near false) z.width depth (rows_of z.width z.height (numbers_in b))) second in
-      ap₂ (λ a b. cond {A = ℕ} a 0 (cond b 11 10)) test seams ∙ compared e (same (flat m) (flat new)) refl
+  compared_is built e is =
+      let test : same (numbers_in recorded) (numbers_in built) ≡ same (flat m) (flat new) = ap₂ same (sym flat-m) (ap numbers_in is ∙ numbers-pairs (flat new)) in
+      ap (λ a. cond {A = ℕ} a 0 (cond (connected (near false) z.width depth m) 11 10)) test ∙ compared e (same (flat m) (flat new)) refl
 
   -- The front of the space is lent for the map. Nothing refuses it there,
   front_long : length (take (recorded_at z) space) ≡ recorded_at z
@@ -107,7 +99,7 @@ module _ (z : Size) (how : Method) (depth : ℕ) (space : List ℕ) (fits : Fits
   front-served : refusal (map_space_rules z depth (length (take (recorded_at z) space)) 1) ≡ 0
   front-served = rw front_long (room-served z depth (recorded_at z) 1 fits.room.served fits.room.deep fits.room.long)
 
-  module _ (answer : Verdict) (front : List ℕ) (g : MapInGiven (take (recorded_at z) space) z how depth answer front) where
+  module _ (answer : Result (Unit {0}) Refusal) (front : List ℕ) (g : MapInGiven (take (recorded_at z) space) z how depth answer front) where
     -- it is then the picture that is left and the map,
     front_is : front ≡ mapped z how depth p
     front_is =
@@ -117,26 +109,11 @@ module _ (z : Size) (how : Method) (depth : ℕ) (space : List ℕ) (fits : Fits
         g.space_left ∙ ap (λ n. served n (mapped z how depth (picture_in z (take (recorded_at z) space)) ++ drop (map_at z + map_bytes z) (take (recorded_at z) space)) (take (recorded_at z) space)) none
         ∙ ap₂ (λ q r. mapped z how depth q ++ r) same_picture nothing ∙ append-nil (mapped z how depth p)
 
-    -- and the two maps stand one after the other.
-    maps-are : take (map_bytes z + map_bytes z) (drop (map_at z) (front ++ drop (recorded_at z) space)) ≡ pairs (flat new) ++ recorded
-    maps-are =
+    -- and the map stands at its end.
+    pub built_is : drop (map_at z) front ≡ pairs (flat new)
+    built_is =
         let o = there_of_size z space (omega (arith, fits.long)) in
-        let rest = drop (recorded_at z) space in
-        ap (λ f. take (map_bytes z + map_bytes z) (drop (map_at z) (f ++ rest))) front_is
-        ∙ ap (take (map_bytes z + map_bytes z)) (drop-front z how p o depth fits.room.deep rest)
-        ∙ ap (λ n. take (n + map_bytes z) (pairs (flat new) ++ rest)) (sym (map-long z how p o depth fits.room.deep))
-        ∙ take-append-add (pairs (flat new)) rest (map_bytes z)
-
-  -- The same with the places as they are given out.
-  module _ (at n : ℕ) (at-is : at ≡ recorded_at z) (n-is : n ≡ map_bytes z) where
-    pub rows_at : every (numbers depth) (rows_of w h (numbers_in (take (at + n - at) (drop at space)))) ≡ every (numbers depth) m
-    rows_at = let one : recorded_at z + map_bytes z - recorded_at z ≡ map_bytes z = omega arith in rw (at-is, n-is, one)
-
-    pub maps-at : (built : ℕ) (answer : Verdict) (front : List ℕ) → built ≡ map_at z → MapInGiven (take at space) z how depth answer front
-        → take (at + n - built) (drop built (front ++ drop at space)) ≡ pairs (flat new) ++ recorded
-    maps-at built answer front e g =
-        let two : recorded_at z + map_bytes z - map_at z ≡ map_bytes z + map_bytes z = omega arith in
-        rw (at-is, n-is, e, two) (maps-are answer front (rw at-is at g))
+        ap (drop (map_at z)) (front_is ∙ sym (append-nil (mapped z how depth p))) ∙ drop-front z how p o depth fits.room.deep [] ∙ append-nil (pairs (flat new))
 
 -- After success and after 9, 10 and 11 it is the first.
 pub worked-judged : {A : Type 0} (z : Size) (how : Method) (depth : ℕ) (p : Picture) (m : List (List ℕ)) (x y : A) → worked (refusal (recorded_rules z how depth p m)) x y ≡ x

@@ -1,35 +1,19 @@
 -- A row judged by counting how often each number stands in it.
 use mathlib.Core.Path.{◌≡◌, refl, sym, ap, ◌∙◌}
 use mathlib.Core.Bool.{Bool, true, false, ◌&&◌, and-true, and-false}
-use mathlib.Core.List.{List, [], ◌∷◌, ◌++◌}
-use Prim.Native.Nat.{ℕ, suc, ◌+◌, ◌≤◌, ◌<◌}
-use native.Mathlib.Numerals.{add-one}
+use mathlib.Core.List.{List, [], ◌∷◌}
+use Prim.Native.Nat.{ℕ, zero, suc, ◌+◌, ◌≤◌, ◌<◌}
 use native.Mathlib.Omega.{arith}
 use lib.Dec.{leb, eqb}
-use borrow.Author.Tests.{eqb-true, eqb-false}
-use lib.ListN.{length, get_or, take, set}
-use lib.Seq.{take-suc, take_all, get_or-set_same, get_or-set_other}
+use borrow.Author.Tests.{eq-eqb, lt-leb}
+use lib.ListN.{length, get_or, take, drop, replicate, get_or-replicate}
+use lib.Seq.{drop-cons}
+use Rattle.std.specs.List.{list_all}
 use Rattle.seam_theory.specs.Paths.{run}
 use Rattle.map_theory.specs.Judged.{every, tick, count, numbers}
 use Rattle.map_theory.proofs.Tests.{every-run}
 
--- Counting how often each number stands in what was passed.
-count_turn : (v : ℕ) (ys : List ℕ) (c : ℕ) → c < length ys → count v (take (c + 1) ys) ≡ tick (eqb (get_or ys c 0) v) (count v (take c ys))
-count_turn v ys c h = rw (add-one c, take-suc ys c 0 h) (snoc (take c ys))
-  where
-    a : ℕ
-    a = get_or ys c 0
-
-    swap : (p q : Bool) (n : ℕ) → tick p (tick q n) ≡ tick q (tick p n)
-    swap true true n = refl
-    swap true false n = refl
-    swap false true n = refl
-    swap false false n = refl
-
-    snoc : (zs : List ℕ) → count v (zs ++ (a ∷ [])) ≡ tick (eqb a v) (count v zs)
-    snoc [] = refl
-    snoc (b ∷ zs) = ap (tick (eqb b v)) (snoc zs) ∙ swap (eqb b v) (eqb a v) (count v zs)
-
+-- No number stands more often than the row is long.
 pub count_most : (v : ℕ) (ys : List ℕ) → count v ys ≤ length ys
 count_most v [] = omega arith
 count_most v (a ∷ ys) = go (eqb a v) (count_most v ys)
@@ -38,24 +22,32 @@ count_most v (a ∷ ys) = go (eqb a v) (count_most v ys)
     go true h = omega arith
     go false h = omega arith
 
--- The counts of the first c numbers, kept in a list of n.
-abbrev pub Counted : ℕ → List ℕ → List ℕ → ℕ → Type 0
-Counted n seen ys c = (v : ℕ) → v < n → get_or seen v 0 ≡ count v (take c ys)
+-- The counts of the numbers passed, kept in a list of n, and those to come make the counts of the row.
+abbrev pub Counted : ℕ → List ℕ → List ℕ → List ℕ → Type 0
+Counted n seen rest ys = (v : ℕ) → v < n → get_or seen v 0 + count v rest ≡ count v ys
 
--- One more at the number a that stands at c.
-pub counted-more : (n : ℕ) (seen ys : List ℕ) (c a : ℕ) → a ≡ get_or ys c 0 → c < length ys → length seen ≡ n → a < n → Counted n seen ys c
-    → Counted n (set seen a (get_or seen a 0 + 1)) ys (c + 1)
-counted-more n seen ys c a is h l i inv v k = go (eqb a v) refl
-  where
-    go : (b : Bool) → eqb a v ≡ b → get_or (set seen a (get_or seen a 0 + 1)) v 0 ≡ count v (take (c + 1) ys)
-    go true e =
-        let q : v ≡ a = sym (eqb-true a v e) in
-        let turn : count v (take (c + 1) ys) ≡ suc (count v (take c ys)) = count_turn v ys c h ∙ rw (← is, e) in
-        rw (turn, ← inv v k, q, get_or-set_same seen a (get_or seen a 0 + 1) 0 (rw l i)) (add-one (get_or seen a 0))
-    go false e = get_or-set_other seen a v (get_or seen a 0 + 1) 0 (λ q. eqb-false a v e (sym q)) ∙ inv v k ∙ sym (count_turn v ys c h ∙ rw (← is, e))
+pub counted_start : (n : ℕ) (ys : List ℕ) → Counted n (replicate n 0) ys ys
+counted_start n ys v h = omega (arith, get_or-replicate {A = ℕ} n v 0 0 h)
 
-pub counted-all : (n : ℕ) (seen ys : List ℕ) (c : ℕ) → length ys ≤ c → Counted n seen ys c → (v : ℕ) → v < n → get_or seen v 0 ≡ count v ys
-counted-all n seen ys c h inv v l = inv v l ∙ ap (count v) (take_all c ys h)
+-- There is room for one more in two bytes.
+pub counted-few : (n : ℕ) (seen rest more ys : List ℕ) (a : ℕ) → rest ≡ a ∷ more → a < n → Counted n seen rest ys → get_or seen a 0 + 1 ≤ length ys
+counted-few n seen rest more ys a is i inv =
+    let one : count a rest ≡ suc (count a more) = rw (is, eq-eqb a a refl) in
+    omega (arith, one, inv a i, count_most a ys)
+
+pub counted-all : (n : ℕ) (seen rest ys : List ℕ) → rest ≡ [] → Counted n seen rest ys → (v : ℕ) → v < n → get_or seen v 0 ≡ count v ys
+counted-all n seen rest ys none inv v l = let z : count v rest ≡ 0 = rw none in omega (arith, z, inv v l)
+
+-- The numbers to come decide whether one is over k.
+module _ (k : ℕ) (rest more : List ℕ) (a : ℕ) (is : rest ≡ a ∷ more) where
+  pub few-not : k < a → every (λ v. leb v k) rest ≡ false
+  few-not h = rw (is, lt-leb a k h)
+
+-- A run of counts, each judged where it stands.
+pub all-run : (f : ℕ → Bool) (seen : List ℕ) (i k : ℕ) → i + k ≤ length seen → list_all f (take k (drop i seen)) ≡ every (λ v. f (get_or seen v 0)) (run i k)
+unfolding run
+all-run f seen i zero h = refl
+all-run f seen i (suc k) h = rw (drop-cons seen i 0 (omega arith)) (ap (f (get_or seen i 0) &&◌) (all-run f seen (suc i) k (omega arith)))
 
 -- A row judged by its counts.
 every-same : (f g : ℕ → Bool) (k : ℕ) → ((t : ℕ) → 1 ≤ t → t ≤ k → f t ≡ g t) → every f (run 1 k) ≡ every g (run 1 k)

@@ -4,3 +4,5 @@ pub mod Columns
 pub mod Spaces
 pub mod Answers
 pub mod Smallest
+pub mod Pairs
+pub mod Same

@@ -2,16 +2,19 @@
 #![tactic(auto)]
 
 mod numbers;
+mod recorded;
 mod seams;
 
 ghost use Rattle.std.specs.Prelude.{◌≡◌, length};
 ghost use Rattle.pictures.specs.Refusals.{given, refusal};
 ghost use Rattle.pictures.specs.Pictures.{picture_in};
 ghost use Rattle.map_check.specs.Checking.{recorded_in, recorded_rules, JudgeInGiven};
-ghost use Rattle.map_check.specs.Inner.Judging.{JudgeNeeded, MapsNeeded, beside_built};
+ghost use Rattle.map_check.specs.Inner.Judging.{JudgeNeeded};
 
 use energy::Method;
-use pictures::{Refusal, Size};
+use map_rules::allowed;
+use pictures::{AllowedSize, Refusal, Size};
+use recorded::RecordedMap;
 
 // Judges the map recorded in the space for the picture at its front. In the space stand, one after the other: the picture, a
 // byte for each pixel and two bytes for each pixel for work, and the recorded map, two bytes a number, the low byte first.
@@ -19,41 +22,34 @@ use pictures::{Refusal, Size};
 pub fn judge_in(space: &mut [u8], size: Size, method: Method, depth: usize) -> Result<(), Refusal>
     ensures { JudgeInGiven space.old size method depth result space.new }
 {
-    map_rules::judge_map_space(size, depth, space.len(), 2)?;
-    let answer = judge_rows(space, size, method, depth);
+    let allowed = map_rules::judge_map_space(size, depth, space.len(), 2)?;
+    let answer = judge_rows(space, allowed, method, depth);
     pictures::clear(space);
     answer
 }
 
 // 9 where a row isn't a numbering; else the map is built in front of the recorded one, and they are compared.
-fn judge_rows(space: &mut [u8], size: Size, method: Method, depth: usize) -> Result<(), Refusal>
-    requires { JudgeNeeded size depth (length space.old) }
-    ensures { given result ≡ refusal (recorded_rules size method depth (picture_in size space.old) (recorded_in size space.old)) }
+fn judge_rows(
+    space: &mut [u8],
+    allowed: AllowedSize,
+    method: Method,
+    depth: usize,
+) -> Result<(), Refusal>
+    requires { JudgeNeeded allowed.size depth (length space.old) }
+    ensures { given result ≡ refusal (recorded_rules allowed.size method depth (picture_in allowed.size space.old) (recorded_in allowed.size space.old)) }
 {
-    let width = size.width;
-    let height = size.height;
-    let built = map_rules::map_at(size);
-    let at = map_rules::recorded_at(size);
-    let end = at + map_rules::map_bytes(size);
-    if !numbers::is_numbered(&space[at..end], width, height, depth) {
+    let size = allowed.size;
+    let (front, rest) = space.split_at_mut(allowed::recorded_at(allowed));
+    let recorded = RecordedMap {
+        bytes: &rest[..allowed::map_bytes(allowed)],
+        width: size.width,
+        height: size.height,
+        depth,
+    };
+    if !recorded.is_numbered() {
         return Err(Refusal::MapRow);
     }
-    let _ = map_build::map_in(&mut space[..at], size, method, depth);
-    judge_seams(&space[built..end], width, height, depth)
-}
-
-// Of two maps, one after the other, the first is the one built. Where the second differs, 10 if a seam of it isn't
-// connected, else 11.
-fn judge_seams(maps: &[u8], width: usize, height: usize, depth: usize) -> Result<(), Refusal>
-    requires { MapsNeeded maps.now width height depth }
-    ensures { given result ≡ beside_built maps.now width height depth }
-{
-    let map = height * (2 * width);
-    if numbers::has_same_numbers(&maps[map..], &maps[..map]) {
-        return Ok(());
-    }
-    if seams::is_connected(&maps[map..], width, height, depth) {
-        return Err(Refusal::OtherSeam);
-    }
-    Err(Refusal::BrokenSeam)
+    // never refused: the space has room for both maps
+    let _ = map_build::map_in(front, size, method, depth);
+    recorded.judge_beside(&front[allowed::map_at(allowed)..])
 }

@@ -1,61 +1,36 @@
 -- `map_check::judge_rows` meets its contract: the rows' answer, then the map built is compared with the recorded one.
-use mathlib.Core.Path.{◌≡◌, sym, ◌∙◌}
-use mathlib.Core.Bool.{Bool}
-use mathlib.Core.List.{List, ◌++◌}
-use Prim.Native.Nat.{ℕ, ◌+◌, ◌-◌}
+use mathlib.Core.Path.{◌≡◌, sym, ap, ap₂, ◌∙◌}
+use mathlib.Core.Bool.{true}
+use Prim.Native.Nat.{◌-◌}
 use lib.ListN.{length, take, drop}
-use Rattle.grids.specs.Rows.{rows_of, flat}
-use Rattle.pictures.specs.declared.sizes.Size.{Size}
-use Rattle.pictures.specs.declared.refusals.Verdict.{Verdict}
-use Rattle.pictures.specs.Refusals.{refusal, served}
-use Rattle.pictures.specs.Pictures.{side_rules, picture_in}
-use Rattle.pictures.specs.Numbers.{numbers_in, pairs}
-use Rattle.pictures.proofs.Limits.{given_out}
-use Rattle.energy.specs.declared.methods.Method.{Method}
+use borrow.Author.Rules.{part_to_end}
+use Rattle.grids.specs.Rows.{flat}
+use Rattle.pictures.specs.Pictures.{picture_in}
+use Rattle.pictures.specs.Numbers.{pairs}
 use Rattle.seam_theory.specs.PictureSeams.{seam_of}
 use Rattle.map_theory.specs.Maps.{map_of}
 use Rattle.map_theory.specs.Judged.{every, numbers}
-use Rattle.map_rules.specs.Spaces.{map_bytes, map_at, recorded_at}
+use Rattle.map_rules.specs.Spaces.{map_bytes, recorded_at}
 use Rattle.map_build.specs.Building.{MapInGiven}
 use Rattle.map_check.specs.Checking.{recorded_in}
-use Rattle.map_check.specs.Inner.Judging.{JudgeNeeded}
-use Rattle.map_check.proofs.Spaces.{Fits, fits_is}
-use Rattle.map_check.proofs.Answers.{nine, compared_is, rows_at, maps-at}
+use Rattle.map_check.proofs.Spaces.{fits_is}
+use Rattle.map_check.proofs.Answers.{compared_is, built_is}
 use Rattle.map_check.proofs.judge_rows.Goals as goal
-
-module _ (z : Size) (how : Method) (depth : ℕ) (space : List ℕ) (needed : JudgeNeeded z depth (length space)) where
-  fits : Fits z depth (length space)
-  fits = fits_is z depth (length space) needed.served
-
-  -- the recorded map stands at `at`, and has n bytes
-  module _ (at n : ℕ) (at-is : at ≡ served (refusal (side_rules z)) (recorded_at z) 0) (n-is : n ≡ served (refusal (side_rules z)) (map_bytes z) 0) where
-    at-place : at ≡ recorded_at z
-    at-place = given_out z at (recorded_at z) fits.room.served at-is
-
-    n-bytes : n ≡ map_bytes z
-    n-bytes = given_out z n (map_bytes z) fits.room.served n-is
-
-    -- what the rows' answer says
-    rows_told : {answer : Bool} → answer ≡ every (numbers depth) (rows_of z.width z.height (numbers_in (take (at + n - at) (drop at space))))
-        → answer ≡ every (numbers depth) (recorded_in z space)
-    rows_told e = e ∙ rows_at z how depth space fits at n at-place n-bytes
-
-    -- the two maps, one after the other, where the first one is built
-    maps-told : {built : ℕ} (answer : Verdict) (front : List ℕ) → built ≡ served (refusal (side_rules z)) (map_at z) 0 → MapInGiven (take at space) z how depth answer front
-        → take (at + n - built) (drop built (front ++ drop at space))
-        ≡ pairs (flat (map_of (seam_of how) depth z.width z.height (picture_in z space))) ++ take (map_bytes z) (drop (recorded_at z) space)
-    maps-told {built} answer front e g = maps-at z how depth space fits at n at-place n-bytes built answer front (given_out z built (map_at z) fits.room.served e) g
-
-pub returns-then-not-is_numbered : goal.returns-then-not-is_numbered
-returns-then-not-is_numbered c =
-    let a = c.args in
-    let rows = rows_told a.size a.method a.depth a.space.now c.requires _ _ c.recorded_at-at.ensures c.map_bytes.ensures c.is_numbered.ensures in
-    nine a.size a.method a.depth a.space.now (fits a.size a.method a.depth a.space.now c.requires) (sym rows ∙ c.if-not-is_numbered.true)
 
 pub returns : goal.returns
 returns c =
     let a = c.args in
-    let rows = rows_told a.size a.method a.depth a.space.now c.requires _ _ c.recorded_at-at.ensures c.map_bytes.ensures c.is_numbered.ensures in
-    let maps = maps-told a.size a.method a.depth a.space.now c.requires _ _ c.recorded_at-at.ensures c.map_bytes.ensures c.map_in.result c.map_in.new.space c.map_at-built.ensures c.map_in.ensures in
-    c.judge_seams.ensures
-    ∙ compared_is a.size a.method a.depth a.space.now (fits a.size a.method a.depth a.space.now c.requires) _ (sym rows ∙ c.if-not-is_numbered.false) maps
+    let z = a.allowed.size in
+    let parts = c.split_at_mut-front.ensures in
+    let new = c.map_in.new.space in
+    let fits = fits_is z a.depth (length a.space.now) c.requires.served in
+    -- the recorded map
+    let bytes : take c.map_bytes.result c.split_at_mut-front.result.1.now ≡ take (map_bytes z) (drop (recorded_at z) a.space.now) =
+    ap₂ take c.map_bytes.ensures.is (parts.back ∙ ap (λ n. drop n a.space.now) c.recorded_at.ensures.is) in
+    let rows : every (numbers a.depth) (recorded_in z a.space.now) ≡ true = (rw bytes at (sym c.is_numbered.ensures)) ∙ c.if-not-is_numbered.false in
+    -- and the one built in front of it
+    let front : c.split_at_mut-front.result.0.now ≡ take (recorded_at z) a.space.now = parts.front ∙ ap (λ n. take n a.space.now) c.recorded_at.ensures.is in
+    let told : MapInGiven (take (recorded_at z) a.space.now) z a.method a.depth c.map_in.result c.map_in.new.space = rw front at c.map_in.ensures in
+    let built : take (length c.map_in.new.space - c.map_at.result) (drop c.map_at.result c.map_in.new.space) ≡ pairs (flat (map_of (seam_of a.method) a.depth z.width z.height (picture_in z a.space.now))) =
+    part_to_end new c.map_at.result ∙ ap (λ n. drop n new) c.map_at.ensures.is ∙ built_is z a.method a.depth a.space.now fits c.map_in.result new told in
+    c.judge_beside.ensures ∙ rw bytes (compared_is z a.method a.depth a.space.now fits _ rows built)

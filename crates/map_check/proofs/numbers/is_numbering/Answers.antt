@@ -1,19 +1,57 @@
--- `map_check::numbers::is_numbering` meets its contract.
-use mathlib.Core.Path.{◌≡◌, sym, ◌∙◌}
+-- `map_check::numbers::is_numbering` meets its contract: no number counted yet, one over the depth, one more counted, and the end.
+use mathlib.Core.Path.{◌≡◌, refl, sym, ap, ◌∙◌}
 use mathlib.Core.Bool.{true}
+use mathlib.Core.List.{[], ◌∷◌}
+use Prim.Native.Nat.{◌+◌, ◌≤◌, ◌<◌}
+use native.Mathlib.Omega.{arith}
+use borrow.Author.Rules.{rules}
+use lib.Dec.{leb}
+use lib.ListN.{get_or}
+use Rattle.std.specs.Slice.Iter.{chunks_exact_rest, chunks_exact_size}
+use Rattle.map_theory.specs.Judged.{every}
 use Rattle.pictures.specs.Numbers.{numbers_in}
 use Rattle.pictures.specs.Pictures.{largest_side}
-use Rattle.map_check.proofs.Counting.{counts_judge, numbers-over}
+use Rattle.pictures.proofs.TwoBytes.{length-numbers}
+use Rattle.map_check.proofs.Pairs.{numbers-next, numbers-none}
+use Rattle.map_check.proofs.Counting.{counted_start, counted-few, counted-all, few-not, counts_judge, numbers-over}
 use Rattle.map_check.proofs.numbers.is_numbering.Goals as goal
 
-pub returns-then-not-count_numbers : goal.returns-then-not-count_numbers
-returns-then-not-count_numbers c =
+pub loop-pair-init : goal.loop-pair-init
+loop-pair-init c =
+    let row = c.args.row.now in
+    let e : chunks_exact_rest c.into_iter-pair-iterator.result ≡ row = search rules in
+    let n : chunks_exact_size c.into_iter-pair-iterator.result ≡ 2 = search rules in
+    (n, refl, rw e (counted_start largest_side (numbers_in row)), rw e refl)
+
+pub returns-then-depth-v : goal.returns-then-depth-v
+returns-then-depth-v c =
     let a = c.args in
-    sym (numbers-over a.depth (numbers_in a.row.now) (sym c.count_numbers.ensures.most ∙ c.if-not-count_numbers.true))
+    let l = c.loop-pair in
+    let more = numbers_in (chunks_exact_rest c.next.new.self) in
+    let steps = c.in-Some.ensures.steps in
+    let is : numbers_in (chunks_exact_rest l.pair-iterator) ≡ c.number-v.result ∷ more =
+    numbers-next c.in-Some.pair.now (chunks_exact_rest c.next.new.self) steps.1.0 (steps.1.1 ∙ l.invariant.0) ∙ ap (◌∷ more) (sym c.number-v.ensures.0) in
+    sym (numbers-over a.depth (numbers_in a.row.now) (sym l.invariant.3 ∙ few-not a.depth _ more c.number-v.result is c.if-depth-v.true))
+
+pub overflow_add-seen : goal.overflow_add-seen
+overflow_add-seen c =
+    let a = c.args in
+    let l = c.loop-pair in
+    let v = c.number-v.result in
+    let more = numbers_in (chunks_exact_rest c.next.new.self) in
+    let steps = c.in-Some.ensures.steps in
+    let is : numbers_in (chunks_exact_rest l.pair-iterator) ≡ c.number-v.result ∷ more =
+    numbers-next c.in-Some.pair.now (chunks_exact_rest c.next.new.self) steps.1.0 (steps.1.1 ∙ l.invariant.0) ∙ ap (◌∷ more) (sym c.number-v.ensures.0) in
+    let below : c.number-v.result < largest_side = omega (arith, c.requires.deep, c.if-depth-v.false) in
+    let few : get_or l.seen c.number-v.result 0 + 1 ≤ largest_side =
+    omega (arith, counted-few largest_side l.seen _ more (numbers_in a.row.now) v is below l.invariant.2, length-numbers a.row.now, c.requires.short) in
+    search rules
 
 pub returns : goal.returns
 returns c =
     let a = c.args in
-    let k = c.count_numbers in
-    let all : k.result ≡ true = c.if-not-count_numbers.false in
-    c.has_each_once.ensures ∙ counts_judge a.depth largest_side k.new.seen (numbers_in a.row.now) c.requires.deep (k.ensures.counts all) (sym k.ensures.most ∙ all)
+    let l = c.loop-pair in
+    let none : numbers_in (chunks_exact_rest l.pair-iterator) ≡ [] = numbers-none (chunks_exact_rest l.pair-iterator) (rw l.invariant.0 at c.in-None.ensures.steps.1.0) in
+    let most : every (λ v. leb v a.depth) (numbers_in a.row.now) ≡ true = sym l.invariant.3 ∙ ap (every (λ v. leb v a.depth)) none in
+    c.has_each_once.ensures
+    ∙ counts_judge a.depth largest_side l.seen (numbers_in a.row.now) c.requires.deep (counted-all largest_side l.seen _ (numbers_in a.row.now) none l.invariant.2) most

@@ -1,0 +1,33 @@
+// A map recorded in bytes, two a number, the low byte first, with the size and the depth that it is judged by.
+ghost use Rattle.std.specs.Prelude.{◌≡◌, length};
+ghost use Rattle.pictures.specs.Refusals.{given};
+ghost use Rattle.map_check.specs.Inner.Numbers.{MapNeeded};
+ghost use Rattle.map_check.specs.Inner.Judging.{beside_built};
+
+use crate::numbers::has_same_numbers;
+use pictures::Refusal;
+
+#[derive(Clone, Copy, Debug)]
+pub(crate) struct RecordedMap<'a> {
+    pub bytes: &'a [u8],
+    pub width: usize,
+    pub height: usize,
+    pub depth: usize,
+    ghost sized: { MapNeeded bytes.now width height depth },
+}
+
+impl RecordedMap<'_> {
+    // Judged beside the map built for its picture: where they differ, 10 if a seam of it isn't connected, else 11.
+    pub(crate) fn judge_beside(&self, built: &[u8]) -> Result<(), Refusal>
+        requires { length built.now ≡ length self.now.bytes.now }
+        ensures { given result ≡ beside_built self.now.bytes.now built.now self.now.width self.now.height self.now.depth }
+    {
+        if has_same_numbers(self.bytes, built) {
+            return Ok(());
+        }
+        if self.is_connected() {
+            return Err(Refusal::OtherSeam);
+        }
+        Err(Refusal::BrokenSeam)
+    }
+}
