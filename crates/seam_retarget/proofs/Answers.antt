@@ -122,7 +122,7 @@ module _ (tab : Table) (b : List ℕ) (is : tab.whole ≡ length b) (rows : Rows
       none = none;
     }
 
-    first_is : (totals : List ℕ) → ((j : ℕ) → get_or totals j 0 ≡ 0) → held z whole (row_count 0) one totals 0 ≡ cell_at how z (picture z b) 0 0
+    first_is : (totals : List ℕ) → ((j : ℕ) → get_or totals j 0 ≡ 0) → held tab (row_count 0) one totals 0 ≡ cell_at how z (picture z b) 0 0
     unfolding cell_at
     first_is totals none =
         let zero-less : smaller z 0 0 ≡ z = ap₂ (λ w h. record { width = w; height = h; kind = z.kind }) (omega arith) (omega arith) in
@@ -132,7 +132,7 @@ module _ (tab : Table) (b : List ℕ) (is : tab.whole ≡ length b) (rows : Rows
         (none 0)
 
     module _ (totals two totals₂ : List ℕ) (none : (j : ℕ) → get_or totals j 0 ≡ 0)
-        (row : RowGiven z whole (row_count 0) columns (first_row how z (held z whole (row_count 0) one totals 0)) one two totals₂) where
+        (row : RowGiven tab (row_count 0) columns (first_row how z (held tab (row_count 0) one totals 0)) one two totals₂) where
       pub below-needed : RowsBelowNeeded tab rows columns two totals₂
       below-needed = record {
         fits = record {
@@ -145,14 +145,14 @@ module _ (tab : Table) (b : List ℕ) (is : tab.whole ≡ length b) (rows : Rows
         small = row.small;
       }
 
-      module _ (three totals₃ : List ℕ) (last : RowGiven z whole rows columns (table_row how z (held z whole (row_count 0) two totals₂) rows) two three totals₃) where
+      module _ (three totals₃ : List ℕ) (last : RowGiven tab rows columns (table_row how z (held tab (row_count 0) two totals₂) rows) two three totals₃) where
         pub three-long : length three ≡ length work
         three-long = last.long ∙ row.long ∙ one-long
 
-        cell_is : held z whole rows three totals₃ columns.0 ≡ cell_of how z b rows columns
+        cell_is : held tab rows three totals₃ columns.0 ≡ cell_of how z b rows columns
         cell_is =
             last.cells_are columns.0 (omega arith)
-            ∙ table_cells how z (picture z b) columns.0 (held z whole (row_count 0) two totals₂)
+            ∙ table_cells how z (picture z b) columns.0 (held tab (row_count 0) two totals₂)
             (λ j h. row.cells_are j h ∙ ap (λ k. first_row how z k j) (first_is totals none) ∙ first_cells how z (picture z b) j)
             rows.0 columns.0 (omega arith)
             ∙ sym (cell-numbers how z (picture z b) rows columns)

@@ -140,7 +140,7 @@ module _ (tab : Table) where
         placed_end k l = part_end k 65 whole l
 
     module _ (three : List ℕ) where
-      pub given-vertical : left + cost₂ ≤ above + cost₁ → CutGiven two (65 * whole) beside Vertical down slot three → CellGiven z how whole (row_count r) (column_count c) above left work (left + cost₂) three
+      pub given-vertical : left + cost₂ ≤ above + cost₁ → CutGiven two (65 * whole) beside Vertical down slot three → CellGiven tab (row_count r) (column_count c) above left work (left + cost₂) three
       unfolding chosen by_seam
       given-vertical less g =
           let cut : picture_at (left_along Vertical beside) slot three ≡ cut_along Vertical beside (seam_along how Vertical beside (picture_at beside (c * whole) one)) (picture_at beside (c * whole) one) =
@@ -155,7 +155,7 @@ module _ (tab : Table) where
             others = others_kept (65 * whole) beside three down Vertical (omega (arith, smaller-few z (r + 1) c, tab.whole_is)) (omega arith) g;
           }
 
-      pub given-horizontal : above + cost₁ < left + cost₂ → CutGiven two (67 * whole) upper Horizontal across slot three → CellGiven z how whole (row_count r) (column_count c) above left work (above + cost₁) three
+      pub given-horizontal : above + cost₁ < left + cost₂ → CutGiven two (67 * whole) upper Horizontal across slot three → CellGiven tab (row_count r) (column_count c) above left work (above + cost₁) three
       unfolding chosen by_seam
       given-horizontal less g =
           let cut : picture_at (left_along Horizontal upper) slot three ≡ cut_along Horizontal upper (seam_along how Horizontal upper (picture_at upper slot work)) (picture_at upper slot work) =

@@ -58,14 +58,14 @@ table_cells how z p n first same (suc r) c h =
     next-same how z r n (row_below how z first r) (cell_at how z p r) (table_cells how z p n first same r) c h ∙ along_cells how z p r c
 
 -- A cell written into slot j, with its total; the others are as they were.
-module _ (z : Size) (whole r j v : ℕ) (work' totals : List ℕ) where
-  pub held_new : j < length totals → held z whole (row_count r) work' (set totals j v) j ≡ record { picture = picture_at (smaller z r j) (j * whole) work'; total = v }
-  held_new h = ap (λ t. record { picture = picture_at (smaller z r j) (j * whole) work'; total = t }) (get_or-set_same totals j v 0 h)
+module _ (tab : Table) (r j v : ℕ) (work' totals : List ℕ) where
+  pub held_new : j < length totals → held tab (row_count r) work' (set totals j v) j ≡ record { picture = picture_at (smaller tab.size.size r j) (j * tab.whole) work'; total = v }
+  held_new h = ap (λ t. record { picture = picture_at (smaller tab.size.size r j) (j * tab.whole) work'; total = t }) (get_or-set_same totals j v 0 h)
 
-  pub held-other : (work : List ℕ) (k : ℕ) → whole ≡ picture_bytes z → (k ≡ j → ⊥) → part_at (k * whole) whole work' ≡ part_at (k * whole) whole work
-      → held z whole (row_count r) work' (set totals j v) k ≡ held z whole (row_count r) work totals k
-  held-other work k is other same =
-      ap₂ (λ p t. record { picture = p; total = t }) (same_picture z whole r k (k * whole) work' work is same) (get_or-set_other totals j k v 0 other)
+  pub held-other : (work : List ℕ) (k : ℕ) → (k ≡ j → ⊥) → part_at (k * tab.whole) tab.whole work' ≡ part_at (k * tab.whole) tab.whole work
+      → held tab (row_count r) work' (set totals j v) k ≡ held tab (row_count r) work totals k
+  held-other work k other same =
+      ap₂ (λ p t. record { picture = p; total = t }) (same_picture tab.size.size tab.whole r k (k * tab.whole) work' work tab.whole_is same) (get_or-set_other totals j k v 0 other)
 
 -- A total stored, under a bound of all.
 pub set_small : (totals : List ℕ) (j v most : ℕ) → ((k : ℕ) → get_or totals k 0 ≤ most) → v ≤ most → (k : ℕ) → get_or (set totals j v) k 0 ≤ most
@@ -101,11 +101,11 @@ slot_kept z how whole work work' is from r c x p j cost behind g k l other =
     (⊎_elim (λ (h : k * whole + whole ≤ j * whole). inl h) (λ (h : j * whole + whole ≤ k * whole). inr (omega arith)) (slots_apart k j whole other))
 
 -- The first row up to column j.
-pub record FirstSoFar (z : Size) (how : Method) (whole c : ℕ) (work₀ totals₀ : List ℕ) (j : ℕ) (work totals : List ℕ) : Type 0 where
+pub record FirstSoFar (tab : Table) (c : ℕ) (work₀ totals₀ : List ℕ) (j : ℕ) (work totals : List ℕ) : Type 0 where
   pub inside : j ≤ c
   pub long : length work ≡ length work₀
   pub totals_long : length totals ≡ 65
-  pub cells_are : (k : ℕ) → k ≤ j → held z whole (row_count 0) work totals k ≡ first_row how z (held z whole (row_count 0) work₀ totals₀ 0) k
+  pub cells_are : (k : ℕ) → k ≤ j → held tab (row_count 0) work totals k ≡ first_row tab.method tab.size.size (held tab (row_count 0) work₀ totals₀ 0) k
   pub small : (k : ℕ) → get_or totals k 0 ≤ j * most_cost
 
 -- An index up to one more is the one more or is not.
@@ -126,17 +126,17 @@ module _ (tab : Table) (c : ℕ) (work₀ totals₀ : List ℕ) (needed : FirstR
   abbrev whole : ℕ
   whole = tab.whole
 
-  pub first_start : FirstSoFar z how whole c work₀ totals₀ 0 work₀ totals₀
+  pub first_start : FirstSoFar tab c work₀ totals₀ 0 work₀ totals₀
   unfolding first_row
   first_start = record {
     inside = omega arith;
     long = refl;
     totals_long = many;
-    cells_are = λ k h. let e : 0 ≡ k = omega arith in subst (λ i. held z whole (row_count 0) work₀ totals₀ i ≡ first_row how z (held z whole (row_count 0) work₀ totals₀ 0) i) e refl;
+    cells_are = λ k h. let e : 0 ≡ k = omega arith in subst (λ i. held tab (row_count 0) work₀ totals₀ i ≡ first_row how z (held tab (row_count 0) work₀ totals₀ 0) i) e refl;
     small = λ k. omega (arith, needed.none k);
   }
 
-  module _ (j : ℕ) (work totals : List ℕ) (inside : j < c) (so_far : FirstSoFar z how whole c work₀ totals₀ j work totals) where
+  module _ (j : ℕ) (work totals : List ℕ) (inside : j < c) (so_far : FirstSoFar tab c work₀ totals₀ j work totals) where
     space : SpaceNeeded tab (length work)
     space = rw so_far.long needed.fits.space
 
@@ -149,24 +149,24 @@ module _ (tab : Table) (c : ℕ) (work₀ totals₀ : List ℕ) (needed : FirstR
     }
 
     pub first-turn : (cost : ℕ) (work' : List ℕ) → StepGiven work (j * whole) (smaller z 0 j) how Vertical (65 * whole) ((j + 1) * whole) cost work'
-        → FirstSoFar z how whole c work₀ totals₀ (j + 1) work' (set totals (j + 1) (get_or totals j 0 + cost))
+        → FirstSoFar tab c work₀ totals₀ (j + 1) work' (set totals (j + 1) (get_or totals j 0 + cost))
     unfolding first_row
     first-turn cost work' g =
         let v = get_or totals j 0 + cost in
-        let F = first_row how z (held z whole (row_count 0) work₀ totals₀ 0) in
+        let F = first_row how z (held tab (row_count 0) work₀ totals₀ 0) in
         record {
           inside = omega arith;
           long = g.long ∙ so_far.long;
           totals_long = length-set totals (j + 1) v ∙ so_far.totals_long;
-          cells_are = up_to {P = λ k. held z whole (row_count 0) work' (set totals (j + 1) (get_or totals j 0 + cost)) k ≡ first_row how z (held z whole (row_count 0) work₀ totals₀ 0) k} j
+          cells_are = up_to {P = λ k. held tab (row_count 0) work' (set totals (j + 1) (get_or totals j 0 + cost)) k ≡ first_row how z (held tab (row_count 0) work₀ totals₀ 0) k} j
               (λ k h.
-              held-other z whole 0 (j + 1) v work' totals work k tab.whole_is (λ e. omega arith)
+              held-other tab 0 (j + 1) v work' totals work k (λ e. omega arith)
               (slot_kept z how whole work work' tab.whole_is (j * whole) 0 j Vertical 65 (j + 1) cost (omega arith) g k (omega (arith, needed.fits.column)) (λ e. omega arith))
               ∙ so_far.cells_are k h)
-              (held_new z whole 0 (j + 1) v work' totals (omega (arith, so_far.totals_long, needed.fits.column))
+              (held_new tab 0 (j + 1) v work' totals (omega (arith, so_far.totals_long, needed.fits.column))
               ∙ ap (λ u. record { picture = picture_at u ((j + 1) * whole) work'; total = v }) (sym (less-column z 0 j))
               ∙ step-cell work (j * whole) (smaller z 0 j) how Vertical (65 * whole) ((j + 1) * whole) cost work' (get_or totals j 0) g
               ∙ ap (by_seam how Vertical (smaller z 0 j)) (so_far.cells_are j (omega arith))
-              ∙ ap (first_row how z (held z whole (row_count 0) work₀ totals₀ 0)) (sym (add-one j)));
+              ∙ ap (first_row how z (held tab (row_count 0) work₀ totals₀ 0)) (sym (add-one j)));
           small = set_small totals (j + 1) v ((j + 1) * most_cost) (λ k. omega (arith, so_far.small k)) (omega (arith, so_far.small j, g.cost_most));
         }

@@ -49,7 +49,7 @@ impl Table {
         left: u64,
     ) -> u64
         requires { CellNeeded self rows columns above left (length work.old) }
-        ensures { CellGiven self.size.size self.method self.whole rows columns above left work.old result work.new }
+        ensures { CellGiven self rows columns above left work.old result work.new }
     {
         let from = columns.0 * self.whole;
         let slot = (columns.0 + 1) * self.whole;

@@ -11,7 +11,7 @@ impl Table {
     // Row 0, from the picture in slot 0.
     pub(crate) fn first_row(self, work: &mut [u8], columns: Columns, totals: &mut [u64; SLOTS])
         requires { FirstRowNeeded self columns work.old totals.old }
-        ensures { RowGiven self.size.size self.whole (row_count 0) columns (first_row self.method self.size.size (held self.size.size self.whole (row_count 0) work.old totals.old 0)) work.old work.new totals.new }
+        ensures { RowGiven self (row_count 0) columns (first_row self.method self.size.size (held self (row_count 0) work.old totals.old 0)) work.old work.new totals.new }
     {
         // by index: j is a count of columns, and names a slot
         for j in 0..columns.0 {
@@ -24,7 +24,7 @@ impl Table {
     // The row below row `rows`, whose first cell stands in slot 0 already.
     fn rest_of_row(self, work: &mut [u8], rows: Rows, columns: Columns, totals: &mut [u64; SLOTS])
         requires { RestOfRowNeeded self rows columns work.old totals.old }
-        ensures { RowGiven self.size.size self.whole (row_more rows) columns (along_row self.method self.size.size rows (held self.size.size self.whole (row_more rows) work.old totals.old 0) (held self.size.size self.whole rows work.old totals.old)) work.old work.new totals.new }
+        ensures { RowGiven self (row_more rows) columns (along_row self.method self.size.size rows (held self (row_more rows) work.old totals.old 0) (held self rows work.old totals.old)) work.old work.new totals.new }
     {
         // by index, for the same reason
         for j in 0..columns.0 {
@@ -35,7 +35,7 @@ impl Table {
     // The row below row `rows`.
     fn next_row(self, work: &mut [u8], rows: Rows, columns: Columns, totals: &mut [u64; SLOTS])
         requires { NextRowNeeded self rows columns work.old totals.old }
-        ensures { RowGiven self.size.size self.whole (row_more rows) columns (next_row self.method self.size.size rows (held self.size.size self.whole rows work.old totals.old)) work.old work.new totals.new }
+        ensures { RowGiven self (row_more rows) columns (next_row self.method self.size.size rows (held self rows work.old totals.old)) work.old work.new totals.new }
     {
         let seam = self.seam(rows, Columns(0), Axis::Horizontal);
         let cost = seam.step(work, 0, 0);
@@ -52,7 +52,7 @@ impl Table {
         totals: &mut [u64; SLOTS],
     )
         requires { RowsBelowNeeded self rows columns work.old totals.old }
-        ensures { RowGiven self.size.size self.whole rows columns (table_row self.method self.size.size (held self.size.size self.whole (row_count 0) work.old totals.old) rows) work.old work.new totals.new }
+        ensures { RowGiven self rows columns (table_row self.method self.size.size (held self (row_count 0) work.old totals.old) rows) work.old work.new totals.new }
     {
         for i in 0..rows.0 {
             self.next_row(work, Rows(i), columns, totals);

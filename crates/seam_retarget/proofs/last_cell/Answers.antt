@@ -55,7 +55,7 @@ returns c =
     let one = c.first_row in
     let two = c.rows_below in
     let count = c.picture_bytes-count in
-    answer (table_of b a.size a.method c.requires.sized) b refl a.rows a.columns a.out.now a.work.now c.requires _ (ap (◌++ drop (length b) a.work.now) c.copy_from_slice.ensures.after)
+    answer _ b refl a.rows a.columns a.out.now a.work.now c.requires _ (ap (◌++ drop (length b) a.work.now) c.copy_from_slice.ensures.after)
     blank one.new.work one.new.totals (no_totals 65) one.ensures two.new.work two.new.totals two.ensures
     count.result (count.ensures.0 ∙ ap picture_bytes c.cell_size.ensures)
     _ c.clear.new.space (ap (◌++ drop count.result a.out.now) c.copy_from_slice-2.ensures.after) c.clear.ensures

@@ -1,7 +1,5 @@
 -- One cell of the table, in its slot of the work space. What private functions ask and promise; no public promise cites it.
 use Rattle.std.specs.Prelude.{◌≡◌, List, ℕ, ◌+◌, ◌*◌, ◌≤◌, ◌<◌, length}
-use Rattle.pictures.specs.declared.sizes.Size.{Size}
-use Rattle.energy.specs.declared.methods.Method.{Method}
 use Rattle.energy.specs.Bounds.{most_cost}
 use Rattle.seam_moves.specs.Between.{part_at}
 use Rattle.seam_rules.specs.declared.answers.Axis.{Axis}
@@ -60,12 +58,12 @@ pub record CellNeeded (tab : Table) (rows : Rows) (columns : Columns) (above lef
   pub left_small : left ≤ 2 * largest_count * most_cost
 
 -- The cell in its slot, its total, and every other slot as it was.
-pub record CellGiven (z : Size) (how : Method) (whole : ℕ) (rows : Rows) (columns : Columns) (above left : ℕ) (work : List ℕ) (total : ℕ) (work' : List ℕ) : Type 0 where
+pub record CellGiven (tab : Table) (rows : Rows) (columns : Columns) (above left : ℕ) (work : List ℕ) (total : ℕ) (work' : List ℕ) : Type 0 where
   pub cell_is :
-      record { picture = picture_at (left_size z (row_more rows) (column_more columns)) (slot_at whole (column_more columns)) work'; total = total }
+      record { picture = picture_at (left_size tab.size.size (row_more rows) (column_more columns)) (slot_at tab.whole (column_more columns)) work'; total = total }
       ≡ chosen
-      (by_seam how Vertical (left_size z (row_more rows) columns) (record { picture = picture_at (left_size z (row_more rows) columns) (slot_at whole columns) work; total = left }))
-      (by_seam how Horizontal (left_size z rows (column_more columns)) (record { picture = picture_at (left_size z rows (column_more columns)) (slot_at whole (column_more columns)) work; total = above }))
+      (by_seam tab.method Vertical (left_size tab.size.size (row_more rows) columns) (record { picture = picture_at (left_size tab.size.size (row_more rows) columns) (slot_at tab.whole columns) work; total = left }))
+      (by_seam tab.method Horizontal (left_size tab.size.size rows (column_more columns)) (record { picture = picture_at (left_size tab.size.size rows (column_more columns)) (slot_at tab.whole (column_more columns)) work; total = above }))
   pub small : total ≤ above + most_cost
   pub long : length work' ≡ length work
-  pub others : (k : ℕ) → k < slots → (k ≡ (column_more columns).0 → ⊥) → part_at (k * whole) whole work' ≡ part_at (k * whole) whole work
+  pub others : (k : ℕ) → k < slots → (k ≡ (column_more columns).0 → ⊥) → part_at (k * tab.whole) tab.whole work' ≡ part_at (k * tab.whole) tab.whole work

@@ -13,8 +13,8 @@ use Rattle.seam_retarget.specs.Inner.Seams.{picture_at}
 use Rattle.seam_retarget.specs.Inner.Cells.{slots, slot_at, SpaceNeeded, row_more}
 
 -- The cell of this row of the table that stands in slot j, with its total: j columns are removed from it.
-abbrev pub held : Size → ℕ → Rows → List ℕ → List ℕ → ℕ → Cell
-held z whole rows work totals j = record { picture = picture_at (left_size z rows (column_count j)) (slot_at whole (column_count j)) work; total = get_or totals j 0 }
+abbrev pub held : Table → Rows → List ℕ → List ℕ → ℕ → Cell
+held tab rows work totals j = record { picture = picture_at (left_size tab.size.size rows (column_count j)) (slot_at tab.whole (column_count j)) work; total = get_or totals j 0 }
 
 -- The first row of cells from its first; a later row from its first and the row above it, and from the row above alone; and
 -- a row from the first row.
@@ -52,8 +52,8 @@ pub record RowNeeded (tab : Table) (rows : Rows) (columns : Columns) (work total
   pub column : columns.0 < slots
 
 -- A row up to a count of columns, with its totals.
-pub record RowGiven (z : Size) (whole : ℕ) (rows : Rows) (columns : Columns) (cells : ℕ → Cell) (work work' totals' : List ℕ) : Type 0 where
-  pub cells_are : (j : ℕ) → j ≤ columns.0 → held z whole rows work' totals' j ≡ cells j
+pub record RowGiven (tab : Table) (rows : Rows) (columns : Columns) (cells : ℕ → Cell) (work work' totals' : List ℕ) : Type 0 where
+  pub cells_are : (j : ℕ) → j ≤ columns.0 → held tab rows work' totals' j ≡ cells j
   pub small : (j : ℕ) → get_or totals' j 0 ≤ largest_total rows.0
   pub long : length work' ≡ length work
 

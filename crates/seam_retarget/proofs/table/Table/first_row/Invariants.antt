@@ -3,4 +3,4 @@ use Rattle.seam_retarget.proofs.Sweep.{FirstSoFar}
 use Rattle.seam_retarget.proofs.table.Table.first_row.Given as goal
 
 abbrev pub invariant-loop-j : goal.invariant-loop-j
-invariant-loop-j l = FirstSoFar l.fn.self.size.size l.fn.self.method l.fn.self.whole l.fn.columns.0 l.initial.work l.initial.totals l.j l.work l.totals
+invariant-loop-j l = FirstSoFar l.fn.self l.fn.columns.0 l.initial.work l.initial.totals l.j l.work l.totals

@@ -4,4 +4,4 @@ use Rattle.seam_retarget.proofs.Below.{RestSoFar}
 use Rattle.seam_retarget.proofs.table.Table.rest_of_row.Given as goal
 
 abbrev pub invariant-loop-j : goal.invariant-loop-j
-invariant-loop-j l = RestSoFar l.fn.self.size.size l.fn.self.method l.fn.self.whole l.fn.rows.0 l.fn.columns.0 l.initial.work l.initial.totals l.j l.work l.totals
+invariant-loop-j l = RestSoFar l.fn.self l.fn.rows.0 l.fn.columns.0 l.initial.work l.initial.totals l.j l.work l.totals

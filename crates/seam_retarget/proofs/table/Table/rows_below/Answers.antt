@@ -6,7 +6,7 @@ use Rattle.seam_retarget.proofs.table.Table.rows_below.Goals as goal
 pub loop-i-init : goal.loop-i-init
 loop-i-init c =
     let a = c.args in
-    (omega arith, below_start a.self.size.size a.self.method a.self.whole a.columns.0 a.work.now a.totals.now c.requires.small)
+    (omega arith, below_start a.self a.columns.0 a.work.now a.totals.now c.requires.small)
 
 pub loop-i-preserved : goal.loop-i-preserved
 loop-i-preserved c =
@@ -14,5 +14,5 @@ loop-i-preserved c =
     let head = c.loop-i in
     let next = c.next_row in (
       omega (arith, c.loop-i-test.true),
-      below_turn a.self.size.size a.self.method a.self.whole a.columns.0 a.work.now a.totals.now head.i head.work head.totals next.new.work next.new.totals head.invariant.1 next.ensures,
+      below_turn a.self a.columns.0 a.work.now a.totals.now head.i head.work head.totals next.new.work next.new.totals head.invariant.1 next.ensures,
     )

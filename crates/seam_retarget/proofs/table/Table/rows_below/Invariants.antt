@@ -7,5 +7,5 @@ use Rattle.seam_retarget.proofs.table.Table.rows_below.Given as goal
 abbrev pub invariant-loop-i : goal.invariant-loop-i
 invariant-loop-i l =
     (l.i ≤ l.fn.rows.0)
-    × RowGiven l.fn.self.size.size l.fn.self.whole (row_count l.i) l.fn.columns
-    (table_row l.fn.self.method l.fn.self.size.size (held l.fn.self.size.size l.fn.self.whole (row_count 0) l.initial.work l.initial.totals) (row_count l.i)) l.initial.work l.work l.totals
+    × RowGiven l.fn.self (row_count l.i) l.fn.columns
+    (table_row l.fn.self.method l.fn.self.size.size (held l.fn.self (row_count 0) l.initial.work l.initial.totals) (row_count l.i)) l.initial.work l.work l.totals
