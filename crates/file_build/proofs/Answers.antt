@@ -13,7 +13,8 @@ use Rattle.grids.proofs.Shapes.{grid_of}
 use Rattle.grids.proofs.Parts.{part_length}
 use Rattle.pictures.specs.Limits.{most_pixels}
 use Rattle.pictures.specs.declared.sizes.Size.{Size}
-use Rattle.pictures.specs.declared.refusals.Verdict.{Verdict}
+use Rattle.std.specs.Prelude.{Result}
+use Rattle.pictures.specs.declared.refusals.Refusal.{Refusal}
 use Rattle.pictures.specs.Refusals.{◌when◌, refusal, served}
 use Rattle.pictures.specs.Pictures.{picture_bytes, size_rules, picture, pixels, picture_in}
 use Rattle.grids.proofs.Bools.{both}
@@ -30,13 +31,11 @@ use Rattle.map_rules.specs.Spaces.{map_bytes, map_at, map_space_rules}
 use Rattle.map_rules.proofs.Rooms.{map_bytes_lem, room-served}
 use Rattle.map_build.specs.Building.{mapped, MapInGiven}
 use Rattle.map_build.proofs.Steps.{take-map}
-use Rattle.text_print.specs.Inner.{Printed}
-use Rattle.text_print.proofs.Written.{printed_front}
 use Rattle.file_theory.specs.Contents.{choose_of, file_of}
 use Rattle.file_theory.proofs.Heads.{head_chooses}
 use Rattle.file_theory.specs.Rules.{work_rule}
 use Rattle.file_build.specs.Building.{file_in}
-use Rattle.file_build.specs.Inner.Lines.{map_in, parts_in, PrintNeeded}
+use Rattle.file_build.specs.Inner.Lines.{map_in, parts_in}
 use Rattle.file_build.specs.Inner.Building.{BuildNeeded, FileGiven}
 use Rattle.file_build.proofs.PictureRows.{of_size_lem}
 
@@ -89,10 +88,10 @@ module _ (b : List ℕ) (h : Head) (out work : List ℕ) (needed : BuildNeeded b
         let r = rooms_are in
         ap (picture h.size) (ap (take (picture_bytes h.size)) copied ∙ take_at b (drop (length b) work) (picture_bytes h.size) r.sure.length_is)
 
-    none : refusal (map_space_rules h.size h.depth (length one) 1) ≡ 0
+    pub none : refusal (map_space_rules h.size h.depth (length one) 1) ≡ 0
     none = let r = rooms_are in room-served h.size h.depth (length one) 1 (sides_served h.size (length b) r.sized) r.deep (omega (arith, r.front, one-long))
 
-    module _ (v : Verdict) (two : List ℕ) (g : MapInGiven one h.size h.method h.depth v two) where
+    module _ (v : Result (Unit {0}) Refusal) (two : List ℕ) (g : MapInGiven one h.size h.method h.depth v two) where
       two_is : two ≡ mapped h.size h.method h.depth (picture h.size b) ++ drop (map_at h.size + map_bytes h.size) one
       two_is =
           let new = mapped h.size h.method h.depth (picture_in h.size one) ++ drop (map_at h.size + map_bytes h.size) one in
@@ -108,7 +107,7 @@ module _ (b : List ℕ) (h : Head) (out work : List ℕ) (needed : BuildNeeded b
             rw (n, at-is, two_is) (take-map h.size h.method (picture h.size b) (of_size_lem h.size b r.sized) h.depth r.deep (drop (map_at h.size + map_bytes h.size) one))
 
         -- The file printed from it.
-        text_is : text (parts_in h b (take (end - at) (drop at two))) ≡ file_in h b
+        pub text_is : text (parts_in h b h.size.width h.size.height (take (end - at) (drop at two))) ≡ file_in h b
         unfolding file_of
         text_is =
             let r = rooms_are in
@@ -120,19 +119,18 @@ module _ (b : List ℕ) (h : Head) (out work : List ℕ) (needed : BuildNeeded b
           pub inside : end ≤ length two
           inside = omega (arith, rooms_are.front, one-long, at-is, end_is)
 
-          pub print-needed : PrintNeeded b h (take (end - at) (drop at two)) out
-          print-needed = record {
-            sized = rooms_are.sized;
-            long = part_length at end two inside ∙ omega (arith, end_is);
-            room = rw text_is rooms_are.out_room;
-          }
+          pub map-long : length (take (end - at) (drop at two)) ≡ h.size.height * (2 * h.size.width)
+          map-long = part_length at end two inside ∙ omega (arith, end_is)
+
+          pub text-room : length (text (parts_in h b h.size.width h.size.height (take (end - at) (drop at two)))) ≤ length out
+          text-room = rw text_is rooms_are.out_room
 
           -- The output space with the file at its front, and the work space cleared.
-          pub file-given : (n : ℕ) (out' work' : List ℕ) → Printed out 0 (text (parts_in h b (take (end - at) (drop at two)))) out' n → work' ≡ replicate (length two) 0 → FileGiven b h out work n out' work'
-          file-given n out' work' p cleared =
-              let q : Printed out 0 (file_in h b) out' n = rw text_is at p in
-              record {
-                length_is = omega (arith, q.end_is);
-                out_is = printed_front (file_in h b) q rooms_are.out_room;
-                work_is = cleared ∙ ap (λ k. replicate k 0) (two-long ∙ one-long);
-              }
+          pub file-given : (n : ℕ) (out' work' : List ℕ) → n ≡ length (text (parts_in h b h.size.width h.size.height (take (end - at) (drop at two))))
+              → out' ≡ text (parts_in h b h.size.width h.size.height (take (end - at) (drop at two))) ++ drop (length (text (parts_in h b h.size.width h.size.height (take (end - at) (drop at two))))) out
+              → work' ≡ replicate (length two) 0 → FileGiven b h out work n out' work'
+          file-given n out' work' long printed cleared = record {
+            length_is = long ∙ ap length text_is;
+            out_is = printed ∙ ap (λ t. t ++ drop (length t) out) text_is;
+            work_is = cleared ∙ ap (λ k. replicate k 0) (two-long ∙ one-long);
+          }

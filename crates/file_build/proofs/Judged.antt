@@ -1,17 +1,18 @@
 -- What size, range and work space say where none of them is refused.
-use mathlib.Core.Path.{◌≡◌, refl}
+use mathlib.Core.Path.{◌≡◌, refl, sym, ◌∙◌}
 use mathlib.Core.Bool.{Bool, true, false, not, cond}
 use mathlib.Core.List.{List, [], ◌∷◌}
-use Prim.Native.Nat.{ℕ, ◌*◌}
-use borrow.Author.Tests.{not-false}
+use Prim.Native.Nat.{ℕ, ◌*◌, ◌≤◌, ◌<◌}
+use borrow.Author.Tests.{not-false, lt-ltb, le-ltb}
 use lib.Dec.{ltb}
 use lib.ListN.{length}
-use Rattle.pictures.specs.Refusals.{◌when◌, refusal}
+use Rattle.pictures.specs.Refusals.{Rule, ◌when◌, refusal}
 use Rattle.pictures.specs.Pictures.{size_rules, pixels}
-use Rattle.pictures.proofs.Rules.{served-both, passed}
+use Rattle.pictures.proofs.Rules.{served-first, served-both, passed}
 use Rattle.map_theory.specs.Widths.{allowed}
 use Rattle.text_theory.specs.declared.Head.{Head}
-use Rattle.file_theory.specs.Rules.{work_rule}
+use Rattle.file_theory.specs.Rules.{work_rule, build_rules}
+use Rattle.file_build.specs.Building.{file_in}
 use Rattle.file_rules.specs.Spaces.{build_space_rules}
 
 module _ (b : List ℕ) (h : Head) (out work : ℕ) where
@@ -32,3 +33,16 @@ module _ (b : List ℕ) (h : Head) (out work : ℕ) where
       let parts = served-both (size_rules h.size (length b)) (6 when not range ∷ work_rule h.size work ∷ []) refl e in
       let first = passed (not range) 5 (cond short 8 0) parts.1 in
       record { sized = parts.0; ranged = not-false range first.0; roomy = (passed short 7 0 first.1).0 }
+
+  -- Then the output space decides.
+  module _ (r : Ready) where
+    rest : List Rule
+    rest = 6 when not range ∷ 8 when ltb out (length (file_in h b)) ∷ work_rule h.size work ∷ []
+
+    pub too-short : out < length (file_in h b) → 8 ≡ refusal (build_rules b h out work)
+    unfolding rest
+    too-short l = sym (served-first (size_rules h.size (length b)) rest refl r.sized ∙ rw (r.ranged, lt-ltb out (length (file_in h b)) l))
+
+    pub long-enough : length (file_in h b) ≤ out → 0 ≡ refusal (build_rules b h out work)
+    unfolding rest
+    long-enough l = sym (served-first (size_rules h.size (length b)) rest refl r.sized ∙ rw (r.ranged, le-ltb out (length (file_in h b)) l, r.roomy))

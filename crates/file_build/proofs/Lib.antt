@@ -1,7 +1,6 @@
-pub mod Lined
-pub mod PictureRows
+pub mod Onward
 pub mod MapRows
-pub mod Printing
+pub mod PictureRows
+pub mod Judged
 pub mod Fits
 pub mod Answers
-pub mod Judged

@@ -1,18 +1,19 @@
 -- The rows of a map: read from bytes, and how long their lines are.
 use mathlib.Core.Path.{◌≡◌, refl, sym, ap, ◌∙◌}
 use mathlib.Core.List.{List, [], ◌∷◌, ◌++◌}
-use Prim.Native.Nat.{ℕ, zero, suc, ◌+◌, ◌-◌, ◌*◌, ◌≤◌, ◌<◌}
+use Prim.Native.Nat.{ℕ, zero, suc, ◌+◌, ◌-◌, ◌*◌, ◌/◌, ◌≤◌, ◌<◌}
 use native.Mathlib.Omega.{arith}
-use lib.ListN.{length, get_or, take, drop, replicate, length-drop}
-use lib.Seq.{take-append-add, take_at, length-take-le}
+use lib.ListN.{length, get_or, take, drop, replicate}
+use lib.Seq.{take-append-add}
 use Rattle.grids.specs.Table.{table}
-use Rattle.grids.specs.Rows.{row_at}
 use Rattle.grids.proofs.Tables.{length-table}
 use Rattle.grids.proofs.Rows.{rows_of_at, length-rows_of}
 use Rattle.seam_theory.specs.Paths.{run}
 use Rattle.seam_theory.proofs.Members.{run-append}
 use Rattle.text_theory.specs.Decimal.{digits}
-use Rattle.text_theory.specs.Files.{map_word, line_text, map_text}
+use Rattle.std.specs.Simd.{first_chunks}
+use Rattle.text_print.specs.Marks.{two_bytes_text}
+use Rattle.text_theory.specs.Files.{blank, each, map_word, line_text, map_text}
 use Rattle.text_theory.specs.Lengths.{total, spaced, map_length}
 use Rattle.text_theory.proofs.Decimals.{digits_small}
 use Rattle.text_theory.proofs.Lengths.{map_length_lem}
@@ -25,17 +26,28 @@ use Rattle.pictures.specs.Pictures.{largest_side}
 pub maps-many : (w h : ℕ) (b : List ℕ) → length (map_in w h b) ≡ h
 maps-many w h b = length-rows_of w h (numbers_in b)
 
--- The line of row r, its numbers read from the part of the bytes where it stands.
-pub map_line_lem : (w h r : ℕ) (b row rest : List ℕ) → r < h → r * (2 * w) + 2 * w ≤ length b → row ≡ numbers_in (take (r * (2 * w) + 2 * w - r * (2 * w)) (drop (r * (2 * w)) b)) ++ rest
-    → map_text (take w row) ≡ map_word ++ line_text digits (get_or (map_in w h b) r [])
-unfolding map_text
-map_line_lem w h r b row rest l fits e =
+-- The numbers of a row, put from their bytes.
+each_pairs : (q : List ℕ) → each blank two_bytes_text (first_chunks 2 (length (numbers_in q)) q) ≡ each blank digits (numbers_in q)
+unfolding each
+each_pairs [] = refl
+each_pairs (a ∷ []) = refl
+each_pairs (a ∷ c ∷ r) = rw (each_pairs r)
+
+line_pairs : (q : List ℕ) → line_text two_bytes_text (first_chunks 2 (length q / 2) q) ≡ line_text digits (numbers_in q)
+unfolding line_text
+line_pairs q = let e : length q / 2 ≡ length (numbers_in q) = sym (length-numbers q) in rw (e, each_pairs q)
+
+-- The line of row r, from the part of the bytes where its numbers stand.
+abbrev pub row_bytes : ℕ → ℕ → List ℕ → List ℕ
+row_bytes w r b = take (r * (2 * w) + 2 * w - r * (2 * w)) (drop (r * (2 * w)) b)
+
+pub map_line_lem : (w h r : ℕ) (b : List ℕ) → r < h
+    → map_word ++ line_text two_bytes_text (first_chunks 2 (length (row_bytes w r b) / 2) (row_bytes w r b)) ≡ map_word ++ line_text digits (get_or (map_in w h b) r [])
+map_line_lem w h r b l =
     let n : r * (2 * w) + 2 * w - r * (2 * w) ≡ 2 * w = omega arith in
-    let long : length (row_at (2 * w) r b) ≡ 2 * w = length-take-le (2 * w) (drop (r * (2 * w)) b) (omega (arith, length-drop (r * (2 * w)) b)) in
-    let many : length (numbers_in (row_at (2 * w) r b)) ≡ w = omega (arith, length-numbers (row_at (2 * w) r b), long) in
-    let numbers : take w row ≡ numbers_in (row_at (2 * w) r b) =
-    ap (take w) (e ∙ ap (λ k. numbers_in (take k (drop (r * (2 * w)) b)) ++ rest) n) ∙ take_at (numbers_in (row_at (2 * w) r b)) rest w many in
-    ap map_text (numbers ∙ numbers-row w r b ∙ sym (rows_of_at w h (numbers_in b) r l))
+    let is : numbers_in (row_bytes w r b) ≡ get_or (map_in w h b) r [] =
+    ap (λ k. numbers_in (take k (drop (r * (2 * w)) b))) n ∙ numbers-row w r b ∙ sym (rows_of_at w h (numbers_in b) r l) in
+    ap (λ t. map_word ++ t) (line_pairs (row_bytes w r b) ∙ ap (line_text digits) is)
 
 -- The numbers in their order.
 pub run-table : (k : ℕ) → table (λ t. t + 1) k ≡ run 1 k

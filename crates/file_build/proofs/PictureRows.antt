@@ -1,23 +1,28 @@
 -- The rows of a picture as parts of its bytes: the pixels that stand in them, and how long their lines are.
 use mathlib.Core.Path.{◌≡◌, sym, ap, ◌∙◌}
 use mathlib.Core.List.{List, [], ◌++◌}
-use Prim.Native.Nat.{ℕ, ◌/◌, ◌<◌}
+use Prim.Native.Nat.{ℕ, ◌+◌, ◌/◌, ◌<◌}
 use native.Mathlib.Nat.{mul-div_cancel}
 use native.Mathlib.Omega.{arith}
-use lib.ListN.{length, get_or}
+use lib.ListN.{length, get_or, length-append}
 use Rattle.grids.specs.Rows.{rows_of, row_at}
-use Rattle.grids.proofs.Shapes.{get_or-map, each_at, each-length}
+use Rattle.grids.proofs.Shapes.{get_or-map, each-length}
 use Rattle.grids.proofs.Rows.{length-rows_of, rows_of_at, length-row_at}
+use Rattle.pictures.specs.declared.sizes.Kind.{Kind}
 use Rattle.pictures.specs.declared.sizes.Size.{Size}
 use Rattle.pictures.specs.Refusals.{refusal}
 use Rattle.pictures.specs.Pictures.{channels_of, row_bytes, size_rules, picture, row_of, OfSize}
 use Rattle.pictures.proofs.Limits.{sized_is}
 use Rattle.pictures.proofs.Buffers.{picture-of_size, row_is}
-use Rattle.text_theory.specs.Files.{row_word, pixel_text, line_text, row_text}
-use Rattle.text_theory.specs.Lengths.{row_length}
-use Rattle.text_theory.proofs.Lengths.{row_length_lem}
+use Rattle.text_theory.specs.Files.{row_lines, row_word, pixel_text, line_text, row_text}
+use Rattle.text_theory.specs.Lengths.{total, row_length}
+use Rattle.text_theory.proofs.Lengths.{Counted, each-length as each_long, row_length_lem}
 use Rattle.text_lengths.specs.Rooms.{pixels_of}
 use Rattle.file_theory.proofs.Shapes.{all-each}
+
+counted_long : (k : Kind) (row : List (List ℕ)) → Counted k row → length row_word + length (line_text (pixel_text k) row) ≡ row_length k row
+unfolding row_text
+counted_long k row c = sym (length-append row_word (line_text (pixel_text k) row)) ∙ row_length_lem k row c
 
 module _ (z : Size) (b : List ℕ) (sized : refusal (size_rules z (length b)) ≡ 0) where
   pub of_size_lem : OfSize z (picture z b)
@@ -43,14 +48,14 @@ module _ (z : Size) (b : List ℕ) (sized : refusal (size_rules z (length b)) �
         ∙ ap (rows_of ch z.width) (sym (rows_of_at (row_bytes z) z.height b r inside))
         ∙ sym (get_or-map (rows_of ch z.width) (rows_of (row_bytes z) z.height b) r [] [] below)
 
-    -- Its line, and the length of it.
+    -- Its line.
     module _ (row : List ℕ) (is : row ≡ row_of z b r) where
       pub row_line_lem : row_text z.kind (pixels_of z.kind row) ≡ row_word ++ line_text (pixel_text z.kind) (get_or (picture z b) r [])
       unfolding row_text
       row_line_lem = ap (λ x. row_text z.kind (pixels_of z.kind x)) is ∙ ap (row_text z.kind) row-pixels
 
-      pub row-long : length (row_text z.kind (pixels_of z.kind row)) ≡ row_length z.kind (get_or (picture z b) r [])
-      row-long =
-          ap (λ x. length (row_text z.kind (pixels_of z.kind x))) is
-          ∙ ap (λ x. length (row_text z.kind x)) row-pixels
-          ∙ row_length_lem z.kind (get_or (picture z b) r []) (all-each (λ px l. l) (each_at r [] inside of_size_lem))
+  -- How long all its lines are.
+  pub rows_long : length (row_lines z.kind (picture z b)) ≡ total (row_length z.kind) (picture z b)
+  rows_long =
+      each_long row_word (line_text (pixel_text z.kind)) (row_length z.kind) (Counted z.kind) (counted_long z.kind) (picture z b)
+      (all-each (λ row e. all-each (λ px l. l) e) of_size_lem)

@@ -4,5 +4,5 @@
 pub mod counts;
 pub mod spaces;
 
-pub use counts::{counts_agree, lines_fit};
+pub use counts::counts_agree;
 pub use spaces::{judge_build, judge_read_spaces, judge_wanted, judge_work};

@@ -6,11 +6,9 @@ ghost use Rattle.program_netpbm.specs.Outputs.{Wrote, output_space};
 ghost use Rattle.program_netpbm.specs.Inner.{Answered};
 ghost use Rattle.program_filters.specs.Inner.{DrawNeeded, PictureAnswered};
 
-use file_rules::Shown;
-use pictures::{Refusal, Verdict, WORK_A_PIXEL};
-use program_netpbm::{OUTPUT_SPACE, Output};
+use pictures::{Refusal, WORK_A_PIXEL};
+use program_netpbm::OUTPUT_SPACE;
 use program_rules::HELD_PIXELS;
-use text_print::Place;
 use text_read::Cursor;
 
 // What `fit` writes for an input: the picture that the file shows at the width, or a refusal.
@@ -29,28 +27,26 @@ fn width_line(input: &[u8]) -> Option<(usize, Cursor)>
 }
 
 // The picture that the file in the input shows at the width in its first line.
-fn draw(input: &[u8], out: &mut [u8]) -> Output
+fn draw(input: &[u8], out: &mut [u8]) -> Result<usize, Refusal>
     requires { output_space ≤ length out.old }
     ensures { Answered (fit_rules input.now) (picture_answer (width_get input.now)) out.old result out.new }
 {
-    if let Verdict::Refused(why) = program_rules::judge_input(input.len()) {
-        return Output::Refused(why);
-    }
+    program_rules::judge_input(input.len())?;
     let Some((width, c)) = width_line(input) else {
-        return Output::Refused(Refusal::Form);
+        return Err(Refusal::Form);
     };
     let at = c.at;
     draw_file(&input[at..], width, out)
 }
 
 // The picture that a file shows at a width, in a space that is as long as the most pixels of the file's kind.
-fn draw_file(file: &[u8], width: usize, out: &mut [u8]) -> Output
+fn draw_file(file: &[u8], width: usize, out: &mut [u8]) -> Result<usize, Refusal>
     requires { output_space ≤ length out.old }
     ensures { PictureAnswered file.now width out.old result out.new }
 {
     let start = Cursor { at: 0 };
     let Some((head, _)) = start.header(file) else {
-        return Output::Refused(Refusal::Form);
+        return Err(Refusal::Form);
     };
     let size = head.size;
     let kind = size.kind;
@@ -60,22 +56,16 @@ fn draw_file(file: &[u8], width: usize, out: &mut [u8]) -> Output
 }
 
 // The same. Both spaces are just long enough for the most pixels, so showing refuses more by 8, read or written.
-fn draw_in(file: &[u8], width: usize, picture: &mut [u8], out: &mut [u8]) -> Output
+fn draw_in(file: &[u8], width: usize, picture: &mut [u8], out: &mut [u8]) -> Result<usize, Refusal>
     requires { DrawNeeded file.now picture.old out.old }
     ensures { PictureAnswered file.now width out.old result out.new }
 {
     let mut work = [0u8; WORK_A_PIXEL * HELD_PIXELS];
-    match file_read::show(file, width, picture, &mut work) {
-        Shown::Size(size) => {
-            let kind = size.kind;
-            let bytes = size.height * (size.width * pictures::channels(kind));
-            let Place::Next(end) = program_netpbm::print_picture(out, size, &picture[..bytes])
-            else {
-                // unreachable: there is room
-                return Output::Refused(Refusal::Space);
-            };
-            Output::Length(end)
-        }
-        Shown::Refused(why) => Output::Refused(why),
-    }
+    let size = file_read::show(file, width, picture, &mut work)?;
+    let bytes = size.height * (size.width * pictures::channels(size.kind));
+    let Some(end) = program_netpbm::print_picture(out, size, &picture[..bytes]) else {
+        // unreachable: there is room
+        return Err(Refusal::Space);
+    };
+    Ok(end)
 }

@@ -6,9 +6,8 @@ ghost use Rattle.program_netpbm.specs.Outputs.{Wrote, output_space};
 ghost use Rattle.program_netpbm.specs.Inner.{Answered};
 ghost use Rattle.program_filters.specs.Inner.{FileAnswered};
 
-use file_rules::Built;
-use pictures::{Refusal, Size, Verdict, WORK_A_PIXEL};
-use program_netpbm::{Header, OUTPUT_SPACE, Output};
+use pictures::{Refusal, Size, WORK_A_PIXEL};
+use program_netpbm::OUTPUT_SPACE;
 use program_rules::HELD_PIXELS;
 use text_theory::Head;
 
@@ -21,27 +20,24 @@ pub fn seams(input: &[u8], out: &mut [u8; OUTPUT_SPACE]) -> usize
 }
 
 // The file of the picture in the input.
-fn build(input: &[u8], out: &mut [u8]) -> Output
+fn build(input: &[u8], out: &mut [u8]) -> Result<usize, Refusal>
     requires { output_space ≤ length out.old }
     ensures { Answered (seams_rules input.now) (file_answer (header_get input.now)) out.old result out.new }
 {
-    if let Verdict::Refused(why) = program_rules::judge_input(input.len()) {
-        return Output::Refused(why);
-    }
-    let Header::Sized(size, at) = program_netpbm::read_header(input) else {
-        return Output::Refused(Refusal::Form);
+    program_rules::judge_input(input.len())?;
+    let Some((size, c)) = program_netpbm::read_header(input) else {
+        return Err(Refusal::Form);
     };
+    let at = c.at;
     build_file(size, &input[at..], out)
 }
 
 // The file of a picture, with all widths that it can offer.
-fn build_file(size: Size, samples: &[u8], out: &mut [u8]) -> Output
+fn build_file(size: Size, samples: &[u8], out: &mut [u8]) -> Result<usize, Refusal>
     requires { output_space ≤ length out.old }
     ensures { FileAnswered size samples.now out.old result out.new }
 {
-    if let Verdict::Refused(why) = program_rules::judge_held(size, samples.len()) {
-        return Output::Refused(why);
-    }
+    program_rules::judge_held(size, samples.len())?;
     let width = size.width;
     let depth = width - 1;
     let head = Head {
@@ -51,8 +47,5 @@ fn build_file(size: Size, samples: &[u8], out: &mut [u8]) -> Output
         growth: width / 2,
     };
     let mut work = [0u8; WORK_A_PIXEL * HELD_PIXELS];
-    match file_build::build(samples, head, out, &mut work) {
-        Built::Length(n) => Output::Length(n),
-        Built::Refused(why) => Output::Refused(why),
-    }
+    file_build::build(samples, head, out, &mut work)
 }

@@ -1,23 +1,20 @@
--- The header of a Netpbm picture: its kind by two numbers, how it is read at the front of a text, and its pieces.
+-- The header of a Netpbm picture: its kind by two numbers, and how it is read at the front of a text.
 use mathlib.Core.Path.{◌≡◌, refl, sym, ◌∙◌}
 use mathlib.Core.Option.{Option, none, some}
-use mathlib.Core.List.{List, [], ◌∷◌, ◌++◌, flatten, append_assoc, append-nil}
-use Prim.Native.Nat.{ℕ, ◌+◌, ◌≤◌, ◌<◌}
+use mathlib.Core.List.{List}
+use Prim.Native.Nat.{ℕ, ◌≤◌, ◌<◌}
 use native.Mathlib.Omega.{arith}
-use lib.ListN.{length, get_or, drop, drop_of_length-le, length-append}
+use lib.ListN.{length, get_or, drop, drop_of_length-le}
 use borrow.Author.Tests.{ne_eqb}
 use Rattle.pictures.specs.declared.sizes.Kind.TheVariants.{Grey, Rgb}
 use Rattle.pictures.specs.Numbers.{largest_number}
-use Rattle.pictures.specs.declared.sizes.Size.{Size}
 use Rattle.text_theory.specs.Readers.{Get, give, on, ◌▷◌, strip, onward, after, known}
-use Rattle.text_theory.specs.Decimal.{digits, number_get}
-use Rattle.text_theory.specs.Files.{blank, line_end}
-use Rattle.text_theory.specs.Lengths.{spaced, total}
+use Rattle.text_theory.specs.Decimal.{number_get}
+use Rattle.text_theory.specs.Files.{line_end}
 use Rattle.text_theory.proofs.Pairs.{front}
 use Rattle.text_read.specs.Answers.{Told}
 use Rattle.text_read.proofs.Onward.{Left}
-use Rattle.text_lengths.proofs.Rooms.{sum}
-use Rattle.program_theory.specs.Netpbm.{letter_p, magic_of, maxval_of, header_text, kind_by}
+use Rattle.program_theory.specs.Netpbm.{letter_p, kind_by}
 use Rattle.program_netpbm.specs.Headers.{last_number}
 
 -- The kind by its two numbers.
@@ -82,20 +79,3 @@ module _ {B : Type 0} {whole : Get B} {text : List ℕ} {from : ℕ} where
   -- What is given at the place c, after the last reading.
   pub left-give : {b : B} {at c : ℕ} → Left whole text from (give b) c → from ≤ at → (at < c) × (c ≤ length text) → Told whole text from (some (b, c))
   left-give L h m = record { same = L.same; moved = (omega (arith, m.0), m.1) }
-
--- The pieces of a header, as they are printed: the letter, and each number with the byte after it.
-abbrev pub header_pieces : Size → List (List ℕ)
-header_pieces z =
-    letter_p ∷ (digits (magic_of z.kind) ++ line_end) ∷ (digits z.width ++ blank) ∷ (digits z.height ++ line_end) ∷ (digits (maxval_of z.kind) ++ line_end) ∷ []
-
-pub header_pieces_lem : (z : Size) → header_text z ≡ flatten (header_pieces z)
-unfolding header_text flatten
-header_pieces_lem z = simp (append_assoc, append-nil)
-
--- Their lengths, as they are taken from a room: the sides, the other two numbers, the letter.
-abbrev pub header_lengths : Size → List ℕ
-header_lengths z = (spaced z.width + spaced z.height) ∷ (spaced (magic_of z.kind) + spaced (maxval_of z.kind)) ∷ 1 ∷ []
-
-pub header_lengths_lem : (z : Size) → length (header_text z) ≡ sum (header_lengths z)
-unfolding header_text letter_p line_end blank spaced total
-header_lengths_lem z = simp length-append (omega arith)

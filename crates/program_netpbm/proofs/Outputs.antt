@@ -2,6 +2,7 @@
 use mathlib.Core.Path.{◌≡◌, sym, ap, ◌∙◌}
 use mathlib.Core.Bool.{true, cond}
 use mathlib.Core.Option.{Option, none, some}
+use Rattle.std.specs.Prelude.{Result, Ok, Err, Some}
 use mathlib.Core.List.{List, [], ◌∷◌, ◌++◌}
 use Prim.Native.Nat.{ℕ, zero, suc, ◌-◌, ◌≤◌, ◌<◌}
 use native.Mathlib.Omega.{arith}
@@ -11,17 +12,13 @@ use borrow.Author.Tests.{ltb-false, le-ltb}
 use Rattle.grids.proofs.Parts.{last_part}
 use Rattle.pictures.specs.declared.refusals.Refusal.{Refusal}
 use Rattle.pictures.specs.declared.refusals.Refusal.TheVariants as refusals
-use Rattle.pictures.specs.declared.refusals.Verdict.{Verdict}
-use Rattle.pictures.specs.declared.refusals.Verdict.TheVariants as verdicts
 use Rattle.pictures.specs.Refusals.{Rule, ◌when◌, number_of, given, refusal, served}
 use Rattle.pictures.proofs.Rules.{passed, kept_by, refused_answer}
 use Rattle.text_theory.specs.Readers.{Get}
 use Rattle.text_read.specs.Answers.{Told}
-use Rattle.text_print.specs.Inner.{Printed}
-use Rattle.text_print.proofs.Written.{printed_front}
+use Rattle.text_print.specs.Prints.{Put}
+use Rattle.text_print.proofs.Written.{put_front}
 use Rattle.program_theory.specs.Programs.{most_input, input_rule, refused_text, written}
-use Rattle.program_netpbm.specs.declared.output.Output.{Output}
-use Rattle.program_netpbm.specs.declared.output.Output.TheVariants as outputs
 use Rattle.program_netpbm.specs.Outputs.{Wrote, output_number, output_length, Finished}
 use Rattle.program_netpbm.specs.Inner.{Answered}
 
@@ -50,16 +47,16 @@ number-below refusals.NotBlocked = omega arith
 
 -- A refusal printed in the answer's place.
 pub finished_refused : (why : Refusal) {out out' : List ℕ} {n : ℕ} → length (refused_text (number_of why)) ≤ length out
-    → Printed out 0 (refused_text (number_of why)) out' n → Finished (outputs.Refused why) out n out'
+    → Put out 0 (refused_text (number_of why)) (Some n) out' → Finished (Err why) out n out'
 finished_refused why {out} {n = n} h P =
-    let long : n ≡ length (refused_text (number_of why)) = omega (arith, P.end_is) in
+    let front = put_front h P in
     record {
-      length_is = long ∙ kept_by why 0 (length (refused_text (number_of why)));
-      out_is = printed_front (refused_text (number_of why)) P h ∙ kept_by why out (refused_text (number_of why) ++ drop (length (refused_text (number_of why))) out);
+      length_is = front.0 ∙ kept_by why 0 (length (refused_text (number_of why)));
+      out_is = front.1 ∙ kept_by why out (refused_text (number_of why) ++ drop (length (refused_text (number_of why))) out);
     }
 
 -- An answer that is then finished is what the program writes.
-module _ {rules : List Rule} {answer out : List ℕ} {o : Output} {mid : List ℕ} {n : ℕ} {out' : List ℕ} where
+module _ {rules : List Rule} {answer out : List ℕ} {o : Result ℕ Refusal} {mid : List ℕ} {n : ℕ} {out' : List ℕ} where
   pub wrote : Answered rules answer out o mid → Finished o mid n out' → Wrote (written (refusal rules) answer) out n out'
   wrote A F =
       let w = go (output_number o) A.length_is A.out_given F.length_is F.out_is in
@@ -76,7 +73,7 @@ module _ {rules : List Rule} {answer out : List ℕ} {o : Output} {mid : List �
       go (suc i) l m k u = (k, u ∙ ap (λ x. refused_text (suc i) ++ drop (length (refused_text (suc i))) x) m)
 
 -- What is refused leaves the output as it was.
-pub refused_so : (why : Refusal) {rules : List Rule} (answer out : List ℕ) → number_of why ≡ refusal rules → Answered rules answer out (outputs.Refused why) out
+pub refused_so : (why : Refusal) {rules : List Rule} (answer out : List ℕ) → number_of why ≡ refusal rules → Answered rules answer out (Err why) out
 refused_so why answer out e = record {
   number = e;
   length_is = kept_by why (length answer) 0;
@@ -85,18 +82,18 @@ refused_so why answer out e = record {
 
 -- A program that reads a value off the front of its input and then goes by that value and what is left.
 module _ {A : Type 0} (get : Get A) (rules : Option (A × List ℕ) → List Rule) (answer : Option (A × List ℕ) → List ℕ) (input out : List ℕ) where
-  pub too_long : (v : Verdict) (why : Refusal) → v ≡ verdicts.Refused why → given v ≡ refusal (input_rule input ∷ [])
-      → Answered (input_rule input ∷ rules (get input)) (answer (get input)) out (outputs.Refused why) out
+  pub too_long : (v : Result (Unit {0}) Refusal) (why : Refusal) → v ≡ Err why → given v ≡ refusal (input_rule input ∷ [])
+      → Answered (input_rule input ∷ rules (get input)) (answer (get input)) out (Err why) out
   too_long v why is e = refused_so why (answer (get input)) out (sym (ap given is) ∙ refused_answer v why is (input_rule input ∷ []) (rules (get input)) e)
 
-  module _ (v : Verdict) (is : v ≡ verdicts.Served) (given_is : given v ≡ refusal (input_rule input ∷ [])) where
+  module _ (v : Result (Unit {0}) Refusal) (is : v ≡ Ok tt) (given_is : given v ≡ refusal (input_rule input ∷ [])) where
     h : length input ≤ most_input
     h = ltb-false most_input (length input) (passed (ltb most_input (length input)) 7 0 (sym given_is ∙ ap given is)).0
 
-    pub no_front : rules none ≡ 1 when true ∷ [] → Told get input 0 none → Answered (input_rule input ∷ rules (get input)) (answer (get input)) out (outputs.Refused refusals.Form) out
+    pub no_front : rules none ≡ 1 when true ∷ [] → Told get input 0 none → Answered (input_rule input ∷ rules (get input)) (answer (get input)) out (Err refusals.Form) out
     no_front e t = refused_so refusals.Form (answer (get input)) out (rw (le-ltb most_input (length input) h, t.same, e))
 
-    pub by_front : {a : A} {at : ℕ} {o : Output} {out' : List ℕ} → Told get input 0 (some (a, at))
+    pub by_front : {a : A} {at : ℕ} {o : Result ℕ Refusal} {out' : List ℕ} → Told get input 0 (some (a, at))
         → Answered (rules (some (a, take (length input - at) (drop at input)))) (answer (some (a, take (length input - at) (drop at input)))) out o out'
         → Answered (input_rule input ∷ rules (get input)) (answer (get input)) out o out'
     by_front {a} {at} {o} {out'} t taken =

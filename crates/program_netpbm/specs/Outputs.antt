@@ -1,25 +1,23 @@
 -- What stands in a program's output.
-use Rattle.std.specs.Prelude.{◌≡◌, List, ◌++◌, ℕ, ◌≤◌, length, drop}
-use Rattle.pictures.specs.Refusals.{number_of, served}
+use Rattle.std.specs.Prelude.{◌≡◌, Result, Ok, Err, List, ◌++◌, ℕ, ◌≤◌, length, drop}
+use Rattle.pictures.specs.declared.refusals.Refusal.{Refusal}
+use Rattle.pictures.specs.Refusals.{given, served}
 use Rattle.program_theory.specs.Programs.{refused_text}
-use Rattle.program_netpbm.specs.declared.output.Output.{Output}
-use Rattle.program_netpbm.specs.declared.output.Output.TheVariants as outputs
 
 -- The bytes of the space that a program's output is lent: enough for every output.
 abbrev pub output_space : ℕ
 output_space = 32768
 
 -- The number that an output is refused by, 0 where a length is given; and the length.
-abbrev pub output_number : Output → ℕ
-output_number (outputs.Length n) = 0
-output_number (outputs.Refused why) = number_of why
+abbrev pub output_number : Result ℕ Refusal → ℕ
+output_number = given
 
-abbrev pub output_length : Output → ℕ
-output_length (outputs.Length n) = n
-output_length (outputs.Refused why) = 0
+abbrev pub output_length : Result ℕ Refusal → ℕ
+output_length (Ok n) = n
+output_length (Err why) = 0
 
 -- The answer left as it stands, or the refusal in its place.
-pub record Finished (o : Output) (out : List ℕ) (n : ℕ) (out' : List ℕ) : Type 0 where
+pub record Finished (o : Result ℕ Refusal) (out : List ℕ) (n : ℕ) (out' : List ℕ) : Type 0 where
   pub length_is : n ≡ served (output_number o) (output_length o) (length (refused_text (output_number o)))
   pub out_is :
       out' ≡ served (output_number o) out

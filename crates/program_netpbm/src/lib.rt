@@ -4,5 +4,5 @@
 pub mod netpbm;
 pub mod output;
 
-pub use netpbm::{Header, last_number, print_picture, read_header};
-pub use output::{OUTPUT_SPACE, Output, finish};
+pub use netpbm::{PictureText, last_number, print_picture, read_header};
+pub use output::{OUTPUT_SPACE, RefusalLine, finish};

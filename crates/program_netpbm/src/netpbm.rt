@@ -1,32 +1,18 @@
 // Netpbm pictures: the header read, and a picture printed with its header.
-ghost use Rattle.std.specs.Prelude.{◌≡◌, ◌++◌, length};
+ghost use Rattle.std.specs.Prelude.{◌≡◌, ◌++◌};
+ghost use Rattle.text_theory.specs.Readers.{answered};
 ghost use Rattle.text_read.specs.Answers.{Told, read};
-ghost use Rattle.text_lengths.specs.Rooms.{left_read, less};
 ghost use Rattle.text_print.specs.Prints.{Put};
-ghost use Rattle.text_print.specs.Inner.{Printed};
-ghost use Rattle.program_theory.specs.Netpbm.{magic_of, maxval_of, header_text, kind_by, header_get};
-ghost use Rattle.program_netpbm.specs.Headers.{last_number, kind_said, header_read};
-ghost use Rattle.program_netpbm.specs.Inner.{HeaderNeeded, PictureNeeded};
+ghost use Rattle.program_theory.specs.Netpbm.{magic_of, header_text, kind_by, header_get};
+ghost use Rattle.program_netpbm.specs.Headers.{last_number};
 
-use crate::output;
 use pictures::{Kind, Size};
-use text_lengths::Left;
-use text_print::Place;
+use text_lengths::Sink;
+use text_print::{Mark, Text};
 use text_read::{Class, Cursor};
 
-// The size that a header says and the place of the samples after it; or the header is broken.
-#[derive(Clone, Copy)]
-pub enum Header {
-    Sized(Size, usize),
-    Broken,
-}
-
-// The kind that the numbers of a header say; or they say none.
-#[derive(Clone, Copy)]
-pub enum KindSaid {
-    Kind(Kind),
-    Unknown,
-}
+// The largest sample, Netpbm's maxval.
+const MAXVAL: usize = 255;
 
 // The number after the letter P in the header of a picture of this kind.
 fn magic_of(kind: Kind) -> usize
@@ -38,27 +24,17 @@ fn magic_of(kind: Kind) -> usize
     }
 }
 
-// The largest sample of a picture of this kind, Netpbm's maxval.
-fn maxval_of(kind: Kind) -> usize
-    ensures { result ≡ maxval_of kind }
+// The kind whose pictures have these two numbers, if there is one.
+fn kind_by(magic: usize, maxval: usize) -> Option<Kind>
+    ensures { answered result ≡ kind_by magic maxval }
 {
-    match kind {
-        Kind::Grey => 255,
-        Kind::Rgb => 255,
-    }
-}
-
-// The kind whose pictures have these two numbers.
-fn kind_by(magic: usize, maxval: usize) -> KindSaid
-    ensures { kind_said result ≡ kind_by magic maxval }
-{
-    if maxval != 255 {
-        return KindSaid::Unknown;
+    if maxval != MAXVAL {
+        return None;
     }
     match magic {
-        5 => KindSaid::Kind(Kind::Grey),
-        6 => KindSaid::Kind(Kind::Rgb),
-        _ => KindSaid::Unknown,
+        5 => Some(Kind::Grey),
+        6 => Some(Kind::Rgb),
+        _ => None,
     }
 }
 
@@ -71,87 +47,50 @@ pub fn last_number(text: &[u8], from: Cursor) -> Option<(usize, Cursor)>
     Some((n, d))
 }
 
-// The header at the front of a text.
-pub fn read_header(text: &[u8]) -> Header
-    ensures { Told header_get text.now 0 (header_read result) }
+// The size that the header at the front of a text says, and the place of the samples after it; none where the header is broken.
+pub fn read_header(text: &[u8]) -> Option<(Size, Cursor)>
+    ensures { Told header_get text.now 0 (read result) }
 {
-    if text.len() == 0 {
-        return Header::Broken;
+    if text.is_empty() || text[0] != b'P' {
+        return None;
     }
-    if text[0] != b'P' {
-        return Header::Broken;
-    }
-    let Some((magic, a)) = last_number(text, Cursor { at: 1 }) else {
-        return Header::Broken;
-    };
-    let Some((width, b)) = a.number(text) else {
-        return Header::Broken;
-    };
-    let Some(c) = b.past(text, Class::Blank) else {
-        return Header::Broken;
-    };
-    let Some((height, d)) = last_number(text, c) else {
-        return Header::Broken;
-    };
-    let Some((maxval, e)) = last_number(text, d) else {
-        return Header::Broken;
-    };
-    let KindSaid::Kind(kind) = kind_by(magic, maxval) else {
-        return Header::Broken;
-    };
+    let (magic, a) = last_number(text, Cursor { at: 1 })?;
+    let (width, b) = a.number(text)?;
+    let c = b.past(text, Class::Blank)?;
+    let (height, d) = last_number(text, c)?;
+    let (maxval, e) = last_number(text, d)?;
+    let kind = kind_by(magic, maxval)?;
     let size = Size {
         width,
         height,
         kind,
     };
-    Header::Sized(size, e.at)
+    Some((size, e))
 }
 
-// Prints the header of a picture of this size.
-fn put_header(out: &mut [u8], size: Size) -> usize
-    requires { HeaderNeeded out.old size }
-    ensures { Printed out.old 0 (header_text size) out.new result }
-{
-    let kind = size.kind;
-    let a = output::put_bytes(out, 0, b"P");
-    let b = output::put_numbered(out, a, magic_of(kind), b"\n");
-    let c = output::put_numbered(out, b, size.width, b" ");
-    let d = output::put_numbered(out, c, size.height, b"\n");
-    output::put_numbered(out, d, maxval_of(kind), b"\n")
+// A picture of this size: its header, then its samples.
+#[derive(Clone, Copy)]
+pub struct PictureText<'a> {
+    pub size: Size,
+    pub samples: &'a [u8],
 }
 
-// Writes a picture of this size at the front of a space, and gives its length.
-fn put_picture(out: &mut [u8], size: Size, samples: &[u8]) -> usize
-    requires { PictureNeeded out.old size samples.now }
-    ensures { Printed out.old 0 (header_text size ++ samples.now) out.new result }
-{
-    let at = put_header(out, size);
-    output::put_bytes(out, at, samples)
+impl<'a> Text for PictureText<'a> {
+    ghost text = { λ picture. header_text picture.size ++ picture.samples.now };
+
+    fn put<S: Sink>(&self, sink: S) -> Option<S> {
+        let letter: &[u8] = b"P";
+        let last = (MAXVAL, Mark::LineEnd);
+        let height = (self.size.height, (Mark::LineEnd, last));
+        let width = (self.size.width, (Mark::Blank, height));
+        let header = (letter, (magic_of(self.size.kind), (Mark::LineEnd, width)));
+        (header, self.samples).put(sink)
+    }
 }
 
-// What is left of a room after the header of a picture of this size: its four numbers, each with a byte after it, and the P.
-fn header_left(room: usize, size: Size) -> Left
-    ensures { left_read result ≡ less room (length (header_text size)) }
-{
-    let kind = size.kind;
-    let Left::Room(sides) = text_lengths::take_pair(room, size.width, size.height) else {
-        return Left::Short;
-    };
-    let Left::Room(numbers) = text_lengths::take_pair(sides, magic_of(kind), maxval_of(kind)) else {
-        return Left::Short;
-    };
-    text_lengths::take(numbers, 1)
-}
-
-// Prints a picture of this size at the front of a space: its header, then its samples.
-pub fn print_picture(out: &mut [u8], size: Size, samples: &[u8]) -> Place
+// Prints a picture of this size at the front of a space, and gives its length; none where the space is too short.
+pub fn print_picture(out: &mut [u8], size: Size, samples: &[u8]) -> Option<usize>
     ensures { Put out.old 0 (header_text size ++ samples.now) result out.new }
 {
-    let Left::Room(left) = header_left(out.len(), size) else {
-        return Place::Short;
-    };
-    if left < samples.len() {
-        return Place::Short;
-    }
-    Place::Next(put_picture(out, size, samples))
+    text_print::print(out, 0, &PictureText { size, samples })
 }

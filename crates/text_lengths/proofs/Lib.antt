@@ -1,4 +1,3 @@
+pub mod Sinks
 pub mod Rooms
-pub mod PixelRows
 pub mod Numbers
-pub mod Pieces

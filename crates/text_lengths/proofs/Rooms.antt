@@ -1,110 +1,93 @@
 -- What is left of a room.
-use mathlib.Core.Path.{◌≡◌, refl, sym, ap, ◌∙◌}
-use mathlib.Core.Bool.{Bool, true, false, cond}
-use mathlib.Core.Option.{Option, none, some, none-ne-some, some-injective}
-use mathlib.Core.List.{List, [], ◌∷◌}
-use Prim.Native.Nat.{ℕ, suc, ◌+◌, ◌-◌, ◌≤◌, ◌<◌}
-use native.Mathlib.Numerals.{add-one}
+use mathlib.Core.Path.{◌≡◌, refl, sym, ◌∙◌}
+use Rattle.std.specs.Option.{SomeIff, option_and_then}
+use Rattle.std.specs.Prelude.{Bool, true, false, cond, Option, None, Some, List, [], ◌∷◌, ℕ, suc, ◌+◌, ◌-◌, ◌≤◌, ◌<◌, leb, length}
 use native.Mathlib.Omega.{arith}
-use lib.Dec.{leb}
-use lib.ListN.{length, get_or, drop, drop_of_length-le}
-use lib.Seq.{drop-cons}
-use borrow.Author.Tests.{leb-true, leb-false, le-leb, lt-leb}
-use Rattle.text_theory.specs.Lengths.{total}
-use Rattle.text_lengths.specs.Rooms.{less}
+use borrow.Author.Tests.{le-leb, lt-leb, leb-true, leb-false}
+use Rattle.text_lengths.specs.declared.Room.{Room}
+use Rattle.text_lengths.specs.Sinks.{puts}
+use Rattle.text_lengths.specs.Rooms.{room_takes, less}
 
--- The lengths of pieces, added.
-abbrev pub sum : List ℕ → ℕ
-sum = total (λ n. n)
+abbrev room : ℕ → Room
+room n = record { left = n }
 
-pub less-some : (room n : ℕ) → n ≤ room → less room n ≡ some (room - n)
-unfolding less
-less-some room n h = rw (le-leb n room h)
+-- A text that it has room for, and one that it hasn't.
+pub room_some : (w : List ℕ) (n : ℕ) → length w ≤ n → puts room_takes (room n) w ≡ Some (room (n - length w))
+unfolding puts
+room_some [] n h = let z : n - 0 ≡ n = omega arith in rw z
+room_some (x ∷ w) n h =
+    let z : n - suc (length w) ≡ n - 1 - length w = omega arith in
+    rw (le-leb 1 n (omega arith), z) (room_some w (n - 1) (omega arith))
 
-pub less_none : (room n : ℕ) → room < n → less room n ≡ none
-unfolding less
-less_none room n h = rw (lt-leb n room h)
-
--- Where something is left, there was room.
-pub less-room : (room n l : ℕ) → some l ≡ less room n → (n ≤ room) × (l ≡ room - n)
-unfolding less
-less-room room n l h = go (leb n room) refl h
+pub room_none : (w : List ℕ) (n : ℕ) → n < length w → puts room_takes (room n) w ≡ None
+unfolding puts
+room_none [] n h = absurd (omega arith)
+room_none (x ∷ w) n h = go (leb 1 n) refl (room_none w (n - 1))
   where
-    go : (x : Bool) → leb n room ≡ x → some l ≡ cond x (some (room - n)) none → (n ≤ room) × (l ≡ room - n)
-    go true e h = (leb-true n room e, some-injective l (room - n) h)
-    go false e h = absurd (none-ne-some l (sym h))
+    go : (t : Bool) → leb 1 n ≡ t → (n - 1 < length w → puts room_takes (room (n - 1)) w ≡ None)
+        → option_and_then (λ r. puts room_takes r w) (cond t (Some (room (n - 1))) None) ≡ None
+    go true e f = let l = leb-true 1 n e in f (omega arith)
+    go false e f = refl
 
-pub less-short : (room n : ℕ) → none ≡ less room n → room < n
+pub less-some : (r n : ℕ) → n ≤ r → less r n ≡ Some (r - n)
 unfolding less
-less-short room n h = go (leb n room) refl h
+less-some r n h = rw (le-leb n r h)
+
+pub less_none : (r n : ℕ) → r < n → less r n ≡ None
+unfolding less
+less_none r n h = rw (lt-leb n r h)
+
+-- Where something is left, there was room; where nothing is, there wasn't.
+pub less-room : (r n l : ℕ) → Some l ≡ less r n → (n ≤ r) × (l ≡ r - n)
+unfolding less
+less-room r n l h = go (leb n r) refl h
   where
-    go : (x : Bool) → leb n room ≡ x → none ≡ cond x (some (room - n)) none → room < n
-    go true e h = absurd (none-ne-some (room - n) h)
-    go false e h = leb-false n room e
+    go : (x : Bool) → leb n r ≡ x → Some l ≡ cond x (Some (r - n)) None → (n ≤ r) × (l ≡ r - n)
+    go true e h = (leb-true n r e, cc)
+    go false e h = cc
+
+pub less-short : (r n : ℕ) → None ≡ less r n → r < n
+unfolding less
+less-short r n h = go (leb n r) refl h
+  where
+    go : (x : Bool) → leb n r ≡ x → None ≡ cond x (Some (r - n)) None → r < n
+    go true e h = absurd cc
+    go false e h = leb-false n r e
+
+-- The room that a text leaves is the room less its length.
+pub less_puts : (r : ℕ) (w : List ℕ) (l : Room) → Some l ≡ puts room_takes (room r) w → Some l.left ≡ less r (length w)
+less_puts r w l h = go (leb (length w) r) refl
+  where
+    go : (x : Bool) → leb (length w) r ≡ x → Some l.left ≡ less r (length w)
+    go true e =
+        let p = leb-true (length w) r e in
+        let q : Some l ≡ Some (room (r - length w)) = h ∙ room_some w r p in
+        let z : l.left ≡ r - length w = cc in
+        rw z (sym (less-some r (length w) p))
+    go false e = absurd (let q : Some l ≡ None = h ∙ room_none w r (leb-false (length w) r e) in cc)
+
+pub none_puts : (r : ℕ) (w : List ℕ) → None ≡ puts room_takes (room r) w → None ≡ less r (length w)
+none_puts r w h = go (leb (length w) r) refl
+  where
+    go : (x : Bool) → leb (length w) r ≡ x → None ≡ less r (length w)
+    go true e = absurd (let q : ◌≡◌ {A = Option Room} None (Some (room (r - length w))) = h ∙ room_some w r (leb-true (length w) r e) in cc)
+    go false e = sym (less_none r (length w) (leb-false (length w) r e))
 
 -- First a, then b.
-pub less_then : (room a b l : ℕ) → some l ≡ less room a → less room (a + b) ≡ less l b
+pub less_then : (r a b l : ℕ) → Some l ≡ less r a → less r (a + b) ≡ less l b
 unfolding less
-less_then room a b l h = let r = less-room room a l h in go (leb b l) refl r.0 r.1
+less_then r a b l h = let p = less-room r a l h in go (leb b l) refl p.0 p.1
   where
-    go : (x : Bool) → leb b l ≡ x → a ≤ room → l ≡ room - a → cond (leb (a + b) room) (some (room - (a + b))) none ≡ cond x (some (l - b)) none
-    go true e r q =
-        let z : room - (a + b) ≡ l - b = omega (arith, r, q, leb-true b l e) in
-        rw (le-leb (a + b) room (omega (arith, r, q, leb-true b l e)), z)
-    go false e r q = rw (lt-leb (a + b) room (omega (arith, r, q, leb-false b l e)))
+    go : (x : Bool) → leb b l ≡ x → a ≤ r → l ≡ r - a → cond (leb (a + b) r) (Some (r - (a + b))) None ≡ cond x (Some (l - b)) None
+    go true e p q =
+        let z : r - (a + b) ≡ l - b = omega (arith, p, q, leb-true b l e) in
+        rw (le-leb (a + b) r (omega (arith, p, q, leb-true b l e)), z)
+    go false e p q = rw (lt-leb (a + b) r (omega (arith, p, q, leb-false b l e)))
 
-pub less_none_then : (room a b : ℕ) → none ≡ less room a → none ≡ less room (a + b)
-less_none_then room a b h = sym (less_none room (a + b) (omega (arith, less-short room a h)))
+pub less_none_then : (r a b : ℕ) → None ≡ less r a → None ≡ less r (a + b)
+less_none_then r a b h = sym (less_none r (a + b) (omega (arith, less-short r a h)))
 
--- A byte, then n more.
-pub less-after : (room n : ℕ) → 0 < room → less (room - 1) n ≡ less room (suc n)
-less-after room n h =
-    let z : 1 + n ≡ suc n = omega arith in
-    rw (← z) (sym (less_then room 1 n (room - 1) (sym (less-some room 1 h))))
-
--- A text of `whole` bytes taken from a room piece by piece: these pieces are still to take, of what is left.
-pub record Taking (room whole left : ℕ) (pieces : List ℕ) : Type 0 where
-  pub same : less room whole ≡ less left (sum pieces)
-
-pub taking_first : {room whole : ℕ} (pieces : List ℕ) → whole ≡ sum pieces → Taking room whole room pieces
-taking_first {room} pieces e = record { same = ap (less room) e }
-
-module _ {room whole left piece : ℕ} {pieces : List ℕ} (T : Taking room whole left (piece ∷ pieces)) where
-  pub taking_next : {next : ℕ} → some next ≡ less left piece → Taking room whole next pieces
-  unfolding total
-  taking_next {next} s = record { same = T.same ∙ less_then left piece (sum pieces) next s }
-
-  pub taking_short : none ≡ less left piece → none ≡ less room whole
-  unfolding total
-  taking_short s = less_none_then left piece (sum pieces) s ∙ sym T.same
-
-pub taking_last : {room whole left piece : ℕ} {o : Option ℕ} → Taking room whole left (piece ∷ []) → o ≡ less left piece → o ≡ less room whole
-unfolding total
-taking_last {left = left} {piece = piece} T s =
-    let z : piece + 0 ≡ piece = omega arith in
-    s ∙ sym (T.same ∙ ap (less left) z)
-
--- The loop over a row's values, each of length f.
-pub record Leaving {A : Type 0} (f : A → ℕ) (room : ℕ) (xs : List A) (i left : ℕ) : Type 0 where
-  pub same : less room (total f xs) ≡ less left (total f (drop i xs))
-
-total-front : {A : Type 0} (f : A → ℕ) (d : A) (xs : List A) (i : ℕ) → i < length xs → total f (drop i xs) ≡ f (get_or xs i d) + total f (drop (i + 1) xs)
-unfolding total
-total-front f d xs i h = rw (add-one, drop-cons xs i d h)
-
-module _ {A : Type 0} {f : A → ℕ} {room : ℕ} {xs : List A} where
-  pub leaving_first : Leaving f room xs 0 room
-  leaving_first = record { same = refl }
-
-  module _ {i left : ℕ} (L : Leaving f room xs i left) where
-    pub leaving-next : (d : A) {x : A} {next : ℕ} → i < length xs → x ≡ get_or xs i d → some next ≡ less left (f x) → Leaving f room xs (i + 1) next
-    leaving-next d {x} {next} h e s = record { same = L.same ∙ rw (total-front f d xs i h, ← e) (less_then left (f x) (total f (drop (i + 1) xs)) next s) }
-
-    pub leaving-short : (d : A) {x : A} → i < length xs → x ≡ get_or xs i d → none ≡ less left (f x) → none ≡ less room (total f xs)
-    leaving-short d {x} h e s = less_none_then left (f x) (total f (drop (i + 1) xs)) s ∙ sym (L.same ∙ rw (total-front f d xs i h, ← e))
-
-    pub leaving-end : length xs ≤ i → some left ≡ less room (total f xs)
-    unfolding total
-    leaving-end h =
-        let z : left - 0 ≡ left = omega arith in
-        sym (L.same ∙ rw (drop_of_length-le xs h) (less-some left 0 (omega arith) ∙ rw z))
+-- What a checked difference gives.
+pub less_is : (o : Option ℕ) (r n : ℕ) → SomeIff o (n ≤ r) (r - n) → o ≡ less r n
+less_is (Some l) r n h = rw h.1 (sym (less-some r n h.0))
+less_is None r n h = sym (less_none r n (omega (arith, h)))

@@ -1,1 +1,2 @@
+pub mod Sinks
 pub mod Rooms

@@ -1,28 +1,27 @@
 -- What is left of a room.
-use Rattle.std.specs.Prelude.{cond, List, [], ◌∷◌, ℕ, ◌-◌, ◌/◌, leb, ltb, length}
-use Rattle.std.proofs.Math.Option.{Option, none, some}
+use Rattle.std.specs.Prelude.{Option, None, Some, cond, List, [], ◌∷◌, ℕ, ◌-◌, ◌/◌, leb, ltb, length}
 use Rattle.grids.specs.Rows.{rows_of}
 use Rattle.pictures.specs.declared.sizes.Kind.{Kind}
 use Rattle.pictures.specs.Refusals.{Rule, ◌when◌}
 use Rattle.pictures.specs.Pictures.{channels_of}
-use Rattle.text_lengths.specs.declared.Left.{Left}
-use Rattle.text_lengths.specs.declared.Left.TheVariants as lefts
+use Rattle.text_lengths.specs.declared.Room.{Room}
 
-abbrev pub left_read : Left → Option ℕ
-left_read (lefts.Room n) = some n
-left_read lefts.Short = none
-
--- Its number: 8, "output space shorter than the answer", and 0 where the room is long enough; and the rule that gives it.
-abbrev pub left_number : Left → ℕ
-left_number (lefts.Room n) = 0
-left_number lefts.Short = 8
-
-abbrev pub left_rules : ℕ → ℕ → List Rule
-left_rules room n = 8 when ltb room n ∷ []
+-- The room after a byte; none where nothing is left.
+abbrev pub room_takes : Room → ℕ → Option Room
+room_takes r b = cond (leb 1 r.left) (Some (record { left = r.left - 1 })) None
 
 -- The room less n; none where it is shorter.
 unfoldable pub less : ℕ → ℕ → Option ℕ
-less room n = cond (leb n room) (some (room - n)) none
+less room n = cond (leb n room) (Some (room - n)) None
+
+-- The number of what is left: 8, "output space shorter than the answer", and 0 where the room is long enough; and the rule
+-- that gives it.
+abbrev pub left_number : Option ℕ → ℕ
+left_number None = 8
+left_number (Some n) = 0
+
+abbrev pub left_rules : ℕ → ℕ → List Rule
+left_rules room n = 8 when ltb room n ∷ []
 
 -- The pixels of a row's bytes.
 abbrev pub pixels_of : Kind → List ℕ → List (List ℕ)

@@ -1,4 +1,4 @@
-pub mod Written
+pub mod Items
 pub mod PixelRows
+pub mod Written
 pub mod Numbers
-pub mod Pieces

@@ -1,38 +1,42 @@
 -- The pixels of a row's bytes: what their text is made of.
-use mathlib.Core.Path.{◌≡◌, refl}
-use mathlib.Core.List.{List, [], ◌∷◌, ◌++◌, flatten, append-nil, append_assoc}
-use Prim.Native.Nat.{ℕ, ◌+◌, ◌*◌, ◌≤◌, ◌<◌}
-use lib.ListN.{length, get_or}
-use Rattle.grids.specs.Rows.{row_at}
-use Rattle.pictures.specs.declared.sizes.Kind.{Kind}
+use mathlib.Core.Path.{◌≡◌, refl, ap}
+use Rattle.std.proofs.Common.{List, [], ◌∷◌, ◌++◌, ℕ, zero, suc, ◌/◌, length, get_or, take, drop, append-nil, append_assoc, arith}
+use native.Mathlib.Nat.{div-add-mod'}
+use Rattle.std.specs.Simd.{first_chunks}
+use Rattle.grids.specs.Rows.{rows_of}
 use Rattle.pictures.specs.declared.sizes.Kind.TheVariants.{Grey, Rgb}
-use Rattle.pictures.specs.Pictures.{channels_of}
 use Rattle.text_theory.specs.declared.Name.TheVariants as name
 use Rattle.text_theory.specs.Decimal.{digits}
+use Rattle.text_theory.specs.Words.{name_text}
 use Rattle.text_theory.specs.Files.{blank, opening, closing, closed, begun, row_word, each, joined, pixel_text, line_text, row_text}
-use Rattle.text_lengths.proofs.PixelRows.{grey-pixel, rgb_pixel}
+use Rattle.text_lengths.specs.Rooms.{pixels_of}
 
-grey-one : (a : ℕ) → blank ++ pixel_text Grey (a ∷ []) ≡ blank ++ digits a
+pub chunks_are : {A : Type 0} (w n : ℕ) (b : List A) → first_chunks w n b ≡ rows_of w n b
+chunks_are w zero b = refl
+chunks_are w (suc n) b = ap (λ r. take w b ∷ r) (chunks_are w n (drop w b))
+
+grey-each : (b : List ℕ) → each blank (pixel_text Grey) (rows_of 1 (length b) b) ≡ each blank digits b
+unfolding each pixel_text joined
+grey-each [] = refl
+grey-each (x ∷ b) = rw (append-nil, grey-each b)
+
+-- A row of samples, each a pixel; and a row of pixels of three.
+pub grey_row : (b : List ℕ) → row_text Grey (pixels_of Grey b) ≡ (opening ++ name_text name.Row) ++ (each blank digits b ++ closed)
+unfolding row_text line_text row_word begun
+grey_row b =
+    let one : length b / 1 ≡ length b = omega (arith, div-add-mod' (length b) 1) in
+    rw (one, grey-each b)
+
+pub rgb_row : (b : List ℕ) → row_text Rgb (pixels_of Rgb b) ≡ (opening ++ name_text name.Row) ++ (each blank (pixel_text Rgb) (first_chunks 3 (length b / 3) b) ++ closed)
+unfolding row_text line_text row_word begun
+rgb_row b = rw (chunks_are 3 (length b / 3) b)
+
+-- A pixel of three samples.
+pub rgb_pixel : (px : List ℕ) → length px ≡ 3
+    → pixel_text Rgb px ≡ opening ++ (digits (get_or px 0 0) ++ (blank ++ (digits (get_or px 1 0) ++ (blank ++ (digits (get_or px 2 0) ++ closing)))))
 unfolding pixel_text joined each
-grey-one a = rw append-nil
-
-pub grey-text : (k : Kind) (b : List ℕ) (i : ℕ) {x : ℕ} → k ≡ Grey → i < length b → x ≡ get_or b i 0 → blank ++ pixel_text k (row_at (channels_of k) i b) ≡ blank ++ digits x
-grey-text k b i e h p = rw (grey-pixel k b i e h, e, p) (grey-one (get_or b i 0))
-
-abbrev pub rgb_pieces : ℕ → ℕ → ℕ → List (List ℕ)
-rgb_pieces x y z = (32 ∷ 40 ∷ []) ∷ digits x ∷ (blank ++ digits y) ∷ (blank ++ digits z) ∷ closing ∷ []
-
-rgb_three : (x y z : ℕ) → blank ++ pixel_text Rgb (x ∷ y ∷ z ∷ []) ≡ flatten (rgb_pieces x y z)
-unfolding pixel_text joined each blank opening closing flatten
-rgb_three x y z = simp (append_assoc, append-nil)
-
-pub rgb_pieces_lem : (k : Kind) (b : List ℕ) (i : ℕ) {x y z : ℕ} → k ≡ Rgb → i * 3 + 3 ≤ length b → x ≡ get_or b (i * 3) 0 → y ≡ get_or b (i * 3 + 1) 0 → z ≡ get_or b (i * 3 + 2) 0
-    → blank ++ pixel_text k (row_at (channels_of k) i b) ≡ flatten (rgb_pieces x y z)
-rgb_pieces_lem k b i e h p q r = rw (rgb_pixel k b i e h, e, p, q, r) (rgb_three (get_or b (i * 3) 0) (get_or b (i * 3 + 1) 0) (get_or b (i * 3 + 2) 0))
-
-abbrev pub row_pieces : Kind → List (List ℕ) → List (List ℕ)
-row_pieces k xs = begun name.Row ∷ each blank (pixel_text k) xs ∷ closed ∷ []
-
-pub row_pieces_lem : (k : Kind) (xs : List (List ℕ)) → row_text k xs ≡ flatten (row_pieces k xs)
-unfolding row_text line_text row_word closed flatten
-row_pieces_lem k xs = refl
+rgb_pixel [] h = absurd (omega arith)
+rgb_pixel (x ∷ []) h = absurd (omega arith)
+rgb_pixel (x ∷ y ∷ []) h = absurd (omega arith)
+rgb_pixel (x ∷ y ∷ z ∷ []) h = simp (append_assoc, append-nil)
+rgb_pixel (x ∷ y ∷ z ∷ u ∷ px) h = absurd (omega arith)

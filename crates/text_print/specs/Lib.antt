@@ -1,2 +1,3 @@
+pub mod Marks
 pub mod Prints
-pub mod Inner
+pub mod Outs

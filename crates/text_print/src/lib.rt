@@ -1,9 +1,11 @@
-// The text of a multi-size file, printed: its lines, written into a lent space.
+// The text of a multi-size file, printed: each text is said once, for any sink, and written into a lent space where there is room
+// for it.
 #![tactic(auto)]
 
-mod heads;
 pub mod lines;
-mod words;
+pub mod out;
+pub mod texts;
 
-pub use heads::print_head;
-pub use lines::{Place, print_bytes, print_end, print_map, print_number, print_row};
+pub use lines::{MapLine, RowLine};
+pub use out::{Out, left_after, print};
+pub use texts::{Each, Mark, Text};

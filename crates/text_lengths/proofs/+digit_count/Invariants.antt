@@ -1,4 +1,3 @@
--- The number, which falls at each call.
 use Rattle.text_lengths.proofs.+digit_count.Given as goal
 
 abbrev pub decreases-digit_count : goal.decreases-digit_count

@@ -1,35 +1,12 @@
--- `file_build::lines::print_file` meets its contract.
-use Rattle.file_build.proofs.Printing.{head_never, head-next, rows_needed, maps-needed, end-never, all-printed}
+-- The text is the file's, and there is room for it.
+use Rattle.text_theory.specs.Files.{text}
+use Rattle.text_print.proofs.Written.{never_short, put_front}
 use Rattle.file_build.proofs.lines.print_file.Goals as goal
 
-pub returns-in_default : goal.returns-in_default
-returns-in_default c =
-    let a = c.args in
-    absurd (head_never a.picture.now a.head a.map.now a.out.now c.requires c.print_head.ensures c.in_default.is)
-
-pub print_rows-maps-requires : goal.print_rows-maps-requires
-print_rows-maps-requires c =
-    let a = c.args in
-    let head = head-next a.picture.now a.head a.map.now a.out.now c.requires c.print_head.ensures c.in-Next.is in
-    rows_needed a.picture.now a.head a.map.now a.out.now c.requires head
-
-pub print_maps-last-requires : goal.print_maps-last-requires
-print_maps-last-requires c =
-    let a = c.args in
-    let head = head-next a.picture.now a.head a.map.now a.out.now c.requires c.print_head.ensures c.in-Next.is in
-    maps-needed a.picture.now a.head a.map.now a.out.now c.requires head c.print_rows-maps.ensures
-
-pub returns-in_default-print_end : goal.returns-in_default-print_end
-returns-in_default-print_end c =
-    let a = c.args in
-    let head = head-next a.picture.now a.head a.map.now a.out.now c.requires c.print_head.ensures c.in-Next.is in
-    absurd
-    (end-never a.picture.now a.head a.map.now a.out.now c.requires head c.print_rows-maps.ensures c.print_maps-last.ensures c.print_end.ensures
-    c.in_default-print_end.is)
+pub unreachable-requires : goal.unreachable-requires
+unfolding text
+unreachable-requires c = never_short c.requires.room c.in_default.ensures
 
 pub returns : goal.returns
-returns c =
-    let a = c.args in
-    let head = head-next a.picture.now a.head a.map.now a.out.now c.requires c.print_head.ensures c.in-Next.is in
-    all-printed a.picture.now a.head a.map.now a.out.now c.requires head c.print_rows-maps.ensures c.print_maps-last.ensures c.print_end.ensures
-    c.in-Next-print_end.is
+unfolding text
+returns c = let front = put_front c.requires.room c.in-Some.ensures in record { length_is = front.0; out_is = front.1 }

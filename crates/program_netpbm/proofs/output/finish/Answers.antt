@@ -1,11 +1,20 @@
--- `program_netpbm::output::finish` meets its contract.
+-- There is room for every refusal, so its line is printed.
 use native.Mathlib.Omega.{arith}
+use Rattle.std.proofs.Common.{◌≡◌, ◌≤◌, List, ℕ, length}
+use Rattle.pictures.specs.declared.refusals.Refusal.{Refusal}
 use Rattle.pictures.specs.Refusals.{number_of}
+use Rattle.text_print.proofs.Written.{never_short}
+use Rattle.program_theory.specs.Programs.{refused_text}
 use Rattle.program_theory.proofs.Lengths.{refused-most}
+use Rattle.program_netpbm.specs.Outputs.{output_space}
 use Rattle.program_netpbm.proofs.Outputs.{number-below, finished_refused}
 use Rattle.program_netpbm.proofs.output.finish.Goals as goal
 
-pub returns-in-Refused : goal.returns-in-Refused
-returns-in-Refused c =
-    let why = c.in-Refused.why in
-    rw c.in-Refused.is (finished_refused why (omega (arith, refused-most (number_of why) (number-below why))) c.put_refusal.ensures)
+room : (why : Refusal) (out : List ℕ) → length out ≡ output_space → length (refused_text (number_of why)) ≤ length out
+room why out e = omega (arith, refused-most (number_of why) (number-below why))
+
+pub unreachable-requires : goal.unreachable-requires
+unreachable-requires c = never_short (room c.in-Err.why c.args.out.now c.told-out) c.in_default.ensures
+
+pub returns : goal.returns
+returns c = rw c.in-Err.is (finished_refused c.in-Err.why (room c.in-Err.why c.args.out.now c.told-out) c.in-Some.ensures)

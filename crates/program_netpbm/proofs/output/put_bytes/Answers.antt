@@ -1,6 +1,0 @@
--- `program_netpbm::output::put_bytes` meets its contract.
-use Rattle.text_print.proofs.Written.{printed_next}
-use Rattle.program_netpbm.proofs.output.put_bytes.Goals as goal
-
-pub returns : goal.returns
-returns c = printed_next c.print_bytes.ensures c.requires c.in-Next.is
