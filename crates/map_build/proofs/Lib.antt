@@ -1,5 +1,4 @@
 pub mod Pairs
-pub mod Marking
 pub mod Skipping
 pub mod Turns
 pub mod Lists

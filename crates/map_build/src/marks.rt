@@ -1,7 +1,7 @@
 // A row of a map in bytes, two a number: a number written over the s-th number that is 0.
 ghost use Rattle.std.specs.Prelude.{◌≡◌, length};
 ghost use Rattle.pictures.specs.Numbers.{low_byte, high_byte};
-ghost use Rattle.map_build.specs.Inner.Marks.{write_pair, zero_pairs, SkipGiven};
+ghost use Rattle.map_build.specs.Inner.Marks.{write_pair, zero_pairs, SkipGiven, PlaceGiven};
 
 use pictures::numbers::number;
 
@@ -44,27 +44,30 @@ fn skip(row: &[u8], s: usize) -> Skipped
     Skipped { at, zeros }
 }
 
-// Writes the number over the s-th number that is 0.
-pub(crate) fn mark_row(row: &mut [u8], s: usize, number: u16)
-    ensures { row.new ≡ write_pair (low_byte number) (high_byte number) s row.old }
+// Where the s-th number that is 0 stands: in the block that isn't passed, or nowhere.
+fn place_of(row: &[u8], s: usize) -> Option<usize>
+    ensures { PlaceGiven row.now s result }
 {
     let skipped = skip(row, s);
-    mark_rest(&mut row[skipped.at..], skipped.zeros, number);
-}
-
-// The same, number by number: for the block in which that 0 stands, or the end of the row.
-fn mark_rest(row: &mut [u8], s: usize, mark: u16)
-    ensures { row.new ≡ write_pair (low_byte mark) (high_byte mark) s row.old }
-{
-    let mut zeros = s;
-    for c in 0..row.len() / 2 {
-        let at = 2 * c;
-        if number(row[at], row[at + 1]) == 0 {
+    let mut zeros = skipped.zeros;
+    let mut at = skipped.at;
+    for bytes in row[skipped.at..].chunks_exact(2) {
+        if number(bytes[0], bytes[1]) == 0 {
             if zeros == 0 {
-                row[at..at + 2].copy_from_slice(&mark.to_le_bytes());
-                return;
+                return Some(at);
             }
             zeros -= 1;
         }
+        at += 2;
+    }
+    None
+}
+
+// Writes the number over the s-th number that is 0.
+pub(crate) fn mark_row(row: &mut [u8], s: usize, mark: u16)
+    ensures { row.new ≡ write_pair (low_byte mark) (high_byte mark) s row.old }
+{
+    if let Some(at) = place_of(row, s) {
+        row[at..at + 2].copy_from_slice(&mark.to_le_bytes());
     }
 }

@@ -1,5 +1,5 @@
 -- A number written into a row of a map. What private functions ask and promise; no public promise cites it.
-use Rattle.std.specs.Prelude.{◌≡◌, List, ◌++◌, [], ◌∷◌, ℕ, ◌≤◌, zero, suc, length, take, drop}
+use Rattle.std.specs.Prelude.{Option, Some, None, ◌≡◌, ◌+◌, List, ◌++◌, [], ◌∷◌, ℕ, ◌≤◌, zero, suc, length, take, drop}
 
 -- The two bytes written over the s-th number that is 0, both its bytes being 0.
 abbrev pub write_pair : ℕ → ℕ → ℕ → List ℕ → List ℕ
@@ -22,3 +22,12 @@ zero_pairs (zero ∷ zero ∷ r) = suc (zero_pairs r)
 pub record SkipGiven (row : List ℕ) (s at zeros : ℕ) : Type 0 where
   pub within : at ≤ length row
   pub written : (low high : ℕ) → take at row ++ write_pair low high zeros (drop at row) ≡ write_pair low high s row
+
+-- The place of the s-th 0, over which a number is written; where there is none, nothing is.
+pub record PlaceIs (row : List ℕ) (s at : ℕ) : Type 0 where
+  pub inside : at + 2 ≤ length row
+  pub written : (low high : ℕ) → write_pair low high s row ≡ take at row ++ (low ∷ high ∷ drop (at + 2) row)
+
+abbrev pub PlaceGiven : List ℕ → ℕ → Option ℕ → Type 0
+PlaceGiven row s None = (low high : ℕ) → write_pair low high s row ≡ row
+PlaceGiven row s (Some at) = PlaceIs row s at
