@@ -1,0 +1,33 @@
+-- There is room, so the sink is not left out, and it is the one that stands after the text.
+use mathlib.Core.Path.{◌≡◌, ap, ◌∙◌}
+use Rattle.std.specs.Prelude.{Option, None, Some}
+use Rattle.text_print.specs.declared.out.Out.{Out}
+use Rattle.text_print.proofs.Written.{out_puts, after}
+use Rattle.text_print.proofs.out.write.Goals as goal
+
+pub unreachable-requires : goal.unreachable-requires
+unreachable-requires g c =
+    let s : Out = record { space = c.args.space; at = c.args.at } in
+    let e : ◌≡◌ {A = Option Out} None (Some (after s (g.T.Text.text c.args.text.now))) = c.in_default.ensures ∙ out_puts (g.T.Text.text c.args.text.now) s c.requires in
+    cc
+
+pub returns-clause-same_space : goal.returns-clause-same_space
+returns-clause-same_space g c =
+    let s : Out = record { space = c.args.space; at = c.args.at } in
+    let e : Some c.in-Some.after ≡ Some (after s (g.T.Text.text c.args.text.now)) = c.in-Some.ensures ∙ out_puts (g.T.Text.text c.args.text.now) s c.requires in
+    let f : c.in-Some.after ≡ after s (g.T.Text.text c.args.text.now) = cc in
+    ap (λ (o : Out). o.space.ghost_name) f
+
+pub returns-clause-written : goal.returns-clause-written
+returns-clause-written g c =
+    let s : Out = record { space = c.args.space; at = c.args.at } in
+    let e : Some c.in-Some.after ≡ Some (after s (g.T.Text.text c.args.text.now)) = c.in-Some.ensures ∙ out_puts (g.T.Text.text c.args.text.now) s c.requires in
+    let f : c.in-Some.after ≡ after s (g.T.Text.text c.args.text.now) = cc in
+    ap (λ (o : Out). o.space.now) f
+
+pub returns-clause-after : goal.returns-clause-after
+returns-clause-after g c =
+    let s : Out = record { space = c.args.space; at = c.args.at } in
+    let e : Some c.in-Some.after ≡ Some (after s (g.T.Text.text c.args.text.now)) = c.in-Some.ensures ∙ out_puts (g.T.Text.text c.args.text.now) s c.requires in
+    let f : c.in-Some.after ≡ after s (g.T.Text.text c.args.text.now) = cc in
+    ap (λ (o : Out). o.at) f
