@@ -11,7 +11,7 @@ use Rattle.pictures.specs.Numbers.{largest_number}
 use Rattle.text_theory.specs.Readers.{Get, give, on, ◌▷◌, strip, onward, after, known}
 use Rattle.text_theory.specs.Decimal.{number_get}
 use Rattle.text_theory.specs.Files.{line_end}
-use Rattle.text_theory.proofs.Pairs.{front}
+use Rattle.std.proofs.lemmas.List.{drop_more}
 use Rattle.text_read.specs.Answers.{Told}
 use Rattle.text_read.proofs.Onward.{Left}
 use Rattle.program_theory.specs.Netpbm.{letter_p, kind_by}
@@ -42,11 +42,11 @@ module _ {B : Type 0} (g : Get B) {text : List ℕ} where
 
   pub no_letter : 0 < length text → (get_or text 0 0 ≡ 80 → ⊥) → Told (after letter_p g) text 0 none
   unfolding letter_p strip
-  no_letter h n = record { same = rw (front text 0 h, ne_eqb 80 (get_or text 0 0) (λ e. n (sym e))); moved = tt }
+  no_letter h n = record { same = rw (drop_more text 0 0 h, ne_eqb 80 (get_or text 0 0) (λ e. n (sym e))); moved = tt }
 
   pub left_letter : 0 < length text → get_or text 0 0 ≡ 80 → Left (after letter_p g) text 0 g 1
   unfolding letter_p strip
-  left_letter h e = record { same = rw (front text 0 h, e); there = omega arith }
+  left_letter h e = record { same = rw (drop_more text 0 0 h, e); there = omega arith }
 
 -- The last number of a line, and the line end after it, before what is left to read.
 last_step : {B : Type 0} (f : ℕ → Get B) (s : List ℕ) → (number_get largest_number ▷ λ n. after line_end (f n)) s ≡ (last_number ▷ f) s

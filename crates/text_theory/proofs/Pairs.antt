@@ -12,10 +12,6 @@ use lib.Seq.{drop-cons}
 use borrow.Author.Tests.{eqb-true, eq-eqb}
 use Rattle.text_theory.specs.Readers.{Get, give, on, ◌▷◌, strip, onward, after}
 
--- The byte at a place, and the bytes after it.
-pub front : (text : List ℕ) (at : ℕ) → at < length text → drop at text ≡ get_or text at 0 ∷ drop (at + 1) text
-front text at h = rw add-one (drop-cons text at 0 h)
-
 -- `get` reads what `put` prints, where `stop` holds of what stands after; and it reads nothing else.
 pub record Reads {A : Type 0} (ok : A → Type 0) (put : A → List ℕ) (stop : List ℕ → Type 0) (get : Get A) : Type 0 where
   pub back : (a : A) → ok a → (t : List ℕ) → stop t → get (put a ++ t) ≡ some (a, t)
