@@ -6,3 +6,4 @@ pub mod Answers
 pub mod Smallest
 pub mod Pairs
 pub mod Same
+pub mod Chunks

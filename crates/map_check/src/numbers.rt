@@ -50,11 +50,8 @@ impl RecordedMap<'_> {
     pub(crate) fn is_numbered(&self) -> bool
         ensures { result ≡ every (numbers self.now.depth) (rows_of self.now.width self.now.height (numbers_in self.now.bytes.now)) }
     {
-        for row in self.bytes.chunks_exact(2 * self.width) {
-            if !is_numbering(row, self.depth) {
-                return false;
-            }
-        }
-        true
+        self.bytes
+            .chunks_exact(2 * self.width)
+            .all(|row| is_numbering(row, self.depth))
     }
 }

@@ -36,7 +36,8 @@ impl RecordedMap<'_> {
         column_of(&self.bytes[at..at + 2 * self.width], t)
     }
 
-    // Whether each seam that the map records is connected in the picture left before it.
+    // Whether each seam that the map records is connected in the picture left before it. Nested loops, left by a label at the
+    // first broken step, as docs/DECISIONS.md lists among the language forms.
     pub(crate) fn is_connected(&self) -> bool
         ensures { result ≡ connected (near false) self.now.width self.now.depth (rows_of self.now.width self.now.height (numbers_in self.now.bytes.now)) }
     {

@@ -43,7 +43,7 @@ pub(crate) fn put_mean<const N: usize>(
     );
 }
 
-// The mean of each two samples of two pixels.
+// The mean of each two samples of two pixels. By index: of what a zip with `iter_mut` writes nothing is known afterwards.
 fn put_means(a: &[u8], b: &[u8], out: &mut [u8])
     requires { MeansNeeded a.now b.now out.old }
     ensures { out.new ≡ average a.now b.now }
