@@ -34,8 +34,8 @@ fn row<const N: usize>(it: &[u8], lower: &[u8], width: usize, beside: usize, out
     ensures { out.new ≡ table (between N it.now lower.now width beside) width ++ drop width out.old }
 {
     let last = width - 1;
-    for c in 0..last {
-        out[c] = energy_at::<N>(it, lower, c, c + 1);
+    for (c, energy) in out[..last].iter_mut().enumerate() {
+        *energy = energy_at::<N>(it, lower, c, c + 1);
     }
     out[last] = energy_at::<N>(it, lower, last, beside);
 }
