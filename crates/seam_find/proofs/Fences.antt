@@ -18,7 +18,7 @@ use Rattle.seam_find.specs.Inner.Bottom.{BottomGiven}
 use Rattle.seam_sums.proofs.Values.{values_alike, values_part, value_at}
 use Rattle.seam_sums.proofs.Turns.{least_inside}
 
-pub take-replicate : {A : Type 0} (n m : ℕ) (a : A) → n ≤ m → take n (replicate m a) ≡ replicate n a
+take-replicate : {A : Type 0} (n m : ℕ) (a : A) → n ≤ m → take n (replicate m a) ≡ replicate n a
 take-replicate zero m a h = refl
 take-replicate (suc n) zero a h = absurd (omega arith)
 take-replicate (suc n) (suc m) a h = ap (a ∷◌) (take-replicate n m a (le_of_suc-le-suc h))

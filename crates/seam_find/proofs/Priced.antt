@@ -1,6 +1,6 @@
 -- Costs that are read from the front of a space of bytes: no sum of them reaches the fence.
 use mathlib.Core.Path.{◌≡◌}
-use mathlib.Core.Bool.{Bool, false}
+use mathlib.Core.Bool.{Bool}
 use mathlib.Core.List.{List}
 use Prim.Native.Nat.{ℕ, suc, ◌+◌, ◌-◌, ◌≤◌, ◌<◌}
 use native.Mathlib.Nat.{mul-le-mul_right}
@@ -13,8 +13,7 @@ use Rattle.pictures.specs.Refusals.{refusal}
 use Rattle.pictures.specs.Pictures.{side_rules}
 use Rattle.pictures.proofs.Limits.{sides_are}
 use Rattle.energy.specs.declared.methods.Method.{Method}
-use Rattle.seam_theory.specs.Sums.{CostRows, sums_down}
-use Rattle.seam_theory.proofs.Bounded.{sums-most}
+use Rattle.seam_theory.specs.Sums.{CostRows}
 use Rattle.seam_find.specs.Costing.{CostingLaws}
 use Rattle.seam_find.proofs.Costs.{front-most}
 use Rattle.seam_find.proofs.Downs.{Downs, above_most}
@@ -33,11 +32,3 @@ module _ {marked : Bool} {front : Size → ℕ} {costs : Size → Method → Lis
       let rows : suc (i - 1) ≤ most_side = omega (arith, (sides_are z allowed).height_small) in
       let below = above_most fence (front z) z (costs z how) space (laws.wide z how (take (front z) space)) most i now above cheap d k h in
       omega (arith, below, mul-le-mul_right most rows, laws.low)
-
-  -- A sum and a cost of the row below it.
-  pub low : (i c : ℕ) → i < z.height - 1 → c < z.width
-      → get_or (sums_down false fence z.width (costs z how (take (front z) space)) i) c 0 + get_or (costs z how (take (front z) space) (suc i)).up c 0 < fence
-  low i c k l =
-      let rows : suc i ≤ most_side = omega (arith, (sides_are z allowed).height_small) in
-      let below = sums-most false fence z.width (costs z how (take (front z) space)) (laws.wide z how (take (front z) space) 0) most cheap i c l in
-      omega (arith, below, cheap (suc i) c, mul-le-mul_right most rows, laws.low)

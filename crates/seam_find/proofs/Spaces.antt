@@ -6,14 +6,13 @@ use native.Mathlib.Omega.{arith}
 use native.Mathlib.Nat.{mul-le-mul, add-sub_of_le, add-sub_cancel_left}
 use borrow.Rule.Slice.PartMut.{put_mid, mid_of}
 use lib.ListN.{length, take, drop, replicate, length-append}
-use lib.Seq.{take_at, drop_at, drop-drop, length-take-le}
+use lib.Seq.{take_at, drop_at, drop-drop}
 use Rattle.grids.proofs.Parts.{put_part, part_length}
 use Rattle.grids.proofs.Rows.{part_end}
 use Rattle.pictures.specs.Limits.{most_side, most_pixels, most_picture}
 use Rattle.pictures.specs.declared.sizes.Size.{Size}
-use Rattle.pictures.specs.Refusals.{refusal}
-use Rattle.pictures.specs.Pictures.{picture_bytes, size_rules}
-use Rattle.pictures.proofs.Limits.{Sides, Sized, sized_is}
+use Rattle.pictures.specs.Pictures.{picture_bytes}
+use Rattle.pictures.proofs.Limits.{Sides}
 
 module _ {A : Type 0} (start front part space : List A) (p n : ℕ) (is : space ≡ front ++ (part ++ drop (p + n) start)) (long : length front ≡ p) (wide : length part ≡ n) where
   pub space-front : take p space ≡ front
@@ -65,23 +64,4 @@ ends z s =
       all = s.pixels_most;
       rows = part_end (z.height - 1) z.height z.width (omega (arith, s.height_some));
       short = s.picture_most;
-    }
-
--- The picture in the first q bytes of a space.
-pub record Front (z : Size) (q : ℕ) (space : List ℕ) : Type 0 where
-  pub short : q ≤ most_picture
-  pub room : q ≤ length space
-  pub served : refusal (size_rules z (length (take q space))) ≡ 0
-  pub sized : Sized z (length (take q space))
-
-pub front_is : (z : Size) (q : ℕ) (space : List ℕ) → q ≡ picture_bytes z → refusal (size_rules z (picture_bytes z)) ≡ 0
-    → picture_bytes z ≤ length space → Front z q space
-front_is z q space e served room =
-    let long : length (take q space) ≡ picture_bytes z = length-take-le q space (omega (arith, e, room)) ∙ e in
-    let sized = sized_is z (picture_bytes z) served in
-    record {
-      short = omega (arith, e, sized.picture_most);
-      room = omega (arith, e, room);
-      served = rw long served;
-      sized = rw long sized;
     }

@@ -26,7 +26,6 @@ use Rattle.seam_theory.proofs.Sums.{Costed, FoundPath, found}
 use Rattle.seam_sums.specs.Fences.{fence32}
 use Rattle.seam_find.specs.Costing.{plain_costs}
 use Rattle.seam_find.proofs.Costs.{cost_most}
-use Rattle.seam_find.proofs.Loops.{Traceable, ways-traceable}
 
 module _ (z : Size) (how : Method) (b : List ℕ) (sized : Sized z (length b)) (byte : (i : ℕ) → get_or b i 0 ≤ 255) where
   abbrev w : ℕ
@@ -56,10 +55,6 @@ module _ (z : Size) (how : Method) (b : List ℕ) (sized : Sized z (length b)) (
     rows = λ i s. rows-through false w (costs_at how w h p (suc i)) (λ e y. absurd (true≢false (sym y))) s;
     low = low;
   }
-
-  pub plain-traceable : (column seam : ℕ) → column < z.width → z.height ≤ seam
-      → Traceable (length (flat (table (ways_up false fence32 z.width (plain_costs z how b)) (z.height - 1)))) z.width z.height column seam
-  plain-traceable = ways-traceable false fence32 w h (plain_costs z how b) sized.height_some sized.height_most sized.width_most
 
   seam : FoundPath false fence32 w h (plain_costs z how b) (energy how w h p 0) (step_of how w h p)
   unfolding wrap_of

@@ -93,7 +93,7 @@ impl Costing for Energies {
         cost: &mut [u32],
     ) {
         // Not refused: the picture is of its size, and there is room.
-        let _ = energy::energies(bytes, allowed.size, method, i, cost);
+        energy::energies(bytes, allowed.size, method, i, cost).unwrap();
     }
 
     fn found(least: u32) -> Result<u64, Refusal> {

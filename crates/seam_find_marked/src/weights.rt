@@ -45,8 +45,7 @@ impl Costing for Weights {
         let picture = allowed.picture_bytes();
         let a = picture + i * width;
         let e = a + width;
-        // Not refused: the picture is of its size, and there is room.
-        let _ = energy::energies(&bytes[..picture], allowed.size, method, i, energies);
+        energy::energies(&bytes[..picture], allowed.size, method, i, energies).unwrap();
         weigh(energies, &bytes[a..e], cost);
     }
 
@@ -60,7 +59,7 @@ fn weigh(energies: &[u32], marks: &[u8], cost: &mut [u64])
     requires { WeighNeeded energies.now marks.now cost.old }
     ensures { cost.new ≡ table (weight_in energies.now marks.now) (length cost.old) }
 {
-    for c in 0..cost.len() {
-        cost[c] = weight(energies[c], marks[c]);
+    for (c, cost) in cost.iter_mut().enumerate() {
+        *cost = weight(energies[c], marks[c]);
     }
 }
