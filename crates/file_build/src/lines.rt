@@ -22,6 +22,7 @@ impl<'a> Text for RowLines<'a> {
         let source = self.source;
         let size = source.head.size;
         let mut after = sink;
+        // by number: a row of a picture is asked for by its number
         for r in 0..size.height {
             let samples = pictures::row(source.picture, size, r);
             after = RowLine {
@@ -41,6 +42,7 @@ impl<'a> Text for MapBytes<'a> {
     fn put<S: Sink>(&self, sink: S) -> Option<S> {
         let map = *self;
         let mut after = sink;
+        // by number: chunks_exact asks for rows that are not empty, which the bytes of a map need not have
         for r in 0..map.height {
             let at = r * (2 * map.width);
             let (items, _) = map.bytes[at..at + 2 * map.width].as_chunks::<2>();

@@ -10,7 +10,7 @@ use native.Mathlib.Nat.{div-add-mod', mod-lt}
 use Rattle.text_theory.specs.Decimal.{digits}
 use Rattle.text_theory.proofs.Decimals.{digits_small, digits-large}
 use Rattle.text_lengths.specs.Sinks.{puts}
-use Rattle.text_print.specs.declared.out.Out.{Out}
+use Rattle.text_print.specs.declared.printing.Out.{Out}
 use Rattle.text_print.specs.Outs.{out_takes}
 use Rattle.text_print.specs.Prints.{Put}
 

@@ -1,6 +1,6 @@
 -- What a lent space takes.
 use Rattle.std.specs.Prelude.{Option, None, Some, ℕ, ◌+◌, cond, ltb, length, slice_set}
-use Rattle.text_print.specs.declared.out.Out.{Out}
+use Rattle.text_print.specs.declared.printing.Out.{Out}
 
 -- The byte written at the place, and the place after it; none where the space ends.
 abbrev pub out_takes : Out → ℕ → Option Out

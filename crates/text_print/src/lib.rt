@@ -3,9 +3,9 @@
 #![tactic(auto)]
 
 pub mod lines;
-pub mod out;
+pub mod printing;
 pub mod texts;
 
 pub use lines::{MapLine, RowLine};
-pub use out::{Out, left_after, print};
+pub use printing::{Out, left_after, print};
 pub use texts::{Each, Mark, Text};

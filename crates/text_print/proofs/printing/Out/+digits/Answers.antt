@@ -4,7 +4,7 @@ use Rattle.text_theory.specs.Decimal.{digits}
 use Rattle.text_theory.proofs.Decimals.{digits_small, digits-large}
 use Rattle.text_lengths.proofs.Sinks.{further, no_further, puts_one}
 use Rattle.text_print.specs.Outs.{out_takes}
-use Rattle.text_print.proofs.out.Out.+digits.Goals as goal
+use Rattle.text_print.proofs.printing.Out.+digits.Goals as goal
 
 pub returns-then-n-lt10 : goal.returns-then-n-lt10
 returns-then-n-lt10 t c = rw (digits_small c.args.n c.if-n-lt10.true) (c.byte.ensures ∙ sym (puts_one out_takes c.args.self (48 + c.args.n)))

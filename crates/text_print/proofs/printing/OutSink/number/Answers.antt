@@ -1,6 +1,6 @@
 use Rattle.text_theory.proofs.Decimals.{digits_small}
 use Rattle.text_print.proofs.Written.{two_digits, three_digits}
-use Rattle.text_print.proofs.out.OutSink.number.Goals as goal
+use Rattle.text_print.proofs.printing.OutSink.number.Goals as goal
 
 pub returns-then-n-lt10 : goal.returns-then-n-lt10
 returns-then-n-lt10 c = rw (digits_small c.args.n c.if-n-lt10.true) c.put.ensures

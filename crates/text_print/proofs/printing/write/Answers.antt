@@ -1,9 +1,9 @@
 -- There is room, so the sink is not left out, and it is the one that stands after the text.
 use mathlib.Core.Path.{◌≡◌, ap, ◌∙◌}
 use Rattle.std.specs.Prelude.{Option, None, Some}
-use Rattle.text_print.specs.declared.out.Out.{Out}
+use Rattle.text_print.specs.declared.printing.Out.{Out}
 use Rattle.text_print.proofs.Written.{out_puts, after}
-use Rattle.text_print.proofs.out.write.Goals as goal
+use Rattle.text_print.proofs.printing.write.Goals as goal
 
 pub unreachable-requires : goal.unreachable-requires
 unreachable-requires g c =

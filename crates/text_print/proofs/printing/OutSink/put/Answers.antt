@@ -4,7 +4,7 @@ use Rattle.text_lengths.specs.Sinks.{puts}
 use Rattle.text_lengths.proofs.Sinks.{puts_none}
 use Rattle.text_print.specs.Outs.{out_takes}
 use Rattle.text_print.proofs.Written.{byte_taken, byte_refused}
-use Rattle.text_print.proofs.out.OutSink.put.Goals as goal
+use Rattle.text_print.proofs.printing.OutSink.put.Goals as goal
 
 pub returns-in_err-after : goal.returns-in_err-after
 returns-in_err-after c =
