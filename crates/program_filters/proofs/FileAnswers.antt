@@ -7,22 +7,21 @@ use native.Mathlib.Omega.{arith}
 use lib.Dec.{ltb}
 use lib.ListN.{length, get_or}
 use borrow.Author.Tests.{ltb-false, le-ltb}
+use Rattle.std.specs.Prelude.{Result}
 use Rattle.pictures.specs.declared.sizes.Size.{Size}
 use Rattle.pictures.specs.declared.refusals.Refusal.{Refusal}
 use Rattle.pictures.specs.Refusals.{◌when◌, refusal}
 use Rattle.pictures.specs.Pictures.{size_rules, picture, pixels}
-use Rattle.pictures.proofs.Rules.{served-first, served-both, passed, number-some}
+use Rattle.pictures.proofs.Rules.{served-first, served-both, passed}
 use Rattle.pictures.proofs.Limits.{Sized, sized_is}
 use Rattle.map_theory.specs.Widths.{allowed}
 use Rattle.text_theory.specs.Files.{All}
 use Rattle.file_theory.specs.Contents.{file_of}
 use Rattle.file_theory.specs.Rules.{build_rules, work_rule}
-use Rattle.file_rules.specs.declared.answers.Built.TheVariants as builts
 use Rattle.file_build.specs.Building.{BuildGiven}
 use Rattle.program_theory.specs.Programs.{held_pixels, pixels_rule, full_range}
 use Rattle.program_theory.proofs.Lengths.{file-most}
 use Rattle.program_theory.proofs.Files.{full_allowed}
-use Rattle.program_netpbm.specs.declared.output.Output.TheVariants as outputs
 use Rattle.program_netpbm.specs.Outputs.{output_space}
 use Rattle.program_filters.specs.Inner.{FileAnswered}
 
@@ -49,9 +48,6 @@ module _ (z : Size) (b : List ℕ) (held : refusal (size_rules z (length b) ++ (
         served-first (size_rules z (length b)) (6 when not (allowed z.width (z.width - 1) (z.width / 2)) ∷ 8 when ltb (length out) (length (file_of (full_range z) (picture z b))) ∷ work_rule z (length work) ∷ []) refl parts.0
         ∙ rw (range, le-ltb (length out) (length (file_of (full_range z) (picture z b))) (omega (arith, room, long)), le-ltb (length work) (32 * pixels z) (omega (arith, work_is, held-few)))
 
-    -- What building gives is the program's answer.
-    pub file-answered : {n : ℕ} {out' work' : List ℕ} → BuildGiven b (full_range z) out work (builts.Length n) out' work' → FileAnswered z b out (outputs.Length n) out'
-    file-answered g = record { number = sym held; length_is = g.length_is; out_given = g.out_given }
-
-    pub never-refused : (why : Refusal) {out' work' : List ℕ} → BuildGiven b (full_range z) out work (builts.Refused why) out' work' → ⊥
-    never-refused why g = omega (arith, g.number ∙ build-none, number-some why)
+    -- What building gives is the program's answer: building refuses nothing.
+    pub file-answered : {answer : Result ℕ Refusal} {out' work' : List ℕ} → BuildGiven b (full_range z) out work answer out' work' → FileAnswered z b out answer out'
+    file-answered g = record { number = g.number ∙ build-none ∙ sym held; length_is = g.length_is; out_given = g.out_given }

@@ -11,6 +11,7 @@ use lib.Seq.{take_at}
 use Rattle.grids.specs.Each.{Each}
 use Rattle.grids.proofs.Shapes.{each_weaken}
 use Rattle.pictures.specs.Limits.{most_side}
+use Rattle.std.specs.Prelude.{Ok, Err, Some}
 use Rattle.pictures.specs.declared.sizes.Size.{Size}
 use Rattle.pictures.specs.declared.refusals.Refusal.{Refusal}
 use Rattle.pictures.specs.declared.refusals.Refusal.TheVariants as refusals
@@ -27,14 +28,12 @@ use Rattle.file_theory.specs.Shows.{sized, Drawn, shows_in, shows, drawn_size, d
 use Rattle.file_theory.specs.Demands.{ShownAt, Shaped}
 use Rattle.file_theory.proofs.Refused.{show_checked, checked-accepted}
 use Rattle.file_theory.proofs.Demands.{shows-some}
-use Rattle.file_rules.specs.declared.answers.Shown.TheVariants as showings
 use Rattle.file_read.specs.Reading.{ShowGiven}
-use Rattle.text_print.specs.Inner.{Printed}
-use Rattle.text_print.proofs.Written.{printed_front}
+use Rattle.text_print.specs.Prints.{Put}
+use Rattle.text_print.proofs.Written.{put_front}
 use Rattle.program_theory.specs.Netpbm.{header_text, netpbm}
 use Rattle.program_theory.specs.Programs.{held_pixels, fitted_rules, drawn_text}
 use Rattle.program_theory.proofs.Lengths.{header_most}
-use Rattle.program_netpbm.specs.declared.output.Output.TheVariants as outputs
 use Rattle.program_netpbm.specs.Outputs.{output_space}
 use Rattle.program_filters.specs.Inner.{DrawNeeded, PictureAnswered}
 use Rattle.program_netpbm.proofs.Outputs.{refused_so}
@@ -43,7 +42,7 @@ use Rattle.map_theory.specs.Bounds.{most_width, most_shown_row}
 
 -- A text without the lines of a head has no parts, and those of its parts are its head's.
 module _ {file : List ℕ} where
-  pub no_head : (v : ℕ) (out : List ℕ) → Told head_get file 0 none → PictureAnswered file v out (outputs.Refused refusals.Form) out
+  pub no_head : (v : ℕ) (out : List ℕ) → Told head_get file 0 none → PictureAnswered file v out (Err refusals.Form) out
   no_head v out t = refused_so refusals.Form (drawn_text (shows file v)) out (go (parse file) refl)
     where
       go : (o : Option Parts) → parse file ≡ o → 1 ≡ refusal (fitted_rules v file)
@@ -68,20 +67,16 @@ pub record Drawing (file : List ℕ) (v : ℕ) (z : Size) (picture' : List ℕ) 
 
 -- What is then printed is what the program writes.
 pub draw_served : {file : List ℕ} {v : ℕ} {z : Size} {picture' : List ℕ} → Drawing file v z picture' → {out out' : List ℕ} {n : ℕ} → output_space ≤ length out
-    → Printed out 0 (header_text z ++ take (picture_bytes z) picture') out' n → PictureAnswered file v out (outputs.Length n) out'
+    → Put out 0 (header_text z ++ take (picture_bytes z) picture') (Some n) out' → PictureAnswered file v out (Ok n) out'
 draw_served {file} {v} D {out} {out'} {n} r P =
-    let Q : Printed out 0 (drawn_text (shows file v)) out' n = rw D.text_is at P in
-    record {
-      number = sym D.served;
-      length_is = omega (arith, Q.end_is);
-      out_given = printed_front (drawn_text (shows file v)) Q (omega (arith, r, D.text_most, ap length D.text_is));
-    }
+    let front = put_front (omega (arith, r, D.text_most, ap length D.text_is)) (rw D.text_is at P) in
+    record { number = sym D.served; length_is = front.0; out_given = front.1 }
 
 module _ (file : List ℕ) (v : ℕ) (picture out work : List ℕ) (needed : DrawNeeded file picture out) (work_is : length work ≡ 32 * held_pixels) where
-  pub draw_refused : (why : Refusal) {picture' work' : List ℕ} → ShowGiven file v picture work (showings.Refused why) picture' work' → PictureAnswered file v out (outputs.Refused why) out
+  pub draw_refused : (why : Refusal) {picture' work' : List ℕ} → ShowGiven file v picture work (Err why) picture' work' → PictureAnswered file v out (Err why) out
   draw_refused why g = refused_so why (drawn_text (shows file v)) out (g.number ∙ same_number file v picture out work needed work_is)
 
-  module _ (z : Size) {picture' work' : List ℕ} (g : ShowGiven file v picture work (showings.Size z) picture' work') where
+  module _ (z : Size) {picture' work' : List ℕ} (g : ShowGiven file v picture work (Ok z) picture' work') where
     nothing : refusal (fitted_rules v file) ≡ 0
     nothing = sym (g.number ∙ same_number file v picture out work needed work_is)
 

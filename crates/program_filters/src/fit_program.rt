@@ -6,7 +6,7 @@ ghost use Rattle.program_netpbm.specs.Outputs.{Wrote, output_space};
 ghost use Rattle.program_netpbm.specs.Inner.{Answered};
 ghost use Rattle.program_filters.specs.Inner.{DrawNeeded, PictureAnswered};
 
-use pictures::{Refusal, WORK_A_PIXEL};
+use pictures::{Refusal, WORK_A_PIXEL, channels};
 use program_netpbm::OUTPUT_SPACE;
 use program_rules::HELD_PIXELS;
 use text_read::Cursor;
@@ -32,11 +32,8 @@ fn draw(input: &[u8], out: &mut [u8]) -> Result<usize, Refusal>
     ensures { Answered (fit_rules input.now) (picture_answer (width_get input.now)) out.old result out.new }
 {
     program_rules::judge_input(input.len())?;
-    let Some((width, c)) = width_line(input) else {
-        return Err(Refusal::Form);
-    };
-    let at = c.at;
-    draw_file(&input[at..], width, out)
+    let (width, c) = width_line(input).ok_or(Refusal::Form)?;
+    draw_file(&input[c.at..], width, out)
 }
 
 // The picture that a file shows at a width, in a space that is as long as the most pixels of the file's kind.
@@ -45,12 +42,8 @@ fn draw_file(file: &[u8], width: usize, out: &mut [u8]) -> Result<usize, Refusal
     ensures { PictureAnswered file.now width out.old result out.new }
 {
     let start = Cursor { at: 0 };
-    let Some((head, _)) = start.header(file) else {
-        return Err(Refusal::Form);
-    };
-    let size = head.size;
-    let kind = size.kind;
-    let room = HELD_PIXELS * pictures::channels(kind);
+    let (head, _) = start.header(file).ok_or(Refusal::Form)?;
+    let room = HELD_PIXELS * channels(head.size.kind);
     let mut picture = [0u8; 3 * HELD_PIXELS];
     draw_in(file, width, &mut picture[..room], out)
 }
@@ -62,10 +55,7 @@ fn draw_in(file: &[u8], width: usize, picture: &mut [u8], out: &mut [u8]) -> Res
 {
     let mut work = [0u8; WORK_A_PIXEL * HELD_PIXELS];
     let size = file_read::show(file, width, picture, &mut work)?;
-    let bytes = size.height * (size.width * pictures::channels(size.kind));
-    let Some(end) = program_netpbm::print_picture(out, size, &picture[..bytes]) else {
-        // unreachable: there is room
-        return Err(Refusal::Space);
-    };
+    let bytes = size.height * (size.width * channels(size.kind));
+    let end = program_netpbm::print_picture(out, size, &picture[..bytes]).unwrap();
     Ok(end)
 }

@@ -25,11 +25,8 @@ fn build(input: &[u8], out: &mut [u8]) -> Result<usize, Refusal>
     ensures { Answered (seams_rules input.now) (file_answer (header_get input.now)) out.old result out.new }
 {
     program_rules::judge_input(input.len())?;
-    let Some((size, c)) = program_netpbm::read_header(input) else {
-        return Err(Refusal::Form);
-    };
-    let at = c.at;
-    build_file(size, &input[at..], out)
+    let (size, c) = program_netpbm::read_header(input).ok_or(Refusal::Form)?;
+    build_file(size, &input[c.at..], out)
 }
 
 // The file of a picture, with all widths that it can offer.
@@ -38,13 +35,11 @@ fn build_file(size: Size, samples: &[u8], out: &mut [u8]) -> Result<usize, Refus
     ensures { FileAnswered size samples.now out.old result out.new }
 {
     program_rules::judge_held(size, samples.len())?;
-    let width = size.width;
-    let depth = width - 1;
     let head = Head {
         size,
         method: energy::usual_method(),
-        depth,
-        growth: width / 2,
+        depth: size.width - 1,
+        growth: size.width / 2,
     };
     let mut work = [0u8; WORK_A_PIXEL * HELD_PIXELS];
     file_build::build(samples, head, out, &mut work)

@@ -1,13 +1,11 @@
 -- `program_filters::fit_program::draw_in` meets its contract: what is shown is printed, and there is room for it.
-use mathlib.Core.Path.{◌≡◌, refl, sym}
-use mathlib.Core.List.{List, ◌++◌}
-use Prim.Native.Nat.{ℕ, ◌+◌, ◌*◌, ◌≤◌}
-use native.Mathlib.Omega.{arith}
-use lib.ListN.{length, take}
+use Rattle.std.proofs.Common.{◌≡◌, ℕ, ◌*◌, ◌≤◌, List, ◌++◌, Err, rules, length, take, refl, sym, arith}
 use lib.Seq.{length-take-le}
 use Rattle.pictures.specs.declared.sizes.Size.{Size}
 use Rattle.pictures.specs.Pictures.{channels_of}
-use Rattle.text_print.proofs.Written.{never_short, printed_next}
+use Rattle.std.specs.Prelude.{Option, None, Some, IsSome}
+use Rattle.text_print.specs.Prints.{Put}
+use Rattle.text_print.proofs.Written.{never_short}
 use Rattle.program_theory.specs.Netpbm.{header_text}
 use Rattle.program_netpbm.specs.Outputs.{output_space}
 use Rattle.program_filters.proofs.PictureAnswers.{Drawing, draw_served, draw_refused, drawing}
@@ -18,40 +16,46 @@ module _ {file : List ℕ} {v : ℕ} {z : Size} {picture' : List ℕ} (shown : D
   inside : z.height * (z.width * n) ≤ length picture'
   inside = rw by shown.inside
 
-  room : (out : List ℕ) → output_space ≤ length out → 0 + length (header_text z ++ take (z.height * (z.width * n)) picture') ≤ length out
+  room : (out : List ℕ) → output_space ≤ length out → length (header_text z ++ take (z.height * (z.width * n)) picture') ≤ length out
   room out h = rw by (omega (arith, h, shown.text_most))
+
+-- What has room is printed.
+printed : (r : Option ℕ) {out bytes out' : List ℕ} → length bytes ≤ length out → Put out 0 bytes r out' → IsSome r
+printed None h p = absurd (never_short h p)
+printed (Some n) h p = refl
+
+pub returns-in_err-size : goal.returns-in_err-size
+returns-in_err-size c =
+    let why = c.in_err-size.field-0.0 in
+    let is : c.from_residual.result ≡ Err why = search rules in
+    rw is (draw_refused c.args.file.now c.args.width c.args.picture.now c.args.out.now _ c.requires refl why c.in_err-size.ensures)
 
 pub overflow_mul-bytes : goal.overflow_mul-bytes
 overflow_mul-bytes c =
-    let shown = drawing c.args.file.now c.args.width c.args.picture.now c.args.out.now _ c.requires refl c.in-Size.size c.in-Size.ensures in
+    let shown = drawing c.args.file.now c.args.width c.args.picture.now c.args.out.now _ c.requires refl c.in_ok-size.size c.in_ok-size.ensures in
     rw c.channels.ensures (omega (arith, shown.row_most))
 
-pub overflow_mul-bytes-in-Size : goal.overflow_mul-bytes-in-Size
-overflow_mul-bytes-in-Size c =
-    let shown = drawing c.args.file.now c.args.width c.args.picture.now c.args.out.now _ c.requires refl c.in-Size.size c.in-Size.ensures in
+pub overflow_mul-bytes-2 : goal.overflow_mul-bytes-2
+overflow_mul-bytes-2 c =
+    let shown = drawing c.args.file.now c.args.width c.args.picture.now c.args.out.now _ c.requires refl c.in_ok-size.size c.in_ok-size.ensures in
     rw c.channels.ensures (omega (arith, shown.few))
 
 pub slice_bounds-print_picture-end : goal.slice_bounds-print_picture-end
 slice_bounds-print_picture-end c =
-    let shown = drawing c.args.file.now c.args.width c.args.picture.now c.args.out.now _ c.requires refl c.in-Size.size c.in-Size.ensures in
+    let shown = drawing c.args.file.now c.args.width c.args.picture.now c.args.out.now _ c.requires refl c.in_ok-size.size c.in_ok-size.ensures in
     inside shown c.channels.ensures
 
-pub slice_bounds-print_picture-end-in-Size : goal.slice_bounds-print_picture-end-in-Size
-slice_bounds-print_picture-end-in-Size c =
-    let shown = drawing c.args.file.now c.args.width c.args.picture.now c.args.out.now _ c.requires refl c.in-Size.size c.in-Size.ensures in
+pub slice_bounds-print_picture-end-2 : goal.slice_bounds-print_picture-end-2
+slice_bounds-print_picture-end-2 c =
+    let shown = drawing c.args.file.now c.args.width c.args.picture.now c.args.out.now _ c.requires refl c.in_ok-size.size c.in_ok-size.ensures in
     sym (length-take-le _ _ (inside shown c.channels.ensures))
 
-pub returns-in_default : goal.returns-in_default
-returns-in_default c =
-    let shown = drawing c.args.file.now c.args.width c.args.picture.now c.args.out.now _ c.requires refl c.in-Size.size c.in-Size.ensures in
-    absurd (never_short c.print_picture.ensures (room shown c.channels.ensures _ c.requires.room) c.in_default.is)
+pub unwrap-end-requires : goal.unwrap-end-requires
+unwrap-end-requires c =
+    let shown = drawing c.args.file.now c.args.width c.args.picture.now c.args.out.now _ c.requires refl c.in_ok-size.size c.in_ok-size.ensures in
+    printed c.print_picture.result (room shown c.channels.ensures _ c.requires.room) c.print_picture.ensures
 
-pub returns-in-Next : goal.returns-in-Next
-returns-in-Next c =
-    let shown = drawing c.args.file.now c.args.width c.args.picture.now c.args.out.now _ c.requires refl c.in-Size.size c.in-Size.ensures in
-    let printed = printed_next c.print_picture.ensures (room shown c.channels.ensures _ c.requires.room) c.in-Next.is in
-    draw_served shown c.requires.room (rw c.channels.ensures at printed)
-
-pub returns-in-Refused : goal.returns-in-Refused
-returns-in-Refused c =
-    draw_refused c.args.file.now c.args.width c.args.picture.now c.args.out.now _ c.requires refl c.in-Refused.why c.in-Refused.ensures
+pub returns : goal.returns
+returns c =
+    let shown = drawing c.args.file.now c.args.width c.args.picture.now c.args.out.now _ c.requires refl c.in_ok-size.size c.in_ok-size.ensures in
+    draw_served shown c.requires.room (rw c.channels.ensures at (rw c.unwrap-end.ensures at c.print_picture.ensures))
