@@ -19,7 +19,8 @@ pub use sizes::{
 };
 pub use spaces::clear;
 
-// Row r as that part of the lent picture itself; the empty part where there is no such row or 2 to 4 refuse the picture.
+// Row r as that part of the lent picture itself; the empty part where there is no such row or 2 to 4 refuse the picture: hosts are
+// given no number with it.
 pub fn row<'a>(picture: &'a [u8], size: Size, r: usize) -> &'a [u8]
     ensures { result.now ≡ row_of size picture.now r }
 {

@@ -9,5 +9,5 @@ pub const LARGEST_NUMBER: usize = 65535;
 pub fn number(low: u8, high: u8) -> u16
     ensures { (result ≡ two_bytes low high) × (result ≤ largest_number) }
 {
-    low as u16 + 256 * high as u16
+    u16::from_le_bytes([low, high])
 }

@@ -18,6 +18,8 @@ pub enum Kind {
     Rgb,
 }
 
+// A size stands beside the bytes that it is the size of, as hosts pass the two: the bytes are now read, now written, and a part of a
+// space that is cut again by another size.
 #[derive(Clone, Copy, Debug, PartialEq, Eq)]
 pub struct Size {
     pub width: usize,
@@ -48,7 +50,7 @@ pub fn judge_sides(size: Size) -> Result<(), Refusal>
     Ok(())
 }
 
-// Bytes of a picture of this size; 0 where its sides are refused.
+// Bytes of a picture of this size; 0 where its sides are refused: hosts are given a number for any size, here and in the next two.
 pub fn picture_bytes(size: Size) -> usize
     ensures { result ≡ served (refusal (side_rules size)) (picture_bytes size) 0 }
 {
