@@ -6,3 +6,4 @@ pub mod Lines
 pub mod Served
 pub mod Smallest
 pub mod Differences
+pub mod Samples

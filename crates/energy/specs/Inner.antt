@@ -1,5 +1,5 @@
 -- What the private functions of this crate ask and promise, in terms of rows of bytes. No public promise cites it.
-use Rattle.std.specs.Prelude.{◌≡◌, cond, List, ℕ, ◌+◌, ◌-◌, ◌*◌, ◌≤◌, ◌<◌, ltb, length}
+use Rattle.std.specs.Prelude.{◌≡◌, cond, List, ℕ, ◌+◌, ◌-◌, ◌*◌, ◌≤◌, ◌<◌, ltb, length, get_or}
 use Rattle.grids.specs.Rows.{row_at}
 use Rattle.pictures.specs.declared.sizes.Size.{Size}
 use Rattle.pictures.specs.Refusals.{refusal}
@@ -7,7 +7,7 @@ use Rattle.pictures.specs.Limits.{most_side}
 use Rattle.pictures.specs.Pictures.{size_rules}
 use Rattle.energy.specs.declared.methods.EnergyRule.{EnergyRule}
 use Rattle.energy.specs.declared.methods.EnergyRule.TheVariants.{Edge}
-use Rattle.energy.specs.Energy.{difference}
+use Rattle.energy.specs.Energy.{apart, difference}
 
 -- A row of a picture of its size, with room for the row's energies.
 pub record RowNeeded (b : List ℕ) (z : Size) (r : ℕ) (out : List ℕ) : Type 0 where
@@ -28,6 +28,10 @@ pub record LinesNeeded (channels : ℕ) (it lower : List ℕ) (width beside : �
 -- The column to the right of column c; of the last column, the one that stands for it.
 abbrev pub right_column : ℕ → ℕ → ℕ → ℕ
 right_column width beside c = cond (ltb (c + 1) width) (c + 1) beside
+
+-- How far sample k of a row is from the one of the next pixel, and from the lower one.
+abbrev pub sample_energy : ℕ → List ℕ → List ℕ → ℕ → ℕ
+sample_energy channels it lower k = apart (get_or it (channels + k) 0) (get_or it k 0) + apart (get_or lower k 0) (get_or it k 0)
 
 -- The energy of pixel c of a row, from its bytes, those of the row that stands for the one below, and the column that stands for
 -- the one to its right.

@@ -1,13 +1,16 @@
 // The energies of one row of pixels, given its bytes and those of the row that stands for the one below it. One function for
 // any number of channels, which is a constant to the compiler: the loop over them is unrolled.
-ghost use Rattle.std.specs.Prelude.{◌≡◌, ◌++◌, ◌+◌, ◌*◌, ◌≤◌, length, take, drop};
+ghost use Rattle.std.specs.Prelude.{◌≡◌, ◌++◌, ◌+◌, ◌*◌, ◌≤◌, length, sum, drop};
 ghost use Rattle.grids.specs.Table.{table};
 ghost use Rattle.energy.specs.Energy.{difference as Energy·difference};
 ghost use Rattle.pictures.specs.Pictures.{channels_of};
-ghost use Rattle.energy.specs.Inner.{LinesNeeded, energy_between, between};
+ghost use Rattle.energy.specs.Inner.{LinesNeeded, sample_energy, energy_between, between};
 ghost use Rattle.grids.specs.Rows.{row_at};
 
-use pictures::Kind;
+use pictures::{Kind, LARGEST_SIDE};
+
+// The most samples of a row.
+const MOST_SAMPLES: usize = 3 * LARGEST_SIDE;
 
 // The energies of a row of pixels of this kind, put into the first `width` places of out. Column `beside` stands for the one to
 // the right of the last.
@@ -34,10 +37,53 @@ fn row<const N: usize>(it: &[u8], lower: &[u8], width: usize, beside: usize, out
     ensures { out.new ≡ table (between N it.now lower.now width beside) width ++ drop width out.old }
 {
     let last = width - 1;
-    for (c, energy) in out[..last].iter_mut().enumerate() {
-        *energy = energy_at::<N>(it, lower, c, c + 1);
-    }
+    let inner = last * N;
+    let mut samples = [0u16; MOST_SAMPLES];
+    inner_energies::<N>(it, lower, &mut samples[..inner], &mut out[..last]);
     out[last] = energy_at::<N>(it, lower, last, beside);
+}
+
+// The energies of the pixels before the last, from those of their samples.
+fn inner_energies<const N: usize>(it: &[u8], lower: &[u8], samples: &mut [u16], out: &mut [u32])
+    requires few { N ≤ 3 }
+    requires long { length samples.old ≡ length out.old * N }
+    requires rows { (length samples.old + N ≤ length it.now) × (length samples.old ≤ length lower.now) }
+    ensures { out.new ≡ table (λ c. energy_between N it.now lower.now c (c + 1)) (length out.old) }
+{
+    sample_energies::<N>(it, lower, samples);
+    channels_added::<N>(samples, out);
+}
+
+// How far each sample of a row is from the one N to its right, and from the one below it. Samples are worked out before pixels,
+// so that many are at once.
+fn sample_energies<const N: usize>(it: &[u8], lower: &[u8], out: &mut [u16])
+    requires { (length out.old + N ≤ length it.now) × (length out.old ≤ length lower.now) }
+    ensures { out.new ≡ table (sample_energy N it.now lower.now) (length out.old) }
+{
+    let right = &it[N..];
+    for (k, energy) in out.iter_mut().enumerate() {
+        *energy = right[k].abs_diff(it[k]) as u16 + lower[k].abs_diff(it[k]) as u16;
+    }
+}
+
+// The energies of pixels, from those of their samples.
+fn channels_added<const N: usize>(samples: &[u16], out: &mut [u32])
+    requires few { N ≤ 3 }
+    requires long { length samples.now ≡ length out.old * N }
+    ensures { out.new ≡ table (λ c. sum (row_at N c samples.now)) (length out.old) }
+{
+    for (c, energy) in out.iter_mut().enumerate() {
+        let at = c * N;
+        *energy = total(&samples[at..at + N]);
+    }
+}
+
+// The sum of the energies of a pixel's samples.
+fn total(samples: &[u16]) -> u32
+    requires { length samples.now ≤ 3 }
+    ensures { result ≡ sum samples.now }
+{
+    samples.iter().map(|x| *x as u32).sum()
 }
 
 // The energy of the pixel in column c: how far the pixel of its row in column `beside` is from it, and how far the lower one is.
