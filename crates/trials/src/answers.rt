@@ -1,7 +1,7 @@
 // The operations on files, with what they give and leave in a line.
 ghost use Rattle.std.specs.Prelude.{◌≤◌, length};
 
-use crate::{print_bytes, print_number, print_seam, put};
+use crate::output::{given, print_number, print_numbers, put};
 use pictures::{Refusal, Size};
 use std::io::Stdout;
 use text_theory::Head;
@@ -19,36 +19,14 @@ pub(crate) fn print_build(
 {
     let built = file_build::build(picture, head, out, work);
     put(stdout, b"build");
-    print_built(stdout, built);
+    print_number(stdout, given(built));
+    if let Ok(length) = built {
+        print_number(stdout, length);
+    }
     print_used(stdout, out);
     print_used(stdout, work);
     put(stdout, b"\n");
-    length_in(built, out.len())
-}
-
-// The length of a file in a space of this length.
-fn length_in(built: Result<usize, Refusal>, most: usize) -> usize
-    ensures { result ≤ most }
-{
-    let Ok(n) = built else {
-        return 0;
-    };
-    if most < n {
-        return 0;
-    }
-    n
-}
-
-fn print_built(stdout: Stdout, built: Result<usize, Refusal>) {
-    match built {
-        Ok(n) => {
-            print_number(stdout, 0);
-            print_number(stdout, wide_length(n));
-        }
-        Err(why) => {
-            print_number(stdout, pictures::number(why));
-        }
-    }
+    built.unwrap_or(0).min(out.len())
 }
 
 // The number given, size and range, and how many bytes of the work space aren't 0.
@@ -73,9 +51,9 @@ pub(crate) fn print_read(
     print_checked(stdout, checked);
     print_used(stdout, work);
     put(stdout, b" |");
-    print_bytes(stdout, picture);
+    print_numbers(stdout, picture);
     put(stdout, b" |");
-    print_seam(stdout, map);
+    print_numbers(stdout, map);
     put(stdout, b"\n");
 }
 
@@ -89,84 +67,34 @@ pub(crate) fn print_show(
 ) {
     let shown = file_read::show(file, wanted, out, work);
     put(stdout, b"show");
-    print_number(stdout, wide_length(wanted));
-    print_shown(stdout, shown);
+    print_number(stdout, wanted);
+    print_number(stdout, given(shown));
+    if let Ok(size) = shown {
+        print_size(stdout, size);
+    }
     print_used(stdout, work);
     put(stdout, b" |");
-    print_bytes(stdout, out);
+    print_numbers(stdout, out);
     put(stdout, b"\n");
 }
 
 fn print_checked(stdout: Stdout, checked: Result<Head, Refusal>) {
-    match checked {
-        Ok(head) => {
-            let size = head.size;
-            print_number(stdout, 0);
-            print_size(stdout, size);
-            print_number(stdout, wide_length(head.depth));
-            print_number(stdout, wide_length(head.growth));
-        }
-        Err(why) => {
-            print_number(stdout, pictures::number(why));
-        }
-    }
-}
-
-fn print_shown(stdout: Stdout, shown: Result<Size, Refusal>) {
-    match shown {
-        Ok(size) => {
-            print_number(stdout, 0);
-            print_size(stdout, size);
-        }
-        Err(why) => {
-            print_number(stdout, pictures::number(why));
-        }
+    print_number(stdout, given(checked));
+    if let Ok(head) = checked {
+        print_size(stdout, head.size);
+        print_number(stdout, head.depth);
+        print_number(stdout, head.growth);
     }
 }
 
 // Width, height, and samples a pixel.
 fn print_size(stdout: Stdout, size: Size) {
-    let kind = size.kind;
-    print_number(stdout, wide_length(size.width));
-    print_number(stdout, wide_length(size.height));
-    print_number(stdout, wide_length(pictures::channels(kind)));
-}
-
-// The number that a file is refused by, 0 where it is accepted.
-pub(crate) fn checked_number(checked: Result<Head, Refusal>) -> u64 {
-    match checked {
-        Ok(_) => 0,
-        Err(why) => pictures::number(why),
-    }
-}
-
-// The number that a width is refused by, 0 where it is shown.
-pub(crate) fn shown_number(shown: Result<Size, Refusal>) -> u64 {
-    match shown {
-        Ok(_) => 0,
-        Err(why) => pictures::number(why),
-    }
+    print_number(stdout, size.width);
+    print_number(stdout, size.height);
+    print_number(stdout, pictures::channels(size.kind));
 }
 
 // How many bytes of the space aren't 0.
 fn print_used(stdout: Stdout, space: &[u8]) {
-    let mut n: usize = 0;
-    for i in 0..space.len() {
-        n += used(space[i]);
-    }
-    print_number(stdout, wide_length(n));
-}
-
-// 1 for a byte that isn't 0.
-fn used(byte: u8) -> usize
-    ensures { result ≤ 1 }
-{
-    if byte == 0 {
-        return 0;
-    }
-    1
-}
-
-fn wide_length(n: usize) -> u64 {
-    n as u64
+    print_number(stdout, space.iter().filter(|byte| **byte != 0).count());
 }

@@ -1,41 +1,35 @@
 // Rows and columns removed together from generated pictures.
-ghost use Rattle.std.specs.Prelude.{◌<◌, ◌≤◌};
-
-use crate::{count, fill, print_bytes, print_number, put, put_decimal, wide_byte};
+use crate::generated::{Source, bytes};
+use crate::output::{print_found, print_number, print_numbers, put};
 use energy::Method;
 use pictures::{Kind, Size};
-use seam_rules::{Columns, Retargeted, Rows};
+use seam_rules::{Columns, Rows};
 use std::io::Stdout;
 
-// A line for each count of rows and of columns up to 2.
-pub(crate) fn trial(
-    stdout: Stdout,
-    width: usize,
-    height: usize,
-    kind: Kind,
-    method: Method,
-    seed: u64,
-) -> u64
-    requires { (width ≤ 6) × (height ≤ 4) × (seed < 65536) }
-    ensures { result < 65536 }
-{
-    let mut space = [0u8; 72];
-    let next = fill(&mut space, seed);
-    let size = Size {
-        width,
-        height,
-        kind,
+// A grey picture and one of three channels.
+pub(crate) fn trials(stdout: Stdout, method: Method, source: &mut Source) {
+    let grey = Size {
+        width: 4,
+        height: 2,
+        kind: Kind::Grey,
     };
-    let bytes = count(height, width, pictures::channels(kind));
-    for rows in 0..3 {
-        print_retargets(stdout, &space[..bytes], size, method, rows);
+    let rgb = Size {
+        width: 3,
+        height: 3,
+        kind: Kind::Rgb,
+    };
+    for size in [grey, rgb] {
+        let samples = source.samples();
+        trial(stdout, &samples[..bytes(size)], size, method);
     }
-    next
 }
 
-fn print_retargets(stdout: Stdout, picture: &[u8], size: Size, method: Method, rows: usize) {
-    for columns in 0..3 {
-        print_retarget(stdout, picture, size, method, Rows(rows), Columns(columns));
+// A line for each count of rows and of columns up to 2.
+fn trial(stdout: Stdout, picture: &[u8], size: Size, method: Method) {
+    for rows in 0..3 {
+        for columns in 0..3 {
+            print_retarget(stdout, picture, size, method, Rows(rows), Columns(columns));
+        }
     }
 }
 
@@ -50,21 +44,9 @@ fn print_retarget(
 ) {
     let mut out = [7u8; 20];
     let mut work = [1u8; 2100];
-    let given = seam_retarget::retarget(picture, size, method, rows, columns, &mut out, &mut work);
-    print_total(stdout, given);
-    print_bytes(stdout, &out);
-    print_number(stdout, wide_byte(work[2099]));
+    let total = seam_retarget::retarget(picture, size, method, rows, columns, &mut out, &mut work);
+    print_found(stdout, total);
+    print_numbers(stdout, &out);
+    print_number(stdout, work[2099]);
     put(stdout, b"\n");
-}
-
-fn print_total(stdout: Stdout, given: Retargeted) {
-    match given {
-        Retargeted::Total(total) => {
-            put_decimal(stdout, 0);
-            print_number(stdout, total);
-        }
-        Retargeted::Refused(why) => {
-            put_decimal(stdout, pictures::number(why));
-        }
-    }
 }

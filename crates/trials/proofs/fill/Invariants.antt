@@ -1,6 +1,0 @@
--- `trials::fill` meets its contract. The loop's invariant: the seed stays below 65536.
-use Prim.Native.Nat.{◌<◌}
-use Rattle.trials.proofs.fill.Given as goal
-
-abbrev pub invariant-loop-i : goal.invariant-loop-i
-invariant-loop-i l = l.s < 65536
