@@ -110,6 +110,10 @@ module _ {x : Class} (b : ℕ) (f : x ≡ class_of b) where
       go true h = absurd (n b (f ∙ rw (letter_digit b h, h)))
       go false h = h
 
+  pub arm_no_opening : (x ≡ Opening → ⊥) → b ≡ 40 → ⊥
+  unfolding class_of is_digit is_letter
+  arm_no_opening n e = n (f ∙ ap class_of e)
+
   pub arm_no_closing : (x ≡ Closing → ⊥) → b ≡ 41 → ⊥
   unfolding class_of is_digit is_letter
   arm_no_closing n e = n (f ∙ ap class_of e)

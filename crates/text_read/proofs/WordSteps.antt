@@ -10,6 +10,7 @@ use lib.Dec.{leb, ltb, eqb}
 use lib.ListN.{length, get_or, drop, drop_of_length-le}
 use lib.Seq.{drop-cons}
 use borrow.Author.Tests.{leb-true, leb-false, le-ltb, lt-ltb, eq-eqb, ne_eqb}
+use Rattle.std.specs.Prelude as code
 use Rattle.std.proofs.lemmas.List.{drop_more}
 use Rattle.pictures.specs.declared.sizes.Kind.{Kind}
 use Rattle.pictures.specs.Numbers.{largest_number}
@@ -19,9 +20,10 @@ use Rattle.text_theory.specs.Readers.{give, on, strip, after, either}
 use Rattle.text_theory.specs.Decimal.{is_digit, further, up_to, number_get}
 use Rattle.text_theory.specs.Words.{name_text, name_number, all_names, name_at, one_of, name_get, named, kind_named, kind_get}
 use Rattle.text_theory.proofs.Names.{name_sound, number_same}
+use Rattle.text_read.specs.declared.cursor.Cursor.{Cursor}
 use Rattle.text_read.specs.declared.words.Word.{Word}
 use Rattle.text_read.specs.declared.words.Word.TheVariants as words
-use Rattle.text_read.specs.Answers.{Told, is_letter, word}
+use Rattle.text_read.specs.Answers.{Told, is_letter, read, word}
 use Rattle.text_read.specs.Inner.{passing}
 use Rattle.text_read.proofs.ByteClasses.{digit_letter}
 use Rattle.text_read.proofs.Letters.{no_letter_first}
@@ -175,13 +177,17 @@ module _ {text : List ℕ} {at : ℕ} where
   pub told_name : {k : Name} {c : ℕ} → Told word text at (some (words.Name k, c)) → Told name_get text at (some (k, c))
   told_name {k} {c} t = record { same = (word_name (drop at text) k (drop c text) t.same).1; moved = t.moved }
 
-  -- The arm of all words that are no names, and that of none.
-  pub told_no_name : (w : Word) {c : ℕ} → ((k : Name) → w ≡ words.Name k → ⊥) → Told word text at (some (w, c)) → Told name_get text at none
-  told_no_name (words.Number n) {c} h t = record { same = number_name (drop at text) _ (word_numeral (drop at text) n (drop c text) t.same); moved = tt }
-  told_no_name (words.Name n) h t = absurd (h n refl)
+  -- The arm of all words that are no names, that of none, and that of all answers that are no names.
+  pub told_other_word : (w : Word) {c : ℕ} → ((k : Name) → w ≡ words.Name k → ⊥) → Told word text at (some (w, c)) → Told name_get text at none
+  told_other_word (words.Number n) {c} h t = record { same = number_name (drop at text) _ (word_numeral (drop at text) n (drop c text) t.same); moved = tt }
+  told_other_word (words.Name n) h t = absurd (h n refl)
 
   pub told_no_word : Told word text at none → Told name_get text at none
   told_no_word t = record { same = (word_none (drop at text) t.same).1; moved = tt }
+
+  pub told_no_name : (w : code.Option (Word × Cursor)) → ((k : Name) (c : Cursor) → w ≡ code.Some (words.Name k, c) → ⊥) → Told word text at (read w) → Told name_get text at none
+  told_no_name (code.Some r) h t = told_other_word r.0 (λ k e. h k r.1 (ap (λ (w : Word). code.Some (w, r.1)) e)) t
+  told_no_name code.None h t = told_no_word t
 
 -- The kind of a name.
 module _ {text : List ℕ} {at : ℕ} where
@@ -196,6 +202,16 @@ module _ {text : List ℕ} {at : ℕ} where
   pub told_unnamed : Told name_get text at none → Told kind_get text at none
   unfolding kind_get
   told_unnamed t = record { same = rw t.same; moved = tt }
+
+-- The arm of all names that are no kind's.
+pub no_kind : (n : Name) → (n ≡ names.Grey → ⊥) → (n ≡ names.Rgb → ⊥) → kind_named n ≡ none
+no_kind names.Multi g r = refl
+no_kind names.Size g r = refl
+no_kind names.Range g r = refl
+no_kind names.Row g r = refl
+no_kind names.Map g r = refl
+no_kind names.Grey g r = absurd (g refl)
+no_kind names.Rgb g r = absurd (r refl)
 
 -- One name alone.
 module _ (n : Name) {text : List ℕ} {at : ℕ} where

@@ -1,5 +1,5 @@
-// A place of a text, by value: its methods take it and hand back the moved one, a form that the project asks for. The text is lent
-// beside it: a place that held its text would have to promise at each step that the text is still the same.
+// A place of a text, by value, as docs/DECISIONS.md lists among the language forms: its methods take it and hand back the moved
+// one. The text is lent beside it: a place that held its text would have to promise at each step that the text is still the same.
 ghost use Rattle.std.specs.Prelude.{◌≡◌};
 ghost use Rattle.pictures.specs.Numbers.{largest_number};
 ghost use Rattle.text_theory.specs.Readers.{answered};

@@ -13,7 +13,8 @@ use pictures::Kind;
 use text_rules::{Items, items_of};
 use text_theory::Name;
 
-// What the numbers of a line are kept as: samples as one byte, numbers of the map as two.
+// What the numbers of a line are kept as: samples as one byte, numbers of the map as two. Of a type parameter, TryFrom<usize> says
+// neither which numbers it takes nor what number a value is.
 trait Kept: Drop {
     ghost value: { Self → ℕ };
 

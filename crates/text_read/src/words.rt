@@ -8,7 +8,7 @@ ghost use Rattle.text_read.specs.Answers.{Told, read, word};
 use crate::cursor::{Class, Cursor};
 use pictures::Kind;
 use pictures::numbers::LARGEST_NUMBER;
-use text_rules::{NAMES, kind_named};
+use text_rules::{all_names, kind_named};
 use text_theory::Name;
 
 #[derive(Clone, Copy, Debug, PartialEq, Eq)]
@@ -22,7 +22,7 @@ impl Cursor {
     fn name(self, text: &[u8]) -> Option<(Name, Cursor)>
         ensures { Told name_get text.now self.at (read result) }
     {
-        for name in NAMES {
+        for name in all_names() {
             if let Some(c) = self.letters(text, name) {
                 return Some((name, c));
             }

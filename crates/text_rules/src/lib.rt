@@ -6,7 +6,7 @@ pub mod names;
 ghost use Rattle.std.specs.Prelude.{◌≡◌, ◌&&◌, eqb};
 ghost use Rattle.text_rules.specs.Items.{items_of};
 
-pub use names::{NAMES, kind_name, kind_named, letters_of};
+pub use names::{all_names, kind_name, kind_named, letters_of};
 use pictures::Kind;
 
 // What the items of a form are: words, or forms of words. The form of a line stands in the form of the file, so forms are
@@ -28,7 +28,7 @@ pub fn items_of(kind: Kind) -> Items
     }
 }
 
-// Whether row lines and map lines are all full.
+// Whether row lines and map lines are all full. This and the next stand apart from the reading, as the project asks of decisions.
 pub fn are_full(rows: bool, maps: bool) -> bool
     ensures { result ≡ rows && maps }
 {

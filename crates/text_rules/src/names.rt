@@ -1,24 +1,29 @@
 // Names: in which order they are looked for, how each is spelled, and which of them name kinds.
 ghost use Rattle.std.specs.Prelude.{◌≡◌};
 ghost use Rattle.text_theory.specs.Readers.{answered};
-ghost use Rattle.text_theory.specs.Words.{name_text, kind_name, kind_named};
+ghost use Rattle.text_theory.specs.Words.{all_names, name_text, kind_name, kind_named};
 
 use pictures::Kind;
 use text_theory::Name;
 
-// All names, in the order in which they are looked for: one that begins another would stand after it.
-pub const NAMES: [Name; 7] = [
-    Name::Multi,
-    Name::Size,
-    Name::Range,
-    Name::Row,
-    Name::Map,
-    Name::Grey,
-    Name::Rgb,
-];
-
 // The kinds that have names.
 const KINDS: [Kind; 2] = [Kind::Grey, Kind::Rgb];
+
+// All names, in the order in which they are looked for: one that begins another would stand after it. A constant would promise
+// nothing of it.
+pub fn all_names() -> [Name; 7]
+    ensures { result ≡ all_names }
+{
+    [
+        Name::Multi,
+        Name::Size,
+        Name::Range,
+        Name::Row,
+        Name::Map,
+        Name::Grey,
+        Name::Rgb,
+    ]
+}
 
 // How a name is spelled.
 pub fn letters_of(name: Name) -> &'static [u8]

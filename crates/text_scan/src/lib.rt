@@ -23,6 +23,7 @@ pub struct Facts {
 }
 
 // Counts lines, as long as they begin with the name: how many there are, and whether all have as many items as the width says.
+// Both are told, as a pair that is the definition's own: how many there are is known of lines that are not full, too.
 fn count_lines(
     start: Cursor,
     text: &[u8],

@@ -10,7 +10,7 @@ use Rattle.text_read.specs.declared.cursor.Class.TheVariants.{Opening}
 use Rattle.text_read.specs.Answers.{Told, of_class, beginning}
 use Rattle.text_read.proofs.ByteClasses.{told_opening}
 use Rattle.text_read.proofs.Onward.{refused_past, when_past, Left, left_start, left-past, left_no_past, left_tail}
-use Rattle.text_read.proofs.WordSteps.{told_name, told_no_name, told_no_word, told_named, told-other-name, told_not-named}
+use Rattle.text_read.proofs.WordSteps.{told_name, told_other_word, told_no_word, told_named, told-other-name, told_not-named}
 use Rattle.text_read.proofs.cursor.Cursor.begin.Goals as goal
 
 -- After the bracket the name is left to read.
@@ -30,7 +30,7 @@ returns-in_err-word c =
 pub returns-in_default : goal.returns-in_default
 returns-in_default c =
     left_tail _ (bracket c.args.name c.in_ok-c.ensures)
-    (told_not-named _ (told_no_name c.in_ok-word.word c.in_default.not-Name c.in_ok-word.ensures))
+    (told_not-named _ (told_other_word c.in_ok-word.word c.in_default.not-Name c.in_ok-word.ensures))
 
 pub returns : goal.returns
 returns c =
