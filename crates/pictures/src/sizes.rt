@@ -50,7 +50,7 @@ pub fn judge_sides(size: Size) -> Result<(), Refusal>
     Ok(())
 }
 
-// Bytes of a picture of this size; 0 where its sides are refused: hosts are given a number for any size, here and in the next two.
+// Bytes of a picture of this size; 0 where its sides are refused, since this and the next two are promised for any size.
 pub fn picture_bytes(size: Size) -> usize
     ensures { result ≡ served (refusal (side_rules size)) (picture_bytes size) 0 }
 {
