@@ -24,6 +24,7 @@ pub struct Facts {
 
 // Counts lines, as long as they begin with the name: how many there are, and whether all have as many items as the width says.
 // Both are told, as a pair that is the definition's own: how many there are is known of lines that are not full, too.
+// Each turn reads a whole line, so no iterator of the text would do.
 fn count_lines(
     start: Cursor,
     text: &[u8],
