@@ -1,8 +1,7 @@
 // Whether a seam can be looked for: the size of the picture, and the spaces lent.
-ghost use Rattle.std.specs.Prelude.{◌≡◌, [], ◌∷◌, true, false, ◌+◌, ◌≤◌, ltb, IfOk};
-ghost use Rattle.pictures.specs.Limits.{most_picture};
+ghost use Rattle.std.specs.Prelude.{◌≡◌, [], ◌∷◌, ◌++◌, true, false, ◌+◌, ◌*◌, ◌≤◌, ltb, IfOk};
 ghost use Rattle.pictures.specs.Refusals.{◌when◌, given, refusal};
-ghost use Rattle.pictures.specs.Pictures.{picture_bytes};
+ghost use Rattle.pictures.specs.Pictures.{side_rules, picture_bytes, pixels};
 ghost use Rattle.seam_bounds.specs.Spaces.{find_space_rules};
 
 use pictures::{AllowedSize, Refusal, Size};
@@ -13,9 +12,7 @@ pub fn judge_find_in(size: Size, space: usize, seam: usize) -> Result<AllowedSiz
     ensures number { given result ≡ refusal (find_space_rules size false space seam) }
     ensures same { IfOk result (λ allowed. allowed.size ≡ size) }
 {
-    let allowed = AllowedSize::new(size)?;
-    judge_spaces(allowed, allowed.pixels(), space, seam)?;
-    Ok(allowed)
+    judge_with::<1>(size, space, seam)
 }
 
 // The same with the picture's marks.
@@ -23,24 +20,18 @@ pub fn judge_find_marked_in(size: Size, space: usize, seam: usize) -> Result<All
     ensures number { given result ≡ refusal (find_space_rules size true space seam) }
     ensures same { IfOk result (λ allowed. allowed.size ≡ size) }
 {
-    let allowed = AllowedSize::new(size)?;
-    let pixels = allowed.pixels();
-    judge_spaces(allowed, pixels + pixels, space, seam)?;
-    Ok(allowed)
+    judge_with::<2>(size, space, seam)
 }
 
-// Whether the spaces are long enough, of which one holds the picture and `after` bytes after it.
-fn judge_spaces(
-    allowed: AllowedSize,
-    after: usize,
-    space: usize,
-    seam: usize,
-) -> Result<(), Refusal>
-    requires { after ≤ most_picture }
-    ensures { given result ≡ refusal (8 when ltb seam allowed.size.height ∷ 8 when ltb space (picture_bytes allowed.size + after) ∷ []) }
+// The same with N bytes for each pixel after the picture: one to work in, and with marks one more.
+fn judge_with<const N: usize>(size: Size, space: usize, seam: usize) -> Result<AllowedSize, Refusal>
+    requires { N ≤ 2 }
+    ensures number { given result ≡ refusal (side_rules size ++ (8 when ltb seam size.height ∷ 8 when ltb space (picture_bytes size + pixels size * N) ∷ [])) }
+    ensures same { IfOk result (λ allowed. allowed.size ≡ size) }
 {
-    if seam < allowed.size.height || space < allowed.picture_bytes() + after {
+    let allowed = AllowedSize::new(size)?;
+    if seam < size.height || space < allowed.picture_bytes() + allowed.pixels() * N {
         return Err(Refusal::Space);
     }
-    Ok(())
+    Ok(allowed)
 }

@@ -46,7 +46,7 @@ pub fn judge_close_lengths(size: Size, bytes: usize, columns: usize) -> Result<(
 }
 
 // Whether a seam may be closed up in a picture of this width. Refused by 10 where one of its columns is outside the picture,
-// which `beyond` says, and by 13 at the last column.
+// which `beyond` says, and by 13 at the last column. Not told the seam: what is judged in this file is judged from numbers alone.
 pub fn judge_close_columns(width: usize, beyond: bool) -> Result<(), Refusal>
     ensures { given result ≡ refusal (close_column_rules width beyond) }
 {
@@ -59,7 +59,7 @@ pub fn judge_close_columns(width: usize, beyond: bool) -> Result<(), Refusal>
     Ok(())
 }
 
-// Whether a column of a seam isn't below the width.
+// Whether a column of a seam isn't below the width. One comparison, public since the search through a seam stands on it.
 pub fn is_outside(width: usize, column: u16) -> bool
     ensures { result ≡ leb width column }
 {
