@@ -43,7 +43,8 @@ pub(crate) fn find_bottom<C: Costing>(
     )
 }
 
-// The same with room for the fenced sums of a row, which is all fence, and for a row of energies, of costs and of sums.
+// The same with room for the fenced sums of a row, which is all fence, and for a row of energies, of costs and of sums. The four
+// are arguments, here and for each row: a struct that lends them would be opened and closed again at every row.
 fn bottom_with<C: Costing>(
     space: &mut [u8],
     allowed: AllowedSize,

@@ -89,6 +89,7 @@ impl Costing for Energies {
         allowed: AllowedSize,
         method: Method,
         i: usize,
+        // Not needed here: room for some costs only would take one trait more, as an array's length can't be the trait's to say.
         _energies: &mut [u32],
         cost: &mut [u32],
     ) {

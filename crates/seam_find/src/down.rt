@@ -24,6 +24,7 @@ pub(crate) fn down<C: Costing>(
     requires rows { DownNeeded C.Sum.fence (C.front allowed.size) allowed.size (C.costs allowed.size method) space.old (map C.Sum.value above.old) (length cost.old) (length next.old) }
     ensures { DownGiven C.Sum.fence (C.front allowed.size) allowed.size (C.costs allowed.size method) space.old space.new (map C.Sum.value above.new) }
 {
+    // i is a row of the picture, and no place of a slice.
     for i in 1..allowed.size.height {
         row_down::<C>(space, allowed, method, i, above, energies, cost, next);
     }

@@ -45,8 +45,9 @@ pub fn find_by<C: Costing>(
     let end = front + height * width;
     let bottom = bottom::find_bottom::<C>(space, allowed, method);
     let found = C::found(bottom.sum);
+    // No `?`, since the space is cleared after a refusal too.
     if found.is_ok() {
-        trace_back(&space[front..last], width, height, bottom.column, seam);
+        trace_back(&space[front..last], width, height, bottom.column, seam).unwrap();
     }
     pictures::clear(&mut space[front..end]);
     found

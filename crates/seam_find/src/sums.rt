@@ -10,7 +10,8 @@ pub(crate) fn next_row<N: Number>(above: &[N], cost: &[N], next: &mut [N], ways:
     requires { NextRowNeeded N.fence (map N.value above.now) (map N.value cost.now) (length next.old) (length ways.old) }
     ensures { NextRowGiven (map N.value above.now) (map N.value cost.now) (length next.old) (map N.value next.new) ways.new }
 {
-    // By index, so that many columns are worked out at once: no edge, no branch, three places of one row.
+    // By index, since nothing is promised of what is written through a zip. No edge, no branch and three places of one row, so that
+    // many columns are worked out at once.
     for c in 0..next.len() {
         let left = above[c];
         let middle = above[c + 1];

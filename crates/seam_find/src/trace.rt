@@ -8,7 +8,8 @@ ghost use Rattle.seam_find.specs.Tracing.{traceable, traced};
 use pictures::LARGEST_SIDE;
 
 // The columns of the path to `column` of the last row, put into the front of seam from the top row. Row i of ways says
-// where each column of row i + 1 comes from. None where there is no such path, and the seam is left as it was.
+// where each column of row i + 1 comes from. None where there is no such path, and the seam is left as it was; a bool would be no
+// plainer, and couldn't be unwrapped.
 pub fn trace_back(
     ways: &[u8],
     width: usize,
@@ -45,7 +46,8 @@ fn judge_trace(ways: usize, width: usize, height: usize, column: usize, seam: us
         && ways == (height - 1) * width
 }
 
-// The column of the row above to which a way leads; past an edge, the column at the other edge.
+// The column of the row above to which a way leads, the left one, the middle one or the right one by 0, 1 or 2; past an edge, the
+// column at the other edge. A number, since a byte of the lent space holds it, which may be any byte.
 fn step(width: usize, column: usize, way: u8) -> usize
     requires { (width ≤ most_side) × (column < width) }
     ensures { result ≡ came_from width column way }
