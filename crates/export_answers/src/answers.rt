@@ -1,4 +1,4 @@
-// Answers with one value.
+// Answers with one value. The number stands beside it: the C interface has it so.
 ghost use Rattle.std.specs.Prelude.{◌≡◌};
 ghost use Rattle.pictures.specs.Refusals.{given, refusal};
 ghost use Rattle.export_answers.specs.Answers.{row_rules, reply_of};

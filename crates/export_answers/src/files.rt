@@ -1,4 +1,4 @@
-// What is answered of multi-size files.
+// What is answered of multi-size files. The number stands beside the values: the C interface has it so.
 ghost use Rattle.std.specs.Prelude.{◌≡◌};
 ghost use Rattle.export_answers.specs.Files.{head_of, size_of};
 

@@ -83,7 +83,7 @@ impl TryFrom<HostMethod> for Method {
     }
 }
 
-// Axis 0 is vertical, 1 is horizontal.
+// Axis 0 is vertical, 1 is horizontal. A function, for u8 and Axis belong to other crates: TryFrom isn't this crate's to write.
 #[tactic(auto, unfolding(crate::specs::Named::turning_of))]
 pub fn axis_named(axis: u8) -> Result<Axis, Refusal>
     ensures { result ≡ turning_of axis }
@@ -115,7 +115,8 @@ pub fn seaming_named(size: HostSize, method: HostMethod, axis: u8) -> Result<Sea
     Ok(Seaming { size, method, axis })
 }
 
-// The head of the file that a host asks for.
+// The head of the file that a host asks for. A function, for its promise: of depth and growth, both numbers, neither stands for
+// the other.
 pub fn head_named(size: Size, method: Method, depth: usize, growth: usize) -> Head
     ensures { result ≡ head_named size method depth growth }
 {
@@ -127,6 +128,7 @@ pub fn head_named(size: Size, method: Method, depth: usize, growth: usize) -> He
     }
 }
 
+// In the same way, rows and columns.
 pub fn counts_named(rows: usize, columns: usize) -> Counts
     ensures { result ≡ counts_named rows columns }
 {
@@ -136,6 +138,7 @@ pub fn counts_named(rows: usize, columns: usize) -> Counts
     }
 }
 
+// By a match, here and in energy_number: the numbers are this interface's, not the kind's.
 fn kind_number(kind: Kind) -> u8
     ensures { result ≡ kind_number kind }
 {

@@ -1,4 +1,4 @@
-// How a removal ended, as numbers.
+// How a removal ended, as numbers. The number stands beside the values: the C interface has it so.
 ghost use Rattle.std.specs.Prelude.{◌≡◌};
 ghost use Rattle.export_answers.specs.Objects.{ending_number, ended_of};
 
@@ -34,6 +34,7 @@ impl From<Result<Removal, Refusal>> for Ended {
     }
 }
 
+// By a match: the numbers are this interface's, not the ending's.
 fn ending_number(ending: Ending) -> u64
     ensures { result ≡ ending_number ending }
 {

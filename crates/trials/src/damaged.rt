@@ -8,7 +8,7 @@ use std::io::Stdout;
 pub(crate) const LONGEST: usize = 512;
 
 // A file at the front of its space.
-#[derive(Clone, Copy)]
+#[derive(Clone, Copy, Debug, PartialEq, Eq)]
 pub(crate) struct Text {
     pub(crate) space: [u8; LONGEST],
     pub(crate) length: usize,
@@ -24,15 +24,14 @@ pub(crate) fn print_damages(stdout: Stdout, text: Text) {
     for byte in [b'0', b'2', b')', b' ', b'\n'] {
         print_changed(stdout, text, byte);
     }
-    for place in 0..text.length {
-        let byte = text.space[place];
+    for (place, byte) in text.space[..text.length].iter().enumerate() {
         if byte.is_ascii_digit() {
             print_exchanged(stdout, text, place);
         }
     }
 }
 
-// Each byte changed to this one.
+// Each byte changed to this one. By place: each copy is written at another, and none is read.
 fn print_changed(stdout: Stdout, text: Text, byte: u8) {
     for i in 0..text.length {
         let mut copy = text.space;
@@ -46,8 +45,7 @@ fn print_changed(stdout: Stdout, text: Text, byte: u8) {
 fn print_exchanged(stdout: Stdout, text: Text, place: usize)
     requires { place < text.length }
 {
-    for i in place + 1..text.length {
-        let byte = text.space[i];
+    for (i, byte) in text.space[..text.length].iter().enumerate().skip(place + 1) {
         if byte.is_ascii_digit() {
             let mut copy = text.space;
             copy.swap(place, i);

@@ -58,7 +58,7 @@ pub(crate) fn pixels(size: Size) -> usize
 }
 
 // A generated picture and its marks, and what its seams are found by. Only the bytes that the size asks for are the picture's.
-#[derive(Clone, Copy)]
+#[derive(Clone, Copy, Debug, PartialEq, Eq)]
 pub(crate) struct Marked {
     pub(crate) size: Size,
     pub(crate) method: Method,

@@ -24,7 +24,7 @@ pub(crate) fn print_numbers<N: Display + Copy>(stdout: Stdout, numbers: &[N]) {
     }
 }
 
-// The number that is refused by, or 0.
+// The number that is refused by, or 0: pictures::given for answers with a value.
 pub(crate) fn given<T: Copy>(answer: Result<T, Refusal>) -> u64 {
     match answer {
         Ok(_) => 0,

@@ -58,7 +58,8 @@ fn work_bytes(head: Head) -> usize {
     32 * pixels(head.size)
 }
 
-// Building in spaces that just suffice, and with one space after the other one byte short.
+// Building in spaces that just suffice, and with one space after the other one byte short. Written out, here and below: a table of
+// the lengths would say the same in as many lines.
 fn print_builds(stdout: Stdout, picture: &[u8], head: Head, length: usize) {
     let work = work_bytes(head);
     files::build_in(stdout, picture, head, length, work);

@@ -1,4 +1,5 @@
-// Seams of a generated picture, found and cut, without marks and with them.
+// Seams of a generated picture, found and cut, without marks and with them. Each of the four is a call of its own, by arguments of
+// its own: what they have in common is print_found and print_numbers.
 use crate::generated::{Marked, Source, bytes, pixels};
 use crate::output::{print_found, print_number, print_numbers, put, put_decimal};
 use energy::Method;
