@@ -37,7 +37,7 @@ impl Number for u32 {
     ghost fence = { fence32 };
 
     fn make_fence() -> u32 {
-        2147483648
+        1 << 31
     }
 
     fn lesser(self, other: u32) -> u32 {
@@ -61,7 +61,7 @@ impl Number for u64 {
     ghost fence = { fence64 };
 
     fn make_fence() -> u64 {
-        4611686018427387904
+        1 << 62
     }
 
     fn lesser(self, other: u64) -> u64 {

@@ -5,10 +5,10 @@ ghost use Rattle.seam_sums.specs.Weights.{weight_of, FoundByGiven};
 use pictures::Refusal;
 
 // What a pixel adds that is kept, that is not marked 2: more than any path costs.
-pub const KEPT: u64 = 4294967296;
+pub const KEPT: u64 = 1 << 32;
 
 // What a protected pixel adds: more than any path weighs that has none.
-pub const PROTECTED: u64 = 281474976710656;
+pub const PROTECTED: u64 = 1 << 48;
 
 // The weight of a pixel: its energy, with KEPT if it isn't marked 2, and PROTECTED if it is marked 1.
 pub fn weight(energy: u32, mark: u8) -> u64
