@@ -26,7 +26,7 @@ use Rattle.map_build.specs.Inner.Seams.{NextGiven}
 module _ (space : List ℕ) (z : Size) (how : Method) (seam : List ℕ) (answer : Result ℕ Refusal) (space' seam' : List ℕ)
     (g : CutInGiven space z how seam answer space' seam')
     (sides : refusal (side_rules z) ≡ 0) (tall : z.height ≤ length seam) (room : picture_bytes z + pixels z ≤ length space) (wide : 1 < z.width) where
-  none : refusal (cut_in_rules z (length space) (length seam)) ≡ 0
+  pub none : refusal (cut_in_rules z (length space) (length seam)) ≡ 0
   none =
       let last : z.width ≡ 1 → ⊥ = λ e. omega arith in
       served-first (find_in_rules z (length space) (length seam)) (13 when eqb z.width 1 ∷ []) refl

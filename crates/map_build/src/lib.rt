@@ -23,7 +23,7 @@ pub fn map_in(space: &mut [u8], size: Size, method: Method, depth: usize) -> Res
     Ok(())
 }
 
-// The map where nothing is refused.
+// The map where nothing is refused. t counts seams, each of which runs through the whole picture and the whole map.
 fn cut_seams(space: &mut [u8], allowed: AllowedSize, method: Method, depth: usize)
     requires { SeamsNeeded allowed.size depth (length space.old) }
     ensures { SeamsGiven allowed.size method depth space.old space.new }
@@ -42,14 +42,15 @@ fn cut_seams(space: &mut [u8], allowed: AllowedSize, method: Method, depth: usiz
     }
 }
 
-// Cuts the seam of the picture at the front and writes its number into the map at `at`, whose rows have `width` numbers.
+// Cuts the seam of the picture at the front and writes its number into the map at `at`, whose rows have `width` numbers. The space
+// is lent whole: `map_in` promises what the whole holds, and picture and map lent apart would have to be put together for it. The
+// size is what is left, which `cut_in` judges.
 fn next_seam(space: &mut [u8], size: Size, method: Method, width: usize, at: usize, number: u16)
     requires { NextNeeded size width at (length space.old) }
     ensures { NextGiven size method width at number space.old space.new }
 {
     let mut seam = [0u16; LARGEST_SIDE];
-    // never refused: there is room, and more than one column
-    let _ = seam_cut::cut_in(&mut space[..at], size, method, &mut seam);
+    seam_cut::cut_in(&mut space[..at], size, method, &mut seam).unwrap();
     let end = at + size.height * (2 * width);
     rows::mark_rows(&mut space[at..end], width, &seam[..size.height], number);
 }

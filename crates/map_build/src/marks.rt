@@ -5,8 +5,8 @@ ghost use Rattle.map_build.specs.Inner.Marks.{write_pair, zero_pairs, SkipGiven,
 
 use pictures::numbers::number;
 
-// How many of the 16 numbers in these bytes are 0. One test for both bytes of a number, not one for each, so that the loop
-// compiles to operations on all 16 at once.
+// How many of the 16 numbers in these bytes are 0. One test for both bytes of a number, not one for each, and counted in a byte,
+// so that the loop compiles to operations on all 16 at once.
 fn zeros_in(block: &[u8]) -> usize
     requires { length block.now ≡ 32 }
     ensures { result ≡ zero_pairs block.now }
@@ -27,7 +27,8 @@ struct Skipped {
     zeros: usize,
 }
 
-// Passes blocks of 16 numbers as long as the s-th number that is 0 stands after them.
+// Passes blocks of 16 numbers as long as the s-th number that is 0 stands after them. The place is counted in bytes: `enumerate`
+// counts blocks, and its count is lost after the last of them, where the place is asked for too.
 fn skip(row: &[u8], s: usize) -> Skipped
     ensures { SkipGiven row.now s result.at result.zeros }
 {
@@ -44,7 +45,8 @@ fn skip(row: &[u8], s: usize) -> Skipped
     Skipped { at, zeros }
 }
 
-// Where the s-th number that is 0 stands: in the block that isn't passed, or nowhere.
+// Where the s-th number that is 0 stands: in the block that isn't passed, or nowhere. The place goes on from where that begins:
+// `enumerate` would count from 0, to be doubled and added to it.
 fn place_of(row: &[u8], s: usize) -> Option<usize>
     ensures { PlaceGiven row.now s result }
 {

@@ -96,7 +96,7 @@ module _ (z : Size) (how : Method) (depth : ℕ) (space : List ℕ) (fits : Fits
   front_long : length (take (recorded_at z) space) ≡ recorded_at z
   front_long = length-take-le (recorded_at z) space (omega (arith, fits.long))
 
-  front-served : refusal (map_space_rules z depth (length (take (recorded_at z) space)) 1) ≡ 0
+  pub front-served : refusal (map_space_rules z depth (length (take (recorded_at z) space)) 1) ≡ 0
   front-served = rw front_long (room-served z depth (recorded_at z) 1 fits.room.served fits.room.deep fits.room.long)
 
   module _ (answer : Result (Unit {0}) Refusal) (front : List ℕ) (g : MapInGiven (take (recorded_at z) space) z how depth answer front) where

@@ -49,7 +49,6 @@ fn judge_rows(
     if !recorded.is_numbered() {
         return Err(Refusal::MapRow);
     }
-    // never refused: the space has room for both maps
-    let _ = map_build::map_in(front, size, method, depth);
+    map_build::map_in(front, size, method, depth).unwrap();
     recorded.judge_beside(&front[allowed::map_at(allowed)..])
 }

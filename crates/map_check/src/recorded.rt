@@ -7,7 +7,9 @@ ghost use Rattle.map_check.specs.Inner.Judging.{beside_built};
 use crate::numbers::has_same_numbers;
 use pictures::Refusal;
 
-#[derive(Clone, Copy, Debug)]
+// By width and height, since a map has nothing of the kind of picture that a size has. A map that is printed is file_build's: it
+// may be of any sides, and has no depth.
+#[derive(Clone, Copy, Debug, PartialEq, Eq)]
 pub(crate) struct RecordedMap<'a> {
     pub bytes: &'a [u8],
     pub width: usize,

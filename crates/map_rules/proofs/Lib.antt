@@ -1,2 +1,3 @@
 pub mod Rooms
+pub mod Served
 pub mod Smallest

@@ -7,6 +7,8 @@ ghost use Rattle.map_rules.specs.Spaces.{map_bytes, map_at, recorded_at, map_spa
 use crate::allowed;
 use pictures::{AllowedSize, Kind, Refusal, Size};
 
+// These three beside those of `allowed`, since any size may be asked by, and 0 is promised where it is refused.
+
 // Bytes of a map of a picture of this size, two a pixel; 0 where its sides are refused.
 pub fn map_bytes(size: Size) -> usize
     ensures { result ≡ served (refusal (side_rules size)) (map_bytes size) 0 }

@@ -2,7 +2,8 @@
 ghost use Rattle.std.specs.Prelude.{◌≡◌, ◌+◌, ◌/◌};
 ghost use Rattle.map_theory.specs.Widths.{allowed as Widths·allowed, stays as Widths·stays, doubled as Widths·doubled};
 
-// Whether a depth and a growth are allowed at this width.
+// Whether a depth and a growth are allowed at this width. By numbers: the head of a file holds all three, but maps stand
+// below files.
 #[tactic(auto, unfolding(map_theory::specs::Widths::allowed))]
 pub fn is_allowed(width: usize, depth: usize, growth: usize) -> bool
     ensures { result ≡ Widths·allowed width depth growth }
@@ -30,5 +31,5 @@ pub fn is_doubled(u: usize, number: usize) -> bool
 pub fn mean(a: u8, b: u8) -> u8
     ensures { result ≡ (a + b) / 2 }
 {
-    ((u16::from(a) + u16::from(b)) / 2) as u8
+    a.midpoint(b)
 }

@@ -1,5 +1,5 @@
 // A pixel put into a row, as it is or as the mean of two. One function for any number of channels, which is a constant to the
-// compiler: three channels written out are much faster than a loop over them.
+// compiler: the loop over them is unrolled.
 ghost use Rattle.std.specs.Prelude.{◌≡◌, ◌+◌, ◌*◌, ◌≤◌, length};
 ghost use Rattle.std.proofs.lemmas.List.Edits.{sets};
 ghost use Rattle.grids.specs.Rows.{row_at};
@@ -8,7 +8,8 @@ ghost use Rattle.map_show.specs.Inner.Pixels.{PixelNeeded, MeanNeeded, MeansNeed
 
 use map_rules::mean;
 
-// The samples of pixel c of a row.
+// The samples of pixel c of a row. The energies have one of their own: it asks that the row has the pixel, and no public function
+// asks anything.
 fn pixel_at<const N: usize>(samples: &[u8], c: usize) -> &[u8]
     requires { c * N + N ≤ length samples.now }
     ensures { result.now ≡ row_at N c samples.now }

@@ -36,7 +36,8 @@ pub fn pixels_at(numbers: &[u16], wanted: usize) -> usize
     }
 }
 
-// What is shown of a row of this kind at the wanted width, put into the front of out.
+// What is shown of a row of this kind at the wanted width, put into the front of out. Samples and numbers are lent beside each other,
+// as they come: a struct of both would hold one clause, that they are as many, while the room depends on what each function shows.
 pub(crate) fn show(kind: Kind, samples: &[u8], numbers: &[u16], wanted: usize, out: &mut [u8])
     requires { RowNeeded (channels_of kind) samples.now numbers.now (shown (channels_of kind) samples.now numbers.now wanted) out.old }
     ensures { out.new ≡ shown (channels_of kind) samples.now numbers.now wanted ++ drop (length (shown (channels_of kind) samples.now numbers.now wanted)) out.old }
@@ -59,7 +60,8 @@ fn show_row<const N: usize>(samples: &[u8], numbers: &[u16], wanted: usize, out:
     }
 }
 
-// The pixels whose number is 0 or greater than t, put into the front of out.
+// The pixels whose number is 0 or greater than t, put into the front of out. The place is counted: a pixel's part cut off the front
+// of out each time would be out's again only at the end, and no line less.
 fn keep_row<const N: usize>(samples: &[u8], numbers: &[u16], t: usize, out: &mut [u8])
     requires { RowNeeded N samples.now numbers.now (kept_pixels N samples.now numbers.now t) out.old }
     ensures { out.new ≡ kept_pixels N samples.now numbers.now t ++ drop (length (kept_pixels N samples.now numbers.now t)) out.old }

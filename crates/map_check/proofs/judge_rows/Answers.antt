@@ -11,11 +11,21 @@ use Rattle.seam_theory.specs.PictureSeams.{seam_of}
 use Rattle.map_theory.specs.Maps.{map_of}
 use Rattle.map_theory.specs.Judged.{every, numbers}
 use Rattle.map_rules.specs.Spaces.{map_bytes, recorded_at}
+use Rattle.map_rules.proofs.Served.{is_served}
 use Rattle.map_build.specs.Building.{MapInGiven}
 use Rattle.map_check.specs.Checking.{recorded_in}
 use Rattle.map_check.proofs.Spaces.{fits_is}
-use Rattle.map_check.proofs.Answers.{compared_is, built_is}
+use Rattle.map_check.proofs.Answers.{compared_is, front-served, built_is}
 use Rattle.map_check.proofs.judge_rows.Goals as goal
+
+-- the space has room for both maps
+pub unwrap-requires : goal.unwrap-requires
+unwrap-requires c =
+    let a = c.args in
+    let z = a.allowed.size in
+    let fits = fits_is z a.depth (length a.space.now) c.requires.served in
+    let front : c.split_at_mut-front.result.0.now ≡ take (recorded_at z) a.space.now = c.split_at_mut-front.ensures.front ∙ ap (λ n. take n a.space.now) c.recorded_at.ensures.is in
+    is_served c.map_in.result ((rw front at c.map_in.ensures.number) ∙ front-served z a.method a.depth a.space.now fits)
 
 pub returns : goal.returns
 returns c =
