@@ -36,6 +36,7 @@ fn judge_buffers<'a>(
 {
     file_rules::judge_build(head, picture.len(), work)?;
     let source = Source { picture, head };
+    // what is left is not looked at: by ok_or it would be a value without a name, and the proof of it was not found
     let Some(_) = fitting::left_of(source, out) else {
         return Err(Refusal::Space);
     };

@@ -10,7 +10,7 @@ use text_lengths::Sink;
 use text_print::{MapLine, Mark, RowLine, Text};
 
 // The row lines of a picture.
-#[derive(Clone, Copy)]
+#[derive(Clone, Copy, Debug, PartialEq, Eq)]
 pub struct RowLines<'a> {
     pub source: Source<'a>,
 }
@@ -22,7 +22,7 @@ impl<'a> Text for RowLines<'a> {
         let source = self.source;
         let size = source.head.size;
         let mut after = sink;
-        // by number: a row of a picture is asked for by its number
+        // by number: pictures::row promises the samples of row r; parts of chunks_exact would first be shown to be those
         for r in 0..size.height {
             let samples = pictures::row(source.picture, size, r);
             after = RowLine {
@@ -58,8 +58,5 @@ pub(crate) fn print_file(source: Source, map: MapBytes, out: &mut [u8]) -> usize
     ensures { FilePrinted source.entry map.entry out.old result out.new }
 {
     let text = (source.head, (RowLines { source }, (map, Mark::Closed)));
-    let Some(length) = text_print::print(out, 0, &text) else {
-        unreachable!();
-    };
-    length
+    text_print::print(out, 0, &text).unwrap()
 }

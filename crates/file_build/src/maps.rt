@@ -3,7 +3,7 @@ ghost use Rattle.std.specs.Prelude.{◌≡◌, ◌*◌, ◌≤◌, length};
 ghost use Rattle.pictures.specs.Pictures.{largest_side};
 
 // So many rows of so many numbers, of two bytes each.
-#[derive(Clone, Copy)]
+#[derive(Clone, Copy, Debug, PartialEq, Eq)]
 pub struct MapBytes<'a> {
     pub bytes: &'a [u8],
     pub width: usize,

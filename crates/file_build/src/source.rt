@@ -6,7 +6,7 @@ ghost use Rattle.pictures.specs.Pictures.{size_rules};
 use text_theory::Head;
 
 // A picture of the size that the head says, and a depth below its width.
-#[derive(Clone, Copy)]
+#[derive(Clone, Copy, Debug, PartialEq, Eq)]
 pub struct Source<'a> {
     pub picture: &'a [u8],
     pub head: Head,

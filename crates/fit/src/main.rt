@@ -4,7 +4,7 @@
 use program_filters::programs::Fit;
 use std::io::Write;
 
-// What can't be written is told on standard error.
+// What can't be written is told on standard error, under the program's name: each program is a crate of its own.
 fn main(rt: HostRuntime) {
     let ran = program_filters::run(&Fit, &mut rt.stdin(), &mut rt.stdout());
     if let Err(_) = ran.writing {

@@ -14,7 +14,7 @@ use text_read::{Class, Cursor};
 // The largest sample, Netpbm's maxval.
 const MAXVAL: usize = 255;
 
-// The number after the letter P in the header of a picture of this kind.
+// The number after the letter P in the header of a picture of this kind: Netpbm's number, no number of the kind's own.
 fn magic_of(kind: Kind) -> usize
     ensures { result ≡ magic_of kind }
 {
@@ -51,6 +51,7 @@ pub fn last_number(text: &[u8], from: Cursor) -> Option<(usize, Cursor)>
 pub fn read_header(text: &[u8]) -> Option<(Size, Cursor)>
     ensures { Told header_get text.now 0 (read result) }
 {
+    // by text.first() the proof was not found
     if text.is_empty() || text[0] != b'P' {
         return None;
     }
@@ -69,7 +70,7 @@ pub fn read_header(text: &[u8]) -> Option<(Size, Cursor)>
 }
 
 // A picture of this size: its header, then its samples.
-#[derive(Clone, Copy)]
+#[derive(Clone, Copy, Debug, PartialEq, Eq)]
 pub struct PictureText<'a> {
     pub size: Size,
     pub samples: &'a [u8],

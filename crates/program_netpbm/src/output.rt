@@ -11,7 +11,7 @@ use text_print::{Mark, Text};
 pub const OUTPUT_SPACE: usize = 32768;
 
 // The line that says a refusal.
-#[derive(Clone, Copy)]
+#[derive(Clone, Copy, Debug, PartialEq, Eq)]
 pub struct RefusalLine {
     pub why: Refusal,
 }
@@ -34,8 +34,5 @@ pub fn finish(answer: Result<usize, Refusal>, out: &mut [u8; OUTPUT_SPACE]) -> u
         Ok(length) => return length,
         Err(why) => why,
     };
-    let Some(length) = text_print::print(out, 0, &RefusalLine { why }) else {
-        unreachable!();
-    };
-    length
+    text_print::print(out, 0, &RefusalLine { why }).unwrap()
 }

@@ -1,6 +1,8 @@
 -- There is room for every refusal, so its line is printed.
 use native.Mathlib.Omega.{arith}
-use Rattle.std.proofs.Common.{◌≡◌, ◌≤◌, List, ℕ, length}
+use Rattle.std.proofs.Common.{◌≡◌, ◌≤◌, List, ℕ, length, refl}
+use Rattle.std.specs.Prelude.{Option, None, Some, IsSome}
+use Rattle.text_print.specs.Prints.{Put}
 use Rattle.pictures.specs.declared.refusals.Refusal.{Refusal}
 use Rattle.pictures.specs.Refusals.{number_of}
 use Rattle.text_print.proofs.Written.{never_short}
@@ -13,8 +15,13 @@ use Rattle.program_netpbm.proofs.output.finish.Goals as goal
 room : (why : Refusal) (out : List ℕ) → length out ≡ output_space → length (refused_text (number_of why)) ≤ length out
 room why out e = omega (arith, refused-most (number_of why) (number-below why))
 
-pub unreachable-requires : goal.unreachable-requires
-unreachable-requires c = never_short (room c.in-Err.why c.args.out.now c.told-out) c.in_default.ensures
+-- What has room is printed.
+printed : (r : Option ℕ) {out bytes out' : List ℕ} → length bytes ≤ length out → Put out 0 bytes r out' → IsSome r
+printed None h p = absurd (never_short h p)
+printed (Some n) h p = refl
+
+pub unwrap-requires : goal.unwrap-requires
+unwrap-requires c = printed c.print.result (room c.in-Err.why c.args.out.now c.told-out) c.print.ensures
 
 pub returns : goal.returns
-returns c = rw c.in-Err.is (finished_refused c.in-Err.why (room c.in-Err.why c.args.out.now c.told-out) c.in-Some.ensures)
+returns c = rw c.in-Err.is (finished_refused c.in-Err.why (room c.in-Err.why c.args.out.now c.told-out) (rw c.unwrap.ensures at c.print.ensures))
