@@ -31,6 +31,7 @@ pub fn cut_in(
 fn last_in(space: &mut [u8], size: Size, method: Method, room: usize) -> Refusal
     ensures { LastInGiven space.old size room result space.new }
 {
+    // on the stack, with as many places as any seam has: nothing is allocated
     let mut spare = [0u16; LARGEST_SIDE];
     let long = room.min(LARGEST_SIDE);
     match seam_find::find_in(space, size, method, &mut spare[..long]) {

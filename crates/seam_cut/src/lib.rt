@@ -1,4 +1,6 @@
-// Seams of lent pictures: finding and cutting, along either axis.
+// Seams of lent pictures: finding and cutting, along either axis. With marks they are other entry points, in seam_cut_marked: here
+// no marks are lent, and neither 5 nor 12 refuses. The public operations take their buffers as hosts pass them, and the private
+// ones pass them on once: of each buffer it is promised what it holds afterwards.
 #![tactic(auto)]
 
 pub mod front;

@@ -1,4 +1,5 @@
-// A picture, or some bytes, moved from one place of a space to another.
+// A picture, or some bytes, moved from one place of a space to another. The places are numbers, not slices, since callers lend the
+// space whole and both lie in it; that they are apart is judged, and refused by 8, in each public function.
 ghost use Rattle.std.specs.Prelude.{◌≡◌, length};
 ghost use Rattle.grids.specs.Exchange.{exchange};
 ghost use Rattle.pictures.specs.Pictures.{picture, bytes, picture_bytes};

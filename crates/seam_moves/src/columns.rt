@@ -31,7 +31,7 @@ pub(crate) fn put_column(from: &[u8], size: Size, c: usize, out: &mut [u8])
     }
 }
 
-// The same for pixels of N bytes: a number of bytes that is known is copied much faster.
+// The same for pixels of N bytes, with the same lent, passed on once: a number of bytes that is known is copied much faster.
 fn put_pixels<const N: usize>(from: &[u8], size: Size, c: usize, out: &mut [u8])
     requires bytes { N ≡ channels_of size.kind }
     requires column { ColumnNeeded from.now size c out.old }
@@ -39,7 +39,7 @@ fn put_pixels<const N: usize>(from: &[u8], size: Size, c: usize, out: &mut [u8])
 {
     let stride = size.width * N;
     let left = c * N;
-    // by index, for the same reason
+    // by index, for the same reason; a row of `from` would be lent by chunks_exact only for one pixel of it
     for r in 0..size.height {
         let i = r * stride + left;
         let j = r * N;

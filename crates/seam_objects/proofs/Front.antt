@@ -89,12 +89,11 @@ module _ {z : Size} {b m work : List ℕ} (how : Method) (need : FrontNeeded z b
 
     -- The answer says whether there was a seam.
     module _ (answer : Result ℕ Refusal) (told : found_number answer ≡ number_at k n room seam) where
-      pub front_told : is_ok answer ≡ not (no_seam (front z how b m))
+      front_told : is_ok answer ≡ not (no_seam (front z how b m))
       front_told = ok_free (no_seam (front z how b m)) answer (told ∙ number_is)
 
       -- What stands in the buffers then.
-      pub front_cut : (b' m' : List ℕ) (t : Bool) → t ≡ not (no_seam (front z how b m))
-          → b' ≡ served (found_number answer) (closed_along Vertical z (seam_lent k n) (take k b)) (take k b)
+      pub front_cut : (b' m' : List ℕ) → b' ≡ served (found_number answer) (closed_along Vertical z (seam_lent k n) (take k b)) (take k b)
           → m' ≡ served (found_number answer) (closed_marks Vertical z (seam_lent k n) (take n m)) (take n m)
-          → FrontCut z how b m t (b' ++ drop k b) (m' ++ drop n m)
-      front_cut = rw (e, f) (cut_at (found_number answer) (told ∙ number_is))
+          → FrontCut z how b m (is_ok answer) (b' ++ drop k b) (m' ++ drop n m)
+      front_cut b' m' = rw (e, f) (cut_at (found_number answer) (told ∙ number_is) b' m' (is_ok answer) front_told)

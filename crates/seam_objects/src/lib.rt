@@ -1,7 +1,7 @@
 // Object removal: vertical seams are cut by the marks until no pixel is marked 2.
 #![tactic(auto)]
 
-ghost use Rattle.std.specs.Prelude.{◌≡◌};
+ghost use Rattle.std.specs.Prelude.{◌≡◌, is_ok};
 ghost use Rattle.seam_objects.specs.Objects.{some_two};
 ghost use Rattle.seam_objects.specs.Removing.{RemoveGiven};
 ghost use Rattle.seam_objects.specs.Inner.{SeamsNeeded, SeamsGiven, FrontNeeded, FrontCut};
@@ -35,7 +35,8 @@ pub fn remove(
     Ok(removal)
 }
 
-// The removal where nothing is refused.
+// The removal where nothing is refused. Its buffers are passed on as they are lent, here and in the next one: of each it is
+// promised what it holds afterwards, which a struct of the three would say once more.
 fn cut_seams(
     picture: &mut [u8],
     marks: &mut [u8],
@@ -49,34 +50,35 @@ fn cut_seams(
 {
     let mut width = size.width;
     let mut count = 0u16;
+    // each cut ends it or leaves a column less: after a `for` over the counts an answer would stand that no removal gives
     loop {
         let marked = has_two(&marks[..size.height * width]);
         if let Some(ended) = seam_rules::next_step(marked, width, count, budget) {
             return ended;
         }
         let left = Size { width, ..size };
-        if !cut_front(picture, marks, left, method, work) {
+        let Ok(_) = cut_front(picture, marks, left, method, work) else {
             return Removal {
                 ending: Ending::Blocked,
                 count,
             };
-        }
+        };
         width -= 1;
         count += 1;
     }
 }
 
-// Cuts the seam out of the picture and the marks of this size that stand at the front of their buffers; false, and nothing
-// is cut, where every seam meets a protected pixel.
+// Cuts the seam out of the picture and the marks of this size that stand at the front of their buffers and gives its cost.
+// Refused, and nothing is cut, where every seam meets a protected pixel.
 fn cut_front(
     picture: &mut [u8],
     marks: &mut [u8],
     size: Size,
     method: Method,
     work: &mut [u8],
-) -> bool
+) -> Result<u64, Refusal>
     requires { FrontNeeded size picture.old marks.old work.old }
-    ensures { FrontCut size method picture.old marks.old result picture.new marks.new }
+    ensures { FrontCut size method picture.old marks.old (is_ok result) picture.new marks.new }
 {
     let bytes = pictures::picture_bytes(size);
     let pixels = pictures::pixels(size);
@@ -91,7 +93,6 @@ fn cut_front(
         &mut seam,
         &mut work[..room],
     )
-    .is_ok()
 }
 
 // Whether some mark is 2.

@@ -1,5 +1,5 @@
 // The table of cells, one row of it at a time: slot j of the work space holds the picture of the row's cell j, and totals[j]
-// its total.
+// its total. Work space and totals are lent as two, since each function promises what each of the two holds afterwards.
 ghost use Rattle.seam_rules.specs.Counts.{row_count};
 ghost use Rattle.seam_retarget.specs.Inner.Cells.{row_more};
 ghost use Rattle.seam_retarget.specs.Inner.Table.{held, first_row, along_row, next_row, table_row, RowGiven, FirstRowNeeded, RestOfRowNeeded, NextRowNeeded, RowsBelowNeeded};
@@ -54,6 +54,7 @@ impl Table {
         requires { RowsBelowNeeded self rows columns work.old totals.old }
         ensures { RowGiven self rows columns (table_row self.method self.size.size (held self (row_count 0) work.old totals.old) rows) work.old work.new totals.new }
     {
+        // i is a count of rows, which names a row of the table; no list has one for each
         for i in 0..rows.0 {
             self.next_row(work, Rows(i), columns, totals);
         }

@@ -14,7 +14,7 @@ use seam_rules::{Axis, narrower, turned_size};
 
 // Which seam: of a picture of this size, along this axis, as this method finds it. The picture is turned at the place `at` of the
 // work space.
-#[derive(Clone, Copy)]
+#[derive(Clone, Copy, Debug, PartialEq, Eq)]
 pub(crate) struct Seam {
     pub(crate) size: AllowedSize,
     pub(crate) axis: Axis,

@@ -1,4 +1,5 @@
 // What a retarget decides: which counts of rows and columns are refused, what size is left, and which of two totals is taken.
+// Rows and columns are counted apart, as hosts give them: a seam more adds one to one of the two.
 ghost use Rattle.std.specs.Prelude.{◌≡◌};
 ghost use Rattle.pictures.specs.Refusals.{given, refusal};
 ghost use Rattle.seam_rules.specs.Counts.{left_size, retarget_rules, chosen_axis};
@@ -39,7 +40,7 @@ pub fn judge_retarget(
         return Err(Refusal::NotOffered);
     }
     let left = pictures::picture_bytes(smaller(size, rows, columns));
-    if out < left || work < pictures::work_bytes(size) + 66 * bytes {
+    if out < left || work < pictures::work_bytes(size) + (LARGEST_COUNT + 2) * bytes {
         return Err(Refusal::Space);
     }
     Ok(())

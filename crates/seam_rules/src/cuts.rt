@@ -1,4 +1,5 @@
-// What refuses finding, cutting and closing up a seam, as functions of sizes and lengths.
+// What refuses finding, cutting and closing up a seam, as functions of sizes and lengths: of a buffer the length alone decides,
+// so the lengths are passed as numbers, each under its own name.
 ghost use Rattle.std.specs.Prelude.{◌≡◌, ◌++◌};
 ghost use Rattle.pictures.specs.Refusals.{given, refusal};
 ghost use Rattle.seam_rules.specs.Cuts.{find_rules, mark_length_rules, close_along_lengths, last_along, mark_allowed};
@@ -36,7 +37,7 @@ pub fn judge_marks(size: Size, bytes: usize, marks: usize) -> Result<(), Refusal
     Ok(())
 }
 
-// Whether the mark is one of 0, 1 and 2; 5 refuses every other.
+// Whether the mark is one of 0, 1 and 2; 5 refuses every other. A mark is a byte, as hosts lend it, and this its one rule.
 pub fn allows_mark(mark: u8) -> bool
     ensures { result ≡ mark_allowed mark }
 {

@@ -1,8 +1,8 @@
 -- `seam_objects::cut_front` meets its contract.
-use Rattle.std.proofs.Common.{◌≤◌, ◌∙◌}
+use Rattle.std.proofs.Common.{◌≤◌}
 use Rattle.pictures.specs.Pictures.{largest_side, picture_bytes, pixels, work_bytes}
 use Rattle.pictures.proofs.Limits.{sides_are, given_out}
-use Rattle.seam_objects.proofs.Front.{front_told, front_cut}
+use Rattle.seam_objects.proofs.Front.{front_cut}
 use Rattle.seam_objects.proofs.cut_front.Goals as goal
 
 pub returns : goal.returns
@@ -18,6 +18,5 @@ returns c =
     let q = c.cut_marked in
     let told = q.ensures in
     -- it is told by the answer whether a seam was cut
-    let is = c.is_ok.ensures.value ∙ front_told how need bytes_are pixels-are room_is tall q.result told.number in
-    front_cut how need bytes_are pixels-are room_is tall q.result told.number q.new.picture q.new.marks c.is_ok.result is
+    front_cut how need bytes_are pixels-are room_is tall q.result told.number q.new.picture q.new.marks
     told.picture_left told.marks_left

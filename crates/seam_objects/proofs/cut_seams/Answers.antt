@@ -25,8 +25,8 @@ cut_front-requires c =
     let on = step_cut c.has_two-marked.result l.width l.count c.args.budget (sym c.in_default.ensures) in
     going_needed l.invariant.0 l.work on.wide (omega (arith, c.requires.room, l.invariant.1.1.1))
 
-pub returns-then-not-cut_front : goal.returns-then-not-cut_front
-returns-then-not-cut_front c =
+pub returns-in_default-cut_front : goal.returns-in_default-cut_front
+returns-in_default-cut_front c =
     let a = c.args in
     let l = c.loop-ended in
     let going = l.invariant.0 in
@@ -34,7 +34,7 @@ returns-then-not-cut_front c =
     let two : true ≡ to_remove (after_cuts l.count (marked_picture a.size a.method a.picture.now a.marks.now)) =
     sym on.some ∙ c.has_two-marked.ensures ∙ going_marks going
     in
-    going-blocked going two on.wide on.due c.cut_front.new.picture c.cut_front.new.marks c.if-not-cut_front.ensures
+    going-blocked going two on.wide on.due c.cut_front.new.picture c.cut_front.new.marks c.in_default-cut_front.ensures
 
 pub loop-ended-preserved : goal.loop-ended-preserved
 loop-ended-preserved c =
@@ -46,7 +46,7 @@ loop-ended-preserved c =
     let two : true ≡ to_remove (after_cuts l.count (marked_picture a.size a.method a.picture.now a.marks.now)) =
     sym on.some ∙ c.has_two-marked.ensures ∙ going_marks going
     in (
-      going_on going two on.wide on.due q.new.picture q.new.marks c.if-not-cut_front.ensures,
+      going_on going two on.wide on.due q.new.picture q.new.marks c.in-Ok.ensures,
       (
         omega (arith, q.auto.picture, l.invariant.1.0),
         (
