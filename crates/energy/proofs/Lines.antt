@@ -1,10 +1,10 @@
--- Laws of the energies of a row of bytes, in the terms of the loops that work them out.
+-- Laws of the energies of a row of bytes, in the terms of the functions that work them out.
 use mathlib.Core.Path.{◌≡◌, sym, ap, ap₂, ◌∙◌}
 use mathlib.Core.List.{List, ◌++◌}
 use Prim.Native.Nat.{ℕ, ◌+◌, ◌-◌, ◌*◌, ◌≤◌, ◌<◌}
 use native.Mathlib.Nat.{add-sub_cancel_left, le_of_eq}
 use native.Mathlib.Omega.{arith}
-use borrow.Author.Tests.{lt-ltb, le-ltb}
+use borrow.Author.Tests.{le-ltb}
 use lib.ListN.{length, take, drop, set, length-drop}
 use lib.Seq.{length-take-le}
 use Rattle.grids.specs.Table.{table}
@@ -19,18 +19,12 @@ use Rattle.energy.specs.Inner.{LinesNeeded, energy_between, between, neighbour_o
 use Rattle.pictures.proofs.Limits.{Sized}
 use Rattle.energy.proofs.Energy.{neighbour_inside, energy-between}
 
--- The loop over a row's pixels, for any number of channels.
+-- A row's pixels up to the last, for any number of channels.
 module _ (ch : ℕ) (it lower space out : List ℕ) (width beside c : ℕ) (so_far : out ≡ table (between ch it lower width beside) c ++ drop c space) where
   -- One pixel more: its energy is stored.
   line-more : (e : ℕ) → c < length space → e ≡ between ch it lower width beside c
       → set out c e ≡ table (between ch it lower width beside) (c + 1) ++ drop (c + 1) space
   line-more e h is = ap₂ (λ xs x. set xs c x) so_far is ∙ table_more (between ch it lower width beside) space c 0 h
-
-  -- One turn.
-  pub line_turn : (e : ℕ) → c < length space → c + 1 < width → e ≡ energy_between ch it lower c (c + 1)
-      → set out c e ≡ table (between ch it lower width beside) (c + 1) ++ drop (c + 1) space
-  unfolding between
-  line_turn e h l is = line-more e h (rw (lt-ltb (c + 1) width l) is)
 
   -- The last pixel.
   pub line_last : (e : ℕ) → c + 1 ≡ width → width ≤ length space → e ≡ energy_between ch it lower c beside

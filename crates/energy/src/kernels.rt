@@ -1,5 +1,6 @@
-// The energies of one row of pixels, given its bytes and those of the row that stands for the one below it. One function for
-// any number of channels, which is a constant to the compiler: the loop over them is unrolled.
+// The energies of one row of pixels, given its bytes and those of the row that stands for the one below it. N is the number of
+// channels, a constant to the compiler; that a sum over them fits is asked of N where it is needed, as a constant has no type that
+// could say it. The two rows are two arguments: a struct of both would be opened in each function, which reads them apart.
 ghost use Rattle.std.specs.Prelude.{◌≡◌, ◌++◌, ◌+◌, ◌*◌, ◌≤◌, length, sum, drop};
 ghost use Rattle.grids.specs.Table.{table};
 ghost use Rattle.energy.specs.Energy.{difference as Energy·difference};
@@ -55,7 +56,7 @@ fn inner_energies<const N: usize>(it: &[u8], lower: &[u8], samples: &mut [u16], 
 }
 
 // How far each sample of a row is from the one N to its right, and from the one below it. Samples are worked out before pixels,
-// so that many are at once.
+// so that many are at once; by index, since nothing is promised of what is written through a zip.
 fn sample_energies<const N: usize>(it: &[u8], lower: &[u8], out: &mut [u16])
     requires { (length out.old + N ≤ length it.now) × (length out.old ≤ length lower.now) }
     ensures { out.new ≡ table (sample_energy N it.now lower.now) (length out.old) }
@@ -66,7 +67,7 @@ fn sample_energies<const N: usize>(it: &[u8], lower: &[u8], out: &mut [u16])
     }
 }
 
-// The energies of pixels, from those of their samples.
+// The energies of pixels, from those of their samples. By index for the same reason; `as_chunks` would ask that N isn't 0, too.
 fn channels_added<const N: usize>(samples: &[u16], out: &mut [u32])
     requires few { N ≤ 3 }
     requires long { length samples.now ≡ length out.old * N }
