@@ -1,4 +1,7 @@
 // What hosts in C and Rust link: every operation over numbers, structs of numbers and slices, with no requires.
+// A refusal of what is named is passed on by a match: `?` would ask for an inner function of as many arguments at each, as copy_row
+// and put_row are, which have more than one refusal to pass on. Through `and_then`, of a closure that holds the spaces, the
+// promise wasn't proved.
 #![tactic(auto, using(crate::proofs::Unknown::size_unknown, crate::proofs::Unknown::carving_unknown, crate::proofs::Unknown::seaming_unknown))]
 
 mod multifiles;

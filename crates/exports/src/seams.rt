@@ -1,4 +1,5 @@
-// One seam of a lent picture, for hosts: found or cut, without marks and with them.
+// One seam of a lent picture, for hosts: found or cut, without marks and with them. Size, method, axis and spaces are arguments
+// of their own, here and in the other files: the C interface passes them so.
 ghost use Rattle.exports.specs.Seams.{HostFindGiven, HostCutGiven, HostFindMarkedGiven, HostCutMarkedGiven};
 
 use export_answers::{Answer, HostMethod, HostSize, Seaming, seaming_named};
