@@ -41,8 +41,8 @@ pub(crate) trait Lines<T> {
         ensures filled { part.new ≡ row_at (long self.now) r (whole self.now) };
 }
 
-// Reads the lines from the first one on into the front of a space, and gives the place after them. Each part is lent by its place,
-// as the promise of its line says it: chunks would be counted beside it, and no plainer.
+// Reads the lines from the first one on into the front of a space, and gives the place after them. Each part is lent by its place:
+// chunks_exact_mut promises nothing of what is written through its parts.
 pub(crate) fn fill<T, L: Lines<T>>(lines: &L, first: Cursor, space: &mut [T]) -> Cursor
     requires there { drop first.at (L.text lines.now) ≡ L.from lines.now 0 }
     requires size { length (L.whole lines.now) ≡ L.count lines.now * L.long lines.now }
