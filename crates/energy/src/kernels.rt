@@ -4,13 +4,14 @@
 ghost use Rattle.std.specs.Prelude.{◌≡◌, ◌++◌, ◌+◌, ◌*◌, ◌≤◌, length, sum, drop};
 ghost use Rattle.grids.specs.Table.{table};
 ghost use Rattle.energy.specs.Energy.{difference as Energy·difference};
+ghost use Rattle.pictures.specs.Limits.{most_row};
 ghost use Rattle.pictures.specs.Pictures.{channels_of};
 ghost use Rattle.energy.specs.Inner.{LinesNeeded, sample_energy, energy_between, between};
 ghost use Rattle.grids.specs.Rows.{row_at};
 
 use pictures::{Kind, LARGEST_SIDE};
 
-// The most samples of a row.
+// The most samples of a row of rgb pixels.
 const MOST_SAMPLES: usize = 3 * LARGEST_SIDE;
 
 // The energies of a row of pixels of this kind, put into the first `width` places of out. Column `beside` stands for the one to
@@ -27,19 +28,27 @@ pub(crate) fn line_energies(
     ensures { out.new ≡ table (between (channels_of kind) it.now lower.now width beside) width ++ drop width out.old }
 {
     match kind {
-        Kind::Grey => row::<1>(it, lower, width, beside, out),
-        Kind::Rgb => row::<3>(it, lower, width, beside, out),
+        Kind::Grey => row::<1, LARGEST_SIDE>(it, lower, width, beside, out),
+        Kind::Rgb => row::<3, MOST_SAMPLES>(it, lower, width, beside, out),
     }
 }
 
-fn row<const N: usize>(it: &[u8], lower: &[u8], width: usize, beside: usize, out: &mut [u32])
+// ROOM samples are as many as the widest row has. All of them are set to 0 for each row, so the room is that of the kind.
+fn row<const N: usize, const ROOM: usize>(
+    it: &[u8],
+    lower: &[u8],
+    width: usize,
+    beside: usize,
+    out: &mut [u32],
+)
     requires few { N ≤ 3 }
+    requires room { (width * N ≤ ROOM) × (ROOM ≤ most_row) }
     requires lines { LinesNeeded N it.now lower.now width beside out.old }
     ensures { out.new ≡ table (between N it.now lower.now width beside) width ++ drop width out.old }
 {
     let last = width - 1;
     let inner = last * N;
-    let mut samples = [0u16; MOST_SAMPLES];
+    let mut samples = [0u16; ROOM];
     inner_energies::<N>(it, lower, &mut samples[..inner], &mut out[..last]);
     out[last] = energy_at::<N>(it, lower, last, beside);
 }
