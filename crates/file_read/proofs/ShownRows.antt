@@ -1,5 +1,5 @@
 -- A row of an accepted file, shown: its part of the picture and its row of the map give its part of what is shown.
-use mathlib.Core.Path.{◌≡◌, sym, ap, ◌∙◌}
+use mathlib.Core.Path.{◌≡◌, refl, sym, ap, ◌∙◌}
 use mathlib.Core.List.{List, [], ◌++◌, append-nil}
 use Prim.Native.Nat.{ℕ, ◌+◌, ◌-◌, ◌*◌, ◌≤◌, ◌<◌}
 use native.Mathlib.Omega.{arith}
@@ -9,19 +9,26 @@ use borrow.Rule.Slice.PartMut.{mid_of}
 use Rattle.grids.specs.Rows.{flat, row_at}
 use Rattle.grids.proofs.Rows.{part_end, length-flat, length-row_at}
 use Rattle.grids.proofs.Shapes.{each_at}
-use Rattle.std.specs.Prelude.{Result}
+use Rattle.std.specs.Prelude.{Result, Ok, Err, IsOk}
+use Rattle.pictures.specs.Refusals.{given}
+use Rattle.pictures.proofs.Rules.{number-some}
 use Rattle.pictures.specs.declared.refusals.Refusal.{Refusal}
 use Rattle.pictures.specs.Pictures.{channels_of, row_bytes, picture_bytes}
 use Rattle.text_theory.specs.declared.Head.{Head}
 use Rattle.text_theory.specs.Files.{parse}
 use Rattle.map_show.specs.Showing.{row_shown, RowAtGiven}
-use Rattle.map_show.proofs.Judging.{row-served}
+use Rattle.map_show.proofs.Judging.{nothing-refused, row-served}
 use Rattle.file_theory.specs.Shows.{rows_in, maps_in, shows, drawn_bytes}
 use Rattle.file_read.specs.Inner.Opening.{Open}
 use Rattle.file_read.specs.Inner.Widths.{Showing}
 use Rattle.file_read.proofs.Parsed.{Parsed, opened}
 use Rattle.file_read.proofs.Places.{row-of-bytes}
 use Rattle.file_read.proofs.Drawing.{drawn-long, drawn-row}
+
+-- An answer whose number is 0.
+is_served : (answer : Result (Unit {0}) Refusal) → given answer ≡ 0 → IsOk answer
+is_served (Ok x) e = refl
+is_served (Err why) e = absurd (omega (arith, number-some why, e))
 
 -- A row of the front of a list is a row of the list.
 front-row : (s r n : ℕ) (b : List ℕ) → r * s + s ≤ n → n ≤ length b → row_at s r b ≡ row_at s r (take n b)
@@ -46,6 +53,23 @@ module _ {file : List ℕ} {h : Head} {v : ℕ} {space : List ℕ} (o : Open fil
         (rw is
         (front-row (row_bytes h.size) r (picture_bytes h.size) space (part_end r h.size.height (row_bytes h.size) inside) s.inside
         ∙ ap (row_at (row_bytes h.size) r) s.picture_is ∙ row-of-bytes known r inside))
+
+    -- Nothing refuses it.
+    pub row_is_ok : (n : ℕ) → n ≡ channels_of h.size.kind → (numbers out : List ℕ) → numbers ≡ get_or (maps_in (parse file)) r [] → length out ≡ v * channels_of h.size.kind
+        → (answer : Result (Unit {0}) Refusal) {new : List ℕ}
+        → RowAtGiven h.size.kind (mid_of (r * (h.size.width * n)) (r * (h.size.width * n) + h.size.width * n - r * (h.size.width * n)) space) numbers v out answer new
+        → IsOk answer
+    row_is_ok n is numbers out numbers-are long answer {new} g =
+        let row = flat (get_or (rows_in (parse file)) r []) in
+        let line = get_or (maps_in (parse file)) r [] in
+        let whole = row_at (v * channels_of h.size.kind) r (drawn_bytes (shows file v)) in
+        let shown : row_shown h.size.kind row line v ≡ whole = drawn-row known v s.accepted s.offers r inside in
+        let given_row : RowAtGiven h.size.kind row line v out answer new = rw (samples_are n is, numbers-are) at g in
+        let wide : length line ≡ h.size.width = each_at r [] inside known.maps_grid in
+        let samples : length row ≡ length line * channels_of h.size.kind = length-flat (each_at r [] inside known.of_size) ∙ ap (◌* channels_of h.size.kind) (sym wide) in
+        let shown-long : length whole ≡ v * channels_of h.size.kind =
+        length-row_at (v * channels_of h.size.kind) h.size.height (drawn_bytes (shows file v)) r (omega (arith, whole_long)) inside in
+        is_served answer (given_row.number ∙ sym (nothing-refused h.size.kind row line v samples out (rw shown (omega (arith, shown-long, long)))))
 
     pub row_drawn : (n : ℕ) → n ≡ channels_of h.size.kind → (numbers out : List ℕ) → numbers ≡ get_or (maps_in (parse file)) r [] → length out ≡ v * channels_of h.size.kind
         → {answer : Result (Unit {0}) Refusal} {new : List ℕ}

@@ -80,7 +80,7 @@ impl<'a> Opened<'a> {
 }
 
 // The row lines: the samples of the picture.
-#[derive(Clone, Copy)]
+#[derive(Clone, Copy, Debug, PartialEq, Eq)]
 struct RowLines<'a>(Opened<'a>);
 
 impl<'a> Lines<u8> for RowLines<'a> {
@@ -109,7 +109,7 @@ impl<'a> Lines<u8> for RowLines<'a> {
 }
 
 // The map lines: the numbers of the map.
-#[derive(Clone, Copy)]
+#[derive(Clone, Copy, Debug, PartialEq, Eq)]
 pub(crate) struct MapLines<'a>(pub(crate) Opened<'a>);
 
 impl<'a> Lines<u16> for MapLines<'a> {
@@ -137,7 +137,7 @@ impl<'a> Lines<u16> for MapLines<'a> {
 }
 
 // The map lines again, each number as two bytes: the recorded map.
-#[derive(Clone, Copy)]
+#[derive(Clone, Copy, Debug, PartialEq, Eq)]
 pub(crate) struct RecordLines<'a>(pub(crate) Opened<'a>);
 
 impl<'a> Lines<u8> for RecordLines<'a> {

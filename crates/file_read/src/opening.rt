@@ -10,7 +10,7 @@ use text_read::Cursor;
 use text_theory::Head;
 
 // A file that 1 to 6 don't refuse: its text, its size and range, and the place of its first row line.
-#[derive(Clone, Copy)]
+#[derive(Clone, Copy, Debug, PartialEq, Eq)]
 pub(crate) struct Opened<'a> {
     pub(crate) text: &'a [u8],
     pub(crate) head: Head,

@@ -44,7 +44,7 @@ fn draw(file: Opened, wanted: usize, out: &mut [u8], work: &mut [u8])
 }
 
 // The map lines, each with its row of the picture at the front of a space: the row shown at a width that the file offers.
-#[derive(Clone, Copy)]
+#[derive(Clone, Copy, Debug, PartialEq, Eq)]
 struct ShownLines<'a> {
     file: Opened<'a>,
     space: &'a [u8],
@@ -78,7 +78,7 @@ impl<'a> Lines<u8> for ShownLines<'a> {
         let stride = size.width * channels(size.kind);
         let a = r * stride;
         let row = &self.space[a..a + stride];
-        let _ = map_show::row_at(size.kind, row, &numbers[..size.width], self.wanted, part);
+        map_show::row_at(size.kind, row, &numbers[..size.width], self.wanted, part).unwrap();
         next
     }
 }
