@@ -43,6 +43,7 @@ fn neighbour(rule: EnergyRule, i: usize, n: usize) -> usize
     if i + 1 < n {
         return i + 1;
     }
+    // the rule is a value, as hosts and files name it
     match rule {
         // The line before; of the first the line itself, from which it doesn't differ.
         EnergyRule::Edge => i.saturating_sub(1),

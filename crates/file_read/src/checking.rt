@@ -28,6 +28,7 @@ impl<'a> Opened<'a> {
         ensures { MapJudged self.now.text.now work.old result work.new }
     {
         let size = self.head.size;
+        // by the head's size: an AllowedSize beside it would be the same size twice
         let at = map_rules::recorded_at(size);
         let end = at + map_rules::map_bytes(size);
         let maps = self.read_picture(work);

@@ -32,7 +32,8 @@ pub(crate) trait Lines<T> {
     fn long(&self) -> usize
         ensures { result ≡ long self.now };
 
-    // Reads line r at its place, fills its part, and gives the place after it.
+    // Reads line r at its place, fills its part, and gives the place after it. r is for the lines shown alone, which show a row of the
+    // picture.
     fn part(&self, r: usize, at: Cursor, part: &mut [T]) -> Cursor
         requires there { drop at.at (text self.now) ≡ from self.now r }
         requires inside { r < count self.now }
@@ -80,6 +81,8 @@ impl<'a> Opened<'a> {
 }
 
 // The row lines: the samples of the picture.
+// These and the next three each say their text and their count: a trait that asked for the file instead would ask it twice, as a
+// ghost and as a function.
 #[derive(Clone, Copy, Debug, PartialEq, Eq)]
 struct RowLines<'a>(Opened<'a>);
 
@@ -161,6 +164,7 @@ impl<'a> Lines<u8> for RecordLines<'a> {
 
     fn part(&self, _r: usize, at: Cursor, part: &mut [u8]) -> Cursor {
         let width = self.0.head.size.width;
+        // on the stack, with as many places as the widest row has: nothing is allocated
         let mut numbers = [0u16; LARGEST_SIDE];
         let next = self.0.map_line(at, &mut numbers[..width]);
         record_row(part, &numbers[..width]);
@@ -168,7 +172,7 @@ impl<'a> Lines<u8> for RecordLines<'a> {
     }
 }
 
-// Writes the numbers into the space, two bytes a number, the low byte first.
+// Writes the numbers into the space, two bytes a number, the low byte first; by index, for the same reason as in fill.
 fn record_row(space: &mut [u8], row: &[u16])
     requires { length space.old ≡ 2 * length row.now }
     ensures { space.new ≡ pairs row.now }

@@ -40,7 +40,7 @@ fn draw(file: Opened, wanted: usize, out: &mut [u8], work: &mut [u8])
         wanted,
     };
     lines::fill(&shown, maps, out);
-    work.fill(0);
+    pictures::clear(work);
 }
 
 // The map lines, each with its row of the picture at the front of a space: the row shown at a width that the file offers.
@@ -73,6 +73,7 @@ impl<'a> Lines<u8> for ShownLines<'a> {
 
     fn part(&self, r: usize, at: Cursor, part: &mut [u8]) -> Cursor {
         let size = self.file.head.size;
+        // on the stack, with as many places as the widest row has: nothing is allocated
         let mut numbers = [0u16; LARGEST_SIDE];
         let next = self.file.map_line(at, &mut numbers[..size.width]);
         let stride = size.width * channels(size.kind);

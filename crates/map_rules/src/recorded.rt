@@ -3,14 +3,16 @@ ghost use Rattle.std.specs.Prelude.{◌≡◌, eqb};
 ghost use Rattle.seam_theory.specs.Paths.{beside as Paths·beside};
 ghost use Rattle.map_theory.specs.Judged.{remains as Judged·remains};
 
-// Whether a number that was counted this often stands once.
+// Whether a number that was counted this often stands once: one comparison, and a function since decisions stand apart from what
+// searches a row.
 pub fn stands_once(count: u16) -> bool
     ensures { result ≡ eqb count 1 }
 {
     count == 1
 }
 
-// Whether a pixel numbered v is left before seam t.
+// Whether a pixel numbered v is left before seam t. Not `stays`: t is a seam here, whose own pixel is still left, and a count of
+// columns there.
 #[tactic(auto, unfolding(map_theory::specs::Judged::remains))]
 pub fn remains(t: usize, v: usize) -> bool
     ensures { result ≡ Judged·remains t v }

@@ -48,6 +48,7 @@ pub(crate) fn show(kind: Kind, samples: &[u8], numbers: &[u16], wanted: usize, o
     }
 }
 
+// The same for pixels of N bytes: kept or grown, by the width that the caller wants.
 fn show_row<const N: usize>(samples: &[u8], numbers: &[u16], wanted: usize, out: &mut [u8])
     requires { RowNeeded N samples.now numbers.now (shown N samples.now numbers.now wanted) out.old }
     ensures { out.new ≡ shown N samples.now numbers.now wanted ++ drop (length (shown N samples.now numbers.now wanted)) out.old }
@@ -95,7 +96,8 @@ fn grow_row<const N: usize>(samples: &[u8], numbers: &[u16], u: usize, out: &mut
     put_last::<N>(samples, front.len(), is_doubled(u, *last as usize), out, at);
 }
 
-// The pixel of the last column, with its new pixel to the left of it.
+// The pixel of the last column, with its new pixel to the left of it. Whether it has one is told: the other pixels ask it of their
+// numbers in the loop, and this decides nothing.
 fn put_last<const N: usize>(samples: &[u8], last: usize, new: bool, out: &mut [u8], at: usize)
     requires { LastNeeded N samples.now last new out.old at }
     ensures { out.new ≡ sets out.old at (last_pixels N samples.now last new) }

@@ -11,7 +11,8 @@ use program_netpbm::OUTPUT_SPACE;
 use program_rules::HELD_PIXELS;
 use text_read::Cursor;
 
-// What `fit` writes for an input: the picture that the file shows at the width, or a refusal.
+// What `fit` writes for an input: the picture that the file shows at the width, or a refusal. What it shares with the other program is
+// `finish`; each has a promise of its own.
 pub fn fit(input: &[u8], out: &mut [u8; OUTPUT_SPACE]) -> usize
     ensures { Wrote (Programs·fit input.now) out.old result out.new }
 {

@@ -16,7 +16,7 @@ pub(crate) struct Bottom<N> {
 }
 
 // Works out all sums of the picture at the front of the space. After what costs are read from is written where each column of
-// a row comes from.
+// a row comes from. Its rows stand on the stack, each as long as the widest: nothing is allocated.
 pub(crate) fn find_bottom<C: Costing>(
     space: &mut [u8],
     allowed: AllowedSize,

@@ -28,7 +28,8 @@ pub fn find_in(
     find_by::<Energies>(space, size, method, seam)
 }
 
-// The same by any costs that are read from the front of the space.
+// The same by any costs that are read from the front of the space. The space is lent whole, as hosts lend it: its parts are named by
+// their places.
 pub fn find_by<C: Costing>(
     space: &mut [u8],
     size: Size,

@@ -24,6 +24,7 @@ pub fn trace_back(
         return None;
     }
     let mut c = column;
+    // by index: which place of a row is read is known only from the row below it
     for i in (0..height - 1).rev() {
         seam[i + 1] = c as u16;
         c = step(width, c, ways[i * width + c]);

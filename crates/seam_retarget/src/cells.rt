@@ -26,6 +26,7 @@ impl Table {
         requires columns_left { columns.0 < self.size.size.width }
         ensures { SeamOf self rows columns axis result }
     {
+        // the axis is a value: which of the two ways a cell takes is known from its totals
         let place = match axis {
             Axis::Vertical => VERTICAL,
             Axis::Horizontal => HORIZONTAL,

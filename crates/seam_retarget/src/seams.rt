@@ -64,6 +64,7 @@ fn turn(work: &mut [u8], from: usize, size: AllowedSize, axis: Axis, to: usize)
     requires { PlacesApart (length work.old) from to (picture_bytes size.size) }
     ensures { work.new ≡ put_at to (picture_bytes size.size) (bytes (turned axis size.size.width (picture_at size.size from work.old))) work.old }
 {
+    // the axis is a value, as in the cells
     match axis {
         Axis::Vertical => copy_between(work, from, size.picture_bytes(), to).unwrap(),
         Axis::Horizontal => exchange_between(work, from, size.size, to).unwrap(),

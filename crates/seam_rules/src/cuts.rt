@@ -44,7 +44,8 @@ pub fn allows_mark(mark: u8) -> bool
     mark <= 2
 }
 
-// Which of 2, 3, 4 and 8 refuses closing up a seam along the axis in buffers of these lengths, or none.
+// Which of 2, 3, 4 and 8 refuses closing up a seam along the axis in buffers of these lengths, or none. Not by judge_find: a seam
+// that is too long is refused too, by 4, and the work space is as long as the picture.
 pub fn judge_close_along(
     size: Size,
     axis: Axis,

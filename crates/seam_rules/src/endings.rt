@@ -5,7 +5,8 @@ ghost use Rattle.seam_rules.specs.Endings.{next_step};
 use crate::answers::{Ending, Removal};
 
 // What comes before a cut, with `count` seams cut of at most `budget`: it ends where no pixel is marked 2 any more, where one
-// column is left, or where the budget is spent, in this order. None where a seam is to be cut.
+// column is left, or where the budget is spent, in this order. None where a seam is to be cut. It is told whether a
+// pixel is marked, and not the marks: a decision is a function without slices.
 pub fn next_step(marked: bool, width: usize, count: u16, budget: u16) -> Option<Removal>
     ensures { result ≡ next_step marked width count budget }
 {

@@ -15,6 +15,7 @@ use seam_rules::{Axis, judge_close_along, narrower, turned_size};
 pub fn turn(picture: &[u8], size: Size, axis: Axis, to: &mut [u8]) -> Result<(), Refusal>
     ensures { TurnGiven picture.now size axis to.old result to.new }
 {
+    // here and in close the axis is asked: it is a value, as hosts name it
     match axis {
         Axis::Vertical => {
             judge_exchange(size, picture.len(), to.len())?;

@@ -42,6 +42,7 @@ impl Sink for Room {
 }
 
 // How many digits n has. Most numbers have up to three, which are counted without a branch: rows are measured in a third of the time.
+// `checked_ilog10` promises powers of ten, and nothing of digits.
 pub fn digit_count(n: usize) -> usize
     ensures { (result ≡ length (digits n)) × (result ≤ n + 1) }
 {

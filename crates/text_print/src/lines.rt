@@ -12,14 +12,14 @@ use text_lengths::Sink;
 use text_theory::{Head, Name};
 
 // The row line of these samples; samples that make no whole pixel are left out.
-#[derive(Clone, Copy)]
+#[derive(Clone, Copy, Debug, PartialEq, Eq)]
 pub struct RowLine<'a> {
     pub kind: Kind,
     pub samples: &'a [u8],
 }
 
 // The map line of these numbers, which are numbers of two bytes or the bytes themselves.
-#[derive(Clone, Copy)]
+#[derive(Clone, Copy, Debug, PartialEq, Eq)]
 pub struct MapLine<'a, T> {
     pub items: &'a [T],
 }

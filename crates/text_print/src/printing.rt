@@ -18,7 +18,7 @@ pub struct Out<'a> {
 }
 
 impl<'a> Out<'a> {
-    // Writes a byte.
+    // Writes a byte. By the length: `get_mut` would lend the space once more, and it is handed on.
     fn byte(self, b: u8) -> Option<Out<'a>>
         ensures { result ≡ out_takes self.entry b }
     {
@@ -35,15 +35,17 @@ impl<'a> Out<'a> {
         ensures { result ≡ puts out_takes self.entry (digits n) }
     {
         if n < 10 {
-            return self.byte(48 + n as u8);
+            return self.byte(b'0' + n as u8);
         }
-        self.digits(n / 10)?.byte(48 + (n % 10) as u8)
+        self.digits(n / 10)?.byte(b'0' + (n % 10) as u8)
     }
 }
 
 impl<'a> Sink for Out<'a> {
     ghost takes = { out_takes };
 
+    // Byte by byte, as the promise of a sink is said: of bytes copied at once it would first be shown that they are taken one after the
+    // other.
     fn put(self, bytes: &[u8]) -> Option<Self> {
         let mut after = self;
         for b in bytes {
@@ -55,17 +57,17 @@ impl<'a> Sink for Out<'a> {
     // Most numbers have up to three digits, which are put at once: a map is printed in three quarters of the time.
     fn number(self, n: usize) -> Option<Self> {
         if n < 10 {
-            return self.put(&[48 + n as u8]);
+            return self.put(&[b'0' + n as u8]);
         }
         if n < 100 {
-            return self.put(&[48 + (n / 10) as u8, 48 + (n % 10) as u8]);
+            return self.put(&[b'0' + (n / 10) as u8, b'0' + (n % 10) as u8]);
         }
         if n < 1000 {
             let tens = n / 10;
             let digits = [
-                48 + (tens / 10) as u8,
-                48 + (tens % 10) as u8,
-                48 + (n % 10) as u8,
+                b'0' + (tens / 10) as u8,
+                b'0' + (tens % 10) as u8,
+                b'0' + (n % 10) as u8,
             ];
             return self.put(&digits);
         }
@@ -88,10 +90,7 @@ fn write<'a, T: Text>(space: &'a mut [u8], at: usize, text: &T) -> Out<'a>
     ensures written { result.space.now ≡ sets space.old at (T.text text.now) }
     ensures after { result.at ≡ at + length (T.text text.now) }
 {
-    let Some(after) = text.put(Out { space, at }) else {
-        unreachable!();
-    };
-    after
+    text.put(Out { space, at }).unwrap()
 }
 
 // Prints a text at a place of a space, and gives the place after it; none where the space is too short, and nothing is printed.

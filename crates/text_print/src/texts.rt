@@ -19,7 +19,7 @@ pub trait Text {
 }
 
 // What stands between names and numbers.
-#[derive(Clone, Copy)]
+#[derive(Clone, Copy, Debug, PartialEq, Eq)]
 pub enum Mark {
     Opening,
     Blank,
@@ -59,6 +59,7 @@ impl Text for Name {
     }
 }
 
+// A number of each width, cast: one impl for all numbers would be one for every type, and names and marks are types too.
 impl Text for usize {
     ghost text = { digits };
 
@@ -93,7 +94,7 @@ impl<A: Text, B: Text> Text for (A, B) {
 }
 
 // Items, each after a blank.
-#[derive(Clone, Copy)]
+#[derive(Clone, Copy, Debug, PartialEq, Eq)]
 pub struct Each<'a, T> {
     pub items: &'a [T],
 }

@@ -33,6 +33,7 @@ impl Cursor {
     pub fn item(self, text: &[u8], what: Items) -> Option<(usize, Cursor)>
         ensures { Told (item_of what) text.now self.at (read result) }
     {
+        // what is read is a value: a text says in its head of which kind its pixels are
         match what {
             Items::Samples => self.limited(text, 255),
             Items::Numbers => self.limited(text, LARGEST_NUMBER),

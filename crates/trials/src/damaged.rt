@@ -7,7 +7,7 @@ use std::io::Stdout;
 // The bytes of the largest file.
 pub(crate) const LONGEST: usize = 512;
 
-// A file at the front of its space.
+// A file at the front of its space: nothing is allocated, and files are of many lengths.
 #[derive(Clone, Copy, Debug, PartialEq, Eq)]
 pub(crate) struct Text {
     pub(crate) space: [u8; LONGEST],

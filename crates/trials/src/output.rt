@@ -24,7 +24,8 @@ pub(crate) fn print_numbers<N: Display + Copy>(stdout: Stdout, numbers: &[N]) {
     }
 }
 
-// The number that is refused by, or 0: pictures::given for answers with a value.
+// The number that is refused by, or 0, for answers with a value: pictures::given is of those without one, which alone hosts are given as
+// a bare number.
 pub(crate) fn given<T: Copy>(answer: Result<T, Refusal>) -> u64 {
     match answer {
         Ok(_) => 0,
