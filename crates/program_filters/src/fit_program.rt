@@ -27,7 +27,8 @@ fn width_line(input: &[u8]) -> Option<(usize, Cursor)>
     program_netpbm::last_number(input, Cursor { at: 0 })
 }
 
-// The picture that the file in the input shows at the width in its first line.
+// The picture that the file in the input shows at the width in its first line. Here and below the output is a slice: tried
+// as the array that a program lends, the bounds of what is printed into it stayed open.
 fn draw(input: &[u8], out: &mut [u8]) -> Result<usize, Refusal>
     requires { output_space ≤ length out.old }
     ensures { Answered (fit_rules input.now) (picture_answer (width_get input.now)) out.old result out.new }
