@@ -1,8 +1,7 @@
 // A lent space cleared.
 ghost use Rattle.std.specs.Prelude.{◌≡◌, length, replicate};
 
-// Every byte of the space becomes 0. A function of one call: that a space is cleared is a rule of every operation, and has one name
-// and one promise.
+// Every byte of the space becomes 0. A function of one call: that a space is left 0 has one name and one promise.
 pub fn clear(space: &mut [u8])
     ensures { space.new ≡ replicate (length space.old) 0 }
 {

@@ -18,7 +18,7 @@ pub struct Out<'a> {
 }
 
 impl<'a> Out<'a> {
-    // Writes a byte. By the length: `get_mut` would lend the space once more, and it is handed on.
+    // Writes a byte. By the length: by `get_mut` it was not found that the space handed on is the one lent.
     fn byte(self, b: u8) -> Option<Out<'a>>
         ensures { result ≡ out_takes self.entry b }
     {

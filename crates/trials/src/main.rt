@@ -1,6 +1,6 @@
 // Runs the operations on generated pictures and prints what they give. The expected output is that of the second
-// implementation on the same pictures. The loops by number go through sizes, counts and lengths. One goes through
-// places: print_changed, which says so.
+// implementation on the same pictures. The loops by number go through sizes, counts, lengths and rows. One goes
+// through places: print_changed, which says so.
 #![tactic(auto)]
 
 mod answers;
