@@ -19,7 +19,7 @@ pub fn seams(input: &[u8], out: &mut [u8; OUTPUT_SPACE]) -> usize
     program_netpbm::finish(answer, out)
 }
 
-// The file of the picture in the input.
+// The file of the picture in the input. Here and below the output is a slice, for the same reason as in fit_program.
 fn build(input: &[u8], out: &mut [u8]) -> Result<usize, Refusal>
     requires { output_space ≤ length out.old }
     ensures { Answered (seams_rules input.now) (file_answer (header_get input.now)) out.old result out.new }
