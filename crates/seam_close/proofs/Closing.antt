@@ -84,7 +84,7 @@ close_needed b z s lengths columns =
     }
 
 -- The loop over the rows, where pixels have n bytes and rows w pixels.
-module _ (z : Size) (b s : List ℕ) (n : ℕ) (needed : CloseNeeded b z s) (is : n ≡ channels_of z.kind) where
+module _ {z : Size} {b s : List ℕ} {n : ℕ} (needed : CloseNeeded b z s) (is : n ≡ channels_of z.kind) where
   abbrev w : ℕ
   w = z.width
 
