@@ -52,8 +52,8 @@ between_fences : (fence w : ℕ) (s : List ℕ) → length s ≡ w → take (w +
 between_fences fence w s e = rw (add-sub_cancel w 1) (take_at s (fence ∷ []) w e)
 
 -- The last row of sums, at any width of number, and the first of the least between its fences.
-module _ {A : Type 0} (value : A → ℕ) (fence from : ℕ) (z : Size) (costs : List ℕ → ℕ → CostRows) (space space' : List ℕ) (above : List A)
-    (wide : length (costs (take from space) 0).up ≡ z.width) (given : DownGiven fence from z costs space space' (map value above)) where
+module _ {A : Type 0} (value : A → ℕ) {fence from : ℕ} {z : Size} {costs : List ℕ → ℕ → CostRows} {space space' : List ℕ} (above : List A)
+    (given : DownGiven fence from z costs space space' (map value above)) (wide : length (costs (take from space) 0).up ≡ z.width) where
   abbrev sums : List ℕ
   sums = sums_down false fence z.width (costs (take from space)) (z.height - 1)
 
@@ -73,13 +73,13 @@ module _ {A : Type 0} (value : A → ℕ) (fence from : ℕ) (z : Size) (costs :
   row-long = sym (length-map row value) ∙ ap length last_row ∙ sums-long
 
   -- The column that is given is one of the row's.
-  pub column-inside : (column : ℕ) → 0 < z.width → column ≡ least_to (map value row) (length row - 1) → column < length row
-  column-inside column some is = omega (arith, row-long, is, least_inside (map value row) (length row - 1))
+  pub column-inside : {column : ℕ} → 0 < z.width → column ≡ least_to (map value row) (length row - 1) → column < length row
+  column-inside some is = omega (arith, row-long, is, least_inside (map value row) (length row - 1))
 
-  pub bottom-given : (column : ℕ) (sum : A) → 0 < z.width → column ≡ least_to (map value row) (length row - 1) → sum ≡ get_or row column sum
+  pub bottom-given : {column : ℕ} {sum : A} → 0 < z.width → column ≡ least_to (map value row) (length row - 1) → sum ≡ get_or row column sum
       → BottomGiven fence from z costs space space' column (value sum)
-  bottom-given column sum some is read =
-      let inside : column < length row = column-inside column some is in
+  bottom-given {column} {sum} some is read =
+      let inside : column < length row = column-inside some is in
       record {
         ways = given.ways;
         column_is = is ∙ ap₂ (λ x n. least_to x (n - 1)) last_row row-long;

@@ -40,10 +40,16 @@ err-served (Ok n) t is e x y = absurd (true≢false (sym is ∙ e))
 err-served (Err why) t is e x y = sym (kept_by why x y)
 
 module _ {marked : Bool} {front : Size → ℕ} {costs : Size → Method → List ℕ → ℕ → CostRows} {most fence : ℕ}
-    (laws : CostingLaws marked front costs most fence) (means : ℕ → Result ℕ Refusal → Type 0) (z : Size) (how : Method) (space seam : List ℕ)
-    (none : refusal (find_space_rules z marked (length space) (length seam)) ≡ 0) (q : ℕ) (bytes : q ≡ front z)
-    (filled : List ℕ) (column sum : ℕ) (kept : length filled ≡ length space)
-    (bottom : BottomGiven fence (front z) z (costs z how) space filled column sum) where
+    (laws : CostingLaws marked front costs most fence) (means : ℕ → Result ℕ Refusal → Type 0) {z z' : Size} {how : Method} {space : List ℕ} (seam : List ℕ)
+    (none : refusal (find_space_rules z marked (length space) (length seam)) ≡ 0) (same : z' ≡ z) {q : ℕ} (bytes' : q ≡ front z')
+    {filled : List ℕ} {column sum : ℕ} (kept : length filled ≡ length space)
+    (bottom' : BottomGiven fence (front z') z' (costs z' how) space filled column sum) where
+  bytes : q ≡ front z
+  bytes = bytes' ∙ ap front same
+
+  bottom : BottomGiven fence (front z) z (costs z how) space filled column sum
+  bottom = rw same at bottom'
+
   rooms : Rooms z marked (length space) (length seam)
   rooms = rooms_are z marked (length space) (length seam) none
 

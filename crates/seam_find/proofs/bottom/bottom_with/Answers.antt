@@ -27,28 +27,12 @@ down-requires-clause-rows g c =
 
 pub bounds-sums-column : goal.bounds-sums-column
 bounds-sums-column g c =
-    let a = c.args in
-    let z = a.allowed.size in
-    column-inside g.C.Sum.Number.value g.C.Sum.Number.fence (g.C.Costing.front z) z (g.C.Costing.costs z a.method) a.space.now c.down.new.space
-    c.down.new.above (c.front_bytes-front.ensures.laws.wide z a.method (take (g.C.Costing.front z) a.space.now) 0) c.down.ensures
-    c.first_least-column.result (sides_are z a.allowed.allowed).width_some c.first_least-column.ensures
+    column-inside g.C.Sum.Number.value c.down.new.above c.down.ensures (c.front_bytes-front.ensures.laws.wide _ _ _ _) (sides_are c.args.allowed.size c.args.allowed.allowed).width_some c.first_least-column.ensures
 
 pub offset_bounds-sums-column : goal.offset_bounds-sums-column
-offset_bounds-sums-column g c =
-    let a = c.args in
-    let z = a.allowed.size in
-    let inside =
-    column-inside g.C.Sum.Number.value g.C.Sum.Number.fence (g.C.Costing.front z) z (g.C.Costing.costs z a.method) a.space.now c.down.new.space
-    c.down.new.above (c.front_bytes-front.ensures.laws.wide z a.method (take (g.C.Costing.front z) a.space.now) 0) c.down.ensures
-    c.first_least-column.result (sides_are z a.allowed.allowed).width_some c.first_least-column.ensures
-    in
-    omega (arith, inside)
+offset_bounds-sums-column g c = omega (arith, bounds-sums-column g c)
 
 pub returns : goal.returns
 returns g c =
-    let a = c.args in
-    let z = a.allowed.size in
-    bottom-given g.C.Sum.Number.value g.C.Sum.Number.fence (g.C.Costing.front z) z (g.C.Costing.costs z a.method) a.space.now c.down.new.space
-    c.down.new.above (c.front_bytes-front.ensures.laws.wide z a.method (take (g.C.Costing.front z) a.space.now) 0) c.down.ensures
-    c.first_least-column.result c.index-sums-column.result (sides_are z a.allowed.allowed).width_some c.first_least-column.ensures
+    bottom-given g.C.Sum.Number.value c.down.new.above c.down.ensures (c.front_bytes-front.ensures.laws.wide _ _ _ _) (sides_are c.args.allowed.size c.args.allowed.allowed).width_some c.first_least-column.ensures
     c.index-sums-column.is

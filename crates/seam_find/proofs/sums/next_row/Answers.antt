@@ -1,10 +1,9 @@
 -- `seam_find::sums::next_row` meets its contract: a sum and a way more are stored.
-use Rattle.std.proofs.Common.{◌≡◌, ◌+◌, ◌<◌, min, length, get_or, sym, ap, ◌∙◌, arith}
+use Rattle.std.proofs.Common.{◌+◌, ◌<◌, min, length, sym, ap, ◌∙◌, arith}
 use mathlib.Core.List.{map}
 use lib.ListN.{length-map}
 use Rattle.std.proofs.lemmas.List.{map-set}
 use Rattle.grids.proofs.Tables.{stored_turn}
-use Rattle.seam_theory.specs.Sums.{first_of3}
 use Rattle.seam_theory.proofs.Alike.{sum_alike, way_alike}
 use Rattle.seam_sums.proofs.Values.{value_at}
 use Rattle.seam_find.proofs.sums.next_row.Goals as goal
@@ -16,8 +15,8 @@ plus-requires g c =
     let cost = c.args.cost.now in
     let k = c.loop-c.c in
     let inside = c.loop-c-test.true in
-    let long : length above ≡ length c.args.next.now + 2 = sym (length-map above value) ∙ c.requires.above in
-    let wide : length cost ≡ length c.args.next.now = sym (length-map cost value) ∙ c.requires.costs in
+    let long = length-map above value in
+    let wide = length-map cost value in
     let middle = value_at value above (k + 1) _ (omega arith) c.index-above-c-in-loop-c.is in
     let price = value_at value cost k _ (omega arith) c.index-cost-c.is in
     let small : value c.index-above-c-in-loop-c.result < g.N.Number.fence = omega (arith, middle, c.requires.small k inside) in
@@ -31,26 +30,15 @@ loop-c-preserved g c =
     let cost = c.args.cost.now in
     let l = c.loop-c in
     let inside = c.loop-c-test.true in
-    let long : length above ≡ length c.args.next.now + 2 = sym (length-map above value) ∙ c.requires.above in
-    let wide : length cost ≡ length c.args.next.now = sym (length-map cost value) ∙ c.requires.costs in
-    let left : get_or (map value above) l.c 0 ≡ value c.index-above-c.result = value_at value above l.c _ (omega arith) c.index-above-c.is in
-    let middle : get_or (map value above) (l.c + 1) 0 ≡ value c.index-above-c-in-loop-c.result =
-    value_at value above (l.c + 1) _ (omega arith) c.index-above-c-in-loop-c.is
-    in
-    let right : get_or (map value above) (l.c + 2) 0 ≡ value c.index-above-c-in-loop-c-2.result =
-    value_at value above (l.c + 2) _ (omega arith) c.index-above-c-in-loop-c-2.is
-    in
-    let price : get_or (map value cost) l.c 0 ≡ value c.index-cost-c.result = value_at value cost l.c _ (omega arith) c.index-cost-c.is in
-    let sum : value c.plus.result ≡ min (get_or (map value above) l.c 0) (min (get_or (map value above) (l.c + 1) 0) (get_or (map value above) (l.c + 2) 0)) + get_or (map value cost) l.c 0 =
-    rw (left, middle, right, price)
-    (c.plus.ensures ∙ ap (◌+ value c.index-cost-c.result) (c.lesser-in-loop-c.ensures ∙ ap (min (value c.index-above-c.result)) c.lesser.ensures))
-    in
-    let way : c.way.result ≡ first_of3 (get_or (map value above) l.c 0) (get_or (map value above) (l.c + 1) 0) (get_or (map value above) (l.c + 2) 0) =
-    rw (left, middle, right) c.way.ensures
-    in (
-      rw (map-set value l.next l.c c.plus.result)
-          (stored_turn _ _ _ l.c (map value l.next) _ 0 inside (sum ∙ sym (sum_alike (map value above) (map value cost) l.c)) l.invariant.0),
-      stored_turn _ _ _ l.c l.ways _ 0 inside
-          (way ∙ sym (way_alike (length c.args.next.now) (map value above) (map value cost) l.c))
-          l.invariant.1,
+    let long = length-map above value in
+    let wide = length-map cost value in
+    let left = value_at value above l.c _ (omega arith) c.index-above-c.is in
+    let middle = value_at value above (l.c + 1) _ (omega arith) c.index-above-c-in-loop-c.is in
+    let right = value_at value above (l.c + 2) _ (omega arith) c.index-above-c-in-loop-c-2.is in
+    let price = value_at value cost l.c _ (omega arith) c.index-cost-c.is in
+    let least = c.lesser-in-loop-c.ensures ∙ ap (min (value c.index-above-c.result)) c.lesser.ensures in
+    let sum = c.plus.ensures ∙ ap (◌+ value c.index-cost-c.result) least ∙ sym (rw (left, middle, right, price) at (sum_alike (map value above) (map value cost) l.c)) in
+    let way = c.way.ensures ∙ sym (rw (left, middle, right) at (way_alike (length c.args.next.now) (map value above) (map value cost) l.c)) in (
+      rw (map-set value l.next l.c c.plus.result) (stored_turn _ _ _ l.c (map value l.next) _ 0 inside sum l.invariant.0),
+      stored_turn _ _ _ l.c l.ways _ 0 inside way l.invariant.1,
     )
