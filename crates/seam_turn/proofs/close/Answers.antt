@@ -32,7 +32,7 @@ returns-in_err-judge_close_along c =
     -- the rules of the lengths, and those of the seam
     let first : List Rule = close_along_lengths a.axis a.size (length b) (length s) (length a.work.now) in
     let last : List Rule = 10 when outside (turned_size a.axis a.size).width s ∷ last_rules a.axis a.size in
-    let number : given v ≡ refusal (close_along_lengths a.axis a.size (length b) (length s) (length a.work.now)) = ap given is ∙ c.in_err-judge_close_along.ensures in
+    let number : given v ≡ refusal first = ap given is ∙ c.in_err-judge_close_along.ensures in
     record {
       number = refused_answer v why is first last number;
       picture_left = refused-kept v why is (bytes (cut_along a.axis a.size s (picture a.size b)) ++ replicate ((turned_size a.axis a.size).height * channels_of a.size.kind) 0) b;
@@ -46,8 +46,7 @@ returns-in-Vertical c =
     let n = length a.picture.now in
     let s = a.seam.now in
     let work = length a.work.now in
-    let none : refusal (close_along_lengths a.axis a.size (length a.picture.now) (length a.seam.now) (length a.work.now)) ≡ 0 = sym c.in_ok-judge_close_along.ensures in
-    let lengths : refusal (close_along_lengths Vertical a.size (length a.picture.now) (length a.seam.now) (length a.work.now)) ≡ 0 = rw c.in-Vertical.is at none in
+    let lengths : refusal (close_along_lengths Vertical a.size n (length s) work) ≡ 0 = rw c.in-Vertical.is at (sym c.in_ok-judge_close_along.ensures) in
     rw c.in-Vertical.is
     (record {
       number = c.close_up.ensures.number ∙ close_number Vertical a.size n s work lengths n (close_room Vertical a.size n (length s) work lengths).sized;
@@ -59,8 +58,7 @@ pub returns-in-Horizontal : goal.returns-in-Horizontal
 unfolding turned cut_along left_work
 returns-in-Horizontal c =
     let a = c.args in
-    let none : refusal (close_along_lengths a.axis a.size (length a.picture.now) (length a.seam.now) (length a.work.now)) ≡ 0 = sym c.in_ok-judge_close_along.ensures in
-    let lengths : refusal (close_along_lengths Horizontal a.size (length a.picture.now) (length a.seam.now) (length a.work.now)) ≡ 0 = rw c.in-Horizontal.is at none in
+    let lengths : refusal (close_along_lengths Horizontal a.size (length a.picture.now) (length a.seam.now) (length a.work.now)) ≡ 0 = rw c.in-Horizontal.is at (sym c.in_ok-judge_close_along.ensures) in
     let ends : List Rule = 10 when outside a.size.height a.seam.now ∷ last_rules Horizontal a.size in
     rw c.in-Horizontal.is
     (record {

@@ -29,9 +29,12 @@ use Rattle.seam_turn.proofs.Served.{close_number}
 use Rattle.seam_turn.proofs.close_columns.Goals as goal
 
 -- After the first exchange, and after the exchanged picture was closed up at the front of the work space.
-module _ (z : Size) (b s work : List ℕ) (lengths : refusal (close_along_lengths Horizontal z (length b) (length s) (length work)) ≡ 0)
-    (work₁ front : List ℕ) (v u : Result (Unit {0}) Refusal) (g : ExchangeGiven b z work v work₁) (long₁ : length work₁ ≡ length work)
-    (c : CloseGiven (take (length b) work₁) (turned_size Horizontal z) s u front) (long₂ : length front ≡ length (take (length b) work₁)) where
+module _ {z over-size : Size} {b s work : List ℕ} (lengths : refusal (close_along_lengths Horizontal z (length b) (length s) (length work)) ≡ 0)
+    {work₁ front : List ℕ} {v u : Result (Unit {0}) Refusal} (g : ExchangeGiven b z work v work₁) (long₁ : length work₁ ≡ length work)
+    (turns : over-size ≡ turned_size Horizontal z) (closes : CloseGiven (take (length b) work₁) over-size s u front) (long₂ : length front ≡ length (take (length b) work₁)) where
+  c : CloseGiven (take (length b) work₁) (turned_size Horizontal z) s u front
+  c = rw turns at closes
+
   -- what the lengths say
   fits : CloseRoom Horizontal z (length b) (length s) (length work)
   fits = close_room Horizontal z (length b) (length s) (length work) lengths
@@ -68,9 +71,6 @@ module _ (z : Size) (b s work : List ℕ) (lengths : refusal (close_along_length
     abbrev kept : ℕ
     kept = picture_bytes (narrowed (turned_size Horizontal z))
 
-    kept-are : (n : ℕ) (left : Size) → left ≡ narrowed (turned_size Horizontal z) → n ≡ served (refusal (side_rules left)) (picture_bytes left) 0 → n ≡ kept
-    kept-are n left is many = rw is at many ∙ ap (λ m. served m kept 0) (left-sides z b s sure inside)
-
     kept-fits : kept + z.width * channels_of z.kind ≡ length b
     kept-fits = left-bytes z b s sure inside
 
@@ -78,18 +78,28 @@ module _ (z : Size) (b s work : List ℕ) (lengths : refusal (close_along_length
     lent_is = kept-is z b s sure inside work₁ front u c over over_sized (drop (length b) work₁)
 
     -- exchanged back, which isn't refused, with what was freed cleared
-    module _ (n : ℕ) (many : n ≡ kept) (pic : List ℕ) (t : Result (Unit {0}) Refusal) (gb : ExchangeGiven (take n closed) (narrowed (turned_size Horizontal z)) b t pic) where
+    module _ {n : ℕ} {left : Size} (narrows : left ≡ narrowed over-size) (counted : n ≡ served (refusal (side_rules left)) (picture_bytes left) 0)
+        {pic : List ℕ} {t : Result (Unit {0}) Refusal} (goes : ExchangeGiven (take n closed) left b t pic) where
+      left_is : left ≡ narrowed (turned_size Horizontal z)
+      left_is = narrows ∙ ap narrowed turns
+
+      many : n ≡ kept
+      many = rw left_is at counted ∙ ap (λ m. served m kept 0) (left-sides z b s sure inside)
+
+      gb : ExchangeGiven (take n closed) (narrowed (turned_size Horizontal z)) b t pic
+      gb = rw left_is at goes
+
       lent : take n closed ≡ bytes (rest_of z b s)
       lent = ap (λ m. take m closed) many ∙ lent_is
 
       back_served : given t ≡ 0
       back_served = back_none z b s sure inside (take n closed) b pic t gb lent (omega (arith, kept-fits))
 
-      back : (end : List ℕ) → length pic ≡ length b → end ≡ replicate (length (mid_of n (length pic - n) pic)) 0
+      back : {end : List ℕ} → length pic ≡ length b → end ≡ replicate (length (mid_of n (length pic - n) pic)) 0
           → put_mid n (length pic - n) pic end ≡ bytes (cut_along Horizontal z s (picture z b)) ++ replicate (z.width * channels_of z.kind) 0
-      back end long zero =
-          let enough : n ≤ length pic = omega (arith, kept-fits) in
-          let freed : length pic - n ≡ z.width * channels_of z.kind = omega (arith, kept-fits) in
+      back {end} long zero =
+          let enough : n ≤ length pic = omega (arith, many, kept-fits) in
+          let freed : length pic - n ≡ z.width * channels_of z.kind = omega (arith, many, kept-fits) in
           put_part n (length pic) pic end enough
           ∙ ap₂ (λ front rest. front ++ (end ++ rest))
           (ap (λ m. take m pic) many ∙ back_is z b s sure inside (take n closed) b pic t gb lent (omega (arith, kept-fits)))
@@ -100,60 +110,31 @@ module _ (z : Size) (b s work : List ℕ) (lengths : refusal (close_along_length
 pub returns-in_err-close_up : goal.returns-in_err-close_up
 returns-in_err-close_up c =
     let a = c.args in
-    let z = a.size in
-    let b = a.picture.now in
-    let s = a.seam.now in
-    let k = c.close_up in
     let v = c.from_residual-in_err-close_up.result in
     let why = c.in_err-close_up.field-0.0 in
     let is : v ≡ Err why = search rules in
-    let closed-as : CloseGiven (take (length b) c.exchange.new.to) (turned_size Horizontal z) s k.result k.new.picture = rw c.turned_size-turned.ensures at k.ensures in
     record {
       number =
           ap given (is ∙ sym c.in_err-close_up.was)
-          ∙ number_is z b s a.work.now c.requires.lengths c.exchange.new.to k.new.picture c.exchange.result k.result c.exchange.ensures c.exchange.auto.to closed-as k.auto.picture;
-      picture_left = refused-kept v why is (bytes (cut_along Horizontal z s (picture z b)) ++ replicate (z.width * channels_of z.kind) 0) b;
+          ∙ number_is c.requires.lengths c.exchange.ensures c.exchange.auto.to c.turned_size-turned.ensures c.close_up.ensures c.close_up.auto.picture;
+      picture_left =
+          refused-kept v why is (bytes (cut_along Horizontal a.size a.seam.now (picture a.size a.picture.now)) ++ replicate (a.size.width * channels_of a.size.kind) 0) a.picture.now;
     }
 
 pub returns-in_err-exchange-2 : goal.returns-in_err-exchange-2
 returns-in_err-exchange-2 c =
-    let a = c.args in
-    let z = a.size in
-    let b = a.picture.now in
-    let s = a.seam.now in
-    let x = c.exchange in
-    let k = c.close_up in
-    let closed-as : CloseGiven (take (length b) x.new.to) (turned_size Horizontal z) s k.result k.new.picture = rw c.turned_size-turned.ensures at k.ensures in
-    let done : given k.result ≡ 0 = ap given c.in_ok-close_up.was in
-    let left : c.narrower-left.result ≡ narrowed (turned_size Horizontal z) = c.narrower-left.ensures ∙ ap narrowed c.turned_size-turned.ensures in
-    let many =
-    kept-are z b s a.work.now c.requires.lengths x.new.to k.new.picture x.result k.result x.ensures x.auto.to closed-as k.auto.picture
-    done c.picture_bytes-kept.result c.narrower-left.result left c.picture_bytes-kept.ensures in
-    let given_back : ExchangeGiven (take c.picture_bytes-kept.result (k.new.picture ++ drop (length b) x.new.to)) c.narrower-left.result b c.exchange-2.result c.exchange-2.new.to = c.exchange-2.ensures in
     let none =
-    back_served z b s a.work.now c.requires.lengths x.new.to k.new.picture x.result k.result x.ensures x.auto.to closed-as k.auto.picture
-    done c.picture_bytes-kept.result many c.exchange-2.new.to c.exchange-2.result (rw left at given_back) in
+    back_served c.requires.lengths c.exchange.ensures c.exchange.auto.to c.turned_size-turned.ensures c.close_up.ensures c.close_up.auto.picture (ap given c.in_ok-close_up.was)
+    c.narrower-left.ensures c.picture_bytes-kept.ensures c.exchange-2.ensures in
     let refused : given c.exchange-2.result ≡ number_of c.in_err-exchange-2.field-0.0 = ap given c.in_err-exchange-2.was in
     absurd (omega (arith, none, refused, number-some c.in_err-exchange-2.field-0.0))
 
 pub returns : goal.returns
 returns c =
-    let a = c.args in
-    let z = a.size in
-    let b = a.picture.now in
-    let s = a.seam.now in
-    let x = c.exchange in
-    let k = c.close_up in
-    let closed-as : CloseGiven (take (length b) x.new.to) (turned_size Horizontal z) s k.result k.new.picture = rw c.turned_size-turned.ensures at k.ensures in
-    let done : given k.result ≡ 0 = ap given c.in_ok-close_up.was in
-    let left : c.narrower-left.result ≡ narrowed (turned_size Horizontal z) = c.narrower-left.ensures ∙ ap narrowed c.turned_size-turned.ensures in
-    let many =
-    kept-are z b s a.work.now c.requires.lengths x.new.to k.new.picture x.result k.result x.ensures x.auto.to closed-as k.auto.picture
-    done c.picture_bytes-kept.result c.narrower-left.result left c.picture_bytes-kept.ensures in
-    let given_back : ExchangeGiven (take c.picture_bytes-kept.result (k.new.picture ++ drop (length b) x.new.to)) c.narrower-left.result b c.exchange-2.result c.exchange-2.new.to = c.exchange-2.ensures in
+    let done : given c.close_up.result ≡ 0 = ap given c.in_ok-close_up.was in
     record {
-      number = sym done ∙ number_is z b s a.work.now c.requires.lengths x.new.to k.new.picture x.result k.result x.ensures x.auto.to closed-as k.auto.picture;
+      number = sym done ∙ number_is c.requires.lengths c.exchange.ensures c.exchange.auto.to c.turned_size-turned.ensures c.close_up.ensures c.close_up.auto.picture;
       picture_left =
-          back z b s a.work.now c.requires.lengths x.new.to k.new.picture x.result k.result x.ensures x.auto.to closed-as k.auto.picture
-          done c.picture_bytes-kept.result many c.exchange-2.new.to c.exchange-2.result (rw left at given_back) c.clear.new.space c.exchange-2.auto.to c.clear.ensures;
+          back c.requires.lengths c.exchange.ensures c.exchange.auto.to c.turned_size-turned.ensures c.close_up.ensures c.close_up.auto.picture done
+          c.narrower-left.ensures c.picture_bytes-kept.ensures c.exchange-2.ensures c.exchange-2.auto.to c.clear.ensures;
     }
