@@ -23,7 +23,7 @@ use Rattle.seam_cut.proofs.Fronts.{InRoom, in_room}
 use Rattle.seam_cut.proofs.front.cut_in.Goals as goal
 
 -- A seam was found, of cost k, in a picture of more than one column.
-module _ (space : List ℕ) (z : Size) (how : Method) (room : List ℕ) (k : ℕ) (space' room' : List ℕ) (found : FindInGiven space z how room (Ok k) space' room') (more : false ≡ eqb z.width 1) where
+module _ {space : List ℕ} {z : Size} {how : Method} {room : List ℕ} {k : ℕ} {space' room' : List ℕ} (found : FindInGiven space z how room (Ok k) space' room') (more : false ≡ eqb z.width 1) where
   rooms : InRoom z (length space) (length room)
   rooms = in_room z (length space) (length room) (sym found.number)
 
@@ -74,7 +74,7 @@ module _ (space : List ℕ) (z : Size) (how : Method) (room : List ℕ) (k : ℕ
       ∙ ap (λ t. refusal (13 when t ∷ [])) (sym more)
 
   -- The picture is closed up.
-  module _ (n : ℕ) (n-is : n ≡ served (refusal (side_rules z)) (picture_bytes z) 0) (answer : Result Unit Refusal) (b' : List ℕ) (closed : CloseGiven (take n space') z (take z.height room') answer b') where
+  module _ {n : ℕ} (n-is : n ≡ served (refusal (side_rules z)) (picture_bytes z) 0) {answer : Result Unit Refusal} {b' : List ℕ} (closed : CloseGiven (take n space') z (take z.height room') answer b') where
     bytes_are : n ≡ picture_bytes z
     bytes_are = n-is ∙ ap (λ n. served n (picture_bytes z) 0) rooms.sides
 
@@ -97,13 +97,7 @@ module _ (space : List ℕ) (z : Size) (how : Method) (room : List ℕ) (k : ℕ
     }
 
 pub unwrap-requires : goal.unwrap-requires
-unwrap-requires c =
-    let a = c.args in
-    closes a.space.now a.size a.method a.seam.now c.in_ok-cost.cost c.find_in.new.space c.find_in.new.seam c.in_ok-cost.ensures c.if-takes_last.ensures
-    c.picture_bytes-bytes.result c.picture_bytes-bytes.ensures c.close_up.result c.close_up.new.picture c.close_up.ensures
+unwrap-requires c = closes c.in_ok-cost.ensures c.if-takes_last.ensures c.picture_bytes-bytes.ensures c.close_up.ensures
 
 pub returns : goal.returns
-returns c =
-    let a = c.args in
-    given_in a.space.now a.size a.method a.seam.now c.in_ok-cost.cost c.find_in.new.space c.find_in.new.seam c.in_ok-cost.ensures c.if-takes_last.ensures
-    c.picture_bytes-bytes.result c.picture_bytes-bytes.ensures c.close_up.result c.close_up.new.picture c.close_up.ensures
+returns c = given_in c.in_ok-cost.ensures c.if-takes_last.ensures c.picture_bytes-bytes.ensures c.close_up.ensures
