@@ -26,8 +26,8 @@ use Rattle.seam_cut_marked.proofs.Marks.{grey-bytes, grey-sized, wide-grey, tall
 use Rattle.seam_cut_marked.proofs.cut_marked_along.Goals as goal
 
 -- A seam is allowed.
-module _ (how : Method) (x : Axis) (z : Size) (b m room work : List ℕ) (p : CutMarkedNeeded b m z x room work)
-    (k : ℕ) (seam' work' : List ℕ) (found : MarkedAlongGiven b m z how x room work (Ok k) seam' work') (work-long : length work' ≡ length work) where
+module _ {how : Method} {x : Axis} {z : Size} {b m room work : List ℕ} (p : CutMarkedNeeded b m z x room work)
+    {k : ℕ} {seam' work' : List ℕ} (found : MarkedAlongGiven b m z how x room work (Ok k) seam' work') (work-long : length work' ≡ length work) where
   seam : List ℕ
   seam = marked_seam_along how x z (picture z b) (marks_of z m)
 
@@ -36,16 +36,19 @@ module _ (how : Method) (x : Axis) (z : Size) (b m room work : List ℕ) (p : Cu
   unfolding seam
   inside = marked_inside how x z (picture z b) (marks_of z m) (not-true (blocked_along how x z (picture z b) (marks_of z m)) (sym (ok_free (blocked_along how x z (picture z b) (marks_of z m)) (Ok k) found.number)))
 
-  -- and is what is lent on of the seam's space
-  lent : (t : Size) → t ≡ turned_size x z → take t.height seam' ≡ seam
-  unfolding seam
-  lent t is =
-      ap (λ (t : Size). take t.height seam') is
-      ∙ ap (take (turned_size x z).height) found.seam_given
-      ∙ take_at (marked_seam_along how x z (picture z b) (marks_of z m)) (drop (turned_size x z).height room) (turned_size x z).height (each-length inside)
+  -- and is what is lent on of the seam's space, so the picture is closed up along it,
+  module _ {t : Size} (turns : t ≡ turned_size x z) {v : Result Unit Refusal} {b' work'' : List ℕ} (closes : CloseAlongGiven b z x (take t.height seam') work' v b' work'')
+      (kept : length work'' ≡ length work') where
+    abbrev s : List ℕ
+    s = take t.height seam'
 
-  -- so the picture is closed up along what is lent,
-  module _ (s : List ℕ) (s-is : s ≡ seam) (v : Result Unit Refusal) (b' work'' : List ℕ) (closes : CloseAlongGiven b z x s work' v b' work'') (kept : length work'' ≡ length work') where
+    s-is : s ≡ seam
+    unfolding seam
+    s-is =
+        ap (λ (t : Size). take t.height seam') turns
+        ∙ ap (take (turned_size x z).height) found.seam_given
+        ∙ take_at (marked_seam_along how x z (picture z b) (marks_of z m)) (drop (turned_size x z).height room) (turned_size x z).height (each-length inside)
+
     fits : picture_bytes z ≤ length work'
     fits = omega (arith, p.found.work_room, work-long)
 
@@ -63,7 +66,7 @@ module _ (how : Method) (x : Axis) (z : Size) (b m room work : List ℕ) (p : Cu
         closed.work_is (found.work_left ∙ ap (λ n. replicate n 0) (sym work-long)) ∙ ap (λ n. replicate n 0) (sym kept)
 
     -- and the marks, as a grey picture of its sides.
-    module _ (g : Size) (grey-is : g ≡ grey_of z) (u : Result Unit Refusal) (m' left : List ℕ) (marks : CloseAlongGiven m g x s work'' u m' left) where
+    module _ {g : Size} (grey-is : g ≡ grey_of z) {u : Result Unit Refusal} {m' left : List ℕ} (marks : CloseAlongGiven m g x s work'' u m' left) where
       grey : CloseAlongGiven m (grey_of z) x s work'' u m' left
       grey = rw grey-is at marks
 
@@ -102,30 +105,12 @@ module _ (how : Method) (x : Axis) (z : Size) (b m room work : List ℕ) (p : Cu
           }
 
 pub unwrap-requires : goal.unwrap-requires
-unwrap-requires c =
-    let a = c.args in
-    let f = c.marked_along.new in
-    let s = take c.turned_size-turned.result.height f.seam in
-    picture_ok a.method a.axis a.size a.picture.now a.marks.now a.seam.now a.work.now c.requires c.in_ok-cost.cost f.seam f.work c.in_ok-cost.ensures c.marked_along.auto.work
-    s (lent a.method a.axis a.size a.picture.now a.marks.now a.seam.now a.work.now c.requires c.in_ok-cost.cost f.seam f.work c.in_ok-cost.ensures c.marked_along.auto.work c.turned_size-turned.result c.turned_size-turned.ensures)
-    c.close.result c.close.new.picture c.close.new.work c.close.ensures c.close.auto.work
+unwrap-requires c = picture_ok c.requires c.in_ok-cost.ensures c.marked_along.auto.work c.turned_size-turned.ensures c.close.ensures c.close.auto.work
 
 pub unwrap-requires-2 : goal.unwrap-requires-2
 unwrap-requires-2 c =
-    let a = c.args in
-    let f = c.marked_along.new in
-    let s = take c.turned_size-turned.result.height f.seam in
-    marks_ok a.method a.axis a.size a.picture.now a.marks.now a.seam.now a.work.now c.requires c.in_ok-cost.cost f.seam f.work c.in_ok-cost.ensures c.marked_along.auto.work
-    s (lent a.method a.axis a.size a.picture.now a.marks.now a.seam.now a.work.now c.requires c.in_ok-cost.cost f.seam f.work c.in_ok-cost.ensures c.marked_along.auto.work c.turned_size-turned.result c.turned_size-turned.ensures)
-    c.close.result c.close.new.picture c.close.new.work c.close.ensures c.close.auto.work
-    c.grey-marked.result c.grey-marked.ensures c.close-2.result c.close-2.new.picture c.close-2.new.work c.close-2.ensures
+    marks_ok c.requires c.in_ok-cost.ensures c.marked_along.auto.work c.turned_size-turned.ensures c.close.ensures c.close.auto.work c.grey-marked.ensures c.close-2.ensures
 
 pub returns : goal.returns
 returns c =
-    let a = c.args in
-    let f = c.marked_along.new in
-    let s = take c.turned_size-turned.result.height f.seam in
-    given a.method a.axis a.size a.picture.now a.marks.now a.seam.now a.work.now c.requires c.in_ok-cost.cost f.seam f.work c.in_ok-cost.ensures c.marked_along.auto.work
-    s (lent a.method a.axis a.size a.picture.now a.marks.now a.seam.now a.work.now c.requires c.in_ok-cost.cost f.seam f.work c.in_ok-cost.ensures c.marked_along.auto.work c.turned_size-turned.result c.turned_size-turned.ensures)
-    c.close.result c.close.new.picture c.close.new.work c.close.ensures c.close.auto.work
-    c.grey-marked.result c.grey-marked.ensures c.close-2.result c.close-2.new.picture c.close-2.new.work c.close-2.ensures
+    given c.requires c.in_ok-cost.ensures c.marked_along.auto.work c.turned_size-turned.ensures c.close.ensures c.close.auto.work c.grey-marked.ensures c.close-2.ensures
