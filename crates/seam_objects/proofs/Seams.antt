@@ -24,9 +24,9 @@ use Rattle.seam_objects.specs.Objects.{MarkedPicture, some_two, to_remove, no_se
 use Rattle.seam_rules.specs.declared.answers.Ending.{Ending}
 use Rattle.seam_rules.specs.declared.answers.Ending.TheVariants.{Done, Narrow, Spent, Blocked}
 use Rattle.seam_objects.specs.Removing.{marked_picture, left_picture, left_marks}
-use Rattle.std.specs.Prelude.{Some}
+use Rattle.std.specs.Prelude.{None, Some}
 use Rattle.seam_rules.specs.Endings.{next_step}
-use Rattle.seam_rules.proofs.Choices.{step-ended}
+use Rattle.seam_rules.proofs.Choices.{GoesOn, step_cut, step-ended}
 use Rattle.seam_objects.specs.Inner.{SeamsNeeded, SeamsGiven, FrontNeeded, front, FrontCut}
 use Rattle.seam_objects.proofs.Shapes.{flat_inside, shaped_start, shaped_cut}
 use Rattle.seam_objects.proofs.Standing.{Standing, front-marks, front_is, bytes_after_lem, marks-after, bytes_there, marks_there}
@@ -95,17 +95,6 @@ module _ {z : Size} {how : Method} {b m : List ℕ} {budget width count : ℕ} {
   pub going_less : (count ≡ budget → ⊥) → count < budget
   going_less due = ⊎_elim (λ (e : count ≡ budget). absurd (due e)) (λ (h : count < budget). h) (eq-or-lt_of_le g.most)
 
-  -- What the next cut asks.
-  pub going_needed : (work : List ℕ) → (width ≡ 1 → ⊥) → 32 * pixels z ≤ length work → FrontNeeded (size_at z width) b' m' work
-  going_needed work two room = record {
-    sides = sides_of (size_at z width) g.some (omega (arith, g.sum, g.sides.width_most)) g.sides.height_some g.sides.height_most;
-    wide = more_than_one width g.some two;
-    picture_there = bytes_there g.stands;
-    marks_there = going_room;
-    few = ap (outside 3) (front-marks g.stands) ∙ flat_inside g.stands.shaped.marks_of_each;
-    room = omega (arith, going_few, room);
-  }
-
   -- An ending with the count of seams cut.
   ended : (e : Ending) → removal (budget - count) count left ≡ ends e count left → SeamsGiven b m z how budget (record { ending = e; count = count }) b' m'
   ended e is =
@@ -133,57 +122,79 @@ module _ {z : Size} {how : Method} {b m : List ℕ} {budget width count : ℕ} {
           let rest : budget - count ≡ 0 = omega arith in
           ended Spent (rw rest (removal-spent count left (sym two) not-one))
 
-      module _ (due : count ≡ budget → ⊥) (b'' m'' : List ℕ) where
-        before : count < budget
-        before = going_less due
+  -- The step before a cut gives no ending, after the search for a mark 2.
+  module _ {marked : Bool} (found : marked ≡ some_two (take (z.height * width) m')) (step : None ≡ next_step marked width count budget) where
+    on : GoesOn marked width count budget
+    on = step_cut marked width count budget (sym step)
 
-        rest : budget - count ≡ suc (budget - suc count)
-        rest = omega (arith, before)
+    two : true ≡ to_remove left
+    two = sym on.some ∙ found ∙ going_marks
 
-        same-front : front (size_at z width) how b' m' ≡ left
-        same-front = front_is g.stands
+    many : left.width ≡ 1 → ⊥
+    many e = on.wide (sym g.stands.wide ∙ e)
 
-        pub going-blocked : FrontCut (size_at z width) how b' m' false b'' m'' → SeamsGiven b m z how budget (record { ending = Blocked; count = count }) b'' m''
-        going-blocked f =
-            let none : no_seam left ≡ true = not-false (no_seam left) (ap (λ t. not (no_seam t)) (sym same-front) ∙ sym f.cut_is) in
-            rw (f.picture_left, f.marks_left)
-            (ended Blocked (rw rest (removal-blocked count left (sym two) not-one (budget - suc count) none)))
+    before : count < budget
+    before = going_less on.due
 
-        next : FrontCut (size_at z width) how b' m' true b'' m'' → Going z how b m budget (width - 1) (suc count) b'' m''
-        unfolding after_cuts cut_once
-        next f =
-            let seam : no_seam left ≡ false = not-true (no_seam left) (ap (λ t. not (no_seam t)) (sym same-front) ∙ sym f.cut_is) in
-            let some_left = more_than_one width g.some more in
-            record {
-              same = g.same ∙ rw rest (removal-cut count left (sym two) not-one (budget - suc count) seam);
-              sides = g.sides;
-              most = before;
-              some = omega (arith, some_left);
-              sum = omega (arith, g.sum, g.some);
-              stands = record {
-                by = g.stands.by;
-                wide = ap (λ w. w - 1) g.stands.wide;
-                high = g.stands.high;
-                shaped = shaped_cut (channels_of z.kind) left g.stands.shaped (rw g.stands.wide some_left) seam;
-                picture_is =
-                    f.picture_left
-                    ∙ ap₂ (λ t r. bytes (cut_once t).picture ++ (replicate (z.height * channels_of z.kind) 0 ++ r)) same-front (bytes_after_lem g.stands)
-                    ∙ ap (bytes (cut_once left).picture ++◌) (one_more (z.height * channels_of z.kind) count);
-                marks_are =
-                    f.marks_left
-                    ∙ ap₂ (λ t r. flat (cut_once t).marks ++ (replicate z.height 0 ++ r)) same-front (marks-after g.stands)
-                    ∙ ap (flat (cut_once left).marks ++◌) (one_more z.height count);
-              };
-            }
+    rest : budget - count ≡ suc (budget - suc count)
+    rest = omega (arith, before)
 
-        -- One cut more.
-        pub going_on : FrontCut (size_at z width) how b' m' true b'' m'' → Going z how b m budget (width - 1) (count + 1) b'' m''
-        going_on f = rw (add-one count) (next f)
+    same-front : front (size_at z width) how b' m' ≡ left
+    same-front = front_is g.stands
+
+    -- What the cut asks.
+    pub going_needed : {work : List ℕ} → 32 * pixels z ≤ length work → FrontNeeded (size_at z width) b' m' work
+    going_needed room = record {
+      sides = sides_of (size_at z width) g.some (omega (arith, g.sum, g.sides.width_most)) g.sides.height_some g.sides.height_most;
+      wide = more_than_one width g.some on.wide;
+      picture_there = bytes_there g.stands;
+      marks_there = going_room;
+      few = ap (outside 3) (front-marks g.stands) ∙ flat_inside g.stands.shaped.marks_of_each;
+      room = omega (arith, going_few, room);
+    }
+
+    pub going-blocked : {b'' m'' : List ℕ} → FrontCut (size_at z width) how b' m' false b'' m'' → SeamsGiven b m z how budget (record { ending = Blocked; count = count }) b'' m''
+    going-blocked f =
+        let none : no_seam left ≡ true = not-false (no_seam left) (ap (λ t. not (no_seam t)) (sym same-front) ∙ sym f.cut_is) in
+        rw (f.picture_left, f.marks_left)
+        (ended Blocked (rw rest (removal-blocked count left (sym two) many (budget - suc count) none)))
+
+    next : {b'' m'' : List ℕ} → FrontCut (size_at z width) how b' m' true b'' m'' → Going z how b m budget (width - 1) (suc count) b'' m''
+    unfolding after_cuts cut_once
+    next f =
+        let seam : no_seam left ≡ false = not-true (no_seam left) (ap (λ t. not (no_seam t)) (sym same-front) ∙ sym f.cut_is) in
+        let some_left = more_than_one width g.some on.wide in
+        record {
+          same = g.same ∙ rw rest (removal-cut count left (sym two) many (budget - suc count) seam);
+          sides = g.sides;
+          most = before;
+          some = omega (arith, some_left);
+          sum = omega (arith, g.sum, g.some);
+          stands = record {
+            by = g.stands.by;
+            wide = ap (λ w. w - 1) g.stands.wide;
+            high = g.stands.high;
+            shaped = shaped_cut (channels_of z.kind) left g.stands.shaped (rw g.stands.wide some_left) seam;
+            picture_is =
+                f.picture_left
+                ∙ ap₂ (λ t r. bytes (cut_once t).picture ++ (replicate (z.height * channels_of z.kind) 0 ++ r)) same-front (bytes_after_lem g.stands)
+                ∙ ap (bytes (cut_once left).picture ++◌) (one_more (z.height * channels_of z.kind) count);
+            marks_are =
+                f.marks_left
+                ∙ ap₂ (λ t r. flat (cut_once t).marks ++ (replicate z.height 0 ++ r)) same-front (marks-after g.stands)
+                ∙ ap (flat (cut_once left).marks ++◌) (one_more z.height count);
+          };
+        }
+
+    -- One cut more.
+    pub going_on : {b'' m'' : List ℕ} → FrontCut (size_at z width) how b' m' true b'' m'' → Going z how b m budget (width - 1) (count + 1) b'' m''
+    going_on f = rw (add-one count) (next f)
 
 -- An ending that the step before a cut gives.
-pub going_ended : {z : Size} {how : Method} {b m : List ℕ} {budget width count : ℕ} {b' m' : List ℕ} (g : Going z how b m budget width count b' m') (marked : Bool)
-    → marked ≡ to_remove (after_cuts count (marked_picture z how b m)) → (answer : Removal) → next_step marked width count budget ≡ Some answer → SeamsGiven b m z how budget answer b' m'
-going_ended {z} {how} {b} {m} {budget} {width} {count} {b'} {m'} g marked is =
+pub going_ended : {z : Size} {how : Method} {b m : List ℕ} {budget width count : ℕ} {b' m' : List ℕ} (g : Going z how b m budget width count b' m') {marked : Bool}
+    → marked ≡ some_two (take (z.height * width) m') → (answer : Removal) → next_step marked width count budget ≡ Some answer → SeamsGiven b m z how budget answer b' m'
+going_ended {z} {how} {b} {m} {budget} {width} {count} {b'} {m'} g {marked} found =
+    let is = found ∙ going_marks g in
     step-ended marked width count budget (λ answer. SeamsGiven b m z how budget answer b' m')
     (λ e. going_done g (sym e ∙ is))
     (λ e one. going-narrow g (sym e ∙ is) one)
