@@ -19,10 +19,11 @@ use Rattle.seam_rules.specs.declared.answers.Axis.TheVariants.{Vertical, Horizon
 use Rattle.seam_cut.specs.Axes.{seam_along, cost_along}
 use Rattle.seam_turn.specs.Axes.{cut_along}
 use Rattle.seam_retarget.specs.declared.table.Table.{Table}
+use Rattle.seam_retarget.specs.declared.seams.Seam.{Seam}
 use Rattle.seam_retarget.specs.Cells.{Cell, by_seam, chosen}
 use Rattle.seam_rules.specs.Counts.{row_count, column_count, smaller}
 use Rattle.seam_retarget.specs.Inner.Seams.{picture_at, left_along, SeamNeeded, SeamGiven, CutNeeded, CutGiven}
-use Rattle.seam_retarget.specs.Inner.Cells.{SpaceNeeded, CellNeeded, CellGiven}
+use Rattle.seam_retarget.specs.Inner.Cells.{SpaceNeeded, SeamOf, CellNeeded, CellGiven}
 use Rattle.seam_retarget.proofs.Cuts.{turned_tall, found_inside, cut_is}
 use Rattle.seam_retarget.proofs.Slots.{smaller-few, less-column, less-row, same_picture, slots_apart, double_few, placed-vertical, placed-horizontal, apart-vertical, apart-horizontal}
 use Rattle.seam_rules.proofs.Left.{smaller-sides}
@@ -53,14 +54,21 @@ module _ (tab : Table) where
         record { places = q.here; room = q.room; seam_room = rw many (turned_tall Horizontal (smaller z r c) sides) }
 
   -- The space as it is after both seams were found.
-  module _ (r c above left : ℕ) (work : List ℕ) (needed : CellNeeded tab (row_count r) (column_count c) above left (length work))
-      (seam₁ one across : List ℕ) (cost₁ : ℕ) (first : SeamGiven work ((c + 1) * whole) (smaller z r (c + 1)) how Horizontal (67 * whole) seam₁ cost₁ one across)
-      (seam₂ two down : List ℕ) (cost₂ : ℕ) (second : SeamGiven one (c * whole) (smaller z (r + 1) c) how Vertical (65 * whole) seam₂ cost₂ two down) where
+  module _ {r c above left : ℕ} {work : List ℕ} (needed : CellNeeded tab (row_count r) (column_count c) above left (length work))
+      {u v : Seam} (by-row : SeamOf tab (row_count r) (column_count (c + 1)) Horizontal u) (by-column : SeamOf tab (row_count (r + 1)) (column_count c) Vertical v)
+      {seam₁ one across : List ℕ} {cost₁ : ℕ} (found₁ : SeamGiven work ((c + 1) * whole) u.size.size u.method u.axis u.at seam₁ cost₁ one across)
+      {seam₂ two down : List ℕ} {cost₂ : ℕ} (found₂ : SeamGiven one (c * whole) v.size.size v.method v.axis v.at seam₂ cost₂ two down) where
     abbrev upper : Size
     upper = smaller z r (c + 1)
 
     abbrev beside : Size
     beside = smaller z (r + 1) c
+
+    first : SeamGiven work ((c + 1) * whole) upper how Horizontal (67 * whole) seam₁ cost₁ one across
+    first = rw (by-row.size_is, by-row.method_is, by-row.axis_is, by-row.at_is) at found₁
+
+    second : SeamGiven one (c * whole) beside how Vertical (65 * whole) seam₂ cost₂ two down
+    second = rw (by-column.size_is, by-column.method_is, by-column.axis_is, by-column.at_is) at found₂
 
     abbrev slot : ℕ
     slot = (c + 1) * whole
@@ -98,16 +106,16 @@ module _ (tab : Table) where
     source₂ : c * whole + picture_bytes beside ≤ length one
     source₂ = rw first.long (placed-vertical tab (length work) needed.space c (r + 1) c column).here.from_inside
 
-    pub cut-vertical : length down ≡ largest_side → CutNeeded (length two) (65 * whole) beside Vertical down slot
-    cut-vertical many = record {
+    pub cut-vertical : length down ≡ largest_side → CutNeeded (length two) v.at v.size.size v.axis down slot
+    cut-vertical many = rw (by-column.size_is, by-column.axis_is, by-column.at_is) record {
       wide = omega (arith, needed.columns_left);
       seam_room = rw many (turned_tall Vertical beside beside-sides);
       inside = found_inside one (c * whole) beside how Vertical (65 * whole) seam₂ cost₂ two down second beside-sides source₂;
       places = rw both_long (placed-vertical tab (length work) needed.space (c + 1) (r + 1) c needed.column).there;
     }
 
-    pub cut-horizontal : length across ≡ largest_side → CutNeeded (length two) (67 * whole) upper Horizontal across slot
-    cut-horizontal many = record {
+    pub cut-horizontal : length across ≡ largest_side → CutNeeded (length two) u.at u.size.size u.axis across slot
+    cut-horizontal many = rw (by-row.size_is, by-row.axis_is, by-row.at_is) record {
       wide = omega (arith, needed.rows_left);
       seam_room = rw many (turned_tall Horizontal upper upper-sides);
       inside = found_inside work slot upper how Horizontal (67 * whole) seam₁ cost₁ one across first upper-sides source;
@@ -129,9 +137,9 @@ module _ (tab : Table) where
     unfolding by_seam
     total-horizontal = ap (above +◌) first.cost_is
 
-    others_kept : (at : ℕ) (u : Size) (three : List ℕ) (seam : List ℕ) (x : Axis) → picture_bytes u ≤ whole → 65 * whole ≤ at → CutGiven two at u x seam slot three
+    others_kept : (at : ℕ) (t : Size) (three : List ℕ) (seam : List ℕ) (x : Axis) → picture_bytes t ≤ whole → 65 * whole ≤ at → CutGiven two at t x seam slot three
         → (k : ℕ) → k < 65 → (k ≡ c + 1 → ⊥) → part_at (k * whole) whole three ≡ part_at (k * whole) whole work
-    others_kept at u three seam x few behind g k l other =
+    others_kept at t three seam x few behind g k l other =
         g.others (k * whole) whole (inl (omega (arith, placed_end k l)))
         (⊎_elim (λ (h : k * whole + whole ≤ slot). inl h) (λ (h : slot + whole ≤ k * whole). inr (omega arith)) (slots_apart k (c + 1) whole other))
         ∙ others_still k l
@@ -139,10 +147,13 @@ module _ (tab : Table) where
         placed_end : (k : ℕ) → k < 65 → k * whole + whole ≤ 65 * whole
         placed_end k l = part_end k 65 whole l
 
-    module _ (three : List ℕ) where
-      pub given-vertical : left + cost₂ ≤ above + cost₁ → CutGiven two (65 * whole) beside Vertical down slot three → CellGiven tab (row_count r) (column_count c) above left work (left + cost₂) three
+    module _ {three : List ℕ} (less : left + cost₂ ≤ above + cost₁) (given : CutGiven two v.at v.size.size v.axis down slot three) where
+      g : CutGiven two (65 * whole) beside Vertical down slot three
+      g = rw (by-column.size_is, by-column.axis_is, by-column.at_is) at given
+
+      pub given-vertical : CellGiven tab (row_count r) (column_count c) above left work (left + cost₂) three
       unfolding chosen by_seam
-      given-vertical less g =
+      given-vertical =
           let cut : picture_at (left_along Vertical beside) slot three ≡ cut_along Vertical beside (seam_along how Vertical beside (picture_at beside (c * whole) one)) (picture_at beside (c * whole) one) =
           cut_is one (c * whole) beside how Vertical (65 * whole) seam₂ cost₂ two down second beside-sides source₂ two refl slot three (omega (arith, needed.columns_left)) g in
           let here : picture_at (smaller z (r + 1) (c + 1)) slot three ≡ vertical.picture =
@@ -150,22 +161,26 @@ module _ (tab : Table) where
           let test : leb vertical.total horizontal.total ≡ true = le-leb _ _ (rw (total-vertical, total-horizontal) at less) in
           record {
             cell_is = ap₂ (λ p t. record { picture = p; total = t }) here total-vertical ∙ sym (ap (λ t. cond t vertical horizontal) test);
-            small = omega (arith, first.cost_most);
+            small = omega (arith, less, first.cost_most);
             long = g.long ∙ both_long;
             others = others_kept (65 * whole) beside three down Vertical (omega (arith, smaller-few z (r + 1) c, tab.whole_is)) (omega arith) g;
           }
 
-      pub given-horizontal : above + cost₁ < left + cost₂ → CutGiven two (67 * whole) upper Horizontal across slot three → CellGiven tab (row_count r) (column_count c) above left work (above + cost₁) three
+    module _ {three : List ℕ} (less : above + cost₁ < left + cost₂) (given : CutGiven two u.at u.size.size u.axis across slot three) where
+      h : CutGiven two (67 * whole) upper Horizontal across slot three
+      h = rw (by-row.size_is, by-row.axis_is, by-row.at_is) at given
+
+      pub given-horizontal : CellGiven tab (row_count r) (column_count c) above left work (above + cost₁) three
       unfolding chosen by_seam
-      given-horizontal less g =
+      given-horizontal =
           let cut : picture_at (left_along Horizontal upper) slot three ≡ cut_along Horizontal upper (seam_along how Horizontal upper (picture_at upper slot work)) (picture_at upper slot work) =
-          cut_is work slot upper how Horizontal (67 * whole) seam₁ cost₁ one across first upper-sides source two upper_still slot three (omega (arith, needed.rows_left)) g in
+          cut_is work slot upper how Horizontal (67 * whole) seam₁ cost₁ one across first upper-sides source two upper_still slot three (omega (arith, needed.rows_left)) h in
           let here : picture_at (smaller z (r + 1) (c + 1)) slot three ≡ horizontal.picture =
           ap (λ u. picture_at u slot three) (sym (less-row z r (c + 1))) ∙ cut in
           let test : leb vertical.total horizontal.total ≡ false = lt-leb _ _ (rw (total-vertical, total-horizontal) at less) in
           record {
             cell_is = ap₂ (λ p t. record { picture = p; total = t }) here total-horizontal ∙ sym (ap (λ t. cond t vertical horizontal) test);
             small = omega (arith, first.cost_most);
-            long = g.long ∙ both_long;
-            others = others_kept (67 * whole) upper three across Horizontal (omega (arith, smaller-few z r (c + 1), tab.whole_is)) (omega arith) g;
+            long = h.long ∙ both_long;
+            others = others_kept (67 * whole) upper three across Horizontal (omega (arith, smaller-few z r (c + 1), tab.whole_is)) (omega arith) h;
           }
