@@ -1,41 +1,40 @@
 -- `map_build::cut_seams` meets its contract: the space before the first seam, one seam more, and the last.
 use mathlib.Core.Path.{◌≡◌, refl, sym, ap, ap₂, ◌∙◌}
-use mathlib.Core.List.{List, ◌++◌}
-use Prim.Native.Nat.{ℕ, ◌+◌, ◌-◌, ◌≤◌, ◌<◌}
+use mathlib.Core.List.{◌++◌}
+use Prim.Native.Nat.{◌+◌, ◌-◌, ◌≤◌, ◌<◌}
 use borrow.Author.Rules.{rules}
 use native.Mathlib.Omega.{arith}
-use borrow.Rule.Slice.PartMut.{put_mid, mid_of}
-use lib.ListN.{length, drop, replicate}
-use Rattle.energy.specs.declared.methods.Method.{Method}
-use Rattle.pictures.specs.declared.sizes.Size.{Size}
-use Rattle.pictures.specs.Pictures.{largest_side, picture_bytes, picture_in}
+use borrow.Rule.Slice.PartMut.{put_mid}
+use lib.ListN.{length, drop}
+use Rattle.pictures.specs.Pictures.{largest_side, picture_in}
 use Rattle.map_rules.specs.Spaces.{map_bytes, map_at}
 use Rattle.map_rules.proofs.Rooms.{Room, room_is}
 use Rattle.map_build.specs.Building.{mapped}
-use Rattle.map_build.specs.Inner.Seams.{SeamsNeeded}
 use Rattle.map_build.proofs.Steps.{next-mapped}
 use Rattle.map_build.proofs.Spaces.{there_of_size, next_needed, First, first_is}
 use Rattle.map_build.proofs.cut_seams.Goals as goal
+use Rattle.map_build.proofs.cut_seams.Goals.{After-clear}
 
-module _ (z : Size) (how : Method) (depth : ℕ) (space : List ℕ) (needed : SeamsNeeded z depth (length space)) where
-  room : Room z depth (length space) 1
-  room = room_is z depth (length space) 1 needed.served
+module _ (c : After-clear) where
+  room : Room c.args.allowed.size c.args.depth (length c.args.space.now) 1
+  room = room_is _ _ _ 1 c.requires.served
 
   -- the space before the first seam
-  first : (b at n : ℕ) (cleared : List ℕ) → b ≡ picture_bytes z → at ≡ map_at z → n ≡ map_bytes z → cleared ≡ replicate (length (mid_of b (at + n - b) space)) 0
-      → First z how space (put_mid b (at + n - b) space cleared)
-  first b at n cleared be ae ne told = first_is z how space cleared b at n be ae ne room.long told
+  first :
+      First c.args.allowed.size c.args.method c.args.space.now
+      (put_mid c.picture_bytes-bytes.result (c.map_at-at.result + c.map_bytes.result - c.picture_bytes-bytes.result) c.args.space.now c.clear.new.space)
+  first = first_is _ _ _ _ _ _ _ c.picture_bytes-bytes.ensures.0 c.map_at-at.ensures.is c.map_bytes.ensures.is room.long c.clear.ensures
 
 pub loop-t-init : goal.loop-t-init
 loop-t-init c =
     let a = c.args in
-    let f = first a.allowed.size a.method a.depth a.space.now c.requires _ _ _ _ c.picture_bytes-bytes.ensures.0 c.map_at-at.ensures.is c.map_bytes.ensures.is c.clear.ensures in
+    let f = first (goal.at.loop-t-init c).After-clear in
     (refl, f.now_is ∙ sym (ap₂ (λ p r. mapped a.allowed.size a.method 0 p ++ r) f.same_picture f.same_rest))
 
 pub overflow_cast-t : goal.overflow_cast-t
 overflow_cast-t c =
     let a = c.args in
-    let r = room a.allowed.size a.method a.depth a.space.now c.requires in
+    let r = room (goal.at.overflow_cast-t c).After-clear in
     let deep : a.depth < a.allowed.size.width = r.deep in
     let most : a.allowed.size.width ≤ largest_side = r.sides.width_most in
     search rules
@@ -44,9 +43,8 @@ pub next_seam-requires : goal.next_seam-requires
 next_seam-requires c =
     let a = c.args in
     let l = c.loop-t in
-    let f = first a.allowed.size a.method a.depth a.space.now c.requires _ _ _ _ c.picture_bytes-bytes.ensures.0 c.map_at-at.ensures.is c.map_bytes.ensures.is c.clear.ensures in
-    let long : length l.space ≡ length a.space.now = l.invariant.0 ∙ f.same_long in
-    next_needed a.allowed.size a.depth (length a.space.now) l.t _ _ c.map_at-at.ensures.is long (room a.allowed.size a.method a.depth a.space.now c.requires) c.loop-t-test.true
+    let k = (goal.at.next_seam-requires c).After-clear in
+    next_needed a.allowed.size a.depth (length a.space.now) l.t _ _ c.map_at-at.ensures.is (l.invariant.0 ∙ (first k).same_long) (room k) c.loop-t-test.true
 
 pub loop-t-preserved : goal.loop-t-preserved
 loop-t-preserved c =
@@ -56,8 +54,9 @@ loop-t-preserved c =
     let n = c.next_seam in
     let b = c.picture_bytes-bytes.result in
     let cleared = put_mid b (c.map_at-at.result + c.map_bytes.result - b) a.space.now c.clear.new.space in
-    let f = first z a.method a.depth a.space.now c.requires _ _ _ _ c.picture_bytes-bytes.ensures.0 c.map_at-at.ensures.is c.map_bytes.ensures.is c.clear.ensures in
-    let r = room z a.method a.depth a.space.now c.requires in (
+    let k = (goal.at.loop-t-preserved c).After-clear in
+    let f = first k in
+    let r = room k in (
       n.auto.space ∙ l.invariant.0,
       next-mapped z a.method (picture_in z cleared) (there_of_size z cleared (omega (arith, f.same_long, r.long))) l.t (omega (arith, r.deep)) (drop (map_at z + map_bytes z) cleared) _ l.space n.new.space
           c.map_at-at.ensures.is l.invariant.1 n.ensures,
@@ -68,7 +67,7 @@ returns c =
     let a = c.args in
     let l = c.loop-t in
     let z = a.allowed.size in
-    let f = first z a.method a.depth a.space.now c.requires _ _ _ _ c.picture_bytes-bytes.ensures.0 c.map_at-at.ensures.is c.map_bytes.ensures.is c.clear.ensures in
+    let f = first (goal.at.returns c).After-clear in
     let last : l.t ≡ a.depth = omega arith in
     record {
       space_left =
