@@ -2,8 +2,9 @@
 use mathlib.Core.Path.{◌≡◌, refl, sym, ap, ap₂, ◌∙◌}
 use mathlib.Core.Bool.{Bool, true, false, cond, not}
 use mathlib.Core.List.{List, [], ◌∷◌, ◌++◌, append-nil}
-use Prim.Native.Nat.{ℕ, ◌+◌, ◌*◌}
+use Prim.Native.Nat.{ℕ, ◌+◌, ◌-◌, ◌*◌}
 use native.Mathlib.Omega.{arith}
+use borrow.Author.Rules.{part_to_end}
 use lib.ListN.{length, take, drop, length-drop, drop_of_length-le}
 use lib.Seq.{take_all, take-take, length-take-le}
 use Rattle.grids.specs.Each.{Grid}
@@ -33,11 +34,14 @@ use Rattle.seam_theory.proofs.Choosing.{seam_chooses}
 use Rattle.map_build.proofs.Spaces.{there_of_size}
 use Rattle.map_build.proofs.Steps.{drop-front}
 use Rattle.map_check.specs.Checking.{recorded_in, recorded_rules}
-use Rattle.map_check.specs.Inner.Judging.{beside_built}
+use Rattle.map_check.specs.Inner.Judging.{JudgeNeeded, beside_built}
 use Rattle.pictures.proofs.TwoBytes.{numbers-pairs, length-numbers}
-use Rattle.map_check.proofs.Spaces.{Fits}
+use Rattle.map_check.proofs.Spaces.{Fits, fits_is}
 
-module _ (z : Size) (how : Method) (depth : ℕ) (space : List ℕ) (fits : Fits z depth (length space)) where
+module _ {z : Size} (how : Method) {depth : ℕ} (space : List ℕ) (needed : JudgeNeeded z depth (length space)) where
+  fits : Fits z depth (length space)
+  fits = fits_is z depth (length space) needed.served
+
   abbrev w : ℕ
   w = z.width
 
@@ -96,24 +100,31 @@ module _ (z : Size) (how : Method) (depth : ℕ) (space : List ℕ) (fits : Fits
   front_long : length (take (recorded_at z) space) ≡ recorded_at z
   front_long = length-take-le (recorded_at z) space (omega (arith, fits.long))
 
-  pub front-served : refusal (map_space_rules z depth (length (take (recorded_at z) space)) 1) ≡ 0
+  front-served : refusal (map_space_rules z depth (length (take (recorded_at z) space)) 1) ≡ 0
   front-served = rw front_long (room-served z depth (recorded_at z) 1 fits.room.served fits.room.deep fits.room.long)
 
-  module _ (answer : Result (Unit {0}) Refusal) (front : List ℕ) (g : MapInGiven (take (recorded_at z) space) z how depth answer front) where
+  module _ {lent : List ℕ} {n : ℕ} (lends : lent ≡ take n space) (places : n ≡ recorded_at z) {answer : Result (Unit {0}) Refusal} {front : List ℕ}
+      (fills : MapInGiven lent z how depth answer front) where
+    g : MapInGiven (take (recorded_at z) space) z how depth answer front
+    g = rw (lends ∙ ap (λ n. take n space) places) at fills
+
+    pub none : given answer ≡ 0
+    none = g.number ∙ front-served
+
     -- it is then the picture that is left and the map,
     front_is : front ≡ mapped z how depth p
     front_is =
-        let none : given answer ≡ 0 = g.number ∙ front-served in
         let same_picture : picture_in z (take (recorded_at z) space) ≡ p = ap (picture z) (take-take (picture_bytes z) (recorded_at z) space (omega arith)) in
         let nothing : drop (map_at z + map_bytes z) (take (recorded_at z) space) ≡ [] = drop_of_length-le (take (recorded_at z) space) {i = map_at z + map_bytes z} (omega (arith, front_long)) in
         g.space_left ∙ ap (λ n. served n (mapped z how depth (picture_in z (take (recorded_at z) space)) ++ drop (map_at z + map_bytes z) (take (recorded_at z) space)) (take (recorded_at z) space)) none
         ∙ ap₂ (λ q r. mapped z how depth q ++ r) same_picture nothing ∙ append-nil (mapped z how depth p)
 
     -- and the map stands at its end.
-    pub built_is : drop (map_at z) front ≡ pairs (flat new)
-    built_is =
+    pub built_is : {at : ℕ} → at ≡ map_at z → take (length front - at) (drop at front) ≡ pairs (flat new)
+    built_is {at} is =
         let o = there_of_size z space (omega (arith, fits.long)) in
-        ap (drop (map_at z)) (front_is ∙ sym (append-nil (mapped z how depth p))) ∙ drop-front z how p o depth fits.room.deep [] ∙ append-nil (pairs (flat new))
+        part_to_end front at ∙ ap (λ n. drop n front) is
+        ∙ ap (drop (map_at z)) (front_is ∙ sym (append-nil (mapped z how depth p))) ∙ drop-front z how p o depth fits.room.deep [] ∙ append-nil (pairs (flat new))
 
 -- After success and after 9, 10 and 11 it is the first.
 pub worked-judged : {A : Type 0} (z : Size) (how : Method) (depth : ℕ) (p : Picture) (m : List (List ℕ)) (x y : A) → worked (refusal (recorded_rules z how depth p m)) x y ≡ x

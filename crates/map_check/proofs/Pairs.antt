@@ -7,8 +7,8 @@ use lib.ListN.{length, get_or}
 use Rattle.pictures.specs.Numbers.{numbers_in}
 
 -- One number more.
-pub numbers-next : (pair more : List ℕ) {rest : List ℕ} → rest ≡ pair ++ more → length pair ≡ 2 → numbers_in rest ≡ (get_or pair 0 0 + 256 * get_or pair 1 0) ∷ numbers_in more
-numbers-next pair more split long = rw split (go pair long)
+pub numbers-next : (pair more : List ℕ) {rest : List ℕ} {v : ℕ} → rest ≡ pair ++ more → length pair ≡ 2 → v ≡ get_or pair 0 0 + 256 * get_or pair 1 0 → numbers_in rest ≡ v ∷ numbers_in more
+numbers-next pair more split long is = rw (split, is) (go pair long)
   where
     go : (p : List ℕ) → length p ≡ 2 → numbers_in (p ++ more) ≡ (get_or p 0 0 + 256 * get_or p 1 0) ∷ numbers_in more
     go [] l = absurd (omega arith)

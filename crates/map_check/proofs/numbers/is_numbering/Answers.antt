@@ -15,6 +15,13 @@ use Rattle.pictures.proofs.TwoBytes.{length-numbers}
 use Rattle.map_check.proofs.Pairs.{numbers-next, numbers-none}
 use Rattle.map_check.proofs.Counting.{counted_start, counted-few, counted-all, few-not, counts_judge, numbers-over}
 use Rattle.map_check.proofs.numbers.is_numbering.Goals as goal
+use Rattle.map_check.proofs.numbers.is_numbering.Goals.{After-number-v}
+
+-- the number read is the first of those to come
+read : (c : After-number-v) → numbers_in (chunks_exact_rest c.loop-pair.pair-iterator) ≡ c.number-v.result ∷ numbers_in (chunks_exact_rest c.next.new.self)
+read c =
+    let steps = c.in-Some.ensures.steps in
+    numbers-next c.in-Some.pair.now _ steps.1.0 (steps.1.1 ∙ c.loop-pair.invariant.0) c.number-v.ensures.0
 
 pub loop-pair-init : goal.loop-pair-init
 loop-pair-init c =
@@ -26,25 +33,18 @@ loop-pair-init c =
 pub returns-then-depth-v : goal.returns-then-depth-v
 returns-then-depth-v c =
     let a = c.args in
-    let l = c.loop-pair in
-    let more = numbers_in (chunks_exact_rest c.next.new.self) in
-    let steps = c.in-Some.ensures.steps in
-    let is : numbers_in (chunks_exact_rest l.pair-iterator) ≡ c.number-v.result ∷ more =
-    numbers-next c.in-Some.pair.now (chunks_exact_rest c.next.new.self) steps.1.0 (steps.1.1 ∙ l.invariant.0) ∙ ap (◌∷ more) (sym c.number-v.ensures.0) in
-    sym (numbers-over a.depth (numbers_in a.row.now) (sym l.invariant.3 ∙ few-not a.depth _ more c.number-v.result is c.if-depth-v.true))
+    let is = read (goal.at.returns-then-depth-v c).After-number-v in
+    sym (numbers-over a.depth (numbers_in a.row.now) (sym c.loop-pair.invariant.3 ∙ few-not a.depth _ _ _ is c.if-depth-v.true))
 
 pub overflow_add-seen : goal.overflow_add-seen
 overflow_add-seen c =
     let a = c.args in
     let l = c.loop-pair in
     let v = c.number-v.result in
-    let more = numbers_in (chunks_exact_rest c.next.new.self) in
-    let steps = c.in-Some.ensures.steps in
-    let is : numbers_in (chunks_exact_rest l.pair-iterator) ≡ c.number-v.result ∷ more =
-    numbers-next c.in-Some.pair.now (chunks_exact_rest c.next.new.self) steps.1.0 (steps.1.1 ∙ l.invariant.0) ∙ ap (◌∷ more) (sym c.number-v.ensures.0) in
+    let is = read (goal.at.overflow_add-seen c).After-number-v in
     let below : c.number-v.result < largest_side = omega (arith, c.requires.deep, c.if-depth-v.false) in
     let few : get_or l.seen c.number-v.result 0 + 1 ≤ largest_side =
-    omega (arith, counted-few largest_side l.seen _ more (numbers_in a.row.now) v is below l.invariant.2, length-numbers a.row.now, c.requires.short) in
+    omega (arith, counted-few largest_side l.seen _ _ (numbers_in a.row.now) v is below l.invariant.2, length-numbers a.row.now, c.requires.short) in
     search rules
 
 pub returns : goal.returns
