@@ -9,6 +9,7 @@ use native.Mathlib.Omega.{arith}
 use lib.Dec.{leb, ltb}
 use lib.ListN.{length, get_or, drop, drop_of_length-le}
 use lib.Seq.{take-length}
+use Rattle.std.proofs.Common.{add_assoc}
 use Rattle.std.specs.Prelude.{slice_range}
 use Rattle.std.proofs.lemmas.List.{length-drop, get_or-drop, drop_more}
 use borrow.Author.Tests.{le-leb, lt-leb, ltb-true, ltb-false}
@@ -23,15 +24,15 @@ unfolding is_digit
 no_digit b (inl h) = rw (lt-leb 48 b h)
 no_digit b (inr h) = rw (lt-leb b 57 h) (and-false (leb 48 b))
 
--- What follows a place.
-pub rest_of : (text : List ℕ) (at : ℕ) → slice_range text at (length text) ≡ drop at text
+-- What follows a place, in the code's terms.
+abbrev pub rest : List ℕ → ℕ → List ℕ
+rest text at = slice_range text at (length text)
+
+pub rest_of : (text : List ℕ) (at : ℕ) → rest text at ≡ drop at text
 rest_of text at = let l : length (drop at text) ≡ length text - at = length-drop at text in rw (← l) (take-length (drop at text))
 
--- The bytes from a place on, one by one.
-pub further_byte : (text : List ℕ) (k i : ℕ) → i < length (slice_range text k (length text)) → (k + i < length text) × (get_or (slice_range text k (length text)) i 0 ≡ get_or text (k + i) 0)
-further_byte text k i h =
-    let l : length (slice_range text k (length text)) ≡ length text - k = ap length (rest_of text k) ∙ length-drop k text in
-    (omega arith, ap (λ (s : List ℕ). get_or s i 0) (rest_of text k) ∙ get_or-drop k text i 0)
+rest-length : (text : List ℕ) (at : ℕ) → length (rest text at) ≡ length text - at
+rest-length text at = ap length (rest_of text at) ∙ length-drop at text
 
 further-more : (s : List ℕ) (n : ℕ) → n ≤ (further n s).0
 unfolding further
@@ -78,15 +79,6 @@ module _ {limit : ℕ} {text : List ℕ} {start : ℕ} where
   }
 
   module _ {n at : ℕ} (R : Reading limit text start n at) where
-    pub reading-next : {d : ℕ} → limit ≤ largest_number → n ≤ limit → at < length text → DigitByte (get_or text at 0) d → Reading limit text start (n * 10 + d) (at + 1)
-    unfolding further
-    reading-next m k h b = record {
-      same = R.same ∙ rw (drop_more text at 0 h, is_digit_lem (get_or text at 0) b.least b.most, b.value);
-      there = omega arith;
-      inside = omega arith;
-      small = omega (arith, b.most, b.value);
-    }
-
     pub reading-over : limit < n → Told (number_get limit) text start none
     unfolding up_to
     reading-over h =
@@ -101,18 +93,36 @@ module _ {limit : ℕ} {text : List ℕ} {start : ℕ} where
         go true f = record { same = R.same ∙ rw (e, lt-leb n limit (ltb-true limit n f)); moved = tt }
         go false f = record { same = R.same ∙ rw (e, le-leb n limit (ltb-false limit n f)); moved = (R.there, R.inside) }
 
-    pub reading-stop : at < length text → is_digit (get_or text at 0) ≡ false → Told (number_get limit) text start (within limit n at)
+    reading-stop : at < length text → is_digit (get_or text at 0) ≡ false → Told (number_get limit) text start (within limit n at)
     unfolding further
     reading-stop h d = stopped (rw (drop_more text at 0 h, d))
 
-    pub reading-end : length text ≤ at → Told (number_get limit) text start (within limit n at)
+    reading-end : length text ≤ at → Told (number_get limit) text start (within limit n at)
     unfolding further
     reading-end h = stopped (rw (drop_of_length-le text h))
 
--- The loop has passed all bytes.
-pub further_end : {limit : ℕ} (text : List ℕ) {start n : ℕ} (k i : ℕ) → Reading limit text start n (k + i) → k ≤ length text
-    → length (slice_range text k (length text)) ≤ i → Told (number_get limit) text start (within limit n (length text))
-further_end text k i R m h =
-    let l : length (slice_range text k (length text)) ≡ length text - k = ap length (rest_of text k) ∙ length-drop k text in
-    let e : k + i ≡ length text = omega (arith, R.inside) in
-    rw (← e) (reading-end R (omega arith))
+-- The loop has come to byte i of those from k on, or has passed them all.
+module _ {limit : ℕ} {text : List ℕ} {start n : ℕ} (k i : ℕ) (R : Reading limit text start n (k + i)) where
+  module _ (h : i < length (rest text k)) where
+    there : k + i < length text
+    there = omega (arith, rest-length text k)
+
+    byte : get_or (rest text k) i 0 ≡ get_or text (k + i) 0
+    byte = ap (λ (s : List ℕ). get_or s i 0) (rest_of text k) ∙ get_or-drop k text i 0
+
+    pub further_digit : {d : ℕ} → limit ≤ largest_number → n ≤ limit → DigitByte (get_or (rest text k) i 0) d → Reading limit text start (n * 10 + d) (k + (i + 1))
+    unfolding further
+    further_digit m l b = record {
+      same = R.same ∙ rw (drop_more text (k + i) 0 there, ← byte, is_digit_lem (get_or (rest text k) i 0) b.least b.most, b.value, add_assoc k i 1);
+      there = omega (arith, R.there);
+      inside = omega (arith, there);
+      small = omega (arith, b.most, b.value);
+    }
+
+    pub further_stop : is_digit (get_or (rest text k) i 0) ≡ false → Told (number_get limit) text start (within limit n (k + i))
+    further_stop d = reading-stop R there (rw byte at d)
+
+  pub further_end : k ≤ length text → length (rest text k) ≤ i → Told (number_get limit) text start (within limit n (length text))
+  further_end m h =
+      let e : k + i ≡ length text = omega (arith, R.inside, rest-length text k) in
+      rw (← e) (reading-end R (omega arith))

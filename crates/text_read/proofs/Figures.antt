@@ -18,6 +18,7 @@ use Rattle.pictures.specs.Numbers.{largest_number}
 use Rattle.text_theory.specs.Decimal.{is_digit, number_get}
 use Rattle.text_read.specs.Answers.{ahead, Told}
 use Rattle.text_read.specs.Inner.{skipped, figure, figures, Coming}
+use Rattle.text_read.proofs.DigitSteps.{rest, rest_of}
 
 skip_gap : (b : ℕ) (s : List ℕ) → is_digit b ≡ false → skipped (b ∷ s) ≡ skipped s
 unfolding skipped
@@ -57,26 +58,28 @@ module _ {text : List ℕ} {at : ℕ} where
   unfolding figure number_get skipped
   figure_past h = record { same = rw (drop_of_length-le text h); moved = tt }
 
-  pub figure_none : code.None ≡ position is_ascii_digit (drop at text) → Told figure text at none
-  unfolding figure number_get
-  figure_none h = go (nat_lt (position_or_len is_ascii_digit (drop at text)) (length (drop at text))) refl h
-    where
-      go : (x : Bool) → nat_lt (position_or_len is_ascii_digit (drop at text)) (length (drop at text)) ≡ x
-          → code.None ≡ cond x (code.Some (position_or_len is_ascii_digit (drop at text))) code.None → Told figure text at none
-      go true e h = absurd cc
-      go false e h = record { same = rw (skip_by (drop at text), drop_of_length-le (drop at text) (ltb-false _ _ e)); moved = tt }
+  -- By the place of the first digit in s, which is what follows.
+  module _ {s : List ℕ} (e : s ≡ rest text at) where
+    pub figure_none : code.None ≡ position is_ascii_digit s → Told figure text at none
+    unfolding figure number_get
+    figure_none h = go (nat_lt (position_or_len is_ascii_digit (drop at text)) (length (drop at text))) refl (rw (e, rest_of text at) at h)
+      where
+        go : (x : Bool) → nat_lt (position_or_len is_ascii_digit (drop at text)) (length (drop at text)) ≡ x
+            → code.None ≡ cond x (code.Some (position_or_len is_ascii_digit (drop at text))) code.None → Told figure text at none
+        go true e h = absurd cc
+        go false e h = record { same = rw (skip_by (drop at text), drop_of_length-le (drop at text) (ltb-false _ _ e)); moved = tt }
 
-  pub figure_at : {i : ℕ} {found : Option (ℕ × ℕ)} → code.Some i ≡ position is_ascii_digit (drop at text) → Told (number_get largest_number) text (at + i) found → Told figure text at found
-  unfolding figure
-  figure_at {i} {found} h t = record { same = rw (skip_by (drop at text), ← is (nat_lt (position_or_len is_ascii_digit (drop at text)) (length (drop at text))) h, drop-drop i at text) t.same; moved = further found t.moved }
-    where
-      is : (x : Bool) → code.Some i ≡ cond x (code.Some (position_or_len is_ascii_digit (drop at text))) code.None → i ≡ position_or_len is_ascii_digit (drop at text)
-      is true h = cc
-      is false h = absurd cc
+    pub figure_at : {i : ℕ} {found : Option (ℕ × ℕ)} → code.Some i ≡ position is_ascii_digit s → Told (number_get largest_number) text (at + i) found → Told figure text at found
+    unfolding figure
+    figure_at {i} {found} h t = record { same = rw (skip_by (drop at text), ← is (nat_lt (position_or_len is_ascii_digit (drop at text)) (length (drop at text))) (rw (e, rest_of text at) at h), drop-drop i at text) t.same; moved = further found t.moved }
+      where
+        is : (x : Bool) → code.Some i ≡ cond x (code.Some (position_or_len is_ascii_digit (drop at text))) code.None → i ≡ position_or_len is_ascii_digit (drop at text)
+        is true h = cc
+        is false h = absurd cc
 
-      further : (r : Option (ℕ × ℕ)) → ahead (length text) (at + i) r → ahead (length text) at r
-      further none m = tt
-      further (some q) m = (omega (arith, m.0), m.1)
+        further : (r : Option (ℕ × ℕ)) → ahead (length text) (at + i) r → ahead (length text) at r
+        further none m = tt
+        further (some q) m = (omega (arith, m.0), m.1)
 
 -- The state of the loop that writes: i numbers were written, and as many are to come as there is room.
 pub record Filling {T : Type 0} (value : T → ℕ) (limit : ℕ) (text : List ℕ) (from i at : ℕ) (out : List T) : Type 0 where

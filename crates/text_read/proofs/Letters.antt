@@ -16,6 +16,7 @@ use Rattle.text_theory.proofs.Names.{every, every_at, each_name}
 use Rattle.text_theory.proofs.Pairs.{strip_back, strip-sound}
 use Rattle.text_read.specs.Answers.{Told, is_letter}
 use Rattle.text_read.specs.Inner.{passing}
+use Rattle.text_read.proofs.DigitSteps.{rest, rest_of}
 
 -- A name's letters are small letters.
 name_letters : (n : Name) (i : ℕ) → i < length (name_text n) → is_letter (get_or (name_text n) i 0) ≡ true
@@ -37,20 +38,26 @@ no_letter_first n b t s h e =
 
 -- The letters stand at the place, and those after them are left; or they don't stand there.
 module _ (n : Name) {text : List ℕ} {at : ℕ} where
-  pub letters_none : ((rest : List ℕ) → drop at text ≡ name_text n ++ rest → ⊥) → Told (passing (name_text n)) text at none
-  letters_none h = record { same = go (strip (name_text n) (drop at text)) refl; moved = tt }
+  other : ((t : List ℕ) → drop at text ≡ name_text n ++ t → ⊥) → Told (passing (name_text n)) text at none
+  other h = record { same = go (strip (name_text n) (drop at text)) refl; moved = tt }
     where
       go : (o : Option (List ℕ)) → strip (name_text n) (drop at text) ≡ o → passing (name_text n) (drop at text) ≡ none
       go none e = rw e
       go (some t) e = absurd (h t (strip-sound (name_text n) (drop at text) t e))
 
-  pub letters_some : (rest : List ℕ) → drop at text ≡ name_text n ++ rest → Told (passing (name_text n)) text at (some (0, length text - length rest))
-  letters_some rest e =
-      let l : length (drop at text) ≡ length (name_text n) + length rest = rw (e, length-append) refl in
-      let h = name_some n in
-      let place : length text - length rest ≡ at + length (name_text n) = omega (arith, length-drop at text) in
-      let after : drop (length text - length rest) text ≡ rest = rw (place, ← drop-drop (length (name_text n)) at text, e) (drop_at (name_text n) rest (length (name_text n)) refl) in
-      record { same = rw (e, strip_back, after); moved = (omega (arith, length-drop at text), omega (arith, length-drop at text)) }
-
   pub letters_past : length text ≤ at → Told (passing (name_text n)) text at none
-  letters_past h = letters_none (λ rest e. let l : length (drop at text) ≡ length (name_text n) + length rest = rw (e, length-append) refl in omega (arith, name_some n, length-drop at text))
+  letters_past h = other (λ t e. let l : length (drop at text) ≡ length (name_text n) + length t = rw (e, length-append) refl in omega (arith, name_some n, length-drop at text))
+
+  -- Here s is what follows the place, and w the letters.
+  module _ {s w : List ℕ} (e : s ≡ rest text at) (f : w ≡ name_text n) where
+    pub letters_none : ((t : List ℕ) → s ≡ w ++ t → ⊥) → Told (passing (name_text n)) text at none
+    letters_none h = other (λ t k. h t (cc (rest_of text at)))
+
+    pub letters_some : (t : List ℕ) → s ≡ w ++ t → Told (passing (name_text n)) text at (some (0, length text - length t))
+    letters_some t k =
+        let here : drop at text ≡ name_text n ++ t = cc (rest_of text at) in
+        let l : length (drop at text) ≡ length (name_text n) + length t = rw (here, length-append) refl in
+        let h = name_some n in
+        let place : length text - length t ≡ at + length (name_text n) = omega (arith, length-drop at text) in
+        let after : drop (length text - length t) text ≡ t = rw (place, ← drop-drop (length (name_text n)) at text, here) (drop_at (name_text n) t (length (name_text n)) refl) in
+        record { same = rw (here, strip_back, after); moved = (omega (arith, length-drop at text), omega (arith, length-drop at text)) }

@@ -22,12 +22,12 @@ use Rattle.text_theory.proofs.Decimals.{number_reads}
 use Rattle.text_theory.proofs.Files.{line_reads, pixel_reads, clear-blank, clear-closing, clear-closed}
 use Rattle.text_rules.specs.declared.Items.{Items}
 use Rattle.text_rules.specs.declared.Items.TheVariants.{Samples, Pixels, Numbers}
-use Rattle.text_read.specs.Answers.{Told, counted, line_rest}
+use Rattle.text_read.specs.Answers.{Told, counted, beginning, line_rest}
 use Rattle.text_read.specs.Lines.{row_line, map_line, fitting, Taken}
-use Rattle.text_read.specs.Inner.{passing, figures, Coming, limit_of, numbers_of, values_get, line_of}
+use Rattle.text_read.specs.Inner.{figures, Coming, limit_of, numbers_of, values_get, line_of}
 use Rattle.text_rules.specs.Items.{items_of}
 use Rattle.text_read.proofs.ByteClasses.{told_as}
-use Rattle.text_read.proofs.Onward.{passing-some, passing-none}
+use Rattle.text_read.proofs.Onward.{passing-some, passing-none, told_begun}
 use Rattle.text_read.proofs.LineCounts.{rest-map, rest-row}
 use Rattle.text_read.proofs.LineSteps.{Stand, stand-coming, stand-figures, numbers_stand, row_stand, row_count_lem}
 
@@ -108,23 +108,6 @@ values_some Numbers s m t h =
     let z = (line_reads (number_reads largest_number) clear-blank clear-closing).sound s (p.0, t) p.1 in
     record { values = p.0; same = p.1; stand = stand_is (z.0 ∙ append_assoc (each blank digits p.0) closed t) (numbers_stand largest_number p.0 (closed ++ t) z.1 (clear-closed t)); count = p.2 ∙ omega arith }
 
--- A line of this name: its word is missing, or its items are, or it is found.
-module _ (n : Name) (what : Items) {text : List ℕ} {at : ℕ} where
-  pub line_no_word : {out : List ℕ} → Told (passing (begun n)) text at none → Taken (line_of n what) text at out none out
-  line_no_word t = torn (rw (passing-none (begun n) (drop at text) t.same))
-
-  module _ {v c : ℕ} (t : Told (passing (begun n)) text at (some (v, c))) where
-    word : strip (begun n) (drop at text) ≡ some (drop c text)
-    word = passing-some (begun n) (drop at text) v (drop c text) t.same
-
-    pub line_torn : {out : List ℕ} → Told (line_rest what) text c none → Taken (line_of n what) text at out none out
-    line_torn r = torn (rw word (values_none what (drop c text) r.same))
-
-    pub line_found : {m d : ℕ} → Told (line_rest what) text c (some (m, d)) → Found (line_of n what) (limit_of what) text at c (m * numbers_of what) d
-    line_found {m} {d} r =
-        let p = values_some what (drop c text) m (drop d text) r.same in
-        record { values = p.values; same = rw word p.same; stand = p.stand; count = p.count; moved = (omega (arith, t.moved.0, r.moved.0), r.moved.1) }
-
 -- Room for m items, in numbers.
 pub items_fit : (what : Items) (each m len : ℕ) → each ≡ numbers_of what → m ≤ len / each → m * each ≤ len
 items_fit Samples each m len e h = rw e (omega (arith, div-add-mod' len 1, rw e at h))
@@ -146,26 +129,42 @@ coming_more : {small large : ℕ} → small ≤ large → (n : ℕ) (s : List �
 coming_more l zero s c = tt
 coming_more l (suc n) s c = (c.0, c.1, omega (arith, c.2), coming_more l n c.0.1 c.3)
 
--- A line found, and a space of what its numbers are kept as.
-module _ {T : Type 0} (value : T → ℕ) (n : Name) (what : Items) {text : List ℕ} {at c m d : ℕ} (out : List T)
-    (F : Found (line_of n what) (limit_of what) text at c (m * numbers_of what) d) {each : ℕ} (e : each ≡ numbers_of what) where
-  pub kept_long : length out / each < m → Taken (line_of n what) text at (map value out) none (map value out)
-  kept_long h = found-long F (rw (length-map, ← e) (items_over what each m (length out) e h))
+-- A line of this name: its word is missing, or its items are, or it is found, and its numbers are kept in out if they fit.
+module _ (n : Name) (what : Items) {text : List ℕ} {at : ℕ} where
+  pub line_no_word : {out : List ℕ} → Told (beginning n) text at none → Taken (line_of n what) text at out none out
+  line_no_word t = torn (rw (passing-none (begun n) (drop at text) (told_begun n t).same))
 
-  module _ (h : m ≤ length out / each) where
-    fit : length (take (m * each) out) ≡ m * numbers_of what
-    fit = let k = items_fit what each m (length out) e h in length-take (m * each) out ∙ rw (← e) (omega arith)
+  module _ {v c : ℕ} (t : Told (beginning n) text at (some (v, c))) where
+    word : strip (begun n) (drop at text) ≡ some (drop c text)
+    word = passing-some (begun n) (drop at text) v (drop c text) (told_begun n t).same
 
-    pub kept_coming : {limit : ℕ} → limit_of what ≤ limit → Coming limit (length (take (m * each) out)) (drop c text)
-    kept_coming l = rw fit (coming_more l (m * numbers_of what) (drop c text) (found_coming F (limit_small what)))
+    pub line_torn : {out : List ℕ} → Told (line_rest what) text c none → Taken (line_of n what) text at out none out
+    line_torn r = torn (rw word (values_none what (drop c text) r.same))
 
-    pub kept_fits : (new : List T) → map value new ≡ figures (length (take (m * each) out)) (drop c text)
-        → Taken (line_of n what) text at (map value out) (some (m * each, d)) (map value (new ++ drop (m * each) out))
-    kept_fits new k =
-        let fits : m * numbers_of what ≤ length (map value out) = rw (length-map, ← e) (items_fit what each m (length out) e h) in
-        rw e
-        (found-fits F (limit_small what) fits
-        (map-append value new (drop (m * numbers_of what) out) ∙ rw (k, fit, drop-map value (m * numbers_of what) out) refl))
+    module _ {m d : ℕ} (r : Told (line_rest what) text c (some (m, d))) where
+      line_found : Found (line_of n what) (limit_of what) text at c (m * numbers_of what) d
+      line_found =
+          let p = values_some what (drop c text) m (drop d text) r.same in
+          record { values = p.values; same = rw word p.same; stand = p.stand; count = p.count; moved = (omega (arith, t.moved.0, r.moved.0), r.moved.1) }
+
+      module _ {T : Type 0} (value : T → ℕ) (out : List T) {each : ℕ} (e : each ≡ numbers_of what) where
+        pub kept_long : length out / each < m → Taken (line_of n what) text at (map value out) none (map value out)
+        kept_long h = found-long line_found (rw (length-map, ← e) (items_over what each m (length out) e h))
+
+        module _ (h : m ≤ length out / each) where
+          fit : length (take (m * each) out) ≡ m * numbers_of what
+          fit = let k = items_fit what each m (length out) e h in length-take (m * each) out ∙ rw (← e) (omega arith)
+
+          pub kept_coming : {limit : ℕ} → limit_of what ≤ limit → Coming limit (length (take (m * each) out)) (drop c text)
+          kept_coming l = rw fit (coming_more l (m * numbers_of what) (drop c text) (found_coming line_found (limit_small what)))
+
+          pub kept_fits : (new : List T) → map value new ≡ figures (length (take (m * each) out)) (drop c text)
+              → Taken (line_of n what) text at (map value out) (some (m * each, d)) (map value (new ++ drop (m * each) out))
+          kept_fits new k =
+              let fits : m * numbers_of what ≤ length (map value out) = rw (length-map, ← e) (items_fit what each m (length out) e h) in
+              rw e
+              (found-fits line_found (limit_small what) fits
+              (map-append value new (drop (m * numbers_of what) out) ∙ rw (k, fit, drop-map value (m * numbers_of what) out) refl))
 
 -- A line that reads alike is taken alike, into a space whose numbers are what they are.
 pub taken_as : {g k : Get (List ℕ)} {text : List ℕ} {at : ℕ} {found : Option (ℕ × ℕ)} (out out' : List ℕ) → ((s : List ℕ) → g s ≡ k s)

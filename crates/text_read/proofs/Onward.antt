@@ -9,11 +9,13 @@ use Prim.Native.Nat.{ℕ, ◌≤◌, ◌<◌}
 use native.Mathlib.Omega.{arith}
 use lib.Dec.{eqb}
 use lib.ListN.{length, drop}
+use Rattle.pictures.specs.Numbers.{largest_number}
 use Rattle.text_theory.specs.declared.Name.{Name}
 use Rattle.text_theory.specs.declared.Name.TheVariants as name
 use Rattle.text_theory.specs.Readers.{Get, give, on, ◌▷◌, strip, onward, after}
+use Rattle.text_theory.specs.Decimal.{number_get}
 use Rattle.text_theory.specs.Words.{name_text, named}
-use Rattle.text_theory.specs.Files.{opening, closing, line_end, closed, begun, first_text}
+use Rattle.text_theory.specs.Files.{opening, closing, blank, line_end, closed, begun, first_text}
 use Rattle.text_theory.proofs.Names.{named_is}
 use Rattle.text_read.specs.declared.cursor.Cursor.{Cursor}
 use Rattle.text_read.specs.Answers.{Told, read, passed, beginning}
@@ -93,20 +95,23 @@ module _ {B : Type 0} {whole : Get B} {text : List ℕ} {from : ℕ} where
   pub left_as : {g k : Get B} {at : ℕ} → ((s : List ℕ) → g s ≡ k s) → Left whole text from g at → Left whole text from k at
   left_as {at = at} e L = record { same = L.same ∙ e (drop at text); there = L.there }
 
--- Bytes before a reader that goes on.
-after_then : {A B : Type 0} (w : List ℕ) (g : Get A) (f : A → Get B) (s : List ℕ) → after w (g ▷ f) s ≡ on (after w g s) f
-after_then w g f s = go (strip w s)
+-- A blank and a number.
+abbrev pub spaced : Get ℕ
+spaced = after blank (number_get largest_number)
+
+spaced_then : {B : Type 0} (f : ℕ → Get B) (s : List ℕ) → after blank (number_get largest_number ▷ f) s ≡ on (spaced s) f
+spaced_then f s = go (strip blank s)
   where
-    go : (o : Option (List ℕ)) → onward o (g ▷ f) ≡ on (onward o g) f
+    go : (o : Option (List ℕ)) → onward o (number_get largest_number ▷ f) ≡ on (onward o (number_get largest_number)) f
     go none = refl
     go (some t) = refl
 
-module _ {A B : Type 0} {whole : Get B} {text : List ℕ} {from : ℕ} (w : List ℕ) (g : Get A) (f : A → Get B) {at : ℕ} (L : Left whole text from (after w (g ▷ f)) at) where
-  pub left_after : {a : A} {c : ℕ} → Told (after w g) text at (some (a, c)) → Left whole text from (f a) c
-  left_after t = left_then f (left_as (after_then w g f) L) t
+module _ {B : Type 0} {whole : Get B} {text : List ℕ} {from : ℕ} (f : ℕ → Get B) {at : ℕ} (L : Left whole text from (after blank (number_get largest_number ▷ f)) at) where
+  pub left_spaced : {n c : ℕ} → Told spaced text at (some (n, c)) → Left whole text from (f n) c
+  left_spaced t = left_then f (left_as (spaced_then f) L) t
 
-  pub left_no_after : Told (after w g) text at none → Told whole text from none
-  left_no_after t = left_no_then f (left_as (after_then w g f) L) t
+  pub left_no_spaced : Told spaced text at none → Told whole text from none
+  left_no_spaced t = left_no_then f (left_as (spaced_then f) L) t
 
 -- Two runs of bytes, one after the other.
 pub after-append : {A : Type 0} (v w : List ℕ) (g : Get A) (s : List ℕ) → after (v ++ w) g s ≡ after v (after w g) s

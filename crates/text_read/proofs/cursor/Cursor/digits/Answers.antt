@@ -1,9 +1,8 @@
 -- `text_read::cursor::Cursor::digits` meets its contract. The invariant is `Reading`: n is what the digits between the place and `at` say.
-use Rattle.std.proofs.Common.{◌+◌, add-zero, add_assoc, refl, ap, ◌∙◌, arith, rules}
+use Rattle.std.proofs.Common.{add-zero, refl, arith, rules}
 use Rattle.pictures.specs.Numbers.{largest_number}
-use Rattle.text_read.specs.Answers.{class_of}
 use Rattle.text_read.proofs.ByteClasses.{digit_byte, arm_no_digit}
-use Rattle.text_read.proofs.DigitSteps.{further_byte, further_end, number-end, number-none, number_zero, reading_first, reading-next, reading-over, reading-stop}
+use Rattle.text_read.proofs.DigitSteps.{further_digit, further_end, further_stop, number-end, number-none, number_zero, reading_first, reading-over}
 use Rattle.text_read.proofs.Onward.{refused}
 use Rattle.text_read.proofs.cursor.Cursor.digits.Goals as goal
 
@@ -24,26 +23,21 @@ loop-i-init c = let k = c.in_ok-first.ensures in rw add-zero (reading_first k.0 
 
 pub returns-in_default-class_of : goal.returns-in_default-class_of
 returns-in_default-class_of c =
-    let z = further_byte c.args.text.now (c.args.self.at + 1) c.loop-i.i c.loop-i-test.true in
     rw c.judged.ensures
-    (reading-stop c.loop-i.invariant z.0 (arm_no_digit _ (c.class_of.ensures ∙ ap class_of z.1) c.in_default-class_of.not-Digit))
+    (further_stop _ _ c.loop-i.invariant c.loop-i-test.true (arm_no_digit _ c.class_of.ensures c.in_default-class_of.not-Digit))
 
 pub returns-then-n-gt-LARGEST_NUMBER : goal.returns-then-n-gt-LARGEST_NUMBER
 returns-then-n-gt-LARGEST_NUMBER c = reading-over c.loop-i.invariant c.if-n-gt-LARGEST_NUMBER.true
 
 pub overflow_add-n : goal.overflow_add-n
-overflow_add-n c =
-    let z = further_byte c.args.text.now (c.args.self.at + 1) c.loop-i.i c.loop-i-test.true in
-    let d = digit_byte _ refl (c.in-Digit-class_of.ensures ∙ ap class_of z.1) in
-    search rules
+overflow_add-n c = let d = digit_byte _ refl c.in-Digit-class_of.ensures in search rules
 
 pub loop-i-preserved : goal.loop-i-preserved
 loop-i-preserved c =
-    let z = further_byte c.args.text.now (c.args.self.at + 1) c.loop-i.i c.loop-i-test.true in
-    let d = digit_byte _ refl (c.in-Digit-class_of.ensures ∙ ap class_of z.1) in
-    rw (← add_assoc (c.args.self.at + 1) c.loop-i.i 1) (reading-next c.loop-i.invariant (omega arith) c.if-n-gt-LARGEST_NUMBER.false z.0 d)
+    further_digit _ _ c.loop-i.invariant c.loop-i-test.true (omega arith) c.if-n-gt-LARGEST_NUMBER.false
+    (digit_byte _ refl c.in-Digit-class_of.ensures)
 
 pub returns : goal.returns
 returns c =
     let k = c.in_ok-first.ensures in
-    rw c.judged-2.ensures (further_end c.args.text.now (c.args.self.at + 1) c.loop-i.i c.loop-i.invariant (omega arith) c.loop-i-test.false)
+    rw c.judged-2.ensures (further_end _ _ c.loop-i.invariant (omega arith) c.loop-i-test.false)

@@ -1,9 +1,6 @@
 -- `text_read::cursor::Cursor::figure` meets its contract: the digits from the first one on, if there is one.
-use Rattle.std.proofs.Common.{◌∙◌, ap, arith, inl, inr}
-use Rattle.std.specs.List.{position}
-use Rattle.std.specs.Char.{is_ascii_digit}
+use Rattle.std.proofs.Common.{arith, inl, inr}
 use Rattle.text_read.proofs.Figures.{figure_past, figure_none, figure_at}
-use Rattle.text_read.proofs.DigitSteps.{rest_of}
 use Rattle.text_read.proofs.Onward.{refused}
 use Rattle.text_read.proofs.cursor.Cursor.figure.Goals as goal
 
@@ -13,11 +10,7 @@ returns-in_err-rest c =
     (elim c.in_err-rest.ensures.lookup.0 [ inl l ↦ figure_past (omega arith) | inr l ↦ absurd (omega arith) ])
 
 pub returns-in_err-gap : goal.returns-in_err-gap
-returns-in_err-gap c =
-    let e = c.in_ok-rest.ensures.lookup.0.2 ∙ rest_of c.args.text.now c.args.self.at in
-    refused c.from_residual-in_err-gap.ensures (figure_none (c.in_err-gap.ensures ∙ ap (position is_ascii_digit) e))
+returns-in_err-gap c = refused c.from_residual-in_err-gap.ensures (figure_none c.in_ok-rest.ensures.lookup.0.2 c.in_err-gap.ensures)
 
 pub returns : goal.returns
-returns c =
-    let e = c.in_ok-rest.ensures.lookup.0.2 ∙ rest_of c.args.text.now c.args.self.at in
-    figure_at (c.in_ok-gap.ensures ∙ ap (position is_ascii_digit) e) c.digits.ensures
+returns c = figure_at c.in_ok-rest.ensures.lookup.0.2 c.in_ok-gap.ensures c.digits.ensures

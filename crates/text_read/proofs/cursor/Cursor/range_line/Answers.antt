@@ -7,7 +7,7 @@ use Rattle.text_theory.specs.Readers.{Get, give, ◌▷◌, after}
 use Rattle.text_theory.specs.Decimal.{number_get}
 use Rattle.text_theory.specs.Files.{blank, closed, begun, range_get}
 use Rattle.text_read.specs.Answers.{Told, beginning}
-use Rattle.text_read.proofs.Onward.{refused, Left, left_start, left-past, left_no_past, left-past-give, left_after, left_no_after, told_begun}
+use Rattle.text_read.proofs.Onward.{refused, Left, left_start, left-past, left_no_past, left-past-give, spaced, left_spaced, left_no_spaced, told_begun}
 use Rattle.text_read.proofs.cursor.Cursor.range_line.Goals as goal
 
 -- The line from each word on.
@@ -23,12 +23,12 @@ module _ {text : List ℕ} {from v a : ℕ} (N : Told (beginning name.Range) tex
   unfolding range_get
   after-name = left-past (begun name.Range) left_start (told_begun name.Range N)
 
-  module _ {d b : ℕ} (D : Told (after blank (number_get largest_number)) text a (some (d, b))) where
+  module _ {d b : ℕ} (D : Told spaced text a (some (d, b))) where
     after-depth : Left range_get text from (from-depth d) b
-    after-depth = left_after blank (number_get largest_number) from-depth after-name D
+    after-depth = left_spaced from-depth after-name D
 
-    after-growth : {g c : ℕ} → Told (after blank (number_get largest_number)) text b (some (g, c)) → Left range_get text from (from-growth d g) c
-    after-growth G = left_after blank (number_get largest_number) (from-growth d) after-depth G
+    after-growth : {g c : ℕ} → Told spaced text b (some (g, c)) → Left range_get text from (from-growth d g) c
+    after-growth G = left_spaced (from-growth d) after-depth G
 
 pub returns-in_err-a : goal.returns-in_err-a
 unfolding range_get
@@ -39,12 +39,12 @@ returns-in_err-a c =
 pub returns-in_err-depth : goal.returns-in_err-depth
 returns-in_err-depth c =
     refused c.from_residual-in_err-depth.ensures
-    (left_no_after blank (number_get largest_number) from-depth (after-name c.in_ok-a.ensures) c.in_err-depth.ensures)
+    (left_no_spaced from-depth (after-name c.in_ok-a.ensures) c.in_err-depth.ensures)
 
 pub returns-in_err-growth : goal.returns-in_err-growth
 returns-in_err-growth c =
     refused c.from_residual-in_err-growth.ensures
-    (left_no_after blank (number_get largest_number) (from-growth _) (after-depth c.in_ok-a.ensures c.in_ok-depth.ensures) c.in_err-growth.ensures)
+    (left_no_spaced (from-growth _) (after-depth c.in_ok-a.ensures c.in_ok-depth.ensures) c.in_err-growth.ensures)
 
 pub returns-in_err-d : goal.returns-in_err-d
 returns-in_err-d c =

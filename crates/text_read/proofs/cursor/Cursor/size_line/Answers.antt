@@ -12,7 +12,7 @@ use Rattle.text_theory.specs.Files.{blank, closed, begun, size_get}
 use Rattle.text_read.specs.declared.cursor.Class.TheVariants.{Blank}
 use Rattle.text_read.specs.Answers.{Told, of_class, beginning}
 use Rattle.text_read.proofs.ByteClasses.{told_blank}
-use Rattle.text_read.proofs.Onward.{refused, Left, left_start, left-past, left_no_past, left-past-give, left_then, left_no_then, left_after, left_no_after, told_begun}
+use Rattle.text_read.proofs.Onward.{refused, Left, left_start, left-past, left_no_past, left-past-give, left_then, left_no_then, spaced, left_spaced, left_no_spaced, told_begun}
 use Rattle.text_read.proofs.cursor.Cursor.size_line.Goals as goal
 
 -- The line from each word on.
@@ -31,13 +31,13 @@ module _ {text : List ℕ} {from v a : ℕ} (N : Told (beginning name.Size) text
   unfolding size_get
   after-name = left-past (begun name.Size) left_start (told_begun name.Size N)
 
-  module _ {w b : ℕ} (W : Told (after blank (number_get largest_number)) text a (some (w, b))) where
+  module _ {w b : ℕ} (W : Told spaced text a (some (w, b))) where
     after-width : Left size_get text from (from-width w) b
-    after-width = left_after blank (number_get largest_number) from-width after-name W
+    after-width = left_spaced from-width after-name W
 
-    module _ {h c : ℕ} (H : Told (after blank (number_get largest_number)) text b (some (h, c))) where
+    module _ {h c : ℕ} (H : Told spaced text b (some (h, c))) where
       after-height : Left size_get text from (from-height w h) c
-      after-height = left_after blank (number_get largest_number) (from-height w) after-width H
+      after-height = left_spaced (from-height w) after-width H
 
       module _ {u d : ℕ} (B : Told (of_class Blank) text c (some (u, d))) where
         after-blank : Left size_get text from (kind_get ▷ from-closing w h) d
@@ -55,12 +55,12 @@ returns-in_err-a c =
 pub returns-in_err-width : goal.returns-in_err-width
 returns-in_err-width c =
     refused c.from_residual-in_err-width.ensures
-    (left_no_after blank (number_get largest_number) from-width (after-name c.in_ok-a.ensures) c.in_err-width.ensures)
+    (left_no_spaced from-width (after-name c.in_ok-a.ensures) c.in_err-width.ensures)
 
 pub returns-in_err-height : goal.returns-in_err-height
 returns-in_err-height c =
     refused c.from_residual-in_err-height.ensures
-    (left_no_after blank (number_get largest_number) (from-height _) (after-width c.in_ok-a.ensures c.in_ok-width.ensures) c.in_err-height.ensures)
+    (left_no_spaced (from-height _) (after-width c.in_ok-a.ensures c.in_ok-width.ensures) c.in_err-height.ensures)
 
 pub returns-in_err-d : goal.returns-in_err-d
 returns-in_err-d c =
