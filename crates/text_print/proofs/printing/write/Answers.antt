@@ -1,33 +1,23 @@
 -- There is room, so the sink is not left out, and it is the one that stands after the text.
-use mathlib.Core.Path.{◌≡◌, sym, ap, ◌∙◌}
+use mathlib.Core.Path.{◌≡◌, ap, ◌∙◌}
 use Rattle.std.proofs.Common.{rules}
-use Rattle.std.specs.Prelude.{Some}
 use Rattle.text_print.specs.declared.printing.Out.{Out}
 use Rattle.text_print.proofs.Written.{out_puts, after}
+use Rattle.text_print.proofs.printing.write.Given.{Over}
+use Rattle.text_print.proofs.printing.write.Goals.{After-unwrap}
 use Rattle.text_print.proofs.printing.write.Goals as goal
 
+stands : (g : Over) (c : After-unwrap g) → c.unwrap.result ≡ after (record { space = c.args.space; at = c.args.at }) (g.T.Text.text c.args.text.now)
+stands g c = cc (c.put.ensures ∙ out_puts _ _ c.requires)
+
 pub unwrap-requires : goal.unwrap-requires
-unwrap-requires g c =
-    let s : Out = record { space = c.args.space; at = c.args.at } in
-    rw (c.put.ensures ∙ out_puts (g.T.Text.text c.args.text.now) s c.requires) (search rules)
+unwrap-requires g c = rw (c.put.ensures ∙ out_puts _ _ c.requires) (search rules)
 
 pub returns-clause-same_space : goal.returns-clause-same_space
-returns-clause-same_space g c =
-    let s : Out = record { space = c.args.space; at = c.args.at } in
-    let e : Some c.unwrap.result ≡ Some (after s (g.T.Text.text c.args.text.now)) = sym c.unwrap.ensures ∙ c.put.ensures ∙ out_puts (g.T.Text.text c.args.text.now) s c.requires in
-    let f : c.unwrap.result ≡ after s (g.T.Text.text c.args.text.now) = cc in
-    ap (λ (o : Out). o.space.ghost_name) f
+returns-clause-same_space g c = ap (λ (o : Out). o.space.ghost_name) (stands g c)
 
 pub returns-clause-written : goal.returns-clause-written
-returns-clause-written g c =
-    let s : Out = record { space = c.args.space; at = c.args.at } in
-    let e : Some c.unwrap.result ≡ Some (after s (g.T.Text.text c.args.text.now)) = sym c.unwrap.ensures ∙ c.put.ensures ∙ out_puts (g.T.Text.text c.args.text.now) s c.requires in
-    let f : c.unwrap.result ≡ after s (g.T.Text.text c.args.text.now) = cc in
-    ap (λ (o : Out). o.space.now) f
+returns-clause-written g c = ap (λ (o : Out). o.space.now) (stands g c)
 
 pub returns-clause-after : goal.returns-clause-after
-returns-clause-after g c =
-    let s : Out = record { space = c.args.space; at = c.args.at } in
-    let e : Some c.unwrap.result ≡ Some (after s (g.T.Text.text c.args.text.now)) = sym c.unwrap.ensures ∙ c.put.ensures ∙ out_puts (g.T.Text.text c.args.text.now) s c.requires in
-    let f : c.unwrap.result ≡ after s (g.T.Text.text c.args.text.now) = cc in
-    ap (λ (o : Out). o.at) f
+returns-clause-after g c = ap (λ (o : Out). o.at) (stands g c)
