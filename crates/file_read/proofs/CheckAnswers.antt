@@ -4,15 +4,15 @@ use mathlib.Core.List.{List, [], ◌∷◌}
 use Prim.Native.Nat.{ℕ}
 use native.Mathlib.Omega.{arith}
 use lib.ListN.{length, replicate}
-use Rattle.std.specs.Prelude.{Result, Err}
+use Rattle.std.specs.Prelude.{Err}
 use Rattle.pictures.specs.declared.refusals.Refusal.{Refusal}
-use Rattle.pictures.specs.Refusals.{Rule, number_of, given, refusal}
+use Rattle.pictures.specs.Refusals.{Rule, number_of, refusal}
 use Rattle.pictures.specs.Pictures.{side_rules}
 use Rattle.pictures.proofs.Rules.{served-first, refusal-most, number-some, kept_by}
 use Rattle.seam_find.proofs.Worked.{worked_not}
 use Rattle.text_theory.specs.declared.Head.{Head}
 use Rattle.text_theory.specs.Files.{parse}
-use Rattle.file_theory.specs.Rules.{part_rules, judged_rules, form_rules, work_rule, check_rules}
+use Rattle.file_theory.specs.Rules.{part_rules, judged_rules, form_rules, work_rule}
 use Rattle.file_theory.specs.Shows.{head_in}
 use Rattle.file_rules.specs.Spaces.{work_rules}
 use Rattle.file_read.specs.Reading.{CheckGiven}
@@ -35,7 +35,7 @@ module _ (file work : List ℕ) where
     own x = work_rule x.size (length work) ∷ []
 
     -- 2 and 3 don't refuse what is opened, so 8 alone decides.
-    pub work-own : refusal (work_rules h.size (length work)) ≡ refusal (own h)
+    work-own : refusal (work_rules h.size (length work)) ≡ refusal (own h)
     work-own = served-first (side_rules h.size) (own h) refl (opened file h o).sides_served
 
     -- 8.
@@ -48,14 +48,10 @@ module _ (file work : List ℕ) where
           work_left = sym (worked_not (number_of why) (replicate (length work) 0) work (number-some why) (omega (arith, number, refusal-most 8 (own h) refl)));
         }
 
-    module _ (none : refusal (own h) ≡ 0) (work' : List ℕ) where
-      same_number : {v : Result (Unit {0}) Refusal} → MapJudged file work v work' → given v ≡ refusal (check_rules file (length work))
-      same_number j = j.number ∙ judged-number file h o own refl none
-
-      -- 9 to 11.
-      pub check-refused : (why : Refusal) → MapJudged file work (Err why) work' → CheckGiven file work (Err why) work'
-      check-refused why j = record {
-        number = same_number j;
-        head = kept_by why (head_in (parse file)) _;
-        work_left = judged_work file work (Err why) work' j;
-      }
+    -- 9 to 11.
+    pub check-refused : 0 ≡ refusal (work_rules h.size (length work)) → (why : Refusal) {work' : List ℕ} → MapJudged file work (Err why) work' → CheckGiven file work (Err why) work'
+    check-refused served why {work'} j = record {
+      number = j.number ∙ judged-number file h o own refl (sym (served ∙ work-own));
+      head = kept_by why (head_in (parse file)) _;
+      work_left = judged_work file work (Err why) work' j;
+    }

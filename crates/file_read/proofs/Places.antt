@@ -6,8 +6,8 @@ use Prim.Native.Nat.{ℕ, zero, suc, ◌+◌, ◌*◌, ◌≤◌, ◌<◌}
 use native.Mathlib.Nat.{le_of_suc-le-suc}
 use native.Mathlib.Numerals.{add-one}
 use native.Mathlib.Omega.{arith}
-use lib.ListN.{length, get_or, drop, drop_of_length-le}
-use lib.Seq.{drop-cons}
+use lib.ListN.{length, get_or, take, drop, drop_of_length-le}
+use lib.Seq.{drop-cons, take_at}
 use Rattle.grids.specs.Rows.{flat, row_at}
 use Rattle.grids.proofs.Rows.{flat_at, length-flat}
 use Rattle.grids.proofs.Shapes.{each-length, each_at, get_or-map}
@@ -95,6 +95,8 @@ module _ {file : List ℕ} {h : Head} (k : Parsed file h) where
   pub pairs-long : length (pairs (flat (maps_in (parse file)))) ≡ map_bytes h.size
   pairs-long = ap length (pairs-flat (maps_in (parse file))) ∙ length-flat (grid-pairs k.maps_grid)
 
--- A map line that was read has as many numbers as the width says.
-pub map-wide : {file : List ℕ} {h : Head} → Open file h → (r : ℕ) → r < h.size.height → {at : ℕ} {got : List ℕ} → MapRead file r at got → length got ≡ h.size.width
-map-wide {file} {h} o r inside m = ap length m.numbers ∙ each_at r [] inside (opened file h o).maps_grid
+-- A map line that was read stands at the front of as many places as the width says, whatever follows.
+pub map-taken : {file : List ℕ} {h : Head} → Open file h → {r : ℕ} → r < h.size.height → {at : ℕ} {got : List ℕ} → MapRead file r at got
+    → (after : List ℕ) → take h.size.width (got ++ after) ≡ get_or (maps_in (parse file)) r []
+map-taken {file} {h} o {r} inside {got = got} m after =
+    take_at got after h.size.width (ap length m.numbers ∙ each_at r [] inside (opened file h o).maps_grid) ∙ m.numbers

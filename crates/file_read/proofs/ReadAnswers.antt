@@ -8,7 +8,6 @@ use borrow.Author.Tests.{ltb-false}
 use lib.Dec.{ltb}
 use lib.ListN.{length, drop, replicate}
 use Rattle.grids.specs.Rows.{flat}
-use Rattle.pictures.specs.declared.sizes.Size.{Size}
 use Rattle.std.specs.Prelude.{Result, Ok, Err}
 use Rattle.pictures.specs.declared.refusals.Refusal.{Refusal}
 use Rattle.pictures.specs.Refusals.{Rule, number_of, given, refusal}
@@ -24,23 +23,10 @@ use Rattle.file_read.specs.Reading.{ReadGiven}
 use Rattle.file_read.specs.Inner.Opening.{Open}
 use Rattle.file_read.specs.Inner.Lines.{PictureRead}
 use Rattle.file_read.specs.Inner.Checking.{MapJudged}
-use Rattle.file_rules.specs.Spaces.{space_rules}
+use Rattle.file_rules.specs.Spaces.{space_rules, read_space_rules}
+use Rattle.file_rules.proofs.Ranges.{read_own_lem}
 use Rattle.file_read.proofs.Parsed.{opened}
 use Rattle.file_read.proofs.Answered.{early_number, early_work, own_number, judged-number, judged_work}
-
--- Spaces that 8 doesn't refuse are long enough.
-pub record Roomy (z : Size) (picture map work : ℕ) : Type 0 where
-  pub picture_room : picture_bytes z ≤ picture
-  pub map_room : pixels z ≤ map
-  pub work_room : 32 * pixels z ≤ work
-
-pub roomy : (z : Size) (picture map work : ℕ) → refusal (space_rules z picture map work) ≡ 0 → Roomy z picture map work
-roomy z picture map work e =
-    let last = cond {A = ℕ} (ltb work (32 * pixels z)) 8 0 in
-    let a = passed (ltb picture (picture_bytes z)) 7 (cond {A = ℕ} (ltb map (pixels z)) 8 last) e in
-    let b = passed (ltb map (pixels z)) 7 last a.1 in
-    let c = passed (ltb work (32 * pixels z)) 7 0 b.1 in
-    record { picture_room = ltb-false _ _ a.0; map_room = ltb-false _ _ b.0; work_room = ltb-false _ _ c.0 }
 
 module _ (file picture map work : List ℕ) where
   -- 1 to 6.
@@ -57,23 +43,38 @@ module _ (file picture map work : List ℕ) where
     abbrev own : Head → List Rule
     own x = space_rules x.size (length picture) (length map) (length work)
 
-    -- 8.
-    pub read_short : (why : Refusal) → number_of why ≡ refusal (own h) → ReadGiven file picture map work (Err why) picture map work
-    read_short why number = record {
-      number = own_number file h o own (number_of why) number (number-some why);
-      head = kept_by why (head_in (parse file)) _;
-      picture_given = kept_by why _ picture;
-      map_given = kept_by why _ map;
-      work_left = sym (worked_not (number_of why) (replicate (length work) 0) work (number-some why) (omega (arith, number, refusal-most 8 (own h) refl)));
-    }
+    -- 2 and 3 don't refuse what is opened, so 8 alone decides.
+    read-own : refusal (read_space_rules h.size (length picture) (length map) (length work)) ≡ refusal (own h)
+    read-own = read_own_lem h.size (length picture) (length map) (length work) (opened file h o).sides_served
 
-    module _ (none : refusal (own h) ≡ 0) (work' : List ℕ) where
-      same_number : {v : Result (Unit {0}) Refusal} → MapJudged file work v work' → given v ≡ refusal (read_rules file (length picture) (length map) (length work))
+    -- 8.
+    pub read_short : (why : Refusal) → number_of why ≡ refusal (read_space_rules h.size (length picture) (length map) (length work)) → ReadGiven file picture map work (Err why) picture map work
+    read_short why e =
+        let number : number_of why ≡ refusal (own h) = e ∙ read-own in
+        record {
+          number = own_number file h o own (number_of why) number (number-some why);
+          head = kept_by why (head_in (parse file)) _;
+          picture_given = kept_by why _ picture;
+          map_given = kept_by why _ map;
+          work_left = sym (worked_not (number_of why) (replicate (length work) 0) work (number-some why) (omega (arith, number, refusal-most 8 (own h) refl)));
+        }
+
+    module _ (served : 0 ≡ refusal (read_space_rules h.size (length picture) (length map) (length work))) where
+      none : refusal (own h) ≡ 0
+      none = sym (served ∙ read-own)
+
+      pub map_room : pixels h.size ≤ length map
+      map_room =
+          let last = cond {A = ℕ} (ltb (length work) (32 * pixels h.size)) 8 0 in
+          let a = passed (ltb (length picture) (picture_bytes h.size)) 7 (cond {A = ℕ} (ltb (length map) (pixels h.size)) 8 last) none in
+          ltb-false _ _ (passed (ltb (length map) (pixels h.size)) 7 last a.1).0
+
+      same_number : {v : Result (Unit {0}) Refusal} {work' : List ℕ} → MapJudged file work v work' → given v ≡ refusal (read_rules file (length picture) (length map) (length work))
       same_number j = j.number ∙ judged-number file h o own refl none
 
       -- 9 to 11.
-      pub read-refused : (why : Refusal) → MapJudged file work (Err why) work' → ReadGiven file picture map work (Err why) picture map work'
-      read-refused why j = record {
+      pub read-refused : (why : Refusal) {work' : List ℕ} → MapJudged file work (Err why) work' → ReadGiven file picture map work (Err why) picture map work'
+      read-refused why {work'} j = record {
         number = same_number j;
         head = kept_by why (head_in (parse file)) _;
         picture_given = kept_by why _ picture;
@@ -81,9 +82,9 @@ module _ (file picture map work : List ℕ) where
         work_left = judged_work file work (Err why) work' j;
       }
 
-      pub read-accepted : MapJudged file work (Ok tt) work' → (at : ℕ) (picture' map' : List ℕ) → PictureRead file h picture at picture'
+      pub read-accepted : {work' : List ℕ} → MapJudged file work (Ok tt) work' → {at : ℕ} {picture' map' : List ℕ} → PictureRead file h picture at picture'
           → map' ≡ flat (maps_in (parse file)) ++ drop (length (flat (maps_in (parse file)))) map → ReadGiven file picture map work (Ok h) picture' map' work'
-      read-accepted j at picture' map' r m =
+      read-accepted {work'} j r m =
           let long : length (bytes (rows_in (parse file))) ≡ picture_bytes h.size = length-bytes h.size (rows_in (parse file)) (opened file h o).of_size in
           record {
             number = same_number j;

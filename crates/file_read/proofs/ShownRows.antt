@@ -20,9 +20,10 @@ use Rattle.map_show.specs.Showing.{row_shown, RowAtGiven}
 use Rattle.map_show.proofs.Judging.{nothing-refused, row-served}
 use Rattle.file_theory.specs.Shows.{rows_in, maps_in, shows, drawn_bytes}
 use Rattle.file_read.specs.Inner.Opening.{Open}
+use Rattle.file_read.specs.Inner.Lines.{MapRead}
 use Rattle.file_read.specs.Inner.Widths.{Showing}
 use Rattle.file_read.proofs.Parsed.{Parsed, opened}
-use Rattle.file_read.proofs.Places.{row-of-bytes}
+use Rattle.file_read.proofs.Places.{row-of-bytes, map-taken}
 use Rattle.file_read.proofs.Drawing.{drawn-long, drawn-row}
 
 -- An answer whose number is 0.
@@ -44,7 +45,7 @@ module _ {file : List ℕ} {h : Head} {v : ℕ} {space : List ℕ} (o : Open fil
   pub whole_long : length (drawn_bytes (shows file v)) ≡ h.size.height * (v * channels_of h.size.kind)
   whole_long = drawn-long known v s.accepted s.offers
 
-  module _ (r : ℕ) (inside : r < h.size.height) where
+  module _ {r : ℕ} (inside : r < h.size.height) where
     samples_are : (n : ℕ) → n ≡ channels_of h.size.kind
         → mid_of (r * (h.size.width * n)) (r * (h.size.width * n) + h.size.width * n - r * (h.size.width * n)) space ≡ flat (get_or (rows_in (parse file)) r [])
     samples_are n is =
@@ -54,36 +55,27 @@ module _ {file : List ℕ} {h : Head} {v : ℕ} {space : List ℕ} (o : Open fil
         (front-row (row_bytes h.size) r (picture_bytes h.size) space (part_end r h.size.height (row_bytes h.size) inside) s.inside
         ∙ ap (row_at (row_bytes h.size) r) s.picture_is ∙ row-of-bytes known r inside))
 
-    -- Nothing refuses it.
-    pub row_is_ok : (n : ℕ) → n ≡ channels_of h.size.kind → (numbers out : List ℕ) → numbers ≡ get_or (maps_in (parse file)) r [] → length out ≡ v * channels_of h.size.kind
-        → (answer : Result (Unit {0}) Refusal) {new : List ℕ}
-        → RowAtGiven h.size.kind (mid_of (r * (h.size.width * n)) (r * (h.size.width * n) + h.size.width * n - r * (h.size.width * n)) space) numbers v out answer new
-        → IsOk answer
-    row_is_ok n is numbers out numbers-are long answer {new} g =
-        let row = flat (get_or (rows_in (parse file)) r []) in
-        let line = get_or (maps_in (parse file)) r [] in
-        let whole = row_at (v * channels_of h.size.kind) r (drawn_bytes (shows file v)) in
-        let shown : row_shown h.size.kind row line v ≡ whole = drawn-row known v s.accepted s.offers r inside in
-        let given_row : RowAtGiven h.size.kind row line v out answer new = rw (samples_are n is, numbers-are) at g in
-        let wide : length line ≡ h.size.width = each_at r [] inside known.maps_grid in
-        let samples : length row ≡ length line * channels_of h.size.kind = length-flat (each_at r [] inside known.of_size) ∙ ap (◌* channels_of h.size.kind) (sym wide) in
-        let shown-long : length whole ≡ v * channels_of h.size.kind =
-        length-row_at (v * channels_of h.size.kind) h.size.height (drawn_bytes (shows file v)) r (omega (arith, whole_long)) inside in
-        is_served answer (given_row.number ∙ sym (nothing-refused h.size.kind row line v samples out (rw shown (omega (arith, shown-long, long)))))
+    whole : length (flat (get_or (rows_in (parse file)) r [])) ≡ length (get_or (maps_in (parse file)) r []) * channels_of h.size.kind
+    whole = length-flat (each_at r [] inside known.of_size) ∙ ap (◌* channels_of h.size.kind) (sym (each_at r [] inside known.maps_grid))
 
-    pub row_drawn : (n : ℕ) → n ≡ channels_of h.size.kind → (numbers out : List ℕ) → numbers ≡ get_or (maps_in (parse file)) r [] → length out ≡ v * channels_of h.size.kind
-        → {answer : Result (Unit {0}) Refusal} {new : List ℕ}
-        → RowAtGiven h.size.kind (mid_of (r * (h.size.width * n)) (r * (h.size.width * n) + h.size.width * n - r * (h.size.width * n)) space) numbers v out answer new
-        → new ≡ row_at (v * channels_of h.size.kind) r (drawn_bytes (shows file v))
-    row_drawn n is numbers out numbers-are long {answer} {new} g =
-        let row = flat (get_or (rows_in (parse file)) r []) in
-        let line = get_or (maps_in (parse file)) r [] in
-        let whole = row_at (v * channels_of h.size.kind) r (drawn_bytes (shows file v)) in
-        let shown : row_shown h.size.kind row line v ≡ whole = drawn-row known v s.accepted s.offers r inside in
-        let given : RowAtGiven h.size.kind row line v out answer new = rw (samples_are n is, numbers-are) at g in
-        let wide : length line ≡ h.size.width = each_at r [] inside known.maps_grid in
-        let samples : length row ≡ length line * channels_of h.size.kind = length-flat (each_at r [] inside known.of_size) ∙ ap (◌* channels_of h.size.kind) (sym wide) in
-        let shown-long : length whole ≡ v * channels_of h.size.kind =
-        length-row_at (v * channels_of h.size.kind) h.size.height (drawn_bytes (shows file v)) r (omega (arith, whole_long)) inside in
-        row-served h.size.kind row line v out samples (rw shown (omega (arith, shown-long, long))) given ∙ ap (λ x. x ++ drop (length x) out) shown
-        ∙ ap (whole ++◌) (drop_of_length-le out {i = length whole} (omega (arith, shown-long, long))) ∙ append-nil whole
+    shown : row_shown h.size.kind (flat (get_or (rows_in (parse file)) r [])) (get_or (maps_in (parse file)) r []) v ≡ row_at (v * channels_of h.size.kind) r (drawn_bytes (shows file v))
+    shown = drawn-row known v s.accepted s.offers r inside
+
+    -- Its map line was read before whatever is after it, and the row is shown.
+    module _ {at : ℕ} {got : List ℕ} (m : MapRead file r at got) (after : List ℕ) {n : ℕ} (is : n ≡ channels_of h.size.kind) {out : List ℕ} (long : length out ≡ v * channels_of h.size.kind)
+        {answer : Result (Unit {0}) Refusal} {new : List ℕ}
+        (g : RowAtGiven h.size.kind (mid_of (r * (h.size.width * n)) (r * (h.size.width * n) + h.size.width * n - r * (h.size.width * n)) space) (take h.size.width (got ++ after)) v out answer new) where
+      given_row : RowAtGiven h.size.kind (flat (get_or (rows_in (parse file)) r [])) (get_or (maps_in (parse file)) r []) v out answer new
+      given_row = rw (samples_are n is, map-taken o inside m after) at g
+
+      as_long : length (row_shown h.size.kind (flat (get_or (rows_in (parse file)) r [])) (get_or (maps_in (parse file)) r []) v) ≡ length out
+      as_long = ap length shown ∙ length-row_at (v * channels_of h.size.kind) h.size.height (drawn_bytes (shows file v)) r (omega (arith, whole_long)) inside ∙ sym long
+
+      -- Nothing refuses it.
+      pub row_is_ok : IsOk answer
+      row_is_ok = is_served answer (given_row.number ∙ sym (nothing-refused h.size.kind _ _ v whole out (omega (arith, as_long))))
+
+      pub row_drawn : new ≡ row_at (v * channels_of h.size.kind) r (drawn_bytes (shows file v))
+      row_drawn =
+          let x = row_shown h.size.kind (flat (get_or (rows_in (parse file)) r [])) (get_or (maps_in (parse file)) r []) v in
+          row-served h.size.kind _ _ v out whole (omega (arith, as_long)) given_row ∙ ap (x ++◌) (drop_of_length-le out {i = length x} (omega (arith, as_long))) ∙ append-nil x ∙ shown
