@@ -7,19 +7,18 @@ use native.Mathlib.Omega.{arith}
 use borrow.Author.Tests.{ltb-true, ltb-false, not-false}
 use lib.Dec.{leb, ltb}
 use lib.ListN.{length, take, drop, replicate}
-use lib.Seq.{take_at}
+use lib.Seq.{take_at, length_front}
 use Rattle.grids.specs.Rows.{flat}
 use Rattle.grids.proofs.Shapes.{grid_of}
-use Rattle.grids.proofs.Parts.{part_length}
 use Rattle.pictures.specs.Limits.{most_pixels}
 use Rattle.pictures.specs.declared.sizes.Size.{Size}
-use Rattle.std.specs.Prelude.{Result}
+use Rattle.std.specs.Prelude.{Result, Ok, Err, IsOk}
 use Rattle.pictures.specs.declared.refusals.Refusal.{Refusal}
-use Rattle.pictures.specs.Refusals.{◌when◌, refusal, served}
-use Rattle.pictures.specs.Pictures.{picture_bytes, size_rules, picture, pixels, picture_in}
+use Rattle.pictures.specs.Refusals.{◌when◌, given, refusal, served}
+use Rattle.pictures.specs.Pictures.{picture_bytes, side_rules, size_rules, picture, pixels, picture_in}
 use Rattle.grids.proofs.Bools.{both}
-use Rattle.pictures.proofs.Rules.{served-both, passed}
-use Rattle.pictures.proofs.Limits.{Sized, sized_is, sides_served, bytes-few}
+use Rattle.pictures.proofs.Rules.{served-both, passed, number-some}
+use Rattle.pictures.proofs.Limits.{Sized, sized_is, sides_served, given_out, bytes-few}
 use Rattle.map_theory.specs.Maps.{map_of}
 use Rattle.map_theory.specs.Widths.{allowed}
 use Rattle.map_theory.proofs.Maps.{map-grid}
@@ -38,6 +37,11 @@ use Rattle.file_build.specs.Building.{file_in}
 use Rattle.file_build.specs.Inner.Lines.{map_in, parts_in}
 use Rattle.file_build.specs.Inner.Building.{BuildNeeded, FileGiven}
 use Rattle.file_build.proofs.PictureRows.{of_size_lem}
+
+-- An answer whose number is 0.
+ok_is : (v : Result (Unit {0}) Refusal) → given v ≡ 0 → IsOk v
+ok_is (Ok u) e = refl
+ok_is (Err why) e = absurd (omega (arith, e, number-some why))
 
 -- A depth that is allowed is below the width.
 pub allowed-deep : (m k g : ℕ) → allowed m k g ≡ true → k < m
@@ -82,32 +86,48 @@ module _ (b : List ℕ) (h : Head) (out work : List ℕ) (needed : BuildNeeded b
       }
 
   -- The copy at the front of the work space, and the map after it.
-  module _ (one : List ℕ) (copied : one ≡ b ++ drop (length b) work) (one-long : length one ≡ length work) where
-    there : picture_in h.size one ≡ picture h.size b
-    there =
-        let r = rooms_are in
-        ap (picture h.size) (ap (take (picture_bytes h.size)) copied ∙ take_at b (drop (length b) work) (picture_bytes h.size) r.sure.length_is)
+  module _ (new : List ℕ) (copied : new ≡ b) (kept : length new ≡ length (take (length b) work)) where
+    abbrev one : List ℕ
+    one = new ++ drop (length b) work
 
-    pub none : refusal (map_space_rules h.size h.depth (length one) 1) ≡ 0
+    one-long : length one ≡ length work
+    one-long = length_front work new (length b) kept
+
+    there : picture_in h.size one ≡ picture h.size b
+    there = let r = rooms_are in ap (picture h.size) (rw copied (take_at b (drop (length b) work) (picture_bytes h.size) r.sure.length_is))
+
+    none : refusal (map_space_rules h.size h.depth (length one) 1) ≡ 0
     none = let r = rooms_are in room-served h.size h.depth (length one) 1 (sides_served h.size (length b) r.sized) r.deep (omega (arith, r.front, one-long))
 
-    module _ (v : Result (Unit {0}) Refusal) (two : List ℕ) (g : MapInGiven one h.size h.method h.depth v two) where
+    module _ {v : Result (Unit {0}) Refusal} {two : List ℕ} (g : MapInGiven (new ++ drop (length b) work) h.size h.method h.depth v two) where
+      number : given v ≡ 0
+      number = g.number ∙ none
+
+      pub map_is_ok : IsOk v
+      map_is_ok = ok_is v number
+
       two_is : two ≡ mapped h.size h.method h.depth (picture h.size b) ++ drop (map_at h.size + map_bytes h.size) one
       two_is =
           let new = mapped h.size h.method h.depth (picture_in h.size one) ++ drop (map_at h.size + map_bytes h.size) one in
-          g.space_left ∙ ap (λ n. served n new one) (g.number ∙ none)
+          g.space_left ∙ ap (λ n. served n new one) number
           ∙ ap (λ p. mapped h.size h.method h.depth p ++ drop (map_at h.size + map_bytes h.size) one) there
 
       -- The part where the map stands.
-      module _ (at end : ℕ) (at-is : at ≡ map_at h.size) (end_is : end ≡ at + map_bytes h.size) where
-        part-is : take (end - at) (drop at two) ≡ pairs (flat m)
+      module _ {at n : ℕ} (at_given : at ≡ served (refusal (side_rules h.size)) (map_at h.size) 0) (long_given : n ≡ served (refusal (side_rules h.size)) (map_bytes h.size) 0) where
+        at-is : at ≡ map_at h.size
+        at-is = given_out h.size at (map_at h.size) (sides_served h.size (length b) rooms_are.sized) at_given
+
+        long_is : n ≡ map_bytes h.size
+        long_is = given_out h.size n (map_bytes h.size) (sides_served h.size (length b) rooms_are.sized) long_given
+
+        part-is : take (at + n - at) (drop at two) ≡ pairs (flat m)
         part-is =
             let r = rooms_are in
-            let n : end - at ≡ map_bytes h.size = omega (arith, end_is) in
-            rw (n, at-is, two_is) (take-map h.size h.method (picture h.size b) (of_size_lem h.size b r.sized) h.depth r.deep (drop (map_at h.size + map_bytes h.size) one))
+            let l : at + n - at ≡ map_bytes h.size = omega (arith, long_is) in
+            rw (l, at-is, two_is) (take-map h.size h.method (picture h.size b) (of_size_lem h.size b r.sized) h.depth r.deep (drop (map_at h.size + map_bytes h.size) one))
 
         -- The file printed from it.
-        pub text_is : text (parts_in h b h.size.width h.size.height (take (end - at) (drop at two))) ≡ file_in h b
+        text_is : text (parts_in h b h.size.width h.size.height (take (at + n - at) (drop at two))) ≡ file_in h b
         unfolding file_of
         text_is =
             let r = rooms_are in
@@ -115,22 +135,15 @@ module _ (b : List ℕ) (h : Head) (out work : List ℕ) (needed : BuildNeeded b
             ap (λ q. text (record { head = h; rows = picture h.size b; maps = q }))
             (ap (map_in h.size.width h.size.height) part-is ∙ rows-pairs g)
 
-        module _ (two-long : length two ≡ length one) where
-          pub inside : end ≤ length two
-          inside = omega (arith, rooms_are.front, one-long, at-is, end_is)
+        pub text-room : length (text (parts_in h b h.size.width h.size.height (take (at + n - at) (drop at two)))) ≤ length out
+        text-room = rw text_is rooms_are.out_room
 
-          pub map-long : length (take (end - at) (drop at two)) ≡ h.size.height * (2 * h.size.width)
-          map-long = part_length at end two inside ∙ omega (arith, end_is)
-
-          pub text-room : length (text (parts_in h b h.size.width h.size.height (take (end - at) (drop at two)))) ≤ length out
-          text-room = rw text_is rooms_are.out_room
-
-          -- The output space with the file at its front, and the work space cleared.
-          pub file-given : (n : ℕ) (out' work' : List ℕ) → n ≡ length (text (parts_in h b h.size.width h.size.height (take (end - at) (drop at two))))
-              → out' ≡ text (parts_in h b h.size.width h.size.height (take (end - at) (drop at two))) ++ drop (length (text (parts_in h b h.size.width h.size.height (take (end - at) (drop at two))))) out
-              → work' ≡ replicate (length two) 0 → FileGiven b h out work n out' work'
-          file-given n out' work' long printed cleared = record {
-            length_is = long ∙ ap length text_is;
-            out_is = printed ∙ ap (λ t. t ++ drop (length t) out) text_is;
-            work_is = cleared ∙ ap (λ k. replicate k 0) (two-long ∙ one-long);
-          }
+        -- The output space with the file at its front, and the work space cleared.
+        pub file-given : length two ≡ length one → {long : ℕ} {out' work' : List ℕ} → long ≡ length (text (parts_in h b h.size.width h.size.height (take (at + n - at) (drop at two))))
+            → out' ≡ text (parts_in h b h.size.width h.size.height (take (at + n - at) (drop at two))) ++ drop (length (text (parts_in h b h.size.width h.size.height (take (at + n - at) (drop at two))))) out
+            → work' ≡ replicate (length two) 0 → FileGiven b h out work long out' work'
+        file-given two-long l printed cleared = record {
+          length_is = l ∙ ap length text_is;
+          out_is = printed ∙ ap (λ t. t ++ drop (length t) out) text_is;
+          work_is = cleared ∙ ap (λ k. replicate k 0) (two-long ∙ one-long);
+        }

@@ -1,6 +1,6 @@
 -- What a file leaves of a room, piece by piece.
 use mathlib.Core.Path.{◌≡◌, sym, ap, ◌∙◌}
-use Rattle.std.specs.Prelude.{None, Some, List, ◌++◌, ℕ, ◌+◌, ◌-◌, ◌*◌, ◌<◌, length, take, drop, replicate}
+use Rattle.std.specs.Prelude.{None, Some, List, ◌++◌, ℕ, ◌+◌, ◌-◌, ◌*◌, ◌≤◌, ◌<◌, length, take, drop, replicate}
 use Rattle.std.proofs.Common.{length-append}
 use native.Mathlib.Omega.{arith}
 use Rattle.grids.proofs.Rows.{part_end}
@@ -13,7 +13,7 @@ use Rattle.text_theory.specs.Files.{closed, row_lines, map_text, head_text}
 use Rattle.text_theory.specs.Lengths.{total, spaced}
 use Rattle.text_theory.proofs.Lengths.{head_length_lem}
 use Rattle.text_lengths.specs.Rooms.{less}
-use Rattle.text_lengths.proofs.Rooms.{less_none, less-short, less_then, less_none_then}
+use Rattle.text_lengths.proofs.Rooms.{less_none, less-short, less-room, less_then, less_none_then}
 use Rattle.file_theory.proofs.Lengths.{file-length}
 use Rattle.file_build.specs.Building.{file_in}
 use Rattle.file_build.proofs.PictureRows.{of_size_lem, rows_long}
@@ -22,6 +22,10 @@ use Rattle.file_build.proofs.MapRows.{order_long}
 -- Lines of n bytes, of which the first doesn't fit.
 pub lines_none : (space n count : ℕ) → 0 < count → None ≡ less space n → None ≡ less space (count * n)
 lines_none space n count some-lines e = sym (less_none space (count * n) (omega (arith, less-short space n e, part_end 0 count n some-lines)))
+
+-- What was taken of a room.
+pub taken : {room n left : ℕ} → Some left ≡ less room n → (left ≤ room) × (room - left ≡ n)
+taken e = let r = less-room _ _ _ e in (omega arith, omega arith)
 
 -- The head with the rows, then the map lines, each as long as the row's, then the last line.
 module _ (b : List ℕ) (h : Head) (sized : refusal (size_rules h.size (length b)) ≡ 0) (deep : h.depth < h.size.width) (room : ℕ) where

@@ -41,13 +41,13 @@ line_pairs q = let e : length q / 2 ≡ length (numbers_in q) = sym (length-numb
 abbrev pub row_bytes : ℕ → ℕ → List ℕ → List ℕ
 row_bytes w r b = take (r * (2 * w) + 2 * w - r * (2 * w)) (drop (r * (2 * w)) b)
 
-pub map_line_lem : (w h r : ℕ) (b : List ℕ) → r < h
-    → map_word ++ line_text two_bytes_text (first_chunks 2 (length (row_bytes w r b) / 2) (row_bytes w r b)) ≡ map_word ++ line_text digits (get_or (map_in w h b) r [])
-map_line_lem w h r b l =
+pub map_line_lem : (w h : ℕ) (b : List ℕ) {r : ℕ} → r < h → {q : List (List ℕ)} → q ≡ first_chunks 2 (length (row_bytes w r b) / 2) (row_bytes w r b)
+    → map_word ++ line_text two_bytes_text q ≡ map_word ++ line_text digits (get_or (map_in w h b) r [])
+map_line_lem w h b {r} l e =
     let n : r * (2 * w) + 2 * w - r * (2 * w) ≡ 2 * w = omega arith in
     let is : numbers_in (row_bytes w r b) ≡ get_or (map_in w h b) r [] =
     ap (λ k. numbers_in (take k (drop (r * (2 * w)) b))) n ∙ numbers-row w r b ∙ sym (rows_of_at w h (numbers_in b) r l) in
-    ap (λ t. map_word ++ t) (line_pairs (row_bytes w r b) ∙ ap (line_text digits) is)
+    ap (λ t. map_word ++ t) (ap (line_text two_bytes_text) e ∙ line_pairs (row_bytes w r b) ∙ ap (line_text digits) is)
 
 -- The numbers in their order.
 pub run-table : (k : ℕ) → table (λ t. t + 1) k ≡ run 1 k

@@ -32,7 +32,7 @@ module _ (z : Size) (b : List ℕ) (sized : refusal (size_rules z (length b)) �
   pub rows-many : length (picture z b) ≡ z.height
   rows-many = each-length of_size_lem
 
-  module _ (r : ℕ) (inside : r < z.height) where
+  module _ {r : ℕ} (inside : r < z.height) where
     -- The pixels of a row's bytes are that row of the picture.
     pub row-pixels : pixels_of z.kind (row_of z b r) ≡ get_or (picture z b) r []
     unfolding picture
@@ -49,7 +49,7 @@ module _ (z : Size) (b : List ℕ) (sized : refusal (size_rules z (length b)) �
         ∙ sym (get_or-map (rows_of ch z.width) (rows_of (row_bytes z) z.height b) r [] [] below)
 
     -- Its line.
-    module _ (row : List ℕ) (is : row ≡ row_of z b r) where
+    module _ {row : List ℕ} (is : row ≡ row_of z b r) where
       pub row_line_lem : row_text z.kind (pixels_of z.kind row) ≡ row_word ++ line_text (pixel_text z.kind) (get_or (picture z b) r [])
       unfolding row_text
       row_line_lem = ap (λ x. row_text z.kind (pixels_of z.kind x)) is ∙ ap (row_text z.kind) row-pixels
