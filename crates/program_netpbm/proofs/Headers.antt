@@ -1,11 +1,13 @@
 -- The header of a Netpbm picture: its kind by two numbers, and how it is read at the front of a text.
 use mathlib.Core.Path.{◌≡◌, refl, sym, ◌∙◌}
+use mathlib.Core.Bool.{Bool, true, false}
 use mathlib.Core.Option.{Option, none, some}
 use mathlib.Core.List.{List}
 use Prim.Native.Nat.{ℕ, ◌≤◌, ◌<◌}
 use native.Mathlib.Omega.{arith}
 use lib.ListN.{length, get_or, drop, drop_of_length-le}
-use borrow.Author.Tests.{ne_eqb}
+use lib.Dec.{eqb}
+use borrow.Author.Tests.{eqb-true, eqb-false, ne_eqb}
 use Rattle.pictures.specs.declared.sizes.Kind.TheVariants.{Grey, Rgb}
 use Rattle.pictures.specs.Numbers.{largest_number}
 use Rattle.text_theory.specs.Readers.{Get, give, on, ◌▷◌, strip, onward, after, known}
@@ -35,18 +37,22 @@ unfolding kind_by
 kind_other p m f g e = rw (e, ne_eqb p 5 f, ne_eqb p 6 g)
 
 -- The letter at the front of a text.
-module _ {B : Type 0} (g : Get B) {text : List ℕ} where
-  pub no_text : length text ≡ 0 → Told (after letter_p g) text 0 none
-  unfolding letter_p strip
-  no_text h = record { same = rw (drop_of_length-le text {i = 0} (omega arith)); moved = tt }
+some-text : (text : List ℕ) {empty : Bool} → empty ≡ eqb (length text) 0 → empty ≡ false → 0 < length text
+some-text text e f = omega (arith, eqb-false (length text) 0 (sym e ∙ f))
 
-  pub no_letter : 0 < length text → (get_or text 0 0 ≡ 80 → ⊥) → Told (after letter_p g) text 0 none
+module _ {B : Type 0} (g : Get B) {text : List ℕ} {empty : Bool} (e : empty ≡ eqb (length text) 0) where
+  pub no_text : empty ≡ true → Told (after letter_p g) text 0 none
   unfolding letter_p strip
-  no_letter h n = record { same = rw (drop_more text 0 0 h, ne_eqb 80 (get_or text 0 0) (λ e. n (sym e))); moved = tt }
+  no_text t = record { same = rw (drop_of_length-le text {i = 0} (omega (arith, eqb-true (length text) 0 (sym e ∙ t)))); moved = tt }
 
-  pub left_letter : 0 < length text → get_or text 0 0 ≡ 80 → Left (after letter_p g) text 0 g 1
-  unfolding letter_p strip
-  left_letter h e = record { same = rw (drop_more text 0 0 h, e); there = omega arith }
+  module _ (f : empty ≡ false) where
+    pub no_letter : (get_or text 0 0 ≡ 80 → ⊥) → Told (after letter_p g) text 0 none
+    unfolding letter_p strip
+    no_letter n = record { same = rw (drop_more text 0 0 (some-text text e f), ne_eqb 80 (get_or text 0 0) (λ h. n (sym h))); moved = tt }
+
+    pub left_letter : get_or text 0 0 ≡ 80 → Left (after letter_p g) text 0 g 1
+    unfolding letter_p strip
+    left_letter h = record { same = rw (drop_more text 0 0 (some-text text e f), h); there = omega arith }
 
 -- The last number of a line, and the line end after it, before what is left to read.
 last_step : {B : Type 0} (f : ℕ → Get B) (s : List ℕ) → (number_get largest_number ▷ λ n. after line_end (f n)) s ≡ (last_number ▷ f) s

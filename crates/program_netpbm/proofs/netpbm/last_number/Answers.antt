@@ -13,11 +13,11 @@ returns-in_err-n c = refused c.from_residual.ensures (left_no_then (λ n. after 
 pub returns-in_err-d : goal.returns-in_err-d
 unfolding last_number
 returns-in_err-d c =
-    let number = left_then (λ n. after line_end (give n)) left_start c.in_ok-n.ensures in
+    let number = left_then _ left_start c.in_ok-n.ensures in
     refused c.from_residual-in_err-d.ensures (left_no_past line_end _ number (told_line_end c.in_err-d.ensures))
 
 pub returns : goal.returns
 unfolding last_number
 returns c =
-    let number = left_then (λ n. after line_end (give n)) left_start c.in_ok-n.ensures in
+    let number = left_then _ left_start c.in_ok-n.ensures in
     left-past-give line_end number (told_line_end c.in_ok-d.ensures)
