@@ -7,21 +7,27 @@ use Rattle.pictures.specs.Pictures.{row_bytes}
 use Rattle.pictures.proofs.Limits.{Sized, sized_is}
 use Rattle.energy.proofs.Lines.{ends, lines_are}
 use Rattle.energy.proofs.row_energies.Goals as goal
+use Rattle.energy.proofs.row_energies.Goals.{After-neighbour-beside}
+
+module _ (c : After-neighbour-beside) where
+  sure : Sized c.args.size (length c.args.picture.now)
+  sure = sized_is _ _ c.requires.sized
+
+  strided : c.args.size.width * c.channels.result ≡ row_bytes c.args.size
+  strided = ap (c.args.size.width *◌) c.channels.ensures
 
 -- both rows end within the picture
 pub slice_bounds-line_energies-end-2 : goal.slice_bounds-line_energies-end-2
 slice_bounds-line_energies-end-2 c =
     let a = c.args in
-    let sure : Sized a.size (length a.picture.now) = sized_is _ _ c.requires.sized in
-    let strided : a.size.width * c.channels.result ≡ row_bytes a.size = ap (a.size.width *◌) c.channels.ensures in
-    let e = ends a.size a.method a.picture.now a.r (a.size.width * c.channels.result) c.neighbour.result sure c.requires.inside strided c.neighbour.ensures in
+    let k = (goal.at.slice_bounds-line_energies-end-2 c).After-neighbour-beside in
+    let e = ends a.size a.method a.picture.now a.r (a.size.width * c.channels.result) c.neighbour.result (sure k) c.requires.inside (strided k) c.neighbour.ensures in
     omega arith
 
 pub returns : goal.returns
 returns c =
     let a = c.args in
-    let sure : Sized a.size (length a.picture.now) = sized_is _ _ c.requires.sized in
-    let strided : a.size.width * c.channels.result ≡ row_bytes a.size = ap (a.size.width *◌) c.channels.ensures in
-    rw (lines_are a.size a.method a.picture.now a.r (a.size.width * c.channels.result) c.neighbour.result sure c.requires.inside strided c.neighbour.ensures _
+    let k = (goal.at.returns c).After-neighbour-beside in
+    rw (lines_are a.size a.method a.picture.now a.r (a.size.width * c.channels.result) c.neighbour.result (sure k) c.requires.inside (strided k) c.neighbour.ensures _
     c.neighbour-beside.ensures) at
     c.line_energies.ensures
