@@ -1,21 +1,12 @@
 -- `energy::kernels::row` meets its contract: the last pixel's energy is stored after those of the pixels before it.
-use Rattle.std.proofs.Common.{◌≡◌, ◌++◌, ◌+◌, ◌*◌, ◌-◌, ◌≤◌, ◌<◌, length, take, drop, ap, ◌∙◌, arith}
+use Rattle.std.proofs.Common.{◌≡◌, ◌++◌, ◌+◌, ◌-◌, length, take, drop, ap, ◌∙◌, arith}
 use borrow.Author.Tests.{lt-ltb}
-use native.Mathlib.Nat.{mul-le-mul}
 use lib.Seq.{length-take-le}
 use Rattle.grids.specs.Table.{table}
 use Rattle.grids.proofs.Tables.{table_same}
 use Rattle.energy.specs.Inner.{between, energy_between}
 use Rattle.energy.proofs.Lines.{line_last}
 use Rattle.energy.proofs.kernels.row.Goals as goal
-
-pub whole_as_front-inner_energies : goal.whole_as_front-inner_energies
-whole_as_front-inner_energies g c =
-    let less : c.args.width - 1 ≤ c.args.width = omega arith in
-    let same : g.row.N ≤ g.row.N = omega arith in
-    let most : (c.args.width - 1) * g.row.N ≤ c.args.width * g.row.N = mul-le-mul less same in
-    let fits : g.row.ROOM * 2 < 9223372036854775808 = omega (arith, c.requires.room) in
-    (omega (arith, most, c.requires.room), fits)
 
 pub returns : goal.returns
 unfolding between
