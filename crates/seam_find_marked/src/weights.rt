@@ -54,7 +54,7 @@ impl Costing for Weights {
     }
 }
 
-// The weights of a row, from its energies and marks. By index: written through a zip of the three slices its proof stayed open.
+// The weights of a row, from its energies and marks. By index, since nothing is promised of what is written through a zip.
 fn weigh(energies: &[u32], marks: &[u8], cost: &mut [u64])
     requires { WeighNeeded energies.now marks.now cost.old }
     ensures { cost.new ≡ table (weight_in energies.now marks.now) (length cost.old) }
