@@ -43,8 +43,17 @@ impl Costing for Weights {
     ) {
         let width = allowed.size.width;
         let picture = allowed.picture_bytes();
+        let front = Self::front_bytes(allowed);
+        // Where nothing is promised, nothing is done.
+        if allowed.size.height <= i || bytes.len() != front {
+            return;
+        }
+        if energies.len() != width || cost.len() != width {
+            return;
+        }
         let a = picture + i * width;
         let e = a + width;
+        // not refused: the picture is of its size, and there is room
         energy::energies(&bytes[..picture], allowed.size, method, i, energies).unwrap();
         weigh(energies, &bytes[a..e], cost);
     }

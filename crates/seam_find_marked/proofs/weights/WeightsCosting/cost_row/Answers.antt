@@ -13,10 +13,9 @@ use Rattle.seam_find_marked.proofs.Marked.{row-weighed}
 use Rattle.seam_find_marked.proofs.weights.WeightsCosting.cost_row.Goals as goal
 
 pub returns : goal.returns
-returns c =
+returns c p =
     let a = c.args in
     let z = a.allowed.size in
-    let p = c.requires in
     let w = z.width in
     let front = a.bytes.now in
     let bytes = c.picture_bytes-picture.result in
