@@ -6,7 +6,6 @@ use mathlib.Core.List.{List, [], ◌∷◌, ◌++◌, append-nil, map}
 use Rattle.std.specs.Prelude as code
 use Rattle.std.specs.Prelude.{nat_lt}
 use Rattle.std.specs.List.{position, position_or_len}
-use Rattle.std.specs.Char.{is_ascii_digit}
 use Rattle.std.proofs.lemmas.List.{drop-drop, map-append}
 use borrow.Author.Tests.{ltb-false}
 use Prim.Native.Nat.{ℕ, zero, suc, ◌+◌, ◌≤◌, ◌<◌}
@@ -43,13 +42,13 @@ figure-here (b ∷ s) r h = go (is_digit b) refl h
     go false e h = absurd (none-ne-some _ (rw e at h))
 
 -- What is skipped, by the place of the first digit.
-skip_by : (s : List ℕ) → skipped s ≡ drop (position_or_len is_ascii_digit s) s
-unfolding skipped is_digit
+skip_by : (s : List ℕ) → skipped s ≡ drop (position_or_len is_digit s) s
+unfolding skipped
 skip_by [] = refl
 skip_by (b ∷ s) = go (is_digit b) (skip_by s)
   where
-    go : (x : Bool) → skipped s ≡ drop (position_or_len is_ascii_digit s) s
-        → cond x (b ∷ s) (skipped s) ≡ drop (cond (not x) (1 + position_or_len is_ascii_digit s) 0) (b ∷ s)
+    go : (x : Bool) → skipped s ≡ drop (position_or_len is_digit s) s
+        → cond x (b ∷ s) (skipped s) ≡ drop (cond (not x) (1 + position_or_len is_digit s) 0) (b ∷ s)
     go true k = refl
     go false k = k ∙ rw one-add refl
 
@@ -60,20 +59,20 @@ module _ {text : List ℕ} {at : ℕ} where
 
   -- By the place of the first digit in s, which is what follows.
   module _ {s : List ℕ} (e : s ≡ rest text at) where
-    pub figure_none : code.None ≡ position is_ascii_digit s → Told figure text at none
+    pub figure_none : code.None ≡ position is_digit s → Told figure text at none
     unfolding figure number_get
-    figure_none h = go (nat_lt (position_or_len is_ascii_digit (drop at text)) (length (drop at text))) refl (rw (e, rest_of text at) at h)
+    figure_none h = go (nat_lt (position_or_len is_digit (drop at text)) (length (drop at text))) refl (rw (e, rest_of text at) at h)
       where
-        go : (x : Bool) → nat_lt (position_or_len is_ascii_digit (drop at text)) (length (drop at text)) ≡ x
-            → code.None ≡ cond x (code.Some (position_or_len is_ascii_digit (drop at text))) code.None → Told figure text at none
+        go : (x : Bool) → nat_lt (position_or_len is_digit (drop at text)) (length (drop at text)) ≡ x
+            → code.None ≡ cond x (code.Some (position_or_len is_digit (drop at text))) code.None → Told figure text at none
         go true e h = absurd cc
         go false e h = record { same = rw (skip_by (drop at text), drop_of_length-le (drop at text) (ltb-false _ _ e)); moved = tt }
 
-    pub figure_at : {i : ℕ} {found : Option (ℕ × ℕ)} → code.Some i ≡ position is_ascii_digit s → Told (number_get largest_number) text (at + i) found → Told figure text at found
+    pub figure_at : {i : ℕ} {found : Option (ℕ × ℕ)} → code.Some i ≡ position is_digit s → Told (number_get largest_number) text (at + i) found → Told figure text at found
     unfolding figure
-    figure_at {i} {found} h t = record { same = rw (skip_by (drop at text), ← is (nat_lt (position_or_len is_ascii_digit (drop at text)) (length (drop at text))) (rw (e, rest_of text at) at h), drop-drop i at text) t.same; moved = further found t.moved }
+    figure_at {i} {found} h t = record { same = rw (skip_by (drop at text), ← is (nat_lt (position_or_len is_digit (drop at text)) (length (drop at text))) (rw (e, rest_of text at) at h), drop-drop i at text) t.same; moved = further found t.moved }
       where
-        is : (x : Bool) → code.Some i ≡ cond x (code.Some (position_or_len is_ascii_digit (drop at text))) code.None → i ≡ position_or_len is_ascii_digit (drop at text)
+        is : (x : Bool) → code.Some i ≡ cond x (code.Some (position_or_len is_digit (drop at text))) code.None → i ≡ position_or_len is_digit (drop at text)
         is true h = cc
         is false h = absurd cc
 

@@ -1,7 +1,7 @@
 pub mod ByteClasses
 pub mod DigitSteps
-pub mod Letters
 pub mod Onward
+pub mod Letters
 pub mod WordSteps
 pub mod FormSteps
 pub mod LineCounts

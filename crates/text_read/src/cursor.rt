@@ -1,11 +1,11 @@
 // A place of a text, by value, as docs/DECISIONS.md lists among the language forms: its methods take it and hand back the moved
 // one. The text is lent beside it: a place that held its text would have to promise at each step that the text is still the same.
-ghost use Rattle.std.specs.Prelude.{◌≡◌};
+ghost use Rattle.std.specs.Prelude.{◌≡◌, true, [], ◌∷◌};
 ghost use Rattle.pictures.specs.Numbers.{largest_number};
 ghost use Rattle.text_theory.specs.Readers.{answered};
 ghost use Rattle.text_theory.specs.Words.{name_text};
 ghost use Rattle.text_theory.specs.Decimal.{number_get};
-ghost use Rattle.text_read.specs.Answers.{Told, read, passed, class_of, class_number, of_class};
+ghost use Rattle.text_read.specs.Answers.{Told, read, passed, is_letter, class_of, class_number, of_class};
 ghost use Rattle.text_read.specs.Inner.{ClassAt, passing, within};
 
 use pictures::numbers::LARGEST_NUMBER;
@@ -112,9 +112,22 @@ impl Cursor {
     pub(crate) fn letters(self, text: &[u8], name: Name) -> Option<Cursor>
         ensures { Told (passing (name_text name)) text.now self.at (passed result) }
     {
-        let rest = text.get(self.at..)?.strip_prefix(letters_of(name))?;
-        Some(Cursor {
-            at: text.len() - rest.len(),
-        })
+        let letters = letters_of(name);
+        let mut here = self;
+        for letter in letters {
+            here = here.letter(text, *letter)?;
+        }
+        Some(here)
+    }
+
+    // Past this small letter, if it stands here.
+    fn letter(self, text: &[u8], letter: u8) -> Option<Cursor>
+        requires { is_letter letter ≡ true }
+        ensures { Told (passing (letter ∷ [])) text.now self.at (passed result) }
+    {
+        let Class::Letter(found) = self.class(text)? else {
+            return None;
+        };
+        (found == letter).then_some(Cursor { at: self.at + 1 })
     }
 }

@@ -2,8 +2,8 @@
 // counts its items, a second takes its numbers.
 ghost use Rattle.std.specs.Prelude.{◌≡◌, ℕ, ◌≤◌, map, length, drop};
 ghost use Rattle.std.specs.List.{position};
-ghost use Rattle.std.specs.Char.{is_ascii_digit};
 ghost use Rattle.pictures.specs.Numbers.{largest_number};
+ghost use Rattle.text_theory.specs.Decimal.{is_digit};
 ghost use Rattle.text_read.specs.Answers.{Told, read};
 ghost use Rattle.text_read.specs.Lines.{row_line, map_line, Taken};
 ghost use Rattle.text_read.specs.Inner.{figure, figures, Coming, limit_of, numbers_of, line_of};
@@ -56,11 +56,18 @@ fn numbers_of(what: Items) -> usize
     }
 }
 
+// Whether a byte is a digit.
+fn is_digit(b: u8) -> bool
+    ensures { result ≡ is_digit b }
+{
+    matches!(class_of(b), Class::Digit(_))
+}
+
 // The place of the first digit.
 fn first_digit(s: &[u8]) -> Option<usize>
-    ensures { result ≡ position is_ascii_digit s.now }
+    ensures { result ≡ position is_digit s.now }
 {
-    s.iter().position(|b| b.is_ascii_digit())
+    s.iter().position(|b| is_digit(*b))
 }
 
 impl Cursor {
