@@ -39,7 +39,7 @@ abbrev pub energy_between : ℕ → List ℕ → List ℕ → ℕ → ℕ → �
 energy_between channels it lower c right =
     difference (row_at channels right it) (row_at channels c it) + difference (row_at channels c lower) (row_at channels c it)
 
--- Of each pixel of a row of `width`.
+-- The same in a row of `width`, where column `beside` stands for the one to the right of the last.
 unfoldable pub between : ℕ → List ℕ → List ℕ → ℕ → ℕ → ℕ → ℕ
 between channels it lower width beside c = energy_between channels it lower c (right_column width beside c)
 

@@ -4,8 +4,6 @@ use Rattle.std.specs.Prelude.{Result, ℕ}
 use Rattle.pictures.specs.declared.refusals.Refusal.{Refusal}
 use Rattle.pictures.specs.Refusals.{given}
 use Rattle.pictures.specs.declared.sizes.Size.{Size}
-use Rattle.pictures.specs.declared.refusals.Refusal.{Refusal}
-use Rattle.pictures.specs.Refusals.{given}
 use Rattle.text_theory.specs.declared.Head.{Head}
 use Rattle.file_rules.specs.Answers.{answer_of}
 use Rattle.export_answers.specs.declared.names.HostSize.{HostSize}

@@ -16,8 +16,8 @@ use Rattle.program_theory.specs.Netpbm.{kind_by}
 unfoldable pub last_number : Get ℕ
 last_number = number_get largest_number ▷ λ n. after line_end (give n)
 
--- The number of the kind that the numbers of a header say: 1, "Netpbm header breaks its form", where they say none; and the rule
--- that gives it.
+-- The number by which the two numbers of a header that say a kind are refused: 1, "Netpbm header breaks its form", where they say
+-- none, and else 0; and the rule that gives it.
 abbrev pub kind_said_number : code.Option Kind → ℕ
 kind_said_number code.None = 1
 kind_said_number (code.Some k) = 0

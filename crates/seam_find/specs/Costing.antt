@@ -13,8 +13,9 @@ use Rattle.seam_bounds.specs.Spaces.{bytes_after}
 abbrev pub plain_costs : Size → Method → List ℕ → ℕ → CostRows
 plain_costs z how b i = cost_rows z.width (costs_at how z.width z.height (picture z b) i)
 
--- What holds of costs that are read from the front of a space: they and a byte for each pixel take the room that is asked for, a row has a cost
--- for each column, wherever a path comes from, and no sum reaches the fence.
+-- What holds of costs that are read from the front of a space: it and a byte for each pixel take the room that is asked for; a row has a
+-- cost for each column, the same wherever a path comes from; none is over `most` where the front has bytes and is as long as it has to
+-- be; and no sum reaches the fence.
 pub record CostingLaws (marked : Bool) (front : Size → ℕ) (costs : Size → Method → List ℕ → ℕ → CostRows) (most fence : ℕ) : Type 0 where
   pub room : (z : Size) → front z + pixels z ≡ picture_bytes z + bytes_after z marked
   pub wide : (z : Size) (how : Method) (b : List ℕ) (i : ℕ) → length (costs z how b i).up ≡ z.width
@@ -23,7 +24,7 @@ pub record CostingLaws (marked : Bool) (front : Size → ℕ) (costs : Size → 
       → (i k : ℕ) → get_or (costs z how b i).up k 0 ≤ most
   pub low : most_side * most + most < fence
 
--- Row i of a picture of this size, and rows that are as long as it.
+-- Row i of a picture of this size is asked for: there is such a row, the bytes are all of the front, and both spaces are as long as the row.
 pub record RowAsked (front : ℕ) (z : Size) (i bytes energies cost : ℕ) : Type 0 where
   pub inside : i < z.height
   pub long : bytes ≡ front

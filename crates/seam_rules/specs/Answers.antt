@@ -6,7 +6,7 @@ use Rattle.pictures.specs.Refusals.{given}
 use Rattle.seam_rules.specs.declared.answers.Ending.{Ending}
 use Rattle.seam_rules.specs.declared.answers.Removal.{Removal}
 
--- The number that an answer is refused by, 0 where a seam is given; and the seam's cost.
+-- The number that an answer is refused by, 0 where a seam is given; and the seam's cost, or whatever number an answer gives.
 abbrev pub found_number : Result ℕ Refusal → ℕ
 found_number answer = given answer
 

@@ -14,8 +14,8 @@ room_takes r b = cond (leb 1 r.left) (Some (record { left = r.left - 1 })) None
 unfoldable pub less : ℕ → ℕ → Option ℕ
 less room n = cond (leb n room) (Some (room - n)) None
 
--- The number of what is left: 8, "output space shorter than the answer", and 0 where the room is long enough; and the rule
--- that gives it.
+-- The number by which a text is refused, from what it leaves of a room: 8, "output space shorter than the answer", where it doesn't
+-- fit, and else 0; and the rule that gives it.
 abbrev pub left_number : Option ℕ → ℕ
 left_number None = 8
 left_number (Some n) = 0

@@ -1,4 +1,4 @@
--- The bytes between the numbers and the names of a file.
+-- The bytes between the numbers and the names of a file, and the text of a number that stands as two bytes.
 use Rattle.std.specs.Prelude.{List, ℕ, get_or}
 use Rattle.pictures.specs.Numbers.{two_bytes}
 use Rattle.text_theory.specs.Decimal.{digits}

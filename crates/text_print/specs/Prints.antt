@@ -2,8 +2,8 @@
 use Rattle.std.specs.Prelude.{◌≡◌, Option, None, Some, cond, List, [], ◌∷◌, ◌++◌, ℕ, ◌+◌, leb, ltb, length, take, drop}
 use Rattle.pictures.specs.Refusals.{Rule, ◌when◌}
 
--- The number of a place: 8, "output space shorter than the answer", where there is none, and 0 where something was printed; and
--- the rule that gives it.
+-- The number by which printing is refused, from the place after what it printed: 8, "output space shorter than the answer", where
+-- there is none, and else 0; and the rule that gives it.
 abbrev pub place_number : Option ℕ → ℕ
 place_number None = 8
 place_number (Some n) = 0

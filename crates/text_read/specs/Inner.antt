@@ -49,7 +49,8 @@ abbrev pub Coming : ℕ → ℕ → List ℕ → Type 0
 Coming limit zero s = Unit
 Coming limit (suc n) s = (r : ℕ × List ℕ) × (figure s ≡ some r) × (r.0 ≤ limit) × Coming limit n r.1
 
--- Lines of every name and of all items, as one reader of numbers: how large a number may be, how many an item has.
+-- Of each kind of items: how large their numbers may be, how many numbers an item has, the reader of all numbers of such a line from its
+-- name on, and that of the line.
 abbrev pub limit_of : Items → ℕ
 limit_of Samples = 255
 limit_of Pixels = 255

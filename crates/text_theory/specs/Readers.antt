@@ -3,7 +3,7 @@ use Rattle.std.specs.Prelude.{cond, List, [], ◌∷◌, ℕ, zero, suc, eqb, le
 use Rattle.std.proofs.Math.Option.{Option, none, some}
 use Rattle.std.specs.Prelude as code
 
--- What code answers, as the definitions say it.
+-- An answer of the code as one of the definitions.
 abbrev pub answered : {A : Type 0} → code.Option A → Option A
 answered code.None = none
 answered (code.Some a) = some a

@@ -8,7 +8,7 @@ use Rattle.map_theory.specs.Judged.{same, connected}
 use Rattle.map_rules.specs.Spaces.{map_space_rules}
 use Rattle.pictures.specs.Numbers.{numbers_in}
 
--- The number that a recorded map, which isn't refused by 9, is given where the second is the one that it should be.
+-- The number that a recorded map, which isn't refused by 9, is given where `built` is the one that it should be.
 abbrev pub beside_built : List ℕ → List ℕ → ℕ → ℕ → ℕ → ℕ
 beside_built recorded built w h k =
     cond (same (numbers_in recorded) (numbers_in built)) 0 (cond (connected (near false) w k (rows_of w h (numbers_in recorded))) 11 10)
