@@ -7,8 +7,8 @@ ghost use Rattle.seam_find.specs.Tracing.{traceable, traced};
 use pictures::LARGEST_SIDE;
 
 // The columns of the path to `column` of the last row, put into the front of seam from the top row. Row i of ways says
-// where each column of row i + 1 comes from. Where there is no such path the seam is left as it was: nothing is refused, as the
-// function that this one has always been can't fail.
+// where each column of row i + 1 comes from. Where there is no such path the seam is left as it was: a public
+// function that couldn't fail still can't.
 pub fn trace_back(ways: &[u8], width: usize, height: usize, column: usize, seam: &mut [u16])
     ensures { seam.new ≡ traced ways.now width height column seam.old }
 {
