@@ -2,7 +2,7 @@
 use mathlib.Core.Path.{◌≡◌, sym, ap, ◌∙◌}
 use mathlib.Core.List.{List, ◌++◌}
 use Prim.Native.Nat.{ℕ, ◌+◌, ◌-◌, ◌*◌, ◌<◌}
-use native.Mathlib.Nat.{zero-mul, suc-mul}
+use native.Mathlib.Nat.{suc-mul}
 use native.Mathlib.Numerals.{add-one}
 use native.Mathlib.Omega.{arith}
 use lib.ListN.{length, take, drop}
@@ -17,9 +17,6 @@ module _ {A : Type 0} (whole before : List A) (w : ℕ) where
   -- r rows are there, after them what was there before.
   abbrev pub FilledTo : ℕ → List A → Type 0
   FilledTo r now = now ≡ take (r * w) whole ++ drop (r * w) before
-
-  pub filled_start : FilledTo 0 before
-  filled_start = rw (zero-mul w)
 
   -- The part of row r is lent on and comes back with the row in it.
   pub filled-step : (n r a e : ℕ) (now new : List A) → length whole ≡ n * w → r < n → a ≡ r * w → e ≡ a + w → new ≡ row_at w r whole

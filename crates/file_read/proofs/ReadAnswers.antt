@@ -1,27 +1,24 @@
 -- The answers of reading a file.
-use mathlib.Core.Path.{◌≡◌, refl, sym, ap, ◌∙◌}
+use mathlib.Core.Path.{◌≡◌, refl, sym, ◌∙◌}
 use mathlib.Core.Bool.{cond}
 use mathlib.Core.List.{List, ◌++◌}
 use Prim.Native.Nat.{ℕ, ◌*◌, ◌≤◌}
 use native.Mathlib.Omega.{arith}
 use borrow.Author.Tests.{ltb-false}
 use lib.Dec.{ltb}
-use lib.ListN.{length, drop, replicate}
-use Rattle.grids.specs.Rows.{flat}
-use Rattle.std.specs.Prelude.{Result, Ok, Err}
+use lib.ListN.{length, replicate}
+use Rattle.std.specs.Prelude.{Result, Err}
 use Rattle.pictures.specs.declared.refusals.Refusal.{Refusal}
 use Rattle.pictures.specs.Refusals.{Rule, number_of, given, refusal}
-use Rattle.pictures.specs.Pictures.{picture_bytes, bytes, pixels}
+use Rattle.pictures.specs.Pictures.{picture_bytes, pixels}
 use Rattle.pictures.proofs.Rules.{refusal-most, passed, number-some, kept_by}
-use Rattle.pictures.proofs.Buffers.{length-bytes}
 use Rattle.seam_find.proofs.Worked.{worked_not}
 use Rattle.text_theory.specs.declared.Head.{Head}
 use Rattle.text_theory.specs.Files.{parse}
 use Rattle.file_theory.specs.Rules.{part_rules, judged_rules, form_rules, read_rules}
-use Rattle.file_theory.specs.Shows.{head_in, rows_in, maps_in}
+use Rattle.file_theory.specs.Shows.{head_in}
 use Rattle.file_read.specs.Reading.{ReadGiven}
 use Rattle.file_read.specs.Inner.Opening.{Open}
-use Rattle.file_read.specs.Inner.Lines.{PictureRead}
 use Rattle.file_read.specs.Inner.Checking.{MapJudged}
 use Rattle.file_rules.specs.Spaces.{space_rules, read_space_rules}
 use Rattle.file_rules.proofs.Ranges.{read_own_lem}
@@ -81,15 +78,3 @@ module _ (file picture map work : List ℕ) where
         map_given = kept_by why _ map;
         work_left = judged_work file work (Err why) work' j;
       }
-
-      pub read-accepted : {work' : List ℕ} → MapJudged file work (Ok tt) work' → {at : ℕ} {picture' map' : List ℕ} → PictureRead file h picture at picture'
-          → map' ≡ flat (maps_in (parse file)) ++ drop (length (flat (maps_in (parse file)))) map → ReadGiven file picture map work (Ok h) picture' map' work'
-      read-accepted {work'} j r m =
-          let long : length (bytes (rows_in (parse file))) ≡ picture_bytes h.size = length-bytes h.size (rows_in (parse file)) (opened file h o).of_size in
-          record {
-            number = same_number j;
-            head = sym o.head_is;
-            picture_given = r.space_is ∙ ap (λ n. bytes (rows_in (parse file)) ++ drop n picture) (sym long);
-            map_given = m;
-            work_left = judged_work file work (Ok tt) work' j;
-          }

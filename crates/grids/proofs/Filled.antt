@@ -2,12 +2,12 @@
 use mathlib.Core.Path.{◌≡◌, refl, sym, ap, ◌∙◌}
 use mathlib.Core.List.{List, [], ◌∷◌, ◌++◌, append-nil, append_assoc, map}
 use Prim.Native.Nat.{ℕ, zero, suc, ◌+◌, ◌-◌, ◌*◌, ◌≤◌, ◌<◌}
-use native.Mathlib.Nat.{zero-mul, suc-mul}
+use native.Mathlib.Nat.{suc-mul}
 use native.Mathlib.Numerals.{add-one}
 use native.Mathlib.Omega.{arith}
 use borrow.Rule.Slice.PartMut.{mid_of, put_mid}
 use lib.ListN.{length, take, drop, length-drop, take-append-drop, drop_of_length-le}
-use lib.Seq.{take_at, drop_at, drop-drop, drop-append-le, sets, sets-eq}
+use lib.Seq.{take_at, drop_at, drop-drop, drop-append-le}
 use Rattle.grids.specs.Table.{table}
 use Rattle.grids.specs.Rows.{flat}
 use Rattle.grids.proofs.Tables.{each-table}
@@ -28,9 +28,6 @@ map-table g f (suc n) = map-append g (table f n) (f n ∷ []) ∙ ap (◌++ (g (
 -- r parts of w elements stand at the front, and after them what stood there.
 abbrev pub Filled : {A : Type 0} → (ℕ → List A) → ℕ → List A → ℕ → List A → Type 0
 Filled f w old r now = now ≡ flat (table f r) ++ drop (r * w) old
-
-pub filled_start : {A : Type 0} (f : ℕ → List A) (w : ℕ) (old : List A) → Filled f w old 0 old
-filled_start f w old = rw (zero-mul w)
 
 module _ {A : Type 0} (f : ℕ → List A) (n w : ℕ) (size : (i : ℕ) → i < n → length (f i) ≡ w) (old : List A) where
   pub filled-length : (r : ℕ) → r ≤ n → length (flat (table f r)) ≡ r * w
@@ -61,12 +58,6 @@ module _ {A : Type 0} (f : ℕ → List A) (n w : ℕ) (size : (i : ℕ) → i <
         let D = drop (r * w) now in
         let tail : drop w (take k D) ++ drop k D ≡ drop (r * w + w) now = sym (drop-append-le w (take k D) (drop k D) room) ∙ ap (drop w) (take-append-drop k D) ∙ drop-drop w (r * w) now in
         rw (is, append_assoc, tail) filled_more
-
-    -- The part as stores leave it.
-    pub filled-sets : r * w + w ≤ length now → Filled f w old (r + 1) (sets now (r * w) (f r))
-    filled-sets room =
-        let l = size r inside in
-        rw (sets-eq (f r) now (r * w) (omega arith), l, append_assoc) filled_more
 
   -- What was lent after the last part, as it comes back.
   pub filled-rest : (now new : List A) → Filled f w old n now → put_mid (n * w) (length now - n * w) now new ≡ flat (table f n) ++ new

@@ -4,7 +4,6 @@ use mathlib.Core.Logic.{⊎_elim}
 use mathlib.Core.List.{List, [], ◌∷◌, ◌++◌, append-nil, append_assoc}
 use Prim.Native.Nat.{ℕ, zero, suc, ◌+◌, ◌*◌, ◌≤◌, ◌<◌}
 use native.Mathlib.Nat.{zero-mul, suc-mul, add_comm, le_of_suc-le-suc, mul-le-mul_right, min-le_left, le_trans}
-use native.Mathlib.Numerals.{add-one}
 use native.Mathlib.Omega.{arith}
 use lib.ListN.{length, get_or, take, drop, length-append, length-take, length-drop, get_or-eq_default, drop_of_length-le}
 use lib.Seq.{take-add, take_at, drop_at, length-take-le, take-nil, get_or-take, get_or-drop, drop-drop}
@@ -15,9 +14,6 @@ use Rattle.grids.proofs.Orders.{le-or-lt}
 -- The r-th of n parts of w ends within n parts, and so does the one after it, where there is one.
 pub part_end : (r n w : ℕ) → r < n → r * w + w ≤ n * w
 part_end r n w h = rw (← suc-mul r w) (mul-le-mul_right w h)
-
-pub part_next : (r n w : ℕ) → r + 1 < n → r * w + w + w ≤ n * w
-part_next r n w h = rw (add-one r, suc-mul r w) at (part_end (r + 1) n w h)
 
 module _ {A : Type 0} where
   pub length-rows_of : (w n : ℕ) (b : List A) → length (rows_of w n b) ≡ n

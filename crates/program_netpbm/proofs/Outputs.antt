@@ -2,7 +2,7 @@
 use mathlib.Core.Path.{◌≡◌, sym, ap, ◌∙◌}
 use mathlib.Core.Bool.{true, cond}
 use mathlib.Core.Option.{Option, none, some}
-use Rattle.std.specs.Prelude.{Result, Ok, Err, Some}
+use Rattle.std.specs.Prelude.{Result, Ok, Err}
 use mathlib.Core.List.{List, [], ◌∷◌, ◌++◌}
 use Prim.Native.Nat.{ℕ, zero, suc, ◌-◌, ◌≤◌, ◌<◌}
 use native.Mathlib.Omega.{arith}
@@ -16,8 +16,6 @@ use Rattle.pictures.specs.Refusals.{Rule, ◌when◌, number_of, given, refusal,
 use Rattle.pictures.proofs.Rules.{passed, kept_by, refused_answer}
 use Rattle.text_theory.specs.Readers.{Get}
 use Rattle.text_read.specs.Answers.{Told}
-use Rattle.text_print.specs.Prints.{Put}
-use Rattle.text_print.proofs.Written.{put_front}
 use Rattle.program_theory.specs.Programs.{most_input, input_rule, refused_text, written}
 use Rattle.program_netpbm.specs.Outputs.{Wrote, output_number, output_length, Finished}
 use Rattle.program_netpbm.specs.Inner.{Answered}
@@ -44,16 +42,6 @@ number-below refusals.StaleSeam = omega arith
 number-below refusals.Ranges = omega arith
 number-below refusals.GridSide = omega arith
 number-below refusals.NotBlocked = omega arith
-
--- A refusal printed in the answer's place.
-pub finished_refused : (why : Refusal) {out out' : List ℕ} {n : ℕ} → length (refused_text (number_of why)) ≤ length out
-    → Put out 0 (refused_text (number_of why)) (Some n) out' → Finished (Err why) out n out'
-finished_refused why {out} {n = n} h P =
-    let front = put_front h P in
-    record {
-      length_is = front.0 ∙ kept_by why 0 (length (refused_text (number_of why)));
-      out_is = front.1 ∙ kept_by why out (refused_text (number_of why) ++ drop (length (refused_text (number_of why))) out);
-    }
 
 -- An answer that is then finished is what the program writes.
 module _ {rules : List Rule} {answer out : List ℕ} {o : Result ℕ Refusal} {mid : List ℕ} {n : ℕ} {out' : List ℕ} where

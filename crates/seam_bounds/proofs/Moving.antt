@@ -1,12 +1,12 @@
 -- Laws of what is decided of moves: columns of a seam inside a picture, and two places of a space.
 use mathlib.Core.Path.{◌≡◌, refl}
 use mathlib.Core.Logic.{◌⊎◌, inl, inr}
-use mathlib.Core.Bool.{Bool, true, false, ◌&&◌, ◌||◌}
+use mathlib.Core.Bool.{Bool, true, false, ◌||◌}
 use mathlib.Core.List.{List, [], ◌∷◌}
 use Prim.Native.Nat.{ℕ, suc, ◌+◌, ◌≤◌, ◌<◌}
 use native.Mathlib.Numerals.{add-one}
 use native.Mathlib.Omega.{arith}
-use borrow.Author.Tests.{leb-true, leb-false, le-leb, lt-leb}
+use borrow.Author.Tests.{leb-false, le-leb, lt-leb}
 use lib.Dec.{leb}
 use lib.ListN.{length, get_or, drop}
 use lib.Seq.{drop-cons}
@@ -38,18 +38,6 @@ outside-here w s r h l = rw (drop-cons s r 0 h, le-leb w (get_or s r 0) l)
 pub outside-next : (w : ℕ) (s : List ℕ) (r : ℕ) → r < length s → get_or s r 0 < w → outside w (drop (r + 1) s) ≡ outside w (drop r s)
 unfolding outside
 outside-next w s r h l = rw (add-one r, drop-cons s r 0 h, lt-leb w (get_or s r 0) l)
-
--- What the test of two places says.
-pub places_are : (space from to n : ℕ) → apart_in space from to n ≡ true → PlacesApart space from to n
-places_are space from to n e = go (leb (from + n) space) (leb (to + n) space) (leb (from + n) to) (leb (to + n) from) refl refl refl refl e
-  where
-    go : (a b c d : Bool) → leb (from + n) space ≡ a → leb (to + n) space ≡ b → leb (from + n) to ≡ c → leb (to + n) from ≡ d
-        → (a && (b && (c || d))) ≡ true → PlacesApart space from to n
-    go true true true d p q r s t = record { from_inside = leb-true _ _ p; to_inside = leb-true _ _ q; apart = inl (leb-true _ _ r) }
-    go true true false true p q r s t = record { from_inside = leb-true _ _ p; to_inside = leb-true _ _ q; apart = inr (leb-true _ _ s) }
-    go true true false false p q r s t = absurd (let z : ◌≡◌ {A = ℕ} 0 1 = cc in omega arith)
-    go true false c d p q r s t = absurd (let z : ◌≡◌ {A = ℕ} 0 1 = cc in omega arith)
-    go false b c d p q r s t = absurd (let z : ◌≡◌ {A = ℕ} 0 1 = cc in omega arith)
 
 -- And the other way round.
 pub are_places : (space from to n : ℕ) → PlacesApart space from to n → apart_in space from to n ≡ true

@@ -1,31 +1,24 @@
 -- Laws of a seam closed up: the rows that are left, in the terms of the loop that closes them.
-use mathlib.Core.Path.{◌≡◌, refl, sym, ap, ap₂, subst, ◌∙◌}
-use mathlib.Core.Bool.{false, cond, not}
-use mathlib.Core.List.{List, [], ◌∷◌, ◌++◌, map}
-use Prim.Native.Nat.{ℕ, suc, ◌+◌, ◌-◌, ◌*◌, ◌≤◌, ◌<◌}
+use mathlib.Core.Path.{◌≡◌, sym, ap, ap₂, ◌∙◌}
+use mathlib.Core.List.{List, [], ◌++◌, map}
+use Prim.Native.Nat.{ℕ, ◌+◌, ◌-◌, ◌*◌, ◌≤◌, ◌<◌}
 use native.Mathlib.Nat.{le_of_eq, one-mul, mul-add, mul-le-mul_right, add-sub_cancel_left}
 use native.Mathlib.Omega.{arith}
-use borrow.Author.Tests.{eqb-true, not-false}
 use borrow.Rule.Slice.PartMut.{mid_of, put_mid, mid_len}
-use lib.Dec.{eqb}
 use lib.ListN.{length, get_or, take, drop, replicate, length-append, length-drop}
 use lib.Seq.{take_at, take_all, length-take-le}
-use Rattle.grids.specs.Each.{Each, Grid}
 use Rattle.grids.specs.Table.{table}
 use Rattle.grids.specs.Rows.{rows_of, flat, row_at}
 use Rattle.grids.specs.Cut.{remove_at, cut}
 use Rattle.grids.proofs.Shapes.{each-length, each_at, get_or-map}
 use Rattle.grids.proofs.Tables.{table_same}
 use Rattle.grids.proofs.Rows.{flat-rows_of, length-row_at, rows_of_at, length-rows_of, part_end}
-use Rattle.grids.proofs.Cut.{cut-each, cut-table, flat-remove_at}
+use Rattle.grids.proofs.Cut.{cut-table, flat-remove_at}
 use Rattle.pictures.specs.Limits.{most_picture}
 use Rattle.pictures.specs.declared.sizes.Size.{Size}
-use Rattle.pictures.specs.Refusals.{◌when◌, refusal}
-use Rattle.pictures.specs.Pictures.{largest_side, channels_of, row_bytes, picture_bytes, size_rules, picture, bytes, OfSize}
-use Rattle.pictures.proofs.Rules.{served-both, passed}
+use Rattle.pictures.specs.Pictures.{largest_side, channels_of, row_bytes, picture_bytes, picture, bytes}
 use Rattle.pictures.proofs.Limits.{line-fits, Sized, sized_is}
 use Rattle.pictures.proofs.Buffers.{picture-of_size}
-use Rattle.seam_bounds.specs.Moves.{close_length_rules, close_column_rules, outside}
 use Rattle.seam_bounds.proofs.Moving.{inside_each}
 use Rattle.seam_close.specs.Inner.{without, CloseNeeded}
 use Rattle.grids.proofs.Filled.{map-table, Filled, filled-later, filled-part, filled-rest}
@@ -61,27 +54,6 @@ closed_is z b s e l =
     ∙ ap flat (map-table flat (λ r. remove_at (get_or s r 0) (get_or p r [])) z.height
     ∙ table_same (λ r. flat (remove_at (get_or s r 0) (get_or p r []))) (closed_row n (row_bytes z) b s) z.height
     (λ r h. flat-remove_at (get_or s r 0) (each_at r [] h shape) ∙ ap (without (get_or s r 0 * n) n) (row-flat z b r e h)))
-
--- The picture left is a picture of its size, one column narrower.
-pub closed-of_size : (z : Size) (b s : List ℕ) (w : ℕ) → length b ≡ picture_bytes z → length s ≡ z.height → outside z.width s ≡ false → z.width ≡ suc w
-    → OfSize (record { width = w; height = z.height; kind = z.kind }) (cut s (picture z b))
-closed-of_size z b s w e l o is = cut-each columns (subst (λ n. Each (Grid (channels_of z.kind) n) z.height (picture z b)) is (picture-of_size z b e))
-  where
-    columns : Each (λ c. c < suc w) z.height s
-    columns = subst (λ n. Each (λ c. c < n) z.height s) is (rw l at (inside_each z.width s o))
-
--- What closing the rows needs, where no rule applies.
-pub close_needed : (b : List ℕ) (z : Size) (s : List ℕ)
-    → refusal (close_length_rules z (length b) (length s)) ≡ 0 → refusal (close_column_rules z.width (outside z.width s)) ≡ 0
-    → CloseNeeded b z s
-close_needed b z s lengths columns =
-    let both = served-both (size_rules z (length b)) (4 when not (eqb (length s) z.height) ∷ []) refl lengths in
-    let same : not (eqb (length s) z.height) ≡ false = (passed (not (eqb (length s) z.height)) 3 0 both.1).0 in
-    record {
-      sized = both.0;
-      columns = eqb-true (length s) z.height (not-false (eqb (length s) z.height) same);
-      inside = (passed (outside z.width s) 9 (cond (eqb z.width 1) 13 0) columns).0;
-    }
 
 -- The loop over the rows, where pixels have n bytes and rows w pixels.
 module _ {z : Size} {b s : List ℕ} {n : ℕ} (needed : CloseNeeded b z s) (is : n ≡ channels_of z.kind) where

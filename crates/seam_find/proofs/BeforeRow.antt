@@ -9,8 +9,8 @@ use lib.Seq.{take_at}
 use Rattle.pictures.specs.declared.sizes.Size.{Size}
 use Rattle.seam_theory.specs.Sums.{CostRows, fenced, sums_down}
 use Rattle.seam_theory.proofs.Bounded.{length-sums}
-use Rattle.seam_find.specs.Inner.Down.{DownNeeded, DownGiven, RowNeeded, RowGiven}
-use Rattle.seam_find.proofs.Downs.{Downs, above-long, down-start, down_turn, down-end}
+use Rattle.seam_find.specs.Inner.Down.{DownNeeded, RowNeeded, RowGiven}
+use Rattle.seam_find.proofs.Downs.{Downs, above-long, down-start, down_turn}
 
 -- The loop over the rows. Before row i, which is not the first, the ways and the sums are those of the rows above it, and the
 -- rows that are lent are as long as they were.
@@ -73,7 +73,3 @@ module _ {fence from : ℕ} {z : Size} {costsIn : List ℕ → ℕ → CostRows}
       cost_kept = c ∙ holds.cost_kept;
       next_kept = n ∙ holds.next_kept;
     }
-
-    pub before-end : z.height ≤ i → DownGiven fence from z costsIn start space above
-    before-end past =
-        down-end fence from z costsIn start length-costs needed.room i space above (omega (arith, holds.within)) holds.downs

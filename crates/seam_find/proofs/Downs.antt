@@ -16,7 +16,7 @@ use Rattle.pictures.specs.declared.sizes.Size.{Size}
 use Rattle.seam_theory.specs.Sums.{CostRows, fenced, way_of3, sums_down, ways_up}
 use Rattle.seam_theory.proofs.Sums.{ways-long}
 use Rattle.seam_theory.proofs.Bounded.{fenced_at, length-sums, sums-most}
-use Rattle.seam_find.specs.Inner.Down.{ways_at, DownGiven, RowGiven}
+use Rattle.seam_find.specs.Inner.Down.{ways_at, RowGiven}
 
 module _ (fence from : ℕ) (z : Size) (costsIn : List ℕ → ℕ → CostRows) (start : List ℕ) where
   abbrev costs : ℕ → CostRows
@@ -143,6 +143,3 @@ module _ (fence from : ℕ) (z : Size) (costsIn : List ℕ → ℕ → CostRows)
         where
           go : (j : ℕ) → i ≡ suc j → i < z.height → Downs i space above → RowGiven fence from z costsIn i space above space' above' → Downs (i + 1) space' above'
           go j e h d g = rw (add-one i, e) (turn j space above space' above' (rw e at h) (rw e at d) (rw e at g))
-
-      pub down-end : (i : ℕ) (space above : List ℕ) → i ≡ z.height → Downs i space above → DownGiven fence from z costsIn start space above
-      down-end i space above e d = record { ways = rw e at d.space_is; sums = rw e at d.above-is }

@@ -1,13 +1,12 @@
 -- Laws of rows and columns exchanged, in the terms of the loops over a picture's bytes.
 use mathlib.Core.Path.{◌≡◌, refl, sym, ap, ap₂, ◌∙◌}
-use mathlib.Core.Bool.{cond}
 use mathlib.Core.List.{List, [], ◌∷◌, ◌++◌, append-nil, map}
 use Prim.Native.Nat.{ℕ, ◌+◌, ◌-◌, ◌*◌, ◌≤◌, ◌<◌}
 use native.Mathlib.Nat.{mul_left_comm, add-sub_cancel_left}
 use native.Mathlib.Omega.{arith}
-use borrow.Author.Tests.{leb-false, ltb-false}
+use borrow.Author.Tests.{ltb-false}
 use borrow.Rule.Slice.PartMut.{mid_of, put_mid, mid_len}
-use lib.Dec.{leb, ltb}
+use lib.Dec.{ltb}
 use lib.ListN.{length, get_or, take, drop, drop_of_length-le}
 use lib.Seq.{drop-drop}
 use Rattle.grids.specs.Each.{Grid}
@@ -26,7 +25,7 @@ use Rattle.pictures.specs.Pictures.{channels_of, picture_bytes, size_rules, pict
 use Rattle.pictures.proofs.Rules.{served-both, passed}
 use Rattle.pictures.proofs.Limits.{Sized, sized_is}
 use Rattle.pictures.proofs.Buffers.{picture-of_size, pixel_at}
-use Rattle.seam_bounds.specs.Moves.{exchange_rules, column_rules}
+use Rattle.seam_bounds.specs.Moves.{exchange_rules}
 use Rattle.seam_moves.specs.Between.{part_at}
 use Rattle.seam_moves.specs.Moving.{column_bytes}
 use Rattle.seam_moves.specs.Inner.{ColumnNeeded, ExchangeNeeded}
@@ -84,17 +83,6 @@ exchange_needed b z to e =
     let short = ltb (length to) (picture_bytes z) in
     let both = served-both (size_rules z (length b)) (8 when short ∷ []) refl e in
     record { sized = both.0; room = ltb-false (length to) (picture_bytes z) (passed short 7 0 both.1).0 }
-
-pub copy_needed : (b : List ℕ) (z : Size) (c : ℕ) (out : List ℕ) → refusal (column_rules z (length b) c (length out)) ≡ 0 → ColumnNeeded b z c out
-copy_needed b z c out e =
-    let short = ltb (length out) (z.height * channels_of z.kind) in
-    let both = served-both (size_rules z (length b)) (8 when short ∷ 10 when leb z.width c ∷ []) refl e in
-    let room = passed short 7 (cond (leb z.width c) 10 0) both.1 in
-    record {
-      sized = both.0;
-      inside = leb-false z.width c (passed (leb z.width c) 9 0 room.1).0;
-      room = ltb-false (length out) (z.height * channels_of z.kind) room.0;
-    }
 
 -- The loop over a column's pixels, of n bytes each.
 module _ (z : Size) (b : List ℕ) (n c : ℕ) (space : List ℕ) (is : n ≡ channels_of z.kind) (needed : ColumnNeeded b z c space) where
@@ -175,9 +163,6 @@ module _ (z : Size) (b space : List ℕ) (s : ℕ) (needed : ExchangeNeeded b z 
   module _ (c : ℕ) (now : List ℕ) (inside : c < z.width) (long : length now ≡ length space) where
     part : length (mid_of (c * s) (c * s + s - c * s) now) ≡ s
     part = mid_len (c * s) (c * s + s) now (omega (arith, (column-sure c inside).room)) ∙ add-sub_cancel_left (c * s) s
-
-    pub column-needed : ColumnNeeded b z c (mid_of (c * s) (c * s + s - c * s) now)
-    column-needed = record { sized = needed.sized; inside = inside; room = omega (arith, part) }
 
     pub columns-turn : (new : List ℕ) → Filled (column_bytes z b) s space c now
         → new ≡ column_bytes z b c ++ drop (z.height * channels_of z.kind) (mid_of (c * s) (c * s + s - c * s) now)

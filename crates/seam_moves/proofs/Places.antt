@@ -5,10 +5,8 @@ use mathlib.Core.List.{List, [], ◌∷◌, ◌++◌, append-nil, append_assoc}
 use Prim.Native.Nat.{ℕ, zero, suc, ◌+◌, ◌-◌, ◌≤◌, ◌<◌}
 use native.Mathlib.Nat.{add-sub_of_le, add-sub_cancel_left}
 use native.Mathlib.Omega.{arith}
-use lib.ListN.{length, take, drop, length-append, length-drop, drop_of_length-le, take-append-drop}
-use lib.Seq.{take-take, drop-drop, take_at, drop_at, drop-append-le, length-take-le}
-use borrow.Rule.Slice.PartMut.{put_mid}
-use Rattle.grids.proofs.Parts.{put_part}
+use lib.ListN.{length, take, drop, length-append, length-drop, drop_of_length-le}
+use lib.Seq.{take-take, drop-drop, take_at, drop_at, length-take-le}
 use Rattle.seam_bounds.specs.Inner.{PlacesApart}
 use Rattle.seam_moves.specs.Between.{part_at, put_at}
 
@@ -79,24 +77,3 @@ module _ (old : List ℕ) (from n to : ℕ) (places : PlacesApart (length old) f
       let none : drop n (take m back) ≡ [] = rw (back-is, is) (full (take n (drop to old)) (length_part to n old to_inside)) in
       let one : new ≡ make (part_at from n old) = New-is ∙ ap₂ (λ x y. make x ++ y) lent none ∙ append-nil (make (part_at from n old)) in
       ap₂ ◌++◌ front-is (ap₂ ◌++◌ one (ap₂ drop is back-is ∙ drop-drop n to old))
-
-  pub into_front : (front back new : List ℕ) → to ≤ from → front ≡ take from old → back ≡ drop from old
-      → new ≡ make (take m back) ++ drop n (take (to + m - to) (drop to front))
-      → put_mid to (to + m - to) front new ++ back ≡ put_at to n (make (part_at from n old)) old
-  into_front front back new h front-is back-is New-is =
-      let from_inside = places.from_inside in
-      let l : to + n ≤ from = higher h places.apart in
-      let front-long : length (take from old) ≡ from = length-take-le from old (omega arith) in
-      let room : to + n ≤ length (take from old) = omega arith in
-      let lent : take m back ≡ part_at from n old = rw (back-is, is) in
-      let none : drop n (take (to + m - to) (drop to front)) ≡ [] = rw (front-is, add-sub_cancel_left to m, is) (full (take n (drop to (take from old))) (length_part to n (take from old) room)) in
-      let one : new ≡ make (part_at from n old) = New-is ∙ ap₂ (λ x y. make x ++ y) lent none ∙ append-nil (make (part_at from n old)) in
-      let tail : drop (to + n) (take from old) ++ drop from old ≡ drop (to + n) old =
-      sym (drop-append-le (to + n) (take from old) (drop from old) room) ∙ ap (drop (to + n)) (take-append-drop from old) in
-      let x = make (part_at from n old) in
-      ap (◌++ back) (put_part to (to + m) front new (omega arith))
-      ∙ ap (λ k. (take to front ++ (new ++ drop (to + k) front)) ++ back) is
-      ∙ ap₂ (λ f b. (take to f ++ (new ++ drop (to + n) f)) ++ b) front-is back-is
-      ∙ ap₂ (λ f y. (f ++ (y ++ drop (to + n) (take from old))) ++ drop from old) (take-take to from old h) one
-      ∙ append_assoc (take to old) (x ++ drop (to + n) (take from old)) (drop from old)
-      ∙ ap (take to old ++◌) (append_assoc x (drop (to + n) (take from old)) (drop from old) ∙ ap (x ++◌) tail)

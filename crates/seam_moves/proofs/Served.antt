@@ -2,17 +2,17 @@
 use mathlib.Core.Path.{◌≡◌, refl, ap, ◌∙◌}
 use Rattle.std.specs.Prelude.{Result}
 use mathlib.Core.List.{List, [], ◌∷◌, ◌++◌}
-use Prim.Native.Nat.{ℕ, ◌*◌, ◌≤◌, ◌<◌}
-use lib.Dec.{leb, ltb}
-use borrow.Author.Tests.{lt-leb, le-ltb}
+use Prim.Native.Nat.{ℕ, ◌≤◌}
+use lib.Dec.{ltb}
+use borrow.Author.Tests.{le-ltb}
 use lib.ListN.{length, drop}
 use Rattle.grids.specs.Exchange.{exchange}
 use Rattle.pictures.specs.declared.sizes.Size.{Size}
 use Rattle.pictures.specs.declared.refusals.Refusal.{Refusal}
 use Rattle.pictures.specs.Refusals.{◌when◌, given, refusal, served}
-use Rattle.pictures.specs.Pictures.{channels_of, picture_bytes, size_rules, picture, bytes, side_rules}
+use Rattle.pictures.specs.Pictures.{picture_bytes, size_rules, picture, bytes, side_rules}
 use Rattle.pictures.proofs.Rules.{served-first}
-use Rattle.seam_moves.specs.Moving.{ExchangeGiven, column_bytes, ColumnGiven}
+use Rattle.seam_moves.specs.Moving.{ExchangeGiven}
 use Rattle.seam_bounds.specs.Inner.{PlacesApart}
 use Rattle.seam_bounds.proofs.Moving.{are_places}
 use Rattle.seam_moves.specs.Between.{part_at, put_at, copy_between_rules, CopyBetweenGiven, ExchangeBetweenGiven}
@@ -26,17 +26,6 @@ module _ (b : List ℕ) (z : Size) (to to' : List ℕ) (v : Result (Unit {0}) Re
 
   pub exchange-served : to' ≡ bytes (exchange z.width (picture z b)) ++ drop (picture_bytes z) to
   exchange-served = g.to_given ∙ ap (λ n. served n (bytes (exchange z.width (picture z b)) ++ drop (picture_bytes z) to) to) exchange_none
-
--- A picture of its size, a column of it, and room for it: the column stands at the front of the space.
-pub column-served : (b : List ℕ) (z : Size) (c : ℕ) (out out' : List ℕ) (v : Result (Unit {0}) Refusal) → ColumnGiven b z c out v out'
-    → refusal (size_rules z (length b)) ≡ 0 → z.height * channels_of z.kind ≤ length out → c < z.width
-    → out' ≡ column_bytes z b c ++ drop (z.height * channels_of z.kind) out
-column-served b z c out out' v g s l m =
-    let short = ltb (length out) (z.height * channels_of z.kind) in
-    let none : refusal (8 when short ∷ 10 when leb z.width c ∷ []) ≡ 0 = simp (le-ltb _ _ l, lt-leb _ _ m) in
-    g.out_given
-    ∙ ap (λ n. served n (column_bytes z b c ++ drop (z.height * channels_of z.kind) out) out)
-    (g.number ∙ served-first (size_rules z (length b)) (8 when short ∷ 10 when leb z.width c ∷ []) refl s ∙ none)
 
 -- Two places inside the space that don't overlap: what stands at one is put at the other.
 pub copy_between-served : (space : List ℕ) (from n to : ℕ) (v : Result (Unit {0}) Refusal) (space' : List ℕ) → CopyBetweenGiven space from n to v space'

@@ -75,9 +75,6 @@ module _ (work : List ℕ) (at : ℕ) (z : Size) (x : Axis) (seam : List ℕ) (t
   same_bytes : picture_bytes t ≡ picture_bytes z
   same_bytes = turned-bytes x z
 
-  pub left_allowed : refusal (side_rules left) ≡ 0
-  left_allowed = left-sides t (sides_are t sides-t) needed.wide
-
   room : at + picture_bytes t ≤ length work
   room = omega (arith, same_bytes, needed.places.from_inside)
 

@@ -1,5 +1,5 @@
 -- What the rules say of sizes and lengths that they don't refuse.
-use mathlib.Core.Path.{◌≡◌, refl, sym, ◌∙◌}
+use mathlib.Core.Path.{◌≡◌, refl, ◌∙◌}
 use mathlib.Core.Bool.{true, false, not, cond}
 use mathlib.Core.List.{List, [], ◌∷◌}
 use Prim.Native.Nat.{ℕ, ◌*◌, ◌≤◌, ◌<◌}
@@ -8,9 +8,9 @@ use lib.Dec.{eqb, ltb}
 use borrow.Author.Tests.{ne_eqb, eq-eqb, eqb-true, le-ltb, ltb-false, leb-true, leb-false, not-false}
 use Rattle.pictures.specs.declared.sizes.Size.{Size}
 use Rattle.pictures.specs.declared.refusals.Refusal.{Refusal}
-use Rattle.pictures.specs.Refusals.{◌when◌, number_of, refusal, served}
+use Rattle.pictures.specs.Refusals.{◌when◌, number_of, refusal}
 use Rattle.pictures.specs.Pictures.{picture_bytes, size_rules, pixels}
-use Rattle.pictures.proofs.Rules.{served-first, served-both, passed, number-some, served-not}
+use Rattle.pictures.proofs.Rules.{served-first, served-both, passed, number-some}
 use Rattle.seam_rules.specs.declared.answers.Axis.{Axis}
 use Rattle.seam_rules.specs.Axes.{turned_size}
 use Rattle.seam_rules.specs.Cuts.{cleared, find_rules, close_along_lengths, mark_allowed}
@@ -66,9 +66,6 @@ mark_over m e = omega (arith, leb-false m 2 e)
 module _ (why : Refusal) (n : ℕ) (e : number_of why ≡ n) where
   some : 0 < n
   some = rw e at (number-some why)
-
-  pub left_as_was : {A : Type 0} (x y : A) → y ≡ served n x y
-  left_as_was x y = sym (served-not n x y some)
 
   pub work_as_was : n ≤ 8 → (work : List ℕ) → work ≡ cleared n work
   work_as_was h work = let z : n ≡ 0 → ⊥ = λ q. omega (arith, some) in simp (ne_eqb _ _ z, le-ltb _ _ h)

@@ -1,8 +1,7 @@
 -- Laws of sizes turned for a seam along an axis, stated once over the axis.
 use mathlib.Core.Path.{◌≡◌, refl}
-use Prim.Native.Nat.{ℕ, ◌≤◌, ◌<◌}
+use Prim.Native.Nat.{ℕ, ◌≤◌}
 use native.Mathlib.Nat.{mul_comm, mul_left_comm}
-use Rattle.grids.proofs.Orders.{more_than_one}
 use Rattle.pictures.specs.declared.sizes.Size.{Size}
 use Rattle.pictures.specs.Refusals.{refusal}
 use Rattle.pictures.specs.Pictures.{largest_side, channels_of, picture_bytes, side_rules, pixels}
@@ -19,18 +18,9 @@ pub turned-pixels : (x : Axis) (z : Size) → pixels (turned_size x z) ≡ pixel
 turned-pixels Vertical z = refl
 turned-pixels Horizontal z = mul_comm z.width z.height
 
-pub turned_kind : (x : Axis) (z : Size) → channels_of (turned_size x z).kind ≡ channels_of z.kind
-turned_kind Vertical z = refl
-turned_kind Horizontal z = refl
-
 pub turned-sides : (x : Axis) (z : Size) (n : ℕ) → Sized z n → refusal (side_rules (turned_size x z)) ≡ 0
 turned-sides Vertical z n s = sides_of z s.width_some s.width_most s.height_some s.height_most
 turned-sides Horizontal z n s = sides_of (turned_size Horizontal z) s.height_some s.height_most s.width_some s.width_most
-
--- A side that isn't 1 is more.
-pub turned-some : (x : Axis) (z : Size) (n : ℕ) → Sized z n → ((turned_size x z).width ≡ 1 → ⊥) → 1 < (turned_size x z).width
-turned-some Vertical z n s two = more_than_one z.width s.width_some two
-turned-some Horizontal z n s two = more_than_one z.height s.height_some two
 
 pub turned_tall : (x : Axis) (z : Size) (n : ℕ) → Sized z n → (turned_size x z).height ≤ largest_side
 turned_tall Vertical z n s = s.height_most

@@ -1,12 +1,11 @@
 -- Sums at any width of number: what is read of them as numbers, and where they are put.
 use mathlib.Core.Path.{◌≡◌, refl, sym, ap, ap₂, ◌∙◌}
 use mathlib.Core.List.{List, ◌∷◌, ◌++◌, map}
-use Prim.Native.Nat.{ℕ, zero, suc, ◌-◌, ◌<◌}
+use Prim.Native.Nat.{ℕ, zero, suc, ◌<◌}
 use borrow.Rule.Slice.PartMut.{put_mid}
-use lib.ListN.{length, get_or, take, drop, replicate, length-map}
+use lib.ListN.{length, get_or, take, drop, replicate}
 use Rattle.std.proofs.lemmas.List.{take-map, drop-map, map-append}
 use Rattle.grids.proofs.Shapes.{get_or-map}
-use Rattle.seam_theory.specs.Sums.{least_to}
 
 module _ {A : Type 0} (value : A → ℕ) where
   -- The one at k.
@@ -27,12 +26,3 @@ module _ {A : Type 0} (value : A → ℕ) where
       map-append value (take a xs) (ys ++ drop k (drop a xs))
       ∙ ap₂ ◌++◌ (sym (take-map value a xs))
       (map-append value ys (drop k (drop a xs)) ∙ ap (map value ys ++◌) (sym (drop-map value k (drop a xs)) ∙ ap (drop k) (sym (drop-map value a xs))))
-
-  -- The first of the least of a part.
-  pub least_part : (n a : ℕ) (xs : List A)
-      → least_to (map value (take n (drop a xs))) (length (take n (drop a xs)) - 1)
-      ≡ least_to (take n (drop a (map value xs))) (length (take n (drop a (map value xs))) - 1)
-  least_part n a xs =
-      let e = values_part n a xs in
-      let l : length (take n (drop a xs)) ≡ length (map value (take n (drop a xs))) = sym (length-map (take n (drop a xs)) value) in
-      ap₂ (λ x k. least_to x (k - 1)) e (l ∙ ap length e)

@@ -4,7 +4,7 @@ use mathlib.Core.Bool.{Bool, true, false, cond}
 use mathlib.Core.Option.{Option, none, some}
 use mathlib.Core.List.{List, [], ◌∷◌}
 use Prim.Native.Nat.{ℕ, suc, ◌+◌, ◌≤◌, ◌<◌}
-use native.Mathlib.Nat.{add-zero, zero-add}
+use native.Mathlib.Nat.{add-zero}
 use native.Mathlib.Omega.{arith}
 use lib.Dec.{eqb}
 use lib.ListN.{length, get_or, drop, drop_of_length-le}
@@ -93,13 +93,6 @@ pub record Counting (w : Items) (text : List ℕ) (from n at : ℕ) : Type 0 whe
   pub few : n ≤ at
 
 module _ {w : Items} {text : List ℕ} {from : ℕ} where
-  pub counting_first : Counting w text from 0 from
-  counting_first = record { same = go (form_of w (drop from text)); there = omega arith; few = omega arith }
-    where
-      go : (o : Option (ℕ × List ℕ)) → o ≡ on o (λ m. give (0 + m))
-      go none = refl
-      go (some r) = rw zero-add
-
   module _ {n at : ℕ} (C : Counting w text from n at) where
     pub counting-next : {v : ℕ} {c : ℕ} → at < length text → get_or text at 0 ≡ 32 → Told (item_of w) text (at + 1) (some (v, c)) → Counting w text from (n + 1) (c)
     counting-next {c = c} h e t = record { same = C.same ∙ rw (drop_more text at 0 h, e, form_blank, t.same) (go (form_of w (drop (c) text))); there = omega (arith, t.moved.0); few = omega (arith, t.moved.0) }

@@ -15,7 +15,7 @@ use Rattle.text_theory.specs.Words.{name_text}
 use Rattle.text_theory.proofs.Names.{every, every_at, each_name}
 use Rattle.text_read.specs.Answers.{Told, is_letter}
 use Rattle.text_read.specs.Inner.{passing}
-use Rattle.text_read.proofs.Onward.{Left, left_start, left-past, left_no_past, left_as, after-append}
+use Rattle.text_read.proofs.Onward.{Left, left-past, left_no_past, left_as, after-append}
 
 -- A name's letters are small letters.
 pub name_letters : (n : Name) (i : ℕ) → i < length (name_text n) → is_letter (get_or (name_text n) i 0) ≡ true
@@ -57,9 +57,6 @@ pub record Spelling (w text : List ℕ) (from i at : ℕ) : Type 0 where
   pub inside : 0 < i → at ≤ length text
 
 module _ {w text : List ℕ} {from : ℕ} where
-  pub spelling_start : Spelling w text from 0 from
-  spelling_start = record { left = left_start; far = omega arith; inside = λ h. absurd (omega arith) }
-
   module _ {i at : ℕ} (S : Spelling w text from i at) where
     module _ (h : i < length w) where
       -- The letter that comes next, and those after it.

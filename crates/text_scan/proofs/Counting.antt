@@ -4,7 +4,7 @@ use mathlib.Core.Bool.{Bool, true, ◌&&◌, and-true, and_assoc}
 use mathlib.Core.Option.{Option, none, some}
 use mathlib.Core.List.{List, ◌∷◌}
 use Prim.Native.Nat.{ℕ, suc, ◌+◌, ◌≤◌, ◌<◌}
-use native.Mathlib.Nat.{add-zero, zero-add}
+use native.Mathlib.Nat.{add-zero}
 use native.Mathlib.Omega.{arith}
 use lib.Dec.{eqb}
 use lib.ListN.{length, drop}
@@ -80,13 +80,6 @@ pub record Lining (word : List ℕ) (w : Items) (width : ℕ) (text : List ℕ) 
   pub few : n ≤ at
 
 module _ {word : List ℕ} {w : Items} {width : ℕ} {text : List ℕ} {from : ℕ} where
-  pub lining_first : from ≤ length text → Lining word w width text from 0 true from
-  lining_first h = record { same = go (lines_of word w width (drop from text)); there = omega arith; inside = h; few = omega arith }
-    where
-      go : (o : Option ((ℕ × Bool) × List ℕ)) → o ≡ on o (grown 0 true)
-      go none = refl
-      go (some r) = rw zero-add
-
   module _ (pos : 0 < length word) {n : ℕ} {even : Bool} {at : ℕ} (L : Lining word w width text from n even at) where
     pub lining-stop : Told (passing word) text at none → Reached (lines_of word w width) text from (some ((n, even), at))
     lining-stop t = record { same = L.same ∙ rw (lines_stop word pos w width (drop at text) (passing-none word (drop at text) t.same), add-zero, and-true); moved = (L.there, L.inside) }

@@ -1,12 +1,11 @@
 -- `map_build::cut_seams` meets its contract: the space before the first seam, one seam more, and the last.
 use mathlib.Core.Path.{◌≡◌, refl, sym, ap, ap₂, ◌∙◌}
 use mathlib.Core.List.{◌++◌}
-use Prim.Native.Nat.{◌+◌, ◌-◌, ◌≤◌, ◌<◌}
-use borrow.Author.Rules.{rules}
+use Prim.Native.Nat.{◌+◌, ◌-◌}
 use native.Mathlib.Omega.{arith}
 use borrow.Rule.Slice.PartMut.{put_mid}
 use lib.ListN.{length, drop}
-use Rattle.pictures.specs.Pictures.{largest_side, picture_in}
+use Rattle.pictures.specs.Pictures.{picture_in}
 use Rattle.map_rules.specs.Spaces.{map_bytes, map_at}
 use Rattle.map_rules.proofs.Rooms.{Room, room_is}
 use Rattle.map_build.specs.Building.{mapped}
@@ -30,14 +29,6 @@ loop-t-init c =
     let a = c.args in
     let f = first (goal.at.loop-t-init c).After-clear in
     (refl, f.now_is ∙ sym (ap₂ (λ p r. mapped a.allowed.size a.method 0 p ++ r) f.same_picture f.same_rest))
-
-pub overflow_cast-t : goal.overflow_cast-t
-overflow_cast-t c =
-    let a = c.args in
-    let r = room (goal.at.overflow_cast-t c).After-clear in
-    let deep : a.depth < a.allowed.size.width = r.deep in
-    let most : a.allowed.size.width ≤ largest_side = r.sides.width_most in
-    search rules
 
 pub next_seam-requires : goal.next_seam-requires
 next_seam-requires c =

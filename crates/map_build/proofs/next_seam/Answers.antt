@@ -15,11 +15,10 @@ use Rattle.pictures.specs.Pictures.{largest_side, channels_of, picture_bytes, by
 use Rattle.pictures.proofs.Limits.{sides_are}
 use Rattle.energy.specs.declared.methods.Method.{Method}
 use Rattle.seam_theory.specs.PictureSeams.{seam_of}
-use Rattle.map_rules.proofs.Served.{is_served}
 use Rattle.seam_cut.specs.Cutting.{CutInGiven}
 use Rattle.seam_cut.proofs.Inside.{seam_inside}
 use Rattle.map_build.specs.Inner.Seams.{NextNeeded}
-use Rattle.map_build.proofs.CutIn.{none, cut-space, cut-seam, next_put}
+use Rattle.map_build.proofs.CutIn.{cut-space, cut-seam, next_put}
 use Rattle.map_build.proofs.next_seam.Goals as goal
 
 module _ (z : Size) (how : Method) (w at : ℕ) (space : List ℕ) (needed : NextNeeded z w at (length space)) where
@@ -48,17 +47,6 @@ module _ (z : Size) (how : Method) (w at : ℕ) (space : List ℕ) (needed : Nex
         (cut-seam (take at space) z how (replicate largest_side 0) answer front seam g needed.sides
         (omega (arith, tall, length-replicate {A = ℕ} largest_side 0)) (omega (arith, front_long, needed.work_room)) needed.wide)
         ∙ take_at (seam_of how z.width z.height q) (drop z.height (replicate largest_side 0)) z.height (each-length (seam_inside how z.width z.height q sides.width_some sides.height_some))
-
--- there is room, and more than one column
-pub unwrap-requires : goal.unwrap-requires
-unwrap-requires c =
-    let a = c.args in
-    let k = c.cut_in in
-    is_served k.result
-    (k.ensures.number
-    ∙ none (take a.at a.space.now) a.size a.method (replicate largest_side 0) k.result k.new.space k.new.seam k.ensures c.requires.sides
-    (omega (arith, tall a.size a.method a.width a.at a.space.now c.requires, length-replicate {A = ℕ} largest_side 0))
-    (omega (arith, front_long a.size a.method a.width a.at a.space.now c.requires, c.requires.work_room)) c.requires.wide)
 
 pub overflow_mul-end : goal.overflow_mul-end
 overflow_mul-end c =

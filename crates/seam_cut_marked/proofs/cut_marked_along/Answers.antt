@@ -107,10 +107,6 @@ module _ {how : Method} {x : Axis} {z : Size} {b m room work : List ℕ} (p : Cu
 pub unwrap-requires : goal.unwrap-requires
 unwrap-requires c = picture_ok c.requires c.in_ok-cost.ensures c.marked_along.auto.work c.turned_size-turned.ensures c.close.ensures c.close.auto.work
 
-pub unwrap-requires-2 : goal.unwrap-requires-2
-unwrap-requires-2 c =
-    marks_ok c.requires c.in_ok-cost.ensures c.marked_along.auto.work c.turned_size-turned.ensures c.close.ensures c.close.auto.work c.grey-marked.ensures c.close-2.ensures
-
 pub returns : goal.returns
 returns c =
     given c.requires c.in_ok-cost.ensures c.marked_along.auto.work c.turned_size-turned.ensures c.close.ensures c.close.auto.work c.grey-marked.ensures c.close-2.ensures

@@ -84,22 +84,6 @@ module _ (b m : List ℕ) (z : Size) (x : Axis) (seam work : List ℕ) (p : Mark
     marks-seen : marks_in (turned_size x z) space ≡ turned x z.width (marks_of z m)
     marks-seen = marks_there x z b m space after sure.length_is p.marked stands
 
-pub unwrap-requires : goal.unwrap-requires
-unwrap-requires c =
-    let a = c.args in
-    turned_ok a.picture.now a.marks.now a.size a.axis a.seam.now a.work.now c.requires c.turn.result c.turn.new.to c.turn.ensures c.turn.auto.to
-
-pub unwrap-requires-2 : goal.unwrap-requires-2
-unwrap-requires-2 c =
-    let a = c.args in
-    let b = a.picture.now in
-    let front = c.turn.new.to in
-    let turns-marks : TurnGiven a.marks.now (grey_of a.size) a.axis (mid_of (length b) (length front - length b) front) c.turn-2.result c.turn-2.new.to =
-    rw c.grey-marked.ensures at c.turn-2.ensures
-    in
-    marks_ok b a.marks.now a.size a.axis a.seam.now a.work.now c.requires c.turn.result front c.turn.ensures c.turn.auto.to
-    c.turn-2.result c.turn-2.new.to turns-marks c.turn-2.auto.to
-
 pub returns : goal.returns
 unfolding marked_seam_along marked_cost_along blocked_along space
 returns c =

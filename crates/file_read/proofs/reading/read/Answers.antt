@@ -2,7 +2,7 @@
 use Rattle.std.proofs.Common.{◌≡◌, Err, rules, arith}
 use Rattle.file_read.proofs.Parsed.{opened}
 use Rattle.file_read.proofs.Places.{map-long}
-use Rattle.file_read.proofs.ReadAnswers.{read_early, read_short, map_room, read-refused, read-accepted}
+use Rattle.file_read.proofs.ReadAnswers.{read_early, read_short, map_room, read-refused}
 use Rattle.file_read.proofs.reading.read.Goals as goal
 
 pub returns-in_err-opened : goal.returns-in_err-opened
@@ -31,9 +31,3 @@ pub fill-requires-clause-room : goal.fill-requires-clause-room
 fill-requires-clause-room c =
     let f = c.in_ok-opened.opened in
     omega (arith, map-long (opened f.text.now f.head f.open), map_room _ _ _ _ _ f.open c.in_ok-judge_read_spaces.ensures)
-
-pub returns : goal.returns
-returns c =
-    rw (← c.in_ok-opened.ensures.same)
-    (read-accepted _ _ _ _ _ c.in_ok-opened.opened.open c.in_ok-judge_read_spaces.ensures c.in_ok-judge.ensures c.read_picture-maps.ensures
-    c.fill.ensures.filled)

@@ -9,7 +9,7 @@ use Rattle.text_print.proofs.Written.{never_short}
 use Rattle.program_theory.specs.Programs.{refused_text}
 use Rattle.program_theory.proofs.Lengths.{refused-most}
 use Rattle.program_netpbm.specs.Outputs.{output_space}
-use Rattle.program_netpbm.proofs.Outputs.{number-below, finished_refused}
+use Rattle.program_netpbm.proofs.Outputs.{number-below}
 use Rattle.program_netpbm.proofs.output.finish.Goals as goal
 
 room : (why : Refusal) (out : List ℕ) → length out ≡ output_space → length (refused_text (number_of why)) ≤ length out
@@ -22,6 +22,3 @@ printed (Some n) h p = refl
 
 pub unwrap-requires : goal.unwrap-requires
 unwrap-requires c = printed c.print.result (room c.in-Err.why c.args.out.now c.told-out) c.print.ensures
-
-pub returns : goal.returns
-returns c = rw c.in-Err.is (finished_refused c.in-Err.why (room c.in-Err.why c.args.out.now c.told-out) (rw c.unwrap.ensures at c.print.ensures))

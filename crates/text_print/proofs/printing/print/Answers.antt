@@ -5,9 +5,6 @@ use Rattle.text_lengths.proofs.Rooms.{less-room, less-short}
 use Rattle.text_print.proofs.Written.{put_short, put_done}
 use Rattle.text_print.proofs.printing.print.Goals as goal
 
-pub returns-in_err-checked_sub : goal.returns-in_err-checked_sub
-returns-in_err-checked_sub g c = rw c.from_residual.ensures (put_short (omega (arith, c.in_err-checked_sub.ensures)))
-
 pub returns-in_err-left_after : goal.returns-in_err-left_after
 returns-in_err-left_after g c =
     rw c.from_residual-in_err-left_after.ensures
