@@ -5,7 +5,7 @@ use mathlib.Core.Option.{Option, none, some}
 use mathlib.Core.List.{List}
 use Prim.Native.Nat.{ℕ, ◌≤◌, ◌<◌}
 use native.Mathlib.Omega.{arith}
-use lib.ListN.{length, get_or, drop, drop_of_length-le}
+use lib.ListN.{length, get_or, drop}
 use lib.Dec.{eqb}
 use borrow.Author.Tests.{eqb-true, eqb-false, ne_eqb}
 use Rattle.pictures.specs.declared.sizes.Kind.TheVariants.{Grey, Rgb}
@@ -13,9 +13,9 @@ use Rattle.pictures.specs.Numbers.{largest_number}
 use Rattle.text_theory.specs.Readers.{Get, give, on, ◌▷◌, strip, onward, after, known}
 use Rattle.text_theory.specs.Decimal.{number_get}
 use Rattle.text_theory.specs.Files.{line_end}
-use Rattle.std.proofs.lemmas.List.{drop_more}
 use Rattle.text_read.specs.Answers.{Told}
-use Rattle.text_read.proofs.Onward.{Left}
+use Rattle.text_read.proofs.Letters.{letter_end, letter-other, letter_one}
+use Rattle.text_read.proofs.Onward.{Left, left_start, left-past, left_no_past}
 use Rattle.program_theory.specs.Netpbm.{letter_p, kind_by}
 use Rattle.program_netpbm.specs.Headers.{last_number}
 
@@ -42,17 +42,17 @@ some-text text e f = omega (arith, eqb-false (length text) 0 (sym e ∙ f))
 
 module _ {B : Type 0} (g : Get B) {text : List ℕ} {empty : Bool} (e : empty ≡ eqb (length text) 0) where
   pub no_text : empty ≡ true → Told (after letter_p g) text 0 none
-  unfolding letter_p strip
-  no_text t = record { same = rw (drop_of_length-le text {i = 0} (omega (arith, eqb-true (length text) 0 (sym e ∙ t)))); moved = tt }
+  unfolding letter_p
+  no_text t = left_no_past letter_p g left_start (letter_end 80 (omega (arith, eqb-true (length text) 0 (sym e ∙ t))))
 
   module _ (f : empty ≡ false) where
     pub no_letter : (get_or text 0 0 ≡ 80 → ⊥) → Told (after letter_p g) text 0 none
-    unfolding letter_p strip
-    no_letter n = record { same = rw (drop_more text 0 0 (some-text text e f), ne_eqb 80 (get_or text 0 0) (λ h. n (sym h))); moved = tt }
+    unfolding letter_p
+    no_letter n = left_no_past letter_p g left_start (letter-other 80 (some-text text e f) (λ h. n (sym h)))
 
     pub left_letter : get_or text 0 0 ≡ 80 → Left (after letter_p g) text 0 g 1
-    unfolding letter_p strip
-    left_letter h = record { same = rw (drop_more text 0 0 (some-text text e f), h); there = omega arith }
+    unfolding letter_p
+    left_letter h = left-past letter_p left_start (letter_one 80 (some-text text e f) (sym h))
 
 -- The last number of a line, and the line end after it, before what is left to read.
 last_step : {B : Type 0} (f : ℕ → Get B) (s : List ℕ) → (number_get largest_number ▷ λ n. after line_end (f n)) s ≡ (last_number ▷ f) s
