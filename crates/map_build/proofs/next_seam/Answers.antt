@@ -1,4 +1,4 @@
--- `map_build::next_seam` meets its contract.
+-- `map_build::next_seam` meets its contract: the seam that is cut lies inside the picture, so its number has a place in each row of the map.
 use Rattle.pictures.specs.declared.refusals.Refusal.{Refusal}
 use Rattle.std.specs.Prelude.{Result}
 use mathlib.Core.Path.{◌≡◌, ap, ◌∙◌}

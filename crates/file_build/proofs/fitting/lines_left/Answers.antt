@@ -1,3 +1,4 @@
+-- A line takes what it leaves of the room less; so many take as many times that, and none is left where they don't fit.
 use mathlib.Core.Path.{sym, ap, ◌∙◌}
 use native.Mathlib.Omega.{arith}
 use Rattle.std.proofs.Common.{◌*◌}

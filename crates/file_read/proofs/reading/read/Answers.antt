@@ -1,4 +1,5 @@
--- `file_read::reading::read` meets its contract.
+-- `file_read::reading::read` meets its contract: what opening, the spaces and the judge refuse, one after the other; where they refuse
+-- nothing, both spaces are long enough for what is read into them.
 use Rattle.std.proofs.Common.{◌≡◌, Err, rules, arith}
 use Rattle.file_read.proofs.Parsed.{opened}
 use Rattle.file_read.proofs.Places.{map-long}

@@ -1,4 +1,5 @@
--- `file_read::widths::show` meets its contract.
+-- `file_read::widths::show` meets its contract: what opening, the width, the spaces and the judge refuse, one after the other; where they
+-- refuse nothing, what is drawn is what the file shows.
 use Rattle.std.proofs.Common.{◌≡◌, Err, rules}
 use Rattle.file_read.proofs.ShowAnswers.{show_early, show-short, show-refused, show-served}
 use Rattle.file_read.proofs.widths.show.Goals as goal
