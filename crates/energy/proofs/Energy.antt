@@ -1,6 +1,7 @@
 -- Laws of energies: from the bytes of two rows, and with rows and columns exchanged.
 use mathlib.Core.Path.{◌≡◌, refl, sym, ap, ap₂, ◌∙◌}
 use mathlib.Core.Logic.{⊎_elim}
+use mathlib.Core.Bool.{Bool, false}
 use mathlib.Core.Option.{Option, none, some, map, or_else}
 use mathlib.Core.List.{List, [], ◌∷◌}
 use Prim.Native.Nat.{ℕ, ◌+◌, ◌-◌, ◌*◌, ◌≤◌, ◌<◌}
@@ -19,7 +20,7 @@ use Rattle.pictures.specs.declared.sizes.Size.{Size}
 use Rattle.pictures.specs.Pictures.{Picture, channels_of, row_bytes, picture_bytes, picture, pixel}
 use Rattle.energy.specs.Around.{left_of, right_of, above_of, below_of, around}
 use Rattle.energy.specs.declared.methods.EnergyRule.{EnergyRule}
-use Rattle.energy.specs.declared.methods.EnergyRule.TheVariants.{Edge}
+use Rattle.energy.specs.declared.methods.EnergyRule.TheVariants.{Edge, Flat}
 use Rattle.energy.specs.declared.methods.Method.{Method}
 use Rattle.energy.specs.Methods.{wrap_of}
 use Rattle.energy.specs.Energy.{difference, away, costs_from, costs_at, energy, energies, energy_grid}
@@ -32,21 +33,37 @@ unfolding difference
 difference_self [] = refl
 difference_self (a ∷ p) = omega (arith, difference_self p)
 
--- What holds of 0 and of the difference to each pixel of a line holds of the difference to a neighbour on it, or else to another.
+-- What holds of 0 and of the difference to each pixel of a line holds of the difference to a neighbour on it,
 pub away_holds : (P : ℕ → Type 0) (it : List ℕ) (q : ℕ → List ℕ) → P 0 → ((a : ℕ) → P (difference (q a) it))
-    → (o else : Option ℕ) → P (away it (or_else (map q o) (map q else)))
+    → (o : Option ℕ) → P (away it (map q o))
+away_holds P it q none-there each none = none-there
+away_holds P it q none-there each (some a) = each a
+
+-- and by each rule an energy is the differences to two neighbours, one in the row and one in the column, where there are such.
+pub record TwoNeighbours (rule : EnergyRule) (wrap : Bool) (w h : ℕ) (p : Picture) (r c : ℕ) : Type 0 where
+  pub beside : Option ℕ
+  pub below : Option ℕ
+  pub energy_is : (costs_from rule (around wrap w h p r c)).up ≡ away (pixel p r c) (map (pixel p r) beside) + away (pixel p r c) (map (λ a. pixel p a c) below)
+
+else_map : {A B : Type 0} (q : A → B) (o else : Option A) → or_else (map q o) (map q else) ≡ map q (or_else o else)
 unfolding or_else
-away_holds P it q none-there each none none = none-there
-away_holds P it q none-there each none (some a) = each a
-away_holds P it q none-there each (some a) else = each a
+else_map q none else = refl
+else_map q (some a) else = refl
 
--- The line that stands for the one after the last, by each rule.
-pub past-edge : (rule : EnergyRule) (i : ℕ) → past_last rule i ≡ i - 1
-past-edge Edge i = refl
+pub two_neighbours : (rule : EnergyRule) (wrap : Bool) (w h : ℕ) (p : Picture) (r c : ℕ) → TwoNeighbours rule wrap w h p r c
+unfolding costs_from
+two_neighbours Edge wrap w h p r c = record {
+  beside = or_else (right_of wrap w c) (left_of wrap w c);
+  below = or_else (below_of h r) (above_of r);
+  energy_is =
+      ap₂ (λ x y. away (pixel p r c) x + away (pixel p r c) y) (else_map (pixel p r) (right_of wrap w c) (left_of wrap w c)) (else_map (λ a. pixel p a c) (below_of h r) (above_of r));
+}
+two_neighbours Flat wrap w h p r c = record { beside = right_of wrap w c; below = below_of h r; energy_is = refl }
 
--- It is no later one,
+-- The line that stands for the one after the last is no later one,
 past_last_lem : (rule : EnergyRule) (i : ℕ) → past_last rule i ≤ i
 past_last_lem Edge i = omega arith
+past_last_lem Flat i = omega arith
 
 -- so that the one for the line after line i is one of the n.
 pub neighbour_inside : (rule : EnergyRule) (i n : ℕ) → i < n → neighbour_of rule i n < n
@@ -56,14 +73,27 @@ neighbour_inside rule i n h =
     (λ (l : i + 1 < n). rw (lt-ltb (i + 1) n l) l)
     (le-or-lt n (i + 1))
 
--- The difference of pixel i of n that stand in a row or a column: to the one after it, or else to the one before.
-abbrev difference_at : (ℕ → List ℕ) → ℕ → ℕ → ℕ
-difference_at q i n = away (q i) (or_else (map q (below_of n i)) (map q (above_of i)))
+-- The difference of pixel i of n that stand in a row or a column: to the one after it, or else by `edge` to the one before.
+abbrev difference_at : EnergyRule → (ℕ → List ℕ) → ℕ → ℕ → ℕ
+difference_at Edge q i n = away (q i) (or_else (map q (below_of n i)) (map q (above_of i)))
+difference_at Flat q i n = away (q i) (map q (below_of n i))
 
--- It is the difference to the line that stands for the one after.
-neighbour_difference : (q : ℕ → List ℕ) (i n : ℕ) → i < n → difference_at q i n ≡ difference (q (neighbour_of Edge i n)) (q i)
+-- An energy is that of the pixel in its row and that in its column.
+energy-both : (rule : EnergyRule) (w h : ℕ) (p : Picture) (r c : ℕ)
+    → (costs_from rule (around false w h p r c)).up ≡ difference_at rule (pixel p r) c w + difference_at rule (λ a. pixel p a c) r h
+unfolding costs_from left_of right_of above_of below_of
+energy-both Edge w h p r c = refl
+energy-both Flat w h p r c = refl
+
+-- Each is the difference to the line that stands for the one after.
+neighbour_difference : (rule : EnergyRule) (q : ℕ → List ℕ) (i n : ℕ) → i < n → difference_at rule q i n ≡ difference (q (neighbour_of rule i n)) (q i)
 unfolding below_of above_of or_else
-neighbour_difference q i n h =
+neighbour_difference Flat q i n h =
+    ⊎_elim
+    (λ (l : n ≤ i + 1). rw (le-ltb (i + 1) n l, difference_self))
+    (λ (l : i + 1 < n). rw (lt-ltb (i + 1) n l))
+    (le-or-lt n (i + 1))
+neighbour_difference Edge q i n h =
     ⊎_elim
     (λ (l : n ≤ i + 1).
     ⊎_elim
@@ -89,50 +119,45 @@ right_column_lem rule w c h =
 pub energy-between : (z : Size) (how : Method) (b : List ℕ) → length b ≡ picture_bytes z → (r c : ℕ) → r < z.height → c < z.width
     → energy how z.width z.height (picture z b) r c
     ≡ between (channels_of z.kind) (take (row_bytes z) (drop (r * row_bytes z) b)) (take (row_bytes z) (drop (neighbour_of how.energy r z.height * row_bytes z) b)) z.width (neighbour_of how.energy (z.width - 1) z.width) c
-unfolding costs_from wrap_of costs_at between left_of right_of above_of below_of
-energy-between z how b e r c h l = by how.energy
+unfolding wrap_of costs_at between
+energy-between z how b e r c h l =
+    energy-both rule w z.height p r c
+    ∙ ap₂ ◌+◌ (neighbour_difference rule (pixel p r) c w l ∙ right) (neighbour_difference rule (λ a. pixel p a c) r z.height h ∙ below)
   where
+    rule : EnergyRule
+    rule = how.energy
+
     p : Picture
     p = picture z b
 
     w : ℕ
     w = z.width
 
-    n : EnergyRule → ℕ
-    n rule = neighbour_of rule r z.height
+    n : ℕ
+    n = neighbour_of rule r z.height
 
     -- The pixel in column a of row i of the buffer.
     at : ℕ → ℕ → List ℕ
     at i a = row_at (channels_of z.kind) a (row_at (row_bytes z) i b)
 
-    right : (rule : EnergyRule)
-        → difference (pixel p r (neighbour_of rule c w)) (pixel p r c) ≡ difference (at r (right_column w (neighbour_of rule (w - 1) w) c)) (at r c)
-    right rule = rw (right_column_lem rule w c l, pixel_at z b e r c h, pixel_at z b e r (neighbour_of rule c w) h)
+    right : difference (pixel p r (neighbour_of rule c w)) (pixel p r c) ≡ difference (at r (right_column w (neighbour_of rule (w - 1) w) c)) (at r c)
+    right = rw (right_column_lem rule w c l, pixel_at z b e r c h, pixel_at z b e r (neighbour_of rule c w) h)
 
-    below : (rule : EnergyRule) → difference (pixel p (n rule) c) (pixel p r c) ≡ difference (at (n rule) c) (at r c)
-    below rule = ap₂ difference (pixel_at z b e (n rule) c (neighbour_inside rule r z.height h)) (pixel_at z b e r c h)
-
-    by : (rule : EnergyRule)
-        → (costs_from rule (around (wrap_of how) w z.height p r c)).up
-        ≡ between (channels_of z.kind) (row_at (row_bytes z) r b) (row_at (row_bytes z) (n rule) b) w (neighbour_of rule (w - 1) w) c
-    by Edge =
-        ap₂ ◌+◌ (neighbour_difference (pixel p r) c w l ∙ right Edge) (neighbour_difference (λ a. pixel p a c) r z.height h ∙ below Edge)
+    below : difference (pixel p n c) (pixel p r c) ≡ difference (at n c) (at r c)
+    below = ap₂ difference (pixel_at z b e n c (neighbour_inside rule r z.height h)) (pixel_at z b e r c h)
 
 -- "A horizontal seam is the vertical seam of the picture with rows and columns exchanged": the energies are exchanged too.
 pub energy-exchange : (how : Method) {w n : ℕ} {p : Picture} → Grid w n p → (r c : ℕ) → energy how n w (exchange w p) c r ≡ energy how w n p r c
-unfolding costs_from wrap_of costs_at left_of right_of above_of below_of
-energy-exchange how {w} {n} {p} g r c = by how.energy
+unfolding wrap_of costs_at
+energy-exchange how {w} {n} {p} g r c =
+    energy-both how.energy n w (exchange w p) c r ∙ ap both pixels-same ∙ add_comm _ _ ∙ sym (energy-both how.energy w n p r c)
   where
     -- The energy of the pixel in row r and column c, from its column and its row.
     both : (ℕ → ℕ → List ℕ) → ℕ
-    both q = difference_at (λ a. q a c) r n + difference_at (q r) c w
+    both q = difference_at how.energy (λ a. q a c) r n + difference_at how.energy (q r) c w
 
     pixels-same : ◌≡◌ {A = ℕ → ℕ → List ℕ} (λ r c. pixel (exchange w p) c r) (pixel p)
     pixels-same = λ i r c. exchange_at g r c [] i
-
-    by : (rule : EnergyRule)
-        → (costs_from rule (around (wrap_of how) n w (exchange w p) c r)).up ≡ (costs_from rule (around (wrap_of how) w n p r c)).up
-    by Edge = ap both pixels-same ∙ add_comm _ _
 
 -- So are all energies of a picture, row by row.
 pub energy_grid-exchange : (how : Method) {w n : ℕ} {p : Picture} → Grid w n p → energy_grid how n w (exchange w p) ≡ exchange w (energy_grid how w n p)

@@ -1,4 +1,3 @@
-pub mod OneMethod
 pub mod Energy
 pub mod Most
 pub mod Steps

@@ -2,7 +2,7 @@
 use mathlib.Core.Path.{◌≡◌}
 use mathlib.Core.Logic.{⊎_elim}
 use mathlib.Core.Bool.{Bool, true, false, cond}
-use mathlib.Core.Option.{Option, map, or_else}
+use mathlib.Core.Option.{Option, map}
 use mathlib.Core.List.{List, [], ◌∷◌}
 use Prim.Native.Nat.{ℕ, suc, ◌*◌, ◌≤◌, ◌<◌}
 use native.Mathlib.Nat.{suc-mul, mul-le-mul_right}
@@ -14,14 +14,13 @@ use Rattle.grids.proofs.Orders.{le-or-lt}
 use Rattle.grids.proofs.Rows.{row_at-short, row_at-all}
 use Rattle.pictures.specs.declared.sizes.Size.{Size}
 use Rattle.pictures.specs.Pictures.{Picture, channels_of, row_bytes, picture_bytes, picture, pixel}
-use Rattle.energy.specs.Around.{left_of, right_of, above_of, below_of, around}
-use Rattle.energy.specs.declared.methods.EnergyRule.{EnergyRule}
-use Rattle.energy.specs.declared.methods.EnergyRule.TheVariants.{Edge}
+use Rattle.energy.specs.Around.{left_of}
 use Rattle.energy.specs.declared.methods.Method.{Method}
 use Rattle.energy.specs.Methods.{wrap_of}
-use Rattle.energy.specs.Energy.{difference, away, edge, StepCosts, costs_from, costs_at, is_the, toward}
+use Rattle.energy.specs.Energy.{difference, away, StepCosts, costs_at, energy, is_the, toward}
 use Rattle.pictures.proofs.Buffers.{pixel_at, pixel-past}
-use Rattle.energy.proofs.Energy.{away_holds}
+use Rattle.energy.proofs.Energy.{away_holds, TwoNeighbours, two_neighbours}
+use Rattle.energy.proofs.Steps.{costs-alike}
 
 -- The bound of an energy, over the largest sample m.
 difference-most : (m : ℕ) (p q : List ℕ) → ((i : ℕ) → get_or p i 0 ≤ m) → ((i : ℕ) → get_or q i 0 ≤ m) → difference p q ≤ length p * m
@@ -57,26 +56,20 @@ module _ (channels m : ℕ) (p : Picture) (short : (r c : ℕ) → length (pixel
   pixel-most : (r c i j : ℕ) → difference (pixel p i j) (pixel p r c) ≤ channels * m
   pixel-most r c i j = omega (arith, difference-most m (pixel p i j) (pixel p r c) (low i j) (low r c), mul-le-mul_right m (short i j))
 
-  -- so a neighbour is, or else the one on the other side.
-  away-most : (r c : ℕ) (at : ℕ → ℕ × ℕ) (o else : Option ℕ)
-      → away (pixel p r c) (or_else (map (λ a. pixel p (at a).0 (at a).1) o) (map (λ a. pixel p (at a).0 (at a).1) else)) ≤ channels * m
+  -- so a neighbour is.
+  away-most : (r c : ℕ) (at : ℕ → ℕ × ℕ) (o : Option ℕ) → away (pixel p r c) (map (λ a. pixel p (at a).0 (at a).1) o) ≤ channels * m
   away-most r c at = away_holds (λ n. n ≤ channels * m) (pixel p r c) (λ a. pixel p (at a).0 (at a).1) (omega arith) (λ a. pixel-most r c (at a).0 (at a).1)
 
   -- A pixel costs at most two such differences, wherever a path comes from.
   pub costs-most : (how : Method) (w h r c : ℕ) → CostsMost (2 * (channels * m)) (costs_at how w h p r c)
-  unfolding costs_from costs_at
-  costs-most how w h r c = by how.energy
+  unfolding costs_at
+  costs-most how w h r c = rw (costs-alike how w h p r c) (record { left = most; up = most; right = most })
     where
-      most : edge (around (wrap_of how) w h p r c) ≤ 2 * (channels * m)
-      most =
-          omega (
-            arith,
-            away-most r c (λ a. (r, a)) (right_of (wrap_of how) w c) (left_of (wrap_of how) w c),
-            away-most r c (λ a. (a, c)) (below_of h r) (above_of r),
-          )
+      two : TwoNeighbours how.energy (wrap_of how) w h p r c
+      two = two_neighbours how.energy (wrap_of how) w h p r c
 
-      by : (rule : EnergyRule) → CostsMost (2 * (channels * m)) (costs_from rule (around (wrap_of how) w h p r c))
-      by Edge = record { left = most; up = most; right = most }
+      most : energy how w h p r c ≤ 2 * (channels * m)
+      most = omega (arith, two.energy_is, away-most r c (λ a. (r, a)) two.beside, away-most r c (λ a. (a, c)) two.below)
 
 -- The same of a picture in a buffer.
 pub buffer_costs-most : (z : Size) (how : Method) (b : List ℕ) (m : ℕ) → length b ≡ picture_bytes z → ((i : ℕ) → get_or b i 0 ≤ m)

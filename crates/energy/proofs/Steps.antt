@@ -8,7 +8,7 @@ use borrow.Author.Tests.{lt-ltb, eq-eqb, ne_eqb}
 use Rattle.pictures.specs.Pictures.{Picture}
 use Rattle.energy.specs.Around.{Around, left_of, around}
 use Rattle.energy.specs.declared.methods.EnergyRule.{EnergyRule}
-use Rattle.energy.specs.declared.methods.EnergyRule.TheVariants.{Edge}
+use Rattle.energy.specs.declared.methods.EnergyRule.TheVariants.{Edge, Flat}
 use Rattle.energy.specs.declared.methods.Method.{Method}
 use Rattle.energy.specs.Methods.{wrap_of}
 use Rattle.energy.specs.Energy.{StepCosts, alike, costs_from, costs_at, energy, is_the, toward, step_of}
@@ -64,6 +64,7 @@ module _ (wrap : Bool) (w : ℕ) where
 rule_alike : (rule : EnergyRule) (a : Around) → costs_from rule a ≡ alike (costs_from rule a).up
 unfolding costs_from
 rule_alike Edge a = refl
+rule_alike Flat a = refl
 
 pub costs-alike : (how : Method) (w h : ℕ) (p : Picture) (r c : ℕ) → costs_at how w h p r c ≡ alike (energy how w h p r c)
 unfolding costs_at

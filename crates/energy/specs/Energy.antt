@@ -7,7 +7,7 @@ use Rattle.pictures.specs.declared.refusals.Refusal.{Refusal}
 use Rattle.pictures.specs.Refusals.{◌when◌, Rule, given, refusal, served}
 use Rattle.pictures.specs.Pictures.{Picture, picture, size_rules}
 use Rattle.energy.specs.declared.methods.EnergyRule.{EnergyRule}
-use Rattle.energy.specs.declared.methods.EnergyRule.TheVariants.{Edge}
+use Rattle.energy.specs.declared.methods.EnergyRule.TheVariants.{Edge, Flat}
 use Rattle.energy.specs.declared.methods.Method.{Method}
 use Rattle.energy.specs.Methods.{wrap_of}
 use Rattle.energy.specs.Around.{Around, left_of, around}
@@ -27,8 +27,12 @@ abbrev pub away : List ℕ → Option (List ℕ) → ℕ
 away it none = 0
 away it (some q) = difference q it
 
--- "|right neighbour − it| + |lower neighbour − it|. [..] The channels are added." Change 101: "At the last column the difference
--- is now taken to the left neighbour, and at the last row to the upper one; at width 1 or height 1 it stays 0."
+-- "|right neighbour − it| + |lower neighbour − it|. A difference that would reach past the edge is 0. The channels are added."
+abbrev pub flat : Around → ℕ
+flat a = away a.it a.right + away a.it a.down
+
+-- Change 101: "At the last column the difference is now taken to the left neighbour, and at the last row to the upper one; at
+-- width 1 or height 1 it stays 0."
 abbrev pub edge : Around → ℕ
 edge a = away a.it (or_else a.right a.left) + away a.it (or_else a.down a.up)
 
@@ -42,9 +46,11 @@ pub record StepCosts : Type 0 where
 abbrev pub alike : ℕ → StepCosts
 alike e = record { left = e; up = e; right = e }
 
--- By each rule: what a pixel costs, from its neighbours. Wherever a path comes from, it is the pixel's energy.
+-- Change 102: "`(energy edge)` for the rule of #101 or `(energy flat)` for the older one". By each rule: what a pixel costs,
+-- from its neighbours. Wherever a path comes from, it is the pixel's energy.
 unfoldable pub costs_from : EnergyRule → Around → StepCosts
 costs_from Edge a = alike (edge a)
+costs_from Flat a = alike (flat a)
 
 -- What a pixel costs in row r and column c of a picture of w columns and h rows, by a method.
 unfoldable pub costs_at : Method → ℕ → ℕ → Picture → ℕ → ℕ → StepCosts

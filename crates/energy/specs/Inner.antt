@@ -6,7 +6,7 @@ use Rattle.pictures.specs.Refusals.{refusal}
 use Rattle.pictures.specs.Limits.{most_side}
 use Rattle.pictures.specs.Pictures.{size_rules}
 use Rattle.energy.specs.declared.methods.EnergyRule.{EnergyRule}
-use Rattle.energy.specs.declared.methods.EnergyRule.TheVariants.{Edge}
+use Rattle.energy.specs.declared.methods.EnergyRule.TheVariants.{Edge, Flat}
 use Rattle.energy.specs.Energy.{apart, difference}
 
 -- A row of a picture of its size, with room for the row's energies.
@@ -43,10 +43,11 @@ energy_between channels it lower c right =
 unfoldable pub between : ℕ → List ℕ → List ℕ → ℕ → ℕ → ℕ → ℕ
 between channels it lower width beside c = energy_between channels it lower c (right_column width beside c)
 
--- The line, column or row, that stands for the one after the last, line i: the one before it; of the only one the line itself,
--- from which it doesn't differ (0 - 1 is 0).
+-- The line, column or row, that stands for the one after the last, line i: by `edge` the one before it, and of the only one the
+-- line itself, from which it doesn't differ (0 - 1 is 0); by `flat` always the line itself.
 abbrev pub past_last : EnergyRule → ℕ → ℕ
 past_last Edge i = i - 1
+past_last Flat i = i
 
 -- And for the one after line i of n.
 abbrev pub neighbour_of : EnergyRule → ℕ → ℕ → ℕ

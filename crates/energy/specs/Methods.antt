@@ -3,7 +3,7 @@ use Rattle.std.specs.Prelude.{Bool, false}
 use Rattle.energy.specs.declared.methods.EnergyRule.TheVariants.{Edge}
 use Rattle.energy.specs.declared.methods.Method.{Method}
 
--- The method that is meant where none is said.
+-- The method that is meant where none is said: "`seams` writes `edge`".
 abbrev pub usual_method : Method
 usual_method = record { energy = Edge }
 

@@ -47,6 +47,8 @@ fn neighbour(rule: EnergyRule, i: usize, n: usize) -> usize
     match rule {
         // The line before; of the first the line itself, from which it doesn't differ.
         EnergyRule::Edge => i.saturating_sub(1),
+        // Always the line itself.
+        EnergyRule::Flat => i,
     }
 }
 

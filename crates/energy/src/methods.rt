@@ -2,11 +2,12 @@
 ghost use Rattle.std.specs.Prelude.{◌≡◌};
 ghost use Rattle.energy.specs.Methods.{usual_method};
 
-// What a pixel costs, by its neighbours. Edge: the differences to the right and the lower one, at the last column to the left
-// one and at the last row to the upper one.
+// What a pixel costs: its differences to the right and the lower neighbour. At the last column and the last row Edge takes those
+// to the left and the upper one, Flat none.
 #[derive(Clone, Copy, Debug, PartialEq, Eq)]
 pub enum EnergyRule {
     Edge,
+    Flat,
 }
 
 // All that finding a seam depends on besides the picture. Operations take it after the size, and a file's head has it.
