@@ -10,13 +10,14 @@ use borrow.Author.Tests.{ltb-true, lt-ltb}
 use Rattle.grids.proofs.Bools.{both}
 use Rattle.pictures.specs.declared.sizes.Kind.{Kind}
 use Rattle.pictures.specs.declared.sizes.Kind.TheVariants.{Grey, Rgb}
+use Rattle.energy.specs.declared.methods.EnergyRule.{EnergyRule}
 use Rattle.text_theory.specs.declared.Head.{Head}
 use Rattle.text_theory.specs.declared.Name.{Name}
 use Rattle.text_theory.specs.declared.Name.TheVariants as name
 use Rattle.text_theory.proofs.Names.{each_name}
-use Rattle.text_theory.specs.Words.{name_text, kind_name, kind_text}
+use Rattle.text_theory.specs.Words.{name_text, kind_name, kind_text, rule_name, rule_text}
 use Rattle.text_theory.specs.Decimal.{digits_up_to, digits}
-use Rattle.text_theory.specs.Files.{Parts, blank, line_end, opening, closing, closed, begun, row_word, map_word, each, joined, pixel_text, line_text, first_text, size_text, range_text, head_text, text, All}
+use Rattle.text_theory.specs.Files.{Parts, blank, line_end, opening, closing, closed, begun, row_word, map_word, each, joined, pixel_text, line_text, first_text, size_text, range_text, energy_text, head_text, text, All}
 
 -- As a test that computes.
 abbrev ascii : List ℕ → Bool
@@ -64,6 +65,10 @@ ascii_kind : (k : Kind) → ascii (kind_text k) ≡ true
 unfolding kind_text
 ascii_kind k = ascii_name (kind_name k)
 
+ascii_rule : (e : EnergyRule) → ascii (rule_text e) ≡ true
+unfolding rule_text
+ascii_rule e = ascii_name (rule_name e)
+
 ascii-pixel : (k : Kind) (px : List ℕ) → ascii (pixel_text k px) ≡ true
 unfolding pixel_text opening closing
 ascii-pixel Grey px = ascii-joined px
@@ -74,8 +79,8 @@ unfolding line_text blank closed
 ascii-line put h xs = simp (ascii_append, ascii-each blank put refl h xs)
 
 ascii_head : (h : Head) → ascii (head_text h) ≡ true
-unfolding head_text first_text size_text range_text line_end blank closed
-ascii_head h = simp (ascii_append, ascii-begun, ascii-digits, ascii_kind)
+unfolding head_text first_text size_text range_text energy_text line_end blank closed
+ascii_head h = simp (ascii_append, ascii-begun, ascii-digits, ascii_kind, ascii_rule)
 
 ascii-text : (p : Parts) → ascii (text p) ≡ true
 unfolding text row_word map_word closed

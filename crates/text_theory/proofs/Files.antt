@@ -15,15 +15,14 @@ use Rattle.pictures.specs.declared.sizes.Kind.{Kind}
 use Rattle.pictures.specs.declared.sizes.Kind.TheVariants.{Grey, Rgb}
 use Rattle.pictures.specs.Numbers.{largest_number}
 use Rattle.pictures.specs.declared.sizes.Size.{Size}
-use Rattle.energy.specs.Methods.{usual_method}
-use Rattle.energy.proofs.OneMethod.{one_method}
+use Rattle.energy.specs.declared.methods.EnergyRule.{EnergyRule}
 use Rattle.text_theory.specs.declared.Head.{Head}
 use Rattle.text_theory.specs.declared.Name.TheVariants as name
-use Rattle.text_theory.specs.Files.{Parts, line_end, blank, opening, closing, closed, begun, row_word, map_word, each, joined, pixel_text, line_text, first_text, size_text, range_text, head_text, text, items, three, pixel_get, line, size_get, range_get, head_get, file, ended, whole, parse, All, Pixel, Numbers, Within}
+use Rattle.text_theory.specs.Files.{Parts, line_end, blank, opening, closing, closed, begun, row_word, map_word, each, joined, pixel_text, line_text, first_text, size_text, range_text, energy_text, head_text, text, items, three, pixel_get, line, size_get, range_get, energy_get, head_get, file, ended, whole, parse, All, Pixel, Numbers, Within}
 use Rattle.text_theory.proofs.Pairs.{Reads, strip_back, on_inv, after_inv, Sounds, give_sounds, after_sounds, then_sounds, soundly}
 use Rattle.text_theory.proofs.Many.{many_reads}
 use Rattle.text_theory.proofs.Decimals.{clear, number_reads}
-use Rattle.text_theory.proofs.Names.{kind_reads}
+use Rattle.text_theory.proofs.Names.{kind_reads, rule_reads}
 
 line_end_lem : closed ≡ closing ++ line_end
 unfolding closed closing line_end
@@ -186,9 +185,17 @@ range_sounds =
 pub range_reads : Reads Ranged (λ r. range_text r.0 r.1) Any range_get
 range_reads = record { back = λ r b t u. range_back r.0 r.1 b.0 b.1 t; sound = soundly range_sounds }
 
--- The method that no line says is the usual one: there is no other.
-unsaid : (h : Head) → ◌≡◌ {A = Head} (record { size = h.size; method = usual_method; depth = h.depth; growth = h.growth }) h
-unsaid h = λ i. record { size = h.size; method = one_method usual_method h.method i; depth = h.depth; growth = h.growth }
+energy_back : (e : EnergyRule) (t : List ℕ) → energy_get (energy_text e ++ t) ≡ some (e, t)
+unfolding energy_get energy_text
+energy_back e t = simp append_assoc (rw (strip_back, strip_back, rule_reads.back e tt _ tt, strip_back))
+
+energy_sounds : Sounds (λ e. Unit) energy_text [] energy_get
+unfolding energy_get energy_text
+energy_sounds =
+    after_sounds (begun name.Energy) (after_sounds blank (then_sounds rule_reads λ e he. after_sounds closed (give_sounds _ (simp append_assoc) tt)))
+
+pub energy_reads : Reads (λ e. Unit) energy_text Any energy_get
+energy_reads = record { back = λ e b t u. energy_back e t; sound = soundly energy_sounds }
 
 -- The text as the reader meets it, line after line.
 head_back : (h : Head) → Numbers h → (t : List ℕ) → head_get (head_text h ++ t) ≡ some (h, t)
@@ -199,13 +206,13 @@ head_back h b t =
       strip_back,
       size_reads.back h.size (record { width = b.width; height = b.height }) _ tt,
       range_reads.back (h.depth, h.growth) (b.depth, b.growth) _ tt,
-      unsaid h,
+      energy_reads.back h.method.energy tt _ tt,
     ))
 
 head_sounds : Sounds Numbers head_text [] head_get
 unfolding head_get head_text
 head_sounds =
-    after_sounds first_text (then_sounds size_reads λ z hz. then_sounds range_reads λ r hr.
+    after_sounds first_text (then_sounds size_reads λ z hz. then_sounds range_reads λ r hr. then_sounds energy_reads λ e he.
     give_sounds _ (simp append_assoc) (record { width = hz.width; height = hz.height; depth = hr.0; growth = hr.1 }))
 
 pub head_reads : Reads Numbers head_text Any head_get
@@ -249,7 +256,7 @@ parse-sound s p h = go (file s) refl h
     go none e h = absurd (none-ne-some _ h)
     go (some r) e h = last r r.1 refl e h
 
--- What is read begins with the lines of its size and range.
+-- What is read begins with the lines of its size, range and energy.
 pub parse_head : (s : List ℕ) (p : Parts) → parse s ≡ some p → (t : List ℕ) × (head_get s ≡ some (p.head, t))
 unfolding text
 parse_head s p h =

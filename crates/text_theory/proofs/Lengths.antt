@@ -8,12 +8,13 @@ use Rattle.pictures.specs.declared.sizes.Kind.{Kind}
 use Rattle.pictures.specs.declared.sizes.Kind.TheVariants.{Grey, Rgb}
 use Rattle.pictures.specs.Pictures.{channels_of}
 use Rattle.pictures.specs.declared.sizes.Size.{Size}
+use Rattle.energy.specs.declared.methods.EnergyRule.{EnergyRule}
 use Rattle.text_theory.specs.declared.Head.{Head}
 use Rattle.text_theory.specs.declared.Name.{Name}
 use Rattle.text_theory.specs.declared.Name.TheVariants as name
 use Rattle.text_theory.specs.Decimal.{digits}
-use Rattle.text_theory.specs.Files.{Parts, line_end, blank, opening, closing, closed, begun, row_word, map_word, each, joined, pixel_text, line_text, row_text, map_text, first_text, size_text, range_text, head_text, text, All, Pixel, Within}
-use Rattle.text_theory.specs.Lengths.{total, spaced, pixel_length, row_length, map_length, begun_length, size_length, range_length, head_length, text_length}
+use Rattle.text_theory.specs.Files.{Parts, line_end, blank, opening, closing, closed, begun, row_word, map_word, each, joined, pixel_text, line_text, row_text, map_text, first_text, size_text, range_text, energy_text, head_text, text, All, Pixel, Within}
+use Rattle.text_theory.specs.Lengths.{total, spaced, pixel_length, row_length, map_length, begun_length, size_length, range_length, energy_length, head_length, text_length}
 
 pub each-length : {A : Type 0} (w : List ℕ) (put : A → List ℕ) (f : A → ℕ) (ok : A → Type 0) → ((a : A) → ok a → length w + length (put a) ≡ f a)
     → (xs : List A) → All ok xs → length (each w put xs) ≡ total f xs
@@ -73,9 +74,13 @@ pub range_length_lem : (d g : ℕ) → length (range_text d g) ≡ range_length 
 unfolding range_text range_length spaced blank closed
 range_length_lem d g = simp length-append (omega (arith, begun_length_lem name.Range))
 
+pub energy_length_lem : (e : EnergyRule) → length (energy_text e) ≡ energy_length e
+unfolding energy_text energy_length blank closed
+energy_length_lem e = simp length-append (omega (arith, begun_length_lem name.Energy))
+
 pub head_length_lem : (h : Head) → length (head_text h) ≡ head_length h
 unfolding head_text head_length
-head_length_lem h = simp length-append (omega (arith, first-length, size_length_lem h.size, range_length_lem h.depth h.growth))
+head_length_lem h = simp length-append (omega (arith, first-length, size_length_lem h.size, range_length_lem h.depth h.growth, energy_length_lem h.method.energy))
 
 row_line_lem : (k : Kind) (row : List (List ℕ)) → All (Pixel k) row → length row_word + length (line_text (pixel_text k) row) ≡ row_length k row
 unfolding row_text

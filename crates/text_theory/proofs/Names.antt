@@ -12,10 +12,12 @@ use Rattle.grids.proofs.Shapes.{Any}
 use Rattle.grids.proofs.Bools.{both}
 use Rattle.pictures.specs.declared.sizes.Kind.{Kind}
 use Rattle.pictures.specs.declared.sizes.Kind.TheVariants as kind
+use Rattle.energy.specs.declared.methods.EnergyRule.{EnergyRule}
+use Rattle.energy.specs.declared.methods.EnergyRule.TheVariants as rule
 use Rattle.text_theory.specs.declared.Name.{Name}
 use Rattle.text_theory.specs.declared.Name.TheVariants as name
 use Rattle.text_theory.specs.Readers.{Get, give, on, strip, onward, after, either, known}
-use Rattle.text_theory.specs.Words.{name_text, name_number, all_names, name_at, one_of, name_get, named, called, kind_name, kind_named, kind_text, kind_get}
+use Rattle.text_theory.specs.Words.{name_text, name_number, all_names, name_at, one_of, name_get, named, called, called_get, kind_name, all_kinds, kind_text, kind_get, rule_name, all_rules, rule_text, rule_get}
 use Rattle.text_theory.proofs.Pairs.{Reads, strip_back, on_inv, after_inv}
 
 -- What is read is the text of the name that was read.
@@ -40,10 +42,13 @@ pub number_name : (n : Name) → (name_number n < length all_names) × (name_at 
 number_name name.Multi = (omega arith, refl)
 number_name name.Size = (omega arith, refl)
 number_name name.Range = (omega arith, refl)
+number_name name.Energy = (omega arith, refl)
 number_name name.Row = (omega arith, refl)
 number_name name.Map = (omega arith, refl)
 number_name name.Grey = (omega arith, refl)
 number_name name.Rgb = (omega arith, refl)
+number_name name.Edge = (omega arith, refl)
+number_name name.Flat = (omega arith, refl)
 
 pub number_same : (n m : Name) → name_number m ≡ name_number n → m ≡ n
 number_same n m e = sym (number_name m).1 ∙ ap name_at e ∙ (number_name n).1
@@ -57,24 +62,9 @@ called-sound f (x ∷ xs) n a h = go (eqb (name_number (f x)) (name_number n)) r
     go true e h k = sym (number_same n (f x) (eqb-true _ _ e)) ∙ ap f (some-injective x a h)
     go false e h k = k h
 
-kind_back : (k : Kind) (t : List ℕ) → kind_get (kind_text k ++ t) ≡ some (k, t)
-unfolding kind_get kind_text name_get one_of strip
-kind_back kind.Grey t = refl
-kind_back kind.Rgb t = refl
-
 known_inv : {A : Type 0} (o : Option A) (s : List ℕ) (r : A × List ℕ) → known o s ≡ some r → (o ≡ some r.0) × (r.1 ≡ s)
 known_inv none s r h = absurd (none-ne-some _ h)
 known_inv (some a) s r h = let z : r ≡ (a, s) = cc in rw z (refl, refl)
-
-kind_sound : (s : List ℕ) (r : Kind × List ℕ) → kind_get s ≡ some r → s ≡ kind_text r.0 ++ r.1
-unfolding kind_get kind_text
-kind_sound s r h =
-    let p = on_inv (name_get s) (λ n. known (kind_named n)) r h in
-    let k = known_inv (kind_named p.0.0) p.0.1 r p.2 in
-    cc (name_sound s p.0 p.1, called-sound kind_name (kind.Grey ∷ kind.Rgb ∷ []) p.0.0 r.0 k.0, k.1)
-
-pub kind_reads : Reads (λ k. Unit) kind_text Any kind_get
-kind_reads = record { back = λ k u t v. kind_back k t; sound = λ s r h. (kind_sound s r h, tt) }
 
 -- Two texts that differ at some place of both. No text begins with both.
 unfoldable pub apart : List ℕ → List ℕ → Bool
@@ -140,3 +130,50 @@ named_is n s = go (one_of all_names s) refl
     go : (o : Option (Name × List ℕ)) → one_of all_names s ≡ o → on {B = ℕ} o (λ m. cond (eqb (name_number m) (name_number n)) (give 0) (λ s. none)) ≡ after (name_text n) (give 0) s
     go none e = let z = none_at all_names s e (name_number n) name.Multi (number_name n).0 in rw (rw (number_name n).1 at z)
     go (some r) e = same r.0 r.1 (eqb (name_number r.0) (name_number n)) refl (one-sound all_names s r e)
+
+-- A name is read back,
+name_back : (n : Name) (t : List ℕ) → name_get (name_text n ++ t) ≡ some (n, t)
+unfolding named
+name_back n t =
+    let alone : named n (name_text n ++ t) ≡ some (0, t) = rw (named_is n (name_text n ++ t), strip_back (name_text n) t) in
+    let p = on_inv (name_get (name_text n ++ t)) (λ m. cond (eqb (name_number m) (name_number n)) (give 0) (λ s. none)) (0, t) alone in
+    p.1 ∙ same p.0.0 p.0.1 (eqb (name_number p.0.0) (name_number n)) refl p.2
+  where
+    same : (m : Name) (u : List ℕ) (x : Bool) → eqb (name_number m) (name_number n) ≡ x → cond {A = Get ℕ} x (give 0) (λ s. none) u ≡ some (0, t)
+        → ◌≡◌ {A = Option (Name × List ℕ)} (some (m, u)) (some (n, t))
+    same m u true e h =
+        let z : m ≡ n = number_same n m (eqb-true _ _ e) in
+        let w : u ≡ t = ap (λ (r : ℕ × List ℕ). r.1) (some-injective (0, u) (0, t) h) in
+        rw (z, w)
+    same m u false e h = absurd (none-ne-some _ h)
+
+-- and so is a value by its name, where the name finds it.
+module _ {A : Type 0} (f : A → Name) (xs : List A) (found : (a : A) → called f xs (f a) ≡ some a) where
+  called_back : (a : A) (t : List ℕ) → called_get f xs (name_text (f a) ++ t) ≡ some (a, t)
+  called_back a t = rw (name_back (f a) t, found a)
+
+  called-read : (s : List ℕ) (r : A × List ℕ) → called_get f xs s ≡ some r → s ≡ name_text (f r.0) ++ r.1
+  called-read s r h =
+      let p = on_inv (name_get s) (λ n. known (called f xs n)) r h in
+      let k = known_inv (called f xs p.0.0) p.0.1 r p.2 in
+      cc (name_sound s p.0 p.1, called-sound f xs p.0.0 r.0 k.0, k.1)
+
+  called_reads : Reads (λ a. Unit) (λ a. name_text (f a)) Any (called_get f xs)
+  called_reads = record { back = λ a u t v. called_back a t; sound = λ s r h. (called-read s r h, tt) }
+
+-- Kinds and energy rules are read so.
+kind_found : (k : Kind) → called kind_name all_kinds (kind_name k) ≡ some k
+kind_found kind.Grey = refl
+kind_found kind.Rgb = refl
+
+pub kind_reads : Reads (λ k. Unit) kind_text Any kind_get
+unfolding kind_text kind_get
+kind_reads = called_reads kind_name all_kinds kind_found
+
+rule_found : (e : EnergyRule) → called rule_name all_rules (rule_name e) ≡ some e
+rule_found rule.Edge = refl
+rule_found rule.Flat = refl
+
+pub rule_reads : Reads (λ e. Unit) rule_text Any rule_get
+unfolding rule_text rule_get
+rule_reads = called_reads rule_name all_rules rule_found

@@ -1,7 +1,7 @@
 -- A reader and a printer that belong together, and laws of single steps.
-use mathlib.Core.Path.{◌≡◌, refl, ap}
+use mathlib.Core.Path.{◌≡◌, refl, sym, ap, ◌∙◌}
 use mathlib.Core.Bool.{Bool, true, false, cond}
-use mathlib.Core.Option.{Option, none, some, none-ne-some}
+use mathlib.Core.Option.{Option, none, some, none-ne-some, some-injective}
 use mathlib.Core.List.{List, [], ◌∷◌, ◌++◌, append_assoc}
 use Prim.Native.Nat.{ℕ, ◌≤◌, ◌<◌}
 use native.Mathlib.Omega.{arith}
@@ -14,6 +14,12 @@ use Rattle.text_theory.specs.Readers.{Get, give, on, ◌▷◌, strip, onward, a
 pub record Reads {A : Type 0} (ok : A → Type 0) (put : A → List ℕ) (stop : List ℕ → Type 0) (get : Get A) : Type 0 where
   pub back : (a : A) → ok a → (t : List ℕ) → stop t → get (put a ++ t) ≡ some (a, t)
   pub sound : (s : List ℕ) (r : A × List ℕ) → get s ≡ some r → (s ≡ put r.0 ++ r.1) × ok r.0
+
+-- So no two values have one text.
+pub reads_injective : {A : Type 0} {ok : A → Type 0} {put : A → List ℕ} {stop : List ℕ → Type 0} {get : Get A} → Reads ok put stop get → stop []
+    → (a b : A) → ok a → ok b → put a ≡ put b → a ≡ b
+reads_injective {get = get} R s a b h k e =
+    ap (λ r. r.0) (some-injective _ _ (sym (R.back a h [] s) ∙ ap (λ (w : List ℕ). get (w ++ [])) e ∙ R.back b k [] s))
 
 pub strip_back : (w t : List ℕ) → strip w (w ++ t) ≡ some t
 unfolding strip

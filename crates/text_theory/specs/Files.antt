@@ -6,16 +6,16 @@ use Rattle.pictures.specs.declared.sizes.Kind.TheVariants.{Grey, Rgb}
 use Rattle.pictures.specs.Pictures.{Picture, channels_of}
 use Rattle.pictures.specs.Numbers.{largest_number}
 use Rattle.pictures.specs.declared.sizes.Size.{Size}
-use Rattle.energy.specs.Methods.{usual_method}
+use Rattle.energy.specs.declared.methods.EnergyRule.{EnergyRule}
 use Rattle.text_theory.specs.declared.Head.{Head}
 use Rattle.text_theory.specs.declared.Name.{Name}
 use Rattle.text_theory.specs.declared.Name.TheVariants as name
 use Rattle.text_theory.specs.Readers.{Get, give, ◌▷◌, after, many}
 use Rattle.text_theory.specs.Decimal.{digits, number_get}
-use Rattle.text_theory.specs.Words.{name_text, kind_text, kind_get}
+use Rattle.text_theory.specs.Words.{name_text, kind_text, kind_get, rule_text, rule_get}
 
--- What a file holds: "size: width, height, kind. Range: depth, growth. Then n rows of samples and n rows of map." The
--- numbers of rows, of pixels in a row and of numbers in a map row are not judged here.
+-- What a file holds: "size: width, height, kind. Range: depth, growth", the energy (change 102), "then n rows of samples and n
+-- rows of map." The numbers of rows, of pixels in a row and of numbers in a map row are not judged here.
 pub record Parts : Type 0 where
   pub head : Head
   pub rows : Picture
@@ -73,7 +73,8 @@ row_text k row = row_word ++ line_text (pixel_text k) row
 unfoldable pub map_text : List ℕ → List ℕ
 map_text row = map_word ++ line_text digits row
 
--- The lines of the head, one after the other: `(multi`, `(size 3 2 grey)`, `(range 2 1)`.
+-- The lines of the head, one after the other: `(multi`, `(size 3 2 grey)`, `(range 2 1)`; and change 102: "After the range line
+-- stands `(energy edge)` [..] or `(energy flat)`".
 unfoldable pub first_text : List ℕ
 first_text = begun name.Multi ++ line_end
 
@@ -84,8 +85,11 @@ size_text z =
 unfoldable pub range_text : ℕ → ℕ → List ℕ
 range_text d g = begun name.Range ++ (blank ++ (digits d ++ (blank ++ (digits g ++ closed))))
 
+unfoldable pub energy_text : EnergyRule → List ℕ
+energy_text e = begun name.Energy ++ (blank ++ (rule_text e ++ closed))
+
 unfoldable pub head_text : Head → List ℕ
-head_text h = first_text ++ (size_text h.size ++ range_text h.depth h.growth)
+head_text h = first_text ++ (size_text h.size ++ (range_text h.depth h.growth ++ energy_text h.method.energy))
 
 -- The row lines of a picture, and the map lines of a map.
 abbrev pub row_lines : Kind → Picture → List ℕ
@@ -124,9 +128,13 @@ unfoldable pub range_get : Get (ℕ × ℕ)
 range_get =
     after (begun name.Range) (after blank (number_get largest_number ▷ λ d. after blank (number_get largest_number ▷ λ g. after closed (give (d, g)))))
 
--- No line says the method yet, so it is the usual one.
+unfoldable pub energy_get : Get EnergyRule
+energy_get = after (begun name.Energy) (after blank (rule_get ▷ λ e. after closed (give e)))
+
 unfoldable pub head_get : Get Head
-head_get = after first_text (size_get ▷ λ z. range_get ▷ λ r. give (record { size = z; method = usual_method; depth = r.0; growth = r.1 }))
+head_get =
+    after first_text (size_get ▷ λ z. range_get ▷ λ r. energy_get ▷ λ e.
+    give (record { size = z; method = record { energy = e }; depth = r.0; growth = r.1 }))
 
 unfoldable pub file : Get Parts
 file =

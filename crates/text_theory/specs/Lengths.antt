@@ -3,11 +3,12 @@ use Rattle.std.specs.Prelude.{List, [], ◌∷◌, ℕ, suc, ◌+◌, length}
 use Rattle.pictures.specs.declared.sizes.Kind.{Kind}
 use Rattle.pictures.specs.declared.sizes.Kind.TheVariants.{Grey, Rgb}
 use Rattle.pictures.specs.declared.sizes.Size.{Size}
+use Rattle.energy.specs.declared.methods.EnergyRule.{EnergyRule}
 use Rattle.text_theory.specs.declared.Head.{Head}
 use Rattle.text_theory.specs.declared.Name.{Name}
 use Rattle.text_theory.specs.declared.Name.TheVariants as name
 use Rattle.text_theory.specs.Decimal.{digits}
-use Rattle.text_theory.specs.Words.{name_text, kind_text}
+use Rattle.text_theory.specs.Words.{name_text, kind_text, rule_text}
 use Rattle.text_theory.specs.Files.{Parts}
 
 -- The values of f over a list, added.
@@ -44,8 +45,12 @@ size_length z = begun_length name.Size + (spaced z.width + spaced z.height) + su
 unfoldable pub range_length : ℕ → ℕ → ℕ
 range_length d g = begun_length name.Range + (spaced d + spaced g) + 2
 
+unfoldable pub energy_length : EnergyRule → ℕ
+energy_length e = begun_length name.Energy + suc (length (rule_text e)) + 2
+
 unfoldable pub head_length : Head → ℕ
-head_length h = begun_length name.Multi + 1 + size_length h.size + range_length h.depth h.growth
+head_length h =
+    begun_length name.Multi + 1 + size_length h.size + range_length h.depth h.growth + energy_length h.method.energy
 
 -- The whole text.
 unfoldable pub text_length : Parts → ℕ

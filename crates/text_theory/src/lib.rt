@@ -5,19 +5,22 @@
 use energy::Method;
 use pictures::Size;
 
-// The words of a file that are no numbers: those that begin lines, and those that name a kind.
+// The words of a file that are no numbers: those that begin lines, those that name a kind, and those that name an energy rule.
 #[derive(Clone, Copy, Debug, PartialEq, Eq)]
 pub enum Name {
     Multi,
     Size,
     Range,
+    Energy,
     Row,
     Map,
     Grey,
     Rgb,
+    Edge,
+    Flat,
 }
 
-// What the lines of size and range say, and the method by which the seams of the map are found.
+// What the lines of size, range and energy say. The method is the one by which the seams of the map are found.
 #[derive(Clone, Copy, Debug, PartialEq, Eq)]
 pub struct Head {
     pub size: Size,
