@@ -24,7 +24,7 @@ pub struct MapLine<'a, T> {
     pub items: &'a [T],
 }
 
-// The lines up to the range.
+// The lines up to the energy.
 impl Text for Head {
     ghost text = { head_text };
 
@@ -41,7 +41,9 @@ impl Text for Head {
         let size = ((Mark::Opening, Name::Size), (Mark::Blank, sides));
         let numbers = (self.depth, (Mark::Blank, (self.growth, Mark::Closed)));
         let range = ((Mark::Opening, Name::Range), (Mark::Blank, numbers));
-        (first, (size, range)).put(sink)
+        let rule = text_rules::rule_name(self.method.energy);
+        let energy = ((Mark::Opening, Name::Energy), (Mark::Blank, (rule, Mark::Closed)));
+        (first, (size, (range, energy))).put(sink)
     }
 }
 

@@ -12,13 +12,12 @@ use lib.Seq.{drop-cons}
 use borrow.Author.Tests.{leb-true, leb-false, le-ltb, lt-ltb, eq-eqb, ne_eqb}
 use Rattle.std.specs.Prelude as code
 use Rattle.std.proofs.lemmas.List.{drop_more}
-use Rattle.pictures.specs.declared.sizes.Kind.{Kind}
 use Rattle.pictures.specs.Numbers.{largest_number}
 use Rattle.text_theory.specs.declared.Name.{Name}
 use Rattle.text_theory.specs.declared.Name.TheVariants as names
 use Rattle.text_theory.specs.Readers.{give, on, strip, after, either}
 use Rattle.text_theory.specs.Decimal.{is_digit, further, up_to, number_get}
-use Rattle.text_theory.specs.Words.{name_text, name_number, all_names, name_at, one_of, name_get, named, kind_named, kind_get}
+use Rattle.text_theory.specs.Words.{name_text, name_number, all_names, name_at, one_of, name_get, named, called, called_get, kind_named}
 use Rattle.text_theory.proofs.Names.{name_sound, number_same}
 use Rattle.text_read.specs.declared.cursor.Cursor.{Cursor}
 use Rattle.text_read.specs.declared.words.Word.{Word}
@@ -189,18 +188,15 @@ module _ {text : List ℕ} {at : ℕ} where
   told_no_name (code.Some r) h t = told_other_word r.0 (λ k e. h k r.1 (ap (λ (w : Word). code.Some (w, r.1)) e)) t
   told_no_name code.None h t = told_no_word t
 
--- The kind of a name.
-module _ {text : List ℕ} {at : ℕ} where
-  pub told_kind : {n : Name} {k : Kind} {c : ℕ} → Told name_get text at (some (n, c)) → kind_named n ≡ some k → Told kind_get text at (some (k, c))
-  unfolding kind_get
-  told_kind t e = record { same = rw (t.same, e); moved = t.moved }
+-- A value by its name: one that the name is called by, or none.
+module _ {A : Type 0} (f : A → Name) (xs : List A) {text : List ℕ} {at : ℕ} where
+  pub told_called : {n : Name} {a : A} {c : ℕ} → Told name_get text at (some (n, c)) → called f xs n ≡ some a → Told (called_get f xs) text at (some (a, c))
+  told_called t e = record { same = rw (t.same, e); moved = t.moved }
 
-  pub told_no_kind : {n : Name} {c : ℕ} → Told name_get text at (some (n, c)) → kind_named n ≡ none → Told kind_get text at none
-  unfolding kind_get
-  told_no_kind t e = record { same = rw (t.same, e); moved = tt }
+  pub told_not_called : {n : Name} {c : ℕ} → Told name_get text at (some (n, c)) → called f xs n ≡ none → Told (called_get f xs) text at none
+  told_not_called t e = record { same = rw (t.same, e); moved = tt }
 
-  pub told_unnamed : Told name_get text at none → Told kind_get text at none
-  unfolding kind_get
+  pub told_unnamed : Told name_get text at none → Told (called_get f xs) text at none
   told_unnamed t = record { same = rw t.same; moved = tt }
 
 -- The arm of all names that are no kind's.
@@ -208,10 +204,13 @@ pub no_kind : (n : Name) → (n ≡ names.Grey → ⊥) → (n ≡ names.Rgb →
 no_kind names.Multi g r = refl
 no_kind names.Size g r = refl
 no_kind names.Range g r = refl
+no_kind names.Energy g r = refl
 no_kind names.Row g r = refl
 no_kind names.Map g r = refl
 no_kind names.Grey g r = absurd (g refl)
 no_kind names.Rgb g r = absurd (r refl)
+no_kind names.Edge g r = refl
+no_kind names.Flat g r = refl
 
 -- One name alone.
 module _ (n : Name) {text : List ℕ} {at : ℕ} where

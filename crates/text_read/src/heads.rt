@@ -2,12 +2,11 @@
 ghost use Rattle.pictures.specs.Numbers.{largest_number};
 ghost use Rattle.text_theory.specs.Readers.{give, after};
 ghost use Rattle.text_theory.specs.Decimal.{number_get};
-ghost use Rattle.text_theory.specs.Files.{blank, closed, size_get, range_get, head_get};
+ghost use Rattle.text_theory.specs.Files.{blank, closed, size_get, range_get, energy_get, head_get};
 ghost use Rattle.text_read.specs.Answers.{Told, read, passed, beginning};
 
 use crate::cursor::{Class, Cursor};
-use crate::words::Word;
-use energy::usual_method;
+use energy::{EnergyRule, Method};
 use pictures::Size;
 use text_theory::{Head, Name};
 
@@ -17,10 +16,7 @@ impl Cursor {
         ensures { Told (beginning name) text.now self.at (passed result) }
     {
         let c = self.past(text, Class::Opening)?;
-        let (word, d) = c.word(text)?;
-        let Word::Name(found) = word else {
-            return None;
-        };
+        let (found, d) = c.spelled(text)?;
         (found == name).then_some(d)
     }
 
@@ -69,7 +65,18 @@ impl Cursor {
         Some(((depth, growth), d))
     }
 
-    // The lines up to the range. None says the method, so it is the usual one.
+    // The line of the energy.
+    fn energy_line(self, text: &[u8]) -> Option<(EnergyRule, Cursor)>
+        ensures { Told energy_get text.now self.at (read result) }
+    {
+        let a = self.begin(text, Name::Energy)?;
+        let b = a.past(text, Class::Blank)?;
+        let (energy, c) = b.rule(text)?;
+        let d = c.close(text)?;
+        Some((energy, d))
+    }
+
+    // The lines up to the energy.
     pub fn header(self, text: &[u8]) -> Option<(Head, Cursor)>
         ensures { Told head_get text.now self.at (read result) }
     {
@@ -77,13 +84,13 @@ impl Cursor {
         let b = a.past(text, Class::LineEnd)?;
         let (size, c) = b.size_line(text)?;
         let ((depth, growth), d) = c.range_line(text)?;
-        let method = usual_method();
+        let (energy, e) = d.energy_line(text)?;
         let head = Head {
             size,
-            method,
+            method: Method { energy },
             depth,
             growth,
         };
-        Some((head, d))
+        Some((head, e))
     }
 }

@@ -1,14 +1,15 @@
 // Words: numbers and names.
 ghost use Rattle.std.specs.Prelude.{◌≤◌};
 ghost use Rattle.pictures.specs.Numbers.{largest_number};
-ghost use Rattle.text_theory.specs.Words.{name_get, kind_get};
+ghost use Rattle.text_theory.specs.Words.{name_get, kind_get, rule_get};
 ghost use Rattle.text_theory.specs.Decimal.{number_get};
 ghost use Rattle.text_read.specs.Answers.{Told, read, word};
 
 use crate::cursor::{Class, Cursor};
+use energy::EnergyRule;
 use pictures::Kind;
 use pictures::numbers::LARGEST_NUMBER;
-use text_rules::{all_names, kind_named};
+use text_rules::{all_names, kind_named, rule_named};
 use text_theory::Name;
 
 #[derive(Clone, Copy, Debug, PartialEq, Eq)]
@@ -66,15 +67,32 @@ impl Cursor {
         self.limited(text, LARGEST_NUMBER)
     }
 
-    // A word that is the name of a kind.
-    pub fn kind(self, text: &[u8]) -> Option<(Kind, Cursor)>
-        ensures { Told kind_get text.now self.at (read result) }
+    // A word that is a name.
+    pub(crate) fn spelled(self, text: &[u8]) -> Option<(Name, Cursor)>
+        ensures { Told name_get text.now self.at (read result) }
     {
         let (word, c) = self.word(text)?;
         let Word::Name(name) = word else {
             return None;
         };
+        Some((name, c))
+    }
+
+    // A word that is the name of a kind.
+    pub fn kind(self, text: &[u8]) -> Option<(Kind, Cursor)>
+        ensures { Told kind_get text.now self.at (read result) }
+    {
+        let (name, c) = self.spelled(text)?;
         let kind = kind_named(name)?;
         Some((kind, c))
+    }
+
+    // A word that is the name of an energy rule.
+    pub(crate) fn rule(self, text: &[u8]) -> Option<(EnergyRule, Cursor)>
+        ensures { Told rule_get text.now self.at (read result) }
+    {
+        let (name, c) = self.spelled(text)?;
+        let rule = rule_named(name)?;
+        Some((rule, c))
     }
 }

@@ -6,7 +6,7 @@ pub mod names;
 ghost use Rattle.std.specs.Prelude.{◌≡◌, ◌&&◌, eqb};
 ghost use Rattle.text_rules.specs.Items.{items_of};
 
-pub use names::{all_names, kind_name, kind_named, letters_of};
+pub use names::{all_names, kind_name, kind_named, letters_of, rule_name, rule_named};
 use pictures::Kind;
 
 // What the items of a form are: words, or forms of words. The form of a line stands in the form of the file, so forms are

@@ -1,4 +1,4 @@
--- `text_read::cursor::Cursor::begin` meets its contract: the bracket, then a word, which is the name asked for or not.
+-- `text_read::cursor::Cursor::begin` meets its contract: the bracket, then a name, which is the one asked for or not.
 use Rattle.std.proofs.Common.{List, ℕ, sym, ◌∙◌, rules}
 use denote.Enum.Bare.{same_true, same_false}
 use Rattle.text_theory.specs.contracts.Name.{the_type}
@@ -10,7 +10,7 @@ use Rattle.text_read.specs.declared.cursor.Class.TheVariants.{Opening}
 use Rattle.text_read.specs.Answers.{Told, of_class, beginning}
 use Rattle.text_read.proofs.ByteClasses.{told_opening}
 use Rattle.text_read.proofs.Onward.{refused_past, when_past, Left, left_start, left-past, left_no_past, left_tail}
-use Rattle.text_read.proofs.WordSteps.{told_name, told_other_word, told_no_word, told_named, told-other-name, told_not-named}
+use Rattle.text_read.proofs.WordSteps.{told_named, told-other-name, told_not-named}
 use Rattle.text_read.proofs.cursor.Cursor.begin.Goals as goal
 
 -- After the bracket the name is left to read.
@@ -22,18 +22,13 @@ pub returns-in_err-c : goal.returns-in_err-c
 unfolding beginning
 returns-in_err-c c = refused_past c.from_residual.ensures (left_no_past opening _ left_start (told_opening c.in_err-c.ensures))
 
-pub returns-in_err-word : goal.returns-in_err-word
-returns-in_err-word c =
-    refused_past c.from_residual-in_err-word.ensures
-    (left_tail _ (bracket c.args.name c.in_ok-c.ensures) (told_not-named _ (told_no_word c.in_err-word.ensures)))
-
-pub returns-in_default : goal.returns-in_default
-returns-in_default c =
-    left_tail _ (bracket c.args.name c.in_ok-c.ensures)
-    (told_not-named _ (told_other_word c.in_ok-word.word c.in_default.not-Name c.in_ok-word.ensures))
+pub returns-in_err-found : goal.returns-in_err-found
+returns-in_err-found c =
+    refused_past c.from_residual-in_err-found.ensures
+    (left_tail _ (bracket c.args.name c.in_ok-c.ensures) (told_not-named _ c.in_err-found.ensures))
 
 pub returns : goal.returns
 returns c =
     let L = bracket c.args.name c.in_ok-c.ensures in
-    let t = told_name (rw c.in-Name.is at c.in_ok-word.ensures) in
+    let t = c.in_ok-found.ensures in
     when_past _ c.then_some.ensures (λ e. left_tail _ L (told_named _ t (same_true the_type (search rules) _ _ (sym c.eq.ensures ∙ e)))) (λ e. left_tail _ L (told-other-name _ t (same_false the_type _ _ (sym c.eq.ensures ∙ e))))

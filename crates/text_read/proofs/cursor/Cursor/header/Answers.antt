@@ -1,13 +1,12 @@
--- `text_read::cursor::Cursor::header` meets its contract: after each line, what is left of the head is left to read. The method
--- is that of `usual_method`.
+-- `text_read::cursor::Cursor::header` meets its contract: after each line, what is left of the head is left to read.
 use Rattle.std.proofs.Common.{List, ℕ}
 use Rattle.std.proofs.Math.Option.{some}
 use Rattle.pictures.specs.declared.sizes.Size.{Size}
-use Rattle.energy.specs.Methods.{usual_method}
+use Rattle.energy.specs.declared.methods.EnergyRule.{EnergyRule}
 use Rattle.text_theory.specs.declared.Head.{Head}
 use Rattle.text_theory.specs.declared.Name.TheVariants as name
 use Rattle.text_theory.specs.Readers.{Get, give, ◌▷◌, after}
-use Rattle.text_theory.specs.Files.{line_end, begun, size_get, range_get, head_get}
+use Rattle.text_theory.specs.Files.{line_end, begun, size_get, range_get, energy_get, head_get}
 use Rattle.text_read.specs.declared.cursor.Class.TheVariants.{LineEnd}
 use Rattle.text_read.specs.Answers.{Told, of_class, beginning}
 use Rattle.text_read.proofs.ByteClasses.{told_line_end}
@@ -15,13 +14,16 @@ use Rattle.text_read.proofs.Onward.{refused, Left, left_start, left_as, left-pas
 use Rattle.text_read.proofs.cursor.Cursor.header.Goals as goal
 
 -- The head from each line on.
-abbrev head_of : Size → ℕ × ℕ → Head
-head_of z r = record { size = z; method = usual_method; depth = r.0; growth = r.1 }
+abbrev head_of : Size → ℕ × ℕ → EnergyRule → Head
+head_of z r e = record { size = z; method = record { energy = e }; depth = r.0; growth = r.1 }
+
+abbrev from-energy : Size → ℕ × ℕ → Get Head
+from-energy z r = energy_get ▷ λ e. give (head_of z r e)
 
 abbrev from-range : Size → Get Head
-from-range z = range_get ▷ λ r. give (head_of z r)
+from-range z = range_get ▷ from-energy z
 
--- What is left after the first line's name, the first line, the line of the size.
+-- What is left after the first line's name, the first line, the lines of the size and of the range.
 at-start : (text : List ℕ) (from : ℕ) → Left head_get text from (after (begun name.Multi) (after line_end (size_get ▷ from-range))) from
 unfolding head_get
 at-start text from = left_as (after_first (size_get ▷ from-range)) left_start
@@ -34,8 +36,12 @@ module _ {text : List ℕ} {from v a : ℕ} (N : Told (beginning name.Multi) tex
     after-first-line : Left head_get text from (size_get ▷ from-range) b
     after-first-line = left-past line_end after-name (told_line_end E)
 
-    after-size : {z : Size} {c : ℕ} → Told size_get text b (some (z, c)) → Left head_get text from (from-range z) c
-    after-size S = left_then from-range after-first-line S
+    module _ {z : Size} {c : ℕ} (S : Told size_get text b (some (z, c))) where
+      after-size : Left head_get text from (from-range z) c
+      after-size = left_then from-range after-first-line S
+
+      after-range : {r : ℕ × ℕ} {d : ℕ} → Told range_get text c (some (r, d)) → Left head_get text from (from-energy z r) d
+      after-range R = left_then (from-energy z) after-size R
 
 pub returns-in_err-a : goal.returns-in_err-a
 returns-in_err-a c =
@@ -57,7 +63,13 @@ returns-in_err-depth c =
     refused c.from_residual-in_err-depth.ensures
     (left_no_then _ (after-size c.in_ok-a.ensures c.in_ok-b.ensures c.in_ok-size.ensures) c.in_err-depth.ensures)
 
+pub returns-in_err-energy : goal.returns-in_err-energy
+returns-in_err-energy c =
+    refused c.from_residual-in_err-energy.ensures
+    (left_no_then _ (after-range c.in_ok-a.ensures c.in_ok-b.ensures c.in_ok-size.ensures c.in_ok-depth.ensures) c.in_err-energy.ensures)
+
 pub returns : goal.returns
 returns c =
-    rw c.usual_method-method.ensures
-    (left_then_give (head_of c.in_ok-size.size) (after-size c.in_ok-a.ensures c.in_ok-b.ensures c.in_ok-size.ensures) c.in_ok-depth.ensures)
+    left_then_give (head_of _ _)
+    (after-range c.in_ok-a.ensures c.in_ok-b.ensures c.in_ok-size.ensures c.in_ok-depth.ensures)
+    c.in_ok-energy.ensures
