@@ -10,11 +10,12 @@ use Rattle.grids.proofs.Shapes.{each_any}
 use Rattle.pictures.specs.Pictures.{Picture}
 use Rattle.map_theory.specs.Widths.{offered, shown, LeftOut}
 use Rattle.map_theory.proofs.Shown.{shown-original, shown-grid, shown-left-out}
+use Rattle.text_theory.specs.Words.{rule_text}
 use Rattle.text_theory.specs.Files.{parse, Pixel}
 use Rattle.text_theory.proofs.Files.{parse-text}
 use Rattle.file_theory.specs.Contents.{mean_of, parts_of, file_of}
 use Rattle.file_theory.specs.Demands.{Built}
-use Rattle.file_theory.specs.Shows.{offers, sized, shows, original, method_of}
+use Rattle.file_theory.specs.Shows.{offers, sized, shows, original, energy_word}
 use Rattle.file_theory.proofs.Shapes.{all-each, each_all}
 use Rattle.file_theory.proofs.Shaped.{built_rows, built_maps, built_numbered, built_within}
 use Rattle.file_theory.proofs.Heads.{mean-pixel}
@@ -30,9 +31,9 @@ module _ {f : List ℕ} (b : Built f) where
   unfolding original
   built_original = rw built_parsed
 
-  pub built_method : method_of f ≡ some b.head.method
-  unfolding method_of
-  built_method = rw built_parsed
+  pub built_word : energy_word f ≡ rule_text b.head.method.energy
+  unfolding energy_word
+  built_word = rw built_parsed
 
   pub built_offers : (v : ℕ) → offers f v ≡ offered b.head.size.width b.head.depth b.head.growth v
   unfolding offers

@@ -11,22 +11,23 @@ use Rattle.pictures.specs.declared.sizes.Size.{Size}
 use Rattle.grids.proofs.Shapes.{each_weaken}
 use Rattle.pictures.specs.Pictures.{Picture, OfSize}
 use Rattle.energy.specs.declared.methods.Method.{Method}
-use Rattle.energy.proofs.OneMethod.{one_method}
 use Rattle.map_theory.specs.Maps.{carve, map_of}
 use Rattle.map_theory.specs.Widths.{allowed, offered, grow_row, shown, LeftOut}
 use Rattle.map_theory.proofs.Shown.{allowed_is, offered_is, shown-carve}
 use Rattle.map_theory.proofs.Grown.{shown-grown}
 use Rattle.text_theory.specs.declared.Head.{Head}
 use Rattle.text_theory.specs.Files.{Parts, parse, text}
+use Rattle.text_theory.proofs.Pairs.{reads_injective}
+use Rattle.text_theory.proofs.Names.{rule_reads}
 use Rattle.text_theory.proofs.Ascii.{text-ascii}
 use Rattle.file_theory.specs.Contents.{choose_of, mean_of, parts_of, file_of}
 use Rattle.file_theory.proofs.Heads.{head_chooses}
-use Rattle.file_theory.specs.Shows.{Accepted, offers, Drawn, sized, shows_in, shows, original}
+use Rattle.file_theory.specs.Shows.{Accepted, offers, Drawn, sized, shows_in, shows, original, energy_word}
 use Rattle.file_theory.specs.Demands.{AllowedPicture, Built, FileFor, ShownAt}
 use Rattle.file_theory.proofs.Shapes.{all-all}
 use Rattle.file_theory.proofs.Shaped.{shaped_is}
 use Rattle.file_theory.proofs.Accepting.{accepted_shaped, accepted-judged, judged_built, accepted_built}
-use Rattle.file_theory.proofs.Built.{built_original, built_method, built_offers, built_shows, built_picture, built_pixels, built_left_out}
+use Rattle.file_theory.proofs.Built.{built_original, built_word, built_offers, built_shows, built_picture, built_pixels, built_left_out}
 
 -- Widths that are offered alike are those of the same depth and growth.
 more-range : (m k g l d : ℕ) → allowed m k g ≡ true → allowed m l d ≡ true → ((v : ℕ) → offered m k g v ≡ true → offered m l d v ≡ true) → (k ≤ l) × (g ≤ d)
@@ -43,16 +44,17 @@ same-range m k g l d a b e =
     let y = more-range m l d k g b a (λ v o. e v ∙ o) in
     (omega (arith, x.0, y.0), omega (arith, x.1, y.1))
 
--- (a) Two accepted files are the same just where they show the same picture at their original width and offer the same widths.
+-- (a) Two accepted files are the same just where they show the same picture at their original width, offer the same widths and
+-- have the same energy word.
 pub same-file : (f g : List ℕ) → Accepted f → Accepted g
-    → (f ≡ g) ↔ ((shows f (original f) ≡ shows g (original g)) × ((v : ℕ) → offers f v ≡ offers g v))
+    → (f ≡ g) ↔ ((shows f (original f) ≡ shows g (original g)) × ((v : ℕ) → offers f v ≡ offers g v) × (energy_word f ≡ energy_word g))
 same-file f g a c = (
-  λ e. (ap (λ (x : List ℕ). shows x (original x)) e, λ v. ap (λ (x : List ℕ). offers x v) e),
-  λ h. back ((accepted_built f).0 a) ((accepted_built g).0 c) h.0 h.1,
+  λ e. (ap (λ (x : List ℕ). shows x (original x)) e, λ v. ap (λ (x : List ℕ). offers x v) e, ap energy_word e),
+  λ h. back ((accepted_built f).0 a) ((accepted_built g).0 c) h.0 h.1 h.2,
 )
   where
-    back : Built f → Built g → shows f (original f) ≡ shows g (original g) → ((v : ℕ) → offers f v ≡ offers g v) → f ≡ g
-    back x y s o =
+    back : Built f → Built g → shows f (original f) ≡ shows g (original g) → ((v : ℕ) → offers f v ≡ offers g v) → energy_word f ≡ energy_word g → f ≡ g
+    back x y s o w =
         let drawn : ◌≡◌ {A = Drawn} (record { size = x.head.size; rows = x.rows }) (record { size = y.head.size; rows = y.rows }) =
         some-injective _ _ (sym (ap (shows f) (built_original x) ∙ built_picture x) ∙ s ∙ ap (shows g) (built_original y) ∙ built_picture y) in
         let size : x.head.size ≡ y.head.size = ap (λ (d : Drawn). d.size) drawn in
@@ -60,11 +62,13 @@ same-file f g a c = (
         let wide : x.head.size.width ≡ y.head.size.width = ap (λ (z : Size). z.width) size in
         let range = same-range x.head.size.width x.head.depth x.head.growth y.head.depth y.head.growth
         x.range (rw (← wide) at y.range) (λ v. sym (built_offers x v) ∙ o v ∙ built_offers y v ∙ ap (λ (n : ℕ). offered n y.head.depth y.head.growth v) (sym wide)) in
-        let head : x.head ≡ y.head = λ i. record { size = size i; method = one_method x.head.method y.head.method i; depth = range.0 i; growth = range.1 i } in
+        let rule : x.head.method.energy ≡ y.head.method.energy =
+        reads_injective rule_reads tt x.head.method.energy y.head.method.energy tt tt (sym (built_word x) ∙ w ∙ built_word y) in
+        let head : x.head ≡ y.head = λ i. record { size = size i; method = record { energy = rule i }; depth = range.0 i; growth = range.1 i } in
         x.is ∙ ap₂ file_of head rows ∙ sym y.is
 
--- (b) Every allowed picture has, for every method and every allowed range of widths, a file of this method that shows it and
--- offers them.
+-- (b) Every allowed picture has, for every method and every allowed range of widths, an accepted file with this method's energy word
+-- that shows it and offers them.
 pub every-picture : (z : Size) (how : Method) (p : Picture) (k g : ℕ) → AllowedPicture z p → allowed z.width k g ≡ true → (f : List ℕ) × FileFor z how p k g f
 unfolding file_of
 every-picture z how p k g a r =
@@ -75,7 +79,7 @@ every-picture z how p k g a r =
         bytes_are = all-all (λ c l. omega arith) (text (parts_of h p)) (text-ascii (parts_of h p));
         is_accepted = (accepted_built (file_of h p)).1 b;
         width_is = built_original b;
-        method_is = built_method b;
+        word_is = built_word b;
         picture_is = built_picture b;
         widths_are = built_offers b;
       },

@@ -9,10 +9,11 @@ use Rattle.energy.specs.declared.methods.Method.{Method}
 use Rattle.map_theory.specs.Widths.{allowed, offered}
 use Rattle.map_theory.specs.Judged.{every, numbers}
 use Rattle.text_theory.specs.declared.Head.{Head}
+use Rattle.text_theory.specs.Words.{rule_text}
 use Rattle.text_theory.specs.Files.{Parts, parse, All, Pixel}
 use Rattle.file_theory.specs.Contents.{file_of}
 use Rattle.file_theory.specs.Rules.{part_rules, judged_rules, check_rules}
-use Rattle.file_theory.specs.Shows.{Accepted, offers, Drawn, shows, original, method_of}
+use Rattle.file_theory.specs.Shows.{Accepted, offers, Drawn, shows, original, energy_word}
 
 -- "A picture is allowed when 'Pictures' admits its size and kind": sides of 1 to `largest_side`, and as many rows of as many pixels as
 -- they say, each with as many samples as its kind says, each sample a byte.
@@ -56,13 +57,13 @@ pub record Built (f : List ℕ) : Type 0 where
   pub range : allowed head.size.width head.depth head.growth ≡ true
   pub is : f ≡ file_of head rows
 
--- A list of bytes that is accepted, has the method `how`, shows the picture p of size z at its original width, and offers the
--- widths of depth k and growth g.
+-- A list of bytes that is accepted, has the energy word of the method `how`, shows the picture p of size z at its original width,
+-- and offers the widths of depth k and growth g.
 pub record FileFor (z : Size) (how : Method) (p : Picture) (k g : ℕ) (file : List ℕ) : Type 0 where
   pub bytes_are : All (λ (b : ℕ). b < 256) file
   pub is_accepted : Accepted file
   pub width_is : original file ≡ z.width
-  pub method_is : method_of file ≡ some how
+  pub word_is : energy_word file ≡ rule_text how.energy
   pub picture_is : shows file z.width ≡ some (record { size = z; rows = p })
   pub widths_are : (v : ℕ) → offers file v ≡ offered z.width k g v
 

@@ -4,9 +4,9 @@ use Rattle.std.proofs.Math.Option.{Option, none, some}
 use Rattle.pictures.specs.declared.sizes.Size.{Size}
 use Rattle.pictures.specs.Refusals.{refusal}
 use Rattle.pictures.specs.Pictures.{Picture, bytes}
-use Rattle.energy.specs.declared.methods.Method.{Method}
 use Rattle.map_theory.specs.Widths.{offered, shown}
 use Rattle.text_theory.specs.declared.Head.{Head}
+use Rattle.text_theory.specs.Words.{rule_text}
 use Rattle.text_theory.specs.Files.{Parts, parse}
 use Rattle.file_theory.specs.Contents.{mean_of}
 use Rattle.file_theory.specs.Rules.{check_rules}
@@ -39,7 +39,7 @@ shows_in (some p) v = some (record { size = sized v p.head.size; rows = shown (m
 unfoldable pub shows : List ℕ → ℕ → Option Drawn
 shows file v = shows_in (parse file) v
 
--- Its head, original width and method, and its picture and map as they stand in it.
+-- Its head, original width and energy word, and its picture and map as they stand in it.
 abbrev pub head_in : Option Parts → Option Head
 head_in none = none
 head_in (some p) = some p.head
@@ -51,12 +51,12 @@ original_in (some p) = p.head.size.width
 unfoldable pub original : List ℕ → ℕ
 original file = original_in (parse file)
 
-abbrev pub method_in : Option Parts → Option Method
-method_in none = none
-method_in (some p) = some p.head.method
+abbrev pub energy_word_in : Option Parts → List ℕ
+energy_word_in none = []
+energy_word_in (some p) = rule_text p.head.method.energy
 
-unfoldable pub method_of : List ℕ → Option Method
-method_of file = method_in (parse file)
+unfoldable pub energy_word : List ℕ → List ℕ
+energy_word file = energy_word_in (parse file)
 
 abbrev pub rows_in : Option Parts → Picture
 rows_in none = []

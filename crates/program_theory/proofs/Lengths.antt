@@ -5,9 +5,9 @@ use mathlib.Core.List.{List, [], ◌∷◌}
 use Prim.Native.Nat.{ℕ, zero, suc, ◌+◌, ◌-◌, ◌*◌, ◌/◌, ◌≤◌, ◌<◌}
 use native.Mathlib.Nat.{suc-mul, mul-add, mul_assoc, mul-le-mul, le_refl}
 use native.Mathlib.Omega.{arith}
-use lib.Dec.{ltb}
+use lib.Dec.{leb, ltb}
 use lib.ListN.{length, length-append}
-use borrow.Author.Tests.{ltb-true, ltb-false}
+use borrow.Author.Tests.{leb-true, ltb-true, ltb-false}
 use Rattle.grids.specs.Each.{Each, none, more}
 use Rattle.seam_theory.specs.Paths.{run}
 use Rattle.pictures.specs.Numbers.{largest_number}
@@ -19,10 +19,12 @@ use Rattle.pictures.specs.Refusals.{refusal}
 use Rattle.pictures.specs.Pictures.{Picture, size_rules, picture, pixels}
 use Rattle.pictures.proofs.Limits.{sides_are, sides_served}
 use Rattle.text_theory.specs.declared.Head.{Head}
+use Rattle.text_theory.specs.declared.Name.{Name}
 use Rattle.text_theory.specs.Decimal.{digits, digits_up_to}
-use Rattle.text_theory.specs.Words.{kind_text}
+use Rattle.text_theory.specs.Words.{name_text, kind_name, kind_text, rule_name, rule_text}
 use Rattle.text_theory.specs.Files.{blank, line_end, closed, All, Pixel}
-use Rattle.text_theory.specs.Lengths.{total, spaced, pixel_length, row_length, begun_length, size_length, range_length, head_length}
+use Rattle.text_theory.specs.Lengths.{total, spaced, pixel_length, row_length, begun_length, size_length, range_length, energy_length, head_length}
+use Rattle.text_theory.proofs.Names.{each_name}
 use Rattle.text_theory.proofs.Decimals.{length_small, length-large}
 use Rattle.file_theory.specs.Contents.{file_of}
 use Rattle.file_theory.specs.Demands.{AllowedPicture}
@@ -89,20 +91,18 @@ row_most k w row e = omega (arith, total-each (pixel_length k) 14 (pixel-most k)
 rows-most : (z : Size) (p : Picture) → AllowedPicture z p → total (row_length z.kind) p ≤ z.height * (z.width * 14 + 6)
 rows-most z p a = total-each (row_length z.kind) (z.width * 14 + 6) (row_most z.kind z.width) a.pixels
 
--- The lines up to the range.
-kind_most : (k : Kind) → length (kind_text k) ≤ 4
-unfolding kind_text
-kind_most Grey = omega arith
-kind_most Rgb = omega arith
+-- The lines up to the energy: no name has over 8 letters.
+name_most : (n : Name) → length (name_text n) ≤ 8
+name_most n = leb-true (length (name_text n)) 8 (each_name (λ m. leb (length (name_text m)) 8) refl n)
 
-head_most : (h : Head) → h.size.width < 1000 → h.size.height < 1000 → h.depth < 1000 → h.growth < 1000 → head_length h ≤ 43
-unfolding head_length size_length range_length begun_length
+head_most : (h : Head) → h.size.width < 1000 → h.size.height < 1000 → h.depth < 1000 → h.growth < 1000 → head_length h ≤ 65
+unfolding head_length size_length range_length energy_length begun_length kind_text rule_text
 head_most h a b c d =
-    omega (arith, spaced-most h.size.width a, spaced-most h.size.height b, spaced-most h.depth c, spaced-most h.growth d, kind_most h.size.kind)
+    omega (arith, spaced-most h.size.width a, spaced-most h.size.height b, spaced-most h.depth c, spaced-most h.growth d, name_most (kind_name h.size.kind), name_most (rule_name h.method.energy))
 
 -- The file of a picture of at most 1,024 pixels: 18 bytes a pixel, 12 for the two lines of a row, and the other lines.
 pub file-most : (z : Size) (b : List ℕ) → All (λ (a : ℕ). a < 256) b → refusal (size_rules z (length b)) ≡ 0 → pixels z ≤ held_pixels
-    → length (file_of (full_range z) (picture z b)) ≤ 24640
+    → length (file_of (full_range z) (picture z b)) ≤ 24662
 file-most z b a e l =
     let p = lent_allowed z b a e in
     let s = sides_are z (sides_served z (length b) e) in

@@ -44,7 +44,8 @@ refused_text n = refused_word ++ (digits n ++ closed)
 abbrev pub written : ℕ → List ℕ → List ℕ
 written n answer = served n answer (refused_text n)
 
--- `seams` "reads a Netpbm picture .. and writes the file with k = m−1 and g = m/2 rounded down". It carves by the usual method.
+-- `seams` "reads a Netpbm picture .. and writes the file with k = m−1 and g = m/2 rounded down". Change 102: "`seams` writes `edge`",
+-- the usual method.
 abbrev pub full_range : Size → Head
 full_range z = record { size = z; method = usual_method; depth = z.width - 1; growth = z.width / 2 }
 
