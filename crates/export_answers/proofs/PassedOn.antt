@@ -6,7 +6,7 @@ use Rattle.pictures.specs.declared.sizes.Kind.{Kind}
 use Rattle.pictures.specs.declared.sizes.Kind.TheVariants.{Grey, Rgb}
 use Rattle.pictures.specs.declared.sizes.Size.{Size}
 use Rattle.energy.specs.declared.methods.EnergyRule.{EnergyRule}
-use Rattle.energy.specs.declared.methods.EnergyRule.TheVariants.{Edge}
+use Rattle.energy.specs.declared.methods.EnergyRule.TheVariants.{Edge, Flat}
 use Rattle.energy.specs.declared.methods.Method.{Method}
 use Rattle.export_answers.specs.Named.{sizing_of, finding_of, kind_number, energy_number, host_size, host_method}
 
@@ -21,6 +21,7 @@ size_passed z = kind_passed z.width z.height z.kind
 energy-passed : (e : EnergyRule) → finding_of (record { energy = energy_number e }) ≡ Ok (record { energy = e })
 unfolding finding_of
 energy-passed Edge = refl
+energy-passed Flat = refl
 
 pub method_passed : (how : Method) → finding_of (host_method how) ≡ Ok how
 method_passed how = energy-passed how.energy

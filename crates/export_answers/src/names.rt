@@ -67,7 +67,7 @@ impl TryFrom<HostSize> for Size {
     }
 }
 
-// Names the method; refused where its energy isn't 0.
+// Names the method; refused where its energy is neither 0 nor 1.
 #[tactic(auto, unfolding(crate::specs::Named::finding_of))]
 impl TryFrom<HostMethod> for Method {
     type Error = Refusal;
@@ -77,6 +77,7 @@ impl TryFrom<HostMethod> for Method {
     fn try_from(named: HostMethod) -> Result<Method, Refusal> {
         let energy = match named.energy {
             0 => EnergyRule::Edge,
+            1 => EnergyRule::Flat,
             _ => return Err(Refusal::Form),
         };
         Ok(Method { energy })
@@ -153,6 +154,7 @@ fn energy_number(energy: EnergyRule) -> u8
 {
     match energy {
         EnergyRule::Edge => 0,
+        EnergyRule::Flat => 1,
     }
 }
 

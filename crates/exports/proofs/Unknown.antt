@@ -9,6 +9,7 @@ use Rattle.pictures.specs.declared.sizes.Size.{Size}
 use Rattle.pictures.specs.declared.refusals.Refusal.{Refusal}
 use Rattle.pictures.specs.declared.refusals.Refusal.TheVariants.{Form}
 use Rattle.pictures.specs.Refusals.{number_of}
+use Rattle.energy.specs.declared.methods.EnergyRule.TheVariants.{Edge, Flat}
 use Rattle.energy.specs.declared.methods.Method.{Method}
 use Rattle.seam_rules.specs.declared.answers.Axis.{Axis}
 use Rattle.export_answers.specs.declared.names.HostSize.{HostSize}
@@ -27,17 +28,13 @@ two true u x y = tt
 two false true x y = tt
 two false false x y = refl
 
-one : {A : Type 0} (t : Bool) (x : A) → Told (cond t (Ok x) (Err Form))
-one true x = tt
-one false x = refl
-
 size_told : (s : HostSize) → Told (sizing_of s)
 unfolding sizing_of
 size_told s = two (eqb s.kind 0) (eqb s.kind 1) (record { width = s.width; height = s.height; kind = Grey }) (record { width = s.width; height = s.height; kind = Rgb })
 
 carving_told : (s : HostSize) (m : HostMethod) → Told (carving_of s m)
 unfolding carving_of finding_of
-carving_told s m = from (sizing_of s) (finding_of m) (size_told s) (one (eqb m.energy 0) _)
+carving_told s m = from (sizing_of s) (finding_of m) (size_told s) (two (eqb m.energy 0) (eqb m.energy 1) (record { energy = Edge }) (record { energy = Flat }))
   where
     from : (z : Result Size Refusal) (how : Result Method Refusal) → Told z → Told how → Told (carving_from z how)
     from (Ok z) (Ok how) p q = tt

@@ -1,8 +1,8 @@
 -- Points marked P that hold of more than the picture which the table takes: of any samples, either kind, any height.
-use mathlib.Core.Path.{◌≡◌, refl, ap₂, ◌∙◌}
+use mathlib.Core.Path.{◌≡◌, refl, ap, ap₂, ◌∙◌}
 use mathlib.Core.Logic.{◌⊎◌, inl, inr}
 use mathlib.Core.Bool.{true}
-use mathlib.Core.Option.{Option, map, get_or, or_else}
+use mathlib.Core.Option.{Option, map, get_or}
 use mathlib.Core.List.{List, [], ◌∷◌, zip_with, flat_map, reverse}
 use Prim.Native.Nat.{ℕ, zero, suc, ◌<◌}
 use native.Mathlib.Omega.{arith}
@@ -13,13 +13,10 @@ use Rattle.pictures.specs.declared.sizes.Kind.TheVariants.{Grey, Rgb}
 use Rattle.pictures.specs.declared.sizes.Size.{Size}
 use Rattle.pictures.specs.Refusals.{refusal}
 use Rattle.pictures.specs.Pictures.{Picture, channels_of, size_rules, picture, pixel}
-use Rattle.energy.specs.declared.methods.EnergyRule.{EnergyRule}
-use Rattle.energy.specs.declared.methods.EnergyRule.TheVariants.{Edge}
 use Rattle.energy.specs.declared.methods.Method.{Method}
 use Rattle.energy.specs.Methods.{wrap_of}
-use Rattle.energy.specs.Around.{left_of, right_of, above_of, below_of, around}
-use Rattle.energy.specs.Energy.{difference, away, costs_from, costs_at, energy, step_of, energies}
-use Rattle.energy.proofs.Energy.{difference_self, away_holds}
+use Rattle.energy.specs.Energy.{difference, away, costs_at, energy, step_of, energies}
+use Rattle.energy.proofs.Energy.{difference_self, away_holds, two_neighbours}
 use Rattle.energy.proofs.Steps.{step-energy}
 use Rattle.seam_theory.specs.Best.{better, first_best}
 use Rattle.seam_theory.specs.Paths.{run, select, paths_up, paths, cost, beside, nearby}
@@ -38,14 +35,6 @@ use Rattle.file_theory.proofs.Lent.{lent_allowed}
 -- One pixel of either kind.
 abbrev pub one : Kind → Size
 one k = record { width = 1; height = 1; kind = k }
-
--- "1 by 1: energy 0", whatever its samples and the method are.
-pub one-energy : (how : Method) (k : Kind) (b : List ℕ) → energies how 1 1 (picture (one k) b) 0 ≡ 0 ∷ []
-unfolding wrap_of costs_from costs_at or_else left_of right_of above_of below_of
-one-energy how k b = by how.energy
-  where
-    by : (rule : EnergyRule) → ◌≡◌ {A = List ℕ} ((costs_from rule (around (wrap_of how) 1 1 (picture (one k) b) 0 0)).up ∷ []) (0 ∷ [])
-    by Edge = refl
 
 one-sized : (k : Kind) (n : ℕ) → n ≡ channels_of k → refusal (size_rules (one k) n) ≡ 0
 one-sized Grey n e = rw e
@@ -83,21 +72,15 @@ module _ (px : List ℕ) (p : Picture) (only : Only px p) where
   difference-none x y (inr e) o = rw e
 
   -- No neighbour is any difference away.
-  away-none : (r c : ℕ) (q : ℕ → List ℕ) → ((a : ℕ) → (q a ≡ px) ⊎ (q a ≡ [])) → (o else : Option ℕ) → away (pixel p r c) (or_else (map q o) (map q else)) ≡ 0
+  away-none : (r c : ℕ) (q : ℕ → List ℕ) → ((a : ℕ) → (q a ≡ px) ⊎ (q a ≡ [])) → (o : Option ℕ) → away (pixel p r c) (map q o) ≡ 0
   away-none r c q s = away_holds (λ n. n ≡ 0) (pixel p r c) q refl (λ a. difference-none (q a) (pixel p r c) (s a) (only r c))
 
   -- Its energy is 0 everywhere, and so is the cost of a step.
   energy-none : (how : Method) (w h r c : ℕ) → energy how w h p r c ≡ 0
-  unfolding costs_from costs_at
-  energy-none how w h r c = by how.energy
-    where
-      by : (rule : EnergyRule) → (costs_from rule (around (wrap_of how) w h p r c)).up ≡ 0
-      by Edge =
-          omega (
-            arith,
-            away-none r c (pixel p r) (only r) (right_of (wrap_of how) w c) (left_of (wrap_of how) w c),
-            away-none r c (λ a. pixel p a c) (λ a. only a c) (below_of h r) (above_of r),
-          )
+  unfolding costs_at
+  energy-none how w h r c =
+      let two = two_neighbours how.energy (wrap_of how) w h p r c in
+      omega (arith, two.energy_is, away-none r c (pixel p r) (only r) two.beside, away-none r c (λ a. pixel p a c) (λ a. only a c) two.below)
 
   step-none : (how : Method) (w h i a c : ℕ) → step_of how w h p i a c ≡ 0
   step-none how w h i a c = step-energy how w h p i a c ∙ energy-none how w h i c
@@ -108,6 +91,19 @@ module _ (px : List ℕ) (p : Picture) (only : Only px p) where
   seam-none how w h =
       ap₂ (λ (first : ℕ → ℕ) (step : ℕ → ℕ → ℕ → ℕ). reverse (get_or (cheapest (nearby (wrap_of how) w) first step w h) []))
       (λ j c. energy-none how w h 0 c j) (λ j i a c. step-none how w h i a c j)
+
+-- "1 by 1: energy 0", whatever its samples and the method are: there is no other pixel.
+pub one-energy : (how : Method) (k : Kind) (b : List ℕ) → energies how 1 1 (picture (one k) b) 0 ≡ 0 ∷ []
+unfolding picture
+one-energy how k b = ap (λ (e : ℕ). e ∷ []) (energy-none (pixel p 0 0) p only how 1 1 0 0)
+  where
+    p : Picture
+    p = picture (one k) b
+
+    only : Only (pixel p 0 0) p
+    only zero zero = inl refl
+    only zero (suc c) = inr refl
+    only (suc r) c = inr refl
 
 -- Two and three equal pixels, in one row.
 module _ (how : Method) (px : List ℕ) where
