@@ -13,14 +13,22 @@ mod retargets;
 mod rooms;
 mod seams;
 
+use energy::{EnergyRule, Method};
 use generated::Source;
 use pictures::{Kind, Size};
+use std::io::Stdout;
 
-// Pictures of every width to 6 and height to 4, of both kinds; then objects removed, rows and columns together, and files.
+// All trials by each energy rule.
 fn main(rt: HostRuntime) {
     let stdout = rt.stdout();
-    let method = energy::usual_method();
     let mut source = Source { seed: 1 };
+    for energy in [EnergyRule::Edge, EnergyRule::Flat] {
+        trials(stdout, Method { energy }, &mut source);
+    }
+}
+
+// Pictures of every width to 6 and height to 4, of both kinds; then objects removed, rows and columns together, and files.
+fn trials(stdout: Stdout, method: Method, source: &mut Source) {
     for height in 1..5 {
         for width in 1..7 {
             for kind in [Kind::Grey, Kind::Rgb] {
@@ -29,12 +37,12 @@ fn main(rt: HostRuntime) {
                     height,
                     kind,
                 };
-                seams::trial(stdout, size, method, &mut source);
+                seams::trial(stdout, size, method, source);
             }
         }
     }
-    objects::trials(stdout, method, &mut source);
-    retargets::trials(stdout, method, &mut source);
-    files::trials(stdout, method, &mut source);
-    rooms::trials(stdout, method, &mut source);
+    objects::trials(stdout, method, source);
+    retargets::trials(stdout, method, source);
+    files::trials(stdout, method, source);
+    rooms::trials(stdout, method, source);
 }
