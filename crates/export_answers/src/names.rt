@@ -17,7 +17,7 @@ pub struct HostSize {
     pub kind: u8,
 }
 
-// The method that seams are found by, as hosts pass it and are answered it. Energy 0 is edge.
+// The method that seams are found by, as hosts pass it and are answered it. Energy 0 is edge, 1 is flat.
 #[repr(C)]
 #[derive(Clone, Copy, Debug, Default, PartialEq, Eq)]
 pub struct HostMethod {

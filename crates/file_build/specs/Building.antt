@@ -8,7 +8,7 @@ use Rattle.file_theory.specs.Contents.{file_of}
 use Rattle.file_theory.specs.Rules.{build_rules}
 use Rattle.file_rules.specs.Answers.{built_length}
 
--- The file of the picture in these bytes, with the size and range of the head.
+-- The file of the picture in these bytes, with the size, method and range of the head.
 abbrev pub file_in : Head → List ℕ → List ℕ
 file_in h b = file_of h (picture h.size b)
 

@@ -23,11 +23,11 @@ use Rattle.file_theory.specs.Shows.{head_in, rows_in, maps_in}
 use Rattle.file_theory.proofs.Shaped.{shaped_is, shaped_picture, allowed-of_size}
 use Rattle.file_read.specs.Inner.Opening.{Open, rows_from}
 
--- The parts of a text, with size and range h.
+-- The parts of a text with the head h.
 abbrev pub parts_with : Head → Option Parts → Parts
 parts_with h q = record { head = h; rows = rows_in q; maps = maps_in q }
 
--- Of a file of size and range h: what 2 to 6 let through, and what its text says of its parts.
+-- Of a file with the head h: what 2 to 6 let through, and what its text says of its parts.
 pub record Parsed (file : List ℕ) (h : Head) : Type 0 where
   pub parsed : parse file ≡ some (parts_with h (parse file))
   pub whole : text (parts_with h (parse file)) ≡ file

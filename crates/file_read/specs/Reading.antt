@@ -12,7 +12,7 @@ use Rattle.file_theory.specs.Rules.{check_rules, read_rules, show_rules}
 use Rattle.file_theory.specs.Shows.{head_in, rows_in, maps_in, shows, drawn_size, drawn_bytes}
 use Rattle.file_rules.specs.Answers.{answer_of}
 
--- The number; size and range, or "the number alone"; the work space.
+-- The number; size, method and range, or "the number alone"; the work space.
 pub record CheckGiven (file work : List ℕ) (answer : Result Head Refusal) (work' : List ℕ) : Type 0 where
   pub number : given answer ≡ refusal (check_rules file (length work))
   pub head : answer_of answer ≡ served (given answer) (head_in (parse file)) none

@@ -9,7 +9,7 @@ use pictures::{Refusal, judge_sides};
 use text_read::Cursor;
 use text_theory::Head;
 
-// A file that 1 to 6 don't refuse: its text, its size and range, and the place of its first row line.
+// A file that 1 to 6 don't refuse: its text, its head, and the place of its first row line.
 #[derive(Clone, Copy, Debug, PartialEq, Eq)]
 pub(crate) struct Opened<'a> {
     pub(crate) text: &'a [u8],

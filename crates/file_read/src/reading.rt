@@ -7,7 +7,7 @@ use crate::opening::Opened;
 use pictures::Refusal;
 use text_theory::Head;
 
-// The picture of a file into the front of one space, its map into the front of another, and its size and range. Refused by
+// The picture of a file into the front of one space, its map into the front of another, and its head. Refused by
 // what checking refuses, and by 8 where a space is shorter than what it takes.
 pub fn read(
     file: &[u8],

@@ -18,7 +18,7 @@ pub record Point : Type 0 where
   pub got : List (List ℕ)
   pub expected : List (List ℕ)
 
--- Grey rows 10 10 40 and 10 50 40, and its seams: columns 0, 0 at width 3, then columns 1, 1.
+-- Grey rows 10 10 40 and 10 50 40, and its seams by `edge`: columns 0, 0 at width 3, then columns 1, 1.
 abbrev example : List (List ℕ)
 example = (10 ∷ 10 ∷ 40 ∷ []) ∷ (10 ∷ 50 ∷ 40 ∷ []) ∷ []
 

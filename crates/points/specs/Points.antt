@@ -2,7 +2,7 @@
 -- as rows of numbers. By `flat` the values are the specification's own, by `edge` they are made again by change 101.
 use Rattle.std.proofs.Math.Option.{Option, none, some}
 use Rattle.std.specs.Prelude.{List, [], ◌∷◌, ◌++◌, map, ℕ}
-use Rattle.grids.specs.Rows.{flat as flatten}
+use Rattle.grids.specs.Rows.{flat}
 use Rattle.grids.specs.Cut.{cut}
 use Rattle.pictures.specs.declared.sizes.Kind.TheVariants.{Grey}
 use Rattle.pictures.specs.declared.sizes.Size.{Size}
@@ -46,11 +46,11 @@ abbrev pub grey : ℕ → ℕ → Size
 grey w h = record { width = w; height = h; kind = Grey }
 
 -- The methods, by their energy rule.
-abbrev pub edge : Method
-edge = record { energy = Edge }
+abbrev pub by_edge : Method
+by_edge = record { energy = Edge }
 
-abbrev pub flat : Method
-flat = record { energy = Flat }
+abbrev pub by_flat : Method
+by_flat = record { energy = Flat }
 
 -- The worked example: grey rows 10 10 40 and 10 50 40.
 abbrev pub example : Picture
@@ -78,7 +78,7 @@ recorded_file how k g x y = text (record { head = grey_head how 3 2 k g; rows = 
 -- The rows of what is shown of a grey picture.
 abbrev pub drawn_rows : Option Drawn → List (List ℕ)
 drawn_rows none = []
-drawn_rows (some d) = map flatten d.rows
+drawn_rows (some d) = map flat d.rows
 
 -- An ending by its place among the four, and its count.
 abbrev pub place_of : Ending → ℕ
@@ -119,63 +119,63 @@ shared_points how =
 abbrev pub edge_points : List Point
 edge_points =
     -- one row 10 40: each differs by 30 from the other; one column 10 / 50: by 40
-    list (energies edge 2 1 (picture (grey 2 1) (10 ∷ 40 ∷ [])) 0) (30 ∷ 30 ∷ [])
-    ∷ record { got = energy_grid edge 1 2 (picture (grey 1 2) (10 ∷ 50 ∷ [])); expected = (40 ∷ []) ∷ (40 ∷ []) ∷ [] }
+    list (energies by_edge 2 1 (picture (grey 2 1) (10 ∷ 40 ∷ [])) 0) (30 ∷ 30 ∷ [])
+    ∷ record { got = energy_grid by_edge 1 2 (picture (grey 1 2) (10 ∷ 50 ∷ [])); expected = (40 ∷ []) ∷ (40 ∷ []) ∷ [] }
     -- the example's energies: 0 70 30 / 40 50 10
-    ∷ record { got = energy_grid edge 3 2 example; expected = (0 ∷ 70 ∷ 30 ∷ []) ∷ (40 ∷ 50 ∷ 10 ∷ []) ∷ [] }
+    ∷ record { got = energy_grid by_edge 3 2 example; expected = (0 ∷ 70 ∷ 30 ∷ []) ∷ (40 ∷ 50 ∷ 10 ∷ []) ∷ [] }
     -- its first seam: columns 0, 0, cost 40
-    ∷ list (seam_of edge 3 2 example) (0 ∷ 0 ∷ [])
-    ∷ one (cost_of edge 3 2 example) 40
+    ∷ list (seam_of by_edge 3 2 example) (0 ∷ 0 ∷ [])
+    ∷ one (cost_of by_edge 3 2 example) 40
     -- its second, in the picture left: columns 1, 1, cost 40
-    ∷ list (seam_of edge 2 2 (cut (0 ∷ 0 ∷ []) example)) (1 ∷ 1 ∷ [])
-    ∷ one (cost_of edge 2 2 (cut (0 ∷ 0 ∷ []) example)) 40
+    ∷ list (seam_of by_edge 2 2 (cut (0 ∷ 0 ∷ []) example)) (1 ∷ 1 ∷ [])
+    ∷ one (cost_of by_edge 2 2 (cut (0 ∷ 0 ∷ []) example)) 40
     -- its horizontal seam: rows 0, 1, 1, cost 60
-    ∷ list (seam_along edge Horizontal (grey 3 2) example) (0 ∷ 1 ∷ 1 ∷ [])
-    ∷ one (cost_along edge Horizontal (grey 3 2) example) 60
+    ∷ list (seam_along by_edge Horizontal (grey 3 2) example) (0 ∷ 1 ∷ 1 ∷ [])
+    ∷ one (cost_along by_edge Horizontal (grey 3 2) example) 60
     -- retargeted by 1 row and 1 column: 10 40, total 60
-    ∷ record { got = map flatten (smaller edge).picture; expected = (10 ∷ 40 ∷ []) ∷ [] }
-    ∷ one (smaller edge).total 60
+    ∷ record { got = map flat (smaller by_edge).picture; expected = (10 ∷ 40 ∷ []) ∷ [] }
+    ∷ one (smaller by_edge).total 60
     -- its file in full
-    ∷ list (example_file edge) edge_text
+    ∷ list (example_file by_edge) edge_text
     -- width 2 is 10 40 / 50 40, width 1 is 10 / 50, width 4 is 10 10 10 40 / 10 30 50 40
-    ∷ record { got = drawn_rows (shows (example_file edge) 2); expected = (10 ∷ 40 ∷ []) ∷ (50 ∷ 40 ∷ []) ∷ [] }
-    ∷ record { got = drawn_rows (shows (example_file edge) 1); expected = (10 ∷ []) ∷ (50 ∷ []) ∷ [] }
-    ∷ record { got = drawn_rows (shows (example_file edge) 4); expected = (10 ∷ 10 ∷ 10 ∷ 40 ∷ []) ∷ (10 ∷ 30 ∷ 50 ∷ 40 ∷ []) ∷ [] }
+    ∷ record { got = drawn_rows (shows (example_file by_edge) 2); expected = (10 ∷ 40 ∷ []) ∷ (50 ∷ 40 ∷ []) ∷ [] }
+    ∷ record { got = drawn_rows (shows (example_file by_edge) 1); expected = (10 ∷ []) ∷ (50 ∷ []) ∷ [] }
+    ∷ record { got = drawn_rows (shows (example_file by_edge) 4); expected = (10 ∷ 10 ∷ 10 ∷ 40 ∷ []) ∷ (10 ∷ 30 ∷ 50 ∷ 40 ∷ []) ∷ [] }
     -- its own map accepted, that of `flat` refused by 11: its first seam costs 40 too and comes later
-    ∷ gives (check_rules (recorded_file edge 2 1 (1 ∷ 0 ∷ 2 ∷ []) (1 ∷ 0 ∷ 2 ∷ [])) 192) 0
-    ∷ gives (check_rules (recorded_file edge 2 1 (2 ∷ 0 ∷ 1 ∷ []) (0 ∷ 2 ∷ 1 ∷ [])) 192) 11
+    ∷ gives (check_rules (recorded_file by_edge 2 1 (1 ∷ 0 ∷ 2 ∷ []) (1 ∷ 0 ∷ 2 ∷ [])) 192) 0
+    ∷ gives (check_rules (recorded_file by_edge 2 1 (2 ∷ 0 ∷ 1 ∷ []) (0 ∷ 2 ∷ 1 ∷ [])) 192) 11
     ∷ []
 
 -- Points by `flat`.
 abbrev pub flat_points : List Point
 flat_points =
     -- one row 10 40: the last pixel has no difference; one column 10 / 50: nor has it there
-    list (energies flat 2 1 (picture (grey 2 1) (10 ∷ 40 ∷ [])) 0) (30 ∷ 0 ∷ [])
-    ∷ record { got = energy_grid flat 1 2 (picture (grey 1 2) (10 ∷ 50 ∷ [])); expected = (40 ∷ []) ∷ (0 ∷ []) ∷ [] }
+    list (energies by_flat 2 1 (picture (grey 2 1) (10 ∷ 40 ∷ [])) 0) (30 ∷ 0 ∷ [])
+    ∷ record { got = energy_grid by_flat 1 2 (picture (grey 1 2) (10 ∷ 50 ∷ [])); expected = (40 ∷ []) ∷ (0 ∷ []) ∷ [] }
     -- the example's energies: 0 70 0 / 40 10 0
-    ∷ record { got = energy_grid flat 3 2 example; expected = (0 ∷ 70 ∷ 0 ∷ []) ∷ (40 ∷ 10 ∷ 0 ∷ []) ∷ [] }
+    ∷ record { got = energy_grid by_flat 3 2 example; expected = (0 ∷ 70 ∷ 0 ∷ []) ∷ (40 ∷ 10 ∷ 0 ∷ []) ∷ [] }
     -- "first seam columns 2, 2 cost 0"
-    ∷ list (seam_of flat 3 2 example) (2 ∷ 2 ∷ [])
-    ∷ one (cost_of flat 3 2 example) 0
+    ∷ list (seam_of by_flat 3 2 example) (2 ∷ 2 ∷ [])
+    ∷ one (cost_of by_flat 3 2 example) 0
     -- "second, in the picture left, columns 0, 1 cost 0"
-    ∷ list (seam_of flat 2 2 (cut (2 ∷ 2 ∷ []) example)) (0 ∷ 1 ∷ [])
-    ∷ one (cost_of flat 2 2 (cut (2 ∷ 2 ∷ []) example)) 0
+    ∷ list (seam_of by_flat 2 2 (cut (2 ∷ 2 ∷ []) example)) (0 ∷ 1 ∷ [])
+    ∷ one (cost_of by_flat 2 2 (cut (2 ∷ 2 ∷ []) example)) 0
     -- its horizontal seam: rows 0, 1, 0, cost 10
-    ∷ list (seam_along flat Horizontal (grey 3 2) example) (0 ∷ 1 ∷ 0 ∷ [])
-    ∷ one (cost_along flat Horizontal (grey 3 2) example) 10
+    ∷ list (seam_along by_flat Horizontal (grey 3 2) example) (0 ∷ 1 ∷ 0 ∷ [])
+    ∷ one (cost_along by_flat Horizontal (grey 3 2) example) 10
     -- retargeted by 1 row and 1 column: 10 10, total 0
-    ∷ record { got = map flatten (smaller flat).picture; expected = (10 ∷ 10 ∷ []) ∷ [] }
-    ∷ one (smaller flat).total 0
+    ∷ record { got = map flat (smaller by_flat).picture; expected = (10 ∷ 10 ∷ []) ∷ [] }
+    ∷ one (smaller by_flat).total 0
     -- its file in full
-    ∷ list (example_file flat) flat_text
+    ∷ list (example_file by_flat) flat_text
     -- "width 2 is 10 10 / 10 50", "width 1 is 10 / 10", "width 4 is 10 10 25 40 / 10 50 45 40"
-    ∷ record { got = drawn_rows (shows (example_file flat) 2); expected = (10 ∷ 10 ∷ []) ∷ (10 ∷ 50 ∷ []) ∷ [] }
-    ∷ record { got = drawn_rows (shows (example_file flat) 1); expected = (10 ∷ []) ∷ (10 ∷ []) ∷ [] }
-    ∷ record { got = drawn_rows (shows (example_file flat) 4); expected = (10 ∷ 10 ∷ 25 ∷ 40 ∷ []) ∷ (10 ∷ 50 ∷ 45 ∷ 40 ∷ []) ∷ [] }
+    ∷ record { got = drawn_rows (shows (example_file by_flat) 2); expected = (10 ∷ 10 ∷ []) ∷ (10 ∷ 50 ∷ []) ∷ [] }
+    ∷ record { got = drawn_rows (shows (example_file by_flat) 1); expected = (10 ∷ []) ∷ (10 ∷ []) ∷ [] }
+    ∷ record { got = drawn_rows (shows (example_file by_flat) 4); expected = (10 ∷ 10 ∷ 25 ∷ 40 ∷ []) ∷ (10 ∷ 50 ∷ 45 ∷ 40 ∷ []) ∷ [] }
     -- its own map accepted, that of `edge` refused by 11
-    ∷ gives (check_rules (recorded_file flat 2 1 (2 ∷ 0 ∷ 1 ∷ []) (0 ∷ 2 ∷ 1 ∷ [])) 192) 0
-    ∷ gives (check_rules (recorded_file flat 2 1 (1 ∷ 0 ∷ 2 ∷ []) (1 ∷ 0 ∷ 2 ∷ [])) 192) 11
+    ∷ gives (check_rules (recorded_file by_flat 2 1 (2 ∷ 0 ∷ 1 ∷ []) (0 ∷ 2 ∷ 1 ∷ [])) 192) 0
+    ∷ gives (check_rules (recorded_file by_flat 2 1 (1 ∷ 0 ∷ 2 ∷ []) (1 ∷ 0 ∷ 2 ∷ [])) 192) 11
     ∷ []
 
 abbrev pub point_table : List Point
-point_table = shared_points edge ++ (shared_points flat ++ (edge_points ++ flat_points))
+point_table = shared_points by_edge ++ (shared_points by_flat ++ (edge_points ++ flat_points))

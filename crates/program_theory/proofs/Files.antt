@@ -1,4 +1,4 @@
--- What `seams` writes: for a picture that isn't refused, the file of its full range, which is accepted.
+-- What `seams` writes: for a picture that isn't refused, the file of its full range by `edge`, which is accepted.
 use mathlib.Core.Path.{◌≡◌, refl, ◌∙◌}
 use mathlib.Core.Bool.{true, cond}
 use mathlib.Core.Option.{Option, none, some}
@@ -16,14 +16,16 @@ use Rattle.pictures.specs.Refusals.{refusal}
 use Rattle.pictures.specs.Pictures.{channels_of, size_rules, picture, pixels}
 use Rattle.pictures.proofs.Rules.{served-first, served-both, passed}
 use Rattle.pictures.proofs.Limits.{sized_is}
+use Rattle.energy.specs.declared.methods.EnergyRule.TheVariants.{Edge}
 use Rattle.map_theory.specs.Widths.{allowed}
 use Rattle.map_theory.proofs.Shown.{allowed_is}
+use Rattle.text_theory.specs.Words.{rule_text}
 use Rattle.text_theory.specs.Files.{parse, All}
 use Rattle.file_theory.specs.Contents.{parts_of, file_of}
-use Rattle.file_theory.specs.Shows.{Accepted}
+use Rattle.file_theory.specs.Shows.{Accepted, energy_word}
 use Rattle.file_theory.specs.Demands.{Built}
 use Rattle.file_theory.proofs.Accepting.{accepted_built}
-use Rattle.file_theory.proofs.Built.{built_parsed}
+use Rattle.file_theory.proofs.Built.{built_parsed, built_word}
 use Rattle.file_theory.proofs.Lent.{all_drop, lent_allowed}
 use Rattle.program_theory.specs.Netpbm.{header_text, header_get}
 use Rattle.program_theory.specs.Programs.{most_input, held_pixels, pixels_rule, written, full_range, picture_rules, file_answer, seams_rules, seams}
@@ -52,6 +54,10 @@ module _ (z : Size) (b : List ℕ) (small : All (λ (a : ℕ). a < 256) b) (fine
   unfolding full_built
   full_parsed = built_parsed full_built
 
+  full_word : energy_word (file_of (full_range z) (picture z b)) ≡ rule_text Edge
+  unfolding full_built
+  full_word = built_word full_built
+
 -- `seams` writes it, where the picture has at most 1,024 pixels.
 pub seams-served : (z : Size) (b : List ℕ) → refusal (size_rules z (length b)) ≡ 0 → pixels z ≤ held_pixels → seams (header_text z ++ b) ≡ file_of (full_range z) (picture z b)
 unfolding seams
@@ -68,18 +74,28 @@ seams-served z b fine few =
     rw (header_back z (omega arith) (omega arith) b)
     (short_input (header_text z ++ b) (refusal (picture_rules (some (z, b)))) (file_answer (some (z, b))) l ∙ rw r)
 
--- What it writes where it refuses nothing is accepted.
-pub seams-accepted : (input : List ℕ) → All (λ (a : ℕ). a < 256) input → refusal (seams_rules input) ≡ 0 → Accepted (seams input)
+-- What holds of each such file holds of what it writes where it refuses nothing:
+seams-holds : (P : List ℕ → Type 0)
+    → ((z : Size) (b : List ℕ) → All (λ (a : ℕ). a < 256) b → refusal (size_rules z (length b)) ≡ 0 → P (file_of (full_range z) (picture z b)))
+    → (input : List ℕ) → All (λ (a : ℕ). a < 256) input → refusal (seams_rules input) ≡ 0 → P (seams input)
 unfolding seams
-seams-accepted input small e =
+seams-holds P holds input small e =
     let p = passed (ltb most_input (length input)) 7 (refusal (picture_rules (header_get input))) e in
     rw e (go (header_get input) refl p.1)
   where
-    go : (o : Option (Size × List ℕ)) → header_get input ≡ o → refusal (picture_rules o) ≡ 0 → Accepted (file_answer (header_get input))
+    go : (o : Option (Size × List ℕ)) → header_get input ≡ o → refusal (picture_rules o) ≡ 0 → P (file_answer (header_get input))
     go none h r = absurd (omega arith)
     go (some (z, b)) h r =
         let s = (header_reads.sound input (z, b) h).0 in
         let fine = (served-both (size_rules z (length b)) (pixels_rule z ∷ []) refl r).0 in
         let n : ℕ = length (header_text z) in
         let rest : All (λ (a : ℕ). a < 256) b = rw (s, drop_at (header_text z) b n refl) at (all_drop (λ (a : ℕ). a < 256) n input small) in
-        rw h (full_accepted z b rest fine)
+        rw h (holds z b rest fine)
+
+-- it is accepted,
+pub seams-accepted : (input : List ℕ) → All (λ (a : ℕ). a < 256) input → refusal (seams_rules input) ≡ 0 → Accepted (seams input)
+seams-accepted = seams-holds Accepted full_accepted
+
+-- and "`seams` writes `edge`".
+pub seams-edge : (input : List ℕ) → All (λ (a : ℕ). a < 256) input → refusal (seams_rules input) ≡ 0 → energy_word (seams input) ≡ rule_text Edge
+seams-edge = seams-holds (λ f. energy_word f ≡ rule_text Edge) full_word

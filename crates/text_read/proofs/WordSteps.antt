@@ -17,7 +17,7 @@ use Rattle.text_theory.specs.declared.Name.{Name}
 use Rattle.text_theory.specs.declared.Name.TheVariants as names
 use Rattle.text_theory.specs.Readers.{give, on, strip, after, either}
 use Rattle.text_theory.specs.Decimal.{is_digit, further, up_to, number_get}
-use Rattle.text_theory.specs.Words.{name_text, name_number, all_names, name_at, one_of, name_get, named, called, called_get, kind_named}
+use Rattle.text_theory.specs.Words.{name_text, name_number, all_names, name_at, one_of, name_get, named, called, called_get}
 use Rattle.text_theory.proofs.Names.{name_sound, number_same}
 use Rattle.text_read.specs.declared.cursor.Cursor.{Cursor}
 use Rattle.text_read.specs.declared.words.Word.{Word}
@@ -198,19 +198,6 @@ module _ {A : Type 0} (f : A → Name) (xs : List A) {text : List ℕ} {at : ℕ
 
   pub told_unnamed : Told name_get text at none → Told (called_get f xs) text at none
   told_unnamed t = record { same = rw t.same; moved = tt }
-
--- The arm of all names that are no kind's.
-pub no_kind : (n : Name) → (n ≡ names.Grey → ⊥) → (n ≡ names.Rgb → ⊥) → kind_named n ≡ none
-no_kind names.Multi g r = refl
-no_kind names.Size g r = refl
-no_kind names.Range g r = refl
-no_kind names.Energy g r = refl
-no_kind names.Row g r = refl
-no_kind names.Map g r = refl
-no_kind names.Grey g r = absurd (g refl)
-no_kind names.Rgb g r = absurd (r refl)
-no_kind names.Edge g r = refl
-no_kind names.Flat g r = refl
 
 -- One name alone.
 module _ (n : Name) {text : List ℕ} {at : ℕ} where

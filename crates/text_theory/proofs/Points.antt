@@ -1,107 +1,20 @@
 -- Worked texts, computed: the example of "The multi-size file", and texts on both sides of the form.
 use mathlib.Core.Path.{◌≡◌, refl}
-use mathlib.Core.Option.{Option, none, some}
-use mathlib.Core.List.{List, [], ◌∷◌, map, flatten}
-use Prim.Native.Nat.{ℕ}
-use Rattle.pictures.specs.declared.sizes.Kind.TheVariants.{Rgb}
-use Rattle.pictures.specs.Numbers.{largest_number}
-use Rattle.energy.specs.declared.methods.EnergyRule.TheVariants.{Flat}
+use mathlib.Core.List.{List, [], ◌∷◌, map}
+use Rattle.grids.specs.Rows.{flat}
 use Rattle.text_theory.specs.Readers.{strip, next, many_up_to, many}
 use Rattle.text_theory.specs.Decimal.{digits_up_to, digits, is_digit, further, up_to, number_get}
 use Rattle.text_theory.specs.Words.{one_of, name_get, kind_text, kind_get, rule_text, rule_get}
-use Rattle.text_theory.specs.Example.{edge_parts, edge_text, flat_parts, flat_text, multi_line, size_line, range_line, edge_line, flat_line, last_line}
-use Rattle.text_theory.specs.Files.{Parts, line_end, blank, opening, closing, closed, begun, row_word, map_word, each, joined, pixel_text, line_text, first_text, size_text, range_text, energy_text, head_text, text, items, three, pixel_get, line, size_get, range_get, energy_get, head_get, file, whole, parse}
+use Rattle.text_theory.specs.Example.{edge_parts, edge_text, flat_parts, flat_text}
+use Rattle.text_theory.specs.Readings.{readings}
+use Rattle.text_theory.specs.Files.{line_end, blank, opening, closing, closed, begun, row_word, map_word, each, joined, pixel_text, line_text, first_text, size_text, range_text, energy_text, head_text, text, items, three, pixel_get, line, size_get, range_get, energy_get, head_get, file, whole, parse}
 
 -- The example's file by each rule, as it is printed.
 pub printed : map text (edge_parts ∷ flat_parts ∷ []) ≡ edge_text ∷ flat_text ∷ []
-unfolding digits_up_to digits line_end blank opening closing closed begun row_word map_word kind_text rule_text each joined pixel_text line_text first_text size_text range_text energy_text head_text text flatten
+unfolding digits_up_to digits line_end blank opening closing closed begun row_word map_word kind_text rule_text each joined pixel_text line_text first_text size_text range_text energy_text head_text text
 printed = refl
 
--- Further lines, as bytes.
-abbrev rgb_line : List ℕ
-rgb_line = 40 ∷ 115 ∷ 105 ∷ 122 ∷ 101 ∷ 32 ∷ 50 ∷ 32 ∷ 49 ∷ 32 ∷ 114 ∷ 103 ∷ 98 ∷ 41 ∷ 10 ∷ []  -- '(size 2 1 rgb)'
-
-abbrev no_range : List ℕ
-no_range = 40 ∷ 114 ∷ 97 ∷ 110 ∷ 103 ∷ 101 ∷ 32 ∷ 48 ∷ 32 ∷ 48 ∷ 41 ∷ 10 ∷ []  -- '(range 0 0)'
-
-abbrev rgb_row : List ℕ
-rgb_row = 40 ∷ 114 ∷ 111 ∷ 119 ∷ 32 ∷ 40 ∷ 49 ∷ 32 ∷ 50 ∷ 32 ∷ 51 ∷ 41 ∷ 32 ∷ 40 ∷ 52 ∷ 32 ∷ 53 ∷ 32 ∷ 50 ∷ 53 ∷ 53 ∷ 41 ∷ 41 ∷ 10 ∷ []  -- '(row (1 2 3) (4 5 255))'
-
-abbrev long_map : List ℕ
-long_map = 40 ∷ 109 ∷ 97 ∷ 112 ∷ 32 ∷ 48 ∷ 32 ∷ 54 ∷ 53 ∷ 53 ∷ 51 ∷ 53 ∷ 41 ∷ 10 ∷ []  -- '(map 0 65535)'
-
-abbrev bare_row : List ℕ
-bare_row = 40 ∷ 114 ∷ 111 ∷ 119 ∷ 41 ∷ 10 ∷ []  -- '(row)'
-
-abbrev bare_map : List ℕ
-bare_map = 40 ∷ 109 ∷ 97 ∷ 112 ∷ 41 ∷ 10 ∷ []  -- '(map)'
-
-abbrev zero_ahead : List ℕ
-zero_ahead = 40 ∷ 115 ∷ 105 ∷ 122 ∷ 101 ∷ 32 ∷ 48 ∷ 51 ∷ 32 ∷ 50 ∷ 32 ∷ 103 ∷ 114 ∷ 101 ∷ 121 ∷ 41 ∷ 10 ∷ []  -- '(size 03 2 grey)'
-
-abbrev empty_row : List ℕ
-empty_row = 40 ∷ 114 ∷ 111 ∷ 119 ∷ 32 ∷ 41 ∷ 10 ∷ []  -- '(row )'
-
-abbrev two_samples : List ℕ
-two_samples = 40 ∷ 114 ∷ 111 ∷ 119 ∷ 32 ∷ 40 ∷ 49 ∷ 32 ∷ 50 ∷ 41 ∷ 32 ∷ 40 ∷ 52 ∷ 32 ∷ 53 ∷ 32 ∷ 54 ∷ 41 ∷ 41 ∷ 10 ∷ []  -- '(row (1 2) (4 5 6))'
-
-abbrev over : List ℕ
-over = 40 ∷ 114 ∷ 111 ∷ 119 ∷ 32 ∷ 50 ∷ 53 ∷ 54 ∷ 41 ∷ 10 ∷ []  -- '(row 256)'
-
-abbrev long_range : List ℕ
-long_range = 40 ∷ 114 ∷ 97 ∷ 110 ∷ 103 ∷ 101 ∷ 32 ∷ 50 ∷ 32 ∷ 54 ∷ 53 ∷ 53 ∷ 51 ∷ 54 ∷ 41 ∷ 10 ∷ []  -- '(range 2 65536)'
-
-abbrev other_word : List ℕ
-other_word = 40 ∷ 101 ∷ 110 ∷ 101 ∷ 114 ∷ 103 ∷ 121 ∷ 32 ∷ 103 ∷ 114 ∷ 101 ∷ 121 ∷ 41 ∷ 10 ∷ []  -- '(energy grey)'
-
-abbrev no_word : List ℕ
-no_word = 40 ∷ 101 ∷ 110 ∷ 101 ∷ 114 ∷ 103 ∷ 121 ∷ 41 ∷ 10 ∷ []  -- '(energy)'
-
--- An rgb file.
-abbrev coloured : Parts
-coloured = record {
-  head = record { size = record { width = 2; height = 1; kind = Rgb }; method = record { energy = Flat }; depth = 0; growth = 0 };
-  rows = ((1 ∷ 2 ∷ 3 ∷ []) ∷ (4 ∷ 5 ∷ 255 ∷ []) ∷ []) ∷ [];
-  maps = (0 ∷ largest_number ∷ []) ∷ [];
-}
-
--- Texts by their lines, and what is read of each: its parts, or none where the form is broken.
-abbrev readings : List (List (List ℕ) × Option Parts)
-readings =
-    -- the example's file by each rule
-    (edge_text ∷ [], some edge_parts)
-    ∷ (flat_text ∷ [], some flat_parts)
-    -- the largest sample and the largest number
-    ∷ (multi_line ∷ rgb_line ∷ no_range ∷ flat_line ∷ rgb_row ∷ long_map ∷ last_line ∷ [], some coloured)
-    -- lines without items: their counts are judged later
-    ∷ (multi_line ∷ size_line ∷ range_line ∷ edge_line ∷ bare_row ∷ bare_map ∷ last_line ∷ [], some (record { head = edge_parts.head; rows = [] ∷ []; maps = [] ∷ [] }))
-    -- a leading zero
-    ∷ (multi_line ∷ zero_ahead ∷ range_line ∷ edge_line ∷ last_line ∷ [], none)
-    -- `(row )`
-    ∷ (multi_line ∷ size_line ∷ range_line ∷ edge_line ∷ empty_row ∷ last_line ∷ [], none)
-    -- an rgb pixel of two samples
-    ∷ (multi_line ∷ rgb_line ∷ no_range ∷ edge_line ∷ two_samples ∷ last_line ∷ [], none)
-    -- sample 256
-    ∷ (multi_line ∷ size_line ∷ range_line ∷ edge_line ∷ over ∷ last_line ∷ [], none)
-    -- number 65536
-    ∷ (multi_line ∷ size_line ∷ long_range ∷ edge_line ∷ last_line ∷ [], none)
-    -- a byte after the last line
-    ∷ (multi_line ∷ size_line ∷ range_line ∷ edge_line ∷ last_line ∷ (32 ∷ []) ∷ [], none)
-    -- a last line without its end
-    ∷ (multi_line ∷ size_line ∷ range_line ∷ edge_line ∷ (41 ∷ []) ∷ [], none)
-    -- a row line after a map line
-    ∷ (multi_line ∷ size_line ∷ range_line ∷ edge_line ∷ bare_map ∷ bare_row ∷ last_line ∷ [], none)
-    -- "A file without the line is text that breaks its form"
-    ∷ (multi_line ∷ size_line ∷ range_line ∷ bare_row ∷ bare_map ∷ last_line ∷ [], none)
-    -- the energy before the range, after the rows, twice
-    ∷ (multi_line ∷ size_line ∷ edge_line ∷ range_line ∷ bare_row ∷ bare_map ∷ last_line ∷ [], none)
-    ∷ (multi_line ∷ size_line ∷ range_line ∷ bare_row ∷ edge_line ∷ bare_map ∷ last_line ∷ [], none)
-    ∷ (multi_line ∷ size_line ∷ range_line ∷ edge_line ∷ flat_line ∷ bare_row ∷ bare_map ∷ last_line ∷ [], none)
-    -- a word that names no energy, and no word
-    ∷ (multi_line ∷ size_line ∷ range_line ∷ other_word ∷ bare_row ∷ bare_map ∷ last_line ∷ [], none)
-    ∷ (multi_line ∷ size_line ∷ range_line ∷ no_word ∷ bare_row ∷ bare_map ∷ last_line ∷ [], none)
-    ∷ []
-
-pub read_so : map (λ r. parse (flatten r.0)) readings ≡ map (λ r. r.1) readings
-unfolding strip next many_up_to many is_digit further up_to number_get line_end blank opening closing closed begun row_word map_word one_of name_get kind_get rule_get first_text items three pixel_get line size_get range_get energy_get head_get file whole parse flatten
+-- What is read of the texts.
+pub read_so : map (λ r. parse (flat r.0)) readings ≡ map (λ r. r.1) readings
+unfolding strip next many_up_to many is_digit further up_to number_get line_end blank opening closing closed begun row_word map_word one_of name_get kind_get rule_get first_text items three pixel_get line size_get range_get energy_get head_get file whole parse
 read_so = refl

@@ -1,6 +1,6 @@
 -- "The multi-size file", its example: grey rows 10 10 40 and 10 50 40, by each energy rule.
-use mathlib.Core.List.{List, [], ◌∷◌, flatten}
-use Rattle.std.specs.Prelude.{ℕ}
+use Rattle.std.specs.Prelude.{List, [], ◌∷◌, ℕ}
+use Rattle.grids.specs.Rows.{flat}
 use Rattle.pictures.specs.declared.sizes.Kind.TheVariants.{Grey}
 use Rattle.energy.specs.declared.methods.EnergyRule.{EnergyRule}
 use Rattle.energy.specs.declared.methods.EnergyRule.TheVariants.{Edge, Flat}
@@ -57,8 +57,8 @@ second_map = 40 ∷ 109 ∷ 97 ∷ 112 ∷ 32 ∷ 48 ∷ 32 ∷ 50 ∷ 32 ∷ 49
 
 -- The file in full: as the specification writes it, with the line of change 102,
 abbrev pub flat_text : List ℕ
-flat_text = flatten (multi_line ∷ size_line ∷ range_line ∷ flat_line ∷ first_row ∷ second_row ∷ first_map ∷ second_map ∷ last_line ∷ [])
+flat_text = flat (multi_line ∷ size_line ∷ range_line ∷ flat_line ∷ first_row ∷ second_row ∷ first_map ∷ second_map ∷ last_line ∷ [])
 
 -- and with the map made again by the rule of change 101.
 abbrev pub edge_text : List ℕ
-edge_text = flatten (multi_line ∷ size_line ∷ range_line ∷ edge_line ∷ first_row ∷ second_row ∷ edge_map ∷ edge_map ∷ last_line ∷ [])
+edge_text = flat (multi_line ∷ size_line ∷ range_line ∷ edge_line ∷ first_row ∷ second_row ∷ edge_map ∷ edge_map ∷ last_line ∷ [])

@@ -4,3 +4,4 @@ pub mod Words
 pub mod Files
 pub mod Lengths
 pub mod Example
+pub mod Readings

@@ -2,6 +2,7 @@
 ghost use Rattle.std.specs.Prelude.{◌≤◌, length};
 
 use crate::output::{given, print_number, print_numbers, put};
+use energy::EnergyRule;
 use pictures::{Refusal, Size};
 use std::io::Stdout;
 use text_theory::Head;
@@ -29,7 +30,7 @@ pub(crate) fn print_build(
     built.unwrap_or(0).min(out.len())
 }
 
-// The number given, size and range, and how many bytes of the work space aren't 0.
+// The number given, the head, and how many bytes of the work space aren't 0.
 pub(crate) fn print_check(stdout: Stdout, file: &[u8], work: &mut [u8]) {
     let checked = file_read::check(file, work);
     put(stdout, b"check");
@@ -82,9 +83,18 @@ fn print_checked(stdout: Stdout, checked: Result<Head, Refusal>) {
     print_number(stdout, given(checked));
     if let Ok(head) = checked {
         print_size(stdout, head.size);
+        print_energy(stdout, head.method.energy);
         print_number(stdout, head.depth);
         print_number(stdout, head.growth);
     }
+}
+
+fn print_energy(stdout: Stdout, energy: EnergyRule) {
+    let word = match energy {
+        EnergyRule::Edge => b" edge",
+        EnergyRule::Flat => b" flat",
+    };
+    put(stdout, word);
 }
 
 // Width, height, and samples a pixel.

@@ -8,7 +8,7 @@ use Rattle.text_theory.specs.Files.{Parts, parse, row_lines, map_lines, closed}
 use Rattle.file_theory.specs.Rules.{part_rules, form_rules}
 use Rattle.file_theory.specs.Shows.{head_in, rows_in, maps_in}
 
--- A file that 1 to 6 don't refuse, of this size and range.
+-- A file that 1 to 6 don't refuse, of this head.
 pub record Open (file : List ℕ) (h : Head) : Type 0 where
   pub sound : refusal (form_rules part_rules (parse file)) ≡ 0
   pub head_is : head_in (parse file) ≡ some h
