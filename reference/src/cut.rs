@@ -1,5 +1,6 @@
 //! Cutting one seam.
 
+use crate::energy::Method;
 use crate::grid::{bytes_of, close_up, marks_of, pack, pixels_of};
 use crate::picture::{judge_picture, pixel_count, Size};
 use crate::refusal::{ensure, Refusal, ALL_PROTECTED, LAST_LINE};
@@ -9,13 +10,14 @@ use crate::seam::{give_seam, judge_seam_request, turn, vertical_seam, Axis};
 pub fn cut(
     picture: &mut [u8],
     size: Size,
+    method: Method,
     axis: Axis,
     seam: &mut [u16],
     work: &mut [u8],
 ) -> Result<u64, Refusal> {
     judge_picture(picture, size)?;
     let mut marks = vec![0; pixel_count(size)];
-    cut_marked(picture, &mut marks, size, axis, seam, work)
+    cut_marked(picture, &mut marks, size, method, axis, seam, work)
 }
 
 /// Cuts the seam of a picture with marks, and the marks alike: refusals 2, 3,
@@ -24,6 +26,7 @@ pub fn cut_marked(
     picture: &mut [u8],
     marks: &mut [u8],
     size: Size,
+    method: Method,
     axis: Axis,
     seam: &mut [u16],
     work: &mut [u8],
@@ -32,7 +35,7 @@ pub fn cut_marked(
     work.fill(0);
     let turned_picture = turn(pixels_of(picture, size), axis);
     let turned_marks = turn(marks_of(marks, size), axis);
-    let found = vertical_seam(&turned_picture, &turned_marks).ok_or(ALL_PROTECTED)?;
+    let found = vertical_seam(&turned_picture, &turned_marks, method).ok_or(ALL_PROTECTED)?;
     ensure(turned_picture[0].len() > 1, LAST_LINE)?;
 
     let picture_left = turn(close_up(&turned_picture, &found.columns), axis);

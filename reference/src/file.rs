@@ -1,5 +1,6 @@
 //! The operations on multi-size files.
 
+use crate::energy::Method;
 use crate::grid::{bytes_of, give_out, pixels_of, Grid, Pixel};
 use crate::map::{build_map, judge_map};
 use crate::picture::{byte_count, judge_picture, judge_sides, judge_work, pixel_count, Size};
@@ -11,6 +12,7 @@ use crate::widths::{at_width, is_allowed_range, is_offered};
 #[derive(Clone, Copy, Debug, PartialEq, Eq)]
 pub struct FileInfo {
     pub size: Size,
+    pub method: Method,
     pub depth: usize,
     pub growth: usize,
 }
@@ -20,6 +22,7 @@ pub struct FileInfo {
 pub fn build(
     picture: &[u8],
     size: Size,
+    method: Method,
     depth: usize,
     growth: usize,
     out: &mut [u8],
@@ -28,23 +31,29 @@ pub fn build(
     judge_picture(picture, size)?;
     ensure(is_allowed_range(size.width, depth, growth), RANGE)?;
     let pixels = pixels_of(picture, size);
-    let length = text_length(size, depth, growth, &pixels);
+    let length = text_length(size, method, depth, growth, &pixels);
     ensure(out.len() >= length, SPACE)?;
     judge_work(work, size)?;
     work.fill(0);
 
-    let map = build_map(&pixels, depth);
-    give_out(out, &write_text(size, depth, growth, &pixels, &map));
+    let map = build_map(&pixels, method, depth);
+    give_out(out, &write_text(size, method, depth, growth, &pixels, &map));
     Ok(length)
 }
 
 /// The length of the text, found without seams: each map row holds 1 to k
 /// once and m−k zeros, in whatever order.
-fn text_length(size: Size, depth: usize, growth: usize, pixels: &Grid<Pixel>) -> usize {
+fn text_length(
+    size: Size,
+    method: Method,
+    depth: usize,
+    growth: usize,
+    pixels: &Grid<Pixel>,
+) -> usize {
     let mut numbers: Vec<u16> = (1..=depth).map(|number| number as u16).collect();
     numbers.resize(size.width, 0);
     let map = vec![numbers; size.height];
-    write_text(size, depth, growth, pixels, &map).len()
+    write_text(size, method, depth, growth, pixels, &map).len()
 }
 
 /// Reads a text and judges 1, 2, 3, 4 and 6.
@@ -75,21 +84,23 @@ pub fn judge_wanted_width(text: &Text, wanted: usize) -> Result<(), Refusal> {
     ensure(offered, NOT_OFFERED)
 }
 
-/// The numbers that a text gives by value.
+/// What a text gives by value.
 fn info_of(text: &Text) -> FileInfo {
     FileInfo {
         size: text.size,
+        method: text.method,
         depth: text.depth,
         growth: text.growth,
     }
 }
 
-/// Checks a file. Refusals 1, 2, 3, 4, 6, 8, 9, 10 and 11.
+/// Checks a file, its seams by the method that it names. Refusals 1, 2, 3, 4, 6,
+/// 8, 9, 10 and 11.
 pub fn check(file: &[u8], work: &mut [u8]) -> Result<FileInfo, Refusal> {
     let text = read_judged(file)?;
     judge_work(work, text.size)?;
     work.fill(0);
-    judge_map(&text.rows, &text.map, text.depth)?;
+    judge_map(&text.rows, &text.map, text.method, text.depth)?;
     Ok(info_of(&text))
 }
 
@@ -106,7 +117,7 @@ pub fn read(
     ensure(map.len() >= pixel_count(text.size), SPACE)?;
     judge_work(work, text.size)?;
     work.fill(0);
-    judge_map(&text.rows, &text.map, text.depth)?;
+    judge_map(&text.rows, &text.map, text.method, text.depth)?;
 
     give_out(picture, &bytes_of(&text.rows, text.size.kind));
     give_out(map, &text.map.concat());
@@ -122,7 +133,7 @@ pub fn show(file: &[u8], width: usize, out: &mut [u8], work: &mut [u8]) -> Resul
     ensure(out.len() >= byte_count(shown_size), SPACE)?;
     judge_work(work, text.size)?;
     work.fill(0);
-    judge_map(&text.rows, &text.map, text.depth)?;
+    judge_map(&text.rows, &text.map, text.method, text.depth)?;
 
     let shown = at_width(&text.rows, &text.map, width);
     give_out(out, &bytes_of(&shown, text.size.kind));

@@ -1,27 +1,28 @@
 //! The map: for each original pixel the number of the seam that took it, or
 //! 0. How it is built, and how 9, 10 and 11 judge one.
 
+use crate::energy::Method;
 use crate::grid::{close_up, no_marks, Grid, Pixel};
 use crate::refusal::{ensure, Refusal, BROKEN_SEAM, MAP_ROW, OTHER_SEAM};
 use crate::seam::vertical_seam;
 use crate::widths::narrower;
 
 /// Columns of the seam found in a picture without marks.
-fn found_columns(picture: &Grid<Pixel>) -> Vec<usize> {
-    vertical_seam(picture, &no_marks(picture))
+fn found_columns(picture: &Grid<Pixel>, method: Method) -> Vec<usize> {
+    vertical_seam(picture, &no_marks(picture), method)
         .expect("without marks there is always a seam")
         .columns
 }
 
 /// The map of the first `depth` seams. Each seam is found in the picture that
 /// is left; its number is written at the original columns.
-pub fn build_map(picture: &Grid<Pixel>, depth: usize) -> Grid<u16> {
+pub fn build_map(picture: &Grid<Pixel>, method: Method, depth: usize) -> Grid<u16> {
     let mut map: Grid<u16> = picture.iter().map(|row| vec![0; row.len()]).collect();
     let mut left = picture.clone();
     // For each pixel left, its column in the original picture.
     let mut origins: Grid<usize> = picture.iter().map(|row| (0..row.len()).collect()).collect();
     for number in 1..=depth {
-        let columns = found_columns(&left);
+        let columns = found_columns(&left, method);
         for row in 0..map.len() {
             map[row][origins[row][columns[row]]] = number as u16;
         }
@@ -33,7 +34,12 @@ pub fn build_map(picture: &Grid<Pixel>, depth: usize) -> Grid<u16> {
 
 /// Refusals 9, 10 and 11 of a map whose counts are right. 10 of any seam is
 /// smaller than 11 of an earlier one, so 10 is judged over all seams first.
-pub fn judge_map(picture: &Grid<Pixel>, map: &Grid<u16>, depth: usize) -> Result<(), Refusal> {
+pub fn judge_map(
+    picture: &Grid<Pixel>,
+    map: &Grid<u16>,
+    method: Method,
+    depth: usize,
+) -> Result<(), Refusal> {
     for row in map {
         ensure(holds_each_number_once(row, depth), MAP_ROW)?;
     }
@@ -44,7 +50,7 @@ pub fn judge_map(picture: &Grid<Pixel>, map: &Grid<u16>, depth: usize) -> Result
         // The picture left before seam t is the one at width m − (t − 1).
         let left = narrower(picture, map, number - 1);
         ensure(
-            found_columns(&left) == recorded_seam(map, number),
+            found_columns(&left, method) == recorded_seam(map, number),
             OTHER_SEAM,
         )?;
     }

@@ -1,5 +1,6 @@
 //! Object removal.
 
+use crate::energy::Method;
 use crate::grid::{bytes_of, close_up, marks_of, pack, pixels_of};
 use crate::picture::{judge_marks, judge_picture, judge_work, Size};
 use crate::refusal::Refusal;
@@ -24,6 +25,7 @@ pub fn remove_object(
     picture: &mut [u8],
     marks: &mut [u8],
     size: Size,
+    method: Method,
     budget: u16,
     work: &mut [u8],
 ) -> Result<(Ending, u16), Refusal> {
@@ -46,7 +48,7 @@ pub fn remove_object(
         if count == budget {
             break Ending::Spent;
         }
-        let Some(found) = vertical_seam(&picture_left, &marks_left) else {
+        let Some(found) = vertical_seam(&picture_left, &marks_left, method) else {
             break Ending::Blocked;
         };
         picture_left = close_up(&picture_left, &found.columns);

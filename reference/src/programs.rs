@@ -1,5 +1,6 @@
 //! The programs `seams` and `fit`: what they write for an input.
 
+use crate::energy::{EnergyRule, Method};
 use crate::file::{build, judge_wanted_width, read_judged, show};
 use crate::netpbm::{read_header, split_at_line_end, write_netpbm};
 use crate::picture::{byte_count, judge_picture, pixel_count, work_needed, Size};
@@ -15,7 +16,7 @@ const MOST_INPUT: usize = 65_536;
 /// Output space for a file of 1,024 pixels: `(255 255 255)` with a blank and
 /// a map number with a blank take at most 18 bytes a pixel, and no line adds
 /// more than 32 bytes of its own.
-const TEXT_SPACE: usize = 18 * MOST_PIXELS + 32 * (2 * MOST_PIXELS + 4);
+const TEXT_SPACE: usize = 18 * MOST_PIXELS + 32 * (2 * MOST_PIXELS + 5);
 
 /// What `seams` writes for an input.
 pub fn seams_program(input: &[u8]) -> Vec<u8> {
@@ -35,8 +36,8 @@ fn written(answer: Result<Vec<u8>, Refusal>) -> Vec<u8> {
     }
 }
 
-/// Reads a Netpbm picture and writes the file with k = m−1 and g = m/2
-/// rounded down.
+/// Reads a Netpbm picture and writes the file with energy `edge`, k = m−1 and
+/// g = m/2 rounded down.
 fn seams(input: &[u8]) -> Result<Vec<u8>, Refusal> {
     ensure(input.len() <= MOST_INPUT, SPACE)?;
     let (size, samples) = read_header(input)?;
@@ -45,8 +46,11 @@ fn seams(input: &[u8]) -> Result<Vec<u8>, Refusal> {
 
     let mut out = vec![0; TEXT_SPACE];
     let mut work = vec![0; work_needed(size)];
+    let method = Method {
+        energy: EnergyRule::Edge,
+    };
     let (depth, growth) = (size.width - 1, size.width / 2);
-    let length = build(samples, size, depth, growth, &mut out, &mut work)?;
+    let length = build(samples, size, method, depth, growth, &mut out, &mut work)?;
     out.truncate(length);
     Ok(out)
 }

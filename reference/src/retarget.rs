@@ -1,5 +1,6 @@
 //! Retargeting in both directions.
 
+use crate::energy::Method;
 use crate::grid::{bytes_of, close_up, give_out, no_marks, pixels_of, Grid, Pixel};
 use crate::picture::{byte_count, judge_picture, work_needed, Size};
 use crate::refusal::{ensure, Refusal, NOT_OFFERED, SPACE};
@@ -27,10 +28,10 @@ struct Cell {
 
 /// The cell that a cut along the axis makes of `cell`. The total grows by the
 /// seam's cost in the picture before the cut.
-fn cut_from(cell: &Cell, axis: Axis) -> Cell {
+fn cut_from(cell: &Cell, method: Method, axis: Axis) -> Cell {
     let turned = turn(cell.picture.clone(), axis);
-    let seam =
-        vertical_seam(&turned, &no_marks(&turned)).expect("without marks there is always a seam");
+    let seam = vertical_seam(&turned, &no_marks(&turned), method)
+        .expect("without marks there is always a seam");
     Cell {
         picture: turn(close_up(&turned, &seam.columns), axis),
         total: cell.total + seam.cost,
@@ -39,20 +40,20 @@ fn cut_from(cell: &Cell, axis: Axis) -> Cell {
 
 /// The cells (0,0) to (0,c): each comes from the one before by its vertical
 /// seam.
-fn first_row(picture: Grid<Pixel>, columns: Columns) -> Vec<Cell> {
+fn first_row(picture: Grid<Pixel>, method: Method, columns: Columns) -> Vec<Cell> {
     let mut cells = vec![Cell { picture, total: 0 }];
     for c in 1..=columns.0 {
-        cells.push(cut_from(&cells[c - 1], Axis::Vertical));
+        cells.push(cut_from(&cells[c - 1], method, Axis::Vertical));
     }
     cells
 }
 
 /// The cells (r,0) to (r,c), given the cells (r−1,0) to (r−1,c).
-fn next_row(above: &[Cell]) -> Vec<Cell> {
-    let mut cells = vec![cut_from(&above[0], Axis::Horizontal)];
+fn next_row(above: &[Cell], method: Method) -> Vec<Cell> {
+    let mut cells = vec![cut_from(&above[0], method, Axis::Horizontal)];
     for c in 1..above.len() {
-        let by_row = cut_from(&above[c], Axis::Horizontal);
-        let by_column = cut_from(&cells[c - 1], Axis::Vertical);
+        let by_row = cut_from(&above[c], method, Axis::Horizontal);
+        let by_column = cut_from(&cells[c - 1], method, Axis::Vertical);
         // The smaller total; on a tie the vertical cut.
         if by_row.total < by_column.total {
             cells.push(by_row);
@@ -65,10 +66,10 @@ fn next_row(above: &[Cell]) -> Vec<Cell> {
 
 /// The cell (r,c) of the table that begins with the picture. A cell looks at
 /// its own table row and the one above alone, so only these two are kept.
-fn cell(picture: Grid<Pixel>, rows: Rows, columns: Columns) -> Cell {
-    let mut cells = first_row(picture, columns);
+fn cell(picture: Grid<Pixel>, method: Method, rows: Rows, columns: Columns) -> Cell {
+    let mut cells = first_row(picture, method, columns);
     for _ in 0..rows.0 {
-        cells = next_row(&cells);
+        cells = next_row(&cells, method);
     }
     cells.remove(columns.0)
 }
@@ -86,6 +87,7 @@ fn is_offered(size: Size, rows: Rows, columns: Columns) -> bool {
 pub fn retarget(
     picture: &[u8],
     size: Size,
+    method: Method,
     rows: Rows,
     columns: Columns,
     out: &mut [u8],
@@ -103,7 +105,7 @@ pub fn retarget(
     ensure(work.len() >= needed, SPACE)?;
     work.fill(0);
 
-    let answer = cell(pixels_of(picture, size), rows, columns);
+    let answer = cell(pixels_of(picture, size), method, rows, columns);
     give_out(out, &bytes_of(&answer.picture, size.kind));
     Ok(answer.total)
 }

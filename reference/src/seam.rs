@@ -1,6 +1,6 @@
 //! The seam found in a picture, by dynamic programming.
 
-use crate::energy::energy;
+use crate::energy::{energy, Method};
 use crate::grid::{exchange, give_out, marks_of, pixels_of, Grid, Pixel};
 use crate::picture::{judge_marks, judge_picture, judge_work, pixel_count, Size};
 use crate::refusal::{ensure, Refusal, ALL_PROTECTED, SPACE};
@@ -41,8 +41,8 @@ impl Tally {
 /// the top row and end there. From the bottom row upward the leftmost column
 /// that still gives the best tally is taken, so among equals the columns,
 /// read from the bottom row upward, come first in dictionary order.
-pub fn vertical_seam(picture: &Grid<Pixel>, marks: &Grid<u8>) -> Option<Seam> {
-    let table = best_tallies(picture, marks);
+pub fn vertical_seam(picture: &Grid<Pixel>, marks: &Grid<u8>, method: Method) -> Option<Seam> {
+    let table = best_tallies(picture, marks, method);
     let bottom = picture.len() - 1;
     let (mut column, tally) = leftmost_best(&table[bottom], 0, picture[bottom].len() - 1)?;
     let mut columns = vec![column];
@@ -61,7 +61,7 @@ pub fn vertical_seam(picture: &Grid<Pixel>, marks: &Grid<u8>) -> Option<Seam> {
 
 /// For each pixel the best tally of the paths from the top row that end
 /// there, or none when each of them meets a protected pixel.
-fn best_tallies(picture: &Grid<Pixel>, marks: &Grid<u8>) -> Grid<Option<Tally>> {
+fn best_tallies(picture: &Grid<Pixel>, marks: &Grid<u8>, method: Method) -> Grid<Option<Tally>> {
     let mut table: Grid<Option<Tally>> = Vec::new();
     for row in 0..picture.len() {
         let mut tallies = Vec::new();
@@ -71,7 +71,7 @@ fn best_tallies(picture: &Grid<Pixel>, marks: &Grid<u8>) -> Grid<Option<Tally>> 
             } else {
                 leftmost_best_near(&table[row - 1], column).map(|(_, tally)| tally)
             };
-            let own_energy = energy(picture, row, column);
+            let own_energy = energy(picture, method.energy, row, column);
             tallies.push(step(before, own_energy, marks[row][column]));
         }
         table.push(tallies);
@@ -162,13 +162,14 @@ pub fn give_seam(found: &Seam, seam: &mut [u16]) {
 pub fn find(
     picture: &[u8],
     size: Size,
+    method: Method,
     axis: Axis,
     seam: &mut [u16],
     work: &mut [u8],
 ) -> Result<u64, Refusal> {
     judge_picture(picture, size)?;
     let marks = vec![0; pixel_count(size)];
-    find_marked(picture, &marks, size, axis, seam, work)
+    find_marked(picture, &marks, size, method, axis, seam, work)
 }
 
 /// Finds the seam of a picture with marks: refusals 2, 3, 4, 5, 8 and 12.
@@ -176,6 +177,7 @@ pub fn find_marked(
     picture: &[u8],
     marks: &[u8],
     size: Size,
+    method: Method,
     axis: Axis,
     seam: &mut [u16],
     work: &mut [u8],
@@ -184,7 +186,7 @@ pub fn find_marked(
     work.fill(0);
     let turned_picture = turn(pixels_of(picture, size), axis);
     let turned_marks = turn(marks_of(marks, size), axis);
-    let found = vertical_seam(&turned_picture, &turned_marks).ok_or(ALL_PROTECTED)?;
+    let found = vertical_seam(&turned_picture, &turned_marks, method).ok_or(ALL_PROTECTED)?;
     give_seam(&found, seam);
     Ok(found.cost)
 }

@@ -2,6 +2,7 @@
 //! (refusal 1) and nothing else: sides, counts, range and map are judged
 //! afterwards.
 
+use crate::energy::{EnergyRule, Method};
 use crate::grid::{pixel, Grid, Pixel};
 use crate::picture::{Kind, Size};
 use crate::refusal::{ensure, Refusal, FORM};
@@ -13,6 +14,7 @@ const LARGEST_NUMBER: usize = 65_535;
 /// as they stand in the text and need not agree with the size.
 pub struct Text {
     pub size: Size,
+    pub method: Method,
     pub depth: usize,
     pub growth: usize,
     pub rows: Grid<Pixel>,
@@ -27,21 +29,30 @@ fn kind_word(kind: Kind) -> &'static str {
     }
 }
 
+/// The word for a rule in the energy line.
+fn energy_word(rule: EnergyRule) -> &'static str {
+    match rule {
+        EnergyRule::Edge => "edge",
+        EnergyRule::Flat => "flat",
+    }
+}
+
 /// Reads a text: the lines in their order, each ended by byte 10, nothing
 /// after the last.
 pub fn read_text(file: &[u8]) -> Result<Text, Refusal> {
     let lines = split_lines(file)?;
-    // The shortest form: `(multi`, size, range and `)`.
-    ensure(lines.len() >= 4, FORM)?;
+    // The shortest form: `(multi`, size, range, energy and `)`.
+    ensure(lines.len() >= 5, FORM)?;
     let last = lines.len() - 1;
     ensure(lines[0] == b"(multi", FORM)?;
     let size = read_size(lines[1])?;
     let (depth, growth) = read_range(lines[2])?;
+    let energy = read_energy(lines[3])?;
     ensure(lines[last] == b")", FORM)?;
 
     let mut rows = Vec::new();
     let mut map = Vec::new();
-    for line in &lines[3..last] {
+    for line in &lines[4..last] {
         if map.is_empty() && line.starts_with(b"(row") {
             rows.push(read_row(line, size.kind)?);
         } else {
@@ -51,6 +62,7 @@ pub fn read_text(file: &[u8]) -> Result<Text, Refusal> {
     }
     Ok(Text {
         size,
+        method: Method { energy },
         depth,
         growth,
         rows,
@@ -101,6 +113,18 @@ fn read_range(line: &[u8]) -> Result<(usize, usize), Refusal> {
     let items = items(line, "range")?;
     ensure(items.len() == 2, FORM)?;
     Ok((read_number(items[0])?, read_number(items[1])?))
+}
+
+/// `(energy edge)` or `(energy flat)`.
+fn read_energy(line: &[u8]) -> Result<EnergyRule, Refusal> {
+    let items = items(line, "energy")?;
+    ensure(items.len() == 1, FORM)?;
+    for rule in [EnergyRule::Edge, EnergyRule::Flat] {
+        if items[0] == energy_word(rule).as_bytes() {
+            return Ok(rule);
+        }
+    }
+    Err(FORM)
 }
 
 /// `(row 10 10 40)`, or in `rgb` `(row (1 2 3) (4 5 6))`.
@@ -166,6 +190,7 @@ pub fn read_number(word: &[u8]) -> Result<usize, Refusal> {
 /// Writes the text of a picture and its map.
 pub fn write_text(
     size: Size,
+    method: Method,
     depth: usize,
     growth: usize,
     picture: &Grid<Pixel>,
@@ -180,6 +205,7 @@ pub fn write_text(
         kind_word(size.kind)
     );
     text += &format!("(range {} {})\n", depth, growth);
+    text += &format!("(energy {})\n", energy_word(method.energy));
     for row in picture {
         let pixels: Vec<String> = row.iter().map(|it| pixel_text(it, size.kind)).collect();
         text += &format!("(row {})\n", pixels.join(" "));

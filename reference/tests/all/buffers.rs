@@ -59,13 +59,14 @@ fn bad_arguments() -> Vec<(Size, Vec<u8>, Refusal)> {
 
 #[test]
 fn finding_and_cutting() {
-    for axis in AXES {
+    for (method, axis) in WAYS {
         for (size, marks, number) in bad_arguments() {
             let mut lent = Lent::new(&EXAMPLE, &marks);
             let answer = reference::find_marked(
                 &lent.picture,
                 &lent.marks,
                 size,
+                method,
                 axis,
                 &mut lent.seam,
                 &mut lent.work,
@@ -76,6 +77,7 @@ fn finding_and_cutting() {
                 &mut lent.picture,
                 &mut lent.marks,
                 size,
+                method,
                 axis,
                 &mut lent.seam,
                 &mut lent.work,
@@ -90,6 +92,7 @@ fn finding_and_cutting() {
             let answer = reference::find(
                 &lent.picture,
                 grey(3, 2),
+                method,
                 axis,
                 &mut lent.seam[..seam_space],
                 &mut lent.work[..work_space],
@@ -99,6 +102,7 @@ fn finding_and_cutting() {
             let answer = reference::cut(
                 &mut lent.picture,
                 grey(3, 2),
+                method,
                 axis,
                 &mut lent.seam[..seam_space],
                 &mut lent.work[..work_space],
@@ -109,6 +113,7 @@ fn finding_and_cutting() {
                 &mut lent.picture,
                 &mut lent.marks,
                 grey(3, 2),
+                method,
                 axis,
                 &mut lent.seam[..seam_space],
                 &mut lent.work[..work_space],
@@ -122,12 +127,13 @@ fn finding_and_cutting() {
 #[test]
 fn twelve_and_thirteen() {
     let marks = [1, 1, 1, 0, 1, 0];
-    for axis in AXES {
+    for (method, axis) in WAYS {
         let mut lent = Lent::new(&EXAMPLE, &marks);
         let answer = reference::find_marked(
             &lent.picture,
             &lent.marks,
             grey(3, 2),
+            method,
             axis,
             &mut lent.seam,
             &mut lent.work,
@@ -139,6 +145,7 @@ fn twelve_and_thirteen() {
             &mut lent.picture,
             &mut lent.marks,
             grey(3, 2),
+            method,
             axis,
             &mut lent.seam,
             &mut lent.work,
@@ -157,6 +164,7 @@ fn twelve_and_thirteen() {
         let answer = reference::cut(
             &mut lent.picture,
             size,
+            EDGE,
             axis,
             &mut lent.seam,
             &mut lent.work,
@@ -168,6 +176,7 @@ fn twelve_and_thirteen() {
             &mut lent.picture,
             &mut lent.marks,
             size,
+            EDGE,
             axis,
             &mut lent.seam,
             &mut lent.work,
@@ -181,8 +190,8 @@ fn twelve_and_thirteen() {
 fn object_removal() {
     for (size, marks, number) in bad_arguments() {
         let mut lent = Lent::new(&EXAMPLE, &marks);
-        let answer =
-            reference::remove_object(&mut lent.picture, &mut lent.marks, size, 3, &mut lent.work);
+        let (picture, work) = (&mut lent.picture, &mut lent.work);
+        let answer = reference::remove_object(picture, &mut lent.marks, size, EDGE, 3, work);
         assert_eq!(answer, Err(number));
         lent.judge(&EXAMPLE, &marks, number);
     }
@@ -191,6 +200,7 @@ fn object_removal() {
         &mut lent.picture,
         &mut lent.marks,
         grey(3, 2),
+        EDGE,
         3,
         &mut lent.work[..191],
     );
@@ -216,6 +226,7 @@ fn retargeting() {
         let answer = reference::retarget(
             &lent.picture,
             size,
+            EDGE,
             Rows(rows),
             Columns(columns),
             &mut lent.out[..out],
@@ -243,6 +254,7 @@ fn building() {
         let answer = reference::build(
             &lent.picture,
             size,
+            EDGE,
             depth,
             growth,
             &mut lent.out[..out],
@@ -267,6 +279,8 @@ fn operations_on_files() {
         ("(map 1 0 2)", "(map 2 2 1)", 9),
         ("(map 1 0 2)", "(map 2 0 1)", 10),
         ("(map 1 0 2)\n(map 1 0 2)", "(map 1 0 2)\n(map 1 2 0)", 11),
+        ("(energy edge)\n", "", 1),
+        ("(energy edge)", "(energy flat)", 11),
     ] {
         let file = EXAMPLE_FILE.replacen(old, new, 1).into_bytes();
         for work in [192, 193, 900] {

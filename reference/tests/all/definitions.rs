@@ -1,8 +1,8 @@
 //! The specification's definitions, worked out directly on lent bytes by
 //! trying all connected paths. Nothing here is shared with the library but
-//! the types `Size`, `Kind` and `Axis`.
+//! the types `Size`, `Kind`, `Axis` and `Method`.
 
-use reference::{Axis, Kind, Size};
+use reference::{Axis, EnergyRule, Kind, Method, Size};
 
 pub fn size(width: usize, height: usize, kind: Kind) -> Size {
     Size {
@@ -39,20 +39,28 @@ fn apart(picture: &[u8], size: Size, one: (usize, usize), other: (usize, usize))
 }
 
 /// The differences within two pairs of neighbours, one in the row and one in
-/// the column: of the pairs the one that the pixel begins, and for the last
-/// pixel, which begins none, the one that it ends. A row or a column of one
-/// pixel has no pair.
-pub fn energy(picture: &[u8], size: Size, i: usize, j: usize) -> u64 {
+/// the column.
+pub fn energy(picture: &[u8], size: Size, method: Method, i: usize, j: usize) -> u64 {
     let mut sum = 0;
-    if size.width > 1 {
-        let left = j.min(size.width - 2);
+    if let Some(left) = pair(method, j, size.width) {
         sum += apart(picture, size, (i, left), (i, left + 1));
     }
-    if size.height > 1 {
-        let upper = i.min(size.height - 2);
+    if let Some(upper) = pair(method, i, size.height) {
         sum += apart(picture, size, (upper, j), (upper + 1, j));
     }
     sum as u64
+}
+
+/// The pair of neighbours, by its first place of `count`, that counts at a
+/// place: the pair that begins there. At the last place, where none begins, by
+/// `Edge` it is the pair that ends there, and by `Flat` there is none. A row or
+/// a column of one pixel has no pair.
+fn pair(method: Method, place: usize, count: usize) -> Option<usize> {
+    let mut pairs = 0..count - 1;
+    match method.energy {
+        EnergyRule::Edge => pairs.rfind(|first| *first <= place),
+        EnergyRule::Flat => pairs.find(|first| *first == place),
+    }
 }
 
 /// Every connected path over `length` lines with `breadth` places each, in
@@ -75,14 +83,25 @@ pub fn paths(length: usize, breadth: usize) -> Vec<Vec<usize>> {
     all
 }
 
+/// The lines that a path along the axis runs over, and the places of each.
+pub fn extent(size: Size, axis: Axis) -> (usize, usize) {
+    match axis {
+        Axis::Vertical => (size.height, size.width),
+        Axis::Horizontal => (size.width, size.height),
+    }
+}
+
 /// The seam by trial of all paths: its lines from the top (from the left) and
 /// its cost, or none when each path meets a protected pixel. The picture is
 /// not exchanged: a horizontal path is laid on the picture as it stands.
-pub fn seam(picture: &[u8], marks: &[u8], size: Size, axis: Axis) -> Option<(Vec<u16>, u64)> {
-    let (length, breadth) = match axis {
-        Axis::Vertical => (size.height, size.width),
-        Axis::Horizontal => (size.width, size.height),
-    };
+pub fn seam(
+    picture: &[u8],
+    marks: &[u8],
+    size: Size,
+    method: Method,
+    axis: Axis,
+) -> Option<(Vec<u16>, u64)> {
+    let (length, breadth) = extent(size, axis);
     let mut best: Option<(Vec<usize>, usize, u64)> = None;
     'paths: for path in paths(length, breadth) {
         let mut removed = 0;
@@ -98,7 +117,7 @@ pub fn seam(picture: &[u8], marks: &[u8], size: Size, axis: Axis) -> Option<(Vec
                 1 => continue 'paths,
                 _ => removed += 1,
             }
-            cost += energy(picture, size, i, j);
+            cost += energy(picture, size, method, i, j);
         }
         // The paths come in dictionary order, so a later one is taken only
         // when it is better.
@@ -115,9 +134,9 @@ pub fn seam(picture: &[u8], marks: &[u8], size: Size, axis: Axis) -> Option<(Vec
 }
 
 /// The seam of a picture without marks.
-pub fn plain_seam(picture: &[u8], size: Size, axis: Axis) -> (Vec<u16>, u64) {
+pub fn plain_seam(picture: &[u8], size: Size, method: Method, axis: Axis) -> (Vec<u16>, u64) {
     let marks = vec![0; size.width * size.height];
-    seam(picture, &marks, size, axis).unwrap()
+    seam(picture, &marks, size, method, axis).unwrap()
 }
 
 /// The size after one cut.
@@ -160,7 +179,7 @@ pub fn padded(mut bytes: Vec<u8>, length: usize) -> Vec<u8> {
 }
 
 /// The map of the first `depth` seams, row by row, by trial of all paths.
-pub fn map(picture: &[u8], size: Size, depth: usize) -> Vec<u16> {
+pub fn map(picture: &[u8], size: Size, method: Method, depth: usize) -> Vec<u16> {
     let mut map = vec![0; size.width * size.height];
     for number in 1..=depth {
         let left = left_after(picture, &map, size);
@@ -168,7 +187,7 @@ pub fn map(picture: &[u8], size: Size, depth: usize) -> Vec<u16> {
             width: size.width - (number - 1),
             ..size
         };
-        let (columns, _) = plain_seam(&left, left_size, Axis::Vertical);
+        let (columns, _) = plain_seam(&left, left_size, method, Axis::Vertical);
         for i in 0..size.height {
             // The pixel without a number that stands at that place.
             let mut place = 0;
@@ -198,17 +217,34 @@ fn left_after(picture: &[u8], map: &[u16], size: Size) -> Vec<u8> {
     left
 }
 
-/// The text of a file.
-pub fn text(picture: &[u8], map: &[u16], size: Size, depth: usize, growth: usize) -> String {
-    let word = if size.kind == Kind::Grey {
+/// The lines of a file ahead of its rows.
+fn head(size: Size, method: Method, depth: usize, growth: usize) -> String {
+    let kind = if size.kind == Kind::Grey {
         "grey"
     } else {
         "rgb"
     };
-    let mut text = format!(
-        "(multi\n(size {} {} {word})\n(range {depth} {growth})\n",
+    let energy = if method.energy == EnergyRule::Edge {
+        "edge"
+    } else {
+        "flat"
+    };
+    format!(
+        "(multi\n(size {} {} {kind})\n(range {depth} {growth})\n(energy {energy})\n",
         size.width, size.height
-    );
+    )
+}
+
+/// The text of a file.
+pub fn text(
+    picture: &[u8],
+    map: &[u16],
+    size: Size,
+    method: Method,
+    depth: usize,
+    growth: usize,
+) -> String {
+    let mut text = head(size, method, depth, growth);
     for row in picture.chunks(size.width * channels(size.kind)) {
         text.push_str("(row");
         for pixel in row.chunks(channels(size.kind)) {

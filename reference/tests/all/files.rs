@@ -4,7 +4,7 @@ use crate::definitions::*;
 use crate::helpers::*;
 use crate::random::Random;
 use crate::verdict::verdict;
-use reference::{Axis, FileInfo, Size};
+use reference::{Axis, FileInfo, Method, Size};
 
 /// Every allowed depth and growth at a width.
 fn allowed_ranges(width: usize) -> Vec<(usize, usize)> {
@@ -20,11 +20,11 @@ fn allowed_ranges(width: usize) -> Vec<(usize, usize)> {
 }
 
 /// The picture after `count` vertical cuts.
-fn carved(picture: &[u8], size: Size, count: usize) -> Vec<u8> {
+fn carved(picture: &[u8], size: Size, method: Method, count: usize) -> Vec<u8> {
     let mut left = picture.to_vec();
     let mut size = size;
     for _ in 0..count {
-        let (lent, _, _) = cut_once(&left, size, Axis::Vertical).unwrap();
+        let (lent, _, _) = cut_once(&left, size, method, Axis::Vertical).unwrap();
         size.width -= 1;
         left = lent[..byte_count(size)].to_vec();
     }
@@ -38,7 +38,7 @@ fn allowed_and_refused_ranges() {
         let allowed = allowed_ranges(width);
         for depth in 0..=width + 1 {
             for growth in 0..=width + 1 {
-                let answer = built(&picture, grey(width, 2), depth, growth);
+                let answer = built(&picture, grey(width, 2), EDGE, depth, growth);
                 assert_eq!(answer.is_ok(), allowed.contains(&(depth, growth)));
                 if answer.is_err() {
                     assert_eq!(answer, Err(6));
@@ -46,7 +46,37 @@ fn allowed_and_refused_ranges() {
             }
         }
         for (depth, growth) in [(usize::MAX, 0), (0, usize::MAX), (usize::MAX, usize::MAX)] {
-            assert_eq!(built(&picture, grey(width, 2), depth, growth), Err(6));
+            assert_eq!(built(&picture, grey(width, 2), FLAT, depth, growth), Err(6));
+        }
+    }
+}
+
+/// A file built, checked, read and shown at every width.
+fn judge_file(picture: &[u8], size: Size, method: Method, depth: usize, growth: usize) {
+    let map = map(picture, size, method, depth);
+    let file = built(picture, size, method, depth, growth).unwrap();
+    let expected = text(picture, &map, size, method, depth, growth);
+    assert_eq!(String::from_utf8(file.clone()).unwrap(), expected);
+    assert_eq!(verdict(&file), Ok(()));
+    let info = FileInfo {
+        size,
+        method,
+        depth,
+        growth,
+    };
+    assert_eq!(checked(&file), Ok(info));
+    assert_eq!(read_back(&file), Ok((info, picture.to_vec(), map.clone())));
+    for width in 0..=size.width + growth + 2 {
+        let answer = shown(&file, width);
+        let shown_size = Size { width, ..size };
+        if width + depth < size.width || width > size.width + growth {
+            assert_eq!(answer, Err(7));
+        } else if width <= size.width {
+            let left = carved(picture, size, method, size.width - width);
+            assert_eq!(answer, Ok((shown_size, left)));
+        } else {
+            let grown = wider(picture, &map, size, width - size.width);
+            assert_eq!(answer, Ok((shown_size, grown)));
         }
     }
 }
@@ -57,30 +87,8 @@ fn built_files_against_the_definitions() {
     for _ in 0..200 {
         let (picture, size) = random_picture(&mut random, 5, 4);
         for (depth, growth) in allowed_ranges(size.width) {
-            let map = map(&picture, size, depth);
-            let file = built(&picture, size, depth, growth).unwrap();
-            let expected = text(&picture, &map, size, depth, growth);
-            assert_eq!(String::from_utf8(file.clone()).unwrap(), expected);
-            assert_eq!(verdict(&file), Ok(()));
-            let info = FileInfo {
-                size,
-                depth,
-                growth,
-            };
-            assert_eq!(checked(&file), Ok(info));
-            assert_eq!(read_back(&file), Ok((info, picture.clone(), map.clone())));
-            for width in 0..=size.width + growth + 2 {
-                let answer = shown(&file, width);
-                let shown_size = Size { width, ..size };
-                if width + depth < size.width || width > size.width + growth {
-                    assert_eq!(answer, Err(7));
-                } else if width <= size.width {
-                    let left = carved(&picture, size, size.width - width);
-                    assert_eq!(answer, Ok((shown_size, left)));
-                } else {
-                    let grown = wider(&picture, &map, size, width - size.width);
-                    assert_eq!(answer, Ok((shown_size, grown)));
-                }
+            for method in METHODS {
+                judge_file(&picture, size, method, depth, growth);
             }
         }
     }
@@ -91,10 +99,10 @@ fn built_files_against_the_definitions() {
 fn every_width_of_a_larger_file() {
     let mut random = Random::new(42);
     let values: Vec<u8> = (0..=255).collect();
-    for kind in KINDS {
+    for (kind, method) in KINDS.into_iter().zip(METHODS) {
         let size = size(30, 20, kind);
         let picture = random.bytes(byte_count(size), &values);
-        let file = built(&picture, size, 29, 15).unwrap();
+        let file = built(&picture, size, method, 29, 15).unwrap();
         let (_, read_picture, map) = read_back(&file).unwrap();
         assert_eq!(read_picture, picture);
         let mut left = picture.clone();
@@ -102,7 +110,7 @@ fn every_width_of_a_larger_file() {
             let shown_size = Size { width, ..size };
             assert_eq!(shown(&file, width), Ok((shown_size, left.clone())));
             if width > 1 {
-                left = carved(&left, shown_size, 1);
+                left = carved(&left, shown_size, method, 1);
             }
         }
         for width in 31..=45 {
@@ -134,43 +142,49 @@ fn orders(numbers: &[u16]) -> Vec<Vec<u16>> {
 }
 
 /// Every map whose rows are orders of 1 to k and zeros: checking gives what
-/// the definitions give, and accepts exactly one, the one built.
+/// the definitions give, and accepts exactly one, the one built. Counts the
+/// refusals.
+fn judge_all_maps(picture: &[u8], size: Size, method: Method, depth: usize, seen: &mut [i32; 12]) {
+    let mut numbers: Vec<u16> = (1..=depth as u16).collect();
+    numbers.resize(size.width, 0);
+    let rows = orders(&numbers);
+    let mut accepted = Vec::new();
+    for which in 0..rows.len().pow(size.height as u32) {
+        let mut map = Vec::new();
+        let mut rest = which;
+        for _ in 0..size.height {
+            map.extend_from_slice(&rows[rest % rows.len()]);
+            rest /= rows.len();
+        }
+        let file = text(picture, &map, size, method, depth, 0);
+        let expected = verdict(file.as_bytes());
+        let answer = checked(file.as_bytes());
+        assert_eq!(answer.map(|_| ()), expected);
+        match answer {
+            Ok(_) => accepted.push(file.into_bytes()),
+            Err(number) => seen[usize::from(number)] += 1,
+        }
+    }
+    let file = built(picture, size, method, depth, 0).unwrap();
+    assert_eq!(accepted, [file]);
+}
+
 #[test]
 fn all_maps_of_small_pictures() {
-    let mut random = Random::new(43);
-    let mut seen = [0; 12];
-    for (width, height) in [(1, 1), (2, 2), (3, 1), (3, 2), (3, 3), (4, 2), (2, 4)] {
-        for kind in KINDS {
-            for _ in 0..4 {
+    for method in METHODS {
+        let mut random = Random::new(43);
+        let mut seen = [0; 12];
+        for (width, height) in [(1, 1), (2, 2), (3, 1), (3, 2), (3, 3), (4, 2), (2, 4)] {
+            for kind in KINDS.repeat(4) {
                 let size = size(width, height, kind);
                 let picture = random.bytes(byte_count(size), &[0, 1, 2, 9]);
                 for depth in 0..width {
-                    let mut numbers: Vec<u16> = (1..=depth as u16).collect();
-                    numbers.resize(width, 0);
-                    let rows = orders(&numbers);
-                    let mut accepted = Vec::new();
-                    for which in 0..rows.len().pow(height as u32) {
-                        let mut map = Vec::new();
-                        let mut rest = which;
-                        for _ in 0..height {
-                            map.extend_from_slice(&rows[rest % rows.len()]);
-                            rest /= rows.len();
-                        }
-                        let file = text(&picture, &map, size, depth, 0);
-                        let expected = verdict(file.as_bytes());
-                        let answer = checked(file.as_bytes());
-                        assert_eq!(answer.map(|_| ()), expected);
-                        match answer {
-                            Ok(_) => accepted.push(file.into_bytes()),
-                            Err(number) => seen[usize::from(number)] += 1,
-                        }
-                    }
-                    assert_eq!(accepted, [built(&picture, size, depth, 0).unwrap()]);
+                    judge_all_maps(&picture, size, method, depth, &mut seen);
                 }
             }
         }
+        assert!(seen[10] > 100 && seen[11] > 100);
     }
-    assert!(seen[10] > 100 && seen[11] > 100);
 }
 
 /// Maps of any numbers from 0 to k+1: 9 when a row lacks, repeats or exceeds.
@@ -183,12 +197,64 @@ fn maps_of_any_numbers() {
             let base = depth as u16 + 2;
             for which in 0..base.pow(4) {
                 let map: Vec<u16> = (0..4).map(|place| which / base.pow(place) % base).collect();
-                let file = text(&picture, &map, size, depth, 0);
-                let expected = verdict(file.as_bytes());
-                assert_eq!(checked(file.as_bytes()).map(|_| ()), expected);
+                for method in METHODS {
+                    let file = text(&picture, &map, size, method, depth, 0);
+                    let expected = verdict(file.as_bytes());
+                    assert_eq!(checked(file.as_bytes()).map(|_| ()), expected);
+                }
             }
         }
     }
+}
+
+/// A file is judged by the energy that it names: with the map of the other one
+/// it is refused by 11, but where both have the same map.
+#[test]
+fn maps_of_the_other_energy() {
+    let mut random = Random::new(45);
+    for (method, other) in [(EDGE, FLAT), (FLAT, EDGE)] {
+        let mut counts = [0; 2];
+        for _ in 0..400 {
+            let (picture, size) = random_picture(&mut random, 5, 4);
+            let depth = random.below(size.width);
+            let map_of = |method| map(&picture, size, method, depth);
+            let file = text(&picture, &map_of(other), size, method, depth, 0);
+            let same = map_of(method) == map_of(other);
+            let expected = if same { None } else { Some(11) };
+            assert_eq!(checked(file.as_bytes()).err(), expected);
+            assert_eq!(read_back(file.as_bytes()).err(), expected);
+            assert_eq!(shown(file.as_bytes(), size.width).err(), expected);
+            counts[usize::from(same)] += 1;
+        }
+        assert!(counts.iter().all(|count| *count > 50), "{counts:?}");
+    }
+}
+
+/// Two accepted files are the same bytes exactly when picture, widths and energy
+/// are the same.
+#[test]
+fn same_bytes_for_same_picture_widths_and_energy() {
+    let mut random = Random::new(46);
+    let mut files = Vec::new();
+    for _ in 0..24 {
+        let picture = random.bytes(6, &[0, 1]);
+        for size in [grey(3, 2), grey(2, 3), rgb(2, 1), rgb(1, 2)] {
+            for (depth, growth) in allowed_ranges(size.width) {
+                for method in METHODS {
+                    let file = built(&picture, size, method, depth, growth).unwrap();
+                    files.push(((picture.clone(), size, depth, growth, method), file));
+                }
+            }
+        }
+    }
+    let mut equal = 0;
+    for (place, (one, file)) in files.iter().enumerate() {
+        for (other, other_file) in &files[..place] {
+            assert_eq!(file == other_file, one == other);
+            equal += usize::from(one == other);
+        }
+    }
+    assert!(equal > 0);
 }
 
 /// 10 of a later seam beats 11 of an earlier one.
@@ -197,8 +263,8 @@ fn ten_beats_eleven_of_an_earlier_seam() {
     // Seam 1 is at columns 0, 0, connected but not the one found, which is
     // 1, 1: the energies of both rows are 50 40 90 90. Seam 2 is broken: in the
     // picture left its columns are 0 and 2.
-    let file = "(multi\n(size 4 2 grey)\n(range 2 0)\n(row 0 50 90 0)\n(row 0 50 90 0)\n\
-                (map 1 2 0 0)\n(map 1 0 0 2)\n)\n";
+    let file = "(multi\n(size 4 2 grey)\n(range 2 0)\n(energy edge)\n\
+                (row 0 50 90 0)\n(row 0 50 90 0)\n(map 1 2 0 0)\n(map 1 0 0 2)\n)\n";
     assert_eq!(verdict(file.as_bytes()), Err(10));
     assert_eq!(checked(file.as_bytes()).map(|_| ()), Err(10));
     // With seam 2 connected only 11 is left.
@@ -214,7 +280,7 @@ fn connected_in_the_picture_left() {
     let mut apart = 0;
     for _ in 0..300 {
         let picture = random.bytes(15, &[0, 1, 2, 3]);
-        let file = built(&picture, grey(5, 3), 4, 0).unwrap();
+        let file = built(&picture, grey(5, 3), EDGE, 4, 0).unwrap();
         assert!(checked(&file).is_ok());
         let (_, _, map) = read_back(&file).unwrap();
         for t in 1..=4 {
@@ -229,7 +295,10 @@ fn connected_in_the_picture_left() {
 #[test]
 fn growth_changes_only_the_range_line() {
     let picture = [5, 9, 5, 7, 1, 1, 2, 8];
-    let without = String::from_utf8(built(&picture, grey(4, 2), 3, 0).unwrap()).unwrap();
-    let with = String::from_utf8(built(&picture, grey(4, 2), 3, 2).unwrap()).unwrap();
-    assert_eq!(without.replace("(range 3 0)", "(range 3 2)"), with);
+    for method in METHODS {
+        let file = |growth| built(&picture, grey(4, 2), method, 3, growth).unwrap();
+        let without = String::from_utf8(file(0)).unwrap();
+        let with = String::from_utf8(file(2)).unwrap();
+        assert_eq!(without.replace("(range 3 0)", "(range 3 2)"), with);
+    }
 }

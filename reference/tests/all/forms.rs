@@ -5,12 +5,12 @@ use crate::helpers::*;
 use crate::random::Random;
 use crate::verdict::verdict;
 
-/// An accepted `rgb` file of 3 by 2 pixels.
+/// An accepted `rgb` file of 3 by 2 pixels, with energy `flat`.
 fn rgb_file() -> String {
     let picture = [
         1, 2, 3, 40, 50, 60, 7, 80, 9, 0, 0, 0, 255, 254, 253, 100, 10, 1,
     ];
-    String::from_utf8(built(&picture, rgb(3, 2), 2, 1).unwrap()).unwrap()
+    String::from_utf8(built(&picture, rgb(3, 2), FLAT, 2, 1).unwrap()).unwrap()
 }
 
 fn refusal(file: &str) -> Option<u8> {
@@ -208,6 +208,83 @@ fn broken_forms_are_one() {
     }
 }
 
+/// The energy line missing, doubled or at another place.
+#[test]
+fn energy_lines_out_of_place_are_one() {
+    let file = |lines: &[&str]| format!("{}\n", lines.join("\n"));
+    let (size, range, energy) = ("(size 3 2 grey)", "(range 2 1)", "(energy edge)");
+    let (row, other_row, map) = ("(row 10 10 40)", "(row 10 50 40)", "(map 1 0 2)");
+    let lines = ["(multi", size, range, energy, row, other_row, map, map, ")"];
+    assert_eq!(refusal(&file(&lines)), None);
+    let mut without = lines.to_vec();
+    without.remove(3);
+    assert_eq!(refusal(&file(&without)), Some(1));
+    for place in 0..=without.len() {
+        for word in ["edge", "flat"] {
+            let line = format!("(energy {word})");
+            let mut moved = without.clone();
+            moved.insert(place, &line);
+            if place != 3 {
+                assert_eq!(refusal(&file(&moved)), Some(1), "{place}");
+            }
+            let mut doubled = lines.to_vec();
+            doubled.insert(place, &line);
+            assert_eq!(refusal(&file(&doubled)), Some(1), "{place}");
+        }
+    }
+}
+
+/// Lines that aren't the word `energy`, a blank and one of the two words.
+const BROKEN_ENERGY_LINES: [&str; 37] = [
+    "",
+    "energy edge",
+    "(energy)",
+    "(energy )",
+    "(energy ())",
+    "(energy (edge))",
+    "((energy edge))",
+    "(energy  edge)",
+    "(energy edge )",
+    "( energy edge)",
+    "(energy edge) ",
+    "(energyedge)",
+    "(energy edge flat)",
+    "(energy edge edge)",
+    "(energy edge 1)",
+    "(energy 1)",
+    "(energy 0)",
+    "(energy grey)",
+    "(energy rgb)",
+    "(energy range)",
+    "(energy energy)",
+    "(energy Edge)",
+    "(energy EDGE)",
+    "(energy edges)",
+    "(energy edg)",
+    "(energy e)",
+    "(energy flat1)",
+    "(energy flats)",
+    "(energy steep)",
+    "(Energy edge)",
+    "(energies edge)",
+    "(energ edge)",
+    "(edge)",
+    "(edge energy)",
+    "(range 2 1)",
+    "(energy\tedge)",
+    "(energy edge)\r",
+];
+
+#[test]
+fn broken_energy_lines_are_one() {
+    for line in BROKEN_ENERGY_LINES {
+        let file = changed("(energy edge)", line);
+        assert_eq!(refusal(&file), Some(1), "{line}");
+        let file = changed_rgb("(energy flat)", line);
+        assert_eq!(refusal(&file), Some(1), "{line}");
+    }
+}
+
 /// Numbers of every length up to 100 digits, wherever a number stands.
 #[test]
 fn long_numbers_are_one() {
@@ -251,6 +328,7 @@ fn form_beats_all() {
         ("(map 1 0 2)", "(map 1 65535 2)", 9),
         ("(map 1 0 2)", "(map 2 0 1)", 10),
         ("(map 1 0 2)\n(map 1 0 2)", "(map 1 0 2)\n(map 1 2 0)", 11),
+        ("(energy edge)", "(energy flat)", 11),
     ] {
         let file = changed(old, new);
         assert_eq!(refusal(&file), Some(number), "{old} to {new}");
@@ -306,9 +384,9 @@ fn with_exchanged_words(random: &mut Random, line: &str) -> String {
 
 /// A text with a few words or lines changed, dropped, doubled or exchanged.
 pub fn edited(random: &mut Random, file: &str) -> Vec<u8> {
-    const WORDS: [&str; 24] = [
+    const WORDS: [&str; 26] = [
         "0", "1", "2", "3", "4", "5", "10", "40", "50", "255", "256", "512", "513", "65535",
-        "65536", "00", "03", "grey", "rgb", "(1 2 3)", "(1 2)", "()", "x", "",
+        "65536", "00", "03", "grey", "rgb", "edge", "flat", "(1 2 3)", "(1 2)", "()", "x", "",
     ];
     let mut lines: Vec<String> = file.split('\n').map(|line| line.to_string()).collect();
     for _ in 0..random.between(1, 3) {

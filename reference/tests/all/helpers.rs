@@ -3,10 +3,26 @@
 
 use crate::definitions::{byte_count, size};
 use crate::random::Random;
-use reference::{Axis, FileInfo, Kind, Refusal, Size};
+use reference::{Axis, EnergyRule, FileInfo, Kind, Method, Refusal, Size};
 
 pub const AXES: [Axis; 2] = [Axis::Vertical, Axis::Horizontal];
 pub const KINDS: [Kind; 2] = [Kind::Grey, Kind::Rgb];
+
+pub const EDGE: Method = Method {
+    energy: EnergyRule::Edge,
+};
+pub const FLAT: Method = Method {
+    energy: EnergyRule::Flat,
+};
+pub const METHODS: [Method; 2] = [EDGE, FLAT];
+
+/// Each method along each axis.
+pub const WAYS: [(Method, Axis); 4] = [
+    (EDGE, Axis::Vertical),
+    (EDGE, Axis::Horizontal),
+    (FLAT, Axis::Vertical),
+    (FLAT, Axis::Horizontal),
+];
 
 /// What spaces hold before a call.
 pub const OLD_BYTE: u8 = 0xA5;
@@ -16,14 +32,27 @@ pub const OLD_ENERGY: u32 = 0xDEAD_BEEF;
 /// The specification's 3 by 2 picture.
 pub const EXAMPLE: [u8; 6] = [10, 10, 40, 10, 50, 40];
 
-/// The specification's file of that picture, in full.
+/// The file of that picture that `seams` writes, in full.
 pub const EXAMPLE_FILE: &str = "(multi
 (size 3 2 grey)
 (range 2 1)
+(energy edge)
 (row 10 10 40)
 (row 10 50 40)
 (map 1 0 2)
 (map 1 0 2)
+)
+";
+
+/// The file of that picture with the other energy.
+pub const FLAT_FILE: &str = "(multi
+(size 3 2 grey)
+(range 2 1)
+(energy flat)
+(row 10 10 40)
+(row 10 50 40)
+(map 2 0 1)
+(map 0 2 1)
 )
 ";
 
@@ -82,11 +111,11 @@ pub fn seam_length(size: Size, axis: Axis) -> usize {
 }
 
 /// The seam that `find` gives.
-pub fn found(picture: &[u8], size: Size, axis: Axis) -> (Vec<u16>, u64) {
+pub fn found(picture: &[u8], size: Size, method: Method, axis: Axis) -> (Vec<u16>, u64) {
     let length = seam_length(size, axis);
     let mut seam = vec![OLD_NUMBER; length + 3];
     let mut work = work_space(size);
-    let cost = reference::find(picture, size, axis, &mut seam, &mut work).unwrap();
+    let cost = reference::find(picture, size, method, axis, &mut seam, &mut work).unwrap();
     assert_eq!(seam.split_off(length), [OLD_NUMBER; 3]);
     assert!(is_zero(&work));
     (seam, cost)
@@ -97,12 +126,13 @@ pub fn found_marked(
     picture: &[u8],
     marks: &[u8],
     size: Size,
+    method: Method,
     axis: Axis,
 ) -> Result<(Vec<u16>, u64), Refusal> {
     let length = seam_length(size, axis);
     let mut seam = vec![OLD_NUMBER; length + 3];
     let mut work = work_space(size);
-    let answer = reference::find_marked(picture, marks, size, axis, &mut seam, &mut work);
+    let answer = reference::find_marked(picture, marks, size, method, axis, &mut seam, &mut work);
     assert!(is_zero(&work));
     assert_eq!(seam.split_off(length), [OLD_NUMBER; 3]);
     if answer.is_err() {
@@ -116,13 +146,14 @@ pub fn found_marked(
 pub fn cut_once(
     picture: &[u8],
     size: Size,
+    method: Method,
     axis: Axis,
 ) -> Result<(Vec<u8>, Vec<u16>, u64), Refusal> {
     let length = seam_length(size, axis);
     let mut lent = picture.to_vec();
     let mut seam = vec![OLD_NUMBER; length + 3];
     let mut work = work_space(size);
-    let answer = reference::cut(&mut lent, size, axis, &mut seam, &mut work);
+    let answer = reference::cut(&mut lent, size, method, axis, &mut seam, &mut work);
     assert!(is_zero(&work));
     assert_eq!(seam.split_off(length), [OLD_NUMBER; 3]);
     if answer.is_err() {
@@ -138,6 +169,7 @@ pub fn cut_marked_once(
     picture: &[u8],
     marks: &[u8],
     size: Size,
+    method: Method,
     axis: Axis,
 ) -> Result<(Vec<u8>, Vec<u8>, Vec<u16>, u64), Refusal> {
     let length = seam_length(size, axis);
@@ -145,8 +177,15 @@ pub fn cut_marked_once(
     let mut lent_marks = marks.to_vec();
     let mut seam = vec![OLD_NUMBER; length + 3];
     let mut work = work_space(size);
-    let answer =
-        reference::cut_marked(&mut lent, &mut lent_marks, size, axis, &mut seam, &mut work);
+    let answer = reference::cut_marked(
+        &mut lent,
+        &mut lent_marks,
+        size,
+        method,
+        axis,
+        &mut seam,
+        &mut work,
+    );
     assert!(is_zero(&work));
     assert_eq!(seam.split_off(length), [OLD_NUMBER; 3]);
     if answer.is_err() {
@@ -158,11 +197,17 @@ pub fn cut_marked_once(
 }
 
 /// The file that `build` writes.
-pub fn built(picture: &[u8], size: Size, depth: usize, growth: usize) -> Result<Vec<u8>, Refusal> {
+pub fn built(
+    picture: &[u8],
+    size: Size,
+    method: Method,
+    depth: usize,
+    growth: usize,
+) -> Result<Vec<u8>, Refusal> {
     let space = 64 + 64 * size.height + 24 * size.width * size.height;
     let mut out = vec![OLD_BYTE; space];
     let mut work = work_space(size);
-    let answer = reference::build(picture, size, depth, growth, &mut out, &mut work);
+    let answer = reference::build(picture, size, method, depth, growth, &mut out, &mut work);
     match answer {
         Ok(length) => {
             assert!(is_zero(&work));

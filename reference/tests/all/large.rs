@@ -4,7 +4,7 @@ use crate::definitions::*;
 use crate::helpers::*;
 use crate::random::Random;
 use crate::verdict::contents;
-use reference::{Axis, Columns, Kind, Rows, Size};
+use reference::{Axis, Columns, Kind, Method, Rows, Size};
 
 fn large_picture(seed: u64, size: Size) -> Vec<u8> {
     let mut random = Random::new(seed);
@@ -15,13 +15,13 @@ fn large_picture(seed: u64, size: Size) -> Vec<u8> {
 /// The seam is connected, its cost is the sum of its energies, and no path
 /// is cheaper: the least sums are worked out once more, from the bottom row
 /// upward.
-fn judge_seam(picture: &[u8], size: Size, columns: &[u16], cost: u64) {
+fn judge_seam(picture: &[u8], size: Size, method: Method, columns: &[u16], cost: u64) {
     assert!(columns
         .windows(2)
         .all(|step| step[0].abs_diff(step[1]) <= 1));
     let mut sum = 0;
     for i in 0..size.height {
-        sum += energy(picture, size, i, usize::from(columns[i]));
+        sum += energy(picture, size, method, i, usize::from(columns[i]));
     }
     assert_eq!(sum, cost);
     let mut below = vec![0; size.width];
@@ -35,7 +35,7 @@ fn judge_seam(picture: &[u8], size: Size, columns: &[u16], cost: u64) {
             if j + 1 < size.width {
                 least = least.min(below[j + 1]);
             }
-            sums.push(least + energy(picture, size, i, j));
+            sums.push(least + energy(picture, size, method, i, j));
         }
         below = sums;
     }
@@ -44,16 +44,21 @@ fn judge_seam(picture: &[u8], size: Size, columns: &[u16], cost: u64) {
 
 #[test]
 fn one_seam_of_the_largest_picture() {
-    for kind in KINDS {
+    for (kind, method) in [
+        (Kind::Grey, EDGE),
+        (Kind::Grey, FLAT),
+        (Kind::Rgb, EDGE),
+        (Kind::Rgb, FLAT),
+    ] {
         let size = size(512, 512, kind);
         let picture = large_picture(71, size);
-        let (columns, cost) = found(&picture, size, Axis::Vertical);
-        judge_seam(&picture, size, &columns, cost);
-        let (left, cut_columns, _) = cut_once(&picture, size, Axis::Vertical).unwrap();
+        let (columns, cost) = found(&picture, size, method, Axis::Vertical);
+        judge_seam(&picture, size, method, &columns, cost);
+        let (left, cut_columns, _) = cut_once(&picture, size, method, Axis::Vertical).unwrap();
         assert_eq!(cut_columns, columns);
         let expected = after_cut(&picture, size, channels(kind), Axis::Vertical, &columns);
         assert_eq!(left, padded(expected, picture.len()));
-        let (left, rows, _) = cut_once(&picture, size, Axis::Horizontal).unwrap();
+        let (left, rows, _) = cut_once(&picture, size, method, Axis::Horizontal).unwrap();
         let expected = after_cut(&picture, size, channels(kind), Axis::Horizontal, &rows);
         assert_eq!(left, padded(expected, picture.len()));
     }
@@ -72,9 +77,13 @@ fn dearest_seam_of_the_largest_picture() {
     }
     // Every pixel costs 765 + 765, so all paths cost the same and column 0 is the
     // first of them.
-    let (columns, cost) = found(&picture, size, Axis::Vertical);
+    let (columns, cost) = found(&picture, size, EDGE, Axis::Vertical);
     assert_eq!(columns, vec![0; 512]);
     assert_eq!(cost, 512 * 1_530);
+    // By `flat` a pixel of the last column costs 765, and the corner nothing.
+    let (columns, cost) = found(&picture, size, FLAT, Axis::Vertical);
+    assert_eq!(columns, vec![511; 512]);
+    assert_eq!(cost, 511 * 765);
 }
 
 /// The map that stands in a file.
@@ -88,7 +97,7 @@ fn map_in(file: &[u8]) -> Vec<u16> {
 fn largest_file() {
     let size = size(512, 512, Kind::Grey);
     let picture = large_picture(72, size);
-    let file = built(&picture, size, 128, 128).unwrap();
+    let file = built(&picture, size, FLAT, 128, 128).unwrap();
     let mut work = work_space(size);
     let mut out = vec![OLD_BYTE; 640 * 512];
     let shown = reference::show(&file, 640, &mut out, &mut work).unwrap();
@@ -104,7 +113,7 @@ fn largest_file() {
 fn widest_file() {
     let size = size(512, 40, Kind::Rgb);
     let picture = large_picture(75, size);
-    let file = built(&picture, size, 511, 256).unwrap();
+    let file = built(&picture, size, EDGE, 511, 256).unwrap();
     let mut work = work_space(size);
     let info = reference::check(&file, &mut work).unwrap();
     assert_eq!((info.size, info.depth, info.growth), (size, 511, 256));
@@ -123,7 +132,7 @@ fn widest_file() {
             assert_eq!(out, left);
         }
         if width > 1 {
-            let (lent, _, _) = cut_once(&left, shown_size, Axis::Vertical).unwrap();
+            let (lent, _, _) = cut_once(&left, shown_size, EDGE, Axis::Vertical).unwrap();
             left = lent[..lent.len() - 40 * 3].to_vec();
         }
     }
@@ -141,9 +150,9 @@ fn retarget_of_a_larger_picture() {
     let picture = large_picture(73, size);
     let mut out = vec![OLD_BYTE; 26 * 16 * 3];
     let mut work = crate::retargets::retarget_work(size);
-    let total =
-        reference::retarget(&picture, size, Rows(64), Columns(64), &mut out, &mut work).unwrap();
-    assert!(total > 0);
+    let (rows, columns) = (Rows(64), Columns(64));
+    let total = reference::retarget(&picture, size, EDGE, rows, columns, &mut out, &mut work);
+    assert!(total.unwrap() > 0);
     assert!(is_zero(&work));
 }
 
@@ -159,7 +168,7 @@ fn object_removal_from_a_larger_picture() {
     }
     let mut work = work_space(size);
     let (ending, count) =
-        reference::remove_object(&mut picture, &mut marks, size, 65_535, &mut work).unwrap();
+        reference::remove_object(&mut picture, &mut marks, size, FLAT, 65_535, &mut work).unwrap();
     assert_eq!(ending, reference::Ending::Done);
     // Each of the 30 rows loses 40 marked pixels, at most one a seam.
     assert!(count >= 40);

@@ -20,4 +20,5 @@ mod seams;
 mod tables;
 mod verdict;
 mod worked;
+mod worked_flat;
 mod wrong;

@@ -21,7 +21,7 @@ fn pixels_that_seams_reads() {
     ] {
         let pixels = &samples[..size.width * size.height];
         let expected = if served {
-            built(pixels, size, size.width - 1, size.width / 2).unwrap()
+            built(pixels, size, EDGE, size.width - 1, size.width / 2).unwrap()
         } else {
             refused(8)
         };
@@ -38,7 +38,7 @@ fn pixels_that_seams_reads() {
     // The largest text: rgb samples of three digits, many rows or columns.
     for size in [rgb(2, 512), rgb(512, 2), rgb(32, 32)] {
         let picture = vec![255; 3_072];
-        let file = built(&picture, size, size.width - 1, size.width / 2).unwrap();
+        let file = built(&picture, size, EDGE, size.width - 1, size.width / 2).unwrap();
         assert_eq!(seams_program(&netpbm(size, &picture)), file);
     }
 }
@@ -71,14 +71,14 @@ fn pixels_that_fit_reads() {
     // A file of more than 1,024 pixels is refused by 8 at each width offered.
     for size in [grey(41, 25), grey(205, 5), grey(33, 32)] {
         let pixels = &samples[..size.width * size.height];
-        let file = built(pixels, size, 1, 0).unwrap();
+        let file = built(pixels, size, EDGE, 1, 0).unwrap();
         assert_eq!(fit(size.width, &file), refused(8), "{size:?}");
         assert_eq!(fit(size.width - 1, &file), refused(8), "{size:?}");
         assert_eq!(fit(size.width - 2, &file), refused(7), "{size:?}");
     }
     // With a bad map 8, with a bad range 6, with a wrong count 4, with a broken
     // form 1.
-    let file = built(&samples, grey(33, 32), 1, 0).unwrap();
+    let file = built(&samples, grey(33, 32), EDGE, 1, 0).unwrap();
     let file = String::from_utf8(file).unwrap();
     let bad_map = file.replace("(map 1 0", "(map 2 0");
     assert_ne!(file, bad_map);
@@ -96,7 +96,7 @@ fn pixels_that_fit_reads() {
 fn pixels_written_with_a_bad_map() {
     // All energies are 7, so the seams are columns 0 and 1.
     let samples: Vec<u8> = (0..1_024).map(|place| (place % 32 * 7) as u8).collect();
-    let file = built(&samples, grey(32, 32), 2, 2).unwrap();
+    let file = built(&samples, grey(32, 32), EDGE, 2, 2).unwrap();
     let file = String::from_utf8(file).unwrap();
     let row = file.lines().find(|line| line.starts_with("(map")).unwrap();
     let zeros = " 0".repeat(30);
@@ -150,11 +150,11 @@ fn accepted_files_on_both_sides_of_the_input_limit() {
     for (length, offered, other) in [(65_536, 8, 7), (65_537, 8, 8)] {
         let size = grey(120, 90);
         let mut samples = vec![200; byte_count(size)];
-        let longest = built(&samples, size, 0, 0).unwrap().len() + "120\n".len();
+        let longest = built(&samples, size, EDGE, 0, 0).unwrap().len() + "120\n".len();
         let over = longest - length;
         samples[..over / 2].fill(2);
         samples[over / 2..over / 2 + over % 2].fill(20);
-        let file = built(&samples, size, 0, 0).unwrap();
+        let file = built(&samples, size, EDGE, 0, 0).unwrap();
         assert_eq!(file.len() + "120\n".len(), length);
         assert_eq!(fit(120, &file), refused(offered));
         assert_eq!(fit(121, &file), refused(other));

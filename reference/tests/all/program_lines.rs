@@ -82,7 +82,7 @@ fn headers_of_other_sizes() {
     let input = [b"P6\n2 1\n255\n".as_slice(), &EXAMPLE].concat();
     assert_eq!(
         seams_program(&input),
-        built(&EXAMPLE, rgb(2, 1), 1, 1).unwrap()
+        built(&EXAMPLE, rgb(2, 1), EDGE, 1, 1).unwrap()
     );
 }
 

@@ -29,13 +29,26 @@ fn seams_writes_what_the_definitions_give() {
     for _ in 0..300 {
         let (picture, size) = random_picture(&mut random, 5, 4);
         let depth = size.width - 1;
-        let map = map(&picture, size, depth);
-        let expected = text(&picture, &map, size, depth, size.width / 2);
+        let map = map(&picture, size, EDGE, depth);
+        let expected = text(&picture, &map, size, EDGE, depth, size.width / 2);
         assert_eq!(
             seams_program(&netpbm(size, &picture)),
             expected.into_bytes()
         );
     }
+}
+
+/// What `fit` writes of the file of a picture.
+fn judge_fit(file: &[u8], picture: &[u8], size: Size) {
+    for width in 0..=20 {
+        let expected = match shown(file, width) {
+            Ok((size, pixels)) => netpbm(size, &pixels),
+            Err(number) => refused(number),
+        };
+        assert_eq!(fit(width, file), expected);
+    }
+    assert_eq!(fit(size.width, file), netpbm(size, picture));
+    assert_eq!(fit(0, file), refused(7));
 }
 
 #[test]
@@ -46,16 +59,10 @@ fn fit_writes_each_width() {
             let size = size(random.between(1, 12), random.between(1, 12), kind);
             let values: Vec<u8> = (0..=255).collect();
             let picture = random.bytes(byte_count(size), &values);
-            let file = seams_program(&netpbm(size, &picture));
-            for width in 0..=20 {
-                let expected = match shown(&file, width) {
-                    Ok((size, pixels)) => netpbm(size, &pixels),
-                    Err(number) => refused(number),
-                };
-                assert_eq!(fit(width, &file), expected);
-            }
-            assert_eq!(fit(size.width, &file), netpbm(size, &picture));
-            assert_eq!(fit(0, &file), refused(7));
+            let by_seams = seams_program(&netpbm(size, &picture));
+            judge_fit(&by_seams, &picture, size);
+            let by_flat = built(&picture, size, FLAT, size.width - 1, size.width / 2);
+            judge_fit(&by_flat.unwrap(), &picture, size);
         }
     }
 }
@@ -72,6 +79,14 @@ fn fit_on_the_example() {
     assert_eq!(fit(0, file), refused(7));
     assert_eq!(fit(5, file), refused(7));
     assert_eq!(fit(65_535, file), refused(7));
+    let file = FLAT_FILE.as_bytes();
+    assert_eq!(
+        fit(4, file),
+        b"P5\n4 2\n255\n\x0a\x0a\x19\x28\x0a\x32\x2d\x28"
+    );
+    assert_eq!(fit(2, file), b"P5\n2 2\n255\n\x0a\x0a\x0a\x32");
+    assert_eq!(fit(1, file), b"P5\n1 2\n255\n\x0a\x0a");
+    assert_eq!(fit(5, file), refused(7));
 }
 
 /// Edited texts to `fit`: 1 to 6, then 7, then 9 to 11.
@@ -79,7 +94,8 @@ fn fit_on_the_example() {
 fn fit_on_edited_texts() {
     let mut random = Random::new(63);
     for _ in 0..20_000 {
-        let text = edited(&mut random, EXAMPLE_FILE);
+        let file = random.pick(&[EXAMPLE_FILE, FLAT_FILE]);
+        let text = edited(&mut random, file);
         let width = random.between(0, 6);
         let expected = || -> Result<(), u8> {
             let it = contents(&text).ok_or(1)?;

@@ -30,21 +30,41 @@ fn examples_of_the_table_in_files() {
     assert_eq!(shown(EXAMPLE_FILE.as_bytes(), 5).err(), Some(7));
 }
 
+/// The maps of the table's examples in the file with energy `flat`, and each
+/// file with the map of the other.
+#[test]
+fn examples_of_the_table_by_flat() {
+    for (map, number) in [
+        ("(map 2 2 1)\n(map 0 2 1)", 9),
+        // Seam 1 at columns 0 and 2.
+        ("(map 1 0 2)\n(map 2 0 1)", 10),
+        ("(map 1 0 2)\n(map 1 2 0)", 11),
+        ("(map 1 0 2)\n(map 1 0 2)", 11),
+    ] {
+        let file = FLAT_FILE.replace("(map 2 0 1)\n(map 0 2 1)", map);
+        assert_eq!(checked(file.as_bytes()).err(), Some(number), "{map}");
+    }
+    let edge = FLAT_FILE.replace("flat", "edge");
+    assert_eq!(checked(edge.as_bytes()).err(), Some(11));
+    assert_eq!(shown(FLAT_FILE.as_bytes(), 5).err(), Some(7));
+}
+
 #[test]
 fn examples_of_the_table_on_pictures() {
     // 5 bytes for 3 by 2 grey.
     let mut seam = [0; 4];
     let mut work = vec![OLD_BYTE; 200];
     let five = &EXAMPLE[..5];
-    let find = reference::find(five, grey(3, 2), Axis::Vertical, &mut seam, &mut work);
+    let find = reference::find(five, grey(3, 2), EDGE, Axis::Vertical, &mut seam, &mut work);
     assert_eq!(find, Err(4));
-    assert_eq!(built(five, grey(3, 2), 2, 1), Err(4));
+    assert_eq!(built(five, grey(3, 2), EDGE, 2, 1), Err(4));
     // Mark 3.
     let marks = [0, 0, 3, 0, 0, 0];
     let find = reference::find_marked(
         &EXAMPLE,
         &marks,
         grey(3, 2),
+        EDGE,
         Axis::Vertical,
         &mut seam,
         &mut work,
@@ -53,26 +73,33 @@ fn examples_of_the_table_on_pictures() {
     // A row all marked 1, and a column.
     let row = [0, 0, 0, 1, 1, 1];
     assert_eq!(
-        found_marked(&EXAMPLE, &row, grey(3, 2), Axis::Vertical),
+        found_marked(&EXAMPLE, &row, grey(3, 2), EDGE, Axis::Vertical),
         Err(12)
     );
-    assert!(found_marked(&EXAMPLE, &row, grey(3, 2), Axis::Horizontal).is_ok());
+    assert!(found_marked(&EXAMPLE, &row, grey(3, 2), EDGE, Axis::Horizontal).is_ok());
     let column = [0, 1, 0, 0, 1, 0];
     assert_eq!(
-        found_marked(&EXAMPLE, &column, grey(3, 2), Axis::Horizontal),
+        found_marked(&EXAMPLE, &column, grey(3, 2), EDGE, Axis::Horizontal),
         Err(12)
     );
-    assert!(found_marked(&EXAMPLE, &column, grey(3, 2), Axis::Vertical).is_ok());
+    assert!(found_marked(&EXAMPLE, &column, grey(3, 2), EDGE, Axis::Vertical).is_ok());
     // A cut at width 1, and at height 1.
-    assert_eq!(cut_once(&[1, 2], grey(1, 2), Axis::Vertical), Err(13));
-    assert!(cut_once(&[1, 2], grey(1, 2), Axis::Horizontal).is_ok());
-    assert_eq!(cut_once(&[1, 2], grey(2, 1), Axis::Horizontal), Err(13));
-    // Finding at width 1 is served. Each pixel differs from the other by 1.
-    assert_eq!(found(&[1, 2], grey(1, 2), Axis::Vertical), (vec![0, 0], 2));
+    assert_eq!(cut_once(&[1, 2], grey(1, 2), EDGE, Axis::Vertical), Err(13));
+    assert!(cut_once(&[1, 2], grey(1, 2), EDGE, Axis::Horizontal).is_ok());
+    assert_eq!(
+        cut_once(&[1, 2], grey(2, 1), EDGE, Axis::Horizontal),
+        Err(13)
+    );
+    // Finding at width 1 is served. Each pixel differs from the other by 1, and
+    // by `flat` the last has energy 0.
+    for (method, cost) in [(EDGE, 2), (FLAT, 1)] {
+        let seam = found(&[1, 2], grey(1, 2), method, Axis::Vertical);
+        assert_eq!(seam, (vec![0, 0], cost));
+    }
     // 12 before 13.
-    let answer = cut_marked_once(&[1, 2], &[0, 1], grey(1, 2), Axis::Vertical);
+    let answer = cut_marked_once(&[1, 2], &[0, 1], grey(1, 2), EDGE, Axis::Vertical);
     assert_eq!(answer, Err(12));
-    let answer = cut_marked_once(&[1, 2], &[2, 2], grey(1, 2), Axis::Vertical);
+    let answer = cut_marked_once(&[1, 2], &[2, 2], grey(1, 2), EDGE, Axis::Vertical);
     assert_eq!(answer, Err(13));
 }
 
@@ -86,6 +113,7 @@ fn the_smallest_number_of_several() {
             &EXAMPLE,
             marks,
             size,
+            EDGE,
             Axis::Vertical,
             &mut vec![0; seam],
             &mut vec![0; work],
@@ -105,6 +133,7 @@ fn the_smallest_number_of_several() {
         reference::build(
             &EXAMPLE,
             size,
+            EDGE,
             depth,
             9,
             &mut vec![0; out],
@@ -119,7 +148,15 @@ fn the_smallest_number_of_several() {
     let retarget = |size, rows, out: usize, work: usize| {
         let columns = Columns(1);
         let (mut out, mut work) = (vec![0; out], vec![0; work]);
-        reference::retarget(&EXAMPLE, size, Rows(rows), columns, &mut out, &mut work)
+        reference::retarget(
+            &EXAMPLE,
+            size,
+            EDGE,
+            Rows(rows),
+            columns,
+            &mut out,
+            &mut work,
+        )
     };
     assert_eq!(retarget(grey(0, 2), 9, 0, 0), Err(2));
     assert_eq!(retarget(grey(600, 2), 9, 0, 0), Err(3));
@@ -182,22 +219,39 @@ fn exact_spaces_serve() {
     let length = EXAMPLE_FILE.len();
     let build = |out: usize, work: usize| {
         let (mut out, mut work) = (vec![0; out], vec![0; work]);
-        reference::build(&EXAMPLE, grey(3, 2), 2, 1, &mut out, &mut work)
+        reference::build(&EXAMPLE, grey(3, 2), EDGE, 2, 1, &mut out, &mut work)
     };
     assert_eq!(build(length, 192), Ok(length));
     assert_eq!(build(length - 1, 192), Err(8));
     assert_eq!(build(length, 191), Err(8));
-    // An rgb picture needs 32 bytes a pixel too.
+}
+
+/// 32 bytes a pixel, for an rgb picture too, and one entry a row or one a column.
+#[test]
+fn exact_spaces_serve_a_seam() {
     let mut seam = [0; 1];
     let find = |work: usize, seam: &mut [u16]| {
-        reference::find(&[1; 6], rgb(2, 1), Axis::Vertical, seam, &mut vec![0; work])
+        reference::find(
+            &[1; 6],
+            rgb(2, 1),
+            EDGE,
+            Axis::Vertical,
+            seam,
+            &mut vec![0; work],
+        )
     };
     assert_eq!(find(63, &mut seam), Err(8));
     assert_eq!(find(64, &mut seam), Ok(0));
-    // The seam space: one entry a row, or one a column.
     let horizontal = |seam: usize| {
         let (mut seam, mut work) = (vec![0; seam], [0; 192]);
-        reference::find(&EXAMPLE, grey(3, 2), Axis::Horizontal, &mut seam, &mut work)
+        reference::find(
+            &EXAMPLE,
+            grey(3, 2),
+            EDGE,
+            Axis::Horizontal,
+            &mut seam,
+            &mut work,
+        )
     };
     assert_eq!(horizontal(2), Err(8));
     // Rows 0, 1, 1: 0 + 50 + 10.
@@ -222,64 +276,55 @@ fn huge_numbers() {
             (kind_size(512, 512), 4),
         ] {
             for axis in AXES {
-                let find = reference::find(&[1], size, axis, &mut seam, &mut work);
+                let (picture, seam, work) = (&mut [1], &mut seam, &mut work);
+                let find = reference::find(picture, size, EDGE, axis, seam, work);
                 assert_eq!(find, Err(number));
-                let find = reference::find_marked(&[1], &[0], size, axis, &mut seam, &mut work);
+                let find = reference::find_marked(picture, &[0], size, EDGE, axis, seam, work);
                 assert_eq!(find, Err(number));
-                let cut = reference::cut(&mut [1], size, axis, &mut seam, &mut work);
+                let cut = reference::cut(picture, size, EDGE, axis, seam, work);
                 assert_eq!(cut, Err(number));
-                let cut =
-                    reference::cut_marked(&mut [1], &mut [9], size, axis, &mut seam, &mut work);
+                let cut = reference::cut_marked(picture, &mut [9], size, EDGE, axis, seam, work);
                 assert_eq!(cut, Err(number));
             }
-            let remove = reference::remove_object(&mut [1], &mut [9], size, 65_535, &mut work);
+            let (picture, work) = (&mut [1], &mut work);
+            let remove = reference::remove_object(picture, &mut [9], size, EDGE, 65_535, work);
             assert_eq!(remove, Err(number));
             let (rows, columns) = (Rows(huge), Columns(huge));
-            let retarget = reference::retarget(&[1], size, rows, columns, &mut out, &mut work);
+            let retarget = reference::retarget(picture, size, EDGE, rows, columns, &mut out, work);
             assert_eq!(retarget, Err(number));
-            let build = reference::build(&[1], size, huge, huge, &mut out, &mut work);
+            let build = reference::build(picture, size, EDGE, huge, huge, &mut out, work);
             assert_eq!(build, Err(number));
-            let energies = reference::energies(&[1], size, huge, &mut []);
+            let energies = reference::energies(picture, size, EDGE, huge, &mut []);
             assert_eq!(energies, Err(number));
         }
     }
-    let (rows, columns) = (Rows(huge), Columns(huge));
-    let retarget = reference::retarget(&[1], grey(1, 1), rows, columns, &mut out, &mut work);
+    let (rows, columns, size) = (Rows(huge), Columns(huge), grey(1, 1));
+    let retarget = reference::retarget(&[1], size, EDGE, rows, columns, &mut out, &mut work);
     assert_eq!(retarget, Err(7));
-    let build = reference::build(&[1], grey(1, 1), huge, huge, &mut out, &mut work);
+    let build = reference::build(&[1], size, EDGE, huge, huge, &mut out, &mut work);
     assert_eq!(build, Err(6));
     assert_eq!(shown(EXAMPLE_FILE.as_bytes(), huge), Err(7));
-    assert_eq!(reference::energies(&[1], grey(1, 1), huge, &mut []), Err(4));
+    let energies = reference::energies(&[1], size, EDGE, huge, &mut []);
+    assert_eq!(energies, Err(4));
 }
 
 #[test]
 fn energies_refuse() {
-    let mut out = [OLD_ENERGY; 3];
-    assert_eq!(
-        reference::energies(&EXAMPLE, grey(0, 2), 0, &mut out),
-        Err(2)
-    );
-    assert_eq!(
-        reference::energies(&EXAMPLE, grey(3, 600), 0, &mut out),
-        Err(3)
-    );
-    assert_eq!(
-        reference::energies(&EXAMPLE, grey(3, 3), 0, &mut out),
-        Err(4)
-    );
-    assert_eq!(
-        reference::energies(&EXAMPLE, grey(3, 2), 2, &mut out),
-        Err(4)
-    );
-    assert_eq!(
-        reference::energies(&EXAMPLE, grey(3, 2), 2, &mut out[..2]),
-        Err(4)
-    );
-    assert_eq!(
-        reference::energies(&EXAMPLE, grey(3, 2), 1, &mut out[..2]),
-        Err(8)
-    );
-    assert_eq!(out, [OLD_ENERGY; 3]);
+    for method in METHODS {
+        for (size, row, length, number) in [
+            (grey(0, 2), 0, 3, 2),
+            (grey(3, 600), 0, 3, 3),
+            (grey(3, 3), 0, 3, 4),
+            (grey(3, 2), 2, 3, 4),
+            (grey(3, 2), 2, 2, 4),
+            (grey(3, 2), 1, 2, 8),
+        ] {
+            let mut out = vec![OLD_ENERGY; length];
+            let answer = reference::energies(&EXAMPLE, size, method, row, &mut out);
+            assert_eq!(answer, Err(number));
+            assert!(out.iter().all(|energy| *energy == OLD_ENERGY));
+        }
+    }
 }
 
 /// A retarget's work space depends on the kind.
@@ -289,11 +334,12 @@ fn retarget_work_by_kind() {
         let needed = 32 * 4 + 66 * picture.len();
         let mut out = [0; 12];
         let mut work = vec![0; needed];
-        let short = &mut work[..needed - 1];
-        let answer = reference::retarget(&picture, size, Rows(1), Columns(1), &mut out, short);
-        assert_eq!(answer, Err(8));
-        let answer = reference::retarget(&picture, size, Rows(1), Columns(1), &mut out, &mut work);
-        assert_eq!(answer, Ok(0));
+        let mut retarget = |work: &mut [u8]| {
+            let (rows, columns) = (Rows(1), Columns(1));
+            reference::retarget(&picture, size, EDGE, rows, columns, &mut out, work)
+        };
+        assert_eq!(retarget(&mut work[..needed - 1]), Err(8));
+        assert_eq!(retarget(&mut work), Ok(0));
         assert!(retarget_work(size).len() > needed);
     }
 }

@@ -41,16 +41,17 @@ fn exchanged_size(size: Size) -> Size {
     }
 }
 
-/// Finding and cutting without marks, along both axes, against the trial.
+/// Finding and cutting without marks, by both methods and along both axes,
+/// against the trial.
 fn judge_plain(picture: &[u8], size: Size) {
-    for axis in AXES {
-        let (lines, cost) = plain_seam(picture, size, axis);
-        assert_eq!(found(picture, size, axis), (lines.clone(), cost));
+    for (method, axis) in WAYS {
+        let (lines, cost) = plain_seam(picture, size, method, axis);
+        assert_eq!(found(picture, size, method, axis), (lines.clone(), cost));
         let last_line = match axis {
             Axis::Vertical => size.width == 1,
             Axis::Horizontal => size.height == 1,
         };
-        let answer = cut_once(picture, size, axis);
+        let answer = cut_once(picture, size, method, axis);
         if last_line {
             assert_eq!(answer, Err(13));
         } else {
@@ -62,15 +63,15 @@ fn judge_plain(picture: &[u8], size: Size) {
 
 /// The same with marks.
 fn judge_marked(picture: &[u8], marks: &[u8], size: Size) {
-    for axis in AXES {
-        let by_trial = seam(picture, marks, size, axis);
-        let answer = found_marked(picture, marks, size, axis);
+    for (method, axis) in WAYS {
+        let by_trial = seam(picture, marks, size, method, axis);
+        let answer = found_marked(picture, marks, size, method, axis);
         assert_eq!(answer, by_trial.clone().ok_or(12));
         let last_line = match axis {
             Axis::Vertical => size.width == 1,
             Axis::Horizontal => size.height == 1,
         };
-        let answer = cut_marked_once(picture, marks, size, axis);
+        let answer = cut_marked_once(picture, marks, size, method, axis);
         match by_trial {
             None => assert_eq!(answer, Err(12)),
             Some(_) if last_line => assert_eq!(answer, Err(13)),
@@ -108,13 +109,14 @@ fn the_trial_lists_every_path_in_order() {
 #[test]
 fn energies_against_the_definition() {
     let mut random = Random::new(1);
-    for _ in 0..500 {
+    for _ in 0..1_000 {
         let (picture, size) = random_picture(&mut random, 5, 5);
+        let method = random.pick(&METHODS);
         for i in 0..size.height {
             let mut out = vec![OLD_ENERGY; size.width + 2];
-            reference::energies(&picture, size, i, &mut out).unwrap();
+            reference::energies(&picture, size, method, i, &mut out).unwrap();
             for j in 0..size.width {
-                assert_eq!(u64::from(out[j]), energy(&picture, size, i, j));
+                assert_eq!(u64::from(out[j]), energy(&picture, size, method, i, j));
             }
             assert_eq!(out[size.width..], [OLD_ENERGY; 2]);
         }
@@ -198,7 +200,7 @@ fn random_marks_on_random_pictures() {
         let (picture, size) = random_picture(&mut random, 5, 5);
         let marks = random_marks(&mut random, size);
         judge_marked(&picture, &marks, size);
-        blocked += usize::from(seam(&picture, &marks, size, Axis::Vertical).is_none());
+        blocked += usize::from(seam(&picture, &marks, size, EDGE, Axis::Vertical).is_none());
     }
     // Both cases occur often.
     assert!(blocked > 500 && blocked < 5_500);
@@ -210,9 +212,10 @@ fn marks_all_zero_change_nothing() {
     for _ in 0..500 {
         let (picture, size) = random_picture(&mut random, 7, 7);
         let marks = vec![0; size.width * size.height];
-        for axis in AXES {
-            let plain = found(&picture, size, axis);
-            assert_eq!(found_marked(&picture, &marks, size, axis), Ok(plain));
+        for (method, axis) in WAYS {
+            let plain = found(&picture, size, method, axis);
+            let marked = found_marked(&picture, &marks, size, method, axis);
+            assert_eq!(marked, Ok(plain));
         }
     }
 }
@@ -226,10 +229,12 @@ fn horizontal_is_vertical_of_the_exchanged_picture() {
         let turned = exchanged(&picture, size, channels(size.kind));
         let turned_marks = exchanged(&marks, size, 1);
         let turned_size = exchanged_size(size);
-        assert_eq!(
-            found_marked(&picture, &marks, size, Axis::Horizontal),
-            found_marked(&turned, &turned_marks, turned_size, Axis::Vertical)
-        );
+        for method in METHODS {
+            assert_eq!(
+                found_marked(&picture, &marks, size, method, Axis::Horizontal),
+                found_marked(&turned, &turned_marks, turned_size, method, Axis::Vertical)
+            );
+        }
     }
 }
 
@@ -238,21 +243,22 @@ fn horizontal_is_vertical_of_the_exchanged_picture() {
 #[test]
 fn cuts_in_a_row() {
     let mut random = Random::new(7);
-    for _ in 0..150 {
+    for _ in 0..300 {
         let (mut picture, mut size) = random_picture(&mut random, 6, 5);
+        let method = random.pick(&METHODS);
         for axis in AXES {
             let lines = |size: Size| match axis {
                 Axis::Vertical => size.width,
                 Axis::Horizontal => size.height,
             };
             while lines(size) > 1 {
-                let (seam, cost) = plain_seam(&picture, size, axis);
-                let (left, cut_seam, cut_cost) = cut_once(&picture, size, axis).unwrap();
+                let (seam, cost) = plain_seam(&picture, size, method, axis);
+                let (left, cut_seam, cut_cost) = cut_once(&picture, size, method, axis).unwrap();
                 assert_eq!((cut_seam, cut_cost), (seam, cost));
                 size = size_after_cut(size, axis);
                 picture = left[..byte_count(size)].to_vec();
             }
-            assert_eq!(cut_once(&picture, size, axis), Err(13));
+            assert_eq!(cut_once(&picture, size, method, axis), Err(13));
         }
     }
 }

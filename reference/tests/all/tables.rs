@@ -6,12 +6,12 @@ use crate::random::Random;
 use crate::verdict::verdict;
 use reference::Refusal;
 
-/// Accepted files of both kinds.
+/// Accepted files of both kinds, one by each method.
 fn files() -> [String; 2] {
     let picture = [
         1, 2, 3, 40, 50, 60, 7, 80, 9, 0, 0, 0, 255, 254, 253, 100, 10, 1,
     ];
-    let rgb = built(&picture, rgb(3, 2), 2, 1).unwrap();
+    let rgb = built(&picture, rgb(3, 2), FLAT, 2, 1).unwrap();
     [EXAMPLE_FILE.to_string(), String::from_utf8(rgb).unwrap()]
 }
 
@@ -118,7 +118,7 @@ fn first_item(line: &str) -> &str {
 #[test]
 fn every_row_and_map_line_of_a_file() {
     for file in files() {
-        for (place, line) in file.split_inclusive('\n').enumerate().skip(3).take(4) {
+        for (place, line) in file.split_inclusive('\n').enumerate().skip(4).take(4) {
             let (word, item) = (&line[..4], first_item(line));
             for (items, number) in [
                 (")\n", 4),
@@ -143,16 +143,16 @@ fn every_row_and_map_line_of_a_file() {
 fn lines_of_the_other_sort() {
     let [grey, rgb] = files();
     for (file, row) in [(&grey, "(row 1 2 3)\n"), (&rgb, "(row (1 2 3) (1 2 3))\n")] {
-        assert_eq!(refusal(&with_line(file, 4, "(map 1 0 2)\n")), Some(4));
-        assert_eq!(refusal(&with_line(file, 5, row)), Some(4));
+        assert_eq!(refusal(&with_line(file, 5, "(map 1 0 2)\n")), Some(4));
+        assert_eq!(refusal(&with_line(file, 6, row)), Some(4));
         // Then map lines stand ahead of a row line.
-        assert_eq!(refusal(&with_line(file, 3, "(map 1 0 2)\n")), Some(1));
-        assert_eq!(refusal(&with_line(file, 6, row)), Some(1));
+        assert_eq!(refusal(&with_line(file, 4, "(map 1 0 2)\n")), Some(1));
+        assert_eq!(refusal(&with_line(file, 7, row)), Some(1));
     }
     // A row of the other kind.
-    assert_eq!(refusal(&with_line(&rgb, 3, "(row 1 2 3)\n")), Some(1));
+    assert_eq!(refusal(&with_line(&rgb, 4, "(row 1 2 3)\n")), Some(1));
     let row = "(row (1 2 3) (1 2 3) (1 2 3))\n";
-    assert_eq!(refusal(&with_line(&grey, 3, row)), Some(1));
+    assert_eq!(refusal(&with_line(&grey, 4, row)), Some(1));
 }
 
 /// Every depth and growth in a file: 6 where the range isn't allowed; where
@@ -162,7 +162,7 @@ fn every_range_of_a_file() {
     for width in 1..=6 {
         for recorded in 0..width {
             let picture = vec![7; width * 2];
-            let file = built(&picture, grey(width, 2), recorded, 0).unwrap();
+            let file = built(&picture, grey(width, 2), EDGE, recorded, 0).unwrap();
             let file = String::from_utf8(file).unwrap();
             for depth in (0..=width + 1).chain([65_535]) {
                 for growth in (0..=width + 1).chain([65_535]) {
@@ -200,7 +200,7 @@ fn with_faults(numbers: &[Refusal]) -> String {
     };
     let end = if has(1) { ")" } else { ")\n" };
     format!(
-        "(multi\n(size {width} {height} grey)\n(range {depth} 1)\n\
+        "(multi\n(size {width} {height} grey)\n(range {depth} 1)\n(energy edge)\n\
          {row}\n(row 10 50 40)\n{map}\n{end}"
     )
 }
@@ -263,15 +263,17 @@ fn length_of_the_text() {
         let (picture, size) = random_picture(&mut random, 12, 4);
         let depth = random.below(size.width);
         let growth = random.below(depth.min(size.width / 2) + 1);
-        let length = built(&picture, size, depth, growth).unwrap().len();
+        let method = random.pick(&METHODS);
+        let length = built(&picture, size, method, depth, growth).unwrap().len();
         let mut work = work_space(size);
         let mut out = vec![OLD_BYTE; length];
-        let (short, _) = out.split_at_mut(length - 1);
-        let answer = reference::build(&picture, size, depth, growth, short, &mut work);
+        let build = |out: &mut [u8], work: &mut [u8]| {
+            reference::build(&picture, size, method, depth, growth, out, work)
+        };
+        let answer = build(&mut out[..length - 1], &mut work);
         assert_eq!(answer, Err(8));
         judge_work_after(&work, &answer);
-        let answer = reference::build(&picture, size, depth, growth, &mut out, &mut work);
-        assert_eq!(answer, Ok(length));
+        assert_eq!(build(&mut out, &mut work), Ok(length));
         assert!(is_zero(&work));
     }
 }
@@ -297,7 +299,7 @@ fn work_space_changes_no_answer() {
 #[test]
 fn wanted_widths_of_the_widest_file() {
     let picture: Vec<u8> = (0..512).map(|j| (j * 37 % 251) as u8).collect();
-    let file = built(&picture, grey(512, 1), 300, 256).unwrap();
+    let file = built(&picture, grey(512, 1), EDGE, 300, 256).unwrap();
     for wanted in (0..=800).chain([65_535, 65_536 + 512, usize::MAX]) {
         let answer = shown(&file, wanted).map(|(size, _)| size.width);
         if (212..=768).contains(&wanted) {

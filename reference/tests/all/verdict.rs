@@ -2,7 +2,7 @@
 //! the refusals 2 to 11 from the definitions.
 
 use crate::definitions::{plain_seam, size};
-use reference::{Axis, Kind};
+use reference::{Axis, EnergyRule, Kind, Method};
 
 /// What a text of good form holds.
 pub struct Contents {
@@ -11,6 +11,7 @@ pub struct Contents {
     pub kind: Kind,
     pub depth: u64,
     pub growth: u64,
+    pub method: Method,
     /// Samples of each row, and pixels of each row.
     pub rows: Vec<(Vec<u8>, u64)>,
     pub map: Vec<Vec<u64>>,
@@ -34,6 +35,13 @@ impl Cursor<'_> {
 
     pub fn must_meet(&mut self, expected: &str) -> Option<()> {
         self.meets(expected).then_some(())
+    }
+
+    /// What is named by the one of two that stands here.
+    fn either<T>(&mut self, named: [(&str, T); 2]) -> Option<T> {
+        let mut named = named.into_iter();
+        let (_, it) = named.find(|(expected, _)| self.meets(expected))?;
+        Some(it)
     }
 
     /// A number from 0 to `largest` without leading zeros.
@@ -60,17 +68,30 @@ pub fn contents(text: &[u8]) -> Option<Contents> {
     let width = cursor.number(65_535)?;
     cursor.must_meet(" ")?;
     let height = cursor.number(65_535)?;
-    let kind = if cursor.meets(" grey)\n") {
-        Kind::Grey
-    } else {
-        cursor.must_meet(" rgb)\n")?;
-        Kind::Rgb
-    };
+    let kind = cursor.either([(" grey)\n", Kind::Grey), (" rgb)\n", Kind::Rgb)])?;
     cursor.must_meet("(range ")?;
     let depth = cursor.number(65_535)?;
     cursor.must_meet(" ")?;
     let growth = cursor.number(65_535)?;
+    let edge = (")\n(energy edge)\n", EnergyRule::Edge);
+    let energy = cursor.either([edge, (")\n(energy flat)\n", EnergyRule::Flat)])?;
+    let rows = rows(&mut cursor, kind)?;
+    let map = map(&mut cursor)?;
     cursor.must_meet(")\n")?;
+    (cursor.at == text.len()).then_some(Contents {
+        width,
+        height,
+        kind,
+        depth,
+        growth,
+        method: Method { energy },
+        rows,
+        map,
+    })
+}
+
+/// The row lines, each with its samples and the number of its pixels.
+fn rows(cursor: &mut Cursor, kind: Kind) -> Option<Vec<(Vec<u8>, u64)>> {
     let mut rows = Vec::new();
     while cursor.meets("(row") {
         let mut samples = Vec::new();
@@ -92,6 +113,11 @@ pub fn contents(text: &[u8]) -> Option<Contents> {
         cursor.must_meet(")\n")?;
         rows.push((samples, pixels));
     }
+    Some(rows)
+}
+
+/// The numbers of the map lines.
+fn map(cursor: &mut Cursor) -> Option<Vec<Vec<u64>>> {
     let mut map = Vec::new();
     while cursor.meets("(map") {
         let mut numbers = Vec::new();
@@ -101,16 +127,7 @@ pub fn contents(text: &[u8]) -> Option<Contents> {
         cursor.must_meet(")\n")?;
         map.push(numbers);
     }
-    cursor.must_meet(")\n")?;
-    (cursor.at == text.len()).then_some(Contents {
-        width,
-        height,
-        kind,
-        depth,
-        growth,
-        rows,
-        map,
-    })
+    Some(map)
 }
 
 /// What checking must answer, with enough work space.
@@ -178,7 +195,7 @@ pub fn map_verdict(it: &Contents) -> Result<(), u8> {
         }
         let left_width = (it.width - (t - 1)) as usize;
         let left_size = size(left_width, it.height as usize, it.kind);
-        if plain_seam(&left, left_size, Axis::Vertical).0 != recorded {
+        if plain_seam(&left, left_size, it.method, Axis::Vertical).0 != recorded {
             smallest = Err(11);
         }
     }

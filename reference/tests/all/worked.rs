@@ -1,4 +1,4 @@
-//! The worked values of the specification.
+//! The worked values of the specification, those of `seams` by energy `edge`.
 
 use crate::helpers::*;
 use crate::retargets::retarget_work;
@@ -7,7 +7,7 @@ use reference::{Axis, Columns, Ending, FileInfo, Kind, Rows};
 #[test]
 fn example_file_byte_for_byte() {
     assert_eq!(
-        built(&EXAMPLE, grey(3, 2), 2, 1).unwrap(),
+        built(&EXAMPLE, grey(3, 2), EDGE, 2, 1).unwrap(),
         EXAMPLE_FILE.as_bytes()
     );
     let input = [b"P5\n3 2\n255\n".as_slice(), &EXAMPLE].concat();
@@ -18,6 +18,7 @@ fn example_file_byte_for_byte() {
 fn example_file_is_accepted_and_read() {
     let info = FileInfo {
         size: grey(3, 2),
+        method: EDGE,
         depth: 2,
         growth: 1,
     };
@@ -34,12 +35,12 @@ fn example_file_is_accepted_and_read() {
 fn example_energies() {
     let mut out = [OLD_ENERGY; 5];
     assert_eq!(
-        reference::energies(&EXAMPLE, grey(3, 2), 0, &mut out),
+        reference::energies(&EXAMPLE, grey(3, 2), EDGE, 0, &mut out),
         Ok(())
     );
     assert_eq!(out, [0, 70, 30, OLD_ENERGY, OLD_ENERGY]);
     assert_eq!(
-        reference::energies(&EXAMPLE, grey(3, 2), 1, &mut out),
+        reference::energies(&EXAMPLE, grey(3, 2), EDGE, 1, &mut out),
         Ok(())
     );
     assert_eq!(out, [40, 50, 10, OLD_ENERGY, OLD_ENERGY]);
@@ -50,11 +51,11 @@ fn example_energies() {
 #[test]
 fn example_seams() {
     let first = (vec![0, 0], 40);
-    assert_eq!(found(&EXAMPLE, grey(3, 2), Axis::Vertical), first);
-    let (left, seam, cost) = cut_once(&EXAMPLE, grey(3, 2), Axis::Vertical).unwrap();
+    assert_eq!(found(&EXAMPLE, grey(3, 2), EDGE, Axis::Vertical), first);
+    let (left, seam, cost) = cut_once(&EXAMPLE, grey(3, 2), EDGE, Axis::Vertical).unwrap();
     assert_eq!((seam, cost), first);
     assert_eq!(left, [10, 40, 50, 40, 0, 0]);
-    let second = cut_once(&left[..4], grey(2, 2), Axis::Vertical).unwrap();
+    let second = cut_once(&left[..4], grey(2, 2), EDGE, Axis::Vertical).unwrap();
     assert_eq!(second, (vec![10, 50, 0, 0], vec![1, 1], 40));
 }
 
@@ -97,72 +98,77 @@ fn example_rows_at_widths() {
 
 #[test]
 fn one_pixel() {
-    let mut out = [OLD_ENERGY; 1];
-    assert_eq!(reference::energies(&[77], grey(1, 1), 0, &mut out), Ok(()));
-    assert_eq!(out, [0]);
-    let file = built(&[77], grey(1, 1), 0, 0).unwrap();
-    assert_eq!(
-        file,
-        b"(multi\n(size 1 1 grey)\n(range 0 0)\n(row 77)\n(map 0)\n)\n"
-    );
-    assert!(checked(&file).is_ok());
-    assert_eq!(shown(&file, 1).unwrap().1, [77]);
+    for (method, word) in [(EDGE, "edge"), (FLAT, "flat")] {
+        let mut out = [OLD_ENERGY; 1];
+        let answer = reference::energies(&[77], grey(1, 1), method, 0, &mut out);
+        assert_eq!((answer, out), (Ok(()), [0]));
+        let file = built(&[77], grey(1, 1), method, 0, 0).unwrap();
+        let head = format!("(multi\n(size 1 1 grey)\n(range 0 0)\n(energy {word})\n");
+        assert_eq!(file, format!("{head}(row 77)\n(map 0)\n)\n").into_bytes());
+        assert!(checked(&file).is_ok());
+        assert_eq!(shown(&file, 1).unwrap().1, [77]);
+    }
 }
 
 #[test]
 fn ranges_on_both_sides() {
-    assert!(built(&[1, 2], grey(2, 1), 1, 1).is_ok());
-    assert_eq!(built(&[1, 2], grey(2, 1), 1, 2), Err(6));
-    let file = |range: &str| {
-        format!("(multi\n(size 2 1 grey)\n({range})\n(row 5 5)\n(map 1 0)\n)\n").into_bytes()
-    };
-    assert!(checked(&file("range 1 1")).is_ok());
-    assert_eq!(checked(&file("range 1 2")), Err(6));
+    for (method, word) in [(EDGE, "edge"), (FLAT, "flat")] {
+        assert!(built(&[1, 2], grey(2, 1), method, 1, 1).is_ok());
+        assert_eq!(built(&[1, 2], grey(2, 1), method, 1, 2), Err(6));
+        let file = |range: &str| {
+            let head = format!("(multi\n(size 2 1 grey)\n({range})\n(energy {word})\n");
+            format!("{head}(row 5 5)\n(map 1 0)\n)\n").into_bytes()
+        };
+        assert!(checked(&file("range 1 1")).is_ok());
+        assert_eq!(checked(&file("range 1 2")), Err(6));
+    }
 }
 
 #[test]
 fn equal_samples_three_by_one() {
-    let file = built(&[9, 9, 9], grey(3, 1), 2, 0).unwrap();
-    let (_, _, map) = read_back(&file).unwrap();
-    assert_eq!(map, [1, 2, 0]);
+    for method in METHODS {
+        let file = built(&[9, 9, 9], grey(3, 1), method, 2, 0).unwrap();
+        let (_, _, map) = read_back(&file).unwrap();
+        assert_eq!(map, [1, 2, 0]);
+    }
 }
 
 #[test]
 fn budget_zero_is_spent() {
-    let mut picture = [1, 2];
-    let mut marks = [2, 0];
-    let mut work = work_space(grey(2, 1));
-    let answer = reference::remove_object(&mut picture, &mut marks, grey(2, 1), 0, &mut work);
-    assert_eq!(answer, Ok((Ending::Spent, 0)));
-    assert_eq!((picture, marks), ([1, 2], [2, 0]));
-    assert!(is_zero(&work));
+    for method in METHODS {
+        let (mut picture, mut marks) = ([1, 2], [2, 0]);
+        let size = grey(2, 1);
+        let mut work = work_space(size);
+        let answer = reference::remove_object(&mut picture, &mut marks, size, method, 0, &mut work);
+        assert_eq!(answer, Ok((Ending::Spent, 0)));
+        assert_eq!((picture, marks), ([1, 2], [2, 0]));
+        assert!(is_zero(&work));
+    }
 }
 
 #[test]
 fn largest_side_on_both_sides() {
     assert_eq!(reference::LARGEST_SIDE, 512);
     let picture: Vec<u8> = (0..513).map(|j| (j * 7 % 256) as u8).collect();
-    assert_eq!(
-        found(&picture[..512], grey(512, 1), Axis::Vertical).0.len(),
-        1
-    );
-    assert!(built(&picture[..512], grey(512, 1), 511, 256).is_ok());
-    assert_eq!(
-        found(&picture[..512], grey(1, 512), Axis::Vertical).0,
-        [0; 512]
-    );
-    assert_eq!(built(&picture, grey(513, 1), 0, 0), Err(3));
-    assert_eq!(built(&picture, grey(1, 513), 0, 0), Err(3));
+    for method in METHODS {
+        let seam = |size| found(&picture[..512], size, method, Axis::Vertical).0;
+        assert_eq!(seam(grey(512, 1)).len(), 1);
+        assert!(built(&picture[..512], grey(512, 1), method, 511, 256).is_ok());
+        assert_eq!(seam(grey(1, 512)), [0; 512]);
+        assert_eq!(built(&picture, grey(513, 1), method, 0, 0), Err(3));
+        assert_eq!(built(&picture, grey(1, 513), method, 0, 0), Err(3));
+    }
 }
 
 #[test]
 fn rgb_text_form() {
-    let file = built(&[1, 2, 3, 4, 5, 6], rgb(2, 1), 1, 1).unwrap();
-    let expected = "(multi\n(size 2 1 rgb)\n(range 1 1)\n(row (1 2 3) (4 5 6))\n(map 1 0)\n)\n";
+    let file = built(&[1, 2, 3, 4, 5, 6], rgb(2, 1), EDGE, 1, 1).unwrap();
+    let expected = "(multi\n(size 2 1 rgb)\n(range 1 1)\n(energy edge)\n\
+                    (row (1 2 3) (4 5 6))\n(map 1 0)\n)\n";
     assert_eq!(String::from_utf8(file).unwrap(), expected);
     // Either pixel has energy 9.
     assert_eq!(
-        found(&[1, 2, 3, 4, 5, 6], rgb(2, 1), Axis::Vertical),
+        found(&[1, 2, 3, 4, 5, 6], rgb(2, 1), EDGE, Axis::Vertical),
         (vec![0], 9)
     );
     // The new pixel stands right of column 0.
@@ -177,9 +183,9 @@ fn rgb_text_form() {
 #[test]
 fn rgb_last_column() {
     let picture = [1, 2, 3, 4, 5, 6, 9, 9, 9, 4, 5, 6];
-    let seam = found(&picture, rgb(2, 2), Axis::Vertical);
+    let seam = found(&picture, rgb(2, 2), EDGE, Axis::Vertical);
     assert_eq!(seam, (vec![1, 1], 21));
-    let file = built(&picture, rgb(2, 2), 1, 1).unwrap();
+    let file = built(&picture, rgb(2, 2), EDGE, 1, 1).unwrap();
     assert_eq!(read_back(&file).unwrap().2, [0, 1, 0, 1]);
     let (_, pixels) = shown(&file, 3).unwrap();
     assert_eq!(pixels[..9], [1, 2, 3, 2, 3, 4, 4, 5, 6]);
@@ -190,11 +196,11 @@ fn rgb_last_column() {
 fn rgb_energy_adds_the_channels() {
     let picture = [0, 10, 200, 255, 0, 100, 1, 10, 203, 0, 0, 0];
     let mut out = [0; 2];
-    reference::energies(&picture, rgb(2, 2), 0, &mut out).unwrap();
+    reference::energies(&picture, rgb(2, 2), EDGE, 0, &mut out).unwrap();
     // Right: 255 + 10 + 100. Lower: 1 + 0 + 3. Then left as much as right, and
     // lower 255 + 0 + 100.
     assert_eq!(out, [365 + 4, 365 + 355]);
-    reference::energies(&picture, rgb(2, 2), 1, &mut out).unwrap();
+    reference::energies(&picture, rgb(2, 2), EDGE, 1, &mut out).unwrap();
     // Right: 1 + 10 + 203. Upper as much as lower.
     assert_eq!(out, [214 + 4, 214 + 355]);
 }
@@ -206,7 +212,7 @@ fn energies_at_the_edges() {
     let energies = |picture: &[u8], width, row| {
         let mut out = vec![OLD_ENERGY; width];
         let size = grey(width, picture.len() / width);
-        reference::energies(picture, size, row, &mut out).unwrap();
+        reference::energies(picture, size, EDGE, row, &mut out).unwrap();
         out
     };
     // One row: 4, 7, and 7 to the left.
@@ -254,14 +260,14 @@ fn rows_are_parts_of_the_lent_picture() {
 fn end_of_a_grown_row() {
     // Energies 0, 0, 11, 11: the seams take columns 0, then 1 and so on.
     let picture = [20, 20, 20, 31];
-    let file = built(&picture, grey(4, 1), 3, 2).unwrap();
+    let file = built(&picture, grey(4, 1), EDGE, 3, 2).unwrap();
     let (_, _, map) = read_back(&file).unwrap();
     assert_eq!(map, [1, 2, 3, 0]);
     assert_eq!(shown(&file, 6).unwrap().1, [20, 20, 20, 20, 20, 31]);
     // Energies 30, 20, 1, 1: of the last two columns, which in one row have the
     // same energy, the first goes. Then 30, 21, 21 and 51, 51.
     let picture = [0, 30, 50, 51];
-    let file = built(&picture, grey(4, 1), 3, 2).unwrap();
+    let file = built(&picture, grey(4, 1), EDGE, 3, 2).unwrap();
     let (_, _, map) = read_back(&file).unwrap();
     assert_eq!(map, [3, 2, 1, 0]);
     assert_eq!(shown(&file, 5).unwrap().1, [0, 30, 50, 50, 51]);
@@ -270,7 +276,7 @@ fn end_of_a_grown_row() {
     // first: energies 290 200 51 41 / 250 350 41 31. Then 290 200 50 / 250 350
     // 200, and 290 250 / 250 210.
     let picture = [0, 90, 50, 91, 200, 250, 60, 91];
-    let file = built(&picture, grey(4, 2), 3, 2).unwrap();
+    let file = built(&picture, grey(4, 2), EDGE, 3, 2).unwrap();
     let (_, _, map) = read_back(&file).unwrap();
     assert_eq!(map, [0, 3, 2, 1, 0, 3, 2, 1]);
     // Halves: 50 and 91 give 70, 60 and 91 give 75, each twice at width 6.
@@ -284,7 +290,7 @@ fn end_of_a_grown_row() {
 #[test]
 fn marks_change_no_energy() {
     let marks = [0, 2, 0, 0, 2, 0];
-    let found = found_marked(&EXAMPLE, &marks, grey(3, 2), Axis::Vertical);
+    let found = found_marked(&EXAMPLE, &marks, grey(3, 2), EDGE, Axis::Vertical);
     assert_eq!(found, Ok((vec![1, 1], 70 + 50)));
 }
 
@@ -293,10 +299,10 @@ fn marks_change_no_energy() {
 #[test]
 fn horizontal_seam_of_the_example() {
     assert_eq!(
-        found(&EXAMPLE, grey(3, 2), Axis::Horizontal),
+        found(&EXAMPLE, grey(3, 2), EDGE, Axis::Horizontal),
         (vec![0, 1, 1], 60)
     );
-    let (left, _, _) = cut_once(&EXAMPLE, grey(3, 2), Axis::Horizontal).unwrap();
+    let (left, _, _) = cut_once(&EXAMPLE, grey(3, 2), EDGE, Axis::Horizontal).unwrap();
     assert_eq!(left, [10, 10, 40, 0, 0, 0]);
 }
 
@@ -305,7 +311,7 @@ fn horizontal_seam_of_the_example() {
 #[test]
 fn equal_horizontal_seams() {
     let picture = [10, 10, 40, 40, 10, 50, 50, 50];
-    let (left, rows, cost) = cut_once(&picture, grey(4, 2), Axis::Horizontal).unwrap();
+    let (left, rows, cost) = cut_once(&picture, grey(4, 2), EDGE, Axis::Horizontal).unwrap();
     assert_eq!((rows, cost), (vec![0, 1, 0, 0], 60));
     assert_eq!(left, [10, 10, 50, 50, 0, 0, 0, 0]);
 }
@@ -317,8 +323,8 @@ fn equal_horizontal_seams() {
 fn retarget_of_the_example() {
     let mut out = [OLD_BYTE; 3];
     let mut work = retarget_work(grey(3, 2));
-    let (rows, columns) = (Rows(1), Columns(1));
-    let total = reference::retarget(&EXAMPLE, grey(3, 2), rows, columns, &mut out, &mut work);
+    let (size, rows, columns) = (grey(3, 2), Rows(1), Columns(1));
+    let total = reference::retarget(&EXAMPLE, size, EDGE, rows, columns, &mut out, &mut work);
     assert_eq!(total, Ok(60));
     assert_eq!(out, [10, 40, OLD_BYTE]);
 }

@@ -1,11 +1,12 @@
-//! The four carvings that look right and are not. Each is made here on
-//! purpose; the library must differ from it on some of the random pictures,
-//! which shows that these pictures tell the two apart.
+//! The four carvings that look right and are not, and files that go by the wrong
+//! energy. Each is made here on purpose; the library must differ from it on some
+//! of the random pictures, which shows that these pictures tell the two apart.
 
 use crate::definitions::*;
 use crate::helpers::*;
 use crate::random::Random;
-use reference::{Axis, Size};
+use crate::verdict::verdict;
+use reference::{Axis, Method, Size};
 
 /// Number of random pictures on which the two answers differ.
 pub fn differences<T: PartialEq>(
@@ -23,13 +24,13 @@ pub fn differences<T: PartialEq>(
 }
 
 /// The map in the file built at full depth.
-fn library_map(picture: &[u8], size: Size) -> Vec<u16> {
-    let file = built(picture, size, size.width - 1, 0).unwrap();
+fn library_map(picture: &[u8], size: Size, method: Method) -> Vec<u16> {
+    let file = built(picture, size, method, size.width - 1, 0).unwrap();
     read_back(&file).unwrap().2
 }
 
 /// Energy taken once for all seams: the energies are carved with the picture.
-fn map_with_old_energies(picture: &[u8], size: Size) -> Vec<u16> {
+fn map_with_old_energies(picture: &[u8], size: Size, method: Method) -> Vec<u16> {
     let mut map = vec![0; size.width * size.height];
     for number in 1..size.width {
         // For each row the columns that are left.
@@ -44,7 +45,7 @@ fn map_with_old_energies(picture: &[u8], size: Size) -> Vec<u16> {
             let mut cost = 0;
             for (step, place) in path.iter().enumerate() {
                 let i = size.height - 1 - step;
-                cost += energy(picture, size, i, left[i][*place]);
+                cost += energy(picture, size, method, i, left[i][*place]);
             }
             if best.as_ref().is_none_or(|(least, _)| cost < *least) {
                 best = Some((cost, path));
@@ -60,45 +61,48 @@ fn map_with_old_energies(picture: &[u8], size: Size) -> Vec<u16> {
 
 #[test]
 fn energy_taken_once() {
-    assert!(differences(81, library_map, map_with_old_energies) > 50);
+    for method in METHODS {
+        let right = |picture: &[u8], size| library_map(picture, size, method);
+        let wrong = |picture: &[u8], size| map_with_old_energies(picture, size, method);
+        assert!(differences(81, right, wrong) > 50);
+    }
 }
 
 /// From the cheapest pixel of the top row, each row steps to its cheapest
 /// neighbour below.
-fn stepping_seam(picture: &[u8], size: Size) -> u64 {
+fn stepping_seam(picture: &[u8], size: Size, method: Method) -> u64 {
+    let energy = |i, j| energy(picture, size, method, i, j);
     let cheapest = |i: usize, columns: Vec<usize>| {
-        let first = columns[0];
-        columns.into_iter().fold(first, |best, j| {
-            if energy(picture, size, i, j) < energy(picture, size, i, best) {
-                j
-            } else {
-                best
-            }
-        })
+        // `min_by_key` gives the first of several.
+        let least = columns.into_iter().min_by_key(|j| energy(i, *j));
+        least.unwrap()
     };
     let mut column = cheapest(0, (0..size.width).collect());
-    let mut cost = energy(picture, size, 0, column);
+    let mut cost = energy(0, column);
     for i in 1..size.height {
         let near = (0..size.width).filter(|j| j.abs_diff(column) <= 1);
         column = cheapest(i, near.collect());
-        cost += energy(picture, size, i, column);
+        cost += energy(i, column);
     }
     cost
 }
 
 #[test]
 fn stepping_to_the_cheapest_neighbour() {
-    let least = |picture: &[u8], size| found(picture, size, Axis::Vertical).1;
-    assert!(differences(82, least, stepping_seam) > 20);
+    for method in METHODS {
+        let least = |picture: &[u8], size| found(picture, size, method, Axis::Vertical).1;
+        let wrong = |picture: &[u8], size| stepping_seam(picture, size, method);
+        assert!(differences(82, least, wrong) > 20);
+    }
 }
 
 /// Map numbers written at shrunken columns.
-fn map_at_shrunken_columns(picture: &[u8], size: Size) -> Vec<u16> {
+fn map_at_shrunken_columns(picture: &[u8], size: Size, method: Method) -> Vec<u16> {
     let mut map = vec![0; size.width * size.height];
     let mut left = picture.to_vec();
     let mut left_size = size;
     for number in 1..size.width {
-        let (columns, _) = plain_seam(&left, left_size, Axis::Vertical);
+        let (columns, _) = plain_seam(&left, left_size, method, Axis::Vertical);
         for (i, column) in columns.iter().enumerate() {
             map[i * size.width + usize::from(*column)] = number as u16;
         }
@@ -116,14 +120,18 @@ fn map_at_shrunken_columns(picture: &[u8], size: Size) -> Vec<u16> {
 
 #[test]
 fn numbers_at_shrunken_columns() {
-    assert!(differences(83, library_map, map_at_shrunken_columns) > 50);
+    for method in METHODS {
+        let right = |picture: &[u8], size| library_map(picture, size, method);
+        let wrong = |picture: &[u8], size| map_at_shrunken_columns(picture, size, method);
+        assert!(differences(83, right, wrong) > 50);
+    }
 }
 
 /// New pixels averaged from other new pixels: each of the u growths doubles
 /// one seam in the picture that the growth before gave.
-fn grown_from_grown(picture: &[u8], size: Size) -> Vec<u8> {
+fn grown_from_grown(picture: &[u8], size: Size, method: Method) -> Vec<u8> {
     let bytes = channels(size.kind);
-    let map = map(picture, size, size.width - 1);
+    let map = map(picture, size, method, size.width - 1);
     let mut shown = Vec::new();
     for i in 0..size.height {
         let pixels = &picture[i * size.width * bytes..(i + 1) * size.width * bytes];
@@ -174,12 +182,65 @@ fn with_quiet_end(picture: &[u8], size: Size) -> Vec<u8> {
 
 #[test]
 fn averages_of_new_pixels() {
-    let widest = |picture: &[u8], size: Size| {
-        let picture = with_quiet_end(picture, size);
-        let file = built(&picture, size, size.width - 1, size.width / 2).unwrap();
-        shown(&file, size.width + size.width / 2).unwrap().1
-    };
-    let wrong = |picture: &[u8], size| grown_from_grown(&with_quiet_end(picture, size), size);
-    let count = differences(84, widest, wrong);
-    assert!(count > 20, "{count}");
+    for method in METHODS {
+        let widest = |picture: &[u8], size: Size| {
+            let picture = with_quiet_end(picture, size);
+            let file = built(&picture, size, method, size.width - 1, size.width / 2).unwrap();
+            shown(&file, size.width + size.width / 2).unwrap().1
+        };
+        let wrong = |picture: &[u8], size| {
+            let picture = with_quiet_end(picture, size);
+            grown_from_grown(&picture, size, method)
+        };
+        let count = differences(84, widest, wrong);
+        assert!(count > 20, "{count}");
+    }
+}
+
+/// The verdict on the file with the word of one method and the map by another.
+fn verdict_on(picture: &[u8], size: Size, word: Method, by: Method) -> Result<(), u8> {
+    let depth = size.width - 1;
+    let map = map(picture, size, by, depth);
+    verdict(text(picture, &map, size, word, depth, 0).as_bytes())
+}
+
+/// Judging by one energy whatever the file says: a file that the other made is
+/// then refused, and one with the wrong map accepted.
+#[test]
+fn one_energy_for_every_file() {
+    for (always, other) in [(EDGE, FLAT), (FLAT, EDGE)] {
+        let right = |picture: &[u8], size: Size| {
+            let file = built(picture, size, other, size.width - 1, 0).unwrap();
+            checked(&file).map(|_| ())
+        };
+        let wrong = |picture: &[u8], size: Size| verdict_on(picture, size, always, other);
+        assert!(differences(87, right, wrong) > 50);
+        let right = |picture: &[u8], size: Size| {
+            let map = library_map(picture, size, always);
+            let file = text(picture, &map, size, other, size.width - 1, 0);
+            checked(file.as_bytes()).map(|_| ())
+        };
+        let wrong = |picture: &[u8], size: Size| verdict_on(picture, size, always, always);
+        assert!(differences(88, right, wrong) > 50);
+    }
+}
+
+/// Building by one energy whatever is told, or writing one word whatever is
+/// told.
+#[test]
+fn one_energy_for_every_picture() {
+    for (told, other) in [(EDGE, FLAT), (FLAT, EDGE)] {
+        let file = |picture: &[u8], size: Size, word, by| {
+            let depth = size.width - 1;
+            let map = map(picture, size, by, depth);
+            text(picture, &map, size, word, depth, 0).into_bytes()
+        };
+        let right = |picture: &[u8], size: Size| built(picture, size, told, size.width - 1, 0);
+        let same = |picture: &[u8], size: Size| Ok(file(picture, size, told, told));
+        assert_eq!(differences(89, right, same), 0);
+        let by_other = |picture: &[u8], size: Size| Ok(file(picture, size, told, other));
+        assert!(differences(89, right, by_other) > 50);
+        let other_word = |picture: &[u8], size: Size| Ok(file(picture, size, other, told));
+        assert_eq!(differences(89, right, other_word), 500);
+    }
 }

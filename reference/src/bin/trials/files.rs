@@ -2,7 +2,7 @@
 //! every width.
 
 use crate::{listed, Numbers};
-use reference::{build, check, read, show, FileInfo, Kind, Refusal, Size};
+use reference::{build, check, read, show, FileInfo, Kind, Method, Refusal, Size};
 
 /// Output space for the text of every file.
 const TEXT: usize = 512;
@@ -12,11 +12,11 @@ pub const WORK: usize = 2304;
 
 /// Files of pictures of every width to 5 and height to 3, of both kinds, that
 /// offer all widths; then two that offer fewer.
-pub fn trials(numbers: &mut Numbers) {
+pub fn trials(method: Method, numbers: &mut Numbers) {
     for height in 1..=3 {
         for width in 1..=5 {
             for kind in [Kind::Grey, Kind::Rgb] {
-                let info = with_all_widths(width, height, kind);
+                let info = with_all_widths(width, height, kind, method);
                 file_of(&drawn(info.size, numbers), info);
             }
         }
@@ -30,6 +30,7 @@ pub fn trials(numbers: &mut Numbers) {
         };
         let info = FileInfo {
             size,
+            method,
             depth,
             growth,
         };
@@ -37,13 +38,14 @@ pub fn trials(numbers: &mut Numbers) {
     }
 }
 
-pub fn with_all_widths(width: usize, height: usize, kind: Kind) -> FileInfo {
+pub fn with_all_widths(width: usize, height: usize, kind: Kind, method: Method) -> FileInfo {
     FileInfo {
         size: Size {
             width,
             height,
             kind,
         },
+        method,
         depth: width - 1,
         growth: width / 2,
     }
@@ -81,10 +83,11 @@ pub fn build_in(picture: &[u8], info: FileInfo, out: usize, work: usize) -> Vec<
     let (mut out, mut work) = (vec![0; out], vec![1; work]);
     let FileInfo {
         size,
+        method,
         depth,
         growth,
     } = info;
-    let built = build(picture, size, depth, growth, &mut out, &mut work);
+    let built = build(picture, size, method, depth, growth, &mut out, &mut work);
     let given = match built {
         Ok(length) => format!("0 {length}"),
         Err(number) => number.to_string(),

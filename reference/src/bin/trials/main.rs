@@ -5,10 +5,11 @@ mod files;
 mod rooms;
 
 use reference::{cut, cut_marked, energies, find, find_marked, remove_object, retarget, row};
-use reference::{Axis, Columns, Ending, Kind, Rows, Size};
+use reference::{Axis, Columns, Ending, EnergyRule, Kind, Method, Rows, Size};
 use std::fmt::Display;
 
 /// Pseudo-random numbers below 65536.
+#[derive(Clone)]
 struct Numbers {
     seed: u64,
 }
@@ -37,6 +38,13 @@ impl Numbers {
 
 fn main() {
     let mut numbers = Numbers { seed: 1 };
+    for energy in [EnergyRule::Edge, EnergyRule::Flat] {
+        trials(Method { energy }, &mut numbers);
+    }
+}
+
+/// All trials by one method.
+fn trials(method: Method, numbers: &mut Numbers) {
     for height in 1..=4 {
         for width in 1..=6 {
             for kind in [Kind::Grey, Kind::Rgb] {
@@ -45,7 +53,7 @@ fn main() {
                     height,
                     kind,
                 };
-                trial(size, &mut numbers);
+                trial(size, method, numbers);
             }
         }
     }
@@ -57,7 +65,7 @@ fn main() {
                     height: 2,
                     kind,
                 };
-                println!("{}", removal_line(size, budget, &mut numbers));
+                println!("{}", removal_line(size, method, budget, numbers));
             }
         }
     }
@@ -67,22 +75,23 @@ fn main() {
             height,
             kind,
         };
-        retarget_lines(size, &mut numbers);
+        retarget_lines(size, method, numbers);
     }
-    files::trials(&mut numbers);
-    rooms::trials(&mut numbers);
+    files::trials(method, numbers);
+    // These draw from a copy: the next trials go on with the same numbers.
+    rooms::trials(method, &mut numbers.clone());
 }
 
 /// How the removal of an object ends with its count, or the number given; the
 /// picture's bytes, the marks and an end of the work space.
-fn removal_line(size: Size, budget: u16, numbers: &mut Numbers) -> String {
+fn removal_line(size: Size, method: Method, budget: u16, numbers: &mut Numbers) -> String {
     let mut space = [0; 72].map(|_| numbers.sample());
     let mut marks = [0; 72].map(|_| numbers.mark());
     let pixels = size.height * size.width;
     let picture = &mut space[..pixels * size.kind.channels()];
     let marks = &mut marks[..pixels];
     let mut work = [1; 768];
-    let ended = match remove_object(picture, marks, size, budget, &mut work) {
+    let ended = match remove_object(picture, marks, size, method, budget, &mut work) {
         Ok((Ending::Done, count)) => format!("done {count}"),
         Ok((Ending::Narrow, count)) => format!("narrow {count}"),
         Ok((Ending::Spent, count)) => format!("spent {count}"),
@@ -95,7 +104,7 @@ fn removal_line(size: Size, budget: u16, numbers: &mut Numbers) -> String {
 
 /// A line for each count of rows and of columns up to 2: the number given, the
 /// total, the output space and an end of the work space.
-fn retarget_lines(size: Size, numbers: &mut Numbers) {
+fn retarget_lines(size: Size, method: Method, numbers: &mut Numbers) {
     let space = [0; 72].map(|_| numbers.sample());
     let picture = &space[..size.height * size.width * size.kind.channels()];
     for rows in 0..3 {
@@ -103,7 +112,7 @@ fn retarget_lines(size: Size, numbers: &mut Numbers) {
             let mut out = [7; 20];
             let mut work = [1; 2100];
             let (rows, columns) = (Rows(rows), Columns(columns));
-            let given = retarget(picture, size, rows, columns, &mut out, &mut work);
+            let given = retarget(picture, size, method, rows, columns, &mut out, &mut work);
             println!("{}{}{}", answer(given), listed(&out), listed(&work[2099..]));
         }
     }
@@ -111,22 +120,22 @@ fn retarget_lines(size: Size, numbers: &mut Numbers) {
 
 /// One picture: lines for its seams and cuts along both axes, without marks
 /// and with them, for each of its rows and for the row below the last.
-fn trial(size: Size, numbers: &mut Numbers) {
+fn trial(size: Size, method: Method, numbers: &mut Numbers) {
     let space = [0; 72].map(|_| numbers.sample());
     let marks = [0; 72].map(|_| numbers.mark());
     let pixels = size.height * size.width;
     let (picture, marks) = (&space[..pixels * size.kind.channels()], &marks[..pixels]);
     for axis in [Axis::Vertical, Axis::Horizontal] {
-        println!("{}", find_line(picture, size, axis));
+        println!("{}", find_line(picture, size, method, axis));
     }
     for axis in [Axis::Vertical, Axis::Horizontal] {
-        println!("{}", cut_line(picture, size, axis));
+        println!("{}", cut_line(picture, size, method, axis));
     }
     for axis in [Axis::Vertical, Axis::Horizontal] {
-        println!("{}", marked_line(picture, marks, size, axis));
+        println!("{}", marked_line(picture, marks, size, method, axis));
     }
     for r in 0..=size.height {
-        println!("{}", row_line(picture, size, r));
+        println!("{}", row_line(picture, size, method, r));
     }
 }
 
@@ -145,31 +154,33 @@ fn listed<T: Display>(numbers: &[T]) -> String {
 }
 
 /// The number given, the cost, the seam's space and an end of the work space.
-fn find_line(picture: &[u8], size: Size, axis: Axis) -> String {
+fn find_line(picture: &[u8], size: Size, method: Method, axis: Axis) -> String {
     let mut seam = [9; 8];
     let mut work = [1; 768];
-    let found = find(picture, size, axis, &mut seam, &mut work);
+    let found = find(picture, size, method, axis, &mut seam, &mut work);
     answer(found) + &listed(&seam) + &listed(&work[767..])
 }
 
 /// The number given, the cost, and the picture's bytes.
-fn cut_line(picture: &[u8], size: Size, axis: Axis) -> String {
+fn cut_line(picture: &[u8], size: Size, method: Method, axis: Axis) -> String {
     let mut copy = picture.to_vec();
     let mut seam = [9; 8];
     let mut work = [1; 768];
-    let found = cut(&mut copy, size, axis, &mut seam, &mut work);
+    let found = cut(&mut copy, size, method, axis, &mut seam, &mut work);
     answer(found) + &listed(&copy)
 }
 
 /// What finding by marks gives, and what a cut by marks gives: the number, the
 /// cost, the picture's bytes and the marks.
-fn marked_line(picture: &[u8], marks: &[u8], size: Size, axis: Axis) -> String {
+fn marked_line(picture: &[u8], marks: &[u8], size: Size, method: Method, axis: Axis) -> String {
     let mut seam = [9; 8];
     let mut work = [1; 768];
-    let found = find_marked(picture, marks, size, axis, &mut seam, &mut work);
+    let found = find_marked(picture, marks, size, method, axis, &mut seam, &mut work);
     let line = answer(found) + &listed(&seam) + &listed(&work[767..]);
     let (mut copy, mut left) = (picture.to_vec(), marks.to_vec());
-    let cut = cut_marked(&mut copy, &mut left, size, axis, &mut seam, &mut work);
+    let cut = cut_marked(
+        &mut copy, &mut left, size, method, axis, &mut seam, &mut work,
+    );
     format!(
         "{line} | {}{} |{}",
         answer(cut),
@@ -179,9 +190,11 @@ fn marked_line(picture: &[u8], marks: &[u8], size: Size, axis: Axis) -> String {
 }
 
 /// The number given, the energies' space and the row.
-fn row_line(picture: &[u8], size: Size, r: usize) -> String {
+fn row_line(picture: &[u8], size: Size, method: Method, r: usize) -> String {
     let mut out = [7; 8];
-    let number = energies(picture, size, r, &mut out).err().unwrap_or(0);
+    let number = energies(picture, size, method, r, &mut out)
+        .err()
+        .unwrap_or(0);
     format!(
         "{number}{} |{}",
         listed(&out),

@@ -4,14 +4,15 @@
 use crate::files::{build_in, bytes_of, check_in, drawn, file_of, read_in, show_in};
 use crate::files::{with_all_widths, WORK};
 use crate::{listed, Numbers};
-use reference::{check, read, show, FileInfo, Kind};
+use reference::{check, read, show, FileInfo, Kind, Method};
 
 /// The example of the specification, and two generated pictures, with short
 /// spaces and damaged files.
-pub fn trials(numbers: &mut Numbers) {
-    trial(&[10, 10, 40, 10, 50, 40], with_all_widths(3, 2, Kind::Grey));
+pub fn trials(method: Method, numbers: &mut Numbers) {
+    let example = [10, 10, 40, 10, 50, 40];
+    trial(&example, with_all_widths(3, 2, Kind::Grey, method));
     for (width, height, kind) in [(4, 2, Kind::Grey), (3, 2, Kind::Rgb)] {
-        let info = with_all_widths(width, height, kind);
+        let info = with_all_widths(width, height, kind, method);
         trial(&drawn(info.size, numbers), info);
     }
 }
