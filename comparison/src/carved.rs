@@ -2,13 +2,13 @@
 //! cuts alone, without a file and without the reference's maps.
 
 use crate::pictures::{byte_count, channels};
-use reference::{Axis, Size};
+use reference::{Axis, Method, Size};
 
 /// The samples of the picture at a width: cut as often as it is narrower, or
 /// with a new pixel for each pixel that as many cuts take as it is wider.
-pub fn at_width(samples: &[u8], size: Size, wanted: usize) -> Vec<u8> {
+pub fn at_width(samples: &[u8], size: Size, method: Method, wanted: usize) -> Vec<u8> {
     let count = size.width.abs_diff(wanted);
-    let (left, taken) = carved(samples, size, count, by_reference);
+    let (left, taken) = carved(samples, size, method, count, by_reference);
     if wanted <= size.width {
         return left;
     }
@@ -17,19 +17,26 @@ pub fn at_width(samples: &[u8], size: Size, wanted: usize) -> Vec<u8> {
     rows.zip(&taken).flat_map(wider).collect()
 }
 
-/// The columns of a picture's vertical seam, and the bytes after it is cut.
-type Cut = fn(&[u8], Size) -> (Vec<usize>, Vec<u8>);
+/// The columns of a picture's vertical seam by a method, and the bytes after it
+/// is cut.
+type Cut = fn(&[u8], Size, Method) -> (Vec<usize>, Vec<u8>);
 
 /// The picture after so many cuts, and for each row the original columns of
 /// the pixels that they took, the first cut first.
-pub fn carved(samples: &[u8], size: Size, count: usize, cut: Cut) -> (Vec<u8>, Vec<Vec<usize>>) {
+pub fn carved(
+    samples: &[u8],
+    size: Size,
+    method: Method,
+    count: usize,
+    cut: Cut,
+) -> (Vec<u8>, Vec<Vec<usize>>) {
     let (mut bytes, mut left) = (samples.to_vec(), size);
     // For each pixel left, its column in the original picture.
     let mut origins = vec![Vec::from_iter(0..size.width); size.height];
     let mut taken = vec![Vec::new(); size.height];
     for _ in 0..count {
         let seam;
-        (seam, bytes) = cut(&bytes, left);
+        (seam, bytes) = cut(&bytes, left, method);
         left.width -= 1;
         bytes.truncate(byte_count(left));
         for (row, column) in seam.into_iter().enumerate() {
@@ -39,11 +46,12 @@ pub fn carved(samples: &[u8], size: Size, count: usize, cut: Cut) -> (Vec<u8>, V
     (bytes, taken)
 }
 
-fn by_reference(bytes: &[u8], size: Size) -> (Vec<usize>, Vec<u8>) {
+fn by_reference(bytes: &[u8], size: Size, method: Method) -> (Vec<usize>, Vec<u8>) {
     let mut bytes = bytes.to_vec();
     let mut seam = vec![0; size.height];
     let mut work = vec![0; 32 * size.width * size.height];
-    reference::cut(&mut bytes, size, Axis::Vertical, &mut seam, &mut work)
+    let axis = Axis::Vertical;
+    reference::cut(&mut bytes, size, method, axis, &mut seam, &mut work)
         .expect("there are columns left");
     (seam.into_iter().map(usize::from).collect(), bytes)
 }
@@ -75,6 +83,7 @@ fn between(one: &[u8], other: &[u8]) -> Vec<u8> {
 #[cfg(test)]
 mod tests {
     use super::*;
+    use crate::methods::{EDGE, FLAT};
     use reference::Kind;
 
     fn grey(width: usize, height: usize) -> Size {
@@ -88,11 +97,16 @@ mod tests {
     #[test]
     fn the_worked_picture_at_its_widths() {
         let picture = [10, 10, 40, 10, 50, 40];
-        let at = |wanted| at_width(&picture, grey(3, 2), wanted);
+        let at = |wanted| at_width(&picture, grey(3, 2), EDGE, wanted);
         assert_eq!(at(1), [10, 50]);
         assert_eq!(at(2), [10, 40, 50, 40]);
         assert_eq!(at(3), picture);
         assert_eq!(at(4), [10, 10, 10, 40, 10, 30, 50, 40]);
+        let at = |wanted| at_width(&picture, grey(3, 2), FLAT, wanted);
+        assert_eq!(at(1), [10, 10]);
+        assert_eq!(at(2), [10, 10, 10, 50]);
+        assert_eq!(at(3), picture);
+        assert_eq!(at(4), [10, 10, 25, 40, 10, 50, 45, 40]);
     }
 
     /// Both last columns are doubled: the new pixel of the one before stands

@@ -29,8 +29,8 @@ fn flat(random: &mut Random, size: Size) -> Vec<u8> {
     each_pixel(size, |_, _| colour)
 }
 
-/// Two colours in turn, so that all energies are equal, those at the edges too,
-/// and with black and white the largest.
+/// Two colours in turn, so that all energies are equal (by `edge` those at the
+/// edges too), and with black and white the largest.
 fn checks(random: &mut Random, size: Size) -> Vec<u8> {
     let drawn = [drawn_pixel(random), drawn_pixel(random)];
     let colours = random.pick(&[drawn, [[0; 3], [255; 3]]]);
@@ -164,6 +164,7 @@ fn each_pixel(size: Size, mut pixel: impl FnMut(usize, usize) -> Pixel) -> Vec<u
 #[cfg(test)]
 mod tests {
     use super::*;
+    use crate::methods::EDGE;
     use crate::pictures::byte_count;
     use reference::{Axis, Kind};
 
@@ -205,7 +206,7 @@ mod tests {
         assert!(step > 0);
         for row in 0..4 {
             let mut energies = [0; 5];
-            reference::energies(&samples, grey, row, &mut energies).unwrap();
+            reference::energies(&samples, grey, EDGE, row, &mut energies).unwrap();
             assert_eq!(energies, [2 * step; 5]);
         }
     }
@@ -221,7 +222,7 @@ mod tests {
             for _ in 0..400 {
                 let picture = edged(&mut random, size);
                 let (mut seam, mut work) = (vec![0; length], [0; 32 * 30]);
-                reference::find(&picture, size, axis, &mut seam, &mut work).unwrap();
+                reference::find(&picture, size, EDGE, axis, &mut seam, &mut work).unwrap();
                 let met = seam.iter().filter(|place| **place == last).count();
                 counts[0] += usize::from(met == length);
                 counts[1] += usize::from(met == 0);
@@ -245,7 +246,7 @@ mod tests {
     /// Whether the least energy of the picture's first row occurs twice.
     fn tie(random: &mut Random, size: Size) -> bool {
         let mut energies = vec![0; size.width];
-        reference::energies(&samples(random, size), size, 0, &mut energies).unwrap();
+        reference::energies(&samples(random, size), size, EDGE, 0, &mut energies).unwrap();
         let least = energies.iter().min();
         energies
             .iter()

@@ -1,6 +1,7 @@
 //! Files of good form and a given length, so that only the limit of a program's
 //! input keeps one of them from being read.
 
+use crate::methods;
 use crate::random::Random;
 use crate::ranges::Range;
 use crate::texts::Parts;
@@ -20,6 +21,7 @@ pub fn accepted(random: &mut Random, length: usize) -> Vec<u8> {
     let pixels = SIZE.width * SIZE.height;
     let mut parts = Parts {
         size: SIZE,
+        method: methods::drawn(random),
         range: Range {
             depth: 0,
             growth: 0,
@@ -78,7 +80,8 @@ mod tests {
 
     #[test]
     fn lengthened_files_have_a_good_form_and_a_wrong_count() {
-        let file = b"(multi\n(size 1 1 rgb)\n(range 0 0)\n(row (1 2 3))\n(map 0)\n)\n";
+        let file = b"(multi\n(size 1 1 rgb)\n(range 0 0)\n(energy flat)\n\
+            (row (1 2 3))\n(map 0)\n)\n";
         for length in [65_534, 65_535] {
             let longer = lengthened(file, length);
             assert_eq!(longer.len(), length);

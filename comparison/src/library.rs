@@ -267,18 +267,23 @@ mod tests {
         height: 2,
         kind: 0,
     };
-    const USUAL: NamedMethod = NamedMethod::USUAL;
-    const UNKNOWN: NamedMethod = NamedMethod { energy: 1 };
+    const EDGE: NamedMethod = NamedMethod { energy: 0 };
+    const FLAT: NamedMethod = NamedMethod { energy: 1 };
+    const UNKNOWN: NamedMethod = NamedMethod { energy: 2 };
 
     #[test]
     fn energies_of_the_worked_picture() {
         let mut picture = [10, 10, 40, 10, 50, 40];
         let mut out = [9; 4];
-        assert_eq!(energies(&mut picture, SIZE, USUAL, 0, &mut out), 0);
+        assert_eq!(energies(&mut picture, SIZE, EDGE, 0, &mut out), 0);
         assert_eq!(out, [0, 70, 30, 9]);
-        assert_eq!(energies(&mut picture, SIZE, USUAL, 1, &mut out), 0);
+        assert_eq!(energies(&mut picture, SIZE, EDGE, 1, &mut out), 0);
         assert_eq!(out, [40, 50, 10, 9]);
-        assert_eq!(energies(&mut picture, SIZE, USUAL, 2, &mut out), 4);
+        assert_eq!(energies(&mut picture, SIZE, FLAT, 0, &mut out), 0);
+        assert_eq!(out, [0, 70, 0, 9]);
+        assert_eq!(energies(&mut picture, SIZE, FLAT, 1, &mut out), 0);
+        assert_eq!(out, [40, 10, 0, 9]);
+        assert_eq!(energies(&mut picture, SIZE, FLAT, 2, &mut out), 4);
         assert_eq!(energies(&mut picture, SIZE, UNKNOWN, 2, &mut out), 1);
     }
 
@@ -298,15 +303,36 @@ mod tests {
         let mut picture = [10, 10, 40, 10, 50, 40];
         let (mut seam, mut work) = ([9; 3], [9; 200]);
         let axis = NamedAxis(0);
-        let answer = find(&mut picture, SIZE, USUAL, axis, &mut seam, &mut work);
+        let answer = find(&mut picture, SIZE, EDGE, axis, &mut seam, &mut work);
         assert_eq!(answer, Answer::served(40));
         assert_eq!((seam, work), ([0, 0, 9], [0; 200]));
-        let answer = cut(&mut picture, SIZE, USUAL, axis, &mut seam, &mut work);
+        let answer = cut(&mut picture, SIZE, EDGE, axis, &mut seam, &mut work);
         assert_eq!(answer, Answer::served(40));
         assert_eq!(picture, [10, 40, 50, 40, 0, 0]);
         let mut call = |method| cut(&mut picture, SIZE, method, axis, &mut seam[..1], &mut work);
-        assert_eq!(call(USUAL), Answer::refused(8));
+        assert_eq!(call(EDGE), Answer::refused(8));
         assert_eq!(call(UNKNOWN), Answer::refused(1));
+    }
+
+    #[test]
+    fn seams_of_the_worked_picture_by_flat() {
+        let mut picture = [10, 10, 40, 10, 50, 40];
+        let mut marks = [2, 0, 0, 0, 0, 0];
+        let (mut seam, mut work) = ([9; 3], [9; 200]);
+        let (seam, work) = (&mut seam, &mut work);
+        let answer = find(&mut picture, SIZE, FLAT, NamedAxis(1), seam, work);
+        assert_eq!((answer, *seam), (Answer::served(10), [0, 1, 0]));
+        let axis = NamedAxis(0);
+        let answer = find(&mut picture, SIZE, FLAT, axis, seam, work);
+        assert_eq!((answer, *seam), (Answer::served(0), [2, 2, 0]));
+        let answer = find_marked(&mut picture, &mut marks, SIZE, FLAT, axis, seam, work);
+        assert_eq!((answer, *seam), (Answer::served(10), [0, 1, 0]));
+        let mut copy = picture;
+        let answer = cut(&mut copy, SIZE, FLAT, axis, seam, work);
+        assert_eq!((answer, copy), (Answer::served(0), [10, 10, 10, 50, 0, 0]));
+        let answer = cut_marked(&mut picture, &mut marks, SIZE, FLAT, axis, seam, work);
+        assert_eq!(answer, Answer::served(10));
+        assert_eq!(picture, [10, 40, 10, 40, 0, 0]);
     }
 
     #[test]
@@ -319,7 +345,7 @@ mod tests {
             &mut picture,
             &mut marks,
             SIZE,
-            USUAL,
+            EDGE,
             axis,
             &mut seam,
             &mut work,
@@ -330,7 +356,7 @@ mod tests {
             &mut picture,
             &mut marks,
             SIZE,
-            USUAL,
+            EDGE,
             axis,
             &mut seam,
             &mut work,
@@ -342,7 +368,7 @@ mod tests {
             &mut picture,
             &mut marks[..5],
             SIZE,
-            USUAL,
+            EDGE,
             axis,
             &mut seam,
             &mut work,

@@ -3,10 +3,19 @@
 use crate::faults::Faults;
 use crate::pictures::unknown_number;
 use crate::random::Random;
+use reference::{EnergyRule, Method};
 use std::fmt;
 
-/// The method as a call names it, and as the archive takes it: energy 0 is by the
-/// differences at edges, and no other number names one.
+pub const EDGE: Method = Method {
+    energy: EnergyRule::Edge,
+};
+pub const FLAT: Method = Method {
+    energy: EnergyRule::Flat,
+};
+pub const METHODS: [Method; 2] = [EDGE, FLAT];
+
+/// The method as a call names it, and as the archive takes it: energy 0 is
+/// `edge`, 1 is `flat`.
 #[repr(C)]
 #[derive(Clone, Copy, Debug, PartialEq, Eq)]
 pub struct NamedMethod {
@@ -14,12 +23,24 @@ pub struct NamedMethod {
 }
 
 impl NamedMethod {
-    /// The method of the reference, which has no other.
-    pub const USUAL: NamedMethod = NamedMethod { energy: 0 };
+    /// What a refused answer has for a method.
+    pub const NONE: NamedMethod = NamedMethod { energy: 0 };
 
-    /// Whether the number names an energy.
-    pub fn is_known(self) -> bool {
-        self == NamedMethod::USUAL
+    pub fn of(method: Method) -> NamedMethod {
+        let energy = match method.energy {
+            EnergyRule::Edge => 0,
+            EnergyRule::Flat => 1,
+        };
+        NamedMethod { energy }
+    }
+
+    /// The method for the reference, or none where the number names no energy.
+    pub fn known(self) -> Option<Method> {
+        match self.energy {
+            0 => Some(EDGE),
+            1 => Some(FLAT),
+            _ => None,
+        }
     }
 }
 
@@ -27,20 +48,26 @@ impl fmt::Display for NamedMethod {
     fn fmt(&self, f: &mut fmt::Formatter) -> fmt::Result {
         let energy = match self.energy {
             0 => "edge",
+            1 => "flat",
             _ => "unknown",
         };
         write!(f, "energy {} ({energy})", self.energy)
     }
 }
 
+/// Any method.
+pub fn drawn(random: &mut Random) -> Method {
+    random.pick(&METHODS)
+}
+
 /// The method that the call names. A fault is an unknown energy.
 pub fn named_method(random: &mut Random, faults: Faults) -> NamedMethod {
     if faults.strike(random, 12) {
         NamedMethod {
-            energy: unknown_number(random, 1),
+            energy: unknown_number(random, 2),
         }
     } else {
-        NamedMethod::USUAL
+        NamedMethod::of(drawn(random))
     }
 }
 
@@ -49,19 +76,32 @@ mod tests {
     use super::*;
 
     #[test]
-    fn methods_are_usual_or_unknown() {
+    fn both_methods_come_and_unknown_ones() {
         let mut random = Random::new(1);
         let mut draw = |faults| -> Vec<NamedMethod> {
             (0..1000)
                 .map(|_| named_method(&mut random, faults))
                 .collect()
         };
-        assert!(draw(Faults::Never).iter().all(|method| method.is_known()));
-        let drawn = draw(Faults::Maybe);
-        for energy in [1, 255] {
-            assert!(drawn.contains(&NamedMethod { energy }), "no {energy}");
+        let (sound, struck) = (draw(Faults::Never), draw(Faults::Maybe));
+        let count = |drawn: &[NamedMethod], method: Option<Method>| {
+            drawn.iter().filter(|named| named.known() == method).count()
+        };
+        assert_eq!(count(&sound, None), 0);
+        assert!((30..200).contains(&count(&struck, None)));
+        for drawn in [&sound, &struck] {
+            assert!(METHODS.iter().all(|it| count(drawn, Some(*it)) > 400));
         }
-        let unknown = drawn.iter().filter(|method| !method.is_known());
-        assert!((30..200).contains(&unknown.count()));
+        for energy in [2, 255] {
+            assert!(struck.contains(&NamedMethod { energy }), "no {energy}");
+        }
+    }
+
+    #[test]
+    fn known_methods_have_their_numbers() {
+        for (method, energy) in [(EDGE, 0), (FLAT, 1)] {
+            assert_eq!(NamedMethod::of(method), NamedMethod { energy });
+            assert_eq!(NamedMethod { energy }.known(), Some(method));
+        }
     }
 }

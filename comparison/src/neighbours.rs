@@ -1,49 +1,53 @@
 //! Rules that hold a pixel against wrong neighbours. The pictures that are drawn
-//! have to tell each of them from the right one by its seams.
+//! have to tell each of them from each method by its seams.
 
 use crate::contents::samples;
+use crate::methods::{EDGE, FLAT};
 use crate::paths::{backward, neighbours, Small};
 use crate::random::Random;
-use reference::{Axis, Kind, Size};
+use reference::{Axis, Kind, Method, Size};
 
 /// The pixels, by row and column, that a pixel is held against.
 type Rule = fn(Size, usize, usize) -> Vec<(usize, usize)>;
 
-fn right(size: Size, row: usize, column: usize) -> Vec<(usize, usize)> {
-    neighbours(size, row, column).to_vec()
+fn edge(size: Size, row: usize, column: usize) -> Vec<(usize, usize)> {
+    neighbours(size, EDGE, row, column).to_vec()
 }
+
+fn flat(size: Size, row: usize, column: usize) -> Vec<(usize, usize)> {
+    neighbours(size, FLAT, row, column).to_vec()
+}
+
+/// Each method, its rule, and that of the other one.
+const RIGHT: [(Method, Rule, Rule); 2] = [(EDGE, edge, flat), (FLAT, flat, edge)];
 
 fn is_corner(size: Size, row: usize, column: usize) -> bool {
     (row + 1, column + 1) == (size.height, size.width)
 }
 
-/// Those of the right rule that aren't above the pixel.
+/// Those of `edge` that aren't above the pixel.
 fn none_above(size: Size, row: usize, column: usize) -> Vec<(usize, usize)> {
-    let mut others = right(size, row, column);
+    let mut others = edge(size, row, column);
     others.retain(|(other, _)| *other >= row);
     others
 }
 
-/// Those of the right rule that aren't to the left of the pixel.
+/// Those of `edge` that aren't to the left of the pixel.
 fn none_left(size: Size, row: usize, column: usize) -> Vec<(usize, usize)> {
-    let mut others = right(size, row, column);
+    let mut others = edge(size, row, column);
     others.retain(|(_, other)| *other >= column);
     others
 }
 
+/// Rules that are wrong for both methods.
 const WRONG: [(&str, Rule); 6] = [
     ("flat last column", none_left),
     ("flat last row", none_above),
-    ("flat edges", |size, row, column| {
-        let mut others = none_left(size, row, column);
-        others.retain(|(other, _)| *other >= row);
-        others
-    }),
     ("corner to the left", |size, row, column| {
         let rule: Rule = if is_corner(size, row, column) {
             none_above
         } else {
-            right
+            edge
         };
         rule(size, row, column)
     }),
@@ -51,14 +55,19 @@ const WRONG: [(&str, Rule); 6] = [
         let rule: Rule = if is_corner(size, row, column) {
             none_left
         } else {
-            right
+            edge
         };
         rule(size, row, column)
     }),
     ("left everywhere", |size, row, column| {
-        let [beside, below] = neighbours(size, row, column);
+        let [beside, below] = neighbours(size, EDGE, row, column);
         let left = column.checked_sub(1).map(|left| (row, left));
         vec![left.unwrap_or(beside), below]
+    }),
+    ("nothing at edges", |size, row, column| {
+        let inside = row + 1 < size.height && column + 1 < size.width;
+        let rule: Rule = if inside { flat } else { |_, _, _| Vec::new() };
+        rule(size, row, column)
     }),
 ];
 
@@ -70,9 +79,8 @@ fn seam_by(small: &Small, rule: Rule) -> Vec<usize> {
     small.paths().into_iter().min_by_key(order).unwrap()
 }
 
-/// In how many of 300 drawn pictures a rule gives another seam than the right
-/// one.
-fn told(rule: Rule, axis: Axis) -> usize {
+/// In how many of 600 drawn pictures a rule gives another seam than the method.
+fn told(rule: Rule, method: Method, axis: Axis) -> usize {
     let mut random = Random::new(7);
     let mut differ = || {
         let size = Size {
@@ -84,20 +92,23 @@ fn told(rule: Rule, axis: Axis) -> usize {
             bytes: &samples(&mut random, size),
             marks: &[],
             size,
+            method,
             axis,
         };
         seam_by(&small, rule) != small.seam().unwrap().0
     };
-    (0..300).filter(|_| differ()).count()
+    (0..600).filter(|_| differ()).count()
 }
 
 #[test]
 fn wrong_neighbours_are_told_by_the_seams() {
     for axis in [Axis::Vertical, Axis::Horizontal] {
-        assert_eq!(told(right, axis), 0);
-        for (name, rule) in WRONG {
-            let count = told(rule, axis);
-            assert!(count > 20, "{name}: {count}");
+        for (method, right, other) in RIGHT {
+            assert_eq!(told(right, method, axis), 0);
+            for (name, rule) in WRONG.into_iter().chain([("the other", other)]) {
+                let count = told(rule, method, axis);
+                assert!(count > 20, "{method:?}, {name}: {count}");
+            }
         }
     }
 }

@@ -1,8 +1,8 @@
 //! Every connected path of a small picture, and the one that is the seam. Of
-//! the reference it uses the names of kinds and axes alone.
+//! the reference it uses the names of kinds, axes and methods alone.
 
 use crate::pictures::channels;
-use reference::{Axis, Size};
+use reference::{Axis, EnergyRule, Method, Size};
 use std::cmp::Reverse;
 
 /// A picture, so small that all its paths can be listed. Its lines are the
@@ -13,6 +13,7 @@ pub struct Small<'a> {
     /// A mark for each pixel, or no marks at all: every pixel is plain then.
     pub marks: &'a [u8],
     pub size: Size,
+    pub method: Method,
     pub axis: Axis,
 }
 
@@ -119,7 +120,8 @@ impl Small<'_> {
     }
 
     fn energy(&self, row: usize, column: usize) -> u64 {
-        self.differences(row, column, &neighbours(self.size, row, column))
+        let others = neighbours(self.size, self.method, row, column);
+        self.differences(row, column, &others)
     }
 
     /// How far a pixel is from these, each given by its row and column.
@@ -141,21 +143,21 @@ fn pixel(buffer: &[u8], place: usize, channels: usize) -> &[u8] {
 }
 
 /// The two pixels, by row and column, that a pixel is held against.
-pub fn neighbours(size: Size, row: usize, column: usize) -> [(usize, usize); 2] {
-    let beside = held_against(column, size.width);
-    let below = held_against(row, size.height);
+pub fn neighbours(size: Size, method: Method, row: usize, column: usize) -> [(usize, usize); 2] {
+    let beside = held_against(method, column, size.width);
+    let below = held_against(method, row, size.height);
     [(row, beside), (below, column)]
 }
 
 /// The column (or row), of `count`, whose pixel the one at a place is held
-/// against: the next; for the last one the one before it; and where there is no
-/// other its own, from which it doesn't differ.
-fn held_against(place: usize, count: usize) -> usize {
+/// against: the next. For the last one it is by `edge` the one before it, where
+/// there is one; else its own, from which it doesn't differ.
+fn held_against(method: Method, place: usize, count: usize) -> usize {
     let next = place + 1;
-    if next == count {
-        place.saturating_sub(1)
-    } else {
-        next
+    match method.energy {
+        _ if next < count => next,
+        EnergyRule::Edge => place.saturating_sub(1),
+        EnergyRule::Flat => place,
     }
 }
 
@@ -188,8 +190,10 @@ fn apart(one: &[u8], other: &[u8]) -> u64 {
 #[cfg(test)]
 mod tests {
     use super::*;
+    use crate::methods::{EDGE, FLAT};
     use reference::Kind;
 
+    /// A grey picture without marks, by `edge`.
     fn grey(bytes: &[u8], width: usize, axis: Axis) -> Small<'_> {
         let size = Size {
             width,
@@ -200,6 +204,7 @@ mod tests {
             bytes,
             marks: &[],
             size,
+            method: EDGE,
             axis,
         }
     }
@@ -232,6 +237,21 @@ mod tests {
     }
 
     #[test]
+    fn seams_of_the_worked_picture_by_flat() {
+        let by_flat = |bytes, width, axis| {
+            let method = FLAT;
+            let picture = grey(bytes, width, axis);
+            Small { method, ..picture }.seam()
+        };
+        let worked = [10, 10, 40, 10, 50, 40];
+        let (vertical, horizontal) = (Axis::Vertical, Axis::Horizontal);
+        assert_eq!(by_flat(&worked, 3, vertical), Some((vec![2, 2], 0)));
+        assert_eq!(by_flat(&worked, 3, horizontal), Some((vec![0, 1, 0], 10)));
+        let left = [10, 10, 10, 50];
+        assert_eq!(by_flat(&left, 2, vertical), Some((vec![0, 1], 0)));
+    }
+
+    #[test]
     fn horizontal_seams_are_vertical_ones_of_the_exchanged_picture() {
         let turned = grey(&[10, 10, 10, 50, 40, 40], 2, Axis::Horizontal);
         assert_eq!(turned.seam(), Some((vec![0, 0], 40)));
@@ -256,8 +276,9 @@ mod tests {
     }
 
     /// The energies of a picture, row by row.
-    fn energies(bytes: &[u8], width: usize) -> Vec<u64> {
+    fn energies(bytes: &[u8], width: usize, method: Method) -> Vec<u64> {
         let picture = grey(bytes, width, Axis::Vertical);
+        let picture = Small { method, ..picture };
         let places = 0..bytes.len();
         places
             .map(|place| picture.energy(place / width, place % width))
@@ -267,13 +288,19 @@ mod tests {
     #[test]
     fn energies_at_the_edges() {
         let worked = [10, 10, 40, 10, 50, 40];
-        assert_eq!(energies(&worked, 3), [0, 70, 30, 40, 50, 10]);
+        assert_eq!(energies(&worked, 3, EDGE), [0, 70, 30, 40, 50, 10]);
+        assert_eq!(energies(&worked, 3, FLAT), [0, 70, 0, 40, 10, 0]);
         // A row, a column, a single pixel.
-        assert_eq!(energies(&[5, 9, 2], 3), [4, 7, 7]);
-        assert_eq!(energies(&[5, 9, 2], 1), [4, 7, 7]);
-        assert_eq!(energies(&[5], 1), [0]);
+        for width in [3, 1] {
+            assert_eq!(energies(&[5, 9, 2], width, EDGE), [4, 7, 7]);
+            assert_eq!(energies(&[5, 9, 2], width, FLAT), [4, 7, 0]);
+        }
+        assert_eq!(energies(&[5], 1, EDGE), [0]);
+        assert_eq!(energies(&[5], 1, FLAT), [0]);
         // Across 3 3 and 7 7, down 8 2 twice.
-        assert_eq!(energies(&[1, 4, 9, 2], 2), [11, 5, 15, 9]);
+        assert_eq!(energies(&[1, 4, 9, 2], 2, EDGE), [11, 5, 15, 9]);
+        // Across 3 0 and 7 0, down 8 2 and 0 0.
+        assert_eq!(energies(&[1, 4, 9, 2], 2, FLAT), [11, 2, 7, 0]);
     }
 
     #[test]
@@ -287,10 +314,16 @@ mod tests {
             bytes: &[1, 2, 3, 5, 0, 9],
             marks: &[],
             size,
+            method: EDGE,
             axis: Axis::Horizontal,
         };
-        // Each of the two is held against the other.
+        // Each of the two is held against the other; by `flat` the first alone.
         assert_eq!(picture.seam(), Some((vec![0, 0], 2 * (4 + 2 + 6))));
+        let picture = Small {
+            method: FLAT,
+            ..picture
+        };
+        assert_eq!(picture.seam(), Some((vec![0, 0], 4 + 2 + 6)));
     }
 
     /// The energies are 0 70 30 and 40 50 10.
@@ -346,6 +379,7 @@ mod tests {
                 height: 1,
                 kind: Kind::Rgb,
             },
+            method: EDGE,
             axis: Axis::Vertical,
         };
         assert_eq!(picture.seam(), Some((vec![1], 4 + 2 + 6)));

@@ -5,7 +5,7 @@ use crate::faults::Faults;
 use crate::methods::NamedMethod;
 use crate::random::Random;
 use crate::spaces::Lent;
-use reference::{Kind, Size};
+use reference::{Kind, Method, Size};
 use std::fmt;
 
 /// Turns after which the small shapes come again.
@@ -63,10 +63,10 @@ impl NamedSize {
         })
     }
 
-    /// The same for a call by a method, and none where that is unknown: the
-    /// reference has one method alone.
-    pub fn known_by(self, method: NamedMethod) -> Option<Size> {
-        self.known().filter(|_| method.is_known())
+    /// The size and the method for the reference, or none where a number names
+    /// no kind or no energy.
+    pub fn known_by(self, method: NamedMethod) -> Option<(Size, Method)> {
+        Some((self.known()?, method.known()?))
     }
 }
 
@@ -170,7 +170,7 @@ pub fn named_size(random: &mut Random, size: Size, faults: Faults) -> NamedSize 
 }
 
 /// A number that names nothing, where so many numbers from 0 on do: there are 2
-/// kinds, 2 axes and 1 energy.
+/// kinds, 2 axes and 2 energies.
 pub fn unknown_number(random: &mut Random, known: u8) -> u8 {
     let any = random.between(usize::from(known), 255) as u8;
     random.pick(&[known, 255, any])

@@ -158,7 +158,7 @@ mod tests {
     use super::*;
 
     const PICTURE: &[u8] = b"P5\n3 2\n255\n\x0a\x0a\x28\x0a\x32\x28";
-    const FILE: &[u8] = b"(multi\n(size 3 2 grey)\n(range 2 1)\n\
+    const FILE: &[u8] = b"(multi\n(size 3 2 grey)\n(range 2 1)\n(energy edge)\n\
         (row 10 10 40)\n(row 10 50 40)\n(map 1 0 2)\n(map 1 0 2)\n)\n";
 
     fn written(program: Program, bytes: &[u8], pause: Option<usize>) -> Vec<u8> {

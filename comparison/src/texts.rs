@@ -2,16 +2,18 @@
 //! its bytes. The writer is no part of the reference.
 
 use crate::contents::samples;
+use crate::methods;
 use crate::pictures::{byte_count, channels};
 use crate::random::Random;
 use crate::ranges::Range;
-use reference::{Kind, Size};
+use reference::{EnergyRule, Kind, Method, Size};
 
 /// What a file says.
 #[derive(Clone)]
 pub struct Parts {
     pub size: Size,
     pub range: Range,
+    pub method: Method,
     /// As many as the size says.
     pub samples: Vec<u8>,
     /// A row for each row of the picture.
@@ -19,13 +21,15 @@ pub struct Parts {
 }
 
 impl Parts {
-    /// A drawn picture and the map that the reference builds for it.
+    /// A drawn picture and method, and the map that the reference builds for them.
     pub fn drawn(random: &mut Random, size: Size, range: Range) -> Parts {
         let samples = samples(random, size);
-        let map = map_of(&samples, size, range);
+        let method = methods::drawn(random);
+        let map = map_of(&samples, size, method, range);
         Parts {
             size,
             range,
+            method,
             samples,
             map,
         }
@@ -37,11 +41,11 @@ impl Parts {
 }
 
 /// The map in the file that the reference builds.
-pub fn map_of(samples: &[u8], size: Size, range: Range) -> Vec<Vec<u16>> {
-    let mut out = vec![0; text_length(samples, size, range)];
+pub fn map_of(samples: &[u8], size: Size, method: Method, range: Range) -> Vec<Vec<u16>> {
+    let mut out = vec![0; text_length(samples, size, method, range)];
     let mut work = vec![0; 32 * size.width * size.height];
     let Range { depth, growth } = range;
-    reference::build(samples, size, depth, growth, &mut out, &mut work)
+    reference::build(samples, size, method, depth, growth, &mut out, &mut work)
         .expect("an allowed range and enough space");
     let lines = out.split(|byte| *byte == b'\n');
     let maps = lines.filter_map(|line| line.strip_prefix(b"(map "));
@@ -57,11 +61,12 @@ fn numbers(line: &[u8]) -> Vec<u16> {
 }
 
 /// The length of a picture's file, which is the same for every map.
-pub fn text_length(samples: &[u8], size: Size, range: Range) -> usize {
+pub fn text_length(samples: &[u8], size: Size, method: Method, range: Range) -> usize {
     let map = vec![some_numbers(size.width, range.depth); size.height];
     let parts = Parts {
         size,
         range,
+        method,
         samples: samples.to_vec(),
         map,
     };
@@ -81,9 +86,17 @@ pub fn some_numbers(width: usize, depth: usize) -> Vec<u16> {
 pub struct Words {
     pub size: Vec<String>,
     pub range: Vec<String>,
+    /// Each energy line; a good file has one.
+    pub energy: Vec<Vec<String>>,
+    /// After how many of the other sorts of lines (size, range, rows, map) the
+    /// energy lines stand.
+    pub energy_place: usize,
     pub rows: Vec<Vec<String>>,
     pub map: Vec<Vec<String>>,
 }
+
+/// The energy line stands after the size and the range.
+const ENERGY_PLACE: usize = 2;
 
 impl Words {
     pub fn of(parts: &Parts) -> Words {
@@ -101,6 +114,8 @@ impl Words {
                 name(kind).to_string(),
             ],
             range: vec![depth.to_string(), growth.to_string()],
+            energy: vec![vec![energy_name(parts.method).to_string()]],
+            energy_place: ENERGY_PLACE,
             rows: rows.map(|row| pixels(row, kind)).collect(),
             map: parts.map.iter().map(|row| words(row)).collect(),
         }
@@ -108,12 +123,13 @@ impl Words {
 
     pub fn text(&self) -> Vec<u8> {
         let mut text = String::from("(multi\n");
-        let all = [
+        let mut all = vec![
             ("size", std::slice::from_ref(&self.size)),
             ("range", std::slice::from_ref(&self.range)),
             ("row", &self.rows),
             ("map", &self.map),
         ];
+        all.insert(self.energy_place, ("energy", &self.energy));
         for (word, lines) in all {
             for line in lines {
                 text += &format!("({word}");
@@ -136,6 +152,13 @@ fn name(kind: Kind) -> &'static str {
     }
 }
 
+fn energy_name(method: Method) -> &'static str {
+    match method.energy {
+        EnergyRule::Edge => "edge",
+        EnergyRule::Flat => "flat",
+    }
+}
+
 /// The pixels of a row in their kind's form.
 fn pixels(row: &[u8], kind: Kind) -> Vec<String> {
     let pixel = |pixel: &[u8]| format!("({})", words(pixel).join(" "));
@@ -152,6 +175,7 @@ fn words<T: ToString>(numbers: &[T]) -> Vec<String> {
 #[cfg(test)]
 mod tests {
     use super::*;
+    use crate::methods::{EDGE, FLAT};
     use crate::ranges;
 
     /// What the reference builds, byte for byte.
@@ -159,12 +183,13 @@ mod tests {
         let Parts {
             size,
             range,
+            method,
             samples,
             ..
         } = parts;
         let (mut out, mut work) = (vec![0; 1 << 20], vec![0; 1 << 20]);
         let Range { depth, growth } = *range;
-        let length = reference::build(samples, *size, depth, growth, &mut out, &mut work);
+        let length = reference::build(samples, *size, *method, depth, growth, &mut out, &mut work);
         out.truncate(length.unwrap());
         out
     }
@@ -181,13 +206,14 @@ mod tests {
             let range = ranges::allowed(&mut random, size, 10_000);
             let parts = Parts::drawn(&mut random, size, range);
             assert_eq!(parts.text(), built(&parts));
-            assert_eq!(text_length(&parts.samples, size, range), parts.text().len());
+            let length = text_length(&parts.samples, size, parts.method, range);
+            assert_eq!(length, parts.text().len());
         }
     }
 
     #[test]
-    fn text_of_the_worked_picture() {
-        let parts = Parts {
+    fn texts_of_the_worked_picture() {
+        let mut parts = Parts {
             size: Size {
                 width: 3,
                 height: 2,
@@ -197,13 +223,20 @@ mod tests {
                 depth: 2,
                 growth: 1,
             },
+            method: EDGE,
             samples: vec![10, 10, 40, 10, 50, 40],
             map: vec![vec![1, 0, 2], vec![1, 0, 2]],
         };
-        let text = "(multi\n(size 3 2 grey)\n(range 2 1)\n\
+        let text = "(multi\n(size 3 2 grey)\n(range 2 1)\n(energy edge)\n\
             (row 10 10 40)\n(row 10 50 40)\n(map 1 0 2)\n(map 1 0 2)\n)\n";
         assert_eq!(parts.text(), text.as_bytes());
-        assert_eq!(map_of(&parts.samples, parts.size, parts.range), parts.map);
+        let map_by = |method| map_of(&[10, 10, 40, 10, 50, 40], parts.size, method, parts.range);
+        assert_eq!(map_by(EDGE), parts.map);
+        let map = map_by(FLAT);
+        (parts.method, parts.map) = (FLAT, map);
+        let text = "(multi\n(size 3 2 grey)\n(range 2 1)\n(energy flat)\n\
+            (row 10 10 40)\n(row 10 50 40)\n(map 2 0 1)\n(map 0 2 1)\n)\n";
+        assert_eq!(parts.text(), text.as_bytes());
     }
 
     #[test]

@@ -1,12 +1,13 @@
 //! Changes to a file's map or samples. Its form, size, range and counts stay.
 
 use crate::contents::samples;
+use crate::methods::METHODS;
 use crate::random::Random;
 use crate::texts::{map_of, Parts};
 
 type Change = fn(&mut Random, &mut Parts);
 
-const CHANGES: [Change; 9] = [
+const CHANGES: [Change; 10] = [
     replace_number,
     exchange_in_row,
     exchange_in_row,
@@ -15,6 +16,7 @@ const CHANGES: [Change; 9] = [
     move_aside,
     move_aside_and_break,
     take_other_map,
+    take_map_of_other_method,
     replace_sample,
 ];
 
@@ -94,7 +96,14 @@ fn move_seam(parts: &mut Parts, seam: u16, right: bool) {
 /// The map of another picture of the size.
 fn take_other_map(random: &mut Random, parts: &mut Parts) {
     let other = samples(random, parts.size);
-    parts.map = map_of(&other, parts.size, parts.range);
+    parts.map = map_of(&other, parts.size, parts.method, parts.range);
+}
+
+/// The map that the picture has by the other method.
+fn take_map_of_other_method(_: &mut Random, parts: &mut Parts) {
+    for method in METHODS.into_iter().filter(|it| *it != parts.method) {
+        parts.map = map_of(&parts.samples, parts.size, method, parts.range);
+    }
 }
 
 fn replace_sample(random: &mut Random, parts: &mut Parts) {
@@ -128,6 +137,7 @@ mod tests {
             (move_aside, &[0, 10, 11]),
             (move_aside_and_break, &[0, 10, 11]),
             (take_other_map, &[0, 11]),
+            (take_map_of_other_method, &[0, 11]),
             (replace_sample, &[0, 11]),
         ] {
             let answers = answers(3, |random, mut parts| {

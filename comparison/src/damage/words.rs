@@ -1,16 +1,20 @@
-//! Changes to the words of a file's lines: numbers, kinds, counts.
+//! Changes to the words of a file's lines: numbers, kinds, energies, counts.
 
 use crate::random::Random;
 use crate::texts::{some_numbers, Words};
 
 type Change = fn(&mut Random, &mut Words);
 
-const CHANGES: [Change; 12] = [
+const CHANGES: [Change; 16] = [
     replace_side,
     replace_side,
     replace_range,
     replace_range,
     replace_kind,
+    replace_energy,
+    replace_energy,
+    move_energy,
+    drop_or_add_energy,
     replace_item,
     replace_item,
     drop_or_add_item,
@@ -23,6 +27,12 @@ const CHANGES: [Change; 12] = [
 /// Numbers that break their form wherever they stand.
 const BROKEN: [&str; 10] = [
     "00", "03", "010", "65536", "99999", "-1", "+1", "1x", "x", "",
+];
+
+/// The two energies, and what isn't one: other words, numbers, capital letters.
+const ENERGIES: [&str; 18] = [
+    "edge", "flat", "edge", "flat", "Edge", "FLAT", "flaT", "steep", "grey", "rgb", "energy",
+    "edges", "fla", "0", "1", "", "(edge)", "()",
 ];
 
 /// Items that break the form of one kind or of both.
@@ -90,6 +100,29 @@ fn replace_kind(random: &mut Random, words: &mut Words) {
     }
 }
 
+/// Another word gives 1; the other energy, by which the file is judged then, 11.
+fn replace_energy(random: &mut Random, words: &mut Words) {
+    if let Some(energy) = words.energy.first_mut().and_then(|line| line.first_mut()) {
+        *energy = random.pick(&ENERGIES).to_string();
+    }
+}
+
+/// The energy line ahead of the size or of the range, after the rows or after
+/// the map: 1.
+fn move_energy(random: &mut Random, words: &mut Words) {
+    words.energy_place = random.pick(&[0, 1, 3, 4]);
+}
+
+/// No energy line, or a second one with any energy: 1.
+fn drop_or_add_energy(random: &mut Random, words: &mut Words) {
+    if random.one_in(2) {
+        words.energy.pop();
+    } else {
+        let word = random.pick(&["edge", "flat"]);
+        words.energy.push(vec![word.to_string()]);
+    }
+}
+
 /// An item of a row or of a map row.
 fn replace_item(random: &mut Random, words: &mut Words) {
     let Some(line) = any_line(random, words) else {
@@ -135,12 +168,16 @@ fn drop_or_add_line(random: &mut Random, words: &mut Words) {
     }
 }
 
-/// A number too few or too many in the size or the range: 1.
+/// A word too few or too many in the size, the range or the energy: 1.
 fn change_head_count(random: &mut Random, words: &mut Words) {
-    if random.one_in(2) {
-        drop_or_double(random, &mut words.size);
-    } else {
-        drop_or_double(random, &mut words.range);
+    match random.below(3) {
+        0 => drop_or_double(random, &mut words.size),
+        1 => drop_or_double(random, &mut words.range),
+        _ => {
+            if let Some(energy) = words.energy.first_mut() {
+                drop_or_double(random, energy);
+            }
+        }
     }
 }
 
@@ -188,6 +225,7 @@ fn any_line<'a>(random: &mut Random, words: &'a mut Words) -> Option<&'a mut Vec
 mod tests {
     use super::super::tests::{answers, drawn};
     use super::*;
+    use std::collections::BTreeSet;
 
     #[test]
     fn each_change_gives_its_numbers() {
@@ -195,6 +233,9 @@ mod tests {
             ("side", replace_side as Change, &[1, 2, 3, 4][..]),
             ("range", replace_range, &[0, 1, 6, 9]),
             ("kind", replace_kind, &[0, 1]),
+            ("energy", replace_energy, &[0, 1, 11]),
+            ("energy's place", move_energy, &[1]),
+            ("energy lines", drop_or_add_energy, &[1]),
             ("item", replace_item, &[0, 1, 9]),
             ("items", drop_or_add_item, &[4]),
             ("lines", drop_or_add_line, &[4]),
@@ -213,7 +254,42 @@ mod tests {
         }
     }
 
-    /// Every form that the specification names comes.
+    /// Forms that the specification names, and others that break it.
+    const NAMED: [&str; 32] = [
+        "(row)",
+        "(row )",
+        "(row ())",
+        "(map)",
+        "(map )",
+        " 256",
+        " 65535",
+        " 65536",
+        " 00",
+        " 03",
+        "(size 0 ",
+        "(size 513 ",
+        "(size 65535 ",
+        " 513 ",
+        "(range 65535 ",
+        " 65535)\n",
+        "(1 2)",
+        "(1 2 3 4)",
+        "((1 2 3))",
+        "gray",
+        "Grey",
+        "(energy)",
+        "(energy )",
+        "(energy edge edge)",
+        "(energy steep)",
+        "(energy grey)",
+        "(energy Edge)",
+        "(energy 1)",
+        "(energy ())",
+        "(energy flat)\n(energy edge)",
+        "(energy edge)\n(energy edge)",
+        "(range 0 0)\n(row ",
+    ];
+
     #[test]
     fn named_forms_occur() {
         let mut random = Random::new(6);
@@ -224,33 +300,29 @@ mod tests {
             texts.push(String::from_utf8(words.text()).unwrap());
         }
         let (zeros, ones) = ("0".repeat(100), "1".repeat(100));
-        for form in [
-            "(row)",
-            "(row )",
-            "(row ())",
-            "(map)",
-            "(map )",
-            " 256",
-            " 65535",
-            " 65536",
-            " 00",
-            " 03",
-            "(size 0 ",
-            "(size 513 ",
-            "(size 65535 ",
-            " 513 ",
-            "(range 65535 ",
-            " 65535)
-",
-            "(1 2)",
-            "(1 2 3 4)",
-            "((1 2 3))",
-            "gray",
-            "Grey",
-            &zeros,
-            &ones,
-        ] {
+        for form in NAMED.into_iter().chain([zeros.as_str(), &ones]) {
             assert!(texts.iter().any(|text| text.contains(form)), "no {form}");
         }
+    }
+
+    /// The word of the line ahead of the energy line.
+    fn word_ahead(words: &Words) -> String {
+        let text = String::from_utf8(words.text()).unwrap();
+        let (ahead, _) = text.split_once("\n(energy ").unwrap();
+        let line = ahead.lines().last().unwrap();
+        line.split(' ').next().unwrap().to_string()
+    }
+
+    #[test]
+    fn energies_stand_at_each_other_place() {
+        let mut random = Random::new(9);
+        let mut ahead = BTreeSet::new();
+        for _ in 0..100 {
+            let mut words = Words::of(&drawn(&mut random));
+            assert_eq!(word_ahead(&words), "(range");
+            move_energy(&mut random, &mut words);
+            ahead.insert(word_ahead(&words));
+        }
+        assert!(ahead.iter().eq(["(map", "(multi", "(row", "(size"]));
     }
 }

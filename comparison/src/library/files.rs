@@ -23,17 +23,17 @@ impl FileAnswer {
         FileAnswer {
             number,
             size: NamedSize::NONE,
-            method: NamedMethod { energy: 0 },
+            method: NamedMethod::NONE,
             depth: 0,
             growth: 0,
         }
     }
 
-    pub fn served(size: NamedSize, range: Range) -> FileAnswer {
+    pub fn served(size: NamedSize, method: NamedMethod, range: Range) -> FileAnswer {
         FileAnswer {
             number: 0,
             size,
-            method: NamedMethod::USUAL,
+            method,
             depth: range.depth as u64,
             growth: range.growth as u64,
         }
@@ -220,6 +220,7 @@ pub fn row_at(
 #[cfg(test)]
 mod tests {
     use super::*;
+    use crate::methods::{EDGE, FLAT};
 
     const SIZE: NamedSize = NamedSize {
         width: 3,
@@ -230,47 +231,73 @@ mod tests {
         depth: 2,
         growth: 1,
     };
-    const FILE: &[u8] = b"(multi\n(size 3 2 grey)\n(range 2 1)\n\
+    const EDGE_FILE: &[u8] = b"(multi\n(size 3 2 grey)\n(range 2 1)\n(energy edge)\n\
         (row 10 10 40)\n(row 10 50 40)\n(map 1 0 2)\n(map 1 0 2)\n)\n";
+    const FLAT_FILE: &[u8] = b"(multi\n(size 3 2 grey)\n(range 2 1)\n(energy flat)\n\
+        (row 10 10 40)\n(row 10 50 40)\n(map 2 0 1)\n(map 0 2 1)\n)\n";
 
     #[test]
-    fn file_of_the_worked_picture() {
-        let mut picture = [10, 10, 40, 10, 50, 40];
-        let (mut out, mut work) = ([9; 100], [9; 200]);
-        let usual = NamedMethod::USUAL;
-        let answer = build(&mut picture, SIZE, usual, RANGE, &mut out, &mut work);
-        assert_eq!(answer, Answer::served(FILE.len() as u64));
-        assert_eq!((&out[..FILE.len()], out[FILE.len()]), (FILE, 9));
-        assert_eq!(work, [0; 200]);
-        let deeper = Range { depth: 3, ..RANGE };
-        let mut call = |method| build(&mut picture, SIZE, method, deeper, &mut out, &mut work);
-        assert_eq!(call(usual), Answer::refused(6));
-        assert_eq!(call(NamedMethod { energy: 1 }), Answer::refused(1));
+    fn files_of_the_worked_picture() {
+        for (method, file) in [(EDGE, EDGE_FILE), (FLAT, FLAT_FILE)] {
+            let mut picture = [10, 10, 40, 10, 50, 40];
+            let (mut out, mut work) = ([9; 120], [9; 200]);
+            let method = NamedMethod::of(method);
+            let answer = build(&mut picture, SIZE, method, RANGE, &mut out, &mut work);
+            assert_eq!(answer, Answer::served(file.len() as u64));
+            assert_eq!((&out[..file.len()], out[file.len()]), (file, 9));
+            assert_eq!(work, [0; 200]);
+            let deeper = Range { depth: 3, ..RANGE };
+            let mut call = |method| build(&mut picture, SIZE, method, deeper, &mut out, &mut work);
+            assert_eq!(call(method), Answer::refused(6));
+            assert_eq!(call(NamedMethod { energy: 2 }), Answer::refused(1));
+        }
     }
 
     #[test]
-    fn worked_file_checked_and_read() {
-        let (mut file, mut work) = (FILE.to_vec(), [9; 200]);
-        let served = FileAnswer::served(SIZE, RANGE);
-        assert_eq!(check(&mut file, &mut work), served);
-        assert_eq!(check(&mut file[1..], &mut work), FileAnswer::refused(1));
-        let (mut picture, mut map) = ([9; 7], [9; 7]);
-        let answer = read(&mut file, &mut picture, &mut map, &mut work);
-        assert_eq!(answer, served);
-        assert_eq!(picture, [10, 10, 40, 10, 50, 40, 9]);
-        assert_eq!(map, [1, 0, 2, 1, 0, 2, 9]);
-        let answer = read(&mut file, &mut picture, &mut map[..5], &mut work);
-        assert_eq!(answer, FileAnswer::refused(8));
+    fn worked_files_checked_and_read() {
+        for (method, file, numbers) in [
+            (EDGE, EDGE_FILE, [1, 0, 2, 1, 0, 2, 9]),
+            (FLAT, FLAT_FILE, [2, 0, 1, 0, 2, 1, 9]),
+        ] {
+            let (mut file, mut work) = (file.to_vec(), [9; 200]);
+            let served = FileAnswer::served(SIZE, NamedMethod::of(method), RANGE);
+            assert_eq!(check(&mut file, &mut work), served);
+            assert_eq!(check(&mut file[1..], &mut work), FileAnswer::refused(1));
+            let (mut picture, mut map) = ([9; 7], [9; 7]);
+            let answer = read(&mut file, &mut picture, &mut map, &mut work);
+            assert_eq!(answer, served);
+            assert_eq!(picture, [10, 10, 40, 10, 50, 40, 9]);
+            assert_eq!(map, numbers);
+            let answer = read(&mut file, &mut picture, &mut map[..5], &mut work);
+            assert_eq!(answer, FileAnswer::refused(8));
+        }
+    }
+
+    /// With the other word a file has the map of the other energy.
+    #[test]
+    fn worked_files_with_the_other_word() {
+        for (file, word) in [(EDGE_FILE, b"flat"), (FLAT_FILE, b"edge")] {
+            let mut file = file.to_vec();
+            let place = file.windows(7).position(|part| part == b"energy ");
+            let start = place.unwrap() + 7;
+            file[start..start + 4].copy_from_slice(word);
+            assert_eq!(check(&mut file, &mut [9; 200]), FileAnswer::refused(11));
+        }
     }
 
     #[test]
-    fn worked_file_shown() {
-        let (mut file, mut out, mut work) = (FILE.to_vec(), [9; 9], [9; 200]);
-        let answer = show(&mut file, 4, &mut out, &mut work);
-        assert_eq!(answer, SizeAnswer::served(NamedSize { width: 4, ..SIZE }));
-        assert_eq!(out, [10, 10, 10, 40, 10, 30, 50, 40, 9]);
-        let answer = show(&mut file, 5, &mut out, &mut work);
-        assert_eq!(answer, SizeAnswer::refused(7));
+    fn worked_files_shown() {
+        for (file, shown) in [
+            (EDGE_FILE, [10, 10, 10, 40, 10, 30, 50, 40, 9]),
+            (FLAT_FILE, [10, 10, 25, 40, 10, 50, 45, 40, 9]),
+        ] {
+            let (mut file, mut out, mut work) = (file.to_vec(), [9; 9], [9; 200]);
+            let answer = show(&mut file, 4, &mut out, &mut work);
+            assert_eq!(answer, SizeAnswer::served(NamedSize { width: 4, ..SIZE }));
+            assert_eq!(out, shown);
+            let answer = show(&mut file, 5, &mut out, &mut work);
+            assert_eq!(answer, SizeAnswer::refused(7));
+        }
     }
 
     #[test]

@@ -93,32 +93,50 @@ mod tests {
         height: 2,
         kind: 0,
     };
-    const USUAL: NamedMethod = NamedMethod::USUAL;
+    const EDGE: NamedMethod = NamedMethod { energy: 0 };
+    const FLAT: NamedMethod = NamedMethod { energy: 1 };
+    const UNKNOWN: NamedMethod = NamedMethod { energy: 2 };
 
     #[test]
     fn removal_from_the_worked_picture() {
         let mut picture = [10, 10, 40, 10, 50, 40];
         let mut marks = [0, 2, 1, 0, 0, 0];
         let mut work = [9; 200];
-        let ended = remove(&mut picture, &mut marks, SIZE, USUAL, 0, &mut work);
+        let ended = remove(&mut picture, &mut marks, SIZE, EDGE, 0, &mut work);
         assert_eq!((ended, work), (Ended::served(3, 0), [0; 200]));
-        let ended = remove(&mut picture, &mut marks, SIZE, USUAL, 65535, &mut work);
+        let ended = remove(&mut picture, &mut marks, SIZE, EDGE, 65535, &mut work);
         assert_eq!(ended, Ended::served(1, 1));
         assert_eq!(picture, [10, 40, 10, 50, 0, 0]);
         assert_eq!(marks, [0, 1, 0, 0, 0, 0]);
         let mut call = |method| remove(&mut picture, &mut marks[..5], SIZE, method, 1, &mut work);
-        assert_eq!(call(USUAL), Ended::refused(4));
-        assert_eq!(call(NamedMethod { energy: 1 }), Ended::refused(1));
+        assert_eq!(call(EDGE), Ended::refused(4));
+        assert_eq!(call(UNKNOWN), Ended::refused(1));
+    }
+
+    /// By `edge` columns 0, 0 take the mark at cost 0 + 40, by `flat` columns 0, 1
+    /// at 0 + 10.
+    #[test]
+    fn removal_by_either_energy() {
+        for (method, left) in [
+            (EDGE, [10, 40, 50, 40, 0, 0]),
+            (FLAT, [10, 40, 10, 40, 0, 0]),
+        ] {
+            let mut picture = [10, 10, 40, 10, 50, 40];
+            let mut marks = [2, 0, 0, 0, 0, 0];
+            let ended = remove(&mut picture, &mut marks, SIZE, method, 1, &mut [9; 200]);
+            assert_eq!(ended, Ended::served(1, 1));
+            assert_eq!(picture, left);
+        }
     }
 
     #[test]
     fn removal_from_a_column_and_behind_a_wall() {
         let mut work = [9; 200];
         let column = NamedSize { width: 1, ..SIZE };
-        let ended = remove(&mut [10, 20], &mut [0, 2], column, USUAL, 0, &mut work);
+        let ended = remove(&mut [10, 20], &mut [0, 2], column, EDGE, 0, &mut work);
         assert_eq!(ended, Ended::served(2, 0));
         let mut marks = [2, 0, 2, 1, 1, 1];
-        let ended = remove(&mut [0; 6], &mut marks, SIZE, USUAL, 7, &mut work);
+        let ended = remove(&mut [0; 6], &mut marks, SIZE, EDGE, 7, &mut work);
         assert_eq!(ended, Ended::served(4, 0));
     }
 }

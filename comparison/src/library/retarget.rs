@@ -57,7 +57,9 @@ mod tests {
         height: 2,
         kind: 0,
     };
-    const USUAL: NamedMethod = NamedMethod::USUAL;
+    const EDGE: NamedMethod = NamedMethod { energy: 0 };
+    const FLAT: NamedMethod = NamedMethod { energy: 1 };
+    const UNKNOWN: NamedMethod = NamedMethod { energy: 2 };
 
     /// What is answered of the worked picture, and the output space and the work
     /// space after it.
@@ -72,11 +74,13 @@ mod tests {
     #[test]
     fn retargets_of_the_worked_picture() {
         let served = |total, out| (Answer::served(total), out, [0; 600]);
-        assert_eq!(given(USUAL, 0, 2), served(40 + 40, [10, 50, 9, 9, 9]));
-        assert_eq!(given(USUAL, 1, 1), served(60, [10, 40, 9, 9, 9]));
+        assert_eq!(given(EDGE, 0, 2), served(40 + 40, [10, 50, 9, 9, 9]));
+        assert_eq!(given(EDGE, 1, 1), served(60, [10, 40, 9, 9, 9]));
+        assert_eq!(given(FLAT, 0, 2), served(0, [10, 10, 9, 9, 9]));
+        assert_eq!(given(FLAT, 1, 1), served(0, [10, 10, 9, 9, 9]));
         let refused = |number| (Answer::refused(number), [9; 5], [9; 600]);
-        assert_eq!(given(USUAL, 2, 0), refused(7));
-        assert_eq!(given(USUAL, 0, 0), refused(8));
-        assert_eq!(given(NamedMethod { energy: 1 }, 2, 0), refused(1));
+        assert_eq!(given(EDGE, 2, 0), refused(7));
+        assert_eq!(given(EDGE, 0, 0), refused(8));
+        assert_eq!(given(UNKNOWN, 2, 0), refused(1));
     }
 }

@@ -5,7 +5,7 @@ use super::work_bytes;
 use crate::difference::Difference;
 use crate::faults::Faults;
 use crate::library::{self, Answer};
-use crate::methods::{named_method, NamedMethod};
+use crate::methods::{named_method, NamedMethod, EDGE};
 use crate::pictures::{self, row_bytes, NamedSize};
 use crate::random::Random;
 use crate::ranges::{self, Range};
@@ -22,7 +22,7 @@ const MOST: usize = 800_000;
 /// What building is given.
 pub struct Case {
     size: NamedSize,
-    method: NamedMethod,
+    pub method: NamedMethod,
     pub range: Range,
     buffers: Buffers,
 }
@@ -42,13 +42,13 @@ pub fn compare(random: &mut Random, turn: u64) -> Result<u64, Difference> {
 
 fn by_reference(case: &Case, buffers: &mut Buffers) -> Answer {
     // The reference has no unknown kind or method, which is refused by 1.
-    let Some(size) = case.size.known_by(case.method) else {
+    let Some((size, method)) = case.size.known_by(case.method) else {
         return Answer::refused(1);
     };
     let Range { depth, growth } = case.range;
     let (picture, out) = (buffers.picture.part(), buffers.out.part_mut());
     let work = buffers.work.part_mut();
-    match reference::build(picture, size, depth, growth, out, work) {
+    match reference::build(picture, size, method, depth, growth, out, work) {
         Ok(length) => Answer::served(length as u64),
         Err(number) => Answer::refused(u64::from(number)),
     }
@@ -87,11 +87,13 @@ impl Case {
 
     fn from_range(random: &mut Random, size: Size, range: Range, faults: Faults) -> Case {
         let named = pictures::named_size(random, size, faults);
+        let method = named_method(random, faults);
         let picture = pictures::picture(random, size, named, faults);
-        // A picture of another length is refused ahead of its space.
+        // A picture of another length and an unknown method are refused ahead of
+        // the space.
         let mut samples = picture.part().to_vec();
         samples.resize(pictures::byte_count(size), 0);
-        let length = text_length(&samples, size, range);
+        let length = text_length(&samples, size, method.known().unwrap_or(EDGE), range);
         // Half of the damaged cases have enough space.
         let short = if random.one_in(2) {
             faults
@@ -100,7 +102,7 @@ impl Case {
         };
         Case {
             size: named,
-            method: named_method(random, faults),
+            method,
             range: ranges::named(random, range, size.width, faults),
             buffers: Buffers {
                 picture,
@@ -155,7 +157,7 @@ mod tests {
         let mut seen = [[0; 3]; 2];
         for turn in 2..4 * ROUND {
             let case = Case::of_turn(&mut Random::of_case(1, turn), turn);
-            let Some(size) = case.size.known_by(case.method) else {
+            let Some((size, _)) = case.size.known_by(case.method) else {
                 continue;
             };
             let Answer { number, value } = case.outcome(by_reference).answer;

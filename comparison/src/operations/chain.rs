@@ -5,6 +5,7 @@ use super::one_input::Case;
 use crate::carved::at_width;
 use crate::contents::samples;
 use crate::difference::Difference;
+use crate::methods::EDGE;
 use crate::netpbm::Netpbm;
 use crate::pictures::{small_shape, ROUND};
 use crate::programs::{refusal, Program, MOST_PIXELS};
@@ -69,7 +70,7 @@ fn expected(samples: &[u8], size: Size, wanted: usize) -> Vec<u8> {
         width: wanted,
         ..size
     };
-    Netpbm::of(shown, &at_width(samples, size, wanted)).bytes()
+    Netpbm::of(shown, &at_width(samples, size, EDGE, wanted)).bytes()
 }
 
 #[cfg(test)]

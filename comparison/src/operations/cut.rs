@@ -18,7 +18,7 @@ fn by_reference(case: &Case, parts: Parts) -> Answer {
         work,
         ..
     } = parts;
-    case.known_answer(|size, axis| reference::cut(picture, size, axis, seam, work))
+    case.known_answer(|size, method, axis| reference::cut(picture, size, method, axis, seam, work))
 }
 
 pub fn by_library(case: &Case, parts: Parts) -> Answer {

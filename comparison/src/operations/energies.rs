@@ -15,10 +15,10 @@ pub fn compare(random: &mut Random, turn: u64) -> Result<u64, Difference> {
 /// An unknown kind or method is refused by 1; the reference has no such kind or
 /// method.
 fn by_reference(case: &Case<u32>, picture: &[u8], out: &mut [u32]) -> Answer {
-    let Some(size) = case.size.known_by(case.method) else {
+    let Some((size, method)) = case.size.known_by(case.method) else {
         return Answer::refused(1);
     };
-    match reference::energies(picture, size, case.row, out) {
+    match reference::energies(picture, size, method, case.row, out) {
         Ok(()) => Answer::served(0),
         Err(number) => Answer::refused(u64::from(number)),
     }

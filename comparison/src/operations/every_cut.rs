@@ -10,7 +10,7 @@ use crate::library::{Answer, Ended};
 use crate::paths::Small;
 use crate::pictures::byte_count;
 use crate::random::Random;
-use reference::{Axis, Kind, Size};
+use reference::{Axis, Kind, Method, Size};
 
 /// The largest side. Every shape up to it comes in turn.
 const SIDE: usize = 4;
@@ -18,16 +18,18 @@ const SIDE: usize = 4;
 pub fn compare_remove(random: &mut Random, turn: u64) -> Result<u64, Difference> {
     let size = shape(turn);
     let case = remove::Case::from_size(random, size, Faults::Never);
+    let method = case.method.known().expect("no fault strikes");
     let enumeration =
-        |case: &remove::Case, buffers: &mut _| remove_by_paths(size, case.budget, buffers);
+        |case: &remove::Case, buffers: &mut _| remove_by_paths(size, method, case.budget, buffers);
     case.compare("enumeration", enumeration, remove::by_library)
 }
 
 pub fn compare_retarget(random: &mut Random, turn: u64) -> Result<u64, Difference> {
     let size = shape(turn);
     let case = retarget::Case::from_size(random, size, Faults::Never);
+    let method = case.method.known().expect("no fault strikes");
     let enumeration = |case: &retarget::Case, buffers: &mut _| {
-        retarget_by_paths(size, case.rows.0, case.columns.0, buffers)
+        retarget_by_paths(size, method, case.rows.0, case.columns.0, buffers)
     };
     case.compare("enumeration", enumeration, retarget::by_library)
 }
@@ -42,7 +44,12 @@ pub fn shape(turn: u64) -> Size {
     }
 }
 
-fn remove_by_paths(size: Size, budget: u16, buffers: &mut remove::Buffers) -> Ended {
+fn remove_by_paths(
+    size: Size,
+    method: Method,
+    budget: u16,
+    buffers: &mut remove::Buffers,
+) -> Ended {
     buffers.work.part_mut().fill(0);
     let mut bytes = buffers.picture.part().to_vec();
     let mut marks = buffers.marks.part().to_vec();
@@ -61,6 +68,7 @@ fn remove_by_paths(size: Size, budget: u16, buffers: &mut remove::Buffers) -> En
             bytes: &bytes,
             marks: &marks,
             size: left,
+            method,
             axis: Axis::Vertical,
         };
         let Some((seam, _)) = small.seam() else {
@@ -85,27 +93,28 @@ fn pack(left: &[u8], buffer: &mut [u8]) {
 
 fn retarget_by_paths(
     size: Size,
+    method: Method,
     rows: usize,
     columns: usize,
     buffers: &mut retarget::Buffers,
 ) -> Answer {
     buffers.work.part_mut().fill(0);
-    let (bytes, total) = cell(buffers.picture.part(), size, rows, columns);
+    let (bytes, total) = cell(buffers.picture.part(), size, method, rows, columns);
     buffers.out.part_mut()[..bytes.len()].copy_from_slice(&bytes);
     Answer::served(total)
 }
 
 /// The picture and the total of a cell of the table, worked out anew from the
 /// cells before it.
-fn cell(bytes: &[u8], size: Size, rows: usize, columns: usize) -> (Vec<u8>, u64) {
+fn cell(bytes: &[u8], size: Size, method: Method, rows: usize, columns: usize) -> (Vec<u8>, u64) {
     let cut = |rows, columns, axis| {
-        let (bytes, total) = cell(bytes, size, rows, columns);
+        let (bytes, total) = cell(bytes, size, method, rows, columns);
         let size = Size {
             width: size.width - columns,
             height: size.height - rows,
             kind: size.kind,
         };
-        cut_from(&bytes, size, axis, total)
+        cut_from(&bytes, size, method, axis, total)
     };
     match (rows, columns) {
         (0, 0) => (bytes.to_vec(), 0),
@@ -124,11 +133,12 @@ fn cell(bytes: &[u8], size: Size, rows: usize, columns: usize) -> (Vec<u8>, u64)
 }
 
 /// A picture after a cut along the axis, and its total, which grows by the cost.
-fn cut_from(bytes: &[u8], size: Size, axis: Axis, total: u64) -> (Vec<u8>, u64) {
+fn cut_from(bytes: &[u8], size: Size, method: Method, axis: Axis, total: u64) -> (Vec<u8>, u64) {
     let small = Small {
         bytes,
         marks: &[],
         size,
+        method,
         axis,
     };
     let (seam, cost) = small.seam().expect("without marks there is a seam");
@@ -141,6 +151,7 @@ fn cut_from(bytes: &[u8], size: Size, axis: Axis, total: u64) -> (Vec<u8>, u64) 
 #[cfg(test)]
 mod tests {
     use super::*;
+    use crate::methods::{EDGE, FLAT};
     use crate::spaces::Lent;
 
     #[test]
@@ -158,8 +169,9 @@ mod tests {
             let size = shape(turn);
             let mut random = Random::of_case(1, turn);
             let case = remove::Case::from_size(&mut random, size, Faults::Never);
+            let method = case.method.known().unwrap();
             let enumeration = |case: &remove::Case, buffers: &mut _| {
-                let ended = remove_by_paths(size, case.budget, buffers);
+                let ended = remove_by_paths(size, method, case.budget, buffers);
                 endings[ended.ending as usize] += 1;
                 ended
             };
@@ -184,13 +196,16 @@ mod tests {
             marks: lent(&[0, 2, 1, 0, 0, 0]),
             work: lent(&[9; 2]),
         };
-        let ended = remove_by_paths(size, 5, &mut buffers);
+        let ended = remove_by_paths(size, EDGE, 5, &mut buffers);
         assert_eq!(ended, Ended::served(1, 1));
         assert_eq!(buffers.picture.part(), [10, 40, 10, 50, 0, 0]);
         assert_eq!(buffers.marks.part(), [0, 1, 0, 0, 0, 0]);
         assert_eq!(buffers.work.part(), [0, 0]);
-        assert_eq!(cell(&picture, size, 0, 2), (vec![10, 50], 40 + 40));
+        assert_eq!(cell(&picture, size, EDGE, 0, 2), (vec![10, 50], 40 + 40));
         // Rows first: rows 0, 1, 1 at 0 + 50 + 10, then column 0 of 10 10 40.
-        assert_eq!(cell(&picture, size, 1, 1), (vec![10, 40], 60));
+        assert_eq!(cell(&picture, size, EDGE, 1, 1), (vec![10, 40], 60));
+        assert_eq!(cell(&picture, size, FLAT, 0, 2), (vec![10, 10], 0));
+        // Columns first: 10 10 / 10 50 is left, then rows 0, 1.
+        assert_eq!(cell(&picture, size, FLAT, 1, 1), (vec![10, 10], 0));
     }
 }

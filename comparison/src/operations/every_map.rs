@@ -10,18 +10,20 @@ use crate::contents::samples;
 use crate::difference::Difference;
 use crate::faults::Faults;
 use crate::library::{Answer, SizeAnswer};
+use crate::methods;
 use crate::paths::Small;
 use crate::pictures::NamedSize;
 use crate::random::Random;
 use crate::ranges::{self, Range};
 use crate::texts::Parts;
-use reference::{Axis, Size};
+use reference::{Axis, Method, Size};
 
 pub fn compare_build(random: &mut Random, turn: u64) -> Result<u64, Difference> {
     let size = shape(turn);
     let case = build::Case::from_size(random, size, Faults::Never);
+    let method = case.method.known().expect("no fault strikes");
     let enumeration =
-        |case: &build::Case, buffers: &mut _| build_by_paths(size, case.range, buffers);
+        |case: &build::Case, buffers: &mut _| build_by_paths(size, method, case.range, buffers);
     case.compare("enumeration", enumeration, build::by_library)
 }
 
@@ -32,10 +34,12 @@ pub fn compare_show(random: &mut Random, turn: u64) -> Result<u64, Difference> {
     let range = ranges::allowed(random, size, usize::MAX);
     let count = random.between(0, range.depth);
     let samples = samples(random, size);
-    let map = map(&samples, size, range.depth);
+    let method = methods::drawn(random);
+    let map = map(&samples, size, method, range.depth);
     let parts = Parts {
         size,
         range,
+        method,
         samples,
         map,
     };
@@ -45,13 +49,19 @@ pub fn compare_show(random: &mut Random, turn: u64) -> Result<u64, Difference> {
     case.compare("enumeration", enumeration, show::by_library)
 }
 
-fn build_by_paths(size: Size, range: Range, buffers: &mut build::Buffers) -> Answer {
+fn build_by_paths(
+    size: Size,
+    method: Method,
+    range: Range,
+    buffers: &mut build::Buffers,
+) -> Answer {
     buffers.work.part_mut().fill(0);
     let samples = buffers.picture.part().to_vec();
-    let map = map(&samples, size, range.depth);
+    let map = map(&samples, size, method, range.depth);
     let parts = Parts {
         size,
         range,
+        method,
         samples,
         map,
     };
@@ -63,7 +73,7 @@ fn build_by_paths(size: Size, range: Range, buffers: &mut build::Buffers) -> Ans
 /// What so many cuts leave of the picture.
 fn show_by_paths(parts: &Parts, count: usize, buffers: &mut one_file::Buffers) -> SizeAnswer {
     buffers.work.part_mut().fill(0);
-    let left = carved(&parts.samples, parts.size, count, by_paths).0;
+    let left = carved(&parts.samples, parts.size, parts.method, count, by_paths).0;
     buffers.out.part_mut()[..left.len()].copy_from_slice(&left);
     let width = parts.size.width - count;
     let size = Size {
@@ -75,8 +85,8 @@ fn show_by_paths(parts: &Parts, count: usize, buffers: &mut one_file::Buffers) -
 
 /// The map of so many seams, each with its number at the columns where its
 /// pixels stood.
-fn map(samples: &[u8], size: Size, count: usize) -> Vec<Vec<u16>> {
-    let taken = carved(samples, size, count, by_paths).1;
+fn map(samples: &[u8], size: Size, method: Method, count: usize) -> Vec<Vec<u16>> {
+    let taken = carved(samples, size, method, count, by_paths).1;
     let mut map = vec![vec![0; size.width]; size.height];
     for (row, columns) in map.iter_mut().zip(taken) {
         for (number, column) in (1..).zip(columns) {
@@ -87,11 +97,12 @@ fn map(samples: &[u8], size: Size, count: usize) -> Vec<Vec<u16>> {
 }
 
 /// The seam is the first of the cheapest of all paths.
-fn by_paths(bytes: &[u8], size: Size) -> (Vec<usize>, Vec<u8>) {
+fn by_paths(bytes: &[u8], size: Size, method: Method) -> (Vec<usize>, Vec<u8>) {
     let small = Small {
         bytes,
         marks: &[],
         size,
+        method,
         axis: Axis::Vertical,
     };
     let (seam, _) = small.seam().expect("without marks there is a seam");
@@ -102,6 +113,7 @@ fn by_paths(bytes: &[u8], size: Size) -> (Vec<usize>, Vec<u8>) {
 #[cfg(test)]
 mod tests {
     use super::*;
+    use crate::methods::{EDGE, FLAT, METHODS};
     use reference::Kind;
 
     #[test]
@@ -112,11 +124,16 @@ mod tests {
             kind: Kind::Grey,
         };
         let picture = [10, 10, 40, 10, 50, 40];
-        assert_eq!(map(&picture, size, 2), [[1, 0, 2], [1, 0, 2]]);
-        let left = |count| carved(&picture, size, count, by_paths).0;
-        assert_eq!(left(1), [10, 40, 50, 40]);
-        assert_eq!(left(2), [10, 50]);
+        assert_eq!(map(&picture, size, EDGE, 2), [[1, 0, 2], [1, 0, 2]]);
+        assert_eq!(map(&picture, size, FLAT, 2), [[2, 0, 1], [0, 2, 1]]);
+        let left = |method, count| carved(&picture, size, method, count, by_paths).0;
+        assert_eq!(left(EDGE, 1), [10, 40, 50, 40]);
+        assert_eq!(left(EDGE, 2), [10, 50]);
+        assert_eq!(left(FLAT, 1), [10, 10, 10, 50]);
+        assert_eq!(left(FLAT, 2), [10, 10]);
         let wide = Size { height: 1, ..size };
-        assert_eq!(map(&[9; 3], wide, 2), [[1, 2, 0]]);
+        for method in METHODS {
+            assert_eq!(map(&[9; 3], wide, method, 2), [[1, 2, 0]]);
+        }
     }
 }

@@ -9,7 +9,7 @@ use crate::library::Answer;
 use crate::marks;
 use crate::paths::Small;
 use crate::random::Random;
-use reference::{Axis, Kind, Size};
+use reference::{Axis, Kind, Method, Size};
 
 /// The largest side. Every shape up to it comes in turn.
 const SIDE: usize = 5;
@@ -42,12 +42,13 @@ fn compare(
     random: &mut Random,
     turn: u64,
     marks: marks::Draw,
-    enumeration: fn(Size, Axis, Parts) -> Answer,
+    enumeration: fn(Size, Method, Axis, Parts) -> Answer,
     library: fn(&Case, Parts) -> Answer,
 ) -> Result<u64, Difference> {
     let (size, axis) = shape(turn);
     let case = Case::from_size(random, size, axis, marks, Faults::Never);
-    let enumeration = |_: &Case, parts: Parts| enumeration(size, axis, parts);
+    let method = case.method.known().expect("no fault strikes");
+    let enumeration = |_: &Case, parts: Parts| enumeration(size, method, axis, parts);
     case.compare("enumeration", enumeration, library)
 }
 
@@ -62,18 +63,18 @@ fn shape(turn: u64) -> (Size, Axis) {
     (size, [Axis::Vertical, Axis::Horizontal][form % 2])
 }
 
-fn find_among_paths(size: Size, axis: Axis, parts: Parts) -> Answer {
+fn find_among_paths(size: Size, method: Method, axis: Axis, parts: Parts) -> Answer {
     parts.work.fill(0);
-    let Some((seam, cost)) = small(size, axis, &parts).seam() else {
+    let Some((seam, cost)) = small(size, method, axis, &parts).seam() else {
         return Answer::refused(12);
     };
     give_seam(&seam, parts.seam);
     Answer::served(cost)
 }
 
-fn cut_among_paths(size: Size, axis: Axis, parts: Parts) -> Answer {
+fn cut_among_paths(size: Size, method: Method, axis: Axis, parts: Parts) -> Answer {
     parts.work.fill(0);
-    let small = small(size, axis, &parts);
+    let small = small(size, method, axis, &parts);
     let Some((seam, cost)) = small.seam() else {
         return Answer::refused(12);
     };
@@ -87,11 +88,12 @@ fn cut_among_paths(size: Size, axis: Axis, parts: Parts) -> Answer {
     Answer::served(cost)
 }
 
-fn small<'a>(size: Size, axis: Axis, parts: &'a Parts) -> Small<'a> {
+fn small<'a>(size: Size, method: Method, axis: Axis, parts: &'a Parts) -> Small<'a> {
     Small {
         bytes: parts.picture,
         marks: parts.marks,
         size,
+        method,
         axis,
     }
 }
@@ -141,6 +143,7 @@ mod tests {
             bytes: case.buffers.picture.part(),
             marks: case.buffers.marks.part(),
             size,
+            method: case.method.known().unwrap(),
             axis,
         };
         let (seam, _) = small.seam()?;

@@ -18,7 +18,9 @@ fn by_reference(case: &Case, parts: Parts) -> Answer {
         seam,
         work,
     } = parts;
-    case.known_answer(|size, axis| reference::find_marked(picture, marks, size, axis, seam, work))
+    case.known_answer(|size, method, axis| {
+        reference::find_marked(picture, marks, size, method, axis, seam, work)
+    })
 }
 
 pub fn by_library(case: &Case, parts: Parts) -> Answer {

@@ -6,6 +6,7 @@ use crate::damage::damaged;
 use crate::difference::Difference;
 use crate::faults::Faults;
 use crate::library::FileAnswer;
+use crate::methods::NamedMethod;
 use crate::pictures::{self, byte_count, NamedSize, ROUND};
 use crate::random::Random;
 use crate::ranges::{self, Range};
@@ -47,9 +48,13 @@ pub fn file_answer(answer: Result<FileInfo, Refusal>) -> FileAnswer {
     match answer {
         Ok(FileInfo {
             size,
+            method,
             depth,
             growth,
-        }) => FileAnswer::served(NamedSize::of(size), Range { depth, growth }),
+        }) => {
+            let (size, method) = (NamedSize::of(size), NamedMethod::of(method));
+            FileAnswer::served(size, method, Range { depth, growth })
+        }
         Err(number) => FileAnswer::refused(u64::from(number)),
     }
 }
@@ -237,12 +242,28 @@ mod tests {
         assert!(alone.iter().all(|count| *count > 40), "{alone:?}");
     }
 
-    #[test]
-    fn files_have_every_small_shape() {
-        let heads: Vec<String> = (2 * ROUND..3 * ROUND)
+    /// The texts of a round.
+    fn texts() -> Vec<String> {
+        (2 * ROUND..3 * ROUND)
             .map(|turn| case(turn, Gives::Nothing).buffers.file)
             .map(|file| String::from_utf8_lossy(file.part()).into_owned())
-            .collect();
+            .collect()
+    }
+
+    #[test]
+    fn files_name_both_energies() {
+        let texts = texts();
+        for word in ["edge", "flat"] {
+            let line = format!("\n(energy {word})\n(row ");
+            let accepted = |text: &&String| text.contains(&line) && number(text.as_bytes()) == 0;
+            let count = texts.iter().filter(accepted).count();
+            assert!(count > 40, "{word}: {count}");
+        }
+    }
+
+    #[test]
+    fn files_have_every_small_shape() {
+        let heads = texts();
         for kind in ["grey", "rgb"] {
             for (width, height) in [(1, 1), (6, 1), (1, 6), (6, 6), (3, 5)] {
                 let head = format!("(multi\n(size {width} {height} {kind})\n");

@@ -11,7 +11,7 @@ use crate::methods::{named_method, NamedMethod};
 use crate::pictures::{self, row_bytes, NamedSize};
 use crate::random::Random;
 use crate::spaces::{space, Lent};
-use reference::{Axis, Refusal, Size};
+use reference::{Axis, Method, Refusal, Size};
 
 /// One round in so many has the largest pictures.
 const RARITY: u64 = 4;
@@ -99,12 +99,15 @@ impl Case {
 
     /// What the reference answers by this call. An unknown kind, method or axis is
     /// refused by 1; the reference has no such kind, method or axis.
-    pub fn known_answer(&self, call: impl FnOnce(Size, Axis) -> Result<u64, Refusal>) -> Answer {
+    pub fn known_answer(
+        &self,
+        call: impl FnOnce(Size, Method, Axis) -> Result<u64, Refusal>,
+    ) -> Answer {
         let known = (self.size.known_by(self.method), self.axis.known());
-        let (Some(size), Some(axis)) = known else {
+        let (Some((size, method)), Some(axis)) = known else {
             return Answer::refused(1);
         };
-        match call(size, axis) {
+        match call(size, method, axis) {
             Ok(cost) => Answer::served(cost),
             Err(number) => Answer::refused(u64::from(number)),
         }

@@ -21,7 +21,7 @@ const MOST: usize = 400_000;
 /// What object removal is given.
 pub struct Case {
     size: NamedSize,
-    method: NamedMethod,
+    pub method: NamedMethod,
     pub budget: u16,
     buffers: Buffers,
 }
@@ -41,7 +41,7 @@ pub fn compare(random: &mut Random, turn: u64) -> Result<u64, Difference> {
 
 fn by_reference(case: &Case, buffers: &mut Buffers) -> Ended {
     // The reference has no unknown kind or method, which is refused by 1.
-    let Some(size) = case.size.known_by(case.method) else {
+    let Some((size, method)) = case.size.known_by(case.method) else {
         return Ended::refused(1);
     };
     let Buffers {
@@ -50,7 +50,7 @@ fn by_reference(case: &Case, buffers: &mut Buffers) -> Ended {
         work,
     } = buffers;
     let (picture, marks, work) = (picture.part_mut(), marks.part_mut(), work.part_mut());
-    match reference::remove_object(picture, marks, size, case.budget, work) {
+    match reference::remove_object(picture, marks, size, method, case.budget, work) {
         Ok((ending, count)) => Ended::served(number_of(ending), u64::from(count)),
         Err(number) => Ended::refused(u64::from(number)),
     }

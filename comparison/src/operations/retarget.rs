@@ -46,7 +46,7 @@ const WHOLE: (usize, usize, usize, usize) = (65, 65, 64, 64);
 /// What retargeting is given.
 pub struct Case {
     size: NamedSize,
-    method: NamedMethod,
+    pub method: NamedMethod,
     pub rows: Rows,
     pub columns: Columns,
     buffers: Buffers,
@@ -67,12 +67,12 @@ pub fn compare(random: &mut Random, turn: u64) -> Result<u64, Difference> {
 
 fn by_reference(case: &Case, buffers: &mut Buffers) -> Answer {
     // The reference has no unknown kind or method, which is refused by 1.
-    let Some(size) = case.size.known_by(case.method) else {
+    let Some((size, method)) = case.size.known_by(case.method) else {
         return Answer::refused(1);
     };
     let (picture, out) = (buffers.picture.part(), buffers.out.part_mut());
     let work = buffers.work.part_mut();
-    match reference::retarget(picture, size, case.rows, case.columns, out, work) {
+    match reference::retarget(picture, size, method, case.rows, case.columns, out, work) {
         Ok(total) => Answer::served(total),
         Err(number) => Answer::refused(u64::from(number)),
     }
@@ -319,7 +319,7 @@ mod tests {
     /// The total and the picture that lead to the last cell by a cut along the
     /// axis, from the cell before it.
     fn way(case: &Case, axis: Axis) -> (u64, Vec<u8>) {
-        let size = case.size.known().unwrap();
+        let (size, method) = case.size.known_by(case.method).unwrap();
         let (r, c) = match axis {
             Axis::Vertical => (case.rows.0, case.columns.0 - 1),
             Axis::Horizontal => (case.rows.0 - 1, case.columns.0),
@@ -330,30 +330,33 @@ mod tests {
             kind: size.kind,
         };
         let (mut picture, mut work) = (vec![0; byte_count(before)], vec![0; 100_000]);
-        let lent = case.buffers.picture.part();
-        let total =
-            reference::retarget(lent, size, Rows(r), Columns(c), &mut picture, &mut work).unwrap();
-        let cost = reference::cut(&mut picture, before, axis, &mut [0; 8], &mut work).unwrap();
+        let (lent, rows, columns) = (case.buffers.picture.part(), Rows(r), Columns(c));
+        let (left, space) = (&mut picture, &mut work);
+        let total = reference::retarget(lent, size, method, rows, columns, left, space).unwrap();
+        let cost = reference::cut(left, before, method, axis, &mut [0; 8], space).unwrap();
         (total + cost, picture)
     }
 
-    /// Ties whose ways lead to different pictures are told apart.
+    /// Ties whose ways lead to different pictures are told apart, by each method.
     #[test]
     fn ties_between_the_ways_abound_and_each_way_is_taken() {
-        let (mut ties, mut vertical, mut horizontal) = (0, 0, 0);
-        for turn in ROUND..ROUND + 72 {
+        let mut counts = [[0; 3]; 2];
+        for turn in (ROUND..5 * ROUND).filter(|turn| turn % ROUND < 72) {
             let case = Case::of_turn(&mut Random::of_case(1, turn), turn);
             if case.rows.0 == 0 || case.columns.0 == 0 {
                 continue;
             }
             let (by_column, one) = way(&case, Axis::Vertical);
             let (by_row, other) = way(&case, Axis::Horizontal);
-            ties += (by_column == by_row && one != other) as u32;
-            vertical += (by_column < by_row) as u32;
-            horizontal += (by_row < by_column) as u32;
+            let [ties, vertical, horizontal] = &mut counts[usize::from(case.method.energy)];
+            *ties += (by_column == by_row && one != other) as u32;
+            *vertical += (by_column < by_row) as u32;
+            *horizontal += (by_row < by_column) as u32;
         }
-        let counts = [ties, vertical, horizontal];
-        assert!(counts.iter().all(|count| *count > 2), "{counts:?}");
+        assert!(
+            counts.iter().flatten().all(|count| *count > 2),
+            "{counts:?}"
+        );
     }
 
     #[test]
