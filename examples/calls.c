@@ -8,10 +8,12 @@
 enum { WIDTH = 3, HEIGHT = 2, PIXELS = 6, WORK = 32 * PIXELS, LARGE = 512 };
 
 static const multisize_size size = {WIDTH, HEIGHT, MULTISIZE_GREY};
-static const multisize_method usual = {0};
+static const multisize_method usual = {0}, flat = {MULTISIZE_FLAT};
 static const uint8_t brought[PIXELS] = {10, 10, 40, 10, 50, 40};
-static const char text[] = "(multi\n(size 3 2 grey)\n(range 2 1)\n"
-                           "(row 10 10 40)\n(row 10 50 40)\n(map 1 0 2)\n(map 1 0 2)\n)\n";
+#define HEAD "(multi\n(size 3 2 grey)\n(range 2 1)\n"
+#define ROWS "(row 10 10 40)\n(row 10 50 40)\n"
+static const char text[] = HEAD "(energy edge)\n" ROWS "(map 1 0 2)\n(map 1 0 2)\n)\n";
+static const char flat_text[] = HEAD "(energy flat)\n" ROWS "(map 2 0 1)\n(map 0 2 1)\n)\n";
 static uint8_t picture[PIXELS], marks[PIXELS], out[200], work[WORK + 66 * PIXELS];
 static uint16_t seam[WIDTH], map[PIXELS];
 
@@ -28,6 +30,8 @@ static void rows(void) {
     uint32_t energies[WIDTH];
     NEED(multisize_energies(brought, PIXELS, size, usual, 0, energies, WIDTH) == MULTISIZE_SERVED);
     NEED(energies[0] == 0 && energies[1] == 70 && energies[2] == 30);
+    NEED(multisize_energies(brought, PIXELS, size, flat, 1, energies, WIDTH) == MULTISIZE_SERVED);
+    NEED(energies[0] == 40 && energies[1] == 10 && energies[2] == 0);
     NEED(multisize_row(brought, PIXELS, size, 1, out, WIDTH).value == WIDTH);
     NEED(!memcmp(out, brought + WIDTH, WIDTH));
     NEED(multisize_row(brought, PIXELS, size, 1, out, 2).number == MULTISIZE_REFUSED_SPACE);
@@ -43,6 +47,18 @@ static void seams(void) {
     NEED(bytes_are(picture, 10, 10, 40, 0));
     a = multisize_cut(picture, WIDTH, row, usual, MULTISIZE_HORIZONTAL, seam, WIDTH, work, WORK);
     NEED(a.number == MULTISIZE_REFUSED_LAST);
+}
+
+// By flat the last column goes first.
+static void flat_seams(void) {
+    multisize_size left = {WIDTH - 1, HEIGHT, MULTISIZE_GREY};
+    multisize_answer a = multisize_find(brought, PIXELS, size, flat, MULTISIZE_VERTICAL, seam, HEIGHT, work, WORK);
+    NEED(a.number == 0 && a.value == 0 && seam[0] == 2 && seam[1] == 2);
+    memcpy(picture, brought, PIXELS);
+    a = multisize_cut(picture, PIXELS, size, flat, MULTISIZE_VERTICAL, seam, HEIGHT, work, WORK);
+    NEED(a.number == 0 && a.value == 0 && seam[0] == 2 && seam[1] == 2 && bytes_are(picture, 10, 10, 10, 50));
+    a = multisize_find(picture, multisize_picture_bytes(left), left, flat, MULTISIZE_VERTICAL, seam, HEIGHT, work, WORK);
+    NEED(a.number == 0 && a.value == 0 && seam[0] == 0 && seam[1] == 1);
 }
 
 static void marked(void) {
@@ -90,11 +106,28 @@ static void files(void) {
     NEED(bytes_are(out, 10, 10, 10, 40) && bytes_are(out + 4, 10, 30, 50, 40));
 }
 
+// The file by flat, and what it says of itself. Its map is refused in a file that names the other energy.
+static void flat_files(void) {
+    const uint8_t *file = (const uint8_t *)flat_text;
+    static const char other[] = HEAD "(energy edge)\n" ROWS "(map 2 0 1)\n(map 0 2 1)\n)\n";
+    size_t length = sizeof flat_text - 1;
+    multisize_answer a = multisize_build(brought, PIXELS, size, flat, 2, 1, out, multisize_file_bytes(size), work, WORK);
+    NEED(a.number == 0 && a.value == length && !memcmp(out, file, length));
+    multisize_file_answer f = multisize_check(file, length, work, WORK);
+    NEED(f.number == 0 && f.method.energy == MULTISIZE_FLAT && f.depth == 2 && f.growth == 1);
+    multisize_size_answer z = multisize_show(file, length, 4, out, sizeof out, work, WORK);
+    NEED(z.number == 0 && bytes_are(out, 10, 10, 25, 40) && bytes_are(out + 4, 10, 50, 45, 40));
+    NEED(multisize_check((const uint8_t *)other, sizeof other - 1, work, WORK).number == MULTISIZE_REFUSED_OTHER);
+}
+
 // A refused answer is the number alone.
 static void refused_files(void) {
     multisize_file_answer f = multisize_check(brought, PIXELS, work, WORK);
     NEED(f.number == MULTISIZE_REFUSED_FORM && f.size.width == 0 && f.size.height == 0 && f.size.kind == 0);
     NEED(f.method.energy == 0 && f.depth == 0 && f.growth == 0);
+    // A file that names no energy breaks its form.
+    static const char unnamed[] = HEAD ROWS "(map 1 0 2)\n(map 1 0 2)\n)\n";
+    NEED(multisize_check((const uint8_t *)unnamed, sizeof unnamed - 1, work, WORK).number == MULTISIZE_REFUSED_FORM);
     multisize_size_answer z = multisize_show((const uint8_t *)text, sizeof text - 1, 5, out, sizeof out, work, WORK);
     NEED(z.number == MULTISIZE_REFUSED_WANTED && z.size.width == 0 && z.size.height == 0 && z.size.kind == 0);
 }
@@ -121,12 +154,12 @@ static int refused_by_form(multisize_size z, multisize_method method, uint8_t ax
 // and four functions take an axis.
 static void unknown_names(void) {
     multisize_size no_kind = {WIDTH, HEIGHT, 2};
-    multisize_method no_energy = {1}, nor_this = {255};
+    multisize_method no_energy = {2}, nor_this = {255};
     memcpy(picture, brought, PIXELS), memset(marks, 0, PIXELS);
     NEED(refused_by_form(no_kind, usual, MULTISIZE_VERTICAL) == 9);
     NEED(refused_by_form(size, no_energy, MULTISIZE_VERTICAL) == 8);
     NEED(refused_by_form(size, nor_this, MULTISIZE_HORIZONTAL) == 8);
-    NEED(refused_by_form(size, usual, 2) == 4);
+    NEED(refused_by_form(size, usual, 2) == 4 && refused_by_form(size, flat, 2) == 4);
 }
 
 static void row_at_widths(void) {
@@ -167,7 +200,8 @@ static void no_space(void) {
 }
 
 int main(void) {
-    rows(), seams(), marked(), retargets(), files(), refused_files(), row_at_widths(), unknown_names();
+    rows(), seams(), flat_seams(), marked(), retargets();
+    files(), flat_files(), refused_files(), row_at_widths(), unknown_names();
     longest(MULTISIZE_GREY), longest(MULTISIZE_RGB), no_space();
     puts("every function answers as multisize.h says");
     return 0;

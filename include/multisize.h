@@ -51,9 +51,11 @@ typedef struct multisize_size_answer {
     multisize_size size;
 } multisize_size_answer;
 
-// Works out the energies of a row, writes one for each column to the front of out and returns the number. By MULTISIZE_EDGE
-// a pixel has |right neighbour - it| + |lower neighbour - it|, the channels added. In the last column the left neighbour is
-// taken, in the last row the upper one; at width 1 the first is 0, at height 1 the second.
+// Works out the energies of a row, writes one for each column to the front of out and returns the number. A pixel has
+// |right neighbour - it| + |lower neighbour - it|, the channels added. At the edges, by the energy of the method:
+//   MULTISIZE_EDGE  in the last column the left neighbour is taken, in the last row the upper one; at width 1 the first
+//                   difference is 0, at height 1 the second
+//   MULTISIZE_FLAT  in the last column the first difference is 0, in the last row the second
 // Refused by 1, 2, 3, 4 (also a row not below the height), 8 (out shorter than the width).
 uint64_t multisize_energies(const uint8_t *picture, size_t picture_length, multisize_size size, multisize_method method,
                             size_t row, uint32_t *out, size_t out_length);
@@ -107,15 +109,16 @@ multisize_answer multisize_retarget(const uint8_t *picture, size_t picture_lengt
                                     uint8_t *work, size_t work_length);
 
 // Builds the multi-size file of a picture, with its map of depth seams and room to grow by growth columns, writes its text
-// to the front of out and returns its length. Allowed: depth up to width - 1, growth up to the depth and up to half the
-// width. multisize_file_bytes is always enough, and 8 is decided by the file's own length.
+// to the front of out and returns its length. The text names the energy of the method. Allowed: depth up to width - 1,
+// growth up to the depth and up to half the width. multisize_file_bytes is always enough, and 8 is decided by the file's
+// own length.
 // Refused by 1, 2, 3, 4, 6, 8 (out shorter than the file, work under multisize_work_bytes).
 multisize_answer multisize_build(const uint8_t *picture, size_t picture_length, multisize_size size,
                                  multisize_method method, size_t depth, size_t growth, uint8_t *out, size_t out_length,
                                  uint8_t *work, size_t work_length);
 
-// Checks a file, any bytes, and returns its size, method and range. Accepted are the files that multisize_build gives, and
-// no others.
+// Checks a file, any bytes, and returns its size, method and range. It is judged by the energy that its text names. Accepted
+// are the files that multisize_build gives, and no others.
 // Refused by 1, 2, 3, 4, 6, 8 (work under multisize_work_bytes of the file's size), 9, 10, 11.
 multisize_file_answer multisize_check(const uint8_t *file, size_t file_length, uint8_t *work, size_t work_length);
 

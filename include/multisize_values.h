@@ -8,9 +8,11 @@
 // A picture's kind: 1 byte a pixel, or 3 with red first.
 enum multisize_kind { MULTISIZE_GREY = 0, MULTISIZE_RGB = 1 };
 
-// How a pixel's energy is worked out.
+// How a pixel's energy is worked out: by its differences to the right and to the lower neighbour. The two differ at the
+// edges of the picture, as multisize_energies says. A file names its energy by a word.
 enum multisize_energy {
-    MULTISIZE_EDGE = 0 // by its differences to the neighbours beside and below it, as multisize_energies says
+    MULTISIZE_EDGE = 0, // `edge`: in the last column to the left neighbour, in the last row to the upper one
+    MULTISIZE_FLAT = 1  // `flat`: a difference that would reach past the edge is 0
 };
 
 // The size of a picture: its sides, and its kind (enum multisize_kind).
@@ -44,8 +46,8 @@ enum multisize_ending {
 // The numbers of the refusals. Of several, the smallest is given.
 enum multisize_refusal {
     MULTISIZE_SERVED = 0,             // nothing is refused
-    MULTISIZE_REFUSED_FORM = 1,       // a file's text breaks its form; or a number names no kind, no axis or no
-                                      // energy
+    MULTISIZE_REFUSED_FORM = 1,       // a file's text breaks its form, as one without its energy line does; or a number
+                                      // names no kind, no axis or no energy
     MULTISIZE_REFUSED_EMPTY = 2,      // width or height 0
     MULTISIZE_REFUSED_LARGE = 3,      // width or height over MULTISIZE_LARGEST_SIDE
     MULTISIZE_REFUSED_LENGTH = 4,     // a buffer's length, or a file's number of rows, samples or map numbers, isn't
@@ -128,12 +130,12 @@ static inline size_t multisize_retarget_bytes(multisize_size size, size_t rows, 
     return multisize_picture_bytes(size);
 }
 
-// Returns the bytes that every file of this size fits in, whatever its samples and its range: 45 in the lines that each file
-// has, 6 a row line and 6 a map line, and for each pixel its samples of three digits and its map number of three, with
-// their blanks and brackets.
+// Returns the bytes that every file of this size fits in, whatever its samples, its range and its energy: 59 in the lines
+// that each file has, 6 a row line and 6 a map line, and for each pixel its samples of three digits and its map number of
+// three, with their blanks and brackets.
 static inline size_t multisize_file_bytes(multisize_size size) {
     size_t pixels = multisize_pixels(size);
-    return pixels ? 45 + 12 * size.height + pixels * (size.kind == MULTISIZE_RGB ? 18 : 8) : 0;
+    return pixels ? 59 + 12 * size.height + pixels * (size.kind == MULTISIZE_RGB ? 18 : 8) : 0;
 }
 
 // Returns the bytes of the picture that a file of this size shows at the wanted width; 0 where every file refuses it by 7.
