@@ -9,16 +9,16 @@ _multisize() {
         return
     fi
     case ${COMP_WORDS[1]} in
-    carve) options="-o" endings="@(png|pgm|ppm|pnm)" ;;
-    build) options="-o --depth --growth" endings="@(png|pgm|ppm|pnm)" ;;
+    carve) options="-o --energy" endings="@(png|pgm|ppm|pnm)" ;;
+    build) options="-o --depth --growth --energy" endings="@(png|pgm|ppm|pnm)" ;;
     check) options="" endings="multi" ;;
     info) options="--json" endings="multi" ;;
     show) options="-o" endings="multi" ;;
     seams) options="-o --first" endings="multi" ;;
     table) options="-o --long" endings="multi" ;;
     page) options="-o --title" endings="multi" ;;
-    remove) options="-o --take --keep --budget" endings="@(png|pgm|ppm|pnm)" ;;
-    retarget) options="-o --rows --columns" endings="@(png|pgm|ppm|pnm)" ;;
+    remove) options="-o --take --keep --budget --energy" endings="@(png|pgm|ppm|pnm)" ;;
+    retarget) options="-o --rows --columns --energy" endings="@(png|pgm|ppm|pnm)" ;;
     help)
         mapfile -t COMPREPLY < <(compgen -W "$commands" -- "$word")
         return
@@ -27,6 +27,10 @@ _multisize() {
     esac
     case $before in
     --depth | --growth | --first | --budget | --rows | --columns | --title) return ;;
+    --energy)
+        mapfile -t COMPREPLY < <(compgen -W "edge flat" -- "$word")
+        return
+        ;;
     -o) mapfile -t COMPREPLY < <(compgen -f -- "$word") ;; # what is written may have any name
     *)
         if [[ $word == -* ]]; then

@@ -8,6 +8,7 @@ use crate::failure::Failure;
 use crate::inputs::Input;
 use crate::outputs::Output;
 use crate::words::Words;
+use multisize::Energy;
 use std::ffi::OsString;
 
 /// The command that the words give.
@@ -57,6 +58,17 @@ fn out(words: &mut Words) -> Result<Output, Failure> {
     let place = words.option("-o");
     let place = place.ok_or_else(|| Failure::usage("-o with the file to write is missing"))?;
     Ok(Output(place))
+}
+
+/// The energy that `--energy` names, by default the library's own.
+fn energy(words: &mut Words) -> Result<Energy, Failure> {
+    let Some(word) = words.option("--energy") else {
+        return Ok(Energy::default());
+    };
+    let word = word.to_string_lossy();
+    let known: Vec<&str> = Energy::ALL.iter().map(|energy| energy.word()).collect();
+    let text = || format!("--energy can be {}, not {word}", known.join(" or "));
+    Energy::named(&word).ok_or_else(|| Failure::Usage(text()))
 }
 
 fn apart(out: Output, inputs: &[&Input]) -> Result<Output, Failure> {

@@ -2,7 +2,7 @@
 
 use crate::inputs::Input;
 use crate::outputs::Output;
-use multisize::{Columns, Rows};
+use multisize::{Columns, Energy, Rows};
 use std::ffi::OsString;
 
 /// What is to be done.
@@ -14,12 +14,14 @@ pub enum Command {
         picture: Input,
         width: Width,
         out: Output,
+        energy: Energy,
     },
     Build {
         picture: Input,
         out: Output,
         depth: Option<usize>,
         growth: Option<usize>,
+        energy: Energy,
     },
     Check {
         file: Input,
@@ -53,12 +55,14 @@ pub enum Command {
         marks: Marks,
         out: Output,
         budget: u16,
+        energy: Energy,
     },
     Retarget {
         picture: Input,
         rows: Rows,
         columns: Columns,
         out: Output,
+        energy: Energy,
     },
 }
 

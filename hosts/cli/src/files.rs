@@ -7,7 +7,7 @@ use crate::outputs::{print, Output};
 use crate::page;
 use crate::progress::during;
 use crate::table;
-use multisize::{Carver, Contents, Head, Picture, Range, Refusal, Size};
+use multisize::{Carver, Contents, Energy, Head, Picture, Range, Refusal, Size};
 use std::ffi::OsString;
 
 pub fn build(
@@ -15,12 +15,13 @@ pub fn build(
     out: &Output,
     depth: Option<usize>,
     growth: Option<usize>,
+    energy: Energy,
 ) -> Result<(), Failure> {
     let source = picture.picture()?;
     let width = source.size().width;
     let mut range = depth.map_or(Range::full(width), |depth| Range::deep(width, depth));
     range.growth = growth.unwrap_or(range.growth);
-    let built = during("building", || Carver::new().build(&source, range));
+    let built = during("building", || Carver::by(energy).build(&source, range));
     let built = built.map_err(|refusal| match refusal {
         Refusal::Range => picture.because(refusal, out_of_range(width, range), None),
         _ => picture.refused(refusal),
@@ -41,9 +42,12 @@ fn out_of_range(width: usize, range: Range) -> String {
 }
 
 pub fn check(file: &Input) -> Result<Head, Failure> {
-    let text = file.file()?;
-    let checked = during("checking", || Carver::new().check(&text));
-    checked.map_err(|refusal| file.refused(refusal))
+    check_text(file, &file.file()?)
+}
+
+fn check_text(file: &Input, text: &[u8]) -> Result<Head, Failure> {
+    let checked = during("checking", || Carver::new().check(text));
+    checked.map_err(|refusal| file.refused_text(refusal, text))
 }
 
 pub fn info(file: &Input, json: bool) -> Result<(), Failure> {
@@ -53,18 +57,18 @@ pub fn info(file: &Input, json: bool) -> Result<(), Failure> {
         height,
         kind,
     } = head.size;
-    let kind = kind.word();
+    let (kind, energy) = (kind.word(), head.method.energy.word());
     let Range { depth, growth } = head.range;
     let (least, most) = head.widths().into_inner();
     if json {
         let size = format!("\"width\": {width}, \"height\": {height}, \"kind\": \"{kind}\"");
-        let range = format!("\"depth\": {depth}, \"growth\": {growth}");
+        let range = format!("\"depth\": {depth}, \"growth\": {growth}, \"energy\": \"{energy}\"");
         let widths = format!("\"narrowest\": {least}, \"widest\": {most}");
         return print(format!("{{{size}, {range}, {widths}}}\n").as_bytes());
     }
     let size = format!("width {width}, height {height}, {kind}");
-    let text = format!("{size}\ndepth {depth}, growth {growth}\nwidths {least} to {most}\n");
-    print(text.as_bytes())
+    let range = format!("depth {depth}, growth {growth}\nenergy {energy}");
+    print(format!("{size}\n{range}\nwidths {least} to {most}\n").as_bytes())
 }
 
 pub fn show(file: &Input, shown: &[(usize, Output)]) -> Result<(), Failure> {
@@ -110,7 +114,7 @@ fn at_width(
             let head = during("checking", || carver.check(text));
             file.unoffered(width, head.ok())
         }
-        _ => file.refused(refusal),
+        _ => file.refused_text(refusal, text),
     })
 }
 
@@ -120,7 +124,7 @@ fn read(file: &Input) -> Result<Contents, Failure> {
 
 fn read_text(file: &Input, text: &[u8], carver: &mut Carver) -> Result<Contents, Failure> {
     let read = during("checking", || carver.read(text));
-    read.map_err(|refusal| file.refused(refusal))
+    read.map_err(|refusal| file.refused_text(refusal, text))
 }
 
 pub fn seams(file: &Input, out: &Output, first: Option<usize>) -> Result<(), Failure> {
@@ -138,8 +142,7 @@ pub fn table(file: &Input, out: &Output, long: bool) -> Result<(), Failure> {
 
 pub fn page(file: &Input, out: &Output, title: Option<OsString>) -> Result<(), Failure> {
     let text = file.file()?;
-    let checked = during("checking", || Carver::new().check(&text));
-    checked.map_err(|refusal| file.refused(refusal))?;
+    check_text(file, &text)?;
     let name = file.stem();
     let title = title.as_ref().unwrap_or(&name).to_string_lossy();
     out.write(page::page(&title, &name.to_string_lossy(), &text).as_bytes())

@@ -2,11 +2,13 @@
 
 use crate::failure::Failure;
 use crate::formats;
-use multisize::{netpbm, png, Head, Picture, Refusal, Size, LARGEST_SIDE, LONGEST_FILE};
+use multisize::{netpbm, png, Energy, Head, Picture, Refusal, Size, LARGEST_SIDE, LONGEST_FILE};
 use std::ffi::OsString;
 use std::fs::File;
 use std::io::{self, Read};
 use std::path::Path;
+
+const BREAKS_FORM: &str = "the text breaks its form";
 
 /// A file to read, or `-` for standard input.
 pub struct Input(pub OsString);
@@ -151,13 +153,22 @@ impl Input {
     /// the one that a multi-size file has is said.
     pub fn refused(&self, refusal: Refusal) -> Failure {
         let meaning = match refusal {
-            Refusal::Form => "the text breaks its form",
+            Refusal::Form => BREAKS_FORM,
             Refusal::Length => {
                 "the number of rows, samples or map numbers isn't what the size says"
             }
             _ => refusal.meaning(),
         };
         self.because(refusal, meaning.to_string(), None)
+    }
+
+    /// The same of a multi-size file with this text. Where it is the energy line that
+    /// breaks the form, a hint says so.
+    pub fn refused_text(&self, refusal: Refusal, text: &[u8]) -> Failure {
+        match about_energy(text).filter(|_| refusal == Refusal::Form) {
+            Some(hint) => self.because(refusal, BREAKS_FORM.to_string(), Some(hint)),
+            None => self.refused(refusal),
+        }
     }
 
     /// The failure with its cause in numbers.
@@ -184,4 +195,24 @@ impl Input {
     fn long(&self) -> Failure {
         Failure::Long { name: self.name() }
     }
+}
+
+/// What is wrong with the energy line, which stands after size and range: it is missing,
+/// or it names no energy.
+fn about_energy(text: &[u8]) -> Option<String> {
+    let mut lines = text.split(|byte| *byte == b'\n');
+    let mut before = ["(multi", "(size ", "(range "].iter().zip(lines.by_ref());
+    let headed = before.all(|(start, line)| line.starts_with(start.as_bytes()));
+    let line = lines.next().filter(|_| headed)?;
+    let energies = Energy::ALL.iter().map(|energy| energy.word());
+    let energies: Vec<String> = energies.map(|word| format!("(energy {word})")).collect();
+    let either = energies.join(" or ");
+    if line.starts_with(b"(row") {
+        let which = "whichever it is accepted with (docs/FILE.md says more)";
+        let advice = format!("put {either} after its range line, {which}");
+        return Some(format!("its energy line is missing: {advice}"));
+    }
+    let named = line.strip_prefix(b"(energy ")?.strip_suffix(b")")?;
+    let known = Energy::named(&String::from_utf8_lossy(named));
+    Some(format!("its energy line isn't {either}")).filter(|_| known.is_none())
 }

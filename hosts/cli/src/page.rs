@@ -62,6 +62,15 @@ fn escaped(text: &str) -> String {
 #[cfg(test)]
 mod tests {
     use super::*;
+    use multisize::Energy;
+
+    #[test]
+    fn the_reader_knows_each_energy() {
+        let words = Energy::ALL.iter().map(|energy| energy.word());
+        let words: Vec<String> = words.map(|word| format!("\"{word}\"")).collect();
+        let known = format!("const ENERGIES = [{}];", words.join(", "));
+        assert!(READER.contains(&known));
+    }
 
     #[test]
     fn each_part_stands_in_the_page() {

@@ -6,11 +6,11 @@ use crate::inputs::Input;
 use crate::marks;
 use crate::outputs::{print, Output};
 use crate::progress::during;
-use multisize::{Carver, Columns, Picture, Range, Refusal, Rows, Size, LARGEST_COUNT};
+use multisize::{Carver, Columns, Energy, Picture, Range, Refusal, Rows, Size, LARGEST_COUNT};
 use std::io::{self, Write};
 
 /// Builds a picture's file with as many seams as the width needs, and shows it.
-pub fn carve(picture: &Input, width: Width, out: &Output) -> Result<(), Failure> {
+pub fn carve(picture: &Input, width: Width, out: &Output, energy: Energy) -> Result<(), Failure> {
     let source = picture.picture()?;
     let own = source.size().width;
     let (wanted, most) = (width.of(own), own + Range::full(own).growth);
@@ -19,27 +19,33 @@ pub fn carve(picture: &Input, width: Width, out: &Output) -> Result<(), Failure>
         let hint = format!("the picture is {own} wide, and is carved to 1 to {most} columns");
         return Err(picture.because(Refusal::Wanted, meaning, Some(hint)));
     }
-    let carved = during("carving", || at_width(&source, wanted));
+    let carved = during("carving", || at_width(&source, wanted, energy));
     out.picture(&carved.map_err(|refusal| picture.refused(refusal))?)
 }
 
-fn at_width(source: &Picture, wanted: usize) -> Result<Picture, Refusal> {
+fn at_width(source: &Picture, wanted: usize, energy: Energy) -> Result<Picture, Refusal> {
     let own = source.size().width;
     let range = Range {
         depth: wanted.abs_diff(own),
         growth: wanted.saturating_sub(own),
     };
-    let mut carver = Carver::new();
+    let mut carver = Carver::by(energy);
     let file = carver.build(source, range)?;
     carver.show(&file, wanted)
 }
 
-pub fn remove(picture: &Input, marks: &Marks, out: &Output, budget: u16) -> Result<(), Failure> {
+pub fn remove(
+    picture: &Input,
+    marks: &Marks,
+    out: &Output,
+    budget: u16,
+    energy: Energy,
+) -> Result<(), Failure> {
     let mut left = picture.picture()?;
     let width = left.size().width;
     let mut marked = marks::read(marks, left.size())?;
     let ending = during("removing", || {
-        Carver::new().remove(&mut left, &mut marked, budget)
+        Carver::by(energy).remove(&mut left, &mut marked, budget)
     });
     let ending = ending.map_err(|refusal| match refusal {
         Refusal::Mark => marks::refused(marks, &marked, width),
@@ -54,10 +60,11 @@ pub fn retarget(
     rows: Rows,
     columns: Columns,
     out: &Output,
+    energy: Energy,
 ) -> Result<(), Failure> {
     let source = picture.picture()?;
     let given = during("retargeting", || {
-        Carver::new().retarget(&source, rows, columns)
+        Carver::by(energy).retarget(&source, rows, columns)
     });
     let given = given.map_err(|refusal| match refusal {
         Refusal::Wanted => picture.because(refusal, too_far(source.size(), rows, columns), None),

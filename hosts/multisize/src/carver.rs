@@ -39,10 +39,11 @@ impl Carver {
     /// use multisize::{Axis, Carver, Energy, Method, Picture, Size};
     ///
     /// let picture = Picture::new(Size::grey(3, 2), vec![10, 10, 40, 10, 50, 40])?;
-    /// let method = Method::default().with_energy(Energy::Edge);
+    /// let method = Method::default().with_energy(Energy::Flat);
     /// let mut carver = Carver::by(method);
     /// assert_eq!(carver.method(), method);
-    /// assert_eq!(carver.find(&picture, Axis::Vertical)?.cost, 40);
+    /// let seam = carver.find(&picture, Axis::Vertical)?;
+    /// assert_eq!((seam.places, seam.cost), (vec![2, 2], 0));
     /// # Ok::<(), multisize::Refusal>(())
     /// ```
     ///
@@ -51,7 +52,8 @@ impl Carver {
     /// ```
     /// use multisize::{Carver, Energy};
     ///
-    /// assert_eq!(Carver::by(Energy::Edge).method().energy, Energy::Edge);
+    /// assert_eq!(Carver::by(Energy::Flat).method().energy, Energy::Flat);
+    /// assert_eq!(Carver::new().method().energy, Energy::Edge);
     /// ```
     pub fn by(method: impl Into<Method>) -> Carver {
         Carver {
@@ -78,6 +80,7 @@ impl Carver {
     ///
     /// let picture = Picture::new(Size::grey(3, 2), vec![10, 10, 40, 10, 50, 40])?;
     /// assert_eq!(Carver::by(Energy::Edge).energies(&picture, 0)?, [0, 70, 30]);
+    /// assert_eq!(Carver::by(Energy::Flat).energies(&picture, 0)?, [0, 70, 0]);
     /// # Ok::<(), multisize::Refusal>(())
     /// ```
     pub fn energies(&self, picture: &Picture, r: usize) -> Result<Vec<u32>, Refusal> {

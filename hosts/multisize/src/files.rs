@@ -91,7 +91,8 @@ impl Contents {
     /// ```
     /// use multisize::{Carver, Refusal};
     ///
-    /// let file = b"(multi\n(size 3 1 grey)\n(range 1 1)\n(row 7 8 9)\n(map 1 0 0)\n)\n";
+    /// let file = b"(multi\n(size 3 1 grey)\n(range 1 1)\n(energy edge)\n\
+    ///     (row 7 8 9)\n(map 1 0 0)\n)\n";
     /// let contents = Carver::new().read(file)?;
     /// assert_eq!(contents.show(2)?.samples(), [8, 9]);
     /// assert_eq!(contents.show(4)?.samples(), [7, 7, 8, 9]);
@@ -126,14 +127,15 @@ impl Contents {
 /// sides of [`LARGEST_SIDE`] can't exceed.
 pub const LONGEST_FILE: usize = longest_file(Size::rgb(LARGEST_SIDE, LARGEST_SIDE));
 
-/// No file of a picture of this size is longer: a number with its blank takes 4
-/// bytes at most, a pixel two brackets more.
+/// No file of a picture of this size is longer: the lines that each file has take 59
+/// bytes at most, a row line and a map line 6 each, a number with its blank 4, an rgb
+/// pixel two brackets more.
 const fn longest_file(size: Size) -> usize {
     let pixel = match size.kind {
         Kind::Grey => 4,
         Kind::Rgb => 14,
     };
-    64 + size.pixels() * (pixel + 4) + size.height * 12
+    59 + size.pixels() * (pixel + 4) + size.height * 12
 }
 
 /// No file of this length that has its form and counts needs more work space: a
@@ -150,8 +152,9 @@ fn most_shown(file: &[u8]) -> usize {
 }
 
 impl Carver {
-    /// Builds the file of a picture. The depth is at most the width less 1, the
-    /// growth at most the depth and at most half the width.
+    /// Builds the file of a picture, which names the energy of the carver's method. The
+    /// depth is at most the width less 1, the growth at most the depth and at most half
+    /// the width.
     ///
     /// # Errors
     ///
@@ -163,7 +166,8 @@ impl Carver {
     ///
     /// let picture = Picture::new(Size::grey(3, 1), vec![7, 7, 7])?;
     /// let file = Carver::new().build(&picture, Range::full(3))?;
-    /// let text = "(multi\n(size 3 1 grey)\n(range 2 1)\n(row 7 7 7)\n(map 1 2 0)\n)\n";
+    /// let text = "(multi\n(size 3 1 grey)\n(range 2 1)\n(energy edge)\n\
+    ///     (row 7 7 7)\n(map 1 2 0)\n)\n";
     /// assert_eq!(file, text.as_bytes());
     /// # Ok::<(), multisize::Refusal>(())
     /// ```
@@ -177,19 +181,21 @@ impl Carver {
         Ok(out)
     }
 
-    /// Checks a file and gives what it says of its picture.
+    /// Checks a file, by the energy that it names, and gives what it says of its picture.
     ///
     /// # Errors
     ///
-    /// Refused by 1 for its form, by 2 and 3 for the sides, by 4 for the counts,
-    /// by 6 for the range, and by 9, 10 and 11 for the map.
+    /// Refused by 1 for its form, as where its energy line is missing, by 2 and 3 for the
+    /// sides, by 4 for the counts, by 6 for the range, and by 9, 10 and 11 for the map.
     ///
     /// ```
-    /// use multisize::{Carver, Refusal, Size};
+    /// use multisize::{Carver, Energy, Refusal, Size};
     ///
-    /// let file = b"(multi\n(size 3 1 grey)\n(range 1 0)\n(row 7 7 7)\n(map 1 0 0)\n)\n";
+    /// let file = b"(multi\n(size 3 1 grey)\n(range 1 0)\n(energy edge)\n\
+    ///     (row 7 7 7)\n(map 1 0 0)\n)\n";
     /// let head = Carver::new().check(file)?;
     /// assert_eq!((head.size, head.widths()), (Size::grey(3, 1), 2..=3));
+    /// assert_eq!(head.method.energy, Energy::Edge);
     /// assert_eq!(Carver::new().check(b"(multi"), Err(Refusal::Form));
     /// # Ok::<(), multisize::Refusal>(())
     /// ```
@@ -206,7 +212,8 @@ impl Carver {
     /// ```
     /// use multisize::Carver;
     ///
-    /// let file = b"(multi\n(size 3 1 grey)\n(range 1 0)\n(row 7 7 7)\n(map 1 0 0)\n)\n";
+    /// let file = b"(multi\n(size 3 1 grey)\n(range 1 0)\n(energy edge)\n\
+    ///     (row 7 7 7)\n(map 1 0 0)\n)\n";
     /// let contents = Carver::new().read(file)?;
     /// assert_eq!(contents.picture.samples(), [7, 7, 7]);
     /// assert_eq!(contents.map, [1, 0, 0]);
@@ -237,7 +244,8 @@ impl Carver {
     /// ```
     /// use multisize::{Carver, Refusal};
     ///
-    /// let file = b"(multi\n(size 3 1 grey)\n(range 1 0)\n(row 7 8 9)\n(map 1 0 0)\n)\n";
+    /// let file = b"(multi\n(size 3 1 grey)\n(range 1 0)\n(energy edge)\n\
+    ///     (row 7 8 9)\n(map 1 0 0)\n)\n";
     /// assert_eq!(Carver::new().show(file, 2)?.samples(), [8, 9]);
     /// assert_eq!(Carver::new().show(file, 4), Err(Refusal::Wanted));
     /// # Ok::<(), multisize::Refusal>(())

@@ -1,11 +1,11 @@
 //! Seam carving and multi-size files, over an archive of proved functions.
 //!
 //! A [`Picture`] has a size, a kind and samples. A [`Carver`] keeps the
-//! [`Method`] and the work space and has the operations: it finds and cuts seams,
-//! removes marked objects, retargets in both directions, and builds, checks, reads
-//! and shows multi-size files. Each gives its answer or a [`Refusal`] with its number;
-//! after a refusal everything lent is as it was. [`netpbm`] reads and writes
-//! pictures as P5 and P6, [`png`] as PNG.
+//! [`Method`], which names the [`Energy`], and the work space, and has the operations:
+//! it finds and cuts seams, removes marked objects, retargets in both directions, and
+//! builds, checks, reads and shows multi-size files. Each gives its answer or a
+//! [`Refusal`] with its number; after a refusal everything lent is as it was.
+//! [`netpbm`] reads and writes pictures as P5 and P6, [`png`] as PNG.
 //!
 //! ```
 //! use multisize::{Carver, Picture, Range, Size};

@@ -1,14 +1,48 @@
 //! The method that seams are found by.
 
-/// How a pixel's energy is worked out. Further rules may follow.
+/// How a pixel's energy is worked out: the differences to its right and to its lower
+/// neighbour, the channels added. What is taken where there is none is the rule's own.
+/// Further rules may follow.
 #[derive(Clone, Copy, Debug, Default, PartialEq, Eq, Hash)]
 #[non_exhaustive]
 pub enum Energy {
-    /// The differences to the right and to the lower neighbour, in the last column to
-    /// the left and in the last row to the upper one, the channels added. At width 1
-    /// the first is 0, at height 1 the second.
+    /// In the last column the difference to the left neighbour is taken, in the last row
+    /// that to the upper one. At width 1 the first is 0, at height 1 the second.
     #[default]
     Edge,
+    /// In the last column the first difference is 0, in the last row the second. So the
+    /// right and the bottom edge are lost first.
+    Flat,
+}
+
+impl Energy {
+    /// All of them.
+    pub const ALL: &'static [Energy] = &[Energy::Edge, Energy::Flat];
+
+    /// The word that names it in a file.
+    ///
+    /// ```
+    /// assert_eq!(multisize::Energy::Flat.word(), "flat");
+    /// ```
+    pub fn word(self) -> &'static str {
+        match self {
+            Energy::Edge => "edge",
+            Energy::Flat => "flat",
+        }
+    }
+
+    /// The energy that a word names, if there is one.
+    ///
+    /// ```
+    /// use multisize::Energy;
+    ///
+    /// assert_eq!(Energy::named("edge"), Some(Energy::Edge));
+    /// assert_eq!(Energy::named("Edge"), None);
+    /// ```
+    pub fn named(word: &str) -> Option<Energy> {
+        let mut all = Energy::ALL.iter().copied();
+        all.find(|energy| energy.word() == word)
+    }
 }
 
 /// The method that seams are found by. Further fields may follow; what they are by
@@ -17,9 +51,9 @@ pub enum Energy {
 /// ```
 /// use multisize::{Energy, Method};
 ///
-/// let method = Method::default().with_energy(Energy::Edge);
-/// assert_eq!(method, Energy::Edge.into());
-/// assert_eq!(method, Method::default());
+/// let method = Method::default().with_energy(Energy::Flat);
+/// assert_eq!(method, Energy::Flat.into());
+/// assert_eq!(Method::default(), Energy::Edge.into());
 /// ```
 #[derive(Clone, Copy, Debug, Default, PartialEq, Eq, Hash)]
 #[non_exhaustive]

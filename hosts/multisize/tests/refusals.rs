@@ -1,18 +1,23 @@
 //! Each refusal, and that what was lent stays as it was.
 
-use multisize::{Axis, Carver, Columns, Head, Picture, Range, Refusal, Rows, Size, LARGEST_COUNT};
+use multisize::LARGEST_COUNT;
+use multisize::{Axis, Carver, Columns, Energy, Head, Picture, Range, Refusal, Rows, Size};
 
 fn worked() -> Picture {
     Picture::new(Size::grey(3, 2), vec![10, 10, 40, 10, 50, 40]).unwrap()
 }
 
-/// A file with the worked picture.
+/// A file with the worked picture, by edge.
 fn checked(size: &str, range: &str, maps: [&str; 2]) -> Result<Head, Refusal> {
+    let head = format!("(size {size})\n(range {range})\n(energy edge)\n");
+    headed(&head, maps)
+}
+
+/// A file with the worked picture and these lines before its rows.
+fn headed(head: &str, maps: [&str; 2]) -> Result<Head, Refusal> {
     let [first, second] = maps;
     let rows = "(row 10 10 40)\n(row 10 50 40)";
-    let file = format!(
-        "(multi\n(size {size})\n(range {range})\n{rows}\n(map {first})\n(map {second})\n)\n"
-    );
+    let file = format!("(multi\n{head}{rows}\n(map {first})\n(map {second})\n)\n");
     Carver::new().check(file.as_bytes())
 }
 
@@ -27,6 +32,50 @@ fn the_worked_file_is_accepted() {
 fn refused_by_1() {
     assert_eq!(checked("03 2 grey", "2 1", MAPS), Err(Refusal::Form));
     assert_eq!(Carver::new().check(b""), Err(Refusal::Form));
+}
+
+/// The energy stands after the range, once and as one of its words.
+#[test]
+fn an_energy_line_out_of_form_is_refused_by_1() {
+    let (size, range, energy) = ("(size 3 2 grey)\n", "(range 2 1)\n", "(energy edge)\n");
+    assert!(headed(&[size, range, energy].concat(), MAPS).is_ok());
+    for lines in [
+        [size, range, ""],
+        [size, energy, range],
+        [energy, size, range],
+        [size, range, "(energy edge)\n(energy edge)\n"],
+        [size, range, "(energy edge)\n(energy flat)\n"],
+        [size, range, "(energy steep)\n"],
+        [size, range, "(energy Edge)\n"],
+        [size, range, "(energy edges)\n"],
+        [size, range, "(energy edge flat)\n"],
+        [size, range, "(energy (edge))\n"],
+        [size, range, "(energy  edge)\n"],
+        [size, range, "(energy edge )\n"],
+        [size, range, "(energy edge)"],
+        [size, range, "(energy)\n"],
+        [size, range, "(energy 0)\n"],
+        [size, range, "(energy grey)\n"],
+        [size, range, "(edge)\n"],
+    ] {
+        let given = headed(&lines.concat(), MAPS);
+        assert_eq!(given, Err(Refusal::Form), "{lines:?}");
+    }
+}
+
+/// Form comes first: the energy is read past what 2, 3 and 6 refuse.
+#[test]
+fn a_missing_energy_line_comes_before_other_numbers() {
+    for (size, range, number) in [
+        ("0 2 grey", "2 1", Refusal::Empty),
+        ("513 2 grey", "2 1", Refusal::Large),
+        ("3 1 grey", "2 1", Refusal::Length),
+        ("3 2 grey", "3 1", Refusal::Range),
+    ] {
+        assert_eq!(checked(size, range, MAPS), Err(number));
+        let head = format!("(size {size})\n(range {range})\n");
+        assert_eq!(headed(&head, MAPS), Err(Refusal::Form));
+    }
 }
 
 #[test]
@@ -94,6 +143,21 @@ fn refused_by_9_to_11() {
     assert_eq!(numbered(["1 0 2", "1 2 0"]), Err(Refusal::Other));
     // Nor is the first, which costs as much as the one found and comes after it.
     assert_eq!(numbered(["2 0 1", "0 2 1"]), Err(Refusal::Other));
+}
+
+/// The map of one energy is refused in a file that names the other.
+#[test]
+fn a_file_is_judged_by_the_energy_that_it_names() {
+    let judged = |word: &str, maps| {
+        let head = format!("(size 3 2 grey)\n(range 2 1)\n(energy {word})\n");
+        headed(&head, maps).map(|head| head.method.energy)
+    };
+    let flat = ["2 0 1", "0 2 1"];
+    assert_eq!(judged("edge", MAPS), Ok(Energy::Edge));
+    assert_eq!(judged("flat", flat), Ok(Energy::Flat));
+    assert_eq!(judged("edge", flat), Err(Refusal::Other));
+    assert_eq!(judged("flat", MAPS), Err(Refusal::Other));
+    assert_eq!(judged("flat", ["1 0 2", "0 2 1"]), Err(Refusal::Broken));
 }
 
 #[test]

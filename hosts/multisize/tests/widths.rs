@@ -1,6 +1,6 @@
 //! What was read is shown at every width as the file itself is shown.
 
-use multisize::{Carver, Contents, Kind, Picture, Range, Refusal, Size};
+use multisize::{Carver, Contents, Energy, Kind, Picture, Range, Refusal, Size};
 
 /// Slopes with noise, the same on every run.
 fn picture(size: Size) -> Picture {
@@ -20,23 +20,29 @@ fn read(size: Size, range: Range, carver: &mut Carver) -> (Vec<u8>, Contents) {
     (file, contents)
 }
 
+/// At depths none, some and all, and at widths offered and not.
+fn shown_alike(size: Size, carver: &mut Carver) {
+    for depth in [0, size.width / 2, size.width - 1] {
+        let (file, contents) = read(size, Range::deep(size.width, depth), carver);
+        for wanted in 0..=2 * size.width + 1 {
+            assert_eq!(contents.show(wanted), carver.show(&file, wanted));
+        }
+    }
+}
+
 #[test]
 fn what_was_read_is_shown_as_the_file_is() {
-    let mut carver = Carver::new();
     let shapes = [(1, 1), (1, 5), (2, 3), (3, 1), (9, 7), (40, 3), (17, 30)];
-    for (width, height) in shapes {
-        for kind in [Kind::Grey, Kind::Rgb] {
-            let size = Size {
-                width,
-                height,
-                kind,
-            };
-            for depth in [0, width / 2, width - 1] {
-                let range = Range::deep(width, depth);
-                let (file, contents) = read(size, range, &mut carver);
-                for wanted in 0..=2 * width + 1 {
-                    assert_eq!(contents.show(wanted), carver.show(&file, wanted));
-                }
+    for energy in Energy::ALL {
+        let mut carver = Carver::by(*energy);
+        for (width, height) in shapes {
+            for kind in [Kind::Grey, Kind::Rgb] {
+                let size = Size {
+                    width,
+                    height,
+                    kind,
+                };
+                shown_alike(size, &mut carver);
             }
         }
     }

@@ -1,6 +1,6 @@
 //! The commands on multi-size files.
 
-use super::{apart, out, picture_out};
+use super::{apart, energy, out, picture_out};
 use crate::command::Command;
 use crate::failure::Failure;
 use crate::inputs::Input;
@@ -10,7 +10,7 @@ use std::ffi::{OsStr, OsString};
 use std::os::unix::ffi::{OsStrExt, OsStringExt};
 
 pub fn build(words: Vec<OsString>) -> Result<Command, Failure> {
-    let mut words = Words::of(words, &["-o", "--depth", "--growth"], &[])?;
+    let mut words = Words::of(words, &["-o", "--depth", "--growth", "--energy"], &[])?;
     let [picture] = words.plain(["the picture"])?;
     let picture = Input(picture);
     let out = out(&mut words)?.of_text("a multi-size file")?;
@@ -19,6 +19,7 @@ pub fn build(words: Vec<OsString>) -> Result<Command, Failure> {
         picture,
         depth: words.number("--depth")?,
         growth: words.number("--growth")?,
+        energy: energy(&mut words)?,
     })
 }
 

@@ -1,6 +1,6 @@
 //! The commands on pictures.
 
-use super::picture_out;
+use super::{energy, picture_out};
 use crate::command::{Command, Marks, Width};
 use crate::failure::Failure;
 use crate::inputs::Input;
@@ -10,13 +10,14 @@ use std::ffi::OsString;
 use std::os::unix::ffi::{OsStrExt, OsStringExt};
 
 pub fn carve(words: Vec<OsString>) -> Result<Command, Failure> {
-    let mut words = Words::of(words, &["-o"], &[])?;
+    let mut words = Words::of(words, &["-o", "--energy"], &[])?;
     let [picture, width] = words.plain(["the picture", "the width"])?;
     let picture = Input(picture);
     Ok(Command::Carve {
         width: wanted(width)?,
         out: picture_out(&mut words, &[&picture])?,
         picture,
+        energy: energy(&mut words)?,
     })
 }
 
@@ -32,7 +33,8 @@ fn wanted(word: OsString) -> Result<Width, Failure> {
 }
 
 pub fn remove(words: Vec<OsString>) -> Result<Command, Failure> {
-    let mut words = Words::of(words, &["-o", "--budget", "--take", "--keep"], &[])?;
+    let known = ["-o", "--budget", "--take", "--keep", "--energy"];
+    let mut words = Words::of(words, &known, &[])?;
     let ([picture], mut more) = words.plain_and_more(["the picture"])?;
     let picture = Input(picture);
     let (take, keep) = (words.option("--take"), words.option("--keep"));
@@ -47,6 +49,7 @@ pub fn remove(words: Vec<OsString>) -> Result<Command, Failure> {
         picture,
         marks,
         budget: words.number("--budget")?.unwrap_or(u16::MAX),
+        energy: energy(&mut words)?,
     })
 }
 
@@ -71,7 +74,7 @@ fn marks(
 }
 
 pub fn retarget(words: Vec<OsString>) -> Result<Command, Failure> {
-    let mut words = Words::of(words, &["-o", "--rows", "--columns"], &[])?;
+    let mut words = Words::of(words, &["-o", "--rows", "--columns", "--energy"], &[])?;
     let [picture] = words.plain(["the picture"])?;
     let picture = Input(picture);
     Ok(Command::Retarget {
@@ -79,6 +82,7 @@ pub fn retarget(words: Vec<OsString>) -> Result<Command, Failure> {
         columns: Columns(words.number("--columns")?.unwrap_or(0)),
         out: picture_out(&mut words, &[&picture])?,
         picture,
+        energy: energy(&mut words)?,
     })
 }
 

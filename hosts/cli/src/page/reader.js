@@ -27,6 +27,13 @@ class Place {
     this.at += words.length;
   }
 
+  // Passes one of these words and gives it. None of them begins another.
+  word(known) {
+    const word = known.find((one) => this.text.startsWith(one, this.at)) ?? this.fail(known.join(" or "));
+    this.at += word.length;
+    return word;
+  }
+
   // Passes a number without leading zeros, at most `most`, and gives it.
   number(most) {
     const start = this.at;
@@ -42,10 +49,11 @@ class Place {
 }
 
 const LARGEST_SIDE = 512;
+const ENERGIES = ["edge", "flat"];
 
-// What stands in a file's text: width, height, channels, depth, growth, the samples, and for each pixel the number of the
-// seam that takes it, or 0. The form, the counts and the numbers of each map row are judged. Whether the seams are the
-// cheapest isn't: `multisize page` has checked that.
+// What stands in a file's text: width, height, channels, depth, growth, the energy that its seams are found by, the samples,
+// and for each pixel the number of the seam that takes it, or 0. The form, the counts and the numbers of each map row are
+// judged. Whether the seams are the cheapest isn't: `multisize page` has checked that.
 function readFile(text) {
   const place = new Place(text);
   place.pass("(multi\n(size ");
@@ -58,12 +66,14 @@ function readFile(text) {
   const depth = place.number(width - 1);
   place.pass(" ");
   const growth = place.number(Math.min(depth, Math.floor(width / 2)));
+  place.pass(")\n(energy ");
+  const energy = place.word(ENERGIES);
   place.pass(")\n");
   const samples = readRows(place, width, height, channels);
   const map = readMap(place, width, height, depth);
   place.pass(")\n");
   if (place.at < text.length) place.fail("its end");
-  return { width, height, channels, depth, growth, samples, map };
+  return { width, height, channels, depth, growth, energy, samples, map };
 }
 
 function readRows(place, width, height, channels) {

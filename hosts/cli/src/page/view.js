@@ -64,6 +64,7 @@ class View {
       Original: `${file.width} by ${file.height}, ${file.channels === 3 ? "rgb" : "grey"}`,
       Widths: least === most ? `${least}` : `${least} to ${most}`,
       Seams: `${file.depth}`,
+      Energy: file.energy,
       "Multi-size file": counted(this.bytes.length, "byte"),
     };
     for (const [name, value] of Object.entries(facts)) {

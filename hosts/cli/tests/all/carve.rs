@@ -117,7 +117,7 @@ fn a_refused_file_is_shown_at_no_width() {
 #[test]
 fn info_as_json() {
     let json = "{\"width\": 3, \"height\": 2, \"kind\": \"grey\", \"depth\": 2, \"growth\": 1, \
-        \"narrowest\": 1, \"widest\": 4}\n";
+        \"energy\": \"edge\", \"narrowest\": 1, \"widest\": 4}\n";
     let folder = Folder::worked("json");
     assert_eq!(folder.served("info picture.multi --json"), json);
 }

@@ -1,7 +1,7 @@
 //! Refusals, wrong use, and files that can't be read or written.
 
 use crate::helpers::{Folder, BROKEN, PICTURE};
-use multisize::{LARGEST_COUNT, LARGEST_SIDE};
+use multisize::{Energy, LARGEST_COUNT, LARGEST_SIDE};
 
 #[test]
 fn a_refusal_names_file_number_and_meaning() {
@@ -125,13 +125,6 @@ fn links_and_devices_stay_what_they_are() {
     assert!(full.error.starts_with("multisize: /dev/full: "));
 }
 
-/// Wrong use ends with status 2 and this text.
-fn told(folder: &Folder, line: &str, text: &str) {
-    let ran = folder.run(line);
-    let told = format!("multisize: {text} (multisize --help says more)\n");
-    assert_eq!((ran.status, ran.error), (2, told), "{line}");
-}
-
 #[test]
 fn wrong_use_is_told() {
     let folder = Folder::worked("usage");
@@ -163,7 +156,7 @@ fn wrong_use_is_told() {
         ("show picture.multi -o a", "the width is missing"),
         ("show picture.multi +2 -o a", "the width can't be +2"),
     ] {
-        told(&folder, line, text);
+        folder.misused(line, text);
     }
     assert_eq!(folder.names(), ["picture.multi", "picture.pgm"]);
 }
@@ -200,7 +193,7 @@ fn wrong_use_of_several_widths_and_pictures_is_told() {
         ),
         ("remove a b c -o d", "one picture of marks is enough"),
     ] {
-        told(&folder, line, text);
+        folder.misused(line, text);
     }
     assert_eq!(folder.names(), ["picture.multi", "picture.pgm"]);
 }
@@ -226,6 +219,9 @@ fn help_and_version() {
     assert_eq!(folder.served("help"), help);
     assert!(help.contains(&format!("each side is 1 to {LARGEST_SIDE}.")));
     assert!(help.contains(&format!("each 0 to {LARGEST_COUNT} and")));
+    for energy in Energy::ALL {
+        assert!(help.contains(energy.word()));
+    }
     assert_eq!(folder.served("--version"), "multisize 0.1.0\n");
 }
 

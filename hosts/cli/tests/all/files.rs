@@ -39,7 +39,7 @@ fn standard_input_and_output() {
 fn check_and_info() {
     let folder = Folder::worked("info");
     assert_eq!(folder.served("check picture.multi"), "accepted\n");
-    let info = "width 3, height 2, grey\ndepth 2, growth 1\nwidths 1 to 4\n";
+    let info = "width 3, height 2, grey\ndepth 2, growth 1\nenergy edge\nwidths 1 to 4\n";
     assert_eq!(folder.served("info picture.multi"), info);
 }
 

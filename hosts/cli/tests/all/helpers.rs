@@ -7,10 +7,13 @@ use std::process::{self, Command, Stdio};
 
 /// The worked picture, and its file.
 pub const PICTURE: &[u8] = b"P5\n3 2\n255\n\x0a\x0a\x28\x0a\x32\x28";
-pub const FILE: &[u8] = b"(multi\n(size 3 2 grey)\n(range 2 1)\n\
+pub const FILE: &[u8] = b"(multi\n(size 3 2 grey)\n(range 2 1)\n(energy edge)\n\
     (row 10 10 40)\n(row 10 50 40)\n(map 1 0 2)\n(map 1 0 2)\n)\n";
+/// Its file by flat.
+pub const FLAT: &[u8] = b"(multi\n(size 3 2 grey)\n(range 2 1)\n(energy flat)\n\
+    (row 10 10 40)\n(row 10 50 40)\n(map 2 0 1)\n(map 0 2 1)\n)\n";
 /// The file, but with seam 1 at columns 0 and 2: it isn't connected.
-pub const BROKEN: &[u8] = b"(multi\n(size 3 2 grey)\n(range 2 1)\n\
+pub const BROKEN: &[u8] = b"(multi\n(size 3 2 grey)\n(range 2 1)\n(energy edge)\n\
     (row 10 10 40)\n(row 10 50 40)\n(map 1 0 2)\n(map 0 2 1)\n)\n";
 
 /// What a run gave.
@@ -83,6 +86,13 @@ impl Folder {
             out: ran.stdout,
             error: String::from_utf8(ran.stderr).unwrap(),
         }
+    }
+
+    /// Wrong use ends with status 2 and this text.
+    pub fn misused(&self, line: &str, text: &str) {
+        let ran = self.run(line);
+        let told = format!("multisize: {text} (multisize --help says more)\n");
+        assert_eq!((ran.status, ran.error), (2, told), "{line}");
     }
 
     /// What the program writes, where nothing is to go wrong.

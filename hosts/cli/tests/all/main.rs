@@ -2,6 +2,7 @@
 
 mod carve;
 mod decoder;
+mod energies;
 mod errors;
 mod files;
 mod formats;

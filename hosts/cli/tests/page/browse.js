@@ -72,6 +72,8 @@ async function compare(name, source, options, browser) {
   const [original] = netpbm(source).size;
   const [least, most] = found.range;
   check(`${name}: problem`, found.problem, "");
+  const energy = options.includes("flat") ? "flat" : "edge";
+  check(`${name}: energy`, found.facts.includes(`Energy${energy}`), true);
   check(`${name}: start`, found.start, { width: original, sum: sumOf(netpbm(source).rgb) });
   for (let width = least; width <= most; width++) {
     const said = words(width, original);
@@ -98,7 +100,7 @@ async function compare(name, source, options, browser) {
 async function main() {
   const browser = new Browser(browserName, inFolder("profile"));
   try {
-    const chosen = ["worked", "slope", "noise-grey", "noise-rgb", "shallow"];
+    const chosen = ["worked", "worked-by-flat", "slope", "noise-grey", "noise-rgb", "shallow"];
     for (const [name, source, options] of pictures()) {
       if (chosen.includes(name)) await compare(name, source, options, browser);
     }

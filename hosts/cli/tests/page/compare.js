@@ -95,6 +95,8 @@ async function compareFile(name, netpbm, options) {
   const [least, most] = page.widthsOf(file);
   const info = multisize("info", inFolder(`${name}.multi`)).toString();
   check(`${name}: widths`, info.includes(`\nwidths ${least} to ${most}\n`));
+  check(`${name}: energy`, info.includes(`\nenergy ${file.energy}\n`));
+  check(`${name}: energy as asked`, file.energy === (options.includes("flat") ? "flat" : "edge"));
   for (let width = least; width <= most; width++) {
     await compareWidth(name, page, file, width);
     judgeSeams(name, page, file, width);
@@ -117,7 +119,10 @@ function refuseTexts(page) {
   };
   for (let length = 0; length < text.length; length++) refused(`cut after ${length}`, text.slice(0, length));
   const edits = [["(size 3 2 grey)", "(size 03 2 grey)"], ["(size 3 2 grey)", "(size 0 2 grey)"], ["(size 3 2", "(size 3 513"],
-    ["grey", "gray"], ["(range 2 1)", "(range 3 1)"], ["(range 2 1)", "(range 2 2)"], ["(row 10 10 40)", "(row 10 10 256)"],
+    ["grey", "gray"], ["(range 2 1)", "(range 3 1)"], ["(range 2 1)", "(range 2 2)"], ["(energy edge)\n", ""],
+    ["(energy edge)", "(energy Edge)"], ["(energy edge)", "(energy steep)"], ["(energy edge)", "(energy edges)"],
+    ["(energy edge)", "(energy )"], ["(energy edge)", "(energy)"], ["(energy edge)", "(energy edge)\n(energy edge)"],
+    ["(range 2 1)\n(energy edge)", "(energy edge)\n(range 2 1)"], ["(row 10 10 40)", "(row 10 10 256)"],
     ["(row 10 10 40)", "(row 10 10)"], ["(row 10 10 40)", "(row 10 10 40 40)"], ["(map 1 0 2)", "(map 1 0 3)"],
     ["(map 1 0 2)", "(map 2 2 1)"], ["(map 1 0 2)", "(map 1 0 1)"], ["(map 1 0 2)\n)\n", "(map 1 0 2)\n)\n\n"], ["\n", "\r\n"]];
   for (const [from, to] of edits) refused(to, text.replace(from, to));

@@ -29,6 +29,7 @@
   };
 
   found.problem = at("problem").textContent;
+  found.facts = at("facts").textContent;
   found.range = [Number(at("width").min), Number(at("width").max)];
   found.start = { width: Number(at("width").value), sum: sum() };
   for (let width = found.range[0]; width <= found.range[1]; width++) {

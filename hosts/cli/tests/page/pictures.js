@@ -17,6 +17,7 @@ function netpbm(width, height, channels, sample) {
   return Buffer.concat([Buffer.from(`P${channels === 3 ? 6 : 5}\n${width} ${height}\n255\n`), bytes]);
 }
 
+const worked = (column, row) => [[10, 10, 40], [10, 50, 40]][row][column];
 const flat = () => 7;
 const slope = (column, row, channel) => column * 5 + row * 3 + channel * 40;
 const steps = (column, row) => (column > 6 ? 200 : 20) + (row > 3 ? 30 : 0);
@@ -32,7 +33,7 @@ function fading(seed, width) {
 // Name, Netpbm bytes, and the options of `multisize build`.
 function pictures() {
   return [
-    ["worked", netpbm(3, 2, 1, (column, row) => [[10, 10, 40], [10, 50, 40]][row][column]), []],
+    ["worked", netpbm(3, 2, 1, worked), []],
     ["one-pixel", netpbm(1, 1, 3, slope), []],
     ["one-column", netpbm(1, 7, 1, noise(1)), []],
     ["two-columns", netpbm(2, 5, 3, noise(2)), []],
@@ -45,6 +46,8 @@ function pictures() {
     ["noise-rgb", netpbm(36, 21, 3, noise(5)), []],
     ["fading-grey", netpbm(14, 9, 1, fading(10, 14)), []],
     ["fading-rgb", netpbm(15, 9, 3, fading(11, 15)), []],
+    ["worked-by-flat", netpbm(3, 2, 1, worked), ["--energy", "flat"]],
+    ["noise-by-flat", netpbm(22, 13, 3, noise(12)), ["--energy", "flat"]],
     ["shallow", netpbm(25, 10, 3, noise(6)), ["--depth", "6", "--growth", "2"]],
     ["no-seam", netpbm(9, 4, 1, noise(7)), ["--depth", "0"]],
     ["no-growth", netpbm(16, 12, 1, noise(8)), ["--growth", "0"]],

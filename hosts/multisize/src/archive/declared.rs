@@ -9,7 +9,7 @@ pub struct HostSize {
     pub kind: u8,
 }
 
-/// The method that seams are found by; energy 0 is the differences at edges.
+/// The method that seams are found by; energy 0 is edge, 1 is flat.
 #[repr(C)]
 pub struct HostMethod {
     pub energy: u8,

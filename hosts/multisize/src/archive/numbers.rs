@@ -32,6 +32,7 @@ pub fn host_size(size: Size) -> HostSize {
 pub fn host_method(method: Method) -> HostMethod {
     let energy = match method.energy {
         Energy::Edge => 0,
+        Energy::Flat => 1,
     };
     HostMethod { energy }
 }
@@ -49,6 +50,7 @@ pub fn size_of(size: HostSize) -> Size {
 pub fn method_of(method: HostMethod) -> Method {
     match method.energy {
         0 => Energy::Edge.into(),
+        1 => Energy::Flat.into(),
         other => unreachable!("the archive has no energy {other}"),
     }
 }
