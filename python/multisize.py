@@ -11,8 +11,8 @@ Every seam, file and refusal comes from the shared library, whose functions are 
 An operation that can't be served raises Refused, with the number and its meaning. Nothing that is passed is changed: what
 an operation leaves of a picture or of marks is given back.
 
-An operation on a picture finds its seams by the energy that the keyword `energy` names, by default "edge"; a word that
-names none is refused by 1. A file says its own: `check(file).energy`.
+An operation on a picture finds its seams by the energy that the keyword `energy` names, "edge" or "flat", by default "edge";
+a word that names none is refused by 1. What they are, `energies` says. A file names its own: `check(file).energy`.
 
 The shared library is looked for where MULTISIZE_LIBRARY says, then where ./install puts it beside this module, then where
 the system keeps its libraries.
@@ -32,6 +32,7 @@ VERTICAL = "vertical"
 HORIZONTAL = "horizontal"
 
 EDGE = "edge"
+FLAT = "flat"
 
 PLAIN = 0
 PROTECTED = 1
@@ -40,7 +41,7 @@ TO_BE_REMOVED = 2
 # The place of a word in its list is the number by which the library knows it.
 _KINDS = ("grey", "rgb")
 _AXES = (VERTICAL, HORIZONTAL)
-_ENERGIES = (EDGE,)
+_ENERGIES = (EDGE, FLAT)
 _ENDINGS = (None, "done", "narrow", "spent", "blocked")
 _NONE_OF_THEM = 255
 
@@ -151,8 +152,9 @@ class Contents(NamedTuple):
 
 
 def energies(picture: Picture, row: int, *, energy: str = EDGE) -> tuple:
-    """The energies of a row. By "edge" they are |right neighbour - it| + |lower neighbour - it|, the channels added. In the
-    last column the left neighbour is taken, in the last row the upper one; at width 1 the first is 0, at height 1 the second.
+    """The energies of a row: |right neighbour - it| + |lower neighbour - it|, the channels added. By "edge" the left neighbour
+    is taken in the last column and the upper one in the last row; at width 1 the first difference is 0, at height 1 the
+    second. By "flat" the first difference is 0 in the last column, and the second in the last row.
 
     Refused by 1 to 4, by 4 also where there is no such row.
     """
@@ -231,14 +233,15 @@ def retarget(picture: Picture, rows: int = 0, columns: int = 0, *, energy: str =
 def build(
     picture: Picture, depth: Optional[int] = None, growth: Optional[int] = None, *, energy: str = EDGE
 ) -> bytes:
-    """The multi-size file of a picture. The depth is by default the width less 1, the growth the most that is allowed.
+    """The multi-size file of a picture, which names the energy. The depth is by default the width less 1, the growth the most
+    that is allowed.
 
     Refused by 1 to 4, and by 6 where depth or growth isn't allowed.
     """
     depth = max(picture.width - 1, 0) if depth is None else _size(depth)
     growth = min(depth, picture.width // 2) if growth is None else _size(growth)
     pixels = _pixels(picture.width, picture.height)
-    out = _Space(ctypes.c_uint8, 45 + 12 * picture.height + pixels * (18 if picture.kind == "rgb" else 8) if pixels else 0)
+    out = _Space(ctypes.c_uint8, 59 + 12 * picture.height + pixels * (18 if picture.kind == "rgb" else 8) if pixels else 0)
     lent = (*_lent(picture), _method(energy), depth, growth, *out.lent, *_work_space(picture).lent)
     answer = _library.multisize_build(*lent)
     _judge(answer.number)
@@ -246,7 +249,8 @@ def build(
 
 
 def check(file: bytes) -> Head:
-    """Checks a file, any bytes, and gives its head. Accepted are the files that `build` gives, and no others.
+    """Checks a file, any bytes, by the energy that it names, and gives its head. Accepted are the files that `build` gives, and
+    no others.
 
     Refused by 1 to 4, 6, 9, 10 and 11.
     """

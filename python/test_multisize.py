@@ -6,6 +6,7 @@ The program is hosts/target/release/multisize, or what MULTISIZE_PROGRAM names; 
 is skipped.
 """
 
+import itertools
 import os
 import pathlib
 import pickle
@@ -21,7 +22,9 @@ ROOT = pathlib.Path(__file__).resolve().parent.parent
 PROGRAM = pathlib.Path(os.environ.get("MULTISIZE_PROGRAM", ROOT / "hosts/target/release/multisize"))
 
 WORKED = Picture(3, 2, "grey", bytes([10, 10, 40, 10, 50, 40]))
-FILE = b"(multi\n(size 3 2 grey)\n(range 2 1)\n(row 10 10 40)\n(row 10 50 40)\n(map 1 0 2)\n(map 1 0 2)\n)\n"
+HEAD, ROWS = b"(multi\n(size 3 2 grey)\n(range 2 1)\n", b"(row 10 10 40)\n(row 10 50 40)\n"
+FILE = HEAD + b"(energy edge)\n" + ROWS + b"(map 1 0 2)\n(map 1 0 2)\n)\n"
+FLAT_FILE = HEAD + b"(energy flat)\n" + ROWS + b"(map 2 0 1)\n(map 0 2 1)\n)\n"
 
 
 def with_last_map(numbers):
@@ -39,6 +42,8 @@ class Worked(unittest.TestCase):
     def test_energies(self):
         self.assertEqual(multisize.energies(WORKED, 0), (0, 70, 30))
         self.assertEqual(multisize.energies(WORKED, 1), (40, 50, 10))
+        self.assertEqual(multisize.energies(WORKED, 0, energy="flat"), (0, 70, 0))
+        self.assertEqual(multisize.energies(WORKED, 1, energy="flat"), (40, 10, 0))
 
     def test_seams_found_and_cut(self):
         found = multisize.find(WORKED)
@@ -50,10 +55,18 @@ class Worked(unittest.TestCase):
         self.assertEqual(second.picture.samples, bytes([10, 50]))
         self.assertEqual(WORKED.samples, bytes([10, 10, 40, 10, 50, 40]))
 
+    def test_seams_found_and_cut_by_flat(self):
+        first = multisize.cut(WORKED, energy="flat")
+        self.assertEqual(multisize.find(WORKED, energy="flat"), first.seam)
+        self.assertEqual((first.seam, first.picture.samples), (((2, 2), 0), bytes([10, 10, 10, 50])))
+        second = multisize.cut(first.picture, energy="flat")
+        self.assertEqual((second.seam, second.picture.samples), (((0, 1), 0), bytes([10, 10])))
+
     def test_a_horizontal_seam(self):
-        cut = multisize.cut(WORKED, HORIZONTAL)
-        self.assertEqual(cut.seam, ((0, 1, 1), 60))
-        self.assertEqual(cut.picture, (3, 1, "grey", bytes([10, 10, 40])))
+        for energy, seam in [("edge", ((0, 1, 1), 60)), ("flat", ((0, 1, 0), 10))]:
+            cut = multisize.cut(WORKED, HORIZONTAL, energy=energy)
+            self.assertEqual(cut.seam, seam)
+            self.assertEqual(cut.picture, (3, 1, "grey", bytes([10, 10, 40])))
 
     def test_seams_by_marks(self):
         marks = bytes([0, 2, 1, 0, 0, 0])
@@ -63,9 +76,10 @@ class Worked(unittest.TestCase):
         self.assertEqual(cut.picture.samples, bytes([10, 40, 10, 50]))
         self.assertEqual(cut.marks, bytes([0, 1, 0, 0]))
         self.assertEqual(marks, bytes([0, 2, 1, 0, 0, 0]))
+        self.assertEqual(multisize.find(WORKED, marks=marks, energy="flat"), ((1, 2), 70))
 
     def test_the_energy_may_be_named(self):
-        marks = bytes([0, 2, 1, 0, 0, 0])
+        marks = bytes([2, 0, 0, 0, 0, 0])
         for function, *words in [
             (multisize.energies, 0),
             (multisize.find,),
@@ -77,6 +91,7 @@ class Worked(unittest.TestCase):
             (multisize.build,),
         ]:
             self.assertEqual(function(WORKED, *words, energy="edge"), function(WORKED, *words))
+            self.assertNotEqual(function(WORKED, *words, energy="flat"), function(WORKED, *words))
         self.assertRaises(TypeError, multisize.energies, WORKED, 0, "edge")
 
     def test_removals_end_in_four_ways(self):
@@ -96,6 +111,7 @@ class Worked(unittest.TestCase):
         self.assertEqual(multisize.retarget(WORKED, columns=2), ((1, 2, "grey", bytes([10, 50])), 80))
         self.assertEqual(multisize.retarget(WORKED, 1, 1), ((2, 1, "grey", bytes([10, 40])), 60))
         self.assertEqual(multisize.retarget(WORKED).picture, WORKED)
+        self.assertEqual(multisize.retarget(WORKED, 1, 1, energy="flat"), ((2, 1, "grey", bytes([10, 10])), 0))
 
     def test_the_file_built_checked_and_read(self):
         self.assertEqual(multisize.build(WORKED), FILE)
@@ -105,6 +121,21 @@ class Worked(unittest.TestCase):
         self.assertEqual(list(head.widths), [1, 2, 3, 4])
         contents = multisize.read(FILE)
         self.assertEqual((contents.picture, list(contents.map), contents.head), (WORKED, [1, 0, 2, 1, 0, 2], head))
+
+    def test_the_file_of_flat(self):
+        self.assertEqual(multisize.build(WORKED, energy="flat"), FLAT_FILE)
+        head = multisize.check(FLAT_FILE)
+        self.assertEqual((head, head.energy), ((3, 2, "grey", 2, 1, "flat"), multisize.FLAT))
+        contents = multisize.read(FLAT_FILE)
+        self.assertEqual((list(contents.map), contents.head), ([2, 0, 1, 0, 2, 1], head))
+        shown = [list(multisize.show(FLAT_FILE, width).samples) for width in (1, 2, 4)]
+        self.assertEqual(shown, [[10, 10], [10, 10, 10, 50], [10, 10, 25, 40, 10, 50, 45, 40]])
+
+    def test_files_of_two_energies_differ(self):
+        plain = Picture(4, 3, "grey", bytes(12))
+        edge, flat = (multisize.build(plain, energy=energy) for energy in ("edge", "flat"))
+        self.assertNotEqual(edge, flat)
+        self.assertEqual(edge.replace(b"edge", b"flat"), flat)
 
     def test_the_file_shown(self):
         shown = {width: list(multisize.show(FILE, width).samples) for width in multisize.check(FILE).widths}
@@ -159,11 +190,13 @@ class Refusals(unittest.TestCase):
 
     def test_each_number(self):
         self.refused(1, multisize.check, b"")
+        for line in (b"", b"(energy steep)\n", b"(energy Edge)\n", b"(energy edge)\n(energy edge)\n"):
+            self.refused(1, multisize.check, FILE.replace(b"(energy edge)\n", line))
         self.refused(1, multisize.find, WORKED, "diagonal")
         self.refused(1, multisize.energies, WORKED, 0, energy="Edge")
         self.refused(1, multisize.remove, WORKED, bytes(6), energy=None)
         for function in (multisize.find, multisize.cut, multisize.retarget, multisize.build):
-            self.refused(1, function, WORKED, energy="forward")
+            self.refused(1, function, WORKED, energy="steep")
         for function in (multisize.find, multisize.cut):
             self.refused(1, function, WORKED, marks=bytes(6), energy=0)
         self.refused(4, multisize.energies, WORKED, 2)
@@ -178,6 +211,8 @@ class Refusals(unittest.TestCase):
         self.refused(9, multisize.read, with_last_map(b"2 2 1"))
         self.refused(10, multisize.check, with_last_map(b"0 2 1"))
         self.refused(11, multisize.show, with_last_map(b"1 2 0"), 3)
+        self.refused(11, multisize.check, FILE.replace(b"edge", b"flat"))
+        self.refused(11, multisize.check, FLAT_FILE.replace(b"flat", b"edge"))
         self.refused(12, multisize.cut, WORKED, marks=bytes([1] * 6))
         self.refused(13, multisize.cut, Picture(1, 2, "grey", b"\1\2"))
 
@@ -244,11 +279,12 @@ class AsTheCommand(unittest.TestCase):
         yield noise(14, 9, "rgb", seed=2)
 
     def test_files_and_widths(self):
-        for picture in self.pictures():
+        for picture, energy in itertools.product(self.pictures(), ("edge", "flat")):
             multisize.save(self.folder / "picture.ppm", picture)
-            self.assertEqual(self.run_command("build", "picture.ppm", "-o", "picture.multi").returncode, 0)
+            ran = self.run_command("build", "picture.ppm", "--energy", energy, "-o", "picture.multi")
+            self.assertEqual(ran.returncode, 0)
             file = (self.folder / "picture.multi").read_bytes()
-            self.assertEqual(multisize.build(picture), file)
+            self.assertEqual(multisize.build(picture, energy=energy), file)
             for width in multisize.check(file).widths:
                 shown = self.run_command("show", "picture.multi", width, "-o", "-").stdout
                 self.assertEqual(multisize.write_netpbm(multisize.show(file, width)), shown)
