@@ -1,5 +1,6 @@
 // A builder of multi-size files in C, with no promise: it works out every energy anew for each seam, as the
-// library does, and writes the same text. Rows keep their distance in the buffers while the picture narrows.
+// library does, by edge or by flat, and writes the same text. Rows keep their distance in the buffers while the picture
+// narrows.
 #include "shared.h"
 
 enum { SIDE = 512 };
@@ -17,23 +18,25 @@ static inline uint32_t apart(const uint8_t *a, const uint8_t *b, int channels) {
 }
 
 // The energies of a row of w pixels, at least 2: a seam is cut only where a column stays. The last pixel's neighbour is
-// the left one.
-static inline void row_energies(const uint8_t *row, const uint8_t *below, int w, int channels, uint32_t *energies) {
+// the left one, and by flat there is none.
+static inline void row_energies(const uint8_t *row, const uint8_t *below, int w, int channels, int by_flat,
+                                uint32_t *energies) {
     for (int c = 0; c + 1 < w; c++) {
         const uint8_t *it = row + c * channels;
         energies[c] = apart(it + channels, it, channels) + apart(below + c * channels, it, channels);
     }
     const uint8_t *last = row + (w - 1) * channels;
-    energies[w - 1] = apart(last - channels, last, channels) + apart(below + (w - 1) * channels, last, channels);
+    const uint8_t *beside = by_flat ? last : last - channels;
+    energies[w - 1] = apart(beside, last, channels) + apart(below + (w - 1) * channels, last, channels);
 }
 
-static inline void all_sums(int w, int h, int channels, size_t distance) {
+static inline void all_sums(int w, int h, int channels, int by_flat, size_t distance) {
     uint32_t energies[SIDE];
     for (int r = 0; r < h; r++) {
         const uint8_t *row = left + r * distance;
-        // The last row has the row above for the one below, or itself where there is no other.
-        const uint8_t *below = r + 1 < h ? row + distance : r > 0 ? row - distance : row;
-        row_energies(row, below, w, channels, energies);
+        // The last row has the row above for the one below, or itself by flat and where there is no other.
+        const uint8_t *below = r + 1 < h ? row + distance : r > 0 && !by_flat ? row - distance : row;
+        row_energies(row, below, w, channels, by_flat, energies);
         uint32_t *own = sums[r] + 1;
         own[-1] = own[w] = UINT32_MAX;
         if (r == 0) {
@@ -77,12 +80,12 @@ static inline void take_seam(const uint16_t *seam, int number, int w, Size z, in
     }
 }
 
-static inline void build_map(Size z, int channels) {
+__attribute__((always_inline)) static inline void build_map(Size z, int channels, int by_flat) {
     uint16_t seam[SIDE];
     for (size_t i = 0; i < z.width * z.height; i++) origins[i] = i % z.width, map[i] = 0;
     for (size_t number = 1; number < z.width; number++) {
         int w = z.width + 1 - number;
-        all_sums(w, z.height, channels, z.width * channels);
+        all_sums(w, z.height, channels, by_flat, z.width * channels);
         find_seam(w, z.height, seam);
         take_seam(seam, number, w, z, channels);
     }
@@ -113,9 +116,9 @@ static uint8_t *put_pixel(uint8_t *out, const uint8_t *pixel, int channels) {
     return out;
 }
 
-static size_t put_text(const uint8_t *picture, Size z, uint8_t *out) {
-    uint8_t *at = out + sprintf((char *)out, "(multi\n(size %zu %zu %s)\n(range %zu %zu)\n", z.width, z.height,
-                                z.channels == 3 ? "rgb" : "grey", z.width - 1, z.width / 2);
+static size_t put_text(const uint8_t *picture, Size z, int by_flat, uint8_t *out) {
+    uint8_t *at = out + sprintf((char *)out, "(multi\n(size %zu %zu %s)\n(range %zu %zu)\n(energy %s)\n", z.width, z.height,
+                                z.channels == 3 ? "rgb" : "grey", z.width - 1, z.width / 2, by_flat ? "flat" : "edge");
     for (size_t r = 0; r < z.height; r++) {
         at = put_word(at, "(row");
         for (size_t c = 0; c < z.width; c++) *at++ = ' ', at = put_pixel(at, picture + (r * z.width + c) * z.channels, z.channels);
@@ -129,13 +132,14 @@ static size_t put_text(const uint8_t *picture, Size z, uint8_t *out) {
     return put_word(at, ")\n") - out;
 }
 
-// The file of full depth and growth; gives its length. Compiled for each number of channels, so that the loops over them
-// are unrolled.
-size_t build_in_c(const uint8_t *picture, Size size, uint8_t *out) {
+// The file of full depth and growth; gives its length. The map is compiled for each number of channels and each energy, so
+// that the loops over channels are unrolled.
+size_t build_in_c(const uint8_t *picture, Size size, multisize_method method, uint8_t *out) {
+    int by_flat = method.energy == MULTISIZE_FLAT;
     memcpy(left, picture, size.width * size.height * size.channels);
     if (size.channels == 3)
-        build_map(size, 3);
+        by_flat ? build_map(size, 3, 1) : build_map(size, 3, 0);
     else
-        build_map(size, 1);
-    return put_text(picture, size, out);
+        by_flat ? build_map(size, 1, 1) : build_map(size, 1, 0);
+    return put_text(picture, size, by_flat, out);
 }

@@ -1,14 +1,14 @@
 // Times the library's operations on multi-size files: building the full map against a builder in C and against the
-// reference, checking against building, and one width shown. All texts must agree. Each figure is the best of the
-// rounds. With an argument, 1 or 3 channels, the files of 128 by 128 are built and checked once, so that the
-// instructions can be counted.
+// reference, checking against building, and one width shown; by flat, building against the builder in C. All texts must
+// agree. Each figure is the best of the rounds. With an argument, 1 or 3 channels, the files of 128 by 128 are built and
+// checked once, so that the instructions can be counted.
 #include "../pictures/terrain.h"
 #include "shared.h"
 
 uint64_t reference_build(Lent *lent, uint8_t *out, size_t room);
 uint64_t reference_check(Lent *lent, const uint8_t *file, size_t bytes);
 uint64_t reference_show(Lent *lent, const uint8_t *file, size_t bytes, size_t wanted, uint8_t *out);
-size_t build_in_c(const uint8_t *picture, Size size, uint8_t *out);
+size_t build_in_c(const uint8_t *picture, Size size, multisize_method method, uint8_t *out);
 
 enum { WANTED = 176 };
 
@@ -22,8 +22,8 @@ static void differ(const char *name, Size z) {
 static size_t build_by_library(Lent *lent, uint8_t *out) {
     Size z = lent->size;
     size_t pixels = z.width * z.height;
-    multisize_answer answer = multisize_build(lent->picture, pixels * z.channels, library_size(z), usual, z.width - 1,
-                                              z.width / 2, out, text_room(z), lent->work, 32 * pixels);
+    multisize_answer answer = multisize_build(lent->picture, pixels * z.channels, library_size(z), lent->method,
+                                              z.width - 1, z.width / 2, out, text_room(z), lent->work, 32 * pixels);
     if (answer.number) differ("build", z);
     return answer.value;
 }
@@ -35,7 +35,7 @@ static void check_by_library(Lent *lent, const uint8_t *file, size_t length) {
 
 static Lent lend(Size size) {
     size_t pixels = size.width * size.height;
-    Lent lent = {malloc(pixels * size.channels), NULL, NULL, malloc(32 * pixels), size};
+    Lent lent = {malloc(pixels * size.channels), NULL, NULL, malloc(32 * pixels), size, usual};
     fill_terrain(lent.picture, size.width, size.height, size.channels);
     return lent;
 }
@@ -59,6 +59,22 @@ static void show(Lent *lent, const uint8_t *file, size_t length, int rounds) {
     free(out), free(other);
 }
 
+static void build_by_flat(Lent *lent, uint8_t *file, uint8_t *other, int rounds) {
+    Size z = lent->size;
+    double built = 1e9, in_c = 1e9;
+    lent->method = flat;
+    for (int i = 0; i < rounds; i++) {
+        double t = seconds();
+        size_t length = build_by_library(lent, file);
+        keep_least(&built, t);
+        t = seconds();
+        size_t other_length = build_in_c(lent->picture, z, flat, other);
+        keep_least(&in_c, t);
+        if (length != other_length || memcmp(file, other, length)) differ("build by flat in C", z);
+    }
+    printf("  build by flat %.1f ms, unrolled C %.1f ms, ratio %.2f\n", built * 1e3, in_c * 1e3, built / in_c);
+}
+
 // The reference takes part in the first round alone.
 static void times(Size size, int rounds) {
     Lent lent = lend(size);
@@ -70,7 +86,7 @@ static void times(Size size, int rounds) {
         length = build_by_library(&lent, file);
         keep_least(&built, t);
         t = seconds();
-        size_t other_length = build_in_c(lent.picture, size, other);
+        size_t other_length = build_in_c(lent.picture, size, usual, other);
         keep_least(&in_c, t);
         if (length != other_length || memcmp(file, other, length)) differ("build in C", size);
         t = seconds();
@@ -92,6 +108,7 @@ static void times(Size size, int rounds) {
     printf("  check %.1f ms, reference %.1f ms, ratio %.3f\n", checked * 1e3, checked_by_reference * 1e3,
            checked / checked_by_reference);
     if (size.width == 480) show(&lent, file, length, rounds);
+    build_by_flat(&lent, file, other, rounds);
     free(file), free(other), give_back(&lent);
 }
 
@@ -101,7 +118,7 @@ static void once(size_t channels) {
     uint8_t *file = malloc(text_room(size));
     size_t length = build_by_library(&lent, file);
     check_by_library(&lent, file, length);
-    build_in_c(lent.picture, size, file);
+    build_in_c(lent.picture, size, usual, file);
     free(file), give_back(&lent);
 }
 

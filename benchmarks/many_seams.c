@@ -12,7 +12,7 @@ static void differ(const char *name) { printf("the answers of %s differ\n", name
 
 static Lent lend(Size size, size_t room) {
     size_t pixels = size.width * size.height;
-    Lent lent = {malloc(pixels * size.channels), calloc(pixels, 1), NULL, malloc(room), size};
+    Lent lent = {malloc(pixels * size.channels), calloc(pixels, 1), NULL, malloc(room), size, usual};
     fill_picture(lent.picture, size);
     return lent;
 }

@@ -1,7 +1,8 @@
 // Times the library's find and cut against the reference, and against plain C that does the same work with no promise:
 // energies, sums, the way back. Each figure is the best of the rounds; the buffers are not cleared between them, but
 // the library clears its work space. With an argument, 0 or 1, find runs once at the first or the second size, by the
-// library, by both ways in C and by the library with marks, so that the instructions of each can be counted.
+// library, by both ways in C and by the library with marks, so that the instructions of each can be counted. What is found
+// is found by edge, but where flat is named.
 #include "shared.h"
 
 enum { SIDE = 512, ROUNDS = 40 };
@@ -19,13 +20,14 @@ static inline uint32_t energy(const uint8_t *it, int beside, int below, int chan
     return sum;
 }
 
-// In the last column the neighbour is the left one, in the last row the upper one; a side of 1 has none.
-static void plain_energies(const uint8_t *p, int w, int h, int channels) {
+// By edge the neighbour of the last column is the left one, that of the last row the upper one, and a side of 1 has none; by
+// flat there is none in either.
+static void plain_energies(const uint8_t *p, int w, int h, int channels, int by_flat) {
     for (int r = 0; r < h; r++) {
         const uint8_t *row = p + r * w * channels;
-        int below = r + 1 < h ? w * channels : r > 0 ? -w * channels : 0;
+        int below = r + 1 < h ? w * channels : r > 0 && !by_flat ? -w * channels : 0;
         for (int c = 0; c + 1 < w; c++) energies[r * w + c] = energy(row + c * channels, channels, below, channels);
-        energies[r * w + w - 1] = energy(row + (w - 1) * channels, w > 1 ? -channels : 0, below, channels);
+        energies[r * w + w - 1] = energy(row + (w - 1) * channels, w > 1 && !by_flat ? -channels : 0, below, channels);
     }
 }
 
@@ -42,8 +44,8 @@ static void plain_sums(int w, int h) {
     }
 }
 
-static uint64_t plain_find(const uint8_t *p, int w, int h, int channels, uint16_t *seam) {
-    plain_energies(p, w, h, channels);
+static uint64_t plain_find(const uint8_t *p, int w, int h, int channels, int by_flat, uint16_t *seam) {
+    plain_energies(p, w, h, channels, by_flat);
     plain_sums(w, h);
     const uint32_t *row = sums + (h - 1) * w;
     int c = 0;
@@ -66,29 +68,30 @@ static uint64_t plain_find(const uint8_t *p, int w, int h, int channels, uint16_
 static uint64_t by_library(Lent *lent) {
     Size z = lent->size;
     size_t pixels = z.width * z.height;
-    return multisize_find(lent->picture, pixels * z.channels, library_size(z), usual, MULTISIZE_VERTICAL, lent->seam, z.height,
-                          lent->work, 32 * pixels)
+    return multisize_find(lent->picture, pixels * z.channels, library_size(z), lent->method, MULTISIZE_VERTICAL, lent->seam,
+                          z.height, lent->work, 32 * pixels)
         .value;
 }
 
 static uint64_t by_library_marked(Lent *lent) {
     Size z = lent->size;
     size_t pixels = z.width * z.height;
-    return multisize_find_marked(lent->picture, pixels * z.channels, lent->marks, pixels, library_size(z), usual,
+    return multisize_find_marked(lent->picture, pixels * z.channels, lent->marks, pixels, library_size(z), lent->method,
                                  MULTISIZE_VERTICAL, lent->seam, z.height, lent->work, 32 * pixels)
         .value;
 }
 
 __attribute__((noinline)) static uint64_t by_plain_c(Lent *lent) {
     Size z = lent->size;
-    return plain_find(lent->picture, z.width, z.height, z.channels, lent->seam);
+    return plain_find(lent->picture, z.width, z.height, z.channels, lent->method.energy == MULTISIZE_FLAT, lent->seam);
 }
 
 // The same, compiled for each number of channels: the loop over them is unrolled, and the rest becomes vectors.
 __attribute__((noinline)) static uint64_t by_unrolled_c(Lent *lent) {
     Size z = lent->size;
-    return z.channels == 3 ? plain_find(lent->picture, z.width, z.height, 3, lent->seam)
-                           : plain_find(lent->picture, z.width, z.height, 1, lent->seam);
+    int by_flat = lent->method.energy == MULTISIZE_FLAT;
+    return z.channels == 3 ? plain_find(lent->picture, z.width, z.height, 3, by_flat, lent->seam)
+                           : plain_find(lent->picture, z.width, z.height, 1, by_flat, lent->seam);
 }
 
 static void fill(Lent *lent) {
@@ -139,7 +142,8 @@ static double cut_time(Lent *lent, int axis) {
 
 static Lent lend(Size size) {
     size_t pixels = size.width * size.height;
-    Lent lent = {malloc(pixels * size.channels), malloc(pixels), malloc(SIDE * sizeof(uint16_t)), malloc(32 * pixels), size};
+    Lent lent = {malloc(pixels * size.channels), malloc(pixels), malloc(SIDE * sizeof(uint16_t)), malloc(32 * pixels), size,
+                 usual};
     fill(&lent);
     return lent;
 }
@@ -153,6 +157,9 @@ static void times(Size size) {
     compare(&lent, "find_marked", by_library_marked, "reference", reference_find_marked);
     printf("  cut %.3f ms, horizontal cut %.3f ms\n", cut_time(&lent, MULTISIZE_VERTICAL) * 1e3,
            cut_time(&lent, MULTISIZE_HORIZONTAL) * 1e3);
+    lent.method = flat;
+    compare(&lent, "find by flat", by_library, "unrolled C", by_unrolled_c);
+    compare(&lent, "find by flat", by_library, "reference", reference_find);
 }
 
 static void once(Size size) {

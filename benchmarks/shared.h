@@ -14,14 +14,15 @@ static inline multisize_size library_size(Size z) {
     return (multisize_size){z.width, z.height, z.channels == 3 ? MULTISIZE_RGB : MULTISIZE_GREY};
 }
 
-static const multisize_method usual = {0};
+static const multisize_method usual = {0}, flat = {MULTISIZE_FLAT};
 
-// A picture and the spaces for its seam, as the reference takes them.
+// A picture, the spaces for its seam, and the method, as the reference takes them.
 typedef struct {
     uint8_t *picture, *marks;
     uint16_t *seam;
     uint8_t *work;
     Size size;
+    multisize_method method;
 } Lent;
 
 static inline void fill_picture(uint8_t *picture, Size size) {

@@ -1,10 +1,10 @@
 //! The reference's operations as functions that C calls: vertical seams found,
 //! with the cost alone as the answer, objects removed, retargets, and files.
 
-use reference::{Axis, Columns, Kind, Rows, Size};
+use reference::{Axis, Columns, EnergyRule, Kind, Method, Rows, Size};
 use std::slice::{from_raw_parts, from_raw_parts_mut};
 
-/// A picture and the spaces for its seam, as C hands them over.
+/// A picture, the spaces for its seam, and the method, as C hands them over.
 #[repr(C)]
 pub struct Lent {
     picture: *mut u8,
@@ -14,9 +14,18 @@ pub struct Lent {
     width: usize,
     height: usize,
     channels: usize,
+    energy: u8,
 }
 
 impl Lent {
+    fn method(&self) -> Method {
+        let energy = match self.energy {
+            0 => EnergyRule::Edge,
+            _ => EnergyRule::Flat,
+        };
+        Method { energy }
+    }
+
     fn size(&self) -> Size {
         Size {
             width: self.width,
@@ -50,9 +59,9 @@ impl Lent {
 /// As for `Lent::parts`.
 #[no_mangle]
 pub unsafe extern "C" fn reference_find(lent: &mut Lent) -> u64 {
-    let size = lent.size();
+    let (size, method) = (lent.size(), lent.method());
     let (picture, seam, work) = lent.parts();
-    let found = reference::find(picture, size, Axis::Vertical, seam, work);
+    let found = reference::find(picture, size, method, Axis::Vertical, seam, work);
     found.expect("a seam is found")
 }
 
@@ -60,10 +69,10 @@ pub unsafe extern "C" fn reference_find(lent: &mut Lent) -> u64 {
 /// As for `Lent::parts`, with a mark for each pixel.
 #[no_mangle]
 pub unsafe extern "C" fn reference_find_marked(lent: &mut Lent) -> u64 {
-    let size = lent.size();
+    let (size, method) = (lent.size(), lent.method());
     let marks = from_raw_parts(lent.marks, lent.pixels());
     let (picture, seam, work) = lent.parts();
-    let found = reference::find_marked(picture, marks, size, Axis::Vertical, seam, work);
+    let found = reference::find_marked(picture, marks, size, method, Axis::Vertical, seam, work);
     found.expect("a seam is found")
 }
 
@@ -78,7 +87,7 @@ pub unsafe extern "C" fn reference_remove(lent: &mut Lent) -> u64 {
     let picture = from_raw_parts_mut(lent.picture, lent.channels * pixels);
     let marks = from_raw_parts_mut(lent.marks, pixels);
     let work = from_raw_parts_mut(lent.work, 32 * pixels);
-    let ended = reference::remove_object(picture, marks, size, u16::MAX, work);
+    let ended = reference::remove_object(picture, marks, size, lent.method(), u16::MAX, work);
     let (_, count) = ended.expect("objects are removed");
     u64::from(count)
 }
@@ -100,7 +109,8 @@ pub unsafe extern "C" fn reference_retarget(
     let picture = from_raw_parts(lent.picture, lent.channels * pixels);
     let out = from_raw_parts_mut(out, lent.channels * left);
     let work = from_raw_parts_mut(lent.work, (32 + 66 * lent.channels) * pixels);
-    let total = reference::retarget(picture, size, Rows(rows), Columns(columns), out, work);
+    let (method, rows, columns) = (lent.method(), Rows(rows), Columns(columns));
+    let total = reference::retarget(picture, size, method, rows, columns, out, work);
     total.expect("the picture is retargeted")
 }
 
@@ -116,7 +126,7 @@ pub unsafe extern "C" fn reference_build(lent: &mut Lent, out: *mut u8, room: us
     let out = from_raw_parts_mut(out, room);
     let work = from_raw_parts_mut(lent.work, 32 * pixels);
     let (depth, growth) = (size.width - 1, size.width / 2);
-    let length = reference::build(picture, size, depth, growth, out, work);
+    let length = reference::build(picture, size, lent.method(), depth, growth, out, work);
     length.expect("a file is built") as u64
 }
 
