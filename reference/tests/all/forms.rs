@@ -235,7 +235,7 @@ fn energy_lines_out_of_place_are_one() {
 }
 
 /// Lines that aren't the word `energy`, a blank and one of the two words.
-const BROKEN_ENERGY_LINES: [&str; 37] = [
+const BROKEN_ENERGY_LINES: [&str; 40] = [
     "",
     "energy edge",
     "(energy)",
@@ -262,8 +262,11 @@ const BROKEN_ENERGY_LINES: [&str; 37] = [
     "(energy edges)",
     "(energy edg)",
     "(energy e)",
+    "(energy FLAT)",
+    "(energy fla)",
     "(energy flat1)",
     "(energy flats)",
+    "(energy flatedge)",
     "(energy steep)",
     "(Energy edge)",
     "(energies edge)",

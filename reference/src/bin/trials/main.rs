@@ -9,7 +9,6 @@ use reference::{Axis, Columns, Ending, EnergyRule, Kind, Method, Rows, Size};
 use std::fmt::Display;
 
 /// Pseudo-random numbers below 65536.
-#[derive(Clone)]
 struct Numbers {
     seed: u64,
 }
@@ -78,8 +77,7 @@ fn trials(method: Method, numbers: &mut Numbers) {
         retarget_lines(size, method, numbers);
     }
     files::trials(method, numbers);
-    // These draw from a copy: the next trials go on with the same numbers.
-    rooms::trials(method, &mut numbers.clone());
+    rooms::trials(method, numbers);
 }
 
 /// How the removal of an object ends with its count, or the number given; the
