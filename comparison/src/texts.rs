@@ -86,17 +86,34 @@ pub fn some_numbers(width: usize, depth: usize) -> Vec<u16> {
 pub struct Words {
     pub size: Vec<String>,
     pub range: Vec<String>,
-    /// Each energy line; a good file has one.
-    pub energy: Vec<Vec<String>>,
-    /// After how many of the other sorts of lines (size, range, rows, map) the
-    /// energy lines stand.
-    pub energy_place: usize,
+    /// A good file has one.
+    pub energy: Vec<EnergyLine>,
     pub rows: Vec<Vec<String>>,
     pub map: Vec<Vec<String>>,
 }
 
-/// The energy line stands after the size and the range.
-const ENERGY_PLACE: usize = 2;
+/// An energy line, whole, and where it stands: ahead of the first line (0), the
+/// size (1), the range (2), the rows (3), the map (4) or the last line (5), or
+/// after that (6).
+#[derive(Clone)]
+pub struct EnergyLine {
+    pub text: String,
+    pub place: usize,
+}
+
+/// How many places there are for an energy line, and the one of a good file.
+pub const PLACES: usize = 7;
+const ENERGY_PLACE: usize = 3;
+
+impl EnergyLine {
+    /// The line with this word, where a good file has it.
+    pub fn of(word: &str) -> EnergyLine {
+        EnergyLine {
+            text: format!("(energy {word})"),
+            place: ENERGY_PLACE,
+        }
+    }
+}
 
 impl Words {
     pub fn of(parts: &Parts) -> Words {
@@ -114,35 +131,39 @@ impl Words {
                 name(kind).to_string(),
             ],
             range: vec![depth.to_string(), growth.to_string()],
-            energy: vec![vec![energy_name(parts.method).to_string()]],
-            energy_place: ENERGY_PLACE,
+            energy: vec![EnergyLine::of(energy_name(parts.method))],
             rows: rows.map(|row| pixels(row, kind)).collect(),
             map: parts.map.iter().map(|row| words(row)).collect(),
         }
     }
 
     pub fn text(&self) -> Vec<u8> {
-        let mut text = String::from("(multi\n");
-        let mut all = vec![
-            ("size", std::slice::from_ref(&self.size)),
-            ("range", std::slice::from_ref(&self.range)),
-            ("row", &self.rows),
-            ("map", &self.map),
+        let sorts: [Vec<String>; PLACES] = [
+            vec![String::from("(multi")],
+            lines("size", std::slice::from_ref(&self.size)),
+            lines("range", std::slice::from_ref(&self.range)),
+            lines("row", &self.rows),
+            lines("map", &self.map),
+            vec![String::from(")")],
+            Vec::new(),
         ];
-        all.insert(self.energy_place, ("energy", &self.energy));
-        for (word, lines) in all {
-            for line in lines {
-                text += &format!("({word}");
-                for item in line {
-                    text += " ";
-                    text += item;
-                }
-                text += ")\n";
+        let mut text = String::new();
+        for (place, sort) in sorts.iter().enumerate() {
+            let energy = self.energy.iter().filter(|line| line.place == place);
+            for line in energy.map(|line| &line.text).chain(sort) {
+                text += line;
+                text += "\n";
             }
         }
-        text += ")\n";
         text.into_bytes()
     }
+}
+
+/// Lines that begin with this word, each with its items.
+fn lines(word: &str, all: &[Vec<String>]) -> Vec<String> {
+    let line =
+        |items: &Vec<String>| format!("({})", [&[word.to_string()], &items[..]].concat().join(" "));
+    all.iter().map(line).collect()
 }
 
 fn name(kind: Kind) -> &'static str {

@@ -1,11 +1,11 @@
 //! Changes to the words of a file's lines: numbers, kinds, energies, counts.
 
 use crate::random::Random;
-use crate::texts::{some_numbers, Words};
+use crate::texts::{some_numbers, EnergyLine, Words, PLACES};
 
 type Change = fn(&mut Random, &mut Words);
 
-const CHANGES: [Change; 16] = [
+const CHANGES: [Change; 17] = [
     replace_side,
     replace_side,
     replace_range,
@@ -13,6 +13,7 @@ const CHANGES: [Change; 16] = [
     replace_kind,
     replace_energy,
     replace_energy,
+    break_energy,
     move_energy,
     drop_or_add_energy,
     replace_item,
@@ -29,10 +30,39 @@ const BROKEN: [&str; 10] = [
     "00", "03", "010", "65536", "99999", "-1", "+1", "1x", "x", "",
 ];
 
-/// The two energies, and what isn't one: other words, numbers, capital letters.
-const ENERGIES: [&str; 18] = [
+/// The two energies, and what isn't one: other words, the two cut short or
+/// longer, numbers, capital letters.
+const ENERGIES: [&str; 20] = [
     "edge", "flat", "edge", "flat", "Edge", "FLAT", "flaT", "steep", "grey", "rgb", "energy",
-    "edges", "fla", "0", "1", "", "(edge)", "()",
+    "edges", "edg", "flats", "fla", "0", "1", "", "(edge)", "()",
+];
+
+/// Energy lines that break their form otherwise than by the word that they name.
+const ENERGY_LINES: [&str; 24] = [
+    "(energy)",
+    "(energyedge)",
+    "(energy  edge)",
+    "( energy edge)",
+    "(energy edge )",
+    "(energy edge edge)",
+    "(energy edge flat)",
+    "(energy flat 1)",
+    "(edge)",
+    "(flat)",
+    "(flat energy)",
+    "(energies edge)",
+    "(energ flat)",
+    "(Energy edge)",
+    "(range edge)",
+    "energy edge",
+    "(energy edge",
+    "energy flat)",
+    "((energy edge))",
+    "(energy flat))",
+    " (energy edge)",
+    "(energy flat) ",
+    "(energy\tedge)",
+    "",
 ];
 
 /// Items that break the form of one kind or of both.
@@ -102,24 +132,38 @@ fn replace_kind(random: &mut Random, words: &mut Words) {
 
 /// Another word gives 1; the other energy, by which the file is judged then, 11.
 fn replace_energy(random: &mut Random, words: &mut Words) {
-    if let Some(energy) = words.energy.first_mut().and_then(|line| line.first_mut()) {
-        *energy = random.pick(&ENERGIES).to_string();
+    let word = random.pick(&ENERGIES);
+    set_energy_line(words, &format!("(energy {word})"));
+}
+
+/// An energy line of another form: 1.
+fn break_energy(random: &mut Random, words: &mut Words) {
+    set_energy_line(words, random.pick(&ENERGY_LINES));
+}
+
+fn set_energy_line(words: &mut Words, text: &str) {
+    if let Some(line) = words.energy.first_mut() {
+        line.text = text.to_string();
     }
 }
 
-/// The energy line ahead of the size or of the range, after the rows or after
-/// the map: 1.
+/// The energy line ahead of all lines, of the size or of the range, after the
+/// rows, after the map or after all lines: 1.
 fn move_energy(random: &mut Random, words: &mut Words) {
-    words.energy_place = random.pick(&[0, 1, 3, 4]);
+    if let Some(line) = words.energy.first_mut() {
+        line.place = random.pick(&[0, 1, 2, 4, 5, 6]);
+    }
 }
 
-/// No energy line, or a second one with any energy: 1.
+/// No energy line, or a second one with either energy, at any place: 1.
 fn drop_or_add_energy(random: &mut Random, words: &mut Words) {
     if random.one_in(2) {
         words.energy.pop();
     } else {
-        let word = random.pick(&["edge", "flat"]);
-        words.energy.push(vec![word.to_string()]);
+        let mut line = EnergyLine::of(random.pick(&["edge", "flat"]));
+        let any = random.below(PLACES);
+        line.place = random.pick(&[line.place, any]);
+        words.energy.push(line);
     }
 }
 
@@ -168,16 +212,12 @@ fn drop_or_add_line(random: &mut Random, words: &mut Words) {
     }
 }
 
-/// A word too few or too many in the size, the range or the energy: 1.
+/// A number too few or too many in the size or the range: 1.
 fn change_head_count(random: &mut Random, words: &mut Words) {
-    match random.below(3) {
-        0 => drop_or_double(random, &mut words.size),
-        1 => drop_or_double(random, &mut words.range),
-        _ => {
-            if let Some(energy) = words.energy.first_mut() {
-                drop_or_double(random, energy);
-            }
-        }
+    if random.one_in(2) {
+        drop_or_double(random, &mut words.size);
+    } else {
+        drop_or_double(random, &mut words.range);
     }
 }
 
@@ -234,6 +274,7 @@ mod tests {
             ("range", replace_range, &[0, 1, 6, 9]),
             ("kind", replace_kind, &[0, 1]),
             ("energy", replace_energy, &[0, 1, 11]),
+            ("energy's form", break_energy, &[1]),
             ("energy's place", move_energy, &[1]),
             ("energy lines", drop_or_add_energy, &[1]),
             ("item", replace_item, &[0, 1, 9]),
@@ -255,7 +296,7 @@ mod tests {
     }
 
     /// Forms that the specification names, and others that break it.
-    const NAMED: [&str; 32] = [
+    const NAMED: [&str; 26] = [
         "(row)",
         "(row )",
         "(row ())",
@@ -277,16 +318,11 @@ mod tests {
         "((1 2 3))",
         "gray",
         "Grey",
-        "(energy)",
-        "(energy )",
-        "(energy edge edge)",
-        "(energy steep)",
-        "(energy grey)",
-        "(energy Edge)",
-        "(energy 1)",
-        "(energy ())",
+        // The energy line doubled, after the map, after all lines, and missing.
         "(energy flat)\n(energy edge)",
         "(energy edge)\n(energy edge)",
+        "(energy edge)\n)\n",
+        "\n)\n(energy flat)\n",
         "(range 0 0)\n(row ",
     ];
 
@@ -303,14 +339,19 @@ mod tests {
         for form in NAMED.into_iter().chain([zeros.as_str(), &ones]) {
             assert!(texts.iter().any(|text| text.contains(form)), "no {form}");
         }
+        let words = ENERGIES.map(|word| format!("(energy {word})"));
+        let lines = words.into_iter().chain(ENERGY_LINES.map(String::from));
+        for line in lines.map(|line| format!(")\n{line}\n(row ")) {
+            assert!(texts.iter().any(|text| text.contains(&line)), "no {line}");
+        }
     }
 
-    /// The word of the line ahead of the energy line.
-    fn word_ahead(words: &Words) -> String {
+    /// The word of the line ahead of the energy line, if there is one.
+    fn word_ahead(words: &Words) -> Option<String> {
         let text = String::from_utf8(words.text()).unwrap();
-        let (ahead, _) = text.split_once("\n(energy ").unwrap();
-        let line = ahead.lines().last().unwrap();
-        line.split(' ').next().unwrap().to_string()
+        let (ahead, _) = text.split_once("(energy ").unwrap();
+        let line = ahead.lines().last()?;
+        line.split(' ').next().map(String::from)
     }
 
     #[test]
@@ -319,10 +360,11 @@ mod tests {
         let mut ahead = BTreeSet::new();
         for _ in 0..100 {
             let mut words = Words::of(&drawn(&mut random));
-            assert_eq!(word_ahead(&words), "(range");
+            assert_eq!(word_ahead(&words).as_deref(), Some("(range"));
             move_energy(&mut random, &mut words);
             ahead.insert(word_ahead(&words));
         }
-        assert!(ahead.iter().eq(["(map", "(multi", "(row", "(size"]));
+        let others = [")", "(map", "(multi", "(row", "(size"].map(|word| Some(word.to_string()));
+        assert_eq!(ahead, BTreeSet::from_iter(others.into_iter().chain([None])));
     }
 }

@@ -28,14 +28,33 @@ pub fn compare_build(random: &mut Random, turn: u64) -> Result<u64, Difference> 
 }
 
 /// A picture as wide as the original or narrower, from a file whose map was
-/// made from all paths.
+/// made from all paths. Where that isn't the map of the energy that the file
+/// names, it is refused by 11: each of its seams is connected.
 pub fn compare_show(random: &mut Random, turn: u64) -> Result<u64, Difference> {
-    let size = shape(turn);
+    let (parts, is_own) = file(random, shape(turn));
+    let count = random.between(0, parts.range.depth);
+    let wanted = parts.size.width - count;
+    let case = one_file::Case::of_file(random, &parts, wanted, Gives::WidthShown);
+    let enumeration = |_: &one_file::Case, buffers: &mut one_file::Buffers| {
+        buffers.work.part_mut().fill(0);
+        if is_own {
+            show_by_paths(&parts, count, buffers)
+        } else {
+            SizeAnswer::refused(11)
+        }
+    };
+    case.compare("enumeration", enumeration, show::by_library)
+}
+
+/// A file whose map was made from all paths, by the energy that it names or by
+/// the other, and whether it is the map of its own energy.
+fn file(random: &mut Random, size: Size) -> (Parts, bool) {
     let range = ranges::allowed(random, size, usize::MAX);
-    let count = random.between(0, range.depth);
     let samples = samples(random, size);
-    let method = methods::drawn(random);
-    let map = map(&samples, size, method, range.depth);
+    let (method, by) = (methods::drawn(random), methods::drawn(random));
+    let map_by = |method| map(&samples, size, method, range.depth);
+    let (map, own) = (map_by(by), map_by(method));
+    let is_own = map == own;
     let parts = Parts {
         size,
         range,
@@ -43,10 +62,7 @@ pub fn compare_show(random: &mut Random, turn: u64) -> Result<u64, Difference> {
         samples,
         map,
     };
-    let wanted = size.width - count;
-    let case = one_file::Case::of_file(random, &parts, wanted, Gives::WidthShown);
-    let enumeration = |_: &one_file::Case, buffers: &mut _| show_by_paths(&parts, count, buffers);
-    case.compare("enumeration", enumeration, show::by_library)
+    (parts, is_own)
 }
 
 fn build_by_paths(
@@ -72,7 +88,6 @@ fn build_by_paths(
 
 /// What so many cuts leave of the picture.
 fn show_by_paths(parts: &Parts, count: usize, buffers: &mut one_file::Buffers) -> SizeAnswer {
-    buffers.work.part_mut().fill(0);
     let left = carved(&parts.samples, parts.size, parts.method, count, by_paths).0;
     buffers.out.part_mut()[..left.len()].copy_from_slice(&left);
     let width = parts.size.width - count;
@@ -114,6 +129,7 @@ fn by_paths(bytes: &[u8], size: Size, method: Method) -> (Vec<usize>, Vec<u8>) {
 mod tests {
     use super::*;
     use crate::methods::{EDGE, FLAT, METHODS};
+    use crate::pictures::ROUND;
     use reference::Kind;
 
     #[test]
@@ -135,5 +151,18 @@ mod tests {
         for method in METHODS {
             assert_eq!(map(&[9; 3], wide, method, 2), [[1, 2, 0]]);
         }
+    }
+
+    /// The reference accepts a file exactly where its map is that of its energy.
+    #[test]
+    fn files_have_the_map_of_either_energy() {
+        let mut counts = [0; 2];
+        for turn in 0..2 * ROUND {
+            let (parts, is_own) = file(&mut Random::of_case(1, turn), shape(turn));
+            let checked = reference::check(&parts.text(), &mut [0; 32 * 16]);
+            assert_eq!(checked.err(), (!is_own).then_some(11));
+            counts[usize::from(is_own)] += 1;
+        }
+        assert!(counts[0] > 40 && counts[1] > 200, "{counts:?}");
     }
 }

@@ -292,7 +292,7 @@ mod tests {
         assert!(noticed(|outcome| outcome.answer.size.width = 1));
         assert!(noticed(|outcome| outcome.answer.size.height = 1));
         assert!(noticed(|outcome| outcome.answer.size.kind = 1));
-        assert!(noticed(|outcome| outcome.answer.method.energy = 1));
+        assert!(noticed(|outcome| outcome.answer.method.energy ^= 1));
         assert!(noticed(|outcome| outcome.answer.depth = 1));
         assert!(noticed(|outcome| outcome.answer.growth = 1));
         assert!(noticed(|outcome| flip_last(&mut outcome.buffers.file)));
