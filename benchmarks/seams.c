@@ -2,7 +2,7 @@
 // energies, sums, the way back. Each figure is the best of the rounds; the buffers are not cleared between them, but
 // the library clears its work space. With an argument, 0 or 1, find runs once at the first or the second size, by the
 // library, by both ways in C and by the library with marks, so that the instructions of each can be counted. What is found
-// is found by edge, but where flat is named.
+// is found by edge, but where flat is named, as a second argument does.
 #include "shared.h"
 
 enum { SIDE = 512, ROUNDS = 40 };
@@ -162,8 +162,9 @@ static void times(Size size) {
     compare(&lent, "find by flat", by_library, "reference", reference_find);
 }
 
-static void once(Size size) {
+static void once(Size size, multisize_method method) {
     Lent lent = lend(size);
+    lent.method = method;
     by_library(&lent);
     by_plain_c(&lent);
     by_unrolled_c(&lent);
@@ -172,7 +173,7 @@ static void once(Size size) {
 
 int main(int count, char **words) {
     if (count > 1)
-        once(sizes[atoi(words[1]) == 1]);
+        once(sizes[atoi(words[1]) == 1], count > 2 ? flat : usual);
     else
         times(sizes[0]), times(sizes[1]);
 }
