@@ -117,8 +117,9 @@ static uint8_t *put_pixel(uint8_t *out, const uint8_t *pixel, int channels) {
 }
 
 static size_t put_text(const uint8_t *picture, Size z, int by_flat, uint8_t *out) {
-    uint8_t *at = out + sprintf((char *)out, "(multi\n(size %zu %zu %s)\n(range %zu %zu)\n(energy %s)\n", z.width, z.height,
-                                z.channels == 3 ? "rgb" : "grey", z.width - 1, z.width / 2, by_flat ? "flat" : "edge");
+    uint8_t *at = out + sprintf((char *)out, "(multi\n(size %zu %zu %s)\n(range %zu %zu)\n(energy %s)\n", z.width,
+                                z.height, z.channels == 3 ? "rgb" : "grey", z.width - 1, z.width / 2,
+                                by_flat ? "flat" : "edge");
     for (size_t r = 0; r < z.height; r++) {
         at = put_word(at, "(row");
         for (size_t c = 0; c < z.width; c++) *at++ = ' ', at = put_pixel(at, picture + (r * z.width + c) * z.channels, z.channels);

@@ -5,13 +5,13 @@ use crate::failure::Failure;
 use crate::outputs::print;
 use crate::{files, help, pictures};
 
+const VERSION: &str = concat!("multisize ", env!("CARGO_PKG_VERSION"), "\n");
+
 /// Does what the command says.
 pub fn run(command: Command) -> Result<(), Failure> {
     match command {
         Command::Help(name) => print(help::of(name.as_deref())?.as_bytes()),
-        Command::Version => {
-            print(concat!("multisize ", env!("CARGO_PKG_VERSION"), "\n").as_bytes())
-        }
+        Command::Version => print(VERSION.as_bytes()),
         Command::Carve {
             picture,
             width,
