@@ -42,7 +42,10 @@ impl Text for Head {
         let numbers = (self.depth, (Mark::Blank, (self.growth, Mark::Closed)));
         let range = ((Mark::Opening, Name::Range), (Mark::Blank, numbers));
         let rule = text_rules::rule_name(self.method.energy);
-        let energy = ((Mark::Opening, Name::Energy), (Mark::Blank, (rule, Mark::Closed)));
+        let energy = (
+            (Mark::Opening, Name::Energy),
+            (Mark::Blank, (rule, Mark::Closed)),
+        );
         (first, (size, (range, energy))).put(sink)
     }
 }

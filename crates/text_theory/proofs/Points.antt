@@ -1,6 +1,6 @@
 -- Worked texts, computed: the example of "The multi-size file", and texts on both sides of the form.
 use mathlib.Core.Path.{◌≡◌, refl}
-use mathlib.Core.List.{List, [], ◌∷◌, map}
+use mathlib.Core.List.{[], ◌∷◌, map}
 use Rattle.grids.specs.Rows.{flat}
 use Rattle.text_theory.specs.Readers.{strip, next, many_up_to, many}
 use Rattle.text_theory.specs.Decimal.{digits_up_to, digits, is_digit, further, up_to, number_get}
