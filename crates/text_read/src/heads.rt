@@ -16,7 +16,7 @@ impl Cursor {
         ensures { Told (beginning name) text.now self.at (passed result) }
     {
         let c = self.past(text, Class::Opening)?;
-        let (found, d) = c.spelled(text)?;
+        let (found, d) = c.name_word(text)?;
         (found == name).then_some(d)
     }
 

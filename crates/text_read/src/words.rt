@@ -68,7 +68,7 @@ impl Cursor {
     }
 
     // A word that is a name.
-    pub(crate) fn spelled(self, text: &[u8]) -> Option<(Name, Cursor)>
+    pub(crate) fn name_word(self, text: &[u8]) -> Option<(Name, Cursor)>
         ensures { Told name_get text.now self.at (read result) }
     {
         let (word, c) = self.word(text)?;
@@ -82,7 +82,7 @@ impl Cursor {
     pub fn kind(self, text: &[u8]) -> Option<(Kind, Cursor)>
         ensures { Told kind_get text.now self.at (read result) }
     {
-        let (name, c) = self.spelled(text)?;
+        let (name, c) = self.name_word(text)?;
         let kind = kind_named(name)?;
         Some((kind, c))
     }
@@ -91,7 +91,7 @@ impl Cursor {
     pub(crate) fn rule(self, text: &[u8]) -> Option<(EnergyRule, Cursor)>
         ensures { Told rule_get text.now self.at (read result) }
     {
-        let (name, c) = self.spelled(text)?;
+        let (name, c) = self.name_word(text)?;
         let rule = rule_named(name)?;
         Some((rule, c))
     }
