@@ -31,4 +31,5 @@ pub use programs::{fit_program, seams_program};
 pub use refusal::Refusal;
 pub use retarget::{retarget, Columns, Rows};
 pub use seam::{find, find_marked, Axis};
+pub use text::energy_word;
 pub use widths::row_at;

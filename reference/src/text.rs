@@ -30,7 +30,7 @@ fn kind_word(kind: Kind) -> &'static str {
 }
 
 /// The word for a rule in the energy line.
-fn energy_word(rule: EnergyRule) -> &'static str {
+pub fn energy_word(rule: EnergyRule) -> &'static str {
     match rule {
         EnergyRule::Edge => "edge",
         EnergyRule::Flat => "flat",

@@ -2,7 +2,7 @@
 //! every width.
 
 use crate::{listed, Numbers};
-use reference::{build, check, read, show, EnergyRule, FileInfo, Kind, Method, Refusal, Size};
+use reference::{build, check, energy_word, read, show, FileInfo, Kind, Method, Refusal, Size};
 
 /// Output space for the text of every file.
 const TEXT: usize = 512;
@@ -131,17 +131,10 @@ pub fn show_in(file: &[u8], wanted: usize, out: usize, work: usize) {
 fn checked_text(checked: Result<FileInfo, Refusal>) -> String {
     match checked {
         Ok(info) => {
-            let (size, energy) = (size_text(info.size), energy_word(info.method));
+            let (size, energy) = (size_text(info.size), energy_word(info.method.energy));
             format!("0 {size} {energy} {} {}", info.depth, info.growth)
         }
         Err(number) => number.to_string(),
-    }
-}
-
-fn energy_word(method: Method) -> &'static str {
-    match method.energy {
-        EnergyRule::Edge => "edge",
-        EnergyRule::Flat => "flat",
     }
 }
 
