@@ -1,13 +1,13 @@
 -- "Energy and seams", what a pixel costs, by its neighbours; and the operation that gives a row's energies.
-use Rattle.std.specs.Prelude.{◌≡◌, Result, Bool, false, cond, List, [], ◌∷◌, ◌++◌, ℕ, ◌+◌, ◌-◌, leb, ltb, eqb, length, drop}
-use Rattle.std.proofs.Math.Option.{Option, none, some, or_else}
+use Rattle.std.specs.Prelude.{◌≡◌, Result, Bool, true, false, cond, ◌||◌, List, [], ◌∷◌, ◌++◌, ℕ, ◌+◌, ◌-◌, leb, ltb, eqb, length, drop}
+use Rattle.std.proofs.Math.Option.{Option, none, some, or_else, get_or}
 use Rattle.grids.specs.Table.{table}
 use Rattle.pictures.specs.declared.sizes.Size.{Size}
 use Rattle.pictures.specs.declared.refusals.Refusal.{Refusal}
 use Rattle.pictures.specs.Refusals.{◌when◌, Rule, given, refusal, served}
 use Rattle.pictures.specs.Pictures.{Picture, picture, size_rules}
 use Rattle.energy.specs.declared.methods.EnergyRule.{EnergyRule}
-use Rattle.energy.specs.declared.methods.EnergyRule.TheVariants.{Edge, Flat}
+use Rattle.energy.specs.declared.methods.EnergyRule.TheVariants.{Edge, Flat, Forward}
 use Rattle.energy.specs.declared.methods.Method.{Method}
 use Rattle.energy.specs.Methods.{wrap_of}
 use Rattle.energy.specs.Around.{Around, left_of, around}
@@ -46,11 +46,38 @@ pub record StepCosts : Type 0 where
 abbrev pub alike : ℕ → StepCosts
 alike e = record { left = e; up = e; right = e }
 
--- Change 102: "`(energy edge)` for the rule of #101 or `(energy flat)` for the older one". By each rule: what a pixel costs,
--- from its neighbours. Wherever a path comes from, it is the pixel's energy.
+-- Change 103: what taking out a pixel adds, "absolute differences added over channels", by source 000, section 3.10. In row i and
+-- column j, "P being 0":
+--   (a) C_L(i, j) = |I(i, j+1) − I(i, j−1)| + |I(i−1, j) − I(i, j−1)|
+--   (b) C_U(i, j) = |I(i, j+1) − I(i, j−1)|
+--   (c) C_R(i, j) = |I(i, j+1) − I(i, j−1)| + |I(i−1, j) − I(i, j+1)|
+-- "A neighbour past the side edge is the pixel itself. In the first row the cost is C_U": there is none above it.
+module _ (a : Around) where
+  abbrev pub left_or_it : List ℕ
+  left_or_it = get_or a.left a.it
+
+  abbrev pub right_or_it : List ℕ
+  right_or_it = get_or a.right a.it
+
+  abbrev pub across : ℕ
+  across = difference right_or_it left_or_it
+
+  abbrev pub forward : StepCosts
+  forward = record { left = across + away left_or_it a.up; up = across; right = across + away right_or_it a.up }
+
+-- Change 102: "`(energy edge)` for the rule of #101 or `(energy flat)` for the older one"; change 103: "the file says
+-- `(energy forward)`". By each rule: what coming to a pixel costs, from its neighbours. By edge and flat it is the pixel's energy,
+-- wherever a path comes from.
 unfoldable pub costs_from : EnergyRule → Around → StepCosts
 costs_from Edge a = alike (edge a)
 costs_from Flat a = alike (flat a)
+costs_from Forward a = forward a
+
+-- Whether by a rule it is the same wherever a path comes from.
+abbrev pub one_cost : EnergyRule → Bool
+one_cost Edge = true
+one_cost Flat = true
+one_cost Forward = false
 
 -- What a pixel costs in row r and column c of a picture of w columns and h rows, by a method.
 unfoldable pub costs_at : Method → ℕ → ℕ → Picture → ℕ → ℕ → StepCosts

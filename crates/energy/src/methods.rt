@@ -2,12 +2,14 @@
 ghost use Rattle.std.specs.Prelude.{◌≡◌};
 ghost use Rattle.energy.specs.Methods.{usual_method};
 
-// What a pixel costs: its differences to the right and the lower neighbour. At the last column and the last row Edge takes those
-// to the left and the upper one, Flat none.
+// What a pixel costs. By Edge and Flat its differences to the right and the lower neighbour; at the last column and the last row Edge
+// takes those to the left and the upper one, Flat none. By Forward the differences of the pixels that meet once it is taken out, which
+// depend on where a path comes from.
 #[derive(Clone, Copy, Debug, PartialEq, Eq)]
 pub enum EnergyRule {
     Edge,
     Flat,
+    Forward,
 }
 
 // All that finding a seam depends on besides the picture. Operations take it after the size, and a file's head has it.
