@@ -1,6 +1,6 @@
 -- The points marked P hold: the definitions compute what the table expects.
 use mathlib.Core.Path.{◌≡◌, refl}
-use mathlib.Core.Option.{or_else, get_or}
+use mathlib.Core.Option.{or_else}
 use mathlib.Core.List.{map, zip_with, flat_map}
 use Rattle.grids.specs.Exchange.{exchange}
 use Rattle.grids.specs.Cut.{remove_at, cut}
