@@ -1,7 +1,7 @@
 -- In an accepted file whose energy word is `forward` each recorded seam is least in forward cost among all connected paths.
-use mathlib.Core.Path.{◌≡◌, refl, sym, ap, ap₂, subst, ◌∙◌}
+use mathlib.Core.Path.{◌≡◌, refl, sym, ap, ap₂, ◌∙◌}
 use mathlib.Core.Bool.{Bool, true, false, cond, false≢true}
-use mathlib.Core.Option.{Option, none, some, map, get_or}
+use mathlib.Core.Option.{none, some, map, get_or}
 use mathlib.Core.List.{List, [], ◌∷◌, reverse}
 use Prim.Native.Nat.{ℕ, zero, suc, ◌+◌, ◌-◌, ◌≤◌}
 use native.Mathlib.Omega.{arith}
@@ -9,7 +9,6 @@ use lib.Dec.{eqb, ltb}
 use lib.ListN.{length}
 use borrow.Author.Tests.{eqb-true, eq-eqb, ne_eqb, lt-ltb}
 use Rattle.pictures.specs.Pictures.{Picture, pixel}
-use Rattle.energy.specs.declared.methods.EnergyRule.{EnergyRule}
 use Rattle.energy.specs.declared.methods.EnergyRule.TheVariants.{Forward}
 use Rattle.energy.specs.declared.methods.Method.{Method}
 use Rattle.energy.specs.Methods.{wrap_of}
