@@ -6,3 +6,4 @@ pub mod Served
 pub mod Smallest
 pub mod Differences
 pub mod Samples
+pub mod Padded

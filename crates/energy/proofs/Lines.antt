@@ -1,5 +1,6 @@
 -- Laws of the energies of a row of bytes, in the terms of the functions that work them out.
 use mathlib.Core.Path.{◌≡◌, sym, ap, ap₂, ◌∙◌}
+use mathlib.Core.Bool.{true}
 use mathlib.Core.List.{List, ◌++◌}
 use Prim.Native.Nat.{ℕ, ◌+◌, ◌-◌, ◌*◌, ◌≤◌, ◌<◌}
 use native.Mathlib.Nat.{add-sub_cancel_left, le_of_eq}
@@ -14,7 +15,7 @@ use Rattle.pictures.specs.Limits.{most_picture}
 use Rattle.pictures.specs.declared.sizes.Size.{Size}
 use Rattle.pictures.specs.Pictures.{channels_of, row_bytes, picture}
 use Rattle.energy.specs.declared.methods.Method.{Method}
-use Rattle.energy.specs.Energy.{energy, energies}
+use Rattle.energy.specs.Energy.{one_cost, energy, energies}
 use Rattle.energy.specs.Inner.{LinesNeeded, energy_between, between, neighbour_of}
 use Rattle.pictures.proofs.Limits.{Sized}
 use Rattle.energy.proofs.Energy.{neighbour_inside, energy-between}
@@ -35,7 +36,7 @@ module _ (ch : ℕ) (it lower space out : List ℕ) (width beside c : ℕ) (so_f
       ∙ ap (λ n. table (between ch it lower width beside) n ++ drop n space) w
 
 -- The two parts of the buffer that are lent to the loop, in its terms: s bytes at r * s, and s bytes at n * s.
-module _ (z : Size) (how : Method) (b : List ℕ) (r s n : ℕ) (sure : Sized z (length b)) (inside : r < z.height) (is : s ≡ row_bytes z) (below : n ≡ neighbour_of how.energy r z.height) where
+module _ (z : Size) (how : Method) (one : one_cost how.energy ≡ true) (b : List ℕ) (r s n : ℕ) (sure : Sized z (length b)) (inside : r < z.height) (is : s ≡ row_bytes z) (below : n ≡ neighbour_of how.energy r z.height) where
   pub record Ends : Type 0 where
     pub short : length b ≤ most_picture
     pub it : r * s + s ≤ length b
@@ -70,4 +71,4 @@ module _ (z : Size) (how : Method) (b : List ℕ) (r s n : ℕ) (sure : Sized z 
       → table (between (channels_of z.kind) (take (r * s + s - r * s) (drop (r * s) b)) (take (n * s + s - n * s) (drop (n * s) b)) z.width beside) z.width ≡ energies how z.width z.height (picture z b) r
   lines_are beside is-beside =
       table_same _ (energy how z.width z.height (picture z b) r) z.width
-      (λ c l. rw (add-sub_cancel_left (r * s) s, add-sub_cancel_left (n * s) s, below, is, is-beside) (sym (energy-between z how b sure.length_is r c inside l)))
+      (λ c l. rw (add-sub_cancel_left (r * s) s, add-sub_cancel_left (n * s) s, below, is, is-beside) (sym (energy-between z how one b sure.length_is r c inside l)))

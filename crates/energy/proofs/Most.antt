@@ -1,8 +1,9 @@
 -- Bounds of what a pixel costs, over the largest sample.
-use mathlib.Core.Path.{◌≡◌}
+use mathlib.Core.Path.{◌≡◌, refl}
 use mathlib.Core.Logic.{⊎_elim}
 use mathlib.Core.Bool.{Bool, true, false, cond}
-use mathlib.Core.Option.{Option, map}
+use mathlib.Core.Option
+use mathlib.Core.Option.{Option, none, some, map}
 use mathlib.Core.List.{List, [], ◌∷◌}
 use Prim.Native.Nat.{ℕ, suc, ◌*◌, ◌≤◌, ◌<◌}
 use native.Mathlib.Nat.{suc-mul, mul-le-mul_right}
@@ -14,13 +15,14 @@ use Rattle.grids.proofs.Orders.{le-or-lt}
 use Rattle.grids.proofs.Rows.{row_at-short, row_at-all}
 use Rattle.pictures.specs.declared.sizes.Size.{Size}
 use Rattle.pictures.specs.Pictures.{Picture, channels_of, row_bytes, picture_bytes, picture, pixel}
-use Rattle.energy.specs.Around.{left_of}
+use Rattle.energy.specs.Around.{left_of, right_of, above_of, around}
+use Rattle.energy.specs.declared.methods.EnergyRule.{EnergyRule}
+use Rattle.energy.specs.declared.methods.EnergyRule.TheVariants.{Edge, Flat, Forward}
 use Rattle.energy.specs.declared.methods.Method.{Method}
 use Rattle.energy.specs.Methods.{wrap_of}
-use Rattle.energy.specs.Energy.{difference, away, StepCosts, costs_at, energy, is_the, toward}
+use Rattle.energy.specs.Energy.{difference, away, StepCosts, costs_from, one_cost, costs_at, is_the, toward}
 use Rattle.pictures.proofs.Buffers.{pixel_at, pixel-past}
-use Rattle.energy.proofs.Energy.{away_holds, TwoNeighbours, two_neighbours}
-use Rattle.energy.proofs.Steps.{costs-alike}
+use Rattle.energy.proofs.Energy.{away_holds, two_neighbours}
 
 -- The bound of an energy, over the largest sample m.
 difference-most : (m : ℕ) (p q : List ℕ) → ((i : ℕ) → get_or p i 0 ≤ m) → ((i : ℕ) → get_or q i 0 ≤ m) → difference p q ≤ length p * m
@@ -60,16 +62,41 @@ module _ (channels m : ℕ) (p : Picture) (short : (r c : ℕ) → length (pixel
   away-most : (r c : ℕ) (at : ℕ → ℕ × ℕ) (o : Option ℕ) → away (pixel p r c) (map (λ a. pixel p (at a).0 (at a).1) o) ≤ channels * m
   away-most r c at = away_holds (λ n. n ≤ channels * m) (pixel p r c) (λ a. pixel p (at a).0 (at a).1) (omega arith) (λ a. pixel-most r c (at a).0 (at a).1)
 
-  -- A pixel costs at most two such differences, wherever a path comes from.
+  -- and so an energy by a rule of one cost is at most two such differences.
+  energy-most : (rule : EnergyRule) → one_cost rule ≡ true → (wrap : Bool) (w h r c : ℕ) → (costs_from rule (around wrap w h p r c)).up ≤ 2 * (channels * m)
+  energy-most rule one wrap w h r c =
+      let two = two_neighbours rule one wrap w h p r c in
+      omega (arith, two.energy_is, away-most r c (λ a. (r, a)) two.beside, away-most r c (λ a. (a, c)) two.below)
+
+  -- By forward the pixels are two of the row, and the one above and one of these.
+  beside_most : (r c : ℕ) (o : Option ℕ) (q : List ℕ) → ((a : ℕ) → difference (pixel p r a) q ≤ channels * m) → difference (Option.get_or (map (pixel p r) o) (pixel p r c)) q ≤ channels * m
+  beside_most r c none q each = each c
+  beside_most r c (some a) q each = each a
+
+  apart_most : (r c : ℕ) (o b : Option ℕ) → difference (Option.get_or (map (pixel p r) o) (pixel p r c)) (Option.get_or (map (pixel p r) b) (pixel p r c)) ≤ channels * m
+  apart_most r c o none = beside_most r c o (pixel p r c) (λ a. pixel-most r c r a)
+  apart_most r c o (some b) = beside_most r c o (pixel p r b) (λ a. pixel-most r b r a)
+
+  above_most : (r c : ℕ) (b u : Option ℕ) → away (Option.get_or (map (pixel p r) b) (pixel p r c)) (map (λ a. pixel p a c) u) ≤ channels * m
+  above_most r c none u = away-most r c (λ a. (a, c)) u
+  above_most r c (some b) u = away_holds (λ n. n ≤ channels * m) (pixel p r b) (λ a. pixel p a c) (omega arith) (λ a. pixel-most r b a c) u
+
+  -- So a pixel costs at most two such differences, wherever a path comes from.
+  rule_most : (rule : EnergyRule) (wrap : Bool) (w h r c : ℕ) → CostsMost (2 * (channels * m)) (costs_from rule (around wrap w h p r c))
+  unfolding costs_from
+  rule_most Edge wrap w h r c = let l = energy-most Edge refl wrap w h r c in record { left = l; up = l; right = l }
+  rule_most Flat wrap w h r c = let l = energy-most Flat refl wrap w h r c in record { left = l; up = l; right = l }
+  rule_most Forward wrap w h r c =
+      let across = apart_most r c (right_of wrap w c) (left_of wrap w c) in
+      record {
+        left = omega (arith, across, above_most r c (left_of wrap w c) (above_of r));
+        up = omega (arith, across);
+        right = omega (arith, across, above_most r c (right_of wrap w c) (above_of r));
+      }
+
   pub costs-most : (how : Method) (w h r c : ℕ) → CostsMost (2 * (channels * m)) (costs_at how w h p r c)
   unfolding costs_at
-  costs-most how w h r c = rw (costs-alike how w h p r c) (record { left = most; up = most; right = most })
-    where
-      two : TwoNeighbours how.energy (wrap_of how) w h p r c
-      two = two_neighbours how.energy (wrap_of how) w h p r c
-
-      most : energy how w h p r c ≤ 2 * (channels * m)
-      most = omega (arith, two.energy_is, away-most r c (λ a. (r, a)) two.beside, away-most r c (λ a. (a, c)) two.below)
+  costs-most how = rule_most how.energy (wrap_of how)
 
 -- The same of a picture in a buffer.
 pub buffer_costs-most : (z : Size) (how : Method) (b : List ℕ) (m : ℕ) → length b ≡ picture_bytes z → ((i : ℕ) → get_or b i 0 ≤ m)

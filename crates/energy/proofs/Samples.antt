@@ -1,9 +1,7 @@
--- The energy of a pixel is the sum of the energies of its samples.
+-- How far pixels are apart is the sum of how far their samples are.
 use mathlib.Core.Path.{◌≡◌, refl, sym, ap, ap₂, ◌∙◌}
 use mathlib.Core.List.{List, [], ◌∷◌, ◌++◌}
 use Prim.Native.Nat.{ℕ, zero, suc, ◌+◌, ◌*◌, ◌≤◌}
-use native.Mathlib.Nat.{suc-mul}
-use native.Mathlib.Numerals.{add-one}
 use native.Mathlib.Omega.{arith}
 use lib.ListN.{length, get_or}
 use Rattle.std.specs.List.{sum}
@@ -12,7 +10,7 @@ use Rattle.grids.specs.Table.{table}
 use Rattle.grids.specs.Rows.{row_at}
 use Rattle.grids.proofs.Tables.{length-table, table_at, table_part, table_same}
 use Rattle.energy.specs.Energy.{apart, difference}
-use Rattle.energy.specs.Inner.{sample_energy, energy_between}
+use Rattle.energy.specs.Inner.{DistancesNeeded, sample_distance, two_distances}
 
 difference_snoc : (p q : List ℕ) (a b : ℕ) → length p ≡ length q → difference (p ++ (a ∷ [])) (q ++ (b ∷ [])) ≡ difference p q + apart a b
 unfolding difference
@@ -25,31 +23,26 @@ sum_snoc : (xs : List ℕ) (x : ℕ) → sum (xs ++ (x ∷ [])) ≡ sum xs + x
 sum_snoc xs x = fold-append ◌+◌ 0 xs (x ∷ [])
 
 -- Sums of distances, and distances of lists.
-sums_are : (f g h : ℕ → ℕ) (n : ℕ)
-    → sum (table (λ k. apart (f k) (h k) + apart (g k) (h k)) n) ≡ difference (table f n) (table h n) + difference (table g n) (table h n)
+sums_are : (f g h j : ℕ → ℕ) (n : ℕ)
+    → sum (table (λ k. apart (f k) (g k) + apart (h k) (j k)) n) ≡ difference (table f n) (table g n) + difference (table h n) (table j n)
 unfolding difference
-sums_are f g h zero = refl
-sums_are f g h (suc n) =
-    let e = sums_are f g h n in
-    let s = sum_snoc (table (λ k. apart (f k) (h k) + apart (g k) (h k)) n) (apart (f n) (h n) + apart (g n) (h n)) in
-    let a = difference_snoc (table f n) (table h n) (f n) (h n) (length-table f n ∙ sym (length-table h n)) in
-    let b = difference_snoc (table g n) (table h n) (g n) (h n) (length-table g n ∙ sym (length-table h n)) in
+sums_are f g h j zero = refl
+sums_are f g h j (suc n) =
+    let e = sums_are f g h j n in
+    let s = sum_snoc (table (λ k. apart (f k) (g k) + apart (h k) (j k)) n) (apart (f n) (g n) + apart (h n) (j n)) in
+    let a = difference_snoc (table f n) (table g n) (f n) (g n) (length-table f n ∙ sym (length-table g n)) in
+    let b = difference_snoc (table h n) (table j n) (h n) (j n) (length-table h n ∙ sym (length-table j n)) in
     omega (arith, e, s, a, b)
 
-pub samples_are : (n : ℕ) (it lower : List ℕ) (c inner : ℕ) → c * n + n ≤ inner → inner + n ≤ length it → inner ≤ length lower
-    → sum (row_at n c (table (sample_energy n it lower) inner)) ≡ energy_between n it lower c (c + 1)
-samples_are n it lower c inner h i l =
-    ap sum
-    (table_part s (c * n) n 0 (omega (arith, length-table (sample_energy n it lower) inner))
-    ∙ table_same _ (λ k. apart (get_or it ((c + 1) * n + k) 0) (get_or it (c * n + k) 0) + apart (get_or lower (c * n + k) 0) (get_or it (c * n + k) 0)) n
-    (λ k m. table_at (sample_energy n it lower) inner (c * n + k) 0 (omega arith) ∙ ap (λ x. apart (get_or it x 0) (get_or it (c * n + k) 0) + apart (get_or lower (c * n + k) 0) (get_or it (c * n + k) 0)) (omega (arith, next))))
-    ∙ sums_are (λ k. get_or it ((c + 1) * n + k) 0) (λ k. get_or lower (c * n + k) 0) (λ k. get_or it (c * n + k) 0) n
-    ∙ ap₂ ◌+◌
-    (ap₂ difference (sym (table_part it ((c + 1) * n) n 0 (omega (arith, next)))) (sym (table_part it (c * n) n 0 (omega arith))))
-    (ap₂ difference (sym (table_part lower (c * n) n 0 (omega arith))) (sym (table_part it (c * n) n 0 (omega arith))))
-  where
-    s : List ℕ
-    s = table (sample_energy n it lower) inner
+-- So what a pixel has is the sum of what its samples have.
+module _ (n : ℕ) (a b c d : List ℕ) (k inner : ℕ) (end : k * n + n ≤ inner) (rows : DistancesNeeded a b c d inner) where
+  samples : (x : List ℕ) → inner ≤ length x → table (λ i. get_or x (k * n + i) 0) n ≡ row_at n k x
+  samples x l = sym (table_part x (k * n) n 0 (omega arith))
 
-    next : (c + 1) * n ≡ c * n + n
-    next = rw (add-one c, suc-mul c n)
+  pub samples_are : sum (row_at n k (table (sample_distance a b c d) inner)) ≡ two_distances n a b c d k
+  samples_are =
+      ap sum
+      (table_part (table (sample_distance a b c d) inner) (k * n) n 0 (omega (arith, length-table (sample_distance a b c d) inner))
+      ∙ table_same _ (λ i. sample_distance a b c d (k * n + i)) n (λ i m. table_at (sample_distance a b c d) inner (k * n + i) 0 (omega arith)))
+      ∙ sums_are (λ i. get_or a (k * n + i) 0) (λ i. get_or b (k * n + i) 0) (λ i. get_or c (k * n + i) 0) (λ i. get_or d (k * n + i) 0) n
+      ∙ ap₂ ◌+◌ (ap₂ difference (samples a rows.first) (samples b rows.second)) (ap₂ difference (samples c rows.third) (samples d rows.fourth))

@@ -117,3 +117,22 @@ energies_rules z bytes r space = size_rules z bytes ++ (4 when leb z.height r �
 pub record EnergiesGiven (b : List ℕ) (z : Size) (how : Method) (r : ℕ) (out : List ℕ) (answer : Result (Unit {0}) Refusal) (out' : List ℕ) : Type 0 where
   pub number : given answer ≡ refusal (energies_rules z (length b) r (length out))
   pub out_given : out' ≡ served (given answer) (energies how z.width z.height (picture z b) r ++ drop z.width out) out
+
+-- The costs of row r of coming from the left, and from the right; those from straight above are its energies.
+abbrev pub left_costs : Method → ℕ → ℕ → Picture → ℕ → List ℕ
+left_costs how w h p r = table (λ c. (costs_at how w h p r c).left) w
+
+abbrev pub right_costs : Method → ℕ → ℕ → Picture → ℕ → List ℕ
+right_costs how w h p r = table (λ c. (costs_at how w h p r c).right) w
+
+-- When all three are refused: as energies are, where one of the three spaces is shorter than the row.
+abbrev pub step_costs_rules : Size → ℕ → ℕ → ℕ → ℕ → ℕ → List Rule
+step_costs_rules z bytes r left up right =
+    size_rules z bytes ++ (4 when leb z.height r ∷ 8 when (ltb left z.width || (ltb up z.width || ltb right z.width)) ∷ [])
+
+-- What the operation gives: the number, and the three spaces, each of which keeps what stands after its row.
+pub record StepCostsGiven (b : List ℕ) (z : Size) (how : Method) (r : ℕ) (left up right : List ℕ) (answer : Result (Unit {0}) Refusal) (left' up' right' : List ℕ) : Type 0 where
+  pub number : given answer ≡ refusal (step_costs_rules z (length b) r (length left) (length up) (length right))
+  pub left_given : left' ≡ served (given answer) (left_costs how z.width z.height (picture z b) r ++ drop z.width left) left
+  pub up_given : up' ≡ served (given answer) (energies how z.width z.height (picture z b) r ++ drop z.width up) up
+  pub right_given : right' ≡ served (given answer) (right_costs how z.width z.height (picture z b) r ++ drop z.width right) right

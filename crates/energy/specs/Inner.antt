@@ -1,19 +1,27 @@
 -- What the private functions of this crate ask and promise, in terms of rows of bytes. No public promise cites it.
-use Rattle.std.specs.Prelude.{◌≡◌, cond, List, ℕ, ◌+◌, ◌-◌, ◌*◌, ◌≤◌, ◌<◌, ltb, length, get_or}
+use Rattle.std.specs.Prelude.{◌≡◌, cond, List, ◌++◌, ℕ, ◌+◌, ◌-◌, ◌*◌, ◌≤◌, ◌<◌, ltb, length, get_or, take, drop}
 use Rattle.grids.specs.Rows.{row_at}
 use Rattle.pictures.specs.declared.sizes.Size.{Size}
 use Rattle.pictures.specs.Refusals.{refusal}
 use Rattle.pictures.specs.Limits.{most_side}
-use Rattle.pictures.specs.Pictures.{size_rules}
+use Rattle.pictures.specs.Pictures.{largest_side, size_rules}
 use Rattle.energy.specs.declared.methods.EnergyRule.{EnergyRule}
-use Rattle.energy.specs.declared.methods.EnergyRule.TheVariants.{Edge, Flat}
+use Rattle.energy.specs.declared.methods.EnergyRule.TheVariants.{Edge, Flat, Forward}
 use Rattle.energy.specs.Energy.{apart, difference}
 
 -- A row of a picture of its size, with room for the row's energies.
-pub record RowNeeded (b : List ℕ) (z : Size) (r : ℕ) (out : List ℕ) : Type 0 where
+pub record RowNeeded (b : List ℕ) (z : Size) (r out : ℕ) : Type 0 where
   pub sized : refusal (size_rules z (length b)) ≡ 0
   pub inside : r < z.height
-  pub room : z.width ≤ length out
+  pub room : z.width ≤ out
+
+-- A row that has one above it, with room for two rows of costs.
+pub record RowSidesNeeded (b : List ℕ) (z : Size) (r left right : ℕ) : Type 0 where
+  pub sized : refusal (size_rules z (length b)) ≡ 0
+  pub later : 0 < r
+  pub inside : r < z.height
+  pub left_room : left ≡ z.width
+  pub right_room : right ≡ z.width
 
 -- The bytes of a row and of the row that stands for the one below it, of `width` pixels of `channels` samples, and the column
 -- that stands for the one to the right of the last.
@@ -29,9 +37,20 @@ pub record LinesNeeded (channels : ℕ) (it lower : List ℕ) (width beside : �
 abbrev pub right_column : ℕ → ℕ → ℕ → ℕ
 right_column width beside c = cond (ltb (c + 1) width) (c + 1) beside
 
--- How far sample k of a row is from the one of the next pixel, and from the lower one.
-abbrev pub sample_energy : ℕ → List ℕ → List ℕ → ℕ → ℕ
-sample_energy channels it lower k = apart (get_or it (channels + k) 0) (get_or it k 0) + apart (get_or lower k 0) (get_or it k 0)
+-- How far sample k of row a is from that of row b, and that of row c from that of row d; and the same of pixel k.
+abbrev pub sample_distance : List ℕ → List ℕ → List ℕ → List ℕ → ℕ → ℕ
+sample_distance a b c d k = apart (get_or a k 0) (get_or b k 0) + apart (get_or c k 0) (get_or d k 0)
+
+abbrev pub two_distances : ℕ → List ℕ → List ℕ → List ℕ → List ℕ → ℕ → ℕ
+two_distances channels a b c d k =
+    difference (row_at channels k a) (row_at channels k b) + difference (row_at channels k c) (row_at channels k d)
+
+-- Four rows of at least so many samples.
+pub record DistancesNeeded (a b c d : List ℕ) (samples : ℕ) : Type 0 where
+  pub first : samples ≤ length a
+  pub second : samples ≤ length b
+  pub third : samples ≤ length c
+  pub fourth : samples ≤ length d
 
 -- The energy of pixel c of a row, from its bytes, those of the row that stands for the one below, and the column that stands for
 -- the one to its right.
@@ -44,11 +63,45 @@ unfoldable pub between : ℕ → List ℕ → List ℕ → ℕ → ℕ → ℕ �
 between channels it lower width beside c = energy_between channels it lower c (right_column width beside c)
 
 -- The line, column or row, that stands for the one after the last, line i: by `edge` the one before it, and of the only one the
--- line itself, from which it doesn't differ (0 - 1 is 0); by `flat` always the line itself.
+-- line itself, from which it doesn't differ (0 - 1 is 0); by the others always the line itself.
 abbrev pub past_last : EnergyRule → ℕ → ℕ
 past_last Edge i = i - 1
 past_last Flat i = i
+past_last Forward i = i
 
 -- And for the one after line i of n.
 abbrev pub neighbour_of : EnergyRule → ℕ → ℕ → ℕ
 neighbour_of rule i n = cond (ltb (i + 1) n) (i + 1) (past_last rule i)
+
+-- By forward. A row of some pixels, and the same with its first and its last pixel once more at its sides.
+pub record RowOf (channels : ℕ) (it : List ℕ) (width : ℕ) : Type 0 where
+  pub some : 0 < width
+  pub narrow : width ≤ largest_side
+  pub it_is : length it ≡ width * channels
+
+abbrev pub padded : ℕ → List ℕ → List ℕ
+padded channels it = take channels it ++ (it ++ drop (length it - channels) it)
+
+-- The row above, and room for two rows of costs.
+pub record SidesNeeded (channels : ℕ) (it above : List ℕ) (left right : ℕ) : Type 0 where
+  pub row : RowOf channels it left
+  pub above_is : length above ≡ left * channels
+  pub right_is : right ≡ left
+
+-- In such a row the pixel to the left of pixel c stands at place c, the one to its right at place c + 2.
+module _ (channels : ℕ) (it : List ℕ) where
+  abbrev pub befores : List ℕ
+  befores = padded channels it
+
+  abbrev pub afters : List ℕ
+  afters = drop (2 * channels) (padded channels it)
+
+  -- What coming to pixel c costs from straight above; from the left and from the right, where `above` is the row above.
+  abbrev pub across_of : ℕ → ℕ
+  across_of = two_distances channels afters befores it it
+
+  abbrev pub left_of_row : List ℕ → ℕ → ℕ
+  left_of_row above = two_distances channels afters befores above befores
+
+  abbrev pub right_of_row : List ℕ → ℕ → ℕ
+  right_of_row above = two_distances channels afters befores above afters

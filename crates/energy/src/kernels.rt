@@ -6,7 +6,7 @@ ghost use Rattle.grids.specs.Table.{table};
 ghost use Rattle.energy.specs.Energy.{difference as Energy·difference};
 ghost use Rattle.pictures.specs.Limits.{most_row};
 ghost use Rattle.pictures.specs.Pictures.{channels_of};
-ghost use Rattle.energy.specs.Inner.{LinesNeeded, sample_energy, energy_between, between};
+ghost use Rattle.energy.specs.Inner.{LinesNeeded, DistancesNeeded, sample_distance, two_distances, energy_between, between};
 ghost use Rattle.grids.specs.Rows.{row_at};
 
 use pictures::{Kind, LARGEST_SIDE};
@@ -53,30 +53,46 @@ fn row<const N: usize, const ROOM: usize>(
     out[last] = energy_at::<N>(it, lower, last, beside);
 }
 
-// The energies of the pixels before the last, from those of their samples.
+// The energies of the pixels before the last.
 fn inner_energies<const N: usize>(it: &[u8], lower: &[u8], samples: &mut [u16], out: &mut [u32])
     requires few { N ≤ 3 }
     requires long { length samples.old ≡ length out.old * N }
     requires rows { (length samples.old + N ≤ length it.now) × (length samples.old ≤ length lower.now) }
     ensures { out.new ≡ table (λ c. energy_between N it.now lower.now c (c + 1)) (length out.old) }
 {
-    sample_energies::<N>(it, lower, samples);
+    distances::<N>(&it[N..], it, lower, it, samples, out);
+}
+
+// How far the pixels of one row are from those of another, and those of a third from those of a fourth, added. Samples are worked
+// out before pixels, so that many are at once.
+pub(crate) fn distances<const N: usize>(
+    a: &[u8],
+    b: &[u8],
+    c: &[u8],
+    d: &[u8],
+    samples: &mut [u16],
+    out: &mut [u32],
+)
+    requires few { N ≤ 3 }
+    requires long { length samples.old ≡ length out.old * N }
+    requires rows { DistancesNeeded a.now b.now c.now d.now (length samples.old) }
+    ensures { out.new ≡ table (two_distances N a.now b.now c.now d.now) (length out.old) }
+{
+    sample_distances(a, b, c, d, samples);
     channels_added::<N>(samples, out);
 }
 
-// How far each sample of a row is from the one N to its right, and from the one below it. Samples are worked out before pixels,
-// so that many are at once; by index, since nothing is promised of what is written through a zip.
-fn sample_energies<const N: usize>(it: &[u8], lower: &[u8], out: &mut [u16])
-    requires { (length out.old + N ≤ length it.now) × (length out.old ≤ length lower.now) }
-    ensures { out.new ≡ table (sample_energy N it.now lower.now) (length out.old) }
+// The same of samples; by index, since nothing is promised of what is written through a zip.
+fn sample_distances(a: &[u8], b: &[u8], c: &[u8], d: &[u8], out: &mut [u16])
+    requires { DistancesNeeded a.now b.now c.now d.now (length out.old) }
+    ensures { out.new ≡ table (sample_distance a.now b.now c.now d.now) (length out.old) }
 {
-    let right = &it[N..];
-    for (k, energy) in out.iter_mut().enumerate() {
-        *energy = right[k].abs_diff(it[k]) as u16 + lower[k].abs_diff(it[k]) as u16;
+    for (k, distance) in out.iter_mut().enumerate() {
+        *distance = a[k].abs_diff(b[k]) as u16 + c[k].abs_diff(d[k]) as u16;
     }
 }
 
-// The energies of pixels, from those of their samples. By index for the same reason; `as_chunks` would ask that N isn't 0, too.
+// What pixels have, from what their samples have. By index for the same reason; `as_chunks` would ask that N isn't 0, too.
 fn channels_added<const N: usize>(samples: &[u16], out: &mut [u32])
     requires few { N ≤ 3 }
     requires long { length samples.now ≡ length out.old * N }
@@ -88,7 +104,7 @@ fn channels_added<const N: usize>(samples: &[u16], out: &mut [u32])
     }
 }
 
-// The sum of the energies of a pixel's samples.
+// The sum over a pixel's samples.
 fn total(samples: &[u16]) -> u32
     requires { length samples.now ≤ 3 }
     ensures { result ≡ sum samples.now }

@@ -1,14 +1,17 @@
 // The energy of a row's pixels.
 #![tactic(auto)]
 
+mod forward;
 mod kernels;
 pub mod methods;
 
-ghost use Rattle.energy.specs.Energy.{EnergiesGiven, energies as Energy·energies};
+ghost use Rattle.grids.specs.Table.{table};
+ghost use Rattle.energy.specs.Around.{around};
+ghost use Rattle.energy.specs.Energy.{EnergiesGiven, StepCostsGiven, energies as Energy·energies, forward, one_cost};
 ghost use Rattle.pictures.specs.Limits.{most_side};
 ghost use Rattle.pictures.specs.Pictures.{picture as Pictures·picture};
-ghost use Rattle.energy.specs.Inner.{RowNeeded, neighbour_of};
-ghost use Rattle.std.specs.Prelude.{◌≡◌, ◌++◌, ◌-◌, ◌≤◌, ◌<◌, drop};
+ghost use Rattle.energy.specs.Inner.{RowNeeded, RowSidesNeeded, neighbour_of};
+ghost use Rattle.std.specs.Prelude.{◌≡◌, ◌++◌, ◌-◌, ◌≤◌, ◌<◌, true, false, ◌||◌, eqb, length, drop};
 
 pub use methods::{EnergyRule, Method, usual_method};
 use pictures::{Refusal, Size, channels, judge_picture};
@@ -35,6 +38,47 @@ pub fn energies(
     Ok(())
 }
 
+// What coming to each pixel of row r costs: from the column to its left in the row above, from straight above, from the column to
+// its right. Each is put into the first `width` places of its space. Refused as energies are, by 8 where one of the spaces is
+// shorter than the row.
+pub fn step_costs(
+    picture: &[u8],
+    size: Size,
+    method: Method,
+    r: usize,
+    left: &mut [u32],
+    up: &mut [u32],
+    right: &mut [u32],
+) -> Result<(), Refusal>
+    ensures { StepCostsGiven picture.now size method r left.old up.old right.old result left.new up.new right.new }
+{
+    judge_picture(size, picture.len())?;
+    if size.height <= r {
+        return Err(Refusal::Count);
+    }
+    let width = size.width;
+    if left.len() < width || up.len() < width || right.len() < width {
+        return Err(Refusal::Space);
+    }
+    let left = &mut left[..width];
+    let right = &mut right[..width];
+    row_energies(picture, size, method, r, up);
+    if is_alike(method.energy, r) {
+        left.copy_from_slice(&up[..width]);
+        right.copy_from_slice(&up[..width]);
+    } else {
+        row_sides(picture, size, r, left, right);
+    }
+    Ok(())
+}
+
+// Whether the costs of coming to a pixel of row r are the same from all sides.
+fn is_alike(rule: EnergyRule, r: usize) -> bool
+    ensures { result ≡ (one_cost rule || eqb r 0) }
+{
+    rule.has_one_cost() || r == 0
+}
+
 // The line, column or row, that stands for the one after line i of n: the next one; of the last, the one that the rule says.
 fn neighbour(rule: EnergyRule, i: usize, n: usize) -> usize
     requires { (i < n) × (n ≤ most_side) }
@@ -48,13 +92,28 @@ fn neighbour(rule: EnergyRule, i: usize, n: usize) -> usize
         // The line before; of the first the line itself, from which it doesn't differ.
         EnergyRule::Edge => i.saturating_sub(1),
         // Always the line itself.
-        EnergyRule::Flat => i,
+        EnergyRule::Flat | EnergyRule::Forward => i,
     }
 }
 
 // The energies of row r of a picture that is of its size.
 fn row_energies(picture: &[u8], size: Size, method: Method, r: usize, out: &mut [u32])
-    requires { RowNeeded picture.now size r out.old }
+    requires { RowNeeded picture.now size r (length out.old) }
+    ensures { out.new ≡ Energy·energies method size.width size.height (Pictures·picture size picture.now) r ++ drop size.width out.old }
+{
+    if method.energy.has_one_cost() {
+        row_between(picture, size, method, r, out);
+    } else {
+        let stride = size.width * channels(size.kind);
+        let at = r * stride;
+        forward::across(size.kind, &picture[at..at + stride], &mut out[..size.width]);
+    }
+}
+
+// The same by a rule of one cost.
+fn row_between(picture: &[u8], size: Size, method: Method, r: usize, out: &mut [u32])
+    requires rule { one_cost method.energy ≡ true }
+    requires row { RowNeeded picture.now size r (length out.old) }
     ensures { out.new ≡ Energy·energies method size.width size.height (Pictures·picture size picture.now) r ++ drop size.width out.old }
 {
     let width = size.width;
@@ -72,5 +131,23 @@ fn row_energies(picture: &[u8], size: Size, method: Method, r: usize, out: &mut 
         width,
         beside,
         out,
+    );
+}
+
+// By forward: the costs of row r from the left and from the right, where there is a row above.
+fn row_sides(picture: &[u8], size: Size, r: usize, left: &mut [u32], right: &mut [u32])
+    requires { RowSidesNeeded picture.now size r (length left.old) (length right.old) }
+    ensures left { left.new ≡ table (λ c. (forward (around false size.width size.height (Pictures·picture size picture.now) r c)).left) size.width }
+    ensures right { right.new ≡ table (λ c. (forward (around false size.width size.height (Pictures·picture size picture.now) r c)).right) size.width }
+{
+    let stride = size.width * channels(size.kind);
+    let at = r * stride;
+    let above = at - stride;
+    forward::sides(
+        size.kind,
+        &picture[at..at + stride],
+        &picture[above..at],
+        left,
+        right,
     );
 }

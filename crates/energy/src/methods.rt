@@ -1,5 +1,6 @@
 // How a seam is found, as every operation that finds one is told.
 ghost use Rattle.std.specs.Prelude.{◌≡◌};
+ghost use Rattle.energy.specs.Energy.{one_cost};
 ghost use Rattle.energy.specs.Methods.{usual_method};
 
 // What a pixel costs. By Edge and Flat its differences to the right and the lower neighbour; at the last column and the last row Edge
@@ -10,6 +11,18 @@ pub enum EnergyRule {
     Edge,
     Flat,
     Forward,
+}
+
+impl EnergyRule {
+    // Whether a pixel costs the same wherever a path comes from.
+    pub fn has_one_cost(self) -> bool
+        ensures { result ≡ one_cost self }
+    {
+        match self {
+            EnergyRule::Edge | EnergyRule::Flat => true,
+            EnergyRule::Forward => false,
+        }
+    }
 }
 
 // All that finding a seam depends on besides the picture. Operations take it after the size, and a file's head has it.

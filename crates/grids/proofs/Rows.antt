@@ -4,8 +4,10 @@ use mathlib.Core.Logic.{⊎_elim}
 use mathlib.Core.List.{List, [], ◌∷◌, ◌++◌, append-nil, append_assoc}
 use Prim.Native.Nat.{ℕ, zero, suc, ◌+◌, ◌*◌, ◌≤◌, ◌<◌}
 use native.Mathlib.Nat.{zero-mul, suc-mul, add_comm, le_of_suc-le-suc, mul-le-mul_right, min-le_left, le_trans}
+use native.Mathlib.Numerals.{add-one}
 use native.Mathlib.Omega.{arith}
 use lib.ListN.{length, get_or, take, drop, length-append, length-take, length-drop, get_or-eq_default, drop_of_length-le}
+use Rattle.std.proofs.lemmas.List.{take-append-le, drop-append-le}
 use lib.Seq.{take-add, take_at, drop_at, length-take-le, take-nil, get_or-take, get_or-drop, drop-drop}
 use Rattle.grids.specs.Each.{Grid, none, more}
 use Rattle.grids.specs.Rows.{rows_of, flat, row_at}
@@ -88,6 +90,27 @@ module _ {A : Type 0} where
   -- Element c of row r is element r * w + c of the list.
   pub row_at_get_d : (w : ℕ) (b : List A) (r c : ℕ) (d : A) → c < w → get_or (row_at w r b) c d ≡ get_or b (r * w + c) d
   row_at_get_d w b r c d h = get_or-take w (drop (r * w) b) c d h ∙ get_or-drop (r * w) b c d
+
+  -- A row more at the front.
+  pub row_at-first : (w : ℕ) (x b : List A) → length x ≡ w → row_at w 0 (x ++ b) ≡ x
+  row_at-first w x b e = rw (zero-mul w) (take_at x b w e)
+
+  pub row_at-later : (w r : ℕ) (x b : List A) → length x ≡ w → row_at w (r + 1) (x ++ b) ≡ row_at w r b
+  row_at-later w r x b e =
+      ap (take w)
+      (ap (λ n. drop n (x ++ b)) (rw (add-one r, suc-mul r w) (add_comm (r * w) w))
+      ∙ sym (drop-drop (r * w) w (x ++ b))
+      ∙ ap (drop (r * w)) (drop_at x b w e))
+
+  -- A row less.
+  pub row_at-drop : (w r : ℕ) (b : List A) → row_at w r (drop w b) ≡ row_at w (r + 1) b
+  row_at-drop w r b = ap (take w) (drop-drop (r * w) w b ∙ ap (λ n. drop n b) (rw (add-one r, suc-mul r w) (add_comm w (r * w))))
+
+  -- What follows the rows doesn't count.
+  pub row_at-before : (w r : ℕ) (b d : List A) → r * w + w ≤ length b → row_at w r (b ++ d) ≡ row_at w r b
+  row_at-before w r b d h =
+      ap (take w) (drop-append-le (r * w) b d (omega arith))
+      ∙ take-append-le w (drop (r * w) b) d (omega (arith, length-drop (r * w) b))
 
   pub row_at-short : (w : ℕ) (b : List A) (r : ℕ) → length (row_at w r b) ≤ w
   row_at-short w b r = rw (length-take) (min-le_left w (length (drop (r * w) b)))

@@ -1,33 +1,21 @@
--- `energy::row_energies` meets its contract: the two rows of bytes lie within the picture, and their energies are those of its row.
-use mathlib.Core.Path.{◌≡◌, ap}
-use Prim.Native.Nat.{◌*◌}
-use native.Mathlib.Omega.{arith}
-use lib.ListN.{length}
-use Rattle.pictures.specs.Pictures.{row_bytes}
-use Rattle.pictures.proofs.Limits.{Sized, sized_is}
-use Rattle.energy.proofs.Lines.{ends, lines_are}
+-- `energy::row_energies` meets its contract: by forward the row's bytes lie within the picture, and what is taken across are its
+-- energies.
+use Rattle.std.proofs.Common.{◌+◌, ◌-◌, ◌*◌, ◌++◌, take, drop, sym, ap, ◌∙◌, length-take-le}
+use Rattle.grids.specs.Table.{table}
+use Rattle.pictures.specs.Pictures.{channels_of}
+use Rattle.pictures.proofs.Limits.{sized_is}
+use Rattle.energy.specs.Inner.{across_of}
+use Rattle.energy.proofs.Padded.{across-row}
 use Rattle.energy.proofs.row_energies.Goals as goal
-use Rattle.energy.proofs.row_energies.Goals.{After-neighbour-beside}
 
-module _ (c : After-neighbour-beside) where
-  sure : Sized c.args.size (length c.args.picture.now)
-  sure = sized_is _ _ c.requires.sized
-
-  strided : c.args.size.width * c.channels.result ≡ row_bytes c.args.size
-  strided = ap (c.args.size.width *◌) c.channels.ensures
-
--- both rows end within the picture
-pub slice_bounds-line_energies-end-2 : goal.slice_bounds-line_energies-end-2
-slice_bounds-line_energies-end-2 c =
+pub returns-else-has_one_cost : goal.returns-else-has_one_cost
+returns-else-has_one_cost c =
     let a = c.args in
-    let k = (goal.at.slice_bounds-line_energies-end-2 c).After-neighbour-beside in
-    let e = ends a.size a.method a.picture.now a.r (a.size.width * c.channels.result) c.neighbour.result (sure k) c.requires.inside (strided k) c.neighbour.ensures in
-    omega arith
-
-pub returns : goal.returns
-returns c =
-    let a = c.args in
-    let k = (goal.at.returns c).After-neighbour-beside in
-    rw (lines_are a.size a.method a.picture.now a.r (a.size.width * c.channels.result) c.neighbour.result (sure k) c.requires.inside (strided k) c.neighbour.ensures _
-    c.neighbour-beside.ensures) at
-    c.line_energies.ensures
+    let z = a.size in
+    let s = z.width * c.channels.result in
+    let it = take (a.r * s + s - a.r * s) (drop (a.r * s) a.picture.now) in
+    ap (◌++ drop z.width a.out.now)
+    (c.across.ensures
+    ∙ ap (table (across_of (channels_of z.kind) it)) (length-take-le z.width a.out.now c.requires.room)
+    ∙ across-row z a.picture.now (sized_is z _ c.requires.sized) a.r s c.requires.inside (ap (z.width *◌) c.channels.ensures) a.method
+    (sym c.has_one_cost.ensures ∙ c.if-has_one_cost.false))

@@ -1,10 +1,11 @@
--- `energy::kernels::inner_energies` meets its contract: a pixel's energy is the sum of its samples'.
-use Rattle.std.proofs.Common.{◌+◌, length, sum, ap, ◌∙◌, arith}
-use Rattle.grids.specs.Rows.{row_at}
-use Rattle.grids.proofs.Rows.{part_end}
+-- `energy::kernels::inner_energies` meets its contract: the pixel at place k of the row without its first is pixel k + 1.
+use Rattle.std.proofs.Common.{◌+◌, ap, ◌∙◌, length}
+use Rattle.grids.proofs.Parts.{last_part}
+use Rattle.grids.proofs.Rows.{row_at-drop}
 use Rattle.grids.proofs.Tables.{table_same}
+use Rattle.grids.specs.Rows.{row_at}
+use Rattle.energy.specs.Energy.{difference}
 use Rattle.energy.specs.Inner.{energy_between}
-use Rattle.energy.proofs.Samples.{samples_are}
 use Rattle.energy.proofs.kernels.inner_energies.Goals as goal
 
 pub returns : goal.returns
@@ -13,10 +14,8 @@ returns g c =
     let n = g.row.N in
     let it = a.it.now in
     let lower = a.lower.now in
-    let inner = length a.samples.now in
-    c.channels_added.ensures
+    c.distances.ensures
     ∙ table_same _ (λ k. energy_between n it lower k (k + 1)) (length a.out.now)
     (λ k l.
-    let end = part_end k (length a.out.now) n l in
-    ap (λ s. sum (row_at n k s)) c.sample_energies.ensures
-    ∙ samples_are n it lower k inner (omega (arith, end, c.requires.long)) c.requires.rows.0 c.requires.rows.1)
+    ap (λ x. difference x (row_at n k it) + difference (row_at n k lower) (row_at n k it))
+    (ap (row_at n k) (last_part n it) ∙ row_at-drop n k it))

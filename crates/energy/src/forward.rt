@@ -1,0 +1,90 @@
+// What taking out the pixels of a row adds: how far the pixels are apart that then meet. A row is read with the first and the last pixel
+// once more at its sides, so that a neighbour past the side edge is the pixel itself.
+ghost use Rattle.std.specs.Prelude.{◌≡◌, ◌+◌, ◌*◌, ◌≤◌, ◌<◌, length};
+ghost use Rattle.grids.specs.Table.{table};
+ghost use Rattle.pictures.specs.Limits.{most_row};
+ghost use Rattle.pictures.specs.Pictures.{channels_of};
+ghost use Rattle.energy.specs.Inner.{RowOf, SidesNeeded, padded, across_of, left_of_row, right_of_row};
+
+use crate::kernels::distances;
+use pictures::{Kind, LARGEST_SIDE};
+
+// The most samples of a row with a pixel more at either side, in grey and in rgb.
+const MOST_GREY: usize = LARGEST_SIDE + 2;
+
+const MOST_RGB: usize = 3 * (LARGEST_SIDE + 2);
+
+// Coming to the pixels of a row from straight above: their neighbours in the row meet.
+pub(crate) fn across(kind: Kind, it: &[u8], out: &mut [u32])
+    requires { RowOf (channels_of kind) it.now (length out.old) }
+    ensures { out.new ≡ table (across_of (channels_of kind) it.now) (length out.old) }
+{
+    match kind {
+        Kind::Grey => across_row::<1, MOST_GREY>(it, out),
+        Kind::Rgb => across_row::<3, MOST_RGB>(it, out),
+    }
+}
+
+// Coming to them from the left and from the right: besides, the pixel above meets the neighbour on that side.
+pub(crate) fn sides(kind: Kind, it: &[u8], above: &[u8], left: &mut [u32], right: &mut [u32])
+    requires { SidesNeeded (channels_of kind) it.now above.now (length left.old) (length right.old) }
+    ensures left { left.new ≡ table (left_of_row (channels_of kind) it.now above.now) (length left.old) }
+    ensures right { right.new ≡ table (right_of_row (channels_of kind) it.now above.now) (length right.old) }
+{
+    match kind {
+        Kind::Grey => sides_row::<1, MOST_GREY>(it, above, left, right),
+        Kind::Rgb => sides_row::<3, MOST_RGB>(it, above, left, right),
+    }
+}
+
+fn across_row<const N: usize, const ROOM: usize>(it: &[u8], out: &mut [u32])
+    requires few { (0 < N) × (N ≤ 3) }
+    requires room { (length it.now + 2 * N ≤ ROOM) × (ROOM ≤ most_row) }
+    requires row { RowOf N it.now (length out.old) }
+    ensures { out.new ≡ table (across_of N it.now) (length out.old) }
+{
+    let mut wide = [0u8; ROOM];
+    let mut samples = [0u16; ROOM];
+    let length = it.len();
+    let end = length + 2 * N;
+    pad::<N>(it, &mut wide[..end]);
+    let before = &wide[..end];
+    let after = &before[2 * N..];
+    distances::<N>(after, before, it, it, &mut samples[..length], out);
+}
+
+fn sides_row<const N: usize, const ROOM: usize>(
+    it: &[u8],
+    above: &[u8],
+    left: &mut [u32],
+    right: &mut [u32],
+)
+    requires few { (0 < N) × (N ≤ 3) }
+    requires room { (length it.now + 2 * N ≤ ROOM) × (ROOM ≤ most_row) }
+    requires rows { SidesNeeded N it.now above.now (length left.old) (length right.old) }
+    ensures left { left.new ≡ table (left_of_row N it.now above.now) (length left.old) }
+    ensures right { right.new ≡ table (right_of_row N it.now above.now) (length right.old) }
+{
+    let mut wide = [0u8; ROOM];
+    let mut samples = [0u16; ROOM];
+    let length = it.len();
+    let end = length + 2 * N;
+    pad::<N>(it, &mut wide[..end]);
+    let before = &wide[..end];
+    let after = &before[2 * N..];
+    distances::<N>(after, before, above, before, &mut samples[..length], left);
+    distances::<N>(after, before, above, after, &mut samples[..length], right);
+}
+
+// A row with its first and its last pixel once more at its sides.
+fn pad<const N: usize>(it: &[u8], wide: &mut [u8])
+    requires some { N ≤ length it.now }
+    requires long { length wide.old ≡ length it.now + 2 * N }
+    ensures { wide.new ≡ padded N it.now }
+{
+    let length = it.len();
+    let end = N + length;
+    wide[..N].copy_from_slice(&it[..N]);
+    wide[N..end].copy_from_slice(it);
+    wide[end..].copy_from_slice(&it[length - N..]);
+}
