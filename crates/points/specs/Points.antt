@@ -135,6 +135,8 @@ edge_points =
     ∷ record { got = energy_grid by_edge 1 2 (picture (grey 1 2) (10 ∷ 50 ∷ [])); expected = (40 ∷ []) ∷ (40 ∷ []) ∷ [] }
     -- the example's energies: 0 70 30 / 40 50 10
     ∷ record { got = energy_grid by_edge 3 2 example; expected = (0 ∷ 70 ∷ 30 ∷ []) ∷ (40 ∷ 50 ∷ 10 ∷ []) ∷ [] }
+    -- and coming to a pixel costs its energy from each side
+    ∷ record { got = step_rows by_edge 3 2 example 1; expected = (40 ∷ 50 ∷ 10 ∷ []) ∷ (40 ∷ 50 ∷ 10 ∷ []) ∷ (40 ∷ 50 ∷ 10 ∷ []) ∷ [] }
     -- its first seam: columns 0, 0, cost 40
     ∷ list (seam_of by_edge 3 2 example) (0 ∷ 0 ∷ [])
     ∷ one (cost_of by_edge 3 2 example) 40
@@ -167,6 +169,8 @@ flat_points =
     ∷ record { got = energy_grid by_flat 1 2 (picture (grey 1 2) (10 ∷ 50 ∷ [])); expected = (40 ∷ []) ∷ (0 ∷ []) ∷ [] }
     -- the example's energies: 0 70 0 / 40 10 0
     ∷ record { got = energy_grid by_flat 3 2 example; expected = (0 ∷ 70 ∷ 0 ∷ []) ∷ (40 ∷ 10 ∷ 0 ∷ []) ∷ [] }
+    -- and coming to a pixel costs its energy from each side
+    ∷ record { got = step_rows by_flat 3 2 example 1; expected = (40 ∷ 10 ∷ 0 ∷ []) ∷ (40 ∷ 10 ∷ 0 ∷ []) ∷ (40 ∷ 10 ∷ 0 ∷ []) ∷ [] }
     -- "first seam columns 2, 2 cost 0"
     ∷ list (seam_of by_flat 3 2 example) (2 ∷ 2 ∷ [])
     ∷ one (cost_of by_flat 3 2 example) 0
