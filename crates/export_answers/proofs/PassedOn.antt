@@ -6,7 +6,7 @@ use Rattle.pictures.specs.declared.sizes.Kind.{Kind}
 use Rattle.pictures.specs.declared.sizes.Kind.TheVariants.{Grey, Rgb}
 use Rattle.pictures.specs.declared.sizes.Size.{Size}
 use Rattle.energy.specs.declared.methods.EnergyRule.{EnergyRule}
-use Rattle.energy.specs.declared.methods.EnergyRule.TheVariants.{Edge, Flat}
+use Rattle.energy.specs.declared.methods.EnergyRule.TheVariants.{Edge, Flat, Forward}
 use Rattle.energy.specs.declared.methods.Method.{Method}
 use Rattle.export_answers.specs.Named.{sizing_of, finding_of, kind_number, energy_number, host_size, host_method}
 
@@ -22,6 +22,7 @@ energy-passed : (e : EnergyRule) → finding_of (record { energy = energy_number
 unfolding finding_of
 energy-passed Edge = refl
 energy-passed Flat = refl
+energy-passed Forward = refl
 
 pub method_passed : (how : Method) → finding_of (host_method how) ≡ Ok how
 method_passed how = energy-passed how.energy

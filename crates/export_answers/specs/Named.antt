@@ -7,7 +7,7 @@ use Rattle.pictures.specs.declared.sizes.Size.{Size}
 use Rattle.pictures.specs.declared.refusals.Refusal.{Refusal}
 use Rattle.pictures.specs.declared.refusals.Refusal.TheVariants.{Form}
 use Rattle.energy.specs.declared.methods.EnergyRule.{EnergyRule}
-use Rattle.energy.specs.declared.methods.EnergyRule.TheVariants.{Edge, Flat}
+use Rattle.energy.specs.declared.methods.EnergyRule.TheVariants.{Edge, Flat, Forward}
 use Rattle.energy.specs.declared.methods.Method.{Method}
 use Rattle.seam_rules.specs.declared.answers.Axis.{Axis}
 use Rattle.seam_rules.specs.declared.answers.Axis.TheVariants.{Vertical, Horizontal}
@@ -25,10 +25,12 @@ sizing_of s =
     cond (eqb s.kind 0) (Ok (record { width = s.width; height = s.height; kind = Grey }))
     (cond (eqb s.kind 1) (Ok (record { width = s.width; height = s.height; kind = Rgb })) (Err Form))
 
--- The method that a host names: energy 0 is edge, 1 is flat.
+-- The method that a host names: energy 0 is edge, 1 is flat, 2 is forward.
 unfoldable pub finding_of : HostMethod → Result Method Refusal
 finding_of m =
-    cond (eqb m.energy 0) (Ok (record { energy = Edge })) (cond (eqb m.energy 1) (Ok (record { energy = Flat })) (Err Form))
+    cond (eqb m.energy 0) (Ok (record { energy = Edge }))
+    (cond (eqb m.energy 1) (Ok (record { energy = Flat }))
+    (cond (eqb m.energy 2) (Ok (record { energy = Forward })) (Err Form)))
 
 -- The axis that a host names: 0 is vertical, 1 horizontal.
 unfoldable pub turning_of : ℕ → Result Axis Refusal
@@ -80,6 +82,7 @@ kind_number Rgb = 1
 abbrev pub energy_number : EnergyRule → ℕ
 energy_number Edge = 0
 energy_number Flat = 1
+energy_number Forward = 2
 
 abbrev pub host_size : Size → HostSize
 host_size z = record { width = z.width; height = z.height; kind = kind_number z.kind }

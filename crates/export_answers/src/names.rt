@@ -17,7 +17,7 @@ pub struct HostSize {
     pub kind: u8,
 }
 
-// The method that seams are found by, as hosts pass it and are answered it. Energy 0 is edge, 1 is flat.
+// The method that seams are found by, as hosts pass it and are answered it. Energy 0 is edge, 1 is flat, 2 is forward.
 #[repr(C)]
 #[derive(Clone, Copy, Debug, Default, PartialEq, Eq)]
 pub struct HostMethod {
@@ -67,7 +67,7 @@ impl TryFrom<HostSize> for Size {
     }
 }
 
-// Names the method; refused where its energy is neither 0 nor 1.
+// Names the method; refused where its energy is over 2.
 #[tactic(auto, unfolding(crate::specs::Named::finding_of))]
 impl TryFrom<HostMethod> for Method {
     type Error = Refusal;
@@ -78,6 +78,7 @@ impl TryFrom<HostMethod> for Method {
         let energy = match named.energy {
             0 => EnergyRule::Edge,
             1 => EnergyRule::Flat,
+            2 => EnergyRule::Forward,
             _ => return Err(Refusal::Form),
         };
         Ok(Method { energy })
@@ -155,6 +156,7 @@ fn energy_number(energy: EnergyRule) -> u8
     match energy {
         EnergyRule::Edge => 0,
         EnergyRule::Flat => 1,
+        EnergyRule::Forward => 2,
     }
 }
 

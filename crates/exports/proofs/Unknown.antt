@@ -9,7 +9,7 @@ use Rattle.pictures.specs.declared.sizes.Size.{Size}
 use Rattle.pictures.specs.declared.refusals.Refusal.{Refusal}
 use Rattle.pictures.specs.declared.refusals.Refusal.TheVariants.{Form}
 use Rattle.pictures.specs.Refusals.{number_of}
-use Rattle.energy.specs.declared.methods.EnergyRule.TheVariants.{Edge, Flat}
+use Rattle.energy.specs.declared.methods.EnergyRule.TheVariants.{Edge, Flat, Forward}
 use Rattle.energy.specs.declared.methods.Method.{Method}
 use Rattle.seam_rules.specs.declared.answers.Axis.{Axis}
 use Rattle.export_answers.specs.declared.names.HostSize.{HostSize}
@@ -28,13 +28,19 @@ two true u x y = tt
 two false true x y = tt
 two false false x y = refl
 
+three : {A : Type 0} (t u v : Bool) (x y z : A) → Told (cond t (Ok x) (cond u (Ok y) (cond v (Ok z) (Err Form))))
+three true u v x y z = tt
+three false u v x y z = two u v y z
+
 size_told : (s : HostSize) → Told (sizing_of s)
 unfolding sizing_of
 size_told s = two (eqb s.kind 0) (eqb s.kind 1) (record { width = s.width; height = s.height; kind = Grey }) (record { width = s.width; height = s.height; kind = Rgb })
 
 carving_told : (s : HostSize) (m : HostMethod) → Told (carving_of s m)
 unfolding carving_of finding_of
-carving_told s m = from (sizing_of s) (finding_of m) (size_told s) (two (eqb m.energy 0) (eqb m.energy 1) (record { energy = Edge }) (record { energy = Flat }))
+carving_told s m =
+    from (sizing_of s) (finding_of m) (size_told s)
+    (three (eqb m.energy 0) (eqb m.energy 1) (eqb m.energy 2) (record { energy = Edge }) (record { energy = Flat }) (record { energy = Forward }))
   where
     from : (z : Result Size Refusal) (how : Result Method Refusal) → Told z → Told how → Told (carving_from z how)
     from (Ok z) (Ok how) p q = tt

@@ -1,9 +1,9 @@
--- What hosts see of energies and rows. Of this and every operation hosts see numbers, structs of numbers and slices: a size, a
+-- What hosts see of energies, costs of steps and rows. Of this and every operation hosts see numbers, structs of numbers and slices: a size, a
 -- method and an axis stand in a promise as the host passes them, and a number that names none is refused by 1.
 use Rattle.std.specs.Prelude.{◌≡◌, List, ◌++◌, ℕ, length, drop}
 use Rattle.pictures.specs.Refusals.{refusal, served}
 use Rattle.pictures.specs.Pictures.{picture, row_of}
-use Rattle.energy.specs.Energy.{energies, energies_rules}
+use Rattle.energy.specs.Energy.{energies, left_costs, right_costs, energies_rules, step_costs_rules}
 use Rattle.export_answers.specs.declared.answers.Answer.{Answer}
 use Rattle.export_answers.specs.declared.names.HostSize.{HostSize}
 use Rattle.export_answers.specs.declared.names.HostMethod.{HostMethod}
@@ -17,6 +17,26 @@ pub record HostEnergiesGiven (b : List ℕ) (size : HostSize) (method : HostMeth
       out' ≡ both (carving_of size method)
       (λ z how. served n (energies how z.width z.height (picture z b) r ++ drop z.width out) out)
       out
+
+-- What coming to each pixel of a row costs, from the left, from above and from the right: the number, and the three spaces, each
+-- of which keeps what stands after the row.
+pub record HostStepCostsGiven (b : List ℕ) (size : HostSize) (method : HostMethod) (r : ℕ) (left up right : List ℕ) (n : ℕ) (left' up' right' : List ℕ) : Type 0 where
+  pub number :
+      n ≡ both (carving_of size method)
+      (λ z how. refusal (step_costs_rules z (length b) r (length left) (length up) (length right)))
+      1
+  pub left_given :
+      left' ≡ both (carving_of size method)
+      (λ z how. served n (left_costs how z.width z.height (picture z b) r ++ drop z.width left) left)
+      left
+  pub up_given :
+      up' ≡ both (carving_of size method)
+      (λ z how. served n (energies how z.width z.height (picture z b) r ++ drop z.width up) up)
+      up
+  pub right_given :
+      right' ≡ both (carving_of size method)
+      (λ z how. served n (right_costs how z.width z.height (picture z b) r ++ drop z.width right) right)
+      right
 
 -- A row, copied to the front of a space: its length, or 8 where the space is shorter.
 pub record HostRowGiven (b : List ℕ) (size : HostSize) (r : ℕ) (out : List ℕ) (a : Answer) (out' : List ℕ) : Type 0 where

@@ -10,7 +10,7 @@ mod retargets;
 mod seams;
 
 ghost use Rattle.export_answers.specs.Answers.{reply_of};
-ghost use Rattle.exports.specs.Hosts.{HostEnergiesGiven, HostRowGiven};
+ghost use Rattle.exports.specs.Hosts.{HostEnergiesGiven, HostStepCostsGiven, HostRowGiven};
 
 use export_answers::{Answer, Carving, HostMethod, HostSize, carving_named, judge_row};
 use pictures::{Refusal, Size};
@@ -30,6 +30,28 @@ pub extern "C" fn multisize_energies(
         Ok(Carving { size, method }) => {
             pictures::given(energy::energies(picture, size, method, r, out))
         }
+        Err(why) => pictures::number(why),
+    }
+}
+
+// What coming to each pixel of row r costs, put into the fronts of three spaces: from the column to its left in the row above, from
+// straight above, from the column to its right; gives the number that is refused by, or 0.
+#[unsafe(no_mangle)]
+pub extern "C" fn multisize_step_costs(
+    picture: &[u8],
+    size: HostSize,
+    method: HostMethod,
+    r: usize,
+    left: &mut [u32],
+    up: &mut [u32],
+    right: &mut [u32],
+) -> u64
+    ensures { HostStepCostsGiven picture.now size method r left.old up.old right.old result left.new up.new right.new }
+{
+    match carving_named(size, method) {
+        Ok(Carving { size, method }) => pictures::given(energy::step_costs(
+            picture, size, method, r, left, up, right,
+        )),
         Err(why) => pictures::number(why),
     }
 }

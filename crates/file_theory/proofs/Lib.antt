@@ -5,6 +5,7 @@ pub mod Shaped
 pub mod Checked
 pub mod Accepting
 pub mod WellFormed
+pub mod Forward
 pub mod Refused
 pub mod Smallest
 pub mod Pixels

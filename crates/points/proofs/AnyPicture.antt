@@ -1,10 +1,10 @@
 -- Points marked P that hold of more than the picture which the table takes: of any samples, either kind, any height.
 use mathlib.Core.Path.{◌≡◌, refl, ap, ap₂, ◌∙◌}
 use mathlib.Core.Logic.{◌⊎◌, inl, inr}
-use mathlib.Core.Bool.{true}
-use mathlib.Core.Option.{Option, map, get_or}
+use mathlib.Core.Bool.{Bool, true}
+use mathlib.Core.Option.{Option, none, some, map, get_or, or_else}
 use mathlib.Core.List.{List, [], ◌∷◌, zip_with, flat_map, reverse}
-use Prim.Native.Nat.{ℕ, zero, suc, ◌<◌}
+use Prim.Native.Nat.{ℕ, zero, suc, ◌+◌, ◌<◌}
 use native.Mathlib.Omega.{arith}
 use lib.ListN.{length}
 use Rattle.grids.specs.Cut.{remove_at, cut}
@@ -13,11 +13,14 @@ use Rattle.pictures.specs.declared.sizes.Kind.TheVariants.{Grey, Rgb}
 use Rattle.pictures.specs.declared.sizes.Size.{Size}
 use Rattle.pictures.specs.Refusals.{refusal}
 use Rattle.pictures.specs.Pictures.{Picture, channels_of, size_rules, picture, pixel}
+use Rattle.energy.specs.declared.methods.EnergyRule.{EnergyRule}
+use Rattle.energy.specs.declared.methods.EnergyRule.TheVariants.{Edge, Flat, Forward}
 use Rattle.energy.specs.declared.methods.Method.{Method}
 use Rattle.energy.specs.Methods.{wrap_of}
-use Rattle.energy.specs.Energy.{difference, away, costs_at, energy, step_of, energies}
-use Rattle.energy.proofs.Energy.{difference_self, away_holds, two_neighbours}
-use Rattle.energy.proofs.Steps.{step-energy}
+use Rattle.energy.specs.Around.{Around, left_of, right_of, above_of, below_of, around}
+use Rattle.energy.specs.Energy.{difference, away, StepCosts, alike, left_or_it, right_or_it, across, costs_from, costs_at, energy, toward, step_of, energies}
+use Rattle.energy.proofs.Energy.{difference_self}
+use Rattle.energy.proofs.Steps.{toward-alike}
 use Rattle.seam_theory.specs.Best.{better, first_best}
 use Rattle.seam_theory.specs.Paths.{run, select, paths_up, paths, cost, beside, nearby}
 use Rattle.seam_theory.specs.Seams.{cheapest}
@@ -60,30 +63,86 @@ unfolding difference
 difference_empty [] = refl
 difference_empty (a ∷ px) = refl
 
--- A picture all of whose pixels are px.
-abbrev Only : List ℕ → Picture → Type 0
-Only px p = (r c : ℕ) → (pixel p r c ≡ px) ⊎ (pixel p r c ≡ [])
+-- A picture all of whose pixels are px. A place past its edge has none.
+abbrev Plain : List ℕ → List ℕ → Type 0
+Plain px x = (x ≡ px) ⊎ (x ≡ [])
 
-module _ (px : List ℕ) (p : Picture) (only : Only px p) where
-  difference-none : (x y : List ℕ) → (x ≡ px) ⊎ (x ≡ []) → (y ≡ px) ⊎ (y ≡ []) → difference x y ≡ 0
+abbrev Only : List ℕ → Picture → Type 0
+Only px p = (r c : ℕ) → Plain px (pixel p r c)
+
+module _ (px : List ℕ) where
+  difference-none : (x y : List ℕ) → Plain px x → Plain px y → difference x y ≡ 0
   unfolding difference
   difference-none x y (inl e) (inl f) = rw (e, f) (difference_self px)
   difference-none x y (inl e) (inr f) = rw (e, f) (difference_empty px)
   difference-none x y (inr e) o = rw e
 
-  -- No neighbour is any difference away.
-  away-none : (r c : ℕ) (q : ℕ → List ℕ) → ((a : ℕ) → (q a ≡ px) ⊎ (q a ≡ [])) → (o : Option ℕ) → away (pixel p r c) (map q o) ≡ 0
-  away-none r c q s = away_holds (λ n. n ≡ 0) (pixel p r c) q refl (λ a. difference-none (q a) (pixel p r c) (s a) (only r c))
+  -- A neighbour, where there is one.
+  abbrev PlainNeighbour : Option (List ℕ) → Type 0
+  PlainNeighbour none = Unit
+  PlainNeighbour (some x) = Plain px x
+
+  away-none : (x : List ℕ) (o : Option (List ℕ)) → Plain px x → PlainNeighbour o → away x o ≡ 0
+  away-none x none a b = refl
+  away-none x (some y) a b = difference-none y x b a
+
+  plain_else : (o else : Option (List ℕ)) → PlainNeighbour o → PlainNeighbour else → PlainNeighbour (or_else o else)
+  unfolding or_else
+  plain_else none else a b = b
+  plain_else (some x) else a b = a
+
+  plain_or : (o : Option (List ℕ)) (x : List ℕ) → PlainNeighbour o → Plain px x → Plain px (get_or o x)
+  plain_or none x a b = b
+  plain_or (some y) x a b = a
+
+  -- By each rule such a pixel costs nothing, wherever a path comes from.
+  record PlainAround (a : Around) : Type 0 where
+    it : Plain px a.it
+    left : PlainNeighbour a.left
+    right : PlainNeighbour a.right
+    up : PlainNeighbour a.up
+    down : PlainNeighbour a.down
+
+  costs_none : (rule : EnergyRule) (a : Around) → PlainAround a → costs_from rule a ≡ alike 0
+  unfolding costs_from
+  costs_none Edge a n =
+      let beside = away-none a.it (or_else a.right a.left) n.it (plain_else a.right a.left n.right n.left) in
+      let below = away-none a.it (or_else a.down a.up) n.it (plain_else a.down a.up n.down n.up) in
+      ap alike (omega (arith, beside, below))
+  costs_none Flat a n = ap alike (omega (arith, away-none a.it a.right n.it n.right, away-none a.it a.down n.it n.down))
+  costs_none Forward a n =
+      let left = plain_or a.left a.it n.left n.it in
+      let right = plain_or a.right a.it n.right n.it in
+      let over = difference-none (right_or_it a) (left_or_it a) right left in
+      let from-left : across a + away (left_or_it a) a.up ≡ 0 = omega (arith, over, away-none (left_or_it a) a.up left n.up) in
+      let from-right : across a + away (right_or_it a) a.up ≡ 0 = omega (arith, over, away-none (right_or_it a) a.up right n.up) in
+      λ i. record { left = from-left i; up = over i; right = from-right i }
+
+module _ (px : List ℕ) (p : Picture) (only : Only px p) where
+  -- The neighbour on a line of such pixels.
+  neighbour_plain : (q : ℕ → List ℕ) → ((a : ℕ) → Plain px (q a)) → (o : Option ℕ) → PlainNeighbour px (map q o)
+  neighbour_plain q each none = tt
+  neighbour_plain q each (some a) = each a
+
+  plain_around : (wrap : Bool) (w h r c : ℕ) → PlainAround px (around wrap w h p r c)
+  plain_around wrap w h r c = record {
+    it = only r c;
+    left = neighbour_plain (pixel p r) (only r) (left_of wrap w c);
+    right = neighbour_plain (pixel p r) (only r) (right_of wrap w c);
+    up = neighbour_plain (λ a. pixel p a c) (λ a. only a c) (above_of r);
+    down = neighbour_plain (λ a. pixel p a c) (λ a. only a c) (below_of h r);
+  }
+
+  pixel_none : (how : Method) (w h r c : ℕ) → costs_at how w h p r c ≡ alike 0
+  unfolding costs_at
+  pixel_none how w h r c = costs_none px how.energy (around (wrap_of how) w h p r c) (plain_around (wrap_of how) w h r c)
 
   -- Its energy is 0 everywhere, and so is the cost of a step.
   energy-none : (how : Method) (w h r c : ℕ) → energy how w h p r c ≡ 0
-  unfolding costs_at
-  energy-none how w h r c =
-      let two = two_neighbours how.energy (wrap_of how) w h p r c in
-      omega (arith, two.energy_is, away-none r c (pixel p r) (only r) two.beside, away-none r c (λ a. pixel p a c) (λ a. only a c) two.below)
+  energy-none how w h r c = ap (λ (k : StepCosts). k.up) (pixel_none how w h r c)
 
   step-none : (how : Method) (w h i a c : ℕ) → step_of how w h p i a c ≡ 0
-  step-none how w h i a c = step-energy how w h p i a c ∙ energy-none how w h i c
+  step-none how w h i a c = ap (toward (wrap_of how) w a c) (pixel_none how w h i c) ∙ toward-alike (wrap_of how) w a c 0
 
   -- So its seam is that of no energy at all.
   seam-none : (how : Method) (w h : ℕ) → seam_of how w h p ≡ reverse (get_or (cheapest (nearby (wrap_of how) w) (λ c. 0) (λ i a c. 0) w h) [])

@@ -1,5 +1,6 @@
 -- The points marked P, other worked values, and refusals of the example's files: what the definitions give, beside what is expected,
--- as rows of numbers. By `flat` the values are the specification's own, by `edge` they are made again by change 101.
+-- as rows of numbers. By `flat` the values are the specification's own, by `edge` they are made again by change 101, by `forward` by
+-- change 103.
 use Rattle.std.proofs.Math.Option.{Option, none, some}
 use Rattle.std.specs.Prelude.{List, [], ◌∷◌, ◌++◌, map, ℕ}
 use Rattle.grids.specs.Rows.{flat}
@@ -8,13 +9,13 @@ use Rattle.pictures.specs.declared.sizes.Kind.TheVariants.{Grey}
 use Rattle.pictures.specs.declared.sizes.Size.{Size}
 use Rattle.pictures.specs.Refusals.{Rule, refusal}
 use Rattle.pictures.specs.Pictures.{Picture, picture}
-use Rattle.energy.specs.declared.methods.EnergyRule.TheVariants.{Edge, Flat}
+use Rattle.energy.specs.declared.methods.EnergyRule.TheVariants.{Edge, Flat, Forward}
 use Rattle.energy.specs.declared.methods.Method.{Method}
-use Rattle.energy.specs.Energy.{energies, energy_grid}
+use Rattle.energy.specs.Energy.{energies, energy_grid, left_costs, right_costs}
 use Rattle.text_theory.specs.declared.Head.{Head}
 use Rattle.text_theory.specs.Files.{text}
-use Rattle.text_theory.specs.Example.{edge_text, flat_text}
-use Rattle.seam_theory.specs.PictureSeams.{seam_of, cost_of}
+use Rattle.text_theory.specs.Example.{edge_text, flat_text, forward_text}
+use Rattle.seam_theory.specs.PictureSeams.{seam_of, cost_of, marked_seam_of, marked_cost_of}
 use Rattle.seam_rules.specs.declared.answers.Axis.TheVariants.{Horizontal}
 use Rattle.seam_rules.specs.Counts.{row_count, column_count}
 use Rattle.seam_rules.specs.declared.answers.Ending.{Ending}
@@ -52,9 +53,20 @@ by_edge = record { energy = Edge }
 abbrev pub by_flat : Method
 by_flat = record { energy = Flat }
 
+abbrev pub by_forward : Method
+by_forward = record { energy = Forward }
+
 -- The worked example: grey rows 10 10 40 and 10 50 40.
 abbrev pub example : Picture
 example = picture (grey 3 2) (10 ∷ 10 ∷ 40 ∷ 10 ∷ 50 ∷ 40 ∷ [])
+
+-- Its marks: row 0, column 0 protected; row 1, column 2 to be removed.
+abbrev pub example_marks : List (List ℕ)
+example_marks = (1 ∷ 0 ∷ 0 ∷ []) ∷ (0 ∷ 0 ∷ 2 ∷ []) ∷ []
+
+-- What coming to the pixels of row r costs from the left, from above and from the right.
+abbrev pub step_rows : Method → ℕ → ℕ → Picture → ℕ → List (List ℕ)
+step_rows how w h p r = left_costs how w h p r ∷ energies how w h p r ∷ right_costs how w h p r ∷ []
 
 -- The example with a row and a column less.
 abbrev pub smaller : Method → Cell
@@ -123,6 +135,8 @@ edge_points =
     ∷ record { got = energy_grid by_edge 1 2 (picture (grey 1 2) (10 ∷ 50 ∷ [])); expected = (40 ∷ []) ∷ (40 ∷ []) ∷ [] }
     -- the example's energies: 0 70 30 / 40 50 10
     ∷ record { got = energy_grid by_edge 3 2 example; expected = (0 ∷ 70 ∷ 30 ∷ []) ∷ (40 ∷ 50 ∷ 10 ∷ []) ∷ [] }
+    -- and coming to a pixel costs its energy from each side
+    ∷ record { got = step_rows by_edge 3 2 example 1; expected = (40 ∷ 50 ∷ 10 ∷ []) ∷ (40 ∷ 50 ∷ 10 ∷ []) ∷ (40 ∷ 50 ∷ 10 ∷ []) ∷ [] }
     -- its first seam: columns 0, 0, cost 40
     ∷ list (seam_of by_edge 3 2 example) (0 ∷ 0 ∷ [])
     ∷ one (cost_of by_edge 3 2 example) 40
@@ -141,9 +155,10 @@ edge_points =
     ∷ record { got = drawn_rows (shows (example_file by_edge) 2); expected = (10 ∷ 40 ∷ []) ∷ (50 ∷ 40 ∷ []) ∷ [] }
     ∷ record { got = drawn_rows (shows (example_file by_edge) 1); expected = (10 ∷ []) ∷ (50 ∷ []) ∷ [] }
     ∷ record { got = drawn_rows (shows (example_file by_edge) 4); expected = (10 ∷ 10 ∷ 10 ∷ 40 ∷ []) ∷ (10 ∷ 30 ∷ 50 ∷ 40 ∷ []) ∷ [] }
-    -- its own map accepted, that of `flat` refused by 11: its first seam costs 40 too and comes later
+    -- its own map accepted, that of `flat` refused by 11: its first seam costs 40 too and comes later; and that of `forward`
     ∷ gives (check_rules (recorded_file by_edge 2 1 (1 ∷ 0 ∷ 2 ∷ []) (1 ∷ 0 ∷ 2 ∷ [])) 192) 0
     ∷ gives (check_rules (recorded_file by_edge 2 1 (2 ∷ 0 ∷ 1 ∷ []) (0 ∷ 2 ∷ 1 ∷ [])) 192) 11
+    ∷ gives (check_rules (recorded_file by_edge 2 1 (1 ∷ 2 ∷ 0 ∷ []) (2 ∷ 1 ∷ 0 ∷ [])) 192) 11
     ∷ []
 
 -- Points by `flat`.
@@ -154,6 +169,8 @@ flat_points =
     ∷ record { got = energy_grid by_flat 1 2 (picture (grey 1 2) (10 ∷ 50 ∷ [])); expected = (40 ∷ []) ∷ (0 ∷ []) ∷ [] }
     -- the example's energies: 0 70 0 / 40 10 0
     ∷ record { got = energy_grid by_flat 3 2 example; expected = (0 ∷ 70 ∷ 0 ∷ []) ∷ (40 ∷ 10 ∷ 0 ∷ []) ∷ [] }
+    -- and coming to a pixel costs its energy from each side
+    ∷ record { got = step_rows by_flat 3 2 example 1; expected = (40 ∷ 10 ∷ 0 ∷ []) ∷ (40 ∷ 10 ∷ 0 ∷ []) ∷ (40 ∷ 10 ∷ 0 ∷ []) ∷ [] }
     -- "first seam columns 2, 2 cost 0"
     ∷ list (seam_of by_flat 3 2 example) (2 ∷ 2 ∷ [])
     ∷ one (cost_of by_flat 3 2 example) 0
@@ -172,10 +189,49 @@ flat_points =
     ∷ record { got = drawn_rows (shows (example_file by_flat) 2); expected = (10 ∷ 10 ∷ []) ∷ (10 ∷ 50 ∷ []) ∷ [] }
     ∷ record { got = drawn_rows (shows (example_file by_flat) 1); expected = (10 ∷ []) ∷ (10 ∷ []) ∷ [] }
     ∷ record { got = drawn_rows (shows (example_file by_flat) 4); expected = (10 ∷ 10 ∷ 25 ∷ 40 ∷ []) ∷ (10 ∷ 50 ∷ 45 ∷ 40 ∷ []) ∷ [] }
-    -- its own map accepted, that of `edge` refused by 11
+    -- its own map accepted, those of `edge` and of `forward` refused by 11
     ∷ gives (check_rules (recorded_file by_flat 2 1 (2 ∷ 0 ∷ 1 ∷ []) (0 ∷ 2 ∷ 1 ∷ [])) 192) 0
     ∷ gives (check_rules (recorded_file by_flat 2 1 (1 ∷ 0 ∷ 2 ∷ []) (1 ∷ 0 ∷ 2 ∷ [])) 192) 11
+    ∷ gives (check_rules (recorded_file by_flat 2 1 (1 ∷ 2 ∷ 0 ∷ []) (2 ∷ 1 ∷ 0 ∷ [])) 192) 11
+    ∷ []
+
+-- Points by `forward`.
+abbrev pub forward_points : List Point
+forward_points =
+    -- one row 10 40: what takes a pixel's place differs by 30; one column 10 / 50: C_U is 0, and coming from a side would cost 40
+    record { got = step_rows by_forward 2 1 (picture (grey 2 1) (10 ∷ 40 ∷ [])) 0; expected = (30 ∷ 30 ∷ []) ∷ (30 ∷ 30 ∷ []) ∷ (30 ∷ 30 ∷ []) ∷ [] }
+    ∷ record { got = energy_grid by_forward 1 2 (picture (grey 1 2) (10 ∷ 50 ∷ [])); expected = (0 ∷ []) ∷ (0 ∷ []) ∷ [] }
+    ∷ record { got = step_rows by_forward 1 2 (picture (grey 1 2) (10 ∷ 50 ∷ [])) 1; expected = (40 ∷ []) ∷ (0 ∷ []) ∷ (40 ∷ []) ∷ [] }
+    -- the example's costs: in row 0 C_U, 0 30 30; in row 1 C_L 40 30 20, C_U 40 30 10, C_R 80 60 10
+    ∷ record { got = step_rows by_forward 3 2 example 0; expected = (0 ∷ 30 ∷ 30 ∷ []) ∷ (0 ∷ 30 ∷ 30 ∷ []) ∷ (0 ∷ 30 ∷ 30 ∷ []) ∷ [] }
+    ∷ record { got = step_rows by_forward 3 2 example 1; expected = (40 ∷ 30 ∷ 20 ∷ []) ∷ (40 ∷ 30 ∷ 10 ∷ []) ∷ (80 ∷ 60 ∷ 10 ∷ []) ∷ [] }
+    -- its first seam: columns 0, 1, cost 30
+    ∷ list (seam_of by_forward 3 2 example) (0 ∷ 1 ∷ [])
+    ∷ one (cost_of by_forward 3 2 example) 30
+    -- its second, in the picture left, 10 40 / 10 40: columns 0, 0, cost 60
+    ∷ list (seam_of by_forward 2 2 (cut (0 ∷ 1 ∷ []) example)) (0 ∷ 0 ∷ [])
+    ∷ one (cost_of by_forward 2 2 (cut (0 ∷ 1 ∷ []) example)) 60
+    -- with its marks: columns 2, 2, cost 40
+    ∷ list (marked_seam_of by_forward 3 2 example example_marks) (2 ∷ 2 ∷ [])
+    ∷ one (marked_cost_of by_forward 3 2 example example_marks) 40
+    -- its horizontal seam: rows 0, 0, 0, cost 40
+    ∷ list (seam_along by_forward Horizontal (grey 3 2) example) (0 ∷ 0 ∷ 0 ∷ [])
+    ∷ one (cost_along by_forward Horizontal (grey 3 2) example) 40
+    -- retargeted by 1 row and 1 column: 10 40, total 30
+    ∷ record { got = map flat (smaller by_forward).picture; expected = (10 ∷ 40 ∷ []) ∷ [] }
+    ∷ one (smaller by_forward).total 30
+    -- its file in full
+    ∷ list (example_file by_forward) forward_text
+    -- width 2 is 10 40 / 10 40, width 1 is 40 / 40, width 4 is 10 10 10 40 / 10 50 45 40
+    ∷ record { got = drawn_rows (shows (example_file by_forward) 2); expected = (10 ∷ 40 ∷ []) ∷ (10 ∷ 40 ∷ []) ∷ [] }
+    ∷ record { got = drawn_rows (shows (example_file by_forward) 1); expected = (40 ∷ []) ∷ (40 ∷ []) ∷ [] }
+    ∷ record { got = drawn_rows (shows (example_file by_forward) 4); expected = (10 ∷ 10 ∷ 10 ∷ 40 ∷ []) ∷ (10 ∷ 50 ∷ 45 ∷ 40 ∷ []) ∷ [] }
+    -- its own map accepted, those of `edge` and of `flat` refused by 11
+    ∷ gives (check_rules (recorded_file by_forward 2 1 (1 ∷ 2 ∷ 0 ∷ []) (2 ∷ 1 ∷ 0 ∷ [])) 192) 0
+    ∷ gives (check_rules (recorded_file by_forward 2 1 (1 ∷ 0 ∷ 2 ∷ []) (1 ∷ 0 ∷ 2 ∷ [])) 192) 11
+    ∷ gives (check_rules (recorded_file by_forward 2 1 (2 ∷ 0 ∷ 1 ∷ []) (0 ∷ 2 ∷ 1 ∷ [])) 192) 11
     ∷ []
 
 abbrev pub point_table : List Point
-point_table = shared_points by_edge ++ (shared_points by_flat ++ (edge_points ++ flat_points))
+point_table =
+    shared_points by_edge ++ (shared_points by_flat ++ (shared_points by_forward ++ (edge_points ++ (flat_points ++ forward_points))))

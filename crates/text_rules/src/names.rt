@@ -11,11 +11,11 @@ use text_theory::Name;
 const KINDS: [Kind; 2] = [Kind::Grey, Kind::Rgb];
 
 // The energy rules that have names.
-const RULES: [EnergyRule; 2] = [EnergyRule::Edge, EnergyRule::Flat];
+const RULES: [EnergyRule; 3] = [EnergyRule::Edge, EnergyRule::Flat, EnergyRule::Forward];
 
 // All names, in the order in which they are looked for: one that begins another would stand after it. A constant would promise
 // nothing of it.
-pub fn all_names() -> [Name; 10]
+pub fn all_names() -> [Name; 11]
     ensures { result ≡ all_names }
 {
     [
@@ -29,6 +29,7 @@ pub fn all_names() -> [Name; 10]
         Name::Rgb,
         Name::Edge,
         Name::Flat,
+        Name::Forward,
     ]
 }
 
@@ -47,6 +48,7 @@ pub fn letters_of(name: Name) -> &'static [u8]
         Name::Rgb => b"rgb",
         Name::Edge => b"edge",
         Name::Flat => b"flat",
+        Name::Forward => b"forward",
     }
 }
 
@@ -74,6 +76,7 @@ pub fn rule_name(rule: EnergyRule) -> Name
     match rule {
         EnergyRule::Edge => Name::Edge,
         EnergyRule::Flat => Name::Flat,
+        EnergyRule::Forward => Name::Forward,
     }
 }
 

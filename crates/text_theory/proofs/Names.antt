@@ -49,6 +49,7 @@ number_name name.Grey = (omega arith, refl)
 number_name name.Rgb = (omega arith, refl)
 number_name name.Edge = (omega arith, refl)
 number_name name.Flat = (omega arith, refl)
+number_name name.Forward = (omega arith, refl)
 
 pub number_same : (n m : Name) → name_number m ≡ name_number n → m ≡ n
 number_same n m e = sym (number_name m).1 ∙ ap name_at e ∙ (number_name n).1
@@ -173,6 +174,7 @@ kind_reads = called_reads kind_name all_kinds kind_found
 rule_found : (e : EnergyRule) → called rule_name all_rules (rule_name e) ≡ some e
 rule_found rule.Edge = refl
 rule_found rule.Flat = refl
+rule_found rule.Forward = refl
 
 pub rule_reads : Reads (λ e. Unit) rule_text Any rule_get
 unfolding rule_text rule_get

@@ -5,7 +5,7 @@ use Rattle.pictures.specs.declared.sizes.Kind.TheVariants.{Rgb}
 use Rattle.pictures.specs.Numbers.{largest_number}
 use Rattle.energy.specs.declared.methods.EnergyRule.TheVariants.{Flat}
 use Rattle.text_theory.specs.Files.{Parts}
-use Rattle.text_theory.specs.Example.{edge_parts, edge_text, flat_parts, flat_text, multi_line, size_line, range_line, edge_line, flat_line, last_line}
+use Rattle.text_theory.specs.Example.{edge_parts, edge_text, flat_parts, flat_text, forward_parts, forward_text, multi_line, size_line, range_line, edge_line, flat_line, forward_line, last_line}
 
 -- Lines besides those of the example, as bytes.
 abbrev pub rgb_line : List ℕ
@@ -44,6 +44,12 @@ long_range = 40 ∷ 114 ∷ 97 ∷ 110 ∷ 103 ∷ 101 ∷ 32 ∷ 50 ∷ 32 ∷ 
 abbrev pub other_word : List ℕ
 other_word = 40 ∷ 101 ∷ 110 ∷ 101 ∷ 114 ∷ 103 ∷ 121 ∷ 32 ∷ 103 ∷ 114 ∷ 101 ∷ 121 ∷ 41 ∷ 10 ∷ []  -- '(energy grey)'
 
+abbrev pub word_begun : List ℕ
+word_begun = 40 ∷ 101 ∷ 110 ∷ 101 ∷ 114 ∷ 103 ∷ 121 ∷ 32 ∷ 102 ∷ 111 ∷ 114 ∷ 41 ∷ 10 ∷ []  -- '(energy for)'
+
+abbrev pub word_on : List ℕ
+word_on = 40 ∷ 101 ∷ 110 ∷ 101 ∷ 114 ∷ 103 ∷ 121 ∷ 32 ∷ 102 ∷ 111 ∷ 114 ∷ 119 ∷ 97 ∷ 114 ∷ 100 ∷ 115 ∷ 41 ∷ 10 ∷ []  -- '(energy forwards)'
+
 abbrev pub no_word : List ℕ
 no_word = 40 ∷ 101 ∷ 110 ∷ 101 ∷ 114 ∷ 103 ∷ 121 ∷ 41 ∷ 10 ∷ []  -- '(energy)'
 
@@ -61,6 +67,7 @@ readings =
     -- the example's file by each rule
     (edge_text ∷ [], some edge_parts)
     ∷ (flat_text ∷ [], some flat_parts)
+    ∷ (forward_text ∷ [], some forward_parts)
     -- the largest sample and the largest number
     ∷ (multi_line ∷ rgb_line ∷ no_range ∷ flat_line ∷ rgb_row ∷ long_map ∷ last_line ∷ [], some coloured)
     -- lines without items: their counts are judged later
@@ -87,7 +94,10 @@ readings =
     ∷ (multi_line ∷ size_line ∷ edge_line ∷ range_line ∷ bare_row ∷ bare_map ∷ last_line ∷ [], none)
     ∷ (multi_line ∷ size_line ∷ range_line ∷ bare_row ∷ edge_line ∷ bare_map ∷ last_line ∷ [], none)
     ∷ (multi_line ∷ size_line ∷ range_line ∷ edge_line ∷ flat_line ∷ bare_row ∷ bare_map ∷ last_line ∷ [], none)
-    -- a word that names no energy, and no word
+    ∷ (multi_line ∷ size_line ∷ range_line ∷ forward_line ∷ forward_line ∷ bare_row ∷ bare_map ∷ last_line ∷ [], none)
+    -- a word that names no energy, one cut short, one that goes on, and no word
     ∷ (multi_line ∷ size_line ∷ range_line ∷ other_word ∷ bare_row ∷ bare_map ∷ last_line ∷ [], none)
+    ∷ (multi_line ∷ size_line ∷ range_line ∷ word_begun ∷ bare_row ∷ bare_map ∷ last_line ∷ [], none)
+    ∷ (multi_line ∷ size_line ∷ range_line ∷ word_on ∷ bare_row ∷ bare_map ∷ last_line ∷ [], none)
     ∷ (multi_line ∷ size_line ∷ range_line ∷ no_word ∷ bare_row ∷ bare_map ∷ last_line ∷ [], none)
     ∷ []

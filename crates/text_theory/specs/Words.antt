@@ -20,6 +20,7 @@ name_text name.Grey = 103 ∷ 114 ∷ 101 ∷ 121 ∷ []  -- 'grey'
 name_text name.Rgb = 114 ∷ 103 ∷ 98 ∷ []  -- 'rgb'
 name_text name.Edge = 101 ∷ 100 ∷ 103 ∷ 101 ∷ []  -- 'edge'
 name_text name.Flat = 102 ∷ 108 ∷ 97 ∷ 116 ∷ []  -- 'flat'
+name_text name.Forward = 102 ∷ 111 ∷ 114 ∷ 119 ∷ 97 ∷ 114 ∷ 100 ∷ []  -- 'forward'
 
 -- The number of a name, by which two are told apart.
 abbrev pub name_number : Name → ℕ
@@ -33,10 +34,11 @@ name_number name.Grey = 6
 name_number name.Rgb = 7
 name_number name.Edge = 8
 name_number name.Flat = 9
+name_number name.Forward = 10
 
 -- All names, in the order in which they are looked for: one that begins another would stand after it.
 abbrev pub all_names : List Name
-all_names = name.Multi ∷ name.Size ∷ name.Range ∷ name.Energy ∷ name.Row ∷ name.Map ∷ name.Grey ∷ name.Rgb ∷ name.Edge ∷ name.Flat ∷ []
+all_names = name.Multi ∷ name.Size ∷ name.Range ∷ name.Energy ∷ name.Row ∷ name.Map ∷ name.Grey ∷ name.Rgb ∷ name.Edge ∷ name.Flat ∷ name.Forward ∷ []
 
 -- The i-th of them; past the last, the first.
 abbrev pub name_at : ℕ → Name
@@ -84,9 +86,10 @@ kind_get = called_get kind_name all_kinds
 abbrev pub rule_name : EnergyRule → Name
 rule_name rule.Edge = name.Edge
 rule_name rule.Flat = name.Flat
+rule_name rule.Forward = name.Forward
 
 abbrev pub all_rules : List EnergyRule
-all_rules = rule.Edge ∷ rule.Flat ∷ []
+all_rules = rule.Edge ∷ rule.Flat ∷ rule.Forward ∷ []
 
 abbrev pub rule_named : Name → Option EnergyRule
 rule_named = called rule_name all_rules

@@ -18,6 +18,7 @@ pub enum Name {
     Rgb,
     Edge,
     Flat,
+    Forward,
 }
 
 // What the lines of size, range and energy say. The method is the one by which the seams of the map are found.

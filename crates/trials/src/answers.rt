@@ -83,18 +83,19 @@ fn print_checked(stdout: Stdout, checked: Result<Head, Refusal>) {
     print_number(stdout, given(checked));
     if let Ok(head) = checked {
         print_size(stdout, head.size);
-        print_energy(stdout, head.method.energy);
+        put(stdout, word(head.method.energy));
         print_number(stdout, head.depth);
         print_number(stdout, head.growth);
     }
 }
 
-fn print_energy(stdout: Stdout, energy: EnergyRule) {
-    let word = match energy {
+// The word of an energy rule, after a blank.
+fn word(energy: EnergyRule) -> &'static [u8] {
+    match energy {
         EnergyRule::Edge => b" edge",
         EnergyRule::Flat => b" flat",
-    };
-    put(stdout, word);
+        EnergyRule::Forward => b" forward",
+    }
 }
 
 // Width, height, and samples a pixel.

@@ -22,7 +22,7 @@ use std::io::Stdout;
 fn main(rt: HostRuntime) {
     let stdout = rt.stdout();
     let mut source = Source { seed: 1 };
-    for energy in [EnergyRule::Edge, EnergyRule::Flat] {
+    for energy in [EnergyRule::Edge, EnergyRule::Flat, EnergyRule::Forward] {
         trials(stdout, Method { energy }, &mut source);
     }
 }
