@@ -13,7 +13,7 @@ use native.Mathlib.Omega.{arith}
 use lib.Dec.{ltb}
 use borrow.Author.Tests.{lt-ltb, le-ltb}
 use borrow.Rule.Slice.PartMut.{put_mid}
-use lib.ListN.{length, take, drop, length-append, drop_of_length-le}
+use lib.ListN.{length, take, drop, length-append, length-drop, drop_of_length-le}
 use lib.Seq.{take_at, drop_at, drop-drop, length-take-le}
 use Rattle.grids.specs.Table.{table}
 use Rattle.grids.specs.Rows.{row_at}
@@ -30,7 +30,7 @@ use Rattle.energy.specs.declared.methods.Method.{Method}
 use Rattle.energy.specs.Methods.{wrap_of}
 use Rattle.energy.specs.Around.{Around, left_of, right_of, above_of, around}
 use Rattle.energy.specs.Energy.{difference, away, left_or_it, right_or_it, across, forward, costs_from, one_cost, costs_at, energies}
-use Rattle.energy.specs.Inner.{RowOf, SidesNeeded, padded, befores, afters, across_of, left_of_row, right_of_row}
+use Rattle.energy.specs.Inner.{DistancesNeeded, RowOf, StepsNeeded, padded, befores, afters, across_of, left_of_row, right_of_row}
 use Rattle.energy.proofs.Energy.{difference_self}
 use Rattle.energy.proofs.Steps.{is_forward}
 
@@ -149,6 +149,33 @@ module _ (n : ℕ) (it wide first second third : List ℕ) (few : n ≤ length i
       ∙ ap (front ++◌) (append-nil third ∙ as_third)
       ∙ append_assoc (take n it) it (drop (length it - n) it)
 
+-- It is two pixels longer, so that the neighbours on either side are as many as the pixels.
+pub padded-long : (n : ℕ) (it : List ℕ) → n ≤ length it → length (padded n it) ≡ length it + 2 * n
+padded-long n it few =
+    omega (
+      arith,
+      length-append (take n it) (it ++ drop (length it - n) it),
+      length-append it (drop (length it - n) it),
+      length-take-le n it few,
+      length-drop (length it - n) it,
+    )
+
+module _ (n : ℕ) (it above : List ℕ) (few : n ≤ length it) (long : length above ≡ length it) where
+  afters-long : length (afters n it) ≡ length it
+  afters-long = omega (arith, length-drop (2 * n) (padded n it), padded-long n it few)
+
+  befores-long : length it ≤ length (befores n it)
+  befores-long = omega (arith, padded-long n it few)
+
+  pub left_needed : DistancesNeeded (afters n it) (befores n it) above (befores n it) (length it)
+  left_needed = record { first = omega (arith, afters-long); second = befores-long; third = omega (arith, long); fourth = befores-long }
+
+  pub across_needed : DistancesNeeded (afters n it) (befores n it) (befores n it) (befores n it) (length it)
+  across_needed = record { first = omega (arith, afters-long); second = befores-long; third = befores-long; fourth = befores-long }
+
+  pub right_needed : DistancesNeeded (afters n it) (befores n it) above (afters n it) (length it)
+  right_needed = record { first = omega (arith, afters-long); second = befores-long; third = omega (arith, long); fourth = omega (arith, afters-long) }
+
 -- By forward, in a picture in a buffer: the distances that are taken are the row's costs.
 module _ (z : Size) (b : List ℕ) (sure : Sized z (length b)) (r c : ℕ) (inside : r < z.height) (here : c < z.width) where
   abbrev n : ℕ
@@ -177,7 +204,7 @@ module _ (z : Size) (b : List ℕ) (sure : Sized z (length b)) (r c : ℕ) (insi
   meet = ap₂ difference following before
 
   pub across-is : across_of n (row r) c ≡ (forward meeting).up
-  across-is = ap₂ ◌+◌ meet (difference_self (row_at n c (row r))) ∙ add-zero (across meeting)
+  across-is = ap₂ ◌+◌ meet (difference_self (row_at n c (befores n (row r)))) ∙ add-zero (across meeting)
 
   -- Where there is a row above, the pixel in it meets the one at the side.
   module _ (later : 0 < r) where
@@ -214,12 +241,15 @@ module _ (z : Size) (b : List ℕ) (sure : Sized z (length b)) (r s : ℕ) (insi
     it_is = ap length lent_is ∙ length-row_at (row_bytes z) z.height b r (le_of_eq (sym sure.length_is)) inside;
   }
 
+  pub up-row : {width : ℕ} → width ≡ z.width
+      → table (across_of (channels_of z.kind) (take (r * s + s - r * s) (drop (r * s) b))) width
+      ≡ table (λ c. (forward (around false z.width z.height (picture z b) r c)).up) z.width
+  up-row e = rw (lent_is, e) (table_same _ _ z.width (λ c l. across-is z b sure r c inside l))
+
   pub across-row : (how : Method) → one_cost how.energy ≡ false
       → table (across_of (channels_of z.kind) (take (r * s + s - r * s) (drop (r * s) b))) z.width ≡ energies how z.width z.height (picture z b) r
   unfolding costs_at costs_from wrap_of
-  across-row how other =
-      rw (lent_is, is_forward how.energy other)
-      (table_same _ (λ c. (forward (around false z.width z.height (picture z b) r c)).up) z.width (λ c l. across-is z b sure r c inside l))
+  across-row how other = rw (is_forward how.energy other) (up-row refl)
 
   -- And those at the sides, where there is a row above: s bytes before it.
   module _ (later : 0 < r) where
@@ -240,12 +270,13 @@ module _ (z : Size) (b : List ℕ) (sure : Sized z (length b)) (r s : ℕ) (insi
         let whole : r * s - (r * s - s) ≡ row_bytes z = omega (arith, above-end, is) in
         rw (whole, before_it)
 
-    pub lent-sides : (left right : ℕ) → left ≡ z.width → right ≡ z.width
-        → SidesNeeded (channels_of z.kind) (take (r * s + s - r * s) (drop (r * s) b)) (take (r * s - (r * s - s)) (drop (r * s - s) b)) left right
-    lent-sides left right e f = record {
+    pub lent-steps : (left up right : ℕ) → left ≡ z.width → up ≡ z.width → right ≡ z.width
+        → StepsNeeded (channels_of z.kind) (take (r * s + s - r * s) (drop (r * s) b)) (take (r * s - (r * s - s)) (drop (r * s - s) b)) left up right
+    lent-steps left up right e f g = record {
       row = rw e lent-row;
       above_is = ap length lent-above_is ∙ length-row_at (row_bytes z) z.height b (r - 1) (le_of_eq (sym sure.length_is)) (omega arith) ∙ ap (λ w. w * channels_of z.kind) (sym e);
-      right_is = f ∙ sym e;
+      up_is = f ∙ sym e;
+      right_is = g ∙ sym e;
     }
 
     pub left-row : {width : ℕ} → width ≡ z.width

@@ -8,6 +8,7 @@ use Rattle.std.specs.List.{sum}
 use Rattle.std.proofs.lemmas.List.Sums.{fold-append}
 use Rattle.grids.specs.Table.{table}
 use Rattle.grids.specs.Rows.{row_at}
+use Rattle.grids.proofs.Rows.{part_end}
 use Rattle.grids.proofs.Tables.{length-table, table_at, table_part, table_same}
 use Rattle.energy.specs.Energy.{apart, difference}
 use Rattle.energy.specs.Inner.{DistancesNeeded, sample_distance, two_distances}
@@ -46,3 +47,12 @@ module _ (n : ℕ) (a b c d : List ℕ) (k inner : ℕ) (end : k * n + n ≤ inn
       ∙ table_same _ (λ i. sample_distance a b c d (k * n + i)) n (λ i m. table_at (sample_distance a b c d) inner (k * n + i) 0 (omega arith)))
       ∙ sums_are (λ i. get_or a (k * n + i) 0) (λ i. get_or b (k * n + i) 0) (λ i. get_or c (k * n + i) 0) (λ i. get_or d (k * n + i) 0) n
       ∙ ap₂ ◌+◌ (ap₂ difference (samples a rows.first) (samples b rows.second)) (ap₂ difference (samples c rows.third) (samples d rows.fourth))
+
+-- The same of a row of pixels, as the loop over them leaves it.
+pub channels_are : (n : ℕ) (a b c d s : List ℕ) (inner width : ℕ) {out : List ℕ} → out ≡ table (λ k. sum (row_at n k s)) width
+    → s ≡ table (sample_distance a b c d) inner → inner ≡ width * n → DistancesNeeded a b c d inner
+    → out ≡ table (two_distances n a b c d) width
+channels_are n a b c d s inner width is by_samples long rows =
+    is
+    ∙ table_same _ (two_distances n a b c d) width
+    (λ k l. ap (λ x. sum (row_at n k x)) by_samples ∙ samples_are n a b c d k inner (omega (arith, part_end k width n l, long)) rows)

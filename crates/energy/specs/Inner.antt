@@ -15,12 +15,13 @@ pub record RowNeeded (b : List ℕ) (z : Size) (r out : ℕ) : Type 0 where
   pub inside : r < z.height
   pub room : z.width ≤ out
 
--- A row that has one above it, with room for two rows of costs.
-pub record RowSidesNeeded (b : List ℕ) (z : Size) (r left right : ℕ) : Type 0 where
+-- A row that has one above it, with room for three rows of costs.
+pub record RowStepsNeeded (b : List ℕ) (z : Size) (r left up right : ℕ) : Type 0 where
   pub sized : refusal (size_rules z (length b)) ≡ 0
   pub later : 0 < r
   pub inside : r < z.height
   pub left_room : left ≡ z.width
+  pub up_room : up ≡ z.width
   pub right_room : right ≡ z.width
 
 -- The bytes of a row and of the row that stands for the one below it, of `width` pixels of `channels` samples, and the column
@@ -82,10 +83,19 @@ pub record RowOf (channels : ℕ) (it : List ℕ) (width : ℕ) : Type 0 where
 abbrev pub padded : ℕ → List ℕ → List ℕ
 padded channels it = take channels it ++ (it ++ drop (length it - channels) it)
 
--- The row above, and room for two rows of costs.
-pub record SidesNeeded (channels : ℕ) (it above : List ℕ) (left right : ℕ) : Type 0 where
+-- The row above, and room for three rows of costs.
+pub record StepsNeeded (channels : ℕ) (it above : List ℕ) (left up right : ℕ) : Type 0 where
   pub row : RowOf channels it left
   pub above_is : length above ≡ left * channels
+  pub up_is : up ≡ left
+  pub right_is : right ≡ left
+
+-- The samples beside those of a row and above them, and room for three rows of costs.
+pub record SampleStepsNeeded (before after above : List ℕ) (left up right : ℕ) : Type 0 where
+  pub before_long : left ≤ length before
+  pub after_long : left ≤ length after
+  pub above_long : left ≤ length above
+  pub up_is : up ≡ left
   pub right_is : right ≡ left
 
 -- In such a row the pixel to the left of pixel c stands at place c, the one to its right at place c + 2.
@@ -98,7 +108,7 @@ module _ (channels : ℕ) (it : List ℕ) where
 
   -- What coming to pixel c costs from straight above; from the left and from the right, where `above` is the row above.
   abbrev pub across_of : ℕ → ℕ
-  across_of = two_distances channels afters befores it it
+  across_of = two_distances channels afters befores befores befores
 
   abbrev pub left_of_row : List ℕ → ℕ → ℕ
   left_of_row above = two_distances channels afters befores above befores

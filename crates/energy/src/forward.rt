@@ -4,9 +4,9 @@ ghost use Rattle.std.specs.Prelude.{◌≡◌, ◌+◌, ◌*◌, ◌≤◌, ◌<
 ghost use Rattle.grids.specs.Table.{table};
 ghost use Rattle.pictures.specs.Limits.{most_row};
 ghost use Rattle.pictures.specs.Pictures.{channels_of};
-ghost use Rattle.energy.specs.Inner.{RowOf, SidesNeeded, padded, across_of, left_of_row, right_of_row};
+ghost use Rattle.energy.specs.Inner.{RowOf, StepsNeeded, SampleStepsNeeded, padded, sample_distance, across_of, left_of_row, right_of_row};
 
-use crate::kernels::distances;
+use crate::kernels::{channels_added, distances};
 use pictures::{Kind, LARGEST_SIDE};
 
 // The most samples of a row with a pixel more at either side, in grey and in rgb.
@@ -25,15 +25,23 @@ pub(crate) fn across(kind: Kind, it: &[u8], out: &mut [u32])
     }
 }
 
-// Coming to them from the left and from the right: besides, the pixel above meets the neighbour on that side.
-pub(crate) fn sides(kind: Kind, it: &[u8], above: &[u8], left: &mut [u32], right: &mut [u32])
-    requires { SidesNeeded (channels_of kind) it.now above.now (length left.old) (length right.old) }
+// And coming to them from the left and from the right: besides, the pixel above meets the neighbour on that side.
+pub(crate) fn steps(
+    kind: Kind,
+    it: &[u8],
+    above: &[u8],
+    left: &mut [u32],
+    up: &mut [u32],
+    right: &mut [u32],
+)
+    requires { StepsNeeded (channels_of kind) it.now above.now (length left.old) (length up.old) (length right.old) }
     ensures left { left.new ≡ table (left_of_row (channels_of kind) it.now above.now) (length left.old) }
+    ensures up { up.new ≡ table (across_of (channels_of kind) it.now) (length up.old) }
     ensures right { right.new ≡ table (right_of_row (channels_of kind) it.now above.now) (length right.old) }
 {
     match kind {
-        Kind::Grey => sides_row::<1, MOST_GREY>(it, above, left, right),
-        Kind::Rgb => sides_row::<3, MOST_RGB>(it, above, left, right),
+        Kind::Grey => steps_row::<1, MOST_GREY>(it, above, left, up, right),
+        Kind::Rgb => steps_row::<3, MOST_RGB>(it, above, left, up, right),
     }
 }
 
@@ -50,30 +58,67 @@ fn across_row<const N: usize, const ROOM: usize>(it: &[u8], out: &mut [u32])
     pad::<N>(it, &mut wide[..end]);
     let before = &wide[..end];
     let after = &before[2 * N..];
-    distances::<N>(after, before, it, it, &mut samples[..length], out);
+    distances::<N>(after, before, before, before, &mut samples[..length], out);
 }
 
-fn sides_row<const N: usize, const ROOM: usize>(
+fn steps_row<const N: usize, const ROOM: usize>(
     it: &[u8],
     above: &[u8],
     left: &mut [u32],
+    up: &mut [u32],
     right: &mut [u32],
 )
     requires few { (0 < N) × (N ≤ 3) }
     requires room { (length it.now + 2 * N ≤ ROOM) × (ROOM ≤ most_row) }
-    requires rows { SidesNeeded N it.now above.now (length left.old) (length right.old) }
+    requires rows { StepsNeeded N it.now above.now (length left.old) (length up.old) (length right.old) }
     ensures left { left.new ≡ table (left_of_row N it.now above.now) (length left.old) }
+    ensures up { up.new ≡ table (across_of N it.now) (length up.old) }
     ensures right { right.new ≡ table (right_of_row N it.now above.now) (length right.old) }
 {
     let mut wide = [0u8; ROOM];
-    let mut samples = [0u16; ROOM];
+    let mut from_left = [0u16; ROOM];
+    let mut from_above = [0u16; ROOM];
+    let mut from_right = [0u16; ROOM];
     let length = it.len();
     let end = length + 2 * N;
     pad::<N>(it, &mut wide[..end]);
     let before = &wide[..end];
     let after = &before[2 * N..];
-    distances::<N>(after, before, above, before, &mut samples[..length], left);
-    distances::<N>(after, before, above, after, &mut samples[..length], right);
+    sample_steps(
+        before,
+        after,
+        above,
+        &mut from_left[..length],
+        &mut from_above[..length],
+        &mut from_right[..length],
+    );
+    channels_added::<N>(&from_left[..length], left);
+    channels_added::<N>(&from_above[..length], up);
+    channels_added::<N>(&from_right[..length], right);
+}
+
+// The costs of coming to each sample of a row, from the samples beside it and above it. All three in one loop: how far those beside it
+// are apart counts in each.
+fn sample_steps(
+    before: &[u8],
+    after: &[u8],
+    above: &[u8],
+    left: &mut [u16],
+    up: &mut [u16],
+    right: &mut [u16],
+)
+    requires { SampleStepsNeeded before.now after.now above.now (length left.old) (length up.old) (length right.old) }
+    ensures left { left.new ≡ table (sample_distance after.now before.now above.now before.now) (length left.old) }
+    ensures up { up.new ≡ table (sample_distance after.now before.now before.now before.now) (length left.old) }
+    ensures right { right.new ≡ table (sample_distance after.now before.now above.now after.now) (length left.old) }
+{
+    // By index, since nothing is promised of what is written through a zip.
+    for k in 0..left.len() {
+        let across = after[k].abs_diff(before[k]) as u16;
+        left[k] = across + above[k].abs_diff(before[k]) as u16;
+        up[k] = across;
+        right[k] = across + above[k].abs_diff(after[k]) as u16;
+    }
 }
 
 // A row with its first and its last pixel once more at its sides.

@@ -93,7 +93,7 @@ fn sample_distances(a: &[u8], b: &[u8], c: &[u8], d: &[u8], out: &mut [u16])
 }
 
 // What pixels have, from what their samples have. By index for the same reason; `as_chunks` would ask that N isn't 0, too.
-fn channels_added<const N: usize>(samples: &[u16], out: &mut [u32])
+pub(crate) fn channels_added<const N: usize>(samples: &[u16], out: &mut [u32])
     requires few { N ≤ 3 }
     requires long { length samples.now ≡ length out.old * N }
     ensures { out.new ≡ table (λ c. sum (row_at N c samples.now)) (length out.old) }

@@ -10,7 +10,7 @@ ghost use Rattle.energy.specs.Around.{around};
 ghost use Rattle.energy.specs.Energy.{EnergiesGiven, StepCostsGiven, energies as Energy·energies, forward, one_cost};
 ghost use Rattle.pictures.specs.Limits.{most_side};
 ghost use Rattle.pictures.specs.Pictures.{picture as Pictures·picture};
-ghost use Rattle.energy.specs.Inner.{RowNeeded, RowSidesNeeded, neighbour_of};
+ghost use Rattle.energy.specs.Inner.{RowNeeded, RowStepsNeeded, neighbour_of};
 ghost use Rattle.std.specs.Prelude.{◌≡◌, ◌++◌, ◌-◌, ◌≤◌, ◌<◌, true, false, ◌||◌, eqb, length, drop};
 
 pub use methods::{EnergyRule, Method, usual_method};
@@ -61,13 +61,14 @@ pub fn step_costs(
         return Err(Refusal::Space);
     }
     let left = &mut left[..width];
+    let up = &mut up[..width];
     let right = &mut right[..width];
-    row_energies(picture, size, method, r, up);
     if is_alike(method.energy, r) {
-        left.copy_from_slice(&up[..width]);
-        right.copy_from_slice(&up[..width]);
+        row_energies(picture, size, method, r, up);
+        left.copy_from_slice(up);
+        right.copy_from_slice(up);
     } else {
-        row_sides(picture, size, r, left, right);
+        row_steps(picture, size, r, left, up, right);
     }
     Ok(())
 }
@@ -134,20 +135,29 @@ fn row_between(picture: &[u8], size: Size, method: Method, r: usize, out: &mut [
     );
 }
 
-// By forward: the costs of row r from the left and from the right, where there is a row above.
-fn row_sides(picture: &[u8], size: Size, r: usize, left: &mut [u32], right: &mut [u32])
-    requires { RowSidesNeeded picture.now size r (length left.old) (length right.old) }
+// The costs of row r by forward, where there is a row above.
+fn row_steps(
+    picture: &[u8],
+    size: Size,
+    r: usize,
+    left: &mut [u32],
+    up: &mut [u32],
+    right: &mut [u32],
+)
+    requires { RowStepsNeeded picture.now size r (length left.old) (length up.old) (length right.old) }
     ensures left { left.new ≡ table (λ c. (forward (around false size.width size.height (Pictures·picture size picture.now) r c)).left) size.width }
+    ensures up { up.new ≡ table (λ c. (forward (around false size.width size.height (Pictures·picture size picture.now) r c)).up) size.width }
     ensures right { right.new ≡ table (λ c. (forward (around false size.width size.height (Pictures·picture size picture.now) r c)).right) size.width }
 {
     let stride = size.width * channels(size.kind);
     let at = r * stride;
     let above = at - stride;
-    forward::sides(
+    forward::steps(
         size.kind,
         &picture[at..at + stride],
         &picture[above..at],
         left,
+        up,
         right,
     );
 }

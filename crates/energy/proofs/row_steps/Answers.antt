@@ -1,17 +1,23 @@
--- `energy::row_sides` meets its contract: the row above ends where the row begins, and what is taken at the sides are the costs.
+-- `energy::row_steps` meets its contract: the row above ends where the row begins, and what is taken is what the row's steps cost.
 use Rattle.std.proofs.Common.{◌*◌, ap, ◌∙◌}
 use Rattle.pictures.proofs.Limits.{sized_is}
-use Rattle.energy.proofs.Padded.{left-row, right-row}
-use Rattle.energy.proofs.row_sides.Goals as goal
+use Rattle.energy.proofs.Padded.{left-row, up-row, right-row}
+use Rattle.energy.proofs.row_steps.Goals as goal
 
 pub returns-clause-left : goal.returns-clause-left
 returns-clause-left c =
     let a = c.args in
-    c.sides.ensures.left
+    c.steps.ensures.left
     ∙ left-row a.size a.picture.now (sized_is a.size _ c.requires.sized) a.r _ c.requires.inside (ap (a.size.width *◌) c.channels.ensures) c.requires.later c.requires.left_room
+
+pub returns-clause-up : goal.returns-clause-up
+returns-clause-up c =
+    let a = c.args in
+    c.steps.ensures.up
+    ∙ up-row a.size a.picture.now (sized_is a.size _ c.requires.sized) a.r _ c.requires.inside (ap (a.size.width *◌) c.channels.ensures) c.requires.up_room
 
 pub returns-clause-right : goal.returns-clause-right
 returns-clause-right c =
     let a = c.args in
-    c.sides.ensures.right
+    c.steps.ensures.right
     ∙ right-row a.size a.picture.now (sized_is a.size _ c.requires.sized) a.r _ c.requires.inside (ap (a.size.width *◌) c.channels.ensures) c.requires.later c.requires.right_room
