@@ -14,28 +14,30 @@ use Rattle.seam_find.proofs.Downs.{Downs, above-long, down-start, down_turn}
 
 -- The loop over the rows. Before row i, which is not the first, the ways and the sums are those of the rows above it, and the
 -- rows that are lent are as long as they were.
-pub record BeforeRow (fence from : ℕ) (z : Size) (costsIn : List ℕ → ℕ → CostRows) (start : List ℕ) (cost₀ next₀ i : ℕ)
-    (space above : List ℕ) (cost next : ℕ) : Type 0 where
+pub record BeforeRow (fence from : ℕ) (z : Size) (costsIn : List ℕ → ℕ → CostRows) (start : List ℕ) (energies₀ steps₀ next₀ i : ℕ)
+    (space above : List ℕ) (energies steps next : ℕ) : Type 0 where
   pub some : 0 < i
   pub within : i ≤ z.height
   pub downs : Downs fence from z costsIn start i space above
-  pub cost_kept : cost ≡ cost₀
+  pub energies_kept : energies ≡ energies₀
+  pub steps_kept : steps ≡ steps₀
   pub next_kept : next ≡ next₀
 
-module _ {fence from : ℕ} {z : Size} {costsIn : List ℕ → ℕ → CostRows} {start above₀ : List ℕ} {cost₀ next₀ : ℕ}
-    (needed : DownNeeded fence from z costsIn start above₀ cost₀ next₀) (some : 0 < z.height)
+module _ {fence from : ℕ} {z : Size} {costsIn : List ℕ → ℕ → CostRows} {start above₀ : List ℕ} {energies₀ steps₀ next₀ : ℕ}
+    (needed : DownNeeded fence from z costsIn start above₀ energies₀ steps₀ next₀) (some : 0 < z.height)
     (length-costs : (i : ℕ) → length (costsIn (take from start) i).up ≡ z.width) where
-  pub before-first : BeforeRow fence from z costsIn start cost₀ next₀ 1 start above₀ cost₀ next₀
+  pub before-first : BeforeRow fence from z costsIn start energies₀ steps₀ next₀ 1 start above₀ energies₀ steps₀ next₀
   before-first = record {
     some = omega arith;
     within = some;
     downs = down-start fence from z costsIn start length-costs needed.room above₀ needed.first;
-    cost_kept = refl;
+    energies_kept = refl;
+    steps_kept = refl;
     next_kept = refl;
   }
 
-  module _ {i : ℕ} {space above : List ℕ} {cost next : ℕ}
-      (holds : BeforeRow fence from z costsIn start cost₀ next₀ i space above cost next) where
+  module _ {i : ℕ} {space above : List ℕ} {energies steps next : ℕ}
+      (holds : BeforeRow fence from z costsIn start energies₀ steps₀ next₀ i space above energies steps next) where
     abbrev sums : List ℕ
     sums = sums_down false fence z.width (costsIn (take from start)) (i - 1)
 
@@ -48,7 +50,7 @@ module _ {fence from : ℕ} {z : Size} {costsIn : List ℕ → ℕ → CostRows}
 
     -- What row i takes.
     pub before-needed : i < z.height → ((k : ℕ) → k < z.width → get_or above (k + 1) 0 < fence)
-        → RowNeeded fence from z i space above cost next
+        → RowNeeded fence from z i space above energies steps next
     before-needed inside small = record {
       later = holds.some;
       inside = inside;
@@ -56,20 +58,22 @@ module _ {fence from : ℕ} {z : Size} {costsIn : List ℕ → ℕ → CostRows}
       long = above-long fence from z costsIn start length-costs i space above holds.downs;
       fences = fenced-in;
       small = small;
-      cost_room = holds.cost_kept ∙ needed.cost_room;
+      energies_room = holds.energies_kept ∙ needed.energies_room;
+      steps_room = holds.steps_kept ∙ needed.steps_room;
       next_room = holds.next_kept ∙ needed.next_room;
     }
 
     -- What it leaves holds before the row after it.
-    pub before-next : {space' above' : List ℕ} {cost' next' : ℕ} → i < z.height → RowGiven fence from z costsIn i space above space' above'
-        → cost' ≡ cost → next' ≡ next
-        → BeforeRow fence from z costsIn start cost₀ next₀ (i + 1) space' above' cost' next'
-    before-next {space' = space'} {above' = above'} inside given c n = record {
+    pub before-next : {space' above' : List ℕ} {energies' steps' next' : ℕ} → i < z.height → RowGiven fence from z costsIn i space above space' above'
+        → energies' ≡ energies → steps' ≡ steps → next' ≡ next
+        → BeforeRow fence from z costsIn start energies₀ steps₀ next₀ (i + 1) space' above' energies' steps' next'
+    before-next {space' = space'} {above' = above'} inside given e c n = record {
       some = omega arith;
       within = omega (arith, inside);
       downs =
           down_turn fence from z costsIn start length-costs needed.room i space above space' above'
           holds.some inside holds.downs given;
-      cost_kept = c ∙ holds.cost_kept;
+      energies_kept = e ∙ holds.energies_kept;
+      steps_kept = c ∙ holds.steps_kept;
       next_kept = n ∙ holds.next_kept;
     }

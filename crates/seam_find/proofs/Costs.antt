@@ -14,10 +14,11 @@ use Rattle.pictures.specs.declared.sizes.Size.{Size}
 use Rattle.pictures.specs.Pictures.{channels_of, picture}
 use Rattle.energy.specs.declared.methods.Method.{Method}
 use Rattle.energy.specs.Bounds.{most_energy}
-use Rattle.energy.specs.Energy.{costs_at, energy}
+use Rattle.energy.specs.Energy.{StepCosts, costs_at}
+use Rattle.seam_theory.specs.Sums.{cost_rows}
 use Rattle.pictures.proofs.Limits.{Sized}
 use Rattle.energy.proofs.Most.{CostsMost, costs-within, buffer_costs-most}
-use Rattle.seam_find.specs.Costing.{plain_costs}
+use Rattle.seam_find.specs.Costing.{plain_costs, RowsMost}
 
 -- A byte of a part at the front is a byte.
 pub front-most : (b : List ℕ) (n m : ℕ) → ((i : ℕ) → get_or b i 0 ≤ m) → (i : ℕ) → get_or (take n b) i 0 ≤ m
@@ -45,9 +46,16 @@ table-most f n m h k =
     (λ (l : k < n). rw (table_at f n k 0 l) (h k))
     (le-or-lt n k)
 
--- The costs of a row, of coming from straight above.
-pub cost_most : (z : Size) (how : Method) (b : List ℕ) → Sized z (length b) → ((i : ℕ) → get_or b i 0 ≤ 255) → (i k : ℕ) → get_or (plain_costs z how b i).up k 0 ≤ most_energy
-cost_most z how b s h i = table-most (energy how z.width z.height (picture z b) i) z.width most_energy (λ c. (pixel-most z how b s h i c).up)
+pub rows-most : (most w : ℕ) (k : ℕ → StepCosts) → ((c : ℕ) → CostsMost most (k c)) → RowsMost most (cost_rows w k)
+rows-most most w k h = record {
+  left = table-most (λ c. (k c).left) w most (λ c. (h c).left);
+  up = table-most (λ c. (k c).up) w most (λ c. (h c).up);
+  right = table-most (λ c. (k c).right) w most (λ c. (h c).right);
+}
+
+-- The costs of a row.
+pub cost_most : (z : Size) (how : Method) (b : List ℕ) → Sized z (length b) → ((i : ℕ) → get_or b i 0 ≤ 255) → (i : ℕ) → RowsMost most_energy (plain_costs z how b i)
+cost_most z how b s h i = rows-most most_energy z.width (costs_at how z.width z.height (picture z b) i) (pixel-most z how b s h i)
 
 pub costs-long : (z : Size) (how : Method) (b : List ℕ) (i : ℕ) → length (plain_costs z how b i).up ≡ z.width
 costs-long z how b i = length-table _ z.width

@@ -12,3 +12,4 @@ pub mod Smallest
 pub mod Priced
 pub mod Found
 pub mod ByEnergies
+pub mod Thirds

@@ -14,7 +14,7 @@ pub plain_laws : CostingLaws false picture_bytes plain_costs most_energy fence32
 plain_laws = record {
   room = λ z. refl;
   wide = costs-long;
-  alike = λ z how b i. rows_alike how z.width z.height (picture z b) i;
+  alike = λ z how one b i. rows_alike how one z.width z.height (picture z b) i;
   cheap = λ z how b sides long byte. cost_most z how b (sized_of z _ (sides_are z sides) long) byte;
   low = omega arith;
 }

@@ -14,14 +14,14 @@ use Rattle.pictures.specs.Pictures.{side_rules}
 use Rattle.pictures.proofs.Limits.{sides_are}
 use Rattle.energy.specs.declared.methods.Method.{Method}
 use Rattle.seam_theory.specs.Sums.{CostRows}
-use Rattle.seam_find.specs.Costing.{CostingLaws}
+use Rattle.seam_find.specs.Costing.{CostingLaws, RowsMost}
 use Rattle.seam_find.proofs.Costs.{front-most}
 use Rattle.seam_find.proofs.Downs.{Downs, above_most}
 
 module _ {marked : Bool} {front : Size → ℕ} {costs : Size → Method → List ℕ → ℕ → CostRows} {most fence : ℕ}
     (laws : CostingLaws marked front costs most fence) (z : Size) (how : Method) (space : List ℕ)
     (allowed : refusal (side_rules z) ≡ 0) (room : front z ≤ length space) (byte : (i : ℕ) → get_or space i 0 ≤ 255) where
-  pub cheap : (i k : ℕ) → get_or (costs z how (take (front z) space) i).up k 0 ≤ most
+  pub cheap : (i : ℕ) → RowsMost most (costs z how (take (front z) space) i)
   cheap =
       laws.cheap z how (take (front z) space) allowed (length-take-le (front z) space room) (front-most space (front z) 255 byte)
 
@@ -30,5 +30,5 @@ module _ {marked : Bool} {front : Size → ℕ} {costs : Size → Method → Lis
       → (k : ℕ) → k < z.width → get_or above (k + 1) 0 < fence
   small i now above d later inside k h =
       let rows : suc (i - 1) ≤ most_side = omega (arith, (sides_are z allowed).height_small) in
-      let below = above_most fence (front z) z (costs z how) space (laws.wide z how (take (front z) space)) most i now above cheap d k h in
+      let below = above_most fence (front z) z (costs z how) space (laws.wide z how (take (front z) space)) most i now above (λ i. (cheap i).up) d k h in
       omega (arith, below, mul-le-mul_right most rows, laws.low)

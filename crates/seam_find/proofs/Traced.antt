@@ -44,7 +44,7 @@ module _ (z : Size) (how : Method) (b : List ℕ) (sized : Sized z (length b)) (
   low : (i c : ℕ) → i < h - 1 → c < w → get_or (sums_down false fence32 w (plain_costs z how b) i) c 0 + get_or (plain_costs z how b (suc i)).up c 0 < fence32
   low i c k l =
       let rows : suc i ≤ most_side = omega (arith, sized.height_small) in
-      let most = cost_most z how b sized byte in
+      let most : (i k : ℕ) → get_or (plain_costs z how b i).up k 0 ≤ most_energy = λ i. (cost_most z how b sized byte i).up in
       omega (arith, sums-most false fence32 w (plain_costs z how b) (wide 0) most_energy most i c l, most (suc i) c, mul-le-mul_right most_energy rows)
 
   -- The cost rows are those of the picture's steps.

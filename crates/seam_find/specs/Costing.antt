@@ -1,11 +1,11 @@
 -- The costs that a seam is found by, whatever they are.
-use Rattle.std.specs.Prelude.{◌≡◌, Bool, List, ℕ, ◌+◌, ◌*◌, ◌≤◌, ◌<◌, length, get_or}
+use Rattle.std.specs.Prelude.{◌≡◌, Bool, true, List, ℕ, ◌+◌, ◌*◌, ◌≤◌, ◌<◌, length, get_or, take, drop}
 use Rattle.pictures.specs.declared.sizes.Size.{Size}
 use Rattle.pictures.specs.Limits.{most_side}
 use Rattle.pictures.specs.Refusals.{refusal}
 use Rattle.pictures.specs.Pictures.{side_rules, picture_bytes, pixels, picture}
 use Rattle.energy.specs.declared.methods.Method.{Method}
-use Rattle.energy.specs.Energy.{costs_at}
+use Rattle.energy.specs.Energy.{one_cost, costs_at}
 use Rattle.seam_theory.specs.Sums.{CostRows, cost_rows, alike_rows}
 use Rattle.seam_bounds.specs.Spaces.{bytes_after}
 
@@ -13,20 +13,31 @@ use Rattle.seam_bounds.specs.Spaces.{bytes_after}
 abbrev pub plain_costs : Size → Method → List ℕ → ℕ → CostRows
 plain_costs z how b i = cost_rows z.width (costs_at how z.width z.height (picture z b) i)
 
+-- Three rows of w numbers one after the other: the costs of a row, of coming from the left, from straight above, from the right.
+abbrev pub thirds : ℕ → List ℕ → CostRows
+thirds w x = record { left = take w x; up = take w (drop w x); right = drop w (drop w x) }
+
+-- None of a row's costs is more.
+pub record RowsMost (most : ℕ) (k : CostRows) : Type 0 where
+  pub left : (c : ℕ) → get_or k.left c 0 ≤ most
+  pub up : (c : ℕ) → get_or k.up c 0 ≤ most
+  pub right : (c : ℕ) → get_or k.right c 0 ≤ most
+
 -- What holds of costs that are read from the front of a space: it and a byte for each pixel take the room that is asked for; a row has a
--- cost for each column, the same wherever a path comes from; none is over `most` where the front has bytes and is as long as it has to
--- be; and no sum reaches the fence.
+-- cost for each column, by a rule of one cost the same wherever a path comes from; none is over `most` where the front has bytes and is as
+-- long as it has to be; and no sum reaches the fence.
 pub record CostingLaws (marked : Bool) (front : Size → ℕ) (costs : Size → Method → List ℕ → ℕ → CostRows) (most fence : ℕ) : Type 0 where
   pub room : (z : Size) → front z + pixels z ≡ picture_bytes z + bytes_after z marked
   pub wide : (z : Size) (how : Method) (b : List ℕ) (i : ℕ) → length (costs z how b i).up ≡ z.width
-  pub alike : (z : Size) (how : Method) (b : List ℕ) (i : ℕ) → costs z how b i ≡ alike_rows (costs z how b i).up
+  pub alike : (z : Size) (how : Method) → one_cost how.energy ≡ true → (b : List ℕ) (i : ℕ) → costs z how b i ≡ alike_rows (costs z how b i).up
   pub cheap : (z : Size) (how : Method) (b : List ℕ) → refusal (side_rules z) ≡ 0 → length b ≡ front z → ((i : ℕ) → get_or b i 0 ≤ 255)
-      → (i k : ℕ) → get_or (costs z how b i).up k 0 ≤ most
+      → (i : ℕ) → RowsMost most (costs z how b i)
   pub low : most_side * most + most < fence
 
--- Row i of a picture of this size is asked for: there is such a row, the bytes are all of the front, and both spaces are as long as the row.
-pub record RowAsked (front : ℕ) (z : Size) (i bytes energies cost : ℕ) : Type 0 where
+-- Row i of a picture of this size is asked for: there is such a row, the bytes are all of the front, and both spaces have the room that it
+-- takes.
+pub record RowAsked (front : ℕ) (z : Size) (i room bytes energies steps : ℕ) : Type 0 where
   pub inside : i < z.height
   pub long : bytes ≡ front
-  pub energies_room : energies ≡ z.width
-  pub cost_room : cost ≡ z.width
+  pub energies_room : energies ≡ room
+  pub steps_room : steps ≡ room

@@ -29,46 +29,47 @@ pub(crate) fn find_bottom<C: Costing>(
     let both = width + 2;
     let fence = C::Sum::make_fence();
     let mut above = [fence; LARGEST_SIDE + 2];
-    let mut energies = [0u32; LARGEST_SIDE];
-    let mut cost = [fence; LARGEST_SIDE];
+    let mut energies = [0u32; 3 * LARGEST_SIDE];
+    let mut steps = [fence; 3 * LARGEST_SIDE];
     let mut next = [fence; LARGEST_SIDE];
     bottom_with::<C>(
         space,
         allowed,
         method,
         &mut above[..both],
-        &mut energies[..width],
-        &mut cost[..width],
+        &mut energies[..3 * width],
+        &mut steps[..3 * width],
         &mut next[..width],
     )
 }
 
-// The same with room for the fenced sums of a row, which is all fence, and for a row of energies, of costs and of sums. The four
-// are arguments, here and for each row: a struct that lends them would be opened and closed again at every row.
+// The same with room for the fenced sums of a row, which is all fence, for three rows of energies, as there are three ways to come to a
+// pixel, for three of costs and for one of sums. The four are arguments, here and for each row: a struct that lends them would be
+// opened and closed again at every row.
 fn bottom_with<C: Costing>(
     space: &mut [u8],
     allowed: AllowedSize,
     method: Method,
     above: &mut [C::Sum],
     energies: &mut [u32],
-    cost: &mut [C::Sum],
+    steps: &mut [C::Sum],
     next: &mut [C::Sum],
 ) -> Bottom<C::Sum>
-    requires room { length energies.old ≡ allowed.size.width }
-    requires rows { BottomWithNeeded C.Sum.fence (C.front allowed.size) allowed.size space.old (map C.Sum.value above.old) (length cost.old) (length next.old) }
+    requires { BottomWithNeeded C.Sum.fence (C.front allowed.size) allowed.size space.old (map C.Sum.value above.old) (length energies.old) (length steps.old) (length next.old) }
     ensures { BottomGiven C.Sum.fence (C.front allowed.size) allowed.size (C.costs allowed.size method) space.old space.new result.column (C.Sum.value result.sum) }
 {
-    let side = allowed.size.width + 1;
+    let width = allowed.size.width;
+    let side = width + 1;
     let front = C::front_bytes(allowed);
     C::cost_row(
         &space[..front],
         allowed,
         method,
         0,
-        energies,
+        &mut energies[..width],
         &mut above[1..side],
     );
-    down::<C>(space, allowed, method, above, energies, cost, next);
+    down::<C>(space, allowed, method, above, energies, steps, next);
     let sums = &above[1..side];
     let column = first_least(sums);
     let sum = sums[column];

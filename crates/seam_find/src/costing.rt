@@ -1,5 +1,5 @@
 // By which costs the cheapest path through a picture is found.
-ghost use Rattle.std.specs.Prelude.{◌≡◌, ◌≤◌, ◌+◌, ℕ, Bool, false, List, Result, Ok, map, length, IfOk};
+ghost use Rattle.std.specs.Prelude.{◌≡◌, ◌≤◌, ◌+◌, ◌*◌, ℕ, Bool, false, List, Result, Ok, map, length, IfOk};
 ghost use Rattle.pictures.specs.declared.sizes.Size.{Size};
 ghost use Rattle.pictures.specs.declared.refusals.Refusal.{Refusal};
 ghost use Rattle.pictures.specs.Pictures.{picture_bytes};
@@ -8,7 +8,7 @@ ghost use Rattle.energy.specs.declared.methods.Method.{Method};
 ghost use Rattle.energy.specs.Bounds.{most_energy};
 ghost use Rattle.seam_theory.specs.Sums.{CostRows};
 ghost use Rattle.seam_bounds.specs.Spaces.{find_space_rules};
-ghost use Rattle.seam_find.specs.Costing.{CostingLaws, RowAsked, plain_costs};
+ghost use Rattle.seam_find.specs.Costing.{CostingLaws, RowAsked, thirds, plain_costs};
 
 use energy::Method;
 use pictures::{AllowedSize, Refusal, Size};
@@ -54,7 +54,19 @@ pub trait Costing {
         energies: &mut [u32],
         cost: &mut [Self::Sum],
     )
-        ensures { RowAsked (front allowed.size) allowed.size i (length bytes.now) (length energies.old) (length cost.old) → map Self.Sum.value cost.new ≡ (costs allowed.size method bytes.now i).up };
+        ensures { RowAsked (front allowed.size) allowed.size i allowed.size.width (length bytes.now) (length energies.old) (length cost.old) → map Self.Sum.value cost.new ≡ (costs allowed.size method bytes.now i).up };
+
+    // All its costs: of coming from the left, from straight above, from the right, one row after the other, in spaces as long as three
+    // rows.
+    fn step_rows(
+        bytes: &[u8],
+        allowed: AllowedSize,
+        method: Method,
+        i: usize,
+        energies: &mut [u32],
+        steps: &mut [Self::Sum],
+    )
+        ensures { RowAsked (front allowed.size) allowed.size i (3 * allowed.size.width) (length bytes.now) (length energies.old) (length steps.old) → thirds allowed.size.width (map Self.Sum.value steps.new) ≡ costs allowed.size method bytes.now i };
 
     fn found(least: Self::Sum) -> Result<u64, Refusal>
         ensures { means (Self.Sum.value least) result };
@@ -95,6 +107,24 @@ impl Costing for Energies {
     ) {
         // Refused only where nothing is promised.
         let _ = energy::energies(bytes, allowed.size, method, i, cost);
+    }
+
+    fn step_rows(
+        bytes: &[u8],
+        allowed: AllowedSize,
+        method: Method,
+        i: usize,
+        _energies: &mut [u32],
+        steps: &mut [u32],
+    ) {
+        let width = allowed.size.width;
+        // Where nothing is promised, nothing is done.
+        if steps.len() != 3 * width {
+            return;
+        }
+        let (left, rest) = steps.split_at_mut(width);
+        let (up, right) = rest.split_at_mut(width);
+        let _ = energy::step_costs(bytes, allowed.size, method, i, left, up, right);
     }
 
     fn found(least: u32) -> Result<u64, Refusal> {

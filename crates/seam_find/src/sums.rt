@@ -1,6 +1,7 @@
 // Rows of sums.
 ghost use Rattle.std.specs.Prelude.{map, length};
-ghost use Rattle.seam_find.specs.Inner.Sums.{NextRowNeeded, NextRowGiven};
+ghost use Rattle.seam_find.specs.Costing.{thirds};
+ghost use Rattle.seam_find.specs.Inner.Sums.{NextRowNeeded, NextRowGiven, NextStepsNeeded, NextStepsGiven};
 
 use seam_sums::{Number, way};
 
@@ -17,6 +18,29 @@ pub(crate) fn next_row<N: Number>(above: &[N], cost: &[N], next: &mut [N], ways:
         let middle = above[c + 1];
         let right = above[c + 2];
         next[c] = left.lesser(middle.lesser(right)).plus(cost[c]);
+        ways[c] = way(left, middle, right);
+    }
+}
+
+// The same where what a pixel costs depends on where a path comes from: `steps` holds three rows of costs, from the left, from straight above
+// and from the right.
+pub(crate) fn next_row_by_steps<N: Number>(
+    above: &[N],
+    steps: &[N],
+    next: &mut [N],
+    ways: &mut [u8],
+)
+    requires { NextStepsNeeded N.fence (map N.value above.now) (thirds (length next.old) (map N.value steps.now)) (length steps.now) (length next.old) (length ways.old) }
+    ensures { NextStepsGiven (map N.value above.now) (thirds (length next.old) (map N.value steps.now)) (length next.old) (map N.value next.new) ways.new }
+{
+    let width = next.len();
+    let (from_left, rest) = steps.split_at(width);
+    let (from_above, from_right) = rest.split_at(width);
+    for c in 0..next.len() {
+        let left = above[c].plus(from_left[c]);
+        let middle = above[c + 1].plus(from_above[c]);
+        let right = above[c + 2].plus(from_right[c]);
+        next[c] = left.lesser(middle.lesser(right));
         ways[c] = way(left, middle, right);
     }
 }

@@ -1,7 +1,7 @@
 -- Costs that are alike wherever a path comes from: the sums above decide, and a path's cost is a sum over its pixels.
 use mathlib.Core.Path.{◌≡◌, refl, ap, ap₂, ◌∙◌}
 use mathlib.Core.Logic.{inr}
-use mathlib.Core.Bool.{false, cond}
+use mathlib.Core.Bool.{true, false, cond}
 use mathlib.Core.List.{List, [], ◌∷◌}
 use Prim.Native.Nat.{ℕ, suc, ◌+◌, min}
 use native.Mathlib.Omega.{arith}
@@ -9,7 +9,7 @@ use lib.Dec.{leb}
 use lib.ListN.{length, get_or}
 use Rattle.pictures.specs.Pictures.{Picture}
 use Rattle.energy.specs.declared.methods.Method.{Method}
-use Rattle.energy.specs.Energy.{costs_at, energy, energies, step_of}
+use Rattle.energy.specs.Energy.{one_cost, costs_at, energy, energies, step_of}
 use Rattle.energy.proofs.Steps.{costs-alike, step-energy}
 use Rattle.seam_theory.specs.Paths.{cost, along}
 use Rattle.seam_theory.specs.PictureSeams.{path_cost}
@@ -43,12 +43,13 @@ cost_along_lem first step v f g [] = refl
 cost_along_lem first step v f g (c ∷ []) = f c
 cost_along_lem first step v f g (c ∷ a ∷ q) = ap₂ ◌+◌ (cost_along_lem first step v f g (a ∷ q)) (g (suc (length q)) a c)
 
-module _ (how : Method) (w h : ℕ) (p : Picture) where
+-- By a rule of one cost:
+module _ (how : Method) (one : one_cost how.energy ≡ true) (w h : ℕ) (p : Picture) where
   -- "Its cost is the sum of its energies."
   pub cost-energies : (q : List ℕ) → path_cost how w h p q ≡ along (energy how w h p) q
-  cost-energies = cost_along_lem (energy how w h p 0) (step_of how w h p) (energy how w h p) (λ c. refl) (step-energy how w h p)
+  cost-energies = cost_along_lem (energy how w h p 0) (step_of how w h p) (energy how w h p) (λ c. refl) (step-energy how one w h p)
 
   -- The costs of a row are its energies.
   pub rows_alike : (i : ℕ) → cost_rows w (costs_at how w h p i) ≡ alike_rows (energies how w h p i)
   rows_alike i =
-      ap (cost_rows w) (λ j c. costs-alike how w h p i c j)
+      ap (cost_rows w) (λ j c. costs-alike how one w h p i c j)

@@ -10,8 +10,8 @@ use Rattle.energy.specs.declared.methods.Method.{Method}
 use Rattle.energy.specs.Methods.{wrap_of}
 use Rattle.energy.specs.Energy.{energy, step_of}
 
--- What a path costs, by a method, that goes through a picture of w columns and h rows: the energy of its pixel in row 0, and in every other
--- row what coming to its pixel costs from the one above. A list of columns goes from the bottom row upward.
+-- What a path costs, by a method, that goes through a picture of w columns and h rows: the energy of its pixel in row 0 (by forward C_U), and
+-- in every other row what coming to its pixel costs from the one above. A list of columns goes from the bottom row upward.
 abbrev pub path_cost : Method → ℕ → ℕ → Picture → List ℕ → ℕ
 path_cost how w h p = cost (energy how w h p 0) (step_of how w h p)
 
@@ -24,7 +24,8 @@ seam_up how w h p = least (path_cost how w h p) (paths (nearby (wrap_of how) w) 
 unfoldable pub seam_of : Method → ℕ → ℕ → Picture → List ℕ
 seam_of how w h p = reverse (Option.get_or (seam_up how w h p) [])
 
--- "Its cost is the sum of its energies": a law (`cost-energies`), since coming to a pixel costs its energy from every column.
+-- "Its cost is the sum of its energies": a law (`cost-energies`) by edge and by flat, since coming to a pixel costs its energy from every
+-- column.
 unfoldable pub cost_of : Method → ℕ → ℕ → Picture → ℕ
 cost_of how w h p = path_cost how w h p (Option.get_or (seam_up how w h p) [])
 

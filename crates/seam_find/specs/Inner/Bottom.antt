@@ -20,9 +20,10 @@ pub record BottomGiven (fence from : ℕ) (z : Size) (costs : List ℕ → ℕ �
   pub inside : column < z.width
   pub sum_is : sum ≡ get_or (sums_down false fence z.width (costs (take from space)) (z.height - 1)) column 0
 
--- Besides, room for the fenced sums of a row, which is all fence, for a row of costs and for one of sums.
-pub record BottomWithNeeded (fence from : ℕ) (z : Size) (space above : List ℕ) (cost next : ℕ) : Type 0 where
+-- Besides, room for the fenced sums of a row, which is all fence, for three rows of energies, three of costs and one of sums.
+pub record BottomWithNeeded (fence from : ℕ) (z : Size) (space above : List ℕ) (energies steps next : ℕ) : Type 0 where
   pub room : from + (z.height - 1) * z.width ≤ length space
   pub fences : above ≡ replicate (z.width + 2) fence
-  pub cost_room : cost ≡ z.width
+  pub energies_room : energies ≡ 3 * z.width
+  pub steps_room : steps ≡ 3 * z.width
   pub next_room : next ≡ z.width

@@ -1,7 +1,7 @@
 -- A row of sums from the row above it. What private functions ask and promise; no public promise cites it.
-use Rattle.std.specs.Prelude.{◌≡◌, false, List, ℕ, ◌+◌, ◌<◌, length, get_or}
+use Rattle.std.specs.Prelude.{◌≡◌, false, List, ℕ, ◌+◌, ◌*◌, ◌≤◌, ◌<◌, length, get_or}
 use Rattle.grids.specs.Table.{table}
-use Rattle.seam_theory.specs.Sums.{alike_rows, sum_of3, way_of3}
+use Rattle.seam_theory.specs.Sums.{CostRows, alike_rows, sum_of3, way_of3}
 
 -- The row above with its two sides, the costs of a row of n, and room for the row's sums, which fit, and for the ways.
 pub record NextRowNeeded (fence : ℕ) (x cost : List ℕ) (n ways : ℕ) : Type 0 where
@@ -15,3 +15,17 @@ pub record NextRowNeeded (fence : ℕ) (x cost : List ℕ) (n ways : ℕ) : Type
 pub record NextRowGiven (x cost : List ℕ) (n : ℕ) (next' ways' : List ℕ) : Type 0 where
   pub next_given : next' ≡ table (sum_of3 x (alike_rows cost)) n
   pub ways_given : ways' ≡ table (way_of3 false n x (alike_rows cost)) n
+
+-- The same for costs by steps, of which there are three rows.
+pub record NextStepsNeeded (fence : ℕ) (x : List ℕ) (k : CostRows) (steps n ways : ℕ) : Type 0 where
+  pub above : length x ≡ n + 2
+  pub steps_room : steps ≡ 3 * n
+  pub small : (c : ℕ) → get_or x c 0 ≤ fence
+  pub cheap_left : (c : ℕ) → get_or k.left c 0 < fence
+  pub cheap_up : (c : ℕ) → get_or k.up c 0 < fence
+  pub cheap_right : (c : ℕ) → get_or k.right c 0 < fence
+  pub ways_room : ways ≡ n
+
+pub record NextStepsGiven (x : List ℕ) (k : CostRows) (n : ℕ) (next' ways' : List ℕ) : Type 0 where
+  pub next_given : next' ≡ table (sum_of3 x k) n
+  pub ways_given : ways' ≡ table (way_of3 false n x k) n

@@ -1,13 +1,13 @@
 -- `seam_find::bottom::find_bottom` meets its contract. The rows that it lends are the fronts of local arrays, which are long
 -- enough for the widest picture; the answer is `bottom_with`'s.
-use Rattle.std.proofs.Common.{◌+◌, arith}
+use Rattle.std.proofs.Common.{◌+◌, ◌*◌, arith}
 use Rattle.pictures.specs.Pictures.{largest_side}
 use Rattle.pictures.proofs.Limits.{sides_are}
 use Rattle.seam_find.proofs.Fences.{fences_are, length-take-replicate}
 use Rattle.seam_find.proofs.bottom.find_bottom.Goals as goal
 
-pub bottom_with-requires-clause-rows : goal.bottom_with-requires-clause-rows
-bottom_with-requires-clause-rows g c =
+pub bottom_with-requires : goal.bottom_with-requires
+bottom_with-requires g c =
     let z = c.args.allowed.size in
     let sides = sides_are z c.args.allowed.allowed in
     let fence = c.make_fence-fence in
@@ -16,6 +16,7 @@ bottom_with-requires-clause-rows g c =
       fences =
           fences_are g.C.Sum.Number.value fence.result g.C.Sum.Number.fence (z.width + 2) (largest_side + 2) fence.ensures
           (omega (arith, sides.width_most));
-      cost_room = length-take-replicate z.width largest_side fence.result sides.width_most;
+      energies_room = length-take-replicate (3 * z.width) (3 * largest_side) 0 (omega (arith, sides.width_most));
+      steps_room = length-take-replicate (3 * z.width) (3 * largest_side) fence.result (omega (arith, sides.width_most));
       next_room = length-take-replicate z.width largest_side fence.result sides.width_most;
     }

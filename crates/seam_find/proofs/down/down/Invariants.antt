@@ -1,7 +1,5 @@
 -- `seam_find::down::down` meets its contract. The loop's invariant is `BeforeRow`: before row i, which is not the first, the
--- ways between the rows above it stand after what the costs are read from, and the fenced sums are those of row i - 1; the row
--- of energies is as long as it was.
-use mathlib.Core.Path.{◌≡◌}
+-- ways between the rows above it stand after what the costs are read from, and the fenced sums are those of row i - 1.
 use mathlib.Core.List.{map}
 use lib.ListN.{length}
 use Rattle.seam_find.proofs.BeforeRow.{BeforeRow}
@@ -10,6 +8,5 @@ use Rattle.seam_find.proofs.down.down.Given as goal
 abbrev pub invariant-loop-i : goal.invariant-loop-i
 invariant-loop-i g l =
     BeforeRow g.C.Sum.Number.fence (g.C.Costing.front l.allowed.size) l.allowed.size (g.C.Costing.costs l.allowed.size l.method)
-    l.initial.space (length l.initial.cost) (length l.initial.next)
-    l.i l.space (map g.C.Sum.Number.value l.above) (length l.cost) (length l.next)
-    × (length l.energies ≡ length l.initial.energies)
+    l.initial.space (length l.initial.energies) (length l.initial.steps) (length l.initial.next)
+    l.i l.space (map g.C.Sum.Number.value l.above) (length l.energies) (length l.steps) (length l.next)
