@@ -3,16 +3,16 @@ use mathlib.Core.Path.{◌≡◌, refl, sym, ap, ap₂, ◌∙◌}
 use mathlib.Core.Bool.{true, false, true≢false}
 use mathlib.Core.Option
 use mathlib.Core.Option.{some}
-use mathlib.Core.List.{List, [], ◌++◌, reverse}
+use mathlib.Core.List.{List, [], reverse}
 use Prim.Native.Nat.{ℕ, suc, ◌+◌, ◌-◌, ◌*◌, ◌%◌, ◌≤◌, ◌<◌}
 use native.Mathlib.Nat.{mul-le-mul_right}
 use native.Mathlib.Omega.{arith}
-use lib.ListN.{length, get_or, take, drop, length-drop, get_or-append}
+use lib.ListN.{length, get_or, take, drop, length-drop}
 use lib.Seq.{take-take, take-add, take_all, drop_at, drop-drop, length-take-le}
 use Rattle.grids.specs.Table.{table}
 use Rattle.grids.specs.Rows.{flat, rows_of}
 use Rattle.grids.proofs.Tables.{length-table, table_at, table_same}
-use Rattle.grids.proofs.Rows.{rows_of_at}
+use Rattle.grids.proofs.Rows.{part_end, rows_of_at}
 use Rattle.pictures.specs.Limits.{most_side}
 use Rattle.pictures.specs.declared.sizes.Size.{Size}
 use Rattle.pictures.specs.Pictures.{Picture, picture_bytes, picture, pixels, picture_in, marks_in}
@@ -20,9 +20,10 @@ use Rattle.pictures.proofs.Limits.{Sized}
 use Rattle.energy.specs.Bounds.{most_energy}
 use Rattle.energy.specs.declared.methods.Method.{Method}
 use Rattle.energy.specs.Methods.{wrap_of}
-use Rattle.energy.specs.Energy.{StepCosts, costs_at, energy, energies}
+use Rattle.energy.specs.Energy.{StepCosts, one_cost, costs_at}
 use Rattle.energy.proofs.Steps.{costs-alike}
 use Rattle.energy.proofs.Most.{CostsMost}
+use Rattle.energy.proofs.Served.{StepsServed}
 use Rattle.seam_theory.specs.Paths.{cost}
 use Rattle.seam_theory.specs.PictureSeams.{path_cost, mark_at, marked_up, marked_seam_of, marked_cost_of, is_none}
 use Rattle.seam_theory.specs.Sums.{cost_rows, alike_rows, sums_down, ways_up, columns_to, least_to}
@@ -31,24 +32,25 @@ use Rattle.seam_theory.proofs.Toward.{rows-through}
 use Rattle.seam_theory.proofs.Sums.{Costed, FoundPath, found}
 use Rattle.seam_sums.specs.Weights.{weight_of, kept, protected}
 use Rattle.seam_sums.specs.Fences.{fence64}
-use Rattle.seam_find.proofs.Costs.{front-most, pixel-most, table-most}
-use Rattle.seam_find_marked.specs.Inner.{most_weight, weight_in, weighed, weights_at, weights_of, marked_bytes}
+use Rattle.seam_find.specs.Costing.{RowsMost}
+use Rattle.seam_find.proofs.Costs.{front-most, pixel-most, rows-most}
+use Rattle.seam_find_marked.specs.Inner.{most_weight, marks_at, weight_in, weighed, weighed_rows, weights_at, weights_of, marked_bytes}
 use Rattle.seam_find_marked.proofs.Weighed.{first_weight, step_weight, weight-most, light-found, light-cost, heavy-blocked}
 
 -- A row has a weight for each column.
 pub weights-wide : (z : Size) (how : Method) (b : List ℕ) (i : ℕ) → length (weights_of z how b i).up ≡ z.width
 weights-wide z how b i = length-table (λ c. (weights_at how z.width z.height (picture_in z b) (marks_in z b) i c).up) z.width
 
--- A pixel weighs the same wherever a path comes from.
-pub weights-alike : (z : Size) (how : Method) (b : List ℕ) (i : ℕ) → weights_of z how b i ≡ alike_rows (weights_of z how b i).up
-weights-alike z how b i =
+-- By a rule of one cost a pixel weighs the same wherever a path comes from.
+pub weights-alike : (z : Size) (how : Method) → one_cost how.energy ≡ true → (b : List ℕ) (i : ℕ) → weights_of z how b i ≡ alike_rows (weights_of z how b i).up
+weights-alike z how one b i =
     ap (λ (k : ℕ → StepCosts). cost_rows z.width (λ c. weighed (k c) (mark_at (marks_in z b) i c)))
-    (λ j c. costs-alike how z.width z.height (picture_in z b) i c j)
+    (λ j c. costs-alike how one z.width z.height (picture_in z b) i c j)
 
--- The weights of row i, from its energies and the part of the buffer that holds its marks.
+-- The weights of row i, from one of its rows of costs and the part of the buffer that holds its marks.
 module _ (z : Size) (how : Method) (b : List ℕ) (i : ℕ) (inside : i < z.height) (long : length b ≡ marked_bytes z) where
   abbrev marks : List ℕ
-  marks = take z.width (drop (picture_bytes z + i * z.width) b)
+  marks = marks_at z b i
 
   row-marks : get_or (marks_in z b) i [] ≡ marks
   row-marks =
@@ -57,20 +59,32 @@ module _ (z : Size) (how : Method) (b : List ℕ) (i : ℕ) (inside : i < z.heig
       (take_all (pixels z) (drop (picture_bytes z) b) (omega (arith, length-drop (picture_bytes z) b)))
       ∙ ap (take z.width) (drop-drop (i * z.width) (picture_bytes z) b)
 
-  abbrev priced : ℕ → ℕ
-  priced = energy how z.width z.height (picture_in z b) i
+  pub row-weighed : (part : StepCosts → ℕ) (costs : List ℕ) → ((c : ℕ) → c < z.width → get_or costs c 0 ≡ part (costs_at how z.width z.height (picture_in z b) i c))
+      → table (weight_in costs (marks_at z b i)) z.width
+      ≡ table (λ c. weight_of (part (costs_at how z.width z.height (picture_in z b) i c)) (mark_at (marks_in z b) i c)) z.width
+  row-weighed part costs are =
+      table_same (weight_in costs marks) _ z.width
+      (λ c l. ap₂ weight_of (are c l) (ap (λ x. get_or x c 0) (sym row-marks)))
 
-  row-energy : (rest : List ℕ) (c : ℕ) → c < z.width → get_or (table priced z.width ++ rest) c 0 ≡ priced c
-  row-energy rest c l =
-      get_or-append (table priced z.width) rest 0 c (rw (length-table priced z.width) l)
-      ∙ table_at priced z.width c 0 l
+  pub marks-long : length (marks_at z b i) ≡ z.width
+  marks-long =
+      length-take-le z.width (drop (picture_bytes z + i * z.width) b)
+      (omega (arith, long, length-drop (picture_bytes z + i * z.width) b, part_end i z.height z.width inside))
 
-  pub row-weighed : (rest : List ℕ)
-      → table (weight_in (energies how z.width z.height (picture_in z b) i ++ rest) marks) z.width ≡ (weights_of z how b i).up
-  row-weighed rest =
-      table_same (weight_in (table priced z.width ++ rest) marks)
-      (λ c. (weights_at how z.width z.height (picture_in z b) (marks_in z b) i c).up) z.width
-      (λ c l. ap₂ weight_of (row-energy rest c l) (ap (λ x. get_or x c 0) (sym row-marks)))
+  -- And from all three.
+  pub rows-weighed : (left up right : List ℕ) → StepsServed (take (picture_bytes z) b) z how i left up right
+      → weighed_rows left up right (marks_at z b i) ≡ weights_of z how b i
+  rows-weighed left up right s = λ j. record {
+    left = one (λ k. k.left) left s.left j;
+    up = one (λ k. k.up) up s.up j;
+    right = one (λ k. k.right) right s.right j;
+  }
+    where
+      one : (part : StepCosts → ℕ) (costs : List ℕ) → costs ≡ table (λ c. part (costs_at how z.width z.height (picture_in z b) i c)) z.width
+          → table (weight_in costs marks) (length marks) ≡ table (λ c. weight_of (part (costs_at how z.width z.height (picture_in z b) i c)) (mark_at (marks_in z b) i c)) z.width
+      one part costs are =
+          ap (table (weight_in costs marks)) marks-long
+          ∙ row-weighed part costs (λ c l. ap (λ x. get_or x c 0) are ∙ table_at (λ c. part (costs_at how z.width z.height (picture_in z b) i c)) z.width c 0 l)
 
 -- A picture within the limits, of bytes.
 module _ (z : Size) (how : Method) (b : List ℕ) (sized : Sized z (length (take (picture_bytes z) b)))
@@ -90,10 +104,17 @@ module _ (z : Size) (how : Method) (b : List ℕ) (sized : Sized z (length (take
   costs-most : (r c : ℕ) → CostsMost most_energy (costs_at how w h p r c)
   costs-most = pixel-most z how (take (picture_bytes z) b) sized byte
 
-  pub weights-most : (i k : ℕ) → get_or (weights_of z how b i).up k 0 ≤ most_weight
+  pub weights-most : (i : ℕ) → RowsMost most_weight (weights_of z how b i)
   weights-most i =
-      table-most (λ c. (weights_at how w h p m i c).up) w most_weight
-      (λ c. weight-most (energy how w h p i c) (mark_at m i c) (costs-most i c).up)
+      rows-most most_weight w (weights_at how w h p m i)
+      (λ c.
+      let k = costs_at how w h p i c in
+      let most = costs-most i c in
+      record {
+        left = weight-most k.left (mark_at m i c) most.left;
+        up = weight-most k.up (mark_at m i c) most.up;
+        right = weight-most k.right (mark_at m i c) most.right;
+      })
 
   abbrev sums : ℕ → List ℕ
   sums = sums_down false fence64 w (weights_of z how b)
@@ -108,8 +129,9 @@ module _ (z : Size) (how : Method) (b : List ℕ) (sized : Sized z (length (take
   low : (i c : ℕ) → i < h - 1 → c < w → get_or (sums i) c 0 + get_or (weights_of z how b (suc i)).up c 0 < fence64
   low i c k l =
       let rows : suc i ≤ most_side = omega (arith, sized.height_small) in
-      let most = sums-most false fence64 w (weights_of z how b) (weights-wide z how b 0) most_weight weights-most i c l in
-      omega (arith, weights-most (suc i) c, mul-le-mul_right most_weight rows)
+      let each : (i k : ℕ) → get_or (weights_of z how b i).up k 0 ≤ most_weight = λ i. (weights-most i).up in
+      let most = sums-most false fence64 w (weights_of z how b) (weights-wide z how b 0) most_weight each i c l in
+      omega (arith, each (suc i) c, mul-le-mul_right most_weight rows)
 
   -- The cost rows are the weights of steps.
   costed : Costed false fence64 w h (weights_of z how b) first step

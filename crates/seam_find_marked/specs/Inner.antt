@@ -1,6 +1,7 @@
 -- What the private functions of this crate ask and promise besides those of finding without marks. No public promise cites
 -- it.
-use Rattle.std.specs.Prelude.{◌≡◌, List, ℕ, ◌+◌, length, get_or}
+use Rattle.std.specs.Prelude.{◌≡◌, List, ℕ, ◌+◌, ◌*◌, length, get_or, take, drop}
+use Rattle.grids.specs.Table.{table}
 use Rattle.pictures.specs.declared.sizes.Size.{Size}
 use Rattle.pictures.specs.Pictures.{Picture, picture_bytes, pixels, picture_in, marks_in}
 use Rattle.energy.specs.declared.methods.Method.{Method}
@@ -34,7 +35,23 @@ weights_of z how b i = cost_rows z.width (weights_at how z.width z.height (pictu
 abbrev pub marked_bytes : Size → ℕ
 marked_bytes z = picture_bytes z + pixels z
 
+-- The marks of row i, which stand after the picture.
+abbrev pub marks_at : Size → List ℕ → ℕ → List ℕ
+marks_at z b i = take z.width (drop (picture_bytes z + i * z.width) b)
+
 -- A row's energies and marks, and room for its weights.
-pub record WeighNeeded (energy marks cost : List ℕ) : Type 0 where
-  pub energies : length energy ≡ length cost
-  pub marked : length marks ≡ length cost
+pub record WeighNeeded (energies marks : List ℕ) (cost : ℕ) : Type 0 where
+  pub all : length energies ≡ cost
+  pub marked : length marks ≡ cost
+
+-- The three costs of a row's steps and its marks, and room for three rows of weights,
+pub record WeighAllNeeded (left up right marks : List ℕ) (steps : ℕ) : Type 0 where
+  pub left_long : length left ≡ length marks
+  pub up_long : length up ≡ length marks
+  pub right_long : length right ≡ length marks
+  pub room : steps ≡ 3 * length marks
+
+-- which are these.
+abbrev pub weighed_rows : List ℕ → List ℕ → List ℕ → List ℕ → CostRows
+weighed_rows left up right marks =
+    record { left = table (weight_in left marks) (length marks); up = table (weight_in up marks) (length marks); right = table (weight_in right marks) (length marks) }

@@ -1,14 +1,15 @@
 -- `<Weights as Costing>::cost_row` meets its contract: row i's marks lie within the front, and its energies, weighed with them
 -- column by column, are the row's weights.
-use Rattle.std.proofs.Common.{◌≡◌, ◌+◌, ◌*◌, ◌++◌, length, take, drop, sym, ap, ap₂, ◌∙◌, le_of_eq, length-take-le, arith}
-use native.Mathlib.Nat.{add-sub_cancel_left}
+use Rattle.std.proofs.Common.{◌≡◌, ◌++◌, length, take, drop, sym, ap, ap₂, ◌∙◌, le_of_eq, length-take-le, arith}
 use Rattle.std.proofs.lemmas.List.{map-id}
 use Rattle.grids.specs.Table.{table}
 use Rattle.pictures.specs.Pictures.{picture_bytes, picture, picture_in}
 use Rattle.pictures.proofs.Limits.{sized-served}
-use Rattle.energy.specs.Energy.{energies}
+use lib.ListN.{get_or-append}
+use Rattle.grids.proofs.Tables.{length-table, table_at}
+use Rattle.energy.specs.Energy.{energy, energies}
 use Rattle.energy.proofs.Served.{energies-served}
-use Rattle.seam_find_marked.specs.Inner.{weight_in}
+use Rattle.seam_find_marked.specs.Inner.{marks_at, weight_in}
 use Rattle.seam_find_marked.proofs.Marked.{row-weighed}
 use Rattle.seam_find_marked.proofs.weights.WeightsCosting.cost_row.Goals as goal
 
@@ -20,7 +21,6 @@ returns c p =
     let front = a.bytes.now in
     let bytes = c.picture_bytes-picture.result in
     let is : bytes ≡ picture_bytes z = c.picture_bytes-picture.ensures.0 in
-    let from = bytes + a.i * w in
     let filled = c.energies.new.out in
     let long : length (take bytes front) ≡ picture_bytes z = length-take-le _ _ (omega (arith, is, p.long)) ∙ is in
     let energies-are : filled ≡ energies a.method w z.height (picture_in z front) a.i ++ drop w a.energies.now =
@@ -30,9 +30,7 @@ returns c p =
     in
     map-id _
     ∙ c.weigh.ensures
-    ∙ ap₂ (λ x n. table (weight_in filled x) n)
-    (ap (λ n. take n (drop from front)) (add-sub_cancel_left from w)
-    ∙ ap (λ b. take w (drop (b + a.i * w) front)) is)
-    p.cost_room
-    ∙ ap (λ x. table (weight_in x (take w (drop (picture_bytes z + a.i * w) front))) w) energies-are
-    ∙ row-weighed z a.method front a.i p.inside p.long (drop w a.energies.now)
+    ∙ ap₂ (λ x n. table (weight_in filled x) n) c.row_marks.ensures.is p.steps_room
+    ∙ ap (λ x. table (weight_in x (marks_at z front a.i)) w) energies-are
+    ∙ row-weighed z a.method front a.i p.inside p.long (λ k. k.up) (energies a.method w z.height (picture_in z front) a.i ++ drop w a.energies.now)
+    (λ k l. get_or-append (energies a.method w z.height (picture_in z front) a.i) (drop w a.energies.now) 0 k (rw length-table l) ∙ table_at (energy a.method w z.height (picture_in z front) a.i) w k 0 l)
