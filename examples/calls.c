@@ -8,12 +8,13 @@
 enum { WIDTH = 3, HEIGHT = 2, PIXELS = 6, WORK = 32 * PIXELS, LARGE = 512 };
 
 static const multisize_size size = {WIDTH, HEIGHT, MULTISIZE_GREY};
-static const multisize_method usual = {0}, flat = {MULTISIZE_FLAT};
+static const multisize_method usual = {0}, flat = {MULTISIZE_FLAT}, forward = {MULTISIZE_FORWARD};
 static const uint8_t brought[PIXELS] = {10, 10, 40, 10, 50, 40};
 #define HEAD "(multi\n(size 3 2 grey)\n(range 2 1)\n"
 #define ROWS "(row 10 10 40)\n(row 10 50 40)\n"
 static const char text[] = HEAD "(energy edge)\n" ROWS "(map 1 0 2)\n(map 1 0 2)\n)\n";
 static const char flat_text[] = HEAD "(energy flat)\n" ROWS "(map 2 0 1)\n(map 0 2 1)\n)\n";
+static const char forward_text[] = HEAD "(energy forward)\n" ROWS "(map 1 2 0)\n(map 2 1 0)\n)\n";
 static uint8_t picture[PIXELS], marks[PIXELS], out[200], work[WORK + 66 * PIXELS];
 static uint16_t seam[WIDTH], map[PIXELS];
 
@@ -32,9 +33,33 @@ static void rows(void) {
     NEED(energies[0] == 0 && energies[1] == 70 && energies[2] == 30);
     NEED(multisize_energies(brought, PIXELS, size, flat, 1, energies, WIDTH) == MULTISIZE_SERVED);
     NEED(energies[0] == 40 && energies[1] == 10 && energies[2] == 0);
+    NEED(multisize_energies(brought, PIXELS, size, forward, 1, energies, WIDTH) == MULTISIZE_SERVED);
+    NEED(energies[0] == 40 && energies[1] == 30 && energies[2] == 10);
     NEED(multisize_row(brought, PIXELS, size, 1, out, WIDTH).value == WIDTH);
     NEED(!memcmp(out, brought + WIDTH, WIDTH));
     NEED(multisize_row(brought, PIXELS, size, 1, out, 2).number == MULTISIZE_REFUSED_SPACE);
+}
+
+static int costs_are(const uint32_t *costs, uint32_t a, uint32_t b, uint32_t c) {
+    return costs[0] == a && costs[1] == b && costs[2] == c;
+}
+
+// Works out the step costs of a row into three spaces of this length.
+static uint64_t steps(multisize_method method, size_t row, uint32_t spaces[3][WIDTH], size_t length) {
+    return multisize_step_costs(brought, PIXELS, size, method, row, spaces[0], WIDTH, spaces[1], WIDTH, spaces[2], length);
+}
+
+static void step_costs(void) {
+    uint32_t costs[3][WIDTH];
+    NEED(steps(forward, 0, costs, WIDTH) == MULTISIZE_SERVED);
+    NEED(costs_are(costs[0], 0, 30, 30) && costs_are(costs[1], 0, 30, 30) && costs_are(costs[2], 0, 30, 30));
+    NEED(steps(forward, 1, costs, WIDTH) == MULTISIZE_SERVED);
+    NEED(costs_are(costs[0], 40, 30, 20) && costs_are(costs[1], 40, 30, 10) && costs_are(costs[2], 80, 60, 10));
+    NEED(steps(usual, 1, costs, WIDTH) == MULTISIZE_SERVED);
+    NEED(costs_are(costs[0], 40, 50, 10) && costs_are(costs[1], 40, 50, 10) && costs_are(costs[2], 40, 50, 10));
+    NEED(steps(forward, 1, costs, WIDTH - 1) == MULTISIZE_REFUSED_SPACE);
+    NEED(steps(forward, HEIGHT, costs, WIDTH) == MULTISIZE_REFUSED_LENGTH);
+    NEED(costs_are(costs[0], 40, 50, 10) && costs_are(costs[1], 40, 50, 10) && costs_are(costs[2], 40, 50, 10));
 }
 
 static void seams(void) {
@@ -59,6 +84,20 @@ static void flat_seams(void) {
     NEED(a.number == 0 && a.value == 0 && seam[0] == 2 && seam[1] == 2 && bytes_are(picture, 10, 10, 10, 50));
     a = multisize_find(picture, multisize_picture_bytes(left), left, flat, MULTISIZE_VERTICAL, seam, HEIGHT, work, WORK);
     NEED(a.number == 0 && a.value == 0 && seam[0] == 0 && seam[1] == 1);
+}
+
+// By forward columns 0, 1 go first: what comes to stand beside each other then differs least.
+static void forward_seams(void) {
+    multisize_size left = {WIDTH - 1, HEIGHT, MULTISIZE_GREY};
+    multisize_answer a = multisize_find(brought, PIXELS, size, forward, MULTISIZE_HORIZONTAL, seam, WIDTH, work, WORK);
+    NEED(a.number == 0 && a.value == 40 && seam[0] == 0 && seam[1] == 0 && seam[2] == 0);
+    memcpy(picture, brought, PIXELS);
+    a = multisize_cut(picture, PIXELS, size, forward, MULTISIZE_VERTICAL, seam, HEIGHT, work, WORK);
+    NEED(a.number == 0 && a.value == 30 && seam[0] == 0 && seam[1] == 1 && bytes_are(picture, 10, 40, 10, 40));
+    a = multisize_find(picture, multisize_picture_bytes(left), left, forward, MULTISIZE_VERTICAL, seam, HEIGHT, work, WORK);
+    NEED(a.number == 0 && a.value == 60 && seam[0] == 0 && seam[1] == 0);
+    a = multisize_retarget(brought, PIXELS, size, forward, 1, 1, out, 2, work, sizeof work);
+    NEED(a.number == 0 && a.value == 30 && out[0] == 10 && out[1] == 40);
 }
 
 static void marked(void) {
@@ -120,6 +159,19 @@ static void flat_files(void) {
     NEED(multisize_check((const uint8_t *)other, sizeof other - 1, work, WORK).number == MULTISIZE_REFUSED_OTHER);
 }
 
+static void forward_files(void) {
+    const uint8_t *file = (const uint8_t *)forward_text;
+    static const char other[] = HEAD "(energy forward)\n" ROWS "(map 1 0 2)\n(map 1 0 2)\n)\n";
+    size_t length = sizeof forward_text - 1;
+    multisize_answer a = multisize_build(brought, PIXELS, size, forward, 2, 1, out, multisize_file_bytes(size), work, WORK);
+    NEED(a.number == 0 && a.value == length && !memcmp(out, file, length));
+    multisize_file_answer f = multisize_check(file, length, work, WORK);
+    NEED(f.number == 0 && f.method.energy == MULTISIZE_FORWARD && f.depth == 2 && f.growth == 1);
+    multisize_size_answer z = multisize_show(file, length, 4, out, sizeof out, work, WORK);
+    NEED(z.number == 0 && bytes_are(out, 10, 10, 10, 40) && bytes_are(out + 4, 10, 50, 45, 40));
+    NEED(multisize_check((const uint8_t *)other, sizeof other - 1, work, WORK).number == MULTISIZE_REFUSED_OTHER);
+}
+
 // A refused answer is the number alone.
 static void refused_files(void) {
     multisize_file_answer f = multisize_check(brought, PIXELS, work, WORK);
@@ -132,11 +184,12 @@ static void refused_files(void) {
     NEED(z.number == MULTISIZE_REFUSED_WANTED && z.size.width == 0 && z.size.height == 0 && z.size.kind == 0);
 }
 
-// Calls every function on a picture, nine of them, with this size, method and axis, and returns how many refuse by 1.
+// Calls every function on a picture, ten of them, with this size, method and axis, and returns how many refuse by 1.
 static int refused_by_form(multisize_size z, multisize_method method, uint8_t axis) {
-    static uint32_t energies[WIDTH];
+    static uint32_t energies[WIDTH], up[WIDTH], right[WIDTH];
     uint64_t numbers[] = {
         multisize_energies(brought, PIXELS, z, method, 0, energies, WIDTH),
+        multisize_step_costs(brought, PIXELS, z, method, 0, energies, WIDTH, up, WIDTH, right, WIDTH),
         multisize_row(brought, PIXELS, z, 0, out, WIDTH).number,
         multisize_find(brought, PIXELS, z, method, axis, seam, WIDTH, work, WORK).number,
         multisize_cut(picture, PIXELS, z, method, axis, seam, WIDTH, work, WORK).number,
@@ -154,12 +207,13 @@ static int refused_by_form(multisize_size z, multisize_method method, uint8_t ax
 // and four functions take an axis.
 static void unknown_names(void) {
     multisize_size no_kind = {WIDTH, HEIGHT, 2};
-    multisize_method no_energy = {2}, nor_this = {255};
+    multisize_method no_energy = {3}, nor_this = {255};
     memcpy(picture, brought, PIXELS), memset(marks, 0, PIXELS);
-    NEED(refused_by_form(no_kind, usual, MULTISIZE_VERTICAL) == 9);
-    NEED(refused_by_form(size, no_energy, MULTISIZE_VERTICAL) == 8);
-    NEED(refused_by_form(size, nor_this, MULTISIZE_HORIZONTAL) == 8);
+    NEED(refused_by_form(no_kind, usual, MULTISIZE_VERTICAL) == 10);
+    NEED(refused_by_form(size, no_energy, MULTISIZE_VERTICAL) == 9);
+    NEED(refused_by_form(size, nor_this, MULTISIZE_HORIZONTAL) == 9);
     NEED(refused_by_form(size, usual, 2) == 4 && refused_by_form(size, flat, 2) == 4);
+    NEED(refused_by_form(size, forward, 2) == 4);
 }
 
 static void row_at_widths(void) {
@@ -176,9 +230,9 @@ static void row_at_widths(void) {
     NEED(multisize_row_at(brought, WIDTH, MULTISIZE_GREY, numbers, WIDTH, 4, out, 3).number == MULTISIZE_REFUSED_SPACE);
 }
 
-// The longest file of a kind: the largest size, all samples 255, the greatest range. It is as long as the header says, but
-// for the numbers of the map with fewer than three digits, 10 of one and 90 of two in each row, and for the word of rgb,
-// which is a letter shorter.
+// The longest file of a kind: the largest size, all samples 255, the greatest range, the energy with the longest word. It is
+// as long as the header says, but for the numbers of the map with fewer than three digits, 10 of one and 90 of two in each
+// row, and for the word of rgb, which is a letter shorter.
 static void longest(uint8_t kind) {
     multisize_size largest = {LARGE, LARGE, kind};
     size_t bytes = multisize_picture_bytes(largest), room = multisize_file_bytes(largest);
@@ -186,7 +240,7 @@ static void longest(uint8_t kind) {
     uint8_t *space = (uint8_t *)malloc(MULTISIZE_LARGEST_WORK);
     memset(large, 255, bytes);
     NEED(multisize_work_bytes(largest) == MULTISIZE_LARGEST_WORK);
-    multisize_answer a = multisize_build(large, bytes, largest, usual, LARGE - 1, LARGE / 2, file, room, space,
+    multisize_answer a = multisize_build(large, bytes, largest, forward, LARGE - 1, LARGE / 2, file, room, space,
                                          MULTISIZE_LARGEST_WORK);
     NEED(a.number == 0 && a.value == room - LARGE * (2 * 10 + 90) - (kind == MULTISIZE_RGB));
     free(large), free(file), free(space);
@@ -200,8 +254,8 @@ static void no_space(void) {
 }
 
 int main(void) {
-    rows(), seams(), flat_seams(), marked(), retargets();
-    files(), flat_files(), refused_files(), row_at_widths(), unknown_names();
+    rows(), step_costs(), seams(), flat_seams(), forward_seams(), marked(), retargets();
+    files(), flat_files(), forward_files(), refused_files(), row_at_widths(), unknown_names();
     longest(MULTISIZE_GREY), longest(MULTISIZE_RGB), no_space();
     puts("every function answers as multisize.h says");
     return 0;

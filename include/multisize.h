@@ -56,19 +56,34 @@ typedef struct multisize_size_answer {
 //   MULTISIZE_EDGE  in the last column the left neighbour is taken, in the last row the upper one; at width 1 the first
 //                   difference is 0, at height 1 the second
 //   MULTISIZE_FLAT  in the last column the first difference is 0, in the last row the second
+// By MULTISIZE_FORWARD it is what the pixel costs a seam that comes to it from straight above (multisize_step_costs).
 // Refused by 1, 2, 3, 4 (also a row not below the height), 8 (out shorter than the width).
 uint64_t multisize_energies(const uint8_t *picture, size_t picture_length, multisize_size size, multisize_method method,
                             size_t row, uint32_t *out, size_t out_length);
+
+// Works out what coming to each pixel of a row costs a vertical seam, writes three numbers for each column, one to the front
+// of each space, and returns the number: from the column to its left in the row above (left), from straight above (up) and
+// from the column to its right (right). By MULTISIZE_EDGE and MULTISIZE_FLAT all three are the pixel's energy. By
+// MULTISIZE_FORWARD, the channels added, a neighbour past the side edge being the pixel itself:
+//   up     |right neighbour - left neighbour|
+//   left   that, and |pixel above - left neighbour|
+//   right  that, and |pixel above - right neighbour|
+// In row 0, where no pixel is above, all three are the first. What a horizontal seam costs is this in the picture with rows
+// and columns exchanged.
+// Refused by 1, 2, 3, 4 (also a row not below the height), 8 (one of the spaces shorter than the width).
+uint64_t multisize_step_costs(const uint8_t *picture, size_t picture_length, multisize_size size, multisize_method method,
+                              size_t row, uint32_t *left, size_t left_length, uint32_t *up, size_t up_length,
+                              uint32_t *right, size_t right_length);
 
 // Copies a row to the front of out and returns the number of its bytes. It has none, and isn't refused, where there is no
 // such row or where 2, 3 or 4 would refuse the picture. Refused by 1, 8 (out shorter than the row).
 multisize_answer multisize_row(const uint8_t *picture, size_t picture_length, multisize_size size, size_t row, uint8_t *out,
                                size_t out_length);
 
-// Finds the cheapest seam along the axis, by the energies of the method; among equals the one whose columns, read from the
+// Finds the cheapest seam along the axis, by the energy of the method; among equals the one whose columns, read from the
 // bottom row upward, come first in dictionary order (of a horizontal seam the rows, read from the right). Writes its columns
-// from the top row, or its rows from the left column, to the front of seam (multisize_seam_length) and returns its cost, the
-// sum of its energies.
+// from the top row, or its rows from the left column, to the front of seam (multisize_seam_length) and returns its cost: the
+// sum of what its steps cost, by MULTISIZE_EDGE and MULTISIZE_FLAT the sum of its energies.
 // Refused by 1, 2, 3, 4, 8 (seam too short, work under multisize_work_bytes).
 multisize_answer multisize_find(const uint8_t *picture, size_t picture_length, multisize_size size, multisize_method method,
                                 uint8_t axis, uint16_t *seam, size_t seam_length, uint8_t *work, size_t work_length);

@@ -8,11 +8,13 @@
 // A picture's kind: 1 byte a pixel, or 3 with red first.
 enum multisize_kind { MULTISIZE_GREY = 0, MULTISIZE_RGB = 1 };
 
-// How a pixel's energy is worked out: by its differences to the right and to the lower neighbour. The two differ at the
-// edges of the picture, as multisize_energies says. A file names its energy by a word.
+// What a pixel of a seam costs. By the first two it is the pixel's energy: its differences to the right and to the lower
+// neighbour, as multisize_energies says; the two differ at the edges of the picture. By the third it is what its removal
+// adds, as multisize_step_costs says. A file names its energy by a word.
 enum multisize_energy {
-    MULTISIZE_EDGE = 0, // `edge`: in the last column to the left neighbour, in the last row to the upper one
-    MULTISIZE_FLAT = 1  // `flat`: a difference that would reach past the edge is 0
+    MULTISIZE_EDGE = 0,   // `edge`: in the last column to the left neighbour, in the last row to the upper one
+    MULTISIZE_FLAT = 1,   // `flat`: a difference that would reach past the edge is 0
+    MULTISIZE_FORWARD = 2 // `forward`: the differences of the pixels that come to stand beside each other
 };
 
 // The size of a picture: its sides, and its kind (enum multisize_kind).
@@ -21,7 +23,7 @@ typedef struct multisize_size {
     uint8_t kind;
 } multisize_size;
 
-// The method that seams are found by: which energy a pixel has (enum multisize_energy). More fields may come, at the end,
+// The method that seams are found by: what a pixel costs (enum multisize_energy). More fields may come, at the end,
 // and 0 in a new one will mean what is done without it. So a method whose fields are all 0, as the initializer {0} makes
 // it, is the usual one and stays it, and no function gets another parameter. A method is passed by value: a program is
 // compiled with the header that came with its archive.
@@ -130,12 +132,12 @@ static inline size_t multisize_retarget_bytes(multisize_size size, size_t rows, 
     return multisize_picture_bytes(size);
 }
 
-// Returns the bytes that every file of this size fits in, whatever its samples, its range and its energy: 59 in the lines
+// Returns the bytes that every file of this size fits in, whatever its samples, its range and its energy: 62 in the lines
 // that each file has, 6 a row line and 6 a map line, and for each pixel its samples of three digits and its map number of
 // three, with their blanks and brackets.
 static inline size_t multisize_file_bytes(multisize_size size) {
     size_t pixels = multisize_pixels(size);
-    return pixels ? 59 + 12 * size.height + pixels * (size.kind == MULTISIZE_RGB ? 18 : 8) : 0;
+    return pixels ? 62 + 12 * size.height + pixels * (size.kind == MULTISIZE_RGB ? 18 : 8) : 0;
 }
 
 // Returns the bytes of the picture that a file of this size shows at the wanted width; 0 where every file refuses it by 7.

@@ -11,8 +11,9 @@ Every seam, file and refusal comes from the shared library, whose functions are 
 An operation that can't be served raises Refused, with the number and its meaning. Nothing that is passed is changed: what
 an operation leaves of a picture or of marks is given back.
 
-An operation on a picture finds its seams by the energy that the keyword `energy` names, "edge" or "flat", by default "edge";
-a word that names none is refused by 1. What they are, `energies` says. A file names its own: `check(file).energy`.
+An operation on a picture finds its seams by the energy that the keyword `energy` names, "edge", "flat" or "forward", by default
+"edge"; a word that names none is refused by 1. What they are, `energies` and `step_costs` say. A file names its own:
+`check(file).energy`.
 
 The shared library is looked for where MULTISIZE_LIBRARY says, then where ./install puts it beside this module, then where
 the system keeps its libraries.
@@ -33,6 +34,7 @@ HORIZONTAL = "horizontal"
 
 EDGE = "edge"
 FLAT = "flat"
+FORWARD = "forward"
 
 PLAIN = 0
 PROTECTED = 1
@@ -41,7 +43,7 @@ TO_BE_REMOVED = 2
 # The place of a word in its list is the number by which the library knows it.
 _KINDS = ("grey", "rgb")
 _AXES = (VERTICAL, HORIZONTAL)
-_ENERGIES = (EDGE, FLAT)
+_ENERGIES = (EDGE, FLAT, FORWARD)
 _ENDINGS = (None, "done", "narrow", "spent", "blocked")
 _NONE_OF_THEM = 255
 
@@ -85,10 +87,20 @@ class Picture(NamedTuple):
 
 
 class Seam(NamedTuple):
-    """Its column in each row from the top, or its row in each column from the left; the cost is the sum of its energies."""
+    """Its column in each row from the top, or its row in each column from the left; the cost is the sum of what its steps cost,
+    by "edge" and "flat" the sum of its energies."""
 
     places: tuple
     cost: int
+
+
+class StepCosts(NamedTuple):
+    """What coming to each pixel of a row costs a vertical seam: from the column to its left in the row above, from straight
+    above, and from the column to its right."""
+
+    left: tuple
+    up: tuple
+    right: tuple
 
 
 class Cut(NamedTuple):
@@ -154,13 +166,29 @@ class Contents(NamedTuple):
 def energies(picture: Picture, row: int, *, energy: str = EDGE) -> tuple:
     """The energies of a row: |right neighbour - it| + |lower neighbour - it|, the channels added. By "edge" the left neighbour
     is taken in the last column and the upper one in the last row; at width 1 the first difference is 0, at height 1 the
-    second. By "flat" the first difference is 0 in the last column, and the second in the last row.
+    second. By "flat" the first difference is 0 in the last column, and the second in the last row. By "forward" it is what a
+    pixel costs that the seam comes to from straight above.
 
     Refused by 1 to 4, by 4 also where there is no such row.
     """
     out = _Space(ctypes.c_uint32, picture.width if picture.width <= LARGEST_SIDE else 0)
     _judge(_library.multisize_energies(*_lent(picture), _method(energy), _size(row), *out.lent))
     return tuple(out.front(picture.width))
+
+
+def step_costs(picture: Picture, row: int, *, energy: str = EDGE) -> StepCosts:
+    """What coming to each pixel of a row costs a vertical seam. By "edge" and "flat" all three are the pixel's energy. By
+    "forward", the channels added, `up` is |right neighbour - left neighbour|, `left` that and |pixel above - left neighbour|,
+    `right` that and |pixel above - right neighbour|; a neighbour past the side edge is the pixel itself. In row 0 all three are
+    the first.
+
+    Refused by 1 to 4, by 4 also where there is no such row.
+    """
+    length = picture.width if picture.width <= LARGEST_SIDE else 0
+    spaces = [_Space(ctypes.c_uint32, length) for _ in StepCosts._fields]
+    lent = (part for space in spaces for part in space.lent)
+    _judge(_library.multisize_step_costs(*_lent(picture), _method(energy), _size(row), *lent))
+    return StepCosts(*(tuple(space.front(picture.width)) for space in spaces))
 
 
 def find(picture: Picture, axis: str = VERTICAL, marks: Optional[bytes] = None, *, energy: str = EDGE) -> Seam:
@@ -241,7 +269,7 @@ def build(
     depth = max(picture.width - 1, 0) if depth is None else _size(depth)
     growth = min(depth, picture.width // 2) if growth is None else _size(growth)
     pixels = _pixels(picture.width, picture.height)
-    out = _Space(ctypes.c_uint8, 59 + 12 * picture.height + pixels * (18 if picture.kind == "rgb" else 8) if pixels else 0)
+    out = _Space(ctypes.c_uint8, 62 + 12 * picture.height + pixels * (18 if picture.kind == "rgb" else 8) if pixels else 0)
     lent = (*_lent(picture), _method(energy), depth, growth, *out.lent, *_work_space(picture).lent)
     answer = _library.multisize_build(*lent)
     _judge(answer.number)
@@ -489,6 +517,7 @@ _WORDS = (ctypes.POINTER(ctypes.c_uint32), ctypes.c_size_t)
 # What each function takes and gives, as include/multisize.h declares it.
 _DECLARED = {
     "energies": (_NUMBER, *_BYTES, _HostSize, _HostMethod, ctypes.c_size_t, *_WORDS),
+    "step_costs": (_NUMBER, *_BYTES, _HostSize, _HostMethod, ctypes.c_size_t, *_WORDS, *_WORDS, *_WORDS),
     "find": (_Answer, *_BYTES, _HostSize, _HostMethod, ctypes.c_uint8, *_SHORTS, *_BYTES),
     "cut": (_Answer, *_BYTES, _HostSize, _HostMethod, ctypes.c_uint8, *_SHORTS, *_BYTES),
     "find_marked": (_Answer, *_BYTES, *_BYTES, _HostSize, _HostMethod, ctypes.c_uint8, *_SHORTS, *_BYTES),

@@ -25,6 +25,7 @@ WORKED = Picture(3, 2, "grey", bytes([10, 10, 40, 10, 50, 40]))
 HEAD, ROWS = b"(multi\n(size 3 2 grey)\n(range 2 1)\n", b"(row 10 10 40)\n(row 10 50 40)\n"
 FILE = HEAD + b"(energy edge)\n" + ROWS + b"(map 1 0 2)\n(map 1 0 2)\n)\n"
 FLAT_FILE = HEAD + b"(energy flat)\n" + ROWS + b"(map 2 0 1)\n(map 0 2 1)\n)\n"
+FORWARD_FILE = HEAD + b"(energy forward)\n" + ROWS + b"(map 1 2 0)\n(map 2 1 0)\n)\n"
 
 
 def with_last_map(numbers):
@@ -44,6 +45,17 @@ class Worked(unittest.TestCase):
         self.assertEqual(multisize.energies(WORKED, 1), (40, 50, 10))
         self.assertEqual(multisize.energies(WORKED, 0, energy="flat"), (0, 70, 0))
         self.assertEqual(multisize.energies(WORKED, 1, energy="flat"), (40, 10, 0))
+        self.assertEqual(multisize.energies(WORKED, 0, energy="forward"), (0, 30, 30))
+        self.assertEqual(multisize.energies(WORKED, 1, energy="forward"), (40, 30, 10))
+
+    def test_step_costs(self):
+        costs = multisize.step_costs(WORKED, 1, energy="forward")
+        self.assertEqual((costs.left, costs.up, costs.right), ((40, 30, 20), (40, 30, 10), (80, 60, 10)))
+        self.assertEqual(multisize.step_costs(WORKED, 0, energy=multisize.FORWARD), ((0, 30, 30),) * 3)
+        self.assertEqual(multisize.step_costs(WORKED, 1), ((40, 50, 10),) * 3)
+        self.assertEqual(multisize.step_costs(WORKED, 1, energy="flat"), ((40, 10, 0),) * 3)
+        column = Picture(1, 2, "grey", b"\12\36")
+        self.assertEqual(multisize.step_costs(column, 1, energy="forward"), ((20,), (0,), (20,)))
 
     def test_seams_found_and_cut(self):
         found = multisize.find(WORKED)
@@ -62,11 +74,22 @@ class Worked(unittest.TestCase):
         second = multisize.cut(first.picture, energy="flat")
         self.assertEqual((second.seam, second.picture.samples), (((0, 1), 0), bytes([10, 10])))
 
+    def test_seams_found_and_cut_by_forward(self):
+        first = multisize.cut(WORKED, energy="forward")
+        self.assertEqual(multisize.find(WORKED, energy="forward"), first.seam)
+        self.assertEqual((first.seam, first.picture.samples), (((0, 1), 30), bytes([10, 40, 10, 40])))
+        second = multisize.cut(first.picture, energy="forward")
+        self.assertEqual((second.seam, second.picture.samples), (((0, 0), 60), bytes([40, 40])))
+
     def test_a_horizontal_seam(self):
-        for energy, seam in [("edge", ((0, 1, 1), 60)), ("flat", ((0, 1, 0), 10))]:
+        for energy, seam, left in [
+            ("edge", ((0, 1, 1), 60), [10, 10, 40]),
+            ("flat", ((0, 1, 0), 10), [10, 10, 40]),
+            ("forward", ((0, 0, 0), 40), [10, 50, 40]),
+        ]:
             cut = multisize.cut(WORKED, HORIZONTAL, energy=energy)
             self.assertEqual(cut.seam, seam)
-            self.assertEqual(cut.picture, (3, 1, "grey", bytes([10, 10, 40])))
+            self.assertEqual(cut.picture, (3, 1, "grey", bytes(left)))
 
     def test_seams_by_marks(self):
         marks = bytes([0, 2, 1, 0, 0, 0])
@@ -77,11 +100,15 @@ class Worked(unittest.TestCase):
         self.assertEqual(cut.marks, bytes([0, 1, 0, 0]))
         self.assertEqual(marks, bytes([0, 2, 1, 0, 0, 0]))
         self.assertEqual(multisize.find(WORKED, marks=marks, energy="flat"), ((1, 2), 70))
+        self.assertEqual(multisize.find(WORKED, marks=marks, energy="forward"), ((1, 2), 50))
+        marks = bytes([1, 0, 0, 0, 0, 2])
+        self.assertEqual(multisize.find(WORKED, marks=marks, energy="forward"), ((2, 2), 40))
 
     def test_the_energy_may_be_named(self):
         marks = bytes([2, 0, 0, 0, 0, 0])
         for function, *words in [
             (multisize.energies, 0),
+            (multisize.step_costs, 1),
             (multisize.find,),
             (multisize.find, HORIZONTAL, marks),
             (multisize.cut,),
@@ -92,7 +119,9 @@ class Worked(unittest.TestCase):
         ]:
             self.assertEqual(function(WORKED, *words, energy="edge"), function(WORKED, *words))
             self.assertNotEqual(function(WORKED, *words, energy="flat"), function(WORKED, *words))
-        self.assertRaises(TypeError, multisize.energies, WORKED, 0, "edge")
+            self.assertNotEqual(function(WORKED, *words, energy="forward"), function(WORKED, *words))
+        for function in (multisize.energies, multisize.step_costs):
+            self.assertRaises(TypeError, function, WORKED, 0, "edge")
 
     def test_removals_end_in_four_ways(self):
         column = Picture(1, 2, "grey", b"\7\7")
@@ -112,6 +141,7 @@ class Worked(unittest.TestCase):
         self.assertEqual(multisize.retarget(WORKED, 1, 1), ((2, 1, "grey", bytes([10, 40])), 60))
         self.assertEqual(multisize.retarget(WORKED).picture, WORKED)
         self.assertEqual(multisize.retarget(WORKED, 1, 1, energy="flat"), ((2, 1, "grey", bytes([10, 10])), 0))
+        self.assertEqual(multisize.retarget(WORKED, 1, 1, energy="forward"), ((2, 1, "grey", bytes([10, 40])), 30))
 
     def test_the_file_built_checked_and_read(self):
         self.assertEqual(multisize.build(WORKED), FILE)
@@ -131,11 +161,21 @@ class Worked(unittest.TestCase):
         shown = [list(multisize.show(FLAT_FILE, width).samples) for width in (1, 2, 4)]
         self.assertEqual(shown, [[10, 10], [10, 10, 10, 50], [10, 10, 25, 40, 10, 50, 45, 40]])
 
-    def test_files_of_two_energies_differ(self):
+    def test_the_file_of_forward(self):
+        self.assertEqual(multisize.build(WORKED, energy="forward"), FORWARD_FILE)
+        head = multisize.check(FORWARD_FILE)
+        self.assertEqual((head, head.energy), ((3, 2, "grey", 2, 1, "forward"), multisize.FORWARD))
+        contents = multisize.read(FORWARD_FILE)
+        self.assertEqual((list(contents.map), contents.head), ([1, 2, 0, 2, 1, 0], head))
+        shown = [list(multisize.show(FORWARD_FILE, width).samples) for width in (1, 2, 4)]
+        self.assertEqual(shown, [[40, 40], [10, 40, 10, 40], [10, 10, 10, 40, 10, 50, 45, 40]])
+
+    def test_files_of_several_energies_differ(self):
         plain = Picture(4, 3, "grey", bytes(12))
-        edge, flat = (multisize.build(plain, energy=energy) for energy in ("edge", "flat"))
+        edge, flat, forward = (multisize.build(plain, energy=energy) for energy in ("edge", "flat", "forward"))
         self.assertNotEqual(edge, flat)
         self.assertEqual(edge.replace(b"edge", b"flat"), flat)
+        self.assertEqual(edge.replace(b"edge", b"forward"), forward)
 
     def test_the_file_shown(self):
         shown = {width: list(multisize.show(FILE, width).samples) for width in multisize.check(FILE).widths}
@@ -158,7 +198,8 @@ class Worked(unittest.TestCase):
 
     def test_the_largest_pictures(self):
         for picture in (noise(512, 3, "rgb"), noise(3, 512, "grey"), Picture(10, 512, "grey", bytes(5120))):
-            file = multisize.build(picture)
+            # Of the energies its word is the longest.
+            file = multisize.build(picture, energy="forward")
             self.assertEqual(multisize.read(file).picture, picture)
             widest = multisize.show(file, multisize.check(file).widths[-1])
             self.assertEqual(widest.width, picture.width + picture.width // 2)
@@ -186,6 +227,7 @@ class Refusals(unittest.TestCase):
             for function in (multisize.find, multisize.cut, multisize.build, multisize.retarget):
                 self.refused(number, function, picture)
             self.refused(number, multisize.energies, picture, 0)
+            self.refused(number, multisize.step_costs, picture, 0)
             self.refused(number, multisize.remove, picture, bytes(6))
 
     def test_each_number(self):
@@ -194,12 +236,14 @@ class Refusals(unittest.TestCase):
             self.refused(1, multisize.check, FILE.replace(b"(energy edge)\n", line))
         self.refused(1, multisize.find, WORKED, "diagonal")
         self.refused(1, multisize.energies, WORKED, 0, energy="Edge")
+        self.refused(1, multisize.step_costs, WORKED, 0, energy="Forward")
         self.refused(1, multisize.remove, WORKED, bytes(6), energy=None)
         for function in (multisize.find, multisize.cut, multisize.retarget, multisize.build):
             self.refused(1, function, WORKED, energy="steep")
         for function in (multisize.find, multisize.cut):
             self.refused(1, function, WORKED, marks=bytes(6), energy=0)
         self.refused(4, multisize.energies, WORKED, 2)
+        self.refused(4, multisize.step_costs, WORKED, 2)
         self.refused(4, multisize.find, WORKED, marks=bytes(5))
         self.refused(5, multisize.remove, WORKED, bytes([0, 0, 0, 0, 0, 3]))
         for depth, growth in [(3, 1), (2, 2), (0, 1), (2**64 - 1, 2**64 - 1)]:
@@ -213,6 +257,8 @@ class Refusals(unittest.TestCase):
         self.refused(11, multisize.show, with_last_map(b"1 2 0"), 3)
         self.refused(11, multisize.check, FILE.replace(b"edge", b"flat"))
         self.refused(11, multisize.check, FLAT_FILE.replace(b"flat", b"edge"))
+        self.refused(11, multisize.check, FILE.replace(b"edge", b"forward"))
+        self.refused(11, multisize.check, FORWARD_FILE.replace(b"forward", b"flat"))
         self.refused(12, multisize.cut, WORKED, marks=bytes([1] * 6))
         self.refused(13, multisize.cut, Picture(1, 2, "grey", b"\1\2"))
 
@@ -279,7 +325,7 @@ class AsTheCommand(unittest.TestCase):
         yield noise(14, 9, "rgb", seed=2)
 
     def test_files_and_widths(self):
-        for picture, energy in itertools.product(self.pictures(), ("edge", "flat")):
+        for picture, energy in itertools.product(self.pictures(), ("edge", "flat", "forward")):
             multisize.save(self.folder / "picture.ppm", picture)
             ran = self.run_command("build", "picture.ppm", "--energy", energy, "-o", "picture.multi")
             self.assertEqual(ran.returncode, 0)

@@ -83,7 +83,7 @@ fn between(one: &[u8], other: &[u8]) -> Vec<u8> {
 #[cfg(test)]
 mod tests {
     use super::*;
-    use crate::methods::{EDGE, FLAT};
+    use crate::methods::{EDGE, FLAT, FORWARD};
     use reference::Kind;
 
     fn grey(width: usize, height: usize) -> Size {
@@ -107,6 +107,11 @@ mod tests {
         assert_eq!(at(2), [10, 10, 10, 50]);
         assert_eq!(at(3), picture);
         assert_eq!(at(4), [10, 10, 25, 40, 10, 50, 45, 40]);
+        let at = |wanted| at_width(&picture, grey(3, 2), FORWARD, wanted);
+        assert_eq!(at(1), [40, 40]);
+        assert_eq!(at(2), [10, 40, 10, 40]);
+        assert_eq!(at(3), picture);
+        assert_eq!(at(4), [10, 10, 10, 40, 10, 50, 45, 40]);
     }
 
     /// Both last columns are doubled: the new pixel of the one before stands

@@ -53,6 +53,20 @@ extern "C" {
         out_len: usize,
     ) -> u64;
 
+    fn multisize_step_costs(
+        picture: *const u8,
+        picture_len: usize,
+        size: NamedSize,
+        method: NamedMethod,
+        r: usize,
+        left: *mut u32,
+        left_len: usize,
+        up: *mut u32,
+        up_len: usize,
+        right: *mut u32,
+        right_len: usize,
+    ) -> u64;
+
     fn multisize_row(
         picture: *const u8,
         picture_len: usize,
@@ -133,6 +147,33 @@ pub fn energies(
             row,
             out.as_mut_ptr(),
             out.len(),
+        )
+    }
+}
+
+/// What coming to each pixel of a row costs from the left, from above and from the
+/// right, at the fronts of three spaces; gives 0 or a refusal's number.
+pub fn step_costs(
+    picture: &mut [u8],
+    size: NamedSize,
+    method: NamedMethod,
+    row: usize,
+    [left, up, right]: [&mut [u32]; 3],
+) -> u64 {
+    // Each pointer comes with the length of its slice; the slices don't overlap.
+    unsafe {
+        multisize_step_costs(
+            picture.as_mut_ptr(),
+            picture.len(),
+            size,
+            method,
+            row,
+            left.as_mut_ptr(),
+            left.len(),
+            up.as_mut_ptr(),
+            up.len(),
+            right.as_mut_ptr(),
+            right.len(),
         )
     }
 }
@@ -269,7 +310,8 @@ mod tests {
     };
     const EDGE: NamedMethod = NamedMethod { energy: 0 };
     const FLAT: NamedMethod = NamedMethod { energy: 1 };
-    const UNKNOWN: NamedMethod = NamedMethod { energy: 2 };
+    const FORWARD: NamedMethod = NamedMethod { energy: 2 };
+    const UNKNOWN: NamedMethod = NamedMethod { energy: 3 };
 
     #[test]
     fn energies_of_the_worked_picture() {
@@ -283,8 +325,31 @@ mod tests {
         assert_eq!(out, [0, 70, 0, 9]);
         assert_eq!(energies(&mut picture, SIZE, FLAT, 1, &mut out), 0);
         assert_eq!(out, [40, 10, 0, 9]);
+        assert_eq!(energies(&mut picture, SIZE, FORWARD, 0, &mut out), 0);
+        assert_eq!(out, [0, 30, 30, 9]);
+        assert_eq!(energies(&mut picture, SIZE, FORWARD, 1, &mut out), 0);
+        assert_eq!(out, [40, 30, 10, 9]);
         assert_eq!(energies(&mut picture, SIZE, FLAT, 2, &mut out), 4);
         assert_eq!(energies(&mut picture, SIZE, UNKNOWN, 2, &mut out), 1);
+    }
+
+    #[test]
+    fn step_costs_of_the_worked_picture() {
+        let mut picture = [10, 10, 40, 10, 50, 40];
+        let mut costs = |method, row, length| {
+            let (mut left, mut up, mut right) = ([9; 4], [9; 4], [9; 4]);
+            let spaces: [&mut [u32]; 3] = [&mut left, &mut up, &mut right[..length]];
+            let number = step_costs(&mut picture, SIZE, method, row, spaces);
+            (number, [left, up, right])
+        };
+        assert_eq!(costs(FORWARD, 0, 4), (0, [[0, 30, 30, 9]; 3]));
+        let [left, up, right] = [[40, 30, 20, 9], [40, 30, 10, 9], [80, 60, 10, 9]];
+        assert_eq!(costs(FORWARD, 1, 3), (0, [left, up, right]));
+        assert_eq!(costs(EDGE, 1, 3), (0, [[40, 50, 10, 9]; 3]));
+        assert_eq!(costs(FLAT, 1, 3), (0, [[40, 10, 0, 9]; 3]));
+        assert_eq!(costs(FORWARD, 1, 2), (8, [[9; 4]; 3]));
+        assert_eq!(costs(FORWARD, 2, 2), (4, [[9; 4]; 3]));
+        assert_eq!(costs(UNKNOWN, 2, 2), (1, [[9; 4]; 3]));
     }
 
     #[test]
@@ -333,6 +398,27 @@ mod tests {
         let answer = cut_marked(&mut picture, &mut marks, SIZE, FLAT, axis, seam, work);
         assert_eq!(answer, Answer::served(10));
         assert_eq!(picture, [10, 40, 10, 40, 0, 0]);
+    }
+
+    #[test]
+    fn seams_of_the_worked_picture_by_forward() {
+        let mut picture = [10, 10, 40, 10, 50, 40];
+        let mut marks = [1, 0, 0, 0, 0, 2];
+        let (mut seam, mut work) = ([9; 3], [9; 200]);
+        let (seam, work) = (&mut seam, &mut work);
+        let answer = find(&mut picture, SIZE, FORWARD, NamedAxis(1), seam, work);
+        assert_eq!((answer, *seam), (Answer::served(40), [0, 0, 0]));
+        let axis = NamedAxis(0);
+        let answer = find(&mut picture, SIZE, FORWARD, axis, seam, work);
+        assert_eq!((answer, *seam), (Answer::served(30), [0, 1, 0]));
+        let answer = find_marked(&mut picture, &mut marks, SIZE, FORWARD, axis, seam, work);
+        assert_eq!((answer, *seam), (Answer::served(40), [2, 2, 0]));
+        let mut copy = picture;
+        let answer = cut(&mut copy, SIZE, FORWARD, axis, seam, work);
+        assert_eq!((answer, copy), (Answer::served(30), [10, 40, 10, 40, 0, 0]));
+        let answer = cut_marked(&mut picture, &mut marks, SIZE, FORWARD, axis, seam, work);
+        assert_eq!(answer, Answer::served(40));
+        assert_eq!(picture, [10, 10, 10, 50, 0, 0]);
     }
 
     #[test]

@@ -26,6 +26,8 @@ mod programs;
 mod random;
 mod ranges;
 mod spaces;
+#[cfg(test)]
+mod steps;
 mod texts;
 mod width_lines;
 

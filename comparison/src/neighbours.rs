@@ -1,5 +1,5 @@
 //! Rules that hold a pixel against wrong neighbours. The pictures that are drawn
-//! have to tell each of them from each method by its seams.
+//! have to tell each of them from `edge` and `flat` by its seams.
 
 use crate::contents::samples;
 use crate::methods::{EDGE, FLAT};
@@ -18,7 +18,7 @@ fn flat(size: Size, row: usize, column: usize) -> Vec<(usize, usize)> {
     neighbours(size, FLAT, row, column).to_vec()
 }
 
-/// Each method, its rule, and that of the other one.
+/// Each of the two methods, its rule, and that of the other one.
 const RIGHT: [(Method, Rule, Rule); 2] = [(EDGE, edge, flat), (FLAT, flat, edge)];
 
 fn is_corner(size: Size, row: usize, column: usize) -> bool {

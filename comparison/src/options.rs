@@ -4,7 +4,7 @@ use std::ops::Range;
 
 pub const USAGE: &str = "usage: comparison [--cases N] [--seed S] [--case K]";
 
-const CASES: u64 = 460_000;
+const CASES: u64 = 480_000;
 const SEED: u64 = 1;
 
 pub struct Options {

@@ -3,7 +3,10 @@
 
 use crate::pictures::channels;
 use reference::{Axis, EnergyRule, Method, Size};
-use std::cmp::Reverse;
+use std::cmp::{Ordering, Reverse};
+
+/// A pixel by its row and column.
+type Position = (usize, usize);
 
 /// A picture, so small that all its paths can be listed. Its lines are the
 /// rows for vertical seams and the columns for horizontal ones; a path has a
@@ -44,10 +47,23 @@ impl Small<'_> {
         paths
     }
 
-    /// The sum of the energies on a path.
+    /// What a path costs.
     pub fn cost(&self, path: &[usize]) -> u64 {
-        let pixels = self.pixels(path);
-        pixels.map(|(row, column)| self.energy(row, column)).sum()
+        self.cost_by(path, |line, place, from| self.pixel_cost(line, place, from))
+    }
+
+    /// The sum of what the pixels of a path cost, each given by its line, its
+    /// place there and the path's place in the line before, if there is one.
+    pub fn cost_by(
+        &self,
+        path: &[usize],
+        pixel_cost: impl Fn(usize, usize, Option<usize>) -> u64,
+    ) -> u64 {
+        let before = |line: usize| line.checked_sub(1).map(|before| path[before]);
+        let pixels = path.iter().enumerate();
+        pixels
+            .map(|(line, place)| pixel_cost(line, *place, before(line)))
+            .sum()
     }
 
     /// How many pixels on a path have this mark, 1 or 2.
@@ -63,10 +79,7 @@ impl Small<'_> {
     pub fn pixels<'a>(&self, path: &'a [usize]) -> impl Iterator<Item = (usize, usize)> + 'a {
         let axis = self.axis;
         let pixels = path.iter().enumerate();
-        pixels.map(move |(line, place)| match axis {
-            Axis::Vertical => (line, *place),
-            Axis::Horizontal => (*place, line),
-        })
+        pixels.map(move |(line, place)| row_and_column(axis, line, *place))
     }
 
     /// The picture's bytes after a path is cut.
@@ -119,6 +132,46 @@ impl Small<'_> {
         }
     }
 
+    fn pixel_cost(&self, line: usize, place: usize, from: Option<usize>) -> u64 {
+        if self.method.energy == EnergyRule::Forward {
+            let meeting = self.meeting(line, place, from);
+            return meeting
+                .into_iter()
+                .map(|[one, other]| self.apart(one, other))
+                .sum();
+        }
+        let (row, column) = self.at(line, place);
+        self.energy(row, column)
+    }
+
+    /// The pixels, each by its row and column, that come to stand beside each other
+    /// where a path's pixel is taken out: its neighbours in the line; and where the
+    /// path came from a side, the pixel in the line before and the neighbour on that
+    /// side.
+    pub fn meeting(&self, line: usize, place: usize, from: Option<usize>) -> Vec<[Position; 2]> {
+        let [before, after] = self.sides(line, place);
+        let mut pairs = vec![[before, after]];
+        let Some(from) = from else { return pairs };
+        let above = self.at(line - 1, place);
+        match from.cmp(&place) {
+            Ordering::Less => pairs.push([above, before]),
+            Ordering::Equal => {}
+            Ordering::Greater => pairs.push([above, after]),
+        }
+        pairs
+    }
+
+    /// The neighbours of a pixel in its line; past the ends the pixel itself.
+    pub fn sides(&self, line: usize, place: usize) -> [Position; 2] {
+        let last = self.places() - 1;
+        [place.saturating_sub(1), last.min(place + 1)].map(|side| self.at(line, side))
+    }
+
+    /// The row and column of a place of a line.
+    pub fn at(&self, line: usize, place: usize) -> Position {
+        row_and_column(self.axis, line, place)
+    }
+
     fn energy(&self, row: usize, column: usize) -> u64 {
         let others = neighbours(self.size, self.method, row, column);
         self.differences(row, column, &others)
@@ -126,14 +179,26 @@ impl Small<'_> {
 
     /// How far a pixel is from these, each given by its row and column.
     pub fn differences(&self, row: usize, column: usize, others: &[(usize, usize)]) -> u64 {
-        let it = self.pixel(row, column);
-        let pixels = others.iter().map(|(row, column)| self.pixel(*row, *column));
-        pixels.map(|other| apart(other, it)).sum()
+        let others = others.iter();
+        others.map(|other| self.apart(*other, (row, column))).sum()
     }
 
-    fn pixel(&self, row: usize, column: usize) -> &[u8] {
+    /// The absolute differences of two pixels' samples, added.
+    pub fn apart(&self, one: Position, other: Position) -> u64 {
+        let pairs = self.pixel(one).iter().zip(self.pixel(other));
+        pairs.map(|(a, b)| u64::from(a.abs_diff(*b))).sum()
+    }
+
+    fn pixel(&self, (row, column): Position) -> &[u8] {
         let place = row * self.size.width + column;
         pixel(self.bytes, place, channels(self.size.kind))
+    }
+}
+
+fn row_and_column(axis: Axis, line: usize, place: usize) -> Position {
+    match axis {
+        Axis::Vertical => (line, place),
+        Axis::Horizontal => (place, line),
     }
 }
 
@@ -142,8 +207,8 @@ fn pixel(buffer: &[u8], place: usize, channels: usize) -> &[u8] {
     &buffer[place * channels..(place + 1) * channels]
 }
 
-/// The two pixels, by row and column, that a pixel is held against.
-pub fn neighbours(size: Size, method: Method, row: usize, column: usize) -> [(usize, usize); 2] {
+/// By `edge` and `flat`, the two pixels that a pixel is held against.
+pub fn neighbours(size: Size, method: Method, row: usize, column: usize) -> [Position; 2] {
     let beside = held_against(method, column, size.width);
     let below = held_against(method, row, size.height);
     [(row, beside), (below, column)]
@@ -154,10 +219,12 @@ pub fn neighbours(size: Size, method: Method, row: usize, column: usize) -> [(us
 /// there is one; else its own, from which it doesn't differ.
 fn held_against(method: Method, place: usize, count: usize) -> usize {
     let next = place + 1;
-    match method.energy {
-        _ if next < count => next,
-        EnergyRule::Edge => place.saturating_sub(1),
-        EnergyRule::Flat => place,
+    if next < count {
+        next
+    } else if method.energy == EnergyRule::Edge {
+        place.saturating_sub(1)
+    } else {
+        place
     }
 }
 
@@ -181,16 +248,10 @@ fn stood(place: usize, cut: usize) -> usize {
     }
 }
 
-/// The absolute differences of two pixels' samples, added.
-fn apart(one: &[u8], other: &[u8]) -> u64 {
-    let pairs = one.iter().zip(other);
-    pairs.map(|(a, b)| u64::from(a.abs_diff(*b))).sum()
-}
-
 #[cfg(test)]
 mod tests {
     use super::*;
-    use crate::methods::{EDGE, FLAT};
+    use crate::methods::{EDGE, FLAT, FORWARD};
     use reference::Kind;
 
     /// A grey picture without marks, by `edge`.
@@ -249,6 +310,47 @@ mod tests {
         assert_eq!(by_flat(&worked, 3, horizontal), Some((vec![0, 1, 0], 10)));
         let left = [10, 10, 10, 50];
         assert_eq!(by_flat(&left, 2, vertical), Some((vec![0, 1], 0)));
+    }
+
+    #[test]
+    fn seams_of_the_worked_picture_by_forward() {
+        let by_forward = |bytes, width, axis| {
+            let method = FORWARD;
+            let picture = grey(bytes, width, axis);
+            Small { method, ..picture }
+        };
+        let worked = [10, 10, 40, 10, 50, 40];
+        let (vertical, horizontal) = (Axis::Vertical, Axis::Horizontal);
+        let picture = by_forward(&worked, 3, vertical);
+        assert_eq!(picture.seam(), Some((vec![0, 1], 30)));
+        // Each path: what its pixel of row 0 costs, and its step.
+        for (path, cost) in [
+            ([0, 0], 40),
+            ([1, 0], 30 + 80),
+            ([0, 1], 30),
+            ([1, 1], 30 + 30),
+            ([2, 1], 30 + 60),
+            ([1, 2], 30 + 20),
+            ([2, 2], 30 + 10),
+        ] {
+            assert_eq!(picture.cost(&path), cost, "{path:?}");
+        }
+        let turned = by_forward(&worked, 3, horizontal);
+        assert_eq!(turned.seam(), Some((vec![0, 0, 0], 40)));
+        let left = by_forward(&[10, 40, 10, 40], 2, vertical);
+        assert_eq!(left.seam(), Some((vec![0, 0], 60)));
+        let marks = &[1, 0, 0, 0, 0, 2];
+        let marked = Small { marks, ..picture };
+        assert_eq!(marked.seam(), Some((vec![2, 2], 40)));
+    }
+
+    /// A single column has no neighbours that meet, and no step aside.
+    #[test]
+    fn one_column_by_forward() {
+        let method = FORWARD;
+        let picture = grey(&[5, 9, 2], 1, Axis::Vertical);
+        let picture = Small { method, ..picture };
+        assert_eq!(picture.seam(), Some((vec![0, 0, 0], 0)));
     }
 
     #[test]
@@ -324,6 +426,17 @@ mod tests {
             ..picture
         };
         assert_eq!(picture.seam(), Some((vec![0, 0], 4 + 2 + 6)));
+        // A single row: by `forward` each has no other above or below it.
+        let picture = Small {
+            method: FORWARD,
+            ..picture
+        };
+        assert_eq!(picture.seam(), Some((vec![0, 0], 0)));
+        let picture = Small {
+            axis: Axis::Vertical,
+            ..picture
+        };
+        assert_eq!(picture.seam(), Some((vec![0], 4 + 2 + 6)));
     }
 
     /// The energies are 0 70 30 and 40 50 10.

@@ -177,6 +177,7 @@ fn energy_name(method: Method) -> &'static str {
     match method.energy {
         EnergyRule::Edge => "edge",
         EnergyRule::Flat => "flat",
+        EnergyRule::Forward => "forward",
     }
 }
 
@@ -196,7 +197,7 @@ fn words<T: ToString>(numbers: &[T]) -> Vec<String> {
 #[cfg(test)]
 mod tests {
     use super::*;
-    use crate::methods::{EDGE, FLAT};
+    use crate::methods::{EDGE, FLAT, FORWARD};
     use crate::ranges;
 
     /// What the reference builds, byte for byte.
@@ -257,6 +258,11 @@ mod tests {
         (parts.method, parts.map) = (FLAT, map);
         let text = "(multi\n(size 3 2 grey)\n(range 2 1)\n(energy flat)\n\
             (row 10 10 40)\n(row 10 50 40)\n(map 2 0 1)\n(map 0 2 1)\n)\n";
+        assert_eq!(parts.text(), text.as_bytes());
+        let map = map_by(FORWARD);
+        (parts.method, parts.map) = (FORWARD, map);
+        let text = "(multi\n(size 3 2 grey)\n(range 2 1)\n(energy forward)\n\
+            (row 10 10 40)\n(row 10 50 40)\n(map 1 2 0)\n(map 2 1 0)\n)\n";
         assert_eq!(parts.text(), text.as_bytes());
     }
 

@@ -28,7 +28,7 @@ _multisize() {
     case $before in
     --depth | --growth | --first | --budget | --rows | --columns | --title) return ;;
     --energy)
-        mapfile -t COMPREPLY < <(compgen -W "edge flat" -- "$word")
+        mapfile -t COMPREPLY < <(compgen -W "edge flat forward" -- "$word")
         return
         ;;
     -o) mapfile -t COMPREPLY < <(compgen -f -- "$word") ;; # what is written may have any name

@@ -23,7 +23,7 @@ mod text;
 mod widths;
 
 pub use cut::{cut, cut_marked};
-pub use energy::{energies, EnergyRule, Method};
+pub use energy::{energies, step_costs, EnergyRule, Method};
 pub use file::{build, check, read, show, FileInfo};
 pub use object::{remove_object, Ending};
 pub use picture::{row, Kind, Size, LARGEST_SIDE};

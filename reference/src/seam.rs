@@ -1,6 +1,6 @@
 //! The seam found in a picture, by dynamic programming.
 
-use crate::energy::{energy, Method};
+use crate::energy::{costs, Method, StepCosts};
 use crate::grid::{exchange, give_out, marks_of, pixels_of, Grid, Pixel};
 use crate::picture::{judge_marks, judge_picture, judge_work, pixel_count, Size};
 use crate::refusal::{ensure, Refusal, ALL_PROTECTED, SPACE};
@@ -14,13 +14,14 @@ pub enum Axis {
     Horizontal,
 }
 
-/// A vertical seam: its columns from the top row, and the sum of its energies.
+/// A vertical seam: its columns from the top row, and the sum of what its pixels
+/// cost.
 pub struct Seam {
     pub columns: Vec<usize>,
     pub cost: u64,
 }
 
-/// What a path has met: pixels marked 2, and the sum of energies.
+/// What a path has met: pixels marked 2, and the sum of costs.
 #[derive(Clone, Copy)]
 struct Tally {
     marked: u64,
@@ -44,10 +45,12 @@ impl Tally {
 pub fn vertical_seam(picture: &Grid<Pixel>, marks: &Grid<u8>, method: Method) -> Option<Seam> {
     let table = best_tallies(picture, marks, method);
     let bottom = picture.len() - 1;
-    let (mut column, tally) = leftmost_best(&table[bottom], 0, picture[bottom].len() - 1)?;
+    let ends = table[bottom].iter().enumerate();
+    let (mut column, tally) = leftmost_best(ends.filter_map(|(end, it)| Some((end, (*it)?))))?;
     let mut columns = vec![column];
-    for row in (0..bottom).rev() {
-        let (above, _) = leftmost_best_near(&table[row], column)
+    for row in (1..=bottom).rev() {
+        let costs = costs(picture, method.energy, row, column);
+        let (above, _) = leftmost_best(with_step(&table[row - 1], costs, column))
             .expect("a pixel that a path reaches is reached from the row above");
         column = above;
         columns.push(column);
@@ -66,54 +69,55 @@ fn best_tallies(picture: &Grid<Pixel>, marks: &Grid<u8>, method: Method) -> Grid
     for row in 0..picture.len() {
         let mut tallies = Vec::new();
         for column in 0..picture[row].len() {
-            let before = if row == 0 {
-                Some(Tally { marked: 0, cost: 0 })
+            let costs = costs(picture, method.energy, row, column);
+            let best = if row == 0 {
+                let cost = u64::from(costs.up);
+                Some(Tally { marked: 0, cost })
             } else {
-                leftmost_best_near(&table[row - 1], column).map(|(_, tally)| tally)
+                leftmost_best(with_step(&table[row - 1], costs, column)).map(|(_, best)| best)
             };
-            let own_energy = energy(picture, method.energy, row, column);
-            tallies.push(step(before, own_energy, marks[row][column]));
+            tallies.push(best.and_then(|tally| meet(tally, marks[row][column])));
         }
         table.push(tallies);
     }
     table
 }
 
-/// The tally after a path with the tally `before` takes one more pixel.
-fn step(before: Option<Tally>, energy: u32, mark: u8) -> Option<Tally> {
-    let before = before?;
-    let cost = before.cost + u64::from(energy);
-    match mark {
-        0 => Some(Tally { cost, ..before }),
-        1 => None,
-        _ => Some(Tally {
-            marked: before.marked + 1,
-            cost,
-        }),
-    }
+/// The tally of a path after it meets a mark, or none for a protected pixel.
+fn meet(tally: Tally, mark: u8) -> Option<Tally> {
+    let marked = match mark {
+        0 => tally.marked,
+        1 => return None,
+        _ => tally.marked + 1,
+    };
+    Some(Tally { marked, ..tally })
 }
 
-/// The leftmost column with the best tally among those that differ from
-/// `column` by at most 1, and that tally.
-fn leftmost_best_near(tallies: &[Option<Tally>], column: usize) -> Option<(usize, Tally)> {
-    let first = column.saturating_sub(1);
-    let last = (column + 1).min(tallies.len() - 1);
-    leftmost_best(tallies, first, last)
+/// The columns of the row above that a path comes to `column` from, in order, each
+/// with its tally after that step. Neighbouring rows differ by at most 1.
+fn with_step(
+    above: &[Option<Tally>],
+    costs: StepCosts,
+    column: usize,
+) -> impl Iterator<Item = (usize, Tally)> + '_ {
+    let ways = [
+        (column.checked_sub(1), costs.left),
+        (Some(column), costs.up),
+        (Some(column + 1), costs.right),
+    ];
+    ways.into_iter().filter_map(|(from, step)| {
+        let tally = (*above.get(from?)?)?;
+        let cost = tally.cost + u64::from(step);
+        Some((from?, Tally { cost, ..tally }))
+    })
 }
 
-/// The leftmost column with the best tally from `first` to `last`, and that
-/// tally, or none when no path reaches any of them.
-fn leftmost_best(tallies: &[Option<Tally>], first: usize, last: usize) -> Option<(usize, Tally)> {
+/// The first of the best tallies, with its column, or none of no tally.
+fn leftmost_best(tallies: impl Iterator<Item = (usize, Tally)>) -> Option<(usize, Tally)> {
     let mut best: Option<(usize, Tally)> = None;
-    for column in first..=last {
-        if let Some(tally) = tallies[column] {
-            let better = match best {
-                None => true,
-                Some((_, so_far)) => tally.is_better_than(so_far),
-            };
-            if better {
-                best = Some((column, tally));
-            }
+    for (column, tally) in tallies {
+        if best.is_none_or(|(_, so_far)| tally.is_better_than(so_far)) {
+            best = Some((column, tally));
         }
     }
     best

@@ -34,6 +34,7 @@ pub fn energy_word(rule: EnergyRule) -> &'static str {
     match rule {
         EnergyRule::Edge => "edge",
         EnergyRule::Flat => "flat",
+        EnergyRule::Forward => "forward",
     }
 }
 
@@ -115,11 +116,11 @@ fn read_range(line: &[u8]) -> Result<(usize, usize), Refusal> {
     Ok((read_number(items[0])?, read_number(items[1])?))
 }
 
-/// `(energy edge)` or `(energy flat)`.
+/// `(energy edge)`, `(energy flat)` or `(energy forward)`.
 fn read_energy(line: &[u8]) -> Result<EnergyRule, Refusal> {
     let items = items(line, "energy")?;
     ensure(items.len() == 1, FORM)?;
-    for rule in [EnergyRule::Edge, EnergyRule::Flat] {
+    for rule in EnergyRule::ALL {
         if items[0] == energy_word(rule).as_bytes() {
             return Ok(rule);
         }

@@ -4,6 +4,7 @@ use crate::contents::samples;
 use crate::methods::METHODS;
 use crate::random::Random;
 use crate::texts::{map_of, Parts};
+use reference::Method;
 
 type Change = fn(&mut Random, &mut Parts);
 
@@ -99,11 +100,14 @@ fn take_other_map(random: &mut Random, parts: &mut Parts) {
     parts.map = map_of(&other, parts.size, parts.method, parts.range);
 }
 
-/// The map that the picture has by the other method.
-fn take_map_of_other_method(_: &mut Random, parts: &mut Parts) {
-    for method in METHODS.into_iter().filter(|it| *it != parts.method) {
-        parts.map = map_of(&parts.samples, parts.size, method, parts.range);
-    }
+/// The map that the picture has by another method.
+fn take_map_of_other_method(random: &mut Random, parts: &mut Parts) {
+    let others: Vec<Method> = METHODS
+        .into_iter()
+        .filter(|it| *it != parts.method)
+        .collect();
+    let other = random.pick(&others);
+    parts.map = map_of(&parts.samples, parts.size, other, parts.range);
 }
 
 fn replace_sample(random: &mut Random, parts: &mut Parts) {

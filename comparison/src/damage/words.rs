@@ -30,15 +30,16 @@ const BROKEN: [&str; 10] = [
     "00", "03", "010", "65536", "99999", "-1", "+1", "1x", "x", "",
 ];
 
-/// The two energies, and what isn't one: other words, the two cut short or
+/// The three energies, and what isn't one: other words, the three cut short or
 /// longer, numbers, capital letters.
-const ENERGIES: [&str; 20] = [
-    "edge", "flat", "edge", "flat", "Edge", "FLAT", "flaT", "steep", "grey", "rgb", "energy",
-    "edges", "edg", "flats", "fla", "0", "1", "", "(edge)", "()",
+const ENERGIES: [&str; 27] = [
+    "edge", "flat", "forward", "edge", "flat", "forward", "Edge", "FLAT", "flaT", "Forward",
+    "steep", "grey", "rgb", "energy", "edges", "edg", "flats", "fla", "forwards", "forwar",
+    "backward", "0", "1", "2", "", "(edge)", "()",
 ];
 
 /// Energy lines that break their form otherwise than by the word that they name.
-const ENERGY_LINES: [&str; 24] = [
+const ENERGY_LINES: [&str; 27] = [
     "(energy)",
     "(energyedge)",
     "(energy  edge)",
@@ -50,6 +51,9 @@ const ENERGY_LINES: [&str; 24] = [
     "(edge)",
     "(flat)",
     "(flat energy)",
+    "(energyforward)",
+    "(energy forward edge)",
+    "(energy for ward)",
     "(energies edge)",
     "(energ flat)",
     "(Energy edge)",
@@ -130,7 +134,7 @@ fn replace_kind(random: &mut Random, words: &mut Words) {
     }
 }
 
-/// Another word gives 1; the other energy, by which the file is judged then, 11.
+/// Another word gives 1; another energy, by which the file is judged then, 11.
 fn replace_energy(random: &mut Random, words: &mut Words) {
     let word = random.pick(&ENERGIES);
     set_energy_line(words, &format!("(energy {word})"));
@@ -155,12 +159,12 @@ fn move_energy(random: &mut Random, words: &mut Words) {
     }
 }
 
-/// No energy line, or a second one with either energy, at any place: 1.
+/// No energy line, or a second one with any energy, at any place: 1.
 fn drop_or_add_energy(random: &mut Random, words: &mut Words) {
     if random.one_in(2) {
         words.energy.pop();
     } else {
-        let mut line = EnergyLine::of(random.pick(&["edge", "flat"]));
+        let mut line = EnergyLine::of(random.pick(&["edge", "flat", "forward"]));
         let any = random.below(PLACES);
         line.place = random.pick(&[line.place, any]);
         words.energy.push(line);
@@ -296,7 +300,7 @@ mod tests {
     }
 
     /// Forms that the specification names, and others that break it.
-    const NAMED: [&str; 26] = [
+    const NAMED: [&str; 28] = [
         "(row)",
         "(row )",
         "(row ())",
@@ -321,6 +325,8 @@ mod tests {
         // The energy line doubled, after the map, after all lines, and missing.
         "(energy flat)\n(energy edge)",
         "(energy edge)\n(energy edge)",
+        "(energy forward)\n(energy flat)",
+        "(energy forward)\n(energy forward)",
         "(energy edge)\n)\n",
         "\n)\n(energy flat)\n",
         "(range 0 0)\n(row ",

@@ -220,7 +220,7 @@ pub fn row_at(
 #[cfg(test)]
 mod tests {
     use super::*;
-    use crate::methods::{EDGE, FLAT};
+    use crate::methods::{EDGE, FLAT, FORWARD};
 
     const SIZE: NamedSize = NamedSize {
         width: 3,
@@ -235,10 +235,16 @@ mod tests {
         (row 10 10 40)\n(row 10 50 40)\n(map 1 0 2)\n(map 1 0 2)\n)\n";
     const FLAT_FILE: &[u8] = b"(multi\n(size 3 2 grey)\n(range 2 1)\n(energy flat)\n\
         (row 10 10 40)\n(row 10 50 40)\n(map 2 0 1)\n(map 0 2 1)\n)\n";
+    const FORWARD_FILE: &[u8] = b"(multi\n(size 3 2 grey)\n(range 2 1)\n(energy forward)\n\
+        (row 10 10 40)\n(row 10 50 40)\n(map 1 2 0)\n(map 2 1 0)\n)\n";
 
     #[test]
     fn files_of_the_worked_picture() {
-        for (method, file) in [(EDGE, EDGE_FILE), (FLAT, FLAT_FILE)] {
+        for (method, file) in [
+            (EDGE, EDGE_FILE),
+            (FLAT, FLAT_FILE),
+            (FORWARD, FORWARD_FILE),
+        ] {
             let mut picture = [10, 10, 40, 10, 50, 40];
             let (mut out, mut work) = ([9; 120], [9; 200]);
             let method = NamedMethod::of(method);
@@ -249,7 +255,7 @@ mod tests {
             let deeper = Range { depth: 3, ..RANGE };
             let mut call = |method| build(&mut picture, SIZE, method, deeper, &mut out, &mut work);
             assert_eq!(call(method), Answer::refused(6));
-            assert_eq!(call(NamedMethod { energy: 2 }), Answer::refused(1));
+            assert_eq!(call(NamedMethod { energy: 3 }), Answer::refused(1));
         }
     }
 
@@ -258,6 +264,7 @@ mod tests {
         for (method, file, numbers) in [
             (EDGE, EDGE_FILE, [1, 0, 2, 1, 0, 2, 9]),
             (FLAT, FLAT_FILE, [2, 0, 1, 0, 2, 1, 9]),
+            (FORWARD, FORWARD_FILE, [1, 2, 0, 2, 1, 0, 9]),
         ] {
             let (mut file, mut work) = (file.to_vec(), [9; 200]);
             let served = FileAnswer::served(SIZE, NamedMethod::of(method), RANGE);
@@ -273,15 +280,19 @@ mod tests {
         }
     }
 
-    /// With the other word a file has the map of the other energy.
+    /// With another word a file has the map of another energy.
     #[test]
-    fn worked_files_with_the_other_word() {
-        for (file, word) in [(EDGE_FILE, b"flat"), (FLAT_FILE, b"edge")] {
-            let mut file = file.to_vec();
-            let place = file.windows(7).position(|part| part == b"energy ");
-            let start = place.unwrap() + 7;
-            file[start..start + 4].copy_from_slice(word);
-            assert_eq!(check(&mut file, &mut [9; 200]), FileAnswer::refused(11));
+    fn worked_files_with_another_word() {
+        for file in [EDGE_FILE, FLAT_FILE, FORWARD_FILE] {
+            let text = str::from_utf8(file).unwrap();
+            let (head, rest) = text.split_once("(energy ").unwrap();
+            let (own, rest) = rest.split_once(')').unwrap();
+            for word in ["edge", "flat", "forward"] {
+                let text = format!("{head}(energy {word}){rest}");
+                let answer = check(&mut text.into_bytes(), &mut [9; 200]);
+                let expected = if word == own { 0 } else { 11 };
+                assert_eq!(answer.number, expected, "{own} as {word}");
+            }
         }
     }
 
@@ -290,6 +301,7 @@ mod tests {
         for (file, shown) in [
             (EDGE_FILE, [10, 10, 10, 40, 10, 30, 50, 40, 9]),
             (FLAT_FILE, [10, 10, 25, 40, 10, 50, 45, 40, 9]),
+            (FORWARD_FILE, [10, 10, 10, 40, 10, 50, 45, 40, 9]),
         ] {
             let (mut file, mut out, mut work) = (file.to_vec(), [9; 9], [9; 200]);
             let answer = show(&mut file, 4, &mut out, &mut work);

@@ -95,7 +95,8 @@ mod tests {
     };
     const EDGE: NamedMethod = NamedMethod { energy: 0 };
     const FLAT: NamedMethod = NamedMethod { energy: 1 };
-    const UNKNOWN: NamedMethod = NamedMethod { energy: 2 };
+    const FORWARD: NamedMethod = NamedMethod { energy: 2 };
+    const UNKNOWN: NamedMethod = NamedMethod { energy: 3 };
 
     #[test]
     fn removal_from_the_worked_picture() {
@@ -114,12 +115,13 @@ mod tests {
     }
 
     /// By `edge` columns 0, 0 take the mark at cost 0 + 40, by `flat` columns 0, 1
-    /// at 0 + 10.
+    /// at 0 + 10, by `forward` the same at 0 + 30.
     #[test]
-    fn removal_by_either_energy() {
+    fn removal_by_each_energy() {
         for (method, left) in [
             (EDGE, [10, 40, 50, 40, 0, 0]),
             (FLAT, [10, 40, 10, 40, 0, 0]),
+            (FORWARD, [10, 40, 10, 40, 0, 0]),
         ] {
             let mut picture = [10, 10, 40, 10, 50, 40];
             let mut marks = [2, 0, 0, 0, 0, 0];

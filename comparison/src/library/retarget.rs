@@ -59,7 +59,8 @@ mod tests {
     };
     const EDGE: NamedMethod = NamedMethod { energy: 0 };
     const FLAT: NamedMethod = NamedMethod { energy: 1 };
-    const UNKNOWN: NamedMethod = NamedMethod { energy: 2 };
+    const FORWARD: NamedMethod = NamedMethod { energy: 2 };
+    const UNKNOWN: NamedMethod = NamedMethod { energy: 3 };
 
     /// What is answered of the worked picture, and the output space and the work
     /// space after it.
@@ -78,6 +79,8 @@ mod tests {
         assert_eq!(given(EDGE, 1, 1), served(60, [10, 40, 9, 9, 9]));
         assert_eq!(given(FLAT, 0, 2), served(0, [10, 10, 9, 9, 9]));
         assert_eq!(given(FLAT, 1, 1), served(0, [10, 10, 9, 9, 9]));
+        assert_eq!(given(FORWARD, 0, 2), served(30 + 60, [40, 40, 9, 9, 9]));
+        assert_eq!(given(FORWARD, 1, 1), served(30, [10, 40, 9, 9, 9]));
         let refused = |number| (Answer::refused(number), [9; 5], [9; 600]);
         assert_eq!(given(EDGE, 2, 0), refused(7));
         assert_eq!(given(EDGE, 0, 0), refused(8));

@@ -7,8 +7,8 @@ use crate::random::Random;
 
 pub fn compare(random: &mut Random, turn: u64) -> Result<u64, Difference> {
     let case = Case::of_turn(random, turn, |size| size.width);
-    let reference = case.outcome(|picture, out| by_reference(&case, picture, out));
-    let library = case.outcome(|picture, out| by_library(&case, picture, out));
+    let reference = case.outcome(|picture, [out]| by_reference(&case, picture, out));
+    let library = case.outcome(|picture, [out]| by_library(&case, picture, out));
     case.verdict(&reference, &library)
 }
 

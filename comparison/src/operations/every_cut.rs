@@ -151,7 +151,7 @@ fn cut_from(bytes: &[u8], size: Size, method: Method, axis: Axis, total: u64) ->
 #[cfg(test)]
 mod tests {
     use super::*;
-    use crate::methods::{EDGE, FLAT};
+    use crate::methods::{EDGE, FLAT, FORWARD};
     use crate::spaces::Lent;
 
     #[test]
@@ -207,5 +207,8 @@ mod tests {
         assert_eq!(cell(&picture, size, FLAT, 0, 2), (vec![10, 10], 0));
         // Columns first: 10 10 / 10 50 is left, then rows 0, 1.
         assert_eq!(cell(&picture, size, FLAT, 1, 1), (vec![10, 10], 0));
+        assert_eq!(cell(&picture, size, FORWARD, 0, 2), (vec![40, 40], 30 + 60));
+        // Columns first: 10 40 / 10 40 is left, then either row at 0.
+        assert_eq!(cell(&picture, size, FORWARD, 1, 1), (vec![10, 40], 30));
     }
 }

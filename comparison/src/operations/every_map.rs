@@ -47,7 +47,7 @@ pub fn compare_show(random: &mut Random, turn: u64) -> Result<u64, Difference> {
 }
 
 /// A file whose map was made from all paths, by the energy that it names or by
-/// the other, and whether it is the map of its own energy.
+/// another, and whether it is the map of its own energy.
 fn file(random: &mut Random, size: Size) -> (Parts, bool) {
     let range = ranges::allowed(random, size, usize::MAX);
     let samples = samples(random, size);
@@ -128,7 +128,7 @@ fn by_paths(bytes: &[u8], size: Size, method: Method) -> (Vec<usize>, Vec<u8>) {
 #[cfg(test)]
 mod tests {
     use super::*;
-    use crate::methods::{EDGE, FLAT, METHODS};
+    use crate::methods::{EDGE, FLAT, FORWARD, METHODS};
     use crate::pictures::ROUND;
     use reference::Kind;
 
@@ -142,11 +142,14 @@ mod tests {
         let picture = [10, 10, 40, 10, 50, 40];
         assert_eq!(map(&picture, size, EDGE, 2), [[1, 0, 2], [1, 0, 2]]);
         assert_eq!(map(&picture, size, FLAT, 2), [[2, 0, 1], [0, 2, 1]]);
+        assert_eq!(map(&picture, size, FORWARD, 2), [[1, 2, 0], [2, 1, 0]]);
         let left = |method, count| carved(&picture, size, method, count, by_paths).0;
         assert_eq!(left(EDGE, 1), [10, 40, 50, 40]);
         assert_eq!(left(EDGE, 2), [10, 50]);
         assert_eq!(left(FLAT, 1), [10, 10, 10, 50]);
         assert_eq!(left(FLAT, 2), [10, 10]);
+        assert_eq!(left(FORWARD, 1), [10, 40, 10, 40]);
+        assert_eq!(left(FORWARD, 2), [40, 40]);
         let wide = Size { height: 1, ..size };
         for method in METHODS {
             assert_eq!(map(&[9; 3], wide, method, 2), [[1, 2, 0]]);
@@ -155,7 +158,7 @@ mod tests {
 
     /// The reference accepts a file exactly where its map is that of its energy.
     #[test]
-    fn files_have_the_map_of_either_energy() {
+    fn files_have_the_map_of_any_energy() {
         let mut counts = [0; 2];
         for turn in 0..2 * ROUND {
             let (parts, is_own) = file(&mut Random::of_case(1, turn), shape(turn));

@@ -24,6 +24,7 @@ mod row_at;
 mod seams;
 mod show;
 mod sides;
+mod step_costs;
 
 use crate::difference::Difference;
 use crate::random::Random;
@@ -43,7 +44,7 @@ fn work_bytes(size: Size) -> usize {
     32 * size.width * size.height
 }
 
-pub const OPERATIONS: [Operation; 23] = [
+pub const OPERATIONS: [Operation; 24] = [
     Operation {
         name: "row",
         compare: row::compare,
@@ -51,6 +52,10 @@ pub const OPERATIONS: [Operation; 23] = [
     Operation {
         name: "energies",
         compare: energies::compare,
+    },
+    Operation {
+        name: "step_costs",
+        compare: step_costs::compare,
     },
     Operation {
         name: "find",
@@ -151,6 +156,7 @@ mod tests {
     const ANSWERED: [Answered; OPERATIONS.len()] = [
         ("row", 0..4 * ROUND, &[0, 1, 8]),
         ("energies", 0..4 * ROUND, &[0, 1, 2, 3, 4, 8]),
+        ("step_costs", 0..4 * ROUND, &[0, 1, 2, 3, 4, 8]),
         ("find", 2 * ROUND..8 * ROUND, &[0, 1, 2, 3, 4, 8]),
         ("cut", 2 * ROUND..8 * ROUND, &[0, 1, 2, 3, 4, 8, 13]),
         (

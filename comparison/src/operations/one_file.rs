@@ -251,9 +251,9 @@ mod tests {
     }
 
     #[test]
-    fn files_name_both_energies() {
+    fn files_name_all_energies() {
         let texts = texts();
-        for word in ["edge", "flat"] {
+        for word in ["edge", "flat", "forward"] {
             let line = format!("\n(energy {word})\n(row ");
             let accepted = |text: &&String| text.contains(&line) && number(text.as_bytes()) == 0;
             let count = texts.iter().filter(accepted).count();

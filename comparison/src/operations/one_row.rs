@@ -12,55 +12,63 @@ use reference::Size;
 /// One round in so many has the largest pictures.
 const RARITY: u64 = 4;
 
-/// What an operation on one row is given. The method is for its energies alone.
-pub struct Case<T> {
+/// What an operation on one row is given, with a space or several for what it
+/// answers. The method is for its energies and its steps alone.
+pub struct Case<T, const SPACES: usize = 1> {
     pub size: NamedSize,
     pub method: NamedMethod,
     pub picture: Lent<u8>,
     pub row: usize,
-    pub out: Lent<T>,
+    pub outs: [Lent<T>; SPACES],
 }
 
 /// What one side answered, and the buffers after it.
 #[derive(Clone, PartialEq)]
-pub struct Outcome<T> {
+pub struct Outcome<T, const SPACES: usize = 1> {
     pub answer: Answer,
     pub picture: Lent<u8>,
-    pub out: Lent<T>,
+    pub outs: [Lent<T>; SPACES],
 }
 
-impl<T: Place> Case<T> {
-    /// The case of a turn; `needed` gives the length of the answer.
-    pub fn of_turn(random: &mut Random, turn: u64, needed: fn(Size) -> usize) -> Case<T> {
+impl<T: Place, const SPACES: usize> Case<T, SPACES> {
+    /// The case of a turn; `needed` gives the length of the answer in each space.
+    pub fn of_turn(random: &mut Random, turn: u64, needed: fn(Size) -> usize) -> Self {
         let (size, faults) = pictures::start(random, turn, RARITY);
         Case::from_size(random, size, faults, needed(size))
     }
 
-    fn from_size(random: &mut Random, size: Size, faults: Faults, needed: usize) -> Case<T> {
+    fn from_size(random: &mut Random, size: Size, faults: Faults, needed: usize) -> Self {
         let named = pictures::named_size(random, size, faults);
         Case {
             size: named,
             method: named_method(random, faults),
             picture: pictures::picture(random, size, named, faults),
             row: pictures::row_number(random, size.height, faults),
-            out: space(random, needed, faults),
+            outs: [(); SPACES].map(|_| space(random, needed, faults)),
         }
     }
 
     /// The outcome of a call that is given copies of the lent buffers.
-    pub fn outcome(&self, call: impl FnOnce(&mut [u8], &mut [T]) -> Answer) -> Outcome<T> {
+    pub fn outcome(
+        &self,
+        call: impl FnOnce(&mut [u8], [&mut [T]; SPACES]) -> Answer,
+    ) -> Outcome<T, SPACES> {
         let mut picture = self.picture.clone();
-        let mut out = self.out.clone();
-        let answer = call(picture.part_mut(), out.part_mut());
+        let mut outs = self.outs.clone();
+        let answer = call(picture.part_mut(), outs.each_mut().map(Lent::part_mut));
         Outcome {
             answer,
             picture,
-            out,
+            outs,
         }
     }
 
     /// The number that both sides answered, or the difference.
-    pub fn verdict(&self, reference: &Outcome<T>, library: &Outcome<T>) -> Result<u64, Difference> {
+    pub fn verdict(
+        &self,
+        reference: &Outcome<T, SPACES>,
+        library: &Outcome<T, SPACES>,
+    ) -> Result<u64, Difference> {
         if reference == library {
             Ok(reference.answer.number)
         } else {
@@ -68,7 +76,11 @@ impl<T: Place> Case<T> {
         }
     }
 
-    fn difference(&self, reference: &Outcome<T>, library: &Outcome<T>) -> Difference {
+    fn difference(
+        &self,
+        reference: &Outcome<T, SPACES>,
+        library: &Outcome<T, SPACES>,
+    ) -> Difference {
         let sides = [("reference", reference), ("library", library)];
         let mut difference = Difference::new();
         difference.value("size", self.size);
@@ -83,11 +95,13 @@ impl<T: Place> Case<T> {
         };
         let row_bytes = self.size.known().map_or(0, row_bytes);
         difference.buffer("picture", row_bytes, picture);
-        let out = Forms {
-            lent: &self.out,
-            left: sides.map(|(side, outcome)| (side, &outcome.out)),
-        };
-        difference.buffer("out", 0, out);
+        for (place, lent) in self.outs.iter().enumerate() {
+            let out = Forms {
+                lent,
+                left: sides.map(|(side, outcome)| (side, &outcome.outs[place])),
+            };
+            difference.buffer(&format!("space {}", place + 1), 0, out);
+        }
         difference
     }
 }
@@ -99,7 +113,7 @@ mod tests {
 
     /// How many of 2, 3, 4, 8 and an unknown kind or method would refuse the case
     /// if each was judged alone.
-    fn faults(case: &Case<u32>, width: usize) -> usize {
+    fn faults<const SPACES: usize>(case: &Case<u32, SPACES>, width: usize) -> usize {
         let NamedSize {
             width: m,
             height: n,
@@ -112,7 +126,7 @@ mod tests {
             m == 0 || n == 0,
             m > 512 || n > 512,
             case.row >= n || !(allowed && case.size.known().is_some_and(length)),
-            case.out.part().len() < width,
+            case.outs.iter().any(|out| out.part().len() < width),
         ];
         faults.iter().filter(|fault| **fault).count()
     }
@@ -124,7 +138,7 @@ mod tests {
         for turn in 0..count as u64 {
             let mut random = Random::of_case(1, turn);
             let (size, strikes) = pictures::start(&mut random, turn, RARITY);
-            let case = Case::from_size(&mut random, size, strikes, size.width);
+            let case: Case<u32> = Case::from_size(&mut random, size, strikes, size.width);
             counts[faults(&case, size.width)] += 1;
         }
         assert!(counts[0] > count * 6 / 10, "{counts:?}");
@@ -134,7 +148,7 @@ mod tests {
 
     /// A sound case whose library outcome is altered.
     fn noticed(alter: fn(&mut Outcome<u32>)) -> bool {
-        let case = Case::of_turn(&mut Random::new(1), 70, |size| size.width);
+        let case: Case<u32> = Case::of_turn(&mut Random::new(1), 70, |size| size.width);
         let outcome = case.outcome(|_, _| Answer::served(0));
         assert!(case.verdict(&outcome, &outcome).is_ok());
         let mut altered = outcome.clone();
@@ -147,8 +161,7 @@ mod tests {
         assert!(noticed(|outcome| outcome.answer.number = 8));
         assert!(noticed(|outcome| outcome.answer.value = 1));
         assert!(noticed(|outcome| outcome.picture.part_mut()[0] ^= 1));
-        assert!(noticed(|outcome| *outcome
-            .out
+        assert!(noticed(|outcome| *outcome.outs[0]
             .part_mut()
             .last_mut()
             .unwrap() ^= 1));

@@ -340,7 +340,7 @@ mod tests {
     /// Ties whose ways lead to different pictures are told apart, by each method.
     #[test]
     fn ties_between_the_ways_abound_and_each_way_is_taken() {
-        let mut counts = [[0; 3]; 2];
+        let mut counts = [[0; 3]; 3];
         for turn in (ROUND..5 * ROUND).filter(|turn| turn % ROUND < 72) {
             let case = Case::of_turn(&mut Random::of_case(1, turn), turn);
             if case.rows.0 == 0 || case.columns.0 == 0 {

@@ -10,8 +10,8 @@ use crate::random::Random;
 
 pub fn compare(random: &mut Random, turn: u64) -> Result<u64, Difference> {
     let case = Case::of_turn(random, turn, row_bytes);
-    let reference = case.outcome(|picture, out| by_reference(&case, picture, out));
-    let library = case.outcome(|picture, out| library::row(picture, case.size, case.row, out));
+    let reference = case.outcome(|picture, [out]| by_reference(&case, picture, out));
+    let library = case.outcome(|picture, [out]| library::row(picture, case.size, case.row, out));
     case.verdict(&reference, &library)
 }
 

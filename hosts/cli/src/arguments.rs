@@ -4,7 +4,7 @@ mod files;
 mod pictures;
 
 use crate::command::Command;
-use crate::failure::Failure;
+use crate::failure::{any_of, Failure};
 use crate::inputs::Input;
 use crate::outputs::Output;
 use crate::words::Words;
@@ -66,8 +66,11 @@ fn energy(words: &mut Words) -> Result<Energy, Failure> {
         return Ok(Energy::default());
     };
     let word = word.to_string_lossy();
-    let known: Vec<&str> = Energy::ALL.iter().map(|energy| energy.word()).collect();
-    let text = || format!("--energy can be {}, not {word}", known.join(" or "));
+    let known: Vec<String> = Energy::ALL
+        .iter()
+        .map(|energy| energy.word().into())
+        .collect();
+    let text = || format!("--energy can be {}, not {word}", any_of(&known));
     Energy::named(&word).ok_or_else(|| Failure::Usage(text()))
 }
 

@@ -43,6 +43,14 @@ impl Failure {
     }
 }
 
+/// These with commas between them, and `or` ahead of the last.
+pub fn any_of(names: &[String]) -> String {
+    match names {
+        [others @ .., last] if !others.is_empty() => format!("{} or {last}", others.join(", ")),
+        _ => names.concat(),
+    }
+}
+
 impl fmt::Display for Failure {
     fn fmt(&self, f: &mut fmt::Formatter) -> fmt::Result {
         match self {

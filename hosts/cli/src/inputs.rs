@@ -1,6 +1,6 @@
 //! Where bytes come from: files and standard input.
 
-use crate::failure::Failure;
+use crate::failure::{any_of, Failure};
 use crate::formats;
 use multisize::{netpbm, png, Energy, Head, Picture, Refusal, Size, LARGEST_SIDE, LONGEST_FILE};
 use std::ffi::OsString;
@@ -206,13 +206,13 @@ fn about_energy(text: &[u8]) -> Option<String> {
     let line = lines.next().filter(|_| headed)?;
     let energies = Energy::ALL.iter().map(|energy| energy.word());
     let energies: Vec<String> = energies.map(|word| format!("(energy {word})")).collect();
-    let either = energies.join(" or ");
+    let known = any_of(&energies);
     if line.starts_with(b"(row") {
         let which = "whichever it is accepted with (docs/FILE.md says more)";
-        let advice = format!("put {either} after its range line, {which}");
+        let advice = format!("put {known} after its range line, {which}");
         return Some(format!("its energy line is missing: {advice}"));
     }
     let named = line.strip_prefix(b"(energy ")?.strip_suffix(b")")?;
-    let known = Energy::named(&String::from_utf8_lossy(named));
-    Some(format!("its energy line isn't {either}")).filter(|_| known.is_none())
+    let energy = Energy::named(&String::from_utf8_lossy(named));
+    Some(format!("its energy line isn't {known}")).filter(|_| energy.is_none())
 }

@@ -63,6 +63,35 @@ pub fn energies(
     judged(number)
 }
 
+/// What coming to each pixel of a row costs from the left, from above and from the
+/// right, at the fronts of three spaces.
+pub fn step_costs(
+    picture: &[u8],
+    size: Size,
+    method: Method,
+    row: usize,
+    [left, up, right]: [&mut [u32]; 3],
+) -> Result<(), Refusal> {
+    // SAFETY: each pointer comes with the length of its slice, which stays lent
+    // until the call ends.
+    let number = unsafe {
+        declared::multisize_step_costs(
+            picture.as_ptr(),
+            picture.len(),
+            host_size(size),
+            host_method(method),
+            row,
+            left.as_mut_ptr(),
+            left.len(),
+            up.as_mut_ptr(),
+            up.len(),
+            right.as_mut_ptr(),
+            right.len(),
+        )
+    };
+    judged(number)
+}
+
 /// A row copied to the front of `out`; gives its length.
 pub fn row(picture: &[u8], size: Size, row: usize, out: &mut [u8]) -> Result<usize, Refusal> {
     // SAFETY: both pointers come with the lengths of their slices, which stay
@@ -97,6 +126,12 @@ mod tests {
         let method = Method::default();
         let given = energies(&PICTURE, SIZE, method, 0, &mut [0; 2]);
         assert_eq!(given, Err(Refusal::Space));
+        for lengths in [[2, 3, 3], [3, 2, 3], [3, 3, 2]] {
+            let mut spaces = lengths.map(|length| vec![9; length]);
+            let parts = spaces.each_mut().map(|space| space.as_mut_slice());
+            let given = step_costs(&PICTURE, SIZE, method, 0, parts);
+            assert_eq!((given, spaces.concat()), (Err(Refusal::Space), vec![9; 8]));
+        }
         assert_eq!(row(&PICTURE, SIZE, 0, &mut [0; 2]), Err(Refusal::Space));
         let given = row_at(&PICTURE[..3], Kind::Grey, &[1, 0, 2], 4, &mut [0; 3]);
         assert_eq!(given, Err(Refusal::Space));

@@ -5,6 +5,19 @@ use crate::method::Method;
 use crate::picture::{Picture, Size};
 use crate::refusal::Refusal;
 
+/// What coming to each pixel of a row costs a vertical seam, by where it comes from. By
+/// [`Energy::Edge`](crate::Energy::Edge) and [`Energy::Flat`](crate::Energy::Flat) all
+/// three are the pixel's energy, by [`Energy::Forward`](crate::Energy::Forward) in row 0.
+#[derive(Clone, Debug, PartialEq, Eq)]
+pub struct StepCosts {
+    /// From the column to its left in the row above.
+    pub left: Vec<u32>,
+    /// From straight above.
+    pub up: Vec<u32>,
+    /// From the column to its right in the row above.
+    pub right: Vec<u32>,
+}
+
 /// Has the operations that find seams: by its [`Method`], and with work space that
 /// it keeps from one call to the next. The space grows to the largest that was
 /// needed: 32 bytes a pixel, and 66 pictures more for a retarget.
@@ -67,8 +80,10 @@ impl Carver {
         self.method
     }
 
-    /// The energies of the pixels of row `r`, counted from 0, by the carver's method:
-    /// those that the cost of a seam is the sum of.
+    /// The energies of the pixels of row `r`, counted from 0, by the carver's method. By
+    /// [`Energy::Edge`](crate::Energy::Edge) and [`Energy::Flat`](crate::Energy::Flat) the
+    /// cost of a seam is the sum of these; by [`Energy::Forward`](crate::Energy::Forward)
+    /// they are what a pixel costs that the seam comes to from straight above.
     ///
     /// # Errors
     ///
@@ -88,6 +103,33 @@ impl Carver {
         let mut energies = vec![0; size.width];
         archive::energies(picture.samples(), size, self.method, r, &mut energies)?;
         Ok(energies)
+    }
+
+    /// What coming to each pixel of row `r`, counted from 0, costs a vertical seam by the
+    /// carver's method. The cost of a seam is the sum of its steps; in row 0, where it
+    /// begins, of what the pixel costs from straight above.
+    ///
+    /// # Errors
+    ///
+    /// Refused by 3 for a picture wider than [`LARGEST_SIDE`](crate::LARGEST_SIDE), and by 4 where there is no
+    /// such row.
+    ///
+    /// ```
+    /// use multisize::{Carver, Energy, Picture, Size};
+    ///
+    /// let picture = Picture::new(Size::grey(3, 2), vec![10, 10, 40, 10, 50, 40])?;
+    /// let costs = Carver::by(Energy::Forward).step_costs(&picture, 1)?;
+    /// assert_eq!(costs.left, [40, 30, 20]);
+    /// assert_eq!(costs.up, [40, 30, 10]);
+    /// assert_eq!(costs.right, [80, 60, 10]);
+    /// # Ok::<(), multisize::Refusal>(())
+    /// ```
+    pub fn step_costs(&self, picture: &Picture, r: usize) -> Result<StepCosts, Refusal> {
+        let size = picture.size();
+        let [mut left, mut up, mut right] = [(); 3].map(|_| vec![0; size.width]);
+        let spaces: [&mut [u32]; 3] = [&mut left, &mut up, &mut right];
+        archive::step_costs(picture.samples(), size, self.method, r, spaces)?;
+        Ok(StepCosts { left, up, right })
     }
 
     /// Work space of `bytes` bytes. An operation clears all that it is lent, so it

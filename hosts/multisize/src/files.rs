@@ -127,7 +127,7 @@ impl Contents {
 /// sides of [`LARGEST_SIDE`] can't exceed.
 pub const LONGEST_FILE: usize = longest_file(Size::rgb(LARGEST_SIDE, LARGEST_SIDE));
 
-/// No file of a picture of this size is longer: the lines that each file has take 59
+/// No file of a picture of this size is longer: the lines that each file has take 62
 /// bytes at most, a row line and a map line 6 each, a number with its blank 4, an rgb
 /// pixel two brackets more.
 const fn longest_file(size: Size) -> usize {
@@ -135,7 +135,7 @@ const fn longest_file(size: Size) -> usize {
         Kind::Grey => 4,
         Kind::Rgb => 14,
     };
-    59 + size.pixels() * (pixel + 4) + size.height * 12
+    62 + size.pixels() * (pixel + 4) + size.height * 12
 }
 
 /// No file of this length that has its form and counts needs more work space: a

@@ -31,7 +31,7 @@ mod refusal;
 mod retargets;
 mod seams;
 
-pub use carver::Carver;
+pub use carver::{Carver, StepCosts};
 pub use files::{Contents, Head, Range, LONGEST_FILE};
 pub use method::{Energy, Method};
 pub use objects::{Ending, PLAIN, PROTECTED, REMOVE};

@@ -1,8 +1,9 @@
 //! The method that seams are found by.
 
-/// How a pixel's energy is worked out: the differences to its right and to its lower
-/// neighbour, the channels added. What is taken where there is none is the rule's own.
-/// Further rules may follow.
+/// What a pixel costs the seam that takes it. By `Edge` and `Flat` it is the pixel's
+/// energy: the differences to its right and to its lower neighbour, the channels added;
+/// what is taken where there is none is the rule's own. By `Forward` it is what is added
+/// to the picture where the pixel is taken out. Further rules may follow.
 #[derive(Clone, Copy, Debug, Default, PartialEq, Eq, Hash)]
 #[non_exhaustive]
 pub enum Energy {
@@ -13,11 +14,16 @@ pub enum Energy {
     /// In the last column the first difference is 0, in the last row the second. So the
     /// right and the bottom edge are lost first.
     Flat,
+    /// The differences of the pixels that come to stand beside each other: the left and
+    /// the right neighbour; and where the seam comes from a side, also the pixel above
+    /// and the neighbour on that side. [`Carver::step_costs`](crate::Carver::step_costs)
+    /// gives the three costs of each pixel.
+    Forward,
 }
 
 impl Energy {
     /// All of them.
-    pub const ALL: &'static [Energy] = &[Energy::Edge, Energy::Flat];
+    pub const ALL: &'static [Energy] = &[Energy::Edge, Energy::Flat, Energy::Forward];
 
     /// The word that names it in a file.
     ///
@@ -28,6 +34,7 @@ impl Energy {
         match self {
             Energy::Edge => "edge",
             Energy::Flat => "flat",
+            Energy::Forward => "forward",
         }
     }
 
@@ -58,7 +65,7 @@ impl Energy {
 #[derive(Clone, Copy, Debug, Default, PartialEq, Eq, Hash)]
 #[non_exhaustive]
 pub struct Method {
-    /// How a pixel's energy is worked out.
+    /// What a pixel costs.
     pub energy: Energy,
 }
 

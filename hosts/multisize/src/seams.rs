@@ -45,7 +45,8 @@ pub struct Seam {
     /// Its column in each row from the top, or its row in each column from the
     /// left.
     pub places: Vec<u16>,
-    /// The sum of its energies.
+    /// The sum of what its steps cost, by [`Energy::Edge`](crate::Energy::Edge) and
+    /// [`Energy::Flat`](crate::Energy::Flat) the sum of its energies.
     pub cost: u64,
 }
 

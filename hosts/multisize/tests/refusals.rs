@@ -49,6 +49,10 @@ fn an_energy_line_out_of_form_is_refused_by_1() {
         [size, range, "(energy Edge)\n"],
         [size, range, "(energy edges)\n"],
         [size, range, "(energy edge flat)\n"],
+        [size, range, "(energy forward edge)\n"],
+        [size, range, "(energy forwards)\n"],
+        [size, range, "(energy forwar)\n"],
+        [size, range, "(energy forward)\n(energy flat)\n"],
         [size, range, "(energy (edge))\n"],
         [size, range, "(energy  edge)\n"],
         [size, range, "(energy edge )\n"],
@@ -145,7 +149,7 @@ fn refused_by_9_to_11() {
     assert_eq!(numbered(["2 0 1", "0 2 1"]), Err(Refusal::Other));
 }
 
-/// The map of one energy is refused in a file that names the other.
+/// The map of one energy is refused in a file that names another.
 #[test]
 fn a_file_is_judged_by_the_energy_that_it_names() {
     let judged = |word: &str, maps| {
@@ -158,6 +162,14 @@ fn a_file_is_judged_by_the_energy_that_it_names() {
     assert_eq!(judged("edge", flat), Err(Refusal::Other));
     assert_eq!(judged("flat", MAPS), Err(Refusal::Other));
     assert_eq!(judged("flat", ["1 0 2", "0 2 1"]), Err(Refusal::Broken));
+    let forward = ["1 2 0", "2 1 0"];
+    assert_eq!(judged("forward", forward), Ok(Energy::Forward));
+    for word in ["edge", "flat"] {
+        assert_eq!(judged(word, forward), Err(Refusal::Other));
+    }
+    for maps in [MAPS, flat] {
+        assert_eq!(judged("forward", maps), Err(Refusal::Other));
+    }
 }
 
 #[test]

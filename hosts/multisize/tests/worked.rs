@@ -8,6 +8,8 @@ const FILE: &str = "(multi\n(size 3 2 grey)\n(range 2 1)\n(energy edge)\n\
     (row 10 10 40)\n(row 10 50 40)\n(map 1 0 2)\n(map 1 0 2)\n)\n";
 const FLAT_FILE: &str = "(multi\n(size 3 2 grey)\n(range 2 1)\n(energy flat)\n\
     (row 10 10 40)\n(row 10 50 40)\n(map 2 0 1)\n(map 0 2 1)\n)\n";
+const FORWARD_FILE: &str = "(multi\n(size 3 2 grey)\n(range 2 1)\n(energy forward)\n\
+    (row 10 10 40)\n(row 10 50 40)\n(map 1 2 0)\n(map 2 1 0)\n)\n";
 
 fn worked() -> Picture {
     Picture::new(Size::grey(3, 2), vec![10, 10, 40, 10, 50, 40]).unwrap()
@@ -48,7 +50,7 @@ fn energies_have_words() {
     for energy in Energy::ALL {
         assert_eq!(Energy::named(energy.word()), Some(*energy));
     }
-    for wrong in ["", "Flat", "flat ", "steep"] {
+    for wrong in ["", "Flat", "flat ", "steep", "forwards", "for"] {
         assert_eq!(Energy::named(wrong), None);
     }
 }
@@ -79,6 +81,40 @@ fn seams_found_and_cut_by_flat() {
     let second = carver.cut(&mut picture, Axis::Vertical).unwrap();
     assert_eq!((second.places, second.cost), (vec![0, 1], 0));
     assert_eq!(picture.samples(), [10, 10]);
+}
+
+#[test]
+fn seams_found_and_cut_by_forward() {
+    let (mut picture, mut carver) = (worked(), Carver::by(Energy::Forward));
+    assert_eq!(carver.energies(&picture, 0), Ok(vec![0, 30, 30]));
+    assert_eq!(carver.energies(&picture, 1), Ok(vec![40, 30, 10]));
+    let found = carver.find(&picture, Axis::Vertical).unwrap();
+    let first = carver.cut(&mut picture, Axis::Vertical).unwrap();
+    assert_eq!(found, first);
+    assert_eq!((first.places, first.cost), (vec![0, 1], 30));
+    assert_eq!(picture.samples(), [10, 40, 10, 40]);
+    let second = carver.cut(&mut picture, Axis::Vertical).unwrap();
+    assert_eq!((second.places, second.cost), (vec![0, 0], 60));
+    assert_eq!(picture.samples(), [40, 40]);
+}
+
+/// In row 0 all three are alike, and by the other energies in every row.
+#[test]
+fn steps_cost_by_where_they_come_from() {
+    let picture = worked();
+    for energy in Energy::ALL {
+        let carver = Carver::by(*energy);
+        for row in 0..2 {
+            let costs = carver.step_costs(&picture, row).unwrap();
+            assert_eq!(Ok(&costs.up), carver.energies(&picture, row).as_ref());
+            let alike = costs.left == costs.up && costs.right == costs.up;
+            assert_eq!(alike, row == 0 || *energy != Energy::Forward);
+        }
+        assert_eq!(carver.step_costs(&picture, 2), Err(Refusal::Length));
+    }
+    let column = Picture::new(Size::grey(1, 2), vec![10, 30]).unwrap();
+    let costs = Carver::by(Energy::Forward).step_costs(&column, 1).unwrap();
+    assert_eq!([costs.left, costs.up, costs.right], [[20], [0], [20]]);
 }
 
 /// Pictures with a line along the right and along the bottom edge, and the axis of the
@@ -145,18 +181,26 @@ fn the_one_column_or_row_has_one_difference() {
 
 #[test]
 fn a_horizontal_seam_is_cut() {
-    for (energy, places, cost) in [(Energy::Edge, [0, 1, 1], 60), (Energy::Flat, [0, 1, 0], 10)] {
+    for (energy, places, cost, left) in [
+        (Energy::Edge, [0, 1, 1], 60, [10, 10, 40]),
+        (Energy::Flat, [0, 1, 0], 10, [10, 10, 40]),
+        (Energy::Forward, [0, 0, 0], 40, [10, 50, 40]),
+    ] {
         let (mut picture, mut carver) = (worked(), Carver::by(energy));
         let seam = carver.cut(&mut picture, Axis::Horizontal).unwrap();
         assert_eq!((seam.places, seam.cost), (places.to_vec(), cost));
         assert_eq!(picture.size(), Size::grey(3, 1));
-        assert_eq!(picture.samples(), [10, 10, 40]);
+        assert_eq!(picture.samples(), left);
     }
 }
 
 #[test]
 fn seams_found_and_cut_by_marks() {
-    for (energy, cost) in [(Energy::Edge, 80), (Energy::Flat, 70)] {
+    for (energy, cost) in [
+        (Energy::Edge, 80),
+        (Energy::Flat, 70),
+        (Energy::Forward, 50),
+    ] {
         let (mut picture, mut carver) = (worked(), Carver::by(energy));
         let mut marks = vec![PLAIN, REMOVE, PROTECTED, PLAIN, PLAIN, PLAIN];
         let found = carver.find_marked(&picture, &marks, Axis::Vertical);
@@ -200,15 +244,32 @@ fn a_retarget_in_both_directions() {
     let by_flat = by_flat.unwrap();
     assert_eq!(by_flat.picture.samples(), [10, 10]);
     assert_eq!(by_flat.total, 0);
+    let forward = Carver::by(Energy::Forward).retarget(&worked(), Rows(1), Columns(1));
+    let forward = forward.unwrap();
+    assert_eq!(forward.picture.samples(), [10, 40]);
+    assert_eq!(forward.total, 30);
 }
 
-/// The one pixel marked goes by either energy. Below it the seam takes column 0 by edge,
-/// where that costs 40 and column 1 costs 50, and column 1 by flat: 40 and 10.
+/// One pixel protected, one to be removed: columns 2, 2 at 30 + 10, where 1, 2 cost
+/// 30 + 20.
+#[test]
+fn a_seam_by_marks_and_forward() {
+    let marks = [PROTECTED, PLAIN, PLAIN, PLAIN, PLAIN, REMOVE];
+    let mut carver = Carver::by(Energy::Forward);
+    let seam = carver.find_marked(&worked(), &marks, Axis::Vertical);
+    let seam = seam.unwrap();
+    assert_eq!((seam.places, seam.cost), (vec![2, 2], 40));
+}
+
+/// The one pixel marked goes by each energy. Below it the seam takes column 0 by edge,
+/// where that costs 40 and column 1 costs 50, and column 1 by flat: 40 and 10, and by
+/// forward: 40 and 30.
 #[test]
 fn a_removal_by_each_energy() {
     for (energy, left) in [
         (Energy::Edge, [10, 40, 50, 40]),
         (Energy::Flat, [10, 40, 10, 40]),
+        (Energy::Forward, [10, 40, 10, 40]),
     ] {
         let (mut picture, mut marks) = (worked(), vec![REMOVE, 0, 0, 0, 0, 0]);
         let ending = Carver::by(energy).remove(&mut picture, &mut marks, 9);
@@ -223,6 +284,7 @@ fn the_file_is_built_checked_and_read() {
     for (energy, text, map) in [
         (Energy::Edge, FILE, [1, 0, 2, 1, 0, 2]),
         (Energy::Flat, FLAT_FILE, [2, 0, 1, 0, 2, 1]),
+        (Energy::Forward, FORWARD_FILE, [1, 2, 0, 2, 1, 0]),
     ] {
         let file = Carver::by(energy).build(&worked(), Range::full(3)).unwrap();
         assert_eq!(file, text.as_bytes());
@@ -239,16 +301,19 @@ fn the_file_is_built_checked_and_read() {
     }
 }
 
-/// Where all samples are equal, every seam costs nothing by either energy: the two files
-/// differ by the word alone.
+/// Where all samples are equal, every seam costs nothing by each energy: the files differ
+/// by the word alone.
 #[test]
-fn files_of_two_energies_differ() {
+fn files_of_several_energies_differ() {
     let range = Range::full(4);
-    let built = |energy| Carver::by(energy).build(&plain(Size::rgb(4, 3)), range);
-    let [edge, flat] = [Energy::Edge, Energy::Flat].map(|energy| built(energy).unwrap());
-    assert_ne!(edge, flat);
-    let edge = String::from_utf8(edge).unwrap();
-    assert_eq!(edge.replace("edge", "flat").as_bytes(), flat);
+    let built = |energy: Energy| {
+        let file = Carver::by(energy).build(&plain(Size::rgb(4, 3)), range);
+        String::from_utf8(file.unwrap()).unwrap()
+    };
+    let edge = built(Energy::Edge);
+    for energy in Energy::ALL {
+        assert_eq!(edge.replace("edge", energy.word()), built(*energy));
+    }
 }
 
 #[test]
@@ -260,6 +325,18 @@ fn the_file_of_flat_is_shown_at_each_width() {
     assert_eq!(shown(3), Ok(worked()));
     let wide = shown(4).unwrap();
     assert_eq!(wide.samples(), [10, 10, 25, 40, 10, 50, 45, 40]);
+    assert_eq!(shown(5), Err(Refusal::Wanted));
+}
+
+#[test]
+fn the_file_of_forward_is_shown_at_each_width() {
+    let mut carver = Carver::new();
+    let mut shown = |width| carver.show(FORWARD_FILE.as_bytes(), width);
+    assert_eq!(shown(1).unwrap().samples(), [40, 40]);
+    assert_eq!(shown(2).unwrap().samples(), [10, 40, 10, 40]);
+    assert_eq!(shown(3), Ok(worked()));
+    let wide = shown(4).unwrap();
+    assert_eq!(wide.samples(), [10, 10, 10, 40, 10, 50, 45, 40]);
     assert_eq!(shown(5), Err(Refusal::Wanted));
 }
 
@@ -310,7 +387,8 @@ fn round(carver: &mut Carver, size: Size, sample: u8) {
 /// pixels for its text, since its seam numbers have one digit.
 #[test]
 fn spaces_are_never_too_short() {
-    let mut carver = Carver::new();
+    // Of the energies its word is the longest.
+    let mut carver = Carver::by(Energy::Forward);
     for side in [1, 2, 3, 9, 10, 11, 100, 512] {
         for size in [Size::grey(side, 1), Size::rgb(side, 1), Size::rgb(1, side)] {
             round(&mut carver, size, 0);

@@ -281,6 +281,7 @@ fn operations_on_files() {
         ("(map 1 0 2)\n(map 1 0 2)", "(map 1 0 2)\n(map 1 2 0)", 11),
         ("(energy edge)\n", "", 1),
         ("(energy edge)", "(energy flat)", 11),
+        ("(energy edge)", "(energy forward)", 11),
     ] {
         let file = EXAMPLE_FILE.replacen(old, new, 1).into_bytes();
         for work in [192, 193, 900] {

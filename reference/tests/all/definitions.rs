@@ -38,9 +38,57 @@ fn apart(picture: &[u8], size: Size, one: (usize, usize), other: (usize, usize))
         .sum()
 }
 
-/// The differences within two pairs of neighbours, one in the row and one in
-/// the column.
-pub fn energy(picture: &[u8], size: Size, method: Method, i: usize, j: usize) -> u64 {
+/// What a path along the axis pays for the pixel at a place of a line. `from` is
+/// its place in the line before, if there is one. The picture is not exchanged.
+pub fn pixel_cost(
+    picture: &[u8],
+    size: Size,
+    method: Method,
+    axis: Axis,
+    (line, place): (usize, usize),
+    from: Option<usize>,
+) -> u64 {
+    let at = |line, place| pixel_at(axis, line, place);
+    if method.energy != EnergyRule::Forward {
+        let (i, j) = at(line, place);
+        return energy(picture, size, method, i, j);
+    }
+    let (_, breadth) = extent(size, axis);
+    let before = at(line, place.max(1) - 1);
+    let after = at(line, (place + 1).min(breadth - 1));
+    let mut sum = apart(picture, size, before, after);
+    // A path that comes from the side joins the pixel above to the one left or
+    // right on that side.
+    if let Some(from) = from.filter(|from| *from != place) {
+        let side = if from < place { before } else { after };
+        sum += apart(picture, size, at(line - 1, place), side);
+    }
+    sum as u64
+}
+
+/// The row and the column of a place of a line.
+pub fn pixel_at(axis: Axis, line: usize, place: usize) -> (usize, usize) {
+    match axis {
+        Axis::Vertical => (line, place),
+        Axis::Horizontal => (place, line),
+    }
+}
+
+/// What a path costs, by what a place of a line costs that is come to from a
+/// place. The path's first entry is that of the last line.
+pub fn path_cost(path: &[usize], pixel_cost: impl Fn((usize, usize), Option<usize>) -> u64) -> u64 {
+    let mut sum = 0;
+    let mut from = None;
+    for (line, place) in path.iter().rev().enumerate() {
+        sum += pixel_cost((line, *place), from);
+        from = Some(*place);
+    }
+    sum
+}
+
+/// By `Edge` and `Flat`: the differences within two pairs of neighbours, one in
+/// the row and one in the column.
+fn energy(picture: &[u8], size: Size, method: Method, i: usize, j: usize) -> u64 {
     let mut sum = 0;
     if let Some(left) = pair(method, j, size.width) {
         sum += apart(picture, size, (i, left), (i, left + 1));
@@ -57,9 +105,10 @@ pub fn energy(picture: &[u8], size: Size, method: Method, i: usize, j: usize) ->
 /// a column of one pixel has no pair.
 fn pair(method: Method, place: usize, count: usize) -> Option<usize> {
     let mut pairs = 0..count - 1;
-    match method.energy {
-        EnergyRule::Edge => pairs.rfind(|first| *first <= place),
-        EnergyRule::Flat => pairs.find(|first| *first == place),
+    if method.energy == EnergyRule::Edge {
+        pairs.rfind(|first| *first <= place)
+    } else {
+        pairs.find(|first| *first == place)
     }
 }
 
@@ -105,20 +154,17 @@ pub fn seam(
     let mut best: Option<(Vec<usize>, usize, u64)> = None;
     'paths: for path in paths(length, breadth) {
         let mut removed = 0;
-        let mut cost = 0;
-        for (step, place) in path.iter().enumerate() {
-            let line = length - 1 - step;
-            let (i, j) = match axis {
-                Axis::Vertical => (line, *place),
-                Axis::Horizontal => (*place, line),
-            };
+        for (line, place) in path.iter().rev().enumerate() {
+            let (i, j) = pixel_at(axis, line, *place);
             match marks[i * size.width + j] {
                 0 => {}
                 1 => continue 'paths,
                 _ => removed += 1,
             }
-            cost += energy(picture, size, method, i, j);
         }
+        let cost = path_cost(&path, |at, from| {
+            pixel_cost(picture, size, method, axis, at, from)
+        });
         // The paths come in dictionary order, so a later one is taken only
         // when it is better.
         let take = match &best {
@@ -224,10 +270,10 @@ fn head(size: Size, method: Method, depth: usize, growth: usize) -> String {
     } else {
         "rgb"
     };
-    let energy = if method.energy == EnergyRule::Edge {
-        "edge"
-    } else {
-        "flat"
+    let energy = match method.energy {
+        EnergyRule::Edge => "edge",
+        EnergyRule::Flat => "flat",
+        EnergyRule::Forward => "forward",
     };
     format!(
         "(multi\n(size {} {} {kind})\n(range {depth} {growth})\n(energy {energy})\n",

@@ -220,7 +220,7 @@ fn energy_lines_out_of_place_are_one() {
     without.remove(3);
     assert_eq!(refusal(&file(&without)), Some(1));
     for place in 0..=without.len() {
-        for word in ["edge", "flat"] {
+        for word in ["edge", "flat", "forward"] {
             let line = format!("(energy {word})");
             let mut moved = without.clone();
             moved.insert(place, &line);
@@ -234,8 +234,8 @@ fn energy_lines_out_of_place_are_one() {
     }
 }
 
-/// Lines that aren't the word `energy`, a blank and one of the two words.
-const BROKEN_ENERGY_LINES: [&str; 40] = [
+/// Lines that aren't the word `energy`, a blank and one of the three words.
+const BROKEN_ENERGY_LINES: [&str; 48] = [
     "",
     "energy edge",
     "(energy)",
@@ -267,6 +267,14 @@ const BROKEN_ENERGY_LINES: [&str; 40] = [
     "(energy flat1)",
     "(energy flats)",
     "(energy flatedge)",
+    "(energy forwar)",
+    "(energy forwards)",
+    "(energy forward )",
+    "(energy FORWARD)",
+    "(energy for)",
+    "(energy for ward)",
+    "(energy backward)",
+    "(energy forward edge)",
     "(energy steep)",
     "(Energy edge)",
     "(energies edge)",
@@ -284,6 +292,8 @@ fn broken_energy_lines_are_one() {
         let file = changed("(energy edge)", line);
         assert_eq!(refusal(&file), Some(1), "{line}");
         let file = changed_rgb("(energy flat)", line);
+        assert_eq!(refusal(&file), Some(1), "{line}");
+        let file = FORWARD_FILE.replace("(energy forward)", line);
         assert_eq!(refusal(&file), Some(1), "{line}");
     }
 }
@@ -332,6 +342,7 @@ fn form_beats_all() {
         ("(map 1 0 2)", "(map 2 0 1)", 10),
         ("(map 1 0 2)\n(map 1 0 2)", "(map 1 0 2)\n(map 1 2 0)", 11),
         ("(energy edge)", "(energy flat)", 11),
+        ("(energy edge)", "(energy forward)", 11),
     ] {
         let file = changed(old, new);
         assert_eq!(refusal(&file), Some(number), "{old} to {new}");
@@ -350,7 +361,11 @@ fn form_beats_all() {
 
 #[test]
 fn every_changed_byte() {
-    for file in [EXAMPLE_FILE.to_string(), rgb_file()] {
+    for file in [
+        EXAMPLE_FILE.to_string(),
+        rgb_file(),
+        FORWARD_FILE.to_string(),
+    ] {
         let file = file.into_bytes();
         for place in 0..=file.len() {
             for byte in 0..=255 {
@@ -387,9 +402,10 @@ fn with_exchanged_words(random: &mut Random, line: &str) -> String {
 
 /// A text with a few words or lines changed, dropped, doubled or exchanged.
 pub fn edited(random: &mut Random, file: &str) -> Vec<u8> {
-    const WORDS: [&str; 26] = [
+    const WORDS: [&str; 27] = [
         "0", "1", "2", "3", "4", "5", "10", "40", "50", "255", "256", "512", "513", "65535",
-        "65536", "00", "03", "grey", "rgb", "edge", "flat", "(1 2 3)", "(1 2)", "()", "x", "",
+        "65536", "00", "03", "grey", "rgb", "edge", "flat", "forward", "(1 2 3)", "(1 2)", "()",
+        "x", "",
     ];
     let mut lines: Vec<String> = file.split('\n').map(|line| line.to_string()).collect();
     for _ in 0..random.between(1, 3) {
@@ -437,7 +453,11 @@ pub fn edited(random: &mut Random, file: &str) -> Vec<u8> {
 fn edited_texts() {
     let mut random = Random::new(51);
     let mut seen = [0; 12];
-    for file in [EXAMPLE_FILE.to_string(), rgb_file()] {
+    for file in [
+        EXAMPLE_FILE.to_string(),
+        rgb_file(),
+        FORWARD_FILE.to_string(),
+    ] {
         for _ in 0..30_000 {
             let text = edited(&mut random, &file);
             let answer = checked(&text);
@@ -455,7 +475,11 @@ fn edited_texts() {
 #[test]
 fn reading_and_showing_refuse_alike() {
     let mut random = Random::new(52);
-    for file in [EXAMPLE_FILE.to_string(), rgb_file()] {
+    for file in [
+        EXAMPLE_FILE.to_string(),
+        rgb_file(),
+        FORWARD_FILE.to_string(),
+    ] {
         for _ in 0..5_000 {
             let text = edited(&mut random, &file);
             let answer = checked(&text);

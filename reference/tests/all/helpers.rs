@@ -14,14 +14,29 @@ pub const EDGE: Method = Method {
 pub const FLAT: Method = Method {
     energy: EnergyRule::Flat,
 };
-pub const METHODS: [Method; 2] = [EDGE, FLAT];
+pub const FORWARD: Method = Method {
+    energy: EnergyRule::Forward,
+};
+pub const METHODS: [Method; 3] = [EDGE, FLAT, FORWARD];
+
+/// Each method with each other one.
+pub const PAIRS: [(Method, Method); 6] = [
+    (EDGE, FLAT),
+    (EDGE, FORWARD),
+    (FLAT, EDGE),
+    (FLAT, FORWARD),
+    (FORWARD, EDGE),
+    (FORWARD, FLAT),
+];
 
 /// Each method along each axis.
-pub const WAYS: [(Method, Axis); 4] = [
+pub const WAYS: [(Method, Axis); 6] = [
     (EDGE, Axis::Vertical),
     (EDGE, Axis::Horizontal),
     (FLAT, Axis::Vertical),
     (FLAT, Axis::Horizontal),
+    (FORWARD, Axis::Vertical),
+    (FORWARD, Axis::Horizontal),
 ];
 
 /// What spaces hold before a call.
@@ -44,7 +59,7 @@ pub const EXAMPLE_FILE: &str = "(multi
 )
 ";
 
-/// The file of that picture with the other energy.
+/// The file of that picture with energy `flat`.
 pub const FLAT_FILE: &str = "(multi
 (size 3 2 grey)
 (range 2 1)
@@ -53,6 +68,18 @@ pub const FLAT_FILE: &str = "(multi
 (row 10 50 40)
 (map 2 0 1)
 (map 0 2 1)
+)
+";
+
+/// The file of that picture with energy `forward`.
+pub const FORWARD_FILE: &str = "(multi
+(size 3 2 grey)
+(range 2 1)
+(energy forward)
+(row 10 10 40)
+(row 10 50 40)
+(map 1 2 0)
+(map 2 1 0)
 )
 ";
 
@@ -108,6 +135,17 @@ pub fn seam_length(size: Size, axis: Axis) -> usize {
     } else {
         size.width
     }
+}
+
+/// The three spaces that `step_costs` fills for a row.
+pub fn step_costs_of(picture: &[u8], size: Size, method: Method, row: usize) -> [Vec<u32>; 3] {
+    let mut spaces = [(); 3].map(|_| vec![OLD_ENERGY; size.width + 2]);
+    let [left, up, right] = &mut spaces;
+    reference::step_costs(picture, size, method, row, left, up, right).unwrap();
+    for space in &mut spaces {
+        assert_eq!(space.split_off(size.width), [OLD_ENERGY; 2]);
+    }
+    spaces
 }
 
 /// The seam that `find` gives.

@@ -12,34 +12,27 @@ fn large_picture(seed: u64, size: Size) -> Vec<u8> {
     random.bytes(byte_count(size), &values)
 }
 
-/// The seam is connected, its cost is the sum of its energies, and no path
-/// is cheaper: the least sums are worked out once more, from the bottom row
+/// The seam is connected, its cost is the sum of what its pixels cost, and no
+/// path is cheaper: the least sums are worked out once more, from the bottom row
 /// upward.
 fn judge_seam(picture: &[u8], size: Size, method: Method, columns: &[u16], cost: u64) {
     assert!(columns
         .windows(2)
         .all(|step| step[0].abs_diff(step[1]) <= 1));
-    let mut sum = 0;
-    for i in 0..size.height {
-        sum += energy(picture, size, method, i, usize::from(columns[i]));
-    }
-    assert_eq!(sum, cost);
+    let pixel = |at, from| pixel_cost(picture, size, method, Axis::Vertical, at, from);
+    let path: Vec<usize> = columns.iter().rev().map(|j| usize::from(*j)).collect();
+    assert_eq!(path_cost(&path, pixel), cost);
+    // For each pixel of a row the least that a path pays in the rows below it.
     let mut below = vec![0; size.width];
-    for i in (0..size.height).rev() {
-        let mut sums = Vec::new();
-        for j in 0..size.width {
-            let mut least = below[j];
-            if j > 0 {
-                least = least.min(below[j - 1]);
-            }
-            if j + 1 < size.width {
-                least = least.min(below[j + 1]);
-            }
-            sums.push(least + energy(picture, size, method, i, j));
-        }
-        below = sums;
+    for i in (1..size.height).rev() {
+        let least = |from: usize| {
+            let near = from.max(1) - 1..=(from + 1).min(size.width - 1);
+            near.map(|j| pixel((i, j), Some(from)) + below[j]).min()
+        };
+        below = (0..size.width).map(|from| least(from).unwrap()).collect();
     }
-    assert_eq!(below.iter().min(), Some(&cost));
+    let whole = (0..size.width).map(|j| pixel((0, j), None) + below[j]);
+    assert_eq!(whole.min(), Some(cost));
 }
 
 #[test]
@@ -47,8 +40,10 @@ fn one_seam_of_the_largest_picture() {
     for (kind, method) in [
         (Kind::Grey, EDGE),
         (Kind::Grey, FLAT),
+        (Kind::Grey, FORWARD),
         (Kind::Rgb, EDGE),
         (Kind::Rgb, FLAT),
+        (Kind::Rgb, FORWARD),
     ] {
         let size = size(512, 512, kind);
         let picture = large_picture(71, size);
@@ -86,6 +81,26 @@ fn dearest_seam_of_the_largest_picture() {
     assert_eq!(cost, 511 * 765);
 }
 
+/// The dearest seam by `forward`: with columns of 0 255 255 0 over and over, both
+/// neighbours of each pixel differ by 255 in three channels.
+#[test]
+fn dearest_forward_seam_of_the_largest_picture() {
+    let size = size(512, 512, Kind::Rgb);
+    let dark = |place: usize| {
+        if [0, 3].contains(&(place % 4)) {
+            [0; 3]
+        } else {
+            [255; 3]
+        }
+    };
+    let picture: Vec<u8> = (0..512 * 512).flat_map(|pixel| dark(pixel % 512)).collect();
+    let seam = (vec![0; 512], 512 * 765);
+    assert_eq!(found(&picture, size, FORWARD, Axis::Vertical), seam);
+    // A column of the turned picture has neighbours that are alike.
+    let seam = (vec![0; 512], 0);
+    assert_eq!(found(&picture, size, FORWARD, Axis::Horizontal), seam);
+}
+
 /// The map that stands in a file.
 fn map_in(file: &[u8]) -> Vec<u16> {
     let rows = contents(file).unwrap().map;
@@ -97,7 +112,7 @@ fn map_in(file: &[u8]) -> Vec<u16> {
 fn largest_file() {
     let size = size(512, 512, Kind::Grey);
     let picture = large_picture(72, size);
-    let file = built(&picture, size, FLAT, 128, 128).unwrap();
+    let file = built(&picture, size, FORWARD, 128, 128).unwrap();
     let mut work = work_space(size);
     let mut out = vec![OLD_BYTE; 640 * 512];
     let shown = reference::show(&file, 640, &mut out, &mut work).unwrap();

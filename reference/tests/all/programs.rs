@@ -61,8 +61,10 @@ fn fit_writes_each_width() {
             let picture = random.bytes(byte_count(size), &values);
             let by_seams = seams_program(&netpbm(size, &picture));
             judge_fit(&by_seams, &picture, size);
-            let by_flat = built(&picture, size, FLAT, size.width - 1, size.width / 2);
-            judge_fit(&by_flat.unwrap(), &picture, size);
+            for method in [FLAT, FORWARD] {
+                let file = built(&picture, size, method, size.width - 1, size.width / 2);
+                judge_fit(&file.unwrap(), &picture, size);
+            }
         }
     }
 }
@@ -87,6 +89,14 @@ fn fit_on_the_example() {
     assert_eq!(fit(2, file), b"P5\n2 2\n255\n\x0a\x0a\x0a\x32");
     assert_eq!(fit(1, file), b"P5\n1 2\n255\n\x0a\x0a");
     assert_eq!(fit(5, file), refused(7));
+    let file = FORWARD_FILE.as_bytes();
+    assert_eq!(
+        fit(4, file),
+        b"P5\n4 2\n255\n\x0a\x0a\x0a\x28\x0a\x32\x2d\x28"
+    );
+    assert_eq!(fit(2, file), b"P5\n2 2\n255\n\x0a\x28\x0a\x28");
+    assert_eq!(fit(1, file), b"P5\n1 2\n255\n\x28\x28");
+    assert_eq!(fit(5, file), refused(7));
 }
 
 /// Edited texts to `fit`: 1 to 6, then 7, then 9 to 11.
@@ -94,7 +104,7 @@ fn fit_on_the_example() {
 fn fit_on_edited_texts() {
     let mut random = Random::new(63);
     for _ in 0..20_000 {
-        let file = random.pick(&[EXAMPLE_FILE, FLAT_FILE]);
+        let file = random.pick(&[EXAMPLE_FILE, FLAT_FILE, FORWARD_FILE]);
         let text = edited(&mut random, file);
         let width = random.between(0, 6);
         let expected = || -> Result<(), u8> {

@@ -49,6 +49,29 @@ fn examples_of_the_table_by_flat() {
     assert_eq!(shown(FLAT_FILE.as_bytes(), 5).err(), Some(7));
 }
 
+/// The same in the file with energy `forward`.
+#[test]
+fn examples_of_the_table_by_forward() {
+    for (map, number) in [
+        ("(map 2 2 1)\n(map 2 1 0)", 9),
+        // Seam 1 at columns 0 and 2.
+        ("(map 1 2 0)\n(map 2 0 1)", 10),
+        ("(map 1 2 0)\n(map 1 2 0)", 11),
+        ("(map 1 0 2)\n(map 1 0 2)", 11),
+        ("(map 2 0 1)\n(map 0 2 1)", 11),
+        // Seam 1 is the one found, seam 2 is not.
+        ("(map 1 2 0)\n(map 0 1 2)", 11),
+    ] {
+        let file = FORWARD_FILE.replace("(map 1 2 0)\n(map 2 1 0)", map);
+        assert_eq!(checked(file.as_bytes()).err(), Some(number), "{map}");
+    }
+    for word in ["edge", "flat"] {
+        let other = FORWARD_FILE.replace("forward", word);
+        assert_eq!(checked(other.as_bytes()).err(), Some(11));
+    }
+    assert_eq!(shown(FORWARD_FILE.as_bytes(), 5).err(), Some(7));
+}
+
 #[test]
 fn examples_of_the_table_on_pictures() {
     // 5 bytes for 3 by 2 grey.
@@ -91,8 +114,9 @@ fn examples_of_the_table_on_pictures() {
         Err(13)
     );
     // Finding at width 1 is served. Each pixel differs from the other by 1, and
-    // by `flat` the last has energy 0.
-    for (method, cost) in [(EDGE, 2), (FLAT, 1)] {
+    // by `flat` the last has energy 0. By `forward` a single column has no
+    // neighbours that would meet.
+    for (method, cost) in [(EDGE, 2), (FLAT, 1), (FORWARD, 0)] {
         let seam = found(&[1, 2], grey(1, 2), method, Axis::Vertical);
         assert_eq!(seam, (vec![0, 0], cost));
     }
@@ -296,6 +320,9 @@ fn huge_numbers() {
             assert_eq!(build, Err(number));
             let energies = reference::energies(picture, size, EDGE, huge, &mut []);
             assert_eq!(energies, Err(number));
+            let [left, up, right] = [&mut [], &mut [], &mut []];
+            let costs = reference::step_costs(picture, size, FORWARD, huge, left, up, right);
+            assert_eq!(costs, Err(number));
         }
     }
     let (rows, columns, size) = (Rows(huge), Columns(huge), grey(1, 1));
@@ -323,6 +350,30 @@ fn energies_refuse() {
             let answer = reference::energies(&EXAMPLE, size, method, row, &mut out);
             assert_eq!(answer, Err(number));
             assert!(out.iter().all(|energy| *energy == OLD_ENERGY));
+        }
+    }
+}
+
+/// Refused as energies are, and where any of the three spaces is too short.
+#[test]
+fn step_costs_refuse() {
+    for method in METHODS {
+        for (size, row, lengths, number) in [
+            (grey(0, 2), 0, [3, 3, 3], 2),
+            (grey(3, 600), 0, [3, 3, 3], 3),
+            (grey(3, 3), 0, [3, 3, 3], 4),
+            (grey(3, 2), 2, [3, 3, 3], 4),
+            (grey(3, 2), 2, [2, 2, 2], 4),
+            (grey(3, 2), 1, [2, 3, 3], 8),
+            (grey(3, 2), 1, [3, 2, 3], 8),
+            (grey(3, 2), 1, [3, 3, 2], 8),
+            (grey(3, 2), 0, [3, 3, 0], 8),
+        ] {
+            let mut spaces = lengths.map(|length| vec![OLD_ENERGY; length]);
+            let [left, up, right] = &mut spaces;
+            let answer = reference::step_costs(&EXAMPLE, size, method, row, left, up, right);
+            assert_eq!(answer, Err(number));
+            assert!(spaces.concat().iter().all(|cost| *cost == OLD_ENERGY));
         }
     }
 }

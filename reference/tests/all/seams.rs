@@ -3,7 +3,7 @@
 use crate::definitions::*;
 use crate::helpers::*;
 use crate::random::Random;
-use reference::{Axis, Size};
+use reference::{Axis, Method, Size};
 
 /// Every picture of a size with samples of the given values.
 fn all_buffers(count: usize, values: &[u8]) -> Vec<Vec<u8>> {
@@ -41,7 +41,7 @@ fn exchanged_size(size: Size) -> Size {
     }
 }
 
-/// Finding and cutting without marks, by both methods and along both axes,
+/// Finding and cutting without marks, by all methods and along both axes,
 /// against the trial.
 fn judge_plain(picture: &[u8], size: Size) {
     for (method, axis) in WAYS {
@@ -90,6 +90,45 @@ fn judge_marked(picture: &[u8], marks: &[u8], size: Size) {
     }
 }
 
+/// What coming to a pixel costs from its left in the row above, from straight
+/// above and from its right. In the first row all three are what it costs there.
+/// Left of column 0 there is no place, but its neighbour there is the pixel
+/// itself.
+fn steps_by_definition(picture: &[u8], size: Size, method: Method, i: usize, j: usize) -> [u64; 3] {
+    let cost = |from| pixel_cost(picture, size, method, Axis::Vertical, (i, j), from);
+    if i == 0 {
+        return [cost(None); 3];
+    }
+    let left = match j.checked_sub(1) {
+        Some(before) => cost(Some(before)),
+        None => from_before_the_first(picture, size, method, i),
+    };
+    [left, cost(Some(j)), cost(Some(j + 1))]
+}
+
+/// What coming to the first pixel of a row costs from its left: turned around,
+/// the row's last pixel is come to from its right.
+fn from_before_the_first(picture: &[u8], size: Size, method: Method, i: usize) -> u64 {
+    if method != FORWARD {
+        return pixel_cost(picture, size, method, Axis::Vertical, (i, 0), None);
+    }
+    let bytes = channels(size.kind);
+    let rows = picture.chunks(size.width * bytes);
+    let turned: Vec<u8> = rows
+        .flat_map(|row| row.rchunks(bytes).flatten())
+        .copied()
+        .collect();
+    let last = size.width - 1;
+    pixel_cost(
+        &turned,
+        size,
+        method,
+        Axis::Vertical,
+        (i, last),
+        Some(last + 1),
+    )
+}
+
 #[test]
 fn the_trial_lists_every_path_in_order() {
     for (length, breadth) in [(1, 1), (1, 4), (4, 1), (2, 3), (3, 3), (4, 5), (5, 4)] {
@@ -116,9 +155,27 @@ fn energies_against_the_definition() {
             let mut out = vec![OLD_ENERGY; size.width + 2];
             reference::energies(&picture, size, method, i, &mut out).unwrap();
             for j in 0..size.width {
-                assert_eq!(u64::from(out[j]), energy(&picture, size, method, i, j));
+                let cost = pixel_cost(&picture, size, method, Axis::Vertical, (i, j), None);
+                assert_eq!(u64::from(out[j]), cost);
             }
             assert_eq!(out[size.width..], [OLD_ENERGY; 2]);
+        }
+    }
+}
+
+/// Also at the side edges, where no path comes from the side.
+#[test]
+fn step_costs_against_the_definition() {
+    let mut random = Random::new(8);
+    for _ in 0..1_000 {
+        let (picture, size) = random_picture(&mut random, 5, 5);
+        let method = random.pick(&METHODS);
+        for i in 0..size.height {
+            let spaces = step_costs_of(&picture, size, method, i);
+            for j in 0..size.width {
+                let given = spaces.each_ref().map(|space| u64::from(space[j]));
+                assert_eq!(given, steps_by_definition(&picture, size, method, i, j));
+            }
         }
     }
 }

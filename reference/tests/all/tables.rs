@@ -7,12 +7,13 @@ use crate::verdict::verdict;
 use reference::Refusal;
 
 /// Accepted files of both kinds, one by each method.
-fn files() -> [String; 2] {
+fn files() -> [String; 3] {
     let picture = [
         1, 2, 3, 40, 50, 60, 7, 80, 9, 0, 0, 0, 255, 254, 253, 100, 10, 1,
     ];
     let rgb = built(&picture, rgb(3, 2), FLAT, 2, 1).unwrap();
-    [EXAMPLE_FILE.to_string(), String::from_utf8(rgb).unwrap()]
+    let rgb = String::from_utf8(rgb).unwrap();
+    [EXAMPLE_FILE.to_string(), rgb, FORWARD_FILE.to_string()]
 }
 
 fn refusal(file: &str) -> Option<Refusal> {
@@ -141,7 +142,7 @@ fn every_row_and_map_line_of_a_file() {
 /// One row line too few and one map line too many, and the other way round.
 #[test]
 fn lines_of_the_other_sort() {
-    let [grey, rgb] = files();
+    let [grey, rgb, _] = files();
     for (file, row) in [(&grey, "(row 1 2 3)\n"), (&rgb, "(row (1 2 3) (1 2 3))\n")] {
         assert_eq!(refusal(&with_line(file, 5, "(map 1 0 2)\n")), Some(4));
         assert_eq!(refusal(&with_line(file, 6, row)), Some(4));

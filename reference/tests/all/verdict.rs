@@ -37,8 +37,8 @@ impl Cursor<'_> {
         self.meets(expected).then_some(())
     }
 
-    /// What is named by the one of two that stands here.
-    fn either<T>(&mut self, named: [(&str, T); 2]) -> Option<T> {
+    /// What is named by the one that stands here.
+    fn one_of<T, const N: usize>(&mut self, named: [(&str, T); N]) -> Option<T> {
         let mut named = named.into_iter();
         let (_, it) = named.find(|(expected, _)| self.meets(expected))?;
         Some(it)
@@ -68,13 +68,16 @@ pub fn contents(text: &[u8]) -> Option<Contents> {
     let width = cursor.number(65_535)?;
     cursor.must_meet(" ")?;
     let height = cursor.number(65_535)?;
-    let kind = cursor.either([(" grey)\n", Kind::Grey), (" rgb)\n", Kind::Rgb)])?;
+    let kind = cursor.one_of([(" grey)\n", Kind::Grey), (" rgb)\n", Kind::Rgb)])?;
     cursor.must_meet("(range ")?;
     let depth = cursor.number(65_535)?;
     cursor.must_meet(" ")?;
     let growth = cursor.number(65_535)?;
-    let edge = (")\n(energy edge)\n", EnergyRule::Edge);
-    let energy = cursor.either([edge, (")\n(energy flat)\n", EnergyRule::Flat)])?;
+    let energy = cursor.one_of([
+        (")\n(energy edge)\n", EnergyRule::Edge),
+        (")\n(energy flat)\n", EnergyRule::Flat),
+        (")\n(energy forward)\n", EnergyRule::Forward),
+    ])?;
     let rows = rows(&mut cursor, kind)?;
     let map = map(&mut cursor)?;
     cursor.must_meet(")\n")?;

@@ -98,7 +98,7 @@ fn example_rows_at_widths() {
 
 #[test]
 fn one_pixel() {
-    for (method, word) in [(EDGE, "edge"), (FLAT, "flat")] {
+    for (method, word) in [(EDGE, "edge"), (FLAT, "flat"), (FORWARD, "forward")] {
         let mut out = [OLD_ENERGY; 1];
         let answer = reference::energies(&[77], grey(1, 1), method, 0, &mut out);
         assert_eq!((answer, out), (Ok(()), [0]));
@@ -112,7 +112,7 @@ fn one_pixel() {
 
 #[test]
 fn ranges_on_both_sides() {
-    for (method, word) in [(EDGE, "edge"), (FLAT, "flat")] {
+    for (method, word) in [(EDGE, "edge"), (FLAT, "flat"), (FORWARD, "forward")] {
         assert!(built(&[1, 2], grey(2, 1), method, 1, 1).is_ok());
         assert_eq!(built(&[1, 2], grey(2, 1), method, 1, 2), Err(6));
         let file = |range: &str| {

@@ -49,7 +49,7 @@ class Place {
 }
 
 const LARGEST_SIDE = 512;
-const ENERGIES = ["edge", "flat"];
+const ENERGIES = ["edge", "flat", "forward"];
 
 // What stands in a file's text: width, height, channels, depth, growth, the energy that its seams are found by, the samples,
 // and for each pixel the number of the seam that takes it, or 0. The form, the counts and the numbers of each map row are

@@ -1,12 +1,13 @@
-//! Pictures carved by either energy, and files that name one.
+//! Pictures carved by each energy, and files that name one.
 
-use crate::helpers::{Folder, FILE, FLAT};
+use crate::helpers::{Folder, FILE, FLAT, FORWARD};
 use multisize::{netpbm, Picture, Size};
 
 /// With the worked picture and its file by each energy.
 fn worked(test: &str) -> Folder {
     let folder = Folder::worked(test);
     folder.put("flat.multi", FLAT);
+    folder.put("forward.multi", FORWARD);
     folder
 }
 
@@ -18,6 +19,8 @@ fn build_writes_the_energy_that_is_named() {
         ("--energy edge", FILE),
         ("--energy flat", FLAT),
         ("--energy=flat", FLAT),
+        ("--energy forward", FORWARD),
+        ("--energy=forward", FORWARD),
     ] {
         folder.served(&format!("build picture.pgm {options} -o built.multi"));
         assert_eq!(folder.get("built.multi"), file, "{options}");
@@ -27,7 +30,11 @@ fn build_writes_the_energy_that_is_named() {
 #[test]
 fn info_says_the_energy() {
     let folder = worked("energy-info");
-    for (name, energy) in [("picture.multi", "edge"), ("flat.multi", "flat")] {
+    for (name, energy) in [
+        ("picture.multi", "edge"),
+        ("flat.multi", "flat"),
+        ("forward.multi", "forward"),
+    ] {
         assert_eq!(folder.served(&format!("check {name}")), "accepted\n");
         let info = folder.served(&format!("info {name}"));
         assert!(info.contains(&format!("\nenergy {energy}\n")));
@@ -55,27 +62,55 @@ fn a_file_is_shown_and_listed_by_its_energy() {
 }
 
 #[test]
+fn a_file_by_forward_is_shown_and_listed() {
+    let folder = worked("energy-forward");
+    for (width, samples) in [
+        (1, &b"P5\n1 2\n255\n\x28\x28"[..]),
+        (2, b"P5\n2 2\n255\n\x0a\x28\x0a\x28"),
+        (4, b"P5\n4 2\n255\n\x0a\x0a\x0a\x28\x0a\x32\x2d\x28"),
+    ] {
+        folder.served(&format!("show forward.multi {width} -o shown.pgm"));
+        assert_eq!(folder.get("shown.pgm"), samples);
+        folder.served(&format!(
+            "carve picture.pgm {width} --energy forward -o a.pgm"
+        ));
+        assert_eq!(folder.get("a.pgm"), samples);
+    }
+    let table = folder.served("table forward.multi --long");
+    let seams = "original\n1,30,0,0,0\n1,30,1,1,1\n2,60,0,0,1\n2,60,1,0,0\n";
+    assert!(table.ends_with(seams), "{table}");
+}
+
+#[test]
 fn carve_remove_and_retarget_take_an_energy() {
     let folder = worked("energy-pictures");
     folder.put("marks.pgm", b"P5\n3 2\n255\n\x02\x00\x00\x00\x00\x00");
-    for (line, edge, flat) in [
+    for (line, edge, flat, forward) in [
         (
             "carve picture.pgm 2",
             &b"\x0a\x28\x32\x28"[..],
             &b"\x0a\x0a\x0a\x32"[..],
+            &b"\x0a\x28\x0a\x28"[..],
         ),
         (
             "remove picture.pgm marks.pgm",
             b"\x0a\x28\x32\x28",
+            b"\x0a\x28\x0a\x28",
             b"\x0a\x28\x0a\x28",
         ),
         (
             "retarget picture.pgm --columns 1",
             b"\x0a\x28\x32\x28",
             b"\x0a\x0a\x0a\x32",
+            b"\x0a\x28\x0a\x28",
         ),
     ] {
-        for (options, samples) in [("", edge), ("--energy edge", edge), ("--energy flat", flat)] {
+        for (options, samples) in [
+            ("", edge),
+            ("--energy edge", edge),
+            ("--energy flat", flat),
+            ("--energy forward", forward),
+        ] {
             folder.served(&format!("{line} {options} -o left.pgm"));
             let left = folder.get("left.pgm");
             assert_eq!(
@@ -85,25 +120,32 @@ fn carve_remove_and_retarget_take_an_energy() {
             );
         }
     }
-    let total = folder.served("retarget picture.pgm --rows 1 --energy flat -o left.pgm");
-    assert_eq!(total, "total 10\n");
+    for (energy, total) in [("flat", "total 10\n"), ("forward", "total 40\n")] {
+        let line = format!("retarget picture.pgm --rows 1 --energy {energy} -o left.pgm");
+        assert_eq!(folder.served(&line), total);
+    }
 }
 
 /// Each width carved is the one that the file built by the same energy shows.
 #[test]
-fn carving_by_flat_is_building_and_showing() {
+fn carving_is_building_and_showing() {
     let folder = Folder::new("energy-carve");
     let sample = |at: usize| ((at % 20) * 5 + (at / 20) * 3 + at * at % 23) as u8;
     let samples = (0..20 * 11 * 3).map(|at| sample(at / 3)).collect();
     let picture = Picture::new(Size::rgb(20, 11), samples).unwrap();
     folder.put("a.ppm", &netpbm::write(&picture));
-    folder.served("build a.ppm --energy flat -o a.multi");
     folder.served("build a.ppm -o edge.multi");
-    assert_ne!(folder.get("a.multi"), folder.get("edge.multi"));
-    for width in 1..=30 {
-        folder.served(&format!("show a.multi {width} -o shown.ppm"));
-        folder.served(&format!("carve a.ppm {width} --energy flat -o carved.ppm"));
-        assert_eq!(folder.get("carved.ppm"), folder.get("shown.ppm"), "{width}");
+    for energy in ["flat", "forward"] {
+        folder.served(&format!("build a.ppm --energy {energy} -o a.multi"));
+        assert_ne!(folder.get("a.multi"), folder.get("edge.multi"));
+        for width in 1..=30 {
+            folder.served(&format!("show a.multi {width} -o shown.ppm"));
+            folder.served(&format!(
+                "carve a.ppm {width} --energy {energy} -o carved.ppm"
+            ));
+            let [carved, shown] = ["carved.ppm", "shown.ppm"].map(|name| folder.get(name));
+            assert_eq!(carved, shown, "{energy}, {width}");
+        }
     }
 }
 
@@ -116,8 +158,8 @@ fn a_wrong_energy_is_told() {
         "remove picture.pgm picture.pgm -o out.pgm",
         "retarget picture.pgm -o out.pgm",
     ] {
-        for word in ["steep", "Flat", "0"] {
-            let text = format!("--energy can be edge or flat, not {word}");
+        for word in ["steep", "Flat", "0", "forwards"] {
+            let text = format!("--energy can be edge, flat or forward, not {word}");
             folder.misused(&format!("{line} --energy {word}"), &text);
         }
         folder.misused(&format!("{line} --energy"), "--energy needs a value");
@@ -146,12 +188,17 @@ fn an_energy_is_no_option_for_a_file() {
 }
 
 #[test]
-fn a_map_of_the_other_energy_is_refused() {
+fn a_map_of_another_energy_is_refused() {
     let folder = Folder::new("energy-other");
     let text = |file: &[u8]| String::from_utf8(file.to_vec()).unwrap();
-    folder.put("a.multi", text(FILE).replace("edge", "flat").as_bytes());
-    folder.put("b.multi", text(FLAT).replace("flat", "edge").as_bytes());
-    for name in ["a.multi", "b.multi"] {
+    for (name, file, own, other) in [
+        ("a.multi", FILE, "edge", "flat"),
+        ("b.multi", FLAT, "flat", "edge"),
+        ("c.multi", FORWARD, "forward", "edge"),
+        ("d.multi", FORWARD, "forward", "flat"),
+        ("e.multi", FILE, "edge", "forward"),
+    ] {
+        folder.put(name, text(file).replace(own, other).as_bytes());
         let ran = folder.run(&format!("check {name}"));
         let told = "refused (11): a recorded seam isn't the one found";
         assert_eq!(
@@ -187,8 +234,8 @@ fn a_file_without_its_energy_is_told_what_to_do() {
     folder.put("a.multi", older.as_bytes());
     refused_form(
         &folder,
-        "; its energy line is missing: put (energy edge) or (energy flat) after its range line, \
-         whichever it is accepted with (docs/FILE.md says more)",
+        "; its energy line is missing: put (energy edge), (energy flat) or (energy forward) \
+         after its range line, whichever it is accepted with (docs/FILE.md says more)",
     );
     // With the line of the energy that made it, it is the file that building gives.
     let with_line = older.replace("(range 2 1)", "(range 2 1)\n(energy flat)");
@@ -201,7 +248,7 @@ fn a_file_without_its_energy_is_told_what_to_do() {
 fn an_energy_line_that_names_none_is_told() {
     let folder = Folder::new("energy-none");
     let text = String::from_utf8(FILE.to_vec()).unwrap();
-    for word in ["steep", "Edge", "edge flat", ""] {
+    for word in ["steep", "Edge", "edge flat", "forwards", ""] {
         folder.put(
             "a.multi",
             text.replace("energy edge", &format!("energy {word}"))
@@ -209,7 +256,7 @@ fn an_energy_line_that_names_none_is_told() {
         );
         refused_form(
             &folder,
-            "; its energy line isn't (energy edge) or (energy flat)",
+            "; its energy line isn't (energy edge), (energy flat) or (energy forward)",
         );
     }
     // The form breaks elsewhere.

@@ -12,6 +12,9 @@ pub const FILE: &[u8] = b"(multi\n(size 3 2 grey)\n(range 2 1)\n(energy edge)\n\
 /// Its file by flat.
 pub const FLAT: &[u8] = b"(multi\n(size 3 2 grey)\n(range 2 1)\n(energy flat)\n\
     (row 10 10 40)\n(row 10 50 40)\n(map 2 0 1)\n(map 0 2 1)\n)\n";
+/// Its file by forward.
+pub const FORWARD: &[u8] = b"(multi\n(size 3 2 grey)\n(range 2 1)\n(energy forward)\n\
+    (row 10 10 40)\n(row 10 50 40)\n(map 1 2 0)\n(map 2 1 0)\n)\n";
 /// The file, but with seam 1 at columns 0 and 2: it isn't connected.
 pub const BROKEN: &[u8] = b"(multi\n(size 3 2 grey)\n(range 2 1)\n(energy edge)\n\
     (row 10 10 40)\n(row 10 50 40)\n(map 1 0 2)\n(map 0 2 1)\n)\n";

@@ -4,7 +4,7 @@
 const { execFileSync } = require("node:child_process");
 const fs = require("node:fs");
 const path = require("node:path");
-const { pictures } = require("./pictures.js");
+const { pictures, energyOf } = require("./pictures.js");
 const { decoded, sumOf } = require("./decode.js");
 const { Browser } = require("./devtools.js");
 
@@ -72,8 +72,7 @@ async function compare(name, source, options, browser) {
   const [original] = netpbm(source).size;
   const [least, most] = found.range;
   check(`${name}: problem`, found.problem, "");
-  const energy = options.includes("flat") ? "flat" : "edge";
-  check(`${name}: energy`, found.facts.includes(`Energy${energy}`), true);
+  check(`${name}: energy`, found.facts.includes(`Energy${energyOf(options)}`), true);
   check(`${name}: start`, found.start, { width: original, sum: sumOf(netpbm(source).rgb) });
   for (let width = least; width <= most; width++) {
     const said = words(width, original);
@@ -100,7 +99,7 @@ async function compare(name, source, options, browser) {
 async function main() {
   const browser = new Browser(browserName, inFolder("profile"));
   try {
-    const chosen = ["worked", "worked-by-flat", "slope", "noise-grey", "noise-rgb", "shallow"];
+    const chosen = ["worked", "worked-by-flat", "worked-by-forward", "slope", "noise-grey", "noise-rgb", "shallow"];
     for (const [name, source, options] of pictures()) {
       if (chosen.includes(name)) await compare(name, source, options, browser);
     }

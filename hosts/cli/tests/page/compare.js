@@ -4,7 +4,7 @@
 const { execFileSync } = require("node:child_process");
 const fs = require("node:fs");
 const path = require("node:path");
-const { pictures } = require("./pictures.js");
+const { pictures, energyOf } = require("./pictures.js");
 const { decoded } = require("./decode.js");
 
 const [program, folder] = process.argv.slice(2);
@@ -96,7 +96,7 @@ async function compareFile(name, netpbm, options) {
   const info = multisize("info", inFolder(`${name}.multi`)).toString();
   check(`${name}: widths`, info.includes(`\nwidths ${least} to ${most}\n`));
   check(`${name}: energy`, info.includes(`\nenergy ${file.energy}\n`));
-  check(`${name}: energy as asked`, file.energy === (options.includes("flat") ? "flat" : "edge"));
+  check(`${name}: energy as asked`, file.energy === energyOf(options));
   for (let width = least; width <= most; width++) {
     await compareWidth(name, page, file, width);
     judgeSeams(name, page, file, width);

@@ -48,6 +48,8 @@ function pictures() {
     ["fading-rgb", netpbm(15, 9, 3, fading(11, 15)), []],
     ["worked-by-flat", netpbm(3, 2, 1, worked), ["--energy", "flat"]],
     ["noise-by-flat", netpbm(22, 13, 3, noise(12)), ["--energy", "flat"]],
+    ["worked-by-forward", netpbm(3, 2, 1, worked), ["--energy", "forward"]],
+    ["noise-by-forward", netpbm(21, 14, 3, noise(13)), ["--energy", "forward"]],
     ["shallow", netpbm(25, 10, 3, noise(6)), ["--depth", "6", "--growth", "2"]],
     ["no-seam", netpbm(9, 4, 1, noise(7)), ["--depth", "0"]],
     ["no-growth", netpbm(16, 12, 1, noise(8)), ["--growth", "0"]],
@@ -55,4 +57,7 @@ function pictures() {
   ];
 }
 
-module.exports = { pictures };
+// The energy that these options of `multisize build` name.
+const energyOf = (options) => (options[0] === "--energy" ? options[1] : "edge");
+
+module.exports = { pictures, energyOf };

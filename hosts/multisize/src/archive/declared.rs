@@ -9,7 +9,8 @@ pub struct HostSize {
     pub kind: u8,
 }
 
-/// The method that seams are found by; energy 0 is edge, 1 is flat.
+/// The method that seams are found by; energy 0 is edge, 1 is
+/// flat, 2 is forward.
 #[repr(C)]
 pub struct HostMethod {
     pub energy: u8,
@@ -59,6 +60,20 @@ extern "C" {
         r: usize,
         out: *mut u32,
         out_len: usize,
+    ) -> u64;
+
+    pub fn multisize_step_costs(
+        picture: *const u8,
+        picture_len: usize,
+        size: HostSize,
+        method: HostMethod,
+        r: usize,
+        left: *mut u32,
+        left_len: usize,
+        up: *mut u32,
+        up_len: usize,
+        right: *mut u32,
+        right_len: usize,
     ) -> u64;
 
     pub fn multisize_row(

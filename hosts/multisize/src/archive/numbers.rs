@@ -33,6 +33,7 @@ pub fn host_method(method: Method) -> HostMethod {
     let energy = match method.energy {
         Energy::Edge => 0,
         Energy::Flat => 1,
+        Energy::Forward => 2,
     };
     HostMethod { energy }
 }
@@ -51,6 +52,7 @@ pub fn method_of(method: HostMethod) -> Method {
     match method.energy {
         0 => Energy::Edge.into(),
         1 => Energy::Flat.into(),
+        2 => Energy::Forward.into(),
         other => unreachable!("the archive has no energy {other}"),
     }
 }

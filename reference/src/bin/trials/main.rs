@@ -37,7 +37,7 @@ impl Numbers {
 
 fn main() {
     let mut numbers = Numbers { seed: 1 };
-    for energy in [EnergyRule::Edge, EnergyRule::Flat] {
+    for energy in EnergyRule::ALL {
         trials(Method { energy }, &mut numbers);
     }
 }
