@@ -59,8 +59,7 @@ static inline int forward_above(const uint32_t *sums, Steps steps, int c) {
     return up <= right ? c : c + 1;
 }
 
-// Puts the seam into its space and gives its cost.
-static inline uint64_t forward_find(const uint8_t *picture, int w, int h, int channels, size_t distance, uint16_t *seam) {
+static inline void forward_all_sums(const uint8_t *picture, int w, int h, int channels, size_t distance) {
     for (int r = 0; r < h; r++) {
         uint32_t *own = forward_sums[r] + 1;
         const uint8_t *row = picture + r * distance;
@@ -70,6 +69,11 @@ static inline uint64_t forward_find(const uint8_t *picture, int w, int h, int ch
         else
             for (int c = 0; c < w; c++) own[c] = steps_at(row, row, c, w, channels).up;
     }
+}
+
+// Puts the seam into its space and gives its cost.
+static inline uint64_t forward_find(const uint8_t *picture, int w, int h, int channels, size_t distance, uint16_t *seam) {
+    forward_all_sums(picture, w, h, channels, distance);
     const uint32_t *last = forward_sums[h - 1] + 1;
     int c = 0;
     for (int k = 1; k < w; k++)
