@@ -1,6 +1,7 @@
 // A builder of multi-size files in C, with no promise: it works out every energy anew for each seam, as the
-// library does, by edge or by flat, and writes the same text. Rows keep their distance in the buffers while the picture
-// narrows.
+// library does, by edge, by flat or by forward, and writes the same text. Rows keep their distance in the buffers while the
+// picture narrows.
+#include "forward.h"
 #include "shared.h"
 
 enum { SIDE = 512 };
@@ -80,13 +81,17 @@ static inline void take_seam(const uint16_t *seam, int number, int w, Size z, in
     }
 }
 
-__attribute__((always_inline)) static inline void build_map(Size z, int channels, int by_flat) {
+__attribute__((always_inline)) static inline void build_map(Size z, int channels, int energy) {
     uint16_t seam[SIDE];
     for (size_t i = 0; i < z.width * z.height; i++) origins[i] = i % z.width, map[i] = 0;
     for (size_t number = 1; number < z.width; number++) {
         int w = z.width + 1 - number;
-        all_sums(w, z.height, channels, by_flat, z.width * channels);
-        find_seam(w, z.height, seam);
+        if (energy == MULTISIZE_FORWARD) {
+            forward_find(left, w, z.height, channels, z.width * channels, seam);
+        } else {
+            all_sums(w, z.height, channels, energy == MULTISIZE_FLAT, z.width * channels);
+            find_seam(w, z.height, seam);
+        }
         take_seam(seam, number, w, z, channels);
     }
 }
@@ -116,10 +121,11 @@ static uint8_t *put_pixel(uint8_t *out, const uint8_t *pixel, int channels) {
     return out;
 }
 
-static size_t put_text(const uint8_t *picture, Size z, int by_flat, uint8_t *out) {
+static size_t put_text(const uint8_t *picture, Size z, int energy, uint8_t *out) {
+    static const char *const words[] = {"edge", "flat", "forward"};
     uint8_t *at = out + sprintf((char *)out, "(multi\n(size %zu %zu %s)\n(range %zu %zu)\n(energy %s)\n", z.width,
                                 z.height, z.channels == 3 ? "rgb" : "grey", z.width - 1, z.width / 2,
-                                by_flat ? "flat" : "edge");
+                                words[energy]);
     for (size_t r = 0; r < z.height; r++) {
         at = put_word(at, "(row");
         for (size_t c = 0; c < z.width; c++) *at++ = ' ', at = put_pixel(at, picture + (r * z.width + c) * z.channels, z.channels);
@@ -136,11 +142,11 @@ static size_t put_text(const uint8_t *picture, Size z, int by_flat, uint8_t *out
 // The file of full depth and growth; gives its length. The map is compiled for each number of channels and each energy, so
 // that the loops over channels are unrolled.
 size_t build_in_c(const uint8_t *picture, Size size, multisize_method method, uint8_t *out) {
-    int by_flat = method.energy == MULTISIZE_FLAT;
     memcpy(left, picture, size.width * size.height * size.channels);
-    if (size.channels == 3)
-        by_flat ? build_map(size, 3, 1) : build_map(size, 3, 0);
-    else
-        by_flat ? build_map(size, 1, 1) : build_map(size, 1, 0);
-    return put_text(picture, size, by_flat, out);
+    switch (method.energy) {
+    case MULTISIZE_EDGE: size.channels == 3 ? build_map(size, 3, MULTISIZE_EDGE) : build_map(size, 1, MULTISIZE_EDGE); break;
+    case MULTISIZE_FLAT: size.channels == 3 ? build_map(size, 3, MULTISIZE_FLAT) : build_map(size, 1, MULTISIZE_FLAT); break;
+    default: size.channels == 3 ? build_map(size, 3, MULTISIZE_FORWARD) : build_map(size, 1, MULTISIZE_FORWARD);
+    }
+    return put_text(picture, size, method.energy, out);
 }

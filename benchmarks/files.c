@@ -1,7 +1,7 @@
 // Times the library's operations on multi-size files: building the full map against a builder in C and against the
-// reference, checking against building, and one width shown; by flat, building against the builder in C. All texts must
-// agree. Each figure is the best of the rounds. With an argument, 1 or 3 channels, the files of 128 by 128 are built and
-// checked once, so that the instructions can be counted.
+// reference, checking against building, and one width shown; by flat and by forward, building against the builder in C. All
+// texts must agree. Each figure is the best of the rounds. With an argument, 1 or 3 channels, the files of 128 by 128 are
+// built and checked once, by edge or by what a second argument names, so that the instructions can be counted.
 #include "../pictures/terrain.h"
 #include "shared.h"
 
@@ -59,20 +59,20 @@ static void show(Lent *lent, const uint8_t *file, size_t length, int rounds) {
     free(out), free(other);
 }
 
-static void build_by_flat(Lent *lent, uint8_t *file, uint8_t *other, int rounds) {
+static void build_by(Lent *lent, const char *energy, uint8_t *file, uint8_t *other, int rounds) {
     Size z = lent->size;
     double built = 1e9, in_c = 1e9;
-    lent->method = flat;
+    lent->method = named(energy);
     for (int i = 0; i < rounds; i++) {
         double t = seconds();
         size_t length = build_by_library(lent, file);
         keep_least(&built, t);
         t = seconds();
-        size_t other_length = build_in_c(lent->picture, z, flat, other);
+        size_t other_length = build_in_c(lent->picture, z, lent->method, other);
         keep_least(&in_c, t);
-        if (length != other_length || memcmp(file, other, length)) differ("build by flat in C", z);
+        if (length != other_length || memcmp(file, other, length)) differ(energy, z);
     }
-    printf("  build by flat %.1f ms, unrolled C %.1f ms, ratio %.2f\n", built * 1e3, in_c * 1e3, built / in_c);
+    printf("  build by %s %.1f ms, unrolled C %.1f ms, ratio %.2f\n", energy, built * 1e3, in_c * 1e3, built / in_c);
 }
 
 // The reference takes part in the first round alone.
@@ -108,17 +108,19 @@ static void times(Size size, int rounds) {
     printf("  check %.1f ms, reference %.1f ms, ratio %.3f\n", checked * 1e3, checked_by_reference * 1e3,
            checked / checked_by_reference);
     if (size.width == 480) show(&lent, file, length, rounds);
-    build_by_flat(&lent, file, other, rounds);
+    build_by(&lent, "flat", file, other, rounds);
+    build_by(&lent, "forward", file, other, rounds);
     free(file), free(other), give_back(&lent);
 }
 
-static void once(size_t channels) {
+static void once(size_t channels, multisize_method method) {
     Size size = {128, 128, channels};
     Lent lent = lend(size);
+    lent.method = method;
     uint8_t *file = malloc(text_room(size));
     size_t length = build_by_library(&lent, file);
     check_by_library(&lent, file, length);
-    build_in_c(lent.picture, size, usual, file);
+    build_in_c(lent.picture, size, method, file);
     free(file), give_back(&lent);
 }
 
@@ -128,7 +130,7 @@ int main(int count, char **words) {
         int rounds;
     } sizes[] = {{64, 64, 40}, {128, 128, 10}, {256, 256, 4}, {480, 320, 2}, {512, 512, 2}};
     if (count > 1) {
-        once(atoi(words[1]) == 3 ? 3 : 1);
+        once(atoi(words[1]) == 3 ? 3 : 1, named(count > 2 ? words[2] : "edge"));
         return 0;
     }
     for (size_t i = 0; i < sizeof sizes / sizeof *sizes; i++)

@@ -2,7 +2,8 @@
 // energies, sums, the way back. Each figure is the best of the rounds; the buffers are not cleared between them, but
 // the library clears its work space. With an argument, 0 or 1, find runs once at the first or the second size, by the
 // library, by both ways in C and by the library with marks, so that the instructions of each can be counted. What is found
-// is found by edge, but where flat is named, as a second argument does.
+// is found by edge, but where flat or forward is named, as a second argument does.
+#include "forward.h"
 #include "shared.h"
 
 enum { SIDE = 512, ROUNDS = 40 };
@@ -44,8 +45,9 @@ static void plain_sums(int w, int h) {
     }
 }
 
-static uint64_t plain_find(const uint8_t *p, int w, int h, int channels, int by_flat, uint16_t *seam) {
-    plain_energies(p, w, h, channels, by_flat);
+static uint64_t plain_find(const uint8_t *p, int w, int h, int channels, int energy, uint16_t *seam) {
+    if (energy == MULTISIZE_FORWARD) return forward_find(p, w, h, channels, w * channels, seam);
+    plain_energies(p, w, h, channels, energy == MULTISIZE_FLAT);
     plain_sums(w, h);
     const uint32_t *row = sums + (h - 1) * w;
     int c = 0;
@@ -83,15 +85,15 @@ static uint64_t by_library_marked(Lent *lent) {
 
 __attribute__((noinline)) static uint64_t by_plain_c(Lent *lent) {
     Size z = lent->size;
-    return plain_find(lent->picture, z.width, z.height, z.channels, lent->method.energy == MULTISIZE_FLAT, lent->seam);
+    return plain_find(lent->picture, z.width, z.height, z.channels, lent->method.energy, lent->seam);
 }
 
 // The same, compiled for each number of channels: the loop over them is unrolled, and the rest becomes vectors.
 __attribute__((noinline)) static uint64_t by_unrolled_c(Lent *lent) {
     Size z = lent->size;
-    int by_flat = lent->method.energy == MULTISIZE_FLAT;
-    return z.channels == 3 ? plain_find(lent->picture, z.width, z.height, 3, by_flat, lent->seam)
-                           : plain_find(lent->picture, z.width, z.height, 1, by_flat, lent->seam);
+    int energy = lent->method.energy;
+    return z.channels == 3 ? plain_find(lent->picture, z.width, z.height, 3, energy, lent->seam)
+                           : plain_find(lent->picture, z.width, z.height, 1, energy, lent->seam);
 }
 
 static void fill(Lent *lent) {
@@ -160,6 +162,11 @@ static void times(Size size) {
     lent.method = flat;
     compare(&lent, "find by flat", by_library, "unrolled C", by_unrolled_c);
     compare(&lent, "find by flat", by_library, "reference", reference_find);
+    lent.method = forward;
+    compare(&lent, "find by forward", by_library, "plain C", by_plain_c);
+    compare(&lent, "find by forward", by_library, "unrolled C", by_unrolled_c);
+    compare(&lent, "find by forward", by_library, "reference", reference_find);
+    compare(&lent, "find_marked by forward", by_library_marked, "reference", reference_find_marked);
 }
 
 static void once(Size size, multisize_method method) {
@@ -173,7 +180,7 @@ static void once(Size size, multisize_method method) {
 
 int main(int count, char **words) {
     if (count > 1)
-        once(sizes[atoi(words[1]) == 1], count > 2 ? flat : usual);
+        once(sizes[atoi(words[1]) == 1], named(count > 2 ? words[2] : "edge"));
     else
         times(sizes[0]), times(sizes[1]);
 }

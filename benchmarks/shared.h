@@ -14,7 +14,7 @@ static inline multisize_size library_size(Size z) {
     return (multisize_size){z.width, z.height, z.channels == 3 ? MULTISIZE_RGB : MULTISIZE_GREY};
 }
 
-static const multisize_method usual = {0}, flat = {MULTISIZE_FLAT};
+static const multisize_method usual = {0}, flat = {MULTISIZE_FLAT}, forward = {MULTISIZE_FORWARD};
 
 // A picture, the spaces for its seam, and the method, as the reference takes them.
 typedef struct {
@@ -30,6 +30,11 @@ static inline void fill_picture(uint8_t *picture, Size size) {
     srand(1);
     for (int i = 0; i < w * h * channels; i++)
         picture[i] = (i / channels % w / 7 * 13 + i / channels / w / 5 * 7 + rand() % 16) & 255;
+}
+
+// Returns the method whose energy has this name.
+static inline multisize_method named(const char *energy) {
+    return strcmp(energy, "forward") == 0 ? forward : strcmp(energy, "flat") == 0 ? flat : usual;
 }
 
 static inline double seconds(void) {

@@ -21,7 +21,8 @@ impl Lent {
     fn method(&self) -> Method {
         let energy = match self.energy {
             0 => EnergyRule::Edge,
-            _ => EnergyRule::Flat,
+            1 => EnergyRule::Flat,
+            _ => EnergyRule::Forward,
         };
         Method { energy }
     }
