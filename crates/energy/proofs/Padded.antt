@@ -19,7 +19,7 @@ use Rattle.grids.specs.Table.{table}
 use Rattle.grids.specs.Rows.{row_at}
 use Rattle.grids.proofs.Tables.{table_same}
 use Rattle.grids.proofs.Orders.{le-or-lt}
-use Rattle.grids.proofs.Parts.{put_part}
+use Rattle.grids.proofs.Parts.{put_part, last_part}
 use Rattle.grids.proofs.Rows.{part_end, length-row_at, row_at-first, row_at-later, row_at-drop, row_at-before}
 use Rattle.pictures.specs.Limits.{most_picture}
 use Rattle.pictures.specs.declared.sizes.Size.{Size}
@@ -149,7 +149,7 @@ module _ (n : ℕ) (it wide first second third : List ℕ) (few : n ≤ length i
       ∙ ap (front ++◌) (append-nil third ∙ as_third)
       ∙ append_assoc (take n it) it (drop (length it - n) it)
 
--- It is two pixels longer, so that the neighbours on either side are as many as the pixels.
+-- It is two pixels longer.
 pub padded-long : (n : ℕ) (it : List ℕ) → n ≤ length it → length (padded n it) ≡ length it + 2 * n
 padded-long n it few =
     omega (
@@ -160,21 +160,34 @@ padded-long n it few =
       length-drop (length it - n) it,
     )
 
-module _ (n : ℕ) (it above : List ℕ) (few : n ≤ length it) (long : length above ≡ length it) where
-  afters-long : length (afters n it) ≡ length it
-  afters-long = omega (arith, length-drop (2 * n) (padded n it), padded-long n it few)
+-- How it is read when it stands at the front of an array: from its start, and without its first two pixels.
+module _ (n : ℕ) (it wide rest : List ℕ) (few : n ≤ length it) (is : wide ≡ padded n it) where
+  pub before-read : take (length it + 2 * n) (wide ++ rest) ≡ befores n it
+  before-read = take_at wide rest (length it + 2 * n) (ap length is ∙ padded-long n it few) ∙ is
 
-  befores-long : length it ≤ length (befores n it)
-  befores-long = omega (arith, padded-long n it few)
+  pub after-read : take (length (take (length it + 2 * n) (wide ++ rest)) - 2 * n) (drop (2 * n) (take (length it + 2 * n) (wide ++ rest))) ≡ afters n it
+  after-read = last_part (2 * n) (take (length it + 2 * n) (wide ++ rest)) ∙ ap (drop (2 * n)) before-read
 
-  pub left_needed : DistancesNeeded (afters n it) (befores n it) above (befores n it) (length it)
-  left_needed = record { first = omega (arith, afters-long); second = befores-long; third = omega (arith, long); fourth = befores-long }
+-- There are as many samples before and after those of a row as it has, and so many above it.
+module _ (n : ℕ) (it above : List ℕ) (few : n ≤ length it) (samples : ℕ) (long : length it ≡ samples) (high : length above ≡ samples) where
+  afters-long : samples ≤ length (afters n it)
+  afters-long = omega (arith, length-drop (2 * n) (padded n it), padded-long n it few, long)
 
-  pub across_needed : DistancesNeeded (afters n it) (befores n it) (befores n it) (befores n it) (length it)
-  across_needed = record { first = omega (arith, afters-long); second = befores-long; third = befores-long; fourth = befores-long }
+  befores-long : samples ≤ length (befores n it)
+  befores-long = omega (arith, padded-long n it few, long)
 
-  pub right_needed : DistancesNeeded (afters n it) (befores n it) above (afters n it) (length it)
-  right_needed = record { first = omega (arith, afters-long); second = befores-long; third = omega (arith, long); fourth = omega (arith, afters-long) }
+  pub left_needed : DistancesNeeded (afters n it) (befores n it) above (befores n it) samples
+  left_needed = record { first = afters-long; second = befores-long; third = omega (arith, high); fourth = befores-long }
+
+  pub up_needed : DistancesNeeded (afters n it) (befores n it) (befores n it) (befores n it) samples
+  up_needed = record { first = afters-long; second = befores-long; third = befores-long; fourth = befores-long }
+
+  pub right_needed : DistancesNeeded (afters n it) (befores n it) above (afters n it) samples
+  right_needed = record { first = afters-long; second = befores-long; third = omega (arith, high); fourth = afters-long }
+
+-- A row holds a pixel at least.
+pub few : {n : ℕ} {it above : List ℕ} {left up right : ℕ} → StepsNeeded n it above left up right → n ≤ length it
+few {n} {left = left} needed = omega (arith, needed.row.it_is, part_end 0 left n needed.row.some)
 
 -- By forward, in a picture in a buffer: the distances that are taken are the row's costs.
 module _ (z : Size) (b : List ℕ) (sure : Sized z (length b)) (r c : ℕ) (inside : r < z.height) (here : c < z.width) where

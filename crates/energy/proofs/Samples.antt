@@ -1,7 +1,7 @@
 -- How far pixels are apart is the sum of how far their samples are.
 use mathlib.Core.Path.{◌≡◌, refl, sym, ap, ap₂, ◌∙◌}
 use mathlib.Core.List.{List, [], ◌∷◌, ◌++◌}
-use Prim.Native.Nat.{ℕ, zero, suc, ◌+◌, ◌*◌, ◌≤◌}
+use Prim.Native.Nat.{ℕ, zero, suc, ◌+◌, ◌*◌, ◌≤◌, ◌<◌}
 use native.Mathlib.Omega.{arith}
 use lib.ListN.{length, get_or}
 use Rattle.std.specs.List.{sum}
@@ -56,3 +56,17 @@ channels_are n a b c d s inner width is by_samples long rows =
     is
     ∙ table_same _ (two_distances n a b c d) width
     (λ k l. ap (λ x. sum (row_at n k x)) by_samples ∙ samples_are n a b c d k inner (omega (arith, part_end k width n l, long)) rows)
+
+-- In grey a sample is a pixel.
+pub pixels_are : (a b c d : List ℕ) (width : ℕ) {out : List ℕ} → out ≡ table (sample_distance a b c d) width → DistancesNeeded a b c d width
+    → out ≡ table (two_distances 1 a b c d) width
+pixels_are a b c d width is rows =
+    is
+    ∙ table_same (sample_distance a b c d) (two_distances 1 a b c d) width
+    (λ k l. sym (one k l) ∙ samples_are 1 a b c d k width (omega arith) rows)
+  where
+    one : (k : ℕ) → k < width → sum (row_at 1 k (table (sample_distance a b c d) width)) ≡ sample_distance a b c d k
+    one k l =
+        let at : k * 1 + 0 ≡ k = omega arith in
+        ap sum (table_part (table (sample_distance a b c d) width) (k * 1) 1 0 (omega (arith, length-table (sample_distance a b c d) width)))
+        ∙ rw at (omega (arith, table_at (sample_distance a b c d) width k 0 l))

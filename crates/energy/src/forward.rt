@@ -40,8 +40,8 @@ pub(crate) fn steps(
     ensures right { right.new ≡ table (right_of_row (channels_of kind) it.now above.now) (length right.old) }
 {
     match kind {
-        Kind::Grey => steps_row::<1, MOST_GREY>(it, above, left, up, right),
-        Kind::Rgb => steps_row::<3, MOST_RGB>(it, above, left, up, right),
+        Kind::Grey => grey_steps(it, above, left, up, right),
+        Kind::Rgb => rgb_steps(it, above, left, up, right),
     }
 }
 
@@ -61,40 +61,46 @@ fn across_row<const N: usize, const ROOM: usize>(it: &[u8], out: &mut [u32])
     distances::<N>(after, before, before, before, &mut samples[..length], out);
 }
 
-fn steps_row<const N: usize, const ROOM: usize>(
-    it: &[u8],
-    above: &[u8],
-    left: &mut [u32],
-    up: &mut [u32],
-    right: &mut [u32],
-)
-    requires few { (0 < N) × (N ≤ 3) }
-    requires room { (length it.now + 2 * N ≤ ROOM) × (ROOM ≤ most_row) }
-    requires rows { StepsNeeded N it.now above.now (length left.old) (length up.old) (length right.old) }
-    ensures left { left.new ≡ table (left_of_row N it.now above.now) (length left.old) }
-    ensures up { up.new ≡ table (across_of N it.now) (length up.old) }
-    ensures right { right.new ≡ table (right_of_row N it.now above.now) (length right.old) }
+// In grey a sample is a pixel.
+fn grey_steps(it: &[u8], above: &[u8], left: &mut [u32], up: &mut [u32], right: &mut [u32])
+    requires { StepsNeeded 1 it.now above.now (length left.old) (length up.old) (length right.old) }
+    ensures left { left.new ≡ table (left_of_row 1 it.now above.now) (length left.old) }
+    ensures up { up.new ≡ table (across_of 1 it.now) (length up.old) }
+    ensures right { right.new ≡ table (right_of_row 1 it.now above.now) (length right.old) }
 {
-    let mut wide = [0u8; ROOM];
-    let mut from_left = [0u16; ROOM];
-    let mut from_above = [0u16; ROOM];
-    let mut from_right = [0u16; ROOM];
-    let length = it.len();
-    let end = length + 2 * N;
-    pad::<N>(it, &mut wide[..end]);
+    let mut wide = [0u8; MOST_GREY];
+    let end = it.len() + 2;
+    pad::<1>(it, &mut wide[..end]);
     let before = &wide[..end];
-    let after = &before[2 * N..];
+    pixel_steps(before, &before[2..], above, left, up, right);
+}
+
+// In rgb samples are worked out before pixels, so that many are at once.
+fn rgb_steps(it: &[u8], above: &[u8], left: &mut [u32], up: &mut [u32], right: &mut [u32])
+    requires { StepsNeeded 3 it.now above.now (length left.old) (length up.old) (length right.old) }
+    ensures left { left.new ≡ table (left_of_row 3 it.now above.now) (length left.old) }
+    ensures up { up.new ≡ table (across_of 3 it.now) (length up.old) }
+    ensures right { right.new ≡ table (right_of_row 3 it.now above.now) (length right.old) }
+{
+    let mut wide = [0u8; MOST_RGB];
+    let mut from_left = [0u16; MOST_RGB];
+    let mut from_above = [0u16; MOST_RGB];
+    let mut from_right = [0u16; MOST_RGB];
+    let length = it.len();
+    let end = length + 6;
+    pad::<3>(it, &mut wide[..end]);
+    let before = &wide[..end];
     sample_steps(
         before,
-        after,
+        &before[6..],
         above,
         &mut from_left[..length],
         &mut from_above[..length],
         &mut from_right[..length],
     );
-    channels_added::<N>(&from_left[..length], left);
-    channels_added::<N>(&from_above[..length], up);
-    channels_added::<N>(&from_right[..length], right);
+    channels_added::<3>(&from_left[..length], left);
+    channels_added::<3>(&from_above[..length], up);
+    channels_added::<3>(&from_right[..length], right);
 }
 
 // The costs of coming to each sample of a row, from the samples beside it and above it. All three in one loop: how far those beside it
@@ -118,6 +124,28 @@ fn sample_steps(
         left[k] = across + above[k].abs_diff(before[k]) as u16;
         up[k] = across;
         right[k] = across + above[k].abs_diff(after[k]) as u16;
+    }
+}
+
+// The same where they are pixels: straight into the rows of costs, so that no room for samples is cleared at each row.
+fn pixel_steps(
+    before: &[u8],
+    after: &[u8],
+    above: &[u8],
+    left: &mut [u32],
+    up: &mut [u32],
+    right: &mut [u32],
+)
+    requires { SampleStepsNeeded before.now after.now above.now (length left.old) (length up.old) (length right.old) }
+    ensures left { left.new ≡ table (sample_distance after.now before.now above.now before.now) (length left.old) }
+    ensures up { up.new ≡ table (sample_distance after.now before.now before.now before.now) (length left.old) }
+    ensures right { right.new ≡ table (sample_distance after.now before.now above.now after.now) (length left.old) }
+{
+    for k in 0..left.len() {
+        let across = after[k].abs_diff(before[k]) as u32;
+        left[k] = across + above[k].abs_diff(before[k]) as u32;
+        up[k] = across;
+        right[k] = across + above[k].abs_diff(after[k]) as u32;
     }
 }
 
