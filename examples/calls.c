@@ -145,7 +145,7 @@ static void files(void) {
     NEED(bytes_are(out, 10, 10, 10, 40) && bytes_are(out + 4, 10, 30, 50, 40));
 }
 
-// The file by flat, and what it says of itself. Its map is refused in a file that names the other energy.
+// The file by flat, and what it says of itself. Its map is refused in a file that names edge.
 static void flat_files(void) {
     const uint8_t *file = (const uint8_t *)flat_text;
     static const char other[] = HEAD "(energy edge)\n" ROWS "(map 2 0 1)\n(map 0 2 1)\n)\n";

@@ -170,7 +170,7 @@ pub fn named_size(random: &mut Random, size: Size, faults: Faults) -> NamedSize 
 }
 
 /// A number that names nothing, where so many numbers from 0 on do: there are 2
-/// kinds, 2 axes and 2 energies.
+/// kinds, 2 axes and 3 energies.
 pub fn unknown_number(random: &mut Random, known: u8) -> u8 {
     let any = random.between(usize::from(known), 255) as u8;
     random.pick(&[known, 255, any])

@@ -7,3 +7,4 @@ pub mod Smallest
 pub mod Differences
 pub mod Samples
 pub mod Padded
+pub mod Meeting

@@ -64,7 +64,7 @@ unfoldable pub between : ℕ → List ℕ → List ℕ → ℕ → ℕ → ℕ �
 between channels it lower width beside c = energy_between channels it lower c (right_column width beside c)
 
 -- The line, column or row, that stands for the one after the last, line i: by `edge` the one before it, and of the only one the
--- line itself, from which it doesn't differ (0 - 1 is 0); by the others always the line itself.
+-- line itself, from which it doesn't differ (0 - 1 is 0); by `flat` always the line itself. By `forward` none is asked for.
 abbrev pub past_last : EnergyRule → ℕ → ℕ
 past_last Edge i = i - 1
 past_last Flat i = i
@@ -106,7 +106,8 @@ module _ (channels : ℕ) (it : List ℕ) where
   abbrev pub afters : List ℕ
   afters = drop (2 * channels) (padded channels it)
 
-  -- What coming to pixel c costs from straight above; from the left and from the right, where `above` is the row above.
+  -- What coming to pixel c costs from straight above, where the second distance is that of a row from itself, 0; from the left and from
+  -- the right, where `above` is the row above.
   abbrev pub across_of : ℕ → ℕ
   across_of = two_distances channels afters befores befores befores
 

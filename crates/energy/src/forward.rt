@@ -25,7 +25,8 @@ pub(crate) fn across(kind: Kind, it: &[u8], out: &mut [u32])
     }
 }
 
-// And coming to them from the left and from the right: besides, the pixel above meets the neighbour on that side.
+// All three costs of a row that has one above it. Where a path comes from a side, the pixel above and the neighbour on that side meet
+// too.
 pub(crate) fn steps(
     kind: Kind,
     it: &[u8],
@@ -58,6 +59,7 @@ fn across_row<const N: usize, const ROOM: usize>(it: &[u8], out: &mut [u32])
     pad::<N>(it, &mut wide[..end]);
     let before = &wide[..end];
     let after = &before[2 * N..];
+    // the second distance is that of a row from itself, 0
     distances::<N>(after, before, before, before, &mut samples[..length], out);
 }
 

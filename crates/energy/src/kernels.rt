@@ -98,9 +98,9 @@ pub(crate) fn channels_added<const N: usize>(samples: &[u16], out: &mut [u32])
     requires long { length samples.now ≡ length out.old * N }
     ensures { out.new ≡ table (λ c. sum (row_at N c samples.now)) (length out.old) }
 {
-    for (c, energy) in out.iter_mut().enumerate() {
+    for (c, sum) in out.iter_mut().enumerate() {
         let at = c * N;
-        *energy = total(&samples[at..at + N]);
+        *sum = total(&samples[at..at + N]);
     }
 }
 

@@ -1,4 +1,4 @@
-// The energy of a row's pixels.
+// What the pixels of a row cost.
 #![tactic(auto)]
 
 mod forward;
@@ -16,7 +16,8 @@ ghost use Rattle.std.specs.Prelude.{◌≡◌, ◌++◌, ◌-◌, ◌≤◌, ◌
 pub use methods::{EnergyRule, Method, usual_method};
 use pictures::{Refusal, Size, channels, judge_picture};
 
-// The energies of row r, put into the first `width` places of out. Refused by 2, 3 and 4 as every picture is, by 4 where
+// The energies of row r, put into the first `width` places of out. By forward a pixel's energy is what coming to it from straight
+// above costs. Refused by 2, 3 and 4 as every picture is, by 4 where
 // there is no row r, and by 8 where out is shorter than the row.
 pub fn energies(
     picture: &[u8],
@@ -92,7 +93,7 @@ fn neighbour(rule: EnergyRule, i: usize, n: usize) -> usize
     match rule {
         // The line before; of the first the line itself, from which it doesn't differ.
         EnergyRule::Edge => i.saturating_sub(1),
-        // Always the line itself.
+        // Always the line itself. By forward none is asked for: the arm is there for the match.
         EnergyRule::Flat | EnergyRule::Forward => i,
     }
 }

@@ -198,7 +198,8 @@ flat_points =
 -- Points by `forward`.
 abbrev pub forward_points : List Point
 forward_points =
-    -- one row 10 40: what takes a pixel's place differs by 30; one column 10 / 50: C_U is 0, and coming from a side would cost 40
+    -- one row 10 40: a pixel's neighbour and, past the side, itself differ by 30; one column 10 / 50: C_U is 0, and coming from a side
+    -- would cost 40
     record { got = step_rows by_forward 2 1 (picture (grey 2 1) (10 ∷ 40 ∷ [])) 0; expected = (30 ∷ 30 ∷ []) ∷ (30 ∷ 30 ∷ []) ∷ (30 ∷ 30 ∷ []) ∷ [] }
     ∷ record { got = energy_grid by_forward 1 2 (picture (grey 1 2) (10 ∷ 50 ∷ [])); expected = (0 ∷ []) ∷ (0 ∷ []) ∷ [] }
     ∷ record { got = step_rows by_forward 1 2 (picture (grey 1 2) (10 ∷ 50 ∷ [])) 1; expected = (40 ∷ []) ∷ (0 ∷ []) ∷ (40 ∷ []) ∷ [] }

@@ -72,7 +72,7 @@ pub trait Costing {
         ensures { means (Self.Sum.value least) result };
 }
 
-// The energies of a picture without marks.
+// What the pixels of a picture without marks cost, by a method.
 pub struct Energies;
 
 impl Costing for Energies {

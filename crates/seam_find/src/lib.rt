@@ -1,4 +1,5 @@
-// Finding the seam of a picture that stands at the front of a lent space, by any costs, and by the energies of its pixels.
+// Finding the seam of a picture that stands at the front of a lent space, by any costs, and by what a method says that its
+// pixels cost.
 #![tactic(auto)]
 
 mod bottom;

@@ -15,9 +15,9 @@ use Rattle.seam_sums.specs.Weights.{kept, protected, weight_of}
 abbrev pub most_weight : ℕ
 most_weight = most_energy + (kept + protected)
 
--- The weight at column c of a row, from its energies and marks.
+-- The weight at column c of a row, from a row of its costs and its marks.
 abbrev pub weight_in : List ℕ → List ℕ → ℕ → ℕ
-weight_in energies marks c = weight_of (get_or energies c 0) (get_or marks c 0)
+weight_in costs marks c = weight_of (get_or costs c 0) (get_or marks c 0)
 
 -- Each of a pixel's three costs with its mark.
 abbrev pub weighed : StepCosts → ℕ → StepCosts
@@ -39,9 +39,9 @@ marked_bytes z = picture_bytes z + pixels z
 abbrev pub marks_at : Size → List ℕ → ℕ → List ℕ
 marks_at z b i = take z.width (drop (picture_bytes z + i * z.width) b)
 
--- A row's energies and marks, and room for its weights.
-pub record WeighNeeded (energies marks : List ℕ) (cost : ℕ) : Type 0 where
-  pub all : length energies ≡ cost
+-- A row of costs and its marks, and room for the weights.
+pub record WeighNeeded (costs marks : List ℕ) (cost : ℕ) : Type 0 where
+  pub all : length costs ≡ cost
   pub marked : length marks ≡ cost
 
 -- The three costs of a row's steps and its marks, and room for three rows of weights,

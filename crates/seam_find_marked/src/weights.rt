@@ -1,4 +1,4 @@
-// The weights of a picture with marks: each pixel's energy and mark in one number.
+// The weights of a picture with marks: what coming to each pixel costs and its mark in one number.
 ghost use Rattle.std.specs.Prelude.{◌≡◌, ◌<◌, true, length};
 ghost use Rattle.grids.specs.Table.{table};
 ghost use Rattle.seam_sums.specs.Weights.{FoundByGiven};
@@ -97,13 +97,13 @@ fn row_marks(bytes: &[u8], allowed: AllowedSize, i: usize) -> &[u8]
     &bytes[a..e]
 }
 
-// The weights of a row, from its energies and marks. By index, since nothing is promised of what is written through a zip.
-fn weigh(energies: &[u32], marks: &[u8], cost: &mut [u64])
-    requires { WeighNeeded energies.now marks.now (length cost.old) }
-    ensures { cost.new ≡ table (weight_in energies.now marks.now) (length cost.old) }
+// The weights of a row, from a row of its costs and its marks. By index, since nothing is promised of what is written through a zip.
+fn weigh(costs: &[u32], marks: &[u8], cost: &mut [u64])
+    requires { WeighNeeded costs.now marks.now (length cost.old) }
+    ensures { cost.new ≡ table (weight_in costs.now marks.now) (length cost.old) }
 {
     for (c, cost) in cost.iter_mut().enumerate() {
-        *cost = weight(energies[c], marks[c]);
+        *cost = weight(costs[c], marks[c]);
     }
 }
 

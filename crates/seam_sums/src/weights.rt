@@ -1,4 +1,4 @@
-// A pixel's energy and mark in one number, and what the least sum of such numbers means.
+// What coming to a pixel costs and its mark in one number, and what the least sum of such numbers means.
 ghost use Rattle.std.specs.Prelude.{◌≡◌};
 ghost use Rattle.seam_sums.specs.Weights.{weight_of, FoundByGiven};
 
@@ -10,15 +10,15 @@ pub const KEPT: u64 = 1 << 32;
 // What a protected pixel adds: more than any path weighs that has none.
 pub const PROTECTED: u64 = 1 << 48;
 
-// The weight of a pixel: its energy, with KEPT if it isn't marked 2, and PROTECTED if it is marked 1.
-pub fn weight(energy: u32, mark: u8) -> u64
-    ensures { result ≡ weight_of energy mark }
+// The weight of a pixel: what coming to it costs, with KEPT if it isn't marked 2, and PROTECTED if it is marked 1.
+pub fn weight(cost: u32, mark: u8) -> u64
+    ensures { result ≡ weight_of cost mark }
 {
-    let energy = energy as u64;
+    let cost = cost as u64;
     match mark {
-        1 => energy + (KEPT + PROTECTED),
-        2 => energy,
-        _ => energy + KEPT,
+        1 => cost + (KEPT + PROTECTED),
+        2 => cost,
+        _ => cost + KEPT,
     }
 }
 

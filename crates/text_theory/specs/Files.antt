@@ -74,7 +74,7 @@ unfoldable pub map_text : List ℕ → List ℕ
 map_text row = map_word ++ line_text digits row
 
 -- The lines of the head, one after the other: `(multi`, `(size 3 2 grey)`, `(range 2 1)`; and change 102: "After the range line
--- stands `(energy edge)` [..] or `(energy flat)`".
+-- stands `(energy edge)` [..] or `(energy flat)`"; change 103: "the file says `(energy forward)`".
 unfoldable pub first_text : List ℕ
 first_text = begun name.Multi ++ line_end
 

@@ -55,7 +55,11 @@ fn forward(lines: &Lines, at: (usize, usize), from: Option<usize>) -> u64 {
 
 /// C_L for a path that comes from the right, and C_R for one from the left.
 fn exchanged(lines: &Lines, at: (usize, usize), from: Option<usize>) -> u64 {
-    forward(lines, at, from.map(|from| 2 * at.1 + 2 - from))
+    let [before, after] = sides(&lines[at.0], at.1);
+    let other = |from: usize| if from < at.1 { after } else { before };
+    let from = from.filter(|from| *from != at.1);
+    let aside = from.map_or(0, |from| apart(&lines[at.0 - 1][at.1], other(from)));
+    across(lines, at) + aside
 }
 
 /// C_U whichever way a path comes.

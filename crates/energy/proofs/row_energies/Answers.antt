@@ -5,7 +5,7 @@ use Rattle.grids.specs.Table.{table}
 use Rattle.pictures.specs.Pictures.{channels_of}
 use Rattle.pictures.proofs.Limits.{sized_is}
 use Rattle.energy.specs.Inner.{across_of}
-use Rattle.energy.proofs.Padded.{across-row}
+use Rattle.energy.proofs.Meeting.{across-row}
 use Rattle.energy.proofs.row_energies.Goals as goal
 
 pub returns-else-has_one_cost : goal.returns-else-has_one_cost

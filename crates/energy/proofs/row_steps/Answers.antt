@@ -1,7 +1,7 @@
 -- `energy::row_steps` meets its contract: the row above ends where the row begins, and what is taken is what the row's steps cost.
 use Rattle.std.proofs.Common.{◌*◌, ap, ◌∙◌}
 use Rattle.pictures.proofs.Limits.{sized_is}
-use Rattle.energy.proofs.Padded.{left-row, up-row, right-row}
+use Rattle.energy.proofs.Meeting.{left-row, up-row, right-row}
 use Rattle.energy.proofs.row_steps.Goals as goal
 
 pub returns-clause-left : goal.returns-clause-left

@@ -7,4 +7,4 @@ pub loop-c-preserved : goal.loop-c-preserved
 loop-c-preserved c =
     let l = c.loop-c in
     let a = c.args in
-    stored_turn (weight_in a.energies.now a.marks.now) a.cost.now _ l.c l.cost _ 0 c.loop-c-test.true c.weight.ensures l.invariant
+    stored_turn (weight_in a.costs.now a.marks.now) a.cost.now _ l.c l.cost _ 0 c.loop-c-test.true c.weight.ensures l.invariant

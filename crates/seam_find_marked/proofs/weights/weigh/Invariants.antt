@@ -5,4 +5,4 @@ use Rattle.seam_find_marked.specs.Inner.{weight_in}
 use Rattle.seam_find_marked.proofs.weights.weigh.Given as goal
 
 abbrev pub invariant-loop-c : goal.invariant-loop-c
-invariant-loop-c l = Stored (weight_in l.energies l.marks) l.initial.cost l.c-end l.c l.cost
+invariant-loop-c l = Stored (weight_in l.costs l.marks) l.initial.cost l.c-end l.c l.cost
