@@ -145,31 +145,27 @@ static void files(void) {
     NEED(bytes_are(out, 10, 10, 10, 40) && bytes_are(out + 4, 10, 30, 50, 40));
 }
 
-// The file by flat, and what it says of itself. Its map is refused in a file that names edge.
-static void flat_files(void) {
-    const uint8_t *file = (const uint8_t *)flat_text;
-    static const char other[] = HEAD "(energy edge)\n" ROWS "(map 2 0 1)\n(map 0 2 1)\n)\n";
-    size_t length = sizeof flat_text - 1;
-    multisize_answer a = multisize_build(brought, PIXELS, size, flat, 2, 1, out, multisize_file_bytes(size), work, WORK);
+// A file by another energy than the usual one: what it says of itself, and its rows at width 4. The map of another file is
+// refused under its word.
+static void file_by(multisize_method method, const char *own, const uint8_t *shown, const char *other) {
+    const uint8_t *file = (const uint8_t *)own;
+    size_t length = strlen(own);
+    multisize_answer a = multisize_build(brought, PIXELS, size, method, 2, 1, out, multisize_file_bytes(size), work, WORK);
     NEED(a.number == 0 && a.value == length && !memcmp(out, file, length));
     multisize_file_answer f = multisize_check(file, length, work, WORK);
-    NEED(f.number == 0 && f.method.energy == MULTISIZE_FLAT && f.depth == 2 && f.growth == 1);
+    NEED(f.number == 0 && f.method.energy == method.energy && f.depth == 2 && f.growth == 1);
     multisize_size_answer z = multisize_show(file, length, 4, out, sizeof out, work, WORK);
-    NEED(z.number == 0 && bytes_are(out, 10, 10, 25, 40) && bytes_are(out + 4, 10, 50, 45, 40));
-    NEED(multisize_check((const uint8_t *)other, sizeof other - 1, work, WORK).number == MULTISIZE_REFUSED_OTHER);
+    NEED(z.number == 0 && !memcmp(out, shown, 8));
+    NEED(multisize_check((const uint8_t *)other, strlen(other), work, WORK).number == MULTISIZE_REFUSED_OTHER);
 }
 
-static void forward_files(void) {
-    const uint8_t *file = (const uint8_t *)forward_text;
-    static const char other[] = HEAD "(energy forward)\n" ROWS "(map 1 0 2)\n(map 1 0 2)\n)\n";
-    size_t length = sizeof forward_text - 1;
-    multisize_answer a = multisize_build(brought, PIXELS, size, forward, 2, 1, out, multisize_file_bytes(size), work, WORK);
-    NEED(a.number == 0 && a.value == length && !memcmp(out, file, length));
-    multisize_file_answer f = multisize_check(file, length, work, WORK);
-    NEED(f.number == 0 && f.method.energy == MULTISIZE_FORWARD && f.depth == 2 && f.growth == 1);
-    multisize_size_answer z = multisize_show(file, length, 4, out, sizeof out, work, WORK);
-    NEED(z.number == 0 && bytes_are(out, 10, 10, 10, 40) && bytes_are(out + 4, 10, 50, 45, 40));
-    NEED(multisize_check((const uint8_t *)other, sizeof other - 1, work, WORK).number == MULTISIZE_REFUSED_OTHER);
+static void files_by_others(void) {
+    static const uint8_t by_flat[] = {10, 10, 25, 40, 10, 50, 45, 40}, by_forward[] = {10, 10, 10, 40, 10, 50, 45, 40};
+    file_by(flat, flat_text, by_flat, HEAD "(energy flat)\n" ROWS "(map 1 0 2)\n(map 1 0 2)\n)\n");
+    file_by(forward, forward_text, by_forward, HEAD "(energy forward)\n" ROWS "(map 1 0 2)\n(map 1 0 2)\n)\n");
+    // The map by flat is refused in a file that names edge, too.
+    static const char edge[] = HEAD "(energy edge)\n" ROWS "(map 2 0 1)\n(map 0 2 1)\n)\n";
+    NEED(multisize_check((const uint8_t *)edge, sizeof edge - 1, work, WORK).number == MULTISIZE_REFUSED_OTHER);
 }
 
 // A refused answer is the number alone.
@@ -255,7 +251,7 @@ static void no_space(void) {
 
 int main(void) {
     rows(), step_costs(), seams(), flat_seams(), forward_seams(), marked(), retargets();
-    files(), flat_files(), forward_files(), refused_files(), row_at_widths(), unknown_names();
+    files(), files_by_others(), refused_files(), row_at_widths(), unknown_names();
     longest(MULTISIZE_GREY), longest(MULTISIZE_RGB), no_space();
     puts("every function answers as multisize.h says");
     return 0;

@@ -1,11 +1,10 @@
 //! Libraries that are wrong by `forward`. The pictures that are drawn have to tell
 //! each of them by its seams.
 
-use crate::contents::samples;
 use crate::methods::FORWARD;
+use crate::neighbours::told;
 use crate::paths::{backward, Small};
-use crate::random::Random;
-use reference::{Axis, Kind, Size};
+use reference::Axis;
 
 /// What a path pays for the pixel of a line and a place, which it comes to from a
 /// place of the line before, if there is one.
@@ -102,36 +101,15 @@ fn chosen_ahead_of_the_step(small: &Small) -> Vec<usize> {
     best.into_iter().min_by_key(|(sum, _)| *sum).unwrap().1
 }
 
-/// In how many of 600 drawn pictures a library gives another seam.
-fn told(seam: impl Fn(&Small) -> Vec<usize>, axis: Axis) -> usize {
-    let mut random = Random::new(8);
-    let mut differ = || {
-        let size = Size {
-            width: random.between(1, 5),
-            height: random.between(1, 5),
-            kind: random.pick(&[Kind::Grey, Kind::Rgb]),
-        };
-        let small = Small {
-            bytes: &samples(&mut random, size),
-            marks: &[],
-            size,
-            method: FORWARD,
-            axis,
-        };
-        seam(&small) != small.seam().unwrap().0
-    };
-    (0..600).filter(|_| differ()).count()
-}
-
 #[test]
 fn wrong_libraries_are_told_by_the_seams() {
     for axis in [Axis::Vertical, Axis::Horizontal] {
-        assert_eq!(told(|small| seam_by(small, forward), axis), 0);
+        assert_eq!(told(|small| seam_by(small, forward), FORWARD, axis), 0);
         for (name, rule) in WRONG {
-            let count = told(|small| seam_by(small, rule), axis);
+            let count = told(|small| seam_by(small, rule), FORWARD, axis);
             assert!(count > 20, "{name}: {count}");
         }
-        let count = told(chosen_ahead_of_the_step, axis);
+        let count = told(chosen_ahead_of_the_step, FORWARD, axis);
         assert!(count > 20, "added after the choice: {count}");
     }
 }

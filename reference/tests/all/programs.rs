@@ -71,32 +71,31 @@ fn fit_writes_each_width() {
 
 #[test]
 fn fit_on_the_example() {
-    let file = EXAMPLE_FILE.as_bytes();
-    assert_eq!(
-        fit(4, file),
-        b"P5\n4 2\n255\n\x0a\x0a\x0a\x28\x0a\x1e\x32\x28"
-    );
-    assert_eq!(fit(2, file), b"P5\n2 2\n255\n\x0a\x28\x32\x28");
-    assert_eq!(fit(1, file), b"P5\n1 2\n255\n\x0a\x32");
-    assert_eq!(fit(0, file), refused(7));
-    assert_eq!(fit(5, file), refused(7));
-    assert_eq!(fit(65_535, file), refused(7));
-    let file = FLAT_FILE.as_bytes();
-    assert_eq!(
-        fit(4, file),
-        b"P5\n4 2\n255\n\x0a\x0a\x19\x28\x0a\x32\x2d\x28"
-    );
-    assert_eq!(fit(2, file), b"P5\n2 2\n255\n\x0a\x0a\x0a\x32");
-    assert_eq!(fit(1, file), b"P5\n1 2\n255\n\x0a\x0a");
-    assert_eq!(fit(5, file), refused(7));
-    let file = FORWARD_FILE.as_bytes();
-    assert_eq!(
-        fit(4, file),
-        b"P5\n4 2\n255\n\x0a\x0a\x0a\x28\x0a\x32\x2d\x28"
-    );
-    assert_eq!(fit(2, file), b"P5\n2 2\n255\n\x0a\x28\x0a\x28");
-    assert_eq!(fit(1, file), b"P5\n1 2\n255\n\x28\x28");
-    assert_eq!(fit(5, file), refused(7));
+    let edge = [
+        b"\x0a\x0a\x0a\x28\x0a\x1e\x32\x28".as_slice(),
+        b"\x0a\x28\x32\x28",
+        b"\x0a\x32",
+    ];
+    let flat = [
+        b"\x0a\x0a\x19\x28\x0a\x32\x2d\x28".as_slice(),
+        b"\x0a\x0a\x0a\x32",
+        b"\x0a\x0a",
+    ];
+    let forward = [
+        b"\x0a\x0a\x0a\x28\x0a\x32\x2d\x28".as_slice(),
+        b"\x0a\x28\x0a\x28",
+        b"\x28\x28",
+    ];
+    let files = [EXAMPLE_FILE, FLAT_FILE, FORWARD_FILE];
+    for (file, [four, two, one]) in files.into_iter().zip([edge, flat, forward]) {
+        let file = file.as_bytes();
+        assert_eq!(fit(4, file), [b"P5\n4 2\n255\n", four].concat());
+        assert_eq!(fit(2, file), [b"P5\n2 2\n255\n", two].concat());
+        assert_eq!(fit(1, file), [b"P5\n1 2\n255\n", one].concat());
+        for width in [0, 5, 65_535] {
+            assert_eq!(fit(width, file), refused(7));
+        }
+    }
 }
 
 /// Edited texts to `fit`: 1 to 6, then 7, then 9 to 11.
