@@ -25,7 +25,7 @@ use Rattle.energy.specs.declared.methods.Method.{Method}
 use Rattle.energy.specs.Methods.{wrap_of}
 use Rattle.energy.specs.Energy.{difference, away, costs_from, one_cost, costs_at, energy, energies, energy_grid}
 use Rattle.energy.specs.Inner.{right_column, between, past_last, neighbour_of}
-use Rattle.pictures.proofs.Buffers.{pixel_at}
+use Rattle.pictures.proofs.Buffers.{pixel_plain}
 use Rattle.energy.proofs.Steps.{not-forward}
 
 -- A pixel has no difference to itself.
@@ -157,10 +157,10 @@ energy-between z how one b e r c h l =
     at i a = row_at (channels_of z.kind) a (row_at (row_bytes z) i b)
 
     right : difference (pixel p r (neighbour_of rule c w)) (pixel p r c) ≡ difference (at r (right_column w (neighbour_of rule (w - 1) w) c)) (at r c)
-    right = rw (right_column_lem rule w c l, pixel_at z b e r c h, pixel_at z b e r (neighbour_of rule c w) h)
+    right = rw (right_column_lem rule w c l, pixel_plain z b e r c h, pixel_plain z b e r (neighbour_of rule c w) h)
 
     below : difference (pixel p n c) (pixel p r c) ≡ difference (at n c) (at r c)
-    below = ap₂ difference (pixel_at z b e n c (neighbour_inside rule r z.height h)) (pixel_at z b e r c h)
+    below = ap₂ difference (pixel_plain z b e n c (neighbour_inside rule r z.height h)) (pixel_plain z b e r c h)
 
 -- "A horizontal seam is the vertical seam of the picture with rows and columns exchanged": by a rule of one cost the energies are
 -- exchanged too.

@@ -18,6 +18,7 @@ use Rattle.energy.specs.declared.methods.Method.{Method}
 use Rattle.energy.specs.Energy.{one_cost, energy, energies}
 use Rattle.energy.specs.Inner.{LinesNeeded, energy_between, between, neighbour_of}
 use Rattle.pictures.proofs.Limits.{Sized}
+use Rattle.pictures.proofs.Buffers.{row_plain}
 use Rattle.energy.proofs.Energy.{neighbour_inside, energy-between}
 
 -- A row's pixels up to the last, for any number of channels.
@@ -53,7 +54,7 @@ module _ (z : Size) (how : Method) (one : one_cost how.energy ≡ true) (b : Lis
       }
 
   part_length : (at : ℕ) → at + s ≤ length b → length (take (at + s - at) (drop at b)) ≡ z.width * channels_of z.kind
-  part_length at h = rw (add-sub_cancel_left at s) (length-take-le s (drop at b) (omega (arith, length-drop at b)) ∙ is)
+  part_length at h = rw (add-sub_cancel_left at s) (length-take-le s (drop at b) (omega (arith, length-drop at b)) ∙ is ∙ row_plain z)
 
   pub lines_needed : (beside : ℕ) (out : List ℕ) → beside ≡ neighbour_of how.energy (z.width - 1) z.width → z.width ≤ length out
       → LinesNeeded (channels_of z.kind) (take (r * s + s - r * s) (drop (r * s) b)) (take (n * s + s - n * s) (drop (n * s) b)) z.width beside out

@@ -20,7 +20,7 @@ use Rattle.pictures.specs.Limits.{most_picture}
 use Rattle.pictures.specs.declared.sizes.Size.{Size}
 use Rattle.pictures.specs.Pictures.{Picture, channels_of, row_bytes, picture, pixel}
 use Rattle.pictures.proofs.Limits.{Sized}
-use Rattle.pictures.proofs.Buffers.{pixel_at}
+use Rattle.pictures.proofs.Buffers.{row_plain, pixel_plain}
 use Rattle.energy.specs.declared.methods.Method.{Method}
 use Rattle.energy.specs.Methods.{wrap_of}
 use Rattle.energy.specs.Around.{Around, left_of, right_of, above_of, around}
@@ -60,17 +60,17 @@ module _ (z : Size) (b : List ℕ) (sure : Sized z (length b)) (r c : ℕ) (insi
   meeting = around false z.width z.height (picture z b) r c
 
   long : (i : ℕ) → i < z.height → length (row i) ≡ z.width * n
-  long i l = length-row_at (row_bytes z) z.height b i (le_of_eq (sym sure.length_is)) l
+  long i l = length-row_at (row_bytes z) z.height b i (le_of_eq (sym sure.length_is)) l ∙ row_plain z
 
   before : row_at n c (befores n (row r)) ≡ left_or_it meeting
   before =
       before_is n z.width (row r) sure.width_some (long r inside) c here
-      ∙ sym (left-it z.width z.height (picture z b) r c ∙ pixel_at z b sure.length_is r (c - 1) inside)
+      ∙ sym (left-it z.width z.height (picture z b) r c ∙ pixel_plain z b sure.length_is r (c - 1) inside)
 
   following : row_at n c (afters n (row r)) ≡ right_or_it meeting
   following =
       after_is n z.width (row r) sure.width_some (long r inside) c here
-      ∙ sym (right-it z.width z.height (picture z b) r c ∙ pixel_at z b sure.length_is r (after z.width c) inside)
+      ∙ sym (right-it z.width z.height (picture z b) r c ∙ pixel_plain z b sure.length_is r (after z.width c) inside)
 
   meet : difference (row_at n c (afters n (row r))) (row_at n c (befores n (row r))) ≡ across meeting
   meet = ap₂ difference following before
@@ -82,7 +82,7 @@ module _ (z : Size) (b : List ℕ) (sure : Sized z (length b)) (r c : ℕ) (insi
   module _ (later : 0 < r) where
     up-is : map (λ a. pixel (picture z b) a c) (above_of r) ≡ Option.some (row_at n c (row (r - 1)))
     unfolding above_of
-    up-is = rw (lt-ltb 0 r later) (ap Option.some (pixel_at z b sure.length_is (r - 1) c (omega arith)))
+    up-is = rw (lt-ltb 0 r later) (ap Option.some (pixel_plain z b sure.length_is (r - 1) c (omega arith)))
 
     pub left-is : left_of_row n (row r) (row (r - 1)) c ≡ (forward meeting).left
     left-is = ap₂ ◌+◌ meet (ap (difference (row_at n c (row (r - 1)))) before ∙ sym (ap (away (left_or_it meeting)) up-is))
@@ -110,7 +110,7 @@ module _ (z : Size) (b : List ℕ) (sure : Sized z (length b)) (r s : ℕ) (insi
   lent-row = record {
     some = sure.width_some;
     narrow = sure.width_most;
-    it_is = ap length lent_is ∙ length-row_at (row_bytes z) z.height b r (le_of_eq (sym sure.length_is)) inside;
+    it_is = ap length lent_is ∙ length-row_at (row_bytes z) z.height b r (le_of_eq (sym sure.length_is)) inside ∙ row_plain z;
   }
 
   pub up-row : {width : ℕ} → width ≡ z.width
@@ -146,7 +146,7 @@ module _ (z : Size) (b : List ℕ) (sure : Sized z (length b)) (r s : ℕ) (insi
         → StepsNeeded (channels_of z.kind) (take (r * s + s - r * s) (drop (r * s) b)) (take (r * s - (r * s - s)) (drop (r * s - s) b)) left up right
     lent-steps left up right e f g = record {
       row = rw e lent-row;
-      above_is = ap length lent-above_is ∙ length-row_at (row_bytes z) z.height b (r - 1) (le_of_eq (sym sure.length_is)) (omega arith) ∙ ap (λ w. w * channels_of z.kind) (sym e);
+      above_is = ap length lent-above_is ∙ length-row_at (row_bytes z) z.height b (r - 1) (le_of_eq (sym sure.length_is)) (omega arith) ∙ row_plain z ∙ ap (λ w. w * channels_of z.kind) (sym e);
       up_is = f ∙ sym e;
       right_is = g ∙ sym e;
     }

@@ -9,19 +9,19 @@ use Prim.Native.Nat.{ℕ, suc, ◌*◌, ◌≤◌, ◌<◌}
 use native.Mathlib.Nat.{suc-mul, mul-le-mul_right}
 use native.Mathlib.Omega.{arith}
 use lib.Dec.{eqb}
-use lib.ListN.{length, get_or}
+use lib.ListN.{length, get_or, drop}
 use Rattle.grids.specs.Rows.{row_at}
 use Rattle.grids.proofs.Orders.{le-or-lt}
-use Rattle.grids.proofs.Rows.{row_at-short, row_at-all}
 use Rattle.pictures.specs.declared.sizes.Size.{Size}
-use Rattle.pictures.specs.Pictures.{Picture, channels_of, row_bytes, picture_bytes, picture, pixel}
+use Rattle.pictures.specs.Pictures.{Picture, channels_of, pixel_bytes, largest_sample, row_bytes, picture_bytes, picture, pixel}
 use Rattle.energy.specs.Around.{left_of, right_of, above_of, around}
 use Rattle.energy.specs.declared.methods.EnergyRule.{EnergyRule}
 use Rattle.energy.specs.declared.methods.EnergyRule.TheVariants.{Edge, Flat, Forward}
 use Rattle.energy.specs.declared.methods.Method.{Method}
 use Rattle.energy.specs.Methods.{wrap_of}
 use Rattle.energy.specs.Energy.{difference, away, StepCosts, costs_from, one_cost, costs_at, is_the, toward}
-use Rattle.pictures.proofs.Buffers.{pixel_at, pixel-past}
+use Rattle.pictures.proofs.Samples.{AreBytes, take_bytes, drop_bytes, samples-most}
+use Rattle.pictures.proofs.Buffers.{picture-of_size, pixel_at, pixel-past, pixel-short}
 use Rattle.energy.proofs.Energy.{away_holds, two_neighbours}
 
 -- The bound of an energy, over the largest sample m.
@@ -99,25 +99,22 @@ module _ (channels m : ℕ) (p : Picture) (short : (r c : ℕ) → length (pixel
   costs-most how = rule_most how.energy (wrap_of how)
 
 -- The same of a picture in a buffer.
-pub buffer_costs-most : (z : Size) (how : Method) (b : List ℕ) (m : ℕ) → length b ≡ picture_bytes z → ((i : ℕ) → get_or b i 0 ≤ m)
-    → (r c : ℕ) → CostsMost (2 * (channels_of z.kind * m)) (costs_at how z.width z.height (picture z b) r c)
-buffer_costs-most z how b m e h = costs-most ch m (picture z b) short below how z.width z.height
+pub buffer_costs-most : (z : Size) (how : Method) (b : List ℕ) → length b ≡ picture_bytes z → AreBytes b
+    → (r c : ℕ) → CostsMost (2 * (channels_of z.kind * largest_sample z.kind)) (costs_at how z.width z.height (picture z b) r c)
+buffer_costs-most z how b e h = costs-most (channels_of z.kind) (largest_sample z.kind) (picture z b) short below how z.width z.height
   where
-    ch : ℕ
-    ch = channels_of z.kind
+    short : (r c : ℕ) → length (pixel (picture z b) r c) ≤ channels_of z.kind
+    short = pixel-short z (picture z b) (picture-of_size z b e)
 
-    short : (r c : ℕ) → length (pixel (picture z b) r c) ≤ ch
-    short r c =
-        ⊎_elim
-        (λ (l : z.height ≤ r). rw (pixel-past z b r c l) (omega arith))
-        (λ (l : r < z.height). rw (pixel_at z b e r c l) (row_at-short ch (row_at (row_bytes z) r b) c))
-        (le-or-lt z.height r)
+    part : (w r : ℕ) (b : List ℕ) → AreBytes b → AreBytes (row_at w r b)
+    part w r b h = take_bytes w (drop (r * w) b) (drop_bytes (r * w) b h)
 
-    below : (r c k : ℕ) → get_or (pixel (picture z b) r c) k 0 ≤ m
+    below : (r c k : ℕ) → get_or (pixel (picture z b) r c) k 0 ≤ largest_sample z.kind
     below r c k =
         ⊎_elim
         (λ (l : z.height ≤ r). rw (pixel-past z b r c l) (omega arith))
         (λ (l : r < z.height).
+        let row = row_at (row_bytes z) r b in
         rw (pixel_at z b e r c l)
-        (row_at-all (λ s. s ≤ m) ch (row_at (row_bytes z) r b) 0 (omega arith) (row_at-all (λ s. s ≤ m) (row_bytes z) b 0 (omega arith) h r) c k))
+        (samples-most z.kind (row_at (pixel_bytes z.kind) c row) (part (pixel_bytes z.kind) c row (part (row_bytes z) r b h)) k))
         (le-or-lt z.height r)

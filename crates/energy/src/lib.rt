@@ -14,7 +14,7 @@ ghost use Rattle.energy.specs.Inner.{RowNeeded, RowStepsNeeded, neighbour_of};
 ghost use Rattle.std.specs.Prelude.{◌≡◌, ◌++◌, ◌-◌, ◌≤◌, ◌<◌, true, false, ◌||◌, eqb, length, drop};
 
 pub use methods::{EnergyRule, Method, usual_method};
-use pictures::{Refusal, Size, channels, judge_picture};
+use pictures::{Refusal, Size, judge_picture, pixel_bytes};
 
 // The energies of row r, put into the first `width` places of out. By forward a pixel's energy is what coming to it from straight
 // above costs. Refused by 2, 3 and 4 as every picture is, by 4 where
@@ -106,7 +106,7 @@ fn row_energies(picture: &[u8], size: Size, method: Method, r: usize, out: &mut 
     if method.energy.has_one_cost() {
         row_between(picture, size, method, r, out);
     } else {
-        let stride = size.width * channels(size.kind);
+        let stride = size.width * pixel_bytes(size.kind);
         let at = r * stride;
         forward::across(size.kind, &picture[at..at + stride], &mut out[..size.width]);
     }
@@ -121,7 +121,7 @@ fn row_between(picture: &[u8], size: Size, method: Method, r: usize, out: &mut [
     let width = size.width;
     let height = size.height;
     let kind = size.kind;
-    let stride = width * channels(kind);
+    let stride = width * pixel_bytes(kind);
     let at = r * stride;
     let rule = method.energy;
     let lower = neighbour(rule, r, height) * stride;
@@ -150,7 +150,7 @@ fn row_steps(
     ensures up { up.new ≡ table (λ c. (forward (around false size.width size.height (Pictures·picture size picture.now) r c)).up) size.width }
     ensures right { right.new ≡ table (λ c. (forward (around false size.width size.height (Pictures·picture size picture.now) r c)).right) size.width }
 {
-    let stride = size.width * channels(size.kind);
+    let stride = size.width * pixel_bytes(size.kind);
     let at = r * stride;
     let above = at - stride;
     forward::steps(

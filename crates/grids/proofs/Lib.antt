@@ -5,6 +5,7 @@ pub mod Tables
 pub mod Rows
 pub mod Exchange
 pub mod Cut
+pub mod Cells
 pub mod Parts
 pub mod Filled
 pub mod Maps

@@ -13,7 +13,7 @@ use Rattle.pictures.specs.declared.sizes.Kind.TheVariants.{Grey, Rgb}
 use Rattle.pictures.specs.declared.sizes.Size.{Size}
 use Rattle.pictures.specs.Refusals.{◌when◌, refusal, served}
 use Rattle.pictures.specs.Limits.{most_side, most_row, most_pixels, most_picture}
-use Rattle.pictures.specs.Pictures.{largest_side, channels_of, picture_bytes, pixels, side_rules, size_rules}
+use Rattle.pictures.specs.Pictures.{largest_side, channels_of, pixel_bytes, picture_bytes, pixels, side_rules, size_rules}
 use Rattle.pictures.proofs.Rules.{served-first, passed}
 
 -- A size within the limits; the fields named `small` and `most` after it are what the arithmetic needs of it.
@@ -26,8 +26,10 @@ pub record Sides (z : Size) : Type 0 where
   pub height_small : z.height ≤ most_side
   pub channels_some : 0 < channels_of z.kind
   pub channels_most : channels_of z.kind ≤ 3
-  pub row_most : z.width * channels_of z.kind ≤ most_row
-  pub picture_most : z.height * (z.width * channels_of z.kind) ≤ most_picture
+  pub pixel_some : 0 < pixel_bytes z.kind
+  pub pixel_most : pixel_bytes z.kind ≤ 6
+  pub row_most : z.width * pixel_bytes z.kind ≤ most_row
+  pub picture_most : z.height * (z.width * pixel_bytes z.kind) ≤ most_picture
   pub pixels_most : z.height * z.width ≤ most_pixels
 
 -- A size within the limits, and a buffer as long as it says.
@@ -40,9 +42,11 @@ pub record Sized (z : Size) (bytes : ℕ) : Type 0 where
   pub height_small : z.height ≤ most_side
   pub channels_some : 0 < channels_of z.kind
   pub channels_most : channels_of z.kind ≤ 3
-  pub length_is : bytes ≡ z.height * (z.width * channels_of z.kind)
-  pub row_most : z.width * channels_of z.kind ≤ most_row
-  pub picture_most : z.height * (z.width * channels_of z.kind) ≤ most_picture
+  pub pixel_some : 0 < pixel_bytes z.kind
+  pub pixel_most : pixel_bytes z.kind ≤ 6
+  pub length_is : bytes ≡ z.height * (z.width * pixel_bytes z.kind)
+  pub row_most : z.width * pixel_bytes z.kind ≤ most_row
+  pub picture_most : z.height * (z.width * pixel_bytes z.kind) ≤ most_picture
   pub pixels_most : z.height * z.width ≤ most_pixels
 
 pub channels_some : (k : Kind) → 0 < channels_of k
@@ -52,6 +56,16 @@ channels_some Rgb = omega arith
 pub channels_most : (k : Kind) → channels_of k ≤ 3
 channels_most Grey = omega arith
 channels_most Rgb = omega arith
+
+pub pixel_some : (k : Kind) → 0 < pixel_bytes k
+unfolding pixel_bytes
+pixel_some Grey = omega arith
+pixel_some Rgb = omega arith
+
+pub pixel_most : (k : Kind) → pixel_bytes k ≤ 6
+unfolding pixel_bytes
+pixel_most Grey = omega arith
+pixel_most Rgb = omega arith
 
 pos : (n : ℕ) → eqb n 0 ≡ false → 0 < n
 pos zero e = absurd (eqb-false 0 0 e refl)
@@ -67,8 +81,7 @@ sides_are z e =
     let h = ltb-false largest_side z.height most.1 in
     let wide : z.width ≤ most_side = omega (arith, w) in
     let tall : z.height ≤ most_side = omega (arith, h) in
-    let c : channels_of z.kind ≤ 6 = omega (arith, channels_most z.kind) in
-    let row : z.width * channels_of z.kind ≤ most_row = mul-le-mul wide c in
+    let row : z.width * pixel_bytes z.kind ≤ most_row = mul-le-mul wide (pixel_most z.kind) in
     record {
       width_some = pos z.width some.0;
       width_most = w;
@@ -78,6 +91,8 @@ sides_are z e =
       height_small = tall;
       channels_some = channels_some z.kind;
       channels_most = channels_most z.kind;
+      pixel_some = pixel_some z.kind;
+      pixel_most = pixel_most z.kind;
       row_most = row;
       picture_most = omega (arith, mul-le-mul tall row);
       pixels_most = mul-le-mul tall wide;
@@ -90,15 +105,15 @@ sides_of z p q r s =
     let h : z.height ≡ 0 → ⊥ = λ e. omega arith in
     simp (ne_eqb _ _ w, ne_eqb _ _ h, le-ltb _ _ q, le-ltb _ _ s)
 
--- A picture takes at most three bytes a pixel.
-pub bytes-few : (z : Size) → picture_bytes z ≤ 3 * pixels z
+-- A picture takes at most six bytes a pixel.
+pub bytes-few : (z : Size) → picture_bytes z ≤ 6 * pixels z
 bytes-few z =
-    let m = mul-le-mul_left z.height (mul-le-mul_left z.width (channels_most z.kind)) in
-    omega (arith, mul_assoc z.height z.width 3, mul_comm (z.height * z.width) 3)
+    let m = mul-le-mul_left z.height (mul-le-mul_left z.width (pixel_most z.kind)) in
+    omega (arith, mul_assoc z.height z.width 6, mul_comm (z.height * z.width) 6)
 
 -- A line of n pixels fits six bytes for each pixel of the largest side.
-pub line-fits : (n : ℕ) (k : Kind) → n ≤ largest_side → n * channels_of k ≤ 6 * largest_side
-line-fits n k l = let six : channels_of k ≤ 6 = omega (arith, channels_most k) in omega (arith, mul-le-mul l six)
+pub line-fits : (n : ℕ) (k : Kind) → n ≤ largest_side → n * pixel_bytes k ≤ 6 * largest_side
+line-fits n k l = omega (arith, mul-le-mul l (pixel_most k))
 
 -- The number of pixels that is given out for any size, 0 where it is refused, and a multiple of it.
 pub pixels-few : (z : Size) → served (refusal (side_rules z)) (pixels z) 0 ≤ most_pixels
@@ -134,6 +149,8 @@ sized_of z bytes s e = record {
   height_small = s.height_small;
   channels_some = s.channels_some;
   channels_most = s.channels_most;
+  pixel_some = s.pixel_some;
+  pixel_most = s.pixel_most;
   length_is = e;
   row_most = s.row_most;
   picture_most = s.picture_most;

@@ -15,14 +15,26 @@ Picture = List (List (List ℕ))
 abbrev pub largest_side : ℕ
 largest_side = 512
 
--- Samples a pixel, each a byte.
+-- Samples a pixel, and bytes a sample; so many bytes a pixel.
 abbrev pub channels_of : Kind → ℕ
 channels_of Grey = 1
 channels_of Rgb = 3
 
+abbrev pub sample_bytes : Kind → ℕ
+sample_bytes Grey = 1
+sample_bytes Rgb = 1
+
+unfoldable pub pixel_bytes : Kind → ℕ
+pixel_bytes k = channels_of k * sample_bytes k
+
+-- The largest sample.
+abbrev pub largest_sample : Kind → ℕ
+largest_sample Grey = 255
+largest_sample Rgb = 255
+
 -- Bytes a row, and bytes a picture: rows have no padding.
 abbrev pub row_bytes : Size → ℕ
-row_bytes z = z.width * channels_of z.kind
+row_bytes z = z.width * pixel_bytes z.kind
 
 abbrev pub picture_bytes : Size → ℕ
 picture_bytes z = z.height * row_bytes z
@@ -46,12 +58,28 @@ side_rules z =
 abbrev pub size_rules : Size → ℕ → List Rule
 size_rules z bytes = side_rules z ++ (4 when not (eqb bytes (picture_bytes z)) ∷ [])
 
+-- The samples in bytes, and the bytes of samples: one a sample.
+unfoldable pub samples_of : Kind → List ℕ → List ℕ
+samples_of Grey b = b
+samples_of Rgb b = b
+
+unfoldable pub bytes_of : Kind → List ℕ → List ℕ
+bytes_of Grey s = s
+bytes_of Rgb s = s
+
+-- The row of w pixels in some bytes, and the bytes of a row of pixels.
+unfoldable pub row_in : Kind → ℕ → List ℕ → List (List ℕ)
+row_in k w b = map (samples_of k) (rows_of (pixel_bytes k) w b)
+
+unfoldable pub row_out : Kind → List (List ℕ) → List ℕ
+row_out k x = flat (map (bytes_of k) x)
+
 -- The picture in a buffer, and the buffer of a picture.
 unfoldable pub picture : Size → List ℕ → Picture
-picture z b = map (rows_of (channels_of z.kind) z.width) (rows_of (row_bytes z) z.height b)
+picture z b = map (row_in z.kind z.width) (rows_of (row_bytes z) z.height b)
 
-unfoldable pub bytes : Picture → List ℕ
-bytes p = flat (map flat p)
+unfoldable pub bytes : Kind → Picture → List ℕ
+bytes k p = flat (map (row_out k) p)
 
 -- The pixel in row r and column c; past the edge, no samples.
 abbrev pub pixel : Picture → ℕ → ℕ → List ℕ

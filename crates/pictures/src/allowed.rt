@@ -5,7 +5,7 @@ ghost use Rattle.pictures.specs.Refusals.{given, refusal};
 ghost use Rattle.pictures.specs.Pictures.{row_bytes, picture_bytes, pixels as Pictures·pixels, work_bytes, side_rules};
 
 use crate::refusals::Refusal;
-use crate::sizes::{Size, WORK_A_PIXEL, channels, judge_sides};
+use crate::sizes::{Size, WORK_A_PIXEL, judge_sides, pixel_bytes};
 
 // A size whose sides are allowed.
 #[derive(Clone, Copy, Debug, PartialEq, Eq)]
@@ -28,7 +28,7 @@ impl AllowedSize {
     pub fn row_bytes(self) -> usize
         ensures { (result ≡ row_bytes self.size) × (result ≤ most_row) }
     {
-        self.size.width * channels(self.size.kind)
+        self.size.width * pixel_bytes(self.size.kind)
     }
 
     // Bytes of the picture.

@@ -14,8 +14,8 @@ ghost use Rattle.pictures.specs.Pictures.{row_of};
 pub use allowed::AllowedSize;
 pub use refusals::{Refusal, given, number};
 pub use sizes::{
-    Kind, LARGEST_SIDE, Size, WORK_A_PIXEL, channels, judge_picture, judge_sides, picture_bytes,
-    pixels, work_bytes,
+    Kind, LARGEST_SIDE, Size, WORK_A_PIXEL, judge_picture, judge_sides, picture_bytes,
+    pixel_bytes, pixels, work_bytes,
 };
 pub use spaces::clear;
 
@@ -30,7 +30,7 @@ pub fn row<'a>(picture: &'a [u8], size: Size, r: usize) -> &'a [u8]
     if size.height <= r {
         return &picture[..0];
     }
-    let stride = size.width * channels(size.kind);
+    let stride = size.width * pixel_bytes(size.kind);
     let at = r * stride;
     &picture[at..at + stride]
 }

@@ -1,7 +1,7 @@
 // Kinds and sizes of pictures, the bytes that they take, and which sizes are refused.
 ghost use Rattle.std.specs.Prelude.{◌≡◌};
 ghost use Rattle.pictures.specs.Refusals.{given, refusal, served};
-ghost use Rattle.pictures.specs.Pictures.{channels_of, picture_bytes, pixels as Pictures·pixels, work_bytes, side_rules, size_rules};
+ghost use Rattle.pictures.specs.Pictures.{pixel_bytes, picture_bytes, pixels as Pictures·pixels, work_bytes, side_rules, size_rules};
 
 use crate::allowed::AllowedSize;
 use crate::refusals::Refusal;
@@ -27,9 +27,10 @@ pub struct Size {
     pub kind: Kind,
 }
 
-// Samples a pixel, which are its bytes.
-pub fn channels(kind: Kind) -> usize
-    ensures { result ≡ channels_of kind }
+// Bytes a pixel.
+#[tactic(auto, unfolding(crate::specs::Pictures::pixel_bytes))]
+pub fn pixel_bytes(kind: Kind) -> usize
+    ensures { result ≡ pixel_bytes kind }
 {
     match kind {
         Kind::Grey => 1,

@@ -14,7 +14,7 @@ returns-then-size-r c =
 pub returns : goal.returns
 returns c =
     let a = c.args in
-    let s = a.size.width * c.channels.result in
+    let s = a.size.width * c.pixel_bytes.result in
     ap (λ n. take n (drop (a.r * s) a.picture.now)) (add-sub_cancel_left (a.r * s) s)
-    ∙ ap (λ n. take (a.size.width * n) (drop (a.r * (a.size.width * n)) a.picture.now)) c.channels.ensures
+    ∙ ap (λ n. take (a.size.width * n) (drop (a.r * (a.size.width * n)) a.picture.now)) c.pixel_bytes.ensures
     ∙ sym (row_is a.size a.picture.now a.r (sym c.judge_picture.ensures ∙ ap given c.in-Ok.is) c.if-size-r.false)
