@@ -12,8 +12,11 @@ use lib.Dec.{eqb}
 use lib.ListN.{length, get_or, drop}
 use Rattle.grids.specs.Rows.{row_at}
 use Rattle.grids.proofs.Orders.{le-or-lt}
+use Rattle.pictures.specs.declared.sizes.Kind.{Kind}
+use Rattle.pictures.specs.declared.sizes.Kind.TheVariants.{Grey, Rgb}
 use Rattle.pictures.specs.declared.sizes.Size.{Size}
 use Rattle.pictures.specs.Pictures.{Picture, channels_of, pixel_bytes, largest_sample, row_bytes, picture_bytes, picture, pixel}
+use Rattle.energy.specs.Bounds.{most_sample}
 use Rattle.energy.specs.Around.{left_of, right_of, above_of, around}
 use Rattle.energy.specs.declared.methods.EnergyRule.{EnergyRule}
 use Rattle.energy.specs.declared.methods.EnergyRule.TheVariants.{Edge, Flat, Forward}
@@ -97,6 +100,11 @@ module _ (channels m : ℕ) (p : Picture) (short : (r c : ℕ) → length (pixel
   pub costs-most : (how : Method) (w h r c : ℕ) → CostsMost (2 * (channels * m)) (costs_at how w h p r c)
   unfolding costs_at
   costs-most how = rule_most how.energy (wrap_of how)
+
+-- The arithmetic has room for the samples of each kind.
+pub sample-most : (k : Kind) → largest_sample k ≤ most_sample
+sample-most Grey = omega arith
+sample-most Rgb = omega arith
 
 -- The same of a picture in a buffer.
 pub buffer_costs-most : (z : Size) (how : Method) (b : List ℕ) → length b ≡ picture_bytes z → AreBytes b

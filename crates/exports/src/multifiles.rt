@@ -94,6 +94,6 @@ fn put_row(
         kind,
     })?;
     map_show::row_at(named.kind, samples, numbers, wanted, out)?;
-    let shown = map_show::pixels_at(numbers, wanted) * pictures::channels(named.kind);
+    let shown = map_show::pixels_at(numbers, wanted) * pictures::pixel_bytes(named.kind);
     Ok(shown as u64)
 }

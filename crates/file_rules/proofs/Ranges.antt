@@ -8,7 +8,7 @@ use native.Mathlib.Omega.{arith}
 use Rattle.pictures.specs.Limits.{most_side}
 use Rattle.pictures.specs.declared.sizes.Size.{Size}
 use Rattle.pictures.specs.Refusals.{◌when◌, refusal}
-use Rattle.pictures.specs.Pictures.{channels_of, side_rules}
+use Rattle.pictures.specs.Pictures.{channels_of, pixel_bytes, side_rules}
 use Rattle.pictures.proofs.Rules.{served-first}
 use Rattle.pictures.proofs.Limits.{sides_are}
 use Rattle.map_theory.specs.Widths.{allowed}
@@ -31,8 +31,8 @@ wanted_own h v out work s =
 -- A width of at most m + g, and the bytes of a row and of a picture that wide.
 pub record Bounded (h : Head) (v : ℕ) : Type 0 where
   pub width_most : v ≤ most_width
-  pub row_most : v * channels_of h.size.kind ≤ most_shown_row
-  pub shown_most : h.size.height * (v * channels_of h.size.kind) ≤ most_shown
+  pub row_most : v * pixel_bytes h.size.kind ≤ most_shown_row
+  pub shown_most : h.size.height * (v * pixel_bytes h.size.kind) ≤ most_shown
 
 pub growth_most : (h : Head) → Sound h → h.growth ≤ most_side / 2
 growth_most h s =
@@ -44,5 +44,5 @@ bounded h v s l =
     let z = sides_are h.size s.sides in
     let wide : v ≤ most_width = omega (arith, growth_most h s, z.width_most) in
     let six : channels_of h.size.kind ≤ 6 = omega (arith, z.channels_most) in
-    let row : v * channels_of h.size.kind ≤ most_shown_row = mul-le-mul wide six in
+    let row : v * pixel_bytes h.size.kind ≤ most_shown_row = mul-le-mul wide six in
     record { width_most = wide; row_most = row; shown_most = mul-le-mul z.height_small row }

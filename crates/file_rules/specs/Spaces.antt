@@ -2,7 +2,7 @@
 use Rattle.std.specs.Prelude.{not, List, [], ◌∷◌, ◌++◌, ℕ, ◌*◌, ltb}
 use Rattle.pictures.specs.declared.sizes.Size.{Size}
 use Rattle.pictures.specs.Refusals.{Rule, ◌when◌}
-use Rattle.pictures.specs.Pictures.{channels_of, side_rules, size_rules, picture_bytes, pixels}
+use Rattle.pictures.specs.Pictures.{pixel_bytes, side_rules, size_rules, picture_bytes, pixels}
 use Rattle.map_theory.specs.Widths.{allowed, offered}
 use Rattle.text_theory.specs.declared.Head.{Head}
 use Rattle.file_theory.specs.Rules.{work_rule}
@@ -22,7 +22,7 @@ read_space_rules z picture map work = side_rules z ++ space_rules z picture map 
 abbrev pub offer_rules : Head → ℕ → ℕ → ℕ → List Rule
 offer_rules h v out work =
     7 when not (offered h.size.width h.depth h.growth v)
-    ∷ 8 when ltb out (h.size.height * (v * channels_of h.size.kind))
+    ∷ 8 when ltb out (h.size.height * (v * pixel_bytes h.size.kind))
     ∷ work_rule h.size work
     ∷ []
 

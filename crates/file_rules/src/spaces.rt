@@ -5,7 +5,7 @@ ghost use Rattle.map_theory.specs.Widths.{offered};
 ghost use Rattle.file_rules.specs.Inner.{Sound};
 ghost use Rattle.file_rules.specs.Spaces.{work_rules, read_space_rules, wanted_rules, build_space_rules};
 
-use pictures::{AllowedSize, Refusal, Size, channels, judge_picture};
+use pictures::{AllowedSize, Refusal, Size, pixel_bytes, judge_picture};
 use text_theory::Head;
 
 // Which of 2, 3 and 8 refuses a work space of this length for a file of this size, or none.
@@ -51,7 +51,7 @@ pub fn judge_wanted(head: Head, wanted: usize, out: usize, work: usize) -> Resul
     if !is_offered(head, wanted) {
         return Err(Refusal::NotOffered);
     }
-    if out < size.height * (wanted * channels(size.kind)) || work < allowed.work_bytes() {
+    if out < size.height * (wanted * pixel_bytes(size.kind)) || work < allowed.work_bytes() {
         return Err(Refusal::Space);
     }
     Ok(())

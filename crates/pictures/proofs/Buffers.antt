@@ -13,13 +13,14 @@ use Rattle.grids.specs.Exchange.{exchange}
 use Rattle.grids.specs.Cut.{cut}
 use Rattle.grids.proofs.Orders.{le-or-lt}
 use Rattle.grids.proofs.Shapes.{each-length, each_at, each_map, get_or-map}
+use Rattle.grids.proofs.Exchange.{exchange-each}
 use Rattle.grids.proofs.Maps.{cut-map, exchange-map}
 use Rattle.grids.proofs.Rows.{grid-rows_of, flat-rows_of, rows_of-flat, length-flat, rows_of_at, rows_of-past, length-row_at, length-rows_of, flat_at}
 use Rattle.pictures.specs.declared.sizes.Kind.{Kind}
 use Rattle.pictures.specs.declared.sizes.Size.{Size}
 use Rattle.pictures.specs.Refusals.{refusal, served}
 use Rattle.pictures.specs.Pictures.{Picture, channels_of, pixel_bytes, row_bytes, picture_bytes, size_rules, samples_of, bytes_of, row_in, row_out, picture, bytes, OfSize, row_of, pixel}
-use Rattle.pictures.proofs.Samples.{AreBytes, take_bytes, drop_bytes, row-pixels, row-pixel, length-row_out, pixels-back, row-back, row-in-out, row-out-plain, pixel-plain, samples-plain}
+use Rattle.pictures.proofs.Samples.{AreBytes, take_bytes, drop_bytes, row-pixels, row-pixel, length-row_out, pixels-back, row-back, row-in-out, row-in-plain, row-out-plain, pixel-plain, samples-plain}
 
 -- The rows of a picture, each cut into pixels.
 pub picture-of_size : (z : Size) (b : List ℕ) → length b ≡ picture_bytes z → OfSize z (picture z b)
@@ -126,11 +127,23 @@ cut-cells z b s e h =
     bytes-cells z.kind (cut s (picture z b))
     ∙ ap flat_cells (sym (cut-map (bytes_of z.kind) s (picture z b)) ∙ ap (cut s) (picture-cells z b e h))
 
+exchanged-cells : (z : Size) (b : List ℕ) → length b ≡ picture_bytes z → AreBytes b
+    → map (map (bytes_of z.kind)) (exchange z.width (picture z b)) ≡ exchange z.width (cells (pixel_bytes z.kind) z.width z.height b)
+exchanged-cells z b e h = sym (exchange-map (bytes_of z.kind) z.width (picture z b)) ∙ ap (exchange z.width) (picture-cells z b e h)
+
 pub exchange-cells : (z : Size) (b : List ℕ) → length b ≡ picture_bytes z → AreBytes b
     → bytes z.kind (exchange z.width (picture z b)) ≡ flat_cells (exchange z.width (cells (pixel_bytes z.kind) z.width z.height b))
-exchange-cells z b e h =
-    bytes-cells z.kind (exchange z.width (picture z b))
-    ∙ ap flat_cells (sym (exchange-map (bytes_of z.kind) z.width (picture z b)) ∙ ap (exchange z.width) (picture-cells z b e h))
+exchange-cells z b e h = bytes-cells z.kind (exchange z.width (picture z b)) ∙ ap flat_cells (exchanged-cells z b e h)
+
+-- And so does a column, a row of the exchanged picture.
+pub exchanged-column : (z : Size) (b : List ℕ) → length b ≡ picture_bytes z → AreBytes b → (c : ℕ) → c < z.width
+    → row_out z.kind (get_or (exchange z.width (picture z b)) c []) ≡ flat (get_or (exchange z.width (cells (pixel_bytes z.kind) z.width z.height b)) c [])
+unfolding row_out
+exchanged-column z b e h c l =
+    let q = exchange z.width (picture z b) in
+    ap flat
+    (sym (get_or-map (map (bytes_of z.kind)) q c [] [] (omega (arith, each-length (exchange-each (picture-of_size z b e)))))
+    ∙ ap (λ q. get_or q c []) (exchanged-cells z b e h))
 
 -- The row given out: nothing where the picture is refused or has no such row, else the row's bytes.
 pub row-past : (z : Size) (b : List ℕ) (r : ℕ) → refusal (size_rules z (length b)) ≡ 0 → z.height ≤ r → row_of z b r ≡ []
@@ -142,6 +155,14 @@ row_is z b r e h = ap (λ m. served m (get_or (rows_of (row_bytes z) z.height b)
 -- Where a sample is a byte.
 pub row_plain : (z : Size) → row_bytes z ≡ z.width * channels_of z.kind
 row_plain z = ap (z.width *◌) (pixel-plain z.kind)
+
+pub picture_plain : (z : Size) (b : List ℕ) → picture z b ≡ map (rows_of (channels_of z.kind) z.width) (rows_of (row_bytes z) z.height b)
+unfolding picture
+picture_plain z b = go (rows_of (row_bytes z) z.height b)
+  where
+    go : (rows : List (List ℕ)) → map (row_in z.kind z.width) rows ≡ map (rows_of (channels_of z.kind) z.width) rows
+    go [] = refl
+    go (x ∷ rows) = ap₂ ◌∷◌ (row-in-plain z.kind z.width x) (go rows)
 
 pub pixel_plain : (z : Size) (b : List ℕ) → length b ≡ picture_bytes z → (r c : ℕ) → r < z.height → pixel (picture z b) r c ≡ row_at (channels_of z.kind) c (row_at (row_bytes z) r b)
 pixel_plain z b e r c h =

@@ -61,14 +61,16 @@ unfolding samples_of
 samples-most Grey b h = h
 samples-most Rgb b h = h
 
--- A pixel: its samples, from its bytes, and its bytes.
+-- A pixel: as many bytes as its samples have; its samples from its bytes, and its bytes.
+pub pixel_bytes_are : (k : Kind) → pixel_bytes k ≡ channels_of k * sample_bytes k
+pixel_bytes_are Grey = refl
+pixel_bytes_are Rgb = refl
+
 pub pixel-samples : (k : Kind) (b : List ℕ) → length b ≡ pixel_bytes k → length (samples_of k b) ≡ channels_of k
-unfolding pixel_bytes
-pixel-samples k b e = length-samples k (channels_of k) b e
+pixel-samples k b e = length-samples k (channels_of k) b (e ∙ pixel_bytes_are k)
 
 pub pixel-bytes : (k : Kind) (s : List ℕ) → length s ≡ channels_of k → length (bytes_of k s) ≡ pixel_bytes k
-unfolding pixel_bytes
-pixel-bytes k s e = length-bytes_of k s ∙ ap (◌* sample_bytes k) e
+pixel-bytes k s e = length-bytes_of k s ∙ ap (◌* sample_bytes k) e ∙ sym (pixel_bytes_are k)
 
 -- A row of w pixels in bytes, and back.
 pub row-pixels : (k : Kind) (w : ℕ) (b : List ℕ) → length b ≡ w * pixel_bytes k → Grid (channels_of k) w (row_in k w b)
@@ -98,8 +100,7 @@ length-row_out k g = length-flat (row-out k g)
 
 -- What is read from the first pixels' bytes, and written again.
 pixel-back : (k : Kind) (b : List ℕ) → length b ≡ pixel_bytes k → AreBytes b → bytes_of k (samples_of k b) ≡ b
-unfolding pixel_bytes
-pixel-back k b e h = bytes-samples k (channels_of k) b e h
+pixel-back k b e h = bytes-samples k (channels_of k) b (e ∙ pixel_bytes_are k) h
 
 pub pixels-back : (k : Kind) (w : ℕ) (b : List ℕ) → length b ≡ w * pixel_bytes k → AreBytes b → map (bytes_of k) (row_in k w b) ≡ rows_of (pixel_bytes k) w b
 unfolding row_in
@@ -126,7 +127,6 @@ row-in-out k {w} {x} g =
 
 -- Where a sample is a byte, as it is in each kind.
 pub pixel-plain : (k : Kind) → pixel_bytes k ≡ channels_of k
-unfolding pixel_bytes
 pixel-plain Grey = refl
 pixel-plain Rgb = refl
 

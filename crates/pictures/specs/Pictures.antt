@@ -15,7 +15,7 @@ Picture = List (List (List ℕ))
 abbrev pub largest_side : ℕ
 largest_side = 512
 
--- Samples a pixel, and bytes a sample; so many bytes a pixel.
+-- Samples a pixel, bytes a sample, and so bytes a pixel: the one times the other.
 abbrev pub channels_of : Kind → ℕ
 channels_of Grey = 1
 channels_of Rgb = 3
@@ -24,8 +24,9 @@ abbrev pub sample_bytes : Kind → ℕ
 sample_bytes Grey = 1
 sample_bytes Rgb = 1
 
-unfoldable pub pixel_bytes : Kind → ℕ
-pixel_bytes k = channels_of k * sample_bytes k
+abbrev pub pixel_bytes : Kind → ℕ
+pixel_bytes Grey = 1
+pixel_bytes Rgb = 3
 
 -- The largest sample.
 abbrev pub largest_sample : Kind → ℕ

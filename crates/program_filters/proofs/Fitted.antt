@@ -13,7 +13,7 @@ use borrow.Author.Tests.{ltb-true, ltb-false, lt-ltb, le-ltb, not-false}
 use Rattle.pictures.specs.declared.sizes.Kind.{Kind}
 use Rattle.pictures.specs.declared.sizes.Kind.TheVariants.{Grey, Rgb}
 use Rattle.pictures.specs.Refusals.{◌when◌, Rule, refusal}
-use Rattle.pictures.specs.Pictures.{channels_of, pixels}
+use Rattle.pictures.specs.Pictures.{pixel_bytes, pixels}
 use Rattle.pictures.proofs.Rules.{served-both, passed}
 use Rattle.map_theory.specs.Widths.{offered}
 use Rattle.text_theory.specs.Files.{Parts, parse}
@@ -25,10 +25,10 @@ use Rattle.program_theory.specs.Programs.{held_pixels, pixels_rule, fitted_rules
 use Rattle.program_filters.specs.Inner.{DrawNeeded}
 
 -- The spaces are just long enough for the most pixels.
-bytes-over : (k : Kind) (n : ℕ) → ltb (held_pixels * channels_of k) (n * channels_of k) ≡ ltb held_pixels n
+bytes-over : (k : Kind) (n : ℕ) → ltb (held_pixels * pixel_bytes k) (n * pixel_bytes k) ≡ ltb held_pixels n
 bytes-over k n = go k (ltb held_pixels n) refl
   where
-    go : (k : Kind) (t : Bool) → ltb held_pixels n ≡ t → ltb (held_pixels * channels_of k) (n * channels_of k) ≡ t
+    go : (k : Kind) (t : Bool) → ltb held_pixels n ≡ t → ltb (held_pixels * pixel_bytes k) (n * pixel_bytes k) ≡ t
     go Grey true e = lt-ltb (held_pixels * 1) (n * 1) (omega (arith, ltb-true held_pixels n e))
     go Grey false e = le-ltb (held_pixels * 1) (n * 1) (omega (arith, ltb-false held_pixels n e))
     go Rgb true e = lt-ltb (held_pixels * 3) (n * 3) (omega (arith, ltb-true held_pixels n e))
@@ -58,7 +58,7 @@ same_number file v picture out work needed work_is = go (parse file) refl
     go (some p) e =
         let k : Kind = p.head.size.kind in
         let n : ℕ = p.head.size.height in
-        let written : ltb (length picture) (n * (v * channels_of k)) ≡ ltb held_pixels (n * v) = rw (needed.held p e, ← mul_assoc n v (channels_of k)) (bytes-over k (n * v)) in
+        let written : ltb (length picture) (n * (v * pixel_bytes k)) ≡ ltb held_pixels (n * v) = rw (needed.held p e, ← mul_assoc n v (pixel_bytes k)) (bytes-over k (n * v)) in
         let read : ltb (length work) (32 * pixels p.head.size) ≡ ltb held_pixels (pixels p.head.size) = rw work_is (work_over (pixels p.head.size)) in
         rw (e, written, read, either_order (ltb held_pixels (n * v)) (ltb held_pixels (pixels p.head.size)) 8 (refusal (judged_rules p)))
 

@@ -16,7 +16,7 @@ use Rattle.pictures.specs.declared.sizes.Size.{Size}
 use Rattle.pictures.specs.declared.refusals.Refusal.{Refusal}
 use Rattle.pictures.specs.declared.refusals.Refusal.TheVariants as refusals
 use Rattle.pictures.specs.Refusals.{refusal}
-use Rattle.pictures.specs.Pictures.{channels_of, picture_bytes, bytes}
+use Rattle.pictures.specs.Pictures.{pixel_bytes, picture_bytes, bytes}
 use Rattle.pictures.proofs.Limits.{channels_most, sides_are}
 use Rattle.pictures.proofs.Buffers.{length-bytes}
 use Rattle.map_theory.proofs.Shown.{allowed_is, offered_is}
@@ -58,7 +58,7 @@ drawn_length d v e p = length-bytes d.size d.rows (each_weaken (λ row q. each_w
 
 -- What is known where the file is shown: its size, and the bytes at the front of the space.
 pub record Drawing (file : List ℕ) (v : ℕ) (z : Size) (picture' : List ℕ) : Type 0 where
-  pub row_most : z.width * channels_of z.kind ≤ most_shown_row
+  pub row_most : z.width * pixel_bytes z.kind ≤ most_shown_row
   pub few : picture_bytes z ≤ 3 * held_pixels
   pub inside : picture_bytes z ≤ length picture'
   pub text_is : header_text z ++ take (picture_bytes z) picture' ≡ drawn_text (shows file v)
@@ -113,7 +113,7 @@ module _ (file : List ℕ) (v : ℕ) (picture out work : List ℕ) (needed : Dra
     drawing =
         let h : Head = fit.parts.head in
         let s : Shaped fit.parts = fit.shaped in
-        let k : ℕ = channels_of h.size.kind in
+        let k : ℕ = pixel_bytes h.size.kind in
         let m = channels_most h.size.kind in
         let w = (sides_are h.size s.sides).width_most in
         let g = ((allowed_is h.size.width h.depth h.growth).0 s.range).2 in

@@ -6,7 +6,7 @@ use Rattle.program_theory.specs.Programs.{picture_rules, file_answer, held_pixel
 use Rattle.pictures.specs.declared.refusals.Refusal.{Refusal}
 use Rattle.program_netpbm.specs.Outputs.{output_space}
 use Rattle.program_netpbm.specs.Inner.{Answered}
-use Rattle.pictures.specs.Pictures.{channels_of}
+use Rattle.pictures.specs.Pictures.{pixel_bytes}
 use Rattle.text_theory.specs.Files.{Parts, parse}
 use Rattle.file_theory.specs.Shows.{shows}
 
@@ -16,7 +16,7 @@ FileAnswered z b out o out' = Answered (picture_rules (some (z, b))) (file_answe
 
 -- A space for as many pixels of the file's kind as are held, and room for the output.
 pub record DrawNeeded (file picture out : List ℕ) : Type 0 where
-  pub held : (p : Parts) → parse file ≡ some p → length picture ≡ held_pixels * channels_of p.head.size.kind
+  pub held : (p : Parts) → parse file ≡ some p → length picture ≡ held_pixels * pixel_bytes p.head.size.kind
   pub room : output_space ≤ length out
 
 -- The picture that a file shows.

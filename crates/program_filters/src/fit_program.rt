@@ -6,7 +6,7 @@ ghost use Rattle.program_netpbm.specs.Outputs.{Wrote, output_space};
 ghost use Rattle.program_netpbm.specs.Inner.{Answered};
 ghost use Rattle.program_filters.specs.Inner.{DrawNeeded, PictureAnswered};
 
-use pictures::{Refusal, WORK_A_PIXEL, channels};
+use pictures::{Refusal, WORK_A_PIXEL, pixel_bytes};
 use program_netpbm::OUTPUT_SPACE;
 use program_rules::HELD_PIXELS;
 use text_read::Cursor;
@@ -45,7 +45,7 @@ fn draw_file(file: &[u8], width: usize, out: &mut [u8]) -> Result<usize, Refusal
 {
     let start = Cursor { at: 0 };
     let (head, _) = start.header(file).ok_or(Refusal::Form)?;
-    let room = HELD_PIXELS * channels(head.size.kind);
+    let room = HELD_PIXELS * pixel_bytes(head.size.kind);
     let mut picture = [0u8; 3 * HELD_PIXELS];
     draw_in(file, width, &mut picture[..room], out)
 }
@@ -57,7 +57,7 @@ fn draw_in(file: &[u8], width: usize, picture: &mut [u8], out: &mut [u8]) -> Res
 {
     let mut work = [0u8; WORK_A_PIXEL * HELD_PIXELS];
     let size = file_read::show(file, width, picture, &mut work)?;
-    let bytes = size.height * (size.width * channels(size.kind));
+    let bytes = size.height * (size.width * pixel_bytes(size.kind));
     let end = program_netpbm::print_picture(out, size, &picture[..bytes]).unwrap();
     Ok(end)
 }

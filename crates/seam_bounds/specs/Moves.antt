@@ -2,7 +2,7 @@
 use Rattle.std.specs.Prelude.{Bool, false, not, ◌&&◌, ◌||◌, List, [], ◌∷◌, ◌++◌, ℕ, ◌+◌, ◌*◌, eqb, leb, ltb}
 use Rattle.pictures.specs.declared.sizes.Size.{Size}
 use Rattle.pictures.specs.Refusals.{Rule, ◌when◌}
-use Rattle.pictures.specs.Pictures.{channels_of, picture_bytes, size_rules}
+use Rattle.pictures.specs.Pictures.{pixel_bytes, picture_bytes, size_rules}
 
 -- When an exchange is refused: as the picture is, and where the space is shorter than the picture.
 abbrev pub exchange_rules : Size → ℕ → ℕ → List Rule
@@ -11,7 +11,7 @@ exchange_rules z bytes space = size_rules z bytes ++ (8 when ltb space (picture_
 -- When a column isn't given: as the picture is refused, where the space is shorter than the column, and where the column
 -- is outside the picture.
 abbrev pub column_rules : Size → ℕ → ℕ → ℕ → List Rule
-column_rules z bytes c space = size_rules z bytes ++ (8 when ltb space (z.height * channels_of z.kind) ∷ 10 when leb z.width c ∷ [])
+column_rules z bytes c space = size_rules z bytes ++ (8 when ltb space (z.height * pixel_bytes z.kind) ∷ 10 when leb z.width c ∷ [])
 
 -- When a seam isn't read: as the picture is refused, and where the seam hasn't one column for each row.
 abbrev pub close_length_rules : Size → ℕ → ℕ → List Rule

@@ -4,7 +4,7 @@ ghost use Rattle.std.specs.Prelude.{◌≡◌, ◌+◌, leb};
 ghost use Rattle.pictures.specs.Refusals.{given, refusal};
 ghost use Rattle.seam_bounds.specs.Moves.{exchange_rules, column_rules, close_length_rules, close_column_rules, apart_in};
 
-use pictures::{Refusal, Size, channels, judge_picture};
+use pictures::{Refusal, Size, pixel_bytes, judge_picture};
 
 // Whether a picture may be put with rows and columns exchanged into a space of `space` bytes. Refused by 2, 3 and 4 as every
 // picture is, and by 8 where the space is shorter than the picture.
@@ -24,7 +24,7 @@ pub fn judge_column(size: Size, bytes: usize, column: usize, space: usize) -> Re
     ensures { given result ≡ refusal (column_rules size bytes column space) }
 {
     judge_picture(size, bytes)?;
-    if space < size.height * channels(size.kind) {
+    if space < size.height * pixel_bytes(size.kind) {
         return Err(Refusal::Space);
     }
     if size.width <= column {

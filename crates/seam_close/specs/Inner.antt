@@ -1,8 +1,9 @@
 -- What the private functions of this crate ask and promise, in terms of rows of bytes. No public promise cites it.
-use Rattle.std.specs.Prelude.{◌≡◌, false, List, ◌++◌, ℕ, ◌+◌, ◌≤◌, length, take, drop}
+use Rattle.std.specs.Prelude.{◌≡◌, false, List, ◌++◌, ℕ, ◌+◌, ◌*◌, ◌≤◌, ◌<◌, length, take, drop}
+use Rattle.pictures.specs.Limits.{most_picture}
 use Rattle.pictures.specs.declared.sizes.Size.{Size}
 use Rattle.pictures.specs.Refusals.{refusal}
-use Rattle.pictures.specs.Pictures.{size_rules}
+use Rattle.pictures.specs.Pictures.{largest_side, size_rules}
 use Rattle.seam_bounds.specs.Moves.{outside}
 
 -- A line of bytes without the n bytes from `gap` on.
@@ -14,8 +15,16 @@ pub record RowNeeded (line : List ℕ) (gap n : ℕ) (out : List ℕ) : Type 0 w
   pub inside : gap + n ≤ length line
   pub room : length line ≤ length out + n
 
+-- A row of w cells of n bytes for each column of a seam, which lies inside the rows.
+pub record CellsNeeded (b : List ℕ) (n w : ℕ) (s : List ℕ) : Type 0 where
+  pub wide : 0 < w
+  pub line : w * n ≤ 6 * largest_side
+  pub short : length b ≤ most_picture
+  pub long : length b ≡ length s * (w * n)
+  pub inside : outside w s ≡ false
+
 -- A picture of its size, and a seam with one column inside it for each row.
-pub record CloseNeeded (b : List ℕ) (z : Size) (s : List ℕ) : Type 0 where
+pub record PixelsNeeded (b : List ℕ) (z : Size) (s : List ℕ) : Type 0 where
   pub sized : refusal (size_rules z (length b)) ≡ 0
   pub columns : length s ≡ z.height
   pub inside : outside z.width s ≡ false

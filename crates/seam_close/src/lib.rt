@@ -16,6 +16,6 @@ pub fn close_up(picture: &mut [u8], size: Size, seam: &[u16]) -> Result<(), Refu
 {
     judge_close_lengths(size, picture.len(), seam.len())?;
     judge_close_columns(size.width, rows::has_outside(seam, size.width))?;
-    rows::close_rows(picture, size, seam);
+    rows::close_pixels(picture, size, seam);
     Ok(())
 }

@@ -4,7 +4,7 @@ use Rattle.std.specs.Prelude.{◌≡◌, List, ◌++◌, ℕ, ◌+◌, ◌*◌, 
 use Rattle.grids.specs.Cut.{cut}
 use Rattle.pictures.specs.declared.sizes.Size.{Size}
 use Rattle.pictures.specs.Refusals.{Rule, refusal, served, worked}
-use Rattle.pictures.specs.Pictures.{channels_of, picture_bytes, picture, bytes, pixels, picture_in}
+use Rattle.pictures.specs.Pictures.{pixel_bytes, picture_bytes, picture, bytes, pixels, picture_in}
 use Rattle.energy.specs.declared.methods.Method.{Method}
 use Rattle.seam_theory.specs.PictureSeams.{seam_of, cost_of}
 use Rattle.seam_rules.specs.declared.answers.Axis.{Axis}
@@ -25,7 +25,7 @@ pub record FindGiven (b : List ℕ) (z : Size) (how : Method) (x : Axis) (seam w
 
 -- The picture of size z in the bytes b without the seam s: the rows packed at the front, the freed bytes 0.
 abbrev pub closed_along : Axis → Size → List ℕ → List ℕ → List ℕ
-closed_along x z s b = bytes (cut_along x z s (picture z b)) ++ replicate ((turned_size x z).height * channels_of z.kind) 0
+closed_along x z s b = bytes z.kind (cut_along x z s (picture z b)) ++ replicate ((turned_size x z).height * pixel_bytes z.kind) 0
 
 -- Cutting gives the same, and leaves the picture without the seam.
 pub record CutGiven (b : List ℕ) (z : Size) (how : Method) (x : Axis) (seam work : List ℕ) (answer : Result ℕ Refusal) (b' seam' work' : List ℕ) : Type 0 where
@@ -47,7 +47,7 @@ pub record CutInGiven (space : List ℕ) (z : Size) (how : Method) (seam : List 
   pub space_left :
       space' ≡ worked (found_number answer)
       (served (found_number answer)
-      (bytes (cut (seam_of how z.width z.height (picture_in z space)) (picture_in z space)) ++ replicate (z.height * channels_of z.kind) 0)
+      (bytes z.kind (cut (seam_of how z.width z.height (picture_in z space)) (picture_in z space)) ++ replicate (z.height * pixel_bytes z.kind) 0)
       (take (picture_bytes z) space)
       ++ (replicate (pixels z) 0 ++ drop (picture_bytes z + pixels z) space))
       space

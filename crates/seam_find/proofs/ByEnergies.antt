@@ -23,7 +23,7 @@ use Rattle.seam_theory.specs.PictureSeams.{seam_of, cost_of}
 use Rattle.seam_find.specs.ByCosts.{FindByGiven, least_sum, path_columns}
 use Rattle.seam_find.specs.Costing.{plain_costs}
 use Rattle.seam_find.specs.Finding.{FindInGiven}
-use Rattle.seam_find.proofs.Costs.{front-most}
+use Rattle.pictures.proofs.Samples.{take_bytes}
 use Rattle.seam_find.proofs.Found.{served-not, cost-not}
 use Rattle.seam_find.proofs.Traced.{seam-traced, cost-summed}
 
@@ -46,7 +46,7 @@ module _ (z : Size) (how : Method) (space seam : List ℕ) (byte : (i : ℕ) →
       let rooms = rooms_are z false (length space) (length seam) none in
       let front = take (picture_bytes z) space in
       let sized : Sized z (length front) = sized_of z (length front) (sides_are z rooms.sides) (length-take-le _ _ (omega (arith, rooms.room))) in
-      let bytes : (i : ℕ) → get_or front i 0 ≤ 255 = front-most space (picture_bytes z) 255 byte in
+      let bytes : (i : ℕ) → get_or front i 0 ≤ 255 = take_bytes (picture_bytes z) space byte in
       let is : answer ≡ Ok (least_sum fence32 z.width z.height (plain_costs z how front)) = found.found none in
       let zero : found_number answer ≡ 0 = ap found_number is in
       record {

@@ -3,40 +3,28 @@ use mathlib.Core.Path.{◌≡◌}
 use mathlib.Core.Logic.{⊎_elim}
 use mathlib.Core.List.{List}
 use Prim.Native.Nat.{ℕ, ◌*◌, ◌≤◌, ◌<◌}
-use native.Mathlib.Nat.{mul-le-mul_right, min-le_left, le_trans}
+use native.Mathlib.Nat.{mul-le-mul}
 use native.Mathlib.Omega.{arith}
-use lib.ListN.{length, get_or, take, length-take, get_or-eq_default}
-use lib.Seq.{get_or-take}
+use lib.ListN.{length, get_or}
 use Rattle.grids.specs.Table.{table}
 use Rattle.grids.proofs.Orders.{le-or-lt}
 use Rattle.grids.proofs.Tables.{length-table, table_at, table-past}
 use Rattle.pictures.specs.declared.sizes.Size.{Size}
-use Rattle.pictures.specs.Pictures.{channels_of, picture}
+use Rattle.pictures.specs.Pictures.{channels_of, largest_sample, picture}
 use Rattle.energy.specs.declared.methods.Method.{Method}
 use Rattle.energy.specs.Bounds.{most_energy}
 use Rattle.energy.specs.Energy.{StepCosts, costs_at}
 use Rattle.seam_theory.specs.Sums.{cost_rows}
 use Rattle.pictures.proofs.Limits.{Sized}
-use Rattle.energy.proofs.Most.{CostsMost, costs-within, buffer_costs-most}
+use Rattle.energy.proofs.Most.{sample-most, CostsMost, costs-within, buffer_costs-most}
 use Rattle.seam_find.specs.Costing.{plain_costs, RowsMost}
 
--- A byte of a part at the front is a byte.
-pub front-most : (b : List ℕ) (n m : ℕ) → ((i : ℕ) → get_or b i 0 ≤ m) → (i : ℕ) → get_or (take n b) i 0 ≤ m
-front-most b n m h i =
-    ⊎_elim
-    (λ (l : n ≤ i). rw (get_or-eq_default (take n b) 0 {n = i} (short l)) (omega arith))
-    (λ (l : i < n). rw (get_or-take n b i 0 l) (h i))
-    (le-or-lt n i)
-  where
-    short : n ≤ i → length (take n b) ≤ i
-    short l = le_trans (rw (length-take) (min-le_left n (length b))) l
-
--- A pixel costs at most two differences of at most 255 in at most three channels.
+-- A pixel costs at most two differences of the largest sample in at most three channels.
 pub pixel-most : (z : Size) (how : Method) (b : List ℕ) → Sized z (length b) → ((i : ℕ) → get_or b i 0 ≤ 255)
     → (r c : ℕ) → CostsMost most_energy (costs_at how z.width z.height (picture z b) r c)
 pixel-most z how b s h r c =
-    costs-within (2 * (channels_of z.kind * 255)) most_energy _ (omega (arith, mul-le-mul_right 255 s.channels_most))
-    (buffer_costs-most z how b 255 s.length_is h r c)
+    costs-within (2 * (channels_of z.kind * largest_sample z.kind)) most_energy _ (omega (arith, mul-le-mul s.channels_most (sample-most z.kind)))
+    (buffer_costs-most z how b s.length_is h r c)
 
 -- A bound of all values is one of a table.
 pub table-most : (f : ℕ → ℕ) (n m : ℕ) → ((c : ℕ) → f c ≤ m) → (k : ℕ) → get_or (table f n) k 0 ≤ m

@@ -15,7 +15,7 @@ use Rattle.pictures.proofs.Limits.{sides_are}
 use Rattle.energy.specs.declared.methods.Method.{Method}
 use Rattle.seam_theory.specs.Sums.{CostRows}
 use Rattle.seam_find.specs.Costing.{CostingLaws, RowsMost}
-use Rattle.seam_find.proofs.Costs.{front-most}
+use Rattle.pictures.proofs.Samples.{take_bytes}
 use Rattle.seam_find.proofs.Downs.{Downs, above_most}
 
 module _ {marked : Bool} {front : Size → ℕ} {costs : Size → Method → List ℕ → ℕ → CostRows} {most fence : ℕ}
@@ -23,7 +23,7 @@ module _ {marked : Bool} {front : Size → ℕ} {costs : Size → Method → Lis
     (allowed : refusal (side_rules z) ≡ 0) (room : front z ≤ length space) (byte : (i : ℕ) → get_or space i 0 ≤ 255) where
   pub cheap : (i : ℕ) → RowsMost most (costs z how (take (front z) space) i)
   cheap =
-      laws.cheap z how (take (front z) space) allowed (length-take-le (front z) space room) (front-most space (front z) 255 byte)
+      laws.cheap z how (take (front z) space) allowed (length-take-le (front z) space room) (take_bytes (front z) space byte)
 
   -- The sums above row i.
   pub small : (i : ℕ) (now above : List ℕ) → Downs fence (front z) z (costs z how) space i now above → 0 < i → i < z.height

@@ -7,7 +7,7 @@ use Rattle.pictures.specs.Pictures.{picture_bytes, pixels}
 use Rattle.pictures.proofs.Limits.{sides_are, sized_of}
 use Rattle.seam_sums.specs.Fences.{fence64}
 use Rattle.seam_find.specs.Costing.{CostingLaws}
-use Rattle.seam_find.proofs.Costs.{front-most}
+use Rattle.pictures.proofs.Samples.{take_bytes}
 use Rattle.seam_find_marked.specs.Inner.{most_weight, marked_bytes, weights_of}
 use Rattle.seam_find_marked.proofs.Marked.{weights-wide, weights-alike, weights-most}
 
@@ -17,6 +17,6 @@ weights-laws = record {
   wide = weights-wide;
   alike = weights-alike;
   cheap = λ z how b sides long byte.
-      weights-most z how b (sized_of z _ (sides_are z sides) (length-take-le _ _ (omega (arith, long)))) (front-most b (picture_bytes z) 255 byte);
+      weights-most z how b (sized_of z _ (sides_are z sides) (length-take-le _ _ (omega (arith, long)))) (take_bytes (picture_bytes z) b byte);
   low = omega arith;
 }

@@ -33,7 +33,8 @@ use Rattle.seam_theory.proofs.Sums.{Costed, FoundPath, found}
 use Rattle.seam_sums.specs.Weights.{weight_of, kept, protected}
 use Rattle.seam_sums.specs.Fences.{fence64}
 use Rattle.seam_find.specs.Costing.{RowsMost}
-use Rattle.seam_find.proofs.Costs.{front-most, pixel-most, rows-most}
+use Rattle.pictures.proofs.Samples.{take_bytes}
+use Rattle.seam_find.proofs.Costs.{pixel-most, rows-most}
 use Rattle.seam_find_marked.specs.Inner.{most_weight, marks_at, weight_in, weighed, weighed_rows, weights_at, weights_of, marked_bytes}
 use Rattle.seam_find_marked.proofs.Weighed.{first_weight, step_weight, weight-most, light-found, light-cost, heavy-blocked}
 
@@ -205,4 +206,4 @@ module _ (z : Size) (space : List ℕ) where
 
   pub front_bytes : ((i : ℕ) → get_or space i 0 ≤ 255)
       → (i : ℕ) → get_or (take (picture_bytes z) (take (marked_bytes z) space)) i 0 ≤ 255
-  front_bytes byte = front-most (take (marked_bytes z) space) (picture_bytes z) 255 (front-most space (marked_bytes z) 255 byte)
+  front_bytes byte = take_bytes (picture_bytes z) (take (marked_bytes z) space) (take_bytes (marked_bytes z) space byte)

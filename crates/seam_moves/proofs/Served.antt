@@ -24,8 +24,8 @@ module _ (b : List ℕ) (z : Size) (to to' : List ℕ) (v : Result (Unit {0}) Re
       let room : refusal (8 when ltb (length to) (picture_bytes z) ∷ []) ≡ 0 = simp (le-ltb _ _ l) in
       g.number ∙ served-first (size_rules z (length b)) (8 when ltb (length to) (picture_bytes z) ∷ []) refl s ∙ room
 
-  pub exchange-served : to' ≡ bytes (exchange z.width (picture z b)) ++ drop (picture_bytes z) to
-  exchange-served = g.to_given ∙ ap (λ n. served n (bytes (exchange z.width (picture z b)) ++ drop (picture_bytes z) to) to) exchange_none
+  pub exchange-served : to' ≡ bytes z.kind (exchange z.width (picture z b)) ++ drop (picture_bytes z) to
+  exchange-served = g.to_given ∙ ap (λ n. served n (bytes z.kind (exchange z.width (picture z b)) ++ drop (picture_bytes z) to) to) exchange_none
 
 -- Two places inside the space that don't overlap: what stands at one is put at the other.
 pub copy_between-served : (space : List ℕ) (from n to : ℕ) (v : Result (Unit {0}) Refusal) (space' : List ℕ) → CopyBetweenGiven space from n to v space'
@@ -36,9 +36,9 @@ copy_between-served space from n to v space' g p =
 
 pub exchange-between-served : (space : List ℕ) (from : ℕ) (z : Size) (to : ℕ) (v : Result (Unit {0}) Refusal) (space' : List ℕ) → ExchangeBetweenGiven space from z to v space'
     → refusal (side_rules z) ≡ 0 → PlacesApart (length space) from to (picture_bytes z)
-    → space' ≡ put_at to (picture_bytes z) (bytes (exchange z.width (picture z (part_at from (picture_bytes z) space)))) space
+    → space' ≡ put_at to (picture_bytes z) (bytes z.kind (exchange z.width (picture z (part_at from (picture_bytes z) space)))) space
 exchange-between-served space from z to v space' g s p =
     let none : refusal (copy_between_rules (length space) from (picture_bytes z) to) ≡ 0 = simp (are_places (length space) from to (picture_bytes z) p) in
     g.space_left
-    ∙ ap (λ k. served k (put_at to (picture_bytes z) (bytes (exchange z.width (picture z (part_at from (picture_bytes z) space)))) space) space)
+    ∙ ap (λ k. served k (put_at to (picture_bytes z) (bytes z.kind (exchange z.width (picture z (part_at from (picture_bytes z) space)))) space) space)
     (g.number ∙ served-first (side_rules z) (copy_between_rules (length space) from (picture_bytes z) to) refl s ∙ none)

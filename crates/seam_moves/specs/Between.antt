@@ -33,5 +33,5 @@ pub record ExchangeBetweenGiven (space : List ℕ) (from : ℕ) (z : Size) (to :
   pub number : given answer ≡ refusal (exchange_between_rules (length space) from z to)
   pub space_left :
       space' ≡ served (given answer)
-      (put_at to (picture_bytes z) (bytes (exchange z.width (picture z (part_at from (picture_bytes z) space)))) space)
+      (put_at to (picture_bytes z) (bytes z.kind (exchange z.width (picture z (part_at from (picture_bytes z) space)))) space)
       space

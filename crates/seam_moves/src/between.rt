@@ -6,7 +6,7 @@ ghost use Rattle.pictures.specs.Pictures.{picture, bytes, picture_bytes};
 ghost use Rattle.seam_bounds.specs.Inner.{PlacesApart};
 ghost use Rattle.seam_moves.specs.Between.{part_at, put_at, CopyBetweenGiven, ExchangeBetweenGiven};
 
-use crate::columns::exchange_columns;
+use crate::columns::exchange_pixels;
 use pictures::{AllowedSize, Refusal, Size};
 use seam_bounds::lie_apart;
 
@@ -39,14 +39,14 @@ pub fn copy_between(space: &mut [u8], from: usize, count: usize, to: usize) -> R
 // The space is cut between the two places, so that one can be read while the other is written.
 fn exchange_places(space: &mut [u8], from: usize, allowed: AllowedSize, to: usize)
     requires { PlacesApart (length space.old) from to (picture_bytes allowed.size) }
-    ensures { space.new ≡ put_at to (picture_bytes allowed.size) (bytes (exchange allowed.size.width (picture allowed.size (part_at from (picture_bytes allowed.size) space.old)))) space.old }
+    ensures { space.new ≡ put_at to (picture_bytes allowed.size) (bytes allowed.size.kind (exchange allowed.size.width (picture allowed.size (part_at from (picture_bytes allowed.size) space.old)))) space.old }
 {
     let all = allowed.picture_bytes();
     if from < to {
         let (front, back) = space.split_at_mut(to);
-        exchange_columns(&front[from..from + all], allowed.size, &mut back[..all]);
+        exchange_pixels(&front[from..from + all], allowed.size, &mut back[..all]);
     } else {
         let (front, back) = space.split_at_mut(from);
-        exchange_columns(&back[..all], allowed.size, &mut front[to..to + all]);
+        exchange_pixels(&back[..all], allowed.size, &mut front[to..to + all]);
     }
 }

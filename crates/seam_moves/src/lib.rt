@@ -17,7 +17,7 @@ pub fn exchange(from: &[u8], size: Size, to: &mut [u8]) -> Result<(), Refusal>
     ensures { ExchangeGiven from.now size to.old result to.new }
 {
     judge_exchange(size, from.len(), to.len())?;
-    columns::exchange_columns(from, size, to);
+    columns::exchange_pixels(from, size, to);
     Ok(())
 }
 
@@ -27,6 +27,6 @@ pub fn copy_column(from: &[u8], size: Size, c: usize, out: &mut [u8]) -> Result<
     ensures { ColumnGiven from.now size c out.old result out.new }
 {
     judge_column(size, from.len(), c, out.len())?;
-    columns::put_column(from, size, c, out);
+    columns::put_pixels(from, size, c, out);
     Ok(())
 }

@@ -12,7 +12,7 @@ use Rattle.grids.specs.Rows.{flat}
 use Rattle.pictures.specs.declared.sizes.Size.{Size}
 use Rattle.pictures.specs.declared.refusals.Refusal.{Refusal}
 use Rattle.pictures.specs.Refusals.{refusal, served}
-use Rattle.pictures.specs.Pictures.{channels_of, picture_bytes, picture, bytes, pixels, work_bytes, marks_of}
+use Rattle.pictures.specs.Pictures.{pixel_bytes, picture_bytes, picture, bytes, pixels, work_bytes, marks_of}
 use Rattle.pictures.proofs.Limits.{sides_are}
 use Rattle.energy.specs.declared.methods.Method.{Method}
 use Rattle.seam_rules.specs.Answers.{found_number}
@@ -72,12 +72,12 @@ module _ {z : Size} {b m work : List ℕ} (how : Method) (need : FrontNeeded z b
   cut_at n number b' m' t is p q =
       let u = no_seam (front z how b m) in
       let left = cut_once (front z how b m) in
-      let gap : List ℕ = replicate (z.height * channels_of z.kind) 0 in
+      let gap : List ℕ = replicate (z.height * pixel_bytes z.kind) 0 in
       record {
         cut_is = is;
         picture_left =
-            part_back u n (picture_bytes z) (bytes left.picture) gap b b' number p
-            ∙ ap (λ t. cond t (bytes left.picture ++ (gap ++ drop (picture_bytes z) b)) b) (sym is);
+            part_back u n (picture_bytes z) (bytes z.kind left.picture) gap b b' number p
+            ∙ ap (λ t. cond t (bytes z.kind left.picture ++ (gap ++ drop (picture_bytes z) b)) b) (sym is);
         marks_left =
             part_back u n (pixels z) (flat left.marks) (replicate z.height 0) m m' number q
             ∙ ap (λ t. cond t (flat left.marks ++ (replicate z.height 0 ++ drop (pixels z) m)) m) (sym is);

@@ -13,7 +13,7 @@ use lib.Seq.{take_all}
 use Rattle.grids.specs.Rows.{flat}
 use Rattle.grids.proofs.Rows.{flat-rows_of}
 use Rattle.pictures.specs.declared.sizes.Size.{Size}
-use Rattle.pictures.specs.Pictures.{channels_of, picture, bytes, pixels, marks_of}
+use Rattle.pictures.specs.Pictures.{channels_of, pixel_bytes, picture, bytes, pixels, marks_of}
 use Rattle.pictures.proofs.Limits.{Sides, sides_are, sides_served, sized_is, sides_of}
 use Rattle.pictures.proofs.Buffers.{bytes-picture}
 use Rattle.energy.specs.declared.methods.Method.{Method}
@@ -45,7 +45,7 @@ pub record Going (z : Size) (how : Method) (b m : List ℕ) (budget width count 
   pub sum : width + count ≡ z.width
   pub stands :
       Standing (size_at z width) how (after_cuts count (marked_picture z how b m)) b' m'
-      (replicate (count * (z.height * channels_of z.kind)) 0)
+      (replicate (count * (z.height * pixel_bytes z.kind)) 0)
       (replicate (count * z.height) 0)
 
 -- Before the first cut nothing is freed, and a cut frees as much again.
@@ -73,7 +73,7 @@ going_start z how b m work budget need =
         wide = refl;
         high = refl;
         shaped = shaped_start z b m work need how;
-        picture_is = sym (none (bytes (picture z b)) (z.height * channels_of z.kind) ∙ bytes-picture z b s.length_is);
+        picture_is = sym (none (bytes z.kind (picture z b)) (z.height * pixel_bytes z.kind) ∙ bytes-picture z b s.length_is);
         marks_are = sym (none (flat (marks_of z m)) z.height ∙ flat-rows_of z.width z.height m ∙ take_all (pixels z) m (le_of_eq need.marked));
       };
     }
@@ -177,8 +177,8 @@ module _ {z : Size} {how : Method} {b m : List ℕ} {budget width count : ℕ} {
             shaped = shaped_cut (channels_of z.kind) left g.stands.shaped (rw g.stands.wide some_left) seam;
             picture_is =
                 f.picture_left
-                ∙ ap₂ (λ t r. bytes (cut_once t).picture ++ (replicate (z.height * channels_of z.kind) 0 ++ r)) same-front (bytes_after_lem g.stands)
-                ∙ ap (bytes (cut_once left).picture ++◌) (one_more (z.height * channels_of z.kind) count);
+                ∙ ap₂ (λ t r. bytes z.kind (cut_once t).picture ++ (replicate (z.height * pixel_bytes z.kind) 0 ++ r)) same-front (bytes_after_lem g.stands)
+                ∙ ap (bytes z.kind (cut_once left).picture ++◌) (one_more (z.height * pixel_bytes z.kind) count);
             marks_are =
                 f.marks_left
                 ∙ ap₂ (λ t r. flat (cut_once t).marks ++ (replicate z.height 0 ++ r)) same-front (marks-after g.stands)

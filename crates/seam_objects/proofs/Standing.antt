@@ -22,33 +22,33 @@ pub record Standing (z : Size) (how : Method) (s : MarkedPicture) (b m freed unm
   pub wide : s.width ≡ z.width
   pub high : s.height ≡ z.height
   pub shaped : LeftShaped (channels_of z.kind) s
-  pub picture_is : b ≡ bytes s.picture ++ freed
+  pub picture_is : b ≡ bytes z.kind s.picture ++ freed
   pub marks_are : m ≡ flat s.marks ++ unmarked
 
 module _ {z : Size} {how : Method} {s : MarkedPicture} {b m freed unmarked : List ℕ} (there : Standing z how s b m freed unmarked) where
   of_size_lem : OfSize z s.picture
   of_size_lem = rw (there.wide, there.high) at there.shaped.picture_of
 
-  long : length (bytes s.picture) ≡ picture_bytes z
+  long : length (bytes z.kind s.picture) ≡ picture_bytes z
   long = length-bytes z s.picture of_size_lem
 
   marks-long : length (flat s.marks) ≡ pixels z
   marks-long = rw (there.wide, there.high) at (length-flat (grid_of there.shaped.marks_of_each))
 
-  pub front_bytes : take (picture_bytes z) b ≡ bytes s.picture
-  front_bytes = ap (take (picture_bytes z)) there.picture_is ∙ take_at (bytes s.picture) freed (picture_bytes z) long
+  pub front_bytes : take (picture_bytes z) b ≡ bytes z.kind s.picture
+  front_bytes = ap (take (picture_bytes z)) there.picture_is ∙ take_at (bytes z.kind s.picture) freed (picture_bytes z) long
 
   pub front-marks : take (pixels z) m ≡ flat s.marks
   front-marks = ap (take (pixels z)) there.marks_are ∙ take_at (flat s.marks) unmarked (pixels z) marks-long
 
   pub bytes_after_lem : drop (picture_bytes z) b ≡ freed
-  bytes_after_lem = ap (drop (picture_bytes z)) there.picture_is ∙ drop_at (bytes s.picture) freed (picture_bytes z) long
+  bytes_after_lem = ap (drop (picture_bytes z)) there.picture_is ∙ drop_at (bytes z.kind s.picture) freed (picture_bytes z) long
 
   pub marks-after : drop (pixels z) m ≡ unmarked
   marks-after = ap (drop (pixels z)) there.marks_are ∙ drop_at (flat s.marks) unmarked (pixels z) marks-long
 
   pub bytes_there : picture_bytes z ≤ length b
-  bytes_there = rw there.picture_is (omega (arith, length-append (bytes s.picture) freed, long))
+  bytes_there = rw there.picture_is (omega (arith, length-append (bytes z.kind s.picture) freed, long))
 
   pub marks_there : pixels z ≤ length m
   marks_there = rw there.marks_are (omega (arith, length-append (flat s.marks) unmarked, marks-long))

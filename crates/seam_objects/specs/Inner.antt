@@ -3,7 +3,7 @@ use Rattle.std.specs.Prelude.{◌≡◌, Bool, false, not, cond, List, ◌++◌,
 use Rattle.grids.specs.Rows.{flat}
 use Rattle.pictures.specs.declared.sizes.Size.{Size}
 use Rattle.pictures.specs.Refusals.{refusal}
-use Rattle.pictures.specs.Pictures.{channels_of, side_rules, size_rules, picture_bytes, bytes, pixels, work_bytes}
+use Rattle.pictures.specs.Pictures.{pixel_bytes, side_rules, size_rules, picture_bytes, bytes, pixels, work_bytes}
 use Rattle.seam_bounds.specs.Moves.{outside}
 use Rattle.energy.specs.declared.methods.Method.{Method}
 use Rattle.seam_rules.specs.declared.answers.Removal.{Removal}
@@ -42,5 +42,5 @@ front z how b m = marked_picture z how (take (picture_bytes z) b) (take (pixels 
 pub record FrontCut (z : Size) (how : Method) (b m : List ℕ) (cut : Bool) (b' m' : List ℕ) : Type 0 where
   pub cut_is : cut ≡ not (no_seam (front z how b m))
   pub picture_left :
-      b' ≡ cond cut (bytes (cut_once (front z how b m)).picture ++ (replicate (z.height * channels_of z.kind) 0 ++ drop (picture_bytes z) b)) b
+      b' ≡ cond cut (bytes z.kind (cut_once (front z how b m)).picture ++ (replicate (z.height * pixel_bytes z.kind) 0 ++ drop (picture_bytes z) b)) b
   pub marks_left : m' ≡ cond cut (flat (cut_once (front z how b m)).marks ++ (replicate z.height 0 ++ drop (pixels z) m)) m

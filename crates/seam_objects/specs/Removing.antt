@@ -5,7 +5,7 @@ use Rattle.grids.specs.Rows.{flat}
 use Rattle.pictures.specs.declared.sizes.Size.{Size}
 use Rattle.pictures.specs.declared.refusals.Refusal.{Refusal}
 use Rattle.pictures.specs.Refusals.{◌when◌, Rule, refusal, served}
-use Rattle.pictures.specs.Pictures.{channels_of, size_rules, picture, bytes, work_bytes, marks_of}
+use Rattle.pictures.specs.Pictures.{pixel_bytes, size_rules, picture, bytes, work_bytes, marks_of}
 use Rattle.energy.specs.declared.methods.Method.{Method}
 use Rattle.seam_cut_marked.specs.Marking.{mark_rules}
 use Rattle.seam_rules.specs.declared.answers.Removal.{Removal}
@@ -22,7 +22,7 @@ marked_picture z how b m = record { method = how; width = z.width; height = z.he
 
 -- What a removal leaves in the buffer of the picture and in that of the marks: packed at the front, the freed bytes 0.
 abbrev pub left_picture : Size → Removed → List ℕ
-left_picture z r = bytes r.left.picture ++ replicate (r.count * (z.height * channels_of z.kind)) 0
+left_picture z r = bytes z.kind r.left.picture ++ replicate (r.count * (z.height * pixel_bytes z.kind)) 0
 
 abbrev pub left_marks : Size → Removed → List ℕ
 left_marks z r = flat r.left.marks ++ replicate (r.count * z.height) 0

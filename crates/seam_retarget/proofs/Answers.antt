@@ -173,10 +173,10 @@ module _ (tab : Table) (b : List ℕ) (is : tab.whole ≡ length b) (rows : Rows
               → LastGiven b z how rows columns out work (get_or totals₃ columns.0 0) out' four
           served out' four out_is four_is =
               let left = left_size z rows columns in
-              let shown : part ≡ bytes (cell_of how z b rows columns).picture =
+              let shown : part ≡ bytes z.kind (cell_of how z b rows columns).picture =
               part-is
               ∙ sym (bytes-picture left (part_at (columns.0 * whole) (picture_bytes left) three) (sym (ap length part-is) ∙ part-long ∙ count_is))
-              ∙ ap (λ k. bytes k.picture) cell_is in
+              ∙ ap (λ k. bytes z.kind k.picture) cell_is in
               record {
                 total = ap (λ k. k.total) cell_is;
                 out_given = out_is ∙ ap₂ ◌++◌ shown (ap (λ n. drop n out) count_is);

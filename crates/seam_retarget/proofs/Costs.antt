@@ -17,7 +17,8 @@ use Rattle.energy.specs.Energy.{costs_at, energy, step_of}
 use Rattle.energy.proofs.Most.{CostsMost, toward-most}
 use Rattle.pictures.proofs.Limits.{Sides, Sized, sized_of}
 use Rattle.seam_theory.specs.PictureSeams.{cost_of}
-use Rattle.seam_find.proofs.Costs.{front-most, pixel-most}
+use Rattle.pictures.proofs.Samples.{take_bytes}
+use Rattle.seam_find.proofs.Costs.{pixel-most}
 use Rattle.seam_theory.proofs.Characterised.{seam-some}
 
 -- At most one cost a row, each within its bound.
@@ -37,4 +38,4 @@ pub cost_small : (z : Size) (how : Method) (space : List ℕ) → Sides z → pi
 cost_small z how space s room small =
     let sized : Sized z (length (take (picture_bytes z) space)) = sized_of z (length (take (picture_bytes z) space)) s (length-take-le (picture_bytes z) space room) in
     cost_bound how z.width z.height (picture_in z space) s.width_some s.height_some s.height_small
-    (pixel-most z how (take (picture_bytes z) space) sized (front-most space (picture_bytes z) 255 small))
+    (pixel-most z how (take (picture_bytes z) space) sized (take_bytes (picture_bytes z) space small))

@@ -10,7 +10,7 @@ use lib.Seq.{take-take}
 use Rattle.grids.proofs.Orders.{le-or-lt}
 use Rattle.grids.proofs.Rows.{part_end}
 use Rattle.pictures.specs.declared.sizes.Size.{Size}
-use Rattle.pictures.specs.Pictures.{channels_of, picture_bytes, picture, pixels}
+use Rattle.pictures.specs.Pictures.{pixel_bytes, picture_bytes, picture, pixels}
 use Rattle.pictures.proofs.Limits.{channels_some}
 use Rattle.seam_moves.specs.Between.{part_at}
 use Rattle.seam_bounds.specs.Inner.{PlacesApart}
@@ -25,11 +25,11 @@ pub smaller-few : (z : Size) (r c : ℕ) → picture_bytes (smaller z r c) ≤ p
 smaller-few z r c =
     let h : z.height - r ≤ z.height = omega arith in
     let w : z.width - c ≤ z.width = omega arith in
-    mul-le-mul h (mul-le-mul_right (channels_of z.kind) w)
+    mul-le-mul h (mul-le-mul_right (pixel_bytes z.kind) w)
 
 pub pixels-few : (z : Size) → pixels z ≤ picture_bytes z
 pixels-few z =
-    let one : z.width * 1 ≤ z.width * channels_of z.kind = mul-le-mul_left z.width (channels_some z.kind) in
+    let one : z.width * 1 ≤ z.width * pixel_bytes z.kind = mul-le-mul_left z.width (channels_some z.kind) in
     mul-le-mul_left z.height (rw (mul-one z.width) at one)
 
 -- A column less, and a row less.

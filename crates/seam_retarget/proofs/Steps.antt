@@ -24,14 +24,14 @@ use Rattle.seam_moves.proofs.Served.{copy_between-served}
 use Rattle.seam_theory.specs.PictureSeams.{seam_of, cost_of}
 use Rattle.seam_rules.specs.Answers.{found_cost}
 use Rattle.seam_find.specs.Finding.{FindInGiven}
-use Rattle.seam_find.proofs.Costs.{front-most}
+use Rattle.pictures.proofs.Samples.{take_bytes}
 use Rattle.seam_rules.specs.declared.answers.Axis.{Axis}
 use Rattle.seam_rules.specs.declared.answers.Axis.TheVariants.{Vertical}
 use Rattle.seam_rules.specs.Axes.{turned_size}
 use Rattle.seam_turn.specs.Axes.{turned}
 use Rattle.seam_cut.specs.Axes.{seam_along, cost_along}
 use Rattle.seam_rules.proofs.Turns.{turned-bytes, turned-pixels, turned-sides}
-use Rattle.seam_turn.proofs.Turned.{turned-of_size, turned-picture}
+use Rattle.seam_turn.proofs.Turned.{length-turned, turned-of_size, turned-picture}
 use Rattle.seam_cut.proofs.FindIn.{FoundThere, find_served}
 use Rattle.seam_cut.proofs.Inside.{along_inside}
 use Rattle.seam_retarget.specs.Inner.Seams.{picture_at, SeamNeeded, SeamGiven}
@@ -48,7 +48,7 @@ at_of_size z at work h = picture-of_size z (part_at at (picture_bytes z) work) (
 -- A copy of a picture is the picture turned for a vertical seam.
 pub copied-turned : (work work' : List ℕ) (from : ℕ) (z : Size) (to all : ℕ) (v : Result (Unit {0}) Refusal) → PlacesApart (length work) from to (picture_bytes z) → all ≡ picture_bytes z
     → CopyBetweenGiven work from all to v work'
-    → work' ≡ put_at to (picture_bytes z) (bytes (turned Vertical z.width (picture_at z from work))) work
+    → work' ≡ put_at to (picture_bytes z) (bytes z.kind (turned Vertical z.width (picture_at z from work))) work
 unfolding turned
 copied-turned work work' from z to all v needed is g =
     copy_between-served work from (picture_bytes z) to v work' (rw is at g) needed
@@ -70,7 +70,7 @@ module _ (work : List ℕ) (from : ℕ) (z : Size) (how : Method) (x : Axis) (at
   b = part_at from (picture_bytes z) work
 
   abbrev Q : List ℕ
-  Q = bytes (turned x z.width (picture_at z from work))
+  Q = bytes z.kind (turned x z.width (picture_at z from work))
 
   sized : Sized z (picture_bytes z)
   sized = sized_at z sides
@@ -79,9 +79,9 @@ module _ (work : List ℕ) (from : ℕ) (z : Size) (how : Method) (x : Axis) (at
   b-long = length_part from (picture_bytes z) work needed.places.from_inside
 
   Q-long : length Q ≡ picture_bytes z
-  Q-long = length-bytes t (turned x z.width (picture_at z from work)) (turned-of_size x z (picture_at z from work) (picture-of_size z b b-long)) ∙ turned-bytes x z
+  Q-long = length-turned x z (picture_at z from work) (picture-of_size z b b-long) ∙ turned-bytes x z
 
-  module _ (one : List ℕ) (is : one ≡ put_at at (picture_bytes z) (bytes (turned x z.width (picture_at z from work))) work) where
+  module _ (one : List ℕ) (is : one ≡ put_at at (picture_bytes z) (bytes z.kind (turned x z.width (picture_at z from work))) work) where
     kept : Kept at (picture_bytes z) work one
     kept = rw is (put_kept at (picture_bytes z) Q work Q-long needed.places.to_inside)
 
@@ -115,7 +115,7 @@ module _ (work : List ℕ) (from : ℕ) (z : Size) (how : Method) (x : Axis) (at
       seen = turned-picture x z b lent (drop (at + picture_bytes z) work) b-long lent_is
 
       few : (i : ℕ) → get_or lent i 0 ≤ 255
-      few = front-most (drop at one) (length one - at) 255 (λ i. rw (get_or-drop at one i 0) (small (at + i)))
+      few = take_bytes (length one - at) (drop at one) (λ i. rw (get_or-drop at one i 0) (small (at + i)))
 
       -- The space that is left, as one write.
       abbrev new : List ℕ

@@ -21,6 +21,6 @@ pub record RetargetGiven (b : List ℕ) (z : Size) (how : Method) (rows : Rows) 
   pub total : retargeted_total answer ≡ served (retargeted_number answer) (cell_of how z b rows columns).total 0
   pub out_given :
       out' ≡ served (retargeted_number answer)
-      (bytes (cell_of how z b rows columns).picture ++ drop (picture_bytes (left_size z rows columns)) out)
+      (bytes z.kind (cell_of how z b rows columns).picture ++ drop (picture_bytes (left_size z rows columns)) out)
       out
   pub work_left : work' ≡ served (retargeted_number answer) (replicate (length work) 0) work

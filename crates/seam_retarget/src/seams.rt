@@ -62,7 +62,7 @@ impl Seam {
 // Puts the picture at `from`, turned, at `to`.
 fn turn(work: &mut [u8], from: usize, size: AllowedSize, axis: Axis, to: usize)
     requires { PlacesApart (length work.old) from to (picture_bytes size.size) }
-    ensures { work.new ≡ put_at to (picture_bytes size.size) (bytes (turned axis size.size.width (picture_at size.size from work.old))) work.old }
+    ensures { work.new ≡ put_at to (picture_bytes size.size) (bytes size.size.kind (turned axis size.size.width (picture_at size.size from work.old))) work.old }
 {
     // the axis is a value, as in the cells
     match axis {

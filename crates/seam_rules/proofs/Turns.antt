@@ -4,7 +4,7 @@ use Prim.Native.Nat.{ℕ, ◌≤◌}
 use native.Mathlib.Nat.{mul_comm, mul_left_comm}
 use Rattle.pictures.specs.declared.sizes.Size.{Size}
 use Rattle.pictures.specs.Refusals.{refusal}
-use Rattle.pictures.specs.Pictures.{largest_side, channels_of, picture_bytes, side_rules, pixels}
+use Rattle.pictures.specs.Pictures.{largest_side, pixel_bytes, picture_bytes, side_rules, pixels}
 use Rattle.pictures.proofs.Limits.{Sized, sides_of}
 use Rattle.seam_rules.specs.declared.answers.Axis.{Axis}
 use Rattle.seam_rules.specs.declared.answers.Axis.TheVariants.{Vertical, Horizontal}
@@ -12,7 +12,7 @@ use Rattle.seam_rules.specs.Axes.{turned_size}
 
 pub turned-bytes : (x : Axis) (z : Size) → picture_bytes (turned_size x z) ≡ picture_bytes z
 turned-bytes Vertical z = refl
-turned-bytes Horizontal z = mul_left_comm z.width z.height (channels_of z.kind)
+turned-bytes Horizontal z = mul_left_comm z.width z.height (pixel_bytes z.kind)
 
 pub turned-pixels : (x : Axis) (z : Size) → pixels (turned_size x z) ≡ pixels z
 turned-pixels Vertical z = refl

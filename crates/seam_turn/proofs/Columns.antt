@@ -19,7 +19,7 @@ use Rattle.grids.proofs.Cut.{cut_narrower}
 use Rattle.pictures.specs.declared.sizes.Size.{Size}
 use Rattle.pictures.specs.declared.refusals.Refusal.{Refusal}
 use Rattle.pictures.specs.Refusals.{◌when◌, given, refusal}
-use Rattle.pictures.specs.Pictures.{Picture, channels_of, picture_bytes, side_rules, size_rules, picture, bytes, OfSize}
+use Rattle.pictures.specs.Pictures.{Picture, pixel_bytes, picture_bytes, side_rules, size_rules, picture, bytes, OfSize}
 use Rattle.pictures.proofs.Rules.{served-both, passed}
 use Rattle.pictures.proofs.Limits.{Sized, sized_is, sized-served, sides_of}
 use Rattle.pictures.proofs.Buffers.{picture-of_size, picture_bytes_lem, length-bytes}
@@ -71,13 +71,13 @@ module _ (z : Size) (b s : List ℕ) (sized : Sized z (length b)) where
   unfolding turned
   over_of_lem = turned-of_size Horizontal z (picture z b) (picture-of_size z b sized.length_is)
 
-  over-long : length (bytes (over_of z b)) ≡ length b
+  over-long : length (bytes z.kind (over_of z b)) ≡ length b
   over-long = length-bytes t (over_of z b) over_of_lem ∙ turned-bytes Horizontal z ∙ sym sized.length_is
 
   -- After the first exchange.
   module _ (work work₁ : List ℕ) (v : Result (Unit {0}) Refusal) (g : ExchangeGiven b z work v work₁) (served : refusal (size_rules z (length b)) ≡ 0) (room : picture_bytes z ≤ length work) where
-    pub front_is : take (length b) work₁ ≡ bytes (over_of z b)
-    front_is = ap (take (length b)) (exchange-served b z work work₁ v g served room) ∙ take_at (bytes (over_of z b)) (drop (picture_bytes z) work) (length b) over-long
+    pub front_is : take (length b) work₁ ≡ bytes z.kind (over_of z b)
+    front_is = ap (take (length b)) (exchange-served b z work work₁ v g served room) ∙ take_at (bytes z.kind (over_of z b)) (drop (picture_bytes z) work) (length b) over-long
 
     pub front-sized : refusal (size_rules t (length (take (length b) work₁))) ≡ 0
     front-sized = rw (ap length front_is ∙ length-bytes t (over_of z b) over_of_lem) (sized-served t (turned-sides Horizontal z (length b) sized))
@@ -87,9 +87,9 @@ module _ (z : Size) (b s : List ℕ) (sized : Sized z (length b)) where
     rest-of : OfSize left (rest_of z b s)
     rest-of = cut_narrower z.height is.wide is.inside over_of_lem
 
-    pub left-bytes : picture_bytes left + z.width * channels_of z.kind ≡ length b
+    pub left-bytes : picture_bytes left + z.width * pixel_bytes z.kind ≡ length b
     left-bytes =
-        let ch = channels_of z.kind in
+        let ch = pixel_bytes z.kind in
         let one : z.height ≡ suc (z.height - 1) = omega (arith, is.wide) in
         omega (
           arith,
@@ -104,33 +104,33 @@ module _ (z : Size) (b s : List ℕ) (sized : Sized z (length b)) where
     left-sides = sides_of left (omega (arith, is.wide)) (omega (arith, sized.height_most)) sized.width_some sized.width_most
 
     -- After the exchanged picture was closed up.
-    module _ (work₁ front : List ℕ) (u : Result (Unit {0}) Refusal) (c : CloseGiven (take (length b) work₁) t s u front) (there : take (length b) work₁ ≡ bytes (over_of z b)) (fits : refusal (size_rules t (length (take (length b) work₁))) ≡ 0) where
-      pub closed_is : front ≡ bytes (rest_of z b s) ++ replicate (z.width * channels_of z.kind) 0
+    module _ (work₁ front : List ℕ) (u : Result (Unit {0}) Refusal) (c : CloseGiven (take (length b) work₁) t s u front) (there : take (length b) work₁ ≡ bytes z.kind (over_of z b)) (fits : refusal (size_rules t (length (take (length b) work₁))) ≡ 0) where
+      pub closed_is : front ≡ bytes z.kind (rest_of z b s) ++ replicate (z.width * pixel_bytes z.kind) 0
       closed_is =
           close_served (take (length b) work₁) t s front u c fits is.inside is.wide
-          ∙ ap (λ p. bytes (cut s p) ++ replicate (z.width * channels_of z.kind) 0) (ap (picture t) there ∙ picture_bytes_lem t (over_of z b) over_of_lem)
+          ∙ ap (λ p. bytes z.kind (cut s p) ++ replicate (z.width * pixel_bytes z.kind) 0) (ap (picture t) there ∙ picture_bytes_lem t (over_of z b) over_of_lem)
 
-      pub kept-is : (after : List ℕ) → take (picture_bytes left) (front ++ after) ≡ bytes (rest_of z b s)
+      pub kept-is : (after : List ℕ) → take (picture_bytes left) (front ++ after) ≡ bytes z.kind (rest_of z b s)
       kept-is after =
-          let ends = replicate (z.width * channels_of z.kind) 0 ++ after in
+          let ends = replicate (z.width * pixel_bytes z.kind) 0 ++ after in
           ap (λ x. take (picture_bytes left) (x ++ after)) closed_is
-          ∙ ap (take (picture_bytes left)) (append_assoc (bytes (rest_of z b s)) (replicate (z.width * channels_of z.kind) 0) after)
-          ∙ take_at (bytes (rest_of z b s)) ends (picture_bytes left) (length-bytes left (rest_of z b s) rest-of)
+          ∙ ap (take (picture_bytes left)) (append_assoc (bytes z.kind (rest_of z b s)) (replicate (z.width * pixel_bytes z.kind) 0) after)
+          ∙ take_at (bytes z.kind (rest_of z b s)) ends (picture_bytes left) (length-bytes left (rest_of z b s) rest-of)
 
     -- After it was exchanged back.
-    module _ (from to to' : List ℕ) (v : Result (Unit {0}) Refusal) (g : ExchangeGiven from left to v to') (e : from ≡ bytes (rest_of z b s)) (room : picture_bytes left ≤ length to) where
+    module _ (from to to' : List ℕ) (v : Result (Unit {0}) Refusal) (g : ExchangeGiven from left to v to') (e : from ≡ bytes z.kind (rest_of z b s)) (room : picture_bytes left ≤ length to) where
       from-sized : refusal (size_rules left (length from)) ≡ 0
       from-sized = rw (ap length e ∙ length-bytes left (rest_of z b s) rest-of) (sized-served left left-sides)
 
       pub back_none : given v ≡ 0
       back_none = exchange_none from left to to' v g from-sized room
 
-      pub back_is : take (picture_bytes left) to' ≡ bytes (cut_along Horizontal z s (picture z b))
+      pub back_is : take (picture_bytes left) to' ≡ bytes z.kind (cut_along Horizontal z s (picture z b))
       unfolding cut_along turned
       back_is =
           let c = exchange left.width (rest_of z b s) in
-          let long : length (bytes (exchange left.width (rest_of z b s))) ≡ picture_bytes left = length-bytes (turned_size Horizontal left) (exchange left.width (rest_of z b s)) (exchange-each rest-of) ∙ turned-bytes Horizontal left in
+          let long : length (bytes z.kind (exchange left.width (rest_of z b s))) ≡ picture_bytes left = length-bytes (turned_size Horizontal left) (exchange left.width (rest_of z b s)) (exchange-each rest-of) ∙ turned-bytes Horizontal left in
           ap (take (picture_bytes left))
           (exchange-served from left to to' v g from-sized room
-          ∙ ap (λ p. bytes (exchange left.width p) ++ drop (picture_bytes left) to) (ap (picture left) e ∙ picture_bytes_lem left (rest_of z b s) rest-of))
-          ∙ take_at (bytes (exchange left.width (rest_of z b s))) (drop (picture_bytes left) to) (picture_bytes left) long
+          ∙ ap (λ p. bytes z.kind (exchange left.width p) ++ drop (picture_bytes left) to) (ap (picture left) e ∙ picture_bytes_lem left (rest_of z b s) rest-of))
+          ∙ take_at (bytes z.kind (exchange left.width (rest_of z b s))) (drop (picture_bytes left) to) (picture_bytes left) long

@@ -12,7 +12,7 @@ use Rattle.grids.proofs.Shapes.{each-length}
 use Rattle.pictures.specs.declared.sizes.Size.{Size}
 use Rattle.pictures.specs.declared.refusals.Refusal.{Refusal}
 use Rattle.pictures.specs.Refusals.{◌when◌, number_of, given, refusal, served}
-use Rattle.pictures.specs.Pictures.{channels_of, picture_bytes, size_rules, picture, bytes}
+use Rattle.pictures.specs.Pictures.{pixel_bytes, picture_bytes, size_rules, picture, bytes}
 use Rattle.pictures.proofs.Rules.{served-first}
 use Rattle.seam_bounds.specs.Moves.{outside}
 use Rattle.seam_close.specs.Closing.{close_rules}
@@ -28,11 +28,11 @@ use Rattle.seam_turn.specs.Turning.{TurnGiven, close_along_rules, left_work, Clo
 -- A picture of its size, and room for it: the turned picture stands at the front of the space.
 pub turn_served : (b : List ℕ) (z : Size) (x : Axis) (to to' : List ℕ) (v : Result (Unit {0}) Refusal) → TurnGiven b z x to v to'
     → refusal (size_rules z (length b)) ≡ 0 → picture_bytes z ≤ length to
-    → to' ≡ bytes (turned x z.width (picture z b)) ++ drop (picture_bytes z) to
+    → to' ≡ bytes z.kind (turned x z.width (picture z b)) ++ drop (picture_bytes z) to
 turn_served b z x to to' v g s l =
     let none : refusal (8 when ltb (length to) (picture_bytes z) ∷ []) ≡ 0 = simp (le-ltb _ _ l) in
     g.to_given
-    ∙ ap (λ n. served n (bytes (turned x z.width (picture z b)) ++ drop (picture_bytes z) to) to)
+    ∙ ap (λ n. served n (bytes z.kind (turned x z.width (picture z b)) ++ drop (picture_bytes z) to) to)
     (g.number ∙ served-first (size_rules z (length b)) (8 when ltb (length to) (picture_bytes z) ∷ []) refl s ∙ none)
 
 -- Where the lengths are served, only 10 and 13 are left, as in closing up the picture turned.
@@ -47,7 +47,7 @@ close_number x z bytes s work none m sized =
 
 -- A picture of its size with more than one column or row, a seam inside it, and room: the picture left stands at the front.
 pub record Closed (b : List ℕ) (z : Size) (x : Axis) (s work b' work' : List ℕ) : Type 0 where
-  pub picture_is : b' ≡ bytes (cut_along x z s (picture z b)) ++ replicate ((turned_size x z).height * channels_of z.kind) 0
+  pub picture_is : b' ≡ bytes z.kind (cut_along x z s (picture z b)) ++ replicate ((turned_size x z).height * pixel_bytes z.kind) 0
   pub work_is : work ≡ replicate (length work) 0 → work' ≡ replicate (length work) 0
 
 zero_left : (x : Axis) (work : List ℕ) → work ≡ replicate (length work) 0 → left_work x 0 work ≡ replicate (length work) 0
@@ -60,7 +60,7 @@ pub close_served : (b : List ℕ) (z : Size) (x : Axis) (s work : List ℕ) (v :
     → Closed b z x s work b' work'
 close_served b z x s work v b' work' g sized inside wide room =
     record {
-      picture_is = g.picture_left ∙ ap (λ n. served n (bytes (cut_along x z s (picture z b)) ++ replicate ((turned_size x z).height * channels_of z.kind) 0) b) none;
+      picture_is = g.picture_left ∙ ap (λ n. served n (bytes z.kind (cut_along x z s (picture z b)) ++ replicate ((turned_size x z).height * pixel_bytes z.kind) 0) b) none;
       work_is = λ e. g.work_left ∙ ap (λ n. left_work x n work) none ∙ zero_left x work e;
     }
   where

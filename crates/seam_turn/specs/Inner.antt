@@ -3,7 +3,7 @@ use Rattle.std.specs.Prelude.{◌≡◌, Result, List, ◌++◌, ℕ, ◌*◌, l
 use Rattle.pictures.specs.declared.sizes.Size.{Size}
 use Rattle.pictures.specs.declared.refusals.Refusal.{Refusal}
 use Rattle.pictures.specs.Refusals.{given, refusal, served}
-use Rattle.pictures.specs.Pictures.{channels_of, picture, bytes}
+use Rattle.pictures.specs.Pictures.{pixel_bytes, picture, bytes}
 use Rattle.seam_rules.specs.declared.answers.Axis.TheVariants.{Horizontal}
 use Rattle.seam_rules.specs.Cuts.{close_along_lengths}
 use Rattle.seam_turn.specs.Axes.{cut_along}
@@ -16,4 +16,4 @@ pub record ColumnsNeeded (b : List ℕ) (z : Size) (s work : List ℕ) : Type 0 
 -- What closing each column up gives: the number, and the picture.
 pub record ColumnsGiven (b : List ℕ) (z : Size) (s work : List ℕ) (answer : Result (Unit {0}) Refusal) (b' : List ℕ) : Type 0 where
   pub number : given answer ≡ refusal (close_along_rules Horizontal z (length b) s (length work))
-  pub picture_left : b' ≡ served (given answer) (bytes (cut_along Horizontal z s (picture z b)) ++ replicate (z.width * channels_of z.kind) 0) b
+  pub picture_left : b' ≡ served (given answer) (bytes z.kind (cut_along Horizontal z s (picture z b)) ++ replicate (z.width * pixel_bytes z.kind) 0) b

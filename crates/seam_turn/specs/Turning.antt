@@ -3,7 +3,7 @@ use Rattle.std.specs.Prelude.{◌≡◌, Result, List, ◌∷◌, ◌++◌, ℕ,
 use Rattle.pictures.specs.declared.sizes.Size.{Size}
 use Rattle.pictures.specs.declared.refusals.Refusal.{Refusal}
 use Rattle.pictures.specs.Refusals.{Rule, ◌when◌, given, refusal, served}
-use Rattle.pictures.specs.Pictures.{channels_of, picture_bytes, picture, bytes}
+use Rattle.pictures.specs.Pictures.{pixel_bytes, picture_bytes, picture, bytes}
 use Rattle.seam_bounds.specs.Moves.{outside, exchange_rules}
 use Rattle.seam_rules.specs.declared.answers.Axis.{Axis}
 use Rattle.seam_rules.specs.declared.answers.Axis.TheVariants.{Vertical, Horizontal}
@@ -14,7 +14,7 @@ use Rattle.seam_turn.specs.Axes.{turned, cut_along}
 -- What turning gives, refused as an exchange is: the number, and the space, which keeps what stands after the turned picture.
 pub record TurnGiven (b : List ℕ) (z : Size) (x : Axis) (to : List ℕ) (answer : Result (Unit {0}) Refusal) (to' : List ℕ) : Type 0 where
   pub number : given answer ≡ refusal (exchange_rules z (length b) (length to))
-  pub to_given : to' ≡ served (given answer) (bytes (turned x z.width (picture z b)) ++ drop (picture_bytes z) to) to
+  pub to_given : to' ≡ served (given answer) (bytes z.kind (turned x z.width (picture z b)) ++ drop (picture_bytes z) to) to
 
 -- When closing up is refused: for the lengths of the buffers, by 10 where a column of the seam, or a row, is outside the
 -- picture, and by 13 at the last column or row.
@@ -31,5 +31,5 @@ left_work Horizontal n work = cleared n work
 pub record CloseAlongGiven (b : List ℕ) (z : Size) (x : Axis) (s work : List ℕ) (answer : Result (Unit {0}) Refusal) (b' work' : List ℕ) : Type 0 where
   pub number : given answer ≡ refusal (close_along_rules x z (length b) s (length work))
   pub picture_left :
-      b' ≡ served (given answer) (bytes (cut_along x z s (picture z b)) ++ replicate ((turned_size x z).height * channels_of z.kind) 0) b
+      b' ≡ served (given answer) (bytes z.kind (cut_along x z s (picture z b)) ++ replicate ((turned_size x z).height * pixel_bytes z.kind) 0) b
   pub work_left : work' ≡ left_work x (given answer) work

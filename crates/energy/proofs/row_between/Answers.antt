@@ -5,7 +5,7 @@ use native.Mathlib.Omega.{arith}
 use lib.ListN.{length}
 use Rattle.pictures.specs.Pictures.{row_bytes}
 use Rattle.pictures.proofs.Limits.{Sized, sized_is}
-use Rattle.energy.proofs.Lines.{ends, lines_needed, lines_are}
+use Rattle.energy.proofs.Lines.{ends, lines_are}
 use Rattle.energy.proofs.row_between.Goals as goal
 use Rattle.energy.proofs.row_between.Goals.{After-neighbour-beside}
 
@@ -23,20 +23,6 @@ slice_bounds-line_energies-end-2 c =
     let k = (goal.at.slice_bounds-line_energies-end-2 c).After-neighbour-beside in
     let e = ends a.size a.method c.requires.rule a.picture.now a.r (a.size.width * c.pixel_bytes.result) c.neighbour.result (sure k) c.requires.row.inside (strided k) c.neighbour.ensures in
     omega arith
-
-pub overflow_add-lower : goal.overflow_add-lower
-overflow_add-lower c =
-    let a = c.args in
-    let k = (goal.at.overflow_add-lower c).After-neighbour-beside in
-    let e = ends a.size a.method c.requires.rule a.picture.now a.r (a.size.width * c.pixel_bytes.result) c.neighbour.result (sure k) c.requires.row.inside (strided k) c.neighbour.ensures in
-    omega arith
-
-pub line_energies-requires : goal.line_energies-requires
-line_energies-requires c =
-    let a = c.args in
-    let k = (goal.at.line_energies-requires c).After-neighbour-beside in
-    lines_needed a.size a.method c.requires.rule a.picture.now a.r (a.size.width * c.pixel_bytes.result) c.neighbour.result (sure k) c.requires.row.inside (strided k) c.neighbour.ensures _ _
-    c.neighbour-beside.ensures c.requires.row.room
 
 pub returns : goal.returns
 returns c =

@@ -5,15 +5,8 @@ use Rattle.grids.specs.Table.{table}
 use Rattle.pictures.specs.Pictures.{channels_of}
 use Rattle.pictures.proofs.Limits.{sized_is}
 use Rattle.energy.specs.Inner.{across_of}
-use Rattle.energy.proofs.Meeting.{lent-row, across-row}
+use Rattle.energy.proofs.Meeting.{across-row}
 use Rattle.energy.proofs.row_energies.Goals as goal
-
-pub across-requires : goal.across-requires
-across-requires c =
-    let a = c.args in
-    let z = a.size in
-    rw (length-take-le z.width a.out.now c.requires.room)
-    (lent-row z a.picture.now (sized_is z _ c.requires.sized) a.r (z.width * c.pixel_bytes.result) c.requires.inside (ap (z.width *◌) c.pixel_bytes.ensures))
 
 pub returns-else-has_one_cost : goal.returns-else-has_one_cost
 returns-else-has_one_cost c =

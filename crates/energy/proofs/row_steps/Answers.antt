@@ -1,14 +1,8 @@
 -- `energy::row_steps` meets its contract: the row above ends where the row begins, and what is taken is what the row's steps cost.
 use Rattle.std.proofs.Common.{◌*◌, ap, ◌∙◌}
 use Rattle.pictures.proofs.Limits.{sized_is}
-use Rattle.energy.proofs.Meeting.{lent-steps, left-row, up-row, right-row}
+use Rattle.energy.proofs.Meeting.{left-row, up-row, right-row}
 use Rattle.energy.proofs.row_steps.Goals as goal
-
-pub steps-requires : goal.steps-requires
-steps-requires c =
-    let a = c.args in
-    lent-steps a.size a.picture.now (sized_is a.size _ c.requires.sized) a.r _ c.requires.inside (ap (a.size.width *◌) c.pixel_bytes.ensures) c.requires.later _ _ _
-    c.requires.left_room c.requires.up_room c.requires.right_room
 
 pub returns-clause-left : goal.returns-clause-left
 returns-clause-left c =

@@ -67,7 +67,7 @@ returns c =
     let f = c.find_in in
     let sure = sized_is _ _ (rooms a.axis z b a.seam.now a.work.now c.requires).sized in
     -- what turning leaves in the work space
-    let turned_is : front ≡ bytes (turned a.axis z.width (picture z b)) ++ drop (picture_bytes z) a.work.now =
+    let turned_is : front ≡ bytes z.kind (turned a.axis z.width (picture z b)) ++ drop (picture_bytes z) a.work.now =
     turn_served b z a.axis a.work.now front c.turn.result c.turn.ensures
     (rooms a.axis z b a.seam.now a.work.now c.requires).sized
     (fits a.axis z b a.seam.now a.work.now c.requires)

@@ -4,6 +4,7 @@ use Rattle.std.proofs.Common.{◌≡◌, Result, Ok, IsOk, false, eqb, List, ◌
 use borrow.Author.Tests.{not-true}
 use Rattle.grids.specs.Each.{Each}
 use Rattle.grids.proofs.Shapes.{each-length}
+use Rattle.pictures.specs.declared.sizes.Kind.TheVariants.{Grey}
 use Rattle.pictures.specs.declared.sizes.Size.{Size}
 use Rattle.pictures.specs.declared.refusals.Refusal.{Refusal}
 use Rattle.pictures.specs.Refusals.{refusal}
@@ -100,7 +101,7 @@ module _ {how : Method} {x : Axis} {z : Size} {b m room work : List ℕ} (p : Cu
             marks_left =
                 lost.picture_is
                 ∙ ap₂ ◌++◌
-                (ap (λ s. bytes (cut_along x (grey_of z) s (picture (grey_of z) m))) s-is ∙ marks-cut x z m p.found.marked seam)
+                (ap (λ s. bytes Grey (cut_along x (grey_of z) s (picture (grey_of z) m))) s-is ∙ marks-cut x z m p.found.marked seam)
                 (ap (λ n. replicate n 0) (mul-one (turned_size x (grey_of z)).height ∙ tall_grey x z));
           }
 

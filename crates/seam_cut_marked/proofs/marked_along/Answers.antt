@@ -40,7 +40,7 @@ module _ (b m : List ℕ) (z : Size) (x : Axis) (seam work : List ℕ) (p : Mark
   fits : length b + (pixels z + pixels z) ≤ length front
   fits = omega (arith, sure.length_is, p.work_room, front_kept)
 
-  turned_is : front ≡ bytes (turned x z.width (picture z b)) ++ drop (picture_bytes z) work
+  turned_is : front ≡ bytes z.kind (turned x z.width (picture z b)) ++ drop (picture_bytes z) work
   turned_is = turn_served b z x work front v turns p.sized (omega (arith, p.work_room))
 
   -- what turning the marks leaves after it
@@ -59,7 +59,7 @@ module _ (b m : List ℕ) (z : Size) (x : Axis) (seam work : List ℕ) (p : Mark
     after : List ℕ
     after = drop (picture_bytes (grey_of z)) (mid_of (length b) (length front - length b) front) ++ drop (length front) front
 
-    stands : space ≡ bytes (turned x z.width (picture z b)) ++ (flat (turned x z.width (marks_of z m)) ++ after)
+    stands : space ≡ bytes z.kind (turned x z.width (picture z b)) ++ (flat (turned x z.width (marks_of z m)) ++ after)
     unfolding space after
     stands =
         let n = length b in

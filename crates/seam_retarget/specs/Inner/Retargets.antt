@@ -22,5 +22,5 @@ pub record RetargetNeeded (b : List ℕ) (z : Size) (rows : Rows) (columns : Col
 -- The total of the cell, its picture at the front of out, and the work space zero.
 pub record LastGiven (b : List ℕ) (z : Size) (how : Method) (rows : Rows) (columns : Columns) (out work : List ℕ) (answer : ℕ) (out' work' : List ℕ) : Type 0 where
   pub total : answer ≡ (cell_of how z b rows columns).total
-  pub out_given : out' ≡ bytes (cell_of how z b rows columns).picture ++ drop (picture_bytes (left_size z rows columns)) out
+  pub out_given : out' ≡ bytes z.kind (cell_of how z b rows columns).picture ++ drop (picture_bytes (left_size z rows columns)) out
   pub work_left : work' ≡ replicate (length work) 0

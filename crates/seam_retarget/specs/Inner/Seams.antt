@@ -33,7 +33,7 @@ pub record SeamGiven (work : List ℕ) (from : ℕ) (z : Size) (how : Method) (x
   pub cost_most : cost ≤ most_cost
   pub seam_is : take (turned_size x z).height seam' ≡ seam_along how x z (picture_at z from work)
   pub seam_long : length seam' ≡ length seam
-  pub turned_is : part_at at (picture_bytes z) work' ≡ bytes (turned x z.width (picture_at z from work))
+  pub turned_is : part_at at (picture_bytes z) work' ≡ bytes z.kind (turned x z.width (picture_at z from work))
   pub long : length work' ≡ length work
   pub others : (a n : ℕ) → Apart a n at (picture_bytes z + pixels z) → part_at a n work' ≡ part_at a n work
 
@@ -52,7 +52,7 @@ left_along x z = turned_size x (narrowed (turned_size x z))
 pub record CutGiven (work : List ℕ) (at : ℕ) (z : Size) (x : Axis) (seam : List ℕ) (to : ℕ) (work' : List ℕ) : Type 0 where
   pub picture_is :
       part_at to (picture_bytes (left_along x z)) work'
-      ≡ bytes (turned x (narrowed (turned_size x z)).width (cut (take (turned_size x z).height seam) (picture_at (turned_size x z) at work)))
+      ≡ bytes z.kind (turned x (narrowed (turned_size x z)).width (cut (take (turned_size x z).height seam) (picture_at (turned_size x z) at work)))
   pub long : length work' ≡ length work
   pub others : (a n : ℕ) → Apart a n at (picture_bytes z) → Apart a n to (picture_bytes z) → part_at a n work' ≡ part_at a n work
 

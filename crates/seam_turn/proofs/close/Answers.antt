@@ -9,7 +9,7 @@ use Rattle.std.specs.Prelude.{Err}
 use lib.Dec.{eqb}
 use lib.ListN.{length, replicate}
 use Rattle.pictures.specs.Refusals.{Rule, ◌when◌, given, refusal}
-use Rattle.pictures.specs.Pictures.{channels_of, picture, bytes}
+use Rattle.pictures.specs.Pictures.{pixel_bytes, picture, bytes}
 use Rattle.pictures.proofs.Rules.{served-first, refused_answer, refused-kept, refusal-most}
 use Rattle.seam_bounds.specs.Moves.{outside}
 use Rattle.seam_rules.specs.declared.answers.Axis.TheVariants.{Vertical, Horizontal}
@@ -35,7 +35,7 @@ returns-in_err-judge_close_along c =
     let number : given v ≡ refusal first = ap given is ∙ c.in_err-judge_close_along.ensures in
     record {
       number = refused_answer v why is first last number;
-      picture_left = refused-kept v why is (bytes (cut_along a.axis a.size s (picture a.size b)) ++ replicate ((turned_size a.axis a.size).height * channels_of a.size.kind) 0) b;
+      picture_left = refused-kept v why is (bytes a.size.kind (cut_along a.axis a.size s (picture a.size b)) ++ replicate ((turned_size a.axis a.size).height * pixel_bytes a.size.kind) 0) b;
       work_left = work_kept a.axis why (given v) (sym (ap given is)) (omega (arith, number, refusal-most 8 first refl)) a.work.now;
     }
 

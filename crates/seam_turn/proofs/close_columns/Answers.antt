@@ -13,7 +13,7 @@ use Rattle.grids.proofs.Parts.{put_part, part_length}
 use Rattle.pictures.specs.declared.sizes.Size.{Size}
 use Rattle.pictures.specs.declared.refusals.Refusal.{Refusal}
 use Rattle.pictures.specs.Refusals.{number_of, given, refusal, served}
-use Rattle.pictures.specs.Pictures.{channels_of, picture_bytes, size_rules, side_rules, picture, bytes}
+use Rattle.pictures.specs.Pictures.{pixel_bytes, picture_bytes, size_rules, side_rules, picture, bytes}
 use Rattle.pictures.proofs.Rules.{number-some, refused-kept}
 use Rattle.pictures.proofs.Limits.{Sized, sized_is}
 use Rattle.seam_moves.specs.Moving.{ExchangeGiven}
@@ -46,7 +46,7 @@ module _ {z over-size : Size} {b s work : List ℕ} (lengths : refusal (close_al
   room = omega (arith, sure.length_is, fits.room)
 
   -- the exchanged picture at the front of the work space
-  over : take (length b) work₁ ≡ bytes (over_of z b)
+  over : take (length b) work₁ ≡ bytes z.kind (over_of z b)
   over = front_is z b s sure work work₁ v g fits.sized fits.room
 
   over_sized : refusal (size_rules (turned_size Horizontal z) (length (take (length b) work₁))) ≡ 0
@@ -71,10 +71,10 @@ module _ {z over-size : Size} {b s work : List ℕ} (lengths : refusal (close_al
     abbrev kept : ℕ
     kept = picture_bytes (narrowed (turned_size Horizontal z))
 
-    kept-fits : kept + z.width * channels_of z.kind ≡ length b
+    kept-fits : kept + z.width * pixel_bytes z.kind ≡ length b
     kept-fits = left-bytes z b s sure inside
 
-    lent_is : take kept closed ≡ bytes (rest_of z b s)
+    lent_is : take kept closed ≡ bytes z.kind (rest_of z b s)
     lent_is = kept-is z b s sure inside work₁ front u c over over_sized (drop (length b) work₁)
 
     -- exchanged back, which isn't refused, with what was freed cleared
@@ -89,22 +89,22 @@ module _ {z over-size : Size} {b s work : List ℕ} (lengths : refusal (close_al
       gb : ExchangeGiven (take n closed) (narrowed (turned_size Horizontal z)) b t pic
       gb = rw left_is at goes
 
-      lent : take n closed ≡ bytes (rest_of z b s)
+      lent : take n closed ≡ bytes z.kind (rest_of z b s)
       lent = ap (λ m. take m closed) many ∙ lent_is
 
       back_served : given t ≡ 0
       back_served = back_none z b s sure inside (take n closed) b pic t gb lent (omega (arith, kept-fits))
 
       back : {end : List ℕ} → length pic ≡ length b → end ≡ replicate (length (mid_of n (length pic - n) pic)) 0
-          → put_mid n (length pic - n) pic end ≡ bytes (cut_along Horizontal z s (picture z b)) ++ replicate (z.width * channels_of z.kind) 0
+          → put_mid n (length pic - n) pic end ≡ bytes z.kind (cut_along Horizontal z s (picture z b)) ++ replicate (z.width * pixel_bytes z.kind) 0
       back {end} long zero =
           let enough : n ≤ length pic = omega (arith, many, kept-fits) in
-          let freed : length pic - n ≡ z.width * channels_of z.kind = omega (arith, many, kept-fits) in
+          let freed : length pic - n ≡ z.width * pixel_bytes z.kind = omega (arith, many, kept-fits) in
           put_part n (length pic) pic end enough
           ∙ ap₂ (λ front rest. front ++ (end ++ rest))
           (ap (λ m. take m pic) many ∙ back_is z b s sure inside (take n closed) b pic t gb lent (omega (arith, kept-fits)))
           (drop-length pic)
-          ∙ ap (bytes (cut_along Horizontal z s (picture z b)) ++◌)
+          ∙ ap (bytes z.kind (cut_along Horizontal z s (picture z b)) ++◌)
           (append-nil end ∙ zero ∙ ap (λ m. replicate m 0) (part_length n (length pic) pic (omega arith) ∙ freed))
 
 pub returns-in_err-close_up : goal.returns-in_err-close_up
@@ -118,7 +118,7 @@ returns-in_err-close_up c =
           ap given (is ∙ sym c.in_err-close_up.was)
           ∙ number_is c.requires.lengths c.exchange.ensures c.exchange.auto.to c.turned_size-turned.ensures c.close_up.ensures c.close_up.auto.picture;
       picture_left =
-          refused-kept v why is (bytes (cut_along Horizontal a.size a.seam.now (picture a.size a.picture.now)) ++ replicate (a.size.width * channels_of a.size.kind) 0) a.picture.now;
+          refused-kept v why is (bytes a.size.kind (cut_along Horizontal a.size a.seam.now (picture a.size a.picture.now)) ++ replicate (a.size.width * pixel_bytes a.size.kind) 0) a.picture.now;
     }
 
 pub returns-in_err-exchange-2 : goal.returns-in_err-exchange-2

@@ -2,6 +2,7 @@
 -- picture is copied, which is the picture turned.
 use mathlib.Core.Path.{◌≡◌, sym, ap₂, ◌∙◌}
 use mathlib.Core.List.{◌++◌}
+use native.Mathlib.Omega.{arith}
 use lib.ListN.{length, drop}
 use Rattle.pictures.specs.Refusals.{refusal}
 use Rattle.pictures.specs.Pictures.{picture_bytes}
@@ -24,7 +25,7 @@ returns-in_ok-judge_exchange-in-Vertical c =
     rw c.in-Vertical.is
     (record {
       number = sym none;
-      to_given = ap₂ (λ x n. x ++ drop n a.to.now) (c.copy_from_slice.ensures.after ∙ sym (bytes-picture z b long)) long;
+      to_given = ap₂ (λ x n. x ++ drop n a.to.now) (c.copy_from_slice.ensures.after ∙ sym (bytes-picture z b long (λ i. omega (arith, c.type_inv.picture i)))) long;
     })
 
 pub returns-in-Horizontal : goal.returns-in-Horizontal

@@ -13,7 +13,7 @@ shown c =
     ((offered_is h.size.width h.depth h.growth c.args.wanted).0 (sym c.is_offered.ensures ∙ c.if-not-is_offered.false)).1
 
 pub overflow_mul-wanted : goal.overflow_mul-wanted
-overflow_mul-wanted c = rw c.channels.ensures (omega (arith, (shown c).row_most))
+overflow_mul-wanted c = rw c.pixel_bytes.ensures (omega (arith, (shown c).row_most))
 
 pub overflow_mul-size : goal.overflow_mul-size
-overflow_mul-size c = rw c.channels.ensures (omega (arith, (shown (goal.at.overflow_mul-size c).After-channels).shown_most))
+overflow_mul-size c = rw c.pixel_bytes.ensures (omega (arith, (shown (goal.at.overflow_mul-size c).After-channels).shown_most))

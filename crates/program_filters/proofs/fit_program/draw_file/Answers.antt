@@ -4,7 +4,7 @@ use mathlib.Core.Option.{none, some}
 use lib.Seq.{length-take-le}
 use Rattle.pictures.specs.declared.refusals.Refusal.TheVariants.{Form}
 use Rattle.pictures.specs.declared.sizes.Kind.{Kind}
-use Rattle.pictures.specs.Pictures.{channels_of}
+use Rattle.pictures.specs.Pictures.{pixel_bytes}
 use Rattle.pictures.proofs.Limits.{channels_most}
 use Rattle.text_theory.specs.declared.Head.{Head}
 use Rattle.text_theory.specs.Files.{head_get}
@@ -14,7 +14,7 @@ use Rattle.program_filters.proofs.PictureAnswers.{no_head, same_head}
 use Rattle.program_filters.proofs.fit_program.draw_file.Goals as goal
 
 -- the most pixels fit the space
-room_most : (k : Kind) (n : ℕ) → n ≡ channels_of k → held_pixels * n ≤ 3 * held_pixels
+room_most : (k : Kind) (n : ℕ) → n ≡ pixel_bytes k → held_pixels * n ≤ 3 * held_pixels
 room_most k n e = rw e (omega (arith, channels_most k))
 
 pub returns-in_err-head : goal.returns-in_err-head
@@ -25,11 +25,11 @@ returns-in_err-head c =
 
 pub draw_in-requires : goal.draw_in-requires
 draw_in-requires c =
-    let by = c.channels-room.ensures in
+    let by = c.pixel_bytes-room.ensures in
     let told : Told head_get c.args.file.now 0 (some (c.in_ok-head.head, c.in_ok-head.field-0-1.at)) = search rules in
     record {
       held = λ p e.
           length-take-le _ _ (room_most c.in_ok-head.head.size.kind _ by)
-          ∙ ap (λ n. held_pixels * n) (by ∙ sym (ap (λ (h : Head). channels_of h.size.kind) (same_head told p e)));
+          ∙ ap (λ n. held_pixels * n) (by ∙ sym (ap (λ (h : Head). pixel_bytes h.size.kind) (same_head told p e)));
       room = c.requires;
     }

@@ -14,11 +14,11 @@ module _ (c : After-channels) where
   shown : Drawing c.args.file.now c.args.width c.in_ok-size.size c.show.new.out
   shown = drawing _ _ _ _ _ c.requires refl _ c.in_ok-size.ensures
 
-  inside : c.in_ok-size.size.height * (c.in_ok-size.size.width * c.channels.result) ≤ length c.show.new.out
-  inside = rw c.channels.ensures shown.inside
+  inside : c.in_ok-size.size.height * (c.in_ok-size.size.width * c.pixel_bytes.result) ≤ length c.show.new.out
+  inside = rw c.pixel_bytes.ensures shown.inside
 
-  room : length (header_text c.in_ok-size.size ++ take (c.in_ok-size.size.height * (c.in_ok-size.size.width * c.channels.result)) c.show.new.out) ≤ length c.args.out.now
-  room = rw c.channels.ensures (omega (arith, c.requires.room, shown.text_most))
+  room : length (header_text c.in_ok-size.size ++ take (c.in_ok-size.size.height * (c.in_ok-size.size.width * c.pixel_bytes.result)) c.show.new.out) ≤ length c.args.out.now
+  room = rw c.pixel_bytes.ensures (omega (arith, c.requires.room, shown.text_most))
 
 -- What has room is printed.
 printed : (r : Option ℕ) {out bytes out' : List ℕ} → length bytes ≤ length out → Put out 0 bytes r out' → IsSome r
@@ -32,10 +32,10 @@ returns-in_err-size c =
     rw is (draw_refused _ _ _ _ _ c.requires refl why c.in_err-size.ensures)
 
 pub overflow_mul-bytes : goal.overflow_mul-bytes
-overflow_mul-bytes c = rw c.channels.ensures (omega (arith, (shown (goal.at.overflow_mul-bytes c).After-channels).row_most))
+overflow_mul-bytes c = rw c.pixel_bytes.ensures (omega (arith, (shown (goal.at.overflow_mul-bytes c).After-channels).row_most))
 
 pub overflow_mul-bytes-2 : goal.overflow_mul-bytes-2
-overflow_mul-bytes-2 c = rw c.channels.ensures (omega (arith, (shown (goal.at.overflow_mul-bytes-2 c).After-channels).few))
+overflow_mul-bytes-2 c = rw c.pixel_bytes.ensures (omega (arith, (shown (goal.at.overflow_mul-bytes-2 c).After-channels).few))
 
 pub slice_bounds-print_picture-end : goal.slice_bounds-print_picture-end
 slice_bounds-print_picture-end c = inside (goal.at.slice_bounds-print_picture-end c).After-channels
@@ -48,4 +48,4 @@ unwrap-end-requires c = printed c.print_picture.result (room (goal.at.unwrap-end
 
 pub returns : goal.returns
 returns c =
-    draw_served (shown (goal.at.returns c).After-channels) c.requires.room (rw c.channels.ensures at (rw c.unwrap-end.ensures at c.print_picture.ensures))
+    draw_served (shown (goal.at.returns c).After-channels) c.requires.room (rw c.pixel_bytes.ensures at (rw c.unwrap-end.ensures at c.print_picture.ensures))

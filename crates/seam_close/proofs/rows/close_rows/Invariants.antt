@@ -10,8 +10,8 @@ use Rattle.seam_close.proofs.rows.close_rows.Given as goal
 
 abbrev pub invariant-loop-r : goal.invariant-loop-r
 invariant-loop-r l = record {
-  within : l.r ≤ l.height;
-  long : length l.picture ≡ length l.initial.picture;
+  within : l.r ≤ length l.seam;
+  long : length l.rows ≡ length l.initial.rows;
   line_long : length l.line ≡ 6 * largest_side;
-  closed : Filled (closed_row l.n l.stride l.initial.picture l.seam) l.kept l.initial.picture l.r l.picture;
+  closed : Filled (closed_row l.n l.stride l.initial.rows l.seam) l.kept l.initial.rows l.r l.rows;
 }

@@ -9,5 +9,5 @@ returns-then-from-to c =
     let a = c.args in
     let z = a.allowed.size in
     let cut = c.split_at_mut-front in
-    into_back a.space.now a.from (picture_bytes z) a.to c.requires (λ b. bytes (exchange z.width (picture z b))) _ c.picture_bytes-all.ensures.0
-    cut.result.0.now cut.result.1.now c.exchange_columns.new.to c.if-from-to.true cut.ensures.front cut.ensures.back c.exchange_columns.ensures
+    into_back a.space.now a.from (picture_bytes z) a.to c.requires (λ b. bytes z.kind (exchange z.width (picture z b))) _ c.picture_bytes-all.ensures.0
+    cut.result.0.now cut.result.1.now c.exchange_pixels.new.to c.if-from-to.true cut.ensures.front cut.ensures.back c.exchange_pixels.ensures

@@ -1,26 +1,16 @@
--- `seam_moves::columns::put_pixels` meets its contract. The loop's invariant: r pixels stand at the front of out.
-use mathlib.Core.Path.{◌≡◌, ◌∙◌}
-use Prim.Native.Nat.{◌+◌, ◌-◌, ◌*◌}
-use native.Mathlib.Omega.{arith}
-use borrow.Rule.Slice.PartMut.{same_len_mid}
-use Rattle.seam_moves.proofs.Exchanging.{pixel-turn, column_end}
+-- `seam_moves::columns::put_pixels` meets its contract, at each kind: pixels are cells of bytes, and the cells moved are the pixels moved.
+use Rattle.std.proofs.Common.{ap, sym, arith}
+use Rattle.pictures.specs.Pictures.{pixel_bytes}
+use Rattle.seam_moves.proofs.Exchanging.{column_needed, pixels_put}
 use Rattle.seam_moves.proofs.columns.put_pixels.Goals as goal
 
-pub loop-r-preserved : goal.loop-r-preserved
-loop-r-preserved g c =
-    let a = c.args in
-    let l = c.loop-r in
-    let n = g.row.N in
-    let put = c.copy_from_slice in
-    record {
-      within = omega arith;
-      long = same_len_mid (l.r * n) (l.r * n + n - l.r * n) l.out put.new.self put.auto.self ∙ l.invariant.long;
-      filled = pixel-turn a.size a.from.now n a.c a.out.now c.requires.bytes c.requires.column l.r l.out c.loop-r-test.true l.invariant.long put.new.self l.invariant.filled put.ensures.after;
-    }
+pub returns-in-Grey : goal.returns-in-Grey
+returns-in-Grey c =
+    pixels_put c.args.size c.args.from.now 1 (sym (ap pixel_bytes c.in-Grey.is)) c.requires.sized (λ i. omega (arith, c.type_inv.from i)) _ _ c.args.c c.requires.inside c.put_cells.ensures
 
-pub returns : goal.returns
-returns g c =
-    let a = c.args in
-    let l = c.loop-r in
-    let e : l.r ≡ a.size.height = omega arith in
-    column_end a.size a.from.now g.row.N a.c a.out.now c.requires.bytes c.requires.column l.out (rw e at l.invariant.filled)
+pub put_cells-requires-in-Rgb : goal.put_cells-requires-in-Rgb
+put_cells-requires-in-Rgb c = column_needed c.args.size c.args.from.now 3 (sym (ap pixel_bytes c.in-Rgb.is)) c.args.c c.args.out.now c.requires
+
+pub returns-in-Rgb : goal.returns-in-Rgb
+returns-in-Rgb c =
+    pixels_put c.args.size c.args.from.now 3 (sym (ap pixel_bytes c.in-Rgb.is)) c.requires.sized (λ i. omega (arith, c.type_inv.from i)) _ _ c.args.c c.requires.inside c.put_cells-in-Rgb.ensures
