@@ -18,13 +18,13 @@ use Rattle.pictures.specs.declared.sizes.Size.{Size}
 use Rattle.pictures.specs.Refusals.{refusal}
 use Rattle.pictures.specs.Pictures.{picture_bytes, size_rules, picture, bytes, pixels, marks_of, picture_in, marks_in}
 use Rattle.pictures.proofs.Limits.{Sized, sized-served, sides_of}
-use Rattle.pictures.proofs.Buffers.{picture-of_size, length-bytes, picture_plain, bytes_plain}
+use Rattle.pictures.proofs.Buffers.{picture-of_size, picture_plain, bytes_plain}
 use Rattle.seam_rules.specs.declared.answers.Axis.{Axis}
 use Rattle.seam_rules.specs.declared.answers.Axis.TheVariants.{Vertical, Horizontal}
 use Rattle.seam_rules.specs.Axes.{turned_size, grey_of}
 use Rattle.seam_turn.specs.Axes.{turned, cut_along}
 use Rattle.seam_rules.proofs.Turns.{turned-bytes, turned-pixels}
-use Rattle.seam_turn.proofs.Turned.{length-turned, turned-of_size, turned-picture}
+use Rattle.seam_turn.proofs.Turned.{length-turned, turned-picture}
 
 pub grey-bytes : (z : Size) → picture_bytes (grey_of z) ≡ pixels z
 grey-bytes z = ap (z.height *◌) (mul-one z.width)

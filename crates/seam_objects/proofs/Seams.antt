@@ -15,6 +15,7 @@ use Rattle.grids.proofs.Rows.{flat-rows_of}
 use Rattle.pictures.specs.declared.sizes.Size.{Size}
 use Rattle.pictures.specs.Pictures.{channels_of, pixel_bytes, picture, bytes, pixels, marks_of}
 use Rattle.pictures.proofs.Limits.{Sides, sides_are, sides_served, sized_is, sides_of}
+use Rattle.pictures.proofs.Samples.{AreBytes}
 use Rattle.pictures.proofs.Buffers.{bytes-picture}
 use Rattle.energy.specs.declared.methods.Method.{Method}
 use Rattle.seam_bounds.specs.Moves.{outside}
@@ -57,9 +58,9 @@ one_more n count =
     let e : n + count * n ≡ suc count * n = omega (arith, suc-mul count n) in
     replicate-append-replicate n (count * n) 0 ∙ ap (λ k. replicate k 0) e
 
-pub going_start : (z : Size) (how : Method) (b m work : List ℕ) (budget : ℕ) → SeamsNeeded z b m work → Going z how b m budget z.width 0 b m
+pub going_start : (z : Size) (how : Method) (b m work : List ℕ) (budget : ℕ) → AreBytes b → SeamsNeeded z b m work → Going z how b m budget z.width 0 b m
 unfolding after_cuts
-going_start z how b m work budget need =
+going_start z how b m work budget small need =
     let s = sized_is z (length b) need.sized in
     let all : budget - 0 ≡ budget = omega arith in
     record {
@@ -73,7 +74,7 @@ going_start z how b m work budget need =
         wide = refl;
         high = refl;
         shaped = shaped_start z b m work need how;
-        picture_is = sym (none (bytes z.kind (picture z b)) (z.height * pixel_bytes z.kind) ∙ bytes-picture z b s.length_is);
+        picture_is = sym (none (bytes z.kind (picture z b)) (z.height * pixel_bytes z.kind) ∙ bytes-picture z b s.length_is small);
         marks_are = sym (none (flat (marks_of z m)) z.height ∙ flat-rows_of z.width z.height m ∙ take_all (pixels z) m (le_of_eq need.marked));
       };
     }

@@ -16,6 +16,7 @@ use Rattle.pictures.specs.Refusals.{◌when◌, refusal}
 use Rattle.pictures.specs.Pictures.{picture_bytes, size_rules, picture, bytes}
 use Rattle.pictures.proofs.Rules.{served-both, passed}
 use Rattle.pictures.proofs.Limits.{Sized, sized_is, bytes-few}
+use Rattle.pictures.proofs.Samples.{AreBytes, take_bytes, drop_bytes}
 use Rattle.pictures.proofs.Buffers.{bytes-picture}
 use Rattle.energy.specs.declared.methods.Method.{Method}
 use Rattle.seam_moves.specs.Between.{part_at}
@@ -169,13 +170,14 @@ module _ (tab : Table) (b : List ℕ) (is : tab.whole ≡ length b) (rows : Rows
               ap length part-is
               ∙ length_part (columns.0 * whole) (picture_bytes (left_size z rows columns)) three (omega (arith, three-long, (last_sure count count_is).inside)) ∙ sym count_is
 
-          pub served : (out' four : List ℕ) → out' ≡ part ++ drop count out → four ≡ replicate (length three) 0
+          pub served : AreBytes three → (out' four : List ℕ) → out' ≡ part ++ drop count out → four ≡ replicate (length three) 0
               → LastGiven b z how rows columns out work (get_or totals₃ columns.0 0) out' four
-          served out' four out_is four_is =
+          served small out' four out_is four_is =
               let left = left_size z rows columns in
               let shown : part ≡ bytes z.kind (cell_of how z b rows columns).picture =
               part-is
-              ∙ sym (bytes-picture left (part_at (columns.0 * whole) (picture_bytes left) three) (sym (ap length part-is) ∙ part-long ∙ count_is))
+              ∙ sym (bytes-picture left (part_at (columns.0 * whole) (picture_bytes left) three) (sym (ap length part-is) ∙ part-long ∙ count_is)
+              (take_bytes (picture_bytes left) (drop (columns.0 * whole) three) (drop_bytes (columns.0 * whole) three small)))
               ∙ ap (λ k. bytes z.kind k.picture) cell_is in
               record {
                 total = ap (λ k. k.total) cell_is;

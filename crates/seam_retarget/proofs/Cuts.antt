@@ -31,7 +31,7 @@ use Rattle.seam_rules.specs.Axes.{turned_size, narrowed}
 use Rattle.seam_turn.specs.Axes.{turned, cut_along}
 use Rattle.seam_cut.specs.Axes.{seam_along}
 use Rattle.seam_rules.proofs.Turns.{turned-bytes, turned-sides}
-use Rattle.seam_turn.proofs.Turned.{turned-of_size, length-turned, turned_bytes_lem, kind_same}
+use Rattle.seam_turn.proofs.Turned.{turned-of_size, length-turned, turned_bytes_lem}
 use Rattle.seam_cut.proofs.Inside.{along_inside}
 use Rattle.seam_retarget.specs.Inner.Seams.{picture_at, left_along, SeamGiven, CutNeeded, CutGiven, StepNeeded, StepGiven}
 use Rattle.seam_retarget.proofs.Steps.{sized_at, at_of_size}
@@ -84,7 +84,7 @@ module _ (work : List ℕ) (at : ℕ) (z : Size) (x : Axis) (seam : List ℕ) (t
     lent : mid_of at (at + all - at) work ≡ part_at at (picture_bytes t) work
     lent = ap (λ n. take n (drop at work)) (add-sub_cancel_left at all ∙ all_is)
 
-    closed_is : closed ≡ bytes z.kind (cut s q) ++ replicate (t.height * pixel_bytes t.kind) 0
+    closed_is : closed ≡ bytes t.kind (cut s q) ++ replicate (t.height * pixel_bytes t.kind) 0
     closed_is =
         close_served (part_at at (picture_bytes t) work) t s closed v (rw lent at g)
         (rw (length_part at (picture_bytes t) work room) (sized-served t sides-t)) needed.inside needed.wide
@@ -115,8 +115,8 @@ module _ (work : List ℕ) (at : ℕ) (z : Size) (x : Axis) (seam : List ℕ) (t
         let long = length-bytes left (cut s q) rest-of in
         ap (picture left)
         (ap (λ w. take (picture_bytes left) (drop at w)) one-is
-        ∙ ap (take (picture_bytes left)) (drop_at (take at work) (closed ++ drop (at + picture_bytes t) work) at (length-take-le at work (omega (arith, room))) ∙ ap (◌++ drop (at + picture_bytes t) work) closed_is ∙ append_assoc (bytes z.kind (cut s q)) (replicate (t.height * pixel_bytes t.kind) 0) (drop (at + picture_bytes t) work))
-        ∙ take_at (bytes z.kind (cut s q)) (replicate (t.height * pixel_bytes t.kind) 0 ++ drop (at + picture_bytes t) work) (picture_bytes left) long)
+        ∙ ap (take (picture_bytes left)) (drop_at (take at work) (closed ++ drop (at + picture_bytes t) work) at (length-take-le at work (omega (arith, room))) ∙ ap (◌++ drop (at + picture_bytes t) work) closed_is ∙ append_assoc (bytes t.kind (cut s q)) (replicate (t.height * pixel_bytes t.kind) 0) (drop (at + picture_bytes t) work))
+        ∙ take_at (bytes t.kind (cut s q)) (replicate (t.height * pixel_bytes t.kind) 0 ++ drop (at + picture_bytes t) work) (picture_bytes left) long)
         ∙ picture_bytes_lem left (cut s q) rest-of
 
     pub back_places : PlacesApart (length one) at to (picture_bytes left)
@@ -126,18 +126,18 @@ module _ (work : List ℕ) (at : ℕ) (z : Size) (x : Axis) (seam : List ℕ) (t
       apart = ⊎_elim (λ (l : at + picture_bytes z ≤ to). inl (omega (arith, left-few t, same_bytes))) (λ (l : to + picture_bytes z ≤ at). inr (omega (arith, left-few t, same_bytes))) needed.places.apart;
     }
 
-    pub cut-given : (two : List ℕ) → two ≡ put_at to (picture_bytes left) (bytes z.kind (turned x left.width (picture_at left at one))) one → CutGiven work at z x seam to two
+    pub cut-given : (two : List ℕ) → two ≡ put_at to (picture_bytes left) (bytes left.kind (turned x left.width (picture_at left at one))) one → CutGiven work at z x seam to two
     cut-given two is =
         let n = picture_bytes left in
-        let new : List ℕ = bytes z.kind (turned x left.width (cut s q)) in
-        let two_is : two ≡ put_at to (picture_bytes left) (bytes z.kind (turned x left.width (cut s q))) one = is ∙ ap (λ p. put_at to (picture_bytes left) (bytes z.kind (turned x left.width p)) one) rest-is in
-        let long : length (bytes z.kind (turned x left.width (cut s q))) ≡ picture_bytes left = length-turned x left (cut s q) rest-of ∙ turned-bytes x left in
+        let new : List ℕ = bytes t.kind (turned x left.width (cut s q)) in
+        let two_is : two ≡ put_at to (picture_bytes left) (bytes t.kind (turned x left.width (cut s q))) one = is ∙ ap (λ p. put_at to (picture_bytes left) (bytes t.kind (turned x left.width p)) one) rest-is in
+        let long : length (bytes t.kind (turned x left.width (cut s q))) ≡ picture_bytes left = length-turned x left (cut s q) rest-of ∙ turned-bytes x left in
         let inside = back_places.to_inside in
-        let same : Kept to (picture_bytes left) one two = rw two_is (put_kept to (picture_bytes left) (bytes z.kind (turned x left.width (cut s q))) one long inside) in
+        let same : Kept to (picture_bytes left) one two = rw two_is (put_kept to (picture_bytes left) (bytes t.kind (turned x left.width (cut s q))) one long inside) in
         record {
           picture_is =
               ap (λ k. part_at to k two) (turned-bytes x left)
-              ∙ ap (part_at to (picture_bytes left)) two_is ∙ put_there to (picture_bytes left) (bytes z.kind (turned x left.width (cut s q))) one long inside;
+              ∙ ap (part_at to (picture_bytes left)) two_is ∙ put_there to (picture_bytes left) (bytes t.kind (turned x left.width (cut s q))) one long inside;
           long = same.long ∙ kept.long;
           others = λ a k l m.
               kept_part to (picture_bytes left) one two same a k
@@ -178,8 +178,8 @@ module _ (work : List ℕ) (from : ℕ) (z : Size) (how : Method) (x : Axis) (at
       let o : OfSize (turned_size x z) (turned x z.width (picture_at z from work)) = turned-of_size x z p p_of in
       let i = along_inside how x z (picture_bytes z) (picture_at z from work) (sized_at z sides) in
       let left = narrowed (turned_size x z) in
-      ap (picture (left_along x z)) (g.picture_is ∙ ap₂ (λ u v. bytes z.kind (turned x ((turned_size x z).width - 1) (cut u v))) found.seam_is (turned_there mid still))
-      ∙ picture_bytes_lem (left_along x z) (turned x ((turned_size x z).width - 1) (cut s q)) (turned-of_size x left (cut s q) (left-of_size t s q wide i o))
+      ap (picture (left_along x z)) (g.picture_is ∙ ap₂ (λ u v. bytes (turned_size x z).kind (turned x ((turned_size x z).width - 1) (cut u v))) found.seam_is (turned_there mid still))
+      ∙ turned_bytes_lem x left (cut s q) (left-of_size t s q wide i o)
 
 -- Both, one after the other.
 module _ (work : List ℕ) (from : ℕ) (z : Size) (how : Method) (x : Axis) (at to : ℕ) (sides : refusal (side_rules z) ≡ 0) (needed : StepNeeded (length work) from z x at to) where

@@ -15,7 +15,7 @@ use Rattle.pictures.specs.declared.sizes.Size.{Size}
 use Rattle.pictures.specs.Refusals.{refusal}
 use Rattle.pictures.specs.Pictures.{picture_bytes, side_rules, picture, bytes, OfSize, pixels}
 use Rattle.pictures.proofs.Limits.{Sized, sides_are, sized_of}
-use Rattle.pictures.proofs.Buffers.{picture-of_size, bytes-picture, length-bytes}
+use Rattle.pictures.proofs.Buffers.{picture-of_size, bytes-picture}
 use Rattle.energy.specs.declared.methods.Method.{Method}
 use Rattle.seam_bounds.specs.Inner.{PlacesApart}
 use Rattle.seam_moves.specs.Between.{part_at, put_at, CopyBetweenGiven}
@@ -24,14 +24,14 @@ use Rattle.seam_moves.proofs.Served.{copy_between-served}
 use Rattle.seam_theory.specs.PictureSeams.{seam_of, cost_of}
 use Rattle.seam_rules.specs.Answers.{found_cost}
 use Rattle.seam_find.specs.Finding.{FindInGiven}
-use Rattle.pictures.proofs.Samples.{take_bytes}
+use Rattle.pictures.proofs.Samples.{AreBytes, take_bytes, drop_bytes}
 use Rattle.seam_rules.specs.declared.answers.Axis.{Axis}
 use Rattle.seam_rules.specs.declared.answers.Axis.TheVariants.{Vertical}
 use Rattle.seam_rules.specs.Axes.{turned_size}
 use Rattle.seam_turn.specs.Axes.{turned}
 use Rattle.seam_cut.specs.Axes.{seam_along, cost_along}
 use Rattle.seam_rules.proofs.Turns.{turned-bytes, turned-pixels, turned-sides}
-use Rattle.seam_turn.proofs.Turned.{length-turned, turned-of_size, turned-picture}
+use Rattle.seam_turn.proofs.Turned.{length-turned, turned-picture}
 use Rattle.seam_cut.proofs.FindIn.{FoundThere, find_served}
 use Rattle.seam_cut.proofs.Inside.{along_inside}
 use Rattle.seam_retarget.specs.Inner.Seams.{picture_at, SeamNeeded, SeamGiven}
@@ -46,13 +46,13 @@ pub at_of_size : (z : Size) (at : ℕ) (work : List ℕ) → at + picture_bytes 
 at_of_size z at work h = picture-of_size z (part_at at (picture_bytes z) work) (length_part at (picture_bytes z) work h)
 
 -- A copy of a picture is the picture turned for a vertical seam.
-pub copied-turned : (work work' : List ℕ) (from : ℕ) (z : Size) (to all : ℕ) (v : Result (Unit {0}) Refusal) → PlacesApart (length work) from to (picture_bytes z) → all ≡ picture_bytes z
+pub copied-turned : (work work' : List ℕ) → AreBytes work → (from : ℕ) (z : Size) (to all : ℕ) (v : Result (Unit {0}) Refusal) → PlacesApart (length work) from to (picture_bytes z) → all ≡ picture_bytes z
     → CopyBetweenGiven work from all to v work'
     → work' ≡ put_at to (picture_bytes z) (bytes z.kind (turned Vertical z.width (picture_at z from work))) work
 unfolding turned
-copied-turned work work' from z to all v needed is g =
+copied-turned work work' small from z to all v needed is g =
     copy_between-served work from (picture_bytes z) to v work' (rw is at g) needed
-    ∙ ap (λ x. put_at to (picture_bytes z) x work) (sym (bytes-picture z (part_at from (picture_bytes z) work) (length_part from (picture_bytes z) work needed.from_inside)))
+    ∙ ap (λ x. put_at to (picture_bytes z) x work) (sym (bytes-picture z (part_at from (picture_bytes z) work) (length_part from (picture_bytes z) work needed.from_inside) (take_bytes (picture_bytes z) (drop from work) (drop_bytes from work small))))
 
 -- The seam found where the picture stands turned. `one` is the space after the turn, `part` the part that comes back.
 module _ (work : List ℕ) (from : ℕ) (z : Size) (how : Method) (x : Axis) (at : ℕ) (seam : List ℕ) (sides : refusal (side_rules z) ≡ 0)

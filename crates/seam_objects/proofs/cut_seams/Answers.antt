@@ -1,12 +1,13 @@
 -- `seam_objects::cut_seams` meets its contract.
-use Rattle.std.proofs.Common.{refl, sym, arith}
+use Rattle.std.proofs.Common.{ℕ, get_or, refl, sym, arith, rules, Fits, w8}
 use Rattle.seam_objects.proofs.Seams.{going_start, going_needed, going_ended, going-blocked, going_on}
 use Rattle.seam_objects.proofs.cut_seams.Goals as goal
 
 pub loop-ended-init : goal.loop-ended-init
 loop-ended-init c =
     let a = c.args in
-    (going_start a.size a.method a.picture.now a.marks.now a.work.now a.budget c.requires, (refl, (refl, refl)))
+    let fits : (i : ℕ) → Fits w8 (get_or a.picture.now i 0) = search rules in
+    (going_start a.size a.method a.picture.now a.marks.now a.work.now a.budget (λ i. omega (arith, fits i)) c.requires, (refl, (refl, refl)))
 
 pub returns-in-Some : goal.returns-in-Some
 returns-in-Some c = going_ended c.loop-ended.invariant.0 c.has_two-marked.ensures c.in-Some.ended (sym c.in-Some.ensures)

@@ -4,7 +4,8 @@ use mathlib.Core.List.{List, ◌++◌}
 use Prim.Native.Nat.{ℕ, ◌+◌, ◌*◌, ◌≤◌}
 use native.Mathlib.Omega.{arith}
 use borrow.Author.Rules.{rules}
-use lib.ListN.{length, drop, replicate}
+use lib.ListN.{length, get_or, drop, replicate}
+use Rattle.std.proofs.Common.{Fits, w8}
 use Rattle.pictures.specs.declared.sizes.Size.{Size}
 use Rattle.pictures.specs.Refusals.{refusal}
 use Rattle.pictures.specs.Pictures.{picture_bytes, size_rules}
@@ -55,7 +56,8 @@ returns c =
     let one = c.first_row in
     let two = c.rows_below in
     let count = c.picture_bytes-count in
+    let fits : (i : ℕ) → Fits w8 (get_or two.new.work i 0) = search rules in
     answer _ b refl a.rows a.columns a.out.now a.work.now c.requires _ (ap (◌++ drop (length b) a.work.now) c.copy_from_slice.ensures.after)
     blank one.new.work one.new.totals (no_totals 65) one.ensures two.new.work two.new.totals two.ensures
     count.result (count.ensures.0 ∙ ap picture_bytes c.cell_size.ensures)
-    _ c.clear.new.space (ap (◌++ drop count.result a.out.now) c.copy_from_slice-2.ensures.after) c.clear.ensures
+    (λ i. omega (arith, fits i)) _ c.clear.new.space (ap (◌++ drop count.result a.out.now) c.copy_from_slice-2.ensures.after) c.clear.ensures

@@ -52,7 +52,7 @@ left_along x z = turned_size x (narrowed (turned_size x z))
 pub record CutGiven (work : List ℕ) (at : ℕ) (z : Size) (x : Axis) (seam : List ℕ) (to : ℕ) (work' : List ℕ) : Type 0 where
   pub picture_is :
       part_at to (picture_bytes (left_along x z)) work'
-      ≡ bytes z.kind (turned x (narrowed (turned_size x z)).width (cut (take (turned_size x z).height seam) (picture_at (turned_size x z) at work)))
+      ≡ bytes (turned_size x z).kind (turned x (narrowed (turned_size x z)).width (cut (take (turned_size x z).height seam) (picture_at (turned_size x z) at work)))
   pub long : length work' ≡ length work
   pub others : (a n : ℕ) → Apart a n at (picture_bytes z) → Apart a n to (picture_bytes z) → part_at a n work' ≡ part_at a n work
 
