@@ -25,9 +25,13 @@ keep_row f (x ∷ xs) (v ∷ ys) = cons_if (f v) x (keep_row f xs ys)
 unfoldable pub doubled : ℕ → ℕ → Bool
 doubled u v = leb 1 v && leb v u
 
--- "(pixel + right neighbour)/2 rounded down per channel"
+-- "(pixel + right neighbour)/2 rounded down"
+unfoldable pub middle : ℕ → ℕ → ℕ
+middle a b = (a + b) / 2
+
+-- "per channel"
 unfoldable pub average : List ℕ → List ℕ → List ℕ
-average = zip_with (λ a b. (a + b) / 2)
+average = zip_with middle
 
 module _ {A : Type 0} (mean : A → A → A) where
   -- "It stands directly to the right and is (pixel + right neighbour)/2 .., neighbours taken in the original. In the last
