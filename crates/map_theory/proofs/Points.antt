@@ -1,7 +1,7 @@
 -- Points besides those of crate `points`, of the specification's 3 by 2 picture with its seams given: what the definitions
 -- give, beside what is expected. One proof serves the table.
 use mathlib.Core.Path.{◌≡◌, refl}
-use mathlib.Core.Bool.{Bool, false, cond}
+use mathlib.Core.Bool.{Bool, false, true, cond}
 use mathlib.Core.List.{List, [], ◌∷◌, map, zip_with}
 use Prim.Native.Nat.{ℕ}
 use lib.Dec.{eqb}
@@ -35,7 +35,7 @@ judged x y = (refusal (map_rules (near false) seams 3 2 2 example (x ∷ y ∷ [
 abbrev table : List Point
 table =
     -- at its own width the picture itself
-    record { got = shown middle 3 3 example (map_of seams 2 3 2 example); expected = example }
+    record { got = shown middle false 3 3 example (map_of seams 2 3 2 example); expected = example }
     -- widths 1 and 4 are offered
     ∷ record { got = bit (offered 3 2 1 1); expected = (1 ∷ []) ∷ [] }
     ∷ record { got = bit (offered 3 2 1 4); expected = (1 ∷ []) ∷ [] }
@@ -44,7 +44,9 @@ table =
     -- the recorded seam 2 stands at the columns of the picture then left
     ∷ record { got = recorded 2 ((2 ∷ 0 ∷ 1 ∷ []) ∷ (1 ∷ 0 ∷ 2 ∷ []) ∷ []) ∷ []; expected = (0 ∷ 1 ∷ []) ∷ [] }
     -- neighbours of new pixels are those of the original, also where these are doubled: 10 50 40 grown by 1, 2 and 3
-    ∷ record { got = shown middle 3 6 ((10 ∷ 50 ∷ 40 ∷ []) ∷ []) ((1 ∷ 2 ∷ 3 ∷ []) ∷ []); expected = (10 ∷ 30 ∷ 50 ∷ 45 ∷ 45 ∷ 40 ∷ []) ∷ [] }
+    ∷ record { got = shown middle false 3 6 ((10 ∷ 50 ∷ 40 ∷ []) ∷ []) ((1 ∷ 2 ∷ 3 ∷ []) ∷ []); expected = (10 ∷ 30 ∷ 50 ∷ 45 ∷ 45 ∷ 40 ∷ []) ∷ [] }
+    -- and with the last column joined to the first
+    ∷ record { got = shown middle true 3 6 ((10 ∷ 50 ∷ 40 ∷ []) ∷ []) ((1 ∷ 2 ∷ 3 ∷ []) ∷ []); expected = (10 ∷ 30 ∷ 50 ∷ 45 ∷ 40 ∷ 25 ∷ []) ∷ [] }
     ∷ []
 
 pub points : map (λ p. p.got) table ≡ map (λ p. p.expected) table
