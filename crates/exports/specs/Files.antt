@@ -1,5 +1,5 @@
 -- What hosts see of multi-size files.
-use Rattle.std.specs.Prelude.{◌≡◌, List, ◌++◌, ℕ, length, drop, replicate}
+use Rattle.std.specs.Prelude.{◌≡◌, false, List, ◌++◌, ℕ, length, drop, replicate}
 use Rattle.std.proofs.Math.Option.{none}
 use Rattle.grids.specs.Rows.{flat}
 use Rattle.pictures.specs.Refusals.{refusal, served, worked}
@@ -66,19 +66,20 @@ pub record HostShowGiven (file : List ℕ) (wanted : ℕ) (out work : List ℕ) 
 abbrev pub row_size : ℕ → ℕ → HostSize
 row_size pixels kind = record { width = pixels; height = 1; kind = kind }
 
--- A row at a width, of a kind that is named: the number of its bytes, and the row at the front of the output space.
+-- A row at a width, of a kind that is named: the number of its bytes, and the row at the front of the output space. Its last column
+-- isn't joined to the first.
 pub record HostRowAtGiven (samples : List ℕ) (kind : ℕ) (numbers : List ℕ) (wanted : ℕ) (out : List ℕ) (a : Answer) (out' : List ℕ) : Type 0 where
   pub number :
       a.number ≡ known (sizing_of (row_size (length numbers) kind))
-      (λ z. refusal (row_at_rules z.kind samples numbers wanted (length out)))
+      (λ z. refusal (row_at_rules z.kind false samples numbers wanted (length out)))
       1
   pub value :
       a.value ≡ known (sizing_of (row_size (length numbers) kind))
-      (λ z. served a.number (length (row_shown z.kind samples numbers wanted)) 0)
+      (λ z. served a.number (length (row_shown z.kind false samples numbers wanted)) 0)
       0
   pub out_given :
       out' ≡ known (sizing_of (row_size (length numbers) kind))
       (λ z. served a.number
-      (row_shown z.kind samples numbers wanted ++ drop (length (row_shown z.kind samples numbers wanted)) out)
+      (row_shown z.kind false samples numbers wanted ++ drop (length (row_shown z.kind false samples numbers wanted)) out)
       out)
       out

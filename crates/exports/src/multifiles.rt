@@ -93,7 +93,8 @@ fn put_row(
         height: 1,
         kind,
     })?;
-    map_show::row_at(named.kind, samples, numbers, wanted, out)?;
+    // no method joins the last column to the first yet
+    map_show::row_at(named.kind, false, samples, numbers, wanted, out)?;
     let shown = map_show::pixels_at(numbers, wanted) * pictures::pixel_bytes(named.kind);
     Ok(shown as u64)
 }

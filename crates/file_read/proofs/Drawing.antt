@@ -13,6 +13,7 @@ use Rattle.grids.proofs.Shapes.{each-length, each_at, each_any, grid_of, get_or-
 use Rattle.pictures.specs.Refusals.{refusal}
 use Rattle.pictures.specs.Pictures.{Picture, channels_of, picture_bytes, bytes, OfSize}
 use Rattle.pictures.proofs.Buffers.{flats_grid, length-bytes}
+use Rattle.energy.specs.Methods.{wrap_of}
 use Rattle.map_theory.specs.Widths.{offered, shown}
 use Rattle.map_theory.specs.Judged.{Numbering}
 use Rattle.map_theory.proofs.Judged.{judged_is}
@@ -37,7 +38,7 @@ use Rattle.file_read.proofs.Offered.{Roomy, roomy, picture-fits, sound}
 module _ {file : List ℕ} {h : Head} (k : Parsed file h) (v : ℕ) where
   -- The picture shown, and its bytes.
   abbrev picture : Picture
-  picture = shown (mean_of h) h.size.width v (rows_in (parse file)) (maps_in (parse file))
+  picture = shown (mean_of h) (wrap_of h.method) h.size.width v (rows_in (parse file)) (maps_in (parse file))
 
   drawn_is : drawn_bytes (shows file v) ≡ bytes picture
   unfolding shows
@@ -53,8 +54,8 @@ module _ {file : List ℕ} {h : Head} (k : Parsed file h) (v : ℕ) where
     -- So what is shown is a picture of width v.
     shown-size : OfSize (sized v h.size) picture
     shown-size =
-        let g = shown-grid (mean_of h) h.size.width h.depth h.growth k.range v offers (grid_of k.pixels) k.maps_grid numbered in
-        let a = all_shown (Pixel h.size.kind) (mean_of h) (mean-pixel h h.size.kind) h.size.width v (rows_in (parse file)) (maps_in (parse file)) (all-each (λ row e. all-each (λ px c. c) e) k.pixels) in
+        let g = shown-grid (mean_of h) (wrap_of h.method) h.size.width h.depth h.growth k.range v offers (grid_of k.pixels) k.maps_grid numbered in
+        let a = all_shown (Pixel h.size.kind) (mean_of h) (mean-pixel h h.size.kind) (wrap_of h.method) h.size.width v (rows_in (parse file)) (maps_in (parse file)) (all-each (λ row e. all-each (λ px c. c) e) k.pixels) in
         each_all (λ row e c. each_all (λ px u d. d.count) (each_any v row e) c) g a
 
     pub drawn-long : length (drawn_bytes (shows file v)) ≡ h.size.height * (v * channels_of h.size.kind)
@@ -62,7 +63,7 @@ module _ {file : List ℕ} {h : Head} (k : Parsed file h) (v : ℕ) where
 
     -- Row r of it: the file's row and its row of the map, shown.
     pub drawn-row : (r : ℕ) → r < h.size.height
-        → row_shown h.size.kind (flat (get_or (rows_in (parse file)) r [])) (get_or (maps_in (parse file)) r []) v ≡ row_at (v * channels_of h.size.kind) r (drawn_bytes (shows file v))
+        → row_shown h.size.kind (wrap_of h.method) (flat (get_or (rows_in (parse file)) r [])) (get_or (maps_in (parse file)) r []) v ≡ row_at (v * channels_of h.size.kind) r (drawn_bytes (shows file v))
     unfolding row_shown bytes
     drawn-row r l =
         let row = get_or (rows_in (parse file)) r [] in
@@ -71,7 +72,7 @@ module _ {file : List ℕ} {h : Head} (k : Parsed file h) (v : ℕ) where
         let pixels : rows_of (channels_of h.size.kind) h.size.width (flat (get_or (rows_in (parse file)) r [])) ≡ get_or (rows_in (parse file)) r [] =
         ap (rows_of ch h.size.width) (sym (append-nil (flat row))) ∙ rows_of-flat [] (each_at r [] l k.of_size) in
         rw (long, pixels, drawn_is)
-        (sym (flat_at (flats_grid shown-size) r l ∙ get_or-map flat picture r [] [] (omega (arith, each-length shown-size)) ∙ ap flat (shown_at (mean_of h) v (grid_of k.pixels) k.maps_grid r l)))
+        (sym (flat_at (flats_grid shown-size) r l ∙ get_or-map flat picture r [] [] (omega (arith, each-length shown-size)) ∙ ap flat (shown_at (mean_of h) (wrap_of h.method) v (grid_of k.pixels) k.maps_grid r l)))
 
 -- The picture stands at the front of the space when its row lines are read.
 module _ (file : List ℕ) (h : Head) (o : Open file h) (v out : ℕ) (work : List ℕ) (d : DrawNeeded file h v out (length work)) where

@@ -13,6 +13,7 @@ use Rattle.grids.proofs.Rows.{flat_at}
 use Rattle.grids.proofs.Shapes.{each-length, get_or-map}
 use Rattle.pictures.specs.Pictures.{channels_of, row_bytes, bytes, OfSize}
 use Rattle.pictures.proofs.Buffers.{flats_grid}
+use Rattle.energy.specs.Methods.{wrap_of}
 use Rattle.text_theory.specs.Files.{Parts, parse}
 use Rattle.map_show.specs.Showing.{row_shown}
 use Rattle.file_theory.specs.Rules.{part_rules, form_rules}
@@ -31,7 +32,7 @@ module _ (f : List ℕ) (p : Parts) (a : Accepted f) (e : parse f ≡ some p) wh
   judged-parts = ap (λ q. refusal (judged_in q)) e ∙ accepted-judged f p e a
 
   pub read-shown : (v : ℕ) → offers f v ≡ true → (r : ℕ) → r < p.head.size.height
-      → row_shown p.head.size.kind (flat (get_or p.rows r [])) (get_or p.maps r []) v ≡ row_at (v * channels_of p.head.size.kind) r (drawn_bytes (shows f v))
+      → row_shown p.head.size.kind (wrap_of p.head.method) (flat (get_or p.rows r [])) (get_or p.maps r []) v ≡ row_at (v * channels_of p.head.size.kind) r (drawn_bytes (shows f v))
   unfolding offers
   read-shown v o r l =
       rw e at (drawn-row (opened f p.head open_parts) v judged-parts (sym (ap (λ q. offers_in q v) e) ∙ o) r l)
@@ -42,9 +43,9 @@ module _ (f : List ℕ) (p : Parts) (a : Accepted f) (e : parse f ≡ some p) wh
   -- The same of the buffers that reading fills: row r of the picture's bytes and row r of the map's numbers.
   pub buffers_shown : (v : ℕ) → offers f v ≡ true → (r : ℕ) → r < p.head.size.height
       → let z = p.head.size in
-      row_shown z.kind (row_at (row_bytes z) r (bytes p.rows)) (row_at z.width r (flat p.maps)) v ≡ row_at (v * channels_of z.kind) r (drawn_bytes (shows f v))
+      row_shown z.kind (wrap_of p.head.method) (row_at (row_bytes z) r (bytes p.rows)) (row_at z.width r (flat p.maps)) v ≡ row_at (v * channels_of z.kind) r (drawn_bytes (shows f v))
   unfolding bytes
-  buffers_shown v o r l = ap₂ (λ x y. row_shown p.head.size.kind x y v) row_is (flat_at maps r l) ∙ read-shown v o r l
+  buffers_shown v o r l = ap₂ (λ x y. row_shown p.head.size.kind (wrap_of p.head.method) x y v) row_is (flat_at maps r l) ∙ read-shown v o r l
     where
       maps : Grid p.head.size.width p.head.size.height p.maps
       maps = rw e at known.maps_grid

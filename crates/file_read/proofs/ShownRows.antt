@@ -1,5 +1,6 @@
 -- A row of an accepted file, shown: its part of the picture and its row of the map give its part of what is shown.
 use mathlib.Core.Path.{◌≡◌, refl, sym, ap, ◌∙◌}
+use mathlib.Core.Bool.{Bool}
 use mathlib.Core.List.{List, [], ◌++◌, append-nil}
 use Prim.Native.Nat.{ℕ, ◌+◌, ◌-◌, ◌*◌, ◌≤◌, ◌<◌}
 use native.Mathlib.Omega.{arith}
@@ -14,6 +15,7 @@ use Rattle.pictures.specs.Refusals.{given}
 use Rattle.pictures.proofs.Rules.{number-some}
 use Rattle.pictures.specs.declared.refusals.Refusal.{Refusal}
 use Rattle.pictures.specs.Pictures.{channels_of, row_bytes, picture_bytes}
+use Rattle.energy.specs.Methods.{wrap_of}
 use Rattle.text_theory.specs.declared.Head.{Head}
 use Rattle.text_theory.specs.Files.{parse}
 use Rattle.map_show.specs.Showing.{row_shown, RowAtGiven}
@@ -58,24 +60,24 @@ module _ {file : List ℕ} {h : Head} {v : ℕ} {space : List ℕ} (o : Open fil
     whole : length (flat (get_or (rows_in (parse file)) r [])) ≡ length (get_or (maps_in (parse file)) r []) * channels_of h.size.kind
     whole = length-flat (each_at r [] inside known.of_size) ∙ ap (◌* channels_of h.size.kind) (sym (each_at r [] inside known.maps_grid))
 
-    shown : row_shown h.size.kind (flat (get_or (rows_in (parse file)) r [])) (get_or (maps_in (parse file)) r []) v ≡ row_at (v * channels_of h.size.kind) r (drawn_bytes (shows file v))
+    shown : row_shown h.size.kind (wrap_of h.method) (flat (get_or (rows_in (parse file)) r [])) (get_or (maps_in (parse file)) r []) v ≡ row_at (v * channels_of h.size.kind) r (drawn_bytes (shows file v))
     shown = drawn-row known v s.accepted s.offers r inside
 
     -- Its map line was read before whatever is after it, and the row is shown.
-    module _ {at : ℕ} {got : List ℕ} (m : MapRead file r at got) (after : List ℕ) {n : ℕ} (is : n ≡ channels_of h.size.kind) {out : List ℕ} (long : length out ≡ v * channels_of h.size.kind)
+    module _ {at : ℕ} {got : List ℕ} (m : MapRead file r at got) (after : List ℕ) {n : ℕ} (is : n ≡ channels_of h.size.kind) {wrap : Bool} (joined : wrap ≡ wrap_of h.method) {out : List ℕ} (long : length out ≡ v * channels_of h.size.kind)
         {answer : Result (Unit {0}) Refusal} {new : List ℕ}
-        (g : RowAtGiven h.size.kind (mid_of (r * (h.size.width * n)) (r * (h.size.width * n) + h.size.width * n - r * (h.size.width * n)) space) (take h.size.width (got ++ after)) v out answer new) where
-      given_row : RowAtGiven h.size.kind (flat (get_or (rows_in (parse file)) r [])) (get_or (maps_in (parse file)) r []) v out answer new
-      given_row = rw (samples_are n is, map-taken o inside m after) at g
+        (g : RowAtGiven h.size.kind wrap (mid_of (r * (h.size.width * n)) (r * (h.size.width * n) + h.size.width * n - r * (h.size.width * n)) space) (take h.size.width (got ++ after)) v out answer new) where
+      given_row : RowAtGiven h.size.kind (wrap_of h.method) (flat (get_or (rows_in (parse file)) r [])) (get_or (maps_in (parse file)) r []) v out answer new
+      given_row = rw (samples_are n is, map-taken o inside m after, joined) at g
 
-      as_long : length (row_shown h.size.kind (flat (get_or (rows_in (parse file)) r [])) (get_or (maps_in (parse file)) r []) v) ≡ length out
+      as_long : length (row_shown h.size.kind (wrap_of h.method) (flat (get_or (rows_in (parse file)) r [])) (get_or (maps_in (parse file)) r []) v) ≡ length out
       as_long = ap length shown ∙ length-row_at (v * channels_of h.size.kind) h.size.height (drawn_bytes (shows file v)) r (omega (arith, whole_long)) inside ∙ sym long
 
       -- Nothing refuses it.
       pub row_is_ok : IsOk answer
-      row_is_ok = is_served answer (given_row.number ∙ sym (nothing-refused h.size.kind _ _ v whole out (omega (arith, as_long))))
+      row_is_ok = is_served answer (given_row.number ∙ sym (nothing-refused h.size.kind (wrap_of h.method) _ _ v whole out (omega (arith, as_long))))
 
       pub row_drawn : new ≡ row_at (v * channels_of h.size.kind) r (drawn_bytes (shows file v))
       row_drawn =
-          let x = row_shown h.size.kind (flat (get_or (rows_in (parse file)) r [])) (get_or (maps_in (parse file)) r []) v in
-          row-served h.size.kind _ _ v out whole (omega (arith, as_long)) given_row ∙ ap (x ++◌) (drop_of_length-le out {i = length x} (omega (arith, as_long))) ∙ append-nil x ∙ shown
+          let x = row_shown h.size.kind (wrap_of h.method) (flat (get_or (rows_in (parse file)) r [])) (get_or (maps_in (parse file)) r []) v in
+          row-served h.size.kind (wrap_of h.method) _ _ v out whole (omega (arith, as_long)) given_row ∙ ap (x ++◌) (drop_of_length-le out {i = length x} (omega (arith, as_long))) ∙ append-nil x ∙ shown

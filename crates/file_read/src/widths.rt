@@ -79,7 +79,16 @@ impl<'a> Lines<u8> for ShownLines<'a> {
         let stride = size.width * channels(size.kind);
         let a = r * stride;
         let row = &self.space[a..a + stride];
-        map_show::row_at(size.kind, row, &numbers[..size.width], self.wanted, part).unwrap();
+        // no method joins the last column to the first yet
+        map_show::row_at(
+            size.kind,
+            false,
+            row,
+            &numbers[..size.width],
+            self.wanted,
+            part,
+        )
+        .unwrap();
         next
     }
 }

@@ -11,6 +11,7 @@ use Rattle.pictures.specs.declared.sizes.Size.{Size}
 use Rattle.grids.proofs.Shapes.{each_weaken}
 use Rattle.pictures.specs.Pictures.{Picture, OfSize}
 use Rattle.energy.specs.declared.methods.Method.{Method}
+use Rattle.energy.specs.Methods.{wrap_of}
 use Rattle.map_theory.specs.Maps.{carve, map_of}
 use Rattle.map_theory.specs.Widths.{allowed, offered, grow_row, shown, LeftOut}
 use Rattle.map_theory.proofs.Shown.{allowed_is, offered_is, shown-carve}
@@ -100,7 +101,7 @@ pub shows-some : (f : List ℕ) → Accepted f → (v : ℕ) → offers f v ≡ 
 shows-some f a v o =
     let x = (accepted_built f).0 a in
     record {
-      drawn = record { size = sized v x.head.size; rows = shown (mean_of x.head) x.head.size.width v x.rows (parts_of x.head x.rows).maps };
+      drawn = record { size = sized v x.head.size; rows = shown (mean_of x.head) (wrap_of x.head.method) x.head.size.width v x.rows (parts_of x.head x.rows).maps };
       shown = built_shows x v;
       width = refl;
       pixels = built_pixels x v o;
@@ -133,7 +134,7 @@ unfolding shows
 shows-cut f p a e t l =
     let s = (shaped_is p).0 (accepted_shaped f p e a) in
     let d = ((allowed_is p.head.size.width p.head.depth p.head.growth).0 s.range).0 in
-    let c = shown-carve (mean_of p.head) (choose_of p.head) (head_chooses p.head) t p.head.depth p.head.size.width p.head.size.height p.rows s.rows l (omega arith) in
+    let c = shown-carve (mean_of p.head) (wrap_of p.head.method) (choose_of p.head) (head_chooses p.head) t p.head.depth p.head.size.width p.head.size.height p.rows s.rows l (omega arith) in
     rw (e, (judged_built p s).0 (accepted-judged f p e a), c)
 
 -- and at width m + u the original with the first u of these seams doubled.
@@ -142,11 +143,11 @@ pub shows-grown : (f : List ℕ) (p : Parts) → Accepted f → parse f ≡ some
     ≡ some
     (record {
       size = sized (p.head.size.width + u) p.head.size;
-      rows = zip_with (grow_row (mean_of p.head) u) p.rows (map_of (choose_of p.head) u p.head.size.width p.head.size.height p.rows);
+      rows = zip_with (grow_row (mean_of p.head) (wrap_of p.head.method) u) p.rows (map_of (choose_of p.head) u p.head.size.width p.head.size.height p.rows);
     })
 unfolding shows
 shows-grown f p a e u l g =
     let s = (shaped_is p).0 (accepted_shaped f p e a) in
     let d = (allowed_is p.head.size.width p.head.depth p.head.growth).0 s.range in
-    let c = shown-grown (mean_of p.head) (choose_of p.head) (head_chooses p.head) u p.head.depth p.head.size.width p.head.size.height p.rows s.rows l (omega (arith, d.1)) (omega (arith, d.0)) in
+    let c = shown-grown (mean_of p.head) (wrap_of p.head.method) (choose_of p.head) (head_chooses p.head) u p.head.depth p.head.size.width p.head.size.height p.rows s.rows l (omega (arith, d.1)) (omega (arith, d.0)) in
     rw (e, (judged_built p s).0 (accepted-judged f p e a), c)

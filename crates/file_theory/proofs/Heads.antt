@@ -10,7 +10,7 @@ use Rattle.pictures.specs.declared.sizes.Kind.{Kind}
 use Rattle.pictures.specs.Pictures.{channels_of}
 use Rattle.seam_theory.specs.Choices.{Chooses}
 use Rattle.seam_theory.proofs.Choosing.{seam_chooses}
-use Rattle.map_theory.specs.Widths.{average}
+use Rattle.map_theory.specs.Widths.{middle, average}
 use Rattle.text_theory.specs.declared.Head.{Head}
 use Rattle.text_theory.specs.Files.{All, Pixel}
 use Rattle.file_theory.specs.Contents.{choose_of, near_of, mean_of}
@@ -28,7 +28,7 @@ average-length zero (a ∷ p) (b ∷ q) e f = absurd (omega arith)
 average-length (suc n) (a ∷ p) (b ∷ q) e f = ap suc (average-length n p q (omega arith) (omega arith))
 
 average_small : (p q : List ℕ) → All (λ (a : ℕ). a ≤ 255) p → All (λ (a : ℕ). a ≤ 255) q → All (λ (a : ℕ). a ≤ 255) (average p q)
-unfolding average zip_with
+unfolding middle average zip_with
 average_small [] q h k = tt
 average_small (a ∷ p) [] h k = tt
 average_small (a ∷ p) (b ∷ q) h k =

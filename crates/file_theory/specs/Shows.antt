@@ -4,6 +4,7 @@ use Rattle.std.proofs.Math.Option.{Option, none, some}
 use Rattle.pictures.specs.declared.sizes.Size.{Size}
 use Rattle.pictures.specs.Refusals.{refusal}
 use Rattle.pictures.specs.Pictures.{Picture, bytes}
+use Rattle.energy.specs.Methods.{wrap_of}
 use Rattle.map_theory.specs.Widths.{offered, shown}
 use Rattle.text_theory.specs.declared.Head.{Head}
 use Rattle.text_theory.specs.Words.{rule_text}
@@ -34,7 +35,7 @@ sized v z = record { width = v; height = z.height; kind = z.kind }
 -- "What it shows at one of them is the picture of its kind that 'The map and the widths' defines."
 abbrev pub shows_in : Option Parts → ℕ → Option Drawn
 shows_in none v = none
-shows_in (some p) v = some (record { size = sized v p.head.size; rows = shown (mean_of p.head) p.head.size.width v p.rows p.maps })
+shows_in (some p) v = some (record { size = sized v p.head.size; rows = shown (mean_of p.head) (wrap_of p.head.method) p.head.size.width v p.rows p.maps })
 
 unfoldable pub shows : List ℕ → ℕ → Option Drawn
 shows file v = shows_in (parse file) v

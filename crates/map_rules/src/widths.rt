@@ -1,6 +1,6 @@
 // Which depth and growth are allowed, and what a number of the map says of its pixel at a width.
-ghost use Rattle.std.specs.Prelude.{◌≡◌, ◌+◌, ◌/◌};
-ghost use Rattle.map_theory.specs.Widths.{allowed as Widths·allowed, stays as Widths·stays, doubled as Widths·doubled};
+ghost use Rattle.std.specs.Prelude.{◌≡◌};
+ghost use Rattle.map_theory.specs.Widths.{allowed as Widths·allowed, stays as Widths·stays, doubled as Widths·doubled, middle};
 
 // Whether a depth and a growth are allowed at this width. By numbers: the head of a file holds all three, but maps stand
 // below files.
@@ -27,9 +27,10 @@ pub fn is_doubled(u: usize, number: usize) -> bool
     1 <= number && number <= u
 }
 
-// The mean of two samples, rounded down.
+// The mean of two samples, as new pixels have it.
+#[tactic(auto, unfolding(map_theory::specs::Widths::middle))]
 pub fn mean(a: u8, b: u8) -> u8
-    ensures { result ≡ (a + b) / 2 }
+    ensures { result ≡ middle a b }
 {
     a.midpoint(b)
 }

@@ -1,6 +1,7 @@
 -- The loop that counts the numbers 1 to u, and how many pixels a row shows.
 use mathlib.Core.Path.{◌≡◌, refl, ◌∙◌}
 use mathlib.Core.Logic.{⊎_elim}
+use mathlib.Core.Bool.{Bool}
 use mathlib.Core.List.{List}
 use Prim.Native.Nat.{ℕ, ◌-◌, ◌≤◌, ◌<◌}
 use native.Mathlib.Omega.{arith}
@@ -16,15 +17,15 @@ pub doubled-most : (u : ℕ) (ys : List ℕ) → doubled_in u ys ≤ length ys
 doubled-most u ys = omega (arith, length_keep u ys ys refl)
 
 -- A row of as many pixels as numbers shows as many pixels as these say.
-pub pixels-shown : {A : Type 0} (mean : A → A → A) (xs : List A) (ys : List ℕ) (v : ℕ) → length xs ≡ length ys
-    → length (row_at_width mean (length ys) v xs ys) ≡ pixels_at ys v
+pub pixels-shown : {A : Type 0} (mean : A → A → A) (wrap : Bool) (xs : List A) (ys : List ℕ) (v : ℕ) → length xs ≡ length ys
+    → length (row_at_width mean wrap (length ys) v xs ys) ≡ pixels_at ys v
 unfolding pixels_at
-pixels-shown mean xs ys v e = ⊎_elim narrow wide (le-or-lt v (length ys))
+pixels-shown mean wrap xs ys v e = ⊎_elim narrow wide (le-or-lt v (length ys))
   where
-    narrow : v ≤ length ys → length (row_at_width mean (length ys) v xs ys) ≡ pixels_at ys v
+    narrow : v ≤ length ys → length (row_at_width mean wrap (length ys) v xs ys) ≡ pixels_at ys v
     narrow h =
-        rw (at_narrow mean (length ys) v xs ys h, le-leb v (length ys) h)
+        rw (at_narrow mean wrap (length ys) v xs ys h, le-leb v (length ys) h)
         (omega (arith, length_keep (length ys - v) xs ys e))
 
-    wide : length ys < v → length (row_at_width mean (length ys) v xs ys) ≡ pixels_at ys v
-    wide h = rw (at_wide mean (length ys) v xs ys h, lt-leb v (length ys) h) (length_grow mean (v - length ys) xs ys e ∙ rw e)
+    wide : length ys < v → length (row_at_width mean wrap (length ys) v xs ys) ≡ pixels_at ys v
+    wide h = rw (at_wide mean wrap (length ys) v xs ys h, lt-leb v (length ys) h) (length_grow mean wrap (v - length ys) xs ys e ∙ rw e)

@@ -10,16 +10,17 @@ use pictures::{Kind, Refusal};
 pub use rows::pixels_at;
 
 // A row of pixels and its row of the map, shown at the wanted width, at the front of out. The row has as many pixels as the
-// map has numbers; it may be of any length, and any width may be wanted. Refused by 4 where the samples aren't as many as
-// the numbers say, and by 8 where out is shorter than what is shown.
+// map has numbers; it may be of any length, and any width may be wanted. `wrap` says whether the last column is joined to the first.
+// Refused by 4 where the samples aren't as many as the numbers say, and by 8 where out is shorter than what is shown.
 pub fn row_at(
     kind: Kind,
+    wrap: bool,
     samples: &[u8],
     numbers: &[u16],
     wanted: usize,
     out: &mut [u8],
 ) -> Result<(), Refusal>
-    ensures { RowAtGiven kind samples.now numbers.now wanted out.old result out.new }
+    ensures { RowAtGiven kind wrap samples.now numbers.now wanted out.old result out.new }
 {
     if !map_rules::has_pixels(kind, samples.len(), numbers.len()) {
         return Err(Refusal::Count);
@@ -27,6 +28,6 @@ pub fn row_at(
     if !map_rules::holds_pixels(kind, out.len(), pixels_at(numbers, wanted)) {
         return Err(Refusal::Space);
     }
-    rows::show(kind, samples, numbers, wanted, out);
+    rows::show(kind, wrap, samples, numbers, wanted, out);
     Ok(())
 }

@@ -38,26 +38,39 @@ pub fn pixels_at(numbers: &[u16], wanted: usize) -> usize
 
 // What is shown of a row of this kind at the wanted width, put into the front of out. Samples and numbers are lent beside each other,
 // as they come: a struct of both would hold one clause, that they are as many, while the room depends on what each function shows.
-pub(crate) fn show(kind: Kind, samples: &[u8], numbers: &[u16], wanted: usize, out: &mut [u8])
-    requires { RowNeeded (channels_of kind) samples.now numbers.now (shown (channels_of kind) samples.now numbers.now wanted) out.old }
-    ensures { out.new ≡ shown (channels_of kind) samples.now numbers.now wanted ++ drop (length (shown (channels_of kind) samples.now numbers.now wanted)) out.old }
+pub(crate) fn show(
+    kind: Kind,
+    wrap: bool,
+    samples: &[u8],
+    numbers: &[u16],
+    wanted: usize,
+    out: &mut [u8],
+)
+    requires { RowNeeded (channels_of kind) samples.now numbers.now (shown (channels_of kind) wrap samples.now numbers.now wanted) out.old }
+    ensures { out.new ≡ shown (channels_of kind) wrap samples.now numbers.now wanted ++ drop (length (shown (channels_of kind) wrap samples.now numbers.now wanted)) out.old }
 {
     match kind {
-        Kind::Grey => show_row::<1>(samples, numbers, wanted, out),
-        Kind::Rgb => show_row::<3>(samples, numbers, wanted, out),
+        Kind::Grey => show_row::<1>(wrap, samples, numbers, wanted, out),
+        Kind::Rgb => show_row::<3>(wrap, samples, numbers, wanted, out),
     }
 }
 
 // The same for pixels of N bytes: kept or grown, by the width that the caller wants.
-fn show_row<const N: usize>(samples: &[u8], numbers: &[u16], wanted: usize, out: &mut [u8])
-    requires { RowNeeded N samples.now numbers.now (shown N samples.now numbers.now wanted) out.old }
-    ensures { out.new ≡ shown N samples.now numbers.now wanted ++ drop (length (shown N samples.now numbers.now wanted)) out.old }
+fn show_row<const N: usize>(
+    wrap: bool,
+    samples: &[u8],
+    numbers: &[u16],
+    wanted: usize,
+    out: &mut [u8],
+)
+    requires { RowNeeded N samples.now numbers.now (shown N wrap samples.now numbers.now wanted) out.old }
+    ensures { out.new ≡ shown N wrap samples.now numbers.now wanted ++ drop (length (shown N wrap samples.now numbers.now wanted)) out.old }
 {
     let width = numbers.len();
     if wanted <= width {
         keep_row::<N>(samples, numbers, width - wanted, out);
     } else {
-        grow_row::<N>(samples, numbers, wanted - width, out);
+        grow_row::<N>(wrap, samples, numbers, wanted - width, out);
     }
 }
 
@@ -77,9 +90,9 @@ fn keep_row<const N: usize>(samples: &[u8], numbers: &[u16], t: usize, out: &mut
 }
 
 // All pixels, with a new one for each whose number is 1 to u, put into the front of out.
-fn grow_row<const N: usize>(samples: &[u8], numbers: &[u16], u: usize, out: &mut [u8])
-    requires { RowNeeded N samples.now numbers.now (grown N samples.now numbers.now u) out.old }
-    ensures { out.new ≡ grown N samples.now numbers.now u ++ drop (length (grown N samples.now numbers.now u)) out.old }
+fn grow_row<const N: usize>(wrap: bool, samples: &[u8], numbers: &[u16], u: usize, out: &mut [u8])
+    requires { RowNeeded N samples.now numbers.now (grown N wrap samples.now numbers.now u) out.old }
+    ensures { out.new ≡ grown N wrap samples.now numbers.now u ++ drop (length (grown N wrap samples.now numbers.now u)) out.old }
 {
     let Some((last, front)) = numbers.split_last() else {
         return;
@@ -93,19 +106,39 @@ fn grow_row<const N: usize>(samples: &[u8], numbers: &[u16], u: usize, out: &mut
             at += N;
         }
     }
-    put_last::<N>(samples, front.len(), is_doubled(u, *last as usize), out, at);
+    put_last::<N>(
+        wrap,
+        samples,
+        front.len(),
+        is_doubled(u, *last as usize),
+        out,
+        at,
+    );
 }
 
-// The pixel of the last column, with its new pixel to the left of it. Whether it has one is told: the other pixels ask it of their
+// The pixel of the last column and its new pixel, where it has one: joined to the first column, to the right of it and the mean with
+// pixel 0, else to the left of it and the mean with its left neighbour. Whether it has one is told: the other pixels ask it of their
 // numbers in the loop, and this decides nothing.
-fn put_last<const N: usize>(samples: &[u8], last: usize, new: bool, out: &mut [u8], at: usize)
-    requires { LastNeeded N samples.now last new out.old at }
-    ensures { out.new ≡ sets out.old at (last_pixels N samples.now last new) }
+fn put_last<const N: usize>(
+    wrap: bool,
+    samples: &[u8],
+    last: usize,
+    new: bool,
+    out: &mut [u8],
+    at: usize,
+)
+    requires { LastNeeded N wrap samples.now last new out.old at }
+    ensures { out.new ≡ sets out.old at (last_pixels N wrap samples.now last new) }
 {
     if new {
         let next = at + N;
-        put_mean::<N>(samples, last, last.saturating_sub(1), out, at);
-        put_pixel::<N>(samples, last, out, next);
+        if wrap {
+            put_pixel::<N>(samples, last, out, at);
+            put_mean::<N>(samples, last, 0, out, next);
+        } else {
+            put_mean::<N>(samples, last, last.saturating_sub(1), out, at);
+            put_pixel::<N>(samples, last, out, next);
+        }
     } else {
         put_pixel::<N>(samples, last, out, at);
     }

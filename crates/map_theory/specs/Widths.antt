@@ -1,5 +1,5 @@
 -- "The map and the widths": which widths a map offers, and what it shows at them.
-use Rattle.std.specs.Prelude.{◌≡◌, Bool, cond, ◌&&◌, ◌||◌, ℕ, ◌+◌, ◌-◌, ◌/◌, leb, ltb, eqb, length}
+use Rattle.std.specs.Prelude.{◌≡◌, Bool, true, false, cond, ◌&&◌, ◌||◌, ℕ, ◌+◌, ◌-◌, ◌/◌, leb, ltb, eqb, length}
 use mathlib.Core.List.{List, [], ◌∷◌, zip_with, Sublistᴰ}
 use Rattle.seam_theory.specs.Paths.{cons_if}
 
@@ -25,32 +25,43 @@ keep_row f (x ∷ xs) (v ∷ ys) = cons_if (f v) x (keep_row f xs ys)
 unfoldable pub doubled : ℕ → ℕ → Bool
 doubled u v = leb 1 v && leb v u
 
--- "(pixel + right neighbour)/2 rounded down per channel"
+-- "(pixel + right neighbour)/2 rounded down"
+unfoldable pub middle : ℕ → ℕ → ℕ
+middle a b = (a + b) / 2
+
+-- "per channel"
 unfoldable pub average : List ℕ → List ℕ → List ℕ
-average = zip_with (λ a b. (a + b) / 2)
+average = zip_with middle
 
 module _ {A : Type 0} (mean : A → A → A) where
-  -- "It stands directly to the right and is (pixel + right neighbour)/2 .., neighbours taken in the original. In the last
-  -- column it stands directly to the left and uses the left neighbour; a new pixel of the column before stands ahead of
-  -- it." A row from some pixel on, whose left neighbour is l.
-  abbrev pub grow_from : ℕ → A → List A → List ℕ → List A
-  grow_from u l [] ys = []
-  grow_from u l (x ∷ xs) [] = x ∷ xs
-  grow_from u l (x ∷ []) (v ∷ ys) = cons_if (doubled u v) (mean x l) (x ∷ [])
-  grow_from u l (x ∷ r ∷ xs) (v ∷ ys) = x ∷ cons_if (doubled u v) (mean x r) (grow_from u x (r ∷ xs) ys)
+  -- The pixel x of the last column, whose left neighbour is l, and its new pixel where it has one. "In the last column it stands
+  -- directly to the left and uses the left neighbour; a new pixel of the column before stands ahead of it." Where that column is
+  -- joined to the first, change 105: "The new pixel of the last column stands at its right and averages with column 0."
+  abbrev pub grow_last : Bool → Bool → A → A → A → List A
+  grow_last false new first l x = cons_if new (mean x l) (x ∷ [])
+  grow_last true new first l x = x ∷ cons_if new (mean x first) []
 
-  -- The first pixel has no left neighbour. It would be asked for in a row of one pixel, which has no growth.
-  abbrev pub grow_row : ℕ → List A → List ℕ → List A
-  grow_row u [] ys = []
-  grow_row u (x ∷ xs) ys = grow_from u x (x ∷ xs) ys
+  module _ (wrap : Bool) where
+    -- "It stands directly to the right and is (pixel + right neighbour)/2 .., neighbours taken in the original." A row from some
+    -- pixel on, whose left neighbour is l; the row's first pixel is `first`.
+    abbrev pub grow_from : ℕ → A → A → List A → List ℕ → List A
+    grow_from u first l [] ys = []
+    grow_from u first l (x ∷ xs) [] = x ∷ xs
+    grow_from u first l (x ∷ []) (v ∷ ys) = grow_last wrap (doubled u v) first l x
+    grow_from u first l (x ∷ r ∷ xs) (v ∷ ys) = x ∷ cons_if (doubled u v) (mean x r) (grow_from u first x (r ∷ xs) ys)
 
-  -- A row of m pixels and its row of the map, at width v.
-  unfoldable pub row_at_width : ℕ → ℕ → List A → List ℕ → List A
-  row_at_width m v xs ys = cond (leb v m) (keep_row (stays (m - v)) xs ys) (grow_row (v - m) xs ys)
+    -- The first pixel has no left neighbour. It would be asked for in a row of one pixel, which has no growth.
+    abbrev pub grow_row : ℕ → List A → List ℕ → List A
+    grow_row u [] ys = []
+    grow_row u (x ∷ xs) ys = grow_from u x x (x ∷ xs) ys
 
-  -- What a picture of width m and its map show at width v.
-  unfoldable pub shown : ℕ → ℕ → List (List A) → List (List ℕ) → List (List A)
-  shown m v p q = zip_with (row_at_width m v) p q
+    -- A row of m pixels and its row of the map, at width v.
+    unfoldable pub row_at_width : ℕ → ℕ → List A → List ℕ → List A
+    row_at_width m v xs ys = cond (leb v m) (keep_row (stays (m - v)) xs ys) (grow_row (v - m) xs ys)
+
+    -- What a picture of width m and its map show at width v.
+    unfoldable pub shown : ℕ → ℕ → List (List A) → List (List ℕ) → List (List A)
+    shown m v p q = zip_with (row_at_width m v) p q
 
 -- "A point is a pixel, left out or kept with all its samples": xs is ys with n points left out, the others unchanged and in
 -- their order.

@@ -6,7 +6,7 @@ use Rattle.pictures.specs.Numbers.{largest_number}
 use Rattle.pictures.specs.declared.sizes.Size.{Size}
 use Rattle.pictures.specs.Refusals.{Rule, ◌when◌, refusal, served}
 use Rattle.pictures.specs.Pictures.{Picture, size_rules, picture, pixels}
-use Rattle.energy.specs.Methods.{usual_method}
+use Rattle.energy.specs.Methods.{usual_method, wrap_of}
 use Rattle.map_theory.specs.Maps.{carve, map_of}
 use Rattle.map_theory.specs.Widths.{offered, grow_row}
 use Rattle.text_theory.specs.declared.Head.{Head}
@@ -107,7 +107,7 @@ unfoldable pub carved_rows : ℕ → Size → Picture → Picture
 carved_rows v z p =
     cond (leb v z.width)
     (carve (choose_of (full_range z)) (z.width - v) z.width z.height p)
-    (zip_with (grow_row (mean_of (full_range z)) (v - z.width)) p (map_of (choose_of (full_range z)) (v - z.width) z.width z.height p))
+    (zip_with (grow_row (mean_of (full_range z)) (wrap_of usual_method) (v - z.width)) p (map_of (choose_of (full_range z)) (v - z.width) z.width z.height p))
 
 abbrev pub carved : ℕ → Size → Picture → Drawn
 carved v z p = record { size = sized v z; rows = carved_rows v z p }

@@ -6,4 +6,4 @@ use Rattle.map_show.proofs.Grows.{Growing}
 use Rattle.map_show.proofs.rows.grow_row.Given as goal
 
 abbrev pub invariant-loop-c : goal.invariant-loop-c
-invariant-loop-c g l = (length l.out ≡ length l.initial.out) × Growing g.row.N l.samples l.numbers l.u l.initial.out l.c l.out l.at
+invariant-loop-c g l = (length l.out ≡ length l.initial.out) × Growing g.row.N l.wrap l.samples l.numbers l.u l.initial.out l.c l.out l.at
