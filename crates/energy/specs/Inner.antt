@@ -1,5 +1,5 @@
 -- What the private functions of this crate ask and promise, in terms of rows of bytes. No public promise cites it.
-use Rattle.std.specs.Prelude.{◌≡◌, cond, List, ◌++◌, ℕ, ◌+◌, ◌-◌, ◌*◌, ◌≤◌, ◌<◌, ltb, length, get_or, take, drop}
+use Rattle.std.specs.Prelude.{◌≡◌, cond, List, ◌++◌, ℕ, ◌+◌, ◌-◌, ◌*◌, ◌≤◌, ◌<◌, ltb, length, get_or, sum, take, drop}
 use Rattle.grids.specs.Rows.{row_at}
 use Rattle.pictures.specs.declared.sizes.Size.{Size}
 use Rattle.pictures.specs.Refusals.{refusal}
@@ -38,13 +38,27 @@ pub record LinesNeeded (channels : ℕ) (it lower : List ℕ) (width beside : �
 abbrev pub right_column : ℕ → ℕ → ℕ → ℕ
 right_column width beside c = cond (ltb (c + 1) width) (c + 1) beside
 
--- How far sample k of row a is from that of row b, and that of row c from that of row d; and the same of pixel k.
+-- How far sample k of row a is from that of row b; the same and how far that of row c is from that of row d; and both of pixel k.
+abbrev pub sample_apart : List ℕ → List ℕ → ℕ → ℕ
+sample_apart a b k = apart (get_or a k 0) (get_or b k 0)
+
 abbrev pub sample_distance : List ℕ → List ℕ → List ℕ → List ℕ → ℕ → ℕ
-sample_distance a b c d k = apart (get_or a k 0) (get_or b k 0) + apart (get_or c k 0) (get_or d k 0)
+sample_distance a b c d k = sample_apart a b k + sample_apart c d k
 
 abbrev pub two_distances : ℕ → List ℕ → List ℕ → List ℕ → List ℕ → ℕ → ℕ
 two_distances channels a b c d k =
     difference (row_at channels k a) (row_at channels k b) + difference (row_at channels k c) (row_at channels k d)
+
+-- What pixel k has, from what its samples have in two rows.
+abbrev pub two_sums : ℕ → List ℕ → List ℕ → ℕ → ℕ
+two_sums channels first second k = sum (row_at channels k first) + sum (row_at channels k second)
+
+-- Rows are worked out in blocks of so many pixels, which have so many samples.
+pub record BlockOf (channels pixels samples : ℕ) : Type 0 where
+  pub few : channels ≤ 3
+  pub some : 0 < pixels
+  pub narrow : pixels ≤ most_side
+  pub samples_are : samples ≡ pixels * channels
 
 -- Four rows of at least so many samples.
 pub record DistancesNeeded (a b c d : List ℕ) (samples : ℕ) : Type 0 where
@@ -90,11 +104,11 @@ pub record StepsNeeded (channels : ℕ) (it above : List ℕ) (left up right : �
   pub up_is : up ≡ left
   pub right_is : right ≡ left
 
--- The samples beside those of a row and above them, and room for three rows of costs.
-pub record SampleStepsNeeded (before after above : List ℕ) (left up right : ℕ) : Type 0 where
-  pub before_long : left ≤ length before
-  pub after_long : left ≤ length after
-  pub above_long : left ≤ length above
+-- The pixels beside those of a row and above them, and room for three rows of costs.
+pub record StepRowsNeeded (channels : ℕ) (before after above : List ℕ) (left up right : ℕ) : Type 0 where
+  pub before_long : left * channels ≤ length before
+  pub after_long : left * channels ≤ length after
+  pub above_long : left * channels ≤ length above
   pub up_is : up ≡ left
   pub right_is : right ≡ left
 

@@ -2,11 +2,13 @@
 // once more at its sides, so that a neighbour past the side edge is the pixel itself.
 ghost use Rattle.std.specs.Prelude.{◌≡◌, ◌+◌, ◌*◌, ◌≤◌, ◌<◌, length};
 ghost use Rattle.grids.specs.Table.{table};
-ghost use Rattle.pictures.specs.Limits.{most_row};
+ghost use Rattle.pictures.specs.Limits.{most_side, most_row};
 ghost use Rattle.pictures.specs.Pictures.{channels_of};
-ghost use Rattle.energy.specs.Inner.{RowOf, StepsNeeded, SampleStepsNeeded, padded, sample_distance, across_of, left_of_row, right_of_row};
+ghost use Rattle.energy.specs.Inner.{RowOf, StepsNeeded, StepRowsNeeded, BlockOf, padded, sample_distance, two_distances, across_of, left_of_row, right_of_row};
 
-use crate::kernels::{channels_added, distances};
+use crate::kernels::{
+    GREY_BLOCK, RGB_BLOCK, RGB_SAMPLES, distances, pixel_sums, samples_apart, widen,
+};
 use pictures::{Kind, LARGEST_SIDE};
 
 // The most samples of a row with a pixel more at either side, in grey and in rgb.
@@ -20,8 +22,8 @@ pub(crate) fn across(kind: Kind, it: &[u8], out: &mut [u32])
     ensures { out.new ≡ table (across_of (channels_of kind) it.now) (length out.old) }
 {
     match kind {
-        Kind::Grey => across_row::<1, MOST_GREY>(it, out),
-        Kind::Rgb => across_row::<3, MOST_RGB>(it, out),
+        Kind::Grey => across_row::<1, GREY_BLOCK, GREY_BLOCK, MOST_GREY>(it, out),
+        Kind::Rgb => across_row::<3, RGB_BLOCK, RGB_SAMPLES, MOST_RGB>(it, out),
     }
 }
 
@@ -46,21 +48,23 @@ pub(crate) fn steps(
     }
 }
 
-fn across_row<const N: usize, const ROOM: usize>(it: &[u8], out: &mut [u32])
-    requires few { (0 < N) × (N ≤ 3) }
-    requires room { (length it.now + 2 * N ≤ ROOM) × (ROOM ≤ most_row) }
+// ROOM samples are as many as the widest row has with a pixel more at either side.
+fn across_row<const N: usize, const PIXELS: usize, const SAMPLES: usize, const ROOM: usize>(
+    it: &[u8],
+    out: &mut [u32],
+)
+    requires block { BlockOf N PIXELS SAMPLES }
+    requires room { (0 < N) × (length it.now + 2 * N ≤ ROOM) × (ROOM ≤ most_row) }
     requires row { RowOf N it.now (length out.old) }
     ensures { out.new ≡ table (across_of N it.now) (length out.old) }
 {
     let mut wide = [0u8; ROOM];
-    let mut samples = [0u16; ROOM];
-    let length = it.len();
-    let end = length + 2 * N;
+    let end = it.len() + 2 * N;
     pad::<N>(it, &mut wide[..end]);
     let before = &wide[..end];
     let after = &before[2 * N..];
     // the second distance is that of a row from itself, 0
-    distances::<N>(after, before, before, before, &mut samples[..length], out);
+    distances::<N, PIXELS, SAMPLES>(after, before, before, before, out);
 }
 
 // In grey a sample is a pixel.
@@ -77,7 +81,7 @@ fn grey_steps(it: &[u8], above: &[u8], left: &mut [u32], up: &mut [u32], right: 
     pixel_steps(before, &before[2..], above, left, up, right);
 }
 
-// In rgb samples are worked out before pixels, so that many are at once.
+// In rgb by blocks of pixels, in which samples are worked out first.
 fn rgb_steps(it: &[u8], above: &[u8], left: &mut [u32], up: &mut [u32], right: &mut [u32])
     requires { StepsNeeded 3 it.now above.now (length left.old) (length up.old) (length right.old) }
     ensures left { left.new ≡ table (left_of_row 3 it.now above.now) (length left.old) }
@@ -85,51 +89,109 @@ fn rgb_steps(it: &[u8], above: &[u8], left: &mut [u32], up: &mut [u32], right: &
     ensures right { right.new ≡ table (right_of_row 3 it.now above.now) (length right.old) }
 {
     let mut wide = [0u8; MOST_RGB];
-    let mut from_left = [0u16; MOST_RGB];
-    let mut from_above = [0u16; MOST_RGB];
-    let mut from_right = [0u16; MOST_RGB];
-    let length = it.len();
-    let end = length + 6;
+    let end = it.len() + 6;
     pad::<3>(it, &mut wide[..end]);
     let before = &wide[..end];
-    sample_steps(
-        before,
-        &before[6..],
-        above,
-        &mut from_left[..length],
-        &mut from_above[..length],
-        &mut from_right[..length],
-    );
-    channels_added::<3>(&from_left[..length], left);
-    channels_added::<3>(&from_above[..length], up);
-    channels_added::<3>(&from_right[..length], right);
-}
-
-// The costs of coming to each sample of a row, from the samples beside it and above it. All three in one loop: how far those beside it
-// are apart counts in each.
-fn sample_steps(
-    before: &[u8],
-    after: &[u8],
-    above: &[u8],
-    left: &mut [u16],
-    up: &mut [u16],
-    right: &mut [u16],
-)
-    requires { SampleStepsNeeded before.now after.now above.now (length left.old) (length up.old) (length right.old) }
-    ensures left { left.new ≡ table (sample_distance after.now before.now above.now before.now) (length left.old) }
-    ensures up { up.new ≡ table (sample_distance after.now before.now before.now before.now) (length left.old) }
-    ensures right { right.new ≡ table (sample_distance after.now before.now above.now after.now) (length left.old) }
-{
-    // By index, since nothing is promised of what is written through a zip.
-    for k in 0..left.len() {
-        let across = after[k].abs_diff(before[k]) as u16;
-        left[k] = across + above[k].abs_diff(before[k]) as u16;
-        up[k] = across;
-        right[k] = across + above[k].abs_diff(after[k]) as u16;
+    let after = &before[6..];
+    if left.len() < RGB_BLOCK {
+        short_steps::<3, RGB_BLOCK, RGB_SAMPLES>(before, after, above, left, up, right);
+    } else {
+        step_blocks::<3, RGB_BLOCK, RGB_SAMPLES>(before, after, above, left, up, right);
     }
 }
 
-// The same where they are pixels: straight into the rows of costs, so that no room for samples is cleared at each row.
+// The costs of a row of less than a block, one after the other.
+fn short_steps<const N: usize, const PIXELS: usize, const SAMPLES: usize>(
+    before: &[u8],
+    after: &[u8],
+    above: &[u8],
+    left: &mut [u32],
+    up: &mut [u32],
+    right: &mut [u32],
+)
+    requires block { BlockOf N PIXELS SAMPLES }
+    requires narrow { length left.old ≤ most_side }
+    requires rows { StepRowsNeeded N before.now after.now above.now (length left.old) (length up.old) (length right.old) }
+    ensures left { left.new ≡ table (two_distances N after.now before.now above.now before.now) (length left.old) }
+    ensures up { up.new ≡ table (two_distances N after.now before.now before.now before.now) (length left.old) }
+    ensures right { right.new ≡ table (two_distances N after.now before.now above.now after.now) (length left.old) }
+{
+    distances::<N, PIXELS, SAMPLES>(after, before, above, before, left);
+    distances::<N, PIXELS, SAMPLES>(after, before, before, before, up);
+    distances::<N, PIXELS, SAMPLES>(after, before, above, after, right);
+}
+
+// The costs of a row of one block at least. The last block begins where it ends with the row.
+fn step_blocks<const N: usize, const PIXELS: usize, const SAMPLES: usize>(
+    before: &[u8],
+    after: &[u8],
+    above: &[u8],
+    left: &mut [u32],
+    up: &mut [u32],
+    right: &mut [u32],
+)
+    requires block { BlockOf N PIXELS SAMPLES }
+    requires narrow { (PIXELS ≤ length left.old) × (length left.old ≤ most_side) }
+    requires rows { StepRowsNeeded N before.now after.now above.now (length left.old) (length up.old) (length right.old) }
+    ensures left { left.new ≡ table (two_distances N after.now before.now above.now before.now) (length left.old) }
+    ensures up { up.new ≡ table (two_distances N after.now before.now before.now before.now) (length left.old) }
+    ensures right { right.new ≡ table (two_distances N after.now before.now above.now after.now) (length left.old) }
+{
+    let last = left.len() - PIXELS;
+    let mut done = 0;
+    while done < left.len() {
+        let at = done.min(last);
+        let end = at + PIXELS;
+        let from = at * N;
+        let to = from + SAMPLES;
+        step_block::<N, PIXELS, SAMPLES>(
+            &before[from..to],
+            &after[from..to],
+            &above[from..to],
+            &mut left[at..end],
+            &mut up[at..end],
+            &mut right[at..end],
+        );
+        done = end;
+    }
+}
+
+// The costs of one block. How far the samples beside a sample are apart counts in all three; the second distance in those from
+// straight above is that of a row from itself, 0.
+fn step_block<const N: usize, const PIXELS: usize, const SAMPLES: usize>(
+    before: &[u8],
+    after: &[u8],
+    above: &[u8],
+    left: &mut [u32],
+    up: &mut [u32],
+    right: &mut [u32],
+)
+    requires block { BlockOf N PIXELS SAMPLES }
+    requires one { length left.old ≡ PIXELS }
+    requires rows { StepRowsNeeded N before.now after.now above.now (length left.old) (length up.old) (length right.old) }
+    ensures left { left.new ≡ table (two_distances N after.now before.now above.now before.now) PIXELS }
+    ensures up { up.new ≡ table (two_distances N after.now before.now before.now before.now) PIXELS }
+    ensures right { right.new ≡ table (two_distances N after.now before.now above.now after.now) PIXELS }
+{
+    let mut across = [0u8; SAMPLES];
+    let mut from_left = [0u8; SAMPLES];
+    let mut from_above = [0u8; SAMPLES];
+    let mut from_right = [0u8; SAMPLES];
+    let mut sums = [0u16; PIXELS];
+    samples_apart(after, before, &mut across);
+    samples_apart(above, before, &mut from_left);
+    samples_apart(before, before, &mut from_above);
+    samples_apart(above, after, &mut from_right);
+    pixel_sums::<N>(&across, &from_left, &mut sums);
+    widen(&sums, left);
+    pixel_sums::<N>(&across, &from_above, &mut sums);
+    widen(&sums, up);
+    pixel_sums::<N>(&across, &from_right, &mut sums);
+    widen(&sums, right);
+}
+
+// The costs of coming to each sample of a row, from the samples beside it and above it, where samples are pixels. All three in one
+// loop: how far those beside it are apart counts in each. By index, since nothing is promised of what is written through a zip.
 fn pixel_steps(
     before: &[u8],
     after: &[u8],
@@ -138,7 +200,7 @@ fn pixel_steps(
     up: &mut [u32],
     right: &mut [u32],
 )
-    requires { SampleStepsNeeded before.now after.now above.now (length left.old) (length up.old) (length right.old) }
+    requires { StepRowsNeeded 1 before.now after.now above.now (length left.old) (length up.old) (length right.old) }
     ensures left { left.new ≡ table (sample_distance after.now before.now above.now before.now) (length left.old) }
     ensures up { up.new ≡ table (sample_distance after.now before.now before.now before.now) (length left.old) }
     ensures right { right.new ≡ table (sample_distance after.now before.now above.now after.now) (length left.old) }

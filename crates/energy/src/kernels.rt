@@ -1,18 +1,23 @@
 // The energies of one row of pixels, given its bytes and those of the row that stands for the one below it. N is the number of
 // channels, a constant to the compiler; that a sum over them fits is asked of N where it is needed, as a constant has no type that
 // could say it. The two rows are two arguments: a struct of both would be opened in each function, which reads them apart.
-ghost use Rattle.std.specs.Prelude.{◌≡◌, ◌++◌, ◌+◌, ◌*◌, ◌≤◌, length, sum, drop};
+ghost use Rattle.std.specs.Prelude.{◌≡◌, ◌++◌, ◌+◌, ◌*◌, ◌≤◌, ◌<◌, length, sum, drop};
 ghost use Rattle.grids.specs.Table.{table};
 ghost use Rattle.energy.specs.Energy.{difference as Energy·difference};
-ghost use Rattle.pictures.specs.Limits.{most_row};
+ghost use Rattle.pictures.specs.Limits.{most_side};
 ghost use Rattle.pictures.specs.Pictures.{channels_of};
-ghost use Rattle.energy.specs.Inner.{LinesNeeded, DistancesNeeded, sample_distance, two_distances, energy_between, between};
+ghost use Rattle.energy.specs.Inner.{LinesNeeded, BlockOf, DistancesNeeded, sample_apart, two_sums, two_distances, energy_between, between};
 ghost use Rattle.grids.specs.Rows.{row_at};
 
-use pictures::{Kind, LARGEST_SIDE};
+use pictures::Kind;
 
-// The most samples of a row of rgb pixels.
-const MOST_SAMPLES: usize = 3 * LARGEST_SIDE;
+// Rows are worked out in blocks of so many pixels, which have so many samples. The lengths of a block are constants to the compiler,
+// which makes its loops vectors as a whole and keeps the samples in registers, at these sizes best.
+pub(crate) const GREY_BLOCK: usize = 64;
+
+pub(crate) const RGB_BLOCK: usize = 16;
+
+pub(crate) const RGB_SAMPLES: usize = 3 * RGB_BLOCK;
 
 // The energies of a row of pixels of this kind, put into the first `width` places of out. Column `beside` stands for the one to
 // the right of the last.
@@ -28,88 +33,180 @@ pub(crate) fn line_energies(
     ensures { out.new ≡ table (between (channels_of kind) it.now lower.now width beside) width ++ drop width out.old }
 {
     match kind {
-        Kind::Grey => row::<1, LARGEST_SIDE>(it, lower, width, beside, out),
-        Kind::Rgb => row::<3, MOST_SAMPLES>(it, lower, width, beside, out),
+        Kind::Grey => row::<1, GREY_BLOCK, GREY_BLOCK>(it, lower, width, beside, out),
+        Kind::Rgb => row::<3, RGB_BLOCK, RGB_SAMPLES>(it, lower, width, beside, out),
     }
 }
 
-// ROOM samples are as many as the widest row has. All of them are set to 0 for each row, so the room is that of the kind.
-fn row<const N: usize, const ROOM: usize>(
+fn row<const N: usize, const PIXELS: usize, const SAMPLES: usize>(
     it: &[u8],
     lower: &[u8],
     width: usize,
     beside: usize,
     out: &mut [u32],
 )
-    requires few { N ≤ 3 }
-    requires room { (width * N ≤ ROOM) × (ROOM ≤ most_row) }
+    requires block { BlockOf N PIXELS SAMPLES }
     requires lines { LinesNeeded N it.now lower.now width beside out.old }
     ensures { out.new ≡ table (between N it.now lower.now width beside) width ++ drop width out.old }
 {
     let last = width - 1;
-    let inner = last * N;
-    let mut samples = [0u16; ROOM];
-    inner_energies::<N>(it, lower, &mut samples[..inner], &mut out[..last]);
+    inner_energies::<N, PIXELS, SAMPLES>(it, lower, &mut out[..last]);
     out[last] = energy_at::<N>(it, lower, last, beside);
 }
 
 // The energies of the pixels before the last.
-fn inner_energies<const N: usize>(it: &[u8], lower: &[u8], samples: &mut [u16], out: &mut [u32])
-    requires few { N ≤ 3 }
-    requires long { length samples.old ≡ length out.old * N }
-    requires rows { (length samples.old + N ≤ length it.now) × (length samples.old ≤ length lower.now) }
+fn inner_energies<const N: usize, const PIXELS: usize, const SAMPLES: usize>(
+    it: &[u8],
+    lower: &[u8],
+    out: &mut [u32],
+)
+    requires block { BlockOf N PIXELS SAMPLES }
+    requires narrow { length out.old ≤ most_side }
+    requires rows { (length out.old * N + N ≤ length it.now) × (length out.old * N ≤ length lower.now) }
     ensures { out.new ≡ table (λ c. energy_between N it.now lower.now c (c + 1)) (length out.old) }
 {
-    distances::<N>(&it[N..], it, lower, it, samples, out);
+    distances::<N, PIXELS, SAMPLES>(&it[N..], it, lower, it, out);
 }
 
-// How far the pixels of one row are from those of another, and those of a third from those of a fourth, added. Samples are worked
-// out before pixels, so that many are at once.
-pub(crate) fn distances<const N: usize>(
+// How far the pixels of one row are from those of another, and those of a third from those of a fourth, added.
+pub(crate) fn distances<const N: usize, const PIXELS: usize, const SAMPLES: usize>(
     a: &[u8],
     b: &[u8],
     c: &[u8],
     d: &[u8],
-    samples: &mut [u16],
     out: &mut [u32],
 )
-    requires few { N ≤ 3 }
-    requires long { length samples.old ≡ length out.old * N }
-    requires rows { DistancesNeeded a.now b.now c.now d.now (length samples.old) }
+    requires block { BlockOf N PIXELS SAMPLES }
+    requires narrow { length out.old ≤ most_side }
+    requires rows { DistancesNeeded a.now b.now c.now d.now (length out.old * N) }
     ensures { out.new ≡ table (two_distances N a.now b.now c.now d.now) (length out.old) }
 {
-    sample_distances(a, b, c, d, samples);
-    channels_added::<N>(samples, out);
-}
-
-// The same of samples; by index, since nothing is promised of what is written through a zip.
-fn sample_distances(a: &[u8], b: &[u8], c: &[u8], d: &[u8], out: &mut [u16])
-    requires { DistancesNeeded a.now b.now c.now d.now (length out.old) }
-    ensures { out.new ≡ table (sample_distance a.now b.now c.now d.now) (length out.old) }
-{
-    for (k, distance) in out.iter_mut().enumerate() {
-        *distance = a[k].abs_diff(b[k]) as u16 + c[k].abs_diff(d[k]) as u16;
+    if out.len() < PIXELS {
+        short::<N, PIXELS, SAMPLES>(a, b, c, d, out);
+    } else {
+        blocks::<N, PIXELS, SAMPLES>(a, b, c, d, out);
     }
 }
 
-// What pixels have, from what their samples have. By index for the same reason; `as_chunks` would ask that N isn't 0, too.
-pub(crate) fn channels_added<const N: usize>(samples: &[u16], out: &mut [u32])
+// The same of a row of one block at least. The last block begins where it ends with the row, so that it may work out again what
+// the block before it did.
+fn blocks<const N: usize, const PIXELS: usize, const SAMPLES: usize>(
+    a: &[u8],
+    b: &[u8],
+    c: &[u8],
+    d: &[u8],
+    out: &mut [u32],
+)
+    requires block { BlockOf N PIXELS SAMPLES }
+    requires narrow { (PIXELS ≤ length out.old) × (length out.old ≤ most_side) }
+    requires rows { DistancesNeeded a.now b.now c.now d.now (length out.old * N) }
+    ensures { out.new ≡ table (two_distances N a.now b.now c.now d.now) (length out.old) }
+{
+    let last = out.len() - PIXELS;
+    let mut done = 0;
+    while done < out.len() {
+        let at = done.min(last);
+        let end = at + PIXELS;
+        let from = at * N;
+        let to = from + SAMPLES;
+        block::<N, PIXELS, SAMPLES>(
+            &a[from..to],
+            &b[from..to],
+            &c[from..to],
+            &d[from..to],
+            &mut out[at..end],
+        );
+        done = end;
+    }
+}
+
+// The same of one block. Samples are worked out before pixels, so that many are at once.
+fn block<const N: usize, const PIXELS: usize, const SAMPLES: usize>(
+    a: &[u8],
+    b: &[u8],
+    c: &[u8],
+    d: &[u8],
+    out: &mut [u32],
+)
+    requires block { BlockOf N PIXELS SAMPLES }
+    requires one { length out.old ≡ PIXELS }
+    requires rows { DistancesNeeded a.now b.now c.now d.now SAMPLES }
+    ensures { out.new ≡ table (two_distances N a.now b.now c.now d.now) PIXELS }
+{
+    let mut first = [0u8; SAMPLES];
+    let mut second = [0u8; SAMPLES];
+    let mut sums = [0u16; PIXELS];
+    samples_apart(a, b, &mut first);
+    samples_apart(c, d, &mut second);
+    pixel_sums::<N>(&first, &second, &mut sums);
+    widen(&sums, out);
+}
+
+// The same of a row of less than a block, whose lengths the compiler doesn't know.
+fn short<const N: usize, const PIXELS: usize, const SAMPLES: usize>(
+    a: &[u8],
+    b: &[u8],
+    c: &[u8],
+    d: &[u8],
+    out: &mut [u32],
+)
+    requires block { BlockOf N PIXELS SAMPLES }
+    requires less { length out.old < PIXELS }
+    requires rows { DistancesNeeded a.now b.now c.now d.now (length out.old * N) }
+    ensures { out.new ≡ table (two_distances N a.now b.now c.now d.now) (length out.old) }
+{
+    let mut first = [0u8; SAMPLES];
+    let mut second = [0u8; SAMPLES];
+    let mut sums = [0u16; PIXELS];
+    let width = out.len();
+    let samples = width * N;
+    samples_apart(a, b, &mut first[..samples]);
+    samples_apart(c, d, &mut second[..samples]);
+    pixel_sums::<N>(&first[..samples], &second[..samples], &mut sums[..width]);
+    widen(&sums[..width], out);
+}
+
+// How far the samples of one row are from those of another; by index, since nothing is promised of what is written through a zip.
+pub(crate) fn samples_apart(a: &[u8], b: &[u8], out: &mut [u8])
+    requires { (length out.old ≤ length a.now) × (length out.old ≤ length b.now) }
+    ensures { out.new ≡ table (sample_apart a.now b.now) (length out.old) }
+{
+    for (k, distance) in out.iter_mut().enumerate() {
+        *distance = a[k].abs_diff(b[k]);
+    }
+}
+
+// What pixels have, from what their samples have in two rows. In 16 bits, of which a register holds twice as many as of 32. By index
+// for the same reason; `as_chunks` would ask that N isn't 0, too.
+pub(crate) fn pixel_sums<const N: usize>(first: &[u8], second: &[u8], out: &mut [u16])
     requires few { N ≤ 3 }
-    requires long { length samples.now ≡ length out.old * N }
-    ensures { out.new ≡ table (λ c. sum (row_at N c samples.now)) (length out.old) }
+    requires narrow { length out.old ≤ most_side }
+    requires rows { (length out.old * N ≤ length first.now) × (length out.old * N ≤ length second.now) }
+    ensures { out.new ≡ table (two_sums N first.now second.now) (length out.old) }
 {
     for (c, sum) in out.iter_mut().enumerate() {
         let at = c * N;
-        *sum = total(&samples[at..at + N]);
+        let end = at + N;
+        *sum = total(&first[at..end]) + total(&second[at..end]);
     }
 }
 
 // The sum over a pixel's samples.
-fn total(samples: &[u16]) -> u32
+fn total(samples: &[u8]) -> u16
     requires { length samples.now ≤ 3 }
-    ensures { result ≡ sum samples.now }
+    ensures { (result ≡ sum samples.now) × (result ≤ 765) }
 {
-    samples.iter().map(|x| *x as u32).sum()
+    samples.iter().map(|x| *x as u16).sum()
+}
+
+// The same numbers in 32 bits.
+pub(crate) fn widen(from: &[u16], out: &mut [u32])
+    requires { length out.old ≡ length from.now }
+    ensures { out.new ≡ from.now }
+{
+    for (c, number) in out.iter_mut().enumerate() {
+        *number = from[c] as u32;
+    }
 }
 
 // The energy of the pixel in column c: how far the pixel of its row in column `beside` is from it, and how far the lower one is.
