@@ -23,7 +23,7 @@ use Rattle.energy.specs.declared.methods.Method.{Method}
 use Rattle.seam_theory.specs.PictureSeams.{seam_of}
 use Rattle.seam_theory.proofs.Choosing.{seam_chooses}
 use Rattle.map_rules.specs.Spaces.{map_bytes, map_at, recorded_at}
-use Rattle.map_rules.proofs.Rooms.{map-end, map-rows, picture-room}
+use Rattle.map_rules.proofs.Rooms.{map-end, map-rows, picture_room}
 use Rattle.map_build.specs.Building.{with_zeros, mapped}
 use Rattle.map_build.specs.Inner.Marks.{write_pair}
 use Rattle.map_build.specs.Inner.Rows.{write_rows}
@@ -39,7 +39,7 @@ left_size z t = record { width = z.width - t; height = z.height; kind = z.kind }
 pub left-room : (z : Size) (t : ℕ) → picture_bytes (left_size z t) + pixels (left_size z t) ≤ map_at z
 left-room z t =
     let few : z.height * (z.width - t) ≤ z.height * z.width = mul-le-mul_left z.height (omega arith) in
-    omega (arith, picture-room (left_size z t), few)
+    omega (arith, picture_room (left_size z t), few)
 
 -- What one seam frees.
 freed : (z : Size) (t : ℕ) → t < z.width → picture_bytes (left_size z (suc t)) + z.height * channels_of z.kind ≡ picture_bytes (left_size z t)
@@ -146,10 +146,10 @@ pub first-mapped : (z : Size) (how : Method) (b rest : List ℕ) → length b �
 first-mapped z how b rest e =
     let gap : List ℕ = replicate (map_at z - length b) 0 in
     let none : List ℕ = replicate (map_bytes z) 0 in
-    let n : map_at z - length b + map_bytes z ≡ recorded_at z - picture_bytes z = omega (arith, e, picture-room z) in
+    let n : map_at z - length b + map_bytes z ≡ recorded_at z - picture_bytes z = omega (arith, e, picture_room z) in
     let both : gap ++ none ≡ replicate (recorded_at z - picture_bytes z) 0 =
     replicate-append-replicate (map_at z - length b) (map_bytes z) 0 ∙ ap (λ k. replicate k 0) n in
     let zeros : pairs (flat (map_of (seam_of how) 0 z.width z.height (picture z b))) ≡ none =
     map-zeros (grid_of (picture-of_size z b e)) ∙ ap (λ k. replicate k 0) (map-rows z) in
     rw (← both, bytes-picture z b e, zeros)
-    (ap (b ++◌) (append_assoc gap none rest) ∙ sym (append_assoc (b ++ gap) none rest ∙ append_assoc b gap (none ++ rest)))
+    (ap (b ++◌) (append_assoc gap none rest) ∙ sym (append_assoc b gap (none ++ rest)) ∙ sym (append_assoc (b ++ gap) none rest))

@@ -24,6 +24,7 @@ pub fn map_in(space: &mut [u8], size: Size, method: Method, depth: usize) -> Res
 }
 
 // The map where nothing is refused. t counts seams, each of which runs through the whole picture and the whole map.
+#[tactic(auto, using(map_rules::proofs::Rooms::picture_room))]
 fn cut_seams(space: &mut [u8], allowed: AllowedSize, method: Method, depth: usize)
     requires { SeamsNeeded allowed.size depth (length space.old) }
     ensures { SeamsGiven allowed.size method depth space.old space.new }

@@ -23,8 +23,8 @@ map-end z = omega arith
 pub recorded-end : (z : Size) → recorded_at z + map_bytes z ≡ work_bytes z
 recorded-end z = omega arith
 
-pub picture-room : (z : Size) → picture_bytes z + pixels z ≤ map_at z
-picture-room z = omega (arith, bytes-few z)
+pub picture_room : (z : Size) → picture_bytes z + pixels z ≤ map_at z
+picture_room z = omega (arith, bytes-few z)
 
 -- A map row by row: two bytes for each pixel of a row.
 pub map-rows : (z : Size) → z.height * (2 * z.width) ≡ map_bytes z

@@ -1,13 +1,13 @@
 -- `map_build::cut_seams` meets its contract: the space before the first seam, one seam more, and the last.
 use mathlib.Core.Path.{◌≡◌, ap, ◌∙◌}
 use mathlib.Core.List.{◌++◌}
-use Prim.Native.Nat.{◌-◌, ◌≤◌}
+use Prim.Native.Nat.{◌-◌}
 use native.Mathlib.Omega.{arith}
 use borrow.Rule.Slice.PartMut.{same_len_mid}
 use lib.ListN.{length, drop}
 use Rattle.pictures.specs.Pictures.{picture_in}
 use Rattle.map_rules.specs.Spaces.{recorded_at}
-use Rattle.map_rules.proofs.Rooms.{Room, room_is, picture-room}
+use Rattle.map_rules.proofs.Rooms.{Room, room_is}
 use Rattle.map_build.specs.Building.{mapped}
 use Rattle.map_build.proofs.Steps.{next-mapped}
 use Rattle.map_build.proofs.Spaces.{there_of_size, next_needed, first_there}
@@ -16,16 +16,6 @@ use Rattle.map_build.proofs.cut_seams.Goals.{After-recorded_at-end, After-clear}
 
 room : (c : After-clear) → Room c.args.allowed.size c.args.depth (length c.args.space.now)
 room c = room_is _ _ _ c.requires.served
-
--- the picture ends before the recorded map
-before : (c : After-recorded_at-end) → c.picture_bytes-bytes.result ≤ c.recorded_at-end.result
-before c = omega (arith, c.picture_bytes-bytes.ensures.0, c.recorded_at-end.ensures, picture-room c.args.allowed.size)
-
-pub slice_bounds-clear-count : goal.slice_bounds-clear-count
-slice_bounds-clear-count c = before (goal.at.slice_bounds-clear-count c).After-recorded_at-end
-
-pub slice_bounds-clear-start : goal.slice_bounds-clear-start
-slice_bounds-clear-start c = before (goal.at.slice_bounds-clear-start c).After-recorded_at-end
 
 pub loop-t-init : goal.loop-t-init
 loop-t-init c =
