@@ -19,7 +19,7 @@ use Rattle.text_theory.proofs.Decimals.{digits_small}
 use Rattle.text_theory.proofs.Lengths.{map_length_lem}
 use Rattle.pictures.specs.Numbers.{numbers_in}
 use Rattle.pictures.proofs.TwoBytes.{length-numbers, numbers-row}
-use Rattle.map_build.proofs.Lists.{drop-replicate}
+use Rattle.std.proofs.lemmas.List.{drop-replicate}
 use Rattle.file_build.specs.Inner.Lines.{map_in}
 use Rattle.pictures.specs.Pictures.{largest_side}
 
@@ -77,9 +77,8 @@ unfolding map_length
 order_long k w row l m e =
     let long : length (run 1 k) ≡ k = ap length (sym (run-table k)) ∙ length-table (λ t. t + 1) k in
     let split : w ≡ length (run 1 k) + (w - k) = omega (arith, long) in
-    let n : largest_side ≡ k + (largest_side - k) = omega arith in
     let zeros : List ℕ = replicate (largest_side - k) 0 in
-    let back : ◌≡◌ {A = List ℕ} (drop k (replicate largest_side 0)) (replicate (largest_side - k) 0) = ap (λ i. drop k (replicate i 0)) n ∙ drop-replicate k (largest_side - k) 0 in
+    let back : ◌≡◌ {A = List ℕ} (drop k (replicate largest_side 0)) (replicate (largest_side - k) 0) = drop-replicate k largest_side 0 in
     let front : take w row ≡ run 1 k ++ take (w - k) (replicate (largest_side - k) 0) =
     ap (take w) (e ∙ ap (run 1 k ++◌) back) ∙ ap (λ i. take i (run 1 k ++ zeros)) split ∙ take-append-add (run 1 k) zeros (w - k) in
     map_length_lem (take w row)

@@ -53,9 +53,8 @@ fn put_file(source: Source, out: &mut [u8], work: &mut [u8]) -> usize
     work[..source.picture.len()].copy_from_slice(source.picture);
     map_build::map_in(work, size, head.method, head.depth).unwrap();
     // by the head's size: an AllowedSize beside it would be the same size twice
-    let at = map_rules::map_at(size);
     let map = MapBytes {
-        bytes: &work[at..at + map_rules::map_bytes(size)],
+        bytes: &work[map_rules::map_at(size)..map_rules::recorded_at(size)],
         width: size.width,
         height: size.height,
     };

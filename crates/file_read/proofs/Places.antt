@@ -15,6 +15,7 @@ use Rattle.pictures.specs.Pictures.{row_bytes, picture_bytes, bytes, pixels}
 use Rattle.pictures.proofs.Buffers.{flats_grid, length-bytes}
 use Rattle.pictures.specs.Numbers.{largest_number, pairs}
 use Rattle.map_rules.specs.Spaces.{map_bytes}
+use Rattle.map_rules.proofs.Rooms.{map-rows}
 use Rattle.pictures.proofs.TwoBytes.{pairs-flat, grid-pairs}
 use Rattle.text_theory.specs.declared.Head.{Head}
 use Rattle.text_theory.specs.Files.{parse, each, closed, All, Pixel}
@@ -92,8 +93,11 @@ module _ {file : List ℕ} {h : Head} (k : Parsed file h) where
   pub map-long : length (flat (maps_in (parse file))) ≡ pixels h.size
   map-long = length-flat k.maps_grid
 
+  pub pairs-rows : length (pairs (flat (maps_in (parse file)))) ≡ h.size.height * (2 * h.size.width)
+  pairs-rows = ap length (pairs-flat (maps_in (parse file))) ∙ length-flat (grid-pairs k.maps_grid)
+
   pub pairs-long : length (pairs (flat (maps_in (parse file)))) ≡ map_bytes h.size
-  pairs-long = ap length (pairs-flat (maps_in (parse file))) ∙ length-flat (grid-pairs k.maps_grid)
+  pairs-long = pairs-rows ∙ map-rows h.size
 
 -- A map line that was read stands at the front of as many places as the width says, whatever follows.
 pub map-taken : {file : List ℕ} {h : Head} → Open file h → {r : ℕ} → r < h.size.height → {at : ℕ} {got : List ℕ} → MapRead file r at got

@@ -30,7 +30,7 @@ impl<'a> Opened<'a> {
         let size = self.head.size;
         // by the head's size: an AllowedSize beside it would be the same size twice
         let at = map_rules::recorded_at(size);
-        let end = at + map_rules::map_bytes(size);
+        let end = pictures::work_bytes(size);
         let maps = self.read_picture(work);
         lines::fill(&RecordLines(*self), maps, &mut work[at..end]);
         map_check::judge_in(work, size, self.head.method, self.head.depth)

@@ -12,18 +12,19 @@ use energy::Method;
 use map_rules::allowed;
 use pictures::{AllowedSize, LARGEST_SIDE, Refusal, Size};
 
-// The map of this depth of the picture at the front of the space. After the picture stand a byte for each pixel, for work,
-// and two bytes for each pixel, for the map. The picture is left without its first `depth` seams, packed at the front, and
-// the freed bytes and those for work are 0. Refused by 2, 3, 6 and 8.
+// The map of this depth of the picture at the front of the work space. In it stand the picture, then what building takes, from 28
+// bytes for each pixel on the map, two bytes for each pixel, and after it a recorded map, which keeps its bytes. The picture is left
+// without its first `depth` seams, packed at the front, and the bytes from there to the map are 0. Refused by 2, 3, 6 and 8.
 pub fn map_in(space: &mut [u8], size: Size, method: Method, depth: usize) -> Result<(), Refusal>
     ensures { MapInGiven space.old size method depth result space.new }
 {
-    let allowed = map_rules::judge_map_space(size, depth, space.len(), 1)?;
+    let allowed = map_rules::judge_map_space(size, depth, space.len())?;
     cut_seams(space, allowed, method, depth);
     Ok(())
 }
 
 // The map where nothing is refused. t counts seams, each of which runs through the whole picture and the whole map.
+#[tactic(auto, using(map_rules::proofs::Rooms::picture_room))]
 fn cut_seams(space: &mut [u8], allowed: AllowedSize, method: Method, depth: usize)
     requires { SeamsNeeded allowed.size depth (length space.old) }
     ensures { SeamsGiven allowed.size method depth space.old space.new }
@@ -31,7 +32,7 @@ fn cut_seams(space: &mut [u8], allowed: AllowedSize, method: Method, depth: usiz
     let size = allowed.size;
     let bytes = allowed.picture_bytes();
     let at = allowed::map_at(allowed);
-    let end = at + allowed::map_bytes(allowed);
+    let end = allowed::recorded_at(allowed);
     pictures::clear(&mut space[bytes..end]);
     for t in 0..depth {
         let left = Size {

@@ -1,4 +1,4 @@
-// A map recorded in a space, judged for the picture at its front.
+// A map recorded in a work space, judged for the picture at its front.
 #![tactic(auto)]
 
 mod numbers;
@@ -16,19 +16,19 @@ use map_rules::allowed;
 use pictures::{AllowedSize, Refusal, Size};
 use recorded::RecordedMap;
 
-// Judges the map recorded in the space for the picture at its front. In the space stand, one after the other: the picture, a
-// byte for each pixel and two bytes for each pixel for work, and the recorded map, two bytes a number, the low byte first.
-// Refused by 2, 3, 6 and 8; then by 9, 10 and 11. The space is all 0 after success and after 9, 10 and 11, else as it was.
+// Judges the map recorded in the work space for the picture at its front. In it stand the picture, then what building the map takes,
+// and in the last two of the 32 bytes for each pixel the recorded map, two bytes a number, the low byte first. Refused by 2, 3, 6 and
+// 8; then by 9, 10 and 11. The space is all 0 after success and after 9, 10 and 11, else as it was.
 pub fn judge_in(space: &mut [u8], size: Size, method: Method, depth: usize) -> Result<(), Refusal>
     ensures { JudgeInGiven space.old size method depth result space.new }
 {
-    let allowed = map_rules::judge_map_space(size, depth, space.len(), 2)?;
+    let allowed = map_rules::judge_map_space(size, depth, space.len())?;
     let answer = judge_rows(space, allowed, method, depth);
     pictures::clear(space);
     answer
 }
 
-// 9 where a row isn't a numbering; else the map is built in front of the recorded one, and they are compared.
+// 9 where a row isn't a numbering; else the map is built before the recorded one, which is left as it was, and they are compared.
 fn judge_rows(
     space: &mut [u8],
     allowed: AllowedSize,
@@ -38,17 +38,11 @@ fn judge_rows(
     requires { JudgeNeeded allowed.size depth (length space.old) }
     ensures { given result ≡ refusal (recorded_rules allowed.size method depth (picture_in allowed.size space.old) (recorded_in allowed.size space.old)) }
 {
-    let size = allowed.size;
-    let (front, rest) = space.split_at_mut(allowed::recorded_at(allowed));
-    let recorded = RecordedMap {
-        bytes: &rest[..allowed::map_bytes(allowed)],
-        width: size.width,
-        height: size.height,
-        depth,
-    };
-    if !recorded.is_numbered() {
+    if !RecordedMap::new(space, allowed, depth).is_numbered() {
         return Err(Refusal::MapRow);
     }
-    map_build::map_in(front, size, method, depth).unwrap();
-    recorded.judge_beside(&front[allowed::map_at(allowed)..])
+    map_build::map_in(space, allowed.size, method, depth).unwrap();
+    let space: &[u8] = space;
+    let built = &space[allowed::map_at(allowed)..allowed::recorded_at(allowed)];
+    RecordedMap::new(space, allowed, depth).judge_beside(built)
 }

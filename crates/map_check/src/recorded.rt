@@ -2,10 +2,11 @@
 ghost use Rattle.std.specs.Prelude.{◌≡◌, length};
 ghost use Rattle.pictures.specs.Refusals.{given};
 ghost use Rattle.map_check.specs.Inner.Numbers.{MapNeeded};
-ghost use Rattle.map_check.specs.Inner.Judging.{beside_built};
+ghost use Rattle.map_check.specs.Inner.Judging.{JudgeNeeded, RecordedIs, beside_built};
 
 use crate::numbers::has_same_numbers;
-use pictures::Refusal;
+use map_rules::allowed;
+use pictures::{AllowedSize, Refusal};
 
 // By width and height, since a map has nothing of the kind of picture that a size has. A map that is printed is file_build's: it
 // may be of any sides, and has no depth.
@@ -18,7 +19,21 @@ pub(crate) struct RecordedMap<'a> {
     ghost sized: { MapNeeded bytes.now width height depth },
 }
 
-impl RecordedMap<'_> {
+impl<'a> RecordedMap<'a> {
+    // The map recorded in a work space.
+    pub(crate) fn new(space: &'a [u8], allowed: AllowedSize, depth: usize) -> Self
+        requires { JudgeNeeded allowed.size depth (length space.now) }
+        ensures { RecordedIs allowed.size depth space.now result.bytes.now result.width result.height result.depth }
+    {
+        let at = allowed::recorded_at(allowed);
+        RecordedMap {
+            bytes: &space[at..allowed.work_bytes()],
+            width: allowed.size.width,
+            height: allowed.size.height,
+            depth,
+        }
+    }
+
     // Judged beside the map built for its picture: where they differ, 10 if a seam of it isn't connected, else 11.
     pub(crate) fn judge_beside(&self, built: &[u8]) -> Result<(), Refusal>
         requires { length built.now ≡ length self.now.bytes.now }

@@ -6,5 +6,5 @@ use Rattle.pictures.specs.Refusals.{SmallestGiven}
 use Rattle.pictures.proofs.Rules.{given-smallest}
 use Rattle.map_rules.specs.Spaces.{map_space_rules}
 
-pub map-space-smallest : (z : Size) (depth space maps : ℕ) → SmallestGiven (map_space_rules z depth space maps)
-map-space-smallest z depth space maps = given-smallest _ refl
+pub map-space-smallest : (z : Size) (depth space : ℕ) → SmallestGiven (map_space_rules z depth space)
+map-space-smallest z depth space = given-smallest _ refl

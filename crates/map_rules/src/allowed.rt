@@ -1,32 +1,19 @@
-// The layout of a space for a picture of an allowed size and its maps.
-ghost use Rattle.std.specs.Prelude.{◌≡◌, ◌+◌, ◌≤◌, ◌<◌};
-ghost use Rattle.pictures.specs.Limits.{most_picture, most_pixels};
-ghost use Rattle.map_theory.specs.Bounds.{most_map};
-ghost use Rattle.map_rules.specs.Spaces.{map_bytes, map_at, recorded_at};
+// The layout of a work space for a picture of an allowed size and its maps.
+ghost use Rattle.std.specs.Prelude.{◌≡◌, ◌≤◌};
+ghost use Rattle.map_rules.specs.Spaces.{map_at, recorded_at};
 
 use pictures::AllowedSize;
 
-// Bytes of a map, two a pixel.
-pub fn map_bytes(size: AllowedSize) -> usize
-    ensures is { result ≡ map_bytes size.size }
-    ensures some { 0 < result }
-    ensures most { result ≤ most_map }
-{
-    2 * size.pixels()
-}
-
-// Where the first map stands: after the picture and a byte for each pixel.
+// Where the map that is built stands: after 28 bytes for each pixel.
 pub fn map_at(size: AllowedSize) -> usize
-    ensures is { result ≡ map_at size.size }
-    ensures most { result ≤ most_picture + most_pixels }
+    ensures { result ≡ map_at size.size }
 {
-    size.picture_bytes() + size.pixels()
+    28 * size.pixels()
 }
 
-// Where the recorded map stands: after the first.
+// Where the recorded map stands: after the one that is built, two bytes for each pixel.
 pub fn recorded_at(size: AllowedSize) -> usize
-    ensures is { result ≡ recorded_at size.size }
-    ensures most { result ≤ most_picture + most_pixels + most_map }
+    ensures { result ≡ recorded_at size.size }
 {
-    map_at(size) + map_bytes(size)
+    30 * size.pixels()
 }

@@ -7,5 +7,5 @@ pub mod spaces;
 pub mod widths;
 
 pub use recorded::{is_beside, remains, stands_once};
-pub use spaces::{has_pixels, holds_pixels, judge_map_space, map_at, map_bytes, recorded_at};
+pub use spaces::{has_pixels, holds_pixels, judge_map_space, map_at, recorded_at};
 pub use widths::{is_allowed, is_doubled, mean, stays};

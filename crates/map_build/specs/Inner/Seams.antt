@@ -6,7 +6,7 @@ use Rattle.pictures.specs.Refusals.{refusal}
 use Rattle.pictures.specs.Pictures.{channels_of, side_rules, picture_bytes, bytes, pixels, picture_in}
 use Rattle.energy.specs.declared.methods.Method.{Method}
 use Rattle.seam_theory.specs.PictureSeams.{seam_of}
-use Rattle.map_rules.specs.Spaces.{map_bytes, map_at, map_space_rules}
+use Rattle.map_rules.specs.Spaces.{recorded_at, map_space_rules}
 use Rattle.map_build.specs.Building.{mapped}
 use Rattle.map_build.specs.Inner.Rows.{write_rows}
 
@@ -27,10 +27,10 @@ pub record NextGiven (z : Size) (how : Method) (w at number : ℕ) (space space'
       ++ (write_rows number w (seam_of how z.width z.height (picture_in z (take at space))) (take (z.height * (2 * w)) (drop at space))
       ++ drop (at + z.height * (2 * w)) space)
 
--- A space that nothing refuses.
+-- A work space that nothing refuses.
 pub record SeamsNeeded (z : Size) (depth space : ℕ) : Type 0 where
-  pub served : refusal (map_space_rules z depth space 1) ≡ 0
+  pub served : refusal (map_space_rules z depth space) ≡ 0
 
--- And the map in it.
+-- And the map in it; from the place of the recorded map on it is as it was.
 pub record SeamsGiven (z : Size) (how : Method) (depth : ℕ) (space space' : List ℕ) : Type 0 where
-  pub space_left : space' ≡ mapped z how depth (picture_in z space) ++ drop (map_at z + map_bytes z) space
+  pub space_left : space' ≡ mapped z how depth (picture_in z space) ++ drop (recorded_at z) space
