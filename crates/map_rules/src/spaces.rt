@@ -1,7 +1,7 @@
 // The layout of a work space for a picture of any size and its maps, and whether buffers are as long as pictures, maps and rows ask.
 ghost use Rattle.std.specs.Prelude.{◌≡◌, ◌*◌, eqb, leb, IfOk};
 ghost use Rattle.pictures.specs.Refusals.{given, refusal, served};
-ghost use Rattle.pictures.specs.Pictures.{channels_of, side_rules};
+ghost use Rattle.pictures.specs.Pictures.{pixel_bytes, side_rules};
 ghost use Rattle.map_rules.specs.Spaces.{map_at, recorded_at, map_space_rules};
 
 use crate::allowed;
@@ -40,15 +40,15 @@ pub fn judge_map_space(size: Size, depth: usize, space: usize) -> Result<Allowed
 
 // Whether a row of this many samples has this many pixels.
 pub fn has_pixels(kind: Kind, samples: usize, pixels: usize) -> bool
-    ensures { result ≡ eqb samples (pixels * channels_of kind) }
+    ensures { result ≡ eqb samples (pixels * pixel_bytes kind) }
 {
-    let n = pictures::channels(kind);
+    let n = pictures::pixel_bytes(kind);
     samples % n == 0 && samples / n == pixels
 }
 
 // Whether a space of this many bytes has room for this many pixels.
 pub fn holds_pixels(kind: Kind, bytes: usize, pixels: usize) -> bool
-    ensures { result ≡ leb (pixels * channels_of kind) bytes }
+    ensures { result ≡ leb (pixels * pixel_bytes kind) bytes }
 {
-    pixels <= bytes / pictures::channels(kind)
+    pixels <= bytes / pictures::pixel_bytes(kind)
 }

@@ -1,5 +1,5 @@
 -- How many bytes a row shows at a width.
-use mathlib.Core.Path.{◌≡◌, refl, ap, ◌∙◌}
+use mathlib.Core.Path.{◌≡◌, sym, ap, ◌∙◌}
 use mathlib.Core.Logic.{⊎_elim}
 use mathlib.Core.Bool.{Bool, true, false}
 use mathlib.Core.List.{List, [], ◌∷◌}
@@ -8,11 +8,13 @@ use native.Mathlib.Omega.{arith}
 use borrow.Author.Tests.{le-leb, lt-leb}
 use lib.ListN.{length}
 use Rattle.grids.specs.Each.{Each, none, more}
+use Rattle.grids.specs.Rows.{rows_of, flat}
 use Rattle.grids.proofs.Orders.{le-or-lt}
 use Rattle.grids.proofs.Rows.{length-rows_of, grid-rows_of, length-flat}
 use Rattle.seam_theory.specs.Paths.{cons_if}
 use Rattle.pictures.specs.declared.sizes.Kind.{Kind}
-use Rattle.pictures.specs.Pictures.{channels_of}
+use Rattle.pictures.specs.Pictures.{pixel_bytes, row_in}
+use Rattle.pictures.proofs.Samples.{pixel-plain, row-in-plain, row-out-plain}
 use Rattle.map_theory.specs.Widths.{doubled, keep_row, grow_last, grow_from, grow_row, row_at_width, average}
 use Rattle.map_theory.proofs.Widths.{at_narrow, at_wide}
 use Rattle.map_show.specs.Showing.{row_shown, pixels_at}
@@ -78,7 +80,10 @@ pub wide_is : (ch : ℕ) (wrap : Bool) (samples ys : List ℕ) (v : ℕ) → len
 unfolding shown grown row_at_width
 wide_is ch wrap samples ys v h = rw (lt-leb v (length ys) h)
 
--- And of a row of a kind.
-pub row_shown_is : (k : Kind) (wrap : Bool) (samples ys : List ℕ) (v : ℕ) → row_shown k wrap samples ys v ≡ shown (channels_of k) wrap samples ys v
+-- And of a row of a kind, whose samples are bytes.
+pub row_shown_is : (k : Kind) (wrap : Bool) (samples ys : List ℕ) (v : ℕ) → row_shown k wrap samples ys v ≡ shown (pixel_bytes k) wrap samples ys v
 unfolding row_shown shown
-row_shown_is k wrap samples ys v = refl
+row_shown_is k wrap samples ys v =
+    let m = length ys in
+    row-out-plain k (row_at_width average wrap m v (row_in k m samples) ys)
+    ∙ ap (λ xs. flat (row_at_width average wrap m v xs ys)) (row-in-plain k m samples ∙ ap (λ n. rows_of n m samples) (sym (pixel-plain k)))

@@ -1,7 +1,7 @@
 // A row of pixels kept or grown by the numbers of its row of the map.
 ghost use Rattle.std.specs.Prelude.{◌≡◌, ◌++◌, length, drop};
 ghost use Rattle.std.proofs.lemmas.List.Edits.{sets};
-ghost use Rattle.pictures.specs.Pictures.{channels_of};
+ghost use Rattle.pictures.specs.Pictures.{pixel_bytes};
 ghost use Rattle.map_theory.specs.Judged.{doubled_in};
 ghost use Rattle.map_show.specs.Showing.{pixels_at};
 ghost use Rattle.map_show.specs.Inner.Rows.{shown, kept_pixels, grown, last_pixels, RowNeeded, LastNeeded};
@@ -46,8 +46,8 @@ pub(crate) fn show(
     wanted: usize,
     out: &mut [u8],
 )
-    requires { RowNeeded (channels_of kind) samples.now numbers.now (shown (channels_of kind) wrap samples.now numbers.now wanted) out.old }
-    ensures { out.new ≡ shown (channels_of kind) wrap samples.now numbers.now wanted ++ drop (length (shown (channels_of kind) wrap samples.now numbers.now wanted)) out.old }
+    requires { RowNeeded (pixel_bytes kind) samples.now numbers.now (shown (pixel_bytes kind) wrap samples.now numbers.now wanted) out.old }
+    ensures { out.new ≡ shown (pixel_bytes kind) wrap samples.now numbers.now wanted ++ drop (length (shown (pixel_bytes kind) wrap samples.now numbers.now wanted)) out.old }
 {
     match kind {
         Kind::Grey => show_row::<1>(wrap, samples, numbers, wanted, out),

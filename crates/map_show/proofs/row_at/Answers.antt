@@ -8,7 +8,7 @@ use lib.Dec.{eqb, leb}
 use lib.ListN.{length}
 use Rattle.pictures.specs.declared.sizes.Kind.{Kind}
 use Rattle.pictures.specs.Refusals.{refusal}
-use Rattle.pictures.specs.Pictures.{channels_of}
+use Rattle.pictures.specs.Pictures.{pixel_bytes}
 use Rattle.map_show.specs.Showing.{pixels_at, row_at_rules}
 use Rattle.map_show.specs.Inner.Rows.{shown, RowNeeded}
 use Rattle.map_show.proofs.Lengths.{row_shown_is}
@@ -16,18 +16,18 @@ use Rattle.map_show.proofs.Judging.{refused-space, show-ready, nothing-refused, 
 use Rattle.map_show.proofs.row_at.Goals as goal
 
 -- Past the first test the samples are as many as the numbers say, and the second test says whether there is room.
-module _ (k : Kind) (wrap : Bool) (samples ys : List ℕ) (v : ℕ) (out : List ℕ) {whole fits : Bool} {pixels : ℕ} (whole_is : whole ≡ eqb (length samples) (length ys * channels_of k)) (yes : whole ≡ true)
-    (pixels_are : pixels ≡ pixels_at ys v) (fits_is : fits ≡ leb (pixels * channels_of k) (length out)) where
-  many : length samples ≡ length ys * channels_of k
+module _ (k : Kind) (wrap : Bool) (samples ys : List ℕ) (v : ℕ) (out : List ℕ) {whole fits : Bool} {pixels : ℕ} (whole_is : whole ≡ eqb (length samples) (length ys * pixel_bytes k)) (yes : whole ≡ true)
+    (pixels_are : pixels ≡ pixels_at ys v) (fits_is : fits ≡ leb (pixels * pixel_bytes k) (length out)) where
+  many : length samples ≡ length ys * pixel_bytes k
   many = eqb-true _ _ (sym whole_is ∙ yes)
 
   short : fits ≡ false → 8 ≡ refusal (row_at_rules k wrap samples ys v (length out))
   short e = refused-space k wrap samples ys v many out (rw pixels_are at (leb-false _ _ (sym fits_is ∙ e)))
 
-  room : fits ≡ true → pixels_at ys v * channels_of k ≤ length out
+  room : fits ≡ true → pixels_at ys v * pixel_bytes k ≤ length out
   room e = rw pixels_are at (leb-true _ _ (sym fits_is ∙ e))
 
-  ready : fits ≡ true → RowNeeded (channels_of k) samples ys (shown (channels_of k) wrap samples ys v) out
+  ready : fits ≡ true → RowNeeded (pixel_bytes k) samples ys (shown (pixel_bytes k) wrap samples ys v) out
   ready e = show-ready k wrap samples ys v many out (room e)
 
   none : fits ≡ true → 0 ≡ refusal (row_at_rules k wrap samples ys v (length out))
