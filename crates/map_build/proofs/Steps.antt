@@ -61,11 +61,11 @@ module _ (z : Size) (how : Method) (p : Picture) (o : OfSize z p) (t : ℕ) (dee
   abbrev m : List (List ℕ)
   m = map_of (seam_of how) t z.width z.height p
 
-  map_rows : Grid (2 * z.width) z.height (map pairs m)
-  map_rows = grid-pairs (map-grid (seam_of how) (seam_chooses how) t z.width z.height p (grid_of o) (omega (arith, deep)))
+  grid-m : Grid (2 * z.width) z.height (map pairs m)
+  grid-m = grid-pairs (map-grid (seam_of how) (seam_chooses how) t z.width z.height p (grid_of o) (omega (arith, deep)))
 
   map-long : length (pairs (flat m)) ≡ map_bytes z
-  map-long = ap length (pairs-flat m) ∙ length-flat map_rows ∙ map-rows z
+  map-long = ap length (pairs-flat m) ∙ length-flat grid-m ∙ map-rows z
 
   abbrev front : List ℕ
   front = with_zeros (map_at z) (bytes q)
@@ -123,7 +123,7 @@ module _ (z : Size) (how : Method) (p : Picture) (o : OfSize z p) (t : ℕ) (dee
     next_map : write_rows (suc t) z.width s (pairs (flat m)) ≡ pairs (flat (map_of (seam_of how) (suc t) z.width z.height p))
     next_map =
         let rows : rows_of (2 * z.width) (length s) (pairs (flat m)) ≡ map pairs m =
-        ap₂ (λ n b. rows_of (2 * z.width) n b) seam_long (pairs-flat m ∙ sym (append-nil (flat (map pairs m)))) ∙ rows_of-flat [] map_rows in
+        ap₂ (λ n b. rows_of (2 * z.width) n b) seam_long (pairs-flat m ∙ sym (append-nil (flat (map pairs m)))) ∙ rows_of-flat [] grid-m in
         ap (λ r. flat (zip_with (write_pair (low_byte (suc t)) (high_byte (suc t))) s r)) rows
         ∙ ap flat (write_all-pairs (suc t) s m ∙ ap (map pairs) (sym (map_next (seam_of how) (seam_chooses how) t z.width z.height p (grid_of o) deep)))
         ∙ sym (pairs-flat (map_of (seam_of how) (suc t) z.width z.height p))

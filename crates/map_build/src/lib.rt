@@ -12,9 +12,10 @@ use energy::Method;
 use map_rules::allowed;
 use pictures::{AllowedSize, LARGEST_SIDE, Refusal, Size};
 
-// The map of this depth of the picture at the front of the work space. In it stand the picture, then what building takes, from 28
-// bytes for each pixel on the map, two bytes for each pixel, and after it a recorded map, which keeps its bytes. The picture is left
-// without its first `depth` seams, packed at the front, and the bytes from there to the map are 0. Refused by 2, 3, 6 and 8.
+// The map of this depth of the picture at the front of the work space. In the space stand, one after the other: the picture and what
+// building takes, 28 bytes for each pixel; the map, two bytes for each pixel; and two bytes for each pixel that are left as they are,
+// where a recorded map may stand. The picture is left without its first `depth` seams, packed at the front, and from there to the
+// map every byte is 0. Refused by 2, 3, 6 and 8.
 pub fn map_in(space: &mut [u8], size: Size, method: Method, depth: usize) -> Result<(), Refusal>
     ensures { MapInGiven space.old size method depth result space.new }
 {

@@ -16,9 +16,9 @@ use map_rules::allowed;
 use pictures::{AllowedSize, Refusal, Size};
 use recorded::RecordedMap;
 
-// Judges the map recorded in the work space for the picture at its front. In it stand the picture, then what building the map takes,
-// and in the last two of the 32 bytes for each pixel the recorded map, two bytes a number, the low byte first. Refused by 2, 3, 6 and
-// 8; then by 9, 10 and 11. The space is all 0 after success and after 9, 10 and 11, else as it was.
+// Judges the map recorded in the work space for the picture at its front. In the space stand, one after the other: the picture and
+// what building its map takes, 30 bytes for each pixel, and the recorded map, two bytes a number, the low byte first. Refused by 2, 3,
+// 6 and 8; then by 9, 10 and 11. The space is all 0 after success and after 9, 10 and 11, else as it was.
 pub fn judge_in(space: &mut [u8], size: Size, method: Method, depth: usize) -> Result<(), Refusal>
     ensures { JudgeInGiven space.old size method depth result space.new }
 {
@@ -42,6 +42,7 @@ fn judge_rows(
         return Err(Refusal::MapRow);
     }
     map_build::map_in(space, allowed.size, method, depth).unwrap();
+    // shared whole, so that both maps can be lent from it
     let space: &[u8] = space;
     let built = &space[allowed::map_at(allowed)..allowed::recorded_at(allowed)];
     RecordedMap::new(space, allowed, depth).judge_beside(built)

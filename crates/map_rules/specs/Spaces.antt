@@ -8,8 +8,8 @@ use Rattle.pictures.specs.Pictures.{side_rules, pixels, work_bytes}
 abbrev pub map_bytes : Size → ℕ
 map_bytes z = 2 * pixels z
 
--- The maps take the last four of the 32 bytes for each pixel: first the one that is built, then the recorded one. What stands before
--- them is the picture and what building takes.
+-- The maps stand in the last four of the 32 bytes for each pixel: the one that is built, and after it the recorded one. The picture
+-- and what building takes stand before them.
 abbrev pub map_at : Size → ℕ
 map_at z = 28 * pixels z
 

@@ -1,5 +1,5 @@
 // The layout of a work space for a picture of an allowed size and its maps.
-ghost use Rattle.std.specs.Prelude.{◌≡◌, ◌≤◌};
+ghost use Rattle.std.specs.Prelude.{◌≡◌};
 ghost use Rattle.map_rules.specs.Spaces.{map_at, recorded_at};
 
 use pictures::AllowedSize;
