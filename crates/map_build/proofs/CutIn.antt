@@ -14,7 +14,7 @@ use Rattle.grids.specs.Cut.{cut}
 use Rattle.grids.proofs.Parts.{put_part}
 use Rattle.pictures.specs.declared.sizes.Size.{Size}
 use Rattle.pictures.specs.Refusals.{◌when◌, refusal}
-use Rattle.pictures.specs.Pictures.{channels_of, side_rules, picture_bytes, bytes, pixels, picture_in}
+use Rattle.pictures.specs.Pictures.{pixel_bytes, side_rules, picture_bytes, bytes, pixels, picture_in}
 use Rattle.pictures.proofs.Rules.{served-first}
 use Rattle.energy.specs.declared.methods.Method.{Method}
 use Rattle.seam_theory.specs.PictureSeams.{seam_of}
@@ -34,7 +34,7 @@ module _ (space : List ℕ) (z : Size) (how : Method) (seam : List ℕ) (answer 
       ∙ simp (le-ltb _ _ tall, le-ltb _ _ room))
       ∙ simp (ne_eqb z.width 1 last)
 
-  pub cut-space : space' ≡ (bytes (cut (seam_of how z.width z.height (picture_in z space)) (picture_in z space)) ++ replicate (z.height * channels_of z.kind) 0)
+  pub cut-space : space' ≡ (bytes z.kind (cut (seam_of how z.width z.height (picture_in z space)) (picture_in z space)) ++ replicate (z.height * pixel_bytes z.kind) 0)
       ++ (replicate (pixels z) 0 ++ drop (picture_bytes z + pixels z) space)
   cut-space = rw (g.number ∙ none) at g.space_left
 
@@ -43,7 +43,7 @@ module _ (space : List ℕ) (z : Size) (how : Method) (seam : List ℕ) (answer 
 
 -- The part that is cut and the part that is marked, put back.
 pub next_put : (z : Size) (how : Method) (w at number : ℕ) (space front seam new : List ℕ) → length front ≡ at
-    → front ≡ (bytes (cut (seam_of how z.width z.height (picture_in z (take at space))) (picture_in z (take at space))) ++ replicate (z.height * channels_of z.kind) 0)
+    → front ≡ (bytes z.kind (cut (seam_of how z.width z.height (picture_in z (take at space))) (picture_in z (take at space))) ++ replicate (z.height * pixel_bytes z.kind) 0)
     ++ (replicate (pixels z) 0 ++ drop (picture_bytes z + pixels z) (take at space))
     → seam ≡ seam_of how z.width z.height (picture_in z (take at space))
     → new ≡ write_rows number w seam (mid_of at (at + z.height * (2 * w) - at) (front ++ drop at space))

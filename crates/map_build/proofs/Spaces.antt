@@ -9,6 +9,7 @@ use lib.Seq.{length-take-le}
 use Rattle.grids.proofs.Parts.{put_part}
 use Rattle.pictures.specs.declared.sizes.Size.{Size}
 use Rattle.pictures.specs.Pictures.{picture_bytes, OfSize, picture_in, work_bytes}
+use Rattle.pictures.proofs.Samples.{AreBytes, take_bytes}
 use Rattle.pictures.proofs.Buffers.{picture-of_size}
 use Rattle.pictures.proofs.Limits.{sides_of}
 use Rattle.energy.specs.declared.methods.Method.{Method}
@@ -32,13 +33,13 @@ next_needed z depth space t at now a e r l = rw (a, e) record {
 }
 
 -- The space before the first seam, with the places as they are given out.
-pub first_there : (z : Size) (how : Method) (space cleared : List ℕ) (b end : ℕ) → b ≡ picture_bytes z → end ≡ recorded_at z → work_bytes z ≤ length space
+pub first_there : (z : Size) (how : Method) (space cleared : List ℕ) (b end : ℕ) → b ≡ picture_bytes z → end ≡ recorded_at z → work_bytes z ≤ length space → AreBytes space
     → cleared ≡ replicate (length (mid_of b (end - b) space)) 0 → put_mid b (end - b) space cleared ≡ mapped z how 0 (picture_in z space) ++ drop (recorded_at z) space
-first_there z how space cleared b end be ee room e =
+first_there z how space cleared b end be ee room small e =
     let front : length (take (picture_bytes z) space) ≡ picture_bytes z = length-take-le (picture_bytes z) space (omega (arith, picture_room z, room)) in
     let inside : end ≤ length space = omega (arith, ee, room) in
     let some : b ≤ end = omega (arith, be, ee, picture_room z) in
     put_part b end space cleared some
     ∙ ap (λ r. take b space ++ (r ++ drop end space)) (e ∙ ap (λ k. replicate k 0) (mid_len b end space inside))
     ∙ ap₂ (λ i k. take i space ++ (replicate (k - i) 0 ++ drop k space)) be ee
-    ∙ first-mapped z how (take (picture_bytes z) space) (drop (recorded_at z) space) front
+    ∙ first-mapped z how (take (picture_bytes z) space) (drop (recorded_at z) space) front (take_bytes (picture_bytes z) space small)

@@ -13,8 +13,9 @@ use Rattle.grids.specs.Cut.{cut}
 use Rattle.grids.proofs.Shapes.{each-length, grid_of}
 use Rattle.grids.proofs.Rows.{rows_of-flat, length-flat}
 use Rattle.pictures.specs.declared.sizes.Size.{Size}
-use Rattle.pictures.specs.Pictures.{Picture, channels_of, picture_bytes, picture, bytes, OfSize, pixels, picture_in}
+use Rattle.pictures.specs.Pictures.{Picture, pixel_bytes, picture_bytes, picture, bytes, OfSize, pixels, picture_in}
 use Rattle.pictures.specs.Numbers.{low_byte, high_byte, pairs}
+use Rattle.pictures.proofs.Samples.{AreBytes}
 use Rattle.pictures.proofs.Buffers.{picture-of_size, picture_bytes_lem, bytes-picture, length-bytes}
 use Rattle.pictures.proofs.TwoBytes.{pairs-flat, grid-pairs}
 use Rattle.map_theory.specs.Maps.{carve, map_of}
@@ -42,10 +43,10 @@ left-room z t =
     omega (arith, picture_room (left_size z t), few)
 
 -- What one seam frees.
-freed : (z : Size) (t : ℕ) → t < z.width → picture_bytes (left_size z (suc t)) + z.height * channels_of z.kind ≡ picture_bytes (left_size z t)
+freed : (z : Size) (t : ℕ) → t < z.width → picture_bytes (left_size z (suc t)) + z.height * pixel_bytes z.kind ≡ picture_bytes (left_size z t)
 freed z t l =
     let n : z.width - t ≡ suc (z.width - suc t) = omega arith in
-    rw (n, suc-mul) (sym (mul-add z.height ((z.width - suc t) * channels_of z.kind) (channels_of z.kind)))
+    rw (n, suc-mul) (sym (mul-add z.height ((z.width - suc t) * pixel_bytes z.kind) (pixel_bytes z.kind)))
 
 module _ (z : Size) (how : Method) (p : Picture) (o : OfSize z p) (t : ℕ) (deep : t < z.width) where
   -- What is left of the picture, and its map.
@@ -55,7 +56,7 @@ module _ (z : Size) (how : Method) (p : Picture) (o : OfSize z p) (t : ℕ) (dee
   q_of : OfSize (left_size z t) q
   q_of = carve-each (seam_of how) (seam_chooses how) t z.width z.height p deep o
 
-  long-bytes : length (bytes q) ≡ picture_bytes (left_size z t)
+  long-bytes : length (bytes z.kind q) ≡ picture_bytes (left_size z t)
   long-bytes = length-bytes (left_size z t) q q_of
 
   abbrev m : List (List ℕ)
@@ -68,10 +69,10 @@ module _ (z : Size) (how : Method) (p : Picture) (o : OfSize z p) (t : ℕ) (dee
   map-long = ap length (pairs-flat m) ∙ length-flat grid-m ∙ map-rows z
 
   abbrev front : List ℕ
-  front = with_zeros (map_at z) (bytes q)
+  front = with_zeros (map_at z) (bytes z.kind q)
 
   front_long : length front ≡ map_at z
-  front_long = length-with_zeros (map_at z) (bytes q) (omega (arith, long-bytes, left-room z t))
+  front_long = length-with_zeros (map_at z) (bytes z.kind q) (omega (arith, long-bytes, left-room z t))
 
   -- The front and the map, with what follows.
   module _ (rest : List ℕ) where
@@ -98,7 +99,7 @@ module _ (z : Size) (how : Method) (p : Picture) (o : OfSize z p) (t : ℕ) (dee
     picture_there : picture_in (left_size z t) (take (map_at z) whole) ≡ q
     picture_there =
         ap (picture_in (left_size z t)) take-front
-        ∙ ap (picture (left_size z t)) (take_at (bytes q) (replicate (map_at z - length (bytes q)) 0) (picture_bytes (left_size z t)) long-bytes)
+        ∙ ap (picture (left_size z t)) (take_at (bytes z.kind q) (replicate (map_at z - length (bytes z.kind q)) 0) (picture_bytes (left_size z t)) long-bytes)
         ∙ picture_bytes_lem (left_size z t) q q_of
 
     -- The seam cut next, and what it leaves.
@@ -109,14 +110,14 @@ module _ (z : Size) (how : Method) (p : Picture) (o : OfSize z p) (t : ℕ) (dee
     seam_long = each-length ((seam_chooses how).inside (z.width - t) z.height q (omega (arith, deep)) (grid_of q_of))
 
     next-front : suc t < z.width
-        → (bytes (cut s q) ++ replicate (z.height * channels_of z.kind) 0)
+        → (bytes z.kind (cut s q) ++ replicate (z.height * pixel_bytes z.kind) 0)
         ++ (replicate (pixels (left_size z t)) 0 ++ drop (picture_bytes (left_size z t) + pixels (left_size z t)) front)
-        ≡ with_zeros (map_at z) (bytes (carve (seam_of how) (suc t) z.width z.height p))
+        ≡ with_zeros (map_at z) (bytes z.kind (carve (seam_of how) (suc t) z.width z.height p))
     next-front more =
         let new = carve (seam_of how) (suc t) z.width z.height p in
         let new_of : OfSize (left_size z (suc t)) new = carve-each (seam_of how) (seam_chooses how) (suc t) z.width z.height p more o in
         rw (← long-bytes, ← carve-next (seam_of how) t z.width z.height p)
-        (with_zeros-over (map_at z) (z.height * channels_of z.kind) (pixels (left_size z t)) (bytes q) (bytes new)
+        (with_zeros-over (map_at z) (z.height * pixel_bytes z.kind) (pixels (left_size z t)) (bytes z.kind q) (bytes z.kind new)
         (omega (arith, length-bytes (left_size z (suc t)) new new_of, freed z t deep, long-bytes))
         (omega (arith, long-bytes, left-room z t)))
 
@@ -133,7 +134,7 @@ module _ (z : Size) (how : Method) (p : Picture) (o : OfSize z p) (t : ℕ) (dee
         rw (add-one t)
         ((rw (map-rows z, map-end z, picture_there, take-front, take-map, drop-map, add-one t) at g.space_left)
         ∙ ap₂ (λ a b. a ++ (b ++ rest)) (next-front more) next_map
-        ∙ sym (append_assoc (with_zeros (map_at z) (bytes (carve (seam_of how) (suc t) z.width z.height p))) (pairs (flat (map_of (seam_of how) (suc t) z.width z.height p))) rest))
+        ∙ sym (append_assoc (with_zeros (map_at z) (bytes z.kind (carve (seam_of how) (suc t) z.width z.height p))) (pairs (flat (map_of (seam_of how) (suc t) z.width z.height p))) rest))
 
     -- The same with the map's place and the space as they are given.
     pub next-mapped : suc t < z.width → (at : ℕ) (space space' : List ℕ) → at ≡ map_at z → space ≡ mapped z how t p ++ rest
@@ -141,9 +142,9 @@ module _ (z : Size) (how : Method) (p : Picture) (o : OfSize z p) (t : ℕ) (dee
     next-mapped more at space space' a e g = next-there more space' (rw (a, e) at g)
 
 -- The space before the first seam: the picture, and zeros up to the end of the map.
-pub first-mapped : (z : Size) (how : Method) (b rest : List ℕ) → length b ≡ picture_bytes z
+pub first-mapped : (z : Size) (how : Method) (b rest : List ℕ) → length b ≡ picture_bytes z → AreBytes b
     → b ++ (replicate (recorded_at z - picture_bytes z) 0 ++ rest) ≡ mapped z how 0 (picture z b) ++ rest
-first-mapped z how b rest e =
+first-mapped z how b rest e small =
     let gap : List ℕ = replicate (map_at z - length b) 0 in
     let none : List ℕ = replicate (map_bytes z) 0 in
     let n : map_at z - length b + map_bytes z ≡ recorded_at z - picture_bytes z = omega (arith, e, picture_room z) in
@@ -151,5 +152,5 @@ first-mapped z how b rest e =
     replicate-append-replicate (map_at z - length b) (map_bytes z) 0 ∙ ap (λ k. replicate k 0) n in
     let zeros : pairs (flat (map_of (seam_of how) 0 z.width z.height (picture z b))) ≡ none =
     map-zeros (grid_of (picture-of_size z b e)) ∙ ap (λ k. replicate k 0) (map-rows z) in
-    rw (← both, bytes-picture z b e, zeros)
+    rw (← both, bytes-picture z b e small, zeros)
     (ap (b ++◌) (append_assoc gap none rest) ∙ sym (append_assoc b gap (none ++ rest)) ∙ sym (append_assoc (b ++ gap) none rest))

@@ -18,7 +18,7 @@ with_zeros n x = x ++ replicate (n - length x) 0
 -- What stands before the recorded map where nothing is refused: the picture after k seams, zeros up to the map, and the map of that
 -- depth, row by row.
 abbrev pub mapped : Size → Method → ℕ → Picture → List ℕ
-mapped z how k p = with_zeros (map_at z) (bytes (carve (seam_of how) k z.width z.height p)) ++ pairs (flat (map_of (seam_of how) k z.width z.height p))
+mapped z how k p = with_zeros (map_at z) (bytes z.kind (carve (seam_of how) k z.width z.height p)) ++ pairs (flat (map_of (seam_of how) k z.width z.height p))
 
 -- The number, and the space; from the place of the recorded map on it is as it was.
 pub record MapInGiven (space : List ℕ) (z : Size) (how : Method) (depth : ℕ) (answer : Result (Unit {0}) Refusal) (space' : List ℕ) : Type 0 where

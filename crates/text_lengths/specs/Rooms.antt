@@ -1,9 +1,8 @@
 -- What is left of a room.
 use Rattle.std.specs.Prelude.{Option, None, Some, cond, List, [], ◌∷◌, ℕ, ◌-◌, ◌/◌, leb, ltb, length}
-use Rattle.grids.specs.Rows.{rows_of}
 use Rattle.pictures.specs.declared.sizes.Kind.{Kind}
 use Rattle.pictures.specs.Refusals.{Rule, ◌when◌}
-use Rattle.pictures.specs.Pictures.{channels_of}
+use Rattle.pictures.specs.Pictures.{pixel_bytes, row_in}
 use Rattle.text_lengths.specs.declared.Room.{Room}
 
 -- The room after a byte; none where nothing is left.
@@ -25,4 +24,4 @@ left_rules room n = 8 when ltb room n ∷ []
 
 -- The pixels of a row's bytes.
 abbrev pub pixels_of : Kind → List ℕ → List (List ℕ)
-pixels_of k b = rows_of (channels_of k) (length b / channels_of k) b
+pixels_of k b = row_in k (length b / pixel_bytes k) b

@@ -3,7 +3,7 @@ use Rattle.std.specs.Prelude.{◌≡◌, cond, List, [], ◌∷◌, ◌++◌, �
 use Rattle.std.proofs.Math.Option.{Option, none, some}
 use Rattle.pictures.specs.declared.sizes.Kind.{Kind}
 use Rattle.pictures.specs.declared.sizes.Kind.TheVariants.{Grey, Rgb}
-use Rattle.pictures.specs.Pictures.{Picture, channels_of}
+use Rattle.pictures.specs.Pictures.{Picture, channels_of, largest_sample}
 use Rattle.pictures.specs.Numbers.{largest_number}
 use Rattle.pictures.specs.declared.sizes.Size.{Size}
 use Rattle.energy.specs.declared.methods.EnergyRule.{EnergyRule}
@@ -112,8 +112,8 @@ three a xs = cond (eqb (length xs) 2) (give (a ∷ xs)) (λ s. none)
 
 -- A pixel: a sample, or three samples in brackets.
 unfoldable pub pixel_get : Kind → Get (List ℕ)
-pixel_get Grey = number_get 255 ▷ λ a. give (a ∷ [])
-pixel_get Rgb = after opening (number_get 255 ▷ λ a. items (number_get 255) ▷ λ xs. three a xs)
+pixel_get Grey = number_get (largest_sample Grey) ▷ λ a. give (a ∷ [])
+pixel_get Rgb = after opening (number_get (largest_sample Rgb) ▷ λ a. items (number_get (largest_sample Rgb)) ▷ λ xs. three a xs)
 
 unfoldable pub line : {A : Type 0} → Get A → Get (List A)
 line g = items g ▷ λ xs. after line_end (give xs)
@@ -164,7 +164,7 @@ All P (x ∷ xs) = P x × All P xs
 
 pub record Pixel (k : Kind) (px : List ℕ) : Type 0 where
   pub count : length px ≡ channels_of k
-  pub small : All (λ (a : ℕ). a ≤ 255) px
+  pub small : All (λ (a : ℕ). a ≤ largest_sample k) px
 
 pub record Numbers (h : Head) : Type 0 where
   pub width : h.size.width ≤ largest_number

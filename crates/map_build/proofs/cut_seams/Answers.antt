@@ -4,7 +4,8 @@ use mathlib.Core.List.{◌++◌}
 use Prim.Native.Nat.{◌-◌}
 use native.Mathlib.Omega.{arith}
 use borrow.Rule.Slice.PartMut.{same_len_mid}
-use lib.ListN.{length, drop}
+use lib.ListN.{length, get_or, drop}
+use Rattle.std.proofs.Common.{ℕ, rules, Fits, w8}
 use Rattle.pictures.specs.Pictures.{picture_in}
 use Rattle.map_rules.specs.Spaces.{recorded_at}
 use Rattle.map_rules.proofs.Rooms.{Room, room_is}
@@ -20,9 +21,11 @@ room c = room_is _ _ _ c.requires.served
 pub loop-t-init : goal.loop-t-init
 loop-t-init c =
     let a = c.args in
-    let b = c.picture_bytes-bytes.result in (
+    let b = c.picture_bytes-bytes.result in
+    let fits : (i : ℕ) → Fits w8 (get_or a.space.now i 0) = search rules in (
       same_len_mid b (c.recorded_at-end.result - b) a.space.now c.clear.new.space c.clear.auto.space,
-      first_there a.allowed.size a.method a.space.now c.clear.new.space _ _ c.picture_bytes-bytes.ensures.0 c.recorded_at-end.ensures (room (goal.at.loop-t-init c).After-clear).long c.clear.ensures,
+      first_there a.allowed.size a.method a.space.now c.clear.new.space _ _ c.picture_bytes-bytes.ensures.0 c.recorded_at-end.ensures (room (goal.at.loop-t-init c).After-clear).long (λ i. omega (arith, fits i))
+      c.clear.ensures,
     )
 
 pub next_seam-requires : goal.next_seam-requires

@@ -11,7 +11,7 @@ use Rattle.grids.specs.Cut.{cut}
 use Rattle.grids.proofs.Shapes.{each-length}
 use Rattle.grids.proofs.Rows.{part_end}
 use Rattle.pictures.specs.declared.sizes.Size.{Size}
-use Rattle.pictures.specs.Pictures.{largest_side, channels_of, picture_bytes, bytes, pixels, picture_in}
+use Rattle.pictures.specs.Pictures.{largest_side, pixel_bytes, picture_bytes, bytes, pixels, picture_in}
 use Rattle.pictures.proofs.Limits.{sides_are}
 use Rattle.energy.specs.declared.methods.Method.{Method}
 use Rattle.seam_theory.specs.PictureSeams.{seam_of}
@@ -33,7 +33,7 @@ module _ (z : Size) (how : Method) (w at : ℕ) (space : List ℕ) (needed : Nex
 
   -- What the cut leaves, and its seam.
   module _ (answer : Result ℕ Refusal) (front seam : List ℕ) (g : CutInGiven (take at space) z how (replicate largest_side 0) answer front seam) where
-    found-space : front ≡ (bytes (cut (seam_of how z.width z.height (picture_in z (take at space))) (picture_in z (take at space))) ++ replicate (z.height * channels_of z.kind) 0)
+    found-space : front ≡ (bytes z.kind (cut (seam_of how z.width z.height (picture_in z (take at space))) (picture_in z (take at space))) ++ replicate (z.height * pixel_bytes z.kind) 0)
         ++ (replicate (pixels z) 0 ++ drop (picture_bytes z + pixels z) (take at space))
     found-space =
         cut-space (take at space) z how (replicate largest_side 0) answer front seam g needed.sides

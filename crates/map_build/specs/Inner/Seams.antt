@@ -3,7 +3,7 @@ use Rattle.std.specs.Prelude.{◌≡◌, List, ◌++◌, ℕ, ◌+◌, ◌*◌, 
 use Rattle.grids.specs.Cut.{cut}
 use Rattle.pictures.specs.declared.sizes.Size.{Size}
 use Rattle.pictures.specs.Refusals.{refusal}
-use Rattle.pictures.specs.Pictures.{channels_of, side_rules, picture_bytes, bytes, pixels, picture_in}
+use Rattle.pictures.specs.Pictures.{pixel_bytes, side_rules, picture_bytes, bytes, pixels, picture_in}
 use Rattle.energy.specs.declared.methods.Method.{Method}
 use Rattle.seam_theory.specs.PictureSeams.{seam_of}
 use Rattle.map_rules.specs.Spaces.{recorded_at, map_space_rules}
@@ -21,8 +21,8 @@ pub record NextNeeded (z : Size) (w at space : ℕ) : Type 0 where
 -- The picture without its seam, and the map with the number written where the seam counts out; the rest as it was.
 pub record NextGiven (z : Size) (how : Method) (w at number : ℕ) (space space' : List ℕ) : Type 0 where
   pub space_left :
-      space' ≡ ((bytes (cut (seam_of how z.width z.height (picture_in z (take at space))) (picture_in z (take at space)))
-      ++ replicate (z.height * channels_of z.kind) 0)
+      space' ≡ ((bytes z.kind (cut (seam_of how z.width z.height (picture_in z (take at space))) (picture_in z (take at space)))
+      ++ replicate (z.height * pixel_bytes z.kind) 0)
       ++ (replicate (pixels z) 0 ++ drop (picture_bytes z + pixels z) (take at space)))
       ++ (write_rows number w (seam_of how z.width z.height (picture_in z (take at space))) (take (z.height * (2 * w)) (drop at space))
       ++ drop (at + z.height * (2 * w)) space)
