@@ -7,7 +7,7 @@ use Rattle.pictures.specs.Pictures.{bytes}
 use Rattle.map_show.specs.Showing.{row_shown, row_at_rules}
 use Rattle.text_theory.specs.Files.{parse}
 use Rattle.file_theory.specs.Rules.{check_rules, read_rules, show_rules, build_rules}
-use Rattle.file_theory.specs.Shows.{head_in, rows_in, maps_in, shows, drawn_size, drawn_bytes}
+use Rattle.file_theory.specs.Shows.{bytes_in, head_in, rows_in, maps_in, shows, drawn_size, drawn_bytes}
 use Rattle.file_build.specs.Building.{file_in}
 use Rattle.export_answers.specs.declared.answers.Answer.{Answer}
 use Rattle.export_answers.specs.declared.names.HostSize.{HostSize}
@@ -47,7 +47,7 @@ pub record HostReadGiven (file picture map work : List ℕ) (a : FileAnswer) (pi
   pub head : a ≡ headed a.number (served a.number (head_in (parse file)) none)
   pub picture_given :
       picture' ≡ served a.number
-      (bytes (rows_in (parse file)) ++ drop (length (bytes (rows_in (parse file)))) picture)
+      (bytes_in (parse file) ++ drop (length (bytes_in (parse file))) picture)
       picture
   pub map_given : map' ≡ served a.number (flat (maps_in (parse file)) ++ drop (length (flat (maps_in (parse file)))) map) map
   pub work_left : work' ≡ worked a.number (replicate (length work) 0) work

@@ -22,7 +22,7 @@ pub record HostRetargetGiven (b : List ℕ) (size : HostSize) (method : HostMeth
   pub out_given :
       out' ≡ both (carving_of size method)
       (λ z how. served a.number
-      (bytes (cell_of how z b (row_count rows) (column_count columns)).picture
+      (bytes z.kind (cell_of how z b (row_count rows) (column_count columns)).picture
       ++ drop (picture_bytes (left_size z (row_count rows) (column_count columns))) out)
       out)
       out

@@ -5,15 +5,15 @@ use Prim.Native.Nat.{ℕ, ◌+◌, ◌/◌, ◌<◌}
 use native.Mathlib.Nat.{mul-div_cancel}
 use native.Mathlib.Omega.{arith}
 use lib.ListN.{length, get_or, length-append}
-use Rattle.grids.specs.Rows.{rows_of, row_at}
-use Rattle.grids.proofs.Shapes.{get_or-map, each-length}
-use Rattle.grids.proofs.Rows.{length-rows_of, rows_of_at, length-row_at}
+use Rattle.grids.specs.Rows.{row_at}
+use Rattle.grids.proofs.Shapes.{each-length}
+use Rattle.grids.proofs.Rows.{length-row_at}
 use Rattle.pictures.specs.declared.sizes.Kind.{Kind}
 use Rattle.pictures.specs.declared.sizes.Size.{Size}
 use Rattle.pictures.specs.Refusals.{refusal}
-use Rattle.pictures.specs.Pictures.{channels_of, row_bytes, size_rules, picture, row_of, OfSize}
+use Rattle.pictures.specs.Pictures.{pixel_bytes, row_bytes, size_rules, row_in, picture, row_of, OfSize}
 use Rattle.pictures.proofs.Limits.{sized_is}
-use Rattle.pictures.proofs.Buffers.{picture-of_size, row_is}
+use Rattle.pictures.proofs.Buffers.{picture-of_size, picture-row, row_is}
 use Rattle.text_theory.specs.Files.{row_lines, row_word, pixel_text, line_text, row_text}
 use Rattle.text_theory.specs.Lengths.{total, row_length}
 use Rattle.text_theory.proofs.Lengths.{Counted, each-length as each_long, row_length_lem}
@@ -35,18 +35,12 @@ module _ (z : Size) (b : List ℕ) (sized : refusal (size_rules z (length b)) �
   module _ {r : ℕ} (inside : r < z.height) where
     -- The pixels of a row's bytes are that row of the picture.
     pub row-pixels : pixels_of z.kind (row_of z b r) ≡ get_or (picture z b) r []
-    unfolding picture
     row-pixels =
         let s = sized_is z (length b) sized in
-        let ch = channels_of z.kind in
         let row : List ℕ = row_at (row_bytes z) r b in
         let long : length (row_at (row_bytes z) r b) ≡ row_bytes z = length-row_at (row_bytes z) z.height b r (omega (arith, s.length_is)) inside in
-        let many : length (row_at (row_bytes z) r b) / channels_of z.kind ≡ z.width = ap (◌/ ch) long ∙ mul-div_cancel z.width s.channels_some in
-        let below : r < length (rows_of (row_bytes z) z.height b) = rw (length-rows_of (row_bytes z) z.height b) inside in
-        ap (pixels_of z.kind) (row_is z b r sized inside)
-        ∙ ap (λ n. rows_of ch n row) many
-        ∙ ap (rows_of ch z.width) (sym (rows_of_at (row_bytes z) z.height b r inside))
-        ∙ sym (get_or-map (rows_of ch z.width) (rows_of (row_bytes z) z.height b) r [] [] below)
+        let many : length (row_at (row_bytes z) r b) / pixel_bytes z.kind ≡ z.width = ap (◌/ pixel_bytes z.kind) long ∙ mul-div_cancel z.width s.pixel_some in
+        ap (pixels_of z.kind) (row_is z b r sized inside) ∙ ap (λ n. row_in z.kind n row) many ∙ sym (picture-row z b r inside)
 
     -- Its line.
     module _ {row : List ℕ} (is : row ≡ row_of z b r) where

@@ -8,7 +8,7 @@ use lib.Dec.{ltb}
 use borrow.Author.Tests.{ltb-false, not-false}
 use Rattle.pictures.specs.declared.sizes.Size.{Size}
 use Rattle.pictures.specs.Refusals.{refusal}
-use Rattle.pictures.specs.Pictures.{channels_of, picture_bytes, pixels}
+use Rattle.pictures.specs.Pictures.{pixel_bytes, picture_bytes, pixels}
 use Rattle.pictures.proofs.Rules.{passed}
 use Rattle.pictures.proofs.Limits.{bytes-few}
 use Rattle.map_theory.specs.Widths.{offered}
@@ -27,12 +27,12 @@ sound k = record { sides = k.sides_served; range = k.range }
 pub record Roomy (h : Head) (v out work : ℕ) : Type 0 where
   pub offers : offered h.size.width h.depth h.growth v ≡ true
   pub bounds : Bounded h v
-  pub out_room : h.size.height * (v * channels_of h.size.kind) ≤ out
+  pub out_room : h.size.height * (v * pixel_bytes h.size.kind) ≤ out
   pub work_room : 32 * pixels h.size ≤ work
 
 pub roomy : (h : Head) (v out work : ℕ) → Sound h → refusal (offer_rules h v out work) ≡ 0 → Roomy h v out work
 roomy h v out work s e =
-    let shown = h.size.height * (v * channels_of h.size.kind) in
+    let shown = h.size.height * (v * pixel_bytes h.size.kind) in
     let o = offered h.size.width h.depth h.growth v in
     let a = passed (not o) 6 (cond (ltb out shown) 8 (cond (ltb work (32 * pixels h.size)) 8 0)) e in
     let b = passed (ltb out shown) 7 (cond (ltb work (32 * pixels h.size)) 8 0) a.1 in

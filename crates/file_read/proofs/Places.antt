@@ -11,8 +11,9 @@ use lib.Seq.{drop-cons, take_at}
 use Rattle.grids.specs.Rows.{flat, row_at}
 use Rattle.grids.proofs.Rows.{flat_at, length-flat}
 use Rattle.grids.proofs.Shapes.{each-length, each_at, get_or-map}
-use Rattle.pictures.specs.Pictures.{row_bytes, picture_bytes, bytes, pixels}
-use Rattle.pictures.proofs.Buffers.{flats_grid, length-bytes}
+use Rattle.pictures.specs.Pictures.{row_bytes, picture_bytes, row_out, bytes, pixels}
+use Rattle.pictures.proofs.Samples.{row-out-plain}
+use Rattle.pictures.proofs.Buffers.{bytes-row, length-bytes}
 use Rattle.pictures.specs.Numbers.{largest_number, pairs}
 use Rattle.map_rules.specs.Spaces.{map_bytes}
 use Rattle.map_rules.proofs.Rooms.{map-rows}
@@ -24,7 +25,7 @@ use Rattle.std.specs.Prelude as code
 use Rattle.text_read.specs.Answers.{read}
 use Rattle.text_read.specs.Lines.{row_line, map_line, Taken}
 use Rattle.text_read.proofs.Callers.{LineMet, rows_next, maps-next, taken_row, taken_map}
-use Rattle.file_theory.specs.Shows.{rows_in, maps_in}
+use Rattle.file_theory.specs.Shows.{rows_in, bytes_in, maps_in}
 use Rattle.file_read.specs.Inner.Opening.{Open, maps_from, rows_from}
 use Rattle.file_read.specs.Inner.Lines.{MapRead}
 use Rattle.file_read.proofs.Parsed.{Parsed, opened}
@@ -45,6 +46,10 @@ module _ {text : List ℕ} {at : ℕ} {values rest out : List ℕ} {out' : List 
   met_filled r e m = m.space ∙ ap (values ++◌) (drop_of_length-le out {i = length values} (omega arith)) ∙ append-nil values
 
 module _ {file : List ℕ} {h : Head} (k : Parsed file h) where
+  -- The bytes of its picture are of its kind.
+  pub bytes-are : bytes_in (parse file) ≡ bytes h.size.kind (rows_in (parse file))
+  bytes-are = ap bytes_in k.parsed
+
   -- After the last row line stand the map lines.
   pub rows_end : (at : ℕ) → drop at file ≡ rows_from h.size.kind (parse file) h.size.height → drop at file ≡ maps_from (parse file) 0
   unfolding each
@@ -72,11 +77,12 @@ module _ {file : List ℕ} {h : Head} (k : Parsed file h) where
         (all_at (All (λ (v : ℕ). v ≤ largest_number)) maps r [] k.within.maps there)
         (omega (arith, each_at r [] inside k.maps_grid))
 
-    -- Row r of the picture's bytes, of the map, and of the map's bytes.
-    pub row-of-bytes : row_at (row_bytes h.size) r (bytes (rows_in (parse file))) ≡ flat (get_or (rows_in (parse file)) r [])
-    unfolding bytes
-    row-of-bytes =
-        flat_at (flats_grid k.of_size) r inside ∙ get_or-map flat (rows_in (parse file)) r [] [] (omega (arith, each-length k.of_size))
+    -- Row r of the picture's bytes, which are its samples, of the map, and of the map's bytes.
+    pub row-of-bytes : row_at (row_bytes h.size) r (bytes_in (parse file)) ≡ row_out h.size.kind (get_or (rows_in (parse file)) r [])
+    row-of-bytes = ap (row_at (row_bytes h.size) r) bytes-are ∙ bytes-row h.size.kind k.of_size r inside
+
+    pub row-of-samples : row_at (row_bytes h.size) r (bytes_in (parse file)) ≡ flat (get_or (rows_in (parse file)) r [])
+    row-of-samples = row-of-bytes ∙ row-out-plain h.size.kind (get_or (rows_in (parse file)) r [])
 
     pub row-of-map : row_at h.size.width r (flat (maps_in (parse file))) ≡ get_or (maps_in (parse file)) r []
     row-of-map = flat_at k.maps_grid r inside
@@ -87,8 +93,8 @@ module _ {file : List ℕ} {h : Head} (k : Parsed file h) where
         ∙ flat_at (grid-pairs k.maps_grid) r inside ∙ get_or-map pairs (maps_in (parse file)) r [] [] (omega (arith, each-length k.maps_grid))
 
   -- How many values they have.
-  pub bytes-long : length (bytes (rows_in (parse file))) ≡ picture_bytes h.size
-  bytes-long = length-bytes h.size (rows_in (parse file)) k.of_size
+  pub bytes-long : length (bytes_in (parse file)) ≡ picture_bytes h.size
+  bytes-long = ap length bytes-are ∙ length-bytes h.size (rows_in (parse file)) k.of_size
 
   pub map-long : length (flat (maps_in (parse file))) ≡ pixels h.size
   map-long = length-flat k.maps_grid

@@ -4,15 +4,13 @@ use mathlib.Core.Bool.{true}
 use mathlib.Core.Option.{some}
 use mathlib.Core.List.{List, []}
 use Prim.Native.Nat.{ℕ, ◌*◌, ◌<◌}
-use native.Mathlib.Omega.{arith}
 use lib.ListN.{get_or}
 use Rattle.grids.specs.Each.{Grid}
 use Rattle.grids.specs.Rows.{flat, row_at}
 use Rattle.pictures.specs.Refusals.{refusal}
 use Rattle.grids.proofs.Rows.{flat_at}
-use Rattle.grids.proofs.Shapes.{each-length, get_or-map}
-use Rattle.pictures.specs.Pictures.{channels_of, row_bytes, bytes, OfSize}
-use Rattle.pictures.proofs.Buffers.{flats_grid}
+use Rattle.pictures.specs.Pictures.{pixel_bytes, row_bytes, row_out, bytes, OfSize}
+use Rattle.pictures.proofs.Buffers.{bytes-row}
 use Rattle.energy.specs.Methods.{wrap_of}
 use Rattle.text_theory.specs.Files.{Parts, parse}
 use Rattle.map_show.specs.Showing.{row_shown}
@@ -32,7 +30,7 @@ module _ (f : List ℕ) (p : Parts) (a : Accepted f) (e : parse f ≡ some p) wh
   judged-parts = ap (λ q. refusal (judged_in q)) e ∙ accepted-judged f p e a
 
   pub read-shown : (v : ℕ) → offers f v ≡ true → (r : ℕ) → r < p.head.size.height
-      → row_shown p.head.size.kind (wrap_of p.head.method) (flat (get_or p.rows r [])) (get_or p.maps r []) v ≡ row_at (v * channels_of p.head.size.kind) r (drawn_bytes (shows f v))
+      → row_shown p.head.size.kind (wrap_of p.head.method) (row_out p.head.size.kind (get_or p.rows r [])) (get_or p.maps r []) v ≡ row_at (v * pixel_bytes p.head.size.kind) r (drawn_bytes (shows f v))
   unfolding offers
   read-shown v o r l =
       rw e at (drawn-row (opened f p.head open_parts) v judged-parts (sym (ap (λ q. offers_in q v) e) ∙ o) r l)
@@ -43,8 +41,7 @@ module _ (f : List ℕ) (p : Parts) (a : Accepted f) (e : parse f ≡ some p) wh
   -- The same of the buffers that reading fills: row r of the picture's bytes and row r of the map's numbers.
   pub buffers_shown : (v : ℕ) → offers f v ≡ true → (r : ℕ) → r < p.head.size.height
       → let z = p.head.size in
-      row_shown z.kind (wrap_of p.head.method) (row_at (row_bytes z) r (bytes p.rows)) (row_at z.width r (flat p.maps)) v ≡ row_at (v * channels_of z.kind) r (drawn_bytes (shows f v))
-  unfolding bytes
+      row_shown z.kind (wrap_of p.head.method) (row_at (row_bytes z) r (bytes z.kind p.rows)) (row_at z.width r (flat p.maps)) v ≡ row_at (v * pixel_bytes z.kind) r (drawn_bytes (shows f v))
   buffers_shown v o r l = ap₂ (λ x y. row_shown p.head.size.kind (wrap_of p.head.method) x y v) row_is (flat_at maps r l) ∙ read-shown v o r l
     where
       maps : Grid p.head.size.width p.head.size.height p.maps
@@ -53,5 +50,5 @@ module _ (f : List ℕ) (p : Parts) (a : Accepted f) (e : parse f ≡ some p) wh
       rows : OfSize p.head.size p.rows
       rows = rw e at known.of_size
 
-      row_is : row_at (row_bytes p.head.size) r (bytes p.rows) ≡ flat (get_or p.rows r [])
-      row_is = flat_at (flats_grid rows) r l ∙ get_or-map flat p.rows r [] [] (omega (arith, each-length rows))
+      row_is : row_at (row_bytes p.head.size) r (bytes p.head.size.kind p.rows) ≡ row_out p.head.size.kind (get_or p.rows r [])
+      row_is = bytes-row p.head.size.kind rows r l

@@ -27,10 +27,10 @@ use Rattle.map_check.specs.Checking.{recorded_in, recorded_rules, JudgeInGiven}
 use Rattle.map_check.proofs.Answers.{worked-judged}
 use Rattle.text_theory.specs.declared.Head.{Head}
 use Rattle.text_theory.specs.Files.{parse}
-use Rattle.file_theory.specs.Shows.{rows_in, maps_in}
+use Rattle.file_theory.specs.Shows.{rows_in, bytes_in, maps_in}
 use Rattle.file_read.specs.Inner.Checking.{judged_in, MapJudged}
 use Rattle.file_read.proofs.Parsed.{Parsed}
-use Rattle.file_read.proofs.Places.{pairs-long}
+use Rattle.file_read.proofs.Places.{bytes-are, pairs-long}
 
 module _ (file : List ℕ) (h : Head) (k : Parsed file h) (work : List ℕ) (room : work_bytes h.size ≤ length work) where
   deep : h.depth < h.size.width
@@ -42,7 +42,7 @@ module _ (file : List ℕ) (h : Head) (k : Parsed file h) (work : List ℕ) (roo
   none-refused n e = room-served h.size h.depth n k.sides_served deep (omega (arith, e, room))
 
   -- The picture at the front, and the recorded map in its part of the space.
-  module _ (first : List ℕ) (as_long : length first ≡ length work) (is : first ≡ bytes (rows_in (parse file)) ++ drop (picture_bytes h.size) work)
+  module _ (first : List ℕ) (as_long : length first ≡ length work) (is : first ≡ bytes_in (parse file) ++ drop (picture_bytes h.size) work)
       (at e : ℕ) (starts : at ≡ recorded_at h.size) (ends : e ≡ work_bytes h.size)
       (new : List ℕ) (kept : length new ≡ length (mid_of at (e - at) first)) (recorded : new ≡ pairs (flat (maps_in (parse file))) ++ drop (length (pairs (flat (maps_in (parse file))))) (mid_of at (e - at) first)) where
     abbrev whole : List ℕ
@@ -71,7 +71,7 @@ module _ (file : List ℕ) (h : Head) (k : Parsed file h) (work : List ℕ) (roo
         let p = rows_in (parse file) in
         ap (picture h.size)
         (ap (take n) whole_is ∙ take-append-le n (take at first) (new ++ drop e first) (omega (arith, front, starts, picture_room h.size)) ∙ take-take n at first (omega (arith, starts, picture_room h.size))
-        ∙ ap (take n) is ∙ take_at (bytes p) (drop n work) n (length-bytes h.size p k.of_size))
+        ∙ ap (take n) (is ∙ ap (◌++ drop n work) (bytes-are k)) ∙ take_at (bytes h.size.kind p) (drop n work) n (length-bytes h.size p k.of_size))
         ∙ picture_bytes_lem h.size p k.of_size
 
     maps-there : recorded_in h.size whole ≡ maps_in (parse file)

@@ -5,11 +5,10 @@ use Rattle.grids.specs.Rows.{flat}
 use Rattle.pictures.specs.declared.refusals.Refusal.{Refusal}
 use Rattle.pictures.specs.declared.sizes.Size.{Size}
 use Rattle.pictures.specs.Refusals.{given, refusal, served, worked}
-use Rattle.pictures.specs.Pictures.{bytes}
 use Rattle.text_theory.specs.declared.Head.{Head}
 use Rattle.text_theory.specs.Files.{parse}
 use Rattle.file_theory.specs.Rules.{check_rules, read_rules, show_rules}
-use Rattle.file_theory.specs.Shows.{head_in, rows_in, maps_in, shows, drawn_size, drawn_bytes}
+use Rattle.file_theory.specs.Shows.{bytes_in, head_in, maps_in, shows, drawn_size, drawn_bytes}
 use Rattle.file_rules.specs.Answers.{answer_of}
 
 -- The number; size, method and range, or "the number alone"; the work space.
@@ -24,7 +23,7 @@ pub record ReadGiven (file picture map work : List ℕ) (answer : Result Head Re
   pub head : answer_of answer ≡ served (given answer) (head_in (parse file)) none
   pub picture_given :
       picture' ≡ served (given answer)
-      (bytes (rows_in (parse file)) ++ drop (length (bytes (rows_in (parse file)))) picture)
+      (bytes_in (parse file) ++ drop (length (bytes_in (parse file))) picture)
       picture
   pub map_given :
       map' ≡ served (given answer)

@@ -4,12 +4,12 @@ ghost use Rattle.grids.specs.Rows.{flat, row_at};
 ghost use Rattle.pictures.specs.Numbers.{pairs};
 ghost use Rattle.pictures.specs.Pictures.{bytes, row_bytes, picture_bytes};
 ghost use Rattle.text_theory.specs.Files.{parse};
-ghost use Rattle.file_theory.specs.Shows.{rows_in, maps_in};
+ghost use Rattle.file_theory.specs.Shows.{bytes_in, rows_in, maps_in};
 ghost use Rattle.file_read.specs.Inner.Opening.{rows_from, maps_from};
 ghost use Rattle.file_read.specs.Inner.Lines.{AtMap, ReadsMap, PictureRead};
 
 use crate::opening::Opened;
-use pictures::{LARGEST_SIDE, channels};
+use pictures::{LARGEST_SIDE, pixel_bytes};
 use text_read::Cursor;
 
 // Lines that follow one another, one for each row of the picture. Line r fills part r of a space.
@@ -95,14 +95,14 @@ impl<'a> Lines<u8> for RowLines<'a> {
 
     ghost long = { λ s. row_bytes s.0.head.size };
 
-    ghost whole = { λ s. bytes (rows_in (parse s.0.text.now)) };
+    ghost whole = { λ s. bytes_in (parse s.0.text.now) };
 
     fn count(&self) -> usize {
         self.0.head.size.height
     }
 
     fn long(&self) -> usize {
-        self.0.head.size.width * channels(self.0.head.size.kind)
+        self.0.head.size.width * pixel_bytes(self.0.head.size.kind)
     }
 
     fn part(&self, _r: usize, at: Cursor, part: &mut [u8]) -> Cursor {

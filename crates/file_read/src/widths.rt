@@ -1,6 +1,6 @@
 // A file shown at a width.
 ghost use Rattle.std.specs.Prelude.{◌*◌, ℕ, length};
-ghost use Rattle.pictures.specs.Pictures.{channels_of};
+ghost use Rattle.pictures.specs.Pictures.{pixel_bytes};
 ghost use Rattle.text_theory.specs.Files.{parse};
 ghost use Rattle.file_theory.specs.Shows.{shows, drawn_bytes};
 ghost use Rattle.file_read.specs.Reading.{ShowGiven};
@@ -10,7 +10,7 @@ ghost use Rattle.file_read.specs.Inner.Widths.{DrawNeeded, DrawGiven, Showing};
 use crate::lines;
 use crate::lines::Lines;
 use crate::opening::Opened;
-use pictures::{LARGEST_SIDE, Refusal, Size, channels};
+use pictures::{LARGEST_SIDE, Refusal, Size, pixel_bytes};
 use text_read::Cursor;
 
 // The picture that a file shows at the wanted width, put into the front of out, and its size. Refused by what checking
@@ -59,7 +59,7 @@ impl<'a> Lines<u8> for ShownLines<'a> {
 
     ghost count = { λ s. s.file.head.size.height };
 
-    ghost long = { λ s. s.wanted * channels_of s.file.head.size.kind };
+    ghost long = { λ s. s.wanted * pixel_bytes s.file.head.size.kind };
 
     ghost whole = { λ s. drawn_bytes (shows s.file.text.now s.wanted) };
 
@@ -68,7 +68,7 @@ impl<'a> Lines<u8> for ShownLines<'a> {
     }
 
     fn long(&self) -> usize {
-        self.wanted * channels(self.file.head.size.kind)
+        self.wanted * pixel_bytes(self.file.head.size.kind)
     }
 
     fn part(&self, r: usize, at: Cursor, part: &mut [u8]) -> Cursor {
@@ -76,7 +76,7 @@ impl<'a> Lines<u8> for ShownLines<'a> {
         // on the stack, with as many places as the widest row has: nothing is allocated
         let mut numbers = [0u16; LARGEST_SIDE];
         let next = self.file.map_line(at, &mut numbers[..size.width]);
-        let stride = size.width * channels(size.kind);
+        let stride = size.width * pixel_bytes(size.kind);
         let a = r * stride;
         let row = &self.space[a..a + stride];
         // no method joins the last column to the first yet

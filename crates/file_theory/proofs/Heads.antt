@@ -7,7 +7,7 @@ use native.Mathlib.Nat.{div-add-mod'}
 use native.Mathlib.Omega.{arith}
 use lib.ListN.{length}
 use Rattle.pictures.specs.declared.sizes.Kind.{Kind}
-use Rattle.pictures.specs.Pictures.{channels_of}
+use Rattle.pictures.specs.Pictures.{channels_of, largest_sample}
 use Rattle.seam_theory.specs.Choices.{Chooses}
 use Rattle.seam_theory.proofs.Choosing.{seam_chooses}
 use Rattle.map_theory.specs.Widths.{middle, average}
@@ -27,14 +27,14 @@ average-length n (a ∷ p) [] e f = f
 average-length zero (a ∷ p) (b ∷ q) e f = absurd (omega arith)
 average-length (suc n) (a ∷ p) (b ∷ q) e f = ap suc (average-length n p q (omega arith) (omega arith))
 
-average_small : (p q : List ℕ) → All (λ (a : ℕ). a ≤ 255) p → All (λ (a : ℕ). a ≤ 255) q → All (λ (a : ℕ). a ≤ 255) (average p q)
+average_small : (m : ℕ) (p q : List ℕ) → All (λ (a : ℕ). a ≤ m) p → All (λ (a : ℕ). a ≤ m) q → All (λ (a : ℕ). a ≤ m) (average p q)
 unfolding middle average zip_with
-average_small [] q h k = tt
-average_small (a ∷ p) [] h k = tt
-average_small (a ∷ p) (b ∷ q) h k =
+average_small m [] q h k = tt
+average_small m (a ∷ p) [] h k = tt
+average_small m (a ∷ p) (b ∷ q) h k =
     let x = h.0 in
     let y = k.0 in
-    (omega (arith, x, y, div-add-mod' (a + b) 2), average_small p q h.1 k.1)
+    (omega (arith, x, y, div-add-mod' (a + b) 2), average_small m p q h.1 k.1)
 
 pub mean-pixel : (h : Head) (k : Kind) (p q : List ℕ) → Pixel k p → Pixel k q → Pixel k (mean_of h p q)
-mean-pixel h k p q a b = record { count = average-length (channels_of k) p q a.count b.count; small = average_small p q a.small b.small }
+mean-pixel h k p q a b = record { count = average-length (channels_of k) p q a.count b.count; small = average_small (largest_sample k) p q a.small b.small }

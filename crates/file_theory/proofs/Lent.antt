@@ -1,19 +1,20 @@
 -- A picture in a lent buffer is allowed, and the file that is built from it is accepted.
 use mathlib.Core.Path.{◌≡◌, refl}
 use mathlib.Core.Bool.{Bool, true, not}
-use mathlib.Core.List.{List, [], ◌∷◌, map}
+use mathlib.Core.List.{List, [], ◌∷◌}
 use Prim.Native.Nat.{ℕ, zero, suc, ◌≤◌, ◌<◌}
 use native.Mathlib.Omega.{arith}
 use lib.Dec.{ltb}
-use lib.ListN.{length, take, drop}
+use lib.ListN.{length, get_or, take, drop}
 use borrow.Author.Tests.{not-false}
-use Rattle.grids.specs.Rows.{rows_of}
+use Rattle.grids.proofs.Shapes.{each_weaken}
 use Rattle.pictures.specs.declared.sizes.Size.{Size}
 use Rattle.pictures.specs.Refusals.{Rule, ◌when◌, refusal}
-use Rattle.pictures.specs.Pictures.{channels_of, row_bytes, size_rules, picture}
+use Rattle.pictures.specs.Pictures.{largest_sample, size_rules, picture}
 use Rattle.pictures.proofs.Rules.{served-both, passed}
 use Rattle.pictures.proofs.Limits.{sides_served, sized_is}
-use Rattle.pictures.proofs.Buffers.{picture-of_size}
+use Rattle.pictures.proofs.Samples.{AreBytes}
+use Rattle.pictures.proofs.Buffers.{picture-pixels}
 use Rattle.map_theory.specs.Widths.{allowed}
 use Rattle.text_theory.specs.declared.Head.{Head}
 use Rattle.text_theory.specs.Files.{All}
@@ -21,7 +22,6 @@ use Rattle.file_theory.specs.Contents.{file_of}
 use Rattle.file_theory.specs.Rules.{work_rule, build_rules}
 use Rattle.file_theory.specs.Shows.{Accepted}
 use Rattle.file_theory.specs.Demands.{AllowedPicture, Built}
-use Rattle.file_theory.proofs.Shapes.{all-all, each_all}
 use Rattle.file_theory.proofs.Accepting.{accepted_built}
 
 module _ {A : Type 0} (P : A → Type 0) where
@@ -35,25 +35,23 @@ module _ {A : Type 0} (P : A → Type 0) where
   all_drop (suc n) [] a = tt
   all_drop (suc n) (x ∷ xs) a = all_drop n xs a.1
 
-  all-rows : (w n : ℕ) (xs : List A) → All P xs → All (All P) (rows_of w n xs)
-  all-rows w zero xs a = tt
-  all-rows w (suc n) xs a = (all_take w xs a, all-rows w n (drop w xs) (all_drop w xs a))
+-- A buffer of bytes that 2, 3 and 4 don't refuse: as the code knows what it holds, and its picture.
+pub are_bytes : (b : List ℕ) → All (λ (a : ℕ). a < 256) b → AreBytes b
+are_bytes [] a i = omega arith
+are_bytes (x ∷ b) a zero = omega (arith, a.0)
+are_bytes (x ∷ b) a (suc i) = are_bytes b a.1 i
 
-  all-pixels : (c w : ℕ) (rows : List (List A)) → All (All P) rows → All (All (All P)) (map (rows_of c w) rows)
-  all-pixels c w [] a = tt
-  all-pixels c w (x ∷ rows) a = (all-rows c w x a.0, all-pixels c w rows a.1)
+all_of : (m : ℕ) (xs : List ℕ) → ((i : ℕ) → get_or xs i 0 ≤ m) → All (λ (a : ℕ). a ≤ m) xs
+all_of m [] h = tt
+all_of m (x ∷ xs) h = (h 0, all_of m xs (λ i. h (suc i)))
 
--- A buffer of bytes that 2, 3 and 4 don't refuse.
 pub lent_allowed : (z : Size) (b : List ℕ) → All (λ (a : ℕ). a < 256) b → refusal (size_rules z (length b)) ≡ 0 → AllowedPicture z (picture z b)
-unfolding picture
-lent_allowed z b a e =
-    let small : All (λ (v : ℕ). v ≤ 255) b = all-all (λ v l. omega arith) b a in
-    let rows = all-rows (λ (v : ℕ). v ≤ 255) (row_bytes z) z.height b small in
-    let all = all-pixels (λ (v : ℕ). v ≤ 255) (channels_of z.kind) z.width (rows_of (row_bytes z) z.height b) rows in
-    record {
-      sides = sides_served z (length b) e;
-      pixels = each_all (λ row g c. each_all (λ px l s. record { count = l; small = s }) g c) (picture-of_size z b (sized_is z (length b) e).length_is) all;
-    }
+lent_allowed z b a e = record {
+  sides = sides_served z (length b) e;
+  pixels =
+      each_weaken (λ row g. each_weaken (λ px p. record { count = p.0; small = all_of (largest_sample z.kind) px p.1 }) g)
+      (picture-pixels z b (sized_is z (length b) e).length_is (are_bytes b a));
+}
 
 -- Building from it isn't refused: then neither the picture nor the range is, and what it gives is a file that is built.
 module _ (b : List ℕ) (h : Head) (out work : ℕ) (e : refusal (build_rules b h out work) ≡ 0) where

@@ -9,7 +9,7 @@ use native.Mathlib.Omega.{arith}
 use lib.Dec.{ltb}
 use lib.ListN.{replicate, length-replicate}
 use Rattle.pictures.specs.Refusals.{Rule, ◌when◌, refusal}
-use Rattle.pictures.specs.Pictures.{channels_of, picture_bytes, pixels}
+use Rattle.pictures.specs.Pictures.{pixel_bytes, picture_bytes, pixels}
 use Rattle.pictures.proofs.Rules.{positive, served-first, served-both, passed}
 use Rattle.map_theory.specs.Widths.{offered}
 use Rattle.text_theory.specs.Files.{Parts, parse}
@@ -34,7 +34,7 @@ operated-checked p own work t e =
 abbrev show_own : Parts → ℕ → ℕ → List Rule
 show_own p v out =
     7 when not (offered p.head.size.width p.head.depth p.head.growth v)
-    ∷ 8 when ltb out (p.head.size.height * (v * channels_of p.head.size.kind))
+    ∷ 8 when ltb out (p.head.size.height * (v * pixel_bytes p.head.size.kind))
     ∷ []
 
 abbrev read_own : Parts → ℕ → ℕ → List Rule
@@ -98,7 +98,7 @@ module _ (f : List ℕ) (a : Accepted f) where
       let w : offered p.head.size.width p.head.depth p.head.growth v ≡ true = rw parts.parsed at o in
       rw parts.parsed
       (rw (served-first (part_rules p) (show_own p v out ++ (work_rule p.head.size work ∷ judged_rules p)) refl parts.shaped)
-      (rw (w, parts.judged) (eight (ltb out (p.head.size.height * (v * channels_of p.head.size.kind))) (eight (ltb work (32 * pixels p.head.size)) (inl refl)))))
+      (rw (w, parts.judged) (eight (ltb out (p.head.size.height * (v * pixel_bytes p.head.size.kind))) (eight (ltb work (32 * pixels p.head.size)) (inl refl)))))
 
   -- at another width: refused by 7;
   pub accepted_wanted : (v : ℕ) → offers f v ≡ false → (out work : ℕ) → refusal (show_rules f v out work) ≡ 7

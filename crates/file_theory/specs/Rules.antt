@@ -3,7 +3,7 @@ use Rattle.std.specs.Prelude.{Bool, true, not, ◌&&◌, List, [], ◌∷◌, �
 use Rattle.std.proofs.Math.Option.{Option, none, some}
 use Rattle.pictures.specs.declared.sizes.Size.{Size}
 use Rattle.pictures.specs.Refusals.{◌when◌, Rule}
-use Rattle.pictures.specs.Pictures.{channels_of, side_rules, size_rules, picture_bytes, picture, pixels, work_bytes}
+use Rattle.pictures.specs.Pictures.{pixel_bytes, side_rules, size_rules, picture_bytes, picture, pixels, work_bytes}
 use Rattle.map_theory.specs.Widths.{allowed, offered}
 use Rattle.map_theory.specs.Judged.{every, map_rules}
 use Rattle.text_theory.specs.declared.Head.{Head}
@@ -53,7 +53,7 @@ show_rules file v out work =
     form_rules
     (λ p. part_rules p
     ++ (7 when not (offered p.head.size.width p.head.depth p.head.growth v)
-    ∷ 8 when ltb out (p.head.size.height * (v * channels_of p.head.size.kind))
+    ∷ 8 when ltb out (p.head.size.height * (v * pixel_bytes p.head.size.kind))
     ∷ work_rule p.head.size work
     ∷ judged_rules p))
     (parse file)

@@ -40,7 +40,7 @@ shows_in (some p) v = some (record { size = sized v p.head.size; rows = shown (m
 unfoldable pub shows : List ℕ → ℕ → Option Drawn
 shows file v = shows_in (parse file) v
 
--- Its head, original width and energy word, and its picture and map as they stand in it.
+-- Its head, original width and energy word, and its picture, the picture's bytes and its map as they stand in it.
 abbrev pub head_in : Option Parts → Option Head
 head_in none = none
 head_in (some p) = some p.head
@@ -63,6 +63,10 @@ abbrev pub rows_in : Option Parts → Picture
 rows_in none = []
 rows_in (some p) = p.rows
 
+abbrev pub bytes_in : Option Parts → List ℕ
+bytes_in none = []
+bytes_in (some p) = bytes p.head.size.kind p.rows
+
 abbrev pub maps_in : Option Parts → List (List ℕ)
 maps_in none = []
 maps_in (some p) = p.maps
@@ -74,4 +78,4 @@ drawn_size (some d) = some d.size
 
 abbrev pub drawn_bytes : Option Drawn → List ℕ
 drawn_bytes none = []
-drawn_bytes (some d) = bytes d.rows
+drawn_bytes (some d) = bytes d.size.kind d.rows

@@ -8,7 +8,7 @@ use lib.ListN.{length, get_or, length-map, get_or-eq_default}
 use lib.Seq.{take_all}
 use Rattle.grids.specs.Each.{Each, Grid, none, more}
 use Rattle.grids.specs.Rows.{rows_of, flat, row_at, cells, flat_cells}
-use Rattle.grids.proofs.Shapes.{each_map, get_or-map}
+use Rattle.grids.proofs.Shapes.{each_map, each_back, get_or-map}
 use Rattle.grids.proofs.Rows.{grid-rows_of, flat-rows_of, rows_of-flat, length-flat, rows_of_at, rows_of-row_at, length-row_at, length-rows_of}
 
 module _ {A : Type 0} where
@@ -19,8 +19,7 @@ module _ {A : Type 0} where
 
   -- From a list to cells and back.
   rows-flat : (n w : ℕ) {h : ℕ} {rows : List (List A)} → Grid (w * n) h rows → map flat (map (rows_of n w) rows) ≡ rows
-  rows-flat n w none = refl
-  rows-flat n w (more {x = x} e g) = ap₂ ◌∷◌ (flat-rows_of n w x ∙ take_all (w * n) x (le_of_eq e)) (rows-flat n w g)
+  rows-flat n w g = each_back (rows_of n w) flat (λ x e. flat-rows_of n w x ∙ take_all (w * n) x (le_of_eq e)) g
 
   pub flat-cells : (n w h : ℕ) (b : List A) → length b ≡ h * (w * n) → flat_cells (cells n w h b) ≡ b
   unfolding cells flat_cells
@@ -29,8 +28,7 @@ module _ {A : Type 0} where
 
   -- From cells to a list and back.
   flats-rows : (n w : ℕ) {h : ℕ} {p : List (List (List A))} → Each (Grid n w) h p → map (rows_of n w) (map flat p) ≡ p
-  flats-rows n w none = refl
-  flats-rows n w (more {x = x} g e) = ap₂ ◌∷◌ (ap (rows_of n w) (sym (append-nil (flat x))) ∙ rows_of-flat [] g) (flats-rows n w e)
+  flats-rows n w e = each_back flat (rows_of n w) (λ x g. ap (rows_of n w) (sym (append-nil (flat x))) ∙ rows_of-flat [] g) e
 
   flats-grid : {n w h : ℕ} {p : List (List (List A))} → Each (Grid n w) h p → Grid (w * n) h (map flat p)
   flats-grid e = each_map flat (λ x g. length-flat g) e

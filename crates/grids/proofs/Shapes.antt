@@ -1,5 +1,5 @@
 -- Laws of lists of a known length whose elements all have a property.
-use mathlib.Core.Path.{◌≡◌, refl, ap}
+use mathlib.Core.Path.{◌≡◌, refl, sym, ap, ap₂, ◌∙◌}
 use mathlib.Core.List.{List, [], ◌∷◌, ◌++◌, map, zip_with, reverse, reverse-cons, Memᴰ}
 use Prim.Native.Nat.{ℕ, zero, suc, ◌<◌}
 use native.Mathlib.Nat.{le_of_suc-le-suc, suc_inj}
@@ -32,6 +32,15 @@ module _ {A : Type 0} {P : A → Type 0} where
   pub each_map : {B : Type 0} {Q : B → Type 0} {n : ℕ} {xs : List A} (f : A → B) → ((x : A) → P x → Q (f x)) → Each P n xs → Each Q n (map f xs)
   each_map f h none = none
   each_map f h (more {x = x} p e) = more (h x p) (each_map f h e)
+
+  -- What is done to each, and then to what that gives, where the two are one; and where the second undoes the first.
+  pub each_then : {B C : Type 0} (f : A → B) (g : B → C) (h : A → C) {n : ℕ} {xs : List A} → ((x : A) → P x → g (f x) ≡ h x) → Each P n xs → map g (map f xs) ≡ map h xs
+  each_then f g h e none = refl
+  each_then f g h e (more {x = x} p r) = ap₂ ◌∷◌ (e x p) (each_then f g h e r)
+
+  pub each_back : {B : Type 0} (f : A → B) (g : B → A) {n : ℕ} {xs : List A} → ((x : A) → P x → g (f x) ≡ x) → Each P n xs → map g (map f xs) ≡ xs
+  each_back f g e none = refl
+  each_back f g e (more {x = x} p r) = ap₂ ◌∷◌ (e x p) (each_back f g e r)
 
   pub each_weaken : {Q : A → Type 0} {n : ℕ} {xs : List A} → ((x : A) → P x → Q x) → Each P n xs → Each Q n xs
   each_weaken h none = none

@@ -2,17 +2,17 @@
 use mathlib.Core.Path.{◌≡◌, refl, sym, ap, ap₂, ◌∙◌}
 use mathlib.Core.Logic.{⊎_elim}
 use mathlib.Core.List.{List, [], ◌∷◌, map, append-nil}
-use Prim.Native.Nat.{ℕ, zero, suc, ◌+◌, ◌*◌, ◌≤◌, ◌<◌}
-use native.Mathlib.Nat.{le_of_eq, suc-mul}
+use Prim.Native.Nat.{ℕ, ◌*◌, ◌≤◌, ◌<◌}
+use native.Mathlib.Nat.{le_of_eq}
 use native.Mathlib.Omega.{arith}
-use lib.ListN.{length, get_or, take, drop, length-map, length-drop, get_or-eq_default}
-use lib.Seq.{take_all, length-take-le}
-use Rattle.grids.specs.Each.{Each, Grid, none, more}
+use lib.ListN.{length, get_or, length-map, get_or-eq_default}
+use lib.Seq.{take_all}
+use Rattle.grids.specs.Each.{Each, Grid}
 use Rattle.grids.specs.Rows.{rows_of, flat, row_at, cells, flat_cells}
 use Rattle.grids.specs.Exchange.{exchange}
 use Rattle.grids.specs.Cut.{cut}
 use Rattle.grids.proofs.Orders.{le-or-lt}
-use Rattle.grids.proofs.Shapes.{each-length, each_at, each_map, get_or-map}
+use Rattle.grids.proofs.Shapes.{each-length, each_at, each_map, each_then, each_back, get_or-map}
 use Rattle.grids.proofs.Exchange.{exchange-each}
 use Rattle.grids.proofs.Maps.{cut-map, exchange-map}
 use Rattle.grids.proofs.Rows.{grid-rows_of, flat-rows_of, rows_of-flat, length-flat, rows_of_at, rows_of-past, length-row_at, length-rows_of, flat_at}
@@ -20,7 +20,7 @@ use Rattle.pictures.specs.declared.sizes.Kind.{Kind}
 use Rattle.pictures.specs.declared.sizes.Size.{Size}
 use Rattle.pictures.specs.Refusals.{refusal, served}
 use Rattle.pictures.specs.Pictures.{Picture, channels_of, pixel_bytes, row_bytes, picture_bytes, size_rules, samples_of, bytes_of, row_in, row_out, picture, bytes, OfSize, row_of, pixel}
-use Rattle.pictures.proofs.Samples.{AreBytes, take_bytes, drop_bytes, row-pixels, row-pixel, length-row_out, pixels-back, row-back, row-in-out, row-in-plain, row-out-plain, pixel-plain, samples-plain}
+use Rattle.pictures.proofs.Samples.{AreBytes, PixelOf, rows_bytes, pixels_of_row, row-pixels, row-pixel, length-row_out, pixels-back, row-back, row-in-out, row-in-plain, row-out-plain, pixel-plain, samples-plain}
 
 -- The rows of a picture, each cut into pixels.
 pub picture-of_size : (z : Size) (b : List ℕ) → length b ≡ picture_bytes z → OfSize z (picture z b)
@@ -28,25 +28,13 @@ unfolding picture
 picture-of_size z b e = each_map (row_in z.kind z.width) (row-pixels z.kind z.width) (grid-rows_of (row_bytes z) z.height b (omega arith))
 
 -- From a buffer to a picture and back.
-rows-back : (k : Kind) (w h : ℕ) (b : List ℕ) → length b ≡ h * (w * pixel_bytes k) → AreBytes b → map (row_out k) (map (row_in k w) (rows_of (w * pixel_bytes k) h b)) ≡ rows_of (w * pixel_bytes k) h b
-rows-back k w zero b e h = refl
-rows-back k w (suc n) b e h =
-    let m = w * pixel_bytes k in
-    let long : length b ≡ n * (w * pixel_bytes k) + w * pixel_bytes k = e ∙ suc-mul n m in
-    ap₂ ◌∷◌ (row-back k w (take m b) (length-take-le m b (omega arith)) (take_bytes m b h))
-    (rows-back k w n (drop m b) (omega (arith, length-drop (w * pixel_bytes k) b)) (drop_bytes m b h))
-
 pub bytes-picture : (z : Size) (b : List ℕ) → length b ≡ picture_bytes z → AreBytes b → bytes z.kind (picture z b) ≡ b
 unfolding picture bytes
 bytes-picture z b e h =
-    ap flat (rows-back z.kind z.width z.height b e h)
+    ap flat (each_back (row_in z.kind z.width) (row_out z.kind) (λ x p. row-back z.kind z.width x p.0 p.1) (rows_bytes (row_bytes z) z.height b (omega arith) h))
     ∙ flat-rows_of (row_bytes z) z.height b ∙ take_all (picture_bytes z) b (omega arith)
 
 -- From a picture to its buffer and back.
-rows-in-out : (k : Kind) {w h : ℕ} {p : Picture} → Each (Grid (channels_of k) w) h p → map (row_in k w) (map (row_out k) p) ≡ p
-rows-in-out k none = refl
-rows-in-out k (more g e) = ap₂ ◌∷◌ (row-in-out k g) (rows-in-out k e)
-
 pub rows_grid : (k : Kind) {w h : ℕ} {p : Picture} → Each (Grid (channels_of k) w) h p → Grid (w * pixel_bytes k) h (map (row_out k) p)
 rows_grid k e = each_map (row_out k) (λ x g. length-row_out k g) e
 
@@ -55,11 +43,16 @@ unfolding picture bytes
 picture_bytes_lem z p o =
     ap (map (row_in z.kind z.width))
     (ap (rows_of (row_bytes z) z.height) (sym (append-nil (flat (map (row_out z.kind) p)))) ∙ rows_of-flat [] (rows_grid z.kind o))
-    ∙ rows-in-out z.kind o
+    ∙ each_back (row_out z.kind) (row_in z.kind z.width) (λ x g. row-in-out z.kind g) o
 
 pub length-bytes : (z : Size) (p : Picture) → OfSize z p → length (bytes z.kind p) ≡ picture_bytes z
 unfolding bytes
 length-bytes z p o = length-flat (rows_grid z.kind o)
+
+-- All its pixels are of its kind.
+pub picture-pixels : (z : Size) (b : List ℕ) → length b ≡ picture_bytes z → AreBytes b → Each (Each (PixelOf z.kind) z.width) z.height (picture z b)
+unfolding picture
+picture-pixels z b e h = each_map (row_in z.kind z.width) (λ x p. pixels_of_row z.kind z.width x p.0 p.1) (rows_bytes (row_bytes z) z.height b (omega arith) h)
 
 -- Row r, in pixels and in bytes.
 pub picture-row : (z : Size) (b : List ℕ) (r : ℕ) → r < z.height → get_or (picture z b) r [] ≡ row_in z.kind z.width (row_at (row_bytes z) r b)
@@ -110,16 +103,10 @@ bytes-cells k p = ap flat (go p)
 pub picture-cells : (z : Size) (b : List ℕ) → length b ≡ picture_bytes z → AreBytes b
     → map (map (bytes_of z.kind)) (picture z b) ≡ cells (pixel_bytes z.kind) z.width z.height b
 unfolding picture cells
-picture-cells z b e h = go z.height b e h
-  where
-    go : (n : ℕ) (b : List ℕ) → length b ≡ n * (z.width * pixel_bytes z.kind) → AreBytes b
-        → map (map (bytes_of z.kind)) (map (row_in z.kind z.width) (rows_of (row_bytes z) n b)) ≡ map (rows_of (pixel_bytes z.kind) z.width) (rows_of (z.width * pixel_bytes z.kind) n b)
-    go zero b e h = refl
-    go (suc n) b e h =
-        let m = z.width * pixel_bytes z.kind in
-        let long : length b ≡ n * (z.width * pixel_bytes z.kind) + z.width * pixel_bytes z.kind = e ∙ suc-mul n m in
-        ap₂ ◌∷◌ (pixels-back z.kind z.width (take m b) (length-take-le m b (omega arith)) (take_bytes m b h))
-        (go n (drop m b) (omega (arith, length-drop (z.width * pixel_bytes z.kind) b)) (drop_bytes m b h))
+picture-cells z b e h =
+    each_then (row_in z.kind z.width) (map (bytes_of z.kind)) (rows_of (pixel_bytes z.kind) z.width)
+    (λ x p. pixels-back z.kind z.width x p.0 p.1)
+    (rows_bytes (row_bytes z) z.height b (omega arith) h)
 
 pub cut-cells : (z : Size) (b s : List ℕ) → length b ≡ picture_bytes z → AreBytes b
     → bytes z.kind (cut s (picture z b)) ≡ flat_cells (cut s (cells (pixel_bytes z.kind) z.width z.height b))

@@ -7,10 +7,10 @@ use native.Mathlib.Nat.{mul-one, suc-mul, le_of_eq}
 use native.Mathlib.Omega.{arith}
 use lib.ListN.{length, get_or, take, drop, length-drop, length-map, get_or-eq_default}
 use lib.Seq.{take_all, length-take-le, get_or-drop}
-use Rattle.grids.specs.Each.{Grid}
+use Rattle.grids.specs.Each.{Each, Grid, none, more}
 use Rattle.grids.specs.Rows.{rows_of, flat, row_at}
 use Rattle.grids.proofs.Orders.{le-or-lt}
-use Rattle.grids.proofs.Shapes.{each_map, get_or-map}
+use Rattle.grids.proofs.Shapes.{each_map, each_back, get_or-map}
 use Rattle.grids.proofs.Rows.{grid-rows_of, flat-rows_of, rows_of-flat, length-flat, length-rows_of, rows_of_at, row_at-past}
 use Rattle.pictures.specs.declared.sizes.Kind.{Kind}
 use Rattle.pictures.specs.declared.sizes.Kind.TheVariants.{Grey, Rgb}
@@ -28,6 +28,12 @@ take_bytes (suc n) (x ∷ b) h (suc i) = take_bytes n b (λ j. h (suc j)) i
 
 pub drop_bytes : (n : ℕ) (b : List ℕ) → AreBytes b → AreBytes (drop n b)
 drop_bytes n b h i = rw (get_or-drop n b i 0) (h (n + i))
+
+pub rows_bytes : (w n : ℕ) (b : List ℕ) → n * w ≤ length b → AreBytes b → Each (λ x. (length x ≡ w) × AreBytes x) n (rows_of w n b)
+rows_bytes w zero b e h = none
+rows_bytes w (suc n) b e h =
+    more (length-take-le w b (omega (arith, suc-mul n w)), take_bytes w b h)
+    (rows_bytes w n (drop w b) (omega (arith, suc-mul n w, length-drop w b)) (drop_bytes w b h))
 
 -- n samples in bytes, and back.
 pub bytes-samples : (k : Kind) (n : ℕ) (b : List ℕ) → length b ≡ n * sample_bytes k → AreBytes b → bytes_of k (samples_of k b) ≡ b
@@ -98,18 +104,12 @@ pub length-row_out : (k : Kind) {w : ℕ} {x : List (List ℕ)} → Grid (channe
 unfolding row_out
 length-row_out k g = length-flat (row-out k g)
 
--- What is read from the first pixels' bytes, and written again.
 pixel-back : (k : Kind) (b : List ℕ) → length b ≡ pixel_bytes k → AreBytes b → bytes_of k (samples_of k b) ≡ b
 pixel-back k b e h = bytes-samples k (channels_of k) b (e ∙ pixel_bytes_are k) h
 
 pub pixels-back : (k : Kind) (w : ℕ) (b : List ℕ) → length b ≡ w * pixel_bytes k → AreBytes b → map (bytes_of k) (row_in k w b) ≡ rows_of (pixel_bytes k) w b
 unfolding row_in
-pixels-back k zero b e h = refl
-pixels-back k (suc w) b e h =
-    let n = pixel_bytes k in
-    let long : length b ≡ w * pixel_bytes k + pixel_bytes k = e ∙ suc-mul w n in
-    ap₂ ◌∷◌ (pixel-back k (take n b) (length-take-le n b (omega arith)) (take_bytes n b h))
-    (pixels-back k w (drop n b) (omega (arith, length-drop (pixel_bytes k) b)) (drop_bytes n b h))
+pixels-back k w b e h = each_back (samples_of k) (bytes_of k) (λ x p. pixel-back k x p.0 p.1) (rows_bytes (pixel_bytes k) w b (omega arith) h)
 
 pub row-back : (k : Kind) (w : ℕ) (b : List ℕ) → length b ≡ w * pixel_bytes k → AreBytes b → row_out k (row_in k w b) ≡ b
 unfolding row_out
@@ -119,11 +119,16 @@ pub row-in-out : (k : Kind) {w : ℕ} {x : List (List ℕ)} → Grid (channels_o
 unfolding row_in row_out
 row-in-out k {w} {x} g =
     ap (λ b. map (samples_of k) (rows_of (pixel_bytes k) w b)) (sym (append-nil (flat (map (bytes_of k) x))))
-    ∙ ap (map (samples_of k)) (rows_of-flat [] (row-out k g)) ∙ all x
-  where
-    all : (x : List (List ℕ)) → map (samples_of k) (map (bytes_of k) x) ≡ x
-    all [] = refl
-    all (s ∷ x) = ap₂ ◌∷◌ (samples-bytes k s) (all x)
+    ∙ ap (map (samples_of k)) (rows_of-flat [] (row-out k g))
+    ∙ each_back (bytes_of k) (samples_of k) (λ s e. samples-bytes k s) g
+
+-- A pixel of its kind: as many samples, none above the largest. Such are those of a row of bytes.
+abbrev pub PixelOf : Kind → List ℕ → Type 0
+PixelOf k s = (length s ≡ channels_of k) × ((i : ℕ) → get_or s i 0 ≤ largest_sample k)
+
+pub pixels_of_row : (k : Kind) (w : ℕ) (b : List ℕ) → length b ≡ w * pixel_bytes k → AreBytes b → Each (PixelOf k) w (row_in k w b)
+unfolding row_in
+pixels_of_row k w b e h = each_map (samples_of k) (λ x p. (pixel-samples k x p.0, samples-most k x p.1)) (rows_bytes (pixel_bytes k) w b (omega arith) h)
 
 -- Where a sample is a byte, as it is in each kind.
 pub pixel-plain : (k : Kind) → pixel_bytes k ≡ channels_of k

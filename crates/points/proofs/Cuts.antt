@@ -11,7 +11,7 @@ use lib.ListN.{length, replicate}
 use borrow.Author.Tests.{le-ltb, ne_eqb}
 use Rattle.pictures.specs.declared.sizes.Size.{Size}
 use Rattle.pictures.specs.Refusals.{refusal}
-use Rattle.pictures.specs.Pictures.{Picture, OfSize, channels_of, side_rules, size_rules, work_bytes, bytes}
+use Rattle.pictures.specs.Pictures.{Picture, OfSize, pixel_bytes, side_rules, size_rules, work_bytes, bytes}
 use Rattle.pictures.proofs.Rules.{served-first}
 use Rattle.pictures.proofs.Limits.{sides_are, sides_of, sized-served}
 use Rattle.pictures.proofs.Buffers.{picture_bytes_lem, length-bytes}
@@ -74,15 +74,15 @@ module _ (f : List ℕ) (p : Parts) (h : Accepted f) (e : parse f ≡ some p) (t
   -- what the file shows at the next smaller width; the freed bytes are 0.
   pub cut-shown : (seam work : List ℕ) (answer : Result ℕ Refusal) (left seam' work' : List ℕ)
       → found_number answer ≡ 0
-      → CutGiven (bytes a.rows) a.size how Vertical seam work answer left seam' work'
-      → left ≡ bytes b.rows ++ replicate (a.size.height * channels_of a.size.kind) 0
+      → CutGiven (bytes a.size.kind a.rows) a.size how Vertical seam work answer left seam' work'
+      → left ≡ bytes b.size.kind b.rows ++ replicate (a.size.height * pixel_bytes a.size.kind) 0
   cut-shown seam work answer left seam' work' fine c =
       let i = rw (fine, picture_bytes_lem a.size a.rows of_size) at c.picture_left in
-      i ∙ ap (λ (r : Picture). bytes r ++ replicate (a.size.height * channels_of a.size.kind) 0) (sym shows-next)
+      i ∙ ap (λ (r : Picture). bytes a.size.kind r ++ replicate (a.size.height * pixel_bytes a.size.kind) 0) (sym shows-next)
 
   -- And it isn't refused where there is a place for each column of the seam, and 32 bytes of work space a pixel.
   pub cut-served : (seam work : ℕ) → a.size.height ≤ seam → work_bytes a.size ≤ work
-      → refusal (cut_rules Vertical a.size (length (bytes a.rows)) seam work) ≡ 0
+      → refusal (cut_rules Vertical a.size (length (bytes a.size.kind a.rows)) seam work) ≡ 0
   cut-served seam work long room =
       let q = (shaped_is p).0 (accepted_shaped f p e h) in
       let d = ((allowed_is m p.head.depth p.head.growth).0 q.range).0 in
@@ -91,6 +91,6 @@ module _ (f : List ℕ) (p : Parts) (h : Accepted f) (e : parse f ≡ some p) (t
       let two : a.size.width ≡ m - t = ap (λ (x : Size). x.width) v in
       let tall : a.size.height ≡ n = ap (λ (x : Size). x.height) v in
       let sides : refusal (side_rules a.size) ≡ 0 = sides_of a.size (omega (arith, two, d)) (omega (arith, two, k.width_most)) (omega (arith, tall, k.height_some)) (omega (arith, tall, k.height_most)) in
-      let size : refusal (size_rules a.size (length (bytes a.rows))) ≡ 0 = rw (length-bytes a.size a.rows of_size) (sized-served a.size sides) in
-      served-first (size_rules a.size (length (bytes a.rows))) (room_rules Vertical a.size seam work ++ last_rules Vertical a.size) refl size
+      let size : refusal (size_rules a.size (length (bytes a.size.kind a.rows))) ≡ 0 = rw (length-bytes a.size a.rows of_size) (sized-served a.size sides) in
+      served-first (size_rules a.size (length (bytes a.size.kind a.rows))) (room_rules Vertical a.size seam work ++ last_rules Vertical a.size) refl size
       ∙ simp (le-ltb _ _ long, le-ltb _ _ room, ne_eqb _ _ (λ (x : a.size.width ≡ 1). omega (arith, two, d, x)))

@@ -53,7 +53,7 @@ module _ {file : List ℕ} where
   same_head t p e = sym (ap (λ (r : Head × List ℕ). r.0) (some-injective _ _ (sym t.same ∙ (parse_head file p e).1)))
 
 -- The bytes of a picture that is shown.
-drawn_length : (d : Drawn) (v : ℕ) → d.size.width ≡ v → Each (Each (Pixel d.size.kind) v) d.size.height d.rows → length (bytes d.rows) ≡ picture_bytes d.size
+drawn_length : (d : Drawn) (v : ℕ) → d.size.width ≡ v → Each (Each (Pixel d.size.kind) v) d.size.height d.rows → length (bytes d.size.kind d.rows) ≡ picture_bytes d.size
 drawn_length d v e p = length-bytes d.size d.rows (each_weaken (λ row q. each_weaken (λ px k. k.count) q) (rw (← e) at p))
 
 -- What is known where the file is shown: its size, and the bytes at the front of the space.
@@ -99,14 +99,14 @@ module _ (file : List ℕ) (v : ℕ) (picture out work : List ℕ) (needed : Dra
     known = some-injective z (sized v fit.parts.head.size) (g.size ∙ ap (λ q. drawn_size (shows_in q v)) fit.parsed)
 
     -- Its bytes stand at the front of the space.
-    long : length (bytes at.drawn.rows) ≡ picture_bytes z
+    long : length (bytes at.drawn.size.kind at.drawn.rows) ≡ picture_bytes z
     long = drawn_length at.drawn v at.width at.pixels ∙ ap picture_bytes (sym size_is)
 
-    is : picture' ≡ bytes at.drawn.rows ++ drop (length (bytes at.drawn.rows)) picture
+    is : picture' ≡ bytes at.drawn.size.kind at.drawn.rows ++ drop (length (bytes at.drawn.size.kind at.drawn.rows)) picture
     is = g.out_given ∙ ap (λ q. drawn_bytes q ++ drop (length (drawn_bytes q)) picture) at.shown
 
-    front : take (picture_bytes z) picture' ≡ bytes at.drawn.rows
-    front = ap (take (picture_bytes z)) is ∙ take_at (bytes at.drawn.rows) (drop (length (bytes at.drawn.rows)) picture) (picture_bytes z) long
+    front : take (picture_bytes z) picture' ≡ bytes at.drawn.size.kind at.drawn.rows
+    front = ap (take (picture_bytes z)) is ∙ take_at (bytes at.drawn.size.kind at.drawn.rows) (drop (length (bytes at.drawn.size.kind at.drawn.rows)) picture) (picture_bytes z) long
 
     pub drawing : Drawing file v z picture'
     unfolding netpbm
@@ -126,7 +126,7 @@ module _ (file : List ℕ) (v : ℕ) (picture out work : List ℕ) (needed : Dra
         record {
           row_most = rw known (mul-le-mul wide six);
           few = bytes-few;
-          inside = omega (arith, long, ap length is, length-append (bytes at.drawn.rows) (drop (length (bytes at.drawn.rows)) picture));
+          inside = omega (arith, long, ap length is, length-append (bytes at.drawn.size.kind at.drawn.rows) (drop (length (bytes at.drawn.size.kind at.drawn.rows)) picture));
           text_is = ap₂ (λ x y. header_text x ++ y) size_is front ∙ sym (ap drawn_text at.shown);
           text_most = omega (arith, length-append (header_text z) (take (picture_bytes z) picture'), header_most z z-wide z-high, ap length front, long, bytes-few);
           served = nothing;

@@ -33,7 +33,7 @@ header_text z =
 
 -- A picture with its header.
 unfoldable pub netpbm : Drawn → List ℕ
-netpbm d = header_text d.size ++ bytes d.rows
+netpbm d = header_text d.size ++ bytes d.size.kind d.rows
 
 -- The kind whose pictures have the number p after the letter and the maxval m.
 unfoldable pub kind_by : ℕ → ℕ → Option Kind

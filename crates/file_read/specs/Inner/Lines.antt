@@ -1,9 +1,9 @@
 -- Its row lines and map lines read. What private functions ask and promise; no public promise cites it.
 use Rattle.std.specs.Prelude.{◌≡◌, List, [], ◌++◌, ℕ, ◌+◌, ◌<◌, get_or, drop}
-use Rattle.pictures.specs.Pictures.{picture_bytes, bytes}
+use Rattle.pictures.specs.Pictures.{picture_bytes}
 use Rattle.text_theory.specs.declared.Head.{Head}
 use Rattle.text_theory.specs.Files.{parse}
-use Rattle.file_theory.specs.Shows.{rows_in, maps_in}
+use Rattle.file_theory.specs.Shows.{bytes_in, maps_in}
 use Rattle.file_read.specs.Inner.Opening.{maps_from}
 
 -- A place where one of the map lines stands.
@@ -22,4 +22,4 @@ ReadsMap file h at next out = (r : ℕ) → r < h.size.height → drop at file �
 -- All row lines, read into the front of a space: the picture, and the place of the first map line.
 pub record PictureRead (file : List ℕ) (h : Head) (space : List ℕ) (at : ℕ) (space' : List ℕ) : Type 0 where
   pub place : drop at file ≡ maps_from (parse file) 0
-  pub space_is : space' ≡ bytes (rows_in (parse file)) ++ drop (picture_bytes h.size) space
+  pub space_is : space' ≡ bytes_in (parse file) ++ drop (picture_bytes h.size) space

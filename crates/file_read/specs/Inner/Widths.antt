@@ -1,11 +1,11 @@
 -- It is shown at a width. What private functions ask and promise; no public promise cites it.
 use Rattle.std.specs.Prelude.{◌≡◌, ◌≤◌, true, List, ◌++◌, ℕ, length, take, drop, replicate}
 use Rattle.pictures.specs.Refusals.{refusal}
-use Rattle.pictures.specs.Pictures.{picture_bytes, bytes}
+use Rattle.pictures.specs.Pictures.{picture_bytes}
 use Rattle.map_theory.specs.Widths.{offered}
 use Rattle.text_theory.specs.declared.Head.{Head}
 use Rattle.text_theory.specs.Files.{parse}
-use Rattle.file_theory.specs.Shows.{rows_in, shows, drawn_bytes}
+use Rattle.file_theory.specs.Shows.{bytes_in, shows, drawn_bytes}
 use Rattle.file_rules.specs.Spaces.{offer_rules}
 use Rattle.file_read.specs.Inner.Checking.{judged_in}
 
@@ -27,5 +27,5 @@ pub record DrawGiven (file : List ℕ) (v : ℕ) (out work out' work' : List ℕ
 pub record Showing (file : List ℕ) (h : Head) (v : ℕ) (space : List ℕ) : Type 0 where
   pub accepted : refusal (judged_in (parse file)) ≡ 0
   pub offers : offered h.size.width h.depth h.growth v ≡ true
-  pub picture_is : take (picture_bytes h.size) space ≡ bytes (rows_in (parse file))
+  pub picture_is : take (picture_bytes h.size) space ≡ bytes_in (parse file)
   pub inside : picture_bytes h.size ≤ length space

@@ -6,11 +6,11 @@ use Rattle.text_print.specs.Prints.{Put}
 use Rattle.text_print.proofs.Written.{never_short}
 use Rattle.program_theory.specs.Netpbm.{header_text}
 use Rattle.program_filters.proofs.PictureAnswers.{Drawing, draw_served, draw_refused, drawing}
-use Rattle.program_filters.proofs.fit_program.draw_in.Goals.{After-channels}
+use Rattle.program_filters.proofs.fit_program.draw_in.Goals.{After-pixel_bytes}
 use Rattle.program_filters.proofs.fit_program.draw_in.Goals as goal
 
 -- The picture is shown, its bytes are inside the space, and there is room for its text.
-module _ (c : After-channels) where
+module _ (c : After-pixel_bytes) where
   shown : Drawing c.args.file.now c.args.width c.in_ok-size.size c.show.new.out
   shown = drawing _ _ _ _ _ c.requires refl _ c.in_ok-size.ensures
 
@@ -32,20 +32,20 @@ returns-in_err-size c =
     rw is (draw_refused _ _ _ _ _ c.requires refl why c.in_err-size.ensures)
 
 pub overflow_mul-bytes : goal.overflow_mul-bytes
-overflow_mul-bytes c = rw c.pixel_bytes.ensures (omega (arith, (shown (goal.at.overflow_mul-bytes c).After-channels).row_most))
+overflow_mul-bytes c = rw c.pixel_bytes.ensures (omega (arith, (shown (goal.at.overflow_mul-bytes c).After-pixel_bytes).row_most))
 
 pub overflow_mul-bytes-2 : goal.overflow_mul-bytes-2
-overflow_mul-bytes-2 c = rw c.pixel_bytes.ensures (omega (arith, (shown (goal.at.overflow_mul-bytes-2 c).After-channels).few))
+overflow_mul-bytes-2 c = rw c.pixel_bytes.ensures (omega (arith, (shown (goal.at.overflow_mul-bytes-2 c).After-pixel_bytes).few))
 
 pub slice_bounds-print_picture-end : goal.slice_bounds-print_picture-end
-slice_bounds-print_picture-end c = inside (goal.at.slice_bounds-print_picture-end c).After-channels
+slice_bounds-print_picture-end c = inside (goal.at.slice_bounds-print_picture-end c).After-pixel_bytes
 
 pub slice_bounds-print_picture-end-2 : goal.slice_bounds-print_picture-end-2
-slice_bounds-print_picture-end-2 c = sym (length-take-le _ _ (inside (goal.at.slice_bounds-print_picture-end-2 c).After-channels))
+slice_bounds-print_picture-end-2 c = sym (length-take-le _ _ (inside (goal.at.slice_bounds-print_picture-end-2 c).After-pixel_bytes))
 
 pub unwrap-end-requires : goal.unwrap-end-requires
-unwrap-end-requires c = printed c.print_picture.result (room (goal.at.unwrap-end-requires c).After-channels) c.print_picture.ensures
+unwrap-end-requires c = printed c.print_picture.result (room (goal.at.unwrap-end-requires c).After-pixel_bytes) c.print_picture.ensures
 
 pub returns : goal.returns
 returns c =
-    draw_served (shown (goal.at.returns c).After-channels) c.requires.room (rw c.pixel_bytes.ensures at (rw c.unwrap-end.ensures at c.print_picture.ensures))
+    draw_served (shown (goal.at.returns c).After-pixel_bytes) c.requires.room (rw c.pixel_bytes.ensures at (rw c.unwrap-end.ensures at c.print_picture.ensures))

@@ -1,8 +1,7 @@
 -- Reading the row lines meets its contract: they are all of the picture, and after them stand the map lines.
 use Rattle.std.proofs.Common.{ap, ◌∙◌, drop, ◌++◌, arith}
-use Rattle.pictures.specs.Pictures.{bytes}
 use Rattle.text_theory.specs.Files.{parse}
-use Rattle.file_theory.specs.Shows.{rows_in}
+use Rattle.file_theory.specs.Shows.{bytes_in}
 use Rattle.file_read.proofs.Parsed.{opened}
 use Rattle.file_read.proofs.Places.{bytes-long, rows_end}
 use Rattle.file_read.proofs.opening.Opened.read_picture.Goals as goal
@@ -19,5 +18,5 @@ returns c =
     let k = opened f.text.now f.head f.open in
     record {
       place = rows_end k c.fill.result.at c.fill.ensures.next;
-      space_is = c.fill.ensures.filled ∙ ap (λ n. bytes (rows_in (parse f.text.now)) ++ drop n c.args.space.now) (bytes-long k);
+      space_is = c.fill.ensures.filled ∙ ap (λ n. bytes_in (parse f.text.now) ++ drop n c.args.space.now) (bytes-long k);
     }

@@ -12,4 +12,4 @@ overflow_mul-result c =
     let f = s.file in
     let h = f.head in
     let o = (offered_is h.size.width h.depth h.growth s.wanted).0 s.shown.offers in
-    rw c.channels.ensures (omega (arith, (bounded h s.wanted (sound (opened f.text.now h f.open)) o.1).row_most))
+    rw c.pixel_bytes.ensures (omega (arith, (bounded h s.wanted (sound (opened f.text.now h f.open)) o.1).row_most))

@@ -8,10 +8,10 @@ pub unwrap-requires : goal.unwrap-requires
 unfolding wrap_of
 unwrap-requires c =
     let s = c.args.self.now in
-    row_is_ok s.file.open s.shown c.requires.inside (c.map_line-next.ensures c.args.r c.requires.inside c.requires.there) _ c.channels.ensures refl c.requires.fits c.row_at.ensures
+    row_is_ok s.file.open s.shown c.requires.inside (c.map_line-next.ensures c.args.r c.requires.inside c.requires.there) _ c.pixel_bytes.ensures refl c.requires.fits c.row_at.ensures
 
 pub returns-clause-filled : goal.returns-clause-filled
 unfolding wrap_of
 returns-clause-filled c =
     let s = c.args.self.now in
-    row_drawn s.file.open s.shown c.requires.inside (c.map_line-next.ensures c.args.r c.requires.inside c.requires.there) _ c.channels.ensures refl c.requires.fits c.row_at.ensures
+    row_drawn s.file.open s.shown c.requires.inside (c.map_line-next.ensures c.args.r c.requires.inside c.requires.there) _ c.pixel_bytes.ensures refl c.requires.fits c.row_at.ensures
