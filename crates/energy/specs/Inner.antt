@@ -38,7 +38,8 @@ pub record LinesNeeded (channels : ℕ) (it lower : List ℕ) (width beside : �
 abbrev pub right_column : ℕ → ℕ → ℕ → ℕ
 right_column width beside c = cond (ltb (c + 1) width) (c + 1) beside
 
--- How far sample k of row a is from that of row b; the same and how far that of row c is from that of row d; and both of pixel k.
+-- How far sample k of row a is from that of row b; that and how far sample k of row c is from that of row d, added; and the same of
+-- pixel k.
 abbrev pub sample_apart : List ℕ → List ℕ → ℕ → ℕ
 sample_apart a b k = apart (get_or a k 0) (get_or b k 0)
 
@@ -53,7 +54,7 @@ two_distances channels a b c d k =
 abbrev pub two_sums : ℕ → List ℕ → List ℕ → ℕ → ℕ
 two_sums channels first second k = sum (row_at channels k first) + sum (row_at channels k second)
 
--- Rows are worked out in blocks of so many pixels, which have so many samples.
+-- A block, in which rows are worked out: so many pixels, which have so many samples.
 pub record BlockOf (channels pixels samples : ℕ) : Type 0 where
   pub few : channels ≤ 3
   pub some : 0 < pixels

@@ -100,7 +100,7 @@ fn rgb_steps(it: &[u8], above: &[u8], left: &mut [u32], up: &mut [u32], right: &
     }
 }
 
-// The costs of a row of less than a block, one after the other.
+// The three rows of costs one after the other: where a row is less than a block.
 fn short_steps<const N: usize, const PIXELS: usize, const SAMPLES: usize>(
     before: &[u8],
     after: &[u8],

@@ -11,12 +11,13 @@ ghost use Rattle.grids.specs.Rows.{row_at};
 
 use pictures::Kind;
 
-// Rows are worked out in blocks of so many pixels, which have so many samples. The lengths of a block are constants to the compiler,
-// which makes its loops vectors as a whole and keeps the samples in registers, at these sizes best.
+// Rows are worked out in blocks of so many pixels. The lengths of a block are constants to the compiler, which unrolls its loops into
+// vectors, at these sizes best, and a row clears no more than a block of samples.
 pub(crate) const GREY_BLOCK: usize = 64;
 
 pub(crate) const RGB_BLOCK: usize = 16;
 
+// The samples of a block of rgb pixels. A grey pixel is one sample.
 pub(crate) const RGB_SAMPLES: usize = 3 * RGB_BLOCK;
 
 // The energies of a row of pixels of this kind, put into the first `width` places of out. Column `beside` stands for the one to
