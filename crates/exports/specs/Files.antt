@@ -3,11 +3,10 @@ use Rattle.std.specs.Prelude.{◌≡◌, false, List, ◌++◌, ℕ, length, dro
 use Rattle.std.proofs.Math.Option.{none}
 use Rattle.grids.specs.Rows.{flat}
 use Rattle.pictures.specs.Refusals.{refusal, served, worked}
-use Rattle.pictures.specs.Pictures.{bytes}
 use Rattle.map_show.specs.Showing.{row_shown, row_at_rules}
 use Rattle.text_theory.specs.Files.{parse}
 use Rattle.file_theory.specs.Rules.{check_rules, read_rules, show_rules, build_rules}
-use Rattle.file_theory.specs.Shows.{bytes_in, head_in, rows_in, maps_in, shows, drawn_size, drawn_bytes}
+use Rattle.file_theory.specs.Shows.{bytes_in, head_in, maps_in, shows, drawn_size, drawn_bytes}
 use Rattle.file_build.specs.Building.{file_in}
 use Rattle.export_answers.specs.declared.answers.Answer.{Answer}
 use Rattle.export_answers.specs.declared.names.HostSize.{HostSize}

@@ -17,6 +17,7 @@ use Rattle.pictures.specs.Pictures.{size_rules, picture, pixels}
 use Rattle.pictures.proofs.Rules.{served-first}
 use Rattle.pictures.proofs.Limits.{Sized, sized_is}
 use Rattle.pictures.proofs.Buffers.{bytes-picture}
+use Rattle.file_theory.proofs.Lent.{are_bytes}
 use Rattle.map_theory.specs.Widths.{offered}
 use Rattle.map_theory.proofs.Shown.{offered_is}
 use Rattle.text_theory.specs.Decimal.{digits}
@@ -113,4 +114,4 @@ module _ (z : Size) (b : List ℕ) (small : All (λ (a : ℕ). a < 256) b) (fine
   fit-original =
       let none : z.width - z.width ≡ 0 = omega arith in
       fit-seams z.width sizes.width_some (omega arith)
-      ∙ rw (le-ltb held_pixels (pixels z) few, le-leb z.width z.width (omega arith), none, bytes-picture z b sizes.length_is)
+      ∙ rw (le-ltb held_pixels (pixels z) few, le-leb z.width z.width (omega arith), none, bytes-picture z b sizes.length_is (are_bytes b small))

@@ -98,11 +98,11 @@ fn word(energy: EnergyRule) -> &'static [u8] {
     }
 }
 
-// Width, height, and samples a pixel.
+// Width, height, and bytes a pixel.
 fn print_size(stdout: Stdout, size: Size) {
     print_number(stdout, size.width);
     print_number(stdout, size.height);
-    print_number(stdout, pictures::channels(size.kind));
+    print_number(stdout, pictures::pixel_bytes(size.kind));
 }
 
 // How many bytes of the space aren't 0.
