@@ -12,7 +12,7 @@ use Rattle.pictures.specs.declared.sizes.Kind.{Kind}
 use Rattle.pictures.specs.declared.sizes.Kind.TheVariants.{Grey, Rgb}
 use Rattle.pictures.specs.declared.sizes.Size.{Size}
 use Rattle.pictures.specs.Refusals.{refusal}
-use Rattle.pictures.specs.Pictures.{Picture, channels_of, size_rules, picture, pixel}
+use Rattle.pictures.specs.Pictures.{Picture, pixel_bytes, size_rules, row_in, picture, pixel}
 use Rattle.energy.specs.declared.methods.EnergyRule.{EnergyRule}
 use Rattle.energy.specs.declared.methods.EnergyRule.TheVariants.{Edge, Flat, Forward}
 use Rattle.energy.specs.declared.methods.Method.{Method}
@@ -39,12 +39,12 @@ use Rattle.file_theory.proofs.Lent.{lent_allowed}
 abbrev pub one : Kind → Size
 one k = record { width = 1; height = 1; kind = k }
 
-one-sized : (k : Kind) (n : ℕ) → n ≡ channels_of k → refusal (size_rules (one k) n) ≡ 0
+one-sized : (k : Kind) (n : ℕ) → n ≡ pixel_bytes k → refusal (size_rules (one k) n) ≡ 0
 one-sized Grey n e = rw e
 one-sized Rgb n e = rw e
 
 -- "1 by 1: range 0 0 accepted", whatever bytes its samples are.
-pub one-accepted : (how : Method) (k : Kind) (b : List ℕ) → length b ≡ channels_of k → All (λ (a : ℕ). a < 256) b
+pub one-accepted : (how : Method) (k : Kind) (b : List ℕ) → length b ≡ pixel_bytes k → All (λ (a : ℕ). a < 256) b
     → Accepted (file_of (record { size = one k; method = how; depth = 0; growth = 0 }) (picture (one k) b))
 unfolding allowed
 one-accepted how k b long small =
@@ -153,7 +153,7 @@ module _ (px : List ℕ) (p : Picture) (only : Only px p) where
 
 -- "1 by 1: energy 0", whatever its samples and the method are: there is no other pixel.
 pub one-energy : (how : Method) (k : Kind) (b : List ℕ) → energies how 1 1 (picture (one k) b) 0 ≡ 0 ∷ []
-unfolding picture
+unfolding picture row_in
 one-energy how k b = ap (λ (e : ℕ). e ∷ []) (energy-none (pixel p 0 0) p only how 1 1 0 0)
   where
     p : Picture

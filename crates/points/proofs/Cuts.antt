@@ -75,7 +75,7 @@ module _ (f : List ℕ) (p : Parts) (h : Accepted f) (e : parse f ≡ some p) (t
   pub cut-shown : (seam work : List ℕ) (answer : Result ℕ Refusal) (left seam' work' : List ℕ)
       → found_number answer ≡ 0
       → CutGiven (bytes a.size.kind a.rows) a.size how Vertical seam work answer left seam' work'
-      → left ≡ bytes b.size.kind b.rows ++ replicate (a.size.height * pixel_bytes a.size.kind) 0
+      → left ≡ bytes a.size.kind b.rows ++ replicate (a.size.height * pixel_bytes a.size.kind) 0
   cut-shown seam work answer left seam' work' fine c =
       let i = rw (fine, picture_bytes_lem a.size a.rows of_size) at c.picture_left in
       i ∙ ap (λ (r : Picture). bytes a.size.kind r ++ replicate (a.size.height * pixel_bytes a.size.kind) 0) (sym shows-next)
