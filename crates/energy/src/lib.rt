@@ -1,5 +1,5 @@
 // What the pixels of a row cost.
-#![tactic(auto)]
+#![tactic(auto, unfolding(pictures::specs::Pictures::pixel_bytes))]
 
 mod forward;
 mod kernels;

@@ -1,5 +1,5 @@
 // The multi-size file of a picture.
-#![tactic(auto)]
+#![tactic(auto, unfolding(pictures::specs::Pictures::pixel_bytes))]
 
 mod fitting;
 mod lines;

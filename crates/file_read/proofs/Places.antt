@@ -13,7 +13,7 @@ use Rattle.grids.proofs.Rows.{flat_at, length-flat}
 use Rattle.grids.proofs.Shapes.{each-length, each_at, get_or-map}
 use Rattle.pictures.specs.Pictures.{row_bytes, picture_bytes, row_out, bytes, pixels}
 use Rattle.pictures.proofs.Samples.{row-out-plain}
-use Rattle.pictures.proofs.Buffers.{bytes-row, length-bytes}
+use Rattle.pictures.proofs.Buffers.{row_plain, bytes-row, length-bytes}
 use Rattle.pictures.specs.Numbers.{largest_number, pairs}
 use Rattle.map_rules.specs.Spaces.{map_bytes}
 use Rattle.map_rules.proofs.Rooms.{map-rows}
@@ -65,7 +65,7 @@ module _ {file : List ℕ} {h : Head} (k : Parsed file h) where
         taken_row h.size.kind (get_or rows r []) a t
         (p ∙ rw (drop-cons rows r [] there, add-one r) (rows_next h.size.kind (get_or rows r []) (drop (suc r) rows) (maps_from (parse file) 0)))
         (all_at (All (Pixel h.size.kind)) rows r [] k.within.rows there)
-        (omega (arith, length-flat (each_at r [] inside k.of_size)))
+        (omega (arith, length-flat (each_at r [] inside k.of_size), row_plain h.size))
 
     pub map-met : {at : ℕ} {out out' : List ℕ} (a : code.Option (ℕ × Cursor)) → drop at file ≡ maps_from (parse file) r → h.size.width ≡ length out → Taken map_line file at out (read a) out'
         → LineMet file at (get_or (maps_in (parse file)) r []) (maps_from (parse file) (r + 1)) out a out'

@@ -1,11 +1,12 @@
 -- One line read: what stands at its place is read into a space of just its values.
-use mathlib.Core.Path.{◌≡◌, refl, ◌∙◌}
+use mathlib.Core.Path.{sym, ◌≡◌, refl, ◌∙◌}
 use mathlib.Core.List.{List, []}
 use Prim.Native.Nat.{ℕ, ◌+◌, ◌<◌}
 use lib.ListN.{length, get_or, drop}
 use Rattle.grids.specs.Rows.{flat}
 use Rattle.grids.proofs.Rows.{length-flat}
 use Rattle.grids.proofs.Shapes.{each_at}
+use Rattle.pictures.proofs.Buffers.{row_plain}
 use Rattle.pictures.specs.Pictures.{row_bytes}
 use Rattle.text_theory.specs.declared.Head.{Head}
 use Rattle.text_theory.specs.Files.{parse}
@@ -40,4 +41,4 @@ module _ {file : List ℕ} {h : Head} (k : Parsed file h) (r at : ℕ) (out new 
       → (drop c.at file ≡ rows_from h.size.kind (parse file) (r + 1)) × (new ≡ flat (get_or (rows_in (parse file)) r []))
   row_read n c t =
       let m = row-met k r inside (code.Some (n, c)) left wide t in
-      (met_place n c m, met_filled (code.Some (n, c)) (length-flat (each_at r [] inside k.of_size) ∙ wide) m)
+      (met_place n c m, met_filled (code.Some (n, c)) (length-flat (each_at r [] inside k.of_size) ∙ sym (row_plain h.size) ∙ wide) m)

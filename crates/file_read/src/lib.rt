@@ -1,5 +1,5 @@
 // Multi-size files: checked, read, and shown at the widths that they offer.
-#![tactic(auto)]
+#![tactic(auto, unfolding(pictures::specs::Pictures::pixel_bytes))]
 
 pub mod checking;
 mod lines;

@@ -43,6 +43,5 @@ pub bounded : (h : Head) (v : ℕ) → Sound h → v ≤ h.size.width + h.growth
 bounded h v s l =
     let z = sides_are h.size s.sides in
     let wide : v ≤ most_width = omega (arith, growth_most h s, z.width_most) in
-    let six : channels_of h.size.kind ≤ 6 = omega (arith, z.channels_most) in
-    let row : v * pixel_bytes h.size.kind ≤ most_shown_row = mul-le-mul wide six in
+    let row : v * pixel_bytes h.size.kind ≤ most_shown_row = mul-le-mul wide z.pixel_most in
     record { width_most = wide; row_most = row; shown_most = mul-le-mul z.height_small row }

@@ -1,5 +1,5 @@
 // What the operations on maps decide, as pure functions of numbers.
-#![tactic(auto)]
+#![tactic(auto, unfolding(pictures::specs::Pictures::pixel_bytes))]
 
 pub mod allowed;
 pub mod recorded;

@@ -1,5 +1,5 @@
 // A row of a picture and its row of the map, shown at a width.
-#![tactic(auto)]
+#![tactic(auto, unfolding(pictures::specs::Pictures::pixel_bytes))]
 
 mod pixels;
 pub mod rows;

@@ -58,10 +58,12 @@ channels_most Grey = omega arith
 channels_most Rgb = omega arith
 
 pub pixel_some : (k : Kind) → 0 < pixel_bytes k
+unfolding pixel_bytes
 pixel_some Grey = omega arith
 pixel_some Rgb = omega arith
 
 pub pixel_most : (k : Kind) → pixel_bytes k ≤ 6
+unfolding pixel_bytes
 pixel_most Grey = omega arith
 pixel_most Rgb = omega arith
 

@@ -69,6 +69,7 @@ samples-most Rgb b h = h
 
 -- A pixel: as many bytes as its samples have; its samples from its bytes, and its bytes.
 pub pixel_bytes_are : (k : Kind) → pixel_bytes k ≡ channels_of k * sample_bytes k
+unfolding pixel_bytes
 pixel_bytes_are Grey = refl
 pixel_bytes_are Rgb = refl
 
@@ -132,6 +133,7 @@ pixels_of_row k w b e h = each_map (samples_of k) (λ x p. (pixel-samples k x p.
 
 -- Where a sample is a byte, as it is in each kind.
 pub pixel-plain : (k : Kind) → pixel_bytes k ≡ channels_of k
+unfolding pixel_bytes
 pixel-plain Grey = refl
 pixel-plain Rgb = refl
 

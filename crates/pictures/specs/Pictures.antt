@@ -24,7 +24,7 @@ abbrev pub sample_bytes : Kind → ℕ
 sample_bytes Grey = 1
 sample_bytes Rgb = 1
 
-abbrev pub pixel_bytes : Kind → ℕ
+unfoldable pub pixel_bytes : Kind → ℕ
 pixel_bytes Grey = 1
 pixel_bytes Rgb = 3
 

@@ -25,6 +25,7 @@ impl AllowedSize {
     }
 
     // Bytes a row.
+    #[tactic(auto, using(crate::proofs::Limits::pixel_most))]
     pub fn row_bytes(self) -> usize
         ensures { (result ≡ row_bytes self.size) × (result ≤ most_row) }
     {

@@ -28,6 +28,7 @@ pub struct Size {
 }
 
 // Bytes a pixel.
+#[tactic(auto, unfolding(crate::specs::Pictures::pixel_bytes))]
 pub fn pixel_bytes(kind: Kind) -> usize
     ensures { result ≡ pixel_bytes kind }
 {

@@ -40,6 +40,7 @@ abbrev pub one : Kind → Size
 one k = record { width = 1; height = 1; kind = k }
 
 one-sized : (k : Kind) (n : ℕ) → n ≡ pixel_bytes k → refusal (size_rules (one k) n) ≡ 0
+unfolding pixel_bytes
 one-sized Grey n e = rw e
 one-sized Rgb n e = rw e
 

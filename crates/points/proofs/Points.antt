@@ -6,7 +6,7 @@ use Rattle.grids.specs.Exchange.{exchange}
 use Rattle.grids.specs.Cut.{remove_at, cut}
 use Rattle.seam_theory.specs.Best.{better, first_best}
 use Rattle.seam_theory.specs.Paths.{run, select, paths_up, paths, cost, beside, nearby}
-use Rattle.pictures.specs.Pictures.{row_in, samples_of, picture}
+use Rattle.pictures.specs.Pictures.{pixel_bytes, row_in, samples_of, picture}
 use Rattle.energy.specs.Methods.{wrap_of}
 use Rattle.energy.specs.Around.{left_of, right_of, above_of, below_of}
 use Rattle.energy.specs.Energy.{difference, costs_from, costs_at, toward}
@@ -29,5 +29,5 @@ use Rattle.file_theory.specs.Shows.{shows}
 use Rattle.points.specs.Points.{point_table}
 
 pub points : map (λ p. p.got) point_table ≡ map (λ p. p.expected) point_table
-unfolding exchange picture row_in samples_of or_else left_of right_of above_of below_of difference wrap_of costs_from costs_at toward seam_of cost_of marked_seam_of marked_cost_of preferred seam_along cost_along turned cut_along by_seam chosen cell_after paths paths_up cost nearby beside select run better first_best remove_at cut zip_with flat_map some_two removal number_row number allowed offered stays doubled row_at_width shown numbers remains before connected found strip next many_up_to many digits_up_to digits is_digit further up_to number_get line_end blank opening closing closed begun row_word map_word one_of name_get kind_text kind_get rule_text rule_get each joined pixel_text line_text first_text size_text range_text energy_text head_text text items three pixel_get line size_get range_get energy_get head_get file whole parse middle average file_of filled shows
+unfolding exchange pixel_bytes picture row_in samples_of or_else left_of right_of above_of below_of difference wrap_of costs_from costs_at toward seam_of cost_of marked_seam_of marked_cost_of preferred seam_along cost_along turned cut_along by_seam chosen cell_after paths paths_up cost nearby beside select run better first_best remove_at cut zip_with flat_map some_two removal number_row number allowed offered stays doubled row_at_width shown numbers remains before connected found strip next many_up_to many digits_up_to digits is_digit further up_to number_get line_end blank opening closing closed begun row_word map_word one_of name_get kind_text kind_get rule_text rule_get each joined pixel_text line_text first_text size_text range_text energy_text head_text text items three pixel_get line size_get range_get energy_get head_get file whole parse middle average file_of filled shows
 points = refl

@@ -26,6 +26,7 @@ use Rattle.program_filters.specs.Inner.{DrawNeeded}
 
 -- The spaces are just long enough for the most pixels.
 bytes-over : (k : Kind) (n : ℕ) → ltb (held_pixels * pixel_bytes k) (n * pixel_bytes k) ≡ ltb held_pixels n
+unfolding pixel_bytes
 bytes-over k n = go k (ltb held_pixels n) refl
   where
     go : (k : Kind) (t : Bool) → ltb held_pixels n ≡ t → ltb (held_pixels * pixel_bytes k) (n * pixel_bytes k) ≡ t

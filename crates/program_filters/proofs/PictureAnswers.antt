@@ -12,12 +12,14 @@ use Rattle.grids.specs.Each.{Each}
 use Rattle.grids.proofs.Shapes.{each_weaken}
 use Rattle.pictures.specs.Limits.{most_side}
 use Rattle.std.specs.Prelude.{Ok, Err, Some}
+use Rattle.pictures.specs.declared.sizes.Kind.{Kind}
+use Rattle.pictures.specs.declared.sizes.Kind.TheVariants.{Grey, Rgb}
 use Rattle.pictures.specs.declared.sizes.Size.{Size}
 use Rattle.pictures.specs.declared.refusals.Refusal.{Refusal}
 use Rattle.pictures.specs.declared.refusals.Refusal.TheVariants as refusals
 use Rattle.pictures.specs.Refusals.{refusal}
 use Rattle.pictures.specs.Pictures.{pixel_bytes, picture_bytes, bytes}
-use Rattle.pictures.proofs.Limits.{channels_most, sides_are}
+use Rattle.pictures.proofs.Limits.{sides_are}
 use Rattle.pictures.proofs.Buffers.{length-bytes}
 use Rattle.map_theory.proofs.Shown.{allowed_is, offered_is}
 use Rattle.text_theory.specs.declared.Head.{Head}
@@ -51,6 +53,12 @@ module _ {file : List ℕ} where
 
   pub same_head : {h : Head} {c : ℕ} → Told head_get file 0 (some (h, c)) → (p : Parts) → parse file ≡ some p → p.head ≡ h
   same_head t p e = sym (ap (λ (r : Head × List ℕ). r.0) (some-injective _ _ (sym t.same ∙ (parse_head file p e).1)))
+
+-- The space for a picture has room for three bytes of each pixel held, and no pixel has more.
+pub three_bytes : (k : Kind) → pixel_bytes k ≤ 3
+unfolding pixel_bytes
+three_bytes Grey = omega arith
+three_bytes Rgb = omega arith
 
 -- The bytes of a picture that is shown.
 drawn_length : (d : Drawn) (v : ℕ) → d.size.width ≡ v → Each (Each (Pixel d.size.kind) v) d.size.height d.rows → length (bytes d.size.kind d.rows) ≡ picture_bytes d.size
@@ -114,7 +122,7 @@ module _ (file : List ℕ) (v : ℕ) (picture out work : List ℕ) (needed : Dra
         let h : Head = fit.parts.head in
         let s : Shaped fit.parts = fit.shaped in
         let k : ℕ = pixel_bytes h.size.kind in
-        let m = channels_most h.size.kind in
+        let m = three_bytes h.size.kind in
         let w = (sides_are h.size s.sides).width_most in
         let g = ((allowed_is h.size.width h.depth h.growth).0 s.range).2 in
         let o = ((offered_is h.size.width h.depth h.growth v).0 fit.offers_it).1 in

@@ -1,5 +1,5 @@
 // What the programs do, each a function from its input to its output.
-#![tactic(auto)]
+#![tactic(auto, unfolding(pictures::specs::Pictures::pixel_bytes))]
 
 pub mod fit_program;
 pub mod programs;

@@ -13,7 +13,7 @@ use borrow.Author.Tests.{le-ltb}
 use Rattle.pictures.specs.Limits.{most_side}
 use Rattle.pictures.specs.declared.sizes.Size.{Size}
 use Rattle.pictures.specs.Refusals.{refusal}
-use Rattle.pictures.specs.Pictures.{channels_of, size_rules, picture, pixels}
+use Rattle.pictures.specs.Pictures.{pixel_bytes, size_rules, picture, pixels}
 use Rattle.pictures.proofs.Rules.{served-first, served-both, passed}
 use Rattle.pictures.proofs.Limits.{sized_is}
 use Rattle.energy.specs.declared.methods.EnergyRule.TheVariants.{Edge}
@@ -65,8 +65,8 @@ seams-served z b fine few =
     let s = sized_is z (length b) fine in
     let w : z.width ≤ most_side = s.width_small in
     let h : z.height ≤ most_side = s.height_small in
-    let c = channels_of z.kind in
-    let m : z.height * z.width * c ≤ held_pixels * 3 = mul-le-mul few s.channels_most in
+    let c = pixel_bytes z.kind in
+    let m : z.height * z.width * c ≤ held_pixels * 6 = mul-le-mul few s.pixel_most in
     let l : length (header_text z ++ b) ≤ most_input =
     rw length-append (omega (arith, header_most z (omega arith) h, s.length_is, mul_assoc z.height z.width c, m)) in
     let r : refusal (picture_rules (some (z, b))) ≡ 0 =

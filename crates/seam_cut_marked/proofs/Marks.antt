@@ -16,7 +16,7 @@ use Rattle.grids.proofs.Maps.{single, cut-map, exchange-map, rows_of-single, row
 use Rattle.pictures.specs.declared.sizes.Kind.TheVariants.{Grey}
 use Rattle.pictures.specs.declared.sizes.Size.{Size}
 use Rattle.pictures.specs.Refusals.{refusal}
-use Rattle.pictures.specs.Pictures.{picture_bytes, size_rules, picture, bytes, pixels, marks_of, picture_in, marks_in}
+use Rattle.pictures.specs.Pictures.{pixel_bytes, picture_bytes, size_rules, picture, bytes, pixels, marks_of, picture_in, marks_in}
 use Rattle.pictures.proofs.Limits.{Sized, sized-served, sides_of}
 use Rattle.pictures.proofs.Buffers.{picture-of_size, picture_plain, bytes_plain}
 use Rattle.seam_rules.specs.declared.answers.Axis.{Axis}
@@ -27,6 +27,7 @@ use Rattle.seam_rules.proofs.Turns.{turned-bytes, turned-pixels}
 use Rattle.seam_turn.proofs.Turned.{length-turned, turned-picture}
 
 pub grey-bytes : (z : Size) → picture_bytes (grey_of z) ≡ pixels z
+unfolding pixel_bytes
 grey-bytes z = ap (z.height *◌) (mul-one z.width)
 
 -- Marks of a picture's size are a grey picture of its sides.
@@ -42,6 +43,7 @@ marks-grid z m e = grid-rows_of z.width z.height m (le_of_eq (sym e))
 
 -- Each mark is a pixel of one sample.
 grey-picture : (z : Size) (m : List ℕ) → length m ≡ pixels z → picture (grey_of z) m ≡ map (map single) (marks_of z m)
+unfolding pixel_bytes
 grey-picture z m e = picture_plain (grey_of z) m ∙ ap (λ k. map (rows_of 1 z.width) (rows_of k z.height m)) (mul-one z.width) ∙ single-rows z.width (marks-grid z m e)
 
 bytes-single : (g : List (List ℕ)) → bytes Grey (map (map single) g) ≡ flat g

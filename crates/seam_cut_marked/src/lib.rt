@@ -1,7 +1,7 @@
 // Seams by marks: finding and cutting, along either axis. Marks are turned and closed up as a grey picture is. Without marks they
 // are other entry points, in seam_cut: a picture alone has no marks to lend and is refused by no 5 or 12, and what the two share is
 // one function each already. The public operations take their buffers as hosts pass them, and the private ones pass them on once.
-#![tactic(auto)]
+#![tactic(auto, unfolding(pictures::specs::Pictures::pixel_bytes))]
 
 ghost use Rattle.std.specs.Prelude.{◌≡◌, ◌++◌, replicate};
 ghost use Rattle.pictures.specs.Refusals.{given, refusal};

@@ -11,7 +11,7 @@ use Rattle.grids.proofs.Orders.{le-or-lt}
 use Rattle.grids.proofs.Rows.{part_end}
 use Rattle.pictures.specs.declared.sizes.Size.{Size}
 use Rattle.pictures.specs.Pictures.{pixel_bytes, picture_bytes, picture, pixels}
-use Rattle.pictures.proofs.Limits.{channels_some}
+use Rattle.pictures.proofs.Limits.{pixel_some}
 use Rattle.seam_moves.specs.Between.{part_at}
 use Rattle.seam_bounds.specs.Inner.{PlacesApart}
 use Rattle.seam_rules.specs.declared.answers.Axis.TheVariants.{Vertical, Horizontal}
@@ -29,7 +29,7 @@ smaller-few z r c =
 
 pub pixels-few : (z : Size) → pixels z ≤ picture_bytes z
 pixels-few z =
-    let one : z.width * 1 ≤ z.width * pixel_bytes z.kind = mul-le-mul_left z.width (channels_some z.kind) in
+    let one : z.width * 1 ≤ z.width * pixel_bytes z.kind = mul-le-mul_left z.width (pixel_some z.kind) in
     mul-le-mul_left z.height (rw (mul-one z.width) at one)
 
 -- A column less, and a row less.

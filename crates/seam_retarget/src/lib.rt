@@ -1,5 +1,5 @@
 // Rows and columns removed together: a table of cells, in which each comes from the smaller of two totals by one seam.
-#![tactic(auto)]
+#![tactic(auto, unfolding(pictures::specs::Pictures::pixel_bytes))]
 
 mod cells;
 mod rows;

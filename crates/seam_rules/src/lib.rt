@@ -1,6 +1,6 @@
 // What the operations on seams decide before they touch a buffer, as pure functions of numbers, and the forms of their
 // answers.
-#![tactic(auto)]
+#![tactic(auto, unfolding(pictures::specs::Pictures::pixel_bytes))]
 
 pub mod answers;
 pub mod axes;

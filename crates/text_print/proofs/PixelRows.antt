@@ -5,6 +5,7 @@ use native.Mathlib.Nat.{div-add-mod'}
 use Rattle.std.specs.Simd.{first_chunks}
 use Rattle.grids.specs.Rows.{rows_of}
 use Rattle.pictures.specs.declared.sizes.Kind.TheVariants.{Grey, Rgb}
+use Rattle.pictures.specs.Pictures.{pixel_bytes}
 use Rattle.pictures.proofs.Samples.{row-in-plain}
 use Rattle.text_theory.specs.declared.Name.TheVariants as name
 use Rattle.text_theory.specs.Decimal.{digits}
@@ -23,13 +24,13 @@ grey-each (x ∷ b) = rw (append-nil, grey-each b)
 
 -- A row of samples, each a pixel; and a row of pixels of three.
 pub grey_row : (b : List ℕ) → row_text Grey (pixels_of Grey b) ≡ (opening ++ name_text name.Row) ++ (each blank digits b ++ closed)
-unfolding row_text line_text row_word begun
+unfolding pixel_bytes row_text line_text row_word begun
 grey_row b =
     let one : length b / 1 ≡ length b = omega (arith, div-add-mod' (length b) 1) in
     rw (row-in-plain Grey (length b / 1) b, one, grey-each b)
 
 pub rgb_row : (b : List ℕ) → row_text Rgb (pixels_of Rgb b) ≡ (opening ++ name_text name.Row) ++ (each blank (pixel_text Rgb) (first_chunks 3 (length b / 3) b) ++ closed)
-unfolding row_text line_text row_word begun
+unfolding pixel_bytes row_text line_text row_word begun
 rgb_row b = rw (row-in-plain Rgb (length b / 3) b, chunks_are 3 (length b / 3) b)
 
 -- A pixel of three samples.

@@ -8,7 +8,7 @@ use Rattle.pictures.specs.declared.sizes.Kind.TheVariants.{Grey}
 use Rattle.pictures.specs.declared.sizes.Size.{Size}
 use Rattle.pictures.specs.declared.refusals.Refusal.{Refusal}
 use Rattle.pictures.specs.Refusals.{refusal}
-use Rattle.pictures.specs.Pictures.{size_rules, picture_bytes, picture, bytes, marks_of}
+use Rattle.pictures.specs.Pictures.{pixel_bytes, size_rules, picture_bytes, picture, bytes, marks_of}
 use Rattle.pictures.proofs.Limits.{sized_is}
 use Rattle.energy.specs.declared.methods.Method.{Method}
 use Rattle.seam_rules.specs.declared.answers.Axis.{Axis}
@@ -87,7 +87,7 @@ module _ {how : Method} {x : Axis} {z : Size} {b m room work : List ℕ} (p : Cu
       marks_ok = close_ok m (grey_of z) x s work'' u m' left grey sized within more grey-fits
 
       given : CutAlongGiven b m z how x room work (Ok k) b' m' seam' left
-      unfolding seam
+      unfolding seam pixel_bytes
       given =
           let lost = close_served m (grey_of z) x s work'' u m' left grey sized within more grey-fits in
           record {

@@ -5,17 +5,17 @@ use lib.Seq.{length-take-le}
 use Rattle.pictures.specs.declared.refusals.Refusal.TheVariants.{Form}
 use Rattle.pictures.specs.declared.sizes.Kind.{Kind}
 use Rattle.pictures.specs.Pictures.{pixel_bytes}
-use Rattle.pictures.proofs.Limits.{channels_most}
 use Rattle.text_theory.specs.declared.Head.{Head}
 use Rattle.text_theory.specs.Files.{head_get}
 use Rattle.text_read.specs.Answers.{Told}
 use Rattle.program_theory.specs.Programs.{held_pixels}
 use Rattle.program_filters.proofs.PictureAnswers.{no_head, same_head}
+use Rattle.program_filters.proofs.PictureAnswers.{three_bytes}
 use Rattle.program_filters.proofs.fit_program.draw_file.Goals as goal
 
 -- the most pixels fit the space
 room_most : (k : Kind) (n : ℕ) → n ≡ pixel_bytes k → held_pixels * n ≤ 3 * held_pixels
-room_most k n e = rw e (omega (arith, channels_most k))
+room_most k n e = rw e (omega (arith, three_bytes k))
 
 pub returns-in_err-head : goal.returns-in_err-head
 returns-in_err-head c =
