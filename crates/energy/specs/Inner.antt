@@ -54,7 +54,7 @@ two_distances channels a b c d k =
 abbrev pub two_sums : ℕ → List ℕ → List ℕ → ℕ → ℕ
 two_sums channels first second k = sum (row_at channels k first) + sum (row_at channels k second)
 
--- A block, in which rows are worked out: so many pixels, which have so many samples.
+-- A block, in which rows are worked out: `pixels` pixels of `channels` samples each, `samples` in all.
 pub record BlockOf (channels pixels samples : ℕ) : Type 0 where
   pub few : channels ≤ 3
   pub some : 0 < pixels

@@ -11,8 +11,8 @@ ghost use Rattle.grids.specs.Rows.{row_at};
 
 use pictures::Kind;
 
-// Rows are worked out in blocks of so many pixels. The lengths of a block are constants to the compiler, which unrolls its loops into
-// vectors, at these sizes best, and a row clears no more than a block of samples.
+// The pixels of a block, in which rows are worked out. The lengths of a block are constants to the compiler, which unrolls its loops
+// into vectors, at these sizes best, and a row clears no more than a block of samples.
 pub(crate) const GREY_BLOCK: usize = 64;
 
 pub(crate) const RGB_BLOCK: usize = 16;

@@ -45,6 +45,6 @@ roomy h v out work s e =
       work_room = ltb-false work (32 * pixels h.size) c.0;
     }
 
--- A picture takes at most three bytes a pixel, so the work space has room for it.
+-- A picture takes at most six bytes a pixel, so the work space has room for it.
 pub picture-fits : (z : Size) (work : ℕ) → 32 * pixels z ≤ work → picture_bytes z ≤ work
 picture-fits z work l = omega (arith, bytes-few z)

@@ -35,7 +35,7 @@ module _ {A : Type 0} (P : A → Type 0) where
   all_drop (suc n) [] a = tt
   all_drop (suc n) (x ∷ xs) a = all_drop n xs a.1
 
--- A buffer of bytes that 2, 3 and 4 don't refuse: as the code knows what it holds, and its picture.
+-- A list of bytes, as the code knows what a buffer holds.
 pub are_bytes : (b : List ℕ) → All (λ (a : ℕ). a < 256) b → AreBytes b
 are_bytes [] a i = omega arith
 are_bytes (x ∷ b) a zero = omega (arith, a.0)
@@ -45,6 +45,7 @@ all_of : (m : ℕ) (xs : List ℕ) → ((i : ℕ) → get_or xs i 0 ≤ m) → A
 all_of m [] h = tt
 all_of m (x ∷ xs) h = (h 0, all_of m xs (λ i. h (suc i)))
 
+-- A buffer of bytes that 2, 3 and 4 don't refuse.
 pub lent_allowed : (z : Size) (b : List ℕ) → All (λ (a : ℕ). a < 256) b → refusal (size_rules z (length b)) ≡ 0 → AllowedPicture z (picture z b)
 lent_allowed z b a e = record {
   sides = sides_served z (length b) e;

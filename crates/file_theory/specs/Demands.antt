@@ -67,7 +67,8 @@ pub record FileFor (z : Size) (how : Method) (p : Picture) (k g : ℕ) (file : L
   pub picture_is : shows file z.width ≡ some (record { size = z; rows = p })
   pub widths_are : (v : ℕ) → offers file v ≡ offered z.width k g v
 
--- What a file shows at width v: a picture of this width, each pixel with as many samples as its kind says, each a byte.
+-- What a file shows at width v: a picture of this width, each pixel with as many samples as its kind says, none above its
+-- largest.
 pub record ShownAt (file : List ℕ) (v : ℕ) : Type 0 where
   pub drawn : Drawn
   pub shown : shows file v ≡ some drawn

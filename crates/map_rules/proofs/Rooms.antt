@@ -30,6 +30,7 @@ picture_room z = omega (arith, bytes-few z)
 pub map-rows : (z : Size) → z.height * (2 * z.width) ≡ map_bytes z
 map-rows z = mul_left_comm z.height 2 z.width
 
+-- What a work space is that nothing refuses.
 pub record Room (z : Size) (depth space : ℕ) : Type 0 where
   pub served : refusal (side_rules z) ≡ 0
   pub sides : Sides z
@@ -48,7 +49,7 @@ room_is z depth space e =
       long = ltb-false _ _ second.0;
     }
 
--- And where the sides are served, the depth is below the width and the space is long enough, nothing is refused.
+-- Where the sides are served, the depth is below the width and the space is long enough, nothing is refused.
 pub room-served : (z : Size) (depth space : ℕ) → refusal (side_rules z) ≡ 0 → depth < z.width → work_bytes z ≤ space → refusal (map_space_rules z depth space) ≡ 0
 room-served z depth space e deep long =
     served-first (side_rules z) (6 when leb z.width depth ∷ 8 when ltb space (work_bytes z) ∷ []) refl e

@@ -15,7 +15,7 @@ pub record RowNeeded (line : List ℕ) (gap n : ℕ) (out : List ℕ) : Type 0 w
   pub inside : gap + n ≤ length line
   pub room : length line ≤ length out + n
 
--- A row of w cells of n bytes for each column of a seam, which lies inside the rows.
+-- Rows of w cells of n bytes, one for each column of a seam, and each column inside them.
 pub record CellsNeeded (b : List ℕ) (n w : ℕ) (s : List ℕ) : Type 0 where
   pub wide : 0 < w
   pub line : w * n ≤ 6 * largest_side

@@ -8,7 +8,8 @@ ghost use Rattle.seam_moves.specs.Inner.{column_cells, ColumnNeeded, ExchangeNee
 
 use pictures::{Kind, Size};
 
-// Each column of the picture, put into `to` as a row. A number of bytes that is known is copied much faster: each kind has its own.
+// Each column of the picture, put into `to` as a row. Each kind has a loop of its own, since a number of bytes that is known is copied
+// much faster.
 pub(crate) fn exchange_pixels(from: &[u8], size: Size, to: &mut [u8])
     requires { ExchangeNeeded from.now size to.old }
     ensures { to.new ≡ bytes size.kind (exchange size.width (picture size from.now)) ++ drop (picture_bytes size) to.old }
@@ -30,7 +31,7 @@ pub(crate) fn put_pixels(from: &[u8], size: Size, c: usize, out: &mut [u8])
     }
 }
 
-// The same of `height` rows of `width` cells, each of N bytes.
+// Each column of `height` rows of `width` cells, each of N bytes, put into `to` as a row.
 fn exchange_cells<const N: usize>(from: &[u8], width: usize, height: usize, to: &mut [u8])
     requires { CellsNeeded N width height from.now to.old }
     ensures { to.new ≡ flat_cells (exchange width (cells N width height from.now)) ++ drop (height * (width * N)) to.old }
@@ -43,6 +44,7 @@ fn exchange_cells<const N: usize>(from: &[u8], width: usize, height: usize, to: 
     }
 }
 
+// The cells of column c from the top, put into the front of out.
 fn put_cells<const N: usize>(from: &[u8], width: usize, height: usize, c: usize, out: &mut [u8])
     requires { ColumnCellsNeeded N width height from.now c out.old }
     ensures { out.new ≡ column_cells N width height from.now c ++ drop (height * N) out.old }

@@ -3,7 +3,7 @@ use Rattle.std.specs.Prelude.{◌≡◌, Bool, List, ℕ, ◌+◌, ◌-◌, ◌*
 use Rattle.grids.specs.Rows.{rows_of, row_at, flat}
 use Rattle.map_theory.specs.Widths.{stays, keep_row, grow_last, grow_row, row_at_width, average}
 
--- The pixels of a row's bytes, of ch samples a pixel, as many as there are numbers.
+-- The pixels of a row's bytes, of ch bytes a pixel, as many as there are numbers.
 abbrev pub pixels_in : ℕ → List ℕ → List ℕ → List (List ℕ)
 pixels_in ch samples numbers = rows_of ch (length numbers) samples
 
