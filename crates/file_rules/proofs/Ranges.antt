@@ -8,7 +8,7 @@ use native.Mathlib.Omega.{arith}
 use Rattle.pictures.specs.Limits.{most_side}
 use Rattle.pictures.specs.declared.sizes.Size.{Size}
 use Rattle.pictures.specs.Refusals.{◌when◌, refusal}
-use Rattle.pictures.specs.Pictures.{channels_of, pixel_bytes, side_rules}
+use Rattle.pictures.specs.Pictures.{pixel_bytes, side_rules}
 use Rattle.pictures.proofs.Rules.{served-first}
 use Rattle.pictures.proofs.Limits.{sides_are}
 use Rattle.map_theory.specs.Widths.{allowed}

@@ -5,7 +5,7 @@ ghost use Rattle.map_theory.specs.Widths.{offered};
 ghost use Rattle.file_rules.specs.Inner.{Sound};
 ghost use Rattle.file_rules.specs.Spaces.{work_rules, read_space_rules, wanted_rules, build_space_rules};
 
-use pictures::{AllowedSize, Refusal, Size, pixel_bytes, judge_picture};
+use pictures::{AllowedSize, Refusal, Size, judge_picture, pixel_bytes};
 use text_theory::Head;
 
 // Which of 2, 3 and 8 refuses a work space of this length for a file of this size, or none.

@@ -1,12 +1,12 @@
 -- Laws of cells in a flat list: the two directions, shapes, and where a cell stands.
-use mathlib.Core.Path.{◌≡◌, refl, sym, ap, ap₂, ◌∙◌}
-use mathlib.Core.List.{List, [], ◌∷◌, map, append-nil}
-use Prim.Native.Nat.{ℕ, ◌*◌, ◌≤◌, ◌<◌}
+use mathlib.Core.Path.{◌≡◌, sym, ap, ◌∙◌}
+use mathlib.Core.List.{List, [], map, append-nil}
+use Prim.Native.Nat.{ℕ, ◌*◌, ◌<◌}
 use native.Mathlib.Nat.{le_of_eq}
 use native.Mathlib.Omega.{arith}
-use lib.ListN.{length, get_or, length-map, get_or-eq_default}
+use lib.ListN.{length, get_or}
 use lib.Seq.{take_all}
-use Rattle.grids.specs.Each.{Each, Grid, none, more}
+use Rattle.grids.specs.Each.{Each, Grid}
 use Rattle.grids.specs.Rows.{rows_of, flat, row_at, cells, flat_cells}
 use Rattle.grids.proofs.Shapes.{each_map, each_back, get_or-map}
 use Rattle.grids.proofs.Rows.{grid-rows_of, flat-rows_of, rows_of-flat, length-flat, rows_of_at, rows_of-row_at, length-row_at, length-rows_of}

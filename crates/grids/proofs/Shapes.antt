@@ -1,5 +1,5 @@
 -- Laws of lists of a known length whose elements all have a property.
-use mathlib.Core.Path.{◌≡◌, refl, sym, ap, ap₂, ◌∙◌}
+use mathlib.Core.Path.{◌≡◌, refl, ap, ap₂}
 use mathlib.Core.List.{List, [], ◌∷◌, ◌++◌, map, zip_with, reverse, reverse-cons, Memᴰ}
 use Prim.Native.Nat.{ℕ, zero, suc, ◌<◌}
 use native.Mathlib.Nat.{le_of_suc-le-suc, suc_inj}

@@ -91,11 +91,11 @@ row-pixel k w b e c =
     let rows = rows_of (pixel_bytes k) w b in
     ⊎_elim
     (λ (h : w ≤ c).
-        get_or-eq_default (map (samples_of k) rows) [] (rw (length-map, length-rows_of) h)
-        ∙ sym (ap (samples_of k) (row_at-past (pixel_bytes k) w b c (le_of_eq e) h) ∙ samples-none k))
+    get_or-eq_default (map (samples_of k) rows) [] (rw (length-map, length-rows_of) h)
+    ∙ sym (ap (samples_of k) (row_at-past (pixel_bytes k) w b c (le_of_eq e) h) ∙ samples-none k))
     (λ (h : c < w).
-        get_or-map (samples_of k) rows c [] [] (rw (length-rows_of) h)
-        ∙ ap (samples_of k) (rows_of_at (pixel_bytes k) w b c h))
+    get_or-map (samples_of k) rows c [] [] (rw (length-rows_of) h)
+    ∙ ap (samples_of k) (rows_of_at (pixel_bytes k) w b c h))
     (le-or-lt w c)
 
 row-out : (k : Kind) {w : ℕ} {x : List (List ℕ)} → Grid (channels_of k) w x → Grid (pixel_bytes k) w (map (bytes_of k) x)

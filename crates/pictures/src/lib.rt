@@ -14,8 +14,8 @@ ghost use Rattle.pictures.specs.Pictures.{row_of};
 pub use allowed::AllowedSize;
 pub use refusals::{Refusal, given, number};
 pub use sizes::{
-    Kind, LARGEST_SIDE, Size, WORK_A_PIXEL, judge_picture, judge_sides, picture_bytes,
-    pixel_bytes, pixels, work_bytes,
+    Kind, LARGEST_SIDE, Size, WORK_A_PIXEL, judge_picture, judge_sides, picture_bytes, pixel_bytes,
+    pixels, work_bytes,
 };
 pub use spaces::clear;
 

@@ -4,7 +4,7 @@ ghost use Rattle.std.specs.Prelude.{◌≡◌, ◌+◌, leb};
 ghost use Rattle.pictures.specs.Refusals.{given, refusal};
 ghost use Rattle.seam_bounds.specs.Moves.{exchange_rules, column_rules, close_length_rules, close_column_rules, apart_in};
 
-use pictures::{Refusal, Size, pixel_bytes, judge_picture};
+use pictures::{Refusal, Size, judge_picture, pixel_bytes};
 
 // Whether a picture may be put with rows and columns exchanged into a space of `space` bytes. Refused by 2, 3 and 4 as every
 // picture is, and by 8 where the space is shorter than the picture.

@@ -25,7 +25,7 @@ loop-t-init c =
     let fits : (i : ℕ) → Fits w8 (get_or a.space.now i 0) = search rules in (
       same_len_mid b (c.recorded_at-end.result - b) a.space.now c.clear.new.space c.clear.auto.space,
       first_there a.allowed.size a.method a.space.now c.clear.new.space _ _ c.picture_bytes-bytes.ensures.0 c.recorded_at-end.ensures (room (goal.at.loop-t-init c).After-clear).long (λ i. omega (arith, fits i))
-      c.clear.ensures,
+          c.clear.ensures,
     )
 
 pub next_seam-requires : goal.next_seam-requires
