@@ -180,6 +180,7 @@ fn step_block<const N: usize, const PIXELS: usize, const SAMPLES: usize>(
     let mut sums = [0u16; PIXELS];
     samples_apart(after, before, &mut across);
     samples_apart(above, before, &mut from_left);
+    // no distance but that across: zeros, so that all three are two distances of a sample, added by one function
     samples_apart(before, before, &mut from_above);
     samples_apart(above, after, &mut from_right);
     pixel_sums::<N>(&across, &from_left, &mut sums);

@@ -5,7 +5,7 @@ use mathlib.Core.List.{List, [], ◌∷◌}
 use Prim.Native.Nat.{ℕ, zero, suc, ◌≤◌, ◌<◌}
 use native.Mathlib.Omega.{arith}
 use lib.Dec.{ltb}
-use lib.ListN.{length, get_or, take, drop}
+use lib.ListN.{length, get_or, drop}
 use borrow.Author.Tests.{not-false}
 use Rattle.grids.proofs.Shapes.{each_weaken}
 use Rattle.pictures.specs.declared.sizes.Size.{Size}
@@ -25,11 +25,6 @@ use Rattle.file_theory.specs.Demands.{AllowedPicture, Built}
 use Rattle.file_theory.proofs.Accepting.{accepted_built}
 
 module _ {A : Type 0} (P : A → Type 0) where
-  all_take : (n : ℕ) (xs : List A) → All P xs → All P (take n xs)
-  all_take zero xs a = tt
-  all_take (suc n) [] a = tt
-  all_take (suc n) (x ∷ xs) a = (a.0, all_take n xs a.1)
-
   pub all_drop : (n : ℕ) (xs : List A) → All P xs → All P (drop n xs)
   all_drop zero xs a = a
   all_drop (suc n) [] a = tt

@@ -3,7 +3,7 @@ use mathlib.Core.Path.{◌≡◌, refl, sym, ap, ap₂, ◌∙◌}
 use mathlib.Core.Logic.{⊎_elim}
 use mathlib.Core.List.{List, [], ◌∷◌, ◌++◌, append-nil, append_assoc}
 use Prim.Native.Nat.{ℕ, zero, suc, ◌+◌, ◌*◌, ◌≤◌, ◌<◌}
-use native.Mathlib.Nat.{zero-mul, suc-mul, add_comm, le_of_suc-le-suc, mul-le-mul_right, min-le_left, le_trans}
+use native.Mathlib.Nat.{zero-mul, suc-mul, add_comm, le_of_suc-le-suc, mul-le-mul_right, min-le_left}
 use native.Mathlib.Numerals.{add-one}
 use native.Mathlib.Omega.{arith}
 use lib.ListN.{length, get_or, take, drop, length-append, length-take, length-drop, get_or-eq_default, drop_of_length-le}
@@ -114,11 +114,3 @@ module _ {A : Type 0} where
 
   pub row_at-short : (w : ℕ) (b : List A) (r : ℕ) → length (row_at w r b) ≤ w
   row_at-short w b r = rw (length-take) (min-le_left w (length (drop (r * w) b)))
-
--- What holds of a default and of every element of a list holds of every element of a row.
-pub row_at-all : {A : Type 0} (P : A → Type 0) (w : ℕ) (b : List A) (d : A) → P d → ((i : ℕ) → P (get_or b i d)) → (r c : ℕ) → P (get_or (row_at w r b) c d)
-row_at-all P w b d z h r c =
-    ⊎_elim
-    (λ (l : w ≤ c). rw (get_or-eq_default (row_at w r b) d {n = c} (le_trans (row_at-short w b r) l)) z)
-    (λ (l : c < w). rw (row_at_get_d w b r c d l) (h (r * w + c)))
-    (le-or-lt w c)

@@ -15,13 +15,9 @@ use Rattle.pictures.proofs.Rules.{served-first, served-both, passed}
 use Rattle.pictures.proofs.Limits.{Sides, sides_are, bytes-few}
 use Rattle.map_rules.specs.Spaces.{map_bytes, map_at, recorded_at, map_space_rules}
 
--- The map that is built ends where the recorded one begins, which ends with the work space. The picture and a byte for each pixel
--- end before both.
+-- The map that is built ends where the recorded one begins. The picture and a byte for each pixel end before both.
 pub map-end : (z : Size) → map_at z + map_bytes z ≡ recorded_at z
 map-end z = omega arith
-
-pub recorded-end : (z : Size) → recorded_at z + map_bytes z ≡ work_bytes z
-recorded-end z = omega arith
 
 pub picture_room : (z : Size) → picture_bytes z + pixels z ≤ map_at z
 picture_room z = omega (arith, bytes-few z)

@@ -45,6 +45,8 @@ table =
     ∷ record { got = recorded 2 ((2 ∷ 0 ∷ 1 ∷ []) ∷ (1 ∷ 0 ∷ 2 ∷ []) ∷ []) ∷ []; expected = (0 ∷ 1 ∷ []) ∷ [] }
     -- neighbours of new pixels are those of the original, also where these are doubled: 10 50 40 grown by 1, 2 and 3
     ∷ record { got = shown middle false 3 6 ((10 ∷ 50 ∷ 40 ∷ []) ∷ []) ((1 ∷ 2 ∷ 3 ∷ []) ∷ []); expected = (10 ∷ 30 ∷ 50 ∷ 45 ∷ 45 ∷ 40 ∷ []) ∷ [] }
+    -- a mean is rounded down
+    ∷ record { got = shown middle false 2 3 ((10 ∷ 11 ∷ []) ∷ []) ((1 ∷ 2 ∷ []) ∷ []); expected = (10 ∷ 10 ∷ 11 ∷ []) ∷ [] }
     -- and with the last column joined to the first
     ∷ record { got = shown middle true 3 6 ((10 ∷ 50 ∷ 40 ∷ []) ∷ []) ((1 ∷ 2 ∷ 3 ∷ []) ∷ []); expected = (10 ∷ 30 ∷ 50 ∷ 45 ∷ 40 ∷ 25 ∷ []) ∷ [] }
     ∷ []

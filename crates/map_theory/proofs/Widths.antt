@@ -30,10 +30,6 @@ module _ {A : Type 0} where
   cons_if-more true x xs ys s = Sublistᴰ.cons s
   cons_if-more false x xs ys s = s
 
-  pub length-cons_if : (b : Bool) (x : A) (xs : List A) → length (cons_if b x xs) ≡ tick b (length xs)
-  length-cons_if true x xs = refl
-  length-cons_if false x xs = refl
-
   -- Before a later seam less is left.
   keep_sub : (t u : ℕ) (xs : List A) (ys : List ℕ) → t ≤ u → Sublistᴰ (keep_row (remains u) xs ys) (keep_row (remains t) xs ys)
   keep_sub t u [] ys h = Sublistᴰ.slnil

@@ -24,7 +24,6 @@ pub record Sides (z : Size) : Type 0 where
   pub height_some : 0 < z.height
   pub height_most : z.height ≤ largest_side
   pub height_small : z.height ≤ most_side
-  pub channels_some : 0 < channels_of z.kind
   pub channels_most : channels_of z.kind ≤ 3
   pub pixel_some : 0 < pixel_bytes z.kind
   pub pixel_most : pixel_bytes z.kind ≤ 6
@@ -40,7 +39,6 @@ pub record Sized (z : Size) (bytes : ℕ) : Type 0 where
   pub height_some : 0 < z.height
   pub height_most : z.height ≤ largest_side
   pub height_small : z.height ≤ most_side
-  pub channels_some : 0 < channels_of z.kind
   pub channels_most : channels_of z.kind ≤ 3
   pub pixel_some : 0 < pixel_bytes z.kind
   pub pixel_most : pixel_bytes z.kind ≤ 6
@@ -48,10 +46,6 @@ pub record Sized (z : Size) (bytes : ℕ) : Type 0 where
   pub row_most : z.width * pixel_bytes z.kind ≤ most_row
   pub picture_most : z.height * (z.width * pixel_bytes z.kind) ≤ most_picture
   pub pixels_most : z.height * z.width ≤ most_pixels
-
-pub channels_some : (k : Kind) → 0 < channels_of k
-channels_some Grey = omega arith
-channels_some Rgb = omega arith
 
 pub channels_most : (k : Kind) → channels_of k ≤ 3
 channels_most Grey = omega arith
@@ -89,7 +83,6 @@ sides_are z e =
       height_some = pos z.height some.1;
       height_most = h;
       height_small = tall;
-      channels_some = channels_some z.kind;
       channels_most = channels_most z.kind;
       pixel_some = pixel_some z.kind;
       pixel_most = pixel_most z.kind;
@@ -147,7 +140,6 @@ sized_of z bytes s e = record {
   height_some = s.height_some;
   height_most = s.height_most;
   height_small = s.height_small;
-  channels_some = s.channels_some;
   channels_most = s.channels_most;
   pixel_some = s.pixel_some;
   pixel_most = s.pixel_most;
