@@ -18,21 +18,22 @@ use Rattle.text_theory.specs.Files.{blank, line_end}
 use Rattle.text_theory.proofs.Pairs.{Reads, strip_back, Sounds, give_sounds, after_sounds, then_sounds, soundly}
 use Rattle.text_theory.proofs.Decimals.{clear, number_reads}
 use Rattle.text_theory.proofs.Files.{clear-blank}
-use Rattle.program_theory.specs.Netpbm.{letter_p, magic_of, maxval_of, header_text, kind_by, header_get}
+use Rattle.pictures.specs.Pictures.{largest_sample}
+use Rattle.program_theory.specs.Netpbm.{letter_p, magic_of, header_text, kind_by, header_get}
 use Rattle.program_theory.specs.Programs.{width_get}
 
 -- The kind by its two numbers.
-kind_by_back : (k : Kind) → kind_by (magic_of k) (maxval_of k) ≡ some k
+kind_by_back : (k : Kind) → kind_by (magic_of k) (largest_sample k) ≡ some k
 unfolding kind_by
 kind_by_back Grey = refl
 kind_by_back Rgb = refl
 
-kind_by-sound : (p m : ℕ) (k : Kind) → kind_by p m ≡ some k → (p ≡ magic_of k) × (m ≡ maxval_of k)
+kind_by-sound : (p m : ℕ) (k : Kind) → kind_by p m ≡ some k → (p ≡ magic_of k) × (m ≡ largest_sample k)
 unfolding kind_by
 kind_by-sound p m k h = go (eqb m 255) (eqb p 5) (eqb p 6) refl refl refl h
   where
     go : (x y z : Bool) → eqb m 255 ≡ x → eqb p 5 ≡ y → eqb p 6 ≡ z → cond x (cond y (some Grey) (cond z (some Rgb) none)) none ≡ some k
-        → (p ≡ magic_of k) × (m ≡ maxval_of k)
+        → (p ≡ magic_of k) × (m ≡ largest_sample k)
     go true true z e f g h = rw (← some-injective Grey k h) (eqb-true p 5 f, eqb-true m 255 e)
     go true false true e f g h = rw (← some-injective Rgb k h) (eqb-true p 6 g, eqb-true m 255 e)
     go true false false e f g h = absurd (none-ne-some _ h)
@@ -54,7 +55,7 @@ magic_small : (k : Kind) → magic_of k ≤ largest_number
 magic_small Grey = omega arith
 magic_small Rgb = omega arith
 
-maxval_small : (k : Kind) → maxval_of k ≤ largest_number
+maxval_small : (k : Kind) → largest_sample k ≤ largest_number
 maxval_small Grey = omega arith
 maxval_small Rgb = omega arith
 
@@ -75,7 +76,7 @@ header_back z w h t =
       strip_back,
       n.back z.height h _ (clear-end _),
       strip_back,
-      n.back (maxval_of z.kind) (maxval_small z.kind) _ (clear-end _),
+      n.back (largest_sample z.kind) (maxval_small z.kind) _ (clear-end _),
       strip_back,
       kind_by_back z.kind,
     ))

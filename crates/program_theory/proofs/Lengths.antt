@@ -16,7 +16,7 @@ use Rattle.pictures.specs.declared.sizes.Kind.{Kind}
 use Rattle.pictures.specs.declared.sizes.Kind.TheVariants.{Grey, Rgb}
 use Rattle.pictures.specs.declared.sizes.Size.{Size}
 use Rattle.pictures.specs.Refusals.{refusal}
-use Rattle.pictures.specs.Pictures.{Picture, size_rules, picture, pixels}
+use Rattle.pictures.specs.Pictures.{largest_sample, Picture, size_rules, picture, pixels}
 use Rattle.pictures.proofs.Limits.{sides_are, sides_served}
 use Rattle.text_theory.specs.declared.Head.{Head}
 use Rattle.text_theory.specs.declared.Name.{Name}
@@ -31,7 +31,7 @@ use Rattle.file_theory.specs.Demands.{AllowedPicture}
 use Rattle.file_theory.proofs.Shaped.{allowed-of_size}
 use Rattle.file_theory.proofs.Lent.{lent_allowed}
 use Rattle.file_theory.proofs.Lengths.{file-length}
-use Rattle.program_theory.specs.Netpbm.{letter_p, magic_of, maxval_of, header_text}
+use Rattle.program_theory.specs.Netpbm.{letter_p, magic_of, header_text}
 use Rattle.program_theory.specs.Programs.{held_pixels, full_range, refused_word, refused_text}
 use Rattle.map_theory.specs.Bounds.{most_width}
 
@@ -124,7 +124,7 @@ pub magic_length : (k : Kind) → length (digits (magic_of k)) ≡ 1
 magic_length Grey = length_small 5 (omega arith)
 magic_length Rgb = length_small 6 (omega arith)
 
-pub maxval_length : (k : Kind) → length (digits (maxval_of k)) ≡ 3
+pub maxval_length : (k : Kind) → length (digits (largest_sample k)) ≡ 3
 unfolding digits digits_up_to
 maxval_length Grey = refl
 maxval_length Rgb = refl

@@ -6,7 +6,7 @@ use Rattle.pictures.specs.Numbers.{largest_number}
 use Rattle.pictures.specs.declared.sizes.Kind.{Kind}
 use Rattle.pictures.specs.declared.sizes.Kind.TheVariants.{Grey, Rgb}
 use Rattle.pictures.specs.declared.sizes.Size.{Size}
-use Rattle.pictures.specs.Pictures.{bytes}
+use Rattle.pictures.specs.Pictures.{largest_sample, bytes}
 use Rattle.text_theory.specs.Readers.{Get, give, ◌▷◌, after, known}
 use Rattle.text_theory.specs.Decimal.{digits, number_get}
 use Rattle.text_theory.specs.Files.{line_end, blank}
@@ -20,16 +20,11 @@ abbrev pub magic_of : Kind → ℕ
 magic_of Grey = 5
 magic_of Rgb = 6
 
--- "255": the largest sample, Netpbm's maxval.
-abbrev pub maxval_of : Kind → ℕ
-maxval_of Grey = 255
-maxval_of Rgb = 255
-
--- "P5 or P6, byte 10, width, blank, height, byte 10, 255, byte 10".
+-- "P5 or P6, byte 10, width, blank, height, byte 10, 255, byte 10". The largest sample, 255, is Netpbm's maxval.
 unfoldable pub header_text : Size → List ℕ
 header_text z =
     letter_p ++ (digits (magic_of z.kind) ++ (line_end ++ (digits z.width ++ (blank ++ (digits z.height ++ (line_end
-    ++ (digits (maxval_of z.kind) ++ line_end)))))))
+    ++ (digits (largest_sample z.kind) ++ line_end)))))))
 
 -- A picture with its header.
 unfoldable pub netpbm : Drawn → List ℕ

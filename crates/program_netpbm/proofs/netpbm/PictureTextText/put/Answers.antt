@@ -2,10 +2,11 @@
 use mathlib.Core.Path.{◌≡◌, refl}
 use Rattle.pictures.specs.declared.sizes.Kind.{Kind}
 use Rattle.pictures.specs.declared.sizes.Kind.TheVariants.{Grey, Rgb}
-use Rattle.program_theory.specs.Netpbm.{letter_p, maxval_of, header_text}
+use Rattle.pictures.specs.Pictures.{largest_sample}
+use Rattle.program_theory.specs.Netpbm.{letter_p, header_text}
 use Rattle.program_netpbm.proofs.netpbm.PictureTextText.put.Goals as goal
 
-maxval_is : (k : Kind) → maxval_of k ≡ 255
+maxval_is : (k : Kind) → largest_sample k ≡ 255
 maxval_is Grey = refl
 maxval_is Rgb = refl
 
