@@ -1,0 +1,28 @@
+-- Finding the seam of a picture by costs that are kept in planes of numbers.
+use Rattle.std.specs.Prelude.{◌≡◌, Bool, true, false, cond, List, [], ℕ, ◌+◌, ◌*◌, ◌≤◌, ◌<◌, length, get_or}
+use Rattle.pictures.specs.declared.sizes.Size.{Size}
+use Rattle.pictures.specs.Refusals.{refusal}
+use Rattle.pictures.specs.Pictures.{side_rules, pixels}
+use Rattle.energy.specs.declared.methods.EnergyRule.{EnergyRule}
+use Rattle.energy.specs.Energy.{one_cost}
+use Rattle.seam_theory.specs.Sums.{CostRows, alike_rows}
+use Rattle.seam_planes.specs.Planes.{fronts, numbers_of}
+
+-- The costs of row i, of the w columns that are left of a picture of this size at first: by a rule of one cost all stand in the first plane,
+-- else those of coming from straight above, from the left and from the right in three.
+abbrev pub kept_costs : EnergyRule → Size → ℕ → List ℕ → List ℕ → List ℕ → ℕ → CostRows
+kept_costs rule z w up left right i =
+    let row : List ℕ → List ℕ = λ plane. get_or (fronts w (numbers_of z.width z.height plane)) i [] in
+    cond (one_cost rule) (alike_rows (row up)) (record { left = row left; up = row up; right = row right })
+
+-- Planes of a picture of this size at first of which w columns are left, a space for the sums of each row, four bytes each, with one more at
+-- either side, and a space for the seam.
+pub record FindAsked (z : Size) (w : ℕ) (one : Bool) (up left right sums seam : ℕ) : Type 0 where
+  pub sides : refusal (side_rules z) ≡ 0
+  pub some : 0 < w
+  pub within : w ≤ z.width
+  pub up_long : up ≡ 2 * pixels z
+  pub left_long : one ≡ false → left ≡ 2 * pixels z
+  pub right_long : one ≡ false → right ≡ 2 * pixels z
+  pub room : z.height * (4 * (w + 2)) ≤ sums
+  pub seam_room : z.height ≤ seam

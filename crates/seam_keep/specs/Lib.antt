@@ -1,0 +1,2 @@
+pub mod Refresh
+pub mod Keeping

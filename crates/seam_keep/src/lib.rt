@@ -1,0 +1,45 @@
+// What the pixels of a picture cost that is carved in a space, kept from one cut to the next.
+#![tactic(auto, unfolding(pictures::specs::Pictures::pixel_bytes))]
+
+ghost use Rattle.std.specs.Prelude.{◌≡◌, ◌+◌, false, length};
+ghost use Rattle.pictures.specs.Pictures.{picture as Pictures·picture};
+ghost use Rattle.energy.specs.declared.pixels.Side.TheVariants.{Up, Left, Right};
+ghost use Rattle.energy.specs.Energy.{one_cost, costs_at};
+ghost use Rattle.energy.specs.Methods.{wrap_of};
+ghost use Rattle.energy.specs.Pixels.{cost_to};
+ghost use Rattle.seam_planes.specs.Planes.{fronts, numbers_of};
+ghost use Rattle.seam_keep.specs.Refresh.{refreshed};
+ghost use Rattle.seam_keep.specs.Keeping.{cost_grid, FillAsked, KeepAsked};
+
+use energy::{Method, Side};
+use pictures::Size;
+
+// Puts what the pixels of a picture cost into a plane of numbers, and by forward what coming from the left and from the right costs into two
+// more. Where a plane isn't as long as it must be, or the picture isn't of its size, nothing is promised but the lengths.
+pub fn fill_costs(
+    picture: &[u8],
+    size: Size,
+    method: Method,
+    up: &mut [u8],
+    left: &mut [u8],
+    right: &mut [u8],
+)
+    ensures long { (length up.new ≡ length up.old) × (length left.new ≡ length left.old) × (length right.new ≡ length right.old) }
+    ensures up { FillAsked size (length picture.now) (length up.old) → numbers_of size.width size.height up.new ≡ cost_grid method Up size.width size.height (Pictures·picture size picture.now) }
+    ensures left { one_cost method.energy ≡ false → FillAsked size (length picture.now) (length up.old) → FillAsked size (length picture.now) (length left.old) → FillAsked size (length picture.now) (length right.old) → numbers_of size.width size.height left.new ≡ cost_grid method Left size.width size.height (Pictures·picture size picture.now) }
+    ensures right { one_cost method.energy ≡ false → FillAsked size (length picture.now) (length up.old) → FillAsked size (length picture.now) (length left.old) → FillAsked size (length picture.now) (length right.old) → numbers_of size.width size.height right.new ≡ cost_grid method Right size.width size.height (Pictures·picture size picture.now) }
+
+// Keeps the costs of coming from one side, where a seam was just cut from the picture: each pixel carries its own along, and those are
+// worked out anew that have a new neighbour. The picture's rows stand as far apart as at this size, and its first `width` columns are
+// left. Where that isn't so, nothing is promised but the length.
+pub fn keep_costs(
+    picture: &[u8],
+    size: Size,
+    width: usize,
+    method: Method,
+    from: Side,
+    seam: &[u16],
+    plane: &mut [u8],
+)
+    ensures long { length plane.new ≡ length plane.old }
+    ensures kept { KeepAsked method size width seam.now (length picture.now) (length plane.old) → fronts width (numbers_of size.width size.height plane.new) ≡ refreshed (wrap_of method) (width + 1) size.height (λ r c. cost_to from (costs_at method width size.height (Pictures·picture size picture.now) r c)) seam.now (fronts (width + 1) (numbers_of size.width size.height plane.old)) }

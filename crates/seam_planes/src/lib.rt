@@ -1,0 +1,32 @@
+// Planes of a picture that is carved in a space: seams closed up in place, numbers put into a row, and the picture packed at the end.
+#![tactic(auto, unfolding(pictures::specs::Pictures::pixel_bytes))]
+
+ghost use Rattle.std.specs.Prelude.{◌≡◌, ◌-◌, ◌*◌, ◌≤◌, ℕ, length, take, get_or};
+ghost use Rattle.grids.specs.Cut.{cut};
+ghost use Rattle.pictures.specs.Refusals.{refusal};
+ghost use Rattle.pictures.specs.Numbers.{pairs, largest_number};
+ghost use Rattle.pictures.specs.Pictures.{side_rules, pixel_bytes as Pictures·pixel_bytes, picture_bytes, picture as Pictures·picture, bytes};
+ghost use Rattle.seam_planes.specs.Planes.{fronts, numbers_of, NumbersSeam, PictureSeam};
+
+use pictures::Size;
+
+// Takes the seam's number out of each row of a plane of numbers, `stride` of them a row, of which the first `width` count. What then stands
+// after the numbers that are left is of no account. Where there is no such plane or seam, nothing is promised but its length.
+pub fn close_numbers(plane: &mut [u8], stride: usize, width: usize, seam: &[u16])
+    ensures long { length plane.new ≡ length plane.old }
+    ensures closed { NumbersSeam stride width seam.now (length plane.old) → fronts (width - 1) (numbers_of stride (length seam.now) plane.new) ≡ cut seam.now (fronts width (numbers_of stride (length seam.now) plane.old)) }
+
+// The same of a picture, whose rows stand as far apart as at this size, and of which the first `width` columns are left.
+pub fn close_picture(plane: &mut [u8], size: Size, width: usize, seam: &[u16])
+    ensures long { length plane.new ≡ length plane.old }
+    ensures closed { PictureSeam size width seam.now (length plane.old) → fronts (width - 1) (Pictures·picture size plane.new) ≡ cut seam.now (fronts width (Pictures·picture size plane.old)) }
+
+// Packs the columns that are left of a picture at its front, row by row.
+pub fn pack_picture(plane: &mut [u8], size: Size, width: usize)
+    ensures long { length plane.new ≡ length plane.old }
+    ensures packed { (refusal (side_rules size) ≡ 0) × (width ≤ size.width) × (length plane.old ≡ picture_bytes size) → take (size.height * (width * Pictures·pixel_bytes size.kind)) plane.new ≡ bytes size.kind (fronts width (Pictures·picture size plane.old)) }
+
+// Puts numbers into a row of a plane, two bytes each.
+pub fn put_numbers(numbers: &[u32], row: &mut [u8])
+    ensures long { length row.new ≡ length row.old }
+    ensures put { (length row.old ≡ 2 * length numbers.now) × ((i : ℕ) → get_or numbers.now i 0 ≤ largest_number) → row.new ≡ pairs numbers.now }
