@@ -3,3 +3,4 @@ pub mod Around
 pub mod Energy
 pub mod Bounds
 pub mod Inner
+pub mod Pixels

@@ -4,6 +4,7 @@
 mod forward;
 mod kernels;
 pub mod methods;
+pub mod pixels;
 
 ghost use Rattle.grids.specs.Table.{table};
 ghost use Rattle.energy.specs.Around.{around};
@@ -14,6 +15,7 @@ ghost use Rattle.energy.specs.Inner.{RowNeeded, RowStepsNeeded, neighbour_of};
 ghost use Rattle.std.specs.Prelude.{◌≡◌, ◌++◌, ◌-◌, ◌≤◌, ◌<◌, true, false, ◌||◌, eqb, length, drop};
 
 pub use methods::{EnergyRule, Method, usual_method};
+pub use pixels::Side;
 use pictures::{Refusal, Size, judge_picture, pixel_bytes};
 
 // The energies of row r, put into the first `width` places of out. By forward a pixel's energy is what coming to it from straight
