@@ -9,7 +9,7 @@ use Rattle.grids.specs.Exchange.{exchange}
 use Rattle.grids.specs.Cut.{remove_at, cut}
 
 module _ {A B : Type 0} (f : A → B) where
-  remove_at-map : (i : ℕ) (xs : List A) → remove_at i (map f xs) ≡ map f (remove_at i xs)
+  pub remove_at-map : (i : ℕ) (xs : List A) → remove_at i (map f xs) ≡ map f (remove_at i xs)
   unfolding remove_at
   remove_at-map i [] = refl
   remove_at-map zero (x ∷ xs) = refl

@@ -13,3 +13,4 @@ pub mod Grown
 pub mod Building
 pub mod Points
 pub mod Smallest
+pub mod LeftColumns
