@@ -1,19 +1,17 @@
 -- The costs of a picture's pixels, kept in planes of numbers.
-use Rattle.std.specs.Prelude.{◌≡◌, true, false, List, ℕ, ◌+◌, ◌*◌, ◌≤◌, length}
+use Rattle.std.specs.Prelude.{◌≡◌, true, false, List, ℕ, ◌+◌, ◌*◌, ◌≤◌, ◌<◌, length}
 use Rattle.grids.specs.Table.{table}
 use Rattle.pictures.specs.declared.sizes.Size.{Size}
 use Rattle.pictures.specs.Refusals.{refusal}
-use Rattle.pictures.specs.Pictures.{Picture, picture, picture_bytes, pixels, side_rules}
+use Rattle.pictures.specs.Pictures.{Picture, picture_bytes, pixels, side_rules}
 use Rattle.energy.specs.declared.methods.Method.{Method}
 use Rattle.energy.specs.declared.pixels.Side.{Side}
-use Rattle.energy.specs.Energy.{one_cost, costs_at}
+use Rattle.energy.specs.Energy.{costs_at}
 use Rattle.energy.specs.Methods.{wrap_of}
 use Rattle.energy.specs.Pixels.{cost_to}
 use Rattle.seam_theory.specs.Connected.{linked}
 use Rattle.seam_theory.specs.Paths.{near}
 use Rattle.seam_bounds.specs.Moves.{outside}
-use Rattle.seam_planes.specs.Planes.{fronts, numbers_of}
-use Rattle.seam_keep.specs.Refresh.{refreshed}
 
 -- What coming from one side to each pixel of a picture of w columns and h rows costs, row by row.
 unfoldable pub cost_grid : Method → Side → ℕ → ℕ → Picture → List (List ℕ)

@@ -1,0 +1,3 @@
+pub mod Refresh
+pub mod Beside
+pub mod Fronts
