@@ -121,6 +121,14 @@ neighbour_difference Edge one = edge_difference
 neighbour_difference Flat one = flat_difference
 neighbour_difference Forward one = absurd (not-forward one)
 
+-- So an energy is the differences to the pixels that stand for the right and the lower neighbour.
+pub energy-neighbours : (rule : EnergyRule) → one_cost rule ≡ true → (w h : ℕ) (p : Picture) (r c : ℕ) → r < h → c < w
+    → (costs_from rule (around false w h p r c)).up
+    ≡ difference (pixel p r (neighbour_of rule c w)) (pixel p r c) + difference (pixel p (neighbour_of rule r h) c) (pixel p r c)
+energy-neighbours rule one w h p r c l m =
+    energy-both rule one w h p r c
+    ∙ ap₂ ◌+◌ (neighbour_difference rule one (pixel p r) c w m) (neighbour_difference rule one (λ a. pixel p a c) r h l)
+
 -- The loop over a row takes the difference of each column to that line.
 right_column_lem : (rule : EnergyRule) (w c : ℕ) → c < w → right_column w (neighbour_of rule (w - 1) w) c ≡ neighbour_of rule c w
 right_column_lem rule w c h =
@@ -137,8 +145,7 @@ pub energy-between : (z : Size) (how : Method) → one_cost how.energy ≡ true 
     ≡ between (channels_of z.kind) (take (row_bytes z) (drop (r * row_bytes z) b)) (take (row_bytes z) (drop (neighbour_of how.energy r z.height * row_bytes z) b)) z.width (neighbour_of how.energy (z.width - 1) z.width) c
 unfolding wrap_of costs_at between
 energy-between z how one b e r c h l =
-    energy-both rule one w z.height p r c
-    ∙ ap₂ ◌+◌ (neighbour_difference rule one (pixel p r) c w l ∙ right) (neighbour_difference rule one (λ a. pixel p a c) r z.height h ∙ below)
+    energy-neighbours rule one w z.height p r c h l ∙ ap₂ ◌+◌ right below
   where
     rule : EnergyRule
     rule = how.energy

@@ -8,3 +8,4 @@ pub mod Differences
 pub mod Samples
 pub mod Padded
 pub mod Meeting
+pub mod Places

@@ -32,7 +32,7 @@ use Rattle.energy.proofs.Padded.{after, before_is, after_is}
 
 -- The neighbours of a pixel in its row, or else the pixel itself: by their columns.
 module _ (w h : ℕ) (p : Picture) (r c : ℕ) where
-  left-it : left_or_it (around false w h p r c) ≡ pixel p r (c - 1)
+  pub left-it : left_or_it (around false w h p r c) ≡ pixel p r (c - 1)
   unfolding left_of
   left-it =
       ⊎_elim
@@ -40,7 +40,7 @@ module _ (w h : ℕ) (p : Picture) (r c : ℕ) where
       (λ (l : 0 < c). rw (lt-ltb 0 c l))
       (le-or-lt c 0)
 
-  right-it : right_or_it (around false w h p r c) ≡ pixel p r (after w c)
+  pub right-it : right_or_it (around false w h p r c) ≡ pixel p r (after w c)
   unfolding right_of
   right-it =
       ⊎_elim

@@ -1,10 +1,11 @@
 -- What the private functions of this crate ask and promise, in terms of rows of bytes. No public promise cites it.
 use Rattle.std.specs.Prelude.{◌≡◌, cond, List, ◌++◌, ℕ, ◌+◌, ◌-◌, ◌*◌, ◌≤◌, ◌<◌, ltb, length, get_or, sum, take, drop}
 use Rattle.grids.specs.Rows.{row_at}
+use Rattle.pictures.specs.declared.sizes.Kind.{Kind}
 use Rattle.pictures.specs.declared.sizes.Size.{Size}
 use Rattle.pictures.specs.Refusals.{refusal}
 use Rattle.pictures.specs.Limits.{most_side}
-use Rattle.pictures.specs.Pictures.{largest_side, size_rules}
+use Rattle.pictures.specs.Pictures.{largest_side, channels_of, size_rules}
 use Rattle.energy.specs.declared.methods.EnergyRule.{EnergyRule}
 use Rattle.energy.specs.declared.methods.EnergyRule.TheVariants.{Edge, Flat, Forward}
 use Rattle.energy.specs.Energy.{apart, difference}
@@ -131,3 +132,7 @@ module _ (channels : ℕ) (it : List ℕ) where
 
   abbrev pub right_of_row : List ℕ → ℕ → ℕ
   right_of_row above = two_distances channels afters befores above afters
+
+-- One pixel at a place. The samples of a pixel, which begin at place `at` of a picture's bytes.
+abbrev pub pixel_from : Kind → ℕ → List ℕ → List ℕ
+pixel_from k at b = take (channels_of k) (drop at b)

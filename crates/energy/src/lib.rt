@@ -15,8 +15,8 @@ ghost use Rattle.energy.specs.Inner.{RowNeeded, RowStepsNeeded, neighbour_of};
 ghost use Rattle.std.specs.Prelude.{◌≡◌, ◌++◌, ◌-◌, ◌≤◌, ◌<◌, true, false, ◌||◌, eqb, length, drop};
 
 pub use methods::{EnergyRule, Method, usual_method};
-pub use pixels::Side;
 use pictures::{Refusal, Size, judge_picture, pixel_bytes};
+pub use pixels::{Side, cost_at};
 
 // The energies of row r, put into the first `width` places of out. By forward a pixel's energy is what coming to it from straight
 // above costs. Refused by 2, 3 and 4 as every picture is, by 4 where
