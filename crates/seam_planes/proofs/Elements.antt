@@ -1,18 +1,20 @@
 -- What the cells of a plane are: numbers of two bytes, or pixels.
 use mathlib.Core.Path.{◌≡◌, refl, sym, ap, ap₂, ◌∙◌}
 use mathlib.Core.List.{List, [], ◌∷◌, map}
-use Prim.Native.Nat.{ℕ, zero, suc, ◌*◌}
-use native.Mathlib.Nat.{mul_comm, le_of_eq}
+use Prim.Native.Nat.{ℕ, zero, suc, ◌+◌, ◌*◌, ◌≤◌, ◌<◌}
+use native.Mathlib.Nat.{mul_comm, mul_left_comm, le_of_eq}
 use native.Mathlib.Omega.{arith}
-use lib.ListN.{length, get_or, drop}
-use Rattle.grids.specs.Rows.{rows_of, cells}
+use lib.ListN.{length, get_or, take, drop}
+use lib.Seq.{take-take}
+use Rattle.grids.specs.Each.{Grid}
+use Rattle.grids.specs.Rows.{rows_of, row_at, cells}
 use Rattle.grids.specs.Cut.{cut}
-use Rattle.grids.proofs.Shapes.{each_then}
-use Rattle.grids.proofs.Rows.{grid-rows_of}
+use Rattle.grids.proofs.Shapes.{each_then, get_or-map}
+use Rattle.grids.proofs.Rows.{grid-rows_of, rows_of_at, length-row_at, length-rows_of, row_at_get_d}
 use Rattle.pictures.specs.declared.sizes.Size.{Size}
 use Rattle.pictures.specs.Numbers.{two_bytes, numbers_in}
 use Rattle.pictures.specs.Pictures.{pixel_bytes, row_bytes, samples_of, row_in, picture}
-use Rattle.pictures.proofs.TwoBytes.{numbers-take, numbers-drop}
+use Rattle.pictures.proofs.TwoBytes.{numbers-take, numbers-drop, numbers-row, numbers_at, length-numbers}
 use Rattle.seam_planes.specs.Planes.{fronts, numbers_of}
 use Rattle.seam_planes.proofs.Fronts.{fronts_cut}
 
@@ -31,6 +33,28 @@ row_numbers (suc m) (x ∷ y ∷ b) e = ap (two_bytes x y ∷◌) (row_numbers m
 pub numbers_rows : (m h : ℕ) (b : List ℕ) → numbers_of m h b ≡ map numbers_in (rows_of (2 * m) h b)
 numbers_rows m zero b = refl
 numbers_rows m (suc h) b = ap₂ ◌∷◌ (sym (numbers-take m b)) (ap (rows_of m h) (sym (numbers-drop m b)) ∙ numbers_rows m h (drop (2 * m) b))
+
+pub numbers_grid : (m h : ℕ) (b : List ℕ) → length b ≡ h * (2 * m) → Grid m h (numbers_of m h b)
+numbers_grid m h b e = grid-rows_of m h (numbers_in b) (omega (arith, length-numbers b, e, mul_left_comm h 2 m))
+
+pub numbers_row : (m h : ℕ) (b : List ℕ) (r : ℕ) → r < h → get_or (numbers_of m h b) r [] ≡ numbers_in (row_at (2 * m) r b)
+numbers_row m h b r l = rows_of_at m h (numbers_in b) r l ∙ sym (numbers-row m r b)
+
+-- The number in row r and column c.
+pub number_at : (m h : ℕ) (b : List ℕ) (r c : ℕ) → length b ≡ h * (2 * m) → r < h → c < m
+    → get_or (get_or (numbers_of m h b) r []) c 0 ≡ two_bytes (get_or b (r * (2 * m) + 2 * c) 0) (get_or b (r * (2 * m) + (2 * c + 1)) 0)
+number_at m h b r c e l k =
+    let row = row_at (2 * m) r b in
+    let long : length (row_at (2 * m) r b) ≡ 2 * m = length-row_at (2 * m) h b r (le_of_eq (sym e)) l in
+    ap (λ x. get_or x c 0) (numbers_row m h b r l) ∙ numbers_at row c (omega (arith, long))
+    ∙ ap₂ two_bytes (row_at_get_d (2 * m) b r (2 * c) 0 (omega arith)) (row_at_get_d (2 * m) b r (2 * c + 1) 0 (omega arith))
+
+-- The first w numbers of row r, from the bytes that a loop is lent of it.
+pub numbers_front : (m h w : ℕ) (b : List ℕ) (r : ℕ) → w ≤ m → r < h → numbers_in (take (2 * w) (drop (r * (2 * m)) b)) ≡ get_or (fronts w (numbers_of m h b)) r []
+numbers_front m h w b r k l =
+    ap numbers_in (sym (take-take (2 * w) (2 * m) (drop (r * (2 * m)) b) (omega arith)))
+    ∙ numbers-take w (row_at (2 * m) r b) ∙ ap (take w) (sym (numbers_row m h b r l))
+    ∙ sym (get_or-map (take w) (numbers_of m h b) r [] [] (rw (length-rows_of) l))
 
 pub numbers_cells : (m h : ℕ) (b : List ℕ) → length b ≡ h * (m * 2) → numbers_of m h b ≡ map (map number_of) (cells 2 m h b)
 unfolding cells

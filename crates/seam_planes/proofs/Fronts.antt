@@ -7,7 +7,7 @@ use native.Mathlib.Omega.{arith}
 use lib.ListN.{get_or, take}
 use lib.Seq.{take_all, length-take-le, get_or-take, take-take}
 use Rattle.std.proofs.lemmas.List.{take-map}
-use Rattle.grids.specs.Each.{Grid, none, more}
+use Rattle.grids.specs.Each.{Each, Grid, none, more}
 use Rattle.grids.specs.Table.{table}
 use Rattle.grids.specs.Rows.{rows_of}
 use Rattle.grids.specs.Cut.{cut}
@@ -16,7 +16,16 @@ use Rattle.grids.proofs.Filled.{map-table}
 use Rattle.seam_planes.specs.Planes.{fronts}
 
 module _ {A : Type 0} where
-  -- The fronts of a grid are a grid.
+  -- The fronts of rows of which every element has a property, as of a picture's rows every pixel; and the fronts of a grid.
+  take_each : {P : A → Type 0} {m : ℕ} {x : List A} (w : ℕ) → w ≤ m → Each P m x → Each P w (take w x)
+  take_each zero l e = none
+  take_each (suc w) l none = absurd (omega arith)
+  take_each (suc w) l (more p e) = more p (take_each w (le_of_suc-le-suc l) e)
+
+  pub fronts_each : {P : A → Type 0} {m n : ℕ} {p : List (List A)} (w : ℕ) → w ≤ m → Each (Each P m) n p → Each (Each P w) n (fronts w p)
+  fronts_each w l none = none
+  fronts_each w l (more e g) = more (take_each w l e) (fronts_each w l g)
+
   pub fronts_grid : {m n : ℕ} {p : List (List A)} (w : ℕ) → w ≤ m → Grid m n p → Grid w n (fronts w p)
   fronts_grid w l none = none
   fronts_grid w l (more {x = x} e g) = more (length-take-le w x (omega arith)) (fronts_grid w l g)

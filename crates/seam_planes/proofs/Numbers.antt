@@ -1,19 +1,18 @@
 -- Numbers put into a row, and rows of them into a plane.
 use mathlib.Core.Path.{◌≡◌, refl, sym, ap, ◌∙◌}
 use mathlib.Core.List.{List, [], ◌∷◌, ◌++◌, map, append-nil}
-use Prim.Native.Nat.{ℕ, ◌+◌, ◌-◌, ◌*◌, ◌%◌, ◌≤◌, ◌<◌}
+use Prim.Native.Nat.{ℕ, zero, suc, ◌+◌, ◌-◌, ◌*◌, ◌%◌, ◌≤◌, ◌<◌}
 use native.Mathlib.Nat.{zero-mul, le_of_eq}
 use native.Mathlib.Omega.{arith}
 use borrow.Rule.Slice.PartMut.{mid_of, put_mid, same_len_mid, mid_len}
-use lib.ListN.{length, get_or, drop, drop_of_length-le}
-use Rattle.grids.specs.Each.{Grid}
+use lib.ListN.{length, get_or, drop, set, drop_of_length-le}
 use Rattle.grids.specs.Table.{table}
 use Rattle.grids.specs.Rows.{rows_of, flat}
 use Rattle.grids.proofs.Tables.{table-all, table_same, each-table}
 use Rattle.grids.proofs.Rows.{part_end, rows_of-flat}
 use Rattle.grids.proofs.Filled.{Filled, map-table}
-use Rattle.pictures.specs.Numbers.{largest_number, low_byte, high_byte, pairs, numbers_in}
-use Rattle.pictures.proofs.TwoBytes.{length_pairs, numbers-pairs}
+use Rattle.pictures.specs.Numbers.{largest_number, two_bytes, low_byte, high_byte, pairs, numbers_in}
+use Rattle.pictures.proofs.TwoBytes.{two_bytes_lem, length_pairs, numbers-pairs}
 use Rattle.seam_planes.specs.Planes.{numbers_of}
 use Rattle.seam_planes.proofs.Lent.{whole_turn}
 use Rattle.seam_planes.proofs.Elements.{numbers_rows}
@@ -47,6 +46,25 @@ module _ (ys old : List ℕ) (long : length old ≡ 2 * length ys) where
       ∙ ap flat (table_same (lower ys) (λ i. pair (get_or ys i 0)) (length ys) (λ i l. let e : get_or ys i 0 % 65536 ≡ get_or ys i 0 = omega (arith, small i) in ap pair e))
       ∙ sym (pairs_table ys)
 
+-- One number put into a row of numbers.
+pub number_put : (c v : ℕ) (x : List ℕ) → 2 * c + 2 ≤ length x → numbers_in (put_mid (2 * c) 2 x (pair v)) ≡ set (numbers_in x) c v
+number_put zero v [] h = absurd (omega arith)
+number_put zero v (a ∷ []) h = absurd (omega arith)
+number_put zero v (a ∷ b ∷ x) h = ap (◌∷ numbers_in x) (two_bytes_lem v)
+number_put (suc c) v [] h = absurd (omega arith)
+number_put (suc c) v (a ∷ []) h = absurd (omega arith)
+number_put (suc c) v (a ∷ b ∷ x) h =
+    let e : 2 * suc c ≡ suc (suc (2 * c)) = omega arith in
+    rw e (ap (two_bytes a b ∷◌) (number_put c v x (omega arith)))
+
+-- The numbers of a plane whose rows are as `f` says.
+pub numbers_filled : (f : ℕ → List ℕ) (m h : ℕ) (old now : List ℕ) → ((i : ℕ) → i < h → length (f i) ≡ 2 * m) → Filled f (2 * m) old h now
+    → numbers_of m h now ≡ table (λ i. numbers_in (f i)) h
+numbers_filled f m h old now size so =
+    numbers_rows m h now
+    ∙ ap (map numbers_in) (ap (rows_of (2 * m) h) so ∙ rows_of-flat (drop (h * (2 * m)) old) (each-table f h size))
+    ∙ map-table numbers_in f h
+
 -- A plane of h rows of m numbers that a loop fills row by row, as it stands before row r is put. Row i becomes `q i`.
 pub record RowsPut (q : ℕ → List ℕ) (m h : ℕ) (old : List ℕ) (r : ℕ) (now : List ℕ) : Type 0 where
   pub within : r ≤ h
@@ -75,9 +93,5 @@ module _ (q : ℕ → List ℕ) (m h : ℕ) (wide : (i : ℕ) → i < h → leng
   pub rows_put_end : (r : ℕ) (now : List ℕ) → h ≤ r → RowsPut q m h old r now → numbers_of m h now ≡ table q h
   rows_put_end r now l so =
       let e : r ≡ h = omega (arith, so.within) in
-      let grid : Grid (2 * m) h (table (λ i. pairs (q i)) h) = each-table (λ i. pairs (q i)) h size in
-      let is : Filled (λ i. pairs (q i)) (2 * m) old h now = rw e at so.is in
-      numbers_rows m h now
-      ∙ ap (map numbers_in) (ap (rows_of (2 * m) h) is ∙ rows_of-flat (drop (h * (2 * m)) old) grid)
-      ∙ map-table numbers_in (λ i. pairs (q i)) h
+      numbers_filled (λ i. pairs (q i)) m h old now size (rw e at so.is)
       ∙ table_same (λ i. numbers_in (pairs (q i))) q h (λ i x. numbers-pairs (q i))
