@@ -99,10 +99,10 @@ removed_at d i xs c =
     (λ (l : c < i). rw (lt-leb i c l) (remove_at-below i xs c d l))
     (le-or-lt i c)
 
--- A pixel of a picture that is left is the one that stood there.
-pub cut_stood : (s : List ℕ) (p : Picture) (r c : ℕ) → length s ≡ length p → pixel (cut s p) r c ≡ pixel p r (stood s r c)
+-- An element of a grid that is left is the one that stood there.
+pub cut_stood : {A : Type 0} (d : A) (s : List ℕ) (p : List (List A)) (r c : ℕ) → length s ≡ length p → get_or (get_or (cut s p) r []) c d ≡ get_or (get_or p r []) (stood s r c) d
 unfolding stood
-cut_stood s p r c e = ap (λ x. get_or x c []) (cut_at s p r e) ∙ removed_at [] (get_or s r 0) (get_or p r []) c
+cut_stood d s p r c e = ap (λ x. get_or x c d) (cut_at s p r e) ∙ removed_at d (get_or s r 0) (get_or p r []) c
 
 -- So a pixel with no changed neighbour has the neighbours that it had.
 pub around_kept : (wrap : Bool) (w h : ℕ) (s : List ℕ) (p : Picture) (r c : ℕ) → length s ≡ length p
@@ -124,7 +124,7 @@ around_kept wrap w h s p r c e same =
     u = unchanged_of wrap w h s r c same
 
     here : (r c : ℕ) → pixel (cut s p) r c ≡ pixel p r (stood s r c)
-    here r c = cut_stood s p r c e
+    here r c = cut_stood [] s p r c e
 
 -- Where a pixel stood is inside the picture before the cut.
 stood_inside : (w : ℕ) (s : List ℕ) (r c : ℕ) → c < w - 1 → stood s r c < w

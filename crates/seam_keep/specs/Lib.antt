@@ -1,2 +1,3 @@
 pub mod Refresh
 pub mod Keeping
+pub mod Inner
