@@ -20,7 +20,7 @@ module _ {A : Type 0} where
   take_each : {P : A → Type 0} {m : ℕ} {x : List A} (w : ℕ) → w ≤ m → Each P m x → Each P w (take w x)
   take_each zero l e = none
   take_each (suc w) l none = absurd (omega arith)
-  take_each (suc w) l (more p e) = more p (take_each w (le_of_suc-le-suc l) e)
+  take_each (suc w) l (more {n = n} p e) = more p (take_each {m = n} w (le_of_suc-le-suc l) e)
 
   pub fronts_each : {P : A → Type 0} {m n : ℕ} {p : List (List A)} (w : ℕ) → w ≤ m → Each (Each P m) n p → Each (Each P w) n (fronts w p)
   fronts_each w l none = none
