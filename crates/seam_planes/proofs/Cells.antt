@@ -74,7 +74,6 @@ module _ {n m w : ℕ} {s b : List ℕ} (needed : RowsNeeded n m w s b) where
   pub record RowSure (r : ℕ) : Type 0 where
     pub end : r * (m * n) + m * n ≤ length b
     pub used : w * n ≤ m * n
-    pub gap : get_or s r 0 * n + n ≤ w * n
 
   column : (r : ℕ) → r < length s → get_or s r 0 < w
   column r l = each_at r 0 l (inside_each w s needed.inside)
@@ -83,8 +82,10 @@ module _ {n m w : ℕ} {s b : List ℕ} (needed : RowsNeeded n m w s b) where
   row_sure r l = record {
     end = omega (arith, part_end r (length s) (m * n) l, needed.long);
     used = used;
-    gap = part_end (get_or s r 0) w n (column r l);
   }
+
+  pub gap_sure : (r : ℕ) → r < length s → get_or s r 0 * n + n ≤ w * n
+  gap_sure r l = part_end (get_or s r 0) w n (column r l)
 
   row_long : (r : ℕ) → r < length s → length (row_at (m * n) r b) ≡ m * n
   row_long r l = length-row_at (m * n) (length s) b r (le_of_eq (sym needed.long)) l

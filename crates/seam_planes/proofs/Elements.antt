@@ -34,9 +34,11 @@ pub numbers_rows : (m h : ℕ) (b : List ℕ) → numbers_of m h b ≡ map numbe
 numbers_rows m zero b = refl
 numbers_rows m (suc h) b = ap₂ ◌∷◌ (sym (numbers-take m b)) (ap (rows_of m h) (sym (numbers-drop m b)) ∙ numbers_rows m h (drop (2 * m) b))
 
+-- They are a grid.
 pub numbers_grid : (m h : ℕ) (b : List ℕ) → length b ≡ h * (2 * m) → Grid m h (numbers_of m h b)
 numbers_grid m h b e = grid-rows_of m h (numbers_in b) (omega (arith, length-numbers b, e, mul_left_comm h 2 m))
 
+-- Row r.
 pub numbers_row : (m h : ℕ) (b : List ℕ) (r : ℕ) → r < h → get_or (numbers_of m h b) r [] ≡ numbers_in (row_at (2 * m) r b)
 numbers_row m h b r l = rows_of_at m h (numbers_in b) r l ∙ sym (numbers-row m r b)
 
@@ -56,6 +58,7 @@ numbers_front m h w b r k l =
     ∙ numbers-take w (row_at (2 * m) r b) ∙ ap (take w) (sym (numbers_row m h b r l))
     ∙ sym (get_or-map (take w) (numbers_of m h b) r [] [] (rw (length-rows_of) l))
 
+-- A plane of numbers is one of cells of two bytes.
 pub numbers_cells : (m h : ℕ) (b : List ℕ) → length b ≡ h * (m * 2) → numbers_of m h b ≡ map (map number_of) (cells 2 m h b)
 unfolding cells
 numbers_cells m h b e =

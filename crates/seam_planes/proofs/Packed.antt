@@ -11,7 +11,7 @@ use Rattle.grids.specs.Table.{table}
 use Rattle.grids.specs.Rows.{rows_of, flat, row_at, cells, flat_cells}
 use Rattle.grids.proofs.Shapes.{grid_of}
 use Rattle.grids.proofs.Tables.{table-all, table_same}
-use Rattle.grids.proofs.Rows.{part_end, length-rows_of, rows_of_at, length-row_at, flat-rows_of}
+use Rattle.grids.proofs.Rows.{length-rows_of, rows_of_at, length-row_at, flat-rows_of}
 use Rattle.grids.proofs.Filled.{Filled, filled-length, filled-later}
 use Rattle.pictures.specs.declared.sizes.Size.{Size}
 use Rattle.pictures.specs.Pictures.{pixel_bytes, row_bytes, picture_bytes, bytes_of, picture, bytes}
@@ -22,6 +22,7 @@ use Rattle.seam_planes.specs.Inner.{PackNeeded}
 use Rattle.seam_planes.proofs.Fronts.{fronts_all, fronts_table, fronts-map, take-rows}
 use Rattle.seam_planes.proofs.Lent.{whole_turn}
 
+-- Rows, as a table.
 rows_table : (m h : ℕ) (b : List ℕ) → rows_of m h b ≡ table (λ r. row_at m r b) h
 rows_table m h b =
     sym (table-all (rows_of m h b) [])
@@ -37,20 +38,6 @@ module _ {m k h : ℕ} {b : List ℕ} (needed : PackNeeded m k h b) where
   abbrev rows : ℕ → List ℕ
   rows = packed_row m k b
 
-  pub record PackSure (r : ℕ) : Type 0 where
-    pub end : r * m + m ≤ length b
-    pub dest : r * k ≤ r * m
-    pub dest_end : r * k + k ≤ length b
-
-  pub pack_sure : (r : ℕ) → r < h → PackSure r
-  pack_sure r l =
-      let less = mul-le-mul_left r needed.left in
-      record {
-        end = omega (arith, part_end r h m l, needed.long);
-        dest = less;
-        dest_end = omega (arith, part_end r h m l, needed.long, less, needed.left);
-      }
-
   pub size : (r : ℕ) → r < h → length (rows r) ≡ k
   size r l = length-take-le k (row_at m r b) (omega (arith, length-row_at m h b r (le_of_eq (sym needed.long)) l, needed.left))
 
@@ -62,8 +49,7 @@ module _ {m k h : ℕ} {b : List ℕ} (needed : PackNeeded m k h b) where
   pack_turn r from to now row old new l same p q row_is New-is so =
       let e : from + k - from ≡ k = omega arith in
       let f : to + k - to ≡ k = omega arith in
-      let u = pack_sure r l in
-      let later : drop (r * m) now ≡ drop (r * m) b = filled-later rows h k size b r now l so (r * m) u.dest in
+      let later : drop (r * m) now ≡ drop (r * m) b = filled-later rows h k size b r now l so (r * m) (mul-le-mul_left r needed.left) in
       let is : row ≡ rows r = (rw (e, p) at row_is) ∙ ap (take k) later ∙ sym (take-take k m (drop (r * m) b) needed.left) in
       let through : new ≡ rows r = New-is ∙ take_at row (drop k old) k (ap length is ∙ size r l) ∙ is in
       rw (f, q) (whole_turn rows h k size b (omega (arith, mul-le-mul_left h needed.left, needed.long)) r now l so new through same)

@@ -68,7 +68,8 @@ pub fn pack_picture(plane: &mut [u8], size: Size, width: usize)
     pack_rows(plane, size.width * pixel, width * pixel, size.height);
 }
 
-// Puts numbers into a row of a plane, two bytes each.
+// Puts numbers into a row of a plane, two bytes each. By index: of what `chunks_exact_mut` lends nothing is known afterwards. The loop
+// compiles to moves of eight numbers.
 pub fn put_numbers(numbers: &[u32], row: &mut [u8])
     ensures long { length row.new ≡ length row.old }
     ensures put { (length row.old ≡ 2 * length numbers.now) × ((i : ℕ) → get_or numbers.now i 0 ≤ largest_number) → row.new ≡ pairs numbers.now }
@@ -77,7 +78,7 @@ pub fn put_numbers(numbers: &[u32], row: &mut [u8])
         return;
     }
     for (c, number) in numbers.iter().enumerate() {
-        let low = (*number % 65536) as u16;
-        row[2 * c..2 * c + 2].copy_from_slice(&low.to_le_bytes());
+        let lower = (*number % 65536) as u16;
+        row[2 * c..2 * c + 2].copy_from_slice(&lower.to_le_bytes());
     }
 }

@@ -7,7 +7,7 @@ ghost use Rattle.seam_planes.specs.Inner.{PackNeeded};
 use pictures::LARGEST_SIDE;
 
 // Puts the first `kept` bytes of each row of `stride` at the front, one row after the other. A row's bytes pass through `line`, since
-// where they go overlaps where they are: by copy_within, which copies byte by byte, a retarget was measured slower.
+// where they go overlaps where they are, and copy_within copies byte by byte.
 pub(crate) fn pack_rows(plane: &mut [u8], stride: usize, kept: usize, height: usize)
     requires { PackNeeded stride kept height plane.old }
     ensures long { length plane.new ≡ length plane.old }

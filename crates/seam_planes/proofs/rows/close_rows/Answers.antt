@@ -1,7 +1,7 @@
 -- `seam_planes::rows::close_rows` meets its contract. The loop's invariant: r rows are closed, and after them stands what stood there.
 use Rattle.std.proofs.Common.{refl, ◌∙◌, arith, length, ◌-◌, ◌*◌, ◌+◌, ◌≡◌}
 use borrow.Rule.Slice.PartMut.{same_len_mid, mid_len}
-use Rattle.seam_planes.proofs.Cells.{row_sure, row_turn, rows_end}
+use Rattle.seam_planes.proofs.Cells.{row_sure, gap_sure, row_turn, rows_end}
 use Rattle.seam_planes.proofs.rows.close_rows.Goals as goal
 
 pub close_row-requires : goal.close_row-requires
@@ -9,8 +9,9 @@ close_row-requires g c =
     let a = c.args in
     let l = c.loop-r in
     let u = row_sure c.requires l.r c.loop-r-test.true in
+    let gap = gap_sure c.requires l.r c.loop-r-test.true in
     let at = l.r * (a.stride * g.row.N) in
-    omega (arith, u.gap, mid_len at (at + a.width * g.row.N) l.plane (omega (arith, u.end, u.used, l.invariant.long)))
+    omega (arith, gap, mid_len at (at + a.width * g.row.N) l.plane (omega (arith, u.end, u.used, l.invariant.long)))
 
 pub loop-r-preserved : goal.loop-r-preserved
 loop-r-preserved g c =
