@@ -1,14 +1,19 @@
 // Finding the seam of a picture by costs that are kept in planes of numbers.
 #![tactic(auto)]
 
-ghost use Rattle.std.specs.Prelude.{◌≡◌, ◌++◌, length, drop};
+mod down;
+mod rows;
+mod trace;
+mod words;
+
+ghost use Rattle.std.specs.Prelude.{◌≡◌, ◌++◌, ◌≤◌, ℕ, true, eqb, length, get_or, drop};
 ghost use Rattle.energy.specs.Energy.{one_cost};
 ghost use Rattle.seam_sums.specs.Fences.{fence32};
 ghost use Rattle.seam_find.specs.ByCosts.{path_columns};
 ghost use Rattle.seam_find_kept.specs.Finding.{kept_costs, FindAsked};
 
 use energy::Method;
-use pictures::Size;
+use pictures::{AllowedSize, Size};
 
 // Planes of costs, two bytes a number: of coming from straight above, from the left and from the right. Where a pixel costs the same wherever
 // a path comes from, the first has all, and the others may be empty.
@@ -31,4 +36,46 @@ pub fn find_kept(
     seam: &mut [u16],
 )
     ensures long { (length sums.new ≡ length sums.old) × (length seam.new ≡ length seam.old) }
-    ensures found { FindAsked size width (one_cost method.energy) (length costs.now.up.now) (length costs.now.left.now) (length costs.now.right.now) (length sums.old) (length seam.old) → seam.new ≡ path_columns fence32 width size.height (kept_costs method.energy size width costs.now.up.now costs.now.left.now costs.now.right.now) ++ drop size.height seam.old }
+    ensures found { FindAsked size width (one_cost method.energy) (length costs.entry.up.now) (length costs.entry.left.now) (length costs.entry.right.now) (length sums.old) (length seam.old) → seam.new ≡ path_columns fence32 width size.height (kept_costs method.energy size width costs.entry.up.now costs.entry.left.now costs.entry.right.now) ++ drop size.height seam.old }
+{
+    if !is_asked(costs, size, width, method, sums.len(), seam.len()) {
+        return;
+    }
+    let column = down::make_sums(costs, size, width, method, sums);
+    trace::trace_sums(costs, size, width, method, column, sums, seam);
+}
+
+// Whether planes and spaces are as long as they must be, `sums` and `seam` being those of the spaces.
+fn is_asked(
+    costs: KeptCosts<'_>,
+    size: Size,
+    width: usize,
+    method: Method,
+    sums: usize,
+    seam: usize,
+) -> bool
+    ensures asked { result ≡ true → FindAsked size width (one_cost method.energy) (length costs.entry.up.now) (length costs.entry.left.now) (length costs.entry.right.now) sums seam }
+    ensures bytes { result ≡ true → (i : ℕ) → get_or costs.entry.up.now i 0 ≤ 255 }
+    ensures served { FindAsked size width (one_cost method.energy) (length costs.entry.up.now) (length costs.entry.left.now) (length costs.entry.right.now) sums seam → result ≡ true }
+{
+    let Ok(allowed) = AllowedSize::new(size) else {
+        return false;
+    };
+    let bytes = 2 * allowed.pixels();
+    let is_long = method.energy.has_one_cost()
+        || is_plane(costs.left, bytes) && is_plane(costs.right, bytes);
+    0 < width
+        && width <= size.width
+        && is_plane(costs.up, bytes)
+        && is_long
+        && size.height * (4 * (width + 2)) <= sums
+        && size.height <= seam
+}
+
+// Whether a plane is as long as it must be. What it has are bytes, which is known where a slice is an argument.
+fn is_plane(plane: &[u8], bytes: usize) -> bool
+    ensures long { result ≡ eqb (length plane.now) bytes }
+    ensures bytes { (i : ℕ) → get_or plane.now i 0 ≤ 255 }
+{
+    plane.len() == bytes
+}

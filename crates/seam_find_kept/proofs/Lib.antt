@@ -1,0 +1,7 @@
+pub mod FourBytes
+pub mod PlaneRows
+pub mod Stored
+pub mod Small
+pub mod Downward
+pub mod WayBack
+pub mod Kept

@@ -1,0 +1,132 @@
+-- The way back: which way leads where, and that none leads past an edge.
+use mathlib.Core.Path.{◌≡◌, refl, sym, ap, ap₂, ◌∙◌, subst}
+use mathlib.Core.Bool.{false}
+use mathlib.Core.Logic.{◌⊎◌, inl, inr, ⊎_elim}
+use mathlib.Core.List.{List, [], ◌∷◌}
+use Prim.Native.Nat.{ℕ, zero, suc, ◌+◌, ◌-◌, ◌*◌, ◌≤◌, ◌<◌, min}
+use native.Mathlib.Omega.{arith}
+use native.Mathlib.Numerals.{add-one}
+use lib.ListN.{length, get_or, take, drop}
+use lib.Seq.{get_or_at}
+use borrow.Author.Tests.{le-leb, lt-leb}
+use Rattle.grids.specs.Each.{Grid}
+use Rattle.grids.specs.Table.{table}
+use Rattle.grids.specs.Rows.{flat}
+use Rattle.grids.proofs.Orders.{le-or-lt}
+use Rattle.grids.proofs.Tables.{length-table, table_at, each-table}
+use Rattle.grids.proofs.Rows.{flat_at, row_at_get_d}
+use Rattle.seam_theory.specs.Sums.{CostRows, fenced, first_of3, left_sum, up_sum, right_sum, way_of3, came_from, sums_down, ways_up}
+use Rattle.seam_theory.proofs.Bounded.{fenced_at}
+use Rattle.seam_theory.proofs.Ways.{way_plain, came_inner}
+use Rattle.pictures.specs.Limits.{most_side}
+use Rattle.seam_sums.specs.Fences.{fence32}
+use native.Mathlib.Nat.{add-sub_cancel_left}
+use Rattle.pictures.specs.declared.sizes.Size.{Size}
+use Rattle.seam_sums.proofs.Turns.{least_inside}
+use Rattle.seam_find.specs.ByCosts.{last_sums}
+use Rattle.seam_find_kept.specs.Inner.Words.{words_in}
+use Rattle.seam_find_kept.specs.Inner.Down.{row_bytes, fenced_sums, RowsGiven}
+use Rattle.seam_find_kept.proofs.PlaneRows.{Cheap}
+use Rattle.seam_find_kept.proofs.Small.{sums-long, sums-low}
+
+-- Which of three is the least: the first, which isn't more than the second, the second, or the third, which is less.
+data Which (x y z way : ℕ) : Type 0 where
+  first : way ≡ 0 → x ≤ y → Which x y z way
+  second : way ≡ 1 → Which x y z way
+  third : way ≡ 2 → z < y → Which x y z way
+
+which : (x y z : ℕ) → Which x y z (first_of3 x y z)
+unfolding first_of3
+which x y z = go (le-or-lt x (min y z)) (le-or-lt y z)
+  where
+    go : (x ≤ min y z) ⊎ (min y z < x) → (y ≤ z) ⊎ (z < y) → Which x y z (first_of3 x y z)
+    go (inl l) m = first (rw (le-leb x (min y z) l) refl) (omega arith)
+    go (inr l) (inl m) = second (rw (lt-leb x (min y z) l, le-leb y z m) refl)
+    go (inr l) (inr m) = third (rw (lt-leb x (min y z) l, lt-leb y z m) refl) m
+
+-- Below a row of sums of which none with the cost of coming from straight above reaches the fence.
+module _ (fence w : ℕ) (s : List ℕ) (k : CostRows) (long : length s ≡ w) (c : ℕ) (inside : c < w) (low : get_or s c 0 + get_or k.up c 0 < fence) where
+  abbrev x : List ℕ
+  x = fenced false fence w s
+
+  abbrev way : ℕ
+  way = way_of3 false w (fenced false fence w s) k c
+
+  up_is : up_sum x k c < fence
+  up_is = omega (arith, fenced_at false fence w s c (omega arith), low)
+
+  left-fence : c ≡ 0 → fence ≤ left_sum x k c
+  left-fence e = let f : get_or x c 0 ≡ fence = ap (λ n. get_or x n 0) e in omega arith
+
+  right-fence : c + 1 ≡ w → fence ≤ right_sum x k c
+  right-fence e =
+      let at : c + 2 ≡ suc w = omega arith in
+      let f : get_or x (c + 2) 0 ≡ fence = ap (λ n. get_or x n 0) at ∙ get_or_at s fence [] 0 w long in
+      omega arith
+
+  plain : way ≡ first_of3 (left_sum x k c) (up_sum x k c) (right_sum x k c)
+  plain = way_plain false w x k c (inr refl) (inr refl)
+
+  -- The way of column c leads to one of the columns.
+  pub record Within (way : ℕ) : Type 0 where
+    pub later : 0 < c + way
+    pub before : c + way ≤ w
+
+  pub way-within : Within way
+  way-within = go (subst (Which (left_sum x k c) (up_sum x k c) (right_sum x k c)) (sym plain) (which (left_sum x k c) (up_sum x k c) (right_sum x k c)))
+    where
+      go : Which (left_sum x k c) (up_sum x k c) (right_sum x k c) way → Within way
+      go (first e l) = record {
+        later = ⊎_elim (λ (z : c ≤ 0). absurd (omega (arith, left-fence (omega arith), up_is))) (λ (p : 0 < c). omega arith) (le-or-lt c 0);
+        before = omega arith;
+      }
+      go (second e) = record { later = omega arith; before = omega arith }
+      go (third e l) = record {
+        later = omega arith;
+        before = ⊎_elim (λ (z : w ≤ c + 1). absurd (omega (arith, right-fence (omega arith), up_is))) (λ (p : c + 1 < w). omega arith) (le-or-lt w (c + 1));
+      }
+
+  pub way-leads : c + way - 1 ≡ came_from w c way
+  way-leads = sym (came_inner w c way way-within.later way-within.before)
+
+ways-wide : (fence w : ℕ) (costs : ℕ → CostRows) (j : ℕ) → length (ways_up false fence w costs j) ≡ w
+unfolding ways_up
+ways-wide fence w costs j = length-table (way_of3 false w (fenced false fence w (sums_down false fence w costs j)) (costs (suc j))) w
+
+-- The way of a column, from all ways one after the other.
+pub ways-at : (fence w n : ℕ) (costs : ℕ → CostRows) (i c : ℕ) → i < n → c < w
+    → get_or (flat (table (ways_up false fence w costs) n)) (i * w + c) 0 ≡ get_or (ways_up false fence w costs i) c 0
+ways-at fence w n costs i c h l =
+    sym (row_at_get_d w (flat (table (ways_up false fence w costs) n)) i c 0 l)
+    ∙ ap (λ x. get_or x c 0) (flat_at grid i h ∙ table_at (ways_up false fence w costs) n i [] h)
+  where
+    grid : Grid w n (table (ways_up false fence w costs) n)
+    grid = each-table (ways_up false fence w costs) n (λ j m. ways-wide fence w costs j)
+
+-- The way of column c of row i + 1.
+way_is : (fence w : ℕ) (costs : ℕ → CostRows) (i c : ℕ) → c < w
+    → get_or (ways_up false fence w costs i) c 0 ≡ way_of3 false w (fenced false fence w (sums_down false fence w costs i)) (costs (suc i)) c
+unfolding ways_up
+way_is fence w costs i c l = table_at (way_of3 false w (fenced false fence w (sums_down false fence w costs i)) (costs (suc i))) w c 0 l
+
+-- A step up from column c of row i + 1, x being the fenced sums of row i.
+pub record Stepped (k : ℕ → CostRows) (w i c way : ℕ) : Type 0 where
+  pub later : 1 ≤ c + way
+  pub leads : c + way - 1 ≡ came_from w c (get_or (ways_up false fence32 w k i) c 0)
+
+pub stepped : (k : ℕ → CostRows) (w i c way : ℕ) (x : List ℕ) → Cheap k w → i < most_side → c < w → x ≡ fenced_sums k w i → way ≡ way_of3 false w x (k (i + 1)) c
+    → Stepped k w i c way
+stepped k w i c way x cheap few inside is told =
+    let s = sums_down false fence32 w k i in
+    let long = sums-long k w cheap i in
+    let low : get_or s c 0 + get_or (k (suc i)).up c 0 < fence32 = omega (arith, sums-low k w cheap i few c inside, cheap.few (suc i) c) in
+    let it : way ≡ way_of3 false w (fenced_sums k w i) (k (suc i)) c = told ∙ ap₂ (λ y n. way_of3 false w y (k n) c) is (add-one i) in
+    let up : get_or (ways_up false fence32 w k i) c 0 ≡ way_of3 false w (fenced_sums k w i) (k (suc i)) c = way_is fence32 w k i c inside in
+    record {
+      later = omega (arith, it, (way-within fence32 w s (k (suc i)) long c inside low).later);
+      leads = ap (λ v. c + v - 1) it ∙ way-leads fence32 w s (k (suc i)) long c inside low ∙ ap (came_from w c) (sym up);
+    }
+
+-- The column where the path ends is one of the columns.
+pub column-inside : (k : ℕ → CostRows) (z : Size) (w : ℕ) (sums : List ℕ) (column : ℕ) → 0 < w → RowsGiven k z w sums column → column < w
+column-inside k z w sums column some n = omega (arith, n.column_is, least_inside (last_sums fence32 w z.height k) (w - 1))

@@ -1,0 +1,8 @@
+-- `seam_find_kept::rows::row_by_one` meets its contract. The loop's invariant: the sums of the first c columns are stored.
+use Rattle.grids.proofs.Tables.{Stored}
+use Rattle.pictures.specs.Numbers.{numbers_in}
+use Rattle.seam_theory.specs.Sums.{alike_rows, sum_of3}
+use Rattle.seam_find_kept.proofs.rows.row_by_one.Given as goal
+
+abbrev pub invariant-loop-c : goal.invariant-loop-c
+invariant-loop-c l = Stored (sum_of3 l.above (alike_rows (numbers_in l.cost))) l.initial.next l.c-end l.c l.next

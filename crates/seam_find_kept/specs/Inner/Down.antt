@@ -1,0 +1,61 @@
+-- All rows of sums, from the top. What private functions ask and promise; no public promise cites it.
+use Rattle.std.specs.Prelude.{◌≡◌, Bool, false, List, ℕ, ◌+◌, ◌-◌, ◌*◌, ◌≤◌, ◌<◌, length, get_or, take, drop, replicate}
+use Rattle.grids.specs.Rows.{row_at}
+use Rattle.pictures.specs.declared.sizes.Size.{Size}
+use Rattle.pictures.specs.Refusals.{refusal}
+use Rattle.pictures.specs.Pictures.{side_rules, pixels}
+use Rattle.seam_theory.specs.Sums.{CostRows, fenced, sums_down}
+use Rattle.seam_sums.specs.Fences.{fence32}
+use Rattle.seam_find.specs.ByCosts.{bottom_column}
+use Rattle.seam_find_kept.specs.Inner.Words.{words_in}
+
+-- Planes of a picture of this size at first of which w columns are left.
+pub record PlanesNeeded (z : Size) (w : ℕ) (one : Bool) (up : List ℕ) (left right : ℕ) : Type 0 where
+  pub sides : refusal (side_rules z) ≡ 0
+  pub some : 0 < w
+  pub within : w ≤ z.width
+  pub up_long : length up ≡ 2 * pixels z
+  pub bytes : (i : ℕ) → get_or up i 0 ≤ 255
+  pub left_long : one ≡ false → left ≡ 2 * pixels z
+  pub right_long : one ≡ false → right ≡ 2 * pixels z
+
+-- The bytes of a row of w sums with its fences, and room for the rows.
+abbrev pub row_bytes : ℕ → ℕ
+row_bytes w = 4 * (w + 2)
+
+pub record SpaceNeeded (z : Size) (w sums : ℕ) : Type 0 where
+  pub room : z.height * row_bytes w ≤ sums
+
+-- Two rows that are all fence.
+pub record ArraysNeeded (w : ℕ) (above next : List ℕ) : Type 0 where
+  pub above_long : length above ≡ w + 2
+  pub next_long : length next ≡ w + 2
+  pub above_fences : above ≡ replicate (w + 2) fence32
+  pub next_fences : next ≡ replicate (w + 2) fence32
+
+-- The sums of row i between their fences, from the costs k of each row.
+abbrev pub fenced_sums : (ℕ → CostRows) → ℕ → ℕ → List ℕ
+fenced_sums k w i = fenced false fence32 w (sums_down false fence32 w k i)
+
+-- Row i, which there is, is to be worked out from the row above it with its fences, none of its sums above them.
+pub record RowNeeded (z : Size) (w i : ℕ) (above : List ℕ) (next : ℕ) : Type 0 where
+  pub inside : i < z.height
+  pub long : length above ≡ w + 2
+  pub small : (c : ℕ) → get_or above c 0 ≤ fence32
+  pub next_long : next ≡ w
+
+-- The rows above row i are stored; the last of them stands between its fences, and so does what will be row i.
+pub record RowsNeeded (k : ℕ → CostRows) (z : Size) (w i : ℕ) (above next sums : List ℕ) : Type 0 where
+  pub later : 0 < i
+  pub within : i ≤ z.height
+  pub room : z.height * row_bytes w ≤ length sums
+  pub above_long : length above ≡ w + 2
+  pub above_is : above ≡ fenced_sums k w (i - 1)
+  pub next_long : length next ≡ w + 2
+  pub next_fences : next ≡ fenced false fence32 w (take w (drop 1 next))
+  pub rows : (r : ℕ) → r < i → words_in (row_at (row_bytes w) r sums) ≡ fenced_sums k w r
+
+-- All rows are stored, and the first of the least sums of the last row is given.
+pub record RowsGiven (k : ℕ → CostRows) (z : Size) (w : ℕ) (sums : List ℕ) (column : ℕ) : Type 0 where
+  pub rows : (r : ℕ) → r < z.height → words_in (row_at (row_bytes w) r sums) ≡ fenced_sums k w r
+  pub column_is : column ≡ bottom_column fence32 w z.height k
