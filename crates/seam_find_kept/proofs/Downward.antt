@@ -1,23 +1,19 @@
 -- The rows of sums, one after the other: what holds before row i, that one row more keeps it, and what is found at the end.
 use mathlib.Core.Path.{◌≡◌, refl, sym, ap, ap₂, ◌∙◌}
 use mathlib.Core.Bool.{false}
-use mathlib.Core.List.{List, [], ◌∷◌, ◌++◌, map}
-use Prim.Native.Nat.{ℕ, zero, suc, ◌+◌, ◌-◌, ◌*◌, ◌≤◌, ◌<◌}
+use mathlib.Core.List.{List, ◌++◌, map}
+use Prim.Native.Nat.{ℕ, suc, ◌+◌, ◌-◌, ◌*◌, ◌≤◌, ◌<◌}
 use native.Mathlib.Omega.{arith}
-use native.Mathlib.Numerals.{add-one}
 use native.Mathlib.Nat.{add-sub_cancel, add-sub_cancel_left}
 use borrow.Rule.Slice.PartMut.{put_mid}
 use Rattle.std.proofs.lemmas.List.{map-id}
-use lib.ListN.{length, get_or, take, drop, length-append, length-drop}
+use lib.ListN.{length, take, drop, length-append, length-drop}
 use Rattle.grids.specs.Table.{table}
-use Rattle.grids.specs.Rows.{row_at}
 use Rattle.grids.proofs.Rows.{part_end, row_at-first}
 use Rattle.grids.proofs.Parts.{part_length}
-use Rattle.grids.proofs.Tables.{length-table}
 use Rattle.pictures.specs.declared.sizes.Size.{Size}
 use Rattle.seam_theory.specs.Sums.{CostRows, fenced, sum_of3, sums_down, least_to}
 use Rattle.seam_sums.specs.Fences.{fence32}
-use Rattle.seam_find.specs.ByCosts.{bottom_column}
 use Rattle.seam_find_kept.specs.Inner.Words.{words_in}
 use Rattle.seam_find_kept.specs.Inner.Down.{row_bytes, fenced_sums, RowsNeeded, RowsGiven}
 use Rattle.seam_find_kept.proofs.PlaneRows.{Cheap}

@@ -1,6 +1,6 @@
 -- What is found by costs that are kept is the seam of the picture whose costs they are. Of the costs only those of the picture's rows count.
 use mathlib.Core.Path.{◌≡◌, refl, sym, ap, ap₂, ◌∙◌}
-use mathlib.Core.Bool.{false, cond, true≢false}
+use mathlib.Core.Bool.{Bool, true, false, cond, true≢false}
 use mathlib.Core.Logic.{⊎_elim}
 use mathlib.Core.Option
 use mathlib.Core.List.{List, [], reverse}
@@ -13,20 +13,28 @@ use borrow.Author.Tests.{lt-ltb, le-ltb}
 use Rattle.grids.specs.Table.{table}
 use Rattle.grids.specs.Rows.{flat}
 use Rattle.grids.proofs.Orders.{le-or-lt}
-use Rattle.grids.proofs.Tables.{length-table, table_same}
+use Rattle.grids.proofs.Tables.{length-table, table_at, table_same}
 use Rattle.pictures.specs.Limits.{most_side}
-use Rattle.pictures.specs.Pictures.{Picture}
+use Rattle.pictures.specs.declared.sizes.Size.{Size}
+use Rattle.pictures.specs.Refusals.{refusal}
+use Rattle.pictures.specs.Pictures.{Picture, side_rules}
+use Rattle.pictures.proofs.Limits.{sides_are}
+use Rattle.pictures.proofs.Samples.{AreBytes}
 use Rattle.energy.specs.declared.methods.Method.{Method}
 use Rattle.energy.specs.Methods.{wrap_of}
 use Rattle.energy.specs.Bounds.{most_energy}
-use Rattle.energy.specs.Energy.{costs_at, energy, step_of}
+use Rattle.energy.specs.Energy.{StepCosts, one_cost, costs_at, energy, step_of}
 use Rattle.seam_theory.specs.PictureSeams.{seam_up, seam_of}
 use Rattle.seam_theory.specs.Sums.{CostRows, cost_rows, alike_rows, fenced, sum_of3, way_of3, sums_down, ways_up, columns_to, least_to}
 use Rattle.seam_theory.proofs.Bounded.{sums-most}
+use Rattle.seam_theory.proofs.Alike.{rows_alike}
 use Rattle.seam_theory.proofs.Toward.{rows-through}
 use Rattle.seam_theory.proofs.Sums.{Costed, FoundPath, found}
 use Rattle.seam_sums.specs.Fences.{fence32}
+use Rattle.seam_planes.specs.Planes.{fronts, numbers_of}
 use Rattle.seam_find.specs.ByCosts.{path_columns}
+use Rattle.seam_find_kept.specs.Finding.{kept_costs}
+use Rattle.seam_find_kept.proofs.PlaneRows.{row_of, row-small, kept_by-one, kept_by-steps, kept_up}
 
 -- Two families of costs that are alike in the first h rows.
 module _ (fence w h : ℕ) (a b : ℕ → CostRows) (same : (i : ℕ) → i < h → a i ≡ b i) where
@@ -98,3 +106,36 @@ module _ (how : Method) (w h : ℕ) (q : Picture) (costs : ℕ → CostRows) (so
   pub seam-kept : path_columns fence32 w h costs ≡ seam_of how w h q
   unfolding seam_of
   seam-kept = path-same fence32 w h costs all are some-row ∙ seam.columns ∙ ap reverse (sym path_is)
+
+-- The same of planes that hold the picture's costs: of coming from straight above, and where the three aren't alike from the left and from
+-- the right.
+module _ (how : Method) (z : Size) (w : ℕ) (q : Picture) (up left right : List ℕ) where
+  row-held : (cost : StepCosts → ℕ) (plane : List ℕ) → fronts w (numbers_of z.width z.height plane) ≡ table (λ r. table (λ c. cost (costs_at how w z.height q r c)) w) z.height
+      → (i : ℕ) → i < z.height → row_of z w i plane ≡ table (λ c. cost (costs_at how w z.height q i c)) w
+  row-held cost plane holds i l = ap (λ p. get_or p i []) holds ∙ table_at (λ r. table (λ c. cost (costs_at how w z.height q r c)) w) z.height i [] l
+
+  module _ (sides : refusal (side_rules z) ≡ 0) (some : 0 < w) (narrow : w ≤ z.width) (bytes : AreBytes up)
+      (up-holds : fronts w (numbers_of z.width z.height up) ≡ table (λ r. table (λ c. (costs_at how w z.height q r c).up) w) z.height)
+      (left-holds : one_cost how.energy ≡ false → fronts w (numbers_of z.width z.height left) ≡ table (λ r. table (λ c. (costs_at how w z.height q r c).left) w) z.height)
+      (right-holds : one_cost how.energy ≡ false → fronts w (numbers_of z.width z.height right) ≡ table (λ r. table (λ c. (costs_at how w z.height q r c).right) w) z.height) where
+    held : (i : ℕ) → i < z.height → kept_costs how.energy z w up left right i ≡ cost_rows w (costs_at how w z.height q i)
+    held i l = go (one_cost how.energy) refl
+      where
+        up-row : row_of z w i up ≡ table (λ c. (costs_at how w z.height q i c).up) w
+        up-row = row-held (λ k. k.up) up up-holds i l
+
+        go : (b : Bool) → one_cost how.energy ≡ b → kept_costs how.energy z w up left right i ≡ cost_rows w (costs_at how w z.height q i)
+        go true e =
+            kept_by-one how.energy z w up left right i e ∙ ap alike_rows up-row ∙ sym (rows_alike how e w z.height q i)
+        go false e =
+            let l-row = row-held (λ k. k.left) left (left-holds e) i l in
+            let r-row = row-held (λ k. k.right) right (right-holds e) i l in
+            kept_by-steps how.energy z w up left right i e ∙ (λ j. record { left = l-row j; up = up-row j; right = r-row j })
+
+    few : (i c : ℕ) → i < z.height → get_or (kept_costs how.energy z w up left right i).up c 0 ≤ most_energy
+    few i c l = omega (arith, ap (λ r. get_or r c 0) (kept_up how.energy z w up left right i), row-small z w i up narrow bytes c)
+
+    pub seam-by-planes : path_columns fence32 w z.height (kept_costs how.energy z w up left right) ≡ seam_of how w z.height q
+    seam-by-planes =
+        let s = sides_are z sides in
+        seam-kept how w z.height q (kept_costs how.energy z w up left right) some s.height_some s.height_small held few

@@ -1,24 +1,24 @@
 -- Rows of planes: where a row's bytes stand, and what its costs are.
-use mathlib.Core.Path.{◌≡◌, refl, sym, ap, ap₂, ◌∙◌}
+use mathlib.Core.Path.{◌≡◌, refl, sym, ap, ◌∙◌}
 use mathlib.Core.Bool.{Bool, true, false, cond}
 use mathlib.Core.Logic.{⊎_elim, inr}
-use mathlib.Core.List.{List, [], ◌∷◌, map}
+use mathlib.Core.List.{List, [], ◌∷◌}
 use Prim.Native.Nat.{ℕ, zero, suc, ◌+◌, ◌-◌, ◌*◌, ◌≤◌, ◌<◌}
 use native.Mathlib.Omega.{arith}
 use native.Mathlib.Nat.{mul-le-mul, add-sub_cancel_left}
 use lib.ListN.{length, get_or, take, drop, length-drop}
 use lib.Seq.{take-take, get_or-take, get_or-drop, length-take-le}
 use Rattle.grids.specs.Rows.{rows_of}
-use Rattle.grids.proofs.Rows.{rows_of_at, length-rows_of, rows_of-past, part_end}
+use Rattle.grids.proofs.Rows.{rows_of_at, length-rows_of, part_end}
 use Rattle.grids.proofs.Shapes.{get_or-map}
 use Rattle.grids.proofs.Orders.{le-or-lt}
 use Rattle.pictures.specs.declared.sizes.Size.{Size}
-use Rattle.pictures.specs.Numbers.{two_bytes, numbers_in, largest_number}
+use Rattle.pictures.specs.Numbers.{numbers_in, largest_number}
 use Rattle.pictures.specs.Limits.{most_side}
 use Rattle.pictures.specs.Pictures.{pixels}
 use Rattle.pictures.proofs.Limits.{Sides, sides_are}
 use Rattle.pictures.proofs.Samples.{AreBytes, take_bytes, drop_bytes}
-use Rattle.pictures.proofs.TwoBytes.{numbers-take, numbers-drop, numbers_at, length-numbers}
+use Rattle.pictures.proofs.TwoBytes.{numbers-take, numbers-drop, length-numbers}
 use Rattle.energy.specs.declared.methods.EnergyRule.{EnergyRule}
 use Rattle.energy.specs.Energy.{one_cost}
 use Rattle.seam_planes.specs.Planes.{fronts, numbers_of}

@@ -2,11 +2,11 @@
 use mathlib.Core.Path.{◌≡◌, refl, sym, ap, ap₂, ◌∙◌, subst}
 use mathlib.Core.Bool.{false}
 use mathlib.Core.Logic.{◌⊎◌, inl, inr, ⊎_elim}
-use mathlib.Core.List.{List, [], ◌∷◌}
-use Prim.Native.Nat.{ℕ, zero, suc, ◌+◌, ◌-◌, ◌*◌, ◌≤◌, ◌<◌, min}
+use mathlib.Core.List.{List, []}
+use Prim.Native.Nat.{ℕ, suc, ◌+◌, ◌-◌, ◌*◌, ◌≤◌, ◌<◌, min}
 use native.Mathlib.Omega.{arith}
 use native.Mathlib.Numerals.{add-one}
-use lib.ListN.{length, get_or, take, drop}
+use lib.ListN.{length, get_or}
 use lib.Seq.{get_or_at}
 use borrow.Author.Tests.{le-leb, lt-leb}
 use Rattle.grids.specs.Each.{Grid}
@@ -20,12 +20,10 @@ use Rattle.seam_theory.proofs.Bounded.{fenced_at}
 use Rattle.seam_theory.proofs.Ways.{way_plain, came_inner}
 use Rattle.pictures.specs.Limits.{most_side}
 use Rattle.seam_sums.specs.Fences.{fence32}
-use native.Mathlib.Nat.{add-sub_cancel_left}
 use Rattle.pictures.specs.declared.sizes.Size.{Size}
 use Rattle.seam_sums.proofs.Turns.{least_inside}
 use Rattle.seam_find.specs.ByCosts.{last_sums}
-use Rattle.seam_find_kept.specs.Inner.Words.{words_in}
-use Rattle.seam_find_kept.specs.Inner.Down.{row_bytes, fenced_sums, RowsGiven}
+use Rattle.seam_find_kept.specs.Inner.Down.{fenced_sums, RowsGiven}
 use Rattle.seam_find_kept.proofs.PlaneRows.{Cheap}
 use Rattle.seam_find_kept.proofs.Small.{sums-long, sums-low}
 

@@ -1,18 +1,9 @@
 -- `seam_find_kept::down::rows_from` meets its contract: where all rows are stored the first of the least sums of the last row is given;
 -- else one row more is worked out and stored, and the two rows change places.
-use Rattle.std.proofs.Common.{◌≡◌, ◌≤◌, ◌<◌, ◌*◌, ◌+◌, ◌-◌, length, take, drop, arith, rules, sym, ap, ◌∙◌}
-use native.Mathlib.Nat.{add-sub_cancel_left}
-use lib.ListN.{get_or}
-use borrow.Rule.Slice.PartMut.{put_mid}
+use Rattle.std.proofs.Common.{◌<◌, ◌-◌, arith, rules, ◌∙◌}
 use Rattle.pictures.specs.Limits.{most_side}
 use Rattle.pictures.proofs.Limits.{sides_are}
-use Rattle.grids.proofs.Rows.{part_end}
-use Rattle.grids.proofs.Parts.{part_length}
-use Rattle.seam_theory.specs.Sums.{CostRows}
-use Rattle.seam_sums.specs.Fences.{fence32}
-use Rattle.seam_find_kept.specs.Finding.{kept_costs}
-use Rattle.seam_find_kept.specs.Inner.Down.{row_bytes, fenced_sums}
-use Rattle.seam_find_kept.proofs.PlaneRows.{Cheap, kept-cheap}
+use Rattle.seam_find_kept.proofs.PlaneRows.{kept-cheap}
 use Rattle.seam_find_kept.proofs.Small.{inner-long, fenced-small}
 use Rattle.seam_find_kept.proofs.Downward.{all-given, more_needed, lent-long}
 use Rattle.seam_find_kept.proofs.down.+rows_from.Goals as goal

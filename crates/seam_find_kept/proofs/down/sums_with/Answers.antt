@@ -1,5 +1,5 @@
 -- `seam_find_kept::down::sums_with` meets its contract: the costs of row 0, put between the fences, are its sums.
-use Rattle.std.proofs.Common.{◌≡◌, ◌≤◌, ◌<◌, ◌+◌, ◌*◌, ◌-◌, length, take, drop, arith, sym, ap, ◌∙◌, length-take-le}
+use Rattle.std.proofs.Common.{◌*◌, length, sym, ap, ◌∙◌, length-take-le}
 use mathlib.Core.Bool.{false}
 use Rattle.pictures.proofs.Limits.{sides_are}
 use Rattle.seam_theory.specs.Sums.{fenced}

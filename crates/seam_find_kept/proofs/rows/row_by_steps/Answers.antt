@@ -1,5 +1,5 @@
 -- `seam_find_kept::rows::row_by_steps` meets its contract: a sum more is stored.
-use Rattle.std.proofs.Common.{◌≡◌, ◌+◌, sym}
+use Rattle.std.proofs.Common.{◌≡◌, sym}
 use Rattle.grids.proofs.Tables.{stored_turn}
 use Rattle.seam_theory.specs.Sums.{sum_of3}
 use Rattle.seam_find.proofs.Thirds.{three}

@@ -1,5 +1,5 @@
 -- `seam_find_kept::trace::step_up` meets its contract: the way leads to one of the columns, so that it is the column itself.
-use Rattle.std.proofs.Common.{◌-◌, ◌<◌, ◌+◌, arith}
+use Rattle.std.proofs.Common.{◌<◌, arith}
 use Rattle.pictures.specs.Limits.{most_side}
 use Rattle.pictures.proofs.Limits.{sides_are}
 use Rattle.seam_find_kept.specs.Finding.{kept_costs}

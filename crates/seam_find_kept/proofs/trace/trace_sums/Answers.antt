@@ -1,5 +1,5 @@
 -- `seam_find_kept::trace::trace_sums` meets its contract: a column more of the path is stored, and the one above it is found.
-use Rattle.std.proofs.Common.{◌≡◌, ◌+◌, ◌-◌, ◌*◌, ◌<◌, ◌≤◌, length, take, drop, refl, sym, ap, ◌∙◌, arith}
+use Rattle.std.proofs.Common.{◌≡◌, ◌+◌, ◌-◌, ◌<◌, length, refl, sym, ap, ◌∙◌, arith}
 use mathlib.Core.Bool.{false}
 use mathlib.Core.List.{List}
 use Prim.Native.Nat.{ℕ}
@@ -10,7 +10,6 @@ use Rattle.seam_theory.specs.Sums.{CostRows, came_from, ways_up, columns_to}
 use Rattle.seam_sums.specs.Fences.{fence32}
 use Rattle.seam_find.proofs.Loops.{back_start, back_turn, back_end, length_columns}
 use Rattle.seam_find_kept.specs.Finding.{kept_costs}
-use Rattle.seam_find_kept.proofs.Downward.{lent-long}
 use Rattle.seam_find_kept.proofs.WayBack.{ways-at, column-inside}
 use Rattle.seam_find_kept.proofs.trace.trace_sums.Goals as goal
 
