@@ -1,7 +1,8 @@
 // A builder of multi-size files in C, with no promise: it works out every energy anew for each seam, as the
 // library does, by edge, by flat or by forward, and writes the same text. Rows keep their distance in the buffers while the
-// picture narrows.
+// picture narrows. Beside it the same file by a map whose costs are kept from one seam to the next (kept.h).
 #include "forward.h"
+#include "kept.h"
 #include "shared.h"
 
 enum { SIDE = 512 };
@@ -149,4 +150,28 @@ size_t build_in_c(const uint8_t *picture, Size size, multisize_method method, ui
     default: size.channels == 3 ? build_map(size, 3, MULTISIZE_FORWARD) : build_map(size, 1, MULTISIZE_FORWARD);
     }
     return put_text(picture, size, method.energy, out);
+}
+
+// The same file where costs are kept, by sums of either type.
+__attribute__((always_inline)) static inline size_t keep_file(const uint8_t *p, Size z, int energy, int in_16_bits, uint8_t *out) {
+    int w = z.width, h = z.height, rgb = z.channels == 3;
+    switch (energy) {
+    case MULTISIZE_EDGE:
+        rgb ? keep_map(p, w, h, 3, MULTISIZE_EDGE, in_16_bits, map) : keep_map(p, w, h, 1, MULTISIZE_EDGE, in_16_bits, map);
+        break;
+    case MULTISIZE_FLAT:
+        rgb ? keep_map(p, w, h, 3, MULTISIZE_FLAT, in_16_bits, map) : keep_map(p, w, h, 1, MULTISIZE_FLAT, in_16_bits, map);
+        break;
+    default:
+        rgb ? keep_map(p, w, h, 3, MULTISIZE_FORWARD, in_16_bits, map) : keep_map(p, w, h, 1, MULTISIZE_FORWARD, in_16_bits, map);
+    }
+    return put_text(p, z, energy, out);
+}
+
+size_t build_kept_in_c(const uint8_t *picture, Size size, multisize_method method, uint8_t *out) {
+    return keep_file(picture, size, method.energy, 0, out);
+}
+
+size_t build_kept_in_16_bits(const uint8_t *picture, Size size, multisize_method method, uint8_t *out) {
+    return keep_file(picture, size, method.energy, 1, out);
 }
