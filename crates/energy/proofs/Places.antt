@@ -133,11 +133,11 @@ module _ (z : Size) (b : List ℕ) (w r c : ℕ) (asked : CostAsked z w r c (len
         ∙ read r (after w c) asked.row (after-inside w c asked.column)
         ∙ sym (right-it w z.height (picture z b) r c)
 
-    pub up_cost : met ≡ (forward meeting).up
+    up_cost : met ≡ (forward meeting).up
     up_cost = ap₂ difference right_there left_there
 
     -- In the first row the three are alike.
-    pub first_cost : (from : Side) → r ≡ 0 → met ≡ cost_to from (forward meeting)
+    first_cost : (from : Side) → r ≡ 0 → met ≡ cost_to from (forward meeting)
     unfolding above_of
     first_cost Up e = up_cost
     first_cost Left e = up_cost ∙ rw e (sym (add-zero _))
@@ -155,11 +155,20 @@ module _ (z : Size) (b : List ℕ) (w r c : ℕ) (asked : CostAsked z w r c (len
       unfolding above_of
       away_there q it e = rw (lt-ltb 0 r (omega (arith, later))) (ap₂ difference over_there e)
 
-      pub left_cost : met + difference over (there r left) ≡ (forward meeting).left
-      left_cost = ap₂ ◌+◌ up_cost (away_there _ _ left_there)
+    -- So what is read is what coming to the pixel costs, from each side.
+    pub record StepsThere : Type 0 where
+      pub first : (from : Side) → r ≡ 0 → met ≡ cost_to from (forward meeting)
+      pub up : met ≡ (forward meeting).up
+      pub left_cost : (r ≡ 0 → ⊥) → met + difference over (there r left) ≡ (forward meeting).left
+      pub right_cost : (r ≡ 0 → ⊥) → met + difference over (there r right) ≡ (forward meeting).right
 
-      pub right_cost : met + difference over (there r right) ≡ (forward meeting).right
-      right_cost = ap₂ ◌+◌ up_cost (away_there _ _ right_there)
+    pub steps_there : StepsThere
+    steps_there = record {
+      first = first_cost;
+      up = up_cost;
+      left_cost = λ later. ap₂ ◌+◌ up_cost (away_there later _ _ left_there);
+      right_cost = λ later. ap₂ ◌+◌ up_cost (away_there later _ _ right_there);
+    }
 
 -- Any of three costs that are alike.
 pub cost-alike : (from : Side) (k : StepCosts) → k ≡ alike k.up → cost_to from k ≡ k.up

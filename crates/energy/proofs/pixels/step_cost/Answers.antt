@@ -1,28 +1,31 @@
 -- `energy::pixels::step_cost` meets its contract: the places that are read are those of the pixels that meet.
 use Rattle.std.proofs.Common.{◌+◌, ap₂, ◌∙◌}
-use Rattle.energy.proofs.Places.{first_cost, up_cost, left_cost, right_cost}
+use Rattle.energy.proofs.Places.{StepsThere, steps_there}
 use Rattle.energy.proofs.pixels.step_cost.Goals as goal
+use Rattle.energy.proofs.pixels.step_cost.Goals.{After-pixels_apart-across}
+
+steps : (c : After-pixels_apart-across)
+    → StepsThere c.args.size c.args.picture.now c.args.width c.args.r c.args.c c.requires.asked c.pixel_bytes-n.result c.pixel_bytes-n.ensures c.saturating_sub.result c.min.result c.saturating_sub.ensures c.min.ensures
+steps c =
+    let a = c.args in
+    steps_there a.size a.picture.now a.width a.r a.c c.requires.asked c.pixel_bytes-n.result c.pixel_bytes-n.ensures _ _ c.saturating_sub.ensures c.min.ensures
 
 pub returns-then-r-eq0 : goal.returns-then-r-eq0
 returns-then-r-eq0 c =
-    let a = c.args in
-    let n = c.pixel_bytes-n in
-    c.pixels_apart-across.ensures.0 ∙ first_cost a.size a.picture.now a.width a.r a.c c.requires.asked n.result n.ensures _ _ c.saturating_sub.ensures c.min.ensures a.from c.if-r-eq0.true
+    let s = steps (goal.at.returns-then-r-eq0 c).After-pixels_apart-across in
+    c.pixels_apart-across.ensures.0 ∙ s.first c.args.from c.if-r-eq0.true
 
 pub returns-in-Up : goal.returns-in-Up
 returns-in-Up c =
-    let a = c.args in
-    let n = c.pixel_bytes-n in
-    c.pixels_apart-across.ensures.0 ∙ rw c.in-Up.is (up_cost a.size a.picture.now a.width a.r a.c c.requires.asked n.result n.ensures _ _ c.saturating_sub.ensures c.min.ensures)
+    let s = steps (goal.at.returns-in-Up c).After-pixels_apart-across in
+    c.pixels_apart-across.ensures.0 ∙ rw c.in-Up.is s.up
 
 pub returns-in-Left : goal.returns-in-Left
 returns-in-Left c =
-    let a = c.args in
-    let n = c.pixel_bytes-n in
-    ap₂ ◌+◌ c.pixels_apart-across.ensures.0 c.pixels_apart.ensures.0 ∙ rw c.in-Left.is (left_cost a.size a.picture.now a.width a.r a.c c.requires.asked n.result n.ensures _ _ c.saturating_sub.ensures c.min.ensures c.if-r-eq0.false)
+    let s = steps (goal.at.returns-in-Left c).After-pixels_apart-across in
+    ap₂ ◌+◌ c.pixels_apart-across.ensures.0 c.pixels_apart.ensures.0 ∙ rw c.in-Left.is (s.left_cost c.if-r-eq0.false)
 
 pub returns-in-Right : goal.returns-in-Right
 returns-in-Right c =
-    let a = c.args in
-    let n = c.pixel_bytes-n in
-    ap₂ ◌+◌ c.pixels_apart-across.ensures.0 c.pixels_apart-in-Right.ensures.0 ∙ rw c.in-Right.is (right_cost a.size a.picture.now a.width a.r a.c c.requires.asked n.result n.ensures _ _ c.saturating_sub.ensures c.min.ensures c.if-r-eq0.false)
+    let s = steps (goal.at.returns-in-Right c).After-pixels_apart-across in
+    ap₂ ◌+◌ c.pixels_apart-across.ensures.0 c.pixels_apart-in-Right.ensures.0 ∙ rw c.in-Right.is (s.right_cost c.if-r-eq0.false)
