@@ -6,24 +6,23 @@ use mathlib.Core.List.{List, [], ◌∷◌, ◌++◌}
 use Prim.Native.Nat.{ℕ, ◌+◌, ◌-◌, ◌*◌, ◌≤◌, ◌<◌}
 use native.Mathlib.Omega.{arith}
 use borrow.Author.Tests.{lt-leb, le-ltb}
-use borrow.Rule.Slice.PartMut.{mid_of, put_mid}
+use borrow.Rule.Slice.PartMut.{mid_of, put_mid, mid_len}
 use lib.Dec.{leb, ltb}
 use lib.ListN.{length, get_or, take, drop}
 use lib.Seq.{take_at}
 use Rattle.std.specs.Prelude.{Result}
 use Rattle.grids.specs.Table.{table}
 use Rattle.grids.proofs.Orders.{le-or-lt}
-use Rattle.grids.proofs.Tables.{length-table, table_at, table-past, table_same}
-use Rattle.grids.proofs.Filled.{Filled}
+use Rattle.grids.proofs.Rows.{part_end}
+use Rattle.grids.proofs.Tables.{length-table, table_at, table-past}
 use Rattle.pictures.specs.declared.sizes.Size.{Size}
 use Rattle.pictures.specs.declared.refusals.Refusal.{Refusal}
-use Rattle.pictures.specs.Numbers.{largest_number, pairs, numbers_in}
+use Rattle.pictures.specs.Numbers.{largest_number, pairs}
 use Rattle.pictures.specs.Refusals.{◌when◌, given, refusal, served}
 use Rattle.pictures.specs.Pictures.{picture, size_rules}
 use Rattle.pictures.proofs.Limits.{sized-served}
 use Rattle.pictures.proofs.Rules.{served-first}
 use Rattle.pictures.proofs.Samples.{AreBytes}
-use Rattle.pictures.proofs.TwoBytes.{length_pairs, numbers-pairs}
 use Rattle.energy.specs.declared.methods.Method.{Method}
 use Rattle.energy.specs.declared.pixels.Side.{Side}
 use Rattle.energy.specs.declared.pixels.Side.TheVariants.{Up, Left, Right}
@@ -32,50 +31,51 @@ use Rattle.energy.proofs.Served.{energies-served}
 use Rattle.seam_planes.specs.Planes.{numbers_of}
 use Rattle.seam_keep.specs.Keeping.{cost_grid, FillAsked}
 use Rattle.seam_keep.specs.Inner.{fresh_costs}
-use Rattle.seam_keep.proofs.Lined.{plane_rows, lent_length, row_turn, rows_flat, rows_numbers}
+use Rattle.seam_planes.proofs.Numbers.{RowsPut, rows_put_start, rows_put_turn, rows_put_end}
+use Rattle.seam_keep.proofs.Lined.{plane_rows}
 use Rattle.seam_keep.proofs.Most.{fresh_most}
 
--- What coming from one side to each pixel of row r costs, and the bytes of these numbers.
+-- What coming from one side to each pixel of row r costs.
 abbrev pub costs_row : Method → Side → Size → List ℕ → ℕ → List ℕ
 costs_row how from z b r = table (fresh_costs how from z z.width b r) z.width
 
-abbrev pub row_pairs : Method → Side → Size → List ℕ → ℕ → List ℕ
-row_pairs how from z b r = pairs (costs_row how from z b r)
-
 module _ (z : Size) (how : Method) (b : List ℕ) where
-  pub pairs_long : (from : Side) (r : ℕ) → length (row_pairs how from z b r) ≡ 2 * z.width
-  pairs_long from r = length_pairs (costs_row how from z b r) ∙ ap (2 *◌) (length-table (fresh_costs how from z z.width b r) z.width)
+  abbrev pub Rows : Side → List ℕ → ℕ → List ℕ → Type 0
+  Rows from old r now = RowsPut (costs_row how from z b) z.width z.height old r now
 
-  -- One row more, in the loop's terms.
-  pub costed_turn : (from : Side) (old : List ℕ) → FillAsked z (length b) (length old) → AreBytes b → (r at end : ℕ) (now new numbers : List ℕ) → r < z.height → length now ≡ length old
-      → at ≡ r * (2 * z.width) → end ≡ at + 2 * z.width → numbers ≡ costs_row how from z b r
-      → ((length (mid_of at (end - at) now) ≡ 2 * length numbers) × ((i : ℕ) → get_or numbers i 0 ≤ largest_number) → new ≡ pairs numbers)
-      → Filled (row_pairs how from z b) (2 * z.width) old r now → Filled (row_pairs how from z b) (2 * z.width) old (r + 1) (put_mid at (end - at) now new)
-  costed_turn from old asked are r at end now new numbers inside same p q is put so =
-      let long : length old ≡ z.height * (2 * z.width) = asked.room ∙ plane_rows z in
-      let lent = lent_length (row_pairs how from z b) z.height z.width (λ r l. pairs_long from r) old long r at end now inside same p q so in
-      row_turn (row_pairs how from z b) z.height z.width (λ r l. pairs_long from r) old long r at end now inside same p q so new
-      (put (lent ∙ ap (2 *◌) (sym (ap length is ∙ length-table f z.width)), rw is low) ∙ ap pairs is)
-    where
-      f : ℕ → ℕ
-      f = fresh_costs how from z z.width b r
+  row_long : (from : Side) (r : ℕ) → r < z.height → length (costs_row how from z b r) ≡ z.width
+  row_long from r l = length-table (fresh_costs how from z z.width b r) z.width
 
-      low : (i : ℕ) → get_or (table (fresh_costs how from z z.width b r) z.width) i 0 ≤ largest_number
-      low i =
-          ⊎_elim
-          (λ (l : z.width ≤ i). rw (table-past f z.width i 0 l) (omega arith))
-          (λ (l : i < z.width). rw (table_at f z.width i 0 l) (fresh_most how from z z.width b asked.long are r i))
-          (le-or-lt z.width i)
+  module _ (from : Side) (old : List ℕ) (asked : FillAsked z (length b) (length old)) where
+    long : length old ≡ z.height * (2 * z.width)
+    long = asked.room ∙ plane_rows z
 
-  -- After the last row.
-  pub costed_end : (from : Side) (old : List ℕ) → FillAsked z (length b) (length old) → (r : ℕ) (now : List ℕ) → r ≡ z.height → Filled (row_pairs how from z b) (2 * z.width) old r now
-      → numbers_of z.width z.height now ≡ cost_grid how from z.width z.height (picture z b)
-  unfolding cost_grid
-  costed_end from old asked r now e so =
-      let f : ℕ → List ℕ = row_pairs how from z b in
-      ap (numbers_of z.width z.height) (rows_flat f z.height z.width (λ r l. pairs_long from r) old (asked.room ∙ plane_rows z) r now e so)
-      ∙ rows_numbers f z.height z.width (λ r l. pairs_long from r)
-      ∙ table_same (λ r. numbers_in (f r)) (costs_row how from z b) z.height (λ r l. numbers-pairs (costs_row how from z b r))
+    pub costed_start : Rows from old 0 old
+    costed_start = rows_put_start (costs_row how from z b) z.width z.height (row_long from) old long
+
+    -- One row more, in the loop's terms.
+    pub costed_turn : AreBytes b → (r at end : ℕ) (now new numbers : List ℕ) → r < z.height → at ≡ r * (2 * z.width) → end ≡ at + 2 * z.width → numbers ≡ costs_row how from z b r
+        → ((length (mid_of at (end - at) now) ≡ 2 * length numbers) × ((i : ℕ) → get_or numbers i 0 ≤ largest_number) → new ≡ pairs numbers)
+        → Rows from old r now → Rows from old (r + 1) (put_mid at (end - at) now new)
+    costed_turn are r at end now new numbers inside p q is put so =
+        let lent : length (mid_of at (end - at) now) ≡ 2 * z.width = mid_len at end now (omega (arith, part_end r z.height (2 * z.width) inside, so.long)) ∙ omega arith in
+        rows_put_turn (costs_row how from z b) z.width z.height (row_long from) old long r at end now new inside p q
+        (put (lent ∙ ap (2 *◌) (sym (ap length is ∙ row_long from r inside)), rw is low) ∙ ap pairs is) so
+      where
+        f : ℕ → ℕ
+        f = fresh_costs how from z z.width b r
+
+        low : (i : ℕ) → get_or (table (fresh_costs how from z z.width b r) z.width) i 0 ≤ largest_number
+        low i =
+            ⊎_elim
+            (λ (l : z.width ≤ i). rw (table-past f z.width i 0 l) (omega arith))
+            (λ (l : i < z.width). rw (table_at f z.width i 0 l) (fresh_most how from z z.width b asked.long are r i))
+            (le-or-lt z.width i)
+
+    -- After the last row.
+    pub costed_end : (r : ℕ) (now : List ℕ) → z.height ≤ r → Rows from old r now → numbers_of z.width z.height now ≡ cost_grid how from z.width z.height (picture z b)
+    unfolding cost_grid
+    costed_end r now e so = rows_put_end (costs_row how from z b) z.width z.height (row_long from) old long r now e so
 
   -- The front of a space into which a row's energies were put is that row,
   pub energies_front : (plane : ℕ) → FillAsked z (length b) plane → (r : ℕ) (out out' : List ℕ) (v : Result (Unit {0}) Refusal) → EnergiesGiven b z how r out v out'

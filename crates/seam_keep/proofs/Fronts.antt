@@ -1,14 +1,12 @@
 -- What the pixels of the first columns cost, where these columns are all that is left of a picture: of the rows only what is left is read.
-use mathlib.Core.Path.{◌≡◌, refl, sym, ap, ◌∙◌}
+use mathlib.Core.Path.{◌≡◌, refl, ap}
 use mathlib.Core.Logic.{⊎_elim}
 use mathlib.Core.Bool.{Bool, true, false, cond}
 use mathlib.Core.Option.{Option, none, some, map, some-injective, none-ne-some}
-use mathlib.Core.List.{List, [], ◌∷◌}
-use Prim.Native.Nat.{ℕ, zero, suc, ◌+◌, ◌-◌, ◌≤◌, ◌<◌}
+use mathlib.Core.List.{[]}
+use Prim.Native.Nat.{ℕ, ◌+◌, ◌-◌, ◌≤◌, ◌<◌}
 use native.Mathlib.Omega.{arith}
 use lib.Dec.{ltb}
-use lib.ListN.{get_or, take}
-use lib.Seq.{get_or-take, take-nil}
 use borrow.Author.Tests.{le-ltb, lt-ltb}
 use Rattle.grids.specs.Table.{table}
 use Rattle.grids.proofs.Orders.{le-or-lt}
@@ -21,17 +19,12 @@ use Rattle.energy.specs.Methods.{wrap_of}
 use Rattle.energy.specs.Energy.{costs_from, costs_at}
 use Rattle.energy.specs.Pixels.{cost_to}
 use Rattle.seam_planes.specs.Planes.{fronts}
+use Rattle.seam_planes.proofs.Fronts.{fronts_at}
 use Rattle.seam_keep.specs.Keeping.{cost_grid}
-
--- A row of what is left.
-pub front_at : {A : Type 0} (w : ℕ) (p : List (List A)) (r : ℕ) → get_or (fronts w p) r [] ≡ take w (get_or p r [])
-front_at w [] r = sym (take-nil w)
-front_at w (x ∷ p) zero = refl
-front_at w (x ∷ p) (suc r) = front_at w p r
 
 -- A pixel of what is left.
 pub pixel_front : (w : ℕ) (p : Picture) (r c : ℕ) → c < w → pixel (fronts w p) r c ≡ pixel p r c
-pixel_front w p r c l = ap (λ x. get_or x c []) (front_at w p r) ∙ get_or-take w (get_or p r []) c [] l
+pixel_front w p r c l = fronts_at w p r c [] l
 
 -- Where something is done to neighbours that have a property.
 map_inside : {B : Type 0} (f g : ℕ → B) (o : Option ℕ) → ((a : ℕ) → o ≡ some a → f a ≡ g a) → map f o ≡ map g o

@@ -7,19 +7,15 @@ use native.Mathlib.Nat.{zero-add}
 use native.Mathlib.Omega.{arith}
 use lib.Dec.{eqb}
 use lib.ListN.{length, length-map, get_or, take}
-use lib.Seq.{get_or-take}
 use Rattle.grids.specs.Table.{table}
-use Rattle.grids.specs.Rows.{flat, row_at}
 use Rattle.grids.specs.Cut.{cut}
 use Rattle.grids.proofs.Shapes.{each_at}
 use Rattle.grids.proofs.Tables.{table_same, table_part}
-use Rattle.grids.proofs.Rows.{length-row_at, length-rows_of, rows_of_at}
-use Rattle.grids.proofs.Filled.{map-table}
+use Rattle.grids.proofs.Rows.{length-rows_of}
 use Rattle.pictures.specs.declared.sizes.Size.{Size}
 use Rattle.pictures.specs.Numbers.{numbers_in}
 use Rattle.pictures.proofs.Limits.{sides_are}
 use Rattle.pictures.proofs.Samples.{AreBytes}
-use Rattle.pictures.proofs.TwoBytes.{numbers-row, length-numbers}
 use Rattle.energy.specs.declared.methods.Method.{Method}
 use Rattle.energy.specs.declared.pixels.Side.{Side}
 use Rattle.energy.specs.Methods.{wrap_of}
@@ -30,8 +26,9 @@ use Rattle.seam_keep.specs.Keeping.{KeepAsked}
 use Rattle.seam_keep.specs.Inner.{fresh_costs, refreshed_at}
 use Rattle.seam_keep.proofs.Refresh.{cut_stood}
 use Rattle.seam_keep.proofs.Beside.{changed_beside}
-use Rattle.seam_keep.proofs.Fronts.{front_at}
-use Rattle.seam_keep.proofs.Lined.{plane_rows, rows_numbers}
+use Rattle.seam_planes.proofs.Elements.{numbers_grid}
+use Rattle.seam_planes.proofs.Fronts.{fronts_at, fronts_table}
+use Rattle.seam_keep.proofs.Lined.{plane_rows}
 use Rattle.seam_keep.proofs.Most.{fresh_most}
 use Rattle.seam_keep.proofs.Placed.{length_refreshed, refreshed_number}
 
@@ -63,46 +60,45 @@ module _ (how : Method) (from : Side) (z : Size) (w : ℕ) (s b : List ℕ) wher
     which_changed r c row column = changed_beside (w + 1) z.height s r c asked.columns column_inside asked.joined row (omega arith)
 
   -- A row as long as it was.
-  pub row_size : (plane : List ℕ) → length plane ≡ z.height * (2 * z.width) → (r : ℕ) → r < z.height → length (refreshed_at how from z w b s plane r) ≡ 2 * z.width
-  row_size plane e r l =
-      length_refreshed w (get_or s r 0) (fresh_costs how from z w b r (get_or s r 0 - 1)) (fresh_costs how from z w b r (get_or s r 0)) (row_at (2 * z.width) r plane)
-      ∙ length-row_at (2 * z.width) z.height plane r (omega (arith, e)) l
+  pub row_wide : (plane : List ℕ) → length plane ≡ z.height * (2 * z.width) → (r : ℕ) → r < z.height → length (refreshed_at how from z w b s (numbers_of z.width z.height plane) r) ≡ z.width
+  row_wide plane e r l =
+      length_refreshed w (get_or s r 0) (fresh_costs how from z w b r (get_or s r 0 - 1)) (fresh_costs how from z w b r (get_or s r 0)) (get_or (numbers_of z.width z.height plane) r [])
+      ∙ each_at r [] l (numbers_grid z.width z.height plane e)
 
   module _ (old closed : List ℕ) (asked : KeepAsked how z w s (length b) (length old)) (are : AreBytes b) (same : length closed ≡ length old)
       (is : fronts w (numbers_of z.width z.height closed) ≡ cut s (fronts (w + 1) (numbers_of z.width z.height old))) where
     abbrev kept : List (List ℕ)
     kept = fronts (w + 1) (numbers_of z.width z.height old)
 
+    abbrev left : List (List ℕ)
+    left = numbers_of z.width z.height closed
+
     long : length closed ≡ z.height * (2 * z.width)
     long = same ∙ asked.room ∙ plane_rows z
 
     -- What the closed plane holds is what stood there.
-    carried : (r c : ℕ) → r < z.height → c < w → get_or (numbers_in (row_at (2 * z.width) r closed)) c 0 ≡ number_at kept r (stood s r c)
-    carried r c row column =
+    carried : (r c : ℕ) → c < w → number_at left r c ≡ number_at kept r (stood s r c)
+    carried r c column =
         let rows : length s ≡ length kept = asked.columns ∙ sym (length-map (numbers_of z.width z.height old) (take (w + 1)) ∙ length-rows_of z.width z.height (numbers_in old)) in
-        ap (λ x. get_or x c 0) (numbers-row z.width r closed ∙ sym (rows_of_at z.width z.height (numbers_in closed) r row))
-        ∙ sym (get_or-take w (get_or (numbers_of z.width z.height closed) r []) c 0 column)
-        ∙ ap (λ x. get_or x c 0) (sym (front_at w (numbers_of z.width z.height closed) r))
-        ∙ ap (λ k. get_or (get_or k r []) c 0) is
-        ∙ cut_stood 0 s kept r c rows
+        sym (fronts_at w left r c 0 column) ∙ ap (λ k. number_at k r c) is ∙ cut_stood 0 s kept r c rows
 
     one : (r c : ℕ) → r < z.height → c < w
-        → get_or (numbers_in (refreshed_at how from z w b s closed r)) c 0 ≡ cond (changed (wrap_of how) (w + 1) z.height s r c) (fresh_costs how from z w b r c) (number_at kept r (stood s r c))
+        → get_or (refreshed_at how from z w b s left r) c 0 ≡ cond (changed (wrap_of how) (w + 1) z.height s r c) (fresh_costs how from z w b r c) (number_at kept r (stood s r c))
     one r c row column =
-        let fits : 2 * w ≤ length (row_at (2 * z.width) r closed) = omega (arith, length-row_at (2 * z.width) z.height closed r (omega (arith, long)) row, asked.left) in
+        let fits : w ≤ length (get_or left r []) = omega (arith, each_at {P = λ x. length x ≡ z.width} r [] row (numbers_grid z.width z.height closed long), asked.left) in
         let inside : get_or s r 0 ≤ w = omega (arith, column_inside (length b) (length old) asked r row) in
-        refreshed_number w (get_or s r 0) (fresh_costs how from z w b r) (row_at (2 * z.width) r closed) fits inside (λ c. fresh_most how from z w b asked.long are r c) c column
-        ∙ ap₂ (λ t n. cond t (fresh_costs how from z w b r c) n) (sym (which_changed (length b) (length old) asked r c row column)) (carried r c row column)
+        refreshed_number w (get_or s r 0) (fresh_costs how from z w b r) (get_or left r []) fits inside (λ c. fresh_most how from z w b asked.long are r c) c column
+        ∙ ap₂ (λ t n. cond t (fresh_costs how from z w b r c) n) (sym (which_changed (length b) (length old) asked r c row column)) (carried r c column)
 
-    pub kept_numbers : (new : List ℕ) → new ≡ flat (table (refreshed_at how from z w b s closed) z.height)
+    pub kept_numbers : (new : List ℕ) → numbers_of z.width z.height new ≡ table (refreshed_at how from z w b s (numbers_of z.width z.height closed)) z.height
         → fronts w (numbers_of z.width z.height new) ≡ refreshed (wrap_of how) (w + 1) z.height (fresh_costs how from z w b) s (fronts (w + 1) (numbers_of z.width z.height old))
     unfolding refreshed
     kept_numbers new new_is =
-        let f : ℕ → List ℕ = refreshed_at how from z w b s closed in
+        let f : ℕ → List ℕ = refreshed_at how from z w b s left in
         let less : w + 1 - 1 ≡ w = omega arith in
-        ap (fronts w) (ap (numbers_of z.width z.height) new_is ∙ rows_numbers f z.height z.width (row_size closed long))
-        ∙ map-table (take w) (λ r. numbers_in (f r)) z.height
+        ap (fronts w) new_is
+        ∙ fronts_table w f z.height
         ∙ rw less
-        (table_same (λ r. take w (numbers_in (f r))) (λ r. table (λ c. cond (changed (wrap_of how) (w + 1) z.height s r c) (fresh_costs how from z w b r c) (number_at kept r (stood s r c))) w) z.height
-        (λ r row. take_table (numbers_in (f r)) w (omega (arith, length-numbers (f r), row_size closed long r row, asked.left))
-        ∙ table_same (λ c. get_or (numbers_in (f r)) c 0) (λ c. cond (changed (wrap_of how) (w + 1) z.height s r c) (fresh_costs how from z w b r c) (number_at kept r (stood s r c))) w (λ c column. one r c row column)))
+        (table_same (λ r. take w (f r)) (λ r. table (λ c. cond (changed (wrap_of how) (w + 1) z.height s r c) (fresh_costs how from z w b r c) (number_at kept r (stood s r c))) w) z.height
+        (λ r row. take_table (f r) w (omega (arith, row_wide closed long r row, asked.left))
+        ∙ table_same (λ c. get_or (f r) c 0) (λ c. cond (changed (wrap_of how) (w + 1) z.height s r c) (fresh_costs how from z w b r c) (number_at kept r (stood s r c))) w (λ c column. one r c row column)))

@@ -6,3 +6,4 @@ mod Most
 mod Placed
 mod Kept
 mod Costed
+pub mod Anew

@@ -1,26 +1,26 @@
--- A plane of numbers in which the rows are written one after the other, each lent whole: where a row stands, one row more, and what
--- numbers the plane holds after the last.
-use mathlib.Core.Path.{◌≡◌, sym, ap, ◌∙◌}
-use mathlib.Core.List.{List, [], ◌++◌, append-nil}
-use Prim.Native.Nat.{ℕ, ◌+◌, ◌-◌, ◌*◌, ◌≤◌, ◌<◌}
-use native.Mathlib.Nat.{mul_assoc, mul_comm}
+-- A plane of numbers whose rows are put anew one after the other, each lent whole: where a row stands, and one row more.
+use mathlib.Core.Path.{◌≡◌, refl, sym, ap, ap₂, ◌∙◌}
+use mathlib.Core.List.{List, [], ◌∷◌, ◌++◌}
+use Prim.Native.Nat.{ℕ, zero, suc, ◌+◌, ◌-◌, ◌*◌, ◌/◌, ◌≤◌, ◌<◌}
+use native.Mathlib.Nat.{zero-mul, mul_assoc, mul_comm, mul_left_comm}
 use native.Mathlib.Omega.{arith}
-use borrow.Rule.Slice.PartMut.{mid_of, put_mid, mid_len}
-use lib.ListN.{length, drop, drop_of_length-le}
-use lib.Seq.{ext_get_or}
+use borrow.Rule.Slice.PartMut.{mid_of, put_mid, mid_len, same_len_mid}
+use lib.ListN.{length, get_or, take, drop}
+use lib.Seq.{length-take-le, take-take}
 use Rattle.grids.specs.Table.{table}
-use Rattle.grids.specs.Rows.{flat, row_at}
-use Rattle.grids.proofs.Tables.{length-table, table_at, each-table}
-use Rattle.grids.proofs.Rows.{part_end, length-rows_of, rows_of_at, flat_at}
-use Rattle.grids.proofs.Filled.{Filled, filled-later, filled-part}
+use Rattle.grids.specs.Rows.{rows_of}
+use Rattle.grids.proofs.Tables.{each-table}
+use Rattle.grids.proofs.Rows.{part_end, rows_of_at, rows_of-flat}
+use Rattle.grids.proofs.Filled.{Filled}
 use Rattle.pictures.specs.Limits.{most_side, most_pixels}
 use Rattle.pictures.specs.declared.sizes.Size.{Size}
-use Rattle.pictures.specs.Numbers.{numbers_in}
+use Rattle.pictures.specs.Numbers.{two_bytes, numbers_in}
 use Rattle.pictures.specs.Refusals.{refusal}
 use Rattle.pictures.specs.Pictures.{side_rules}
 use Rattle.pictures.proofs.Limits.{sides_are}
-use Rattle.pictures.proofs.TwoBytes.{numbers-row}
+use Rattle.pictures.proofs.TwoBytes.{numbers-take, numbers-drop, numbers-row, length-numbers}
 use Rattle.seam_planes.specs.Planes.{numbers_of}
+use Rattle.seam_planes.proofs.Lent.{whole_turn, front_lent}
 use Rattle.seam_keep.specs.Keeping.{plane_bytes}
 
 -- A plane has a row of two bytes a pixel for each of the picture's.
@@ -38,39 +38,66 @@ row_sure z r plane sides room l =
     let s = sides_are z sides in
     record { narrow = s.width_small; few = omega (arith, s.pixels_most); end = omega (arith, part_end r z.height (2 * z.width) l, plane_rows z) }
 
--- Row r is to hold `f r`.
-module _ (f : ℕ → List ℕ) (h m : ℕ) (size : (r : ℕ) → r < h → length (f r) ≡ 2 * m) (old : List ℕ) (long : length old ≡ h * (2 * m)) where
-  module _ (r at end : ℕ) (now : List ℕ) (inside : r < h) (same : length now ≡ length old) (from : at ≡ r * (2 * m)) (to : end ≡ at + 2 * m) (so_far : Filled f (2 * m) old r now) where
+-- The numbers of bytes that follow whole numbers, and of bytes into which whole numbers were put.
+numbers_append : (n : ℕ) (b d : List ℕ) → length b ≡ 2 * n → numbers_in (b ++ d) ≡ numbers_in b ++ numbers_in d
+numbers_append zero [] d e = refl
+numbers_append zero (x ∷ b) d e = absurd (omega arith)
+numbers_append (suc n) [] d e = absurd (omega arith)
+numbers_append (suc n) (x ∷ []) d e = absurd (omega arith)
+numbers_append (suc n) (x ∷ y ∷ b) d e = ap (two_bytes x y ∷◌) (numbers_append n b d (omega arith))
+
+numbers_put : (i k : ℕ) (b new : List ℕ) → 2 * i ≤ length b → length new ≡ 2 * k → numbers_in (put_mid (2 * i) (2 * k) b new) ≡ put_mid i k (numbers_in b) (numbers_in new)
+numbers_put i k b new l e =
+    numbers_append i (take (2 * i) b) (new ++ drop (2 * k) (drop (2 * i) b)) (length-take-le (2 * i) b l)
+    ∙ ap₂ ◌++◌ (numbers-take i b)
+    (numbers_append k new (drop (2 * k) (drop (2 * i) b)) e ∙ ap (numbers_in new ++◌) (numbers-drop k (drop (2 * i) b) ∙ ap (drop k) (numbers-drop i b)))
+
+-- What the loop keeps, of a plane of h rows of m numbers: r rows hold the numbers that they are to, and after them stands what stood there.
+pub record NumbersPut (q : ℕ → List ℕ) (m h : ℕ) (old : List ℕ) (r : ℕ) (now : List ℕ) : Type 0 where
+  pub within : r ≤ h
+  pub long : length now ≡ length old
+  pub is : Filled q m (numbers_in old) r (numbers_in now)
+
+module _ (q : ℕ → List ℕ) (m h : ℕ) (wide : (i : ℕ) → i < h → length (q i) ≡ m) (old : List ℕ) (long : length old ≡ h * (2 * m)) where
+  room : h * m ≤ length (numbers_in old)
+  room = omega (arith, length-numbers old, long, mul_left_comm h 2 m)
+
+  pub numbers_start : NumbersPut q m h old 0 old
+  numbers_start = record { within = omega arith; long = refl; is = rw (zero-mul m) }
+
+  module _ (r at end : ℕ) (now : List ℕ) (inside : r < h) (from : at ≡ r * (2 * m)) (to : end ≡ at + 2 * m) (so_far : NumbersPut q m h old r now) where
     part : end - at ≡ 2 * m
     part = omega arith
 
-    -- What is lent is the row as it was.
-    pub row_lent : mid_of at (end - at) now ≡ row_at (2 * m) r old
-    row_lent = rw (part, from, filled-later f h (2 * m) size old r now inside so_far (r * (2 * m)) (omega arith))
+    lent_length : length (mid_of at (end - at) now) ≡ 2 * m
+    lent_length = mid_len at end now (omega (arith, part_end r h (2 * m) inside, so_far.long)) ∙ part
 
-    pub lent_length : length (mid_of at (end - at) now) ≡ 2 * m
-    lent_length = mid_len at end now (omega (arith, part_end r h (2 * m) inside)) ∙ part
-
-    -- One row more.
-    pub row_turn : (new : List ℕ) → new ≡ f r → Filled f (2 * m) old (r + 1) (put_mid at (end - at) now new)
-    row_turn new is =
-        let room : length (mid_of (r * (2 * m)) (2 * m) now) ≡ 2 * m = rw (part, from) at lent_length in
-        let none : drop (2 * m) (mid_of (r * (2 * m)) (2 * m) now) ≡ [] = drop_of_length-le (mid_of (r * (2 * m)) (2 * m) now) {i = 2 * m} (omega (arith, room)) in
+    -- The row that is lent holds the numbers that it held.
+    pub lent_numbers : numbers_in (mid_of at (end - at) now) ≡ get_or (numbers_of m h old) r []
+    lent_numbers =
         rw (part, from)
-        (filled-part f h (2 * m) size old r now inside so_far (2 * m) new (omega (arith, room)) (is ∙ sym (append-nil (f r)) ∙ ap (f r ++◌) (sym none)))
+        (numbers-row m r now
+        ∙ front_lent q h m wide (numbers_in old) room r (numbers_in now) inside so_far.is m (omega arith)
+        ∙ take-take m m (drop (r * m) (numbers_in old)) (omega arith)
+        ∙ sym (rows_of_at m h (numbers_in old) r inside))
 
-  -- After the last row there is nothing else,
-  pub rows_flat : (r : ℕ) (now : List ℕ) → r ≡ h → Filled f (2 * m) old r now → now ≡ flat (table f h)
-  rows_flat r now e so =
-      so ∙ rw (e, drop_of_length-le old {i = h * (2 * m)} (omega (arith, long))) (append-nil (flat (table f h)))
+    -- It comes back with those that it is to hold.
+    pub lent_turn : (new : List ℕ) → length new ≡ length (mid_of at (end - at) now) → numbers_in new ≡ q r → NumbersPut q m h old (r + 1) (put_mid at (end - at) now new)
+    lent_turn new same is =
+        let twice : r * (2 * m) ≡ 2 * (r * m) = mul_left_comm r 2 m in
+        let fits : 2 * (r * m) ≤ length now = omega (arith, part_end r h (2 * m) inside, so_far.long) in
+        let numbers = numbers_put (r * m) m now new fits (same ∙ lent_length) in
+        record {
+          within = omega arith;
+          long = same_len_mid at (end - at) now new same ∙ so_far.long;
+          is = rw (part, from, twice, numbers) (whole_turn q h m wide (numbers_in old) room r (numbers_in now) inside so_far.is (numbers_in new) is counts);
+        }
+      where
+        counts : length (numbers_in now) ≡ length (numbers_in old)
+        counts = length-numbers now ∙ ap (◌/ 2) so_far.long ∙ sym (length-numbers old)
 
--- and the plane holds the numbers of the rows.
-pub rows_numbers : (f : ℕ → List ℕ) (h m : ℕ) → ((r : ℕ) → r < h → length (f r) ≡ 2 * m) → numbers_of m h (flat (table f h)) ≡ table (λ r. numbers_in (f r)) h
-rows_numbers f h m size =
-    let b : List ℕ = flat (table f h) in
-    ext_get_or [] (numbers_of m h b) (table (λ r. numbers_in (f r)) h) (length-rows_of m h (numbers_in b) ∙ sym (length-table (λ r. numbers_in (f r)) h))
-    (λ r l. let i : r < h = omega (arith, length-rows_of m h (numbers_in b)) in
-    rows_of_at m h (numbers_in b) r i
-    ∙ sym (numbers-row m r b)
-    ∙ ap numbers_in (flat_at (each-table f h size) r i ∙ table_at f h r [] i)
-    ∙ sym (table_at (λ r. numbers_in (f r)) h r [] i))
+  -- After the last row.
+  pub numbers_end : (r : ℕ) (now : List ℕ) → h ≤ r → NumbersPut q m h old r now → numbers_of m h now ≡ table q h
+  numbers_end r now l so =
+      let e : r ≡ h = omega (arith, so.within) in
+      ap (rows_of m h) (rw e at so.is) ∙ rows_of-flat (drop (h * m) (numbers_in old)) (each-table q h wide)

@@ -33,7 +33,7 @@ pub fn fill_costs(
     ensures left { one_cost method.energy ≡ false → FillAsked size (length picture.now) (length up.old) → FillAsked size (length picture.now) (length left.old) → FillAsked size (length picture.now) (length right.old) → numbers_of size.width size.height left.new ≡ cost_grid method Left size.width size.height (Pictures·picture size picture.now) }
     ensures right { one_cost method.energy ≡ false → FillAsked size (length picture.now) (length up.old) → FillAsked size (length picture.now) (length left.old) → FillAsked size (length picture.now) (length right.old) → numbers_of size.width size.height right.new ≡ cost_grid method Right size.width size.height (Pictures·picture size picture.now) }
 {
-    if !is_filled(size, picture.len(), up.len()) {
+    if !is_sized(size, picture.len(), up.len()) {
         return;
     }
     let planes = left.len() == up.len() && right.len() == up.len();
@@ -59,7 +59,7 @@ pub fn keep_costs(
     ensures long { length plane.new ≡ length plane.old }
     ensures kept { KeepAsked method size width seam.now (length picture.now) (length plane.old) → fronts width (numbers_of size.width size.height plane.new) ≡ refreshed (wrap_of method) (width + 1) size.height (λ r c. cost_to from (costs_at method width size.height (Pictures·picture size picture.now) r c)) seam.now (fronts (width + 1) (numbers_of size.width size.height plane.old)) }
 {
-    if !is_filled(size, picture.len(), plane.len()) {
+    if !is_sized(size, picture.len(), plane.len()) {
         return;
     }
     if size.width <= width || seam.len() != size.height {
@@ -70,7 +70,7 @@ pub fn keep_costs(
 }
 
 // Whether a picture and a plane are as long as this size says.
-fn is_filled(size: Size, picture: usize, plane: usize) -> bool
+fn is_sized(size: Size, picture: usize, plane: usize) -> bool
     ensures asked { result ≡ true → FillAsked size picture plane }
     ensures found { FillAsked size picture plane → result ≡ true }
 {
