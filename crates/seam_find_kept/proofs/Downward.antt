@@ -1,23 +1,22 @@
 -- The rows of sums, one after the other: what holds before row i, that one row more keeps it, and what is found at the end.
 use mathlib.Core.Path.{◌≡◌, refl, sym, ap, ap₂, ◌∙◌}
 use mathlib.Core.Bool.{false}
-use mathlib.Core.List.{List, ◌++◌, map}
+use mathlib.Core.List.{List, ◌++◌}
 use Prim.Native.Nat.{ℕ, suc, ◌+◌, ◌-◌, ◌*◌, ◌≤◌, ◌<◌}
 use native.Mathlib.Omega.{arith}
 use native.Mathlib.Nat.{add-sub_cancel, add-sub_cancel_left}
 use borrow.Rule.Slice.PartMut.{put_mid}
-use Rattle.std.proofs.lemmas.List.{map-id}
 use lib.ListN.{length, take, drop, length-append, length-drop}
 use Rattle.grids.specs.Table.{table}
 use Rattle.grids.proofs.Rows.{part_end, row_at-first}
 use Rattle.grids.proofs.Parts.{part_length}
 use Rattle.pictures.specs.declared.sizes.Size.{Size}
-use Rattle.seam_theory.specs.Sums.{CostRows, fenced, sum_of3, sums_down, least_to}
+use Rattle.seam_theory.specs.Sums.{CostRows, fenced, sum_of3, sums_down}
 use Rattle.seam_sums.specs.Fences.{fence32}
 use Rattle.seam_find_kept.specs.Inner.Words.{words_in}
-use Rattle.seam_find_kept.specs.Inner.Down.{row_bytes, fenced_sums, RowsNeeded, RowsGiven}
+use Rattle.seam_find_kept.specs.Inner.Down.{row_bytes, fenced_sums, RowsAbove}
 use Rattle.seam_find_kept.proofs.PlaneRows.{Cheap}
-use Rattle.seam_find_kept.proofs.Small.{inner-long, between-fences, inner_is, put_between, sums-long, fenced-long}
+use Rattle.seam_find_kept.proofs.Small.{between-fences, put_between, sums-long, fenced-long}
 use Rattle.seam_find_kept.proofs.Stored.{rows-long, rows_more}
 
 -- The sums of the row after row j are those that a row is worked out from.
@@ -29,7 +28,7 @@ module _ (k : ℕ → CostRows) (z : Size) (w : ℕ) (cheap : Cheap k w) where
   -- Row 0 stored.
   pub first_needed : (above next sums stored : List ℕ) → 0 < z.height → z.height * row_bytes w ≤ length sums → length next ≡ w + 2 → next ≡ fenced false fence32 w (take w (drop 1 next))
       → above ≡ fenced false fence32 w (k 0).up → length stored ≡ row_bytes w → words_in stored ≡ above
-      → RowsNeeded k z w 1 above next (stored ++ drop (row_bytes w) sums)
+      → RowsAbove k z w 1 above next (stored ++ drop (row_bytes w) sums)
   unfolding sums_down
   first_needed above next sums stored some room next-long next-fences is long words = record {
     later = omega arith;
@@ -42,21 +41,7 @@ module _ (k : ℕ → CostRows) (z : Size) (w : ℕ) (cheap : Cheap k w) where
     rows = λ r h. let e : r ≡ 0 = omega arith in rw e (ap words_in (row_at-first (row_bytes w) stored (drop (row_bytes w) sums) long) ∙ words ∙ is);
   }
 
-  module _ {i : ℕ} {above next sums : List ℕ} (n : RowsNeeded k z w i above next sums) where
-    -- All rows are stored.
-    pub all-given : (column : ℕ) → z.height ≤ i → column ≡ least_to (map (λ x. x) (take (w + 1 - 1) (drop 1 above))) (length (take (w + 1 - 1) (drop 1 above)) - 1)
-        → RowsGiven k z w sums column
-    all-given column done is =
-        let last : i - 1 ≡ z.height - 1 = ap (◌- 1) (omega (arith, n.within)) in
-        let row = inner_is fence32 w (sums_down false fence32 w k (i - 1)) above (sums-long k w cheap (i - 1)) n.above_is in
-        record {
-          rows = λ r h. n.rows r (omega arith);
-          column_is =
-              is
-              ∙ ap₂ (λ x m. least_to x (m - 1)) (map-id (take (w + 1 - 1) (drop 1 above)) ∙ row ∙ ap (sums_down false fence32 w k) last)
-              (inner-long w above n.above_long);
-        }
-
+  module _ {i : ℕ} {above next sums : List ℕ} (n : RowsAbove k z w i above next sums) where
     -- One row more.
     module _ (row stored : List ℕ) (inside : i < z.height) (is : row ≡ table (sum_of3 above (k i)) w)
         (long : length stored ≡ row_bytes w) (words : words_in stored ≡ put_mid 1 (w + 1 - 1) next row) where
@@ -78,7 +63,7 @@ module _ (k : ℕ → CostRows) (z : Size) (w : ℕ) (cheap : Cheap k w) where
       next-is : next' ≡ fenced_sums k w i
       next-is = put_between fence32 w next row n.next_long n.next_fences ∙ ap (fenced false fence32 w) row-is
 
-      pub more_needed : RowsNeeded k z w (i + 1) next' above sums'
+      pub more_needed : RowsAbove k z w (i + 1) next' above sums'
       more_needed =
           let ends : i * row_bytes w + row_bytes w ≤ length sums = omega (arith, n.room, part_end i z.height (row_bytes w) inside) in
           let here : i + 1 - 1 ≡ i = add-sub_cancel i 1 in

@@ -1,10 +1,10 @@
 // All rows of sums, from the top.
-ghost use Rattle.std.specs.Prelude.{◌≡◌, length};
+ghost use Rattle.std.specs.Prelude.{◌≡◌, ◌+◌, ◌<◌, length};
 ghost use Rattle.grids.specs.Table.{table};
 ghost use Rattle.energy.specs.Energy.{one_cost};
 ghost use Rattle.seam_theory.specs.Sums.{sum_of3};
 ghost use Rattle.seam_find_kept.specs.Finding.{kept_costs};
-ghost use Rattle.seam_find_kept.specs.Inner.Down.{PlanesNeeded, SpaceNeeded, ArraysNeeded, RowNeeded, RowsNeeded, RowsGiven};
+ghost use Rattle.seam_find_kept.specs.Inner.Down.{PlanesNeeded, SpaceNeeded, ArraysNeeded, RowNeeded, RowsAbove, RowsGiven};
 
 use crate::words::put_words;
 use crate::{KeptCosts, rows};
@@ -61,34 +61,58 @@ fn sums_with(
     let stride = 4 * (width + 2);
     rows::first_row(&costs.up[..2 * width], &mut above[1..side]);
     put_words(above, &mut sums[..stride]);
-    rows_from(costs, size, width, method, 1, above, next, sums)
+    later_rows(costs, size, width, method, above, next, sums)
 }
 
-// The same from row i on, with the fenced sums of the row above it. The two rows change places from one row to the next, so that none is
-// copied.
-fn rows_from(
+// The same from row 1 on, with the fenced sums of row 0. The two rows change places from one row to the next, so that none is copied.
+fn later_rows(
     costs: KeptCosts<'_>,
     size: Size,
     width: usize,
     method: Method,
-    i: usize,
     above: &mut [u32],
     next: &mut [u32],
     sums: &mut [u8],
 ) -> usize
     requires planes { PlanesNeeded size width (one_cost method.energy) costs.up.now (length costs.left.now) (length costs.right.now) }
-    requires rows { RowsNeeded (kept_costs method.energy size width costs.up.now costs.left.now costs.right.now) size width i above.old next.old sums.old }
+    requires rows { RowsAbove (kept_costs method.energy size width costs.up.now costs.left.now costs.right.now) size width 1 above.old next.old sums.old }
     ensures { RowsGiven (kept_costs method.energy size width costs.entry.up.now costs.entry.left.now costs.entry.right.now) size width sums.new result }
 {
     let side = width + 1;
-    if size.height <= i {
-        return first_least(&above[1..side]);
+    let mut i = 1;
+    while i + 1 < size.height {
+        one_row(costs, size, width, method, i, above, next, sums);
+        one_row(costs, size, width, method, i + 1, next, above, sums);
+        i += 2;
     }
+    if i < size.height {
+        one_row(costs, size, width, method, i, above, next, sums);
+        return first_least(&next[1..side]);
+    }
+    first_least(&above[1..side])
+}
+
+// Row i, from the fenced sums of the row above it: its sums are put between the fences of `next`, and stored.
+fn one_row(
+    costs: KeptCosts<'_>,
+    size: Size,
+    width: usize,
+    method: Method,
+    i: usize,
+    above: &[u32],
+    next: &mut [u32],
+    sums: &mut [u8],
+)
+    requires planes { PlanesNeeded size width (one_cost method.energy) costs.up.now (length costs.left.now) (length costs.right.now) }
+    requires rows { RowsAbove (kept_costs method.energy size width costs.up.now costs.left.now costs.right.now) size width i above.now next.old sums.old }
+    requires inside { i < size.height }
+    ensures { RowsAbove (kept_costs method.energy size width costs.entry.up.now costs.entry.left.now costs.entry.right.now) size width (i + 1) next.new above.now sums.new }
+{
+    let side = width + 1;
     let at = i * (4 * (width + 2));
     let end = at + 4 * (width + 2);
     row_sums(costs, size, width, method, i, above, &mut next[1..side]);
     put_words(next, &mut sums[at..end]);
-    rows_from(costs, size, width, method, i + 1, next, above, sums)
 }
 
 // The sums of row i, from the fenced sums of the row above it.

@@ -45,7 +45,7 @@ pub record RowNeeded (z : Size) (w i : ℕ) (above : List ℕ) (next : ℕ) : Ty
   pub next_long : next ≡ w
 
 -- The rows above row i are stored; the last of them stands between its fences, and so does what will be row i.
-pub record RowsNeeded (k : ℕ → CostRows) (z : Size) (w i : ℕ) (above next sums : List ℕ) : Type 0 where
+pub record RowsAbove (k : ℕ → CostRows) (z : Size) (w i : ℕ) (above next sums : List ℕ) : Type 0 where
   pub later : 0 < i
   pub within : i ≤ z.height
   pub room : z.height * row_bytes w ≤ length sums

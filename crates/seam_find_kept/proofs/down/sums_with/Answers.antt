@@ -37,8 +37,8 @@ put_words-requires c =
     length-take-le (row_bytes c.args.width) c.args.sums.now room
     ∙ sym (ap (4 *◌) (ap length row ∙ length_fenced fence32 c.args.width c.first_row.new.next inner))
 
-pub rows_from-requires-clause-rows : goal.rows_from-requires-clause-rows
-rows_from-requires-clause-rows c =
+pub later_rows-requires-clause-rows : goal.later_rows-requires-clause-rows
+later_rows-requires-clause-rows c =
     let a = c.args in
     let k = a.costs in
     let n = c.requires.planes in
