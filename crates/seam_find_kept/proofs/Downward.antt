@@ -15,7 +15,7 @@ use Rattle.seam_theory.specs.Sums.{CostRows, fenced, sum_of3, sums_down}
 use Rattle.seam_sums.specs.Fences.{fence32}
 use Rattle.seam_find_kept.specs.Inner.Words.{words_in}
 use Rattle.seam_find_kept.specs.Inner.Down.{row_bytes, fenced_sums, RowsAbove}
-use Rattle.seam_find_kept.proofs.PlaneRows.{Cheap}
+use Rattle.seam_find_kept.proofs.KeptRows.{Cheap}
 use Rattle.seam_find_kept.proofs.Small.{between-fences, put_between, sums-long, fenced-long}
 use Rattle.seam_find_kept.proofs.Stored.{rows-long, rows_more}
 
@@ -26,11 +26,11 @@ next_sums k w j = refl
 
 module _ (k : ℕ → CostRows) (z : Size) (w : ℕ) (cheap : Cheap k w) where
   -- Row 0 stored.
-  pub first_needed : (above next sums stored : List ℕ) → 0 < z.height → z.height * row_bytes w ≤ length sums → length next ≡ w + 2 → next ≡ fenced false fence32 w (take w (drop 1 next))
+  pub above-first : (above next sums stored : List ℕ) → 0 < z.height → z.height * row_bytes w ≤ length sums → length next ≡ w + 2 → next ≡ fenced false fence32 w (take w (drop 1 next))
       → above ≡ fenced false fence32 w (k 0).up → length stored ≡ row_bytes w → words_in stored ≡ above
       → RowsAbove k z w 1 above next (stored ++ drop (row_bytes w) sums)
   unfolding sums_down
-  first_needed above next sums stored some room next-long next-fences is long words = record {
+  above-first above next sums stored some room next-long next-fences is long words = record {
     later = omega arith;
     within = some;
     room = omega (arith, length-append stored (drop (row_bytes w) sums), length-drop (row_bytes w) sums, part_end 0 z.height (row_bytes w) some);
@@ -63,8 +63,8 @@ module _ (k : ℕ → CostRows) (z : Size) (w : ℕ) (cheap : Cheap k w) where
       next-is : next' ≡ fenced_sums k w i
       next-is = put_between fence32 w next row n.next_long n.next_fences ∙ ap (fenced false fence32 w) row-is
 
-      pub more_needed : RowsAbove k z w (i + 1) next' above sums'
-      more_needed =
+      pub above-next : RowsAbove k z w (i + 1) next' above sums'
+      above-next =
           let ends : i * row_bytes w + row_bytes w ≤ length sums = omega (arith, n.room, part_end i z.height (row_bytes w) inside) in
           let here : i + 1 - 1 ≡ i = add-sub_cancel i 1 in
           record {
@@ -79,10 +79,6 @@ module _ (k : ℕ → CostRows) (z : Size) (w : ℕ) (cheap : Cheap k w) where
                 rows_more (row_bytes w) i sums stored long ends
                 (λ r x. words_in x ≡ fenced_sums k w r) n.rows (words ∙ next-is);
           }
-
--- There is room for the first.
-pub front_room : (h w sums : ℕ) → 0 < h → h * row_bytes w ≤ sums → row_bytes w ≤ sums
-front_room h w sums some room = omega (arith, room, part_end 0 h (row_bytes w) some)
 
 -- A row of sums as it is lent has room for just that.
 pub lent-long : (h w i : ℕ) (sums : List ℕ) → i < h → h * row_bytes w ≤ length sums

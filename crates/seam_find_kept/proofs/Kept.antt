@@ -34,7 +34,8 @@ use Rattle.seam_sums.specs.Fences.{fence32}
 use Rattle.seam_planes.specs.Planes.{fronts, numbers_of}
 use Rattle.seam_find.specs.ByCosts.{path_columns}
 use Rattle.seam_find_kept.specs.Finding.{kept_costs}
-use Rattle.seam_find_kept.proofs.PlaneRows.{row_of, row-small, kept_by-one, kept_by-steps, kept_up}
+use Rattle.seam_find_kept.proofs.PlaneRows.{row_of, row-small}
+use Rattle.seam_find_kept.proofs.KeptRows.{kept_by-one, kept_by-steps, kept_up}
 
 -- Two families of costs that are alike in the first h rows.
 module _ (fence w h : ℕ) (a b : ℕ → CostRows) (same : (i : ℕ) → i < h → a i ≡ b i) where

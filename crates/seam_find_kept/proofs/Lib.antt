@@ -1,5 +1,6 @@
 pub mod FourBytes
 pub mod PlaneRows
+pub mod KeptRows
 pub mod Stored
 pub mod Small
 pub mod Downward

@@ -17,18 +17,14 @@ use Rattle.seam_theory.proofs.Bounded.{fenced_at, length-sums, sums-most}
 use Rattle.seam_sums.specs.Fences.{fence32}
 use Rattle.seam_find.proofs.OneRow.{sums-within}
 use Rattle.seam_find_kept.specs.Inner.Down.{fenced_sums}
-use Rattle.seam_find_kept.proofs.PlaneRows.{Cheap}
+use Rattle.seam_find_kept.proofs.KeptRows.{Cheap}
 
 -- A row that stands between fences does so by itself.
 pub between-fences : (fence w : ℕ) (s x : List ℕ) → length s ≡ w → x ≡ fenced false fence w s → x ≡ fenced false fence w (take w (drop 1 x))
 between-fences fence w s x long is =
     is ∙ ap (fenced false fence w) (sym (ap (λ y. take w (drop 1 y)) is ∙ take_at s (fence ∷ []) w long))
 
--- What stands between them.
-pub inner_is : (fence w : ℕ) (s x : List ℕ) → length s ≡ w → x ≡ fenced false fence w s → take (w + 1 - 1) (drop 1 x) ≡ s
-inner_is fence w s x long is =
-    ap (λ y. take (w + 1 - 1) (drop 1 y)) is ∙ ap (λ n. take n (s ++ (fence ∷ []))) (add-sub_cancel w 1) ∙ take_at s (fence ∷ []) w long
-
+-- The part between the fences is as long as the row.
 pub inner-long : (w : ℕ) (x : List ℕ) → length x ≡ w + 2 → length (take (w + 1 - 1) (drop 1 x)) ≡ w
 inner-long w x long = length-take-le (w + 1 - 1) (drop 1 x) (omega (arith, length-drop 1 x)) ∙ add-sub_cancel w 1
 

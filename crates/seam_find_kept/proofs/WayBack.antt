@@ -24,7 +24,7 @@ use Rattle.pictures.specs.declared.sizes.Size.{Size}
 use Rattle.seam_sums.proofs.Turns.{least_inside}
 use Rattle.seam_find.specs.ByCosts.{last_sums}
 use Rattle.seam_find_kept.specs.Inner.Down.{fenced_sums, RowsGiven}
-use Rattle.seam_find_kept.proofs.PlaneRows.{Cheap}
+use Rattle.seam_find_kept.proofs.KeptRows.{Cheap}
 use Rattle.seam_find_kept.proofs.Small.{sums-long, sums-low}
 
 -- Which of three is the least: the first, which isn't more than the second, the second, or the third, which is less.

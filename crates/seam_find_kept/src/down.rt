@@ -129,7 +129,7 @@ fn row_sums(
     requires row { RowNeeded size width i above.now (length next.old) }
     ensures { next.new ≡ table (sum_of3 above.now (kept_costs method.energy size width costs.entry.up.now costs.entry.left.now costs.entry.right.now i)) width }
 {
-    let at = 2 * (i * size.width);
+    let at = i * (2 * size.width);
     let end = at + 2 * width;
     let up = &costs.up[at..end];
     if method.energy.has_one_cost() {

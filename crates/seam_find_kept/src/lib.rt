@@ -72,7 +72,7 @@ fn is_asked(
         && size.height <= seam
 }
 
-// Whether a plane is as long as it must be. What it has are bytes, which is known where a slice is an argument.
+// Whether a plane is as long as it must be. That bytes stand in it is known of a slice that is an argument, and not of a struct's.
 fn is_plane(plane: &[u8], bytes: usize) -> bool
     ensures long { result ≡ eqb (length plane.now) bytes }
     ensures bytes { (i : ℕ) → get_or plane.now i 0 ≤ 255 }

@@ -2,9 +2,9 @@
 use Rattle.std.proofs.Common.{◌<◌, ◌-◌, arith, ◌∙◌}
 use Rattle.pictures.specs.Limits.{most_side}
 use Rattle.pictures.proofs.Limits.{sides_are}
-use Rattle.seam_find_kept.proofs.PlaneRows.{kept-cheap}
+use Rattle.seam_find_kept.proofs.KeptRows.{kept-cheap}
 use Rattle.seam_find_kept.proofs.Small.{inner-long, fenced-small}
-use Rattle.seam_find_kept.proofs.Downward.{more_needed, lent-long}
+use Rattle.seam_find_kept.proofs.Downward.{above-next, lent-long}
 use Rattle.seam_find_kept.proofs.down.one_row.Goals as goal
 
 pub row_sums-requires-clause-row : goal.row_sums-requires-clause-row
@@ -28,4 +28,4 @@ returns c =
     let n = c.requires.rows in
     let cheap = kept-cheap a.method.energy a.size a.width k.up.now k.left.now k.right.now c.requires.planes in
     let long = c.put_words.auto.out ∙ lent-long a.size.height a.width a.i a.sums.now c.requires.inside n.room in
-    more_needed _ a.size a.width cheap n c.row_sums.new.next c.put_words.new.out c.requires.inside c.row_sums.ensures long c.put_words.ensures
+    above-next _ a.size a.width cheap n c.row_sums.new.next c.put_words.new.out c.requires.inside c.row_sums.ensures long c.put_words.ensures

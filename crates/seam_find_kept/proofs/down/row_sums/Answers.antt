@@ -2,7 +2,8 @@
 use Rattle.std.proofs.Common.{sym, ap₂, ◌∙◌}
 use Rattle.grids.specs.Table.{table}
 use Rattle.seam_theory.specs.Sums.{sum_of3}
-use Rattle.seam_find_kept.proofs.PlaneRows.{row-lent, one-lent, steps-lent}
+use Rattle.seam_find_kept.proofs.PlaneRows.{row-lent}
+use Rattle.seam_find_kept.proofs.KeptRows.{one-lent, steps-lent}
 use Rattle.seam_find_kept.proofs.down.row_sums.Goals as goal
 
 pub returns-then-has_one_cost : goal.returns-then-has_one_cost

@@ -3,7 +3,7 @@ use Rattle.std.proofs.Common.{◌<◌, arith}
 use Rattle.pictures.specs.Limits.{most_side}
 use Rattle.pictures.proofs.Limits.{sides_are}
 use Rattle.seam_find_kept.specs.Finding.{kept_costs}
-use Rattle.seam_find_kept.proofs.PlaneRows.{kept-cheap}
+use Rattle.seam_find_kept.proofs.KeptRows.{kept-cheap}
 use Rattle.seam_find_kept.proofs.Small.{fenced-small}
 use Rattle.seam_find_kept.proofs.WayBack.{Stepped, stepped}
 use Rattle.seam_find_kept.proofs.trace.step_up.Goals as goal

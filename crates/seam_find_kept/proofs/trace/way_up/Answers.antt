@@ -1,6 +1,7 @@
 -- `seam_find_kept::trace::way_up` meets its contract: the way is by the sums alone where the costs are alike, else by sums and costs.
 use Rattle.std.proofs.Common.{◌+◌, sym, ◌∙◌}
-use Rattle.seam_find_kept.proofs.PlaneRows.{number_within, way_by-one, way_by-steps}
+use Rattle.seam_find_kept.proofs.PlaneRows.{number_within}
+use Rattle.seam_find_kept.proofs.KeptRows.{way_by-one, way_by-steps}
 use Rattle.seam_find_kept.proofs.trace.way_up.Goals as goal
 
 pub number_at-requires : goal.number_at-requires
