@@ -136,10 +136,10 @@ stood_inside w s r c l = go (leb (get_or s r 0) c)
     go false = omega arith
 
 -- The number of one pixel after the refresh.
-pub refreshed_at : (wrap : Bool) (w h : ℕ) (fresh : ℕ → ℕ → ℕ) (s : List ℕ) (k : List (List ℕ)) (r c : ℕ) → r < h → c < w - 1
+pub number_refreshed : (wrap : Bool) (w h : ℕ) (fresh : ℕ → ℕ → ℕ) (s : List ℕ) (k : List (List ℕ)) (r c : ℕ) → r < h → c < w - 1
     → number_at (refreshed wrap w h fresh s k) r c ≡ cond (changed wrap w h s r c) (fresh r c) (number_at k r (stood s r c))
 unfolding refreshed
-refreshed_at wrap w h fresh s k r c row column =
+number_refreshed wrap w h fresh s k r c row column =
     let one : ℕ → ℕ → ℕ = λ r c. cond (changed wrap w h s r c) (fresh r c) (number_at k r (stood s r c)) in
     ap (λ x. get_or x c 0) (table_at (λ r. table (one r) (w - 1)) h r [] row) ∙ table_at (one r) (w - 1) c 0 column
 
@@ -148,7 +148,7 @@ refreshed_at wrap w h fresh s k r c row column =
 pub refresh_carried : (wrap : Bool) (w h : ℕ) (fresh : ℕ → ℕ → ℕ) (s : List ℕ) (k : List (List ℕ)) (r c : ℕ) → r < h → c < w - 1
     → changed wrap w h s r c ≡ false → number_at (refreshed wrap w h fresh s k) r c ≡ number_at k r (stood s r c)
 refresh_carried wrap w h fresh s k r c row column same =
-    refreshed_at wrap w h fresh s k r c row column ∙ ap (λ t. cond t (fresh r c) (number_at k r (stood s r c))) same
+    number_refreshed wrap w h fresh s k r c row column ∙ ap (λ t. cond t (fresh r c) (number_at k r (stood s r c))) same
 
 -- The numbers of all pixels of a picture, by what a pixel costs with its neighbours.
 abbrev pub numbers_by : (Around → ℕ) → Bool → ℕ → ℕ → Picture → List (List ℕ)
