@@ -67,7 +67,7 @@ left-zeros (x ∷ xs) = ap (0 ∷◌) (ap (map suc) (left-zeros xs) ∙ map-tabl
 abbrev pub all_left : List (List ℕ) → List (List ℕ)
 all_left m = map left_columns m
 
-left-write_all : (v : ℕ) (s : List ℕ) (m : List (List ℕ)) → all_left (write_all (suc v) s m) ≡ cut s (all_left m)
+pub left-write_all : (v : ℕ) (s : List ℕ) (m : List (List ℕ)) → all_left (write_all (suc v) s m) ≡ cut s (all_left m)
 unfolding write_all cut zip_with
 left-write_all v [] m = refl
 left-write_all v (c ∷ s) [] = refl
