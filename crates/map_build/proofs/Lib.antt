@@ -1,7 +1,6 @@
-pub mod Pairs
-pub mod Skipping
-pub mod Turns
 pub mod Lists
-pub mod CutIn
+pub mod Turns
+pub mod NumbersPut
 pub mod Steps
-pub mod Spaces
+pub mod Carved
+pub mod Mapped

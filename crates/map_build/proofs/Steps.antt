@@ -1,156 +1,216 @@
--- The space after t seams, and after one more.
-use mathlib.Core.Path.{◌≡◌, sym, ap, ap₂, ◌∙◌}
-use mathlib.Core.List.{List, [], ◌++◌, map, append_assoc, append-nil, zip_with}
-use Prim.Native.Nat.{ℕ, suc, ◌+◌, ◌-◌, ◌*◌, ◌≤◌, ◌<◌}
-use native.Mathlib.Nat.{suc-mul, mul-add, mul-le-mul_left}
-use native.Mathlib.Numerals.{add-one}
+-- One seam more: what is kept before it says which seam is found and where its number goes, and is kept again after it.
+use mathlib.Core.Path.{◌≡◌, refl, sym, ap, ap₂, ◌∙◌}
+use mathlib.Core.Bool.{Bool, true, cond}
+use mathlib.Core.List.{List, [], ◌++◌, map, append-nil}
+use Prim.Native.Nat.{ℕ, suc, ◌+◌, ◌-◌, ◌*◌, ◌<◌}
 use native.Mathlib.Omega.{arith}
-use lib.ListN.{length, take, drop, replicate, replicate-append-replicate}
-use lib.Seq.{take_at, drop_at, drop-drop}
-use Rattle.grids.specs.Each.{Grid}
-use Rattle.grids.specs.Rows.{rows_of, flat}
+use lib.ListN.{length, get_or, drop, drop_of_length-le}
+use Rattle.grids.specs.Each.{Each, Grid}
+use Rattle.grids.specs.Table.{table}
 use Rattle.grids.specs.Cut.{cut}
-use Rattle.grids.proofs.Shapes.{each-length, grid_of}
-use Rattle.grids.proofs.Rows.{rows_of-flat, length-flat}
+use Rattle.grids.proofs.Shapes.{each-length, each_at, grid_of, get_or-map}
+use Rattle.grids.proofs.Tables.{length-table, table_at, table_same}
+use Rattle.pictures.specs.Numbers.{numbers_in}
+use Rattle.pictures.proofs.TwoBytes.{length-numbers}
+use Rattle.grids.proofs.Rows.{grid-rows_of}
 use Rattle.pictures.specs.declared.sizes.Size.{Size}
-use Rattle.pictures.specs.Pictures.{Picture, pixel_bytes, picture_bytes, picture, bytes, OfSize, pixels, picture_in}
-use Rattle.pictures.specs.Numbers.{low_byte, high_byte, pairs}
-use Rattle.pictures.proofs.Samples.{AreBytes}
-use Rattle.pictures.proofs.Buffers.{picture-of_size, picture_bytes_lem, bytes-picture, length-bytes}
-use Rattle.pictures.proofs.TwoBytes.{pairs-flat, grid-pairs}
-use Rattle.map_theory.specs.Maps.{carve, map_of}
-use Rattle.map_theory.proofs.Maps.{carve-next, map-grid, map_next, carve-each}
+use Rattle.pictures.specs.Pictures.{Picture, channels_of, picture}
+use Rattle.pictures.proofs.Buffers.{picture-of_size}
+use Rattle.pictures.proofs.Limits.{Sides, sides_are}
 use Rattle.energy.specs.declared.methods.Method.{Method}
+use Rattle.energy.specs.declared.pixels.Side.{Side}
+use Rattle.energy.specs.declared.pixels.Side.TheVariants.{Up, Left, Right}
+use Rattle.energy.specs.Energy.{one_cost, costs_at}
+use Rattle.energy.specs.Methods.{wrap_of}
+use Rattle.energy.specs.Pixels.{cost_to}
+use Rattle.seam_theory.specs.Connected.{linked}
+use Rattle.seam_theory.specs.Paths.{near}
 use Rattle.seam_theory.specs.PictureSeams.{seam_of}
 use Rattle.seam_theory.proofs.Choosing.{seam_chooses}
-use Rattle.map_rules.specs.Spaces.{map_bytes, map_at, recorded_at}
-use Rattle.map_rules.proofs.Rooms.{map-end, map-rows, picture_room}
-use Rattle.map_build.specs.Building.{with_zeros, mapped}
-use Rattle.map_build.specs.Inner.Marks.{write_pair}
-use Rattle.map_build.specs.Inner.Rows.{write_rows}
-use Rattle.map_build.specs.Inner.Seams.{NextGiven}
-use Rattle.map_build.proofs.Pairs.{map-zeros, write_all-pairs}
-use Rattle.map_build.proofs.Lists.{length-with_zeros, with_zeros-over}
+use Rattle.seam_planes.specs.Planes.{fronts, numbers_of, NumbersSeam, PictureSeam}
+use Rattle.seam_planes.proofs.Fronts.{fronts_grid, fronts_each, fronts_at}
+use Rattle.seam_keep.specs.Refresh.{changed, number_at, refreshed, stood}
+use Rattle.seam_keep.specs.Keeping.{cost_grid, KeepAsked}
+use Rattle.seam_keep.proofs.Refresh.{refresh_costs}
+use Rattle.seam_keep.proofs.Fronts.{costs_fronts}
+use Rattle.seam_find_kept.specs.Finding.{kept_costs, FindAsked}
+use Rattle.seam_find_kept.proofs.Kept.{seam-by-planes}
+use Rattle.pictures.proofs.Samples.{AreBytes}
+use Rattle.seam_find.specs.ByCosts.{path_columns}
+use Rattle.seam_sums.specs.Fences.{fence32}
+use Rattle.seam_bounds.proofs.Moving.{each_inside}
+use Rattle.map_theory.proofs.LeftColumns.{left_columns, all_left, left-inside, left-write_all}
+use Rattle.map_theory.proofs.Levels.{write_all}
+use Rattle.map_rules.specs.Spaces.{map_bytes}
+use Rattle.map_rules.proofs.Rooms.{map-rows}
+use Rattle.map_build.specs.Inner.Columns.{number_in, taken_columns, put_rows, NumberNeeded}
+use Rattle.map_build.specs.Inner.Carving.{left_picture, Held, StepNeeded, CostsKept, carried_costs}
+use Rattle.map_build.proofs.NumbersPut.{number_is, put-written}
 
--- The size that is left after t seams.
-abbrev pub left_size : Size → ℕ → Size
-left_size z t = record { width = z.width - t; height = z.height; kind = z.kind }
+-- Costs that are refreshed by what a pixel costs in a picture are those of the columns that are left of it.
+refreshed_same : (wrap : Bool) (w h : ℕ) (a b : ℕ → ℕ → ℕ) (s : List ℕ) (k : List (List ℕ)) → ((r c : ℕ) → c < w - 1 → a r c ≡ b r c)
+    → refreshed wrap w h a s k ≡ refreshed wrap w h b s k
+unfolding refreshed
+refreshed_same wrap w h a b s k e =
+    let one : (ℕ → ℕ → ℕ) → ℕ → ℕ → ℕ = λ f r c. cond (changed wrap w h s r c) (f r c) (number_at k r (stood s r c)) in
+    table_same (λ r. table (one a r) (w - 1)) (λ r. table (one b r) (w - 1)) h
+    (λ r l. table_same (one a r) (one b r) (w - 1) (λ c m. ap (λ x. cond (changed wrap w h s r c) x (number_at k r (stood s r c))) (e r c m)))
 
--- What is left, and a byte for each pixel of it, end before the map.
-pub left-room : (z : Size) (t : ℕ) → picture_bytes (left_size z t) + pixels (left_size z t) ≤ map_at z
-left-room z t =
-    let few : z.height * (z.width - t) ≤ z.height * z.width = mul-le-mul_left z.height (omega arith) in
-    omega (arith, picture_room (left_size z t), few)
+pub carried_right : (how : Method) (from : Side) (w h : ℕ) (s : List ℕ) (p q : Picture) → length s ≡ length q → fronts (w - 1) p ≡ cut s q
+    → refreshed (wrap_of how) w h (λ r c. cost_to from (costs_at how (w - 1) h p r c)) s (cost_grid how from w h q) ≡ cost_grid how from (w - 1) h (fronts (w - 1) p)
+carried_right how from w h s p q e left =
+    refreshed_same (wrap_of how) w h (λ r c. cost_to from (costs_at how (w - 1) h p r c)) (λ r c. cost_to from (costs_at how (w - 1) h (cut s q) r c)) s (cost_grid how from w h q)
+    (λ r c l. ap (cost_to from) (sym (costs_fronts how (w - 1) h p r c l) ∙ ap (λ x. costs_at how (w - 1) h x r c) left))
+    ∙ refresh_costs how from w h s q e ∙ ap (cost_grid how from (w - 1) h) (sym left)
 
--- What one seam frees.
-freed : (z : Size) (t : ℕ) → t < z.width → picture_bytes (left_size z (suc t)) + z.height * pixel_bytes z.kind ≡ picture_bytes (left_size z t)
-freed z t l =
-    let n : z.width - t ≡ suc (z.width - suc t) = omega arith in
-    rw (n, suc-mul) (sym (mul-add z.height ((z.width - suc t) * pixel_bytes z.kind) (pixel_bytes z.kind)))
-
-module _ (z : Size) (how : Method) (p : Picture) (o : OfSize z p) (t : ℕ) (deep : t < z.width) where
-  -- What is left of the picture, and its map.
+module _ (z : Size) (how : Method) (w mark : ℕ) (plane up left right columns : List ℕ) (sums : ℕ) (old : List ℕ)
+    (n : StepNeeded z how w mark plane up left right columns sums old) where
   abbrev q : Picture
-  q = carve (seam_of how) t z.width z.height p
+  q = left_picture z w plane
 
-  q_of : OfSize (left_size z t) q
-  q_of = carve-each (seam_of how) (seam_chooses how) t z.width z.height p deep o
+  abbrev h : ℕ
+  h = z.height
 
-  long-bytes : length (bytes z.kind q) ≡ picture_bytes (left_size z t)
-  long-bytes = length-bytes (left_size z t) q q_of
+  abbrev m : ℕ
+  m = z.width
 
-  abbrev m : List (List ℕ)
-  m = map_of (seam_of how) t z.width z.height p
+  sides : Sides z
+  sides = sides_are z n.sized.sides
 
-  grid-m : Grid (2 * z.width) z.height (map pairs m)
-  grid-m = grid-pairs (map-grid (seam_of how) (seam_chooses how) t z.width z.height p (grid_of o) (omega (arith, deep)))
+  q_of : Each (Each (λ x. length x ≡ channels_of z.kind) w) h q
+  q_of = fronts_each w n.within (picture-of_size z plane n.sized.picture_long)
 
-  map-long : length (pairs (flat m)) ≡ map_bytes z
-  map-long = ap length (pairs-flat m) ∙ length-flat grid-m ∙ map-rows z
+  -- The seam of what is left.
+  abbrev s : List ℕ
+  s = seam_of how w h q
 
-  abbrev front : List ℕ
-  front = with_zeros (map_at z) (bytes z.kind q)
+  s_inside : Each (λ c. c < w) h s
+  s_inside = (seam_chooses how).inside w h q (omega (arith, n.more)) (grid_of q_of)
 
-  front_long : length front ≡ map_at z
-  front_long = length-with_zeros (map_at z) (bytes z.kind q) (omega (arith, long-bytes, left-room z t))
+  s_joined : linked (near (wrap_of how) w) s ≡ true
+  s_joined = (seam_chooses how).joined w h q (omega (arith, n.more)) (grid_of q_of)
 
-  -- The front and the map, with what follows.
-  module _ (rest : List ℕ) where
-    abbrev whole : List ℕ
-    whole = mapped z how t p ++ rest
+  pub s_long : length s ≡ h
+  s_long = each-length s_inside
 
-    parts : whole ≡ front ++ (pairs (flat m) ++ rest)
-    parts = append_assoc front (pairs (flat m)) rest
+  -- The costs that are kept are its costs, so the path that is found by them is its seam.
+  pub find_asked : (space seam : ℕ) → sums ≡ space → seam ≡ h → FindAsked z w (one_cost how.energy) (length up) (length left) (length right) space seam
+  find_asked space seam e l = record {
+    sides = n.sized.sides;
+    some = omega (arith, n.more);
+    within = n.within;
+    up_long = n.sized.up_long;
+    left_long = λ o. n.sized.left_long;
+    right_long = λ o. n.sized.right_long;
+    room = omega (arith, n.room, e);
+    seam_room = omega (arith, l);
+  }
 
-    take-front : take (map_at z) whole ≡ front
-    take-front = ap (take (map_at z)) parts ∙ take_at front (pairs (flat m) ++ rest) (map_at z) front_long
+  path-is : AreBytes up → path_columns fence32 w h (kept_costs how.energy z w up left right) ≡ s
+  unfolding cost_grid
+  path-is bytes = seam-by-planes how z w q up left right n.sized.sides (omega (arith, n.more)) n.within bytes n.held.up_costs n.held.left_costs n.held.right_costs
 
-    drop-front : drop (map_at z) whole ≡ pairs (flat m) ++ rest
-    drop-front = ap (drop (map_at z)) parts ∙ drop_at front (pairs (flat m) ++ rest) (map_at z) front_long
+  pub seam_is : (seam space : List ℕ) → AreBytes up → length space ≡ h → seam ≡ path_columns fence32 w h (kept_costs how.energy z w up left right) ++ drop h space → seam ≡ s
+  seam_is seam space bytes l e = e ∙ ap₂ ◌++◌ (path-is bytes) (drop_of_length-le space (omega (arith, l))) ∙ append-nil s
 
-    pub take-map : take (map_bytes z) (drop (map_at z) whole) ≡ pairs (flat m)
-    take-map = ap (take (map_bytes z)) drop-front ∙ take_at (pairs (flat m)) rest (map_bytes z) map-long
+  -- Where its number goes.
+  abbrev M : List (List ℕ)
+  M = numbers_of m h old
 
-    pub drop-map : drop (recorded_at z) whole ≡ rest
-    drop-map =
-        ap (λ n. drop n whole) (sym (map-end z))
-        ∙ sym (drop-drop (map_bytes z) (map_at z) whole) ∙ ap (drop (map_bytes z)) drop-front ∙ drop_at (pairs (flat m)) rest (map_bytes z) map-long
+  old_long : length old ≡ h * (2 * m)
+  old_long = n.sized.map_long ∙ sym (map-rows z)
 
-    picture_there : picture_in (left_size z t) (take (map_at z) whole) ≡ q
-    picture_there =
-        ap (picture_in (left_size z t)) take-front
-        ∙ ap (picture (left_size z t)) (take_at (bytes z.kind q) (replicate (map_at z - length (bytes z.kind q)) 0) (picture_bytes (left_size z t)) long-bytes)
-        ∙ picture_bytes_lem (left_size z t) q q_of
+  columns_long : length columns ≡ h * (2 * m)
+  columns_long = n.sized.columns_long ∙ sym (map-rows z)
 
-    -- The seam cut next, and what it leaves.
-    abbrev s : List ℕ
-    s = seam_of how (z.width - t) z.height q
+  m_grid : Grid m h M
+  m_grid = grid-rows_of m h (numbers_in old) (omega (arith, length-numbers old, n.sized.map_long))
 
-    seam_long : length s ≡ z.height
-    seam_long = each-length ((seam_chooses how).inside (z.width - t) z.height q (omega (arith, deep)) (grid_of q_of))
+  left_long : (r : ℕ) → r < h → length (left_columns (get_or M r [])) ≡ w
+  left_long r l =
+      let all : Grid m h (numbers_of m h columns) = grid-rows_of m h (numbers_in columns) (omega (arith, length-numbers columns, n.sized.columns_long)) in
+      let kept : Grid w h (map left_columns M) = rw n.held.first_columns at (fronts_grid w n.within all) in
+      let row : get_or (map left_columns M) r [] ≡ left_columns (get_or M r []) = get_or-map left_columns M r [] [] (omega (arith, l, each-length m_grid)) in
+      ap length (sym row) ∙ each_at r [] l kept
 
-    next-front : suc t < z.width
-        → (bytes z.kind (cut s q) ++ replicate (z.height * pixel_bytes z.kind) 0)
-        ++ (replicate (pixels (left_size z t)) 0 ++ drop (picture_bytes (left_size z t) + pixels (left_size z t)) front)
-        ≡ with_zeros (map_at z) (bytes z.kind (carve (seam_of how) (suc t) z.width z.height p))
-    next-front more =
-        let new = carve (seam_of how) (suc t) z.width z.height p in
-        let new_of : OfSize (left_size z (suc t)) new = carve-each (seam_of how) (seam_chooses how) (suc t) z.width z.height p more o in
-        rw (← long-bytes, ← carve-next (seam_of how) t z.width z.height p)
-        (with_zeros-over (map_at z) (z.height * pixel_bytes z.kind) (pixels (left_size z t)) (bytes z.kind q) (bytes z.kind new)
-        (omega (arith, length-bytes (left_size z (suc t)) new new_of, freed z t deep, long-bytes))
-        (omega (arith, long-bytes, left-room z t)))
+  column-left : (r : ℕ) → r < h → get_or s r 0 < length (left_columns (get_or M r []))
+  column-left r l = rw (left_long r l) (each_at r 0 l s_inside)
 
-    next_map : write_rows (suc t) z.width s (pairs (flat m)) ≡ pairs (flat (map_of (seam_of how) (suc t) z.width z.height p))
-    next_map =
-        let rows : rows_of (2 * z.width) (length s) (pairs (flat m)) ≡ map pairs m =
-        ap₂ (λ n b. rows_of (2 * z.width) n b) seam_long (pairs-flat m ∙ sym (append-nil (flat (map pairs m)))) ∙ rows_of-flat [] grid-m in
-        ap (λ r. flat (zip_with (write_pair (low_byte (suc t)) (high_byte (suc t))) s r)) rows
-        ∙ ap flat (write_all-pairs (suc t) s m ∙ ap (map pairs) (sym (map_next (seam_of how) (seam_chooses how) t z.width z.height p (grid_of o) deep)))
-        ∙ sym (pairs-flat (map_of (seam_of how) (suc t) z.width z.height p))
+  first-is : (r : ℕ) → r < h → number_in m columns r (get_or s r 0) ≡ get_or (left_columns (get_or M r [])) (get_or s r 0) 0
+  first-is r l =
+      let c : ℕ = get_or s r 0 in
+      let k : c < w = each_at r 0 l s_inside in
+      number_is m h columns r c columns_long l (omega (arith, k, n.within))
+      ∙ sym (fronts_at w (numbers_of m h columns) r c 0 k)
+      ∙ ap (λ p. get_or (get_or p r []) c 0) n.held.first_columns
+      ∙ ap (λ x. get_or x c 0) (get_or-map left_columns M r [] [] (omega (arith, l, each-length m_grid)))
 
-    next-there : suc t < z.width → (space' : List ℕ) → NextGiven (left_size z t) how z.width (map_at z) (t + 1) (mapped z how t p ++ rest) space' → space' ≡ mapped z how (t + 1) p ++ rest
-    next-there more space' g =
-        rw (add-one t)
-        ((rw (map-rows z, map-end z, picture_there, take-front, take-map, drop-map, add-one t) at g.space_left)
-        ∙ ap₂ (λ a b. a ++ (b ++ rest)) (next-front more) next_map
-        ∙ sym (append_assoc (with_zeros (map_at z) (bytes z.kind (carve (seam_of how) (suc t) z.width z.height p))) (pairs (flat (map_of (seam_of how) (suc t) z.width z.height p))) rest))
+  pub number_needed : NumberNeeded m s columns old
+  number_needed = record {
+    narrow = omega (arith, sides.width_most);
+    tall = omega (arith, s_long, sides.height_most);
+    plane_long = rw s_long columns_long;
+    map_long = rw s_long old_long;
+    inside = λ r l. let k : r < h = omega (arith, l, s_long) in omega (arith, each_at r 0 k s_inside, n.within);
+    first = λ r l.
+        let k : r < h = omega (arith, l, s_long) in
+        let row : length (get_or M r []) ≡ m = each_at r [] k m_grid in
+        rw (first-is r k) (omega (arith, left-inside (get_or M r []) (get_or s r 0) (column-left r k), row));
+  }
 
-    -- The same with the map's place and the space as they are given.
-    pub next-mapped : suc t < z.width → (at : ℕ) (space space' : List ℕ) → at ≡ map_at z → space ≡ mapped z how t p ++ rest
-        → NextGiven (left_size z t) how z.width at (t + 1) space space' → space' ≡ mapped z how (t + 1) p ++ rest
-    next-mapped more at space space' a e g = next-there more space' (rw (a, e) at g)
+  pub numbered : numbers_of m h (put_rows mark m (taken_columns m columns s) old) ≡ write_all mark s M
+  numbered =
+      put-written mark m h s (taken_columns m columns s) old old_long s_long (length-table (λ r. number_in m columns r (get_or s r 0)) (length s) ∙ s_long)
+      (λ r l. (column-left r l, table_at (λ r. number_in m columns r (get_or s r 0)) (length s) r 0 (omega (arith, l, s_long)) ∙ first-is r l))
 
--- The space before the first seam: the picture, and zeros up to the end of the map.
-pub first-mapped : (z : Size) (how : Method) (b rest : List ℕ) → length b ≡ picture_bytes z → AreBytes b
-    → b ++ (replicate (recorded_at z - picture_bytes z) 0 ++ rest) ≡ mapped z how 0 (picture z b) ++ rest
-first-mapped z how b rest e small =
-    let gap : List ℕ = replicate (map_at z - length b) 0 in
-    let none : List ℕ = replicate (map_bytes z) 0 in
-    let n : map_at z - length b + map_bytes z ≡ recorded_at z - picture_bytes z = omega (arith, e, picture_room z) in
-    let both : gap ++ none ≡ replicate (recorded_at z - picture_bytes z) 0 =
-    replicate-append-replicate (map_at z - length b) (map_bytes z) 0 ∙ ap (λ k. replicate k 0) n in
-    let zeros : pairs (flat (map_of (seam_of how) 0 z.width z.height (picture z b))) ≡ none =
-    map-zeros (grid_of (picture-of_size z b e)) ∙ ap (λ k. replicate k 0) (map-rows z) in
-    rw (← both, bytes-picture z b e small, zeros)
-    (ap (b ++◌) (append_assoc gap none rest) ∙ sym (append_assoc b gap (none ++ rest)) ∙ sym (append_assoc (b ++ gap) none rest))
+  -- How the seam is closed up in the planes, and which costs are kept.
+  pub columns_seam : NumbersSeam m w s (length columns)
+  columns_seam = record {
+    narrow = omega (arith, sides.width_most);
+    low = omega (arith, s_long, sides.height_most);
+    left = n.within;
+    long = number_needed.plane_long;
+    inside = each_inside s_inside;
+  }
+
+  pub picture_seam : PictureSeam z w s (length plane)
+  picture_seam = record { sides = n.sized.sides; left = n.within; long = n.sized.picture_long; columns = s_long; inside = each_inside s_inside }
+
+  pub keep_asked : (bytes : ℕ) → bytes ≡ length plane → KeepAsked how z (w - 1) s bytes (map_bytes z)
+  keep_asked bytes e =
+      let k : w - 1 + 1 ≡ w = omega (arith, n.more) in
+      record {
+        sides = n.sized.sides;
+        some = omega (arith, n.more);
+        left = omega (arith, n.more, n.within);
+        long = e ∙ n.sized.picture_long;
+        room = refl;
+        columns = s_long;
+        inside = rw k (each_inside s_inside);
+        joined = rw k s_joined;
+      }
+
+  -- What is kept after it.
+  module _ (plane' up' left' right' columns' new : List ℕ)
+      (closed : left_picture z (w - 1) plane' ≡ cut s q)
+      (columns_closed : fronts (w - 1) (numbers_of m h columns') ≡ cut s (fronts w (numbers_of m h columns)))
+      (put : new ≡ put_rows mark m (taken_columns m columns s) old)
+      (kept : CostsKept how z (w - 1) s plane' up left right up' left' right') where
+
+    side-kept : (from : Side) (x x' : List ℕ) → fronts w (numbers_of m h x) ≡ cost_grid how from w h q
+        → fronts (w - 1) (numbers_of m h x') ≡ carried_costs how from z (w - 1) s plane' x
+        → fronts (w - 1) (numbers_of m h x') ≡ cost_grid how from (w - 1) h (left_picture z (w - 1) plane')
+    side-kept from x x' was is =
+        let e : w - 1 + 1 ≡ w = omega (arith, n.more) in
+        is ∙ rw (e, was) (carried_right how from w h s (picture z plane') q (s_long ∙ sym (each-length q_of)) closed)
+
+    pub held_next : Held z how (w - 1) plane' up' left' right' columns' new
+    held_next = record {
+      up_costs = side-kept Up up up' n.held.up_costs kept.up_kept;
+      left_costs = λ o. side-kept Left left left' (n.held.left_costs o) (kept.left_kept o);
+      right_costs = λ o. side-kept Right right right' (n.held.right_costs o) (kept.right_kept o);
+      first_columns =
+          let e : suc (mark - 1) ≡ mark = omega (arith, n.some) in
+          columns_closed ∙ ap (cut s) n.held.first_columns ∙ sym (rw e at (left-write_all (mark - 1) s M))
+          ∙ ap all_left (sym (ap (numbers_of m h) put ∙ numbered));
+    }

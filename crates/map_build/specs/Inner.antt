@@ -1,3 +1,3 @@
-pub mod Marks
-pub mod Rows
+pub mod Columns
+pub mod Carving
 pub mod Seams

@@ -1,57 +1,48 @@
--- `map_build::cut_seams` meets its contract: the space before the first seam, one seam more, and the last.
+-- `map_build::cut_seams` meets its contract: the work and the map stand apart, and what is left of the picture ends within the work.
 use mathlib.Core.Path.{◌≡◌, ap, ◌∙◌}
-use mathlib.Core.List.{◌++◌}
-use Prim.Native.Nat.{◌-◌}
+use Prim.Native.Nat.{ℕ, ◌-◌, ◌*◌, ◌≤◌}
+use native.Mathlib.Nat.{mul-le-mul_left, mul-le-mul_right}
 use native.Mathlib.Omega.{arith}
-use borrow.Rule.Slice.PartMut.{same_len_mid}
-use lib.ListN.{length, get_or, drop}
-use Rattle.std.proofs.Common.{ℕ, rules, Fits, w8}
-use Rattle.pictures.specs.Pictures.{picture_in}
-use Rattle.map_rules.specs.Spaces.{recorded_at}
-use Rattle.map_rules.proofs.Rooms.{Room, room_is}
-use Rattle.map_build.specs.Building.{mapped}
-use Rattle.map_build.proofs.Steps.{next-mapped}
-use Rattle.map_build.proofs.Spaces.{there_of_size, next_needed, first_there}
+use lib.ListN.{length, take, drop}
+use Rattle.pictures.specs.declared.sizes.Size.{Size}
+use Rattle.pictures.specs.Pictures.{pixel_bytes, picture_bytes}
+use Rattle.pictures.proofs.Limits.{bytes-few}
+use Rattle.map_rules.specs.Spaces.{map_at, map_bytes}
+use Rattle.map_build.proofs.Mapped.{mapped_is}
 use Rattle.map_build.proofs.cut_seams.Goals as goal
-use Rattle.map_build.proofs.cut_seams.Goals.{After-recorded_at-end, After-clear}
+use Rattle.map_build.proofs.cut_seams.Goals.{After-carve}
+use Rattle.std.proofs.Common.{rules}
 
-room : (c : After-clear) → Room c.args.allowed.size c.args.depth (length c.args.space.now)
-room c = room_is _ _ _ c.requires.served
+-- what is left ends within the work
+within : (z : Size) (depth : ℕ) → z.height * ((z.width - depth) * pixel_bytes z.kind) ≤ map_at z
+within z depth =
+    let less : z.height * ((z.width - depth) * pixel_bytes z.kind) ≤ picture_bytes z = mul-le-mul_left z.height (mul-le-mul_right (pixel_bytes z.kind) (omega arith)) in
+    omega (arith, less, bytes-few z)
 
-pub loop-t-init : goal.loop-t-init
-loop-t-init c =
-    let a = c.args in
-    let b = c.picture_bytes-bytes.result in
-    let fits : (i : ℕ) → Fits w8 (get_or a.space.now i 0) = search rules in (
-      same_len_mid b (c.recorded_at-end.result - b) a.space.now c.clear.new.space c.clear.auto.space,
-      first_there a.allowed.size a.method a.space.now c.clear.new.space _ _ c.picture_bytes-bytes.ensures.0 c.recorded_at-end.ensures (room (goal.at.loop-t-init c).After-clear).long (λ i. omega (arith, fits i))
-          c.clear.ensures,
-    )
+-- the work is as long as all that stands before the maps
+long : (c : After-carve) → length c.carve.new.work ≡ map_at c.args.allowed.size
+long c = c.carve.auto.work ∙ c.split_at_mut-work.ensures.front_len ∙ c.map_at.ensures
 
-pub next_seam-requires : goal.next_seam-requires
-next_seam-requires c =
-    let a = c.args in
-    let l = c.loop-t in
-    next_needed a.allowed.size a.depth (length a.space.now) l.t _ _ c.map_at-at.ensures l.invariant.0 (room (goal.at.next_seam-requires c).After-clear) c.loop-t-test.true
+inside : (c : After-carve) → c.args.allowed.size.height * ((c.args.allowed.size.width - c.args.depth) * c.pixel_bytes.result) ≤ length c.carve.new.work
+inside c = rw (c.pixel_bytes.ensures, long c) (within c.args.allowed.size c.args.depth)
 
-pub loop-t-preserved : goal.loop-t-preserved
-loop-t-preserved c =
-    let a = c.args in
-    let l = c.loop-t in
-    let z = a.allowed.size in
-    let n = c.next_seam in
-    let r = room (goal.at.loop-t-preserved c).After-clear in (
-      n.auto.space ∙ l.invariant.0,
-      next-mapped z a.method (picture_in z a.space.now) (there_of_size z a.space.now r.long) l.t (omega (arith, r.deep, c.loop-t-test.true)) (drop (recorded_at z) a.space.now) (omega (arith, r.deep, c.loop-t-test.true)) _
-          l.space n.new.space c.map_at-at.ensures l.invariant.1 n.ensures,
-    )
+pub slice_bounds-clear-count : goal.slice_bounds-clear-count
+slice_bounds-clear-count c = inside (goal.at.slice_bounds-clear-count c).After-carve
+
+pub slice_bounds-clear-start : goal.slice_bounds-clear-start
+slice_bounds-clear-start c = let l = inside (goal.at.slice_bounds-clear-start c).After-carve in search (rules, l)
 
 pub returns : goal.returns
 returns c =
     let a = c.args in
-    let l = c.loop-t in
     let z = a.allowed.size in
-    let last : l.t ≡ a.depth = omega arith in
-    record {
-      space_left = l.invariant.1 ∙ ap (λ t. mapped z a.method t (picture_in z a.space.now) ++ drop (recorded_at z) a.space.now) last;
-    }
+    let split = c.split_at_mut-work in
+    let k = c.carve in
+    let r = (goal.at.returns c).After-carve in
+    let front = split.ensures.front ∙ ap (λ n. take n a.space.now) c.map_at.ensures in
+    let given = rw front at k.ensures in
+    let whole = mapped_is z a.method a.depth a.space.now k.new.work k.new.map c.clear.new.space (z.height * ((z.width - a.depth) * c.pixel_bytes.result)) (ap (λ n. z.height * ((z.width - a.depth) * n)) c.pixel_bytes.ensures)
+    (long r) (inside r) given c.clear.ensures in
+    let back : drop (2 * c.pixels-bytes.result) split.result.1.now ≡ drop (map_bytes z) (drop (map_at z) a.space.now) =
+    ap (λ n. drop (2 * n) split.result.1.now) c.pixels-bytes.ensures.0 ∙ ap (drop (map_bytes z)) (split.ensures.back ∙ ap (λ n. drop n a.space.now) c.map_at.ensures) in
+    record { space_left = rw back whole }

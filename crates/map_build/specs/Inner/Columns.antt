@@ -1,5 +1,5 @@
 -- The columns in which the pixels left of a row stood at first. What private functions ask and promise; no public promise cites it.
-use Rattle.std.specs.Prelude.{◌≡◌, List, [], ◌∷◌, map, ℕ, zero, suc, ◌+◌, ◌*◌, ◌<◌, ◌≤◌, length, get_or}
+use Rattle.std.specs.Prelude.{◌≡◌, List, map, ℕ, ◌+◌, ◌*◌, ◌<◌, ◌≤◌, length, get_or}
 use mathlib.Core.List.{zip_with}
 use lib.ListN.{set}
 use Rattle.grids.specs.Rows.{rows_of, flat}
