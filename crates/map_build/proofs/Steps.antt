@@ -196,7 +196,6 @@ module _ (z : Size) (how : Method) (w mark : ℕ) (plane up left right columns :
       (columns_closed : fronts (w - 1) (numbers_of m h columns') ≡ cut s (fronts w (numbers_of m h columns)))
       (put : new ≡ put_rows mark m (taken_columns m columns s) old)
       (kept : CostsKept how z (w - 1) s plane' up left right up' left' right') where
-
     side-kept : (from : Side) (x x' : List ℕ) → fronts w (numbers_of m h x) ≡ cost_grid how from w h q
         → fronts (w - 1) (numbers_of m h x') ≡ carried_costs how from z (w - 1) s plane' x
         → fronts (w - 1) (numbers_of m h x') ≡ cost_grid how from (w - 1) h (left_picture z (w - 1) plane')

@@ -36,8 +36,18 @@ sized c = record {
 room : (c : After-split_at_mut-columns) → 8 * pixels c.args.allowed.size ≤ length c.split_at_mut-columns.result.1.now
 room c =
     let z = c.args.allowed.size in
-    omega (arith, c.requires.room, bytes-few z, c.picture_bytes.ensures.0, c.pixels-plane.ensures.0, c.split_at_mut-picture.ensures.back_len, c.split_at_mut-up.ensures.back_len, c.split_at_mut-left.ensures.back_len,
-    c.split_at_mut-right.ensures.back_len, c.split_at_mut-columns.ensures.back_len)
+    omega (
+      arith,
+      c.requires.room,
+      bytes-few z,
+      c.picture_bytes.ensures.0,
+      c.pixels-plane.ensures.0,
+      c.split_at_mut-picture.ensures.back_len,
+      c.split_at_mut-up.ensures.back_len,
+      c.split_at_mut-left.ensures.back_len,
+      c.split_at_mut-right.ensures.back_len,
+      c.split_at_mut-columns.ensures.back_len,
+    )
 
 pub loop-t-init : goal.loop-t-init
 loop-t-init c =
@@ -51,21 +61,21 @@ loop-t-init c =
       room split,
       λ i. omega (arith, c.type_inv.map i),
       rw there
-      (carved_start z c.args.method c.split_at_mut-picture.result.0.now f.new.up f.new.left f.new.right c.fill_columns.new.columns c.clear.new.space
-      record {
-        sides = s.sides;
-        picture_long = s.picture_long;
-        up_long = f.ensures.long.0 ∙ s.up_long;
-        left_long = f.ensures.long.1 ∙ s.left_long;
-        right_long = f.ensures.long.2 ∙ s.right_long;
-        columns_long = c.fill_columns.ensures.long ∙ s.columns_long;
-        map_long = c.clear.auto.space ∙ s.map_long;
-      }
-      (f.ensures.up (asked _ s.up_long))
-      (λ o. f.ensures.left o (asked _ s.up_long) (asked _ s.left_long) (asked _ s.right_long))
-      (λ o. f.ensures.right o (asked _ s.up_long) (asked _ s.left_long) (asked _ s.right_long))
-      c.fill_columns.ensures.all
-      (c.clear.ensures ∙ ap (λ k. replicate k 0) (sym c.clear.auto.space))),
+          (carved_start z c.args.method c.split_at_mut-picture.result.0.now f.new.up f.new.left f.new.right c.fill_columns.new.columns c.clear.new.space
+          record {
+            sides = s.sides;
+            picture_long = s.picture_long;
+            up_long = f.ensures.long.0 ∙ s.up_long;
+            left_long = f.ensures.long.1 ∙ s.left_long;
+            right_long = f.ensures.long.2 ∙ s.right_long;
+            columns_long = c.fill_columns.ensures.long ∙ s.columns_long;
+            map_long = c.clear.auto.space ∙ s.map_long;
+          }
+          (f.ensures.up (asked _ s.up_long))
+          (λ o. f.ensures.left o (asked _ s.up_long) (asked _ s.left_long) (asked _ s.right_long))
+          (λ o. f.ensures.right o (asked _ s.up_long) (asked _ s.left_long) (asked _ s.right_long))
+          c.fill_columns.ensures.all
+          (c.clear.ensures ∙ ap (λ k. replicate k 0) (sym c.clear.auto.space))),
     )
 
 -- the picture that stands at the front is of its size
@@ -81,7 +91,7 @@ loop-t-preserved c =
       omega (arith, l.invariant.0, n.auto.sums),
       λ i. omega (arith, c.type_inv.map i),
       carved_turn z a.method (picture_in z a.work.now) (there_of_size z a.work.now c.requires.room) l.t _ l.picture l.up l.left l.right l.columns l.map n.new.picture n.new.up n.new.left n.new.right n.new.columns n.new.map
-      (omega (arith, c.loop-t-test.true, c.requires.deep)) refl l.invariant.2 n.ensures,
+          (omega (arith, c.loop-t-test.true, c.requires.deep)) refl l.invariant.2 n.ensures,
     )
 
 pub returns : goal.returns
