@@ -1,15 +1,14 @@
 -- One seam more: what is kept before it says which seam is found and where its number goes, and is kept again after it.
 use mathlib.Core.Path.{◌≡◌, refl, sym, ap, ap₂, ◌∙◌}
-use mathlib.Core.Bool.{Bool, true, cond}
+use mathlib.Core.Bool.{true}
 use mathlib.Core.List.{List, [], ◌++◌, map, append-nil}
 use Prim.Native.Nat.{ℕ, suc, ◌+◌, ◌-◌, ◌*◌, ◌<◌}
 use native.Mathlib.Omega.{arith}
 use lib.ListN.{length, get_or, drop, drop_of_length-le}
 use Rattle.grids.specs.Each.{Each, Grid}
-use Rattle.grids.specs.Table.{table}
 use Rattle.grids.specs.Cut.{cut}
 use Rattle.grids.proofs.Shapes.{each-length, each_at, grid_of, get_or-map}
-use Rattle.grids.proofs.Tables.{length-table, table_at, table_same}
+use Rattle.grids.proofs.Tables.{length-table, table_at}
 use Rattle.pictures.specs.Numbers.{numbers_in}
 use Rattle.pictures.proofs.TwoBytes.{length-numbers}
 use Rattle.grids.proofs.Rows.{grid-rows_of}
@@ -20,19 +19,17 @@ use Rattle.pictures.proofs.Limits.{Sides, sides_are}
 use Rattle.energy.specs.declared.methods.Method.{Method}
 use Rattle.energy.specs.declared.pixels.Side.{Side}
 use Rattle.energy.specs.declared.pixels.Side.TheVariants.{Up, Left, Right}
-use Rattle.energy.specs.Energy.{one_cost, costs_at}
+use Rattle.energy.specs.Energy.{one_cost}
 use Rattle.energy.specs.Methods.{wrap_of}
-use Rattle.energy.specs.Pixels.{cost_to}
 use Rattle.seam_theory.specs.Connected.{linked}
 use Rattle.seam_theory.specs.Paths.{near}
 use Rattle.seam_theory.specs.PictureSeams.{seam_of}
 use Rattle.seam_theory.proofs.Choosing.{seam_chooses}
 use Rattle.seam_planes.specs.Planes.{fronts, numbers_of, NumbersSeam, PictureSeam}
 use Rattle.seam_planes.proofs.Fronts.{fronts_grid, fronts_each, fronts_at}
-use Rattle.seam_keep.specs.Refresh.{changed, number_at, refreshed, stood}
 use Rattle.seam_keep.specs.Keeping.{cost_grid, KeepAsked}
-use Rattle.seam_keep.proofs.Refresh.{refresh_costs}
-use Rattle.seam_keep.proofs.Fronts.{costs_fronts}
+use Rattle.seam_keep.proofs.Anew.{kept_right}
+use Rattle.seam_keep.proofs.Fronts.{grid_fronts}
 use Rattle.seam_find_kept.specs.Finding.{kept_costs, FindAsked}
 use Rattle.seam_find_kept.proofs.Kept.{seam-by-planes}
 use Rattle.pictures.proofs.Samples.{AreBytes}
@@ -46,22 +43,6 @@ use Rattle.map_rules.proofs.Rooms.{map-rows}
 use Rattle.map_build.specs.Inner.Columns.{number_in, taken_columns, put_rows, NumberNeeded}
 use Rattle.map_build.specs.Inner.Carving.{left_picture, Held, StepNeeded, CostsKept, carried_costs}
 use Rattle.map_build.proofs.NumbersPut.{number_is, put-written}
-
--- Costs that are refreshed by what a pixel costs in a picture are those of the columns that are left of it.
-refreshed_same : (wrap : Bool) (w h : ℕ) (a b : ℕ → ℕ → ℕ) (s : List ℕ) (k : List (List ℕ)) → ((r c : ℕ) → c < w - 1 → a r c ≡ b r c)
-    → refreshed wrap w h a s k ≡ refreshed wrap w h b s k
-unfolding refreshed
-refreshed_same wrap w h a b s k e =
-    let one : (ℕ → ℕ → ℕ) → ℕ → ℕ → ℕ = λ f r c. cond (changed wrap w h s r c) (f r c) (number_at k r (stood s r c)) in
-    table_same (λ r. table (one a r) (w - 1)) (λ r. table (one b r) (w - 1)) h
-    (λ r l. table_same (one a r) (one b r) (w - 1) (λ c m. ap (λ x. cond (changed wrap w h s r c) x (number_at k r (stood s r c))) (e r c m)))
-
-pub carried_right : (how : Method) (from : Side) (w h : ℕ) (s : List ℕ) (p q : Picture) → length s ≡ length q → fronts (w - 1) p ≡ cut s q
-    → refreshed (wrap_of how) w h (λ r c. cost_to from (costs_at how (w - 1) h p r c)) s (cost_grid how from w h q) ≡ cost_grid how from (w - 1) h (fronts (w - 1) p)
-carried_right how from w h s p q e left =
-    refreshed_same (wrap_of how) w h (λ r c. cost_to from (costs_at how (w - 1) h p r c)) (λ r c. cost_to from (costs_at how (w - 1) h (cut s q) r c)) s (cost_grid how from w h q)
-    (λ r c l. ap (cost_to from) (sym (costs_fronts how (w - 1) h p r c l) ∙ ap (λ x. costs_at how (w - 1) h x r c) left))
-    ∙ refresh_costs how from w h s q e ∙ ap (cost_grid how from (w - 1) h) (sym left)
 
 module _ (z : Size) (how : Method) (w mark : ℕ) (plane up left right columns : List ℕ) (sums : ℕ) (old : List ℕ)
     (n : StepNeeded z how w mark plane up left right columns sums old) where
@@ -201,7 +182,10 @@ module _ (z : Size) (how : Method) (w mark : ℕ) (plane up left right columns :
         → fronts (w - 1) (numbers_of m h x') ≡ cost_grid how from (w - 1) h (left_picture z (w - 1) plane')
     side-kept from x x' was is =
         let e : w - 1 + 1 ≡ w = omega (arith, n.more) in
-        is ∙ rw (e, was) (carried_right how from w h s (picture z plane') q (s_long ∙ sym (each-length q_of)) closed)
+        let p = picture z plane in
+        let long : length s ≡ length p = s_long ∙ sym (each-length (picture-of_size z plane n.sized.picture_long)) in
+        is ∙ rw (e, was, grid_fronts how from w h p) (rw e at (kept_right how from (w - 1) h s p (picture z plane') long (rw e closed)))
+        ∙ sym (grid_fronts how from (w - 1) h (picture z plane'))
 
     pub held_next : Held z how (w - 1) plane' up' left' right' columns' new
     held_next = record {
