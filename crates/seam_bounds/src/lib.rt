@@ -7,5 +7,5 @@ pub mod moves;
 
 pub use finding::{judge_find_in, judge_find_marked_in};
 pub use moves::{
-    is_outside, judge_close_columns, judge_close_lengths, judge_column, judge_exchange, lie_apart,
+    has_outside, judge_close_columns, judge_close_lengths, judge_column, judge_exchange, lie_apart,
 };

@@ -1,8 +1,8 @@
-// What the operations that move a picture's bytes decide from numbers alone: which number refuses them, whether a column of
+// What the operations that move a picture's bytes decide before they touch one: which number refuses them, whether a column of
 // a seam is outside the picture, and whether two places of a space are apart.
 ghost use Rattle.std.specs.Prelude.{◌≡◌, ◌+◌, leb};
 ghost use Rattle.pictures.specs.Refusals.{given, refusal};
-ghost use Rattle.seam_bounds.specs.Moves.{exchange_rules, column_rules, close_length_rules, close_column_rules, apart_in};
+ghost use Rattle.seam_bounds.specs.Moves.{exchange_rules, column_rules, close_length_rules, close_column_rules, outside as Moves·outside, apart_in};
 
 use pictures::{Refusal, Size, judge_picture, pixel_bytes};
 
@@ -46,7 +46,7 @@ pub fn judge_close_lengths(size: Size, bytes: usize, columns: usize) -> Result<(
 }
 
 // Whether a seam may be closed up in a picture of this width. Refused by 10 where one of its columns is outside the picture,
-// which `beyond` says, and by 13 at the last column. Not told the seam: what is judged in this file is judged from numbers alone.
+// which `beyond` says, and by 13 at the last column. Not told the seam, so that what refuses is judged from numbers alone.
 pub fn judge_close_columns(width: usize, beyond: bool) -> Result<(), Refusal>
     ensures { given result ≡ refusal (close_column_rules width beyond) }
 {
@@ -59,11 +59,18 @@ pub fn judge_close_columns(width: usize, beyond: bool) -> Result<(), Refusal>
     Ok(())
 }
 
-// Whether a column of a seam isn't below the width. One comparison, public since the search through a seam stands on it.
-pub fn is_outside(width: usize, column: u16) -> bool
+// Whether a column of a seam isn't below the width.
+fn is_outside(width: usize, column: u16) -> bool
     ensures { result ≡ leb width column }
 {
     width <= column as usize
+}
+
+// Whether some column of a seam isn't below the width.
+pub fn has_outside(seam: &[u16], width: usize) -> bool
+    ensures { result ≡ Moves·outside width seam.now }
+{
+    seam.iter().any(|column| is_outside(width, *column))
 }
 
 // Whether `count` bytes at `at` lie inside a space.

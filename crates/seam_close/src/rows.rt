@@ -3,18 +3,9 @@ ghost use Rattle.std.specs.Prelude.{◌≡◌, ◌++◌, ◌-◌, ◌*◌, lengt
 ghost use Rattle.grids.specs.Rows.{cells, flat_cells};
 ghost use Rattle.grids.specs.Cut.{cut};
 ghost use Rattle.pictures.specs.Pictures.{picture as Pictures·picture, bytes, pixel_bytes as Pictures·pixel_bytes};
-ghost use Rattle.seam_bounds.specs.Moves.{outside as Moves·outside};
 ghost use Rattle.seam_close.specs.Inner.{without, RowNeeded, CellsNeeded, PixelsNeeded};
 
 use pictures::{LARGEST_SIDE, Size, clear, pixel_bytes};
-use seam_bounds::is_outside;
-
-// Whether some column of the seam isn't below the width.
-pub(crate) fn has_outside(seam: &[u16], width: usize) -> bool
-    ensures { result ≡ Moves·outside width seam.now }
-{
-    seam.iter().any(|column| is_outside(width, *column))
-}
 
 // The line without the n bytes from `gap` on, put into the front of out.
 fn close_row(line: &[u8], gap: usize, n: usize, out: &mut [u8])

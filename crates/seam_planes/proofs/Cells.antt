@@ -2,7 +2,7 @@
 use mathlib.Core.Path.{◌≡◌, refl, sym, ap, ◌∙◌}
 use mathlib.Core.List.{List, [], ◌++◌, map, append_assoc}
 use Prim.Native.Nat.{ℕ, suc, ◌+◌, ◌-◌, ◌*◌, ◌≤◌, ◌<◌}
-use native.Mathlib.Nat.{mul-le-mul_right, le_of_eq}
+use native.Mathlib.Nat.{mul-le-mul_left, mul-le-mul_right, le_of_eq}
 use native.Mathlib.Omega.{arith}
 use borrow.Rule.Slice.PartMut.{mid_of, put_mid}
 use lib.ListN.{length, length-map, get_or, take, drop, length-append, length-drop}
@@ -17,6 +17,7 @@ use Rattle.grids.proofs.Rows.{part_end, grid-rows_of, flat-rows_of, rows_of-flat
 use Rattle.grids.proofs.Cut.{remove_at-each, flat-remove_at, cut-table}
 use Rattle.grids.proofs.Cells.{cells-each}
 use Rattle.grids.proofs.Filled.{Filled, map-table}
+use Rattle.pictures.specs.Limits.{most_side}
 use Rattle.seam_bounds.proofs.Moving.{inside_each}
 use Rattle.seam_planes.specs.Planes.{fronts}
 use Rattle.seam_planes.specs.Inner.{closed, RowsNeeded}
@@ -70,6 +71,9 @@ module _ {n m w : ℕ} {s b : List ℕ} (needed : RowsNeeded n m w s b) where
 
   used : w * n ≤ m * n
   used = mul-le-mul_right n needed.left
+
+  pub row_most : w * n ≤ 6 * most_side
+  row_most = omega (arith, used, mul-le-mul_right n needed.narrow, mul-le-mul_left most_side needed.few)
 
   pub record RowSure (r : ℕ) : Type 0 where
     pub end : r * (m * n) + m * n ≤ length b

@@ -7,6 +7,11 @@ use Rattle.seam_bounds.specs.Moves.{outside}
 abbrev pub closed : ℕ → ℕ → List ℕ → List ℕ
 closed n gap row = take gap row ++ (drop (gap + n) row ++ drop (length row - n) row)
 
+-- A row with n bytes at `gap`, and a line that has room for it.
+pub record RowNeeded (row : List ℕ) (gap n : ℕ) (line : List ℕ) : Type 0 where
+  pub inside : gap + n ≤ length row
+  pub room : length row ≤ length line
+
 -- Rows of m cells of n bytes, one for each column of a seam, of which the first w count, and a seam inside these.
 pub record RowsNeeded (n m w : ℕ) (s b : List ℕ) : Type 0 where
   pub few : n ≤ 6

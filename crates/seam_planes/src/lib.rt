@@ -12,8 +12,9 @@ ghost use Rattle.pictures.specs.Pictures.{side_rules, pixel_bytes as Pictures·p
 ghost use Rattle.seam_planes.specs.Planes.{fronts, numbers_of, NumbersSeam, PictureSeam};
 
 use packing::pack_rows;
-use pictures::{AllowedSize, Kind, LARGEST_SIDE, Size, pixel_bytes};
-use rows::{close_rows, has_outside};
+use pictures::{AllowedSize, LARGEST_SIDE, Size, pixel_bytes};
+use rows::close_rows;
+use seam_bounds::has_outside;
 
 // Takes the seam's number out of each row of a plane of numbers, `stride` of them a row, of which the first `width` count. What then stands
 // after the numbers that are left is of no account. Where there is no such plane or seam, nothing is promised but its length.
@@ -27,7 +28,7 @@ pub fn close_numbers(plane: &mut [u8], stride: usize, width: usize, seam: &[u16]
     if plane.len() != seam.len() * (2 * stride) || has_outside(seam, width) {
         return;
     }
-    close_rows::<2>(plane, stride, width, seam);
+    close_rows(plane, 2, stride, width, seam);
 }
 
 // The same of a picture, whose rows stand as far apart as at this size, and of which the first `width` columns are left.
@@ -44,10 +45,7 @@ pub fn close_picture(plane: &mut [u8], size: Size, width: usize, seam: &[u16])
     if plane.len() != allowed.picture_bytes() || has_outside(seam, width) {
         return;
     }
-    match size.kind {
-        Kind::Grey => close_rows::<1>(plane, size.width, width, seam),
-        Kind::Rgb => close_rows::<3>(plane, size.width, width, seam),
-    }
+    close_rows(plane, pixel_bytes(size.kind), size.width, width, seam);
 }
 
 // Packs the columns that are left of a picture at its front, row by row.

@@ -1,4 +1,4 @@
--- `seam_planes::rows::has_outside` meets its contract: `outside` is whether any column passes the test of the closure.
+-- `seam_bounds::moves::has_outside` meets its contract: `outside` is whether any column passes the test of the closure.
 use mathlib.Core.Path.{◌≡◌, refl, ap, ◌∙◌}
 use mathlib.Core.Bool.{◌||◌}
 use mathlib.Core.List.{List, [], ◌∷◌}
@@ -10,7 +10,7 @@ use Rattle.std.specs.List.{list_any}
 use Rattle.std.proofs.lemmas.Iterator.{YieldsList-from_slice}
 use Rattle.std.proofs.lemmas.Iterator.Search.{any_from_yields_List}
 use Rattle.seam_bounds.specs.Moves.{outside}
-use Rattle.seam_planes.proofs.rows.has_outside.Goals as goal
+use Rattle.seam_bounds.proofs.moves.has_outside.Goals as goal
 
 any_outside : (w : ℕ) (s : List ℕ) → list_any (leb w) s ≡ outside w s
 unfolding outside
