@@ -1,88 +1,121 @@
 -- The rows of sums, one after the other: what holds before row i, that one row more keeps it, and what is found at the end.
 use mathlib.Core.Path.{◌≡◌, refl, sym, ap, ap₂, ◌∙◌}
+use mathlib.Core.Logic.{⊎_elim}
 use mathlib.Core.Bool.{false}
-use mathlib.Core.List.{List, ◌++◌}
+use mathlib.Core.List.{List, [], ◌∷◌, ◌++◌}
 use Prim.Native.Nat.{ℕ, suc, ◌+◌, ◌-◌, ◌*◌, ◌≤◌, ◌<◌}
 use native.Mathlib.Omega.{arith}
-use native.Mathlib.Nat.{add-sub_cancel, add-sub_cancel_left}
-use borrow.Rule.Slice.PartMut.{put_mid}
-use lib.ListN.{length, take, drop, length-append, length-drop}
+use native.Mathlib.Nat.{eq-or-lt_of_le, zero-mul, suc-mul, mul-le-mul_right, add-sub_cancel_left}
+use lib.ListN.{length, get_or, take, drop}
+use lib.Seq.{take_at, length-take-le}
 use Rattle.grids.specs.Table.{table}
-use Rattle.grids.proofs.Rows.{part_end, row_at-first}
-use Rattle.grids.proofs.Parts.{part_length}
+use Rattle.grids.specs.Rows.{row_at}
+use Rattle.grids.proofs.Rows.{row_at-before, part_end, length-row_at}
+use Rattle.grids.proofs.Parts.{last_part}
 use Rattle.pictures.specs.declared.sizes.Size.{Size}
-use Rattle.seam_theory.specs.Sums.{CostRows, fenced, sum_of3, sums_down}
+use Rattle.seam_theory.specs.Sums.{CostRows, fenced, sum_of3, sums_down, least_to}
 use Rattle.seam_sums.specs.Fences.{fence32}
+use Rattle.seam_find.specs.ByCosts.{bottom_column}
 use Rattle.seam_find_kept.specs.Inner.Words.{words_in}
 use Rattle.seam_find_kept.specs.Inner.Down.{row_bytes, fenced_sums, RowsAbove}
 use Rattle.seam_find_kept.proofs.KeptRows.{Cheap}
-use Rattle.seam_find_kept.proofs.Small.{between-fences, put_between, sums-long, fenced-long}
-use Rattle.seam_find_kept.proofs.Stored.{rows-long, rows_more}
+use Rattle.seam_find_kept.proofs.Small.{sums-long}
+use Rattle.seam_find_kept.proofs.Stored.{row-front, row-last, row-made, row-after}
 
 -- The sums of the row after row j are those that a row is worked out from.
 next_sums : (k : ℕ → CostRows) (w j : ℕ) → table (sum_of3 (fenced_sums k w j) (k (suc j))) w ≡ sums_down false fence32 w k (suc j)
 unfolding sums_down
 next_sums k w j = refl
 
-module _ (k : ℕ → CostRows) (z : Size) (w : ℕ) (cheap : Cheap k w) where
-  -- Row 0 stored.
-  pub above-first : (above next sums stored : List ℕ) → 0 < z.height → z.height * row_bytes w ≤ length sums → length next ≡ w + 2 → next ≡ fenced false fence32 w (take w (drop 1 next))
-      → above ≡ fenced false fence32 w (k 0).up → length stored ≡ row_bytes w → words_in stored ≡ above
-      → RowsAbove k z w 1 above next (stored ++ drop (row_bytes w) sums)
-  unfolding sums_down
-  above-first above next sums stored some room next-long next-fences is long words = record {
+-- The sums of row i, from those of the row above it.
+pub sums-next : (k : ℕ → CostRows) (w i : ℕ) (x : List ℕ) → 0 < i → x ≡ fenced_sums k w (i - 1) → table (sum_of3 x (k i)) w ≡ sums_down false fence32 w k i
+sums-next k w i x later is = go (i - 1) (omega (arith, later))
+  where
+    go : (j : ℕ) → i ≡ suc j → table (sum_of3 x (k i)) w ≡ sums_down false fence32 w k i
+    go j e =
+        let before : i - 1 ≡ j = omega arith in
+        let there : x ≡ fenced_sums k w j = is ∙ ap (fenced_sums k w) before in
+        ap₂ (λ y m. table (sum_of3 y (k m)) w) there e ∙ next_sums k w j ∙ ap (sums_down false fence32 w k) (sym e)
+
+-- Row 0 has its costs.
+front_sums : (k : ℕ → CostRows) (w : ℕ) → (k 0).up ≡ sums_down false fence32 w k 0
+unfolding sums_down
+front_sums k w = refl
+
+pub row-first : (k : ℕ → CostRows) (z : Size) (w : ℕ) (sums : List ℕ) → 0 < z.height → z.height * row_bytes w ≤ length sums
+    → words_in (take (row_bytes w) sums) ≡ fenced false fence32 w (k 0).up → RowsAbove k z w 1 sums
+row-first k z w sums some room is = record {
+  later = omega arith;
+  within = some;
+  room = room;
+  rows = λ r h.
+      let top : r ≡ 0 = omega arith in
+      rw (top, zero-mul (row_bytes w)) (is ∙ ap (fenced false fence32 w) (front_sums k w));
+}
+
+-- Row i made after the rows above it.
+module _ (k : ℕ → CostRows) (z : Size) (w i : ℕ) (above left next right : List ℕ) (inside : i < z.height)
+    (above-long : length above ≡ i * row_bytes w) (left-long : length left ≡ 4) (next-long : length next ≡ 4 * w)
+    (room : z.height * row_bytes w ≤ length (above ++ (left ++ (next ++ right))))
+    (before : (r : ℕ) → r < i → words_in (row_at (row_bytes w) r above) ≡ fenced_sums k w r)
+    (right-room : 4 ≤ length right) (left-is : get_or (words_in left) 0 0 ≡ fence32) (next-is : words_in next ≡ sums_down false fence32 w k i) (right-is : get_or (words_in right) 0 0 ≡ fence32) where
+  abbrev all : List ℕ
+  all = above ++ (left ++ (next ++ right))
+
+  rows : (r : ℕ) → r < i + 1 → words_in (row_at (row_bytes w) r all) ≡ fenced_sums k w r
+  rows r h =
+      ⊎_elim
+      (λ (e : r ≡ i). rw e (ap words_in (row-after (row_bytes w) i above (left ++ (next ++ right)) above-long)
+      ∙ row-made fence32 w left next right (sums_down false fence32 w k i) left-long next-long right-room left-is next-is right-is))
+      (λ (l : r < i). ap words_in (row_at-before (row_bytes w) r above (left ++ (next ++ right)) (omega (arith, above-long, part_end r i (row_bytes w) l))) ∙ before r l)
+      (eq-or-lt_of_le (omega arith))
+
+  pub one-more : RowsAbove k z w (i + 1) (above ++ (left ++ (next ++ right)))
+  one-more = record {
     later = omega arith;
-    within = some;
-    room = omega (arith, length-append stored (drop (row_bytes w) sums), length-drop (row_bytes w) sums, part_end 0 z.height (row_bytes w) some);
-    above_long = omega (arith, ap length is, fenced-long k w cheap 0);
-    above_is = is;
-    next_long = next-long;
-    next_fences = next-fences;
-    rows = λ r h. let e : r ≡ 0 = omega arith in rw e (ap words_in (row_at-first (row_bytes w) stored (drop (row_bytes w) sums) long) ∙ words ∙ is);
+    within = omega arith;
+    room = room;
+    rows = rows;
   }
 
-  module _ {i : ℕ} {above next sums : List ℕ} (n : RowsAbove k z w i above next sums) where
-    -- One row more.
-    module _ (row stored : List ℕ) (inside : i < z.height) (is : row ≡ table (sum_of3 above (k i)) w)
-        (long : length stored ≡ row_bytes w) (words : words_in stored ≡ put_mid 1 (w + 1 - 1) next row) where
-      abbrev next' : List ℕ
-      next' = put_mid 1 (w + 1 - 1) next row
+-- The rows above row i, where they stand in front of it.
+pub record Front (k : ℕ → CostRows) (w i : ℕ) (above : List ℕ) : Type 0 where
+  pub long : length above ≡ i * row_bytes w
+  pub rows : (r : ℕ) → r < i → words_in (row_at (row_bytes w) r above) ≡ fenced_sums k w r
+  pub last_long : length (take (length above - (i - 1) * row_bytes w) (drop ((i - 1) * row_bytes w) above)) ≡ row_bytes w
+  pub last_is : words_in (take (length above - (i - 1) * row_bytes w) (drop ((i - 1) * row_bytes w) above)) ≡ fenced_sums k w (i - 1)
 
-      abbrev sums' : List ℕ
-      sums' = put_mid (i * row_bytes w) (i * row_bytes w + row_bytes w - i * row_bytes w) sums stored
+module _ {k : ℕ → CostRows} {z : Size} {w i : ℕ} {sums : List ℕ} (n : RowsAbove k z w i sums) (above : List ℕ) (is : above ≡ take (i * row_bytes w) sums) where
+  fits : i * row_bytes w ≤ length sums
+  fits = omega (arith, n.room, mul-le-mul_right (row_bytes w) n.within)
 
-      row-is : row ≡ sums_down false fence32 w k i
-      row-is = go (i - 1) (omega (arith, n.later))
-        where
-          go : (j : ℕ) → i ≡ suc j → row ≡ sums_down false fence32 w k i
-          go j e =
-              let before : i - 1 ≡ j = omega arith in
-              let there : above ≡ fenced_sums k w j = n.above_is ∙ ap (fenced_sums k w) before in
-              is ∙ ap₂ (λ x m. table (sum_of3 x (k m)) w) there e ∙ next_sums k w j ∙ ap (sums_down false fence32 w k) (sym e)
+  above-long : length above ≡ i * row_bytes w
+  above-long = ap length is ∙ length-take-le (i * row_bytes w) sums fits
 
-      next-is : next' ≡ fenced_sums k w i
-      next-is = put_between fence32 w next row n.next_long n.next_fences ∙ ap (fenced false fence32 w) row-is
+  above-rows : (r : ℕ) → r < i → words_in (row_at (row_bytes w) r above) ≡ fenced_sums k w r
+  above-rows r h = ap (λ b. words_in (row_at (row_bytes w) r b)) is ∙ ap words_in (row-front (row_bytes w) i r sums fits h) ∙ n.rows r h
 
-      pub above-next : RowsAbove k z w (i + 1) next' above sums'
-      above-next =
-          let ends : i * row_bytes w + row_bytes w ≤ length sums = omega (arith, n.room, part_end i z.height (row_bytes w) inside) in
-          let here : i + 1 - 1 ≡ i = add-sub_cancel i 1 in
-          record {
-            later = omega arith;
-            within = omega arith;
-            room = omega (arith, rows-long (row_bytes w) i sums stored long ends, n.room);
-            above_long = omega (arith, ap length next-is, fenced-long k w cheap i);
-            above_is = next-is ∙ ap (fenced_sums k w) (sym here);
-            next_long = n.above_long;
-            next_fences = between-fences fence32 w (sums_down false fence32 w k (i - 1)) above (sums-long k w cheap (i - 1)) n.above_is;
-            rows =
-                rows_more (row_bytes w) i sums stored long ends
-                (λ r x. words_in x ≡ fenced_sums k w r) n.rows (words ∙ next-is);
-          }
+  one-less : i * row_bytes w ≡ (i - 1) * row_bytes w + row_bytes w
+  one-less = let later : i ≡ suc (i - 1) = omega (arith, n.later) in ap (λ m. m * row_bytes w) later ∙ suc-mul (i - 1) (row_bytes w)
 
--- A row of sums as it is lent has room for just that.
-pub lent-long : (h w i : ℕ) (sums : List ℕ) → i < h → h * row_bytes w ≤ length sums
-    → length (take (i * row_bytes w + row_bytes w - i * row_bytes w) (drop (i * row_bytes w) sums)) ≡ row_bytes w
-lent-long h w i sums inside room =
-    part_length (i * row_bytes w) (i * row_bytes w + row_bytes w) sums (omega (arith, room, part_end i h (row_bytes w) inside))
-    ∙ add-sub_cancel_left (i * row_bytes w) (row_bytes w)
+  last_row : take (length above - (i - 1) * row_bytes w) (drop ((i - 1) * row_bytes w) above) ≡ row_at (row_bytes w) (i - 1) above
+  last_row = last_part ((i - 1) * row_bytes w) above ∙ row-last (row_bytes w) (i - 1) above (above-long ∙ one-less)
+
+  pub rows-front : Front k w i above
+  rows-front = record {
+    long = above-long;
+    rows = above-rows;
+    last_long = ap length last_row ∙ length-row_at (row_bytes w) i above (i - 1) (omega (arith, above-long)) (omega (arith, n.later));
+    last_is = ap words_in last_row ∙ above-rows (i - 1) (omega (arith, n.later));
+  }
+
+-- The first of the least sums of the last row, read between its fences.
+pub last-column : (k : ℕ → CostRows) (z : Size) (w column : ℕ) (sums : List ℕ) → Cheap k w → ((r : ℕ) → r < z.height → words_in (row_at (row_bytes w) r sums) ≡ fenced_sums k w r) → 0 < z.height
+    → column ≡ least_to (take w (drop 1 (words_in (take ((z.height - 1) * row_bytes w + row_bytes w - (z.height - 1) * row_bytes w) (drop ((z.height - 1) * row_bytes w) sums))))) (w - 1)
+    → column ≡ bottom_column fence32 w z.height k
+last-column k z w column sums cheap rows some is =
+    let at = (z.height - 1) * row_bytes w in
+    let row = ap (λ m. words_in (take m (drop at sums))) (add-sub_cancel_left at (row_bytes w)) ∙ rows (z.height - 1) (omega (arith, some)) in
+    is
+    ∙ ap (λ x. least_to (take w (drop 1 x)) (w - 1)) row
+    ∙ ap (λ x. least_to x (w - 1)) (take_at (sums_down false fence32 w k (z.height - 1)) (fence32 ∷ []) w (sums-long k w cheap (z.height - 1)))

@@ -1,9 +1,9 @@
 -- Laws of numbers of four bytes: read, put in, and how many.
 use mathlib.Core.Path.{◌≡◌, refl, ap}
-use mathlib.Core.List.{List, [], ◌∷◌}
+use mathlib.Core.List.{List, [], ◌∷◌, ◌++◌}
 use Prim.Native.Nat.{ℕ, zero, suc, ◌+◌, ◌*◌, ◌/◌, ◌%◌, ◌<◌}
 use native.Mathlib.Omega.{arith}
-use lib.ListN.{length, get_or, set}
+use lib.ListN.{length, get_or, set, take}
 use Rattle.seam_find_kept.specs.Inner.Words.{four_bytes, words_in}
 
 -- The i-th number takes the bytes from 4 * i on.
@@ -48,3 +48,24 @@ words-set (a ∷ b ∷ []) i p q s t h = absurd (omega arith)
 words-set (a ∷ b ∷ c ∷ []) i p q s t h = absurd (omega arith)
 words-set (a ∷ b ∷ c ∷ d ∷ r) zero p q s t h = refl
 words-set (a ∷ b ∷ c ∷ d ∷ r) (suc i) p q s t h = rw (four_after-3 i, four_after-2 i, four_after-1 i, four-more i) (ap (four_bytes a b c d ∷◌) (words-set r i p q s t (omega arith)))
+
+-- The numbers of the first bytes, where a number ends with them,
+pub words-take : (n : ℕ) (b : List ℕ) → words_in (take (4 * n) b) ≡ take n (words_in b)
+words-take zero b = refl
+words-take (suc n) b = rw (four-more n) (go b (words-take n))
+  where
+    go : (b : List ℕ) → ((r : List ℕ) → words_in (take (4 * n) r) ≡ take n (words_in r)) → words_in (take (suc (suc (suc (suc (4 * n))))) b) ≡ take (suc n) (words_in b)
+    go [] h = refl
+    go (a ∷ []) h = refl
+    go (a ∷ b ∷ []) h = refl
+    go (a ∷ b ∷ c ∷ []) h = refl
+    go (a ∷ b ∷ c ∷ d ∷ r) h = ap (four_bytes a b c d ∷◌) (h r)
+
+-- and of further bytes after them.
+pub words_append : (n : ℕ) (x y : List ℕ) → length x ≡ 4 * n → words_in (x ++ y) ≡ words_in x ++ words_in y
+words_append n [] y h = refl
+words_append zero (a ∷ r) y h = absurd (omega arith)
+words_append (suc n) (a ∷ []) y h = absurd (omega arith)
+words_append (suc n) (a ∷ b ∷ []) y h = absurd (omega arith)
+words_append (suc n) (a ∷ b ∷ c ∷ []) y h = absurd (omega arith)
+words_append (suc n) (a ∷ b ∷ c ∷ d ∷ r) y h = ap (four_bytes a b c d ∷◌) (words_append n r y (omega arith))

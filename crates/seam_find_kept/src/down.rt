@@ -1,22 +1,24 @@
 // All rows of sums, from the top.
-ghost use Rattle.std.specs.Prelude.{◌≡◌, ◌+◌, ◌<◌, length};
+ghost use Rattle.std.specs.Prelude.{◌≡◌, false, ◌+◌, ◌*◌, ◌≤◌, ◌<◌, length, get_or, take};
 ghost use Rattle.grids.specs.Table.{table};
 ghost use Rattle.energy.specs.Energy.{one_cost};
-ghost use Rattle.seam_theory.specs.Sums.{sum_of3};
+ghost use Rattle.pictures.specs.Numbers.{numbers_in};
+ghost use Rattle.seam_theory.specs.Sums.{fenced, sum_of3};
+ghost use Rattle.seam_sums.specs.Fences.{fence32};
 ghost use Rattle.seam_find_kept.specs.Finding.{kept_costs};
-ghost use Rattle.seam_find_kept.specs.Inner.Down.{PlanesNeeded, SpaceNeeded, ArraysNeeded, RowNeeded, RowsAbove, RowsGiven};
+ghost use Rattle.seam_find_kept.specs.Inner.Down.{row_bytes, PlanesNeeded, SpaceNeeded, RowNeeded, RowsAbove, RowsGiven};
+ghost use Rattle.seam_find_kept.specs.Inner.Words.{words_in};
 
-use crate::words::put_words;
+use crate::words::put_word;
 use crate::{KeptCosts, rows};
 use energy::Method;
-use pictures::{LARGEST_SIDE, Size};
-use seam_sums::first_least;
+use pictures::Size;
 
 // What stands beside a row of sums: more than any sum.
 const FENCE: u32 = 1 << 31;
 
-// Works out the sums of all rows, each fenced, and puts them into `sums`, row after row; gives the column where the cheapest path ends. The
-// row that is made and the one above it stand on the stack: nothing is allocated.
+// Works out the sums of all rows where they are kept, in `sums`, row after row, each between two fences; gives the column where the cheapest
+// path ends. A row is worked out from the row above it as it stands there, so that none is copied.
 pub(crate) fn make_sums(
     costs: KeptCosts<'_>,
     size: Size,
@@ -28,91 +30,59 @@ pub(crate) fn make_sums(
     requires space { SpaceNeeded size width (length sums.old) }
     ensures { RowsGiven (kept_costs method.energy size width costs.entry.up.now costs.entry.left.now costs.entry.right.now) size width sums.new result }
 {
-    let mut above = [FENCE; LARGEST_SIDE + 2];
-    let mut next = [FENCE; LARGEST_SIDE + 2];
-    let both = width + 2;
-    sums_with(
-        costs,
-        size,
-        width,
-        method,
-        &mut above[..both],
-        &mut next[..both],
-        sums,
-    )
-}
-
-// The same with room for two rows, which is all fence.
-fn sums_with(
-    costs: KeptCosts<'_>,
-    size: Size,
-    width: usize,
-    method: Method,
-    above: &mut [u32],
-    next: &mut [u32],
-    sums: &mut [u8],
-) -> usize
-    requires planes { PlanesNeeded size width (one_cost method.energy) costs.up.now (length costs.left.now) (length costs.right.now) }
-    requires space { SpaceNeeded size width (length sums.old) }
-    requires arrays { ArraysNeeded width above.old next.old }
-    ensures { RowsGiven (kept_costs method.energy size width costs.entry.up.now costs.entry.left.now costs.entry.right.now) size width sums.new result }
-{
-    let side = width + 1;
+    first_sums(costs.up, width, sums);
+    for i in 1..size.height {
+        next_sums(costs, size, width, method, i, sums);
+    }
     let stride = 4 * (width + 2);
-    rows::first_row(&costs.up[..2 * width], &mut above[1..side]);
-    put_words(above, &mut sums[..stride]);
-    later_rows(costs, size, width, method, above, next, sums)
+    let at = (size.height - 1) * stride;
+    rows::least_column(&sums[at..at + stride], width)
 }
 
-// The same from row 1 on, with the fenced sums of row 0. The two rows change places from one row to the next, so that none is copied.
-fn later_rows(
-    costs: KeptCosts<'_>,
-    size: Size,
-    width: usize,
-    method: Method,
-    above: &mut [u32],
-    next: &mut [u32],
-    sums: &mut [u8],
-) -> usize
-    requires planes { PlanesNeeded size width (one_cost method.energy) costs.up.now (length costs.left.now) (length costs.right.now) }
-    requires rows { RowsAbove (kept_costs method.energy size width costs.up.now costs.left.now costs.right.now) size width 1 above.old next.old sums.old }
-    ensures { RowsGiven (kept_costs method.energy size width costs.entry.up.now costs.entry.left.now costs.entry.right.now) size width sums.new result }
+// Row 0 with its fences, from the plane of what coming from straight above costs.
+fn first_sums(up: &[u8], width: usize, sums: &mut [u8])
+    requires costs { 2 * width ≤ length up.now }
+    requires room { row_bytes width ≤ length sums.old }
+    ensures { words_in (take (row_bytes width) sums.new) ≡ fenced false fence32 width (numbers_in (take (2 * width) up.now)) }
 {
-    let side = width + 1;
-    let mut i = 1;
-    while i + 1 < size.height {
-        one_row(costs, size, width, method, i, above, next, sums);
-        one_row(costs, size, width, method, i + 1, next, above, sums);
-        i += 2;
-    }
-    if i < size.height {
-        one_row(costs, size, width, method, i, above, next, sums);
-        return first_least(&next[1..side]);
-    }
-    first_least(&above[1..side])
+    let (left, rest) = sums.split_at_mut(4);
+    let (next, right) = rest.split_at_mut(4 * width);
+    put_fences(left, right);
+    rows::first_row(&up[..2 * width], width, next);
 }
 
-// Row i, from the fenced sums of the row above it: its sums are put between the fences of `next`, and stored.
-fn one_row(
+// Row i with its fences, from the row above it.
+fn next_sums(
     costs: KeptCosts<'_>,
     size: Size,
     width: usize,
     method: Method,
     i: usize,
-    above: &[u32],
-    next: &mut [u32],
     sums: &mut [u8],
 )
     requires planes { PlanesNeeded size width (one_cost method.energy) costs.up.now (length costs.left.now) (length costs.right.now) }
-    requires rows { RowsAbove (kept_costs method.energy size width costs.up.now costs.left.now costs.right.now) size width i above.now next.old sums.old }
+    requires rows { RowsAbove (kept_costs method.energy size width costs.up.now costs.left.now costs.right.now) size width i sums.old }
     requires inside { i < size.height }
-    ensures { RowsAbove (kept_costs method.energy size width costs.entry.up.now costs.entry.left.now costs.entry.right.now) size width (i + 1) next.new above.now sums.new }
+    ensures { RowsAbove (kept_costs method.energy size width costs.entry.up.now costs.entry.left.now costs.entry.right.now) size width (i + 1) sums.new }
 {
-    let side = width + 1;
-    let at = i * (4 * (width + 2));
-    let end = at + 4 * (width + 2);
-    row_sums(costs, size, width, method, i, above, &mut next[1..side]);
-    put_words(next, &mut sums[at..end]);
+    let stride = 4 * (width + 2);
+    let (above, rest) = sums.split_at_mut(i * stride);
+    let (left, rest) = rest.split_at_mut(4);
+    let (next, right) = rest.split_at_mut(4 * width);
+    put_fences(left, right);
+    let last = (i - 1) * stride;
+    row_sums(costs, size, width, method, i, &above[last..], next);
+}
+
+// A fence, put at the front of what stands on either side of a row.
+fn put_fences(left: &mut [u8], right: &mut [u8])
+    requires left { 4 ≤ length left.old }
+    requires right { 4 ≤ length right.old }
+    ensures left { get_or (words_in left.new) 0 0 ≡ fence32 }
+    ensures right { get_or (words_in right.new) 0 0 ≡ fence32 }
+{
+    put_word(left, 0, FENCE);
+    put_word(right, 0, FENCE);
 }
 
 // The sums of row i, from the fenced sums of the row above it.
@@ -122,21 +92,21 @@ fn row_sums(
     width: usize,
     method: Method,
     i: usize,
-    above: &[u32],
-    next: &mut [u32],
+    above: &[u8],
+    next: &mut [u8],
 )
     requires planes { PlanesNeeded size width (one_cost method.energy) costs.up.now (length costs.left.now) (length costs.right.now) }
-    requires row { RowNeeded size width i above.now (length next.old) }
-    ensures { next.new ≡ table (sum_of3 above.now (kept_costs method.energy size width costs.entry.up.now costs.entry.left.now costs.entry.right.now i)) width }
+    requires row { RowNeeded size width i (length above.now) (words_in above.now) (length next.old) }
+    ensures { words_in next.new ≡ table (sum_of3 (words_in above.now) (kept_costs method.energy size width costs.entry.up.now costs.entry.left.now costs.entry.right.now i)) width }
 {
     let at = i * (2 * size.width);
     let end = at + 2 * width;
     let up = &costs.up[at..end];
     if method.energy.has_one_cost() {
-        rows::row_by_one(above, up, next);
+        rows::row_by_one(above, up, width, next);
     } else {
         let left = &costs.left[at..end];
         let right = &costs.right[at..end];
-        rows::row_by_steps(above, up, left, right, next);
+        rows::row_by_steps(above, up, left, right, width, next);
     }
 }

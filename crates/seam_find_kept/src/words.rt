@@ -1,5 +1,5 @@
 // Numbers in bytes: costs of two bytes, and sums of four.
-ghost use Rattle.std.specs.Prelude.{◌≡◌, ◌+◌, ◌*◌, ◌≤◌, ◌<◌, length, get_or};
+ghost use Rattle.std.specs.Prelude.{◌≡◌, ◌+◌, ◌*◌, ◌≤◌, ◌<◌, length, get_or, set};
 ghost use Rattle.pictures.specs.Numbers.{numbers_in, largest_number};
 ghost use Rattle.seam_find_kept.specs.Inner.Words.{words_in};
 
@@ -14,18 +14,15 @@ pub(crate) fn number_at(bytes: &[u8], c: usize) -> u32
     low + 256 * high
 }
 
-// A row of sums, put into bytes.
-pub(crate) fn put_words(row: &[u32], out: &mut [u8])
-    requires { length out.old ≡ 4 * length row.now }
-    ensures { words_in out.new ≡ row.now }
+// A sum, put at c of a row of them.
+pub(crate) fn put_word(row: &mut [u8], c: usize, sum: u32)
+    requires { 4 * c + 3 < length row.old }
+    ensures { words_in row.new ≡ set (words_in row.old) c sum }
 {
-    for c in 0..row.len() {
-        let sum = row[c];
-        out[4 * c] = (sum % 256) as u8;
-        out[4 * c + 1] = (sum / 256 % 256) as u8;
-        out[4 * c + 2] = (sum / 256 / 256 % 256) as u8;
-        out[4 * c + 3] = (sum / 256 / 256 / 256) as u8;
-    }
+    row[4 * c] = (sum % 256) as u8;
+    row[4 * c + 1] = (sum / 256 % 256) as u8;
+    row[4 * c + 2] = (sum / 256 / 256 % 256) as u8;
+    row[4 * c + 3] = (sum / 256 / 256 / 256) as u8;
 }
 
 // The sum at c of a row of them.

@@ -1,5 +1,5 @@
 -- All rows of sums, from the top. What private functions ask and promise; no public promise cites it.
-use Rattle.std.specs.Prelude.{◌≡◌, Bool, false, List, ℕ, ◌+◌, ◌-◌, ◌*◌, ◌≤◌, ◌<◌, length, get_or, take, drop, replicate}
+use Rattle.std.specs.Prelude.{◌≡◌, Bool, false, List, ℕ, ◌+◌, ◌*◌, ◌≤◌, ◌<◌, length, get_or}
 use Rattle.grids.specs.Rows.{row_at}
 use Rattle.pictures.specs.declared.sizes.Size.{Size}
 use Rattle.pictures.specs.Refusals.{refusal}
@@ -26,33 +26,22 @@ row_bytes w = 4 * (w + 2)
 pub record SpaceNeeded (z : Size) (w sums : ℕ) : Type 0 where
   pub room : z.height * row_bytes w ≤ sums
 
--- Two rows that are all fence.
-pub record ArraysNeeded (w : ℕ) (above next : List ℕ) : Type 0 where
-  pub above_long : length above ≡ w + 2
-  pub next_long : length next ≡ w + 2
-  pub above_fences : above ≡ replicate (w + 2) fence32
-  pub next_fences : next ≡ replicate (w + 2) fence32
-
 -- The sums of row i between their fences, from the costs k of each row.
 abbrev pub fenced_sums : (ℕ → CostRows) → ℕ → ℕ → List ℕ
 fenced_sums k w i = fenced false fence32 w (sums_down false fence32 w k i)
 
--- Row i, which there is, is to be worked out from the row above it with its fences, none of its sums above them.
-pub record RowNeeded (z : Size) (w i : ℕ) (above : List ℕ) (next : ℕ) : Type 0 where
+-- Row i, which there is, is to be worked out from the bytes of the row above it with its fences, whose sums are x, none of them above the fences.
+pub record RowNeeded (z : Size) (w i above : ℕ) (x : List ℕ) (next : ℕ) : Type 0 where
   pub inside : i < z.height
-  pub long : length above ≡ w + 2
-  pub small : (c : ℕ) → get_or above c 0 ≤ fence32
-  pub next_long : next ≡ w
+  pub long : above ≡ row_bytes w
+  pub small : (c : ℕ) → get_or x c 0 ≤ fence32
+  pub next_long : next ≡ 4 * w
 
--- The rows above row i are stored; the last of them stands between its fences, and so does what will be row i.
-pub record RowsAbove (k : ℕ → CostRows) (z : Size) (w i : ℕ) (above next sums : List ℕ) : Type 0 where
+-- The rows above row i are stored, and there is room for all.
+pub record RowsAbove (k : ℕ → CostRows) (z : Size) (w i : ℕ) (sums : List ℕ) : Type 0 where
   pub later : 0 < i
   pub within : i ≤ z.height
   pub room : z.height * row_bytes w ≤ length sums
-  pub above_long : length above ≡ w + 2
-  pub above_is : above ≡ fenced_sums k w (i - 1)
-  pub next_long : length next ≡ w + 2
-  pub next_fences : next ≡ fenced false fence32 w (take w (drop 1 next))
   pub rows : (r : ℕ) → r < i → words_in (row_at (row_bytes w) r sums) ≡ fenced_sums k w r
 
 -- All rows are stored, and the first of the least sums of the last row is given.

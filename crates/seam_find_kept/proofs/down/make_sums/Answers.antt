@@ -1,18 +1,39 @@
--- `seam_find_kept::down::make_sums` meets its contract: the rows that it lends are the fronts of local arrays, which are long enough for the
--- widest picture.
-use Rattle.std.proofs.Common.{◌≤◌, ◌+◌, arith, refl, sym, ◌∙◌}
-use Rattle.std.proofs.lemmas.List.{map-id}
-use Rattle.pictures.specs.Pictures.{largest_side}
+-- `seam_find_kept::down::make_sums` meets its contract: the costs of row 0 are its sums, and once all rows are stored, the sums of the last one stand between its fences.
+use Rattle.std.proofs.Common.{◌<◌, ap, ◌∙◌, arith}
+use mathlib.Core.Bool.{false}
+use Prim.Native.Nat.{ℕ}
 use Rattle.pictures.proofs.Limits.{sides_are}
+use Rattle.seam_theory.specs.Sums.{fenced}
 use Rattle.seam_sums.specs.Fences.{fence32}
-use Rattle.seam_find.proofs.Fences.{fences_are, length-take-replicate}
+use Rattle.seam_find_kept.proofs.PlaneRows.{costs_end, sums_end}
+use Rattle.seam_find_kept.proofs.KeptRows.{kept-cheap, front-costs}
+use Rattle.seam_find_kept.proofs.Downward.{row-first, last-column}
 use Rattle.seam_find_kept.proofs.down.make_sums.Goals as goal
 
-pub sums_with-requires-clause-arrays : goal.sums_with-requires-clause-arrays
-sums_with-requires-clause-arrays c =
+pub first_sums-requires-clause-costs : goal.first_sums-requires-clause-costs
+first_sums-requires-clause-costs c = costs_end c.requires.planes
+
+pub first_sums-requires-clause-room : goal.first_sums-requires-clause-room
+first_sums-requires-clause-room c = sums_end c.requires.planes c.requires.space
+
+pub loop-i-init : goal.loop-i-init
+loop-i-init c =
+    let a = c.args in
+    let k = a.costs in
     let n = c.requires.planes in
-    let w = c.args.width in
-    let room : w + 2 ≤ largest_side + 2 = omega (arith, n.within, (sides_are c.args.size n.sides).width_most) in
-    let all = sym (map-id _) ∙ fences_are (λ x. x) fence32 fence32 (w + 2) (largest_side + 2) refl room in
-    let long = length-take-replicate (w + 2) (largest_side + 2) fence32 room in
-    record { above_long = long; next_long = long; above_fences = all; next_fences = all }
+    let some = (sides_are a.size n.sides).height_some in
+    let row = c.first_sums.ensures ∙ ap (fenced false fence32 a.width) (front-costs a.method.energy a.size a.width k.up.now k.left.now k.right.now n.within some) in
+    row-first _ a.size a.width c.first_sums.new.sums some (omega (arith, c.first_sums.auto.sums, c.requires.space.room)) row
+
+pub returns : goal.returns
+returns c =
+    let a = c.args in
+    let k = a.costs in
+    let l = c.loop-i in
+    let n = c.requires.planes in
+    let cheap = kept-cheap a.method.energy a.size a.width k.up.now k.left.now k.right.now n in
+    let rows = λ (r : ℕ) (h : r < a.size.height). l.invariant.rows r (omega (arith, h, c.loop-i-test.false)) in
+    record {
+      rows = rows;
+      column_is = last-column _ a.size a.width c.least_column.result l.sums cheap rows (sides_are a.size n.sides).height_some c.least_column.ensures;
+    }

@@ -1,7 +1,8 @@
 -- `seam_find_kept::down::row_sums` meets its contract: what is lent of the planes are the costs of row i.
-use Rattle.std.proofs.Common.{sym, ap₂, ◌∙◌}
+use Rattle.std.proofs.Common.{sym, ap, ◌∙◌}
 use Rattle.grids.specs.Table.{table}
 use Rattle.seam_theory.specs.Sums.{sum_of3}
+use Rattle.seam_find_kept.specs.Inner.Words.{words_in}
 use Rattle.seam_find_kept.proofs.PlaneRows.{row-lent}
 use Rattle.seam_find_kept.proofs.KeptRows.{one-lent, steps-lent}
 use Rattle.seam_find_kept.proofs.down.row_sums.Goals as goal
@@ -12,10 +13,9 @@ returns-then-has_one_cost c =
     let k = a.costs in
     let n = c.requires in
     c.row_by_one.ensures
-    ∙ ap₂ (λ x y. table (sum_of3 a.above.now x) y)
+    ∙ ap (λ x. table (sum_of3 (words_in a.above.now) x) a.width)
     (one-lent a.method.energy a.size a.width k.up.now k.left.now k.right.now a.i n.planes.within n.row.inside
     (sym c.has_one_cost.ensures ∙ c.if-has_one_cost.true) (row-lent a.size a.width a.i k.up.now))
-    n.row.next_long
 
 pub returns-else-has_one_cost : goal.returns-else-has_one_cost
 returns-else-has_one_cost c =
@@ -23,7 +23,6 @@ returns-else-has_one_cost c =
     let k = a.costs in
     let n = c.requires in
     c.row_by_steps.ensures
-    ∙ ap₂ (λ x y. table (sum_of3 a.above.now x) y)
+    ∙ ap (λ x. table (sum_of3 (words_in a.above.now) x) a.width)
     (steps-lent a.method.energy a.size a.width k.up.now k.left.now k.right.now a.i n.planes.within n.row.inside
     (sym c.has_one_cost.ensures ∙ c.if-has_one_cost.false) (row-lent a.size a.width a.i k.up.now) (row-lent a.size a.width a.i k.left.now) (row-lent a.size a.width a.i k.right.now))
-    n.row.next_long

@@ -1,17 +1,23 @@
 -- `seam_find_kept::rows::first_row` meets its contract: a cost more is stored.
 use Rattle.std.proofs.Common.{arith}
-use Rattle.grids.proofs.Tables.{stored_turn, copied-end}
+use Rattle.grids.proofs.Tables.{stored_start, stored_turn, copied-end}
 use Rattle.pictures.specs.Numbers.{numbers_in}
 use Rattle.pictures.proofs.TwoBytes.{length-numbers}
+use Rattle.seam_find_kept.specs.Inner.Words.{words_in}
+use Rattle.seam_find_kept.proofs.FourBytes.{length-words}
 use Rattle.seam_find_kept.proofs.rows.first_row.Goals as goal
+
+pub loop-c-init : goal.loop-c-init
+loop-c-init c = stored_start _ _ _ (omega (arith, length-words c.args.next.now, c.requires.next_long))
 
 pub loop-c-preserved : goal.loop-c-preserved
 loop-c-preserved c =
     let l = c.loop-c in
-    stored_turn _ _ _ l.c l.next _ 0 c.loop-c-test.true c.number_at.ensures.number l.invariant
+    rw c.put_word.ensures (stored_turn _ _ _ l.c (words_in l.next) _ 0 c.loop-c-test.true c.number_at.ensures.number l.invariant)
 
 pub returns : goal.returns
 returns c =
     let l = c.loop-c in
     let cost = c.args.cost.now in
-    copied-end (numbers_in cost) _ 0 _ l.c l.next (omega (arith, length-numbers cost, c.requires)) (omega arith) l.invariant
+    copied-end (numbers_in cost) _ 0 _ l.c (words_in l.next)
+    (omega (arith, length-numbers cost, length-words c.args.next.now, c.requires.cost_long, c.requires.next_long)) (omega arith) l.invariant

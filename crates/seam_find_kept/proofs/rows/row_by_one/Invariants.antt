@@ -2,7 +2,8 @@
 use Rattle.grids.proofs.Tables.{Stored}
 use Rattle.pictures.specs.Numbers.{numbers_in}
 use Rattle.seam_theory.specs.Sums.{alike_rows, sum_of3}
+use Rattle.seam_find_kept.specs.Inner.Words.{words_in}
 use Rattle.seam_find_kept.proofs.rows.row_by_one.Given as goal
 
 abbrev pub invariant-loop-c : goal.invariant-loop-c
-invariant-loop-c l = Stored (sum_of3 l.above (alike_rows (numbers_in l.cost))) l.initial.next l.c-end l.c l.next
+invariant-loop-c l = Stored (sum_of3 (words_in l.above) (alike_rows (numbers_in l.cost))) (words_in l.initial.next) l.width l.c (words_in l.next)
