@@ -1,4 +1,2 @@
 pub mod FindIn
 pub mod Inside
-pub mod Fronts
-pub mod Smallest

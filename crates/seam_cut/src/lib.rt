@@ -3,14 +3,11 @@
 // ones pass them on once: of each buffer it is promised what it holds afterwards.
 #![tactic(auto)]
 
-pub mod front;
-
 ghost use Rattle.std.specs.Prelude.{Ok};
 ghost use Rattle.seam_cut.specs.Cutting.{FindGiven, CutGiven};
 ghost use Rattle.seam_cut.specs.Inner.{FindNeeded, CutNeeded};
 
 use energy::Method;
-pub use front::cut_in;
 use pictures::{Refusal, Size};
 use seam_rules::Axis;
 
