@@ -2,8 +2,8 @@
 use mathlib.Core.Path.{◌≡◌, sym, ap, ap₂, ◌∙◌}
 use mathlib.Core.Bool.{false}
 use mathlib.Core.List.{List, [], ◌∷◌, ◌++◌, map}
-use Prim.Native.Nat.{ℕ, suc, ◌+◌, ◌-◌, ◌*◌, ◌≤◌, ◌<◌}
-use native.Mathlib.Nat.{zero-mul, suc-mul, mul_left_comm, mul-le-mul_left}
+use Prim.Native.Nat.{ℕ, suc, ◌+◌, ◌-◌, ◌*◌, ◌<◌}
+use native.Mathlib.Nat.{zero-mul, suc-mul}
 use native.Mathlib.Numerals.{add-one}
 use native.Mathlib.Omega.{arith}
 use lib.ListN.{length, replicate, replicate-append-replicate}
@@ -20,7 +20,6 @@ use Rattle.pictures.specs.Numbers.{pairs, numbers_in}
 use Rattle.pictures.proofs.Samples.{AreBytes}
 use Rattle.pictures.proofs.Buffers.{picture-of_size}
 use Rattle.pictures.proofs.TwoBytes.{rows-pairs, pairs-append, pairs-zeros, pairs-numbers, length-numbers}
-use Rattle.pictures.proofs.Limits.{sides_are}
 use Rattle.energy.specs.declared.methods.Method.{Method}
 use Rattle.energy.specs.declared.pixels.Side.{Side}
 use Rattle.energy.specs.declared.pixels.Side.TheVariants.{Up, Left, Right}
@@ -37,7 +36,7 @@ use Rattle.map_theory.proofs.Maps.{carve-next, map_next}
 use Rattle.map_theory.proofs.LeftColumns.{left_columns, all-left_zeros}
 use Rattle.map_rules.specs.Spaces.{map_bytes}
 use Rattle.map_rules.proofs.Rooms.{map-rows}
-use Rattle.map_build.specs.Inner.Carving.{left_picture, Held, PlanesSized, StepNeeded, StepGiven}
+use Rattle.map_build.specs.Inner.Carving.{left_picture, Held, PlanesSized, StepGiven}
 
 -- A map of zeros.
 pub map-zeros : {A : Type 0} {w h : ℕ} {p : List (List A)} → Grid w h p → pairs (flat (zeros p)) ≡ replicate (h * (2 * w)) 0
@@ -96,10 +95,10 @@ module _ (z : Size) (how : Method) where
           ap (numbers_of z.width z.height) (blank_map ∙ ap (λ k. replicate k 0) n ∙ sym (map-zeros g)) ∙ rows-pairs (grid-zeros g)
 
   -- One seam more.
-  pub carved_turn : (p : Picture) → OfSize z p → (t mark : ℕ) (plane up left right columns map_left plane' up' left' right' columns' map' : List ℕ)
-      → t < z.width → mark ≡ t + 1 → Carved z how p t plane up left right columns map_left
-      → StepGiven z how (z.width - t) mark plane map_left plane' up' left' right' columns' map' → Carved z how p (t + 1) plane' up' left' right' columns' map'
-  carved_turn p o t mark plane up left right columns map_left plane' up' left' right' columns' map' l m c g =
+  pub carved_turn : (p : Picture) → OfSize z p → (t number : ℕ) (plane up left right columns map_left plane' up' left' right' columns' map' : List ℕ)
+      → t < z.width → number ≡ t + 1 → Carved z how p t plane up left right columns map_left
+      → StepGiven z how (z.width - t) number plane up left right map_left plane' up' left' right' columns' map' → Carved z how p (t + 1) plane' up' left' right' columns' map'
+  carved_turn p o t number plane up left right columns map_left plane' up' left' right' columns' map' l m c g =
       let e : z.width - (t + 1) ≡ z.width - t - 1 = omega arith in
       record {
         sized = g.sized;
@@ -109,25 +108,11 @@ module _ (z : Size) (how : Method) where
         numbered =
             rw (add-one t)
             (g.numbered
-            ∙ ap₂ (λ q M. write_all mark (seam_of how (z.width - t) z.height q) M) c.picture_left c.numbered
+            ∙ ap₂ (λ q M. write_all number (seam_of how (z.width - t) z.height q) M) c.picture_left c.numbered
             ∙ ap (λ v. write_all v (seam_of how (z.width - t) z.height (carve (seam_of how) t z.width z.height p)) (map_of (seam_of how) t z.width z.height p)) (m ∙ add-one t)
             ∙ sym (map_next (seam_of how) (seam_chooses how) t z.width z.height p (grid_of o) l));
         held = rw e g.held;
       }
-
-  pub step_needed : (p : Picture) (t depth mark sums : ℕ) (plane up left right columns map_left : List ℕ) → t < depth → depth < z.width → mark ≡ t + 1 → 8 * pixels z ≤ sums
-      → Carved z how p t plane up left right columns map_left → StepNeeded z how (z.width - t) mark plane up left right columns sums map_left
-  step_needed p t depth mark sums plane up left right columns map_left l d m long c = record {
-    sized = c.sized;
-    more = omega arith;
-    within = omega arith;
-    room =
-        let row : z.height * (4 * (z.width - t + 2)) ≤ z.height * (8 * z.width) = mul-le-mul_left z.height (omega arith) in
-        omega (arith, row, mul_left_comm z.height 8 z.width, long);
-    some = omega arith;
-    fits = omega (arith, m, l, d, (sides_are z c.sized.sides).width_most);
-    held = c.held;
-  }
 
 each-bytes : (b : List ℕ) → AreBytes b → Each (λ x. x < 256) (length b) b
 each-bytes [] small = none

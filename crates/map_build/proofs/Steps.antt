@@ -44,8 +44,8 @@ use Rattle.map_build.specs.Inner.Columns.{number_in, taken_columns, put_rows, Nu
 use Rattle.map_build.specs.Inner.Carving.{left_picture, Held, StepNeeded, CostsKept, carried_costs}
 use Rattle.map_build.proofs.NumbersPut.{number_is, put-written}
 
-module _ (z : Size) (how : Method) (w mark : ℕ) (plane up left right columns : List ℕ) (sums : ℕ) (old : List ℕ)
-    (n : StepNeeded z how w mark plane up left right columns sums old) where
+module _ (z : Size) (how : Method) (w number : ℕ) (plane up left right columns : List ℕ) (sums : ℕ) (old : List ℕ)
+    (n : StepNeeded z how w number plane up left right columns sums old) where
   abbrev q : Picture
   q = left_picture z w plane
 
@@ -139,9 +139,9 @@ module _ (z : Size) (how : Method) (w mark : ℕ) (plane up left right columns :
         rw (first-is r k) (omega (arith, left-inside (get_or M r []) (get_or s r 0) (column-left r k), row));
   }
 
-  pub numbered : numbers_of m h (put_rows mark m (taken_columns m columns s) old) ≡ write_all mark s M
+  pub numbered : numbers_of m h (put_rows number m (taken_columns m columns s) old) ≡ write_all number s M
   numbered =
-      put-written mark m h s (taken_columns m columns s) old old_long s_long (length-table (λ r. number_in m columns r (get_or s r 0)) (length s) ∙ s_long)
+      put-written number m h s (taken_columns m columns s) old old_long s_long (length-table (λ r. number_in m columns r (get_or s r 0)) (length s) ∙ s_long)
       (λ r l. (column-left r l, table_at (λ r. number_in m columns r (get_or s r 0)) (length s) r 0 (omega (arith, l, s_long)) ∙ first-is r l))
 
   -- How the seam is closed up in the planes, and which costs are kept.
@@ -175,7 +175,7 @@ module _ (z : Size) (how : Method) (w mark : ℕ) (plane up left right columns :
   module _ (plane' up' left' right' columns' new : List ℕ)
       (closed : left_picture z (w - 1) plane' ≡ cut s q)
       (columns_closed : fronts (w - 1) (numbers_of m h columns') ≡ cut s (fronts w (numbers_of m h columns)))
-      (put : new ≡ put_rows mark m (taken_columns m columns s) old)
+      (put : new ≡ put_rows number m (taken_columns m columns s) old)
       (kept : CostsKept how z (w - 1) s plane' up left right up' left' right') where
     side-kept : (from : Side) (x x' : List ℕ) → fronts w (numbers_of m h x) ≡ cost_grid how from w h q
         → fronts (w - 1) (numbers_of m h x') ≡ carried_costs how from z (w - 1) s plane' x
@@ -193,7 +193,7 @@ module _ (z : Size) (how : Method) (w mark : ℕ) (plane up left right columns :
       left_costs = λ o. side-kept Left left left' (n.held.left_costs o) (kept.left_kept o);
       right_costs = λ o. side-kept Right right right' (n.held.right_costs o) (kept.right_kept o);
       first_columns =
-          let e : suc (mark - 1) ≡ mark = omega (arith, n.some) in
-          columns_closed ∙ ap (cut s) n.held.first_columns ∙ sym (rw e at (left-write_all (mark - 1) s M))
+          let e : suc (number - 1) ≡ number = omega (arith, n.some) in
+          columns_closed ∙ ap (cut s) n.held.first_columns ∙ sym (rw e at (left-write_all (number - 1) s M))
           ∙ ap all_left (sym (ap (numbers_of m h) put ∙ numbered));
     }

@@ -37,9 +37,9 @@ pub(crate) fn carve(
     pictures::clear(map);
     for t in 0..depth {
         let width = size.width - t;
-        let mark = (t + 1) as u16;
+        let number = (t + 1) as u16;
         next_seam(
-            picture, up, left, right, columns, sums, map, size, width, method, mark,
+            picture, up, left, right, columns, sums, map, size, width, method, number,
         );
     }
     seam_planes::pack_picture(picture, size, size.width - depth);
@@ -82,16 +82,16 @@ fn next_seam(
     size: Size,
     width: usize,
     method: Method,
-    mark: u16,
+    number: u16,
 )
-    requires { StepNeeded size method width mark picture.old up.old left.old right.old columns.old (length sums.old) map.old }
-    ensures { StepGiven size method width mark picture.old map.old picture.new up.new left.new right.new columns.new map.new }
+    requires { StepNeeded size method width number picture.old up.old left.old right.old columns.old (length sums.old) map.old }
+    ensures { StepGiven size method width number picture.old up.old left.old right.old map.old picture.new up.new left.new right.new columns.new map.new }
 {
     let mut space = [0u16; LARGEST_SIDE];
     let seam = &mut space[..size.height];
     let costs = KeptCosts { up, left, right };
     seam_find_kept::find_kept(costs, size, width, method, sums, seam);
-    number_rows(map, columns, size.width, seam, mark);
+    number_rows(map, columns, size.width, seam, number);
     seam_planes::close_numbers(columns, size.width, width, seam);
     seam_planes::close_picture(picture, size, width, seam);
     keep_all(picture, size, width - 1, method, seam, up, left, right);

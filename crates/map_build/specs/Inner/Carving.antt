@@ -26,7 +26,7 @@ use Rattle.map_rules.specs.Spaces.{map_at, map_bytes}
 abbrev pub left_picture : Size → ℕ → List ℕ → Picture
 left_picture z w picture_plane = fronts w (picture z picture_plane)
 
--- What is kept of the pixels of the w columns that are left, plane by plane: by which costs a path comes to each, and the columns in
+-- What is kept of the pixels of the w columns that are left, plane by plane: what coming to each costs, and the columns in
 -- which they stood at first, which are those that the map has numbered 0.
 pub record Held (z : Size) (how : Method) (w : ℕ) (picture_plane up left right columns map_left : List ℕ) : Type 0 where
   pub up_costs : fronts w (numbers_of z.width z.height up) ≡ cost_grid how Up w z.height (left_picture z w picture_plane)
@@ -59,20 +59,22 @@ pub record CostsKept (how : Method) (z : Size) (w : ℕ) (s picture_plane up lef
   pub right_kept : one_cost how.energy ≡ false → fronts w (numbers_of z.width z.height right') ≡ carried_costs how Right z w s picture_plane right
 
 -- More than one column left, of which all is kept, and a number.
-pub record StepNeeded (z : Size) (how : Method) (w mark : ℕ) (picture_plane up left right columns : List ℕ) (sums : ℕ) (map_left : List ℕ) : Type 0 where
+pub record StepNeeded (z : Size) (how : Method) (w number : ℕ) (picture_plane up left right columns : List ℕ) (sums : ℕ) (map_left : List ℕ) : Type 0 where
   pub sized : PlanesSized z (length picture_plane) (length up) (length left) (length right) (length columns) (length map_left)
   pub more : 1 < w
   pub within : w ≤ z.width
   pub room : z.height * (4 * (w + 2)) ≤ sums
-  pub some : 0 < mark
-  pub fits : mark ≤ largest_number
+  pub some : 0 < number
+  pub fits : number ≤ largest_number
   pub held : Held z how w picture_plane up left right columns map_left
 
--- The picture without its seam, and the map with the seam's number; and all that is kept is kept of the columns left.
-pub record StepGiven (z : Size) (how : Method) (w mark : ℕ) (picture_plane map_left picture' up' left' right' columns' map' : List ℕ) : Type 0 where
+-- The picture without its seam, and the map with the seam's number. All that is kept is kept of the columns left, and what a pixel costs
+-- that has no changed neighbour is carried along, whatever it was.
+pub record StepGiven (z : Size) (how : Method) (w number : ℕ) (picture_plane up left right map_left picture' up' left' right' columns' map' : List ℕ) : Type 0 where
   pub sized : PlanesSized z (length picture') (length up') (length left') (length right') (length columns') (length map')
   pub picture_left : left_picture z (w - 1) picture' ≡ cut (seam_of how w z.height (left_picture z w picture_plane)) (left_picture z w picture_plane)
-  pub numbered : numbers_of z.width z.height map' ≡ write_all mark (seam_of how w z.height (left_picture z w picture_plane)) (numbers_of z.width z.height map_left)
+  pub numbered : numbers_of z.width z.height map' ≡ write_all number (seam_of how w z.height (left_picture z w picture_plane)) (numbers_of z.width z.height map_left)
+  pub costs_kept : CostsKept how z (w - 1) (seam_of how w z.height (left_picture z w picture_plane)) picture' up left right up' left' right'
   pub held : Held z how (w - 1) picture' up' left' right' columns' map'
 
 -- A picture of its size at the front of a work space, and a place for its map.

@@ -24,23 +24,23 @@ seam c =
     let a = c.args in
     let fits : (i : ℕ) → Fits w8 (get_or a.up.now i 0) = search rules in
     let tall : a.size.height ≤ largest_side = (sides_are a.size c.requires.sized.sides).height_most in
-    seam_is a.size a.method a.width a.mark a.picture.now a.up.now a.left.now a.right.now a.columns.now (length a.sums.now) a.map.now c.requires c.find_kept.new.seam
+    seam_is a.size a.method a.width a.number a.picture.now a.up.now a.left.now a.right.now a.columns.now (length a.sums.now) a.map.now c.requires c.find_kept.new.seam
     (take a.size.height (replicate {A = ℕ} largest_side 0)) (λ i. omega (arith, fits i)) (room a.size.height tall)
     (c.find_kept.ensures.found
-    (find_asked a.size a.method a.width a.mark a.picture.now a.up.now a.left.now a.right.now a.columns.now (length a.sums.now) a.map.now c.requires (length a.sums.now)
+    (find_asked a.size a.method a.width a.number a.picture.now a.up.now a.left.now a.right.now a.columns.now (length a.sums.now) a.map.now c.requires (length a.sums.now)
     (length (take a.size.height (replicate {A = ℕ} largest_side 0))) refl (room a.size.height tall)))
 
 pub number_rows-requires : goal.number_rows-requires
 number_rows-requires c =
     let a = c.args in
     rw (seam (goal.at.number_rows-requires c).After-find_kept)
-    (number_needed a.size a.method a.width a.mark a.picture.now a.up.now a.left.now a.right.now a.columns.now (length a.sums.now) a.map.now c.requires)
+    (number_needed a.size a.method a.width a.number a.picture.now a.up.now a.left.now a.right.now a.columns.now (length a.sums.now) a.map.now c.requires)
 
 pub keep_all-requires-clause-asked : goal.keep_all-requires-clause-asked
 keep_all-requires-clause-asked c =
     let a = c.args in
     rw (seam (goal.at.keep_all-requires-clause-asked c).After-find_kept)
-    (keep_asked a.size a.method a.width a.mark a.picture.now a.up.now a.left.now a.right.now a.columns.now (length a.sums.now) a.map.now c.requires
+    (keep_asked a.size a.method a.width a.number a.picture.now a.up.now a.left.now a.right.now a.columns.now (length a.sums.now) a.map.now c.requires
     (length c.close_picture.new.plane) c.close_picture.ensures.long)
 
 pub returns : goal.returns
@@ -52,12 +52,13 @@ returns c =
     let first = c.number_rows in
     let columns = c.close_numbers in
     let is = seam (goal.at.returns c).After-find_kept in
-    let long = s_long a.size a.method a.width a.mark a.picture.now a.up.now a.left.now a.right.now a.columns.now (length a.sums.now) a.map.now n in
-    let in_columns = columns_seam a.size a.method a.width a.mark a.picture.now a.up.now a.left.now a.right.now a.columns.now (length a.sums.now) a.map.now n in
-    let in_picture = picture_seam a.size a.method a.width a.mark a.picture.now a.up.now a.left.now a.right.now a.columns.now (length a.sums.now) a.map.now n in
+    let long = s_long a.size a.method a.width a.number a.picture.now a.up.now a.left.now a.right.now a.columns.now (length a.sums.now) a.map.now n in
+    let in_columns = columns_seam a.size a.method a.width a.number a.picture.now a.up.now a.left.now a.right.now a.columns.now (length a.sums.now) a.map.now n in
+    let in_picture = picture_seam a.size a.method a.width a.number a.picture.now a.up.now a.left.now a.right.now a.columns.now (length a.sums.now) a.map.now n in
     let closed = rw is at (p.ensures.closed (rw is in_picture)) in
     let columns_closed = rw (is, long) at (columns.ensures.closed (rw is in_columns)) in
     let put = rw is at first.ensures in
+    let kept = rw is at k.ensures in
     record {
       sized = record {
         sides = n.sized.sides;
@@ -70,7 +71,8 @@ returns c =
       };
       picture_left = closed;
       numbered = ap (numbers_of a.size.width a.size.height) put
-          ∙ numbered a.size a.method a.width a.mark a.picture.now a.up.now a.left.now a.right.now a.columns.now (length a.sums.now) a.map.now n;
-      held = held_next a.size a.method a.width a.mark a.picture.now a.up.now a.left.now a.right.now a.columns.now (length a.sums.now) a.map.now n
-          p.new.plane k.new.up k.new.left k.new.right columns.new.plane first.new.map closed columns_closed put (rw is at k.ensures);
+          ∙ numbered a.size a.method a.width a.number a.picture.now a.up.now a.left.now a.right.now a.columns.now (length a.sums.now) a.map.now n;
+      costs_kept = kept;
+      held = held_next a.size a.method a.width a.number a.picture.now a.up.now a.left.now a.right.now a.columns.now (length a.sums.now) a.map.now n
+          p.new.plane k.new.up k.new.left k.new.right columns.new.plane first.new.map closed columns_closed put kept;
     }

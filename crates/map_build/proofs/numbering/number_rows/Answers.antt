@@ -31,10 +31,10 @@ loop-r-preserved c =
     omega (arith, inside l.r a.stride a.seam.now a.map.now c.requires.map_long c.loop-r-test.true, l.invariant.0) in
     let first : c.number-first.result ≡ get_or columns l.r 0 =
     c.number-first.ensures.0 ∙ sym (table_at (λ r. number_in a.stride a.columns.now r (get_or a.seam.now r 0)) (length a.seam.now) l.r 0 c.loop-r-test.true) in
-    let is : m.new.row ≡ put_pair a.mark (get_or columns l.r 0) (mid_of from (end - from) l.map) = m.ensures ∙ ap (λ k. put_pair a.mark k (mid_of from (end - from) l.map)) first in
+    let is : m.new.row ≡ put_pair a.number (get_or columns l.r 0) (mid_of from (end - from) l.map) = m.ensures ∙ ap (λ k. put_pair a.number k (mid_of from (end - from) l.map)) first in
     let rows : l.r < length columns = omega (arith, c.loop-r-test.true, long a.stride a.columns.now a.seam.now) in (
       same_len_mid from (end - from) l.map m.new.row m.auto.row ∙ l.invariant.0,
-      rows_step (put_pair a.mark) 0 columns _ (2 * a.stride) l.r from end l.map m.new.row rows refl refl fits is (m.auto.row ∙ mid_len from end l.map fits ∙ omega arith) l.invariant.1,
+      rows_step (put_pair a.number) 0 columns _ (2 * a.stride) l.r from end l.map m.new.row rows refl refl fits is (m.auto.row ∙ mid_len from end l.map fits ∙ omega arith) l.invariant.1,
     )
 
 pub returns : goal.returns
@@ -45,4 +45,4 @@ returns c =
     let many : length columns ≡ length a.seam.now = long a.stride a.columns.now a.seam.now in
     let last : l.r ≡ length a.seam.now = omega arith in
     let whole : length l.map ≡ l.r * (2 * a.stride) = l.invariant.0 ∙ c.requires.map_long ∙ ap (◌* (2 * a.stride)) (sym last) in
-    rows_done (put_pair a.mark) 0 columns _ (2 * a.stride) l.r l.map (omega (arith, many)) (omega (arith, whole)) l.invariant.1
+    rows_done (put_pair a.number) 0 columns _ (2 * a.stride) l.r l.map (omega (arith, many)) (omega (arith, whole)) l.invariant.1

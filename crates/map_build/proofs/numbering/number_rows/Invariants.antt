@@ -9,4 +9,4 @@ use Rattle.map_build.proofs.numbering.number_rows.Given as goal
 abbrev pub invariant-loop-r : goal.invariant-loop-r
 invariant-loop-r l =
     (length l.map ≡ length l.initial.map)
-    × RowsSoFar (put_pair l.mark) 0 (taken_columns l.stride l.columns l.seam) (put_rows l.mark l.stride (taken_columns l.stride l.columns l.seam) l.initial.map) (2 * l.stride) l.r l.map
+    × RowsSoFar (put_pair l.number) 0 (taken_columns l.stride l.columns l.seam) (put_rows l.number l.stride (taken_columns l.stride l.columns l.seam) l.initial.map) (2 * l.stride) l.r l.map
