@@ -7,16 +7,14 @@ use Prim.Native.Nat.{ℕ, suc, ◌+◌, ◌-◌, ◌*◌, ◌≤◌, ◌<◌, mi
 use native.Mathlib.Nat.{add-zero, suc-mul}
 use native.Mathlib.Omega.{arith}
 use borrow.Author.Tests.{lt-ltb, le-ltb}
-use lib.ListN.{length, take, drop, get_or, length-drop}
+use lib.ListN.{length, take, drop, length-drop}
 use lib.Seq.{length-take-le, drop-drop}
 use Rattle.std.proofs.lemmas.List.{take-append-drop}
 use Rattle.grids.specs.Rows.{row_at}
 use Rattle.grids.proofs.Orders.{le-or-lt}
 use Rattle.grids.proofs.Rows.{part_end, row_at-before}
-use Rattle.grids.proofs.Tables.{table_part}
-use Rattle.pictures.specs.declared.sizes.Kind.TheVariants.{Grey, Rgb}
 use Rattle.pictures.specs.declared.sizes.Size.{Size}
-use Rattle.pictures.specs.Pictures.{channels_of, pixel_bytes, picture, pixel}
+use Rattle.pictures.specs.Pictures.{pixel_bytes, picture, pixel}
 use Rattle.pictures.proofs.Limits.{Sized, sides_are, sized_of}
 use Rattle.pictures.proofs.Samples.{pixel-plain}
 use Rattle.pictures.proofs.Buffers.{pixel_plain}
@@ -24,9 +22,9 @@ use Rattle.energy.specs.declared.methods.EnergyRule.{EnergyRule}
 use Rattle.energy.specs.declared.pixels.Side.{Side}
 use Rattle.energy.specs.declared.pixels.Side.TheVariants.{Up, Left, Right}
 use Rattle.energy.specs.Around.{Around, above_of, around}
-use Rattle.energy.specs.Energy.{StepCosts, alike, apart, difference, away, left_or_it, right_or_it, forward, costs_from, one_cost}
-use Rattle.energy.specs.Pixels.{cost_to, CostAsked}
-use Rattle.energy.specs.Inner.{pixel_from, neighbour_of}
+use Rattle.energy.specs.Energy.{StepCosts, alike, difference, away, left_or_it, right_or_it, forward, costs_from, one_cost}
+use Rattle.energy.specs.Pixels.{cost_to}
+use Rattle.energy.specs.Inner.{pixel_from, neighbour_of, CostAsked}
 use Rattle.energy.proofs.Energy.{neighbour_inside, energy-neighbours}
 use Rattle.energy.proofs.Meeting.{left-it, right-it}
 use Rattle.energy.proofs.Padded.{after, after-inside}
@@ -41,58 +39,36 @@ in_row n c w at b end fits =
 
 -- Where the pixel in row r and column c stands, and that it ends within the buffer: in the code's terms, by n bytes a pixel.
 module _ (z : Size) (b : List ℕ) (sure : Sized z (length b)) (n : ℕ) (is : n ≡ pixel_bytes z.kind) where
-  plain : n ≡ channels_of z.kind
-  plain = is ∙ pixel-plain z.kind
-
   long : length b ≡ z.height * (z.width * n)
   long = sure.length_is ∙ ap (λ k. z.height * (z.width * k)) (sym is)
 
-  pub place_end : (r c : ℕ) → r < z.height → c < z.width → r * (z.width * n) + c * n + channels_of z.kind ≤ length b
+  pub place_end : (r c : ℕ) → r < z.height → c < z.width → r * (z.width * n) + c * n + n ≤ length b
   place_end r c inside here =
-      omega (arith, plain, long, part_end r z.height (z.width * n) inside, part_end c z.width n here)
+      omega (arith, long, part_end r z.height (z.width * n) inside, part_end c z.width n here)
 
-  pub pixel_there : (r c : ℕ) → r < z.height → c < z.width → pixel (picture z b) r c ≡ pixel_from z.kind (r * (z.width * n) + c * n) b
+  pub pixel_there : (r c : ℕ) → r < z.height → c < z.width → pixel (picture z b) r c ≡ pixel_from n (r * (z.width * n) + c * n) b
   pixel_there r c inside here =
       pixel_plain z b sure.length_is r c inside
-      ∙ ap₂ (λ k m. row_at k c (row_at (z.width * m) r b)) (sym plain) (sym is)
+      ∙ ap₂ (λ k m. row_at k c (row_at (z.width * m) r b)) (sym (is ∙ pixel-plain z.kind)) (sym is)
       ∙ in_row n c (z.width * n) (r * (z.width * n)) b (part_end c z.width n here) (omega (arith, long, part_end r z.height (z.width * n) inside))
-      ∙ ap (λ k. take k (drop (r * (z.width * n) + c * n) b)) plain
-
--- How far two pixels are apart, from how far their samples are.
-module _ (b : List ℕ) (i j : ℕ) where
-  first_i : get_or b (i + 0) 0 ≡ get_or b i 0
-  first_i = ap (λ k. get_or b k 0) (add-zero i)
-
-  first_j : get_or b (j + 0) 0 ≡ get_or b j 0
-  first_j = ap (λ k. get_or b k 0) (add-zero j)
-
-  pub grey_apart : i + 1 ≤ length b → j + 1 ≤ length b → apart (get_or b i 0) (get_or b j 0) ≡ difference (pixel_from Grey i b) (pixel_from Grey j b)
-  unfolding difference
-  grey_apart l m = rw (table_part b i 1 0 l, table_part b j 1 0 m) (omega (arith, first_i, first_j))
-
-  pub rgb_apart : i + 3 ≤ length b → j + 3 ≤ length b
-      → apart (get_or b i 0) (get_or b j 0) + apart (get_or b (i + 1) 0) (get_or b (j + 1) 0) + apart (get_or b (i + 2) 0) (get_or b (j + 2) 0)
-      ≡ difference (pixel_from Rgb i b) (pixel_from Rgb j b)
-  unfolding difference
-  rgb_apart l m = rw (table_part b i 3 0 l, table_part b j 3 0 m) (omega (arith, first_i, first_j))
 
 -- A pixel that is asked for lies in a picture of its size,
-pub asked_sized : {z : Size} {w r c bytes : ℕ} → CostAsked z w r c bytes → Sized z bytes
-asked_sized {z} {w} {r} {c} {bytes} q = sized_of z bytes (sides_are z q.sides) q.long
+pub asked_sized : {n : ℕ} {z : Size} {w r c bytes : ℕ} → CostAsked n z w r c bytes → Sized z bytes
+asked_sized {n} {z} {w} {r} {c} {bytes} q = sized_of z bytes (sides_are z q.sides) q.long
 
 -- and all its neighbours do. In the code's terms: by n bytes a pixel.
-module _ (z : Size) (b : List ℕ) (w r c : ℕ) (asked : CostAsked z w r c (length b)) (n : ℕ) (is : n ≡ pixel_bytes z.kind) where
+module _ (z : Size) (b : List ℕ) (w r c n : ℕ) (asked : CostAsked n z w r c (length b)) where
   -- The pixel in row i and column k, from its place.
   abbrev there : ℕ → ℕ → List ℕ
-  there i k = pixel_from z.kind (i * (z.width * n) + k * n) b
+  there i k = pixel_from n (i * (z.width * n) + k * n) b
 
   read : (i k : ℕ) → i < z.height → k < w → there i k ≡ pixel (picture z b) i k
-  read i k l m = sym (pixel_there z b (asked_sized asked) n is i k l (omega (arith, asked.left)))
+  read i k l m = sym (pixel_there z b (asked_sized asked) n asked.channels i k l (omega (arith, asked.left)))
 
   -- By a rule of one cost: beside the pixel and below it, or what stands for these.
   module _ (rule : EnergyRule) (one : one_cost rule ≡ true) where
-    pub lower_end : neighbour_of rule r z.height * (z.width * n) + c * n + channels_of z.kind ≤ length b
-    lower_end = place_end z b (asked_sized asked) n is (neighbour_of rule r z.height) c (neighbour_inside rule r z.height asked.row) (omega (arith, asked.left, asked.column))
+    pub lower_end : neighbour_of rule r z.height * (z.width * n) + c * n + n ≤ length b
+    lower_end = place_end z b (asked_sized asked) n asked.channels (neighbour_of rule r z.height) c (neighbour_inside rule r z.height asked.row) (omega (arith, asked.left, asked.column))
 
     pub energy_there : difference (there r (neighbour_of rule c w)) (there r c) + difference (there (neighbour_of rule r z.height) c) (there r c)
         ≡ (costs_from rule (around false w z.height (picture z b) r c)).up
@@ -115,7 +91,7 @@ module _ (z : Size) (b : List ℕ) (w r c : ℕ) (asked : CostAsked z w r c (len
     met = difference (there r right) (there r left)
 
     abbrev over : List ℕ
-    over = pixel_from z.kind (r * (z.width * n) - z.width * n + c * n) b
+    over = pixel_from n (r * (z.width * n) - z.width * n + c * n) b
 
     right_after : right ≡ after w c
     right_after =

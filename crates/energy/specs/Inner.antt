@@ -1,11 +1,10 @@
 -- What the private functions of this crate ask and promise, in terms of rows of bytes. No public promise cites it.
 use Rattle.std.specs.Prelude.{◌≡◌, cond, List, ◌++◌, ℕ, ◌+◌, ◌-◌, ◌*◌, ◌≤◌, ◌<◌, ltb, length, get_or, sum, take, drop}
 use Rattle.grids.specs.Rows.{row_at}
-use Rattle.pictures.specs.declared.sizes.Kind.{Kind}
 use Rattle.pictures.specs.declared.sizes.Size.{Size}
 use Rattle.pictures.specs.Refusals.{refusal}
 use Rattle.pictures.specs.Limits.{most_side}
-use Rattle.pictures.specs.Pictures.{largest_side, channels_of, size_rules}
+use Rattle.pictures.specs.Pictures.{largest_side, pixel_bytes, picture_bytes, side_rules, size_rules}
 use Rattle.energy.specs.declared.methods.EnergyRule.{EnergyRule}
 use Rattle.energy.specs.declared.methods.EnergyRule.TheVariants.{Edge, Flat, Forward}
 use Rattle.energy.specs.Energy.{apart, difference}
@@ -134,5 +133,14 @@ module _ (channels : ℕ) (it : List ℕ) where
   right_of_row above = two_distances channels afters befores above afters
 
 -- One pixel at a place. The samples of a pixel, which begin at place `at` of a picture's bytes.
-abbrev pub pixel_from : Kind → ℕ → List ℕ → List ℕ
-pixel_from k at b = take (channels_of k) (drop at b)
+abbrev pub pixel_from : ℕ → ℕ → List ℕ → List ℕ
+pixel_from channels at b = take channels (drop at b)
+
+-- A pixel of a picture that is carved, of n bytes.
+pub record CostAsked (n : ℕ) (z : Size) (w r c bytes : ℕ) : Type 0 where
+  pub channels : n ≡ pixel_bytes z.kind
+  pub sides : refusal (side_rules z) ≡ 0
+  pub left : w ≤ z.width
+  pub row : r < z.height
+  pub column : c < w
+  pub long : bytes ≡ picture_bytes z

@@ -230,7 +230,7 @@ fn pixel_at<const N: usize>(row: &[u8], c: usize) -> &[u8]
 }
 
 // How far two pixels are apart, the channels added.
-fn difference(a: &[u8], b: &[u8]) -> u32
+pub(crate) fn difference(a: &[u8], b: &[u8]) -> u32
     requires { length a.now ≤ 3 }
     ensures { (result ≡ Energy·difference a.now b.now) × (result ≤ 765) }
 {

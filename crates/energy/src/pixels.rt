@@ -1,14 +1,14 @@
-// What coming to one pixel costs, in a picture whose rows stand further apart than it is wide.
-ghost use Rattle.std.specs.Prelude.{◌≡◌, ◌+◌, ◌≤◌, true, false, length, get_or};
-ghost use Rattle.pictures.specs.Pictures.{channels_of, picture as Pictures·picture};
+// What coming to the pixels beside a seam costs, in a picture whose rows stand further apart than it is wide.
+ghost use Rattle.std.specs.Prelude.{◌≡◌, ◌+◌, ◌-◌, ◌≤◌, ◌<◌, true, false, length};
+ghost use Rattle.pictures.specs.Pictures.{pixel_bytes as Pictures·pixel_bytes, picture as Pictures·picture};
 ghost use Rattle.energy.specs.Around.{around};
-ghost use Rattle.energy.specs.Energy.{apart, difference, costs_from, costs_at, one_cost, forward};
-ghost use Rattle.energy.specs.Pixels.{cost_to, CostAsked};
-ghost use Rattle.energy.specs.Inner.{pixel_from};
+ghost use Rattle.energy.specs.Energy.{difference, costs_from, costs_at, one_cost, forward};
+ghost use Rattle.energy.specs.Pixels.{cost_to, IsCarved};
+ghost use Rattle.energy.specs.Inner.{pixel_from, CostAsked};
 
 use crate::methods::{EnergyRule, Method};
-use crate::neighbour;
-use pictures::{Kind, Size, judge_picture, pixel_bytes};
+use crate::{kernels, neighbour};
+use pictures::{Kind, Size};
 
 // The column of the row above that a path comes from: the same, the one to the left, or the one to the right.
 #[derive(Clone, Copy, Debug, PartialEq, Eq)]
@@ -18,90 +18,131 @@ pub enum Side {
     Right,
 }
 
-// What coming from one side to the pixel in row r and column c costs, in a picture whose rows stand as far apart as at this size, and of
-// which the first `width` columns are left. Where there is no such pixel, nothing is promised.
-pub fn cost_at(
-    picture: &[u8],
-    size: Size,
-    width: usize,
-    method: Method,
-    from: Side,
-    r: usize,
-    c: usize,
-) -> u32
-    ensures { CostAsked size width r c (length picture.now) → result ≡ cost_to from (costs_at method width size.height (Pictures·picture size picture.now) r c) }
-{
-    let Ok(()) = judge_picture(size, picture.len()) else {
-        return 0;
-    };
-    if size.width < width || size.height <= r || width <= c {
-        return 0;
-    }
-    if method.energy.has_one_cost() {
-        energy_at(picture, size, width, method.energy, r, c)
-    } else {
-        step_cost(picture, size, width, from, r, c)
-    }
+// A picture that is carved where it stands: its rows stay as far apart as at this size, and its first `width` columns are left. Made once,
+// so that of each of many pixels no more is judged than its place.
+#[derive(Clone, Copy, Debug, PartialEq, Eq)]
+pub struct CarvedPicture<'a> {
+    pub bytes: &'a [u8],
+    pub size: Size,
+    pub width: usize,
+    ghost carved: { IsCarved size width (length bytes.now) },
 }
 
-// The energy of a pixel by a rule of one cost: how far the pixels that stand for the right and the lower neighbour are from it.
-fn energy_at(picture: &[u8], size: Size, width: usize, rule: EnergyRule, r: usize, c: usize) -> u32
-    requires rule { one_cost rule ≡ true }
-    requires asked { CostAsked size width r c (length picture.now) }
-    ensures { result ≡ (costs_from rule (around false width size.height (Pictures·picture size picture.now) r c)).up }
-{
-    let n = pixel_bytes(size.kind);
-    let stride = size.width * n;
-    let row = r * stride;
-    let it = row + c * n;
-    let beside = row + neighbour(rule, c, width) * n;
-    let lower = neighbour(rule, r, size.height) * stride + c * n;
-    pixels_apart(size.kind, picture, beside, it) + pixels_apart(size.kind, picture, lower, it)
+// What coming to the two pixels beside a seam costs: to the one before a column, and to the one at it.
+#[derive(Clone, Copy, Debug, PartialEq, Eq)]
+pub struct BesideCosts {
+    pub before: u32,
+    pub here: u32,
 }
 
-// What coming to a pixel costs by forward. A neighbour past the side edge is the pixel itself.
-fn step_cost(picture: &[u8], size: Size, width: usize, from: Side, r: usize, c: usize) -> u32
-    requires asked { CostAsked size width r c (length picture.now) }
-    ensures { result ≡ cost_to from (forward (around false width size.height (Pictures·picture size picture.now) r c)) }
-{
-    let kind = size.kind;
-    let n = pixel_bytes(kind);
-    let stride = size.width * n;
-    let row = r * stride;
-    let left = row + c.saturating_sub(1) * n;
-    let right = row + (c + 1).min(width - 1) * n;
-    let across = pixels_apart(kind, picture, right, left);
-    if r == 0 {
-        return across;
+impl<'a> CarvedPicture<'a> {
+    // What coming from one side to the pixels beside column c of row r costs. Where there is no such pixel, nothing is promised of it.
+    #[inline(always)]
+    pub fn costs_beside(&self, method: Method, from: Side, r: usize, c: usize) -> BesideCosts
+        ensures before { r < self.now.size.height → 0 < c → c ≤ self.now.width → result.before ≡ cost_to from (costs_at method self.now.width self.now.size.height (Pictures·picture self.now.size self.now.bytes.now) r (c - 1)) }
+        ensures here { r < self.now.size.height → c < self.now.width → result.here ≡ cost_to from (costs_at method self.now.width self.now.size.height (Pictures·picture self.now.size self.now.bytes.now) r c) }
+    {
+        if self.size.height <= r || self.width == 0 || self.width < c {
+            return BesideCosts { before: 0, here: 0 };
+        }
+        let before = c.saturating_sub(1);
+        let here = c.min(self.width - 1);
+        match self.size.kind {
+            Kind::Grey => self.two_costs::<1>(method, from, r, before, here),
+            Kind::Rgb => self.two_costs::<3>(method, from, r, before, here),
+        }
     }
-    let above = row - stride + c * n;
-    match from {
-        Side::Up => across,
-        Side::Left => across + pixels_apart(kind, picture, above, left),
-        Side::Right => across + pixels_apart(kind, picture, above, right),
-    }
-}
 
-// How far the pixel whose samples begin at place a is from the one whose samples begin at place b. The channels are written out, so that
-// there is no loop.
-fn pixels_apart(kind: Kind, picture: &[u8], a: usize, b: usize) -> u32
-    requires { (a + channels_of kind ≤ length picture.now) × (b + channels_of kind ≤ length picture.now) }
-    ensures { (result ≡ difference (pixel_from kind a picture.now) (pixel_from kind b picture.now)) × (result ≤ 765) }
-{
-    match kind {
-        Kind::Grey => places_apart(picture, a, b),
-        Kind::Rgb => {
-            places_apart(picture, a, b)
-                + places_apart(picture, a + 1, b + 1)
-                + places_apart(picture, a + 2, b + 2)
+    // The costs of two pixels of a row, where N is the number of channels, a constant to the compiler.
+    #[inline(always)]
+    fn two_costs<const N: usize>(
+        &self,
+        method: Method,
+        from: Side,
+        r: usize,
+        before: usize,
+        here: usize,
+    ) -> BesideCosts
+        requires channels { N ≡ Pictures·pixel_bytes self.now.size.kind }
+        requires inside { (r < self.now.size.height) × (before < self.now.width) × (here < self.now.width) }
+        ensures before { result.before ≡ cost_to from (costs_at method self.now.width self.now.size.height (Pictures·picture self.now.size self.now.bytes.now) r before) }
+        ensures here { result.here ≡ cost_to from (costs_at method self.now.width self.now.size.height (Pictures·picture self.now.size self.now.bytes.now) r here) }
+    {
+        let picture = self.bytes;
+        let size = self.size;
+        let width = self.width;
+        if method.energy.has_one_cost() {
+            let rule = method.energy;
+            BesideCosts {
+                before: energy_at::<N>(picture, size, width, rule, r, before),
+                here: energy_at::<N>(picture, size, width, rule, r, here),
+            }
+        } else {
+            BesideCosts {
+                before: step_cost::<N>(picture, size, width, from, r, before),
+                here: step_cost::<N>(picture, size, width, from, r, here),
+            }
         }
     }
 }
 
-// How far the sample at place a is from that at place b.
-fn places_apart(picture: &[u8], a: usize, b: usize) -> u32
-    requires { (a + 1 ≤ length picture.now) × (b + 1 ≤ length picture.now) }
-    ensures { (result ≡ apart (get_or picture.now a 0) (get_or picture.now b 0)) × (result ≤ 255) }
+// The energy of a pixel by a rule of one cost: how far the pixels that stand for the right and the lower neighbour are from it.
+#[inline(always)]
+fn energy_at<const N: usize>(
+    picture: &[u8],
+    size: Size,
+    width: usize,
+    rule: EnergyRule,
+    r: usize,
+    c: usize,
+) -> u32
+    requires rule { one_cost rule ≡ true }
+    requires asked { CostAsked N size width r c (length picture.now) }
+    ensures { result ≡ (costs_from rule (around false width size.height (Pictures·picture size picture.now) r c)).up }
 {
-    picture[a].abs_diff(picture[b]) as u32
+    let stride = size.width * N;
+    let row = r * stride;
+    let it = row + c * N;
+    let beside = row + neighbour(rule, c, width) * N;
+    let lower = neighbour(rule, r, size.height) * stride + c * N;
+    pixels_apart::<N>(picture, beside, it) + pixels_apart::<N>(picture, lower, it)
+}
+
+// What coming to a pixel costs by forward. A neighbour past the side edge is the pixel itself.
+#[inline(always)]
+fn step_cost<const N: usize>(
+    picture: &[u8],
+    size: Size,
+    width: usize,
+    from: Side,
+    r: usize,
+    c: usize,
+) -> u32
+    requires asked { CostAsked N size width r c (length picture.now) }
+    ensures { result ≡ cost_to from (forward (around false width size.height (Pictures·picture size picture.now) r c)) }
+{
+    let stride = size.width * N;
+    let row = r * stride;
+    let left = row + c.saturating_sub(1) * N;
+    let right = row + (c + 1).min(width - 1) * N;
+    let across = pixels_apart::<N>(picture, right, left);
+    if r == 0 {
+        return across;
+    }
+    let above = row - stride + c * N;
+    match from {
+        Side::Up => across,
+        Side::Left => across + pixels_apart::<N>(picture, above, left),
+        Side::Right => across + pixels_apart::<N>(picture, above, right),
+    }
+}
+
+// How far the pixel whose samples begin at place a is from the one whose samples begin at place b.
+#[inline(always)]
+fn pixels_apart<const N: usize>(picture: &[u8], a: usize, b: usize) -> u32
+    requires few { N ≤ 3 }
+    requires inside { (a + N ≤ length picture.now) × (b + N ≤ length picture.now) }
+    ensures { (result ≡ difference (pixel_from N a picture.now) (pixel_from N b picture.now)) × (result ≤ 765) }
+{
+    kernels::difference(&picture[a..a + N], &picture[b..b + N])
 }

@@ -14,7 +14,7 @@ ghost use Rattle.seam_planes.specs.Planes.{fronts, numbers_of};
 ghost use Rattle.seam_keep.specs.Refresh.{refreshed};
 ghost use Rattle.seam_keep.specs.Keeping.{cost_grid, FillAsked, KeepAsked};
 
-use energy::{Method, Side};
+use energy::{CarvedPicture, Method, Side};
 use pictures::{AllowedSize, Size};
 use seam_planes::close_numbers;
 
@@ -66,7 +66,12 @@ pub fn keep_costs(
         return;
     }
     close_numbers(plane, size.width, width + 1, seam);
-    rows::refresh_rows(picture, size, width, method, from, seam, plane);
+    let carved = CarvedPicture {
+        bytes: picture,
+        size,
+        width,
+    };
+    rows::refresh_rows(&carved, method, from, seam, plane);
 }
 
 // Whether a picture and a plane are as long as this size says.

@@ -7,4 +7,6 @@ use Rattle.seam_keep.proofs.rows.refresh_rows.Given as goal
 
 abbrev pub invariant-loop-r : goal.invariant-loop-r
 invariant-loop-r l =
-    NumbersPut (refreshed_at l.method l.from l.size l.width l.picture l.seam (numbers_of l.size.width l.size.height l.fn.plane)) l.size.width l.size.height l.fn.plane l.r l.plane
+    let p = l.picture in
+    let z = p.size in
+    NumbersPut (refreshed_at l.method l.from z p.width p.bytes.now l.seam (numbers_of z.width z.height l.fn.plane)) z.width z.height l.fn.plane l.r l.plane
