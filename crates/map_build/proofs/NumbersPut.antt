@@ -1,18 +1,17 @@
 -- A seam's number written into a map at the first columns of its pixels: what stands there are the columns that the map has left.
 use mathlib.Core.Path.{◌≡◌, refl, sym, ap, ap₂, ◌∙◌}
 use mathlib.Core.List.{List, [], ◌∷◌, map, zip_with, append-nil}
-use Prim.Native.Nat.{ℕ, zero, suc, ◌+◌, ◌*◌, ◌≤◌, ◌<◌}
-use native.Mathlib.Nat.{mul_left_comm}
+use Prim.Native.Nat.{ℕ, zero, suc, ◌+◌, ◌*◌, ◌<◌}
 use native.Mathlib.Omega.{arith}
 use lib.ListN.{length, get_or, set, length-set}
 use Rattle.grids.specs.Each.{Grid, none, more}
 use Rattle.grids.specs.Rows.{rows_of, flat}
-use Rattle.grids.proofs.Rows.{part_end, grid-rows_of, rows_of_at, row_at_get_d, length-rows_of, rows_of-flat}
+use Rattle.grids.proofs.Rows.{grid-rows_of, length-rows_of, rows_of-flat}
 use Rattle.grids.proofs.Shapes.{get_or-map}
 use Rattle.pictures.specs.Numbers.{two_bytes, low_byte, high_byte, numbers_in}
-use Rattle.pictures.proofs.TwoBytes.{two_bytes_lem, numbers_at}
+use Rattle.pictures.proofs.TwoBytes.{two_bytes_lem}
 use Rattle.seam_planes.specs.Planes.{numbers_of}
-use Rattle.seam_planes.proofs.Elements.{numbers_rows}
+use Rattle.seam_planes.proofs.Elements.{numbers_rows, number_at}
 use Rattle.map_theory.proofs.Levels.{write_all}
 use Rattle.map_theory.proofs.LeftColumns.{left_columns, write-left}
 use Rattle.map_build.specs.Inner.Columns.{number_in, put_pair, put_rows}
@@ -20,14 +19,7 @@ use Rattle.map_build.specs.Inner.Columns.{number_in, put_pair, put_rows}
 -- The number of row r and column c is the plane's.
 pub number_is : (m h : ℕ) (plane : List ℕ) (r c : ℕ) → length plane ≡ h * (2 * m) → r < h → c < m
     → number_in m plane r c ≡ get_or (get_or (numbers_of m h plane) r []) c 0
-number_is m h plane r c e l k =
-    let at : 2 * (r * m + c) ≡ r * (2 * m) + 2 * c = omega (arith, mul_left_comm r 2 m) in
-    let room : r * (2 * m) + 2 * m ≤ h * (2 * m) = part_end r h (2 * m) l in
-    sym
-    (ap (λ x. get_or x c 0) (rows_of_at m h (numbers_in plane) r l)
-    ∙ row_at_get_d m (numbers_in plane) r c 0 k
-    ∙ numbers_at plane (r * m + c) (omega (arith, at, room, e))
-    ∙ ap (λ i. two_bytes (get_or plane i 0) (get_or plane (i + 1) 0)) at)
+number_is m h plane r c e l k = sym (number_at m h plane r c e l k)
 
 -- A number put into a row in bytes is put into the row.
 two-suc : (c : ℕ) → 2 * suc c ≡ suc (suc (2 * c))

@@ -94,7 +94,7 @@ module _ {n m w : ℕ} {s b : List ℕ} (needed : RowsNeeded n m w s b) where
   row_long : (r : ℕ) → r < length s → length (row_at (m * n) r b) ≡ m * n
   row_long r l = length-row_at (m * n) (length s) b r (le_of_eq (sym needed.long)) l
 
-  pub size : (r : ℕ) → r < length s → length (rows r) ≡ m * n
+  size : (r : ℕ) → r < length s → length (rows r) ≡ m * n
   size r l = length_front n w (get_or s r 0) (row_at (m * n) r b) (column r l) (omega (arith, row_long r l, used)) ∙ row_long r l
 
   -- One turn: the cells that count of row r were lent.

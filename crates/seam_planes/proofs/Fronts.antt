@@ -5,7 +5,7 @@ use Prim.Native.Nat.{ℕ, zero, suc, ◌≤◌, ◌<◌}
 use native.Mathlib.Nat.{le_of_suc-le-suc}
 use native.Mathlib.Omega.{arith}
 use lib.ListN.{get_or, take}
-use lib.Seq.{take_all, length-take-le, get_or-take, take-take}
+use lib.Seq.{take_all, length-take-le, get_or-take}
 use Rattle.std.proofs.lemmas.List.{take-map}
 use Rattle.grids.specs.Each.{Each, Grid, none, more}
 use Rattle.grids.specs.Table.{table}
@@ -35,12 +35,7 @@ module _ {A : Type 0} where
   fronts_all none = refl
   fronts_all {m} (more {x = x} e g) = ap₂ ◌∷◌ (take_all m x (omega arith)) (fronts_all g)
 
-  -- The fronts of fronts.
-  pub fronts_twice : (v w : ℕ) (p : List (List A)) → v ≤ w → fronts v (fronts w p) ≡ fronts v p
-  fronts_twice v w [] l = refl
-  fronts_twice v w (x ∷ p) l = ap₂ ◌∷◌ (take-take v w x l) (fronts_twice v w p l)
-
-  -- They have the elements of the rows.
+  -- The fronts have the elements of the rows.
   pub fronts_at : (w : ℕ) (p : List (List A)) (r c : ℕ) (d : A) → c < w → get_or (get_or (fronts w p) r []) c d ≡ get_or (get_or p r []) c d
   fronts_at w [] r c d l = refl
   fronts_at w (x ∷ p) zero c d l = get_or-take w x c d l

@@ -11,7 +11,7 @@ use Rattle.grids.proofs.Rows.{part_end}
 use Rattle.grids.proofs.Filled.{Filled, filled-later, filled-part}
 
 -- A row of which the first k elements were lent and came back, in its plane.
-pub front_put : {A : Type 0} (a k m : ℕ) (now new : List A) → k ≤ m → a + m ≤ length now → put_mid a k now new ≡ put_mid a m now (new ++ drop k (mid_of a m now))
+front_put : {A : Type 0} (a k m : ℕ) (now new : List A) → k ≤ m → a + m ≤ length now → put_mid a k now new ≡ put_mid a m now (new ++ drop k (mid_of a m now))
 front_put a k m now new l h =
     let D = drop a now in
     let room : k ≤ length (take m D) = omega (arith, length-take-le m D (omega (arith, length-drop a now))) in

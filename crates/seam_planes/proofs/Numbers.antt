@@ -21,12 +21,12 @@ use Rattle.seam_planes.proofs.Elements.{numbers_rows}
 abbrev pub pair : ℕ → List ℕ
 pair v = low_byte v ∷ high_byte v ∷ []
 
-pairs_flat : (ys : List ℕ) → pairs ys ≡ flat (map pair ys)
-pairs_flat [] = refl
-pairs_flat (v ∷ ys) = ap (λ r. low_byte v ∷ high_byte v ∷ r) (pairs_flat ys)
+pairs_joined : (ys : List ℕ) → pairs ys ≡ flat (map pair ys)
+pairs_joined [] = refl
+pairs_joined (v ∷ ys) = ap (λ r. low_byte v ∷ high_byte v ∷ r) (pairs_joined ys)
 
 pairs_table : (ys : List ℕ) → pairs ys ≡ flat (table (λ i. pair (get_or ys i 0)) (length ys))
-pairs_table ys = pairs_flat ys ∙ ap flat (ap (map pair) (sym (table-all ys 0)) ∙ map-table pair (λ i. get_or ys i 0) (length ys))
+pairs_table ys = pairs_joined ys ∙ ap flat (ap (map pair) (sym (table-all ys 0)) ∙ map-table pair (λ i. get_or ys i 0) (length ys))
 
 -- The loop over a row: the lower two bytes of the first c numbers are put.
 abbrev pub lower : List ℕ → ℕ → List ℕ
@@ -58,7 +58,7 @@ number_put (suc c) v (a ∷ b ∷ x) h =
     rw e (ap (two_bytes a b ∷◌) (number_put c v x (omega arith)))
 
 -- The numbers of a plane whose rows are as `f` says.
-pub numbers_filled : (f : ℕ → List ℕ) (m h : ℕ) (old now : List ℕ) → ((i : ℕ) → i < h → length (f i) ≡ 2 * m) → Filled f (2 * m) old h now
+numbers_filled : (f : ℕ → List ℕ) (m h : ℕ) (old now : List ℕ) → ((i : ℕ) → i < h → length (f i) ≡ 2 * m) → Filled f (2 * m) old h now
     → numbers_of m h now ≡ table (λ i. numbers_in (f i)) h
 numbers_filled f m h old now size so =
     numbers_rows m h now

@@ -38,7 +38,7 @@ module _ {m k h : ℕ} {b : List ℕ} (needed : PackNeeded m k h b) where
   abbrev rows : ℕ → List ℕ
   rows = packed_row m k b
 
-  pub size : (r : ℕ) → r < h → length (rows r) ≡ k
+  size : (r : ℕ) → r < h → length (rows r) ≡ k
   size r l = length-take-le k (row_at m r b) (omega (arith, length-row_at m h b r (le_of_eq (sym needed.long)) l, needed.left))
 
   -- One turn: row r's front has passed through a line, of which `old` is what stood in it.

@@ -3,7 +3,7 @@ use Rattle.std.specs.Prelude.{◌≡◌, false, List, ◌++◌, ℕ, ◌+◌, �
 use Rattle.pictures.specs.Limits.{most_side}
 use Rattle.seam_bounds.specs.Moves.{outside}
 
--- A row without the n bytes from `gap` on, and at its end what stood there: its last n bytes, twice.
+-- A row without the n bytes from `gap` on, and then its last n bytes again, so that it is as long.
 abbrev pub closed : ℕ → ℕ → List ℕ → List ℕ
 closed n gap row = take gap row ++ (drop (gap + n) row ++ drop (length row - n) row)
 

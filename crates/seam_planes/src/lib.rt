@@ -32,9 +32,9 @@ pub fn close_numbers(plane: &mut [u8], stride: usize, width: usize, seam: &[u16]
 }
 
 // The same of a picture, whose rows stand as far apart as at this size, and of which the first `width` columns are left.
-pub fn close_picture(plane: &mut [u8], size: Size, width: usize, seam: &[u16])
-    ensures long { length plane.new ≡ length plane.old }
-    ensures closed { PictureSeam size width seam.now (length plane.old) → fronts (width - 1) (Pictures·picture size plane.new) ≡ cut seam.now (fronts width (Pictures·picture size plane.old)) }
+pub fn close_picture(picture: &mut [u8], size: Size, width: usize, seam: &[u16])
+    ensures long { length picture.new ≡ length picture.old }
+    ensures closed { PictureSeam size width seam.now (length picture.old) → fronts (width - 1) (Pictures·picture size picture.new) ≡ cut seam.now (fronts width (Pictures·picture size picture.old)) }
 {
     let Ok(allowed) = AllowedSize::new(size) else {
         return;
@@ -42,32 +42,33 @@ pub fn close_picture(plane: &mut [u8], size: Size, width: usize, seam: &[u16])
     if size.width < width || seam.len() != size.height {
         return;
     }
-    if plane.len() != allowed.picture_bytes() || has_outside(seam, width) {
+    if picture.len() != allowed.picture_bytes() || has_outside(seam, width) {
         return;
     }
-    close_rows(plane, pixel_bytes(size.kind), size.width, width, seam);
+    close_rows(picture, pixel_bytes(size.kind), size.width, width, seam);
 }
 
-// Packs the columns that are left of a picture at its front, row by row.
-pub fn pack_picture(plane: &mut [u8], size: Size, width: usize)
-    ensures long { length plane.new ≡ length plane.old }
-    ensures packed { (refusal (side_rules size) ≡ 0) × (width ≤ size.width) × (length plane.old ≡ picture_bytes size) → take (size.height * (width * Pictures·pixel_bytes size.kind)) plane.new ≡ bytes size.kind (fronts width (Pictures·picture size plane.old)) }
+// Packs the columns that are left of a picture at its front, row by row. What then stands after them is of no account. Where there is no
+// such picture, nothing is promised but its length.
+pub fn pack_picture(picture: &mut [u8], size: Size, width: usize)
+    ensures long { length picture.new ≡ length picture.old }
+    ensures packed { (refusal (side_rules size) ≡ 0) × (width ≤ size.width) × (length picture.old ≡ picture_bytes size) → take (size.height * (width * Pictures·pixel_bytes size.kind)) picture.new ≡ bytes size.kind (fronts width (Pictures·picture size picture.old)) }
 {
     let Ok(allowed) = AllowedSize::new(size) else {
         return;
     };
-    if plane.len() != allowed.picture_bytes() {
+    if picture.len() != allowed.picture_bytes() {
         return;
     }
     if size.width <= width {
         return;
     }
     let pixel = pixel_bytes(size.kind);
-    pack_rows(plane, size.width * pixel, width * pixel, size.height);
+    pack_rows(picture, size.width * pixel, width * pixel, size.height);
 }
 
-// Puts numbers into a row of a plane, two bytes each. By index: of what `chunks_exact_mut` lends nothing is known afterwards. The loop
-// compiles to moves of eight numbers.
+// Puts numbers into a row of a plane, two bytes each. Where the row isn't as long as they are, nothing is promised but its length. By
+// index: of what `chunks_exact_mut` lends nothing is known afterwards.
 pub fn put_numbers(numbers: &[u32], row: &mut [u8])
     ensures long { length row.new ≡ length row.old }
     ensures put { (length row.old ≡ 2 * length numbers.now) × ((i : ℕ) → get_or numbers.now i 0 ≤ largest_number) → row.new ≡ pairs numbers.now }

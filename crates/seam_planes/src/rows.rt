@@ -22,8 +22,7 @@ pub(crate) fn close_rows(plane: &mut [u8], n: usize, stride: usize, width: usize
 }
 
 // The row without the n bytes from `gap` on; its last n bytes stay. What follows the gap passes through `line`, since where it goes
-// overlaps where it is. LLVM makes one memmove of the two copies: with it a grey map of 480 by 320 was measured 15 in 100 faster than
-// with a loop over the bytes.
+// overlaps where it is. LLVM makes one memmove of the two copies.
 fn close_row(row: &mut [u8], gap: usize, n: usize, line: &mut [u8])
     requires { RowNeeded row.old gap n line.old }
     ensures row { row.new ≡ closed n gap row.old }

@@ -6,11 +6,11 @@ use Rattle.seam_planes.proofs.pack_picture.Goals as goal
 pub returns-then-size-width-clause-packed : goal.returns-then-size-width-clause-packed
 returns-then-size-width-clause-packed c given =
     let a = c.args in
-    bytes_all a.size a.width a.plane.now (omega (arith, given.1)) given.2 (λ i. omega (arith, c.type_inv.plane i))
+    bytes_all a.size a.width a.picture.now (omega (arith, given.1)) given.2 (λ i. omega (arith, c.type_inv.picture i))
 
 pub returns-clause-packed : goal.returns-clause-packed
 returns-clause-packed c given =
     let a = c.args in
-    let fits : (i : ℕ) → Fits w8 (get_or a.plane.now i 0) = search rules in
+    let fits : (i : ℕ) → Fits w8 (get_or a.picture.now i 0) = search rules in
     (rw c.pixel_bytes-pixel.ensures at c.pack_rows.ensures.packed)
-    ∙ sym (bytes_fronts a.size a.width a.plane.now given.1 given.2 (λ i. omega (arith, fits i)))
+    ∙ sym (bytes_fronts a.size a.width a.picture.now given.1 given.2 (λ i. omega (arith, fits i)))
