@@ -28,7 +28,7 @@ use Rattle.pictures.proofs.TwoBytes.{rows-pairs}
 use Rattle.map_rules.specs.Spaces.{map_bytes, map_at, recorded_at, map_space_rules}
 use Rattle.map_rules.proofs.Rooms.{room-served}
 use Rattle.map_build.specs.Building.{mapped, MapInGiven}
-use Rattle.map_build.proofs.Steps.{take-map}
+use Rattle.map_build.proofs.Mapped.{take-map}
 use Rattle.file_theory.specs.Contents.{choose_of, file_of}
 use Rattle.file_theory.proofs.Heads.{head_chooses}
 use Rattle.file_theory.specs.Rules.{work_rule}

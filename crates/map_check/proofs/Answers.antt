@@ -30,8 +30,7 @@ use Rattle.map_rules.specs.Spaces.{map_bytes, map_at, recorded_at}
 use Rattle.map_rules.proofs.Rooms.{Room, room_is}
 use Rattle.map_build.specs.Building.{mapped, MapInGiven}
 use Rattle.seam_theory.proofs.Choosing.{seam_chooses}
-use Rattle.map_build.proofs.Spaces.{there_of_size}
-use Rattle.map_build.proofs.Steps.{take-map, drop-map}
+use Rattle.map_build.proofs.Mapped.{there_of_size, take-map, drop-map}
 use Rattle.map_check.specs.Checking.{recorded_in, recorded_rules}
 use Rattle.map_check.specs.Inner.Judging.{JudgeNeeded, beside_built}
 use Rattle.pictures.proofs.TwoBytes.{numbers-pairs, length-numbers}
@@ -60,7 +59,7 @@ module _ {z : Size} (how : Method) {depth : ℕ} (space : List ℕ) (needed : Ju
   numbers-long = omega (arith, length-numbers recorded, recorded-long)
 
   p_of : OfSize z p
-  p_of = there_of_size z space room.long
+  p_of = there_of_size z space (omega (arith, room.long))
 
   grid-m : Grid z.width z.height m
   grid-m = grid-rows_of z.width z.height (numbers_in recorded) (omega (arith, numbers-long))

@@ -1,30 +1,19 @@
 -- `map_build::cut_seams` meets its contract: the work and the map stand apart, and what is left of the picture ends within the work.
 use mathlib.Core.Path.{◌≡◌, ap, ◌∙◌}
-use Prim.Native.Nat.{ℕ, ◌-◌, ◌*◌, ◌≤◌}
-use native.Mathlib.Nat.{mul-le-mul_left, mul-le-mul_right}
-use native.Mathlib.Omega.{arith}
+use Prim.Native.Nat.{◌-◌, ◌*◌, ◌≤◌}
 use lib.ListN.{length, take, drop}
-use Rattle.pictures.specs.declared.sizes.Size.{Size}
-use Rattle.pictures.specs.Pictures.{pixel_bytes, picture_bytes}
-use Rattle.pictures.proofs.Limits.{bytes-few}
 use Rattle.map_rules.specs.Spaces.{map_at, map_bytes}
-use Rattle.map_build.proofs.Mapped.{mapped_is}
+use Rattle.map_build.proofs.Mapped.{left_within, mapped_is}
 use Rattle.map_build.proofs.cut_seams.Goals as goal
 use Rattle.map_build.proofs.cut_seams.Goals.{After-carve}
 use Rattle.std.proofs.Common.{rules}
-
--- what is left ends within the work
-within : (z : Size) (depth : ℕ) → z.height * ((z.width - depth) * pixel_bytes z.kind) ≤ map_at z
-within z depth =
-    let less : z.height * ((z.width - depth) * pixel_bytes z.kind) ≤ picture_bytes z = mul-le-mul_left z.height (mul-le-mul_right (pixel_bytes z.kind) (omega arith)) in
-    omega (arith, less, bytes-few z)
 
 -- the work is as long as all that stands before the maps
 long : (c : After-carve) → length c.carve.new.work ≡ map_at c.args.allowed.size
 long c = c.carve.auto.work ∙ c.split_at_mut-work.ensures.front_len ∙ c.map_at.ensures
 
 inside : (c : After-carve) → c.args.allowed.size.height * ((c.args.allowed.size.width - c.args.depth) * c.pixel_bytes.result) ≤ length c.carve.new.work
-inside c = rw (c.pixel_bytes.ensures, long c) (within c.args.allowed.size c.args.depth)
+inside c = rw (c.pixel_bytes.ensures, long c) (left_within c.args.allowed.size c.args.depth)
 
 pub slice_bounds-clear-count : goal.slice_bounds-clear-count
 slice_bounds-clear-count c = inside (goal.at.slice_bounds-clear-count c).After-carve

@@ -1,20 +1,19 @@
 -- `map_build::carving::carve` meets its contract: the planes before the first seam, one seam more, and the picture packed.
 use mathlib.Core.Path.{◌≡◌, refl, sym, ap, ◌∙◌}
-use mathlib.Core.List.{List, ◌++◌}
+use mathlib.Core.List.{◌++◌}
 use Prim.Native.Nat.{ℕ, ◌-◌, ◌*◌, ◌≤◌}
 use native.Mathlib.Omega.{arith}
 use lib.ListN.{length, take, replicate}
-use lib.Seq.{length-take-le, take-append-le}
+use lib.Seq.{take-append-le}
 use native.Mathlib.Nat.{mul-le-mul_left, mul-le-mul_right}
-use Rattle.pictures.specs.declared.sizes.Size.{Size}
 use Rattle.pictures.specs.Numbers.{pairs}
 use Rattle.grids.specs.Rows.{flat}
-use Rattle.pictures.specs.Pictures.{pixel_bytes, bytes, picture, picture_bytes, picture_in, pixels, OfSize}
+use Rattle.pictures.specs.Pictures.{pixel_bytes, bytes, picture, picture_bytes, picture_in, pixels}
 use Rattle.seam_keep.specs.Keeping.{FillAsked}
-use Rattle.pictures.proofs.Buffers.{picture-of_size}
 use Rattle.pictures.proofs.Limits.{bytes-few}
-use Rattle.map_rules.specs.Spaces.{map_bytes, map_at}
+use Rattle.map_rules.specs.Spaces.{map_bytes}
 use Rattle.map_build.specs.Inner.Carving.{PlanesSized}
+use Rattle.map_build.proofs.Mapped.{there_of_size}
 use Rattle.map_build.proofs.Carved.{carved_start, carved_turn, map_is}
 use Rattle.map_build.proofs.carving.carve.Goals as goal
 use Rattle.map_build.proofs.carving.carve.Goals.{After-split_at_mut-columns}
@@ -78,10 +77,6 @@ loop-t-init c =
           (c.clear.ensures ∙ ap (λ k. replicate k 0) (sym c.clear.auto.space))),
     )
 
--- the picture that stands at the front is of its size
-there_of_size : (z : Size) (work : List ℕ) → length work ≡ map_at z → OfSize z (picture_in z work)
-there_of_size z work e = picture-of_size z (take (picture_bytes z) work) (length-take-le (picture_bytes z) work (omega (arith, e, bytes-few z)))
-
 pub loop-t-preserved : goal.loop-t-preserved
 loop-t-preserved c =
     let a = c.args in
@@ -90,7 +85,7 @@ loop-t-preserved c =
     let z = a.allowed.size in (
       omega (arith, l.invariant.0, n.auto.sums),
       λ i. omega (arith, c.type_inv.map i),
-      carved_turn z a.method (picture_in z a.work.now) (there_of_size z a.work.now c.requires.room) l.t _ l.picture l.up l.left l.right l.columns l.map n.new.picture n.new.up n.new.left n.new.right n.new.columns n.new.map
+      carved_turn z a.method (picture_in z a.work.now) (there_of_size z a.work.now (omega (arith, c.requires.room))) l.t _ l.picture l.up l.left l.right l.columns l.map n.new.picture n.new.up n.new.left n.new.right n.new.columns n.new.map
           (omega (arith, c.loop-t-test.true, c.requires.deep)) refl l.invariant.2 n.ensures,
     )
 
