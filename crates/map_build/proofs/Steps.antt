@@ -30,7 +30,7 @@ use Rattle.seam_planes.proofs.Fronts.{fronts_grid, fronts_each, fronts_at}
 use Rattle.seam_keep.specs.Keeping.{cost_grid, KeepAsked}
 use Rattle.seam_keep.proofs.Anew.{kept_right}
 use Rattle.seam_keep.proofs.Fronts.{grid_fronts}
-use Rattle.seam_find_kept.specs.Finding.{kept_costs, FindAsked}
+use Rattle.seam_find_kept.specs.Finding.{costs_in, FindAsked}
 use Rattle.seam_find_kept.proofs.Kept.{seam-by-planes}
 use Rattle.pictures.proofs.Samples.{AreBytes}
 use Rattle.seam_find.specs.ByCosts.{path_columns}
@@ -87,11 +87,11 @@ module _ (z : Size) (how : Method) (w number : ℕ) (plane up left right columns
     seam_room = omega (arith, l);
   }
 
-  path-is : AreBytes up → path_columns fence32 w h (kept_costs how.energy z w up left right) ≡ s
+  path-is : AreBytes up → path_columns fence32 w h (costs_in how.energy z w up left right) ≡ s
   unfolding cost_grid
   path-is bytes = seam-by-planes how z w q up left right n.sized.sides (omega (arith, n.more)) n.within bytes n.held.up_costs n.held.left_costs n.held.right_costs
 
-  pub seam_is : (seam space : List ℕ) → AreBytes up → length space ≡ h → seam ≡ path_columns fence32 w h (kept_costs how.energy z w up left right) ++ drop h space → seam ≡ s
+  pub seam_is : (seam space : List ℕ) → AreBytes up → length space ≡ h → seam ≡ path_columns fence32 w h (costs_in how.energy z w up left right) ++ drop h space → seam ≡ s
   seam_is seam space bytes l e = e ∙ ap₂ ◌++◌ (path-is bytes) (drop_of_length-le space (omega (arith, l))) ∙ append-nil s
 
   -- Where its number goes.

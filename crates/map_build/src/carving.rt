@@ -10,7 +10,7 @@ ghost use Rattle.seam_keep.specs.Keeping.{KeepAsked};
 use crate::numbering::number_rows;
 use energy::{Method, Side};
 use pictures::{AllowedSize, LARGEST_SIDE, Size};
-use seam_find_kept::KeptCosts;
+use seam_find_kept::CostPlanes;
 
 // Cuts `depth` seams of the picture at the front of the work space, and gives its map. In the space stand, one after the other, as long as
 // seams are cut: the picture, its costs in three planes, the columns in which its pixels stood at first, and the sums of the seam that is
@@ -89,7 +89,7 @@ fn next_seam(
 {
     let mut space = [0u16; LARGEST_SIDE];
     let seam = &mut space[..size.height];
-    let costs = KeptCosts { up, left, right };
+    let costs = CostPlanes { up, left, right };
     seam_find_kept::find_kept(costs, size, width, method, sums, seam);
     number_rows(map, columns, size.width, seam, number);
     seam_planes::close_numbers(columns, size.width, width, seam);

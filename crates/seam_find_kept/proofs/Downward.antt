@@ -17,7 +17,8 @@ use Rattle.seam_theory.specs.Sums.{CostRows, fenced, sum_of3, sums_down, least_t
 use Rattle.seam_sums.specs.Fences.{fence32}
 use Rattle.seam_find.specs.ByCosts.{bottom_column}
 use Rattle.seam_find_kept.specs.Inner.Words.{words_in}
-use Rattle.seam_find_kept.specs.Inner.Down.{row_bytes, fenced_sums, RowsAbove}
+use Rattle.seam_find_kept.specs.Finding.{sums_bytes}
+use Rattle.seam_find_kept.specs.Inner.Down.{fenced_sums, RowsAbove}
 use Rattle.seam_find_kept.proofs.KeptRows.{Cheap}
 use Rattle.seam_find_kept.proofs.Small.{sums-long}
 use Rattle.seam_find_kept.proofs.Stored.{row-front, row-last, row-made, row-after}
@@ -42,32 +43,32 @@ front_sums : (k : ℕ → CostRows) (w : ℕ) → (k 0).up ≡ sums_down false f
 unfolding sums_down
 front_sums k w = refl
 
-pub row-first : (k : ℕ → CostRows) (z : Size) (w : ℕ) (sums : List ℕ) → 0 < z.height → z.height * row_bytes w ≤ length sums
-    → words_in (take (row_bytes w) sums) ≡ fenced false fence32 w (k 0).up → RowsAbove k z w 1 sums
+pub row-first : (k : ℕ → CostRows) (z : Size) (w : ℕ) (sums : List ℕ) → 0 < z.height → z.height * sums_bytes w ≤ length sums
+    → words_in (take (sums_bytes w) sums) ≡ fenced false fence32 w (k 0).up → RowsAbove k z w 1 sums
 row-first k z w sums some room is = record {
   later = omega arith;
   within = some;
   room = room;
   rows = λ r h.
       let top : r ≡ 0 = omega arith in
-      rw (top, zero-mul (row_bytes w)) (is ∙ ap (fenced false fence32 w) (front_sums k w));
+      rw (top, zero-mul (sums_bytes w)) (is ∙ ap (fenced false fence32 w) (front_sums k w));
 }
 
 -- Row i made after the rows above it.
 module _ (k : ℕ → CostRows) (z : Size) (w i : ℕ) (above left next right : List ℕ) (inside : i < z.height)
-    (above-long : length above ≡ i * row_bytes w) (left-long : length left ≡ 4) (next-long : length next ≡ 4 * w)
-    (room : z.height * row_bytes w ≤ length (above ++ (left ++ (next ++ right))))
-    (before : (r : ℕ) → r < i → words_in (row_at (row_bytes w) r above) ≡ fenced_sums k w r)
+    (above-long : length above ≡ i * sums_bytes w) (left-long : length left ≡ 4) (next-long : length next ≡ 4 * w)
+    (room : z.height * sums_bytes w ≤ length (above ++ (left ++ (next ++ right))))
+    (before : (r : ℕ) → r < i → words_in (row_at (sums_bytes w) r above) ≡ fenced_sums k w r)
     (right-room : 4 ≤ length right) (left-is : get_or (words_in left) 0 0 ≡ fence32) (next-is : words_in next ≡ sums_down false fence32 w k i) (right-is : get_or (words_in right) 0 0 ≡ fence32) where
   abbrev all : List ℕ
   all = above ++ (left ++ (next ++ right))
 
-  rows : (r : ℕ) → r < i + 1 → words_in (row_at (row_bytes w) r all) ≡ fenced_sums k w r
+  rows : (r : ℕ) → r < i + 1 → words_in (row_at (sums_bytes w) r all) ≡ fenced_sums k w r
   rows r h =
       ⊎_elim
-      (λ (e : r ≡ i). rw e (ap words_in (row-after (row_bytes w) i above (left ++ (next ++ right)) above-long)
+      (λ (e : r ≡ i). rw e (ap words_in (row-after (sums_bytes w) i above (left ++ (next ++ right)) above-long)
       ∙ row-made fence32 w left next right (sums_down false fence32 w k i) left-long next-long right-room left-is next-is right-is))
-      (λ (l : r < i). ap words_in (row_at-before (row_bytes w) r above (left ++ (next ++ right)) (omega (arith, above-long, part_end r i (row_bytes w) l))) ∙ before r l)
+      (λ (l : r < i). ap words_in (row_at-before (sums_bytes w) r above (left ++ (next ++ right)) (omega (arith, above-long, part_end r i (sums_bytes w) l))) ∙ before r l)
       (eq-or-lt_of_le (omega arith))
 
   pub one-more : RowsAbove k z w (i + 1) (above ++ (left ++ (next ++ right)))
@@ -80,42 +81,42 @@ module _ (k : ℕ → CostRows) (z : Size) (w i : ℕ) (above left next right : 
 
 -- The rows above row i, where they stand in front of it.
 pub record Front (k : ℕ → CostRows) (w i : ℕ) (above : List ℕ) : Type 0 where
-  pub long : length above ≡ i * row_bytes w
-  pub rows : (r : ℕ) → r < i → words_in (row_at (row_bytes w) r above) ≡ fenced_sums k w r
-  pub last_long : length (take (length above - (i - 1) * row_bytes w) (drop ((i - 1) * row_bytes w) above)) ≡ row_bytes w
-  pub last_is : words_in (take (length above - (i - 1) * row_bytes w) (drop ((i - 1) * row_bytes w) above)) ≡ fenced_sums k w (i - 1)
+  pub long : length above ≡ i * sums_bytes w
+  pub rows : (r : ℕ) → r < i → words_in (row_at (sums_bytes w) r above) ≡ fenced_sums k w r
+  pub last_long : length (take (length above - (i - 1) * sums_bytes w) (drop ((i - 1) * sums_bytes w) above)) ≡ sums_bytes w
+  pub last_is : words_in (take (length above - (i - 1) * sums_bytes w) (drop ((i - 1) * sums_bytes w) above)) ≡ fenced_sums k w (i - 1)
 
-module _ {k : ℕ → CostRows} {z : Size} {w i : ℕ} {sums : List ℕ} (n : RowsAbove k z w i sums) (above : List ℕ) (is : above ≡ take (i * row_bytes w) sums) where
-  fits : i * row_bytes w ≤ length sums
-  fits = omega (arith, n.room, mul-le-mul_right (row_bytes w) n.within)
+module _ {k : ℕ → CostRows} {z : Size} {w i : ℕ} {sums : List ℕ} (n : RowsAbove k z w i sums) (above : List ℕ) (is : above ≡ take (i * sums_bytes w) sums) where
+  fits : i * sums_bytes w ≤ length sums
+  fits = omega (arith, n.room, mul-le-mul_right (sums_bytes w) n.within)
 
-  above-long : length above ≡ i * row_bytes w
-  above-long = ap length is ∙ length-take-le (i * row_bytes w) sums fits
+  above-long : length above ≡ i * sums_bytes w
+  above-long = ap length is ∙ length-take-le (i * sums_bytes w) sums fits
 
-  above-rows : (r : ℕ) → r < i → words_in (row_at (row_bytes w) r above) ≡ fenced_sums k w r
-  above-rows r h = ap (λ b. words_in (row_at (row_bytes w) r b)) is ∙ ap words_in (row-front (row_bytes w) i r sums fits h) ∙ n.rows r h
+  above-rows : (r : ℕ) → r < i → words_in (row_at (sums_bytes w) r above) ≡ fenced_sums k w r
+  above-rows r h = ap (λ b. words_in (row_at (sums_bytes w) r b)) is ∙ ap words_in (row-front (sums_bytes w) i r sums fits h) ∙ n.rows r h
 
-  one-less : i * row_bytes w ≡ (i - 1) * row_bytes w + row_bytes w
-  one-less = let later : i ≡ suc (i - 1) = omega (arith, n.later) in ap (λ m. m * row_bytes w) later ∙ suc-mul (i - 1) (row_bytes w)
+  one-less : i * sums_bytes w ≡ (i - 1) * sums_bytes w + sums_bytes w
+  one-less = let later : i ≡ suc (i - 1) = omega (arith, n.later) in ap (λ m. m * sums_bytes w) later ∙ suc-mul (i - 1) (sums_bytes w)
 
-  last_row : take (length above - (i - 1) * row_bytes w) (drop ((i - 1) * row_bytes w) above) ≡ row_at (row_bytes w) (i - 1) above
-  last_row = last_part ((i - 1) * row_bytes w) above ∙ row-last (row_bytes w) (i - 1) above (above-long ∙ one-less)
+  last_row : take (length above - (i - 1) * sums_bytes w) (drop ((i - 1) * sums_bytes w) above) ≡ row_at (sums_bytes w) (i - 1) above
+  last_row = last_part ((i - 1) * sums_bytes w) above ∙ row-last (sums_bytes w) (i - 1) above (above-long ∙ one-less)
 
   pub rows-front : Front k w i above
   rows-front = record {
     long = above-long;
     rows = above-rows;
-    last_long = ap length last_row ∙ length-row_at (row_bytes w) i above (i - 1) (omega (arith, above-long)) (omega (arith, n.later));
+    last_long = ap length last_row ∙ length-row_at (sums_bytes w) i above (i - 1) (omega (arith, above-long)) (omega (arith, n.later));
     last_is = ap words_in last_row ∙ above-rows (i - 1) (omega (arith, n.later));
   }
 
 -- The first of the least sums of the last row, read between its fences.
-pub last-column : (k : ℕ → CostRows) (z : Size) (w column : ℕ) (sums : List ℕ) → Cheap k w → ((r : ℕ) → r < z.height → words_in (row_at (row_bytes w) r sums) ≡ fenced_sums k w r) → 0 < z.height
-    → column ≡ least_to (take w (drop 1 (words_in (take ((z.height - 1) * row_bytes w + row_bytes w - (z.height - 1) * row_bytes w) (drop ((z.height - 1) * row_bytes w) sums))))) (w - 1)
+pub last-column : (k : ℕ → CostRows) (z : Size) (w column : ℕ) (sums : List ℕ) → Cheap k w → ((r : ℕ) → r < z.height → words_in (row_at (sums_bytes w) r sums) ≡ fenced_sums k w r) → 0 < z.height
+    → column ≡ least_to (take w (drop 1 (words_in (take ((z.height - 1) * sums_bytes w + sums_bytes w - (z.height - 1) * sums_bytes w) (drop ((z.height - 1) * sums_bytes w) sums))))) (w - 1)
     → column ≡ bottom_column fence32 w z.height k
 last-column k z w column sums cheap rows some is =
-    let at = (z.height - 1) * row_bytes w in
-    let row = ap (λ m. words_in (take m (drop at sums))) (add-sub_cancel_left at (row_bytes w)) ∙ rows (z.height - 1) (omega (arith, some)) in
+    let at = (z.height - 1) * sums_bytes w in
+    let row = ap (λ m. words_in (take m (drop at sums))) (add-sub_cancel_left at (sums_bytes w)) ∙ rows (z.height - 1) (omega (arith, some)) in
     is
     ∙ ap (λ x. least_to (take w (drop 1 x)) (w - 1)) row
     ∙ ap (λ x. least_to x (w - 1)) (take_at (sums_down false fence32 w k (z.height - 1)) (fence32 ∷ []) w (sums-long k w cheap (z.height - 1)))

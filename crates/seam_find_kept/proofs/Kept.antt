@@ -1,4 +1,5 @@
--- What is found by costs that are kept is the seam of the picture whose costs they are. Of the costs only those of the picture's rows count.
+-- What is found by costs that are kept is the seam of the picture whose costs they are. Of the costs only those of the picture's rows
+-- count.
 use mathlib.Core.Path.{◌≡◌, refl, sym, ap, ap₂, ◌∙◌}
 use mathlib.Core.Bool.{Bool, true, false, cond, true≢false}
 use mathlib.Core.Logic.{⊎_elim}
@@ -33,13 +34,13 @@ use Rattle.seam_theory.proofs.Sums.{Costed, FoundPath, found}
 use Rattle.seam_sums.specs.Fences.{fence32}
 use Rattle.seam_planes.specs.Planes.{fronts, numbers_of}
 use Rattle.seam_find.specs.ByCosts.{path_columns}
-use Rattle.seam_find_kept.specs.Finding.{kept_costs}
+use Rattle.seam_find_kept.specs.Finding.{costs_in}
 use Rattle.seam_find_kept.proofs.PlaneRows.{row_of, row-small}
 use Rattle.seam_find_kept.proofs.KeptRows.{kept_by-one, kept_by-steps, kept_up}
 
 -- Two families of costs that are alike in the first h rows.
 module _ (fence w h : ℕ) (a b : ℕ → CostRows) (same : (i : ℕ) → i < h → a i ≡ b i) where
-  pub sums-same : (i : ℕ) → i < h → sums_down false fence w a i ≡ sums_down false fence w b i
+  sums-same : (i : ℕ) → i < h → sums_down false fence w a i ≡ sums_down false fence w b i
   unfolding sums_down
   sums-same zero l = ap (λ k. k.up) (same 0 l)
   sums-same (suc i) l = ap₂ (λ s k. table (sum_of3 (fenced false fence w s) k) w) (sums-same i (omega arith)) (same (suc i) l)
@@ -49,7 +50,7 @@ module _ (fence w h : ℕ) (a b : ℕ → CostRows) (same : (i : ℕ) → i < h 
   ways-same i l = ap₂ (λ s k. table (way_of3 false w (fenced false fence w s) k) w) (sums-same i (omega arith)) (same (suc i) (omega arith))
 
   -- have the same cheapest path.
-  pub path-same : 0 < h → path_columns fence w h a ≡ path_columns fence w h b
+  path-same : 0 < h → path_columns fence w h a ≡ path_columns fence w h b
   path-same some =
       ap₂ (λ ways s. columns_to (flat ways) w (h - 1) (least_to s (w - 1)))
       (table_same (ways_up false fence w a) (ways_up false fence w b) (h - 1) ways-same)
@@ -119,13 +120,13 @@ module _ (how : Method) (z : Size) (w : ℕ) (q : Picture) (up left right : List
       (up-holds : fronts w (numbers_of z.width z.height up) ≡ table (λ r. table (λ c. (costs_at how w z.height q r c).up) w) z.height)
       (left-holds : one_cost how.energy ≡ false → fronts w (numbers_of z.width z.height left) ≡ table (λ r. table (λ c. (costs_at how w z.height q r c).left) w) z.height)
       (right-holds : one_cost how.energy ≡ false → fronts w (numbers_of z.width z.height right) ≡ table (λ r. table (λ c. (costs_at how w z.height q r c).right) w) z.height) where
-    held : (i : ℕ) → i < z.height → kept_costs how.energy z w up left right i ≡ cost_rows w (costs_at how w z.height q i)
+    held : (i : ℕ) → i < z.height → costs_in how.energy z w up left right i ≡ cost_rows w (costs_at how w z.height q i)
     held i l = go (one_cost how.energy) refl
       where
         up-row : row_of z w i up ≡ table (λ c. (costs_at how w z.height q i c).up) w
         up-row = row-held (λ k. k.up) up up-holds i l
 
-        go : (b : Bool) → one_cost how.energy ≡ b → kept_costs how.energy z w up left right i ≡ cost_rows w (costs_at how w z.height q i)
+        go : (b : Bool) → one_cost how.energy ≡ b → costs_in how.energy z w up left right i ≡ cost_rows w (costs_at how w z.height q i)
         go true e =
             kept_by-one how.energy z w up left right i e ∙ ap alike_rows up-row ∙ sym (rows_alike how e w z.height q i)
         go false e =
@@ -133,10 +134,10 @@ module _ (how : Method) (z : Size) (w : ℕ) (q : Picture) (up left right : List
             let r-row = row-held (λ k. k.right) right (right-holds e) i l in
             kept_by-steps how.energy z w up left right i e ∙ (λ j. record { left = l-row j; up = up-row j; right = r-row j })
 
-    few : (i c : ℕ) → i < z.height → get_or (kept_costs how.energy z w up left right i).up c 0 ≤ most_energy
+    few : (i c : ℕ) → i < z.height → get_or (costs_in how.energy z w up left right i).up c 0 ≤ most_energy
     few i c l = omega (arith, ap (λ r. get_or r c 0) (kept_up how.energy z w up left right i), row-small z w i up narrow bytes c)
 
-    pub seam-by-planes : path_columns fence32 w z.height (kept_costs how.energy z w up left right) ≡ seam_of how w z.height q
+    pub seam-by-planes : path_columns fence32 w z.height (costs_in how.energy z w up left right) ≡ seam_of how w z.height q
     seam-by-planes =
         let s = sides_are z sides in
-        seam-kept how w z.height q (kept_costs how.energy z w up left right) some s.height_some s.height_small held few
+        seam-kept how w z.height q (costs_in how.energy z w up left right) some s.height_some s.height_small held few

@@ -15,7 +15,8 @@ use Rattle.pictures.specs.Numbers.{numbers_in, largest_number}
 use Rattle.pictures.specs.Pictures.{pixels}
 use mathlib.Core.Bool.{Bool}
 use Rattle.pictures.proofs.Limits.{sides_are}
-use Rattle.seam_find_kept.specs.Inner.Down.{row_bytes, PlanesNeeded, SpaceNeeded}
+use Rattle.seam_find_kept.specs.Finding.{sums_bytes}
+use Rattle.seam_find_kept.specs.Inner.Down.{PlanesNeeded, SpaceNeeded}
 use Rattle.pictures.proofs.Samples.{AreBytes, take_bytes, drop_bytes}
 use Rattle.seam_planes.specs.Planes.{fronts, numbers_of}
 use Rattle.seam_planes.proofs.Fronts.{fronts_at}
@@ -29,15 +30,15 @@ bytes_at z w i plane = take (2 * w) (drop (i * (2 * z.width)) plane)
 abbrev pub row_of : Size → ℕ → ℕ → List ℕ → List ℕ
 row_of z w i plane = get_or (fronts w (numbers_of z.width z.height plane)) i []
 
-pub row-bytes : (z : Size) (w i : ℕ) (plane : List ℕ) → w ≤ z.width → i < z.height → row_of z w i plane ≡ numbers_in (bytes_at z w i plane)
-row-bytes z w i plane narrow inside = sym (numbers_front z.width z.height w plane i narrow inside)
+pub row_is : (z : Size) (w i : ℕ) (plane : List ℕ) → w ≤ z.width → i < z.height → row_of z w i plane ≡ numbers_in (bytes_at z w i plane)
+row_is z w i plane narrow inside = sym (numbers_front z.width z.height w plane i narrow inside)
 
 -- No number of two bytes is larger.
-pub numbers-small : (b : List ℕ) → AreBytes b → (i : ℕ) → get_or (numbers_in b) i 0 ≤ largest_number
-numbers-small [] h i = omega arith
-numbers-small (a ∷ []) h i = omega arith
-numbers-small (a ∷ b ∷ r) h zero = omega (arith, h 0, h 1)
-numbers-small (a ∷ b ∷ r) h (suc i) = numbers-small r (λ j. h (suc (suc j))) i
+number-most : (b : List ℕ) → AreBytes b → (i : ℕ) → get_or (numbers_in b) i 0 ≤ largest_number
+number-most [] h i = omega arith
+number-most (a ∷ []) h i = omega arith
+number-most (a ∷ b ∷ r) h zero = omega (arith, h 0, h 1)
+number-most (a ∷ b ∷ r) h (suc i) = number-most r (λ j. h (suc (suc j))) i
 
 -- Past the last row there is nothing.
 row-past : (z : Size) (w i : ℕ) (plane : List ℕ) → z.height ≤ i → row_of z w i plane ≡ []
@@ -49,11 +50,11 @@ pub row-small : (z : Size) (w i : ℕ) (plane : List ℕ) → w ≤ z.width → 
 row-small z w i plane narrow bytes c =
     ⊎_elim
     (λ (h : z.height ≤ i). rw (row-past z w i plane h) (omega arith))
-    (λ (h : i < z.height). rw (row-bytes z w i plane narrow h) (numbers-small (bytes_at z w i plane) (take_bytes (2 * w) (drop (i * (2 * z.width)) plane) (drop_bytes (i * (2 * z.width)) plane bytes)) c))
+    (λ (h : i < z.height). rw (row_is z w i plane narrow h) (number-most (bytes_at z w i plane) (take_bytes (2 * w) (drop (i * (2 * z.width)) plane) (drop_bytes (i * (2 * z.width)) plane bytes)) c))
     (le-or-lt z.height i)
 
 -- Row i ends within a plane that is long enough,
-pub row-end : (z : Size) (w i plane : ℕ) → w ≤ z.width → i < z.height → plane ≡ 2 * pixels z → i * (2 * z.width) + 2 * w ≤ plane
+row-end : (z : Size) (w i plane : ℕ) → w ≤ z.width → i < z.height → plane ≡ 2 * pixels z → i * (2 * z.width) + 2 * w ≤ plane
 row-end z w i plane narrow inside long = omega (arith, part_end i z.height z.width inside)
 
 -- and so has its bytes.
@@ -84,5 +85,5 @@ module _ {one : Bool} {z : Size} {w : ℕ} {up : List ℕ} {left right : ℕ} (n
   pub costs_end : 2 * w ≤ length up
   costs_end = omega (arith, row-end z w 0 (length up) n.within (sides_are z n.sides).height_some n.up_long)
 
-  pub sums_end : {sums : ℕ} → SpaceNeeded z w sums → row_bytes w ≤ sums
-  sums_end space = omega (arith, space.room, part_end 0 z.height (row_bytes w) (sides_are z n.sides).height_some)
+  pub sums_end : {sums : ℕ} → SpaceNeeded z w sums → sums_bytes w ≤ sums
+  sums_end space = omega (arith, space.room, part_end 0 z.height (sums_bytes w) (sides_are z n.sides).height_some)

@@ -9,8 +9,8 @@ use lib.Seq.{drop_at, take_all, length-take-le, take-append-add}
 use Rattle.grids.specs.Rows.{row_at}
 use Rattle.grids.proofs.Rows.{row_at-before, part_end}
 use Rattle.seam_theory.specs.Sums.{fenced}
+use Rattle.seam_find_kept.specs.Finding.{sums_bytes}
 use Rattle.seam_find_kept.specs.Inner.Words.{words_in}
-use Rattle.seam_find_kept.specs.Inner.Down.{row_bytes}
 use Rattle.seam_find_kept.proofs.FourBytes.{length-words, words-take, words_append}
 
 -- The first i rows have the rows that they had.
@@ -56,7 +56,7 @@ module _ (fence w : ℕ) (left next right s : List ℕ) (left-long : length left
       let two : w + 2 ≡ suc (w + 1) = omega arith in
       rw two (ap (fence ∷◌) (ap (λ n. take (n + 1) (s ++ t)) (sym sums-long) ∙ take-append-add s t 1))
 
-  pub row-made : words_in (take (row_bytes w) (left ++ (next ++ right))) ≡ fenced false fence w s
+  pub row-made : words_in (take (sums_bytes w) (left ++ (next ++ right))) ≡ fenced false fence w s
   row-made =
       words-take (w + 2) (left ++ (next ++ right))
       ∙ ap (take (w + 2)) words

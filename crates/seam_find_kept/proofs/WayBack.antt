@@ -3,18 +3,14 @@ use mathlib.Core.Path.{◌≡◌, refl, sym, ap, ap₂, ◌∙◌, subst}
 use mathlib.Core.Bool.{false}
 use mathlib.Core.Logic.{◌⊎◌, inl, inr, ⊎_elim}
 use mathlib.Core.List.{List, []}
-use Prim.Native.Nat.{ℕ, suc, ◌+◌, ◌-◌, ◌*◌, ◌≤◌, ◌<◌, min}
+use Prim.Native.Nat.{ℕ, suc, ◌+◌, ◌-◌, ◌≤◌, ◌<◌, min}
 use native.Mathlib.Omega.{arith}
 use native.Mathlib.Numerals.{add-one}
 use lib.ListN.{length, get_or}
 use lib.Seq.{get_or_at}
 use borrow.Author.Tests.{le-leb, lt-leb}
-use Rattle.grids.specs.Each.{Grid}
-use Rattle.grids.specs.Table.{table}
-use Rattle.grids.specs.Rows.{flat}
 use Rattle.grids.proofs.Orders.{le-or-lt}
-use Rattle.grids.proofs.Tables.{length-table, table_at, each-table}
-use Rattle.grids.proofs.Rows.{flat_at, row_at_get_d}
+use Rattle.grids.proofs.Tables.{table_at}
 use Rattle.seam_theory.specs.Sums.{CostRows, fenced, first_of3, left_sum, up_sum, right_sum, way_of3, came_from, sums_down, ways_up}
 use Rattle.seam_theory.proofs.Bounded.{fenced_at}
 use Rattle.seam_theory.proofs.Ways.{way_plain, came_inner}
@@ -86,20 +82,6 @@ module _ (fence w : ℕ) (s : List ℕ) (k : CostRows) (long : length s ≡ w) (
 
   pub way-leads : c + way - 1 ≡ came_from w c way
   way-leads = sym (came_inner w c way way-within.later way-within.before)
-
-ways-wide : (fence w : ℕ) (costs : ℕ → CostRows) (j : ℕ) → length (ways_up false fence w costs j) ≡ w
-unfolding ways_up
-ways-wide fence w costs j = length-table (way_of3 false w (fenced false fence w (sums_down false fence w costs j)) (costs (suc j))) w
-
--- The way of a column, from all ways one after the other.
-pub ways-at : (fence w n : ℕ) (costs : ℕ → CostRows) (i c : ℕ) → i < n → c < w
-    → get_or (flat (table (ways_up false fence w costs) n)) (i * w + c) 0 ≡ get_or (ways_up false fence w costs i) c 0
-ways-at fence w n costs i c h l =
-    sym (row_at_get_d w (flat (table (ways_up false fence w costs) n)) i c 0 l)
-    ∙ ap (λ x. get_or x c 0) (flat_at grid i h ∙ table_at (ways_up false fence w costs) n i [] h)
-  where
-    grid : Grid w n (table (ways_up false fence w costs) n)
-    grid = each-table (ways_up false fence w costs) n (λ j m. ways-wide fence w costs j)
 
 -- The way of column c of row i + 1.
 way_is : (fence w : ℕ) (costs : ℕ → CostRows) (i c : ℕ) → c < w

@@ -2,27 +2,30 @@
 use Rattle.std.specs.Prelude.{◌≡◌, Bool, false, cond, List, [], ℕ, ◌+◌, ◌*◌, ◌≤◌, ◌<◌, get_or}
 use Rattle.pictures.specs.declared.sizes.Size.{Size}
 use Rattle.pictures.specs.Refusals.{refusal}
-use Rattle.pictures.specs.Pictures.{side_rules, pixels}
+use Rattle.pictures.specs.Pictures.{side_rules}
 use Rattle.energy.specs.declared.methods.EnergyRule.{EnergyRule}
 use Rattle.energy.specs.Energy.{one_cost}
 use Rattle.seam_theory.specs.Sums.{CostRows, alike_rows}
-use Rattle.seam_planes.specs.Planes.{fronts, numbers_of}
+use Rattle.seam_planes.specs.Planes.{fronts, numbers_of, plane_bytes}
 
--- The costs of row i, of the w columns that are left of a picture of this size at first: by a rule of one cost all stand in the first plane,
--- else those of coming from straight above, from the left and from the right in three.
-abbrev pub kept_costs : EnergyRule → Size → ℕ → List ℕ → List ℕ → List ℕ → ℕ → CostRows
-kept_costs rule z w up left right i =
+-- The costs of row i, of the w columns that are left of a picture of this size at first: by a rule of one cost all stand in the first
+-- plane, else those of coming from straight above, from the left and from the right in three.
+abbrev pub costs_in : EnergyRule → Size → ℕ → List ℕ → List ℕ → List ℕ → ℕ → CostRows
+costs_in rule z w up left right i =
     let row : List ℕ → List ℕ = λ plane. get_or (fronts w (numbers_of z.width z.height plane)) i [] in
     cond (one_cost rule) (alike_rows (row up)) (record { left = row left; up = row up; right = row right })
 
--- Planes of a picture of this size at first of which w columns are left, a space for the sums of each row, four bytes each, with one more at
--- either side, and a space for the seam.
+-- The bytes of the sums of a row of w columns: four each, with a fence at either side.
+abbrev pub sums_bytes : ℕ → ℕ
+sums_bytes w = 4 * (w + 2)
+
+-- Planes of a picture of this size at first of which w columns are left, a space for the sums of each row, and a space for the seam.
 pub record FindAsked (z : Size) (w : ℕ) (one : Bool) (up left right sums seam : ℕ) : Type 0 where
   pub sides : refusal (side_rules z) ≡ 0
   pub some : 0 < w
   pub within : w ≤ z.width
-  pub up_long : up ≡ 2 * pixels z
-  pub left_long : one ≡ false → left ≡ 2 * pixels z
-  pub right_long : one ≡ false → right ≡ 2 * pixels z
-  pub room : z.height * (4 * (w + 2)) ≤ sums
+  pub up_long : up ≡ plane_bytes z
+  pub left_long : one ≡ false → left ≡ plane_bytes z
+  pub right_long : one ≡ false → right ≡ plane_bytes z
+  pub room : z.height * sums_bytes w ≤ sums
   pub seam_room : z.height ≤ seam

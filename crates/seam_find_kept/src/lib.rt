@@ -10,25 +10,25 @@ ghost use Rattle.std.specs.Prelude.{◌≡◌, ◌++◌, ◌≤◌, ℕ, true, e
 ghost use Rattle.energy.specs.Energy.{one_cost};
 ghost use Rattle.seam_sums.specs.Fences.{fence32};
 ghost use Rattle.seam_find.specs.ByCosts.{path_columns};
-ghost use Rattle.seam_find_kept.specs.Finding.{kept_costs, FindAsked};
+ghost use Rattle.seam_find_kept.specs.Finding.{costs_in, FindAsked};
 
 use energy::Method;
 use pictures::{AllowedSize, Size};
 
-// Planes of costs, two bytes a number: of coming from straight above, from the left and from the right. Where a pixel costs the same wherever
-// a path comes from, the first has all, and the others may be empty.
+// Planes of costs, two bytes a number: of coming from straight above, from the left and from the right. Where a pixel costs the same
+// wherever a path comes from, the first has all, and the others may be empty.
 #[derive(Clone, Copy, Debug, PartialEq, Eq)]
-pub struct KeptCosts<'a> {
+pub struct CostPlanes<'a> {
     pub up: &'a [u8],
     pub left: &'a [u8],
     pub right: &'a [u8],
 }
 
-// The cheapest path through the first `width` columns of planes that were made for a picture of this size, put into the front of seam from
-// the top row. The sums of each row are kept in `sums`, so that the way back needs nothing else. Where a plane or a space isn't as long as
-// it must be, nothing is promised but the lengths.
+// Finds the cheapest path through the first `width` columns of planes that were made for a picture of this size, and puts it into the front
+// of `seam` from the top row. Sums are worked out in `sums`; what then stands there is of no account. Where a plane or a space isn't as
+// long as it must be, nothing is promised but the lengths.
 pub fn find_kept(
-    costs: KeptCosts<'_>,
+    costs: CostPlanes<'_>,
     size: Size,
     width: usize,
     method: Method,
@@ -36,7 +36,7 @@ pub fn find_kept(
     seam: &mut [u16],
 )
     ensures long { (length sums.new ≡ length sums.old) × (length seam.new ≡ length seam.old) }
-    ensures found { FindAsked size width (one_cost method.energy) (length costs.entry.up.now) (length costs.entry.left.now) (length costs.entry.right.now) (length sums.old) (length seam.old) → seam.new ≡ path_columns fence32 width size.height (kept_costs method.energy size width costs.entry.up.now costs.entry.left.now costs.entry.right.now) ++ drop size.height seam.old }
+    ensures found { FindAsked size width (one_cost method.energy) (length costs.entry.up.now) (length costs.entry.left.now) (length costs.entry.right.now) (length sums.old) (length seam.old) → seam.new ≡ path_columns fence32 width size.height (costs_in method.energy size width costs.entry.up.now costs.entry.left.now costs.entry.right.now) ++ drop size.height seam.old }
 {
     if !is_asked(costs, size, width, method, sums.len(), seam.len()) {
         return;
@@ -47,7 +47,7 @@ pub fn find_kept(
 
 // Whether planes and spaces are as long as they must be, `sums` and `seam` being those of the spaces.
 fn is_asked(
-    costs: KeptCosts<'_>,
+    costs: CostPlanes<'_>,
     size: Size,
     width: usize,
     method: Method,
@@ -72,7 +72,7 @@ fn is_asked(
         && size.height <= seam
 }
 
-// Whether a plane is as long as it must be. That bytes stand in it is known of a slice that is an argument, and not of a struct's.
+// Whether a plane is this many bytes long. The second promise holds of every plane: none of its bytes is above 255.
 fn is_plane(plane: &[u8], bytes: usize) -> bool
     ensures long { result ≡ eqb (length plane.now) bytes }
     ensures bytes { (i : ℕ) → get_or plane.now i 0 ≤ 255 }

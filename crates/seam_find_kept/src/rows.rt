@@ -3,10 +3,11 @@ ghost use Rattle.std.specs.Prelude.{◌≡◌, ◌+◌, ◌-◌, ◌*◌, ◌≤
 ghost use Rattle.grids.specs.Table.{table};
 ghost use Rattle.pictures.specs.Numbers.{numbers_in};
 ghost use Rattle.seam_theory.specs.Sums.{alike_rows, sum_of3, least_to};
+ghost use Rattle.seam_find_kept.specs.Finding.{sums_bytes};
 ghost use Rattle.seam_find_kept.specs.Inner.Rows.{FirstNeeded, ByOneNeeded, ByStepsNeeded, step_rows};
 ghost use Rattle.seam_find_kept.specs.Inner.Words.{words_in};
 
-use crate::words::{number_at, put_word, sum_at};
+use crate::words::{cost_at, put_word, sum_at};
 
 // The costs of a row: in row 0 they are the sums.
 pub(crate) fn first_row(cost: &[u8], width: usize, next: &mut [u8])
@@ -14,7 +15,7 @@ pub(crate) fn first_row(cost: &[u8], width: usize, next: &mut [u8])
     ensures { words_in next.new ≡ numbers_in cost.now }
 {
     for c in 0..width {
-        put_word(next, c, number_at(cost, c));
+        put_word(next, c, cost_at(cost, c));
     }
 }
 
@@ -29,7 +30,7 @@ pub(crate) fn row_by_one(above: &[u8], cost: &[u8], width: usize, next: &mut [u8
 {
     for c in 0..width {
         let least = sum_at(above, c).min(sum_at(above, c + 1).min(sum_at(above, c + 2)));
-        put_word(next, c, least + number_at(cost, c));
+        put_word(next, c, least + cost_at(cost, c));
     }
 }
 
@@ -47,16 +48,16 @@ pub(crate) fn row_by_steps(
     ensures { words_in next.new ≡ table (sum_of3 (words_in above.now) (step_rows from_up.now from_left.now from_right.now)) width }
 {
     for c in 0..width {
-        let left = sum_at(above, c) + number_at(from_left, c);
-        let up = sum_at(above, c + 1) + number_at(from_up, c);
-        let right = sum_at(above, c + 2) + number_at(from_right, c);
+        let left = sum_at(above, c) + cost_at(from_left, c);
+        let up = sum_at(above, c + 1) + cost_at(from_up, c);
+        let right = sum_at(above, c + 2) + cost_at(from_right, c);
         put_word(next, c, left.min(up.min(right)));
     }
 }
 
 // The first column of the least of a row's sums, which stand between fences.
 pub(crate) fn least_column(row: &[u8], width: usize) -> usize
-    requires { 4 * (width + 2) ≤ length row.now }
+    requires { sums_bytes width ≤ length row.now }
     ensures { result ≡ least_to (take width (drop 1 (words_in row.now))) (width - 1) }
 {
     let mut best = 0;

@@ -5,20 +5,20 @@ ghost use Rattle.grids.specs.Rows.{flat};
 ghost use Rattle.energy.specs.Energy.{one_cost};
 ghost use Rattle.seam_sums.specs.Fences.{fence32};
 ghost use Rattle.seam_theory.specs.Sums.{way_of3, came_from, ways_up, columns_to};
-ghost use Rattle.seam_find_kept.specs.Finding.{kept_costs};
+ghost use Rattle.seam_find_kept.specs.Finding.{costs_in};
 ghost use Rattle.seam_find_kept.specs.Inner.Down.{PlanesNeeded, RowsGiven};
 ghost use Rattle.seam_find_kept.specs.Inner.Trace.{SeamNeeded, StepNeeded, WayNeeded};
 ghost use Rattle.seam_find_kept.specs.Inner.Words.{words_in};
 
-use crate::KeptCosts;
-use crate::words::{number_at, sum_at};
+use crate::CostPlanes;
+use crate::words::{cost_at, sum_at};
 use energy::Method;
 use pictures::Size;
 use seam_sums::way;
 
 // The columns of the path to `column` of the last row, put into the front of seam from the top row.
 pub(crate) fn trace_sums(
-    costs: KeptCosts<'_>,
+    costs: CostPlanes<'_>,
     size: Size,
     width: usize,
     method: Method,
@@ -27,9 +27,9 @@ pub(crate) fn trace_sums(
     seam: &mut [u16],
 )
     requires planes { PlanesNeeded size width (one_cost method.energy) costs.up.now (length costs.left.now) (length costs.right.now) }
-    requires rows { RowsGiven (kept_costs method.energy size width costs.up.now costs.left.now costs.right.now) size width sums.now column }
+    requires rows { RowsGiven (costs_in method.energy size width costs.up.now costs.left.now costs.right.now) size width sums.now column }
     requires seam_room { SeamNeeded size width (length seam.old) (length sums.now) }
-    ensures { seam.new ≡ columns_to (flat (table (ways_up false fence32 width (kept_costs method.energy size width costs.entry.up.now costs.entry.left.now costs.entry.right.now)) (size.height - 1))) width (size.height - 1) column ++ drop size.height seam.old }
+    ensures { seam.new ≡ columns_to (flat (table (ways_up false fence32 width (costs_in method.energy size width costs.entry.up.now costs.entry.left.now costs.entry.right.now)) (size.height - 1))) width (size.height - 1) column ++ drop size.height seam.old }
 {
     let mut c = column;
     for i in (0..size.height - 1).rev() {
@@ -41,10 +41,10 @@ pub(crate) fn trace_sums(
     seam[0] = c as u16;
 }
 
-// The column of row i from which the cheapest path to column c of row i + 1 comes, where `row` has the fenced sums of row i. A fence is never
-// the least, so that no edge is passed.
+// The column of row i from which the cheapest path to column c of row i + 1 comes, where `row` has the fenced sums of row i. A fence is
+// never the least, so that no edge is passed.
 fn step_up(
-    costs: KeptCosts<'_>,
+    costs: CostPlanes<'_>,
     size: Size,
     width: usize,
     method: Method,
@@ -53,15 +53,15 @@ fn step_up(
     row: &[u8],
 ) -> usize
     requires planes { PlanesNeeded size width (one_cost method.energy) costs.up.now (length costs.left.now) (length costs.right.now) }
-    requires row { StepNeeded (kept_costs method.energy size width costs.up.now costs.left.now costs.right.now) size width i c (length row.now) (words_in row.now) }
-    ensures { result ≡ came_from width c (get_or (ways_up false fence32 width (kept_costs method.energy size width costs.entry.up.now costs.entry.left.now costs.entry.right.now) i) c 0) }
+    requires row { StepNeeded (costs_in method.energy size width costs.up.now costs.left.now costs.right.now) size width i c (length row.now) (words_in row.now) }
+    ensures { result ≡ came_from width c (get_or (ways_up false fence32 width (costs_in method.energy size width costs.entry.up.now costs.entry.left.now costs.entry.right.now) i) c 0) }
 {
     c + way_up(costs, size, width, method, i, c, row) as usize - 1
 }
 
 // Which of the three columns of row i that is, the left one, the middle one or the right one by 0, 1 or 2.
 fn way_up(
-    costs: KeptCosts<'_>,
+    costs: CostPlanes<'_>,
     size: Size,
     width: usize,
     method: Method,
@@ -71,7 +71,7 @@ fn way_up(
 ) -> u8
     requires planes { PlanesNeeded size width (one_cost method.energy) costs.up.now (length costs.left.now) (length costs.right.now) }
     requires row { WayNeeded size width i c (length row.now) (words_in row.now) }
-    ensures { result ≡ way_of3 false width (words_in row.now) (kept_costs method.energy size width costs.entry.up.now costs.entry.left.now costs.entry.right.now (i + 1)) c }
+    ensures { result ≡ way_of3 false width (words_in row.now) (costs_in method.energy size width costs.entry.up.now costs.entry.left.now costs.entry.right.now (i + 1)) c }
 {
     let left = sum_at(row, c);
     let up = sum_at(row, c + 1);
@@ -80,8 +80,8 @@ fn way_up(
         return way(left, up, right);
     }
     let at = (i + 1) * size.width + c;
-    let left = left + number_at(costs.left, at);
-    let up = up + number_at(costs.up, at);
-    let right = right + number_at(costs.right, at);
+    let left = left + cost_at(costs.left, at);
+    let up = up + cost_at(costs.up, at);
+    let right = right + cost_at(costs.right, at);
     way(left, up, right)
 }

@@ -4,7 +4,7 @@ ghost use Rattle.pictures.specs.Numbers.{numbers_in, largest_number};
 ghost use Rattle.seam_find_kept.specs.Inner.Words.{words_in};
 
 // The cost at c of a row of them.
-pub(crate) fn number_at(bytes: &[u8], c: usize) -> u32
+pub(crate) fn cost_at(bytes: &[u8], c: usize) -> u32
     requires { 2 * c + 1 < length bytes.now }
     ensures number { result ≡ get_or (numbers_in bytes.now) c 0 }
     ensures small { result ≤ largest_number }

@@ -5,7 +5,7 @@ use Rattle.grids.specs.Rows.{rows_of}
 use Rattle.pictures.specs.Limits.{most_side}
 use Rattle.pictures.specs.declared.sizes.Size.{Size}
 use Rattle.pictures.specs.Refusals.{refusal}
-use Rattle.pictures.specs.Pictures.{side_rules, picture_bytes}
+use Rattle.pictures.specs.Pictures.{side_rules, picture_bytes, pixels}
 use Rattle.pictures.specs.Numbers.{numbers_in}
 use Rattle.seam_bounds.specs.Moves.{outside}
 
@@ -16,6 +16,10 @@ fronts w p = map (take w) p
 -- The numbers of a plane of two bytes an element, h rows of m.
 abbrev pub numbers_of : ℕ → ℕ → List ℕ → List (List ℕ)
 numbers_of m h b = rows_of m h (numbers_in b)
+
+-- The bytes of a plane of numbers, one for each pixel of a picture of this size.
+abbrev pub plane_bytes : Size → ℕ
+plane_bytes z = 2 * pixels z
 
 -- A plane of numbers that is as long as its rows of m, of which w count, and a seam inside these.
 pub record NumbersSeam (m w : ℕ) (s : List ℕ) (bytes : ℕ) : Type 0 where

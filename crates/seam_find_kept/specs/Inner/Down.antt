@@ -1,12 +1,14 @@
 -- All rows of sums, from the top. What private functions ask and promise; no public promise cites it.
-use Rattle.std.specs.Prelude.{◌≡◌, Bool, false, List, ℕ, ◌+◌, ◌*◌, ◌≤◌, ◌<◌, length, get_or}
+use Rattle.std.specs.Prelude.{◌≡◌, Bool, false, List, ℕ, ◌*◌, ◌≤◌, ◌<◌, length, get_or}
 use Rattle.grids.specs.Rows.{row_at}
 use Rattle.pictures.specs.declared.sizes.Size.{Size}
 use Rattle.pictures.specs.Refusals.{refusal}
-use Rattle.pictures.specs.Pictures.{side_rules, pixels}
+use Rattle.pictures.specs.Pictures.{side_rules}
 use Rattle.seam_theory.specs.Sums.{CostRows, fenced, sums_down}
 use Rattle.seam_sums.specs.Fences.{fence32}
+use Rattle.seam_planes.specs.Planes.{plane_bytes}
 use Rattle.seam_find.specs.ByCosts.{bottom_column}
+use Rattle.seam_find_kept.specs.Finding.{sums_bytes}
 use Rattle.seam_find_kept.specs.Inner.Words.{words_in}
 
 -- Planes of a picture of this size at first of which w columns are left.
@@ -14,26 +16,24 @@ pub record PlanesNeeded (z : Size) (w : ℕ) (one : Bool) (up : List ℕ) (left 
   pub sides : refusal (side_rules z) ≡ 0
   pub some : 0 < w
   pub within : w ≤ z.width
-  pub up_long : length up ≡ 2 * pixels z
+  pub up_long : length up ≡ plane_bytes z
   pub bytes : (i : ℕ) → get_or up i 0 ≤ 255
-  pub left_long : one ≡ false → left ≡ 2 * pixels z
-  pub right_long : one ≡ false → right ≡ 2 * pixels z
+  pub left_long : one ≡ false → left ≡ plane_bytes z
+  pub right_long : one ≡ false → right ≡ plane_bytes z
 
--- The bytes of a row of w sums with its fences, and room for the rows.
-abbrev pub row_bytes : ℕ → ℕ
-row_bytes w = 4 * (w + 2)
-
+-- Room for the rows of sums.
 pub record SpaceNeeded (z : Size) (w sums : ℕ) : Type 0 where
-  pub room : z.height * row_bytes w ≤ sums
+  pub room : z.height * sums_bytes w ≤ sums
 
 -- The sums of row i between their fences, from the costs k of each row.
 abbrev pub fenced_sums : (ℕ → CostRows) → ℕ → ℕ → List ℕ
 fenced_sums k w i = fenced false fence32 w (sums_down false fence32 w k i)
 
--- Row i, which there is, is to be worked out from the bytes of the row above it with its fences, whose sums are x, none of them above the fences.
+-- Row i, which there is, is to be worked out from the bytes of the row above it with its fences, whose sums are x, none of them above
+-- the fences.
 pub record RowNeeded (z : Size) (w i above : ℕ) (x : List ℕ) (next : ℕ) : Type 0 where
   pub inside : i < z.height
-  pub long : above ≡ row_bytes w
+  pub long : above ≡ sums_bytes w
   pub small : (c : ℕ) → get_or x c 0 ≤ fence32
   pub next_long : next ≡ 4 * w
 
@@ -41,10 +41,10 @@ pub record RowNeeded (z : Size) (w i above : ℕ) (x : List ℕ) (next : ℕ) : 
 pub record RowsAbove (k : ℕ → CostRows) (z : Size) (w i : ℕ) (sums : List ℕ) : Type 0 where
   pub later : 0 < i
   pub within : i ≤ z.height
-  pub room : z.height * row_bytes w ≤ length sums
-  pub rows : (r : ℕ) → r < i → words_in (row_at (row_bytes w) r sums) ≡ fenced_sums k w r
+  pub room : z.height * sums_bytes w ≤ length sums
+  pub rows : (r : ℕ) → r < i → words_in (row_at (sums_bytes w) r sums) ≡ fenced_sums k w r
 
 -- All rows are stored, and the first of the least sums of the last row is given.
 pub record RowsGiven (k : ℕ → CostRows) (z : Size) (w : ℕ) (sums : List ℕ) (column : ℕ) : Type 0 where
-  pub rows : (r : ℕ) → r < z.height → words_in (row_at (row_bytes w) r sums) ≡ fenced_sums k w r
+  pub rows : (r : ℕ) → r < z.height → words_in (row_at (sums_bytes w) r sums) ≡ fenced_sums k w r
   pub column_is : column ≡ bottom_column fence32 w z.height k

@@ -1,4 +1,5 @@
--- `seam_find_kept::down::make_sums` meets its contract: the costs of row 0 are its sums, and once all rows are stored, the sums of the last one stand between its fences.
+-- `seam_find_kept::down::make_sums` meets its contract: the costs of row 0 are its sums, and once all rows are stored, the
+-- sums of the last one stand between its fences. The loop's invariant: the rows above row i are stored.
 use Rattle.std.proofs.Common.{◌<◌, ap, ◌∙◌, arith}
 use mathlib.Core.Bool.{false}
 use Prim.Native.Nat.{ℕ}

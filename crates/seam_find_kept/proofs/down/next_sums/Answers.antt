@@ -3,7 +3,7 @@ use Rattle.std.proofs.Common.{◌<◌, ◌-◌, ◌++◌, ◌∙◌, length-appe
 use Rattle.pictures.specs.Limits.{most_side}
 use Rattle.pictures.proofs.Limits.{sides_are}
 use Rattle.grids.proofs.Rows.{part_end}
-use Rattle.seam_find_kept.specs.Inner.Down.{row_bytes}
+use Rattle.seam_find_kept.specs.Finding.{sums_bytes}
 use Rattle.seam_find_kept.proofs.KeptRows.{kept-cheap}
 use Rattle.seam_find_kept.proofs.Small.{fenced-small}
 use Rattle.seam_find_kept.proofs.Downward.{rows-front, sums-next, one-more}
@@ -36,7 +36,7 @@ returns c =
     let left-was = c.split_at_mut-left.ensures in
     let next-was = c.split_at_mut-next.ensures in
     let there = rows-front n above above-was.front in
-    let whole = part_end a.i a.size.height (row_bytes a.width) c.requires.inside in
+    let whole = part_end a.i a.size.height (sums_bytes a.width) c.requires.inside in
     one-more _ a.size a.width a.i above left next right c.requires.inside there.long (omega (arith, c.put_fences.auto.left, left-was.front_len)) (omega (arith, c.row_sums.auto.next, next-was.front_len))
     (omega (
       arith,

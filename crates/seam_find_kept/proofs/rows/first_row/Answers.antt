@@ -1,4 +1,4 @@
--- `seam_find_kept::rows::first_row` meets its contract: a cost more is stored.
+-- `seam_find_kept::rows::first_row` meets its contract. The loop's invariant: the costs of the first c columns are stored.
 use Rattle.std.proofs.Common.{arith}
 use Rattle.grids.proofs.Tables.{stored_start, stored_turn, copied-end}
 use Rattle.pictures.specs.Numbers.{numbers_in}
@@ -13,7 +13,7 @@ loop-c-init c = stored_start _ _ _ (omega (arith, length-words c.args.next.now, 
 pub loop-c-preserved : goal.loop-c-preserved
 loop-c-preserved c =
     let l = c.loop-c in
-    rw c.put_word.ensures (stored_turn _ _ _ l.c (words_in l.next) _ 0 c.loop-c-test.true c.number_at.ensures.number l.invariant)
+    rw c.put_word.ensures (stored_turn _ _ _ l.c (words_in l.next) _ 0 c.loop-c-test.true c.cost_at.ensures.number l.invariant)
 
 pub returns : goal.returns
 returns c =

@@ -1,4 +1,5 @@
--- `seam_find_kept::rows::least_column` meets its contract: one column more, less than the least so far or not.
+-- `seam_find_kept::rows::least_column` meets its contract: one column more, less than the least so far or not. The loop's
+-- invariant: best is the first of the least before column c.
 use Rattle.std.proofs.Common.{◌≡◌, ◌-◌, get_or, sym, ap, ◌∙◌, arith}
 use lib.ListN.{take, drop}
 use Rattle.seam_theory.specs.Sums.{least_to}

@@ -2,7 +2,7 @@
 use Rattle.std.proofs.Common.{◌<◌, arith}
 use Rattle.pictures.specs.Limits.{most_side}
 use Rattle.pictures.proofs.Limits.{sides_are}
-use Rattle.seam_find_kept.specs.Finding.{kept_costs}
+use Rattle.seam_find_kept.specs.Finding.{costs_in}
 use Rattle.seam_find_kept.proofs.KeptRows.{kept-cheap}
 use Rattle.seam_find_kept.proofs.Small.{fenced-small}
 use Rattle.seam_find_kept.proofs.WayBack.{Stepped, stepped}
@@ -24,7 +24,7 @@ way_up-requires-clause-row c =
     }
 
 step : (c : After-way_up)
-    → Stepped (kept_costs c.args.method.energy c.args.size c.args.width c.args.costs.up.now c.args.costs.left.now c.args.costs.right.now) c.args.width c.args.i c.args.c c.way_up.result
+    → Stepped (costs_in c.args.method.energy c.args.size c.args.width c.args.costs.up.now c.args.costs.left.now c.args.costs.right.now) c.args.width c.args.i c.args.c c.way_up.result
 step c =
     let a = c.args in
     let k = a.costs in

@@ -7,11 +7,11 @@ use Rattle.grids.specs.Rows.{flat}
 use Rattle.seam_sums.specs.Fences.{fence32}
 use Rattle.seam_theory.specs.Sums.{ways_up, columns_to}
 use Rattle.seam_find.proofs.Loops.{Back}
-use Rattle.seam_find_kept.specs.Finding.{kept_costs}
+use Rattle.seam_find_kept.specs.Finding.{costs_in}
 use Rattle.seam_find_kept.proofs.trace.trace_sums.Given as goal
 
 abbrev pub invariant-loop-i : goal.invariant-loop-i
 invariant-loop-i l =
-    let k = kept_costs l.method.energy l.size l.width l.costs.up.now l.costs.left.now l.costs.right.now in
+    let k = costs_in l.method.energy l.size l.width l.costs.up.now l.costs.left.now l.costs.right.now in
     let ways = flat (table (ways_up false fence32 l.width k) (l.size.height - 1)) in
     Back ways l.initial.seam (columns_to ways l.width (l.size.height - 1) l.column) l.width l.size.height l.i l.c l.seam

@@ -4,18 +4,18 @@ use Rattle.seam_find_kept.proofs.PlaneRows.{number_within}
 use Rattle.seam_find_kept.proofs.KeptRows.{way_by-one, way_by-steps}
 use Rattle.seam_find_kept.proofs.trace.way_up.Goals as goal
 
-pub number_at-requires : goal.number_at-requires
-number_at-requires c =
+pub cost_at-requires : goal.cost_at-requires
+cost_at-requires c =
     let n = c.requires in
     number_within c.args.size c.args.width (c.args.i + 1) c.args.c _ n.planes.within n.row.inside n.row.column (n.planes.left_long (sym c.has_one_cost.ensures ∙ c.if-has_one_cost.false))
 
-pub number_at-requires-2 : goal.number_at-requires-2
-number_at-requires-2 c =
+pub cost_at-requires-2 : goal.cost_at-requires-2
+cost_at-requires-2 c =
     let n = c.requires in
     number_within c.args.size c.args.width (c.args.i + 1) c.args.c _ n.planes.within n.row.inside n.row.column n.planes.up_long
 
-pub number_at-requires-3 : goal.number_at-requires-3
-number_at-requires-3 c =
+pub cost_at-requires-3 : goal.cost_at-requires-3
+cost_at-requires-3 c =
     let n = c.requires in
     number_within c.args.size c.args.width (c.args.i + 1) c.args.c _ n.planes.within n.row.inside n.row.column (n.planes.right_long (sym c.has_one_cost.ensures ∙ c.if-has_one_cost.false))
 
@@ -35,6 +35,6 @@ returns c =
     let k = a.costs in
     let n = c.requires in
     c.way-2.ensures
-    ∙ rw (c.sum_at-left.ensures, c.sum_at-up.ensures, c.sum_at-right.ensures, c.number_at.ensures.number, c.number_at-2.ensures.number, c.number_at-3.ensures.number)
+    ∙ rw (c.sum_at-left.ensures, c.sum_at-up.ensures, c.sum_at-right.ensures, c.cost_at.ensures.number, c.cost_at-2.ensures.number, c.cost_at-3.ensures.number)
     (sym (way_by-steps a.method.energy a.size a.width k.up.now k.left.now k.right.now (a.i + 1) n.planes.within n.row.inside _ a.c n.row.column
     (sym c.has_one_cost.ensures ∙ c.if-has_one_cost.false)))

@@ -1,7 +1,7 @@
--- `seam_find_kept::words::number_at` meets its contract: a number is that of its two bytes.
+-- `seam_find_kept::words::cost_at` meets its contract: a number is that of its two bytes.
 use Rattle.std.proofs.Common.{sym, rules}
 use Rattle.pictures.proofs.TwoBytes.{numbers_at}
-use Rattle.seam_find_kept.proofs.words.number_at.Goals as goal
+use Rattle.seam_find_kept.proofs.words.cost_at.Goals as goal
 
 pub returns : goal.returns
 returns c = record {
