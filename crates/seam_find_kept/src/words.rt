@@ -3,15 +3,15 @@ ghost use Rattle.std.specs.Prelude.{◌≡◌, ◌+◌, ◌*◌, ◌≤◌, ◌<
 ghost use Rattle.pictures.specs.Numbers.{numbers_in, largest_number};
 ghost use Rattle.seam_find_kept.specs.Inner.Words.{words_in};
 
+use pictures::numbers::number;
+
 // The cost at c of a row of them.
 pub(crate) fn cost_at(bytes: &[u8], c: usize) -> u32
     requires { 2 * c + 1 < length bytes.now }
     ensures number { result ≡ get_or (numbers_in bytes.now) c 0 }
     ensures small { result ≤ largest_number }
 {
-    let low = u32::from(bytes[2 * c]);
-    let high = u32::from(bytes[2 * c + 1]);
-    low + 256 * high
+    u32::from(number(bytes[2 * c], bytes[2 * c + 1]))
 }
 
 // A sum, put at c of a row of them.
