@@ -19,8 +19,8 @@ use Rattle.pictures.proofs.Limits.{Sized, sides_are, sized_of}
 use Rattle.pictures.proofs.Samples.{pixel-plain}
 use Rattle.pictures.proofs.Buffers.{pixel_plain}
 use Rattle.energy.specs.declared.methods.EnergyRule.{EnergyRule}
-use Rattle.energy.specs.declared.pixels.Side.{Side}
-use Rattle.energy.specs.declared.pixels.Side.TheVariants.{Up, Left, Right}
+use Rattle.energy.specs.declared.pixels.Step.{Step}
+use Rattle.energy.specs.declared.pixels.Step.TheVariants.{Up, Left, Right}
 use Rattle.energy.specs.Around.{Around, above_of, around}
 use Rattle.energy.specs.Energy.{StepCosts, alike, difference, away, left_or_it, right_or_it, forward, costs_from, one_cost}
 use Rattle.energy.specs.Pixels.{cost_to}
@@ -113,7 +113,7 @@ module _ (z : Size) (b : List ℕ) (w r c n : ℕ) (asked : CostAsked n z w r c 
     up_cost = ap₂ difference right_there left_there
 
     -- In the first row the three are alike.
-    first_cost : (from : Side) → r ≡ 0 → met ≡ cost_to from (forward meeting)
+    first_cost : (from : Step) → r ≡ 0 → met ≡ cost_to from (forward meeting)
     unfolding above_of
     first_cost Up e = up_cost
     first_cost Left e = up_cost ∙ rw e (sym (add-zero _))
@@ -133,7 +133,7 @@ module _ (z : Size) (b : List ℕ) (w r c n : ℕ) (asked : CostAsked n z w r c 
 
     -- So what is read is what coming to the pixel costs, from each side.
     pub record StepsThere : Type 0 where
-      pub first : (from : Side) → r ≡ 0 → met ≡ cost_to from (forward meeting)
+      pub first : (from : Step) → r ≡ 0 → met ≡ cost_to from (forward meeting)
       pub up : met ≡ (forward meeting).up
       pub left_cost : (r ≡ 0 → ⊥) → met + difference over (there r left) ≡ (forward meeting).left
       pub right_cost : (r ≡ 0 → ⊥) → met + difference over (there r right) ≡ (forward meeting).right
@@ -147,7 +147,7 @@ module _ (z : Size) (b : List ℕ) (w r c n : ℕ) (asked : CostAsked n z w r c 
     }
 
 -- Any of three costs that are alike.
-pub cost-alike : (from : Side) (k : StepCosts) → k ≡ alike k.up → cost_to from k ≡ k.up
+pub cost-alike : (from : Step) (k : StepCosts) → k ≡ alike k.up → cost_to from k ≡ k.up
 cost-alike Up k e = refl
 cost-alike Left k e = ap (λ (j : StepCosts). j.left) e
 cost-alike Right k e = ap (λ (j : StepCosts). j.right) e

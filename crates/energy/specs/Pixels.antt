@@ -3,12 +3,12 @@ use Rattle.std.specs.Prelude.{◌≡◌, ℕ, ◌≤◌}
 use Rattle.pictures.specs.declared.sizes.Size.{Size}
 use Rattle.pictures.specs.Refusals.{refusal}
 use Rattle.pictures.specs.Pictures.{side_rules, picture_bytes}
-use Rattle.energy.specs.declared.pixels.Side.{Side}
-use Rattle.energy.specs.declared.pixels.Side.TheVariants.{Up, Left, Right}
+use Rattle.energy.specs.declared.pixels.Step.{Step}
+use Rattle.energy.specs.declared.pixels.Step.TheVariants.{Up, Left, Right}
 use Rattle.energy.specs.Energy.{StepCosts}
 
 -- One of a pixel's three costs.
-abbrev pub cost_to : Side → StepCosts → ℕ
+abbrev pub cost_to : Step → StepCosts → ℕ
 cost_to Up k = k.up
 cost_to Left k = k.left
 cost_to Right k = k.right

@@ -16,7 +16,7 @@ ghost use Rattle.std.specs.Prelude.{◌≡◌, ◌++◌, ◌-◌, ◌≤◌, ◌
 
 pub use methods::{EnergyRule, Method, usual_method};
 use pictures::{Refusal, Size, judge_picture, pixel_bytes};
-pub use pixels::{BesideCosts, CarvedPicture, Side};
+pub use pixels::{BesideCosts, CarvedPicture, Step};
 
 // The energies of row r, put into the first `width` places of out. By forward a pixel's energy is what coming to it from straight
 // above costs. Refused by 2, 3 and 4 as every picture is, by 4 where

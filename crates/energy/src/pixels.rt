@@ -12,7 +12,7 @@ use pictures::{Kind, Size};
 
 // The column of the row above that a path comes from: the same, the one to the left, or the one to the right.
 #[derive(Clone, Copy, Debug, PartialEq, Eq)]
-pub enum Side {
+pub enum Step {
     Up,
     Left,
     Right,
@@ -38,7 +38,7 @@ pub struct BesideCosts {
 impl<'a> CarvedPicture<'a> {
     // What coming from one side to the pixels beside column c of row r costs. Where there is no such pixel, nothing is promised of it.
     #[inline(always)]
-    pub fn costs_beside(&self, method: Method, from: Side, r: usize, c: usize) -> BesideCosts
+    pub fn costs_beside(&self, method: Method, from: Step, r: usize, c: usize) -> BesideCosts
         ensures before { r < self.now.size.height → 0 < c → c ≤ self.now.width → result.before ≡ cost_to from (costs_at method self.now.width self.now.size.height (Pictures·picture self.now.size self.now.bytes.now) r (c - 1)) }
         ensures here { r < self.now.size.height → c < self.now.width → result.here ≡ cost_to from (costs_at method self.now.width self.now.size.height (Pictures·picture self.now.size self.now.bytes.now) r c) }
     {
@@ -58,7 +58,7 @@ impl<'a> CarvedPicture<'a> {
     fn two_costs<const N: usize>(
         &self,
         method: Method,
-        from: Side,
+        from: Step,
         r: usize,
         before: usize,
         here: usize,
@@ -114,7 +114,7 @@ fn step_cost<const N: usize>(
     picture: &[u8],
     size: Size,
     width: usize,
-    from: Side,
+    from: Step,
     r: usize,
     c: usize,
 ) -> u32
@@ -131,9 +131,9 @@ fn step_cost<const N: usize>(
     }
     let above = row - stride + c * N;
     match from {
-        Side::Up => across,
-        Side::Left => across + pixels_apart::<N>(picture, above, left),
-        Side::Right => across + pixels_apart::<N>(picture, above, right),
+        Step::Up => across,
+        Step::Left => across + pixels_apart::<N>(picture, above, left),
+        Step::Right => across + pixels_apart::<N>(picture, above, right),
     }
 }
 

@@ -21,8 +21,8 @@ use Rattle.pictures.proofs.Samples.{AreBytes}
 use Rattle.pictures.proofs.Buffers.{picture-of_size}
 use Rattle.pictures.proofs.TwoBytes.{rows-pairs, pairs-append, pairs-zeros, pairs-numbers, length-numbers}
 use Rattle.energy.specs.declared.methods.Method.{Method}
-use Rattle.energy.specs.declared.pixels.Side.{Side}
-use Rattle.energy.specs.declared.pixels.Side.TheVariants.{Up, Left, Right}
+use Rattle.energy.specs.declared.pixels.Step.{Step}
+use Rattle.energy.specs.declared.pixels.Step.TheVariants.{Up, Left, Right}
 use Rattle.energy.specs.Energy.{one_cost}
 use Rattle.seam_theory.specs.PictureSeams.{seam_of}
 use Rattle.seam_theory.proofs.Choosing.{seam_chooses}
@@ -85,7 +85,7 @@ module _ (z : Size) (how : Method) where
       grid : (x : List ℕ) → length x ≡ map_bytes z → Grid z.width z.height (numbers_of z.width z.height x)
       grid x l = numbers_grid z.width z.height x (l ∙ sym (map-rows z))
 
-      side : (x : List ℕ) (from : Side) → length x ≡ map_bytes z → numbers_of z.width z.height x ≡ cost_grid how from z.width z.height (picture z plane)
+      side : (x : List ℕ) (from : Step) → length x ≡ map_bytes z → numbers_of z.width z.height x ≡ cost_grid how from z.width z.height (picture z plane)
           → fronts z.width (numbers_of z.width z.height x) ≡ cost_grid how from z.width z.height (fronts z.width (picture z plane))
       side x from l is = fronts_all (grid x l) ∙ is ∙ ap (cost_grid how from z.width z.height) (sym whole)
 

@@ -17,8 +17,8 @@ use Rattle.pictures.specs.Pictures.{Picture, channels_of, picture}
 use Rattle.pictures.proofs.Buffers.{picture-of_size}
 use Rattle.pictures.proofs.Limits.{Sides, sides_are}
 use Rattle.energy.specs.declared.methods.Method.{Method}
-use Rattle.energy.specs.declared.pixels.Side.{Side}
-use Rattle.energy.specs.declared.pixels.Side.TheVariants.{Up, Left, Right}
+use Rattle.energy.specs.declared.pixels.Step.{Step}
+use Rattle.energy.specs.declared.pixels.Step.TheVariants.{Up, Left, Right}
 use Rattle.energy.specs.Energy.{one_cost}
 use Rattle.energy.specs.Methods.{wrap_of}
 use Rattle.seam_theory.specs.Connected.{linked}
@@ -177,7 +177,7 @@ module _ (z : Size) (how : Method) (w number : ℕ) (plane up left right columns
       (columns_closed : fronts (w - 1) (numbers_of m h columns') ≡ cut s (fronts w (numbers_of m h columns)))
       (put : new ≡ put_rows number m (taken_columns m columns s) old)
       (kept : CostsKept how z (w - 1) s plane' up left right up' left' right') where
-    side-kept : (from : Side) (x x' : List ℕ) → fronts w (numbers_of m h x) ≡ cost_grid how from w h q
+    side-kept : (from : Step) (x x' : List ℕ) → fronts w (numbers_of m h x) ≡ cost_grid how from w h q
         → fronts (w - 1) (numbers_of m h x') ≡ carried_costs how from z (w - 1) s plane' x
         → fronts (w - 1) (numbers_of m h x') ≡ cost_grid how from (w - 1) h (left_picture z (w - 1) plane')
     side-kept from x x' was is =

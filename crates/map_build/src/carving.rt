@@ -8,7 +8,7 @@ ghost use Rattle.map_rules.specs.Spaces.{map_bytes};
 ghost use Rattle.seam_keep.specs.Keeping.{KeepAsked};
 
 use crate::numbering::number_rows;
-use energy::{Method, Side};
+use energy::{Method, Step};
 use pictures::{AllowedSize, LARGEST_SIDE, Size};
 use seam_find_kept::CostPlanes;
 
@@ -112,9 +112,9 @@ fn keep_all(
     requires sized { (length up.old ≡ map_bytes size) × (length left.old ≡ map_bytes size) × (length right.old ≡ map_bytes size) }
     ensures { CostsKept method size width seam.now picture.now up.old left.old right.old up.new left.new right.new }
 {
-    seam_keep::keep_costs(picture, size, width, method, Side::Up, seam, up);
+    seam_keep::keep_costs(picture, size, width, method, Step::Up, seam, up);
     if !method.energy.has_one_cost() {
-        seam_keep::keep_costs(picture, size, width, method, Side::Left, seam, left);
-        seam_keep::keep_costs(picture, size, width, method, Side::Right, seam, right);
+        seam_keep::keep_costs(picture, size, width, method, Step::Left, seam, left);
+        seam_keep::keep_costs(picture, size, width, method, Step::Right, seam, right);
     }
 }

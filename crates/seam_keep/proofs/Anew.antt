@@ -10,7 +10,7 @@ use Rattle.grids.specs.Cut.{cut}
 use Rattle.grids.proofs.Tables.{table_same}
 use Rattle.pictures.specs.Pictures.{Picture}
 use Rattle.energy.specs.declared.methods.Method.{Method}
-use Rattle.energy.specs.declared.pixels.Side.{Side}
+use Rattle.energy.specs.declared.pixels.Step.{Step}
 use Rattle.energy.specs.Methods.{wrap_of}
 use Rattle.energy.specs.Energy.{costs_at}
 use Rattle.energy.specs.Pixels.{cost_to}
@@ -27,7 +27,7 @@ unfolding refreshed
 refreshed_same_fresh wrap w h f g s k same =
     table_same _ _ h (λ r row. table_same _ _ (w - 1) (λ c column. ap (λ n. cond (changed wrap w h s r c) n (number_at k r (stood s r c))) (same r c row column)))
 
-pub kept_right : (how : Method) (from : Side) (w h : ℕ) (s : List ℕ) (p q : Picture) → length s ≡ length p → fronts w q ≡ cut s (fronts (w + 1) p)
+pub kept_right : (how : Method) (from : Step) (w h : ℕ) (s : List ℕ) (p q : Picture) → length s ≡ length p → fronts w q ≡ cut s (fronts (w + 1) p)
     → refreshed (wrap_of how) (w + 1) h (λ r c. cost_to from (costs_at how w h q r c)) s (cost_grid how from (w + 1) h p) ≡ cost_grid how from w h q
 kept_right how from w h s p q long is =
     let less : w + 1 - 1 ≡ w = omega arith in

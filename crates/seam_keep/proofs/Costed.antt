@@ -24,8 +24,8 @@ use Rattle.pictures.proofs.Limits.{sized-served}
 use Rattle.pictures.proofs.Rules.{served-first}
 use Rattle.pictures.proofs.Samples.{AreBytes}
 use Rattle.energy.specs.declared.methods.Method.{Method}
-use Rattle.energy.specs.declared.pixels.Side.{Side}
-use Rattle.energy.specs.declared.pixels.Side.TheVariants.{Up, Left, Right}
+use Rattle.energy.specs.declared.pixels.Step.{Step}
+use Rattle.energy.specs.declared.pixels.Step.TheVariants.{Up, Left, Right}
 use Rattle.energy.specs.Energy.{EnergiesGiven, StepCostsGiven}
 use Rattle.energy.proofs.Served.{energies-served}
 use Rattle.seam_planes.specs.Planes.{numbers_of}
@@ -36,17 +36,17 @@ use Rattle.seam_keep.proofs.Lined.{plane_rows}
 use Rattle.seam_keep.proofs.Most.{fresh_most}
 
 -- What coming from one side to each pixel of row r costs.
-abbrev pub costs_row : Method → Side → Size → List ℕ → ℕ → List ℕ
+abbrev pub costs_row : Method → Step → Size → List ℕ → ℕ → List ℕ
 costs_row how from z b r = table (fresh_costs how from z z.width b r) z.width
 
 module _ (z : Size) (how : Method) (b : List ℕ) where
-  abbrev pub Rows : Side → List ℕ → ℕ → List ℕ → Type 0
+  abbrev pub Rows : Step → List ℕ → ℕ → List ℕ → Type 0
   Rows from old r now = RowsPut (costs_row how from z b) z.width z.height old r now
 
-  row_long : (from : Side) (r : ℕ) → r < z.height → length (costs_row how from z b r) ≡ z.width
+  row_long : (from : Step) (r : ℕ) → r < z.height → length (costs_row how from z b r) ≡ z.width
   row_long from r l = length-table (fresh_costs how from z z.width b r) z.width
 
-  module _ (from : Side) (old : List ℕ) (asked : FillAsked z (length b) (length old)) where
+  module _ (from : Step) (old : List ℕ) (asked : FillAsked z (length b) (length old)) where
     long : length old ≡ z.height * (2 * z.width)
     long = asked.room ∙ plane_rows z
 
@@ -107,7 +107,7 @@ module _ (z : Size) (how : Method) (b : List ℕ) where
           ∙ served-first (size_rules z (length b)) (4 when leb z.height r ∷ 8 when (ltb (length left) z.width || (ltb (length up) z.width || ltb (length right) z.width)) ∷ []) refl
           (rw asked.long (sized-served z asked.sides)) ∙ rest
 
-      front : (from : Side) (out out' : List ℕ) → out' ≡ served (given v) (costs_row how from z b r ++ drop z.width out) out → take z.width out' ≡ costs_row how from z b r
+      front : (from : Step) (out out' : List ℕ) → out' ≡ served (given v) (costs_row how from z b r ++ drop z.width out) out → take z.width out' ≡ costs_row how from z b r
       front from out out' e =
           ap (take z.width) (e ∙ ap (λ n. served n (costs_row how from z b r ++ drop z.width out) out) none)
           ∙ take_at (costs_row how from z b r) (drop z.width out) z.width (length-table (fresh_costs how from z z.width b r) z.width)

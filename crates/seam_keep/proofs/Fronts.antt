@@ -14,7 +14,7 @@ use Rattle.grids.proofs.Tables.{table_same}
 use Rattle.pictures.specs.Pictures.{Picture, pixel}
 use Rattle.energy.specs.Around.{left_of, right_of, above_of, below_of, around}
 use Rattle.energy.specs.declared.methods.Method.{Method}
-use Rattle.energy.specs.declared.pixels.Side.{Side}
+use Rattle.energy.specs.declared.pixels.Step.{Step}
 use Rattle.energy.specs.Methods.{wrap_of}
 use Rattle.energy.specs.Energy.{costs_from, costs_at}
 use Rattle.energy.specs.Pixels.{cost_to}
@@ -70,7 +70,7 @@ unfolding costs_at
 costs_fronts how w h p r c l = ap (costs_from how.energy) (around_fronts (wrap_of how) w c l h p r)
 
 -- and so do all.
-pub grid_fronts : (how : Method) (from : Side) (w h : ℕ) (p : Picture) → cost_grid how from w h (fronts w p) ≡ cost_grid how from w h p
+pub grid_fronts : (how : Method) (from : Step) (w h : ℕ) (p : Picture) → cost_grid how from w h (fronts w p) ≡ cost_grid how from w h p
 unfolding cost_grid
 grid_fronts how from w h p =
     table_same (λ r. table (λ c. cost_to from (costs_at how w h (fronts w p) r c)) w) (λ r. table (λ c. cost_to from (costs_at how w h p r c)) w) h

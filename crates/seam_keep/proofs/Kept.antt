@@ -17,7 +17,7 @@ use Rattle.pictures.specs.Numbers.{numbers_in}
 use Rattle.pictures.proofs.Limits.{sides_are}
 use Rattle.pictures.proofs.Samples.{AreBytes}
 use Rattle.energy.specs.declared.methods.Method.{Method}
-use Rattle.energy.specs.declared.pixels.Side.{Side}
+use Rattle.energy.specs.declared.pixels.Step.{Step}
 use Rattle.energy.specs.Methods.{wrap_of}
 use Rattle.seam_bounds.proofs.Moving.{inside_each}
 use Rattle.seam_planes.specs.Planes.{fronts, numbers_of, NumbersSeam}
@@ -36,7 +36,7 @@ use Rattle.seam_keep.proofs.Placed.{length_refreshed, refreshed_number}
 take_table : (xs : List ℕ) (w : ℕ) → w ≤ length xs → take w xs ≡ table (λ c. get_or xs c 0) w
 take_table xs w l = table_part xs 0 w 0 (omega arith) ∙ table_same (λ c. get_or xs (0 + c) 0) (λ c. get_or xs c 0) w (λ c i. ap (λ n. get_or xs n 0) (zero-add c))
 
-module _ (how : Method) (from : Side) (z : Size) (w : ℕ) (s b : List ℕ) where
+module _ (how : Method) (from : Step) (z : Size) (w : ℕ) (s b : List ℕ) where
   module _ (bytes plane : ℕ) (asked : KeepAsked how z w s bytes plane) where
     -- What closing the plane up asks, and what the loop after it asks.
     pub closing : NumbersSeam z.width (w + 1) s plane

@@ -15,14 +15,14 @@ use Rattle.pictures.specs.Pictures.{channels_of, pixel_bytes, largest_sample, ro
 use Rattle.pictures.proofs.Samples.{AreBytes, take_bytes, drop_bytes, samples-most}
 use Rattle.pictures.proofs.Buffers.{picture-of_size, pixel_at, pixel-past, pixel-short}
 use Rattle.energy.specs.declared.methods.Method.{Method}
-use Rattle.energy.specs.declared.pixels.Side.{Side}
-use Rattle.energy.specs.declared.pixels.Side.TheVariants.{Up, Left, Right}
+use Rattle.energy.specs.declared.pixels.Step.{Step}
+use Rattle.energy.specs.declared.pixels.Step.TheVariants.{Up, Left, Right}
 use Rattle.energy.specs.Energy.{StepCosts, costs_at}
 use Rattle.energy.specs.Pixels.{cost_to}
 use Rattle.energy.proofs.Most.{CostsMost, costs-most}
 use Rattle.seam_keep.specs.Inner.{fresh_costs}
 
-to_most : (most : ℕ) (from : Side) (k : StepCosts) → CostsMost most k → cost_to from k ≤ most
+to_most : (most : ℕ) (from : Step) (k : StepCosts) → CostsMost most k → cost_to from k ≤ most
 to_most most Up k h = h.up
 to_most most Left k h = h.left
 to_most most Right k h = h.right
@@ -31,7 +31,7 @@ two_most : (k : Kind) → 2 * (channels_of k * largest_sample k) ≤ largest_num
 two_most Grey = omega arith
 two_most Rgb = omega arith
 
-pub fresh_most : (how : Method) (from : Side) (z : Size) (w : ℕ) (b : List ℕ) → length b ≡ picture_bytes z → AreBytes b → (r c : ℕ) → fresh_costs how from z w b r c ≤ largest_number
+pub fresh_most : (how : Method) (from : Step) (z : Size) (w : ℕ) (b : List ℕ) → length b ≡ picture_bytes z → AreBytes b → (r c : ℕ) → fresh_costs how from z w b r c ≤ largest_number
 fresh_most how from z w b e h r c =
     let most = costs-most (channels_of z.kind) (largest_sample z.kind) (picture z b) short below how w z.height r c in
     omega (arith, to_most (2 * (channels_of z.kind * largest_sample z.kind)) from (costs_at how w z.height (picture z b) r c) most, two_most z.kind)

@@ -20,7 +20,7 @@ use Rattle.grids.proofs.Tables.{table_at, table_same}
 use Rattle.pictures.specs.Pictures.{Picture, pixel}
 use Rattle.energy.specs.Around.{Around, left_of, right_of, above_of, below_of, around}
 use Rattle.energy.specs.declared.methods.Method.{Method}
-use Rattle.energy.specs.declared.pixels.Side.{Side}
+use Rattle.energy.specs.declared.pixels.Step.{Step}
 use Rattle.energy.specs.Methods.{wrap_of}
 use Rattle.energy.specs.Energy.{costs_from, costs_at}
 use Rattle.energy.specs.Pixels.{cost_to}
@@ -143,8 +143,8 @@ number_refreshed wrap w h fresh s k r c row column =
     let one : ℕ → ℕ → ℕ = λ r c. cond (changed wrap w h s r c) (fresh r c) (number_at k r (stood s r c)) in
     ap (λ x. get_or x c 0) (table_at (λ r. table (one r) (w - 1)) h r [] row) ∙ table_at (one r) (w - 1) c 0 column
 
--- "Whatever numbers were kept: every other pixel carries its own along unchanged", other than those of which "the left, right, upper or
--- lower neighbour changed".
+-- "Proved of the refresh, whatever numbers were kept: every other pixel carries its own along unchanged", every other than the "pixels whose
+-- left, right, upper or lower neighbour changed".
 pub refresh_carried : (wrap : Bool) (w h : ℕ) (fresh : ℕ → ℕ → ℕ) (s : List ℕ) (k : List (List ℕ)) (r c : ℕ) → r < h → c < w - 1
     → changed wrap w h s r c ≡ false → number_at (refreshed wrap w h fresh s k) r c ≡ number_at k r (stood s r c)
 refresh_carried wrap w h fresh s k r c row column same =
@@ -154,7 +154,7 @@ refresh_carried wrap w h fresh s k r c row column same =
 abbrev pub numbers_by : (Around → ℕ) → Bool → ℕ → ℕ → Picture → List (List ℕ)
 numbers_by f wrap w h p = table (λ r. table (λ c. f (around wrap w h p r c)) w) h
 
--- "If all were right before the cut, all are as worked out anew after it": whatever a pixel costs by its neighbours, with and without
+-- "if all were right before the cut, all are as worked out anew after it": whatever a pixel costs by its neighbours, with and without
 -- the join.
 pub refresh_right : (f : Around → ℕ) (wrap : Bool) (w h : ℕ) (s : List ℕ) (p : Picture) → length s ≡ length p
     → refreshed wrap w h (λ r c. f (around wrap (w - 1) h (cut s p) r c)) s (numbers_by f wrap w h p) ≡ numbers_by f wrap (w - 1) h (cut s p)
@@ -179,7 +179,7 @@ refresh_right f wrap w h s p e =
     one r c row column false same = was r (stood s r c) row (stood_inside w s r c column) ∙ ap f (sym (around_kept wrap w h s p r c e same))
 
 -- So of the costs of coming from one side, by each method.
-pub refresh_costs : (how : Method) (from : Side) (w h : ℕ) (s : List ℕ) (p : Picture) → length s ≡ length p
+pub refresh_costs : (how : Method) (from : Step) (w h : ℕ) (s : List ℕ) (p : Picture) → length s ≡ length p
     → refreshed (wrap_of how) w h (λ r c. cost_to from (costs_at how (w - 1) h (cut s p) r c)) s (cost_grid how from w h p) ≡ cost_grid how from (w - 1) h (cut s p)
 unfolding cost_grid costs_at
 refresh_costs how from w h s p e = refresh_right (λ a. cost_to from (costs_from how.energy a)) (wrap_of how) w h s p e

@@ -4,7 +4,7 @@ use Rattle.pictures.specs.declared.sizes.Size.{Size}
 use Rattle.pictures.specs.Refusals.{refusal}
 use Rattle.pictures.specs.Pictures.{picture, picture_bytes, side_rules}
 use Rattle.energy.specs.declared.methods.Method.{Method}
-use Rattle.energy.specs.declared.pixels.Side.{Side}
+use Rattle.energy.specs.declared.pixels.Step.{Step}
 use Rattle.energy.specs.Energy.{costs_at}
 use Rattle.energy.specs.Pixels.{cost_to}
 use Rattle.seam_keep.specs.Keeping.{plane_bytes}
@@ -22,11 +22,11 @@ abbrev pub refreshed_by : ℕ → ℕ → (ℕ → ℕ) → List ℕ → List �
 refreshed_by w c fresh row = refreshed_row w c (fresh (c - 1)) (fresh c) row
 
 -- What coming to each pixel costs in a picture in a buffer, of which w columns are left.
-abbrev pub fresh_costs : Method → Side → Size → ℕ → List ℕ → ℕ → ℕ → ℕ
+abbrev pub fresh_costs : Method → Step → Size → ℕ → List ℕ → ℕ → ℕ → ℕ
 fresh_costs how from z w b r c = cost_to from (costs_at how w z.height (picture z b) r c)
 
 -- Row r of a plane of numbers, with the costs put into it beside the seam.
-abbrev pub refreshed_at : Method → Side → Size → ℕ → List ℕ → List ℕ → List (List ℕ) → ℕ → List ℕ
+abbrev pub refreshed_at : Method → Step → Size → ℕ → List ℕ → List ℕ → List (List ℕ) → ℕ → List ℕ
 refreshed_at how from z w b s k r = refreshed_by w (get_or s r 0) (fresh_costs how from z w b r) (get_or k r [])
 
 -- A picture of which w columns are left, a column of a seam for each of its rows, and a plane for its costs.

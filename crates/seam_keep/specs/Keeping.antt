@@ -5,7 +5,7 @@ use Rattle.pictures.specs.declared.sizes.Size.{Size}
 use Rattle.pictures.specs.Refusals.{refusal}
 use Rattle.pictures.specs.Pictures.{Picture, picture_bytes, pixels, side_rules}
 use Rattle.energy.specs.declared.methods.Method.{Method}
-use Rattle.energy.specs.declared.pixels.Side.{Side}
+use Rattle.energy.specs.declared.pixels.Step.{Step}
 use Rattle.energy.specs.Energy.{costs_at}
 use Rattle.energy.specs.Methods.{wrap_of}
 use Rattle.energy.specs.Pixels.{cost_to}
@@ -14,7 +14,7 @@ use Rattle.seam_theory.specs.Paths.{near}
 use Rattle.seam_bounds.specs.Moves.{outside}
 
 -- What coming from one side to each pixel of a picture of w columns and h rows costs, row by row.
-unfoldable pub cost_grid : Method → Side → ℕ → ℕ → Picture → List (List ℕ)
+unfoldable pub cost_grid : Method → Step → ℕ → ℕ → Picture → List (List ℕ)
 cost_grid how from w h p = table (λ r. table (λ c. cost_to from (costs_at how w h p r c)) w) h
 
 -- The bytes of a plane of numbers, two for each pixel.
@@ -26,6 +26,12 @@ pub record FillAsked (z : Size) (picture plane : ℕ) : Type 0 where
   pub sides : refusal (side_rules z) ≡ 0
   pub long : picture ≡ picture_bytes z
   pub room : plane ≡ plane_bytes z
+
+-- The same with planes for the costs of coming from the left and from the right.
+pub record StepsAsked (z : Size) (picture up left right : ℕ) : Type 0 where
+  pub up_asked : FillAsked z picture up
+  pub left_asked : FillAsked z picture left
+  pub right_asked : FillAsked z picture right
 
 -- A picture of this size at first, of which w columns are left after a seam was cut, connected and inside the w + 1 before; and a plane for
 -- its costs.

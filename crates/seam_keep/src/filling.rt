@@ -1,7 +1,7 @@
 // Planes filled with what the pixels of a picture cost.
 ghost use Rattle.std.specs.Prelude.{◌≡◌, false, length};
 ghost use Rattle.pictures.specs.Pictures.{picture as Pictures·picture};
-ghost use Rattle.energy.specs.declared.pixels.Side.TheVariants.{Up, Left, Right};
+ghost use Rattle.energy.specs.declared.pixels.Step.TheVariants.{Up, Left, Right};
 ghost use Rattle.seam_planes.specs.Planes.{numbers_of};
 ghost use Rattle.seam_keep.specs.Keeping.{cost_grid, FillAsked};
 

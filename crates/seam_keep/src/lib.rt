@@ -6,15 +6,15 @@ mod rows;
 
 ghost use Rattle.std.specs.Prelude.{◌≡◌, ◌+◌, true, false, ℕ, length};
 ghost use Rattle.pictures.specs.Pictures.{picture as Pictures·picture};
-ghost use Rattle.energy.specs.declared.pixels.Side.TheVariants.{Up, Left, Right};
+ghost use Rattle.energy.specs.declared.pixels.Step.TheVariants.{Up, Left, Right};
 ghost use Rattle.energy.specs.Energy.{one_cost, costs_at};
 ghost use Rattle.energy.specs.Methods.{wrap_of};
 ghost use Rattle.energy.specs.Pixels.{cost_to};
 ghost use Rattle.seam_planes.specs.Planes.{fronts, numbers_of};
 ghost use Rattle.seam_keep.specs.Refresh.{refreshed};
-ghost use Rattle.seam_keep.specs.Keeping.{cost_grid, FillAsked, KeepAsked};
+ghost use Rattle.seam_keep.specs.Keeping.{cost_grid, FillAsked, StepsAsked, KeepAsked};
 
-use energy::{CarvedPicture, Method, Side};
+use energy::{CarvedPicture, Method, Step};
 use pictures::{AllowedSize, Size};
 use seam_planes::close_numbers;
 
@@ -30,8 +30,8 @@ pub fn fill_costs(
 )
     ensures long { (length up.new ≡ length up.old) × (length left.new ≡ length left.old) × (length right.new ≡ length right.old) }
     ensures up { FillAsked size (length picture.now) (length up.old) → numbers_of size.width size.height up.new ≡ cost_grid method Up size.width size.height (Pictures·picture size picture.now) }
-    ensures left { one_cost method.energy ≡ false → FillAsked size (length picture.now) (length up.old) → FillAsked size (length picture.now) (length left.old) → FillAsked size (length picture.now) (length right.old) → numbers_of size.width size.height left.new ≡ cost_grid method Left size.width size.height (Pictures·picture size picture.now) }
-    ensures right { one_cost method.energy ≡ false → FillAsked size (length picture.now) (length up.old) → FillAsked size (length picture.now) (length left.old) → FillAsked size (length picture.now) (length right.old) → numbers_of size.width size.height right.new ≡ cost_grid method Right size.width size.height (Pictures·picture size picture.now) }
+    ensures alone { one_cost method.energy ≡ true → (left.new ≡ left.old) × (right.new ≡ right.old) }
+    ensures steps { one_cost method.energy ≡ false → StepsAsked size (length picture.now) (length up.old) (length left.old) (length right.old) → (numbers_of size.width size.height left.new ≡ cost_grid method Left size.width size.height (Pictures·picture size picture.now)) × (numbers_of size.width size.height right.new ≡ cost_grid method Right size.width size.height (Pictures·picture size picture.now)) }
 {
     if !is_sized(size, picture.len(), up.len()) {
         return;
@@ -52,7 +52,7 @@ pub fn keep_costs(
     size: Size,
     width: usize,
     method: Method,
-    from: Side,
+    from: Step,
     seam: &[u16],
     plane: &mut [u8],
 )

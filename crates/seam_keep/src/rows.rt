@@ -5,14 +5,14 @@ ghost use Rattle.pictures.specs.Numbers.{numbers_in};
 ghost use Rattle.seam_planes.specs.Planes.{numbers_of};
 ghost use Rattle.seam_keep.specs.Inner.{put_where, refreshed_row, refreshed_at, RefreshNeeded};
 
-use energy::{BesideCosts, CarvedPicture, Method, Side};
+use energy::{BesideCosts, CarvedPicture, Method, Step};
 
 // Works out anew what the pixels beside the seam cost, and puts it into the plane. Each row is lent once, and what has no place in it is
 // worked out in vain: only where the seam runs along an edge.
 pub(crate) fn refresh_rows(
     picture: &CarvedPicture<'_>,
     method: Method,
-    from: Side,
+    from: Step,
     seam: &[u16],
     plane: &mut [u8],
 )

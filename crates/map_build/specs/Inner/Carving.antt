@@ -8,8 +8,8 @@ use Rattle.pictures.specs.Limits.{most_side}
 use Rattle.pictures.specs.Pictures.{Picture, side_rules, picture, picture_bytes, picture_in, pixel_bytes, bytes}
 use Rattle.pictures.specs.Numbers.{pairs, largest_number}
 use Rattle.energy.specs.declared.methods.Method.{Method}
-use Rattle.energy.specs.declared.pixels.Side.{Side}
-use Rattle.energy.specs.declared.pixels.Side.TheVariants.{Up, Left, Right}
+use Rattle.energy.specs.declared.pixels.Step.{Step}
+use Rattle.energy.specs.declared.pixels.Step.TheVariants.{Up, Left, Right}
 use Rattle.energy.specs.Energy.{one_cost, costs_at}
 use Rattle.energy.specs.Methods.{wrap_of}
 use Rattle.energy.specs.Pixels.{cost_to}
@@ -45,7 +45,7 @@ pub record PlanesSized (z : Size) (picture_plane up left right columns map_left 
   pub map_long : map_left ≡ map_bytes z
 
 -- The costs of one side after a seam was cut of w + 1 columns: refreshed where a neighbour changed, and else carried along.
-abbrev pub carried_costs : Method → Side → Size → ℕ → List ℕ → List ℕ → List ℕ → List (List ℕ)
+abbrev pub carried_costs : Method → Step → Size → ℕ → List ℕ → List ℕ → List ℕ → List (List ℕ)
 carried_costs how from z w s picture_plane plane =
     refreshed (wrap_of how) (w + 1) z.height (λ r c. cost_to from (costs_at how w z.height (picture z picture_plane) r c)) s
     (fronts (w + 1) (numbers_of z.width z.height plane))

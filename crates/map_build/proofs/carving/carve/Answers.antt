@@ -56,7 +56,8 @@ loop-t-init c =
     let f = c.fill_costs in
     let there : picture_in z c.args.work.now ≡ picture z c.split_at_mut-picture.result.0.now =
     sym (ap (picture z) (c.split_at_mut-picture.ensures.front ∙ ap (λ k. take k c.args.work.now) c.picture_bytes.ensures.0)) in
-    let asked : (x : ℕ) → x ≡ map_bytes z → FillAsked z (length c.split_at_mut-picture.result.0.now) x = λ x e. record { sides = s.sides; long = s.picture_long; room = e } in (
+    let asked : (x : ℕ) → x ≡ map_bytes z → FillAsked z (length c.split_at_mut-picture.result.0.now) x = λ x e. record { sides = s.sides; long = s.picture_long; room = e } in
+    let all = record { up_asked = asked _ s.up_long; left_asked = asked _ s.left_long; right_asked = asked _ s.right_long } in (
       room split,
       λ i. omega (arith, c.type_inv.map i),
       rw there
@@ -71,8 +72,8 @@ loop-t-init c =
             map_long = c.clear.auto.space ∙ s.map_long;
           }
           (f.ensures.up (asked _ s.up_long))
-          (λ o. f.ensures.left o (asked _ s.up_long) (asked _ s.left_long) (asked _ s.right_long))
-          (λ o. f.ensures.right o (asked _ s.up_long) (asked _ s.left_long) (asked _ s.right_long))
+          (λ o. (f.ensures.steps o all).0)
+          (λ o. (f.ensures.steps o all).1)
           c.fill_columns.ensures.all
           (c.clear.ensures ∙ ap (λ k. replicate k 0) (sym c.clear.auto.space))),
     )

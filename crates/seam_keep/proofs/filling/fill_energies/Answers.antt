@@ -1,6 +1,6 @@
 -- `seam_keep::filling::fill_energies` meets its contract. The loop's invariant: r rows hold the energies of theirs.
 use Rattle.std.proofs.Common.{refl, ◌∙◌, arith, rules, ℕ, ◌+◌, ◌*◌, get_or, Fits, w8}
-use Rattle.energy.specs.declared.pixels.Side.TheVariants.{Up}
+use Rattle.energy.specs.declared.pixels.Step.TheVariants.{Up}
 use Rattle.seam_keep.proofs.Costed.{costed_start, costed_turn, costed_end, energies_front}
 use Rattle.seam_keep.proofs.Lined.{row_sure}
 use Rattle.seam_keep.proofs.filling.fill_energies.Goals as goal

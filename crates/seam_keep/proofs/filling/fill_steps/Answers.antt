@@ -1,6 +1,6 @@
 -- `seam_keep::filling::fill_steps` meets its contract. The loop's invariant: r rows of each plane hold the costs of coming from its side.
 use Rattle.std.proofs.Common.{refl, ◌∙◌, arith, rules, ℕ, ◌+◌, ◌*◌, get_or, Fits, w8}
-use Rattle.energy.specs.declared.pixels.Side.TheVariants.{Up, Left, Right}
+use Rattle.energy.specs.declared.pixels.Step.TheVariants.{Up, Left, Right}
 use Rattle.seam_keep.proofs.Costed.{costed_start, costed_turn, costed_end, steps_front}
 use Rattle.seam_keep.proofs.Lined.{row_sure}
 use Rattle.seam_keep.proofs.filling.fill_steps.Goals as goal

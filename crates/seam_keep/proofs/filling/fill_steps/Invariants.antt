@@ -2,7 +2,7 @@
 use mathlib.Core.Path.{◌≡◌}
 use lib.ListN.{length}
 use Rattle.pictures.specs.Limits.{most_side}
-use Rattle.energy.specs.declared.pixels.Side.TheVariants.{Up, Left, Right}
+use Rattle.energy.specs.declared.pixels.Step.TheVariants.{Up, Left, Right}
 use Rattle.seam_keep.proofs.Costed.{Rows}
 use Rattle.seam_keep.proofs.filling.fill_steps.Given as goal
 

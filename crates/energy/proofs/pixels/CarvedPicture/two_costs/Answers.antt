@@ -2,7 +2,7 @@
 use Rattle.std.proofs.Common.{◌≡◌, true, false, ℕ, sym, ap, ◌∙◌}
 use Rattle.pictures.specs.Pictures.{Picture, picture}
 use Rattle.energy.specs.declared.methods.Method.{Method}
-use Rattle.energy.specs.declared.pixels.Side.{Side}
+use Rattle.energy.specs.declared.pixels.Step.{Step}
 use Rattle.energy.specs.Around.{around}
 use Rattle.energy.specs.Methods.{wrap_of}
 use Rattle.energy.specs.Energy.{costs_from, costs_at, one_cost, forward}
@@ -11,7 +11,7 @@ use Rattle.energy.proofs.Steps.{costs-alike, forward-costs}
 use Rattle.energy.proofs.Places.{cost-alike}
 use Rattle.energy.proofs.pixels.CarvedPicture.two_costs.Goals as goal
 
-module _ (how : Method) (from : Side) (w h : ℕ) (p : Picture) (r c : ℕ) where
+module _ (how : Method) (from : Step) (w h : ℕ) (p : Picture) (r c : ℕ) where
   by_energy : one_cost how.energy ≡ true → (costs_from how.energy (around false w h p r c)).up ≡ cost_to from (costs_at how w h p r c)
   unfolding wrap_of costs_at
   by_energy one = sym (cost-alike from (costs_at how w h p r c) (costs-alike how one w h p r c))
