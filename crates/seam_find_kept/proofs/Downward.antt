@@ -29,7 +29,8 @@ unfolding sums_down
 next_sums k w j = refl
 
 -- The sums of row i, from those of the row above it.
-pub sums-next : (k : ℕ → CostRows) (w i : ℕ) (x : List ℕ) → 0 < i → x ≡ fenced_sums k w (i - 1) → table (sum_of3 x (k i)) w ≡ sums_down false fence32 w k i
+pub sums-next : (k : ℕ → CostRows) (w i : ℕ) (x : List ℕ) → 0 < i → x ≡ fenced_sums k w (i - 1)
+    → table (sum_of3 x (k i)) w ≡ sums_down false fence32 w k i
 sums-next k w i x later is = go (i - 1) (omega (arith, later))
   where
     go : (j : ℕ) → i ≡ suc j → table (sum_of3 x (k i)) w ≡ sums_down false fence32 w k i
@@ -59,7 +60,8 @@ module _ (k : ℕ → CostRows) (z : Size) (w i : ℕ) (above left next right : 
     (above-long : length above ≡ i * sums_bytes w) (left-long : length left ≡ 4) (next-long : length next ≡ 4 * w)
     (room : z.height * sums_bytes w ≤ length (above ++ (left ++ (next ++ right))))
     (before : (r : ℕ) → r < i → words_in (row_at (sums_bytes w) r above) ≡ fenced_sums k w r)
-    (right-room : 4 ≤ length right) (left-is : get_or (words_in left) 0 0 ≡ fence32) (next-is : words_in next ≡ sums_down false fence32 w k i) (right-is : get_or (words_in right) 0 0 ≡ fence32) where
+    (right-room : 4 ≤ length right) (left-is : get_or (words_in left) 0 0 ≡ fence32)
+    (next-is : words_in next ≡ sums_down false fence32 w k i) (right-is : get_or (words_in right) 0 0 ≡ fence32) where
   abbrev all : List ℕ
   all = above ++ (left ++ (next ++ right))
 
@@ -68,7 +70,10 @@ module _ (k : ℕ → CostRows) (z : Size) (w i : ℕ) (above left next right : 
       ⊎_elim
       (λ (e : r ≡ i). rw e (ap words_in (row-after (sums_bytes w) i above (left ++ (next ++ right)) above-long)
       ∙ row-made fence32 w left next right (sums_down false fence32 w k i) left-long next-long right-room left-is next-is right-is))
-      (λ (l : r < i). ap words_in (row_at-before (sums_bytes w) r above (left ++ (next ++ right)) (omega (arith, above-long, part_end r i (sums_bytes w) l))) ∙ before r l)
+      (λ (l : r < i).
+      ap words_in (row_at-before (sums_bytes w) r above (left ++ (next ++ right))
+      (omega (arith, above-long, part_end r i (sums_bytes w) l)))
+      ∙ before r l)
       (eq-or-lt_of_le (omega arith))
 
   pub one-more : RowsAbove k z w (i + 1) (above ++ (left ++ (next ++ right)))
@@ -86,7 +91,8 @@ pub record Front (k : ℕ → CostRows) (w i : ℕ) (above : List ℕ) : Type 0 
   pub last_long : length (take (length above - (i - 1) * sums_bytes w) (drop ((i - 1) * sums_bytes w) above)) ≡ sums_bytes w
   pub last_is : words_in (take (length above - (i - 1) * sums_bytes w) (drop ((i - 1) * sums_bytes w) above)) ≡ fenced_sums k w (i - 1)
 
-module _ {k : ℕ → CostRows} {z : Size} {w i : ℕ} {sums : List ℕ} (n : RowsAbove k z w i sums) (above : List ℕ) (is : above ≡ take (i * sums_bytes w) sums) where
+module _ {k : ℕ → CostRows} {z : Size} {w i : ℕ} {sums : List ℕ} (n : RowsAbove k z w i sums)
+    (above : List ℕ) (is : above ≡ take (i * sums_bytes w) sums) where
   fits : i * sums_bytes w ≤ length sums
   fits = omega (arith, n.room, mul-le-mul_right (sums_bytes w) n.within)
 
@@ -111,12 +117,17 @@ module _ {k : ℕ → CostRows} {z : Size} {w i : ℕ} {sums : List ℕ} (n : Ro
   }
 
 -- The first of the least sums of the last row, read between its fences.
-pub last-column : (k : ℕ → CostRows) (z : Size) (w column : ℕ) (sums : List ℕ) → Cheap k w → ((r : ℕ) → r < z.height → words_in (row_at (sums_bytes w) r sums) ≡ fenced_sums k w r) → 0 < z.height
-    → column ≡ least_to (take w (drop 1 (words_in (take ((z.height - 1) * sums_bytes w + sums_bytes w - (z.height - 1) * sums_bytes w) (drop ((z.height - 1) * sums_bytes w) sums))))) (w - 1)
+pub last-column : (k : ℕ → CostRows) (z : Size) (w column : ℕ) (sums : List ℕ) → Cheap k w
+    → ((r : ℕ) → r < z.height → words_in (row_at (sums_bytes w) r sums) ≡ fenced_sums k w r) → 0 < z.height
+    → column ≡ least_to
+    (take w (drop 1 (words_in (take ((z.height - 1) * sums_bytes w + sums_bytes w - (z.height - 1) * sums_bytes w)
+    (drop ((z.height - 1) * sums_bytes w) sums))))) (w - 1)
     → column ≡ bottom_column fence32 w z.height k
 last-column k z w column sums cheap rows some is =
     let at = (z.height - 1) * sums_bytes w in
-    let row = ap (λ m. words_in (take m (drop at sums))) (add-sub_cancel_left at (sums_bytes w)) ∙ rows (z.height - 1) (omega (arith, some)) in
+    let row =
+    ap (λ m. words_in (take m (drop at sums))) (add-sub_cancel_left at (sums_bytes w)) ∙ rows (z.height - 1) (omega (arith, some)) in
     is
     ∙ ap (λ x. least_to (take w (drop 1 x)) (w - 1)) row
-    ∙ ap (λ x. least_to x (w - 1)) (take_at (sums_down false fence32 w k (z.height - 1)) (fence32 ∷ []) w (sums-long k w cheap (z.height - 1)))
+    ∙ ap (λ x. least_to x (w - 1))
+    (take_at (sums_down false fence32 w k (z.height - 1)) (fence32 ∷ []) w (sums-long k w cheap (z.height - 1)))

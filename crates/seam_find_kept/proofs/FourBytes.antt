@@ -47,14 +47,16 @@ words-set (a ∷ []) i p q s t h = absurd (omega arith)
 words-set (a ∷ b ∷ []) i p q s t h = absurd (omega arith)
 words-set (a ∷ b ∷ c ∷ []) i p q s t h = absurd (omega arith)
 words-set (a ∷ b ∷ c ∷ d ∷ r) zero p q s t h = refl
-words-set (a ∷ b ∷ c ∷ d ∷ r) (suc i) p q s t h = rw (four_after-3 i, four_after-2 i, four_after-1 i, four-more i) (ap (four_bytes a b c d ∷◌) (words-set r i p q s t (omega arith)))
+words-set (a ∷ b ∷ c ∷ d ∷ r) (suc i) p q s t h =
+    rw (four_after-3 i, four_after-2 i, four_after-1 i, four-more i) (ap (four_bytes a b c d ∷◌) (words-set r i p q s t (omega arith)))
 
 -- The numbers of the first bytes, where a number ends with them,
 pub words-take : (n : ℕ) (b : List ℕ) → words_in (take (4 * n) b) ≡ take n (words_in b)
 words-take zero b = refl
 words-take (suc n) b = rw (four-more n) (go b (words-take n))
   where
-    go : (b : List ℕ) → ((r : List ℕ) → words_in (take (4 * n) r) ≡ take n (words_in r)) → words_in (take (suc (suc (suc (suc (4 * n))))) b) ≡ take (suc n) (words_in b)
+    go : (b : List ℕ) → ((r : List ℕ) → words_in (take (4 * n) r) ≡ take n (words_in r))
+        → words_in (take (suc (suc (suc (suc (4 * n))))) b) ≡ take (suc n) (words_in b)
     go [] h = refl
     go (a ∷ []) h = refl
     go (a ∷ b ∷ []) h = refl

@@ -57,7 +57,8 @@ module _ (fence w h : ℕ) (a b : ℕ → CostRows) (same : (i : ℕ) → i < h 
       (sums-same (h - 1) (omega arith))
 
 module _ (how : Method) (w h : ℕ) (q : Picture) (costs : ℕ → CostRows) (some-column : 0 < w) (some-row : 0 < h) (short : h ≤ most_side)
-    (are : (i : ℕ) → i < h → costs i ≡ cost_rows w (costs_at how w h q i)) (few : (i c : ℕ) → i < h → get_or (costs i).up c 0 ≤ most_energy) where
+    (are : (i : ℕ) → i < h → costs i ≡ cost_rows w (costs_at how w h q i))
+    (few : (i c : ℕ) → i < h → get_or (costs i).up c 0 ≤ most_energy) where
   -- The picture's costs, of rows that it has and of others,
   abbrev all : ℕ → CostRows
   all i = cost_rows w (costs_at how w h q i)
@@ -86,7 +87,14 @@ module _ (how : Method) (w h : ℕ) (q : Picture) (costs : ℕ → CostRows) (so
       let sum : get_or (sums_down false fence32 w capped i) c 0 ≡ get_or (sums_down false fence32 w all i) c 0 =
       ap (λ s. get_or s c 0) (sums-same fence32 w h capped all (λ j m. capped-is j m ∙ are j m) i (omega arith)) in
       let cost : get_or (costs (suc i)).up c 0 ≡ get_or (all (suc i)).up c 0 = ap (λ k. get_or k.up c 0) (are (suc i) (omega arith)) in
-      omega (arith, sum, cost, few (suc i) c (omega arith), sums-most false fence32 w capped capped-wide most_energy capped-few i c l, mul-le-mul_right most_energy rows)
+      omega (
+        arith,
+        sum,
+        cost,
+        few (suc i) c (omega arith),
+        sums-most false fence32 w capped capped-wide most_energy capped-few i c l,
+        mul-le-mul_right most_energy rows,
+      )
 
   -- The cost rows are those of the picture's steps.
   costed : Costed false fence32 w h all (energy how w h q 0) (step_of how w h q)
@@ -112,14 +120,18 @@ module _ (how : Method) (w h : ℕ) (q : Picture) (costs : ℕ → CostRows) (so
 -- The same of planes that hold the picture's costs: of coming from straight above, and where the three aren't alike from the left and from
 -- the right.
 module _ (how : Method) (z : Size) (w : ℕ) (q : Picture) (up left right : List ℕ) where
-  row-held : (cost : StepCosts → ℕ) (plane : List ℕ) → fronts w (numbers_of z.width z.height plane) ≡ table (λ r. table (λ c. cost (costs_at how w z.height q r c)) w) z.height
+  row-held : (cost : StepCosts → ℕ) (plane : List ℕ)
+      → fronts w (numbers_of z.width z.height plane) ≡ table (λ r. table (λ c. cost (costs_at how w z.height q r c)) w) z.height
       → (i : ℕ) → i < z.height → row_of z w i plane ≡ table (λ c. cost (costs_at how w z.height q i c)) w
-  row-held cost plane holds i l = ap (λ p. get_or p i []) holds ∙ table_at (λ r. table (λ c. cost (costs_at how w z.height q r c)) w) z.height i [] l
+  row-held cost plane holds i l =
+      ap (λ p. get_or p i []) holds ∙ table_at (λ r. table (λ c. cost (costs_at how w z.height q r c)) w) z.height i [] l
 
   module _ (sides : refusal (side_rules z) ≡ 0) (some : 0 < w) (narrow : w ≤ z.width) (bytes : AreBytes up)
       (up-holds : fronts w (numbers_of z.width z.height up) ≡ table (λ r. table (λ c. (costs_at how w z.height q r c).up) w) z.height)
-      (left-holds : one_cost how.energy ≡ false → fronts w (numbers_of z.width z.height left) ≡ table (λ r. table (λ c. (costs_at how w z.height q r c).left) w) z.height)
-      (right-holds : one_cost how.energy ≡ false → fronts w (numbers_of z.width z.height right) ≡ table (λ r. table (λ c. (costs_at how w z.height q r c).right) w) z.height) where
+      (left-holds : one_cost how.energy ≡ false
+      → fronts w (numbers_of z.width z.height left) ≡ table (λ r. table (λ c. (costs_at how w z.height q r c).left) w) z.height)
+      (right-holds : one_cost how.energy ≡ false
+      → fronts w (numbers_of z.width z.height right) ≡ table (λ r. table (λ c. (costs_at how w z.height q r c).right) w) z.height) where
     held : (i : ℕ) → i < z.height → costs_in how.energy z w up left right i ≡ cost_rows w (costs_at how w z.height q i)
     held i l = go (one_cost how.energy) refl
       where

@@ -28,7 +28,8 @@ module _ (rule : EnergyRule) (z : Size) (w : ℕ) (up left right : List ℕ) (i 
   pub kept_by-one : one_cost rule ≡ true → costs_in rule z w up left right i ≡ alike_rows (row_of z w i up)
   kept_by-one e = ap (λ b. cond b (alike_rows (row_of z w i up)) three_rows) e
 
-  pub kept_by-steps : one_cost rule ≡ false → costs_in rule z w up left right i ≡ record { left = row_of z w i left; up = row_of z w i up; right = row_of z w i right }
+  pub kept_by-steps : one_cost rule ≡ false
+      → costs_in rule z w up left right i ≡ record { left = row_of z w i left; up = row_of z w i up; right = row_of z w i right }
   kept_by-steps e = ap (λ b. cond b (alike_rows (row_of z w i up)) three_rows) e
 
   pub kept_up : (costs_in rule z w up left right i).up ≡ row_of z w i up
@@ -40,7 +41,8 @@ module _ (rule : EnergyRule) (z : Size) (w : ℕ) (up left right : List ℕ) (i 
 
   -- As they are lent.
   module _ (narrow : w ≤ z.width) (inside : i < z.height) where
-    pub one-lent : {x : List ℕ} → one_cost rule ≡ true → x ≡ bytes_at z w i up → alike_rows (numbers_in x) ≡ costs_in rule z w up left right i
+    pub one-lent : {x : List ℕ} → one_cost rule ≡ true → x ≡ bytes_at z w i up
+        → alike_rows (numbers_in x) ≡ costs_in rule z w up left right i
     one-lent e is = ap alike_rows (ap numbers_in is ∙ sym (row_is z w i up narrow inside)) ∙ sym (kept_by-one e)
 
     pub steps-lent : {x y t : List ℕ} → one_cost rule ≡ false → x ≡ bytes_at z w i up → y ≡ bytes_at z w i left → t ≡ bytes_at z w i right
@@ -54,11 +56,13 @@ module _ (rule : EnergyRule) (z : Size) (w : ℕ) (up left right : List ℕ) (i 
 
   -- Which of the sums x above column c is the least, with the costs as they are read from whole planes.
   module _ (narrow : w ≤ z.width) (inside : i < z.height) (x : List ℕ) (c : ℕ) (l : c < w) where
-    pub way_by-one : one_cost rule ≡ true → way_of3 false w x (costs_in rule z w up left right i) c ≡ first_of3 (get_or x c 0) (get_or x (c + 1) 0) (get_or x (c + 2) 0)
+    pub way_by-one : one_cost rule ≡ true
+        → way_of3 false w x (costs_in rule z w up left right i) c ≡ first_of3 (get_or x c 0) (get_or x (c + 1) 0) (get_or x (c + 2) 0)
     way_by-one e = ap (λ k. way_of3 false w x k c) (kept_by-one e) ∙ way_alike w x (row_of z w i up) c
 
     pub way_by-steps : one_cost rule ≡ false → way_of3 false w x (costs_in rule z w up left right i) c
-        ≡ first_of3 (get_or x c 0 + get_or (numbers_in left) (i * z.width + c) 0) (get_or x (c + 1) 0 + get_or (numbers_in up) (i * z.width + c) 0)
+        ≡ first_of3 (get_or x c 0 + get_or (numbers_in left) (i * z.width + c) 0)
+        (get_or x (c + 1) 0 + get_or (numbers_in up) (i * z.width + c) 0)
         (get_or x (c + 2) 0 + get_or (numbers_in right) (i * z.width + c) 0)
     way_by-steps e =
         ap (λ k. way_of3 false w x k c) (kept_by-steps e)
@@ -77,7 +81,8 @@ pub record Cheap (k : ℕ → CostRows) (w : ℕ) : Type 0 where
   pub wide : length (k 0).up ≡ w
   pub few : (i c : ℕ) → get_or (k i).up c 0 ≤ largest_number
 
-pub kept-cheap : (rule : EnergyRule) (z : Size) (w : ℕ) (up left right : List ℕ) → PlanesNeeded z w (one_cost rule) up (length left) (length right)
+pub kept-cheap : (rule : EnergyRule) (z : Size) (w : ℕ) (up left right : List ℕ)
+    → PlanesNeeded z w (one_cost rule) up (length left) (length right)
     → Cheap (costs_in rule z w up left right) w
 kept-cheap rule z w up left right n =
     let s = sides_are z n.sides in

@@ -12,13 +12,12 @@ use Rattle.grids.proofs.Rows.{rows_of_at, length-rows_of, row_at_get_d, part_end
 use Rattle.grids.proofs.Orders.{le-or-lt}
 use Rattle.pictures.specs.declared.sizes.Size.{Size}
 use Rattle.pictures.specs.Numbers.{numbers_in, largest_number}
-use Rattle.pictures.specs.Pictures.{pixels}
 use mathlib.Core.Bool.{Bool}
 use Rattle.pictures.proofs.Limits.{sides_are}
 use Rattle.seam_find_kept.specs.Finding.{sums_bytes}
 use Rattle.seam_find_kept.specs.Inner.Down.{PlanesNeeded, SpaceNeeded}
 use Rattle.pictures.proofs.Samples.{AreBytes, take_bytes, drop_bytes}
-use Rattle.seam_planes.specs.Planes.{fronts, numbers_of}
+use Rattle.seam_planes.specs.Planes.{fronts, numbers_of, plane_bytes}
 use Rattle.seam_planes.proofs.Fronts.{fronts_at}
 use Rattle.seam_planes.proofs.Elements.{numbers_front}
 
@@ -46,24 +45,31 @@ row-past z w i plane past =
     let n = numbers_of z.width z.height plane in
     get_or-eq_default (fronts w n) [] (rw (length-map n (take w), length-rows_of) past)
 
-pub row-small : (z : Size) (w i : ℕ) (plane : List ℕ) → w ≤ z.width → AreBytes plane → (c : ℕ) → get_or (row_of z w i plane) c 0 ≤ largest_number
+pub row-small : (z : Size) (w i : ℕ) (plane : List ℕ) → w ≤ z.width → AreBytes plane → (c : ℕ)
+    → get_or (row_of z w i plane) c 0 ≤ largest_number
 row-small z w i plane narrow bytes c =
     ⊎_elim
     (λ (h : z.height ≤ i). rw (row-past z w i plane h) (omega arith))
-    (λ (h : i < z.height). rw (row_is z w i plane narrow h) (number-most (bytes_at z w i plane) (take_bytes (2 * w) (drop (i * (2 * z.width)) plane) (drop_bytes (i * (2 * z.width)) plane bytes)) c))
+    (λ (h : i < z.height). rw (row_is z w i plane narrow h) (number-most (bytes_at z w i plane) are c))
     (le-or-lt z.height i)
+  where
+    are : AreBytes (bytes_at z w i plane)
+    are = take_bytes (2 * w) (drop (i * (2 * z.width)) plane) (drop_bytes (i * (2 * z.width)) plane bytes)
 
 -- Row i ends within a plane that is long enough,
-row-end : (z : Size) (w i plane : ℕ) → w ≤ z.width → i < z.height → plane ≡ 2 * pixels z → i * (2 * z.width) + 2 * w ≤ plane
+row-end : (z : Size) (w i plane : ℕ) → w ≤ z.width → i < z.height → plane ≡ plane_bytes z → i * (2 * z.width) + 2 * w ≤ plane
 row-end z w i plane narrow inside long = omega (arith, part_end i z.height z.width inside)
 
 -- and so has its bytes.
-pub bytes-long : (z : Size) (w i : ℕ) (plane : List ℕ) → w ≤ z.width → i < z.height → length plane ≡ 2 * pixels z → length (bytes_at z w i plane) ≡ 2 * w
+pub bytes-long : (z : Size) (w i : ℕ) (plane : List ℕ) → w ≤ z.width → i < z.height → length plane ≡ plane_bytes z
+    → length (bytes_at z w i plane) ≡ 2 * w
 bytes-long z w i plane narrow inside long =
-    length-take-le (2 * w) (drop (i * (2 * z.width)) plane) (omega (arith, row-end z w i (length plane) narrow inside long, length-drop (i * (2 * z.width)) plane))
+    length-take-le (2 * w) (drop (i * (2 * z.width)) plane)
+    (omega (arith, row-end z w i (length plane) narrow inside long, length-drop (i * (2 * z.width)) plane))
 
 -- They are what is lent.
-pub row-lent : (z : Size) (w i : ℕ) (plane : List ℕ) → take (i * (2 * z.width) + 2 * w - i * (2 * z.width)) (drop (i * (2 * z.width)) plane) ≡ bytes_at z w i plane
+pub row-lent : (z : Size) (w i : ℕ) (plane : List ℕ)
+    → take (i * (2 * z.width) + 2 * w - i * (2 * z.width)) (drop (i * (2 * z.width)) plane) ≡ bytes_at z w i plane
 row-lent z w i plane = ap (λ n. take n (drop (i * (2 * z.width)) plane)) (add-sub_cancel_left (i * (2 * z.width)) (2 * w))
 
 -- Number c of row i, as it is read from the whole plane,
@@ -77,7 +83,8 @@ row_at_c z w i c plane narrow inside l =
     ∙ row_at_get_d z.width n i c 0 (omega arith))
 
 -- which has its bytes.
-pub number_within : (z : Size) (w i c : ℕ) (plane : ℕ) → w ≤ z.width → i < z.height → c < w → plane ≡ 2 * pixels z → 2 * (i * z.width + c) + 1 < plane
+pub number_within : (z : Size) (w i c : ℕ) (plane : ℕ) → w ≤ z.width → i < z.height → c < w → plane ≡ plane_bytes z
+    → 2 * (i * z.width + c) + 1 < plane
 number_within z w i c plane narrow inside l long = omega (arith, part_end i z.height z.width inside)
 
 -- There is room for row 0: in a plane, and in the space for sums.

@@ -40,13 +40,16 @@ taken-first : (b : List ℕ) (v : ℕ) → 4 ≤ length b → get_or (words_in b
 taken-first b v room is = first-only (words_in b) (omega (arith, length-words b)) ∙ ap (◌∷ []) is
 
 -- The row that is made, of two fences and of sums between them,
-module _ (fence w : ℕ) (left next right s : List ℕ) (left-long : length left ≡ 4) (next-long : length next ≡ 4 * w) (right-room : 4 ≤ length right)
+module _ (fence w : ℕ) (left next right s : List ℕ) (left-long : length left ≡ 4) (next-long : length next ≡ 4 * w)
+    (right-room : 4 ≤ length right)
     (left-is : get_or (words_in left) 0 0 ≡ fence) (next-is : words_in next ≡ s) (right-is : get_or (words_in right) 0 0 ≡ fence) where
   left-all : words_in left ≡ fence ∷ []
   left-all = sym (take_all 1 (words_in left) (omega (arith, length-words left))) ∙ taken-first left fence (omega arith) left-is
 
   words : words_in (left ++ (next ++ right)) ≡ fence ∷ (s ++ words_in right)
-  words = words_append 1 left (next ++ right) left-long ∙ ap₂ ◌++◌ left-all (words_append w next right next-long ∙ ap (◌++ words_in right) next-is)
+  words =
+      words_append 1 left (next ++ right) left-long
+      ∙ ap₂ ◌++◌ left-all (words_append w next right next-long ∙ ap (◌++ words_in right) next-is)
 
   sums-long : length s ≡ w
   sums-long = omega (arith, ap length next-is, length-words next)

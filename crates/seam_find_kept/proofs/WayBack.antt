@@ -39,7 +39,8 @@ which x y z = go (le-or-lt x (min y z)) (le-or-lt y z)
     go (inr l) (inr m) = third (rw (lt-leb x (min y z) l, lt-leb y z m) refl) m
 
 -- Below a row of sums of which none with the cost of coming from straight above reaches the fence.
-module _ (fence w : ℕ) (s : List ℕ) (k : CostRows) (long : length s ≡ w) (c : ℕ) (inside : c < w) (low : get_or s c 0 + get_or k.up c 0 < fence) where
+module _ (fence w : ℕ) (s : List ℕ) (k : CostRows) (long : length s ≡ w) (c : ℕ) (inside : c < w)
+    (low : get_or s c 0 + get_or k.up c 0 < fence) where
   abbrev x : List ℕ
   x = fenced false fence w s
 
@@ -67,7 +68,10 @@ module _ (fence w : ℕ) (s : List ℕ) (k : CostRows) (long : length s ≡ w) (
     pub before : c + way ≤ w
 
   pub way-within : Within way
-  way-within = go (subst (Which (left_sum x k c) (up_sum x k c) (right_sum x k c)) (sym plain) (which (left_sum x k c) (up_sum x k c) (right_sum x k c)))
+  way-within =
+      go
+      (subst (Which (left_sum x k c) (up_sum x k c) (right_sum x k c)) (sym plain)
+      (which (left_sum x k c) (up_sum x k c) (right_sum x k c)))
     where
       go : Which (left_sum x k c) (up_sum x k c) (right_sum x k c) way → Within way
       go (first e l) = record {
@@ -77,7 +81,9 @@ module _ (fence w : ℕ) (s : List ℕ) (k : CostRows) (long : length s ≡ w) (
       go (second e) = record { later = omega arith; before = omega arith }
       go (third e l) = record {
         later = omega arith;
-        before = ⊎_elim (λ (z : w ≤ c + 1). absurd (omega (arith, right-fence (omega arith), up_is))) (λ (p : c + 1 < w). omega arith) (le-or-lt w (c + 1));
+        before =
+            ⊎_elim (λ (z : w ≤ c + 1). absurd (omega (arith, right-fence (omega arith), up_is))) (λ (p : c + 1 < w). omega arith)
+            (le-or-lt w (c + 1));
       }
 
   pub way-leads : c + way - 1 ≡ came_from w c way
@@ -85,7 +91,8 @@ module _ (fence w : ℕ) (s : List ℕ) (k : CostRows) (long : length s ≡ w) (
 
 -- The way of column c of row i + 1.
 way_is : (fence w : ℕ) (costs : ℕ → CostRows) (i c : ℕ) → c < w
-    → get_or (ways_up false fence w costs i) c 0 ≡ way_of3 false w (fenced false fence w (sums_down false fence w costs i)) (costs (suc i)) c
+    → get_or (ways_up false fence w costs i) c 0
+    ≡ way_of3 false w (fenced false fence w (sums_down false fence w costs i)) (costs (suc i)) c
 unfolding ways_up
 way_is fence w costs i c l = table_at (way_of3 false w (fenced false fence w (sums_down false fence w costs i)) (costs (suc i))) w c 0 l
 
@@ -94,7 +101,8 @@ pub record Stepped (k : ℕ → CostRows) (w i c way : ℕ) : Type 0 where
   pub later : 1 ≤ c + way
   pub leads : c + way - 1 ≡ came_from w c (get_or (ways_up false fence32 w k i) c 0)
 
-pub stepped : (k : ℕ → CostRows) (w i c way : ℕ) (x : List ℕ) → Cheap k w → i < most_side → c < w → x ≡ fenced_sums k w i → way ≡ way_of3 false w x (k (i + 1)) c
+pub stepped : (k : ℕ → CostRows) (w i c way : ℕ) (x : List ℕ) → Cheap k w → i < most_side → c < w → x ≡ fenced_sums k w i
+    → way ≡ way_of3 false w x (k (i + 1)) c
     → Stepped k w i c way
 stepped k w i c way x cheap few inside is told =
     let s = sums_down false fence32 w k i in

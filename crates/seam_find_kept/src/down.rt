@@ -26,7 +26,8 @@ pub(crate) fn make_sums(
 ) -> usize
     requires planes { PlanesNeeded size width (one_cost method.energy) costs.up.now (length costs.left.now) (length costs.right.now) }
     requires space { SpaceNeeded size width (length sums.old) }
-    ensures { RowsGiven (costs_in method.energy size width costs.entry.up.now costs.entry.left.now costs.entry.right.now) size width sums.new result }
+    ensures { RowsGiven (costs_in method.energy size width costs.entry.up.now costs.entry.left.now costs.entry.right.now)
+        size width sums.new result }
 {
     first_sums(costs.up, width, sums);
     for i in 1..size.height {
@@ -61,7 +62,8 @@ fn next_sums(
     requires planes { PlanesNeeded size width (one_cost method.energy) costs.up.now (length costs.left.now) (length costs.right.now) }
     requires rows { RowsAbove (costs_in method.energy size width costs.up.now costs.left.now costs.right.now) size width i sums.old }
     requires inside { i < size.height }
-    ensures { RowsAbove (costs_in method.energy size width costs.entry.up.now costs.entry.left.now costs.entry.right.now) size width (i + 1) sums.new }
+    ensures { RowsAbove (costs_in method.energy size width costs.entry.up.now costs.entry.left.now costs.entry.right.now)
+        size width (i + 1) sums.new }
 {
     let stride = 4 * (width + 2);
     let (above, rest) = sums.split_at_mut(i * stride);
@@ -96,7 +98,9 @@ fn row_sums(
 )
     requires planes { PlanesNeeded size width (one_cost method.energy) costs.up.now (length costs.left.now) (length costs.right.now) }
     requires row { RowNeeded size width i (length above.now) (words_in above.now) (length next.old) }
-    ensures { words_in next.new ≡ table (sum_of3 (words_in above.now) (costs_in method.energy size width costs.entry.up.now costs.entry.left.now costs.entry.right.now i)) width }
+    ensures { words_in next.new ≡ table
+        (sum_of3 (words_in above.now)
+        (costs_in method.energy size width costs.entry.up.now costs.entry.left.now costs.entry.right.now i)) width }
 {
     let at = i * (2 * size.width);
     let end = at + 2 * width;

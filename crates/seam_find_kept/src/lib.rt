@@ -36,7 +36,12 @@ pub fn find_kept(
     seam: &mut [u16],
 )
     ensures long { (length sums.new ≡ length sums.old) × (length seam.new ≡ length seam.old) }
-    ensures found { FindAsked size width (one_cost method.energy) (length costs.entry.up.now) (length costs.entry.left.now) (length costs.entry.right.now) (length sums.old) (length seam.old) → seam.new ≡ path_columns fence32 width size.height (costs_in method.energy size width costs.entry.up.now costs.entry.left.now costs.entry.right.now) ++ drop size.height seam.old }
+    ensures found { FindAsked size width (one_cost method.energy)
+        (length costs.entry.up.now) (length costs.entry.left.now) (length costs.entry.right.now)
+        (length sums.old) (length seam.old)
+        → seam.new ≡ path_columns fence32 width size.height
+        (costs_in method.energy size width costs.entry.up.now costs.entry.left.now costs.entry.right.now)
+        ++ drop size.height seam.old }
 {
     if !is_asked(costs, size, width, method, sums.len(), seam.len()) {
         return;
@@ -54,9 +59,11 @@ fn is_asked(
     sums: usize,
     seam: usize,
 ) -> bool
-    ensures asked { result ≡ true → FindAsked size width (one_cost method.energy) (length costs.entry.up.now) (length costs.entry.left.now) (length costs.entry.right.now) sums seam }
+    ensures asked { result ≡ true → FindAsked size width (one_cost method.energy)
+        (length costs.entry.up.now) (length costs.entry.left.now) (length costs.entry.right.now) sums seam }
     ensures bytes { result ≡ true → (i : ℕ) → get_or costs.entry.up.now i 0 ≤ 255 }
-    ensures served { FindAsked size width (one_cost method.energy) (length costs.entry.up.now) (length costs.entry.left.now) (length costs.entry.right.now) sums seam → result ≡ true }
+    ensures served { FindAsked size width (one_cost method.energy)
+        (length costs.entry.up.now) (length costs.entry.left.now) (length costs.entry.right.now) sums seam → result ≡ true }
 {
     let Ok(allowed) = AllowedSize::new(size) else {
         return false;

@@ -44,7 +44,8 @@ pub(crate) fn row_by_steps(
     width: usize,
     next: &mut [u8],
 )
-    requires { ByStepsNeeded (length above.now) (words_in above.now) (length from_up.now) (length from_left.now) (length from_right.now) width (length next.old) }
+    requires { ByStepsNeeded (length above.now) (words_in above.now)
+        (length from_up.now) (length from_left.now) (length from_right.now) width (length next.old) }
     ensures { words_in next.new ≡ table (sum_of3 (words_in above.now) (step_rows from_up.now from_left.now from_right.now)) width }
 {
     for c in 0..width {

@@ -29,7 +29,10 @@ pub(crate) fn trace_sums(
     requires planes { PlanesNeeded size width (one_cost method.energy) costs.up.now (length costs.left.now) (length costs.right.now) }
     requires rows { RowsGiven (costs_in method.energy size width costs.up.now costs.left.now costs.right.now) size width sums.now column }
     requires seam_room { SeamNeeded size width (length seam.old) (length sums.now) }
-    ensures { seam.new ≡ columns_to (flat (table (ways_up false fence32 width (costs_in method.energy size width costs.entry.up.now costs.entry.left.now costs.entry.right.now)) (size.height - 1))) width (size.height - 1) column ++ drop size.height seam.old }
+    ensures { seam.new ≡ columns_to
+        (flat (table
+        (ways_up false fence32 width (costs_in method.energy size width costs.entry.up.now costs.entry.left.now costs.entry.right.now))
+        (size.height - 1))) width (size.height - 1) column ++ drop size.height seam.old }
 {
     let mut c = column;
     for i in (0..size.height - 1).rev() {
@@ -53,8 +56,12 @@ fn step_up(
     row: &[u8],
 ) -> usize
     requires planes { PlanesNeeded size width (one_cost method.energy) costs.up.now (length costs.left.now) (length costs.right.now) }
-    requires row { StepNeeded (costs_in method.energy size width costs.up.now costs.left.now costs.right.now) size width i c (length row.now) (words_in row.now) }
-    ensures { result ≡ came_from width c (get_or (ways_up false fence32 width (costs_in method.energy size width costs.entry.up.now costs.entry.left.now costs.entry.right.now) i) c 0) }
+    requires row { StepNeeded (costs_in method.energy size width costs.up.now costs.left.now costs.right.now)
+        size width i c (length row.now) (words_in row.now) }
+    ensures { result ≡ came_from width c
+        (get_or
+        (ways_up false fence32 width (costs_in method.energy size width costs.entry.up.now costs.entry.left.now costs.entry.right.now) i)
+        c 0) }
 {
     c + way_up(costs, size, width, method, i, c, row) as usize - 1
 }
@@ -71,7 +78,8 @@ fn way_up(
 ) -> u8
     requires planes { PlanesNeeded size width (one_cost method.energy) costs.up.now (length costs.left.now) (length costs.right.now) }
     requires row { WayNeeded size width i c (length row.now) (words_in row.now) }
-    ensures { result ≡ way_of3 false width (words_in row.now) (costs_in method.energy size width costs.entry.up.now costs.entry.left.now costs.entry.right.now (i + 1)) c }
+    ensures { result ≡ way_of3 false width (words_in row.now)
+        (costs_in method.energy size width costs.entry.up.now costs.entry.left.now costs.entry.right.now (i + 1)) c }
 {
     let left = sum_at(row, c);
     let up = sum_at(row, c + 1);

@@ -23,7 +23,9 @@ loop-i-init c =
     let k = a.costs in
     let n = c.requires.planes in
     let some = (sides_are a.size n.sides).height_some in
-    let row = c.first_sums.ensures ∙ ap (fenced false fence32 a.width) (front-costs a.method.energy a.size a.width k.up.now k.left.now k.right.now n.within some) in
+    let row =
+    c.first_sums.ensures
+    ∙ ap (fenced false fence32 a.width) (front-costs a.method.energy a.size a.width k.up.now k.left.now k.right.now n.within some) in
     row-first _ a.size a.width c.first_sums.new.sums some (omega (arith, c.first_sums.auto.sums, c.requires.space.room)) row
 
 pub returns : goal.returns
@@ -36,5 +38,7 @@ returns c =
     let rows = λ (r : ℕ) (h : r < a.size.height). l.invariant.rows r (omega (arith, h, c.loop-i-test.false)) in
     record {
       rows = rows;
-      column_is = last-column _ a.size a.width c.least_column.result l.sums cheap rows (sides_are a.size n.sides).height_some c.least_column.ensures;
+      column_is =
+          last-column _ a.size a.width c.least_column.result l.sums cheap rows
+          (sides_are a.size n.sides).height_some c.least_column.ensures;
     }

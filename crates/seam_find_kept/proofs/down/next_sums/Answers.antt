@@ -37,7 +37,8 @@ returns c =
     let next-was = c.split_at_mut-next.ensures in
     let there = rows-front n above above-was.front in
     let whole = part_end a.i a.size.height (sums_bytes a.width) c.requires.inside in
-    one-more _ a.size a.width a.i above left next right c.requires.inside there.long (omega (arith, c.put_fences.auto.left, left-was.front_len)) (omega (arith, c.row_sums.auto.next, next-was.front_len))
+    one-more _ a.size a.width a.i above left next right c.requires.inside there.long
+    (omega (arith, c.put_fences.auto.left, left-was.front_len)) (omega (arith, c.row_sums.auto.next, next-was.front_len))
     (omega (
       arith,
       length-append above (left ++ (next ++ right)),

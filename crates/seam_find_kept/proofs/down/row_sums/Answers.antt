@@ -25,4 +25,5 @@ returns-else-has_one_cost c =
     c.row_by_steps.ensures
     ∙ ap (λ x. table (sum_of3 (words_in a.above.now) x) a.width)
     (steps-lent a.method.energy a.size a.width k.up.now k.left.now k.right.now a.i n.planes.within n.row.inside
-    (sym c.has_one_cost.ensures ∙ c.if-has_one_cost.false) (row-lent a.size a.width a.i k.up.now) (row-lent a.size a.width a.i k.left.now) (row-lent a.size a.width a.i k.right.now))
+    (sym c.has_one_cost.ensures ∙ c.if-has_one_cost.false) (row-lent a.size a.width a.i k.up.now) (row-lent a.size a.width a.i k.left.now)
+    (row-lent a.size a.width a.i k.right.now))

@@ -17,7 +17,14 @@ loop-c-preserved c =
     let l = c.loop-c in
     let x = words_in c.args.above.now in
     let sum : c.min-least.result + c.cost_at.result ≡ sum_of3 (words_in c.args.above.now) (alike_rows (numbers_in c.args.cost.now)) l.c =
-    rw (c.min-least.ensures, c.min.ensures, c.sum_at.ensures, c.sum_at-in-loop-c.ensures, c.sum_at-in-loop-c-2.ensures, c.cost_at.ensures.number)
+    rw (
+      c.min-least.ensures,
+      c.min.ensures,
+      c.sum_at.ensures,
+      c.sum_at-in-loop-c.ensures,
+      c.sum_at-in-loop-c-2.ensures,
+      c.cost_at.ensures.number,
+    )
     (sym (sum_alike x (numbers_in c.args.cost.now) l.c)) in
     rw c.put_word.ensures (stored_turn _ _ _ l.c (words_in l.next) _ 0 c.loop-c-test.true sum l.invariant)
 

@@ -6,4 +6,5 @@ use Rattle.seam_find_kept.specs.Inner.Words.{words_in}
 use Rattle.seam_find_kept.proofs.rows.row_by_one.Given as goal
 
 abbrev pub invariant-loop-c : goal.invariant-loop-c
-invariant-loop-c l = Stored (sum_of3 (words_in l.above) (alike_rows (numbers_in l.cost))) (words_in l.initial.next) l.width l.c (words_in l.next)
+invariant-loop-c l =
+    Stored (sum_of3 (words_in l.above) (alike_rows (numbers_in l.cost))) (words_in l.initial.next) l.width l.c (words_in l.next)

@@ -19,7 +19,16 @@ loop-c-preserved c =
     let x = words_in a.above.now in
     let k = step_rows a.from_up.now a.from_left.now a.from_right.now in
     let sum : c.min-in-loop-c.result ≡ sum_of3 x k l.c =
-    rw (c.min-in-loop-c.ensures, c.min.ensures, c.sum_at.ensures, c.sum_at-in-loop-c.ensures, c.sum_at-in-loop-c-2.ensures, c.cost_at.ensures.number, c.cost_at-in-loop-c.ensures.number, c.cost_at-in-loop-c-2.ensures.number)
+    rw (
+      c.min-in-loop-c.ensures,
+      c.min.ensures,
+      c.sum_at.ensures,
+      c.sum_at-in-loop-c.ensures,
+      c.sum_at-in-loop-c-2.ensures,
+      c.cost_at.ensures.number,
+      c.cost_at-in-loop-c.ensures.number,
+      c.cost_at-in-loop-c-2.ensures.number,
+    )
     (sym (three x k l.c)) in
     rw c.put_word.ensures (stored_turn _ _ _ l.c (words_in l.next) _ 0 c.loop-c-test.true sum l.invariant)
 

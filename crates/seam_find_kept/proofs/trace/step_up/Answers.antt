@@ -24,7 +24,8 @@ way_up-requires-clause-row c =
     }
 
 step : (c : After-way_up)
-    → Stepped (costs_in c.args.method.energy c.args.size c.args.width c.args.costs.up.now c.args.costs.left.now c.args.costs.right.now) c.args.width c.args.i c.args.c c.way_up.result
+    → Stepped (costs_in c.args.method.energy c.args.size c.args.width c.args.costs.up.now c.args.costs.left.now c.args.costs.right.now)
+    c.args.width c.args.i c.args.c c.way_up.result
 step c =
     let a = c.args in
     let k = a.costs in

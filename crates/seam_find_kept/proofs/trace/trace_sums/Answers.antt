@@ -55,4 +55,5 @@ returns c =
     let l = c.loop-i in
     let some = (sides_are a.size c.requires.planes.sides).height_some in
     let long = length_columns ways a.seam.now path w h (h - 1) a.column in
-    back_end ways a.seam.now path w h l.i l.c l.seam (omega arith) (omega (arith, c.requires.seam_room.seam_room, some)) (omega (arith, some, long)) l.invariant
+    back_end ways a.seam.now path w h l.i l.c l.seam (omega arith) (omega (arith, c.requires.seam_room.seam_room, some))
+    (omega (arith, some, long)) l.invariant

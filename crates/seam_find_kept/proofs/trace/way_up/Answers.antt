@@ -7,7 +7,8 @@ use Rattle.seam_find_kept.proofs.trace.way_up.Goals as goal
 pub cost_at-requires : goal.cost_at-requires
 cost_at-requires c =
     let n = c.requires in
-    number_within c.args.size c.args.width (c.args.i + 1) c.args.c _ n.planes.within n.row.inside n.row.column (n.planes.left_long (sym c.has_one_cost.ensures ∙ c.if-has_one_cost.false))
+    number_within c.args.size c.args.width (c.args.i + 1) c.args.c _ n.planes.within n.row.inside n.row.column
+    (n.planes.left_long (sym c.has_one_cost.ensures ∙ c.if-has_one_cost.false))
 
 pub cost_at-requires-2 : goal.cost_at-requires-2
 cost_at-requires-2 c =
@@ -17,7 +18,8 @@ cost_at-requires-2 c =
 pub cost_at-requires-3 : goal.cost_at-requires-3
 cost_at-requires-3 c =
     let n = c.requires in
-    number_within c.args.size c.args.width (c.args.i + 1) c.args.c _ n.planes.within n.row.inside n.row.column (n.planes.right_long (sym c.has_one_cost.ensures ∙ c.if-has_one_cost.false))
+    number_within c.args.size c.args.width (c.args.i + 1) c.args.c _ n.planes.within n.row.inside n.row.column
+    (n.planes.right_long (sym c.has_one_cost.ensures ∙ c.if-has_one_cost.false))
 
 pub returns-then-has_one_cost : goal.returns-then-has_one_cost
 returns-then-has_one_cost c =
@@ -26,7 +28,8 @@ returns-then-has_one_cost c =
     let n = c.requires in
     c.way.ensures
     ∙ rw (c.sum_at-left.ensures, c.sum_at-up.ensures, c.sum_at-right.ensures)
-    (sym (way_by-one a.method.energy a.size a.width k.up.now k.left.now k.right.now (a.i + 1) n.planes.within n.row.inside _ a.c n.row.column
+    (sym (way_by-one a.method.energy a.size a.width k.up.now k.left.now k.right.now
+    (a.i + 1) n.planes.within n.row.inside _ a.c n.row.column
     (sym c.has_one_cost.ensures ∙ c.if-has_one_cost.true)))
 
 pub returns : goal.returns
@@ -35,6 +38,14 @@ returns c =
     let k = a.costs in
     let n = c.requires in
     c.way-2.ensures
-    ∙ rw (c.sum_at-left.ensures, c.sum_at-up.ensures, c.sum_at-right.ensures, c.cost_at.ensures.number, c.cost_at-2.ensures.number, c.cost_at-3.ensures.number)
-    (sym (way_by-steps a.method.energy a.size a.width k.up.now k.left.now k.right.now (a.i + 1) n.planes.within n.row.inside _ a.c n.row.column
+    ∙ rw (
+      c.sum_at-left.ensures,
+      c.sum_at-up.ensures,
+      c.sum_at-right.ensures,
+      c.cost_at.ensures.number,
+      c.cost_at-2.ensures.number,
+      c.cost_at-3.ensures.number,
+    )
+    (sym (way_by-steps a.method.energy a.size a.width k.up.now k.left.now k.right.now
+    (a.i + 1) n.planes.within n.row.inside _ a.c n.row.column
     (sym c.has_one_cost.ensures ∙ c.if-has_one_cost.false)))
