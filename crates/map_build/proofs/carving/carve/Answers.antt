@@ -9,7 +9,7 @@ use native.Mathlib.Nat.{mul-le-mul_left, mul-le-mul_right}
 use Rattle.pictures.specs.Numbers.{pairs}
 use Rattle.grids.specs.Rows.{flat}
 use Rattle.pictures.specs.Pictures.{pixel_bytes, bytes, picture, picture_bytes, picture_in, pixels}
-use Rattle.seam_keep.specs.Keeping.{FillAsked}
+use Rattle.seam_keep.specs.Keeping.{FillAsked, StepsAsked}
 use Rattle.pictures.proofs.Limits.{bytes-few}
 use Rattle.map_rules.specs.Spaces.{map_bytes}
 use Rattle.map_build.specs.Inner.Carving.{PlanesSized}
@@ -57,7 +57,7 @@ loop-t-init c =
     let there : picture_in z c.args.work.now ≡ picture z c.split_at_mut-picture.result.0.now =
     sym (ap (picture z) (c.split_at_mut-picture.ensures.front ∙ ap (λ k. take k c.args.work.now) c.picture_bytes.ensures.0)) in
     let asked : (x : ℕ) → x ≡ map_bytes z → FillAsked z (length c.split_at_mut-picture.result.0.now) x = λ x e. record { sides = s.sides; long = s.picture_long; room = e } in
-    let all = record { up_asked = asked _ s.up_long; left_asked = asked _ s.left_long; right_asked = asked _ s.right_long } in (
+    let all : StepsAsked z (length c.split_at_mut-picture.result.0.now) (length c.split_at_mut-up.result.0.now) (length c.split_at_mut-left.result.0.now) (length c.split_at_mut-right.result.0.now) = record { up_asked = asked _ s.up_long; left_asked = asked _ s.left_long; right_asked = asked _ s.right_long } in (
       room split,
       λ i. omega (arith, c.type_inv.map i),
       rw there
@@ -101,7 +101,7 @@ returns c =
     let left : z.width - a.depth ≤ z.width = omega arith in
     record {
       packed =
-          take-append-le (z.height * ((z.width - a.depth) * pixel_bytes z.kind)) c.pack_picture.new.plane (l.up ++ (l.left ++ (l.right ++ (l.columns ++ l.sums))))
+          take-append-le (z.height * ((z.width - a.depth) * pixel_bytes z.kind)) c.pack_picture.new.picture (l.up ++ (l.left ++ (l.right ++ (l.columns ++ l.sums))))
           (omega (arith, less, c.pack_picture.ensures.long, k.sized.picture_long))
           ∙ c.pack_picture.ensures.packed (k.sized.sides, left, k.sized.picture_long) ∙ ap (bytes z.kind) k.picture_left;
       map_given = map_is z l.map k.sized.map_long l.invariant.1 ∙ ap (λ m. pairs (flat m)) k.numbered;

@@ -41,7 +41,7 @@ keep_all-requires-clause-asked c =
     let a = c.args in
     rw (seam (goal.at.keep_all-requires-clause-asked c).After-find_kept)
     (keep_asked a.size a.method a.width a.number a.picture.now a.up.now a.left.now a.right.now a.columns.now (length a.sums.now) a.map.now c.requires
-    (length c.close_picture.new.plane) c.close_picture.ensures.long)
+    (length c.close_picture.new.picture) c.close_picture.ensures.long)
 
 pub returns : goal.returns
 returns c =
@@ -74,5 +74,5 @@ returns c =
           ∙ numbered a.size a.method a.width a.number a.picture.now a.up.now a.left.now a.right.now a.columns.now (length a.sums.now) a.map.now n;
       costs_kept = kept;
       held = held_next a.size a.method a.width a.number a.picture.now a.up.now a.left.now a.right.now a.columns.now (length a.sums.now) a.map.now n
-          p.new.plane k.new.up k.new.left k.new.right columns.new.plane first.new.map closed columns_closed put kept;
+          p.new.picture k.new.up k.new.left k.new.right columns.new.plane first.new.map closed columns_closed put kept;
     }
