@@ -113,7 +113,7 @@ module _ (how : Method) (w h : ℕ) (q : Picture) (costs : ℕ → CostRows) (so
   unfolding wrap_of
   path_is = ap (λ o. Option.get_or o []) seam.is
 
-  pub seam-kept : path_columns fence32 w h costs ≡ seam_of how w h q
+  seam-kept : path_columns fence32 w h costs ≡ seam_of how w h q
   unfolding seam_of
   seam-kept = path-same fence32 w h costs all are some-row ∙ seam.columns ∙ ap reverse (sym path_is)
 

@@ -17,7 +17,7 @@ use Rattle.seam_find_kept.specs.Inner.Down.{fenced_sums}
 use Rattle.seam_find_kept.proofs.KeptRows.{Cheap}
 
 -- A row that stands between fences does so by itself.
-pub between-fences : (fence w : ℕ) (s x : List ℕ) → length s ≡ w → x ≡ fenced false fence w s → x ≡ fenced false fence w (take w (drop 1 x))
+between-fences : (fence w : ℕ) (s x : List ℕ) → length s ≡ w → x ≡ fenced false fence w s → x ≡ fenced false fence w (take w (drop 1 x))
 between-fences fence w s x long is =
     is ∙ ap (fenced false fence w) (sym (ap (λ y. take w (drop 1 y)) is ∙ take_at s (fence ∷ []) w long))
 

@@ -63,11 +63,11 @@ module _ (fence w : ℕ) (s : List ℕ) (k : CostRows) (long : length s ≡ w) (
   plain = way_plain false w x k c (inr refl) (inr refl)
 
   -- The way of column c leads to one of the columns.
-  pub record Within (way : ℕ) : Type 0 where
-    pub later : 0 < c + way
-    pub before : c + way ≤ w
+  record Within (way : ℕ) : Type 0 where
+    later : 0 < c + way
+    before : c + way ≤ w
 
-  pub way-within : Within way
+  way-within : Within way
   way-within =
       go
       (subst (Which (left_sum x k c) (up_sum x k c) (right_sum x k c)) (sym plain)
@@ -86,7 +86,7 @@ module _ (fence w : ℕ) (s : List ℕ) (k : CostRows) (long : length s ≡ w) (
             (le-or-lt w (c + 1));
       }
 
-  pub way-leads : c + way - 1 ≡ came_from w c way
+  way-leads : c + way - 1 ≡ came_from w c way
   way-leads = sym (came_inner w c way way-within.later way-within.before)
 
 -- The way of column c of row i + 1.
