@@ -19,9 +19,8 @@ use Rattle.pictures.specs.Refusals.{refusal}
 use Rattle.pictures.specs.Pictures.{side_rules}
 use Rattle.pictures.proofs.Limits.{sides_are}
 use Rattle.pictures.proofs.TwoBytes.{numbers-take, numbers-drop, numbers-row, length-numbers}
-use Rattle.seam_planes.specs.Planes.{numbers_of}
+use Rattle.seam_planes.specs.Planes.{numbers_of, plane_bytes}
 use Rattle.seam_planes.proofs.Lent.{whole_turn, front_lent}
-use Rattle.seam_keep.specs.Keeping.{plane_bytes}
 
 -- A plane has a row of two bytes a pixel for each of the picture's.
 pub plane_rows : (z : Size) → plane_bytes z ≡ z.height * (2 * z.width)

@@ -7,7 +7,7 @@ use Rattle.energy.specs.declared.methods.Method.{Method}
 use Rattle.energy.specs.declared.pixels.Step.{Step}
 use Rattle.energy.specs.Energy.{costs_at}
 use Rattle.energy.specs.Pixels.{cost_to}
-use Rattle.seam_keep.specs.Keeping.{plane_bytes}
+use Rattle.seam_planes.specs.Planes.{plane_bytes}
 
 -- A number, as two bytes hold it, put at column c of a row of numbers, where there is such a column.
 abbrev pub put_where : Bool → ℕ → ℕ → List ℕ → List ℕ

@@ -1,9 +1,9 @@
 -- The costs of a picture's pixels, kept in planes of numbers.
-use Rattle.std.specs.Prelude.{◌≡◌, true, false, List, ℕ, ◌+◌, ◌*◌, ◌≤◌, ◌<◌, length}
+use Rattle.std.specs.Prelude.{◌≡◌, true, false, List, ℕ, ◌+◌, ◌≤◌, ◌<◌, length}
 use Rattle.grids.specs.Table.{table}
 use Rattle.pictures.specs.declared.sizes.Size.{Size}
 use Rattle.pictures.specs.Refusals.{refusal}
-use Rattle.pictures.specs.Pictures.{Picture, picture_bytes, pixels, side_rules}
+use Rattle.pictures.specs.Pictures.{Picture, picture_bytes, side_rules}
 use Rattle.energy.specs.declared.methods.Method.{Method}
 use Rattle.energy.specs.declared.pixels.Step.{Step}
 use Rattle.energy.specs.Energy.{costs_at}
@@ -12,14 +12,11 @@ use Rattle.energy.specs.Pixels.{cost_to}
 use Rattle.seam_theory.specs.Connected.{linked}
 use Rattle.seam_theory.specs.Paths.{near}
 use Rattle.seam_bounds.specs.Moves.{outside}
+use Rattle.seam_planes.specs.Planes.{plane_bytes}
 
 -- What coming from one side to each pixel of a picture of w columns and h rows costs, row by row.
 unfoldable pub cost_grid : Method → Step → ℕ → ℕ → Picture → List (List ℕ)
 cost_grid how from w h p = table (λ r. table (λ c. cost_to from (costs_at how w h p r c)) w) h
-
--- The bytes of a plane of numbers, two for each pixel.
-abbrev pub plane_bytes : Size → ℕ
-plane_bytes z = 2 * pixels z
 
 -- A picture of this size, and a plane for its costs.
 pub record FillAsked (z : Size) (picture plane : ℕ) : Type 0 where
