@@ -106,10 +106,10 @@ pub sample-most : (k : Kind) → largest_sample k ≤ most_sample
 sample-most Grey = omega arith
 sample-most Rgb = omega arith
 
--- The same of a picture in a buffer.
+-- The same of a picture in a buffer, also where only its first w columns are left.
 pub buffer_costs-most : (z : Size) (how : Method) (b : List ℕ) → length b ≡ picture_bytes z → AreBytes b
-    → (r c : ℕ) → CostsMost (2 * (channels_of z.kind * largest_sample z.kind)) (costs_at how z.width z.height (picture z b) r c)
-buffer_costs-most z how b e h = costs-most (channels_of z.kind) (largest_sample z.kind) (picture z b) short below how z.width z.height
+    → (w h r c : ℕ) → CostsMost (2 * (channels_of z.kind * largest_sample z.kind)) (costs_at how w h (picture z b) r c)
+buffer_costs-most z how b e bytes = costs-most (channels_of z.kind) (largest_sample z.kind) (picture z b) short below how
   where
     short : (r c : ℕ) → length (pixel (picture z b) r c) ≤ channels_of z.kind
     short = pixel-short z (picture z b) (picture-of_size z b e)
@@ -124,5 +124,5 @@ buffer_costs-most z how b e h = costs-most (channels_of z.kind) (largest_sample 
         (λ (l : r < z.height).
         let row = row_at (row_bytes z) r b in
         rw (pixel_at z b e r c l)
-        (samples-most z.kind (row_at (pixel_bytes z.kind) c row) (part (pixel_bytes z.kind) c row (part (row_bytes z) r b h)) k))
+        (samples-most z.kind (row_at (pixel_bytes z.kind) c row) (part (pixel_bytes z.kind) c row (part (row_bytes z) r b bytes)) k))
         (le-or-lt z.height r)

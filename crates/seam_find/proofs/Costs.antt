@@ -24,7 +24,7 @@ pub pixel-most : (z : Size) (how : Method) (b : List ℕ) → Sized z (length b)
     → (r c : ℕ) → CostsMost most_energy (costs_at how z.width z.height (picture z b) r c)
 pixel-most z how b s h r c =
     costs-within (2 * (channels_of z.kind * largest_sample z.kind)) most_energy _ (omega (arith, mul-le-mul s.channels_most (sample-most z.kind)))
-    (buffer_costs-most z how b s.length_is h r c)
+    (buffer_costs-most z how b s.length_is h z.width z.height r c)
 
 -- A bound of all values is one of a table.
 pub table-most : (f : ℕ → ℕ) (n m : ℕ) → ((c : ℕ) → f c ≤ m) → (k : ℕ) → get_or (table f n) k 0 ≤ m
