@@ -1,4 +1,5 @@
 pub mod FourBytes
+pub mod Widths
 pub mod PlaneRows
 pub mod KeptRows
 pub mod Stored

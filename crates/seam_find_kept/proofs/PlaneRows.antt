@@ -14,7 +14,6 @@ use Rattle.pictures.specs.declared.sizes.Size.{Size}
 use Rattle.pictures.specs.Numbers.{numbers_in, largest_number}
 use mathlib.Core.Bool.{Bool}
 use Rattle.pictures.proofs.Limits.{sides_are}
-use Rattle.seam_find_kept.specs.Finding.{sums_bytes}
 use Rattle.seam_find_kept.specs.Inner.Down.{PlanesNeeded, SpaceNeeded}
 use Rattle.pictures.proofs.Samples.{AreBytes, take_bytes, drop_bytes}
 use Rattle.seam_planes.specs.Planes.{fronts, numbers_of, plane_bytes}
@@ -92,5 +91,5 @@ module _ {one : Bool} {z : Size} {w : ℕ} {up : List ℕ} {left right : ℕ} (n
   pub costs_end : 2 * w ≤ length up
   costs_end = omega (arith, row-end z w 0 (length up) n.within (sides_are z n.sides).height_some n.up_long)
 
-  pub sums_end : {sums : ℕ} → SpaceNeeded z w sums → sums_bytes w ≤ sums
-  sums_end space = omega (arith, space.room, part_end 0 z.height (sums_bytes w) (sides_are z n.sides).height_some)
+  pub sums_end : {b sums : ℕ} → SpaceNeeded b z w sums → (w + 2) * b ≤ sums
+  sums_end {b} space = omega (arith, space.room, part_end 0 z.height ((w + 2) * b) (sides_are z n.sides).height_some)

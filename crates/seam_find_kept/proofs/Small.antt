@@ -2,10 +2,10 @@
 use mathlib.Core.Path.{◌≡◌, refl, sym, ap, ◌∙◌}
 use mathlib.Core.Bool.{false}
 use mathlib.Core.List.{List, [], ◌∷◌}
-use Prim.Native.Nat.{ℕ, suc, ◌+◌, ◌≤◌, ◌<◌}
+use Prim.Native.Nat.{ℕ, suc, ◌+◌, ◌≤◌, ◌<◌, min}
 use native.Mathlib.Omega.{arith}
 use native.Mathlib.Nat.{mul-le-mul_right, add_comm}
-use lib.ListN.{length, get_or, take, drop}
+use lib.ListN.{length, get_or, take, drop, length-append, length-map}
 use lib.Seq.{take_at, get_or-take, get_or-drop}
 use Rattle.pictures.specs.Numbers.{largest_number}
 use Rattle.pictures.specs.Limits.{most_side}
@@ -13,7 +13,8 @@ use Rattle.seam_theory.specs.Sums.{CostRows, fenced, sums_down}
 use Rattle.seam_theory.proofs.Bounded.{fenced_at, length-sums, sums-most}
 use Rattle.seam_sums.specs.Fences.{fence32}
 use Rattle.seam_find.proofs.OneRow.{sums-within}
-use Rattle.seam_find_kept.specs.Inner.Down.{fenced_sums}
+use Rattle.seam_theory.proofs.Capped.{capped_at}
+use Rattle.seam_find_kept.specs.Inner.Down.{fenced_sums, kept_sums}
 use Rattle.seam_find_kept.proofs.KeptRows.{Cheap}
 
 -- A row that stands between fences does so by itself.
@@ -41,3 +42,12 @@ module _ (k : ℕ → CostRows) (w : ℕ) (cheap : Cheap k w) where
     fenced-small =
         sums-within (between-fences fence32 w (sums_down false fence32 w k i) (fenced_sums k w i) (sums-long i) refl)
         (λ c h. omega (arith, fenced_at false fence32 w (sums_down false fence32 w k i) c (omega (arith, sums-long i)), sums-low c h))
+
+    -- As it is kept neither.
+    pub kept-small : (most c : ℕ) → get_or (kept_sums most k w i) c 0 ≤ fence32
+    kept-small most c = omega (arith, capped_at most (fenced_sums k w i) c, fenced-small c)
+
+  pub kept-long : (most i : ℕ) → length (kept_sums most k w i) ≡ w + 2
+  kept-long most i =
+      let s = sums_down false fence32 w k i in
+      length-map (fenced_sums k w i) (min most) ∙ omega (arith, length-append s (fence32 ∷ []), sums-long i)

@@ -1,5 +1,5 @@
 -- The way back: which way leads where, and that none leads past an edge.
-use mathlib.Core.Path.{◌≡◌, refl, sym, ap, ap₂, ◌∙◌, subst}
+use mathlib.Core.Path.{◌≡◌, refl, sym, ap, ◌∙◌, subst}
 use mathlib.Core.Bool.{false}
 use mathlib.Core.Logic.{◌⊎◌, inl, inr, ⊎_elim}
 use mathlib.Core.List.{List, []}
@@ -11,32 +11,30 @@ use lib.Seq.{get_or_at}
 use borrow.Author.Tests.{le-leb, lt-leb}
 use Rattle.grids.proofs.Orders.{le-or-lt}
 use Rattle.grids.proofs.Tables.{table_at}
-use Rattle.seam_theory.specs.Sums.{CostRows, fenced, first_of3, left_sum, up_sum, right_sum, way_of3, came_from, sums_down, ways_up}
+use Rattle.seam_theory.specs.Sums.{CostRows, fenced, first_of3, left_sum, up_sum, right_sum, sum_of3, way_of3, came_from, sums_down, ways_up}
 use Rattle.seam_theory.proofs.Bounded.{fenced_at}
 use Rattle.seam_theory.proofs.Ways.{way_plain, came_inner}
 use Rattle.pictures.specs.Limits.{most_side}
 use Rattle.seam_sums.specs.Fences.{fence32}
-use Rattle.pictures.specs.declared.sizes.Size.{Size}
-use Rattle.seam_sums.proofs.Turns.{least_inside}
-use Rattle.seam_find.specs.ByCosts.{last_sums}
-use Rattle.seam_find_kept.specs.Inner.Down.{fenced_sums, RowsGiven}
+use Rattle.seam_theory.proofs.Capped.{capped_way}
+use Rattle.seam_find_kept.specs.Inner.Down.{fenced_sums, kept_sums}
 use Rattle.seam_find_kept.proofs.KeptRows.{Cheap}
 use Rattle.seam_find_kept.proofs.Small.{sums-long, sums-low}
 
--- Which of three is the least: the first, which isn't more than the second, the second, or the third, which is less.
+-- Which of three is the least, the first of equals.
 data Which (x y z way : ℕ) : Type 0 where
-  first : way ≡ 0 → x ≤ y → Which x y z way
-  second : way ≡ 1 → Which x y z way
-  third : way ≡ 2 → z < y → Which x y z way
+  first : way ≡ 0 → x ≤ min y z → Which x y z way
+  second : way ≡ 1 → y < x → y ≤ z → Which x y z way
+  third : way ≡ 2 → z < x → z < y → Which x y z way
 
 which : (x y z : ℕ) → Which x y z (first_of3 x y z)
 unfolding first_of3
 which x y z = go (le-or-lt x (min y z)) (le-or-lt y z)
   where
     go : (x ≤ min y z) ⊎ (min y z < x) → (y ≤ z) ⊎ (z < y) → Which x y z (first_of3 x y z)
-    go (inl l) m = first (rw (le-leb x (min y z) l) refl) (omega arith)
-    go (inr l) (inl m) = second (rw (lt-leb x (min y z) l, le-leb y z m) refl)
-    go (inr l) (inr m) = third (rw (lt-leb x (min y z) l, lt-leb y z m) refl) m
+    go (inl l) m = first (rw (le-leb x (min y z) l) refl) l
+    go (inr l) (inl m) = second (rw (lt-leb x (min y z) l, le-leb y z m) refl) (omega arith) m
+    go (inr l) (inr m) = third (rw (lt-leb x (min y z) l, lt-leb y z m) refl) (omega arith) m
 
 -- Below a row of sums of which none with the cost of coming from straight above reaches the fence.
 module _ (fence w : ℕ) (s : List ℕ) (k : CostRows) (long : length s ≡ w) (c : ℕ) (inside : c < w)
@@ -78,8 +76,8 @@ module _ (fence w : ℕ) (s : List ℕ) (k : CostRows) (long : length s ≡ w) (
         later = ⊎_elim (λ (z : c ≤ 0). absurd (omega (arith, left-fence (omega arith), up_is))) (λ (p : 0 < c). omega arith) (le-or-lt c 0);
         before = omega arith;
       }
-      go (second e) = record { later = omega arith; before = omega arith }
-      go (third e l) = record {
+      go (second e l m) = record { later = omega arith; before = omega arith }
+      go (third e m l) = record {
         later = omega arith;
         before =
             ⊎_elim (λ (z : w ≤ c + 1). absurd (omega (arith, right-fence (omega arith), up_is))) (λ (p : c + 1 < w). omega arith)
@@ -89,6 +87,24 @@ module _ (fence w : ℕ) (s : List ℕ) (k : CostRows) (long : length s ≡ w) (
   way-leads : c + way - 1 ≡ came_from w c way
   way-leads = sym (came_inner w c way way-within.later way-within.before)
 
+  -- The sum there isn't more than the sum that comes from it.
+  came-low : get_or s (came_from w c way) 0 ≤ sum_of3 x k c
+  unfolding sum_of3
+  came-low =
+      let there : c + way ≡ came_from w c way + 1 = omega (arith, way-leads, way-within.later) in
+      let inside : came_from w c way < length s = omega (arith, there, way-within.before, long) in
+      let is : get_or x (c + way) 0 ≡ get_or s (came_from w c way) 0 =
+      ap (λ n. get_or x n 0) there ∙ fenced_at false fence w s (came_from w c way) inside in
+      go is
+      (subst (Which (left_sum x k c) (up_sum x k c) (right_sum x k c)) (sym plain)
+      (which (left_sum x k c) (up_sum x k c) (right_sum x k c)))
+    where
+      go : get_or x (c + way) 0 ≡ get_or s (came_from w c way) 0 → Which (left_sum x k c) (up_sum x k c) (right_sum x k c) way
+          → get_or s (came_from w c way) 0 ≤ min (left_sum x k c) (min (up_sum x k c) (right_sum x k c))
+      go is (first e l) = let at : get_or x (c + way) 0 ≡ get_or x c 0 = ap (λ n. get_or x n 0) (omega (arith, e)) in omega (arith, is, at, l)
+      go is (second e l m) = let at : get_or x (c + way) 0 ≡ get_or x (c + 1) 0 = ap (λ n. get_or x (c + n) 0) e in omega (arith, is, at, l, m)
+      go is (third e m l) = let at : get_or x (c + way) 0 ≡ get_or x (c + 2) 0 = ap (λ n. get_or x (c + n) 0) e in omega (arith, is, at, m, l)
+
 -- The way of column c of row i + 1.
 way_is : (fence w : ℕ) (costs : ℕ → CostRows) (i c : ℕ) → c < w
     → get_or (ways_up false fence w costs i) c 0
@@ -96,25 +112,39 @@ way_is : (fence w : ℕ) (costs : ℕ → CostRows) (i c : ℕ) → c < w
 unfolding ways_up
 way_is fence w costs i c l = table_at (way_of3 false w (fenced false fence w (sums_down false fence w costs i)) (costs (suc i))) w c 0 l
 
--- A step up from column c of row i + 1, x being the fenced sums of row i.
+-- A step up from column c of row i + 1, where its sum is below `most`, x being the sums of row i as they are kept.
 pub record Stepped (k : ℕ → CostRows) (w i c way : ℕ) : Type 0 where
   pub later : 1 ≤ c + way
   pub leads : c + way - 1 ≡ came_from w c (get_or (ways_up false fence32 w k i) c 0)
 
-pub stepped : (k : ℕ → CostRows) (w i c way : ℕ) (x : List ℕ) → Cheap k w → i < most_side → c < w → x ≡ fenced_sums k w i
-    → way ≡ way_of3 false w x (k (i + 1)) c
-    → Stepped k w i c way
-stepped k w i c way x cheap few inside is told =
-    let s = sums_down false fence32 w k i in
-    let long = sums-long k w cheap i in
-    let low : get_or s c 0 + get_or (k (suc i)).up c 0 < fence32 = omega (arith, sums-low k w cheap i few c inside, cheap.few (suc i) c) in
-    let it : way ≡ way_of3 false w (fenced_sums k w i) (k (suc i)) c = told ∙ ap₂ (λ y n. way_of3 false w y (k n) c) is (add-one i) in
-    let up : get_or (ways_up false fence32 w k i) c 0 ≡ way_of3 false w (fenced_sums k w i) (k (suc i)) c = way_is fence32 w k i c inside in
-    record {
-      later = omega (arith, it, (way-within fence32 w s (k (suc i)) long c inside low).later);
-      leads = ap (λ v. c + v - 1) it ∙ way-leads fence32 w s (k (suc i)) long c inside low ∙ ap (came_from w c) (sym up);
-    }
+module _ (k : ℕ → CostRows) (w i c : ℕ) (cheap : Cheap k w) (few : i < most_side) (inside : c < w) where
+  abbrev above : List ℕ
+  above = sums_down false fence32 w k i
 
--- The column where the path ends is one of the columns.
-pub column-inside : (k : ℕ → CostRows) (z : Size) (w : ℕ) (sums : List ℕ) (column : ℕ) → 0 < w → RowsGiven k z w sums column → column < w
-column-inside k z w sums column some n = omega (arith, n.column_is, least_inside (last_sums fence32 w z.height k) (w - 1))
+  low-up : get_or above c 0 + get_or (k (suc i)).up c 0 < fence32
+  low-up = omega (arith, sums-low k w cheap i few c inside, cheap.few (suc i) c)
+
+  up-way : get_or (ways_up false fence32 w k i) c 0 ≡ way_of3 false w (fenced_sums k w i) (k (suc i)) c
+  up-way = way_is fence32 w k i c inside
+
+  pub stepped : (most way : ℕ) (x : List ℕ) → x ≡ kept_sums most k w i → sum_of3 (fenced_sums k w i) (k (i + 1)) c < most
+      → way ≡ way_of3 false w x (k (i + 1)) c
+      → Stepped k w i c way
+  stepped most way x is low told =
+      let it : way ≡ way_of3 false w (fenced_sums k w i) (k (suc i)) c =
+      told
+      ∙ ap (λ y. way_of3 false w y (k (i + 1)) c) is
+      ∙ capped_way most w (fenced_sums k w i) (k (i + 1)) c low
+      ∙ ap (λ n. way_of3 false w (fenced_sums k w i) (k n) c) (add-one i) in
+      record {
+        later = omega (arith, it, (way-within fence32 w above (k (suc i)) (sums-long k w cheap i) c inside low-up).later);
+        leads = ap (λ v. c + v - 1) it ∙ way-leads fence32 w above (k (suc i)) (sums-long k w cheap i) c inside low-up ∙ ap (came_from w c) (sym up-way);
+      }
+
+  -- The sum of column c of row i + 1, and that of the column above from which it comes.
+  pub sum-next : get_or (sums_down false fence32 w k (i + 1)) c 0 ≡ sum_of3 (fenced_sums k w i) (k (i + 1)) c
+  unfolding sums_down
+  sum-next = rw (add-one i) (table_at (sum_of3 (fenced_sums k w i) (k (suc i))) w c 0 inside)
+
+  pub sum-falls : get_or above (came_from w c (get_or (ways_up false fence32 w k i) c 0)) 0 ≤ get_or (sums_down false fence32 w k (i + 1)) c 0
+  sum-falls = rw (up-way, sum-next, add-one i) (came-low fence32 w above (k (suc i)) (sums-long k w cheap i) c inside low-up)

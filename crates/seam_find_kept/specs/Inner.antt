@@ -1,4 +1,4 @@
-pub mod Words
+pub mod Kept
 pub mod Rows
 pub mod Down
 pub mod Trace

@@ -3,6 +3,7 @@
 
 mod down;
 mod rows;
+mod sums;
 mod trace;
 mod words;
 
@@ -11,9 +12,12 @@ ghost use Rattle.energy.specs.Energy.{one_cost};
 ghost use Rattle.seam_sums.specs.Fences.{fence32};
 ghost use Rattle.seam_find.specs.ByCosts.{path_columns};
 ghost use Rattle.seam_find_kept.specs.Finding.{costs_in, FindAsked};
+ghost use Rattle.seam_find_kept.specs.Inner.Down.{PlanesNeeded};
+ghost use Rattle.seam_find_kept.specs.Inner.Trace.{SeamNeeded, ByGiven};
 
 use energy::Method;
 use pictures::{AllowedSize, Size};
+use sums::Sum;
 
 // Planes of costs, two bytes a number: of coming from straight above, from the left and from the right. Where a pixel costs the same
 // wherever a path comes from, the first has all, and the others may be empty.
@@ -46,8 +50,35 @@ pub fn find_kept(
     if !is_asked(costs, size, width, method, sums.len(), seam.len()) {
         return;
     }
-    let column = down::make_sums(costs, size, width, method, sums);
-    trace::trace_sums(costs, size, width, method, column, sums, seam);
+    if !find_by::<u16>(costs, size, width, method, sums, seam) {
+        let _ = find_by::<u32>(costs, size, width, method, sums, seam);
+    }
+}
+
+// Finds it by sums of this width, where these are wide enough: where the path costs less than the largest of them. Says whether they are;
+// else nothing is written but sums.
+fn find_by<S: Sum>(
+    costs: CostPlanes<'_>,
+    size: Size,
+    width: usize,
+    method: Method,
+    sums: &mut [u8],
+    seam: &mut [u16],
+) -> bool
+    requires planes { PlanesNeeded size width (one_cost method.energy) costs.up.now (length costs.left.now) (length costs.right.now) }
+    requires room { SeamNeeded S.bytes size width (length seam.old) (length sums.old) }
+    ensures long { length sums.new ≡ length sums.old }
+    ensures found { ByGiven S.most size width
+        (costs_in method.energy size width costs.entry.up.now costs.entry.left.now costs.entry.right.now) seam.old result seam.new }
+{
+    let column = down::make_sums::<S>(costs, size, width, method, sums);
+    let stride = S::row_bytes(width + 2);
+    let at = (size.height - 1) * stride;
+    if S::at(&sums[at..at + stride], column + 1).is_most() {
+        return false;
+    }
+    trace::trace_sums::<S>(costs, size, width, method, column, sums, seam);
+    true
 }
 
 // Whether planes and spaces are as long as they must be, `sums` and `seam` being those of the spaces.

@@ -1,21 +1,20 @@
-// Rows of sums, four bytes a number.
-ghost use Rattle.std.specs.Prelude.{◌≡◌, ◌+◌, ◌-◌, ◌*◌, ◌≤◌, length, take, drop};
+// Rows of sums, in numbers of any width.
+ghost use Rattle.std.specs.Prelude.{◌≡◌, ◌+◌, ◌-◌, ◌≤◌, length, take, drop};
 ghost use Rattle.grids.specs.Table.{table};
 ghost use Rattle.pictures.specs.Numbers.{numbers_in};
-ghost use Rattle.seam_theory.specs.Sums.{alike_rows, sum_of3, least_to};
-ghost use Rattle.seam_find_kept.specs.Finding.{sums_bytes};
-ghost use Rattle.seam_find_kept.specs.Inner.Rows.{FirstNeeded, ByOneNeeded, ByStepsNeeded, step_rows};
-ghost use Rattle.seam_find_kept.specs.Inner.Words.{words_in};
+ghost use Rattle.seam_theory.specs.Sums.{alike_rows, least_to};
+ghost use Rattle.seam_find_kept.specs.Inner.Rows.{FirstNeeded, ByOneNeeded, ByStepsNeeded, capped_sum, step_rows};
 
-use crate::words::{cost_at, put_word, sum_at};
+use crate::sums::Sum;
+use crate::words::pair_at;
 
 // The costs of a row: in row 0 they are the sums.
-pub(crate) fn first_row(cost: &[u8], width: usize, next: &mut [u8])
-    requires { FirstNeeded (length cost.now) width (length next.old) }
-    ensures { words_in next.new ≡ numbers_in cost.now }
+pub(crate) fn first_row<S: Sum>(cost: &[u8], width: usize, next: &mut [u8])
+    requires { FirstNeeded (length cost.now) width (length (S.held next.old)) }
+    ensures { S.held next.new ≡ numbers_in cost.now }
 {
     for c in 0..width {
-        put_word(next, c, cost_at(cost, c));
+        S::from_cost(pair_at(cost, c)).put(next, c);
     }
 }
 
@@ -24,19 +23,19 @@ pub(crate) fn first_row(cost: &[u8], width: usize, next: &mut [u8])
 // would ask whether any row that is read overlaps any that is written, and as rows that are written are read next, work out one column at
 // a time.
 #[inline(never)]
-pub(crate) fn row_by_one(above: &[u8], cost: &[u8], width: usize, next: &mut [u8])
-    requires { ByOneNeeded (length above.now) (words_in above.now) (length cost.now) width (length next.old) }
-    ensures { words_in next.new ≡ table (sum_of3 (words_in above.now) (alike_rows (numbers_in cost.now))) width }
+pub(crate) fn row_by_one<S: Sum>(above: &[u8], cost: &[u8], width: usize, next: &mut [u8])
+    requires { ByOneNeeded (S.held above.now) (length cost.now) width (length (S.held next.old)) }
+    ensures { S.held next.new ≡ table (capped_sum S.most (S.held above.now) (alike_rows (numbers_in cost.now))) width }
 {
     for c in 0..width {
-        let least = sum_at(above, c).min(sum_at(above, c + 1).min(sum_at(above, c + 2)));
-        put_word(next, c, least + cost_at(cost, c));
+        let least = S::at(above, c).lesser(S::at(above, c + 1).lesser(S::at(above, c + 2)));
+        least.plus(pair_at(cost, c)).put(next, c);
     }
 }
 
 // The same where what a pixel costs depends on where a path comes from. Never inlined either.
 #[inline(never)]
-pub(crate) fn row_by_steps(
+pub(crate) fn row_by_steps<S: Sum>(
     above: &[u8],
     from_up: &[u8],
     from_left: &[u8],
@@ -44,26 +43,27 @@ pub(crate) fn row_by_steps(
     width: usize,
     next: &mut [u8],
 )
-    requires { ByStepsNeeded (length above.now) (words_in above.now)
-        (length from_up.now) (length from_left.now) (length from_right.now) width (length next.old) }
-    ensures { words_in next.new ≡ table (sum_of3 (words_in above.now) (step_rows from_up.now from_left.now from_right.now)) width }
+    requires { ByStepsNeeded (S.held above.now)
+        (length from_up.now) (length from_left.now) (length from_right.now) width (length (S.held next.old)) }
+    ensures { S.held next.new ≡ table
+        (capped_sum S.most (S.held above.now) (step_rows from_up.now from_left.now from_right.now)) width }
 {
     for c in 0..width {
-        let left = sum_at(above, c) + cost_at(from_left, c);
-        let up = sum_at(above, c + 1) + cost_at(from_up, c);
-        let right = sum_at(above, c + 2) + cost_at(from_right, c);
-        put_word(next, c, left.min(up.min(right)));
+        let left = S::at(above, c).plus(pair_at(from_left, c));
+        let up = S::at(above, c + 1).plus(pair_at(from_up, c));
+        let right = S::at(above, c + 2).plus(pair_at(from_right, c));
+        left.lesser(up.lesser(right)).put(next, c);
     }
 }
 
 // The first column of the least of a row's sums, which stand between fences.
-pub(crate) fn least_column(row: &[u8], width: usize) -> usize
-    requires { sums_bytes width ≤ length row.now }
-    ensures { result ≡ least_to (take width (drop 1 (words_in row.now))) (width - 1) }
+pub(crate) fn least_column<S: Sum>(row: &[u8], width: usize) -> usize
+    requires { width + 2 ≤ length (S.held row.now) }
+    ensures { result ≡ least_to (take width (drop 1 (S.held row.now))) (width - 1) }
 {
     let mut best = 0;
     for c in 0..width {
-        if sum_at(row, c + 1) < sum_at(row, best + 1) {
+        if S::at(row, c + 1).is_less(S::at(row, best + 1)) {
             best = c;
         }
     }

@@ -19,6 +19,7 @@ pub mod Ways
 pub mod Fenced
 pub mod Kernel
 pub mod Bounded
+pub mod Capped
 pub mod Toward
 pub mod Sums
 pub mod Alike

@@ -4,5 +4,6 @@ use Rattle.seam_find_kept.specs.Inner.Down.{RowsAbove}
 use Rattle.seam_find_kept.proofs.down.make_sums.Given as goal
 
 abbrev pub invariant-loop-i : goal.invariant-loop-i
-invariant-loop-i l =
-    RowsAbove (costs_in l.method.energy l.size l.width l.costs.up.now l.costs.left.now l.costs.right.now) l.size l.width l.i l.sums
+invariant-loop-i g l =
+    RowsAbove g.S.Sum.bytes g.S.Sum.most g.S.Sum.held
+    (costs_in l.method.energy l.size l.width l.costs.up.now l.costs.left.now l.costs.right.now) l.size l.width l.i l.sums

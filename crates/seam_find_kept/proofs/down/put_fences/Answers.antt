@@ -4,8 +4,7 @@ use Rattle.seam_find_kept.proofs.Stored.{put-first}
 use Rattle.seam_find_kept.proofs.down.put_fences.Goals as goal
 
 pub returns-clause-left : goal.returns-clause-left
-returns-clause-left c = put-first c.args.left.now c.put_word.new.row _ c.requires.left c.put_word.ensures ∙ c.make_fence-fence.ensures
+returns-clause-left g c = put-first _ _ _ c.requires.left c.put.ensures ∙ c.make_fence.ensures
 
 pub returns-clause-right : goal.returns-clause-right
-returns-clause-right c =
-    put-first c.args.right.now c.put_word-2.new.row _ c.requires.right c.put_word-2.ensures ∙ c.make_fence-fence.ensures
+returns-clause-right g c = put-first _ _ _ c.requires.right c.put-2.ensures ∙ c.make_fence-2.ensures

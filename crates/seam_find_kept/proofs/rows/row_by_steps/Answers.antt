@@ -2,39 +2,41 @@
 use Rattle.std.proofs.Common.{◌≡◌, sym, ap, ◌∙◌, arith}
 use Rattle.grids.specs.Table.{table}
 use Rattle.grids.proofs.Tables.{stored_start, stored_turn, stored_end}
-use Rattle.seam_theory.specs.Sums.{sum_of3}
-use Rattle.seam_find.proofs.Thirds.{three}
-use Rattle.seam_find_kept.specs.Inner.Rows.{step_rows}
-use Rattle.seam_find_kept.specs.Inner.Words.{words_in}
-use Rattle.seam_find_kept.proofs.FourBytes.{length-words}
+use Rattle.seam_theory.proofs.Capped.{capped_three}
+use Rattle.seam_find_kept.specs.Inner.Rows.{capped_sum, step_rows}
 use Rattle.seam_find_kept.proofs.rows.row_by_steps.Goals as goal
 
 pub loop-c-init : goal.loop-c-init
-loop-c-init c = stored_start _ _ _ (omega (arith, length-words c.args.next.now, c.requires.next_long))
+loop-c-init g c = stored_start _ _ _ (omega (arith, c.requires.next_long))
 
 pub loop-c-preserved : goal.loop-c-preserved
-loop-c-preserved c =
+loop-c-preserved g c =
     let l = c.loop-c in
     let a = c.args in
-    let x = words_in a.above.now in
+    let held = g.S.Sum.held in
+    let x = held a.above.now in
     let k = step_rows a.from_up.now a.from_left.now a.from_right.now in
-    let sum : c.min-in-loop-c.result ≡ sum_of3 x k l.c =
+    let sum : g.S.Sum.value c.lesser-in-loop-c.result ≡ capped_sum g.S.Sum.most x k l.c =
     rw (
-      c.min-in-loop-c.ensures,
-      c.min.ensures,
-      c.sum_at.ensures,
-      c.sum_at-in-loop-c.ensures,
-      c.sum_at-in-loop-c-2.ensures,
-      c.cost_at.ensures.number,
-      c.cost_at-in-loop-c.ensures.number,
-      c.cost_at-in-loop-c-2.ensures.number,
+      c.lesser-in-loop-c.ensures,
+      c.lesser.ensures,
+      c.plus-left.ensures,
+      c.plus-up.ensures,
+      c.plus-right.ensures,
+      c.at.ensures,
+      c.at-in-loop-c.ensures,
+      c.at-in-loop-c-2.ensures,
+      c.pair_at.ensures,
+      c.pair_at-in-loop-c.ensures,
+      c.pair_at-in-loop-c-2.ensures,
     )
-    (sym (three x k l.c)) in
-    rw c.put_word.ensures (stored_turn _ _ _ l.c (words_in l.next) _ 0 c.loop-c-test.true sum l.invariant)
+    (capped_three g.S.Sum.most x k l.c) in
+    rw c.put.ensures (stored_turn _ _ _ l.c (held l.next) _ 0 c.loop-c-test.true sum l.invariant)
 
 pub returns : goal.returns
-returns c =
+returns g c =
     let l = c.loop-c in
     let a = c.args in
-    let sums = sum_of3 (words_in a.above.now) (step_rows a.from_up.now a.from_left.now a.from_right.now) in
-    stored_end _ _ _ l.c (words_in l.next) (omega arith) l.invariant ∙ ap (table sums) (sym l.invariant.all)
+    let held = g.S.Sum.held in
+    let sums = capped_sum g.S.Sum.most (held a.above.now) (step_rows a.from_up.now a.from_left.now a.from_right.now) in
+    stored_end _ _ _ l.c (held l.next) (omega arith) l.invariant ∙ ap (table sums) (sym l.invariant.all)
