@@ -35,11 +35,12 @@ pub(crate) fn carve(
     seam_keep::fill_costs(picture, size, method, up, left, right);
     fill_columns(columns, size.width, size.height);
     pictures::clear(map);
+    let mut is_narrow = true;
     for t in 0..depth {
         let width = size.width - t;
         let number = (t + 1) as u16;
-        next_seam(
-            picture, up, left, right, columns, sums, map, size, width, method, number,
+        is_narrow = next_seam(
+            picture, up, left, right, columns, sums, map, size, width, method, number, is_narrow,
         );
     }
     seam_planes::pack_picture(picture, size, size.width - depth);
@@ -70,7 +71,8 @@ fn count(out: &mut [u32])
     }
 }
 
-// Finds the seam by the costs that are kept, writes its number into the map, and closes up all that is kept of its pixels.
+// Finds the seam by the costs that are kept, writes its number into the map, and closes up all that is kept of its pixels. Sums of 16 bits
+// are tried where they were enough for the seam before; gives whether they were for this one.
 fn next_seam(
     picture: &mut [u8],
     up: &mut [u8],
@@ -83,18 +85,20 @@ fn next_seam(
     width: usize,
     method: Method,
     number: u16,
-)
+    is_narrow: bool,
+) -> bool
     requires { StepNeeded size method width number picture.old up.old left.old right.old columns.old (length sums.old) map.old }
     ensures { StepGiven size method width number picture.old up.old left.old right.old map.old picture.new up.new left.new right.new columns.new map.new }
 {
     let mut space = [0u16; LARGEST_SIDE];
     let seam = &mut space[..size.height];
     let costs = CostPlanes { up, left, right };
-    seam_find_kept::find_kept(costs, size, width, method, sums, seam);
+    let is_enough = seam_find_kept::find_kept(costs, size, width, method, is_narrow, sums, seam);
     number_rows(map, columns, size.width, seam, number);
     seam_planes::close_numbers(columns, size.width, width, seam);
     seam_planes::close_picture(picture, size, width, seam);
     keep_all(picture, size, width - 1, method, seam, up, left, right);
+    is_enough
 }
 
 // Keeps the costs of all sides that a path may come from.

@@ -1,11 +1,14 @@
 -- Finding the seam of a picture by costs that are kept in planes of numbers.
-use Rattle.std.specs.Prelude.{◌≡◌, Bool, false, cond, List, [], ℕ, ◌+◌, ◌*◌, ◌≤◌, ◌<◌, get_or}
+use Rattle.std.specs.Prelude.{◌≡◌, Bool, false, cond, ◌&&◌, List, [], ◌++◌, ℕ, ◌+◌, ◌*◌, ◌≤◌, ◌<◌, ltb, get_or, drop}
 use Rattle.pictures.specs.declared.sizes.Size.{Size}
 use Rattle.pictures.specs.Refusals.{refusal}
 use Rattle.pictures.specs.Pictures.{side_rules}
+use Rattle.pictures.specs.Numbers.{largest_number}
 use Rattle.energy.specs.declared.methods.EnergyRule.{EnergyRule}
 use Rattle.energy.specs.Energy.{one_cost}
 use Rattle.seam_theory.specs.Sums.{CostRows, alike_rows}
+use Rattle.seam_sums.specs.Fences.{fence32}
+use Rattle.seam_find.specs.ByCosts.{least_sum, path_columns}
 use Rattle.seam_planes.specs.Planes.{fronts, numbers_of, plane_bytes}
 
 -- The costs of row i, of the w columns that are left of a picture of this size at first: by a rule of one cost all stand in the first
@@ -29,3 +32,9 @@ pub record FindAsked (z : Size) (w : ℕ) (one : Bool) (up left right sums seam 
   pub right_long : one ≡ false → right ≡ plane_bytes z
   pub room : z.height * sums_bytes w ≤ sums
   pub seam_room : z.height ≤ seam
+
+-- The cheapest path in the front of the seam's space, and whether sums of 16 bits were asked for and were enough: whether it costs less than
+-- the largest of them.
+pub record FindGiven (z : Size) (w : ℕ) (k : ℕ → CostRows) (narrow : Bool) (seam : List ℕ) (answer : Bool) (seam' : List ℕ) : Type 0 where
+  pub enough : answer ≡ (narrow && ltb (least_sum fence32 w z.height k) largest_number)
+  pub seam_given : seam' ≡ path_columns fence32 w z.height k ++ drop z.height seam

@@ -7,11 +7,9 @@ mod sums;
 mod trace;
 mod words;
 
-ghost use Rattle.std.specs.Prelude.{◌≡◌, ◌++◌, ◌≤◌, ℕ, true, eqb, length, get_or, drop};
+ghost use Rattle.std.specs.Prelude.{◌≡◌, ◌≤◌, ℕ, true, eqb, length, get_or};
 ghost use Rattle.energy.specs.Energy.{one_cost};
-ghost use Rattle.seam_sums.specs.Fences.{fence32};
-ghost use Rattle.seam_find.specs.ByCosts.{path_columns};
-ghost use Rattle.seam_find_kept.specs.Finding.{costs_in, FindAsked};
+ghost use Rattle.seam_find_kept.specs.Finding.{costs_in, FindAsked, FindGiven};
 ghost use Rattle.seam_find_kept.specs.Inner.Down.{PlanesNeeded};
 ghost use Rattle.seam_find_kept.specs.Inner.Trace.{SeamNeeded, ByGiven};
 
@@ -29,30 +27,33 @@ pub struct CostPlanes<'a> {
 }
 
 // Finds the cheapest path through the first `width` columns of planes that were made for a picture of this size, and puts it into the front
-// of `seam` from the top row. Sums are worked out in `sums`; what then stands there is of no account. Where a plane or a space isn't as
-// long as it must be, nothing is promised but the lengths.
+// of `seam` from the top row. Sums are worked out in `sums`; what then stands there is of no account. Where `is_narrow` says so they are
+// kept in 16 bits, a third of the work, and in 32 bits only if the path costs too much for them; gives whether 16 bits were enough. Where a
+// plane or a space isn't as long as it must be, nothing is promised but the lengths.
 pub fn find_kept(
     costs: CostPlanes<'_>,
     size: Size,
     width: usize,
     method: Method,
+    is_narrow: bool,
     sums: &mut [u8],
     seam: &mut [u16],
-)
+) -> bool
     ensures long { (length sums.new ≡ length sums.old) × (length seam.new ≡ length seam.old) }
     ensures found { FindAsked size width (one_cost method.energy)
         (length costs.entry.up.now) (length costs.entry.left.now) (length costs.entry.right.now)
         (length sums.old) (length seam.old)
-        → seam.new ≡ path_columns fence32 width size.height
-        (costs_in method.energy size width costs.entry.up.now costs.entry.left.now costs.entry.right.now)
-        ++ drop size.height seam.old }
+        → FindGiven size width (costs_in method.energy size width costs.entry.up.now costs.entry.left.now costs.entry.right.now)
+        is_narrow seam.old result seam.new }
 {
     if !is_asked(costs, size, width, method, sums.len(), seam.len()) {
-        return;
+        return is_narrow;
     }
-    if !find_by::<u16>(costs, size, width, method, sums, seam) {
-        let _ = find_by::<u32>(costs, size, width, method, sums, seam);
+    if is_narrow && find_by::<u16>(costs, size, width, method, sums, seam) {
+        return true;
     }
+    let _ = find_by::<u32>(costs, size, width, method, sums, seam);
+    false
 }
 
 // Finds it by sums of this width, where these are wide enough: where the path costs less than the largest of them. Says whether they are;

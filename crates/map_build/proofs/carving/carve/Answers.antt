@@ -82,7 +82,7 @@ pub loop-t-preserved : goal.loop-t-preserved
 loop-t-preserved c =
     let a = c.args in
     let l = c.loop-t in
-    let n = c.next_seam in
+    let n = c.next_seam-is_narrow in
     let z = a.allowed.size in (
       omega (arith, l.invariant.0, n.auto.sums),
       λ i. omega (arith, c.type_inv.map i),

@@ -12,34 +12,34 @@ use Rattle.seam_planes.specs.Planes.{numbers_of}
 use Rattle.map_build.specs.Inner.Carving.{left_picture}
 use Rattle.map_build.proofs.Steps.{find_asked, seam_is, s_long, number_needed, columns_seam, picture_seam, keep_asked, held_next, numbered}
 use Rattle.map_build.proofs.carving.next_seam.Goals as goal
-use Rattle.map_build.proofs.carving.next_seam.Goals.{After-find_kept}
+use Rattle.map_build.proofs.carving.next_seam.Goals.{After-find_kept-is_enough}
 
 -- a seam's room
 room : (h : ℕ) → h ≤ largest_side → length (take h (replicate {A = ℕ} largest_side 0)) ≡ h
 room h l = length-take-le h (replicate {A = ℕ} largest_side 0) (omega (arith, l, length-replicate {A = ℕ} largest_side 0))
 
 -- what is found is the seam
-seam : (c : After-find_kept) → c.find_kept.new.seam ≡ seam_of c.args.method c.args.width c.args.size.height (left_picture c.args.size c.args.width c.args.picture.now)
+seam : (c : After-find_kept-is_enough) → c.find_kept-is_enough.new.seam ≡ seam_of c.args.method c.args.width c.args.size.height (left_picture c.args.size c.args.width c.args.picture.now)
 seam c =
     let a = c.args in
     let fits : (i : ℕ) → Fits w8 (get_or a.up.now i 0) = search rules in
     let tall : a.size.height ≤ largest_side = (sides_are a.size c.requires.sized.sides).height_most in
-    seam_is a.size a.method a.width a.number a.picture.now a.up.now a.left.now a.right.now a.columns.now (length a.sums.now) a.map.now c.requires c.find_kept.new.seam
+    seam_is a.size a.method a.width a.number a.picture.now a.up.now a.left.now a.right.now a.columns.now (length a.sums.now) a.map.now c.requires c.find_kept-is_enough.new.seam
     (take a.size.height (replicate {A = ℕ} largest_side 0)) (λ i. omega (arith, fits i)) (room a.size.height tall)
-    (c.find_kept.ensures.found
+    (c.find_kept-is_enough.ensures.found
     (find_asked a.size a.method a.width a.number a.picture.now a.up.now a.left.now a.right.now a.columns.now (length a.sums.now) a.map.now c.requires (length a.sums.now)
-    (length (take a.size.height (replicate {A = ℕ} largest_side 0))) refl (room a.size.height tall)))
+    (length (take a.size.height (replicate {A = ℕ} largest_side 0))) refl (room a.size.height tall))).seam_given
 
 pub number_rows-requires : goal.number_rows-requires
 number_rows-requires c =
     let a = c.args in
-    rw (seam (goal.at.number_rows-requires c).After-find_kept)
+    rw (seam (goal.at.number_rows-requires c).After-find_kept-is_enough)
     (number_needed a.size a.method a.width a.number a.picture.now a.up.now a.left.now a.right.now a.columns.now (length a.sums.now) a.map.now c.requires)
 
 pub keep_all-requires-clause-asked : goal.keep_all-requires-clause-asked
 keep_all-requires-clause-asked c =
     let a = c.args in
-    rw (seam (goal.at.keep_all-requires-clause-asked c).After-find_kept)
+    rw (seam (goal.at.keep_all-requires-clause-asked c).After-find_kept-is_enough)
     (keep_asked a.size a.method a.width a.number a.picture.now a.up.now a.left.now a.right.now a.columns.now (length a.sums.now) a.map.now c.requires
     (length c.close_picture.new.picture) c.close_picture.ensures.long)
 
@@ -51,7 +51,7 @@ returns c =
     let k = c.keep_all in
     let first = c.number_rows in
     let columns = c.close_numbers in
-    let is = seam (goal.at.returns c).After-find_kept in
+    let is = seam (goal.at.returns c).After-find_kept-is_enough in
     let long = s_long a.size a.method a.width a.number a.picture.now a.up.now a.left.now a.right.now a.columns.now (length a.sums.now) a.map.now n in
     let in_columns = columns_seam a.size a.method a.width a.number a.picture.now a.up.now a.left.now a.right.now a.columns.now (length a.sums.now) a.map.now n in
     let in_picture = picture_seam a.size a.method a.width a.number a.picture.now a.up.now a.left.now a.right.now a.columns.now (length a.sums.now) a.map.now n in
