@@ -8,7 +8,7 @@ use native.Mathlib.Omega.{arith}
 use lib.Dec.{eqb, leb}
 use borrow.Author.Tests.{eqb-true, eqb-false, eq-eqb, ne_eqb, leb-true}
 use lib.ListN.{length, get_or, set, take, drop}
-use lib.Seq.{drop-cons, take-suc, take_all}
+use lib.Seq.{drop-cons, take-suc}
 use Rattle.std.proofs.lemmas.Grind.{get_or-set_at}
 use Rattle.std.proofs.lemmas.List.{get_or-set_other, take-append-drop}
 use Rattle.grids.specs.Rows.{rows_of, row_at}
@@ -70,9 +70,6 @@ module _ (row columns : List ℕ) (n : ℕ) (inside : n < length row) where
   held_zero z held t l e =
       let other : eqb (get_or row n 0) t ≡ false = ne_eqb (get_or row n 0) t (λ s. omega arith) in
       held t l (sym (ap (λ b. tick b (count t (take n row))) other) ∙ sym (count_next t) ∙ e)
-
-pub held_end : (row columns : List ℕ) (n : ℕ) → length row ≤ n → Held row n columns → ColumnsOf row columns
-held_end row columns n h held = record { column = λ t l e. held t l (ap (count t) (take_all n row h) ∙ e) }
 
 -- No number of a numbering is over k, and nothing but 0 stands past its end.
 pub numbers_below : (k : ℕ) (row : List ℕ) → numbers k row ≡ true → (c : ℕ) → get_or row c 0 ≤ k

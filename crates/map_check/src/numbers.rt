@@ -1,4 +1,4 @@
-// Rows of numbers of two bytes, judged by 9.
+// Rows of numbers of two bytes: read, compared, and judged by 9.
 ghost use Rattle.std.specs.Prelude.{◌≡◌, ◌*◌, ◌%◌, ◌<◌, eqb, length, get_or};
 ghost use Rattle.seam_theory.specs.Paths.{run};
 ghost use Rattle.grids.specs.Rows.{rows_of};
@@ -19,7 +19,7 @@ pub(crate) fn has_same_numbers(a: &[u8], b: &[u8]) -> bool
     a == b
 }
 
-// Reads the numbers of a row.
+// The numbers of a row, each in 16 bits.
 pub(crate) fn read_numbers(row: &[u8], numbers: &mut [u16])
     requires { length row.now ≡ 2 * length numbers.old }
     ensures { numbers.new ≡ numbers_in row.now }
