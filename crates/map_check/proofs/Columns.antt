@@ -1,6 +1,6 @@
 -- The columns of the numbers of a row: each stored once the numbers ahead of it are counted.
 use mathlib.Core.Path.{◌≡◌, refl, sym, ap, ◌∙◌}
-use mathlib.Core.Bool.{Bool, true, false}
+use mathlib.Core.Bool.{Bool, true, false, not}
 use mathlib.Core.List.{List, [], ◌∷◌, ◌++◌}
 use Prim.Native.Nat.{ℕ, zero, suc, ◌+◌, ◌≤◌, ◌<◌}
 use native.Mathlib.Numerals.{add-one}
@@ -15,8 +15,10 @@ use Rattle.grids.specs.Rows.{rows_of, row_at}
 use Rattle.grids.proofs.Bools.{both}
 use Rattle.grids.proofs.Rows.{length-rows_of, rows_of_at}
 use Rattle.grids.proofs.Shapes.{each_at, each_any}
-use Rattle.map_theory.specs.Judged.{every, tick, count, numbers, remains, column_of}
+use Rattle.map_theory.specs.Judged.{every, tick, count, doubled_in, numbers, remains, column_of}
 use Rattle.map_theory.proofs.Tests.{every-each}
+use Rattle.map_theory.proofs.Numbers.{doubled-not}
+use Rattle.map_theory.proofs.Doubled.{doubled_numbering}
 use Rattle.map_theory.proofs.Numberings.{numbers_is, numbering_most}
 use Rattle.map_check.specs.Inner.Columns.{left_in, ColumnsOf}
 
@@ -40,6 +42,31 @@ count_snoc t v (a ∷ xs) = rw (count_snoc t v xs) (swap (eqb a t) (eqb v t))
     swap true false = refl
     swap false true = refl
     swap false false = refl
+
+-- What is left of a row is left of its two parts; of a numbering seams 1 to u take u pixels.
+pub left_parts : (t c : ℕ) (row : List ℕ) → left_in t (take c row) + left_in t (drop c row) ≡ left_in t row
+left_parts t c row = sym (left_append (take c row)) ∙ ap (left_in t) (take-append-drop c row)
+  where
+    left_append : (xs : List ℕ) → left_in t (xs ++ drop c row) ≡ left_in t xs + left_in t (drop c row)
+    left_append [] = omega arith
+    left_append (v ∷ xs) = go (remains t v) (left_append xs)
+      where
+        go : (b : Bool) → left_in t (xs ++ drop c row) ≡ left_in t xs + left_in t (drop c row)
+            → tick b (left_in t (xs ++ drop c row)) ≡ tick b (left_in t xs) + left_in t (drop c row)
+        go true e = omega arith
+        go false e = e
+
+pub left_numbering : (k t : ℕ) (row : List ℕ) → numbers k row ≡ true → 1 ≤ t → t ≤ k → left_in t row + t ≡ length row + 1
+left_numbering k zero row e l h = absurd (omega arith)
+left_numbering k (suc u) row e l h = omega (arith, rest row, doubled_numbering k u row ((numbers_is k row).0 e) (omega arith))
+  where
+    rest : (ys : List ℕ) → left_in (suc u) ys + doubled_in u ys ≡ length ys
+    rest [] = refl
+    rest (v ∷ ys) = rw (doubled-not u v) (go (remains (suc u) v) (rest ys))
+      where
+        go : (b : Bool) → left_in (suc u) ys + doubled_in u ys ≡ length ys → tick b (left_in (suc u) ys) + tick (not b) (doubled_in u ys) ≡ suc (length ys)
+        go true e = omega arith
+        go false e = omega arith
 
 -- Of each number that stands once among the first n of a row, the column is stored.
 abbrev pub Held : List ℕ → ℕ → List ℕ → Type 0

@@ -1,12 +1,12 @@
 // The seams that a map records, judged by 10.
-ghost use Rattle.std.specs.Prelude.{false, ◌≡◌, ◌<◌, ◌≤◌, length};
+ghost use Rattle.std.specs.Prelude.{false, ◌≡◌, ◌<◌, ◌≤◌, length, take};
 ghost use Rattle.grids.specs.Rows.{rows_of, row_at};
 ghost use Rattle.seam_theory.specs.Paths.{near};
 ghost use Rattle.map_theory.specs.Judged.{connected};
 ghost use Rattle.pictures.specs.Numbers.{numbers_in};
 ghost use Rattle.pictures.specs.Pictures.{largest_side};
 ghost use Rattle.map_check.specs.Inner.Numbers.{Numbered};
-ghost use Rattle.map_check.specs.Inner.Columns.{left_in, FillNeeded, ColumnsOf};
+ghost use Rattle.map_check.specs.Inner.Columns.{left_in, AheadNeeded, FillNeeded, ColumnsOf};
 
 use crate::numbers::read_numbers;
 use crate::recorded::RecordedMap;
@@ -28,8 +28,19 @@ fn left_in(part: &[u16], t: usize) -> u16
     left
 }
 
-// Writes the column of each number t of a row, in what is left of the row before seam t, as the t-th: how many pixels that are left
-// stand ahead of it.
+// How many pixels ahead of place c of a row are left before seam t. Counted on the shorter side of the place, since it is known how
+// many are left on both: all but t - 1.
+fn left_ahead(row: &[u16], c: usize, t: usize) -> u16
+    requires { AheadNeeded row.now c t }
+    ensures { result ≡ left_in t (take c row.now) }
+{
+    if c < row.len() / 2 {
+        return left_in(&row[..c], t);
+    }
+    (row.len() + 1 - t) as u16 - left_in(&row[c..], t)
+}
+
+// Writes the column of each number t of a row, in what is left of the row before seam t, as the t-th.
 fn fill_columns(row: &[u16], columns: &mut [u16])
     requires { FillNeeded row.now (length columns.old) }
     ensures { ColumnsOf row.now columns.new }
@@ -37,7 +48,7 @@ fn fill_columns(row: &[u16], columns: &mut [u16])
     for (c, v) in row.iter().enumerate() {
         let t = *v as usize;
         if t != 0 {
-            columns[t] = left_in(&row[..c], t);
+            columns[t] = left_ahead(row, c, t);
         }
     }
 }

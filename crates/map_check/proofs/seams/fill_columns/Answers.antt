@@ -14,6 +14,6 @@ loop-c-preserved c =
     elim c.if-t-ne0.branch [
       | then-t-ne0 w ↦
           rw w.columns-is
-          (refl, omega (arith, inside), length-set l.columns (get_or row l.c 0) w.left_in.result ∙ l.invariant.2, held_turn row l.columns l.c inside w.left_in.result (omega (arith, c.requires.below l.c, l.invariant.2)) w.left_in.ensures held)
+          (refl, omega (arith, inside), length-set l.columns (get_or row l.c 0) w.left_ahead.result ∙ l.invariant.2, held_turn row l.columns l.c inside w.left_ahead.result (omega (arith, c.requires.below l.c, l.invariant.2)) w.left_ahead.ensures held)
       | else-t-ne0 w ↦ rw w.columns-is (refl, omega (arith, inside), l.invariant.2, held_zero row l.columns l.c inside w.if-t-ne0.false held)
     ]

@@ -8,7 +8,7 @@ use Rattle.grids.proofs.Rows.{row_at-short}
 use Rattle.pictures.specs.Numbers.{numbers_in}
 use Rattle.pictures.proofs.TwoBytes.{numbers-row}
 use Rattle.map_check.specs.Inner.Columns.{ColumnsOf}
-use Rattle.map_check.proofs.Columns.{row_numbered, numbers_below}
+use Rattle.map_check.proofs.Columns.{left_numbering, row_numbered, numbers_below}
 use Rattle.map_check.proofs.recorded.RecordedMap.columns_at.Goals as goal
 use Rattle.map_check.proofs.recorded.RecordedMap.columns_at.Goals.{After-read_numbers}
 
@@ -25,9 +25,11 @@ fill_columns-requires c =
     let z = c.args.self.now in
     let is = read (goal.at.fill_columns-requires c).After-read_numbers in
     let row = row_numbered z.depth z.width z.height (numbers_in z.bytes.now) c.args.r c.requires.inside c.requires.numbered in
+    let below = numbers_below z.depth c.read_numbers.new.numbers (rw is row) in
     record {
       short = omega (arith, z.sized.wide, ap length is, row_at-short z.width (numbers_in z.bytes.now) c.args.r);
-      below = λ i. omega (arith, c.requires.room, numbers_below z.depth c.read_numbers.new.numbers (rw is row) i);
+      below = λ i. omega (arith, c.requires.room, below i);
+      left = λ i l. left_numbering z.depth _ c.read_numbers.new.numbers (rw is row) l (below i);
     }
 
 pub returns : goal.returns
