@@ -1,50 +1,117 @@
--- The column of a number in a row, and the steps of the seam that a map records.
+-- The columns of the numbers of a row: each stored once the numbers ahead of it are counted.
 use mathlib.Core.Path.{◌≡◌, refl, sym, ap, ◌∙◌}
-use mathlib.Core.Bool.{Bool, true, false, ◌&&◌}
-use mathlib.Core.List.{List, [], ◌∷◌}
-use Prim.Native.Nat.{ℕ, zero, suc, ◌+◌, ◌-◌, ◌≤◌, ◌<◌}
+use mathlib.Core.Bool.{Bool, true, false, not}
+use mathlib.Core.List.{List, [], ◌∷◌, ◌++◌}
+use Prim.Native.Nat.{ℕ, zero, suc, ◌+◌, ◌≤◌, ◌<◌}
 use native.Mathlib.Numerals.{add-one}
 use native.Mathlib.Omega.{arith}
-use lib.ListN.{length, get_or, drop, length-map}
-use lib.Seq.{drop-cons}
+use lib.Dec.{eqb, leb}
+use borrow.Author.Tests.{eqb-true, eqb-false, eq-eqb, ne_eqb, leb-true}
+use lib.ListN.{length, get_or, set, take, drop}
+use lib.Seq.{drop-cons, take-suc}
+use Rattle.std.proofs.lemmas.Grind.{get_or-set_at}
+use Rattle.std.proofs.lemmas.List.{get_or-set_other, take-append-drop}
 use Rattle.grids.specs.Rows.{rows_of, row_at}
+use Rattle.grids.proofs.Bools.{both}
 use Rattle.grids.proofs.Rows.{length-rows_of, rows_of_at}
-use Rattle.grids.proofs.Shapes.{get_or-map}
-use Rattle.seam_theory.specs.Connected.{linked}
-use Rattle.map_theory.specs.Judged.{column_of, recorded, connected}
-use Rattle.map_check.proofs.Turns.{run_bad}
+use Rattle.grids.proofs.Shapes.{each_at, each_any}
+use Rattle.map_theory.specs.Judged.{every, tick, count, doubled_in, numbers, remains, column_of}
+use Rattle.map_theory.proofs.Tests.{every-each}
+use Rattle.map_theory.proofs.Numbers.{doubled-not}
+use Rattle.map_theory.proofs.Doubled.{doubled_numbering}
+use Rattle.map_theory.proofs.Numberings.{numbers_is, numbering_most}
+use Rattle.map_check.specs.Inner.Columns.{left_in, ColumnsOf}
 
--- The steps of a seam, those to come deciding.
-module _ (near : ℕ → ℕ → Bool) (s : List ℕ) (r : ℕ) (inside : r + 1 < length s) where
-  linked_turn : linked near (drop r s) ≡ (near (get_or s r 0) (get_or s (r + 1) 0) && linked near (drop (r + 1) s))
-  linked_turn =
-      let i : r < length s = omega arith in
-      let j : suc r < length s = omega arith in
-      rw (add-one r, drop-cons s r 0 i, drop-cons s (suc r) 0 j)
+-- The column of a number is what is left of the numbers ahead of it, where it doesn't stand among these.
+column_after : (t : ℕ) (xs ys : List ℕ) → count t xs ≡ 0 → column_of t (xs ++ (t ∷ ys)) ≡ left_in t xs
+column_after t [] ys e = rw (eq-eqb t t refl) refl
+column_after t (a ∷ xs) ys e = go (eqb a t) refl e (column_after t xs ys)
+  where
+    go : (b : Bool) → eqb a t ≡ b → tick b (count t xs) ≡ 0 → (count t xs ≡ 0 → column_of t (xs ++ (t ∷ ys)) ≡ left_in t xs)
+        → column_of t (a ∷ (xs ++ (t ∷ ys))) ≡ left_in t (a ∷ xs)
+    go true q z ih = absurd (omega arith)
+    go false q z ih = rw q (ap (tick (remains t a)) (ih z))
 
-  pub linked_ok : near (get_or s r 0) (get_or s (r + 1) 0) ≡ true → linked near (drop (r + 1) s) ≡ linked near (drop r s)
-  linked_ok e = sym (linked_turn ∙ rw e)
+-- One number more counted.
+count_snoc : (t v : ℕ) (xs : List ℕ) → count t (xs ++ (v ∷ [])) ≡ tick (eqb v t) (count t xs)
+count_snoc t v [] = refl
+count_snoc t v (a ∷ xs) = rw (count_snoc t v xs) (swap (eqb a t) (eqb v t))
+  where
+    swap : (p q : Bool) → tick p (tick q (count t xs)) ≡ tick q (tick p (count t xs))
+    swap true true = refl
+    swap true false = refl
+    swap false true = refl
+    swap false false = refl
 
-  pub linked_bad : near (get_or s r 0) (get_or s (r + 1) 0) ≡ false → linked near (drop r s) ≡ false
-  linked_bad e = linked_turn ∙ rw e
+-- What is left of a row is left of its two parts; of a numbering seams 1 to u take u pixels.
+pub left_parts : (t c : ℕ) (row : List ℕ) → left_in t (take c row) + left_in t (drop c row) ≡ left_in t row
+left_parts t c row = sym (left_append (take c row)) ∙ ap (left_in t) (take-append-drop c row)
+  where
+    left_append : (xs : List ℕ) → left_in t (xs ++ drop c row) ≡ left_in t xs + left_in t (drop c row)
+    left_append [] = omega arith
+    left_append (v ∷ xs) = go (remains t v) (left_append xs)
+      where
+        go : (b : Bool) → left_in t (xs ++ drop c row) ≡ left_in t xs + left_in t (drop c row)
+            → tick b (left_in t (xs ++ drop c row)) ≡ tick b (left_in t xs) + left_in t (drop c row)
+        go true e = omega arith
+        go false e = e
 
-pub linked-end : (near : ℕ → ℕ → Bool) (s : List ℕ) (r : ℕ) → length s ≤ r + 1 → linked near (drop r s) ≡ true
-linked-end near [] zero h = refl
-linked-end near [] (suc r) h = refl
-linked-end near (c ∷ []) zero h = refl
-linked-end near (c ∷ d ∷ s) zero h = absurd (omega arith)
-linked-end near (c ∷ s) (suc r) h = linked-end near s r (omega arith)
+pub left_numbering : (k t : ℕ) (row : List ℕ) → numbers k row ≡ true → 1 ≤ t → t ≤ k → left_in t row + t ≡ length row + 1
+left_numbering k zero row e l h = absurd (omega arith)
+left_numbering k (suc u) row e l h = omega (arith, rest row, doubled_numbering k u row ((numbers_is k row).0 e) (omega arith))
+  where
+    rest : (ys : List ℕ) → left_in (suc u) ys + doubled_in u ys ≡ length ys
+    rest [] = refl
+    rest (v ∷ ys) = rw (doubled-not u v) (go (remains (suc u) v) (rest ys))
+      where
+        go : (b : Bool) → left_in (suc u) ys + doubled_in u ys ≡ length ys → tick b (left_in (suc u) ys) + tick (not b) (doubled_in u ys) ≡ suc (length ys)
+        go true e = omega arith
+        go false e = omega arith
 
--- The recorded seam's column in row r.
-pub recorded_at_lem : (t w h : ℕ) (ys : List ℕ) (r : ℕ) → r < h → get_or (recorded t (rows_of w h ys)) r 0 ≡ column_of t (row_at w r ys)
-recorded_at_lem t w h ys r l =
-    get_or-map (column_of t) (rows_of w h ys) r [] 0 (rw (length-rows_of w h ys) l) ∙ ap (column_of t) (rows_of_at w h ys r l)
+-- Of each number that stands once among the first n of a row, the column is stored.
+abbrev pub Held : List ℕ → ℕ → List ℕ → Type 0
+Held row n columns = (t : ℕ) → 1 ≤ t → count t (take n row) ≡ 1 → get_or columns t 0 ≡ column_of t row
 
-pub length-recorded : (t w h : ℕ) (ys : List ℕ) → length (recorded t (rows_of w h ys)) ≡ h
-length-recorded t w h ys = length-map (rows_of w h ys) (column_of t) ∙ length-rows_of w h ys
+module _ (row columns : List ℕ) (n : ℕ) (inside : n < length row) where
+  count_next : (t : ℕ) → count t (take (n + 1) row) ≡ tick (eqb (get_or row n 0) t) (count t (take n row))
+  count_next t = rw (add-one n) (ap (count t) (take-suc row n 0 inside) ∙ count_snoc t (get_or row n 0) (take n row))
 
--- A seam that isn't connected is enough.
-pub connected_bad : (near : ℕ → ℕ → ℕ → Bool) (w k : ℕ) (m : List (List ℕ)) (t : ℕ) → 1 ≤ t → t ≤ k → linked (near (w + 1 - t)) (recorded t m) ≡ false
-    → connected near w k m ≡ false
-unfolding connected
-connected_bad near w k m t l h e = run_bad (λ q. linked (near (w + 1 - q)) (recorded q m)) k t l h e
+  split : row ≡ take n row ++ (get_or row n 0 ∷ drop (suc n) row)
+  split = sym (take-append-drop n row) ∙ ap (take n row ++◌) (drop-cons row n 0 inside)
+
+  -- One number more: its column is stored, or it is 0.
+  pub held_turn : (x : ℕ) → get_or row n 0 < length columns → x ≡ left_in (get_or row n 0) (take n row) → Held row n columns → Held row (n + 1) (set columns (get_or row n 0) x)
+  held_turn x room is held t l e = go (eqb (get_or row n 0) t) refl (sym (count_next t) ∙ e)
+    where
+      go : (b : Bool) → eqb (get_or row n 0) t ≡ b → tick b (count t (take n row)) ≡ 1 → get_or (set columns (get_or row n 0) x) t 0 ≡ column_of t row
+      go true q once =
+          let same : get_or row n 0 ≡ t = eqb-true (get_or row n 0) t q in
+          let none : count t (take n row) ≡ 0 = omega arith in
+          get_or-set_at columns (get_or row n 0) t x 0 (sym same) room ∙ is ∙ ap (λ u. left_in u (take n row)) same
+          ∙ sym (column_after t (take n row) (drop (suc n) row) none)
+          ∙ ap (λ u. column_of t (take n row ++ (u ∷ drop (suc n) row))) (sym same)
+          ∙ ap (column_of t) (sym split)
+      go false q once = get_or-set_other columns (get_or row n 0) t x 0 (λ s. eqb-false (get_or row n 0) t q (sym s)) ∙ held t l once
+
+  pub held_zero : get_or row n 0 ≡ 0 → Held row n columns → Held row (n + 1) columns
+  held_zero z held t l e =
+      let other : eqb (get_or row n 0) t ≡ false = ne_eqb (get_or row n 0) t (λ s. omega arith) in
+      held t l (sym (ap (λ b. tick b (count t (take n row))) other) ∙ sym (count_next t) ∙ e)
+
+-- No number of a numbering is over k, and nothing but 0 stands past its end.
+pub numbers_below : (k : ℕ) (row : List ℕ) → numbers k row ≡ true → (c : ℕ) → get_or row c 0 ≤ k
+numbers_below k row e = most row (numbering_most k row ((numbers_is k row).0 e))
+  where
+    most : (ys : List ℕ) → every (λ v. leb v k) ys ≡ true → (c : ℕ) → get_or ys c 0 ≤ k
+    most [] q c = omega arith
+    most (v ∷ ys) q zero = leb-true v k (both (leb v k) (every (λ v. leb v k) ys) q).0
+    most (v ∷ ys) q (suc c) = most ys (both (leb v k) (every (λ v. leb v k) ys) q).1 c
+
+-- A row of a map is a numbering where all rows are.
+pub row_numbered : (k w h : ℕ) (ys : List ℕ) (r : ℕ) → r < h → every (numbers k) (rows_of w h ys) ≡ true → numbers k (row_at w r ys) ≡ true
+row_numbered k w h ys r l e =
+    ap (numbers k) (sym (rows_of_at w h ys r l)) ∙ each_at r [] l (every-each (numbers k) (λ y p. p) (each_any h (rows_of w h ys) (length-rows_of w h ys)) e)
+
+-- The column stored for number t of a numbering.
+pub column_is : (k t : ℕ) (row columns : List ℕ) → numbers k row ≡ true → ColumnsOf row columns → 1 ≤ t → t ≤ k → get_or columns t 0 ≡ column_of t row
+column_is k t row columns e c l h = c.column t l (((numbers_is k row).0 e).once t l h)

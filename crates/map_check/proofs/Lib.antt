@@ -1,6 +1,6 @@
-pub mod Turns
 pub mod Counting
 pub mod Columns
+pub mod Steps
 pub mod Answers
 pub mod Smallest
 pub mod Pairs

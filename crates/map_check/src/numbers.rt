@@ -1,5 +1,5 @@
-// Rows of numbers of two bytes, judged by 9.
-ghost use Rattle.std.specs.Prelude.{◌≡◌, ◌%◌, ◌<◌, eqb, length, get_or};
+// Rows of numbers of two bytes: read, compared, and judged by 9.
+ghost use Rattle.std.specs.Prelude.{◌≡◌, ◌*◌, ◌%◌, ◌<◌, eqb, length, get_or};
 ghost use Rattle.seam_theory.specs.Paths.{run};
 ghost use Rattle.grids.specs.Rows.{rows_of};
 ghost use Rattle.map_theory.specs.Judged.{every, same, numbers};
@@ -17,6 +17,16 @@ pub(crate) fn has_same_numbers(a: &[u8], b: &[u8]) -> bool
     ensures { result ≡ same (numbers_in a.now) (numbers_in b.now) }
 {
     a == b
+}
+
+// The numbers of a row, each in 16 bits.
+pub(crate) fn read_numbers(row: &[u8], numbers: &mut [u16])
+    requires { length row.now ≡ 2 * length numbers.old }
+    ensures { numbers.new ≡ numbers_in row.now }
+{
+    for (c, v) in numbers.iter_mut().enumerate() {
+        *v = number(row[2 * c], row[2 * c + 1]);
+    }
 }
 
 // Whether a row holds each of 1 to the depth once, and nothing above it.

@@ -1,7 +1,7 @@
 // A map recorded in bytes, two a number, the low byte first, with the size and the depth that it is judged by.
 ghost use Rattle.std.specs.Prelude.{◌≡◌, length};
 ghost use Rattle.pictures.specs.Refusals.{given};
-ghost use Rattle.map_check.specs.Inner.Numbers.{MapNeeded};
+ghost use Rattle.map_check.specs.Inner.Numbers.{MapNeeded, Numbered};
 ghost use Rattle.map_check.specs.Inner.Judging.{JudgeNeeded, RecordedIs, beside_built};
 
 use crate::numbers::has_same_numbers;
@@ -36,7 +36,8 @@ impl<'a> RecordedMap<'a> {
 
     // Judged beside the map built for its picture: where they differ, 10 if a seam of it isn't connected, else 11.
     pub(crate) fn judge_beside(&self, built: &[u8]) -> Result<(), Refusal>
-        requires { length built.now ≡ length self.now.bytes.now }
+        requires long { length built.now ≡ length self.now.bytes.now }
+        requires numbered { Numbered self.now.bytes.now self.now.width self.now.height self.now.depth }
         ensures { given result ≡ beside_built self.now.bytes.now built.now self.now.width self.now.height self.now.depth }
     {
         if has_same_numbers(self.bytes, built) {

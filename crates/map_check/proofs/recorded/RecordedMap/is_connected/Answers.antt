@@ -1,69 +1,59 @@
--- `map_check::recorded::RecordedMap::is_connected` meets its contract.
+-- `map_check::recorded::RecordedMap::is_connected` meets its contract: each test is of one step of one seam, a row of steps that pass
+-- leads all seams to the next row, and one step that doesn't is enough.
 use mathlib.Core.Path.{◌≡◌, sym, ap₂, ◌∙◌}
-use mathlib.Core.Bool.{Bool, true, false}
-use mathlib.Core.List.{List}
-use Prim.Native.Nat.{ℕ, ◌+◌, ◌<◌}
+use Prim.Native.Nat.{◌+◌, ◌≤◌, ◌<◌}
 use native.Mathlib.Omega.{arith}
-use lib.ListN.{length, get_or, drop}
-use Rattle.grids.specs.Rows.{rows_of, row_at}
-use Rattle.seam_theory.specs.Paths.{near, beside}
-use Rattle.seam_theory.specs.Connected.{linked}
-use Rattle.map_theory.specs.Judged.{column_of, recorded}
-use Rattle.map_theory.proofs.Judged.{connected_is}
+use Rattle.grids.specs.Rows.{row_at}
+use Rattle.seam_theory.specs.Paths.{beside}
 use Rattle.pictures.specs.Numbers.{numbers_in}
-use Rattle.map_check.proofs.Turns.{passed-more}
-use Rattle.map_check.proofs.Columns.{connected_bad, linked_ok, linked_bad, linked-end, recorded_at_lem, length-recorded}
+use Rattle.map_check.proofs.Columns.{row_numbered, column_is}
+use Rattle.map_check.proofs.Steps.{step, here_more, joined_more, all_joined, one_broken}
 use Rattle.map_check.proofs.recorded.RecordedMap.is_connected.Goals as goal
+use Rattle.map_check.proofs.recorded.RecordedMap.is_connected.Goals.{After-is_beside}
 
--- the recorded seam t
-abbrev seam : List ℕ → ℕ → ℕ → ℕ → List ℕ
-seam map w h t = recorded t (rows_of w h (numbers_in map))
+-- what is tested is the step of seam t from row r
+tested : (c : After-is_beside) → c.is_beside.result ≡ step (numbers_in c.args.self.now.bytes.now) c.args.self.now.width c.rows.r c.loop-t.t
+tested c =
+    let z = c.args.self.now in
+    let ys = numbers_in z.bytes.now in
+    let r = c.rows.r in
+    let t = c.loop-t.t in
+    let some : 1 ≤ t = c.loop-t.auto.t in
+    let deep : t ≤ z.depth = omega (arith, c.loop-t-test.true) in
+    let below : r + 1 < z.height = omega (arith, c.rows-test.true) in
+    c.is_beside.ensures
+    ∙ ap₂ beside
+    (column_is z.depth t (row_at z.width r ys) c.rows.here (row_numbered z.depth z.width z.height ys r (omega arith) c.requires) c.rows.invariant.3 some deep)
+    (column_is z.depth t (row_at z.width (r + 1) ys) c.columns_at-in-rows.new.columns (row_numbered z.depth z.width z.height ys (r + 1) below c.requires) c.columns_at-in-rows.ensures some deep)
 
-seam_long : (map : List ℕ) (w h t : ℕ) → length (seam map w h t) ≡ h
-seam_long map w h t = length-recorded t w h (numbers_in map)
-
--- what the test of the step from row r says, its columns being those of seam t
-module _ (map : List ℕ) (w h t r : ℕ) (inside : r + 1 < h) {here next : ℕ} {answer : Bool} (here_is : here ≡ column_of t (row_at w r (numbers_in map)))
-    (next_is : next ≡ column_of t (row_at w (r + 1) (numbers_in map))) (test : answer ≡ beside here next) where
-  within : r + 1 < length (seam map w h t)
-  within = rw (seam_long map w h t) inside
-
-  told : beside (get_or (seam map w h t) r 0) (get_or (seam map w h t) (r + 1) 0) ≡ answer
-  told =
-      ap₂ beside (recorded_at_lem t w h (numbers_in map) r (omega arith) ∙ sym here_is) (recorded_at_lem t w h (numbers_in map) (r + 1) inside ∙ sym next_is) ∙ sym test
-
-  passes : answer ≡ true → linked beside (drop (r + 1) (seam map w h t)) ≡ linked beside (drop r (seam map w h t))
-  passes e = linked_ok beside (seam map w h t) r within (told ∙ e)
-
-  fails : answer ≡ false → linked beside (drop r (seam map w h t)) ≡ false
-  fails e = linked_bad beside (seam map w h t) r within (told ∙ e)
-
-pub loop-r-preserved : goal.loop-r-preserved
-loop-r-preserved c =
-    let l = c.loop-r in (
+pub loop-t-preserved : goal.loop-t-preserved
+loop-t-preserved c =
+    let z = c.args.self.now in
+    let l = c.loop-t in (
       l.invariant.0,
-      c.column_at-next.ensures,
-      passes _ _ c.args.self.now.height _ _ (omega (arith, c.loop-r-test.true)) l.invariant.1 c.column_at-next.ensures c.is_beside.ensures c.if-not-is_beside.false ∙ l.invariant.2,
+      here_more (numbers_in z.bytes.now) z.width c.rows.r l.t (sym (tested (goal.at.loop-t-preserved c).After-is_beside) ∙ c.if-not-is_beside.false) l.invariant.1,
     )
 
-pub seams-preserved : goal.seams-preserved
-seams-preserved c =
+pub rows-preserved : goal.rows-preserved
+rows-preserved c =
     let z = c.args.self.now in
-    let l = c.loop-r in
-    let t = c.seams.t + 1 in
-    let whole = sym l.invariant.2 ∙ linked-end beside (seam z.bytes.now z.width z.height t) l.r (rw (seam_long z.bytes.now z.width z.height t) (omega (arith, c.loop-r-test.false))) in
-    (l.invariant.0, passed-more (λ q. linked beside (seam z.bytes.now z.width z.height q)) c.seams.t whole c.seams.invariant.1)
+    let l = c.rows in
+    let long = c.columns_at-in-rows.auto.columns ∙ l.invariant.2 in (
+      c.loop-t.invariant.0,
+      long,
+      long,
+      c.columns_at-in-rows.ensures,
+      joined_more (numbers_in z.bytes.now) z.width z.depth l.r c.loop-t.t (omega (arith, c.loop-t-test.false)) c.loop-t.invariant.1 l.invariant.4,
+    )
 
-pub returns-after-seams : goal.returns-after-seams
-returns-after-seams c =
+pub returns-after-rows : goal.returns-after-rows
+returns-after-rows c =
     let z = c.args.self.now in
-    let out = c.seams in
-    out.invariant.0
-    ∙ sym ((connected_is (near false) z.width z.depth (rows_of z.width z.height (numbers_in z.bytes.now))).1 (λ q l h. out.invariant.1 q l (omega (arith, c.seams-test.false))))
+    let out = c.rows in
+    out.invariant.0 ∙ sym (all_joined (numbers_in z.bytes.now) z.width z.height z.depth out.r (omega (arith, c.rows-test.false)) out.invariant.4)
 
 pub returns-then-not-is_beside : goal.returns-then-not-is_beside
 returns-then-not-is_beside c =
     let z = c.args.self.now in
-    let l = c.loop-r in
-    sym (connected_bad (near false) z.width z.depth (rows_of z.width z.height (numbers_in z.bytes.now)) (c.seams.t + 1) (omega arith) (omega (arith, c.seams-test.true))
-    (sym l.invariant.2 ∙ fails _ _ z.height _ _ (omega (arith, c.loop-r-test.true)) l.invariant.1 c.column_at-next.ensures c.is_beside.ensures c.if-not-is_beside.true))
+    sym (one_broken (numbers_in z.bytes.now) z.width z.height z.depth c.rows.r c.loop-t.t (omega (arith, c.rows-test.true)) c.loop-t.auto.t (omega (arith, c.loop-t-test.true))
+    (sym (tested (goal.at.returns-then-not-is_beside c).After-is_beside) ∙ c.if-not-is_beside.true))
