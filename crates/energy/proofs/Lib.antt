@@ -1,3 +1,4 @@
+pub mod Neighbours
 pub mod Energy
 pub mod Most
 pub mod Steps

@@ -9,7 +9,9 @@ use native.Mathlib.Omega.{arith}
 use lib.ListN.{length, take, drop, get_or, set, length-append, length-drop, length-set, get_or-append, get_or-eq_default}
 use lib.Seq.{drop-cons, drop-length, set_at, append_snoc, get_or_at, take-suc, get_or-drop, ext_get_or}
 use Rattle.grids.specs.Each.{Each, none}
+use Rattle.grids.specs.Rows.{rows_of, row_at}
 use Rattle.grids.specs.Table.{table}
+use Rattle.grids.proofs.Rows.{length-rows_of, rows_of_at}
 use Rattle.grids.proofs.Shapes.{each_snoc}
 
 module _ {A : Type 0} where
@@ -51,6 +53,11 @@ module _ {A : Type 0} where
   pub table-end : (f : ℕ → A) (d out : List A) (n : ℕ) → out ≡ table f n ++ drop n d → n ≡ length d → out ≡ table f (length d)
   table-end f d out n e l = e ∙ rw (l, drop-length d) (append-nil (table f (length d)))
 
+  -- A table by its first value.
+  pub table-cons : (f : ℕ → A) (n : ℕ) → table f (suc n) ≡ f 0 ∷ table (λ i. f (suc i)) n
+  table-cons f zero = refl
+  table-cons f (suc n) = ap (◌++ (f (suc n) ∷ [])) (table-cons f n)
+
   -- n elements of a list from place i on.
   pub table_part : (xs : List A) (i n : ℕ) (d : A) → i + n ≤ length xs → take n (drop i xs) ≡ table (λ k. get_or xs (i + k) d) n
   table_part xs i zero d h = refl
@@ -62,6 +69,13 @@ module _ {A : Type 0} where
   pub each-table : {P : A → Type 0} (f : ℕ → A) (n : ℕ) → ((i : ℕ) → i < n → P (f i)) → Each P n (table f n)
   each-table f zero h = none
   each-table f (suc n) h = each_snoc (each-table f n (λ i l. h i (omega arith))) (h n (omega arith))
+
+-- Rows, as a table.
+pub rows_table : {A : Type 0} (w n : ℕ) (b : List A) → rows_of w n b ≡ table (λ r. row_at w r b) n
+rows_table w n b =
+    sym (table-all (rows_of w n b) [])
+    ∙ ap (table (λ r. get_or (rows_of w n b) r [])) (length-rows_of w n b)
+    ∙ table_same (λ r. get_or (rows_of w n b) r []) (λ r. row_at w r b) n (λ r l. rows_of_at w n b r l)
 
 -- What a loop holds that stores f n at n of a slice that was d, before it stores the n-th of `end` values.
 pub record Stored {A : Type 0} (f : ℕ → A) (d : List A) (end n : ℕ) (out : List A) : Type 0 where

@@ -1,14 +1,14 @@
 -- What stands in the planes and in the map after t seams, and what it says of the next one and of the end.
 use mathlib.Core.Path.{◌≡◌, sym, ap, ap₂, ◌∙◌}
 use mathlib.Core.Bool.{false}
-use mathlib.Core.List.{List, [], ◌∷◌, ◌++◌, map}
+use mathlib.Core.List.{List, ◌++◌, map}
 use Prim.Native.Nat.{ℕ, suc, ◌+◌, ◌-◌, ◌*◌, ◌<◌}
 use native.Mathlib.Nat.{zero-mul, suc-mul}
 use native.Mathlib.Numerals.{add-one}
 use native.Mathlib.Omega.{arith}
 use lib.ListN.{length, replicate, replicate-append-replicate}
 use lib.Seq.{take_all}
-use Rattle.grids.specs.Each.{Each, Grid, none, more}
+use Rattle.grids.specs.Each.{Grid, none, more}
 use Rattle.grids.specs.Cut.{cut}
 use Rattle.grids.specs.Table.{table}
 use Rattle.grids.specs.Rows.{flat}
@@ -17,7 +17,7 @@ use Rattle.grids.proofs.Rows.{flat-rows_of}
 use Rattle.pictures.specs.declared.sizes.Size.{Size}
 use Rattle.pictures.specs.Pictures.{Picture, OfSize, picture, pixels}
 use Rattle.pictures.specs.Numbers.{pairs, numbers_in}
-use Rattle.pictures.proofs.Samples.{AreBytes}
+use Rattle.pictures.proofs.Samples.{AreBytes, each-bytes}
 use Rattle.pictures.proofs.Buffers.{picture-of_size}
 use Rattle.pictures.proofs.TwoBytes.{rows-pairs, pairs-append, pairs-zeros, pairs-numbers, length-numbers}
 use Rattle.energy.specs.declared.methods.Method.{Method}
@@ -113,10 +113,6 @@ module _ (z : Size) (how : Method) where
             ∙ sym (map_next (seam_of how) (seam_chooses how) t z.width z.height p (grid_of o) l));
         held = rw e g.held;
       }
-
-each-bytes : (b : List ℕ) → AreBytes b → Each (λ x. x < 256) (length b) b
-each-bytes [] small = none
-each-bytes (x ∷ b) small = more (omega (arith, small 0)) (each-bytes b (λ i. small (suc i)))
 
 -- A map's bytes are those of its numbers.
 pub map_is : (z : Size) (b : List ℕ) → length b ≡ map_bytes z → AreBytes b → b ≡ pairs (flat (numbers_of z.width z.height b))

@@ -1,15 +1,15 @@
 -- A seam's number written into a map at the first columns of its pixels: what stands there are the columns that the map has left.
 use mathlib.Core.Path.{◌≡◌, refl, sym, ap, ap₂, ◌∙◌}
 use mathlib.Core.List.{List, [], ◌∷◌, map, zip_with, append-nil}
-use Prim.Native.Nat.{ℕ, zero, suc, ◌+◌, ◌*◌, ◌<◌}
+use Prim.Native.Nat.{ℕ, suc, ◌+◌, ◌*◌, ◌<◌}
 use native.Mathlib.Omega.{arith}
 use lib.ListN.{length, get_or, set, length-set}
 use Rattle.grids.specs.Each.{Grid, none, more}
 use Rattle.grids.specs.Rows.{rows_of, flat}
 use Rattle.grids.proofs.Rows.{grid-rows_of, length-rows_of, rows_of-flat}
 use Rattle.grids.proofs.Shapes.{get_or-map}
-use Rattle.pictures.specs.Numbers.{two_bytes, low_byte, high_byte, numbers_in}
-use Rattle.pictures.proofs.TwoBytes.{two_bytes_lem}
+use Rattle.pictures.specs.Numbers.{low_byte, high_byte, numbers_in}
+use Rattle.pictures.proofs.TwoBytes.{two_bytes_lem, numbers-set}
 use Rattle.seam_planes.specs.Planes.{numbers_of}
 use Rattle.seam_planes.proofs.Elements.{numbers_rows, number_at}
 use Rattle.map_theory.proofs.Levels.{write_all}
@@ -22,18 +22,8 @@ pub number_is : (m h : ℕ) (plane : List ℕ) (r c : ℕ) → length plane ≡ 
 number_is m h plane r c e l k = sym (number_at m h plane r c e l k)
 
 -- A number put into a row in bytes is put into the row.
-two-suc : (c : ℕ) → 2 * suc c ≡ suc (suc (2 * c))
-two-suc c = omega arith
-
-two-after : (c : ℕ) → 2 * suc c + 1 ≡ suc (suc (2 * c + 1))
-two-after c = omega arith
-
 pub numbers_put : (v c : ℕ) (row : List ℕ) → numbers_in (put_pair v c row) ≡ set (numbers_in row) c v
-numbers_put v c [] = refl
-numbers_put v zero (a ∷ []) = refl
-numbers_put v (suc c) (a ∷ []) = rw (two-after c, two-suc c) refl
-numbers_put v zero (a ∷ b ∷ r) = ap (◌∷ numbers_in r) (two_bytes_lem v)
-numbers_put v (suc c) (a ∷ b ∷ r) = rw (two-after c, two-suc c) (ap (two_bytes a b ∷◌) (numbers_put v c r))
+numbers_put v c row = numbers-set row c (low_byte v) (high_byte v) ∙ ap (set (numbers_in row) c) (two_bytes_lem v)
 
 length_put : (v c : ℕ) (row : List ℕ) → length (put_pair v c row) ≡ length row
 length_put v c row = length-set (set row (2 * c) (low_byte v)) (2 * c + 1) (high_byte v) ∙ length-set row (2 * c) (low_byte v)

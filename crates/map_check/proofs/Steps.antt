@@ -1,19 +1,19 @@
 -- The steps of the seams that a map records, row by row.
 use mathlib.Core.Path.{◌≡◌, refl, sym, ap, ap₂, ◌∙◌}
-use mathlib.Core.Bool.{Bool, true, false, ◌&&◌, and-false}
-use mathlib.Core.List.{List, [], ◌∷◌}
-use Prim.Native.Nat.{ℕ, zero, suc, ◌+◌, ◌≤◌, ◌<◌}
+use mathlib.Core.Bool.{Bool, true, false}
+use mathlib.Core.List.{List, []}
+use Prim.Native.Nat.{ℕ, suc, ◌+◌, ◌≤◌, ◌<◌}
 use native.Mathlib.Numerals.{add-one}
 use native.Mathlib.Omega.{arith}
 use lib.Dec.{leb}
 use borrow.Author.Tests.{leb-true, leb-false}
 use lib.ListN.{length, get_or, length-map}
 use Rattle.grids.specs.Rows.{rows_of, row_at}
-use Rattle.grids.proofs.Bools.{and_both}
 use Rattle.grids.proofs.Rows.{length-rows_of, rows_of_at}
 use Rattle.grids.proofs.Shapes.{get_or-map}
 use Rattle.seam_theory.specs.Paths.{run, near, beside}
 use Rattle.seam_theory.specs.Connected.{linked}
+use Rattle.seam_theory.proofs.Linked.{linked_all, linked_broken}
 use Rattle.map_theory.specs.Judged.{every, column_of, recorded, connected}
 use Rattle.map_theory.proofs.Judged.{connected_is}
 use Rattle.map_theory.proofs.Tests.{every-run}
@@ -25,18 +25,6 @@ run_bad f k t l h e = go (every f (run 1 k)) refl
     go : (b : Bool) → every f (run 1 k) ≡ b → b ≡ false
     go true q = sym ((every-run f k).0 q t l h) ∙ e
     go false q = refl
-
--- A list of columns is connected where all its steps are, and isn't where one isn't.
-linked_all : (near : ℕ → ℕ → Bool) (s : List ℕ) → ((i : ℕ) → suc i < length s → near (get_or s i 0) (get_or s (suc i) 0) ≡ true) → linked near s ≡ true
-linked_all near [] h = refl
-linked_all near (c ∷ []) h = refl
-linked_all near (c ∷ d ∷ s) h = and_both (near c d) (linked near (d ∷ s)) (h 0 (omega arith)) (linked_all near (d ∷ s) (λ i l. h (suc i) (omega arith)))
-
-linked_broken : (near : ℕ → ℕ → Bool) (s : List ℕ) (i : ℕ) → suc i < length s → near (get_or s i 0) (get_or s (suc i) 0) ≡ false → linked near s ≡ false
-linked_broken near [] i h e = absurd (omega arith)
-linked_broken near (c ∷ []) i h e = absurd (omega arith)
-linked_broken near (c ∷ d ∷ s) zero h e = ap (◌&& linked near (d ∷ s)) e
-linked_broken near (c ∷ d ∷ s) (suc i) h e = ap (near c d &&◌) (linked_broken near (d ∷ s) i (omega arith) e) ∙ and-false (near c d)
 
 -- The recorded seams of a map of h rows of w numbers.
 module _ (ys : List ℕ) (w : ℕ) where

@@ -1,7 +1,7 @@
 -- The columns that no seam has taken: where the next number is written, and what is left of them then.
 use mathlib.Core.Path.{◌≡◌, refl, sym, ap, ap₂, ◌∙◌}
 use mathlib.Core.Bool.{Bool}
-use mathlib.Core.List.{List, [], ◌∷◌, ◌++◌, map, zip_with}
+use mathlib.Core.List.{List, [], ◌∷◌, map, zip_with}
 use Prim.Native.Nat.{ℕ, zero, suc, ◌-◌, ◌≤◌, ◌<◌}
 use native.Mathlib.Omega.{arith}
 use lib.ListN.{length, get_or, set, length-map}
@@ -10,7 +10,7 @@ use Rattle.grids.specs.Table.{table}
 use Rattle.grids.specs.Cut.{remove_at, cut}
 use Rattle.grids.proofs.Shapes.{get_or-map}
 use Rattle.grids.proofs.Filled.{map-table}
-use Rattle.grids.proofs.Tables.{length-table}
+use Rattle.grids.proofs.Tables.{length-table, table-cons}
 use Rattle.grids.proofs.Maps.{remove_at-map}
 use Rattle.seam_theory.specs.Choices.{Choice, Chooses}
 use Rattle.map_theory.specs.Maps.{zeros, carve, map_of}
@@ -55,10 +55,6 @@ left-inside (zero ∷ ys) (suc s) h =
     rw (get_or-map suc (left_columns ys) s 0 0 l) (omega (arith, left-inside ys s l))
 
 -- Before the first seam all columns are left.
-table-cons : {A : Type 0} (f : ℕ → A) (n : ℕ) → table f (suc n) ≡ f 0 ∷ table (λ i. f (suc i)) n
-table-cons f zero = refl
-table-cons f (suc n) = ap (◌++ (f (suc n) ∷ [])) (table-cons f n)
-
 left-zeros : {A : Type 0} (xs : List A) → left_columns (map (λ x. 0) xs) ≡ table (λ c. c) (length xs)
 left-zeros [] = refl
 left-zeros (x ∷ xs) = ap (0 ∷◌) (ap (map suc) (left-zeros xs) ∙ map-table suc (λ c. c) (length xs)) ∙ sym (table-cons (λ c. c) (length xs))

@@ -29,6 +29,10 @@ take_bytes (suc n) (x ∷ b) h (suc i) = take_bytes n b (λ j. h (suc j)) i
 pub drop_bytes : (n : ℕ) (b : List ℕ) → AreBytes b → AreBytes (drop n b)
 drop_bytes n b h i = rw (get_or-drop n b i 0) (h (n + i))
 
+pub each-bytes : (b : List ℕ) → AreBytes b → Each (λ x. x < 256) (length b) b
+each-bytes [] h = none
+each-bytes (x ∷ b) h = more (omega (arith, h 0)) (each-bytes b (λ i. h (suc i)))
+
 pub rows_bytes : (w n : ℕ) (b : List ℕ) → n * w ≤ length b → AreBytes b → Each (λ x. (length x ≡ w) × AreBytes x) n (rows_of w n b)
 rows_bytes w zero b e h = none
 rows_bytes w (suc n) b e h =

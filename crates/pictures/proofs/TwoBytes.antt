@@ -4,7 +4,7 @@ use mathlib.Core.List.{List, [], ◌∷◌, ◌++◌, map, append-nil}
 use Prim.Native.Nat.{ℕ, zero, suc, ◌+◌, ◌-◌, ◌*◌, ◌/◌, ◌%◌, ◌<◌}
 use native.Mathlib.Nat.{mul_assoc, mul_comm}
 use native.Mathlib.Omega.{arith}
-use lib.ListN.{length, get_or, take, drop, replicate}
+use lib.ListN.{length, get_or, set, take, drop, replicate}
 use Rattle.grids.specs.Each.{Each, Grid, none, more}
 use Rattle.grids.specs.Rows.{rows_of, flat, row_at}
 use Rattle.grids.proofs.Rows.{rows_of-flat}
@@ -55,7 +55,21 @@ numbers_at (a ∷ []) i h = absurd (omega arith)
 numbers_at (a ∷ c ∷ r) zero h = refl
 numbers_at (a ∷ c ∷ r) (suc i) h = rw (two-after i, two-more i) (numbers_at r i (omega arith))
 
+-- Two bytes put in put in their number.
+pub numbers-set : (b : List ℕ) (i p q : ℕ) → numbers_in (set (set b (2 * i) p) (2 * i + 1) q) ≡ set (numbers_in b) i (two_bytes p q)
+numbers-set [] i p q = refl
+numbers-set (a ∷ []) zero p q = refl
+numbers-set (a ∷ []) (suc i) p q = rw (two-after i, two-more i) refl
+numbers-set (a ∷ c ∷ r) zero p q = refl
+numbers-set (a ∷ c ∷ r) (suc i) p q = rw (two-after i, two-more i) (ap (two_bytes a c ∷◌) (numbers-set r i p q))
+
 -- Lists of numbers joined, and parts of them.
+pub numbers_append : (n : ℕ) (x y : List ℕ) → length x ≡ 2 * n → numbers_in (x ++ y) ≡ numbers_in x ++ numbers_in y
+numbers_append n [] y h = refl
+numbers_append zero (a ∷ r) y h = absurd (omega arith)
+numbers_append (suc n) (a ∷ []) y h = absurd (omega arith)
+numbers_append (suc n) (a ∷ c ∷ r) y h = ap (two_bytes a c ∷◌) (numbers_append n r y (omega arith))
+
 pub pairs-append : (xs ys : List ℕ) → pairs (xs ++ ys) ≡ pairs xs ++ pairs ys
 pairs-append [] ys = refl
 pairs-append (v ∷ xs) ys = ap (λ r. low_byte v ∷ high_byte v ∷ r) (pairs-append xs ys)

@@ -4,7 +4,6 @@ use mathlib.Core.List.{List, [], ◌∷◌, ◌++◌}
 use Prim.Native.Nat.{ℕ, zero, suc, ◌+◌, ◌*◌, ◌/◌, ◌%◌, ◌<◌}
 use native.Mathlib.Omega.{arith}
 use lib.ListN.{length, get_or, set, take}
-use Rattle.pictures.specs.Numbers.{two_bytes, numbers_in}
 use Rattle.seam_find_kept.specs.Inner.Kept.{four_bytes, words_in}
 
 -- The i-th number takes the bytes from 4 * i on.
@@ -72,23 +71,3 @@ words_append (suc n) (a ∷ []) y h = absurd (omega arith)
 words_append (suc n) (a ∷ b ∷ []) y h = absurd (omega arith)
 words_append (suc n) (a ∷ b ∷ c ∷ []) y h = absurd (omega arith)
 words_append (suc n) (a ∷ b ∷ c ∷ d ∷ r) y h = ap (four_bytes a b c d ∷◌) (words_append n r y (omega arith))
-
--- The same of numbers of two bytes: put in, and followed by further ones.
-two-more : (i : ℕ) → 2 * suc i ≡ suc (suc (2 * i))
-two-more i = omega arith
-
-two_after : (i : ℕ) → 2 * suc i + 1 ≡ suc (suc (2 * i + 1))
-two_after i = omega arith
-
-pub numbers-set : (b : List ℕ) (i p q : ℕ) → 2 * i + 1 < length b
-    → numbers_in (set (set b (2 * i) p) (2 * i + 1) q) ≡ set (numbers_in b) i (two_bytes p q)
-numbers-set [] i p q h = absurd (omega arith)
-numbers-set (a ∷ []) i p q h = absurd (omega arith)
-numbers-set (a ∷ b ∷ r) zero p q h = refl
-numbers-set (a ∷ b ∷ r) (suc i) p q h = rw (two_after i, two-more i) (ap (two_bytes a b ∷◌) (numbers-set r i p q (omega arith)))
-
-pub numbers_append : (n : ℕ) (x y : List ℕ) → length x ≡ 2 * n → numbers_in (x ++ y) ≡ numbers_in x ++ numbers_in y
-numbers_append n [] y h = refl
-numbers_append zero (a ∷ r) y h = absurd (omega arith)
-numbers_append (suc n) (a ∷ []) y h = absurd (omega arith)
-numbers_append (suc n) (a ∷ b ∷ r) y h = ap (two_bytes a b ∷◌) (numbers_append n r y (omega arith))

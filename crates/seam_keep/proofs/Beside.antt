@@ -1,49 +1,24 @@
 -- Where the last column isn't joined to the first, a cut changes the neighbours of just the two pixels beside the seam in each row.
 use mathlib.Core.Path.{◌≡◌, refl, sym, ap, ◌∙◌}
-use mathlib.Core.Logic.{◌⊎◌, inl, inr, ⊎_elim}
+use mathlib.Core.Logic.{◌⊎◌, inl, inr}
 use mathlib.Core.Bool.{Bool, true, false, ◌||◌}
-use mathlib.Core.Option.{none, some, map, some-injective, none-ne-some}
-use mathlib.Core.List.{List, [], ◌∷◌}
-use Prim.Native.Nat.{ℕ, zero, suc, ◌+◌, ◌-◌, ◌≤◌, ◌<◌}
+use mathlib.Core.Option.{some, map, some-injective, none-ne-some}
+use mathlib.Core.List.{List}
+use Prim.Native.Nat.{ℕ, ◌+◌, ◌-◌, ◌≤◌, ◌<◌}
 use native.Mathlib.Nat.{eq-or-lt_of_le}
 use native.Mathlib.Omega.{arith}
 use lib.Dec.{eqb}
 use lib.ListN.{length, get_or}
-use borrow.Author.Tests.{le-leb, lt-leb, le-ltb, lt-ltb, eq-eqb, ne_eqb}
-use Rattle.grids.proofs.Bools.{both}
+use borrow.Author.Tests.{le-leb, lt-leb, eq-eqb, ne_eqb}
 use Rattle.grids.proofs.Orders.{le-or-lt}
-use Rattle.energy.specs.Around.{left_of, right_of, above_of, below_of}
+use Rattle.energy.specs.Around.{left_of, right_of}
+use Rattle.energy.proofs.Neighbours.{map_above, map_below, left_is, left_none, right_is, right_none}
 use Rattle.seam_theory.specs.Paths.{near}
 use Rattle.seam_theory.specs.Connected.{linked}
+use Rattle.seam_theory.proofs.Linked.{linked_at}
 use Rattle.seam_theory.proofs.Nearby.{beside_is}
 use Rattle.seam_keep.specs.Refresh.{stood, changed}
 use Rattle.seam_keep.proofs.Refresh.{Unchanged, unchanged_of, unchanged_is}
-
--- The columns of two rows that follow each other pass the test.
-linked_at : (test : ℕ → ℕ → Bool) (s : List ℕ) (r : ℕ) → r + 1 < length s → linked test s ≡ true → test (get_or s r 0) (get_or s (r + 1) 0) ≡ true
-linked_at test [] r l e = absurd (omega arith)
-linked_at test (c ∷ []) r l e = absurd (omega arith)
-linked_at test (c ∷ d ∷ s) zero l e = (both (test c d) (linked test (d ∷ s)) e).0
-linked_at test (c ∷ d ∷ s) (suc r) l e =
-    let z : suc r + 1 ≡ suc (r + 1) = omega arith in
-    rw z (linked_at test (d ∷ s) r (omega arith) (both (test c d) (linked test (d ∷ s)) e).1)
-
--- The row above, and the one below, where there is one.
-map_above : {A : Type 0} (f g : ℕ → A) (r : ℕ) → ((a : ℕ) → a + 1 ≡ r → f a ≡ g a) → map f (above_of r) ≡ map g (above_of r)
-unfolding above_of
-map_above f g r same =
-    ⊎_elim
-    (λ (l : r ≤ 0). rw (le-ltb 0 r l))
-    (λ (l : 0 < r). rw (lt-ltb 0 r l) (ap some (same (r - 1) (omega arith))))
-    (le-or-lt r 0)
-
-map_below : {A : Type 0} (f g : ℕ → A) (h r : ℕ) → (r + 1 < h → f (r + 1) ≡ g (r + 1)) → map f (below_of h r) ≡ map g (below_of h r)
-unfolding below_of
-map_below f g h r same =
-    ⊎_elim
-    (λ (l : h ≤ r + 1). rw (le-ltb (r + 1) h l))
-    (λ (l : r + 1 < h). rw (lt-ltb (r + 1) h l) (ap some (same l)))
-    (le-or-lt h (r + 1))
 
 -- Left of the seam a pixel stood where it stands, and from the seam on one column further.
 module _ (s : List ℕ) (a c : ℕ) where
@@ -54,23 +29,6 @@ module _ (s : List ℕ) (a c : ℕ) where
   stood_right : get_or s a 0 ≤ c → stood s a c ≡ c + 1
   unfolding stood
   stood_right l = rw (le-leb (get_or s a 0) c l)
-
--- Without the join: the columns beside one, and what a row's width leaves of them.
-left_is : (w c : ℕ) → 0 < c → left_of false w c ≡ some (c - 1)
-unfolding left_of
-left_is w c l = rw (lt-ltb 0 c l)
-
-left_none : (w c : ℕ) → c ≤ 0 → left_of false w c ≡ none
-unfolding left_of
-left_none w c l = rw (le-ltb 0 c l)
-
-right_is : (w c : ℕ) → c + 1 < w → right_of false w c ≡ some (c + 1)
-unfolding right_of
-right_is w c l = rw (lt-ltb (c + 1) w l)
-
-right_none : (w c : ℕ) → w ≤ c + 1 → right_of false w c ≡ none
-unfolding right_of
-right_none w c l = rw (le-ltb (c + 1) w l)
 
 module _ (w h : ℕ) (s : List ℕ) (r c : ℕ) (column : c + 1 < w) where
   abbrev at : ℕ

@@ -5,13 +5,13 @@ use Prim.Native.Nat.{ℕ, ◌+◌, ◌-◌, ◌*◌, ◌≤◌, ◌<◌}
 use native.Mathlib.Nat.{mul-le-mul_left, le_of_eq}
 use native.Mathlib.Omega.{arith}
 use borrow.Rule.Slice.PartMut.{mid_of, put_mid}
-use lib.ListN.{length, get_or, take, drop}
+use lib.ListN.{length, take, drop}
 use lib.Seq.{take_all, take_at, length-take-le, take-take}
 use Rattle.grids.specs.Table.{table}
 use Rattle.grids.specs.Rows.{rows_of, flat, row_at, cells, flat_cells}
 use Rattle.grids.proofs.Shapes.{grid_of}
-use Rattle.grids.proofs.Tables.{table-all, table_same}
-use Rattle.grids.proofs.Rows.{length-rows_of, rows_of_at, length-row_at, flat-rows_of}
+use Rattle.grids.proofs.Tables.{rows_table}
+use Rattle.grids.proofs.Rows.{length-row_at, flat-rows_of}
 use Rattle.grids.proofs.Filled.{Filled, filled-length, filled-later}
 use Rattle.pictures.specs.declared.sizes.Size.{Size}
 use Rattle.pictures.specs.Pictures.{pixel_bytes, row_bytes, picture_bytes, bytes_of, picture, bytes}
@@ -21,13 +21,6 @@ use Rattle.seam_planes.specs.Planes.{fronts}
 use Rattle.seam_planes.specs.Inner.{PackNeeded}
 use Rattle.seam_planes.proofs.Fronts.{fronts_all, fronts_table, fronts-map, take-rows}
 use Rattle.seam_planes.proofs.Lent.{whole_turn}
-
--- Rows, as a table.
-rows_table : (m h : ℕ) (b : List ℕ) → rows_of m h b ≡ table (λ r. row_at m r b) h
-rows_table m h b =
-    sym (table-all (rows_of m h b) [])
-    ∙ ap (table (λ r. get_or (rows_of m h b) r [])) (length-rows_of m h b)
-    ∙ table_same (λ r. get_or (rows_of m h b) r []) (λ r. row_at m r b) h (λ r l. rows_of_at m h b r l)
 
 -- Row r's front.
 abbrev pub packed_row : ℕ → ℕ → List ℕ → ℕ → List ℕ

@@ -6,6 +6,7 @@ pub mod Members
 pub mod First
 pub mod Ascending
 pub mod Listed
+pub mod Linked
 pub mod Nearby
 pub mod Seams
 pub mod Marks
