@@ -1,3 +1,4 @@
 pub mod Sinks
 pub mod Rooms
 pub mod Numbers
+pub mod Counted

@@ -1,5 +1,5 @@
 -- What is left of a room.
-use mathlib.Core.Path.{◌≡◌, refl, sym, ◌∙◌}
+use mathlib.Core.Path.{◌≡◌, refl, sym, ap, ◌∙◌}
 use Rattle.std.specs.Option.{SomeIff, option_and_then}
 use Rattle.std.specs.Prelude.{Bool, true, false, cond, Option, None, Some, List, [], ◌∷◌, ℕ, suc, ◌+◌, ◌-◌, ◌≤◌, ◌<◌, leb, length}
 use native.Mathlib.Omega.{arith}
@@ -83,6 +83,17 @@ less_then r a b l h = let p = less-room r a l h in go (leb b l) refl p.0 p.1
         let z : r - (a + b) ≡ l - b = omega (arith, p, q, leb-true b l e) in
         rw (le-leb (a + b) r (omega (arith, p, q, leb-true b l e)), z)
     go false e p q = rw (lt-leb (a + b) r (omega (arith, p, q, leb-false b l e)))
+
+-- What is left after a, less b.
+pub less_after : (r t a b : ℕ) → a ≤ r → t ≡ r - a → less t b ≡ less r (a + b)
+less_after r t a b h e = sym (less_then r a b t (ap Some e ∙ sym (less-some r a h)))
+
+-- What is left of a room after a text, by the text's length.
+pub room_left : (r : ℕ) (w : List ℕ) (l : ℕ) → Some l ≡ less r (length w) → Some (room l) ≡ puts room_takes (room r) w
+room_left r w l e = let p = less-room r (length w) l e in rw p.1 (sym (room_some w r p.0))
+
+pub room_short : (r : ℕ) (w : List ℕ) → None ≡ less r (length w) → None ≡ puts room_takes (room r) w
+room_short r w e = sym (room_none w r (less-short r (length w) e))
 
 pub less_none_then : (r a b : ℕ) → None ≡ less r a → None ≡ less r (a + b)
 less_none_then r a b h = sym (less_none r (a + b) (omega (arith, less-short r a h)))

@@ -1,10 +1,10 @@
 -- The items of a line from an index on, each after a blank, put into a sink.
-use mathlib.Core.Path.{◌≡◌, sym, ap, ◌∙◌}
+use mathlib.Core.Path.{◌≡◌, refl, sym, ap, ◌∙◌}
 use Rattle.std.specs.Prelude.{Option, None, Some}
-use Rattle.std.proofs.Common.{List, ◌++◌, ℕ, suc, ◌+◌, ◌≤◌, ◌<◌, length, get_or, drop, add-one, drop-cons, drop_of_length-le}
+use Rattle.std.proofs.Common.{List, [], ◌∷◌, ◌++◌, ℕ, zero, suc, arith, ◌+◌, ◌≤◌, ◌<◌, length, get_or, drop, add-one, drop-cons, drop_of_length-le}
 use Rattle.text_theory.specs.Files.{blank, each}
 use Rattle.text_lengths.specs.Sinks.{puts}
-use Rattle.text_lengths.proofs.Sinks.{further, no_further, puts_none}
+use Rattle.text_lengths.proofs.Sinks.{further, no_further, puts_none, puts_one}
 
 -- What the whole text makes of the sink is what the items from i on make of s.
 module _ {A S : Type 0} (takes : S → ℕ → Option S) (put : A → List ℕ) (xs : List A) (s : S) {i : ℕ} {whole : Option S} (I : whole ≡ puts takes s (each blank put (drop i xs))) where
@@ -26,3 +26,14 @@ module _ {A S : Type 0} (takes : S → ℕ → Option S) (put : A → List ℕ) 
   pub each_done : length xs ≤ i → Some s ≡ whole
   unfolding each
   each_done h = sym (I ∙ rw (drop_of_length-le xs h) (puts_none takes s))
+
+-- An element, whatever stands for one that there isn't.
+pub same_at : {A : Type 0} (xs : List A) (i : ℕ) (d e : A) → i < length xs → get_or xs i d ≡ get_or xs i e
+same_at [] i d e h = absurd (omega arith)
+same_at (x ∷ xs) zero d e h = refl
+same_at (x ∷ xs) (suc i) d e h = same_at xs i d e (omega arith)
+
+-- A blank is one byte.
+pub blank_taken : {S : Type 0} (takes : S → ℕ → Option S) (s : S) → takes s 32 ≡ puts takes s blank
+unfolding blank
+blank_taken takes s = sym (puts_one takes s 32)

@@ -2,14 +2,13 @@
 use Rattle.std.specs.Prelude.{List, ℕ, get_or}
 use Rattle.pictures.specs.Numbers.{two_bytes}
 use Rattle.text_theory.specs.Decimal.{digits}
-use Rattle.text_theory.specs.Files.{line_end, blank, opening, closing, closed}
+use Rattle.text_theory.specs.Files.{line_end, blank, opening, closed}
 use Rattle.text_print.specs.declared.texts.Mark.{Mark}
 use Rattle.text_print.specs.declared.texts.Mark.TheVariants as mark
 
 abbrev pub mark_text : Mark → List ℕ
 mark_text mark.Opening = opening
 mark_text mark.Blank = blank
-mark_text mark.Closing = closing
 mark_text mark.LineEnd = line_end
 mark_text mark.Closed = closed
 

@@ -1,7 +1,8 @@
 // The lines of a file.
 ghost use Rattle.pictures.specs.declared.sizes.Kind.TheVariants.{Rgb};
 ghost use Rattle.std.specs.Prelude.{◌++◌};
-ghost use Rattle.text_theory.specs.Files.{pixel_text, row_text, map_word, line_text, head_text};
+ghost use Rattle.text_theory.specs.Decimal.{digits};
+ghost use Rattle.text_theory.specs.Files.{blank, each, pixel_text, row_text, map_word, line_text, head_text};
 ghost use Rattle.text_lengths.specs.Rooms.{pixels_of};
 ghost use Rattle.text_print.specs.Marks.{two_bytes_text};
 
@@ -50,17 +51,31 @@ impl Text for Head {
     }
 }
 
-// A pixel of three samples: a form.
-impl Text for [u8; 3] {
-    ghost text = { pixel_text Rgb };
+// Samples, each after a blank.
+#[derive(Clone, Copy, Debug, PartialEq, Eq)]
+struct Samples<'a> {
+    samples: &'a [u8],
+}
+
+impl<'a> Text for Samples<'a> {
+    ghost text = { λ row. each blank digits row.samples.now };
 
     fn put<S: Sink>(&self, sink: S) -> Option<S> {
-        let [red, green, blue] = *self;
-        let samples = (
-            red,
-            (Mark::Blank, (green, (Mark::Blank, (blue, Mark::Closing)))),
-        );
-        (Mark::Opening, samples).put(sink)
+        sink.samples(self.samples)
+    }
+}
+
+// The pixels of samples, three each, each after a blank.
+#[derive(Clone, Copy, Debug, PartialEq, Eq)]
+struct Pixels<'a> {
+    samples: &'a [u8],
+}
+
+impl<'a> Text for Pixels<'a> {
+    ghost text = { λ row. each blank (pixel_text Rgb) (pixels_of Rgb row.samples.now) };
+
+    fn put<S: Sink>(&self, sink: S) -> Option<S> {
+        sink.pixels(self.samples)
     }
 }
 
@@ -69,21 +84,10 @@ impl<'a> Text for RowLine<'a> {
 
     fn put<S: Sink>(&self, sink: S) -> Option<S> {
         let begun = (Mark::Opening, Name::Row);
+        let samples = self.samples;
         match self.kind {
-            Kind::Grey => (
-                begun,
-                (
-                    Each {
-                        items: self.samples,
-                    },
-                    Mark::Closed,
-                ),
-            )
-                .put(sink),
-            Kind::Rgb => {
-                let (pixels, _) = self.samples.as_chunks::<3>();
-                (begun, (Each { items: pixels }, Mark::Closed)).put(sink)
-            }
+            Kind::Grey => (begun, (Samples { samples }, Mark::Closed)).put(sink),
+            Kind::Rgb => (begun, (Pixels { samples }, Mark::Closed)).put(sink),
         }
     }
 }

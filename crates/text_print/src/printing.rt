@@ -1,7 +1,9 @@
 // A text printed: written into a lent space from a place on.
 ghost use Rattle.std.specs.Prelude.{◌≡◌, ◌+◌, ◌≤◌, length};
 ghost use Rattle.std.proofs.lemmas.List.Edits.{sets};
+ghost use Rattle.pictures.specs.declared.sizes.Kind.TheVariants.{Rgb};
 ghost use Rattle.text_theory.specs.Decimal.{digits};
+ghost use Rattle.text_theory.specs.Files.{pixel_text};
 ghost use Rattle.text_lengths.specs.Sinks.{puts};
 ghost use Rattle.text_lengths.specs.Rooms.{less};
 ghost use Rattle.text_print.specs.Prints.{Put};
@@ -41,6 +43,19 @@ impl<'a> Out<'a> {
     }
 }
 
+impl<'a> Out<'a> {
+    // Writes a pixel of three samples: a form.
+    fn pixel(self, pixel: [u8; 3]) -> Option<Out<'a>>
+        ensures { result ≡ puts out_takes self.entry (pixel_text Rgb pixel) }
+    {
+        let [red, green, blue] = pixel;
+        self.byte(b'(')?
+            .number(red as usize)?
+            .samples(&[green, blue])?
+            .byte(b')')
+    }
+}
+
 impl<'a> Sink for Out<'a> {
     ghost takes = { out_takes };
 
@@ -72,6 +87,23 @@ impl<'a> Sink for Out<'a> {
             return self.put(&digits);
         }
         self.digits(n)
+    }
+
+    fn samples(self, samples: &[u8]) -> Option<Self> {
+        let mut after = self;
+        for sample in samples {
+            after = after.byte(b' ')?.number(*sample as usize)?;
+        }
+        Some(after)
+    }
+
+    fn pixels(self, samples: &[u8]) -> Option<Self> {
+        let (pixels, _) = samples.as_chunks::<3>();
+        let mut after = self;
+        for pixel in pixels {
+            after = after.byte(b' ')?.pixel(*pixel)?;
+        }
+        Some(after)
     }
 }
 

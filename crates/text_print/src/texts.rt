@@ -23,7 +23,6 @@ pub trait Text {
 pub enum Mark {
     Opening,
     Blank,
-    Closing,
     LineEnd,
     // the end of a line: its closing bracket and the line end; the last line is no more than that
     Closed,
@@ -36,7 +35,6 @@ impl Text for Mark {
         match self {
             Mark::Opening => sink.put(b"("),
             Mark::Blank => sink.put(b" "),
-            Mark::Closing => sink.put(b")"),
             Mark::LineEnd => sink.put(b"\n"),
             Mark::Closed => sink.put(b")\n"),
         }

@@ -7,5 +7,4 @@ pub returns-in-Grey : goal.returns-in-Grey
 returns-in-Grey g c = c.put.ensures ∙ rw c.in-Grey.is (ap (puts g.S.Sink.takes c.args.sink) (sym (grey_row c.args.self.now.samples.now)))
 
 pub returns-in-Rgb : goal.returns-in-Rgb
-returns-in-Rgb g c =
-    (rw c.as_chunks.ensures.front at c.put-in-Rgb.ensures) ∙ rw c.in-Rgb.is (ap (puts g.S.Sink.takes c.args.sink) (sym (rgb_row c.args.self.now.samples.now)))
+returns-in-Rgb g c = c.put-in-Rgb.ensures ∙ rw c.in-Rgb.is (ap (puts g.S.Sink.takes c.args.sink) (sym (rgb_row c.args.self.now.samples.now)))

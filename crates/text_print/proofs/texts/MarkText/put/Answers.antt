@@ -1,4 +1,4 @@
-use Rattle.text_theory.specs.Files.{line_end, blank, opening, closing, closed}
+use Rattle.text_theory.specs.Files.{line_end, blank, opening, closed}
 use Rattle.text_print.proofs.texts.MarkText.put.Goals as goal
 
 pub returns-in-Opening : goal.returns-in-Opening
@@ -8,10 +8,6 @@ returns-in-Opening g c = rw c.in-Opening.is c.put.ensures
 pub returns-in-Blank : goal.returns-in-Blank
 unfolding blank
 returns-in-Blank g c = rw c.in-Blank.is c.put-in-Blank.ensures
-
-pub returns-in-Closing : goal.returns-in-Closing
-unfolding closing
-returns-in-Closing g c = rw c.in-Closing.is c.put-in-Closing.ensures
 
 pub returns-in-LineEnd : goal.returns-in-LineEnd
 unfolding line_end
