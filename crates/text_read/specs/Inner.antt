@@ -1,5 +1,5 @@
 -- What the functions inside this crate promise each other.
-use Rattle.std.specs.Prelude.{◌≡◌, cond, List, [], ◌∷◌, ◌++◌, ℕ, zero, suc, ◌≤◌, ◌<◌, ltb, length, get_or, drop}
+use Rattle.std.specs.Prelude.{◌≡◌, true, false, cond, List, [], ◌∷◌, ◌++◌, ℕ, zero, suc, ◌+◌, ◌-◌, ◌*◌, ◌≤◌, ◌<◌, ltb, length, get_or, drop}
 use Rattle.std.specs.Prelude as code
 use Rattle.std.proofs.Math.Option.{Option, none, some}
 use Rattle.grids.specs.Rows.{flat}
@@ -7,7 +7,7 @@ use Rattle.pictures.specs.declared.sizes.Kind.TheVariants.{Grey, Rgb}
 use Rattle.pictures.specs.Numbers.{largest_number}
 use Rattle.text_theory.specs.declared.Name.{Name}
 use Rattle.text_theory.specs.Readers.{Get, give, ◌▷◌, after}
-use Rattle.text_theory.specs.Decimal.{number_get, is_digit}
+use Rattle.text_theory.specs.Decimal.{number_get, is_digit, further, up_to}
 use Rattle.text_theory.specs.Files.{begun, pixel_get, line}
 use Rattle.text_rules.specs.declared.Items.{Items}
 use Rattle.text_rules.specs.declared.Items.TheVariants.{Samples, Pixels, Numbers}
@@ -18,6 +18,22 @@ use Rattle.text_read.specs.Answers.{class_of}
 abbrev pub ClassAt : List ℕ → ℕ → code.Option Class → Type 0
 ClassAt text at code.None = length text ≤ at
 ClassAt text at (code.Some k) = (at < length text) × (k ≡ class_of (get_or text at 0))
+
+-- What a byte is as a digit, and the digit at a place.
+abbrev pub DigitOf : ℕ → code.Option ℕ → Type 0
+DigitOf b code.None = is_digit b ≡ false
+DigitOf b (code.Some d) = (is_digit b ≡ true) × (d ≡ b - 48)
+
+abbrev pub DigitAt : List ℕ → ℕ → code.Option ℕ → Type 0
+DigitAt text at code.None = at < length text → is_digit (get_or text at 0) ≡ false
+DigitAt text at (code.Some d) = (at < length text) × DigitOf (get_or text at 0) (code.Some d)
+
+-- Digits that begin a number: n is what those between start and at say.
+pub record Reading (limit : ℕ) (text : List ℕ) (start n at : ℕ) : Type 0 where
+  pub same : number_get limit (drop start text) ≡ up_to limit (further n (drop at text))
+  pub there : start < at
+  pub inside : at ≤ length text
+  pub small : n ≤ 10 * largest_number + 9
 
 -- n at the place, if the limit admits it.
 abbrev pub within : ℕ → ℕ → ℕ → Option (ℕ × ℕ)
