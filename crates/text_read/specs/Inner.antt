@@ -1,5 +1,5 @@
 -- What the functions inside this crate promise each other.
-use Rattle.std.specs.Prelude.{◌≡◌, true, false, cond, List, [], ◌∷◌, ◌++◌, ℕ, zero, suc, ◌+◌, ◌-◌, ◌*◌, ◌≤◌, ◌<◌, ltb, length, get_or, drop}
+use Rattle.std.specs.Prelude.{◌≡◌, true, false, cond, List, [], ◌∷◌, ◌++◌, ℕ, zero, suc, ◌+◌, ◌-◌, ◌*◌, ◌≤◌, ◌<◌, ltb, eqb, length, get_or, drop}
 use Rattle.std.specs.Prelude as code
 use Rattle.std.proofs.Math.Option.{Option, none, some}
 use Rattle.grids.specs.Rows.{flat}
@@ -64,6 +64,24 @@ figures (suc n) s = also (figure s) (figures n)
 abbrev pub Coming : ℕ → ℕ → List ℕ → Type 0
 Coming limit zero s = Unit
 Coming limit (suc n) s = (r : ℕ × List ℕ) × (figure s ≡ some r) × (r.0 ≤ limit) × Coming limit n r.1
+
+-- What follows the next n numbers, and what follows the next line end.
+abbrev pub then_on : Option (ℕ × List ℕ) → (List ℕ → List ℕ) → List ℕ
+then_on none f = []
+then_on (some r) f = f r.1
+
+unfoldable pub beyond : ℕ → List ℕ → List ℕ
+beyond zero s = s
+beyond (suc n) s = then_on (figure s) (beyond n)
+
+unfoldable pub after_line : List ℕ → List ℕ
+after_line [] = []
+after_line (b ∷ s) = cond (eqb b 10) s (after_line s)
+
+-- Where n numbers come next, none over the limit: they were read, and the place is after the line end that follows them.
+pub record Numbered (limit n : ℕ) (text : List ℕ) (at next : ℕ) (read : List ℕ) : Type 0 where
+  pub numbers : Coming limit n (drop at text) → read ≡ figures n (drop at text)
+  pub place : Coming limit n (drop at text) → drop next text ≡ after_line (beyond n (drop at text))
 
 -- Of each kind of items: how large their numbers may be, how many numbers an item has, the reader of all numbers of such a line from its
 -- name on, and that of the line.
