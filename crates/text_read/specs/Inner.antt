@@ -12,7 +12,7 @@ use Rattle.text_theory.specs.Files.{begun, pixel_get, line}
 use Rattle.text_rules.specs.declared.Items.{Items}
 use Rattle.text_rules.specs.declared.Items.TheVariants.{Samples, Pixels, Numbers}
 use Rattle.text_read.specs.declared.cursor.Class.{Class}
-use Rattle.text_read.specs.Answers.{class_of}
+use Rattle.text_read.specs.Answers.{Told, class_of, item_of, form_of}
 
 -- The class of the byte at a place, or the text's end.
 abbrev pub ClassAt : List ℕ → ℕ → code.Option Class → Type 0
@@ -34,6 +34,10 @@ pub record Reading (limit : ℕ) (text : List ℕ) (start n at : ℕ) : Type 0 w
   pub there : start < at
   pub inside : at ≤ length text
   pub small : n ≤ 10 * largest_number + 9
+
+-- A form of items that are numbers up to a limit.
+abbrev pub ToldNumbers : ℕ → List ℕ → ℕ → Option (ℕ × ℕ) → Type 0
+ToldNumbers limit text at found = (w : Items) → item_of w ≡ number_get limit → Told (form_of w) text at found
 
 -- n at the place, if the limit admits it.
 abbrev pub within : ℕ → ℕ → ℕ → Option (ℕ × ℕ)

@@ -43,13 +43,14 @@ pub fn class_of(b: u8) -> Class
     }
 }
 
-// The value of a digit.
+// The value of a digit, which stands from 48 to 57. The byte is widened before it is met, so that its value needn't be.
 #[inline(always)]
 pub(crate) fn digit_of(b: u8) -> Option<usize>
     ensures { DigitOf b result }
 {
-    match b {
-        b'0'..=b'9' => Some((b - b'0') as usize),
+    let n = b as usize;
+    match n {
+        48..=57 => Some(n - 48),
         _ => None,
     }
 }
