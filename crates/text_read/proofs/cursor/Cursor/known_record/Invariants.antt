@@ -1,7 +1,7 @@
 -- `text_read::cursor::Cursor::known_record` meets its contract. The invariant is `Recording`: as many numbers as the index says stand at
 -- the front of the space, two bytes each, and here is the place after them.
 use Rattle.std.proofs.Common.{length, ◌/◌}
-use Rattle.text_read.proofs.Known.{Recording}
+use Rattle.text_read.proofs.KnownLines.{Recording}
 use Rattle.text_read.proofs.cursor.Cursor.known_record.Given as goal
 
 abbrev pub invariant-loop-i : goal.invariant-loop-i
