@@ -6,7 +6,7 @@ use native.Mathlib.Nat.{suc-mul}
 use native.Mathlib.Numerals.{add-one}
 use native.Mathlib.Omega.{arith}
 use lib.ListN.{length, take, drop}
-use lib.Seq.{take_all, take_at, length-take-le, drop-drop, drop-append-add}
+use lib.Seq.{take_at, length-take-le, drop-drop, drop-append-add}
 use borrow.Rule.Slice.PartMut.{put_mid}
 use Rattle.grids.specs.Rows.{row_at}
 use Rattle.grids.proofs.Rows.{part_end, row_more_lem}
@@ -29,6 +29,3 @@ module _ {A : Type 0} (whole before : List A) (w : ℕ) where
       ∙ drop-append-add (take (r * w) whole) (drop (r * w) before) w ∙ drop-drop w (r * w) before in
       let m : (r + 1) * w ≡ r * w + w = rw (add-one r) (suc-mul r w) in
       rw (m, q, p) (put_part (r * w) (r * w + w) now new (omega arith) ∙ rw (first, behind, is) (row_more_lem w r whole before))
-
-  pub filled_done : (n r : ℕ) (now : List A) → length whole ≡ n * w → r ≡ n → FilledTo r now → now ≡ whole ++ drop (n * w) before
-  filled_done n r now size e so = (rw e at so) ∙ ap (◌++ drop (n * w) before) (take_all (n * w) whole (omega arith))

@@ -2,7 +2,6 @@ pub mod Opened
 pub mod Parsed
 pub mod Filled
 pub mod Places
-pub mod Turns
 pub mod Answered
 pub mod CheckAnswers
 pub mod ReadAnswers

@@ -1,7 +1,7 @@
 -- The places of a file's lines: at each of them stands the next line, and after it the others.
-use mathlib.Core.Path.{◌≡◌, ap, ◌∙◌}
-use mathlib.Core.Option.{some-injective}
-use mathlib.Core.List.{List, [], ◌∷◌, ◌++◌, append-nil}
+use mathlib.Core.Path.{◌≡◌, sym, ap, ◌∙◌}
+use mathlib.Core.Option.{some}
+use mathlib.Core.List.{List, [], ◌∷◌, ◌++◌}
 use Prim.Native.Nat.{ℕ, zero, suc, ◌+◌, ◌*◌, ◌≤◌, ◌<◌}
 use native.Mathlib.Nat.{le_of_suc-le-suc}
 use native.Mathlib.Numerals.{add-one}
@@ -17,14 +17,11 @@ use Rattle.pictures.proofs.Buffers.{row_plain, bytes-row, length-bytes}
 use Rattle.pictures.specs.Numbers.{largest_number, pairs}
 use Rattle.map_rules.specs.Spaces.{map_bytes}
 use Rattle.map_rules.proofs.Rooms.{map-rows}
-use Rattle.pictures.proofs.TwoBytes.{pairs-flat, grid-pairs}
+use Rattle.pictures.proofs.TwoBytes.{length_pairs, pairs-flat, grid-pairs}
 use Rattle.text_theory.specs.declared.Head.{Head}
 use Rattle.text_theory.specs.Files.{parse, each, closed, All, Pixel}
-use Rattle.text_read.specs.declared.cursor.Cursor.{Cursor}
-use Rattle.std.specs.Prelude as code
-use Rattle.text_read.specs.Answers.{read}
-use Rattle.text_read.specs.Lines.{row_line, map_line, Taken}
-use Rattle.text_read.proofs.Callers.{LineMet, rows_next, maps-next, taken_row, taken_map}
+use Rattle.text_read.specs.Lines.{row_line, map_line, record_line}
+use Rattle.text_read.proofs.Callers.{row_line_lem, map_line_lem, rows_next, maps-next}
 use Rattle.file_theory.specs.Shows.{rows_in, bytes_in, maps_in}
 use Rattle.file_read.specs.Inner.Opening.{Open, maps_from, rows_from}
 use Rattle.file_read.specs.Inner.Lines.{MapRead}
@@ -34,16 +31,6 @@ pub all_at : {A : Type 0} (P : A → Type 0) (xs : List A) (r : ℕ) (d : A) →
 all_at P [] r d a h = absurd (omega arith)
 all_at P (x ∷ xs) zero d a h = a.0
 all_at P (x ∷ xs) (suc r) d a h = all_at P xs r d a.1 (le_of_suc-le-suc h)
-
--- A line that was read: the place after it, and a space that it fills. A line that stands there is read.
-module _ {text : List ℕ} {at : ℕ} {values rest out : List ℕ} {out' : List ℕ} where
-  pub met_place : (n : ℕ) (c : Cursor) → LineMet text at values rest out (code.Some (n, c)) out' → drop c.at text ≡ rest
-  met_place n c m =
-      let e : c.at ≡ m.place.at = ap (λ (r : ℕ × ℕ). r.1) (some-injective (n, c.at) (length values, m.place.at) (ap read m.answer)) in
-      ap (λ i. drop i text) e ∙ m.left
-
-  pub met_filled : (r : code.Option (ℕ × Cursor)) → length values ≡ length out → LineMet text at values rest out r out' → out' ≡ values
-  met_filled r e m = m.space ∙ ap (values ++◌) (drop_of_length-le out {i = length values} (omega arith)) ∙ append-nil values
 
 module _ {file : List ℕ} {h : Head} (k : Parsed file h) where
   -- The bytes of its picture are of its kind.
@@ -55,27 +42,35 @@ module _ {file : List ℕ} {h : Head} (k : Parsed file h) where
   unfolding each
   rows_end at p = p ∙ rw (drop_of_length-le (rows_in (parse file)) {i = h.size.height} (omega (arith, each-length k.of_size)))
 
-  -- The line at a place, read into a space that it fits.
+  -- The line at a place, and how many values it has.
   module _ (r : ℕ) (inside : r < h.size.height) where
-    pub row-met : {at : ℕ} {out out' : List ℕ} (a : code.Option (ℕ × Cursor)) → drop at file ≡ rows_from h.size.kind (parse file) r → row_bytes h.size ≡ length out → Taken (row_line h.size.kind) file at out (read a) out'
-        → LineMet file at (flat (get_or (rows_in (parse file)) r [])) (rows_from h.size.kind (parse file) (r + 1)) out a out'
-    row-met a p e t =
+    pub row_there : (at : ℕ) → drop at file ≡ rows_from h.size.kind (parse file) r
+        → row_line h.size.kind (drop at file) ≡ some (flat (get_or (rows_in (parse file)) r []), rows_from h.size.kind (parse file) (r + 1))
+    row_there at p =
         let rows = rows_in (parse file) in
         let there : r < length (rows_in (parse file)) = omega (arith, each-length k.of_size) in
-        taken_row h.size.kind (get_or rows r []) a t
-        (p ∙ rw (drop-cons rows r [] there, add-one r) (rows_next h.size.kind (get_or rows r []) (drop (suc r) rows) (maps_from (parse file) 0)))
-        (all_at (All (Pixel h.size.kind)) rows r [] k.within.rows there)
-        (omega (arith, length-flat (each_at r [] inside k.of_size), row_plain h.size))
+        ap (row_line h.size.kind) (p ∙ rw (drop-cons rows r [] there, add-one r) (rows_next h.size.kind (get_or rows r []) (drop (suc r) rows) (maps_from (parse file) 0)))
+        ∙ row_line_lem h.size.kind (get_or rows r []) (rows_from h.size.kind (parse file) (r + 1)) (all_at (All (Pixel h.size.kind)) rows r [] k.within.rows there)
 
-    pub map-met : {at : ℕ} {out out' : List ℕ} (a : code.Option (ℕ × Cursor)) → drop at file ≡ maps_from (parse file) r → h.size.width ≡ length out → Taken map_line file at out (read a) out'
-        → LineMet file at (get_or (maps_in (parse file)) r []) (maps_from (parse file) (r + 1)) out a out'
-    map-met a p e t =
+    pub map_there : (at : ℕ) → drop at file ≡ maps_from (parse file) r → map_line (drop at file) ≡ some (get_or (maps_in (parse file)) r [], maps_from (parse file) (r + 1))
+    map_there at p =
         let maps = maps_in (parse file) in
         let there : r < length (maps_in (parse file)) = omega (arith, each-length k.maps_grid) in
-        taken_map (get_or maps r []) a t
-        (p ∙ rw (drop-cons maps r [] there, add-one r) (maps-next (get_or maps r []) (drop (suc r) maps) closed))
-        (all_at (All (λ (v : ℕ). v ≤ largest_number)) maps r [] k.within.maps there)
-        (omega (arith, each_at r [] inside k.maps_grid))
+        ap map_line (p ∙ rw (drop-cons maps r [] there, add-one r) (maps-next (get_or maps r []) (drop (suc r) maps) closed))
+        ∙ map_line_lem (get_or maps r []) (maps_from (parse file) (r + 1)) (all_at (All (λ (v : ℕ). v ≤ largest_number)) maps r [] k.within.maps there)
+
+    pub record_there : (at : ℕ) → drop at file ≡ maps_from (parse file) r → record_line (drop at file) ≡ some (pairs (get_or (maps_in (parse file)) r []), maps_from (parse file) (r + 1))
+    unfolding record_line
+    record_there at p = rw (map_there at p)
+
+    pub row-long : length (flat (get_or (rows_in (parse file)) r [])) ≡ row_bytes h.size
+    row-long = length-flat (each_at r [] inside k.of_size) ∙ sym (row_plain h.size)
+
+    pub map-row-long : length (get_or (maps_in (parse file)) r []) ≡ h.size.width
+    map-row-long = each_at r [] inside k.maps_grid
+
+    pub record-long : length (pairs (get_or (maps_in (parse file)) r [])) ≡ 2 * h.size.width
+    record-long = length_pairs (get_or (maps_in (parse file)) r []) ∙ ap (2 *◌) map-row-long
 
     -- Row r of the picture's bytes, which are its samples, of the map, and of the map's bytes.
     pub row-of-bytes : row_at (row_bytes h.size) r (bytes_in (parse file)) ≡ row_out h.size.kind (get_or (rows_in (parse file)) r [])

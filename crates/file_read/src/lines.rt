@@ -6,10 +6,10 @@ ghost use Rattle.pictures.specs.Pictures.{bytes, row_bytes, picture_bytes};
 ghost use Rattle.text_theory.specs.Files.{parse};
 ghost use Rattle.file_theory.specs.Shows.{bytes_in, rows_in, maps_in};
 ghost use Rattle.file_read.specs.Inner.Opening.{rows_from, maps_from};
-ghost use Rattle.file_read.specs.Inner.Lines.{AtMap, ReadsMap, PictureRead};
+ghost use Rattle.file_read.specs.Inner.Lines.{ReadsMap, PictureRead};
 
 use crate::opening::Opened;
-use pictures::{LARGEST_SIDE, pixel_bytes};
+use pictures::pixel_bytes;
 use text_read::Cursor;
 
 // Lines that follow one another, one for each row of the picture. Line r fills part r of a space.
@@ -71,12 +71,10 @@ impl<'a> Opened<'a> {
 
     // Reads the map line at a place into a space of just its numbers, and gives the place after it.
     pub(crate) fn map_line(&self, at: Cursor, out: &mut [u16]) -> Cursor
-        requires there { AtMap self.now.text.now self.now.head at.at }
-        requires fits { length out.old ≡ self.now.head.size.width }
+        requires { length out.old ≡ self.now.head.size.width }
         ensures { ReadsMap self.now.text.now self.now.head at.at result.at out.new }
     {
-        let (_, next) = at.map(self.text, out).unwrap();
-        next
+        at.known_map(self.text, out)
     }
 }
 
@@ -106,8 +104,7 @@ impl<'a> Lines<u8> for RowLines<'a> {
     }
 
     fn part(&self, _r: usize, at: Cursor, part: &mut [u8]) -> Cursor {
-        let (_, next) = at.row(self.0.text, self.0.head.size.kind, part).unwrap();
-        next
+        at.known_row(self.0.text, part)
     }
 }
 
@@ -163,21 +160,6 @@ impl<'a> Lines<u8> for RecordLines<'a> {
     }
 
     fn part(&self, _r: usize, at: Cursor, part: &mut [u8]) -> Cursor {
-        let width = self.0.head.size.width;
-        // on the stack, with as many places as the widest row has: nothing is allocated
-        let mut numbers = [0u16; LARGEST_SIDE];
-        let next = self.0.map_line(at, &mut numbers[..width]);
-        record_row(part, &numbers[..width]);
-        next
-    }
-}
-
-// Writes the numbers into the space, two bytes a number, the low byte first; by index, for the same reason as in fill.
-fn record_row(space: &mut [u8], row: &[u16])
-    requires { length space.old ≡ 2 * length row.now }
-    ensures { space.new ≡ pairs row.now }
-{
-    for (c, n) in row.iter().enumerate() {
-        space[2 * c..2 * c + 2].copy_from_slice(&n.to_le_bytes());
+        at.known_record(self.0.text, part)
     }
 }

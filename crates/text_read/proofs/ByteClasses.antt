@@ -19,7 +19,7 @@ use Rattle.text_read.specs.declared.cursor.Class.{Class}
 use Rattle.text_read.specs.declared.cursor.Class.TheVariants.{Digit, Letter, Opening, Closing, Blank, LineEnd, Other}
 use Rattle.text_read.specs.Answers.{Told, is_letter, class_of, class_number, of_class}
 use Rattle.text_read.specs.Inner.{passing}
-use Rattle.text_read.proofs.DigitSteps.{no_digit, DigitByte}
+use Rattle.text_read.proofs.DigitSteps.{no_digit}
 
 pub class_digit : (b d : ℕ) → 48 ≤ b → b < 58 → d ≡ b - 48 → Digit d ≡ class_of b
 unfolding class_of
@@ -68,12 +68,6 @@ found b e f = sym f ∙ e
 
 pub digit_found : {x : Class} {d : ℕ} (b : ℕ) → x ≡ Digit d → x ≡ class_of b → is_digit b ≡ true
 digit_found b e f = (rw (found b e f) at (class_says b)).0
-
-pub digit_byte : {x : Class} {d : ℕ} (b : ℕ) → x ≡ Digit d → x ≡ class_of b → DigitByte b d
-digit_byte b e f =
-    let s = rw (found b e f) at (class_says b) in
-    let t = digit_true b s.0 in
-    record { least = t.0; most = t.1; value = s.1 }
 
 pub letter_byte : {x : Class} {l : ℕ} (b : ℕ) → x ≡ Letter l → x ≡ class_of b → (is_letter b ≡ true) × (l ≡ b)
 letter_byte b e f = rw (found b e f) at (class_says b)

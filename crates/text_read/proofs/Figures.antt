@@ -1,22 +1,23 @@
 -- Numbers one after the other, whatever stands between them, and the loop that writes them.
-use mathlib.Core.Path.{◌≡◌, refl, sym, ◌∙◌}
+use mathlib.Core.Path.{◌≡◌, refl, sym, ap, ◌∙◌}
 use mathlib.Core.Bool.{Bool, true, false, not, cond}
 use mathlib.Core.Option.{Option, none, some, none-ne-some, some-injective}
 use mathlib.Core.List.{List, [], ◌∷◌, ◌++◌, append-nil, map}
 use Rattle.std.specs.Prelude as code
 use Rattle.std.specs.Prelude.{nat_lt}
 use Rattle.std.specs.List.{position, position_or_len}
-use Rattle.std.proofs.lemmas.List.{drop-drop, map-append}
+use Rattle.std.proofs.lemmas.List.{drop_more, drop-drop, map-append}
 use borrow.Author.Tests.{ltb-false}
 use Prim.Native.Nat.{ℕ, zero, suc, ◌+◌, ◌≤◌, ◌<◌}
-use native.Mathlib.Numerals.{add-one, one-add}
+use native.Mathlib.Numerals.{add-one}
 use native.Mathlib.Omega.{arith}
-use lib.ListN.{length, take, drop, set, drop_of_length-le, length-set}
-use lib.Seq.{take-suc-set, take-length, append_snoc}
+use lib.Dec.{eqb}
+use lib.ListN.{length, get_or, take, drop, set, drop_of_length-le}
+use lib.Seq.{take-suc-set, take_all, append_snoc}
 use Rattle.pictures.specs.Numbers.{largest_number}
 use Rattle.text_theory.specs.Decimal.{is_digit, number_get}
 use Rattle.text_read.specs.Answers.{ahead, Told}
-use Rattle.text_read.specs.Inner.{skipped, figure, figures, Coming}
+use Rattle.text_read.specs.Inner.{skipped, figure, figures, Coming, beyond, after_line, Numbered}
 use Rattle.text_read.proofs.DigitSteps.{rest, rest_of}
 
 skip_gap : (b : ℕ) (s : List ℕ) → is_digit b ≡ false → skipped (b ∷ s) ≡ skipped s
@@ -41,76 +42,151 @@ figure-here (b ∷ s) r h = go (is_digit b) refl h
     go true e h = rw (skip_digit b s e) h
     go false e h = absurd (none-ne-some _ (rw e at h))
 
--- What is skipped, by the place of the first digit.
-skip_by : (s : List ℕ) → skipped s ≡ drop (position_or_len is_digit s) s
-unfolding skipped
-skip_by [] = refl
-skip_by (b ∷ s) = go (is_digit b) (skip_by s)
-  where
-    go : (x : Bool) → skipped s ≡ drop (position_or_len is_digit s) s
-        → cond x (b ∷ s) (skipped s) ≡ drop (cond (not x) (1 + position_or_len is_digit s) 0) (b ∷ s)
-    go true k = refl
-    go false k = k ∙ rw one-add refl
+-- The state of the loop that passes over what stands before a number.
+pub record Skipping (text : List ℕ) (from at : ℕ) : Type 0 where
+  pub same : figure (drop from text) ≡ figure (drop at text)
+  pub there : from ≤ at
 
-module _ {text : List ℕ} {at : ℕ} where
-  pub figure_past : length text ≤ at → Told figure text at none
+pub skipping_first : (text : List ℕ) (from : ℕ) → Skipping text from from
+skipping_first text from = record { same = refl; there = omega arith }
+
+module _ {text : List ℕ} {from at : ℕ} (S : Skipping text from at) where
+  pub skipping_end : length text ≤ at → Told figure text from none
   unfolding figure number_get skipped
-  figure_past h = record { same = rw (drop_of_length-le text h); moved = tt }
+  skipping_end h = record { same = S.same ∙ rw (drop_of_length-le text h); moved = tt }
 
-  -- By the place of the first digit in s, which is what follows.
-  module _ {s : List ℕ} (e : s ≡ rest text at) where
-    pub figure_none : code.None ≡ position is_digit s → Told figure text at none
-    unfolding figure number_get
-    figure_none h = go (nat_lt (position_or_len is_digit (drop at text)) (length (drop at text))) refl (rw (e, rest_of text at) at h)
-      where
-        go : (x : Bool) → nat_lt (position_or_len is_digit (drop at text)) (length (drop at text)) ≡ x
-            → code.None ≡ cond x (code.Some (position_or_len is_digit (drop at text))) code.None → Told figure text at none
-        go true e h = absurd cc
-        go false e h = record { same = rw (skip_by (drop at text), drop_of_length-le (drop at text) (ltb-false _ _ e)); moved = tt }
+  module _ (h : at < length text) where
+    pub skipping_more : is_digit (get_or text at 0) ≡ false → Skipping text from (at + 1)
+    skipping_more d = record { same = S.same ∙ rw (drop_more text at 0 h) (figure_gap (get_or text at 0) (drop (at + 1) text) d); there = omega (arith, S.there) }
 
-    pub figure_at : {i : ℕ} {found : Option (ℕ × ℕ)} → code.Some i ≡ position is_digit s → Told (number_get largest_number) text (at + i) found → Told figure text at found
+    pub skipping_digit : is_digit (get_or text at 0) ≡ true → {found : Option (ℕ × ℕ)} → Told (number_get largest_number) text at found → Told figure text from found
     unfolding figure
-    figure_at {i} {found} h t = record { same = rw (skip_by (drop at text), ← is (nat_lt (position_or_len is_digit (drop at text)) (length (drop at text))) (rw (e, rest_of text at) at h), drop-drop i at text) t.same; moved = further found t.moved }
+    skipping_digit d {found} t = record { same = S.same ∙ here ∙ t.same; moved = further found t.moved }
       where
-        is : (x : Bool) → code.Some i ≡ cond x (code.Some (position_or_len is_digit (drop at text))) code.None → i ≡ position_or_len is_digit (drop at text)
+        here : figure (drop at text) ≡ number_get largest_number (drop at text)
+        here = rw (drop_more text at 0 h, skip_digit (get_or text at 0) (drop (at + 1) text) d)
+
+        further : (r : Option (ℕ × ℕ)) → ahead (length text) at r → ahead (length text) from r
+        further none m = tt
+        further (some q) m = (omega (arith, m.0, S.there), m.1)
+
+-- The place of the first line end.
+line_by : (s : List ℕ) → after_line s ≡ drop (position_or_len (λ b. eqb b 10) s + 1) s
+unfolding after_line
+line_by [] = refl
+line_by (b ∷ s) = go (eqb b 10) (line_by s)
+  where
+    go : (x : Bool) → after_line s ≡ drop (position_or_len (λ b. eqb b 10) s + 1) s
+        → cond x s (after_line s) ≡ drop (cond (not x) (1 + position_or_len (λ b. eqb b 10) s) 0 + 1) (b ∷ s)
+    go true k = refl
+    go false k = k ∙ sym (ap (λ i. drop i (b ∷ s)) unary)
+      where
+        unary : 1 + position_or_len (λ b. eqb b 10) s + 1 ≡ suc (position_or_len (λ b. eqb b 10) s + 1)
+        unary = omega arith
+
+-- What follows the next line end, by its place in s, which is what follows a place.
+module _ (text : List ℕ) (at : ℕ) where
+  pub after_past : length text < at → drop at text ≡ after_line (drop at text)
+  unfolding after_line
+  after_past h = rw (drop_of_length-le text {i = at} (omega arith))
+
+  module _ {s : List ℕ} (e : s ≡ rest text at) where
+    pub after_none : code.None ≡ position (λ b. eqb b 10) s → drop (length text) text ≡ after_line (drop at text)
+    after_none h = go (nat_lt (position_or_len (λ b. eqb b 10) (drop at text)) (length (drop at text))) refl (rw (e, rest_of text at) at h)
+      where
+        go : (x : Bool) → nat_lt (position_or_len (λ b. eqb b 10) (drop at text)) (length (drop at text)) ≡ x
+            → code.None ≡ cond x (code.Some (position_or_len (λ b. eqb b 10) (drop at text))) code.None → drop (length text) text ≡ after_line (drop at text)
+        go true f h = absurd cc
+        go false f h =
+            let l = ltb-false (position_or_len (λ b. eqb b 10) (drop at text)) (length (drop at text)) f in
+            drop_of_length-le text {i = length text} (omega arith) ∙ sym (line_by (drop at text) ∙ drop_of_length-le (drop at text) {i = position_or_len (λ b. eqb b 10) (drop at text) + 1} (omega (arith, l)))
+
+    pub after_at : {i : ℕ} → code.Some i ≡ position (λ b. eqb b 10) s → drop (at + i + 1) text ≡ after_line (drop at text)
+    after_at {i} h =
+        let z : i ≡ position_or_len (λ b. eqb b 10) (drop at text) =
+        is (nat_lt (position_or_len (λ b. eqb b 10) (drop at text)) (length (drop at text))) (rw (e, rest_of text at) at h) in
+        let one : at + i + 1 ≡ at + (i + 1) = omega arith in
+        sym (line_by (drop at text) ∙ rw (← z, drop-drop (i + 1) at text, one) refl)
+      where
+        is : (x : Bool) → code.Some i ≡ cond x (code.Some (position_or_len (λ b. eqb b 10) (drop at text))) code.None → i ≡ position_or_len (λ b. eqb b 10) (drop at text)
         is true h = cc
         is false h = absurd cc
 
-        further : (r : Option (ℕ × ℕ)) → ahead (length text) (at + i) r → ahead (length text) at r
-        further none m = tt
-        further (some q) m = (omega (arith, m.0), m.1)
-
--- The state of the loop that writes: i numbers were written, and as many are to come as there is room.
-pub record Filling {T : Type 0} (value : T → ℕ) (limit : ℕ) (text : List ℕ) (from i at : ℕ) (out : List T) : Type 0 where
+-- The state of a loop that reads n numbers: i of them were read, and the others are to come.
+pub record Filling (limit n : ℕ) (text : List ℕ) (from i at : ℕ) (read : List ℕ) : Type 0 where
   pub left : ℕ
-  pub sum : i + left ≡ length out
+  pub sum : i + left ≡ n
   pub coming : Coming limit left (drop at text)
-  pub all : figures (length out) (drop from text) ≡ map value (take i out) ++ figures left (drop at text)
+  pub all : figures n (drop from text) ≡ read ++ figures left (drop at text)
+  pub after : beyond n (drop from text) ≡ beyond left (drop at text)
 
-module _ {T : Type 0} {value : T → ℕ} {limit : ℕ} {text : List ℕ} {from : ℕ} where
-  module _ {i at : ℕ} {out : List T} (F : Filling value limit text from i at out) (l : i < length out) where
-    module _ {v c : ℕ} (t : Told figure text at (some (v, c))) where
+-- Where all of them come.
+abbrev pub FillingIf : ℕ → ℕ → List ℕ → ℕ → ℕ → ℕ → List ℕ → Type 0
+FillingIf limit n text from i at read = Coming limit n (drop from text) → Filling limit n text from i at read
+
+module _ {limit n : ℕ} {text : List ℕ} {from : ℕ} where
+  pub filling_first : FillingIf limit n text from 0 from []
+  filling_first k = record { left = n; sum = omega arith; coming = k; all = refl; after = refl }
+
+  module _ {i at : ℕ} {read : List ℕ} (F : Filling limit n text from i at read) where
+    pub filling_none : i < n → Told figure text at none → ⊥
+    filling_none l t = go F.left F.sum F.coming
+      where
+        go : (m : ℕ) → i + m ≡ n → Coming limit m (drop at text) → ⊥
+        go zero e k = omega arith
+        go (suc m) e k = none-ne-some _ (sym t.same ∙ k.1)
+
+    module _ (l : i < n) {v c : ℕ} (t : Told figure text at (some (v, c))) where
       same-pair : (r : ℕ × List ℕ) → figure (drop at text) ≡ some r → r ≡ (v, drop c text)
       same-pair r e = some-injective r (v, drop c text) (sym e ∙ t.same)
 
-      pub filling_next : (x : T) → value x ≡ v → Filling value limit text from (i + 1) c (set out i x)
-      unfolding figures
-      filling_next x is = go F.left F.sum F.coming F.all
+      pub filling_small : v ≤ limit
+      filling_small = go F.left F.sum F.coming
         where
-          go : (m : ℕ) → i + m ≡ length out → Coming limit m (drop at text) → figures (length out) (drop from text) ≡ map value (take i out) ++ figures m (drop at text)
-              → Filling value limit text from (i + 1) c (set out i x)
-          go zero e k a = absurd (omega arith)
-          go (suc m) e k a = record {
+          go : (m : ℕ) → i + m ≡ n → Coming limit m (drop at text) → v ≤ limit
+          go zero e k = absurd (omega arith)
+          go (suc m) e k = rw (same-pair k.0 k.1) at k.2
+
+      pub filling_next : Filling limit n text from (i + 1) c (read ++ v ∷ [])
+      unfolding figures beyond
+      filling_next = go F.left F.sum F.coming F.all F.after
+        where
+          go : (m : ℕ) → i + m ≡ n → Coming limit m (drop at text) → figures n (drop from text) ≡ read ++ figures m (drop at text) → beyond n (drop from text) ≡ beyond m (drop at text)
+              → Filling limit n text from (i + 1) c (read ++ v ∷ [])
+          go zero e k a b = absurd (omega arith)
+          go (suc m) e k a b = record {
             left = m;
-            sum = rw length-set (omega arith);
+            sum = omega arith;
             coming = rw (same-pair k.0 k.1) at k.3;
-            all = rw (length-set, add-one, take-suc-set, map-append) (a ∙ rw (t.same, is) (sym (append_snoc (map value (take i out)) v (figures m (drop c text)))));
+            all = a ∙ rw t.same (sym (append_snoc read v (figures m (drop c text))));
+            after = b ∙ rw t.same refl;
           }
 
-  pub filling_end : {i at : ℕ} {out : List T} → Filling value limit text from i at out → length out ≤ i → map value out ≡ figures (length out) (drop from text)
-  unfolding figures
-  filling_end {i} {at} {out} F h = go F.left F.sum F.all
-    where
-      go : (m : ℕ) → i + m ≡ length out → figures (length out) (drop from text) ≡ map value (take i out) ++ figures m (drop at text) → map value out ≡ figures (length out) (drop from text)
-      go zero e a = let z : i ≡ length out = omega arith in sym (a ∙ rw (append-nil, z, take-length))
-      go (suc m) e a = absurd (omega arith)
+    pub filling_done : n ≤ i → (read ≡ figures n (drop from text)) × (beyond n (drop from text) ≡ drop at text)
+    unfolding figures beyond
+    filling_done h = go F.left F.sum F.all F.after
+      where
+        go : (m : ℕ) → i + m ≡ n → figures n (drop from text) ≡ read ++ figures m (drop at text) → beyond n (drop from text) ≡ beyond m (drop at text)
+            → (read ≡ figures n (drop from text)) × (beyond n (drop from text) ≡ drop at text)
+        go zero e a b = (sym (a ∙ append-nil read), b)
+        go (suc m) e a b = absurd (omega arith)
+
+-- The numbers kept as values: a turn of the loop, and its two ends.
+module _ {T : Type 0} (value : T → ℕ) {limit n : ℕ} {text : List ℕ} {from i at : ℕ} (out : List T) (I : FillingIf limit n text from i at (map value (take i out))) where
+  pub kept_turn : i < n → n ≡ length out → {v c : ℕ} → Told figure text at (some (v, c)) → (x : T) → (v ≤ limit → value x ≡ v) → FillingIf limit n text from (i + 1) c (map value (take (i + 1) (set out i x)))
+  kept_turn l e {v} {c} t x is k =
+      let F = I k in
+      let inside : i < length out = omega (arith, l, e) in
+      let now : map value (take (i + 1) (set out i x)) ≡ map value (take i out) ++ (v ∷ []) = rw (add-one, take-suc-set, map-append, is (filling_small F l t)) refl in
+      rw now (filling_next F l t)
+
+  pub kept_none : i < n → Told figure text at none → (next : ℕ) (out' : List T) → Numbered limit n text from next (map value out')
+  kept_none l t next out' = record { numbers = λ k. absurd (filling_none (I k) l t); place = λ k. absurd (filling_none (I k) l t) }
+
+  pub kept_done : n ≤ i → n ≡ length out → {next : ℕ} → drop next text ≡ after_line (drop at text) → Numbered limit n text from next (map value out)
+  kept_done l e p =
+      let w : take i out ≡ out = take_all i out (omega (arith, e)) in
+      record {
+        numbers = λ k. sym (ap (map value) w) ∙ (filling_done (I k) l).0;
+        place = λ k. p ∙ sym (ap after_line (filling_done (I k) l).1);
+      }

@@ -92,6 +92,26 @@ pub record Counting (w : Items) (text : List ℕ) (from n at : ℕ) : Type 0 whe
   pub there : from ≤ at
   pub few : n ≤ at
 
+-- That of the loop over items that are numbers up to a limit.
+pub record CountingNumbers (limit : ℕ) (text : List ℕ) (from n at : ℕ) : Type 0 where
+  pub counting : (w : Items) → item_of w ≡ number_get limit → Counting w text from n at
+  pub few : n ≤ at
+
+pub counting_first : (limit : ℕ) (text : List ℕ) (from : ℕ) → CountingNumbers limit text from 0 from
+counting_first limit text from = record { counting = λ w e. record { same = go (form_of w (drop from text)); there = omega arith; few = omega arith }; few = omega arith }
+  where
+    go : (o : Option (ℕ × List ℕ)) → o ≡ on o (λ m. give (0 + m))
+    go none = refl
+    go (some r) = let z : 0 + r.0 ≡ r.0 = omega arith in rw z
+
+pub samples_plain : item_of Samples ≡ number_get 255
+unfolding item_of
+samples_plain = refl
+
+pub numbers_plain : item_of Numbers ≡ number_get largest_number
+unfolding item_of
+numbers_plain = refl
+
 module _ {w : Items} {text : List ℕ} {from : ℕ} where
   module _ {n at : ℕ} (C : Counting w text from n at) where
     pub counting-next : {v : ℕ} {c : ℕ} → at < length text → get_or text at 0 ≡ 32 → Told (item_of w) text (at + 1) (some (v, c)) → Counting w text from (n + 1) (c)

@@ -8,5 +8,6 @@ pub mod LineCounts
 pub mod Figures
 pub mod LineSteps
 pub mod LinesTaken
+pub mod KnownLines
 pub mod Callers
 pub mod Numbers

@@ -29,13 +29,13 @@ use Rattle.text_rules.specs.Items.{items_of}
 use Rattle.text_read.proofs.ByteClasses.{told_as}
 use Rattle.text_read.proofs.Onward.{passing-some, passing-none, told_begun}
 use Rattle.text_read.proofs.LineCounts.{rest-map, rest-row}
-use Rattle.text_read.proofs.LineSteps.{Stand, stand-coming, stand-figures, numbers_stand, row_stand, row_count_lem}
+use Rattle.text_read.proofs.LineSteps.{Stand, stand-coming, stand-figures, closed_stand, numbers_stand, row_stand, row_count_lem}
 
 -- What the first pass knows: m values are read from the place on, and their numbers stand after the word.
 pub record Found (get : Get (List ℕ)) (limit : ℕ) (text : List ℕ) (at word m end : ℕ) : Type 0 where
   pub values : List ℕ
   pub same : get (drop at text) ≡ some (values, drop end text)
-  pub stand : Stand limit values (drop word text)
+  pub stand : Stand limit (drop end text) values (drop word text)
   pub count : length values ≡ m
   pub moved : (at < end) × (end ≤ length text)
 
@@ -76,23 +76,23 @@ none_inv (some r) h = absurd (none-ne-some _ (sym h))
 record Values (what : Items) (s : List ℕ) (m : ℕ) (t : List ℕ) : Type 0 where
   pub values : List ℕ
   pub same : values_get what s ≡ some (values, t)
-  pub stand : Stand (limit_of what) values s
+  pub stand : Stand (limit_of what) t values s
   pub count : length values ≡ m * numbers_of what
 
-stand_is : {limit : ℕ} {xs s u : List ℕ} → s ≡ u → Stand limit xs u → Stand limit xs s
-stand_is {limit} {xs} e h = let P : List ℕ → Type 0 = λ v. Stand limit xs v in subst P (sym e) h
+pub stand_is : {limit : ℕ} {t xs s u : List ℕ} → s ≡ u → Stand limit t xs u → Stand limit t xs s
+stand_is {limit} {t} {xs} e h = let P : List ℕ → Type 0 = λ v. Stand limit t xs v in subst P (sym e) h
 
 module _ (k : Kind) (s : List ℕ) where
   row_none : line_rest (items_of k) s ≡ none → line (pixel_get k) s ≡ none
   row_none h = none_inv (line (pixel_get k) s) (sym (rest-row k s) ∙ h)
 
   row_some : (m : ℕ) (t : List ℕ) → line_rest (items_of k) s ≡ some (m, t)
-      → (row : List (List ℕ)) × (line (pixel_get k) s ≡ some (row, t)) × Stand 255 (flat row) s × (length (flat row) ≡ m * channels_of k)
+      → (row : List (List ℕ)) × (line (pixel_get k) s ≡ some (row, t)) × Stand 255 t (flat row) s × (length (flat row) ≡ m * channels_of k)
   unfolding line_text
   row_some m t h =
       let p = counted_inv (line (pixel_get k) s) m t (sym (rest-row k s) ∙ h) in
       let z = (line_reads (pixel_reads k) clear-blank clear-closing).sound s (p.0, t) p.1 in
-      (p.0, p.1, stand_is (z.0 ∙ append_assoc (each blank (pixel_text k) p.0) closed t) (row_stand k p.0 (closed ++ t) z.1 (clear-closed t)), row_count_lem k p.0 z.1 ∙ rw p.2 refl)
+      (p.0, p.1, stand_is (z.0 ∙ append_assoc (each blank (pixel_text k) p.0) closed t) (row_stand t k p.0 (closed ++ t) z.1 (clear-closed t) (closed_stand 255 t)), row_count_lem k p.0 z.1 ∙ rw p.2 refl)
 
 values_none : (what : Items) (s : List ℕ) → line_rest what s ≡ none → values_get what s ≡ none
 values_none Samples s h = rw (row_none Grey s h)
@@ -106,7 +106,7 @@ values_some Pixels s m t h = let r = row_some Rgb s m t h in record { values = f
 values_some Numbers s m t h =
     let p = counted_inv (line (number_get largest_number) s) m t (sym (rest-map s) ∙ h) in
     let z = (line_reads (number_reads largest_number) clear-blank clear-closing).sound s (p.0, t) p.1 in
-    record { values = p.0; same = p.1; stand = stand_is (z.0 ∙ append_assoc (each blank digits p.0) closed t) (numbers_stand largest_number p.0 (closed ++ t) z.1 (clear-closed t)); count = p.2 ∙ omega arith }
+    record { values = p.0; same = p.1; stand = stand_is (z.0 ∙ append_assoc (each blank digits p.0) closed t) (numbers_stand t largest_number p.0 (closed ++ t) z.1 (clear-closed t) (closed_stand largest_number t)); count = p.2 ∙ omega arith }
 
 -- Room for m items, in numbers.
 pub items_fit : (what : Items) (each m len : ℕ) → each ≡ numbers_of what → m ≤ len / each → m * each ≤ len

@@ -155,23 +155,16 @@ module _ {text : List ℕ} {at : ℕ} where
     pub told-word-other : is_digit (get_or text at 0) ≡ false → is_letter (get_or text at 0) ≡ false → Told word text at none
     told-word-other d l = told-word-no-name d (record { same = rw (drop_more text at 0 h, name_other (get_or text at 0) (drop (at + 1) text) l); moved = tt })
 
+  -- A number up to the largest is over the limit or not.
   module _ (limit : ℕ) (l : limit ≤ largest_number) where
-    pub told_number : {n c : ℕ} → Told word text at (some (words.Number n, c)) → n ≤ limit → Told (number_get limit) text at (some (n, c))
-    told_number {n} {c} t h = record { same = rw (number_limit limit l (drop at text), word_numeral (drop at text) n (drop c text) t.same, le-ltb limit n h); moved = t.moved }
+    pub limited_number : {n c : ℕ} → Told (number_get largest_number) text at (some (n, c)) → n ≤ limit → Told (number_get limit) text at (some (n, c))
+    limited_number {n} t h = record { same = rw (number_limit limit l (drop at text), t.same, le-ltb limit n h); moved = t.moved }
 
-    pub told-number-over : {n c : ℕ} → Told word text at (some (words.Number n, c)) → limit < n → Told (number_get limit) text at none
-    told-number-over {n} {c} t h = record { same = rw (number_limit limit l (drop at text), word_numeral (drop at text) n (drop c text) t.same, lt-ltb limit n h); moved = tt }
+    pub limited-over : {n c : ℕ} → Told (number_get largest_number) text at (some (n, c)) → limit < n → Told (number_get limit) text at none
+    limited-over {n} t h = record { same = rw (number_limit limit l (drop at text), t.same, lt-ltb limit n h); moved = tt }
 
-    pub told-number-name : {k : Name} {c : ℕ} → Told word text at (some (words.Name k, c)) → Told (number_get limit) text at none
-    told-number-name {k} {c} t = record { same = rw (number_limit limit l (drop at text), (word_name (drop at text) k (drop c text) t.same).0); moved = tt }
-
-    -- The arm of all words that are no numbers.
-    pub told-no-number : (w : Word) {c : ℕ} → ((n : ℕ) → w ≡ words.Number n → ⊥) → Told word text at (some (w, c)) → Told (number_get limit) text at none
-    told-no-number (words.Number n) h t = absurd (h n refl)
-    told-no-number (words.Name k) h t = told-number-name t
-
-    pub told-number-none : Told word text at none → Told (number_get limit) text at none
-    told-number-none t = record { same = rw (number_limit limit l (drop at text), (word_none (drop at text) t.same).0); moved = tt }
+    pub limited_none : Told (number_get largest_number) text at none → Told (number_get limit) text at none
+    limited_none t = record { same = rw (number_limit limit l (drop at text), t.same); moved = tt }
 
   pub told_name : {k : Name} {c : ℕ} → Told word text at (some (words.Name k, c)) → Told name_get text at (some (k, c))
   told_name {k} {c} t = record { same = (word_name (drop at text) k (drop c text) t.same).1; moved = t.moved }

@@ -6,7 +6,7 @@ ghost use Rattle.text_theory.specs.Readers.{answered};
 ghost use Rattle.text_theory.specs.Words.{name_text};
 ghost use Rattle.text_theory.specs.Decimal.{number_get};
 ghost use Rattle.text_read.specs.Answers.{Told, read, passed, is_letter, class_of, class_number, of_class};
-ghost use Rattle.text_read.specs.Inner.{ClassAt, passing, within};
+ghost use Rattle.text_read.specs.Inner.{ClassAt, DigitOf, DigitAt, DigitIs, Reading, passing, within};
 
 use pictures::numbers::LARGEST_NUMBER;
 use text_rules::letters_of;
@@ -40,6 +40,18 @@ pub fn class_of(b: u8) -> Class
         b' ' => Class::Blank,
         b'\n' => Class::LineEnd,
         _ => Class::Other,
+    }
+}
+
+// The value of a digit, which stands from 48 to 57. The byte is widened before it is met, so that its value needn't be.
+#[inline(always)]
+pub(crate) fn digit_of(b: u8) -> Option<usize>
+    ensures { DigitOf b result }
+{
+    let n = b as usize;
+    match n {
+        48..=57 => Some(n - 48),
+        _ => None,
     }
 }
 
@@ -82,23 +94,62 @@ impl Cursor {
         (class_number(found) == class_number(class)).then_some(Cursor { at: self.at + 1 })
     }
 
-    // A number without leading zeros, up to the largest. It is too large as soon as its first digits are.
+    // The digit here, if one stands here.
+    #[inline(always)]
+    fn digit(self, text: &[u8]) -> Option<usize>
+        ensures { DigitAt text.now self.at result }
+    {
+        let byte = text.get(self.at)?;
+        digit_of(*byte)
+    }
+
+    // A number without leading zeros, up to the largest.
+    #[inline(always)]
     pub(crate) fn digits(self, text: &[u8]) -> Option<(usize, Cursor)>
         ensures { Told (number_get largest_number) text.now self.at (read result) }
     {
-        let Class::Digit(first) = self.class(text)? else {
-            return None;
-        };
-        let start = self.at + 1;
+        let first = self.digit(text)?;
+        self.from_digit(text, first)
+    }
+
+    // The number whose first digit stands here. Up to three digits, as all samples have, are read without a loop.
+    #[inline(always)]
+    pub(crate) fn from_digit(self, text: &[u8], first: usize) -> Option<(usize, Cursor)>
+        requires { DigitIs text.now self.at first }
+        ensures { Told (number_get largest_number) text.now self.at (read result) }
+    {
+        let second_at = Cursor { at: self.at + 1 };
         let lone = first == 0;
         if lone {
-            return Some((0, Cursor { at: start }));
+            return Some((0, second_at));
         }
-        let further = &text[start..];
-        let mut n = first;
+        let Some(second) = second_at.digit(text) else {
+            return Some((first, second_at));
+        };
+        let third_at = Cursor { at: self.at + 2 };
+        let tens = first * 10 + second;
+        let Some(third) = third_at.digit(text) else {
+            return Some((tens, third_at));
+        };
+        let fourth_at = Cursor { at: self.at + 3 };
+        let hundreds = tens * 10 + third;
+        match fourth_at.digit(text) {
+            None => Some((hundreds, fourth_at)),
+            Some(_) => self.further(text, hundreds, fourth_at.at),
+        }
+    }
+
+    // The number that begins here and has said n up to a place. It is too large as soon as its first digits are.
+    #[inline(never)]
+    fn further(self, text: &[u8], so_far: usize, at: usize) -> Option<(usize, Cursor)>
+        requires { Reading largest_number text.now self.at so_far at }
+        ensures { Told (number_get largest_number) text.now self.at (read result) }
+    {
+        let further = &text[at..];
+        let mut n = so_far;
         for (i, b) in further.iter().enumerate() {
-            let Class::Digit(d) = class_of(*b) else {
-                return judged(n, start + i);
+            let Some(d) = digit_of(*b) else {
+                return judged(n, at + i);
             };
             if LARGEST_NUMBER < n {
                 return None;

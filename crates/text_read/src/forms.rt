@@ -1,5 +1,8 @@
 // Forms: an opening bracket, words or further forms, a closing bracket. The form reader and the item reader call each other.
+ghost use Rattle.std.specs.Prelude.{◌≤◌};
+ghost use Rattle.pictures.specs.Numbers.{largest_number};
 ghost use Rattle.text_read.specs.Answers.{Told, read, item_of, form_of, line_rest};
+ghost use Rattle.text_read.specs.Inner.{ToldNumbers};
 
 use crate::cursor::{Class, Cursor};
 use pictures::numbers::LARGEST_NUMBER;
@@ -9,9 +12,15 @@ impl Cursor {
     // The items of a form, each after a blank, up to the closing bracket: how many there are. Each turn reads a whole item, so no
     // iterator of the bytes would do.
     #[cycle(form_item)]
+    #[inline(always)]
     pub fn form(self, text: &[u8], what: Items) -> Option<(usize, Cursor)>
         ensures { Told (form_of what) text.now self.at (read result) }
     {
+        match what {
+            Items::Samples => return self.numbers(text, 255),
+            Items::Numbers => return self.numbers(text, LARGEST_NUMBER),
+            Items::Pixels => {}
+        }
         let mut n: usize = 0;
         let mut here = self;
         while let Some(class) = here.class(text) {
@@ -22,6 +31,28 @@ impl Cursor {
                 _ => return None,
             }
             let (_, after) = next.item(text, what)?;
+            n += 1;
+            here = after;
+        }
+        None
+    }
+
+    // The same of items that are numbers up to a limit: the item reader, which may come back to the form reader, isn't called.
+    #[inline(always)]
+    fn numbers(self, text: &[u8], limit: usize) -> Option<(usize, Cursor)>
+        requires { limit ≤ largest_number }
+        ensures { ToldNumbers limit text.now self.at (read result) }
+    {
+        let mut n: usize = 0;
+        let mut here = self;
+        while let Some(class) = here.class(text) {
+            let next = Cursor { at: here.at + 1 };
+            match class {
+                Class::Closing => return Some((n, next)),
+                Class::Blank => {}
+                _ => return None,
+            }
+            let (_, after) = next.limited(text, limit)?;
             n += 1;
             here = after;
         }

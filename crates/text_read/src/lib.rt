@@ -4,6 +4,7 @@
 pub mod cursor;
 pub mod forms;
 pub mod heads;
+pub mod known;
 pub mod lines;
 pub mod words;
 

@@ -1,49 +1,15 @@
 // Lines read into a lent space. Nothing is written before the whole line is known to have its form and to fit: a first pass
-// counts its items, a second takes its numbers.
-ghost use Rattle.std.specs.Prelude.{◌≡◌, ℕ, ◌≤◌, map, length, drop};
-ghost use Rattle.std.specs.List.{position};
-ghost use Rattle.pictures.specs.Numbers.{largest_number};
-ghost use Rattle.text_theory.specs.Decimal.{is_digit};
-ghost use Rattle.text_read.specs.Answers.{Told, read};
+// counts its items, a second takes its numbers, as of any line that is known to stand at its place.
+ghost use Rattle.std.specs.Prelude.{◌≡◌, ◌≤◌, map};
+ghost use Rattle.text_read.specs.Answers.{read};
 ghost use Rattle.text_read.specs.Lines.{row_line, map_line, Taken};
-ghost use Rattle.text_read.specs.Inner.{figure, figures, Coming, limit_of, numbers_of, line_of};
+ghost use Rattle.text_read.specs.Inner.{limit_of, numbers_of, line_of};
 
-use crate::cursor::{Class, Cursor, class_of};
+use crate::cursor::Cursor;
+use crate::known::Kept;
 use pictures::Kind;
 use text_rules::{Items, items_of};
 use text_theory::Name;
-
-// What the numbers of a line are kept as: samples as one byte, numbers of the map as two. Of a type parameter, TryFrom<usize> says
-// neither which numbers it takes nor what number a value is.
-trait Kept: Drop {
-    ghost value: { Self → ℕ };
-
-    ghost largest: { ℕ };
-
-    fn kept(n: usize) -> Self
-        requires { n ≤ largest }
-        ensures { value result ≡ n };
-}
-
-impl Kept for u8 {
-    ghost value = { λ n. n };
-
-    ghost largest = { 255 };
-
-    fn kept(n: usize) -> u8 {
-        n as u8
-    }
-}
-
-impl Kept for u16 {
-    ghost value = { λ n. n };
-
-    ghost largest = { largest_number };
-
-    fn kept(n: usize) -> u16 {
-        n as u16
-    }
-}
 
 // How many numbers an item has.
 fn numbers_of(what: Items) -> usize
@@ -56,44 +22,7 @@ fn numbers_of(what: Items) -> usize
     }
 }
 
-// Whether a byte is a digit.
-fn is_digit(b: u8) -> bool
-    ensures { result ≡ is_digit b }
-{
-    matches!(class_of(b), Class::Digit(_))
-}
-
-// The place of the first digit.
-fn first_digit(s: &[u8]) -> Option<usize>
-    ensures { result ≡ position is_digit s.now }
-{
-    s.iter().position(|b| is_digit(*b))
-}
-
 impl Cursor {
-    // The next number, whatever stands before it: in a line, blanks and brackets.
-    fn figure(self, text: &[u8]) -> Option<(usize, Cursor)>
-        ensures { Told figure text.now self.at (read result) }
-    {
-        let rest = text.get(self.at..)?;
-        let gap = first_digit(rest)?;
-        let here = Cursor { at: self.at + gap };
-        here.digits(text)
-    }
-
-    // Fills out with the numbers that come next.
-    fn take<T: Kept>(self, text: &[u8], out: &mut [T])
-        requires { Coming T.largest (length out.old) (drop self.at text.now) }
-        ensures { map T.value out.new ≡ figures (length out.old) (drop self.at text.now) }
-    {
-        let mut here = self;
-        for place in out.iter_mut() {
-            let (v, next) = here.figure(text).unwrap();
-            *place = T::kept(v);
-            here = next;
-        }
-    }
-
     // The line of this name at this place: the numbers of its items at the front of out, if they fit. Else out stays.
     fn line<T: Kept>(
         self,
@@ -113,7 +42,7 @@ impl Cursor {
             return None;
         }
         let count = n * each;
-        c.take(text, &mut out[..count]);
+        c.known(text, &mut out[..count]);
         Some((count, d))
     }
 

@@ -48,15 +48,13 @@ impl Cursor {
         }
     }
 
-    // A word that is a number up to the limit.
+    // A number up to the limit.
+    #[inline(always)]
     pub(crate) fn limited(self, text: &[u8], limit: usize) -> Option<(usize, Cursor)>
         requires { limit ≤ largest_number }
         ensures { Told (number_get limit) text.now self.at (read result) }
     {
-        let (word, c) = self.word(text)?;
-        let Word::Number(n) = word else {
-            return None;
-        };
+        let (n, c) = self.digits(text)?;
         (n <= limit).then_some((n, c))
     }
 

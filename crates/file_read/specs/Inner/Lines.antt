@@ -6,10 +6,6 @@ use Rattle.text_theory.specs.Files.{parse}
 use Rattle.file_theory.specs.Shows.{bytes_in, maps_in}
 use Rattle.file_read.specs.Inner.Opening.{maps_from}
 
--- A place where one of the map lines stands.
-abbrev pub AtMap : List ℕ → Head → ℕ → Type 0
-AtMap file h at = (r : ℕ) × (r < h.size.height) × (drop at file ≡ maps_from (parse file) r)
-
 -- Map line r, read from its place into a space of just its numbers.
 pub record MapRead (file : List ℕ) (r at : ℕ) (out : List ℕ) : Type 0 where
   pub next : drop at file ≡ maps_from (parse file) (r + 1)

@@ -2,8 +2,15 @@
 use borrow.Author.Tests.{eqb-true, eqb-false}
 use Rattle.text_read.proofs.ByteClasses.{closing_byte, blank_byte, arm_no_closing, arm_no_blank, told_opening}
 use Rattle.text_read.proofs.Onward.{refused, when}
-use Rattle.text_read.proofs.FormSteps.{counting-next, counting-close, counting-broken, counting-other, counting-end, item_samples, item_numbers, item_none, item_no_sample, item_no_form, item_three, item_count}
+use Rattle.text_rules.specs.declared.Items.TheVariants.{Samples, Numbers}
+use Rattle.text_read.proofs.FormSteps.{samples_plain, numbers_plain, counting-next, counting-close, counting-broken, counting-other, counting-end, item_samples, item_numbers, item_none, item_no_sample, item_no_form, item_three, item_count}
 use Rattle.text_read.proofs.cursor.Cursor.+form_item.Goals as goal
+
+pub form-returns-in-Samples : goal.form-returns-in-Samples
+form-returns-in-Samples t c = rw c.in-Samples.is (c.numbers.ensures Samples samples_plain)
+
+pub form-returns-in-Numbers : goal.form-returns-in-Numbers
+form-returns-in-Numbers t c = rw c.in-Numbers.is (c.numbers-in-Numbers.ensures Numbers numbers_plain)
 
 pub form-returns-in-Closing : goal.form-returns-in-Closing
 form-returns-in-Closing t c =

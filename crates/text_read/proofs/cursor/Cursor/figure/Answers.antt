@@ -1,16 +1,17 @@
--- `text_read::cursor::Cursor::figure` meets its contract: the digits from the first one on, if there is one.
-use Rattle.std.proofs.Common.{arith, inl, inr}
-use Rattle.text_read.proofs.Figures.{figure_past, figure_none, figure_at}
-use Rattle.text_read.proofs.Onward.{refused}
+-- `text_read::cursor::Cursor::figure` meets its contract. The invariant is `Skipping`: no digit was passed. What falls is the number of
+-- bytes left.
+use Rattle.text_read.proofs.Figures.{skipping_more, skipping_digit, skipping_end}
 use Rattle.text_read.proofs.cursor.Cursor.figure.Goals as goal
 
-pub returns-in_err-rest : goal.returns-in_err-rest
-returns-in_err-rest c =
-    refused c.from_residual.ensures
-    (elim c.in_err-rest.ensures.lookup.0 [ inl l ↦ figure_past (omega arith) | inr l ↦ absurd (omega arith) ])
+pub returns-in-Some-digit_of : goal.returns-in-Some-digit_of
+returns-in-Some-digit_of c =
+    let k = c.in-Some.ensures.lookup.3 in
+    skipping_digit c.loop-byte.invariant k.0 (rw (k.1 0) at c.in-Some-digit_of.ensures.0) c.from_digit.ensures
 
-pub returns-in_err-gap : goal.returns-in_err-gap
-returns-in_err-gap c = refused c.from_residual-in_err-gap.ensures (figure_none c.in_ok-rest.ensures.lookup.0.2 c.in_err-gap.ensures)
+pub loop-byte-preserved : goal.loop-byte-preserved
+loop-byte-preserved c =
+    let k = c.in-Some.ensures.lookup.3 in
+    skipping_more c.loop-byte.invariant k.0 (rw (k.1 0) at c.in_default-digit_of.ensures)
 
 pub returns : goal.returns
-returns c = figure_at c.in_ok-rest.ensures.lookup.0.2 c.in_ok-gap.ensures c.digits.ensures
+returns c = skipping_end c.loop-byte.invariant c.in_default.ensures.lookup.3

@@ -11,11 +11,8 @@ returns-in_err-n g c = rw c.from_residual-in_err-n.ensures (line_torn _ _ c.in_o
 pub returns-then-room-n : goal.returns-then-room-n
 returns-then-room-n g c = kept_long _ _ c.in_ok-c.ensures c.in_ok-n.ensures g.T.Kept.value _ c.numbers_of-each.ensures c.if-room-n.true
 
-pub take-requires : goal.take-requires
-take-requires g c =
-    kept_coming _ _ c.in_ok-c.ensures c.in_ok-n.ensures g.T.Kept.value c.args.out.now c.numbers_of-each.ensures c.if-room-n.false c.requires
-
 pub returns : goal.returns
 returns g c =
+    let k = kept_coming _ _ c.in_ok-c.ensures c.in_ok-n.ensures g.T.Kept.value c.args.out.now c.numbers_of-each.ensures c.if-room-n.false c.requires in
     kept_fits _ _ c.in_ok-c.ensures c.in_ok-n.ensures g.T.Kept.value c.args.out.now c.numbers_of-each.ensures c.if-room-n.false
-    c.take.new.out c.take.ensures
+    c.known.new.out (c.known.ensures.numbers k)

@@ -1,8 +1,0 @@
--- `text_read::cursor::Cursor::digits` meets its contract. The invariant is `Reading`: n is what the digits passed so far say.
-use Rattle.std.proofs.Common.{◌+◌}
-use Rattle.pictures.specs.Numbers.{largest_number}
-use Rattle.text_read.proofs.DigitSteps.{Reading}
-use Rattle.text_read.proofs.cursor.Cursor.digits.Given as goal
-
-abbrev pub invariant-loop-i : goal.invariant-loop-i
-invariant-loop-i l = Reading largest_number l.text l.fn.self.at l.n (l.fn.self.at + 1 + l.i)
