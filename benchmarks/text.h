@@ -9,19 +9,11 @@
 
 static const char *const kind_words[] = {"grey", "rgb"}, *const energy_words[] = {"edge", "flat", "forward"};
 
-// Each number that a file has, with the blank before it, and the length of both.
+// Each number that a file has with the blank before it, and the length of both.
 static struct {
     uint8_t text[4];
     uint32_t length;
 } items[MULTISIZE_LARGEST_SIDE + 1];
-
-static inline void fill_items(void) {
-    for (int n = 0; n <= MULTISIZE_LARGEST_SIDE; n++) {
-        char text[5];
-        items[n].length = sprintf(text, " %d", n);
-        memcpy(items[n].text, text, sizeof items[n].text);
-    }
-}
 
 // Puts a number and the blank before it, digit by digit or by the table. By the table four bytes are written, and those too many are
 // written over by what follows.
@@ -34,6 +26,10 @@ static inline uint8_t *put_item(uint8_t *at, unsigned number, int by_table) {
     while (number /= 10);
     while (count) *at++ = digits[--count];
     return at;
+}
+
+static inline void fill_items(void) {
+    for (int n = 0; n <= MULTISIZE_LARGEST_SIDE; n++) items[n].length = put_item(items[n].text, n, 0) - items[n].text;
 }
 
 // A pixel of three samples is a form: its bracket stands in place of the first one's blank.
