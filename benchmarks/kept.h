@@ -52,9 +52,9 @@ __attribute__((always_inline)) static inline void keep_map(const uint8_t *pictur
     for (int number = 1; number < width; number++) {
         int w = width + 1 - number;
         if (in_16_bits)
-            short_or_fenced_find(NULL, w, h, width, channels, energy, seam);
+            short_or_fenced_find(NULL, NULL, w, h, width, channels, energy, seam);
         else
-            fenced_find(NULL, w, h, width, channels, energy, seam);
+            fenced_find(NULL, NULL, w, h, width, channels, energy, seam);
         cut_kept(picture, seam, number, w, h, width, channels, energy, map);
     }
 }
