@@ -1,8 +1,8 @@
 // Times printing and reading the text of multi-size files, a byte, against C that does the same (text.h), and showing further widths of a
-// file once read. In a file of depth 0 no seam is looked for: building prints, checking reads, and each clears the work space, which is
-// timed too. Of a file of full depth it is timed what reading and showing take more than checking. All texts, pictures and maps must agree.
-// Each figure is the best of the rounds. With an argument, 1 or 3 channels, each is done once with a file of 128 by 128 and depth 0, so that
-// the instructions can be counted.
+// file once read. In a file of depth 0 no seam is looked for: building prints, checking reads, and each clears the work space twice, which
+// is timed too. Of a file of full depth, what reading takes more than checking is given. All texts, pictures and maps must agree. Each
+// figure is the best of the rounds. With an argument, 1 or 3 channels, each is done once with a file of 128 by 128 and depth 0, so that the
+// instructions can be counted.
 #include "../pictures/terrain.h"
 #include "shared.h"
 #include "text.h"
@@ -53,10 +53,7 @@ __attribute__((noipa)) static multisize_file_answer read_in_c(size_t length) {
     return read_text(file, length, other_read, other_map);
 }
 
-__attribute__((noipa)) static void clear(void) {
-    memset(work, 0, 32 * pixels);
-    __asm__ volatile("" ::: "memory");
-}
+__attribute__((noipa)) static void clear(void) { memset(work, 0, 32 * pixels); }
 
 // The rows of a file that is read, one after the other, at this width.
 static void show_rows(size_t wanted) {
@@ -89,48 +86,62 @@ static size_t round_of(Times *best, size_t depth, size_t growth) {
     TIMED(print_by_table, other_length = print_by_table(head));
     must(length == other_length && !memcmp(file, other_file, length), "the text by a table");
     TIMED(read_in_c, other_head = read_in_c(length));
-    TIMED(clear, clear());
+    TIMED(clear, (clear(), clear()));
     must(!built.number && !checked.number && !head.number && !memcmp(read, picture, bytes), "the library");
     must(!other_head.number && !memcmp(read, other_read, bytes) && !memcmp(map, other_map, pixels * sizeof *map), "reading in C");
     return length;
-}
-
-// Further widths of the file last read; the rows must be those that showing a file gives.
-static void widths(Times *best, size_t length, size_t wanted) {
-    double since;
-    size_t bytes_shown = multisize_shown_bytes(size, wanted);
-    uint8_t *whole = malloc(bytes_shown);
-    TIMED(show, multisize_show(file, length, wanted, whole, bytes_shown, work, 32 * pixels));
-    TIMED(rows, show_rows(wanted));
-    must(!memcmp(shown, whole, bytes_shown), "a width");
-    free(whole);
 }
 
 static void print_ratio(const char *what, double t, const char *other, double other_t, size_t length) {
     printf("  %s %.2f ns, %s %.2f ns, ratio %.2f\n", what, t / length * 1e9, other, other_t / length * 1e9, t / other_t);
 }
 
-static void times(Size z, int rounds) {
-    lend(z);
-    Times least = NONE, full = NONE;
+static void depth_0(Size z, int rounds) {
+    Times least = NONE;
     size_t length = 0;
+    lend(z);
     for (int i = 0; i < rounds; i++) length = round_of(&least, 0, 0);
     printf("%zu by %zu, %zu channels: a byte of the %zu of a file of depth 0\n", z.width, z.height, z.channels, length);
     print_ratio("build", least.build, "printing in C", least.print_in_c, length);
     print_ratio("build", least.build, "printing by a table", least.print_by_table, length);
     print_ratio("check", least.check, "reading in C", least.read_in_c, length);
     print_ratio("read", least.read, "reading in C", least.read_in_c, length);
-    printf("  of each, the work space cleared %.2f ns\n", least.clear / length * 1e9);
-    for (int i = 0; i < rounds; i++) length = round_of(&full, z.width - 1, z.width / 2);
-    printf(" a byte of the %zu of a file of full depth\n", length);
-    print_ratio("read, less check,", full.read - full.check, "reading in C", full.read_in_c, length);
-    printf("  printing in C %.2f ns, by a table %.2f ns\n", full.print_in_c / length * 1e9,
-           full.print_by_table / length * 1e9);
-    for (int wanted = NARROW; z.width == 480 && wanted <= WIDE; wanted += WIDE - NARROW) {
-        Times width = NONE;
-        for (int i = 0; i < rounds; i++) widths(&width, length, wanted);
-        printf("  shown at %d %.1f ms, once read %.3f ms\n", wanted, width.show * 1e3, width.rows * 1e3);
+    printf("  of each, the work space cleared twice %.2f ns\n", least.clear / length * 1e9);
+    give_back();
+}
+
+static void full_depth(Size z, int rounds) {
+    Times least = NONE;
+    size_t length = 0;
+    lend(z);
+    for (int i = 0; i < rounds; i++) length = round_of(&least, z.width - 1, z.width / 2);
+    printf("%zu by %zu, %zu channels: a byte of the %zu of a file of full depth\n", z.width, z.height, z.channels, length);
+    print_ratio("read, less check,", least.read - least.check, "reading in C", least.read_in_c, length);
+    printf("  printing in C %.2f ns, by a table %.2f ns\n", least.print_in_c / length * 1e9, least.print_by_table / length * 1e9);
+    give_back();
+}
+
+// The rows of a file that is read must be those that showing the file gives.
+static void width(size_t length, size_t wanted, int rounds) {
+    Times least = NONE, *best = &least;
+    double since;
+    size_t bytes_shown = multisize_shown_bytes(size, wanted);
+    uint8_t *whole = malloc(bytes_shown);
+    for (int i = 0; i < rounds; i++) {
+        TIMED(show, multisize_show(file, length, wanted, whole, bytes_shown, work, 32 * pixels));
+        TIMED(rows, show_rows(wanted));
+        must(!memcmp(shown, whole, bytes_shown), "a width");
     }
+    printf("  shown at %zu %.1f ms, once read %.3f ms\n", wanted, least.show * 1e3, least.rows * 1e3);
+    free(whole);
+}
+
+static void widths(Size z, int rounds) {
+    lend(z);
+    size_t length = build(z.width - 1, z.width / 2).value;
+    must(!read_file(length).number, "the library");
+    printf("%zu by %zu, %zu channels\n", z.width, z.height, z.channels);
+    width(length, NARROW, rounds), width(length, WIDE, rounds);
     give_back();
 }
 
@@ -142,15 +153,15 @@ static void once(size_t channels) {
 }
 
 int main(int count, char **words) {
-    static const struct {
-        size_t width, height;
-        int rounds;
-    } sizes[] = {{128, 128, 40}, {480, 320, 10}, {512, 512, 6}};
     if (count > 1) {
         once(atoi(words[1]) == 3 ? 3 : 1);
         return 0;
     }
-    for (size_t i = 0; i < sizeof sizes / sizeof *sizes; i++)
-        for (size_t channels = 1; channels <= 3; channels += 2)
-            times((Size){sizes[i].width, sizes[i].height, channels}, sizes[i].rounds);
+    for (size_t channels = 1; channels <= 3; channels += 2) {
+        depth_0((Size){128, 128, channels}, 40);
+        depth_0((Size){480, 320, channels}, 40);
+        depth_0((Size){512, 512, channels}, 40);
+        full_depth((Size){128, 128, channels}, 40);
+        widths((Size){480, 320, channels}, 10);
+    }
 }
