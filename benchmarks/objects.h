@@ -31,7 +31,7 @@ static inline void gather(uint8_t *picture, int w, int h, size_t distance, int c
 // Removes what is marked, and gives the number of seams cut.
 __attribute__((always_inline)) static inline int remove_objects(uint8_t *picture, uint8_t *marks, int width, int h, int channels,
                                                                 int energy, int keep) {
-    static uint16_t unused_map[COST_SIDE * COST_SIDE];
+    static uint16_t unread_map[COST_SIDE * COST_SIDE];
     uint16_t seam[COST_SIDE];
     int w = width, objects = 0;
     for (int i = 0; i < width * h; i++) objects += marks[i] == 2;
@@ -41,7 +41,7 @@ __attribute__((always_inline)) static inline int remove_objects(uint8_t *picture
         for (int r = 0; r < h; r++) objects -= marks[r * width + seam[r]] == 2;
         cut_bytes(marks, seam, w, h, width, 1);
         if (keep)
-            cut_kept(picture, seam, 1, w, h, width, channels, energy, unused_map);
+            cut_kept(picture, seam, 1, w, h, width, channels, energy, unread_map);
         else
             cut_bytes(picture, seam, w, h, width, channels);
     }
