@@ -1,5 +1,5 @@
-// A builder of multi-size files in C, with no promise: it works out every energy anew for each seam,
-// by edge, by flat or by forward, and prints the same text as the library, digit by digit (text.h). Rows keep their distance in the buffers while the
+// A builder of multi-size files in C, with no promise: it works out every energy anew for each seam, by edge, by flat or by
+// forward, and prints the same text as the library, digit by digit (text.h). Rows keep their distance in the buffers while the
 // picture narrows. Beside it the same file by a map whose costs are kept from one seam to the next (kept.h).
 #include "forward.h"
 #include "kept.h"
