@@ -164,6 +164,17 @@ static double cut_time(Lent *lent, int axis) {
     return best;
 }
 
+// What each call of the library also does at its end.
+static double clear_time(Lent *lent) {
+    double best = 1e9;
+    for (int i = 0; i < ROUNDS; i++) {
+        double t = seconds();
+        memset(lent->work, 0, 32 * lent->size.width * lent->size.height);
+        keep_least(&best, t);
+    }
+    return best;
+}
+
 static Lent lend(Size size) {
     size_t pixels = size.width * size.height;
     Lent lent = {malloc(pixels * size.channels), malloc(pixels), malloc(SIDE * sizeof(uint16_t)), malloc(32 * pixels), size,
@@ -184,6 +195,7 @@ static void times(Size size) {
     compare(&lent, "find_marked", by_library_marked, "reference", reference_find_marked);
     printf("  cut %.3f ms, horizontal cut %.3f ms\n", cut_time(&lent, MULTISIZE_VERTICAL) * 1e3,
            cut_time(&lent, MULTISIZE_HORIZONTAL) * 1e3);
+    printf("  of each, the work space cleared %.3f ms\n", clear_time(&lent) * 1e3);
     lent.method = flat;
     compare(&lent, "find by flat", by_library, "unrolled C", by_unrolled_c);
     compare(&lent, "find by flat", by_library, "fenced C", by_fenced_c);
