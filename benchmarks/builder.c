@@ -1,9 +1,10 @@
-// A builder of multi-size files in C, with no promise: it works out every energy anew for each seam,
-// by edge, by flat or by forward, and writes the same text as the library. Rows keep their distance in the buffers while the
+// A builder of multi-size files in C, with no promise: it works out every energy anew for each seam, by edge, by flat or by
+// forward, and prints the same text as the library, digit by digit (text.h). Rows keep their distance in the buffers while the
 // picture narrows. Beside it the same file by a map whose costs are kept from one seam to the next (kept.h).
 #include "forward.h"
 #include "kept.h"
 #include "shared.h"
+#include "text.h"
 
 enum { SIDE = 512 };
 
@@ -97,47 +98,9 @@ __attribute__((always_inline)) static inline void build_map(Size z, int channels
     }
 }
 
-static uint8_t *put_word(uint8_t *out, const char *word) {
-    while (*word) *out++ = *word++;
-    return out;
-}
-
-static uint8_t *put_number(uint8_t *out, unsigned number) {
-    uint8_t digits[5];
-    int count = 0;
-    do digits[count++] = '0' + number % 10;
-    while (number /= 10);
-    while (count) *out++ = digits[--count];
-    return out;
-}
-
-static uint8_t *put_pixel(uint8_t *out, const uint8_t *pixel, int channels) {
-    if (channels == 1) return put_number(out, *pixel);
-    *out++ = '(';
-    for (int k = 0; k < channels; k++) {
-        if (k) *out++ = ' ';
-        out = put_number(out, pixel[k]);
-    }
-    *out++ = ')';
-    return out;
-}
-
-static size_t put_text(const uint8_t *picture, Size z, int energy, uint8_t *out) {
-    static const char *const words[] = {"edge", "flat", "forward"};
-    uint8_t *at = out + sprintf((char *)out, "(multi\n(size %zu %zu %s)\n(range %zu %zu)\n(energy %s)\n", z.width,
-                                z.height, z.channels == 3 ? "rgb" : "grey", z.width - 1, z.width / 2,
-                                words[energy]);
-    for (size_t r = 0; r < z.height; r++) {
-        at = put_word(at, "(row");
-        for (size_t c = 0; c < z.width; c++) *at++ = ' ', at = put_pixel(at, picture + (r * z.width + c) * z.channels, z.channels);
-        at = put_word(at, ")\n");
-    }
-    for (size_t r = 0; r < z.height; r++) {
-        at = put_word(at, "(map");
-        for (size_t c = 0; c < z.width; c++) *at++ = ' ', at = put_number(at, map[r * z.width + c]);
-        at = put_word(at, ")\n");
-    }
-    return put_word(at, ")\n") - out;
+static size_t put_file(const uint8_t *picture, Size z, multisize_method method, uint8_t *out) {
+    multisize_file_answer head = {0, library_size(z), method, z.width - 1, z.width / 2};
+    return print_text(picture, map, head, 0, out);
 }
 
 // The file of full depth and growth; gives its length. The map is compiled for each number of channels and each energy, so
@@ -149,13 +112,14 @@ size_t build_in_c(const uint8_t *picture, Size size, multisize_method method, ui
     case MULTISIZE_FLAT: size.channels == 3 ? build_map(size, 3, MULTISIZE_FLAT) : build_map(size, 1, MULTISIZE_FLAT); break;
     default: size.channels == 3 ? build_map(size, 3, MULTISIZE_FORWARD) : build_map(size, 1, MULTISIZE_FORWARD);
     }
-    return put_text(picture, size, method.energy, out);
+    return put_file(picture, size, method, out);
 }
 
 // The same file where costs are kept, by sums of either type.
-__attribute__((always_inline)) static inline size_t keep_file(const uint8_t *p, Size z, int energy, int in_16_bits, uint8_t *out) {
+__attribute__((always_inline)) static inline size_t keep_file(const uint8_t *p, Size z, multisize_method method, int in_16_bits,
+                                                               uint8_t *out) {
     int w = z.width, h = z.height, rgb = z.channels == 3;
-    switch (energy) {
+    switch (method.energy) {
     case MULTISIZE_EDGE:
         rgb ? keep_map(p, w, h, 3, MULTISIZE_EDGE, in_16_bits, map) : keep_map(p, w, h, 1, MULTISIZE_EDGE, in_16_bits, map);
         break;
@@ -165,13 +129,13 @@ __attribute__((always_inline)) static inline size_t keep_file(const uint8_t *p, 
     default:
         rgb ? keep_map(p, w, h, 3, MULTISIZE_FORWARD, in_16_bits, map) : keep_map(p, w, h, 1, MULTISIZE_FORWARD, in_16_bits, map);
     }
-    return put_text(p, z, energy, out);
+    return put_file(p, z, method, out);
 }
 
 size_t build_kept_in_c(const uint8_t *picture, Size size, multisize_method method, uint8_t *out) {
-    return keep_file(picture, size, method.energy, 0, out);
+    return keep_file(picture, size, method, 0, out);
 }
 
 size_t build_kept_in_16_bits(const uint8_t *picture, Size size, multisize_method method, uint8_t *out) {
-    return keep_file(picture, size, method.energy, 1, out);
+    return keep_file(picture, size, method, 1, out);
 }

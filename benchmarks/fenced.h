@@ -1,4 +1,4 @@
-// The cheapest seam in C with no promise, written for speed, by sums of two types.
+// The cheapest seam in C with no promise, written for speed, by sums of two types, and the seam by marks.
 #ifndef FENCED_H
 #define FENCED_H
 
@@ -9,6 +9,7 @@
 #define SUM float
 #define SUM_END ((float)(1 << 24))
 #define AT_MOST(x) (x)
+#define MARK_ROW(marks, w, own) (void)0
 #define NAMED(x) fenced_##x
 #include "sums.h"
 
@@ -19,13 +20,29 @@ enum { SHORT_END = INT16_MAX - MOST_COST };
 #define SUM int16_t
 #define SUM_END SHORT_END
 #define AT_MOST(x) short_lesser(x, SHORT_END)
+#define MARK_ROW(marks, w, own) (void)0
 #define NAMED(x) short_##x
 #include "sums.h"
 
-static inline uint64_t short_or_fenced_find(const uint8_t *picture, int w, int h, size_t distance, int channels, int energy,
-                                            uint16_t *seam) {
-    uint64_t cost = short_find(picture, w, h, distance, channels, energy, seam);
-    return cost < SHORT_END ? cost : fenced_find(picture, w, h, distance, channels, energy, seam);
+static inline uint64_t short_or_fenced_find(const uint8_t *picture, const uint8_t *marks, int w, int h, size_t distance, int channels,
+                                            int energy, uint16_t *seam) {
+    uint64_t cost = short_find(picture, marks, w, h, distance, channels, energy, seam);
+    return cost < SHORT_END ? cost : fenced_find(picture, marks, w, h, distance, channels, energy, seam);
 }
+
+// By marks, in whole numbers of 32 bits. A pixel that is kept, that isn't marked 2, adds more than a seam costs, and the sum of a protected
+// one, marked 1, is the end, whatever it would be else: below it 512 kept pixels have room, and above it as many.
+enum { KEPT = 1 << 20, MARKED_END = 1 << 30 };
+
+static inline void mark_row(const uint8_t *restrict marks, int w, int32_t *restrict own) {
+    for (int c = 0; c < w; c++) own[c] = marks[c] == 1 ? MARKED_END : own[c] + (marks[c] == 2 ? 0 : KEPT);
+}
+
+#define SUM int32_t
+#define SUM_END MARKED_END
+#define AT_MOST(x) (x)
+#define MARK_ROW mark_row
+#define NAMED(x) marked_##x
+#include "sums.h"
 
 #endif

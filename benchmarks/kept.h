@@ -41,20 +41,26 @@ static inline void cut_kept(const uint8_t *picture, const uint16_t *seam, int nu
     }
 }
 
+// What all pixels cost at first, and where they stand.
+static inline void keep_first(const uint8_t *picture, int width, int h, int channels, int energy) {
+    for (int r = 0; r < h; r++) {
+        cost_row(picture, r, width, h, width, channels, energy, r * width);
+        for (int c = 0; c < width; c++) first_columns[r * width + c] = c;
+    }
+}
+
 // The whole map, by sums of either type.
 __attribute__((always_inline)) static inline void keep_map(const uint8_t *picture, int width, int h, int channels, int energy,
                                                            int in_16_bits, uint16_t *map) {
     uint16_t seam[COST_SIDE];
-    for (int r = 0; r < h; r++) {
-        cost_row(picture, r, width, h, width, channels, energy, r * width);
-        for (int c = 0; c < width; c++) first_columns[r * width + c] = c, map[r * width + c] = 0;
-    }
+    keep_first(picture, width, h, channels, energy);
+    memset(map, 0, width * h * sizeof *map);
     for (int number = 1; number < width; number++) {
         int w = width + 1 - number;
         if (in_16_bits)
-            short_or_fenced_find(NULL, w, h, width, channels, energy, seam);
+            short_or_fenced_find(NULL, NULL, w, h, width, channels, energy, seam);
         else
-            fenced_find(NULL, w, h, width, channels, energy, seam);
+            fenced_find(NULL, NULL, w, h, width, channels, energy, seam);
         cut_kept(picture, seam, number, w, h, width, channels, energy, map);
     }
 }

@@ -1,8 +1,8 @@
 // Times the library's find and cut against the reference, and against plain C that does the same work with no promise:
 // energies, sums, the way back. Fenced C does it in vectors throughout (fenced.h). Each figure is the best of the rounds; the
 // buffers are not cleared between them, but the library clears its work space. With an argument, 0 or 1, find runs once at the
-// first or the second size, by the library, by all ways in C and by the library with marks, so that the instructions of each can
-// be counted. What is found is found by edge, but where flat or forward is named, as a second argument does.
+// first or the second size, by the library and by all ways in C, without and with marks, so that the instructions of each can be
+// counted. What is found is found by edge, but where flat or forward is named, as a second argument does.
 #include "fenced.h"
 #include "forward.h"
 #include "shared.h"
@@ -98,22 +98,25 @@ __attribute__((noinline)) static uint64_t by_unrolled_c(Lent *lent) {
 }
 
 // The same in vectors, by sums of either type; compiled for each number of channels and each energy.
-typedef uint64_t FencedFind(const uint8_t *, int, int, size_t, int, int, uint16_t *);
+typedef uint64_t FencedFind(const uint8_t *, const uint8_t *, int, int, size_t, int, int, uint16_t *);
 
 __attribute__((always_inline)) static inline uint64_t fenced(Lent *lent, FencedFind *find) {
-    const uint8_t *p = lent->picture;
+    const uint8_t *p = lent->picture, *m = lent->marks;
     uint16_t *seam = lent->seam;
     int w = lent->size.width, h = lent->size.height, rgb = lent->size.channels == 3;
     switch (lent->method.energy) {
-    case MULTISIZE_EDGE: return rgb ? find(p, w, h, w, 3, MULTISIZE_EDGE, seam) : find(p, w, h, w, 1, MULTISIZE_EDGE, seam);
-    case MULTISIZE_FLAT: return rgb ? find(p, w, h, w, 3, MULTISIZE_FLAT, seam) : find(p, w, h, w, 1, MULTISIZE_FLAT, seam);
-    default: return rgb ? find(p, w, h, w, 3, MULTISIZE_FORWARD, seam) : find(p, w, h, w, 1, MULTISIZE_FORWARD, seam);
+    case MULTISIZE_EDGE: return rgb ? find(p, m, w, h, w, 3, MULTISIZE_EDGE, seam) : find(p, m, w, h, w, 1, MULTISIZE_EDGE, seam);
+    case MULTISIZE_FLAT: return rgb ? find(p, m, w, h, w, 3, MULTISIZE_FLAT, seam) : find(p, m, w, h, w, 1, MULTISIZE_FLAT, seam);
+    default: return rgb ? find(p, m, w, h, w, 3, MULTISIZE_FORWARD, seam) : find(p, m, w, h, w, 1, MULTISIZE_FORWARD, seam);
     }
 }
 
 __attribute__((noinline)) static uint64_t by_fenced_c(Lent *lent) { return fenced(lent, fenced_find); }
 
 __attribute__((noinline)) static uint64_t by_fenced_c_in_16_bits(Lent *lent) { return fenced(lent, short_or_fenced_find); }
+
+// By marks; all but the last 20 bits of the sum count the pixels kept.
+__attribute__((noinline)) static uint64_t by_fenced_c_marked(Lent *lent) { return fenced(lent, marked_find) % KEPT; }
 
 static void fill(Lent *lent) {
     int w = lent->size.width, h = lent->size.height;
@@ -161,6 +164,17 @@ static double cut_time(Lent *lent, int axis) {
     return best;
 }
 
+// What each call of the library also does at its end.
+static double clear_time(Lent *lent) {
+    double best = 1e9;
+    for (int i = 0; i < ROUNDS; i++) {
+        double t = seconds();
+        memset(lent->work, 0, 32 * lent->size.width * lent->size.height);
+        keep_least(&best, t);
+    }
+    return best;
+}
+
 static Lent lend(Size size) {
     size_t pixels = size.width * size.height;
     Lent lent = {malloc(pixels * size.channels), malloc(pixels), malloc(SIDE * sizeof(uint16_t)), malloc(32 * pixels), size,
@@ -177,9 +191,11 @@ static void times(Size size) {
     compare(&lent, "find", by_library, "fenced C", by_fenced_c);
     compare(&lent, "find", by_library, "fenced C in 16 bits", by_fenced_c_in_16_bits);
     compare(&lent, "find", by_library, "reference", reference_find);
+    compare(&lent, "find_marked", by_library_marked, "fenced C", by_fenced_c_marked);
     compare(&lent, "find_marked", by_library_marked, "reference", reference_find_marked);
     printf("  cut %.3f ms, horizontal cut %.3f ms\n", cut_time(&lent, MULTISIZE_VERTICAL) * 1e3,
            cut_time(&lent, MULTISIZE_HORIZONTAL) * 1e3);
+    printf("  of each, the work space cleared %.3f ms\n", clear_time(&lent) * 1e3);
     lent.method = flat;
     compare(&lent, "find by flat", by_library, "unrolled C", by_unrolled_c);
     compare(&lent, "find by flat", by_library, "fenced C", by_fenced_c);
@@ -191,6 +207,7 @@ static void times(Size size) {
     compare(&lent, "find by forward", by_library, "fenced C", by_fenced_c);
     compare(&lent, "find by forward", by_library, "fenced C in 16 bits", by_fenced_c_in_16_bits);
     compare(&lent, "find by forward", by_library, "reference", reference_find);
+    compare(&lent, "find_marked by forward", by_library_marked, "fenced C", by_fenced_c_marked);
     compare(&lent, "find_marked by forward", by_library_marked, "reference", reference_find_marked);
 }
 
@@ -203,6 +220,7 @@ static void once(Size size, multisize_method method) {
     by_fenced_c(&lent);
     by_fenced_c_in_16_bits(&lent);
     by_library_marked(&lent);
+    by_fenced_c_marked(&lent);
 }
 
 int main(int count, char **words) {

@@ -1,7 +1,7 @@
 // The cheapest seam by the planes of costs.h, in C with no promise, written for speed. A row of sums stands between two numbers that no sum
 // is less than, so that no column is asked whether it is the first or the last, and a row becomes vectors. The way back compares sums.
 // Included once for each type of sums: SUM; SUM_END, from which on sums are not told apart; AT_MOST(x), x or SUM_END where that is less
-// and x could grow past the type; and NAMED(x) for its names.
+// and x could grow past the type; MARK_ROW(marks, w, own), which puts the marks of a row into its sums; and NAMED(x) for its names.
 static SUM NAMED(sums)[COST_SIDE * (COST_SIDE + 2)];
 
 static inline SUM NAMED(lesser)(SUM a, SUM b) { return a < b ? a : b; }
@@ -36,8 +36,8 @@ static inline int NAMED(above)(const SUM *sums, int c, int energy, size_t at) {
 // Puts the seam into its space and gives its cost. Where a picture is given, what its pixels cost is worked out row by row, and again on
 // the way back, and the planes hold one row; else they hold all costs. Where the cost would be SUM_END or more, it is SUM_END and no seam
 // is found.
-static inline uint64_t NAMED(find)(const uint8_t *picture, int w, int h, size_t distance, int channels, int energy,
-                                   uint16_t *seam) {
+static inline uint64_t NAMED(find)(const uint8_t *picture, const uint8_t *marks, int w, int h, size_t distance, int channels,
+                                   int energy, uint16_t *seam) {
     SUM *own = NAMED(sums) + 1;
     for (int r = 0; r < h; r++) {
         size_t at = picture ? 0 : r * distance;
@@ -50,6 +50,7 @@ static inline uint64_t NAMED(find)(const uint8_t *picture, int w, int h, size_t 
             NAMED(step_row)(above, cost_left + at, cost_up + at, cost_right + at, w, own);
         else
             NAMED(row)(above, cost_up + at, w, own);
+        if (marks) MARK_ROW(marks + r * distance, w, own);
         own[-1] = own[w] = SUM_END;
     }
     int c = 0;
@@ -72,4 +73,5 @@ static inline uint64_t NAMED(find)(const uint8_t *picture, int w, int h, size_t 
 #undef SUM
 #undef SUM_END
 #undef AT_MOST
+#undef MARK_ROW
 #undef NAMED
