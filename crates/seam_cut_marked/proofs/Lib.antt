@@ -1,4 +1,5 @@
 pub mod Buffers
+pub mod Cuts
 pub mod Marked
 pub mod Marks
 pub mod Smallest

@@ -84,7 +84,7 @@ fn cut_front(
     let pixels = pictures::pixels(size);
     let room = pictures::work_bytes(size);
     let mut seam = [0u16; LARGEST_SIDE];
-    seam_cut_marked::cut_marked(
+    seam_cut_marked::cut_uncleared(
         &mut picture[..bytes],
         &mut marks[..pixels],
         size,

@@ -1,6 +1,6 @@
 -- What a layer above knows of these operations where nothing is refused.
 use mathlib.Core.Path.{◌≡◌, refl, sym, ap, ◌∙◌}
-use mathlib.Core.Bool.{Bool, true, false, not, cond}
+use mathlib.Core.Bool.{Bool, true, false, not, cond, ◌||◌}
 use Rattle.std.specs.Prelude.{Result}
 use mathlib.Core.List.{List, [], ◌∷◌, ◌++◌}
 use Prim.Native.Nat.{ℕ, ◌*◌, ◌≤◌, ◌<◌}
@@ -11,7 +11,7 @@ use Rattle.grids.specs.Each.{Each}
 use Rattle.grids.proofs.Shapes.{each-length}
 use Rattle.pictures.specs.declared.sizes.Size.{Size}
 use Rattle.pictures.specs.declared.refusals.Refusal.{Refusal}
-use Rattle.pictures.specs.Refusals.{◌when◌, number_of, given, refusal, served}
+use Rattle.pictures.specs.Refusals.{◌when◌, given, refusal, served, worked}
 use Rattle.pictures.specs.Pictures.{pixel_bytes, picture_bytes, size_rules, picture, bytes}
 use Rattle.pictures.proofs.Rules.{served-first}
 use Rattle.seam_bounds.specs.Moves.{outside}
@@ -20,8 +20,8 @@ use Rattle.seam_bounds.proofs.Moving.{each_inside}
 use Rattle.seam_rules.specs.declared.answers.Axis.{Axis}
 use Rattle.seam_rules.specs.declared.answers.Axis.TheVariants.{Vertical, Horizontal}
 use Rattle.seam_rules.specs.Axes.{turned_size}
-use Rattle.seam_rules.specs.Cuts.{cleared, last_along, last_rules, close_along_lengths}
-use Rattle.seam_rules.proofs.Rooms.{close_room, close_length, work_as_was}
+use Rattle.seam_rules.specs.Cuts.{last_along, last_rules, close_along_lengths}
+use Rattle.seam_rules.proofs.Rooms.{close_room, close_length}
 use Rattle.seam_turn.specs.Axes.{turned, cut_along}
 use Rattle.seam_turn.specs.Turning.{TurnGiven, close_along_rules, left_work, CloseAlongGiven}
 
@@ -46,23 +46,11 @@ close_number x z bytes s work none m sized =
     ∙ sym (served-first (close_along_lengths x z bytes (length s) work) ends refl none)
 
 -- A picture of its size with more than one column or row, a seam inside it, and room: the picture left stands at the front.
-pub record Closed (b : List ℕ) (z : Size) (x : Axis) (s work b' work' : List ℕ) : Type 0 where
-  pub picture_is : b' ≡ bytes z.kind (cut_along x z s (picture z b)) ++ replicate ((turned_size x z).height * pixel_bytes z.kind) 0
-  pub work_is : work ≡ replicate (length work) 0 → work' ≡ replicate (length work) 0
-
-zero_left : (x : Axis) (work : List ℕ) → work ≡ replicate (length work) 0 → left_work x 0 work ≡ replicate (length work) 0
-unfolding left_work
-zero_left Vertical work e = e
-zero_left Horizontal work e = refl
-
 pub close_served : (b : List ℕ) (z : Size) (x : Axis) (s work : List ℕ) (v : Result (Unit {0}) Refusal) (b' work' : List ℕ) → CloseAlongGiven b z x s work v b' work'
     → refusal (size_rules z (length b)) ≡ 0 → Each (λ c. c < (turned_size x z).width) (turned_size x z).height s → last_along x z ≡ false → picture_bytes z ≤ length work
-    → Closed b z x s work b' work'
+    → b' ≡ bytes z.kind (cut_along x z s (picture z b)) ++ replicate ((turned_size x z).height * pixel_bytes z.kind) 0
 close_served b z x s work v b' work' g sized inside wide room =
-    record {
-      picture_is = g.picture_left ∙ ap (λ n. served n (bytes z.kind (cut_along x z s (picture z b)) ++ replicate ((turned_size x z).height * pixel_bytes z.kind) 0) b) none;
-      work_is = λ e. g.work_left ∙ ap (λ n. left_work x n work) none ∙ zero_left x work e;
-    }
+    g.picture_left ∙ ap (λ n. served n (bytes z.kind (cut_along x z s (picture z b)) ++ replicate ((turned_size x z).height * pixel_bytes z.kind) 0) b) none
   where
     lengths : refusal (close_along_lengths x z (length b) (length s) (length work)) ≡ 0
     lengths = close_length x z (length b) (length s) (length work) (record { sized = sized; seam_long = each-length inside; room = room })
@@ -73,14 +61,18 @@ close_served b z x s work v b' work' g sized inside wide room =
         ∙ served-first (close_along_lengths x z (length b) (length s) (length work)) (10 when outside (turned_size x z).width s ∷ last_rules x z) refl lengths
         ∙ simp (each_inside inside, wide)
 
--- The work space as it was where 1 to 8 refuse.
-pub work_kept : (x : Axis) (why : Refusal) (n : ℕ) → number_of why ≡ n → n ≤ 8 → (work : List ℕ) → work ≡ left_work x n work
+-- A work space in which nothing was written.
+pub work_kept : (x : Axis) (n : ℕ) (work : List ℕ) → work ≡ left_work x n work work
 unfolding left_work
-work_kept Vertical why n e h work = refl
-work_kept Horizontal why n e h work = work_as_was why n e h work
+work_kept Vertical n work = refl
+work_kept Horizontal n work = go (eqb n 0 || ltb 8 n)
+  where
+    go : (t : Bool) → work ≡ cond t work work
+    go true = refl
+    go false = refl
 
--- The work space is zero after 10 and 13, as after success.
-pub ends-cleared : (o e : Bool) (work : List ℕ) → cleared (cond o 10 (cond e 13 0)) work ≡ replicate (length work) 0
-ends-cleared true e work = refl
-ends-cleared false true work = refl
-ends-cleared false false work = refl
+-- After 10 and 13, as after success, it holds what it was worked with.
+pub ends_worked : (o e : Bool) (left work : List ℕ) → worked (cond o 10 (cond e 13 0)) left work ≡ left
+ends_worked true e left work = refl
+ends_worked false true left work = refl
+ends_worked false false left work = refl

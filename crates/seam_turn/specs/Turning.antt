@@ -2,13 +2,13 @@
 use Rattle.std.specs.Prelude.{◌≡◌, Result, List, ◌∷◌, ◌++◌, ℕ, ◌*◌, length, drop, replicate}
 use Rattle.pictures.specs.declared.sizes.Size.{Size}
 use Rattle.pictures.specs.declared.refusals.Refusal.{Refusal}
-use Rattle.pictures.specs.Refusals.{Rule, ◌when◌, given, refusal, served}
+use Rattle.pictures.specs.Refusals.{Rule, ◌when◌, given, refusal, served, worked}
 use Rattle.pictures.specs.Pictures.{pixel_bytes, picture_bytes, picture, bytes}
 use Rattle.seam_bounds.specs.Moves.{outside, exchange_rules}
 use Rattle.seam_rules.specs.declared.answers.Axis.{Axis}
 use Rattle.seam_rules.specs.declared.answers.Axis.TheVariants.{Vertical, Horizontal}
 use Rattle.seam_rules.specs.Axes.{turned_size}
-use Rattle.seam_rules.specs.Cuts.{cleared, close_along_lengths, last_rules}
+use Rattle.seam_rules.specs.Cuts.{close_along_lengths, last_rules}
 use Rattle.seam_turn.specs.Axes.{turned, cut_along}
 
 -- What turning gives, refused as an exchange is: the number, and the space, which keeps what stands after the turned picture.
@@ -21,10 +21,10 @@ pub record TurnGiven (b : List ℕ) (z : Size) (x : Axis) (to : List ℕ) (answe
 abbrev pub close_along_rules : Axis → Size → ℕ → List ℕ → ℕ → List Rule
 close_along_rules x z bytes s work = close_along_lengths x z bytes (length s) work ++ (10 when outside (turned_size x z).width s ∷ last_rules x z)
 
--- Only a horizontal seam takes work space: it is zero afterwards, unless 1 to 8 refuse.
-unfoldable pub left_work : Axis → ℕ → List ℕ → List ℕ
-left_work Vertical n work = work
-left_work Horizontal n work = cleared n work
+-- Only a horizontal seam takes work space, unless 1 to 8 refuse: what then stands in it is not said.
+unfoldable pub left_work : Axis → ℕ → List ℕ → List ℕ → List ℕ
+left_work Vertical n work work' = work
+left_work Horizontal n work work' = worked n work' work
 
 -- What closing up gives: the number; the picture without the seam, its rows packed at the front and the freed bytes 0; and the
 -- work space.
@@ -32,4 +32,4 @@ pub record CloseAlongGiven (b : List ℕ) (z : Size) (x : Axis) (s work : List �
   pub number : given answer ≡ refusal (close_along_rules x z (length b) s (length work))
   pub picture_left :
       b' ≡ served (given answer) (bytes z.kind (cut_along x z s (picture z b)) ++ replicate ((turned_size x z).height * pixel_bytes z.kind) 0) b
-  pub work_left : work' ≡ left_work x (given answer) work
+  pub work_left : work' ≡ left_work x (given answer) work work'

@@ -27,9 +27,10 @@ pub fn turn(picture: &[u8], size: Size, axis: Axis, to: &mut [u8]) -> Result<(),
 }
 
 // Takes the seam's pixels out of the picture: each row is closed up to the left, or each column upward. The rows then lie packed
-// at the front and the freed bytes are 0. A horizontal seam leaves the work space zero, a vertical one as it was. Refused by 2,
-// 3 and 4 as every picture is, by 4 where the seam is too short or too long, by 8 where the work space is shorter than the
-// picture, by 10 where the seam leaves the picture, and by 13 at the last column or row.
+// at the front and the freed bytes are 0. A horizontal seam leaves in the work space what it worked with, and its caller clears
+// it; a vertical one leaves it as it was. Refused by 2, 3 and 4 as every picture is, by 4 where the seam is too short or too long,
+// by 8 where the work space is shorter than the picture, by 10 where the seam leaves the picture, and by 13 at the last column or
+// row.
 pub fn close(
     picture: &mut [u8],
     size: Size,
@@ -42,11 +43,7 @@ pub fn close(
     judge_close_along(size, axis, picture.len(), seam.len(), work.len())?;
     match axis {
         Axis::Vertical => close_up(picture, size, seam),
-        Axis::Horizontal => {
-            let closed = close_columns(picture, size, seam, work);
-            clear(work);
-            closed
-        }
+        Axis::Horizontal => close_columns(picture, size, seam, work),
     }
 }
 

@@ -1,5 +1,5 @@
 -- `seam_cut::cut_along` meets its contract: the seam found lies inside the picture, so closing it up is served.
-use Rattle.std.proofs.Common.{◌≡◌, List, ◌++◌, ℕ, ◌<◌, ◌≤◌, cond, length, take, drop, replicate, refl, ap, sym, ◌∙◌, take_at, arith}
+use Rattle.std.proofs.Common.{◌≡◌, List, ◌++◌, ℕ, ◌<◌, ◌≤◌, cond, length, take, drop, refl, ap, sym, ◌∙◌, take_at, arith}
 use Rattle.grids.specs.Each.{Each}
 use Rattle.grids.proofs.Shapes.{each-length}
 use Rattle.pictures.specs.declared.sizes.Size.{Size}
@@ -63,7 +63,6 @@ returns c =
     let f = q.ensures in
     let r = rooms a.method x z b a.seam.now a.work.now c.requires in
     let s = lent a.method x z b a.seam.now a.work.now c.requires c.turned_size-turned.result c.turned_size-turned.ensures q.new.seam f.seam_given in
-    let zero = f.work_left ∙ ap (λ n. replicate n 0) (sym q.auto.work) in
     let k =
     close_served b z x (take c.turned_size-turned.result.height q.new.seam) q.new.work c.close.result c.close.new.picture c.close.new.work c.close.ensures
     r.sized (rw s (inside a.method x z b a.seam.now a.work.now c.requires)) c.requires.more
@@ -74,7 +73,7 @@ returns c =
     record {
       number = sym allowed;
       cost = f.cost;
-      picture_left = k.picture_is ∙ ap (λ s. closed_along x z s b) s;
+      picture_left = k ∙ ap (λ s. closed_along x z s b) s;
       seam_given = f.seam_given;
-      work_left = k.work_is zero ∙ ap (λ n. replicate n 0) q.auto.work;
+      work_left = refl;
     }

@@ -1,6 +1,6 @@
 -- `seam_cut::seam_along` meets its contract: turning is served, and the seam is found in the picture that then stands at the
 -- front of the work space.
-use Rattle.std.proofs.Common.{◌≡◌, List, ℕ, Result, ◌++◌, ◌≤◌, length, take, drop, replicate, ap, sym, ◌∙◌, arith}
+use Rattle.std.proofs.Common.{◌≡◌, List, ℕ, Result, ◌++◌, ◌≤◌, length, take, drop, refl, ap, sym, ◌∙◌, arith}
 use Rattle.pictures.specs.declared.refusals.Refusal.{Refusal}
 use Rattle.pictures.specs.declared.sizes.Size.{Size}
 use Rattle.pictures.specs.Pictures.{picture_bytes, picture, bytes}
@@ -46,8 +46,8 @@ unwrap-requires c =
     turn_ok a.picture.now a.size a.axis a.work.now c.turn.new.to c.turn.result c.turn.ensures r.sized
     (fits a.axis a.size a.picture.now a.seam.now a.work.now c.requires)
 
-pub unwrap-cost-requires : goal.unwrap-cost-requires
-unwrap-cost-requires c =
+pub unwrap-requires-2 : goal.unwrap-requires-2
+unwrap-requires-2 c =
     let a = c.args in
     let f = c.find_in in
     let found : FindInGiven c.turn.new.to (turned_size a.axis a.size) a.method a.seam.now f.result f.new.space f.new.seam =
@@ -81,7 +81,7 @@ returns c =
     in
     record {
       number = sym c.requires.found;
-      cost = sym (ap found_cost c.unwrap-cost.ensures) ∙ known.cost ∙ ap (cost_of a.method t.width t.height) seen;
+      cost = sym (ap found_cost c.unwrap-2.ensures) ∙ known.cost ∙ ap (cost_of a.method t.width t.height) seen;
       seam_given = known.seam_given ∙ ap (λ p. seam_of a.method t.width t.height p ++ drop t.height a.seam.now) seen;
-      work_left = c.clear.ensures ∙ ap (λ n. replicate n 0) (f.auto.space ∙ c.turn.auto.to);
+      work_left = refl;
     }

@@ -16,7 +16,7 @@ use Rattle.seam_rules.specs.Cuts.{last_along}
 use Rattle.seam_rules.specs.Axes.{turned_size, grey_of}
 use Rattle.seam_turn.specs.Axes.{cut_along}
 use Rattle.seam_turn.specs.Turning.{CloseAlongGiven}
-use Rattle.seam_turn.proofs.Served.{Closed, close_served}
+use Rattle.seam_turn.proofs.Served.{close_served}
 use Rattle.seam_turn.proofs.Answered.{close_ok}
 use Rattle.seam_cut.specs.Cutting.{closed_along}
 use Rattle.seam_cut_marked.specs.Axes.{marked_seam_along, blocked_along}
@@ -28,7 +28,7 @@ use Rattle.seam_cut_marked.proofs.cut_marked_along.Goals as goal
 
 -- A seam is allowed.
 module _ {how : Method} {x : Axis} {z : Size} {b m room work : List ℕ} (p : CutMarkedNeeded b m z x room work)
-    {k : ℕ} {seam' work' : List ℕ} (found : MarkedAlongGiven b m z how x room work (Ok k) seam' work') (work-long : length work' ≡ length work) where
+    {k : ℕ} {seam' : List ℕ} (found : MarkedAlongGiven b m z how x room (Ok k) seam') where
   seam : List ℕ
   seam = marked_seam_along how x z (picture z b) (marks_of z m)
 
@@ -38,7 +38,7 @@ module _ {how : Method} {x : Axis} {z : Size} {b m room work : List ℕ} (p : Cu
   inside = marked_inside how x z (picture z b) (marks_of z m) (not-true (blocked_along how x z (picture z b) (marks_of z m)) (sym (ok_free (blocked_along how x z (picture z b) (marks_of z m)) (Ok k) found.number)))
 
   -- and is what is lent on of the seam's space, so the picture is closed up along it,
-  module _ {t : Size} (turns : t ≡ turned_size x z) {v : Result Unit Refusal} {b' work'' : List ℕ} (closes : CloseAlongGiven b z x (take t.height seam') work' v b' work'')
+  module _ {t : Size} (turns : t ≡ turned_size x z) {work' : List ℕ} (work-long : length work' ≡ length work) {v : Result Unit Refusal} {b' work'' : List ℕ} (closes : CloseAlongGiven b z x (take t.height seam') work' v b' work'')
       (kept : length work'' ≡ length work') where
     abbrev s : List ℕ
     s = take t.height seam'
@@ -56,15 +56,11 @@ module _ {how : Method} {x : Axis} {z : Size} {b m room work : List ℕ} (p : Cu
     picture_ok : IsOk v
     picture_ok = close_ok b z x s work' v b' work'' closes p.found.sized (rw s-is inside) p.more fits
 
-    closed : Closed b z x s work' b' work''
+    closed : b' ≡ closed_along x z s b
     closed = close_served b z x s work' v b' work'' closes p.found.sized (rw s-is inside) p.more fits
 
     closed-long : length work'' ≡ length work
     closed-long = kept ∙ work-long
-
-    closed-zero : work'' ≡ replicate (length work'') 0
-    closed-zero =
-        closed.work_is (found.work_left ∙ ap (λ n. replicate n 0) (sym work-long)) ∙ ap (λ n. replicate n 0) (sym kept)
 
     -- and the marks, as a grey picture of its sides.
     module _ {g : Size} (grey-is : g ≡ grey_of z) {u : Result Unit Refusal} {m' left : List ℕ} (marks : CloseAlongGiven m g x s work'' u m' left) where
@@ -86,28 +82,27 @@ module _ {how : Method} {x : Axis} {z : Size} {b m room work : List ℕ} (p : Cu
       marks_ok : IsOk u
       marks_ok = close_ok m (grey_of z) x s work'' u m' left grey sized within more grey-fits
 
-      given : CutAlongGiven b m z how x room work (Ok k) b' m' seam' left
+      given : CutAlongGiven b m z how x room (Ok k) b' m' seam'
       unfolding seam pixel_bytes
       given =
           let lost = close_served m (grey_of z) x s work'' u m' left grey sized within more grey-fits in
           record {
-            found = record {
-              number = found.number;
-              cost = found.cost;
-              seam_given = found.seam_given;
-              work_left = lost.work_is closed-zero ∙ ap (λ n. replicate n 0) closed-long;
-            };
-            picture_left = closed.picture_is ∙ ap (λ s. closed_along x z s b) s-is;
+            found = found;
+            picture_left = closed ∙ ap (λ s. closed_along x z s b) s-is;
             marks_left =
-                lost.picture_is
+                lost
                 ∙ ap₂ ◌++◌
                 (ap (λ s. bytes Grey (cut_along x (grey_of z) s (picture (grey_of z) m))) s-is ∙ marks-cut x z m p.found.marked seam)
                 (ap (λ n. replicate n 0) (mul-one (turned_size x (grey_of z)).height ∙ tall_grey x z));
           }
 
 pub unwrap-requires : goal.unwrap-requires
-unwrap-requires c = picture_ok c.requires c.in_ok-cost.ensures c.marked_along.auto.work c.turned_size-turned.ensures c.close.ensures c.close.auto.work
+unwrap-requires c = picture_ok c.requires c.in_ok-cost.ensures c.turned_size-turned.ensures c.marked_along.auto.work c.close.ensures c.close.auto.work
+
+pub unwrap-requires-2 : goal.unwrap-requires-2
+unwrap-requires-2 c =
+    marks_ok c.requires c.in_ok-cost.ensures c.turned_size-turned.ensures c.marked_along.auto.work c.close.ensures c.close.auto.work c.grey-marked.ensures c.close-2.ensures
 
 pub returns : goal.returns
 returns c =
-    given c.requires c.in_ok-cost.ensures c.marked_along.auto.work c.turned_size-turned.ensures c.close.ensures c.close.auto.work c.grey-marked.ensures c.close-2.ensures
+    given c.requires c.in_ok-cost.ensures c.turned_size-turned.ensures c.marked_along.auto.work c.close.ensures c.close.auto.work c.grey-marked.ensures c.close-2.ensures

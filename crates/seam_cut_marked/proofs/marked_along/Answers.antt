@@ -2,7 +2,7 @@
 -- that then stand at the front of the work space.
 use Rattle.pictures.specs.declared.refusals.Refusal.{Refusal}
 use Rattle.std.specs.Prelude.{Result, IsOk}
-use Rattle.std.proofs.Common.{◌≡◌, List, ◌++◌, ℕ, ◌+◌, ◌-◌, ◌≤◌, cond, length, drop, replicate, ap, ap₂, ◌∙◌, arith}
+use Rattle.std.proofs.Common.{◌≡◌, List, ◌++◌, ℕ, ◌+◌, ◌-◌, ◌≤◌, cond, length, drop, ap₂, ◌∙◌, arith}
 use borrow.Rule.Slice.PartMut.{put_mid, mid_of, same_len_mid}
 use Rattle.grids.specs.Rows.{flat}
 use Rattle.grids.proofs.Parts.{part_length}
@@ -101,7 +101,7 @@ returns c =
     let front = c.turn.new.to in
     let u = c.turn-2.result in
     let marks = c.turn-2.new.to in
-    let f = c.find_marked_in-found in
+    let f = c.find_marked_in in
     let kept = c.turn.auto.to in
     let marks_kept = c.turn-2.auto.to in
     let turns = c.turn.ensures in
@@ -120,8 +120,4 @@ returns c =
       number = g.number ∙ ap₂ (λ q r. cond (is_none (marked_up how t.width t.height q r)) 12 0) q r;
       cost = g.cost ∙ ap₂ (λ q r. served k (marked_cost_of how t.width t.height q r) 0) q r;
       seam_given = g.seam_given ∙ ap₂ (λ q r. served k (marked_seam_of how t.width t.height q r ++ drop t.height room) room) q r;
-      work_left =
-          c.clear.ensures
-          ∙ ap (λ n. replicate n 0)
-          (f.auto.space ∙ space-long b m z x room work p v front turns kept u marks turns-marks marks_kept);
     }
