@@ -4,7 +4,7 @@
 #![tactic(auto)]
 
 ghost use Rattle.seam_cut.specs.Cutting.{FindGiven, CutGiven};
-ghost use Rattle.seam_cut.specs.Inner.{FindNeeded, FoundAlong, CutNeeded, CutAlong};
+ghost use Rattle.seam_cut.specs.Inner.{FindNeeded, SeamAlongGiven, CutNeeded, CutAlongGiven};
 
 use energy::Method;
 use pictures::{Refusal, Size};
@@ -49,8 +49,8 @@ pub fn cut(
     Ok(cost)
 }
 
-// The seam where nothing is refused: found in the picture turned, which stands in the work space. Here and in the next one the
-// work space is left as it is, for the operation to clear it once, at its end.
+// The seam where nothing is refused: found in the picture turned, which then stands at the front of the work space. Here and in
+// `cut_along` nothing is cleared: each operation clears the work space once, at its end.
 fn seam_along(
     picture: &[u8],
     size: Size,
@@ -60,14 +60,14 @@ fn seam_along(
     work: &mut [u8],
 ) -> u64
     requires { FindNeeded picture.now size axis seam.old work.old }
-    ensures { FoundAlong picture.now size method axis seam.old work.old result seam.new }
+    ensures { SeamAlongGiven picture.now size method axis seam.old work.old result seam.new work.new }
 {
     let turned = seam_rules::turned_size(axis, size);
     seam_turn::turn(picture, size, axis, work).unwrap();
     seam_find::find_in(work, turned, method, seam).unwrap()
 }
 
-// The cut where nothing is refused.
+// The cut where nothing is refused: of the picture as finding left it turned.
 fn cut_along(
     picture: &mut [u8],
     size: Size,
@@ -77,7 +77,7 @@ fn cut_along(
     work: &mut [u8],
 ) -> u64
     requires { CutNeeded picture.old size axis seam.old work.old }
-    ensures { CutAlong picture.old size method axis seam.old work.old result picture.new seam.new }
+    ensures { CutAlongGiven picture.old size method axis seam.old work.old result picture.new seam.new }
 {
     let turned = seam_rules::turned_size(axis, size);
     let cost = seam_along(picture, size, method, axis, seam, work);

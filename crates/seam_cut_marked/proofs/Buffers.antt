@@ -24,7 +24,7 @@ use Rattle.seam_rules.proofs.Rooms.{find_room, work_as_was}
 use Rattle.seam_find.proofs.Worked.{worked-or}
 use Rattle.seam_cut_marked.specs.Axes.{marked_seam_along, marked_cost_along, blocked_along}
 use Rattle.seam_cut_marked.specs.Marking.{mark_rules, FindMarkedGiven}
-use Rattle.seam_cut_marked.specs.Inner.{judged, MarkedNeeded, MarkedAlongGiven}
+use Rattle.seam_cut_marked.specs.Inner.{judged, MarkedNeeded, MarkedSeamGiven}
 
 module _ {how : Method} {x : Axis} {z : Size} {b m seam work : List ℕ} where
   -- What they refuse isn't found;
@@ -39,7 +39,7 @@ module _ {how : Method} {x : Axis} {z : Size} {b m seam work : List ℕ} where
       }
 
   -- of what they don't refuse the seam by the marks is found, or 12 is given.
-  pub found : refusal (judged x z b m seam work) ≡ 0 → {answer : Result ℕ Refusal} {seam' : List ℕ} → MarkedAlongGiven b m z how x seam answer seam'
+  pub found : refusal (judged x z b m seam work) ≡ 0 → {answer : Result ℕ Refusal} {seam' : List ℕ} → MarkedSeamGiven b m z how x seam answer seam'
       → FindMarkedGiven b m z how x seam work answer seam' (replicate (length work) 0)
   found none g =
       let blocked = blocked_along how x z (picture z b) (marks_of z m) in

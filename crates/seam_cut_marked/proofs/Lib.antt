@@ -3,3 +3,4 @@ pub mod Cuts
 pub mod Marked
 pub mod Marks
 pub mod Smallest
+pub mod Standing

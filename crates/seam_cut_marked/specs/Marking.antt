@@ -55,8 +55,8 @@ pub record CutMarkedGiven (b m : List ℕ) (z : Size) (how : Method) (x : Axis) 
       seam
   pub work_left : work' ≡ cleared (found_number answer) work
 
--- The same cut for who clears the work space later, after many of them: what then stands in it is not said. After 1 to 8 it is
--- as it was.
+-- The same cut for one who clears the work space later, after many of them: what then stands in it isn't said. After 1 to 8 it is as
+-- it was.
 pub record CutUnclearedGiven (b m : List ℕ) (z : Size) (how : Method) (x : Axis) (seam work : List ℕ) (answer : Result ℕ Refusal) (b' m' seam' work' : List ℕ) : Type 0 where
   pub cut : CutMarkedGiven b m z how x seam work answer b' m' seam' (cleared (found_number answer) work)
   pub work_left : work' ≡ worked (found_number answer) work' work

@@ -9,7 +9,7 @@ ghost use Rattle.pictures.specs.Pictures.{largest_side, size_rules};
 ghost use Rattle.seam_bounds.specs.Moves.{outside};
 ghost use Rattle.seam_rules.specs.Cuts.{room_rules};
 ghost use Rattle.seam_cut_marked.specs.Marking.{mark_rules, FindMarkedGiven, CutMarkedGiven, CutUnclearedGiven};
-ghost use Rattle.seam_cut_marked.specs.Inner.{JudgedNeeded, CutJudged, MarkedNeeded, MarkedAlongGiven, CutMarkedNeeded, CutAlongGiven, LastGiven};
+ghost use Rattle.seam_cut_marked.specs.Inner.{JudgedNeeded, CutJudgedGiven, MarkedNeeded, MarkedAlongGiven, CutMarkedNeeded, CutAlongGiven, LastGiven};
 
 use energy::Method;
 use pictures::{LARGEST_SIDE, Refusal, Size};
@@ -53,8 +53,8 @@ pub fn cut_marked(
     cut
 }
 
-// Cuts as `cut_marked` does, and by the same numbers, but clears nothing: for who cuts seam after seam and clears the work space
-// once, at the end. After 1 to 8 it is as it was.
+// Cuts as `cut_marked` does, and leaves in the work space what it worked with: for one who cuts many seams and clears it once, at
+// the end. Refused by 2, 3, 4, 5, 8, 12 and 13.
 pub fn cut_uncleared(
     picture: &mut [u8],
     marks: &mut [u8],
@@ -100,8 +100,9 @@ fn has_over_two(marks: &[u8]) -> bool
     over
 }
 
-// The seam by the marks, or 12, where no smaller number refuses it: found in picture and marks turned, which stand in the
-// work space.
+// The seam by the marks, or 12, where no smaller number refuses it: found in picture and marks turned, which then stand at the
+// front of the work space. Here and in the functions after it nothing is cleared: each operation clears the work space once, at its
+// end.
 fn marked_along(
     picture: &[u8],
     marks: &[u8],
@@ -112,7 +113,7 @@ fn marked_along(
     work: &mut [u8],
 ) -> Result<u64, Refusal>
     requires { MarkedNeeded picture.now marks.now size axis seam.old work.old }
-    ensures { MarkedAlongGiven picture.now marks.now size method axis seam.old result seam.new }
+    ensures { MarkedAlongGiven picture.now marks.now size method axis seam.old result seam.new work.new }
 {
     let turned = seam_rules::turned_size(axis, size);
     let marked = seam_rules::grey(size);
@@ -151,7 +152,7 @@ fn cut_judged(
     work: &mut [u8],
 ) -> Result<u64, Refusal>
     requires { JudgedNeeded picture.old marks.old size axis seam.old work.old }
-    ensures { CutJudged picture.old marks.old size method axis seam.old work.old result picture.new marks.new seam.new }
+    ensures { CutJudgedGiven picture.old marks.old size method axis seam.old work.old result picture.new marks.new seam.new }
 {
     if seam_rules::takes_last(axis, size) {
         return Err(last_marked(picture, marks, size, method, axis, work));
@@ -159,7 +160,8 @@ fn cut_judged(
     cut_marked_along(picture, marks, size, method, axis, seam, work)
 }
 
-// The cut where only 12 may refuse it.
+// The cut where only 12 may refuse it: of picture and marks as finding left them turned. The marks come first, and the picture then
+// still stands before them.
 fn cut_marked_along(
     picture: &mut [u8],
     marks: &mut [u8],
@@ -175,7 +177,8 @@ fn cut_marked_along(
     let turned = seam_rules::turned_size(axis, size);
     let marked = seam_rules::grey(size);
     let cost = marked_along(picture, marks, size, method, axis, seam, work)?;
+    let turned_marks = &mut work[picture.len()..];
+    seam_turn::close(marks, marked, axis, &seam[..turned.height], turned_marks).unwrap();
     seam_turn::close(picture, size, axis, &seam[..turned.height], work).unwrap();
-    seam_turn::close(marks, marked, axis, &seam[..turned.height], work).unwrap();
     Ok(cost)
 }

@@ -16,4 +16,4 @@ marked_along-found-requires c = marked_needed (sym c.in_ok-judge_marked.ensures)
 pub returns : goal.returns
 returns c =
     let f = c.marked_along-found in
-    rw (c.clear.ensures ∙ ap (λ n. replicate n 0) f.auto.work) (found (sym c.in_ok-judge_marked.ensures) f.ensures)
+    rw (c.clear.ensures ∙ ap (λ n. replicate n 0) f.auto.work) (found (sym c.in_ok-judge_marked.ensures) f.ensures.found)
