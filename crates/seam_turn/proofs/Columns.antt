@@ -82,8 +82,8 @@ module _ (z : Size) (b s work : List ℕ) (sized : Sized z (length b)) (room : p
 
   -- With more than one row, and a seam inside the picture.
   module _ (is : Inside (turned_size Horizontal z) s) where
-    rest-of : OfSize left (rest_of z work s)
-    rest-of = cut_narrower z.height is.wide is.inside over_of_lem
+    rest_of_lem : OfSize left (rest_of z work s)
+    rest_of_lem = cut_narrower z.height is.wide is.inside over_of_lem
 
     pub left-bytes : picture_bytes left + z.width * pixel_bytes z.kind ≡ length b
     left-bytes =
@@ -113,12 +113,12 @@ module _ (z : Size) (b s work : List ℕ) (sized : Sized z (length b)) (room : p
           let ends = replicate (z.width * pixel_bytes z.kind) 0 ++ after in
           ap (λ x. take (picture_bytes left) (x ++ after)) closed_is
           ∙ ap (take (picture_bytes left)) (append_assoc (bytes z.kind (rest_of z work s)) (replicate (z.width * pixel_bytes z.kind) 0) after)
-          ∙ take_at (bytes z.kind (rest_of z work s)) ends (picture_bytes left) (length-bytes left (rest_of z work s) rest-of)
+          ∙ take_at (bytes z.kind (rest_of z work s)) ends (picture_bytes left) (length-bytes left (rest_of z work s) rest_of_lem)
 
     -- After it was exchanged back.
     module _ (from to to' : List ℕ) (v : Result (Unit {0}) Refusal) (g : ExchangeGiven from left to v to') (e : from ≡ bytes z.kind (rest_of z work s)) (fits : picture_bytes left ≤ length to) where
       from-sized : refusal (size_rules left (length from)) ≡ 0
-      from-sized = rw (ap length e ∙ length-bytes left (rest_of z work s) rest-of) (sized-served left left-sides)
+      from-sized = rw (ap length e ∙ length-bytes left (rest_of z work s) rest_of_lem) (sized-served left left-sides)
 
       pub back_none : given v ≡ 0
       back_none = exchange_none from left to to' v g from-sized fits
@@ -127,8 +127,8 @@ module _ (z : Size) (b s work : List ℕ) (sized : Sized z (length b)) (room : p
       unfolding turned turned_in
       back_is =
           let c = exchange left.width (rest_of z work s) in
-          let long : length (bytes z.kind (exchange left.width (rest_of z work s))) ≡ picture_bytes left = length-bytes (turned_size Horizontal left) (exchange left.width (rest_of z work s)) (exchange-each rest-of) ∙ turned-bytes Horizontal left in
+          let long : length (bytes z.kind (exchange left.width (rest_of z work s))) ≡ picture_bytes left = length-bytes (turned_size Horizontal left) (exchange left.width (rest_of z work s)) (exchange-each rest_of_lem) ∙ turned-bytes Horizontal left in
           ap (take (picture_bytes left))
           (exchange-served from left to to' v g from-sized fits
-          ∙ ap (λ p. bytes z.kind (exchange left.width p) ++ drop (picture_bytes left) to) (ap (picture left) e ∙ picture_bytes_lem left (rest_of z work s) rest-of))
+          ∙ ap (λ p. bytes z.kind (exchange left.width p) ++ drop (picture_bytes left) to) (ap (picture left) e ∙ picture_bytes_lem left (rest_of z work s) rest_of_lem))
           ∙ take_at (bytes z.kind (exchange left.width (rest_of z work s))) (drop (picture_bytes left) to) (picture_bytes left) long
