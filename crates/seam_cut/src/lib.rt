@@ -3,9 +3,8 @@
 // ones pass them on once: of each buffer it is promised what it holds afterwards.
 #![tactic(auto)]
 
-ghost use Rattle.std.specs.Prelude.{Ok};
 ghost use Rattle.seam_cut.specs.Cutting.{FindGiven, CutGiven};
-ghost use Rattle.seam_cut.specs.Inner.{FindNeeded, CutNeeded};
+ghost use Rattle.seam_cut.specs.Inner.{FindNeeded, SeamAlongGiven, CutNeeded, CutAlongGiven};
 
 use energy::Method;
 use pictures::{Refusal, Size};
@@ -23,7 +22,9 @@ pub fn find(
     ensures { FindGiven picture.now size method axis seam.old work.old result seam.new work.new }
 {
     seam_rules::judge_find(size, axis, picture.len(), seam.len(), work.len())?;
-    Ok(seam_along(picture, size, method, axis, seam, work))
+    let cost = seam_along(picture, size, method, axis, seam, work);
+    pictures::clear(work);
+    Ok(cost)
 }
 
 // Cuts the seam along the axis out of the picture and gives it as `find` does. The rows then lie packed at the front of the
@@ -43,10 +44,13 @@ pub fn cut(
         pictures::clear(work);
         return Err(Refusal::LastLine);
     }
-    Ok(cut_along(picture, size, method, axis, seam, work))
+    let cost = cut_along(picture, size, method, axis, seam, work);
+    pictures::clear(work);
+    Ok(cost)
 }
 
-// The seam where nothing is refused: found in the picture turned, which stands in the work space.
+// The seam where nothing is refused: found in the picture turned, which then stands at the front of the work space. Here and in
+// `cut_along` nothing is cleared: each operation clears the work space once, at its end.
 fn seam_along(
     picture: &[u8],
     size: Size,
@@ -56,16 +60,14 @@ fn seam_along(
     work: &mut [u8],
 ) -> u64
     requires { FindNeeded picture.now size axis seam.old work.old }
-    ensures { FindGiven picture.now size method axis seam.old work.old (Ok result) seam.new work.new }
+    ensures { SeamAlongGiven picture.now size method axis seam.old work.old result seam.new work.new }
 {
     let turned = seam_rules::turned_size(axis, size);
     seam_turn::turn(picture, size, axis, work).unwrap();
-    let cost = seam_find::find_in(work, turned, method, seam).unwrap();
-    pictures::clear(work);
-    cost
+    seam_find::find_in(work, turned, method, seam).unwrap()
 }
 
-// The cut where nothing is refused.
+// The cut where nothing is refused: of the picture as finding left it turned.
 fn cut_along(
     picture: &mut [u8],
     size: Size,
@@ -75,7 +77,7 @@ fn cut_along(
     work: &mut [u8],
 ) -> u64
     requires { CutNeeded picture.old size axis seam.old work.old }
-    ensures { CutGiven picture.old size method axis seam.old work.old (Ok result) picture.new seam.new work.new }
+    ensures { CutAlongGiven picture.old size method axis seam.old work.old result picture.new seam.new }
 {
     let turned = seam_rules::turned_size(axis, size);
     let cost = seam_along(picture, size, method, axis, seam, work);

@@ -10,25 +10,21 @@ use borrow.Author.Tests.{eqb-true, not-false}
 use lib.ListN.{length, drop, replicate}
 use Rattle.pictures.specs.declared.sizes.Size.{Size}
 use Rattle.pictures.specs.declared.refusals.Refusal.{Refusal}
-use Rattle.pictures.specs.Refusals.{Rule, ◌when◌, number_of, refusal}
+use Rattle.pictures.specs.Refusals.{◌when◌, number_of, refusal}
 use Rattle.pictures.specs.Pictures.{size_rules, picture, pixels, marks_of}
 use Rattle.pictures.proofs.Rules.{served-first, served-both, passed, number-some, refused_answer, kept_by, refusal-most}
 use Rattle.energy.specs.declared.methods.Method.{Method}
 use Rattle.seam_bounds.specs.Moves.{outside}
 use Rattle.seam_rules.specs.Answers.{found_number}
 use Rattle.seam_rules.specs.Axes.{turned_size}
-use Rattle.seam_rules.specs.Cuts.{cleared, room_rules}
+use Rattle.seam_rules.specs.Cuts.{room_rules}
 use Rattle.seam_rules.specs.declared.answers.Axis.{Axis}
 use Rattle.pictures.proofs.Limits.{bytes-few}
 use Rattle.seam_rules.proofs.Rooms.{find_room, work_as_was}
 use Rattle.seam_find.proofs.Worked.{worked-or}
 use Rattle.seam_cut_marked.specs.Axes.{marked_seam_along, marked_cost_along, blocked_along}
 use Rattle.seam_cut_marked.specs.Marking.{mark_rules, FindMarkedGiven}
-use Rattle.seam_cut_marked.specs.Inner.{MarkedNeeded, MarkedAlongGiven}
-
--- The rules of picture, marks and spaces, of which `judge_marked` gives the first that applies.
-abbrev pub judged : Axis → Size → (b m seam work : List ℕ) → List Rule
-judged x z b m seam work = size_rules z (length b) ++ (mark_rules z m ++ room_rules x z (length seam) (length work))
+use Rattle.seam_cut_marked.specs.Inner.{judged, MarkedNeeded, MarkedSeamGiven}
 
 module _ {how : Method} {x : Axis} {z : Size} {b m seam work : List ℕ} where
   -- What they refuse isn't found;
@@ -43,15 +39,15 @@ module _ {how : Method} {x : Axis} {z : Size} {b m seam work : List ℕ} where
       }
 
   -- of what they don't refuse the seam by the marks is found, or 12 is given.
-  pub found : refusal (judged x z b m seam work) ≡ 0 → {answer : Result ℕ Refusal} {seam' work' : List ℕ} → MarkedAlongGiven b m z how x seam work answer seam' work'
-      → FindMarkedGiven b m z how x seam work answer seam' work'
+  pub found : refusal (judged x z b m seam work) ≡ 0 → {answer : Result ℕ Refusal} {seam' : List ℕ} → MarkedSeamGiven b m z how x seam answer seam'
+      → FindMarkedGiven b m z how x seam work answer seam' (replicate (length work) 0)
   found none g =
       let blocked = blocked_along how x z (picture z b) (marks_of z m) in
       record {
         number = g.number ∙ sym (served-first (judged x z b m seam work) (12 when blocked ∷ []) refl none);
         cost = g.cost;
         seam_given = g.seam_given;
-        work_left = g.work_left ∙ sym (worked-or _ (replicate (length work) 0) work blocked g.number);
+        work_left = sym (worked-or _ (replicate (length work) 0) work blocked g.number);
       }
 
 -- Buffers that nothing is refused of: what finding by them needs of the work space is less than 32 bytes a pixel.
@@ -74,8 +70,3 @@ ok_free true (Ok cost) n = absurd (omega (arith, n))
 ok_free false (Ok cost) n = refl
 ok_free true (Err why) n = refl
 ok_free false (Err why) n = absurd (omega (arith, number-some why, n))
-
--- At the last column or row the work space is zero.
-pub last_cleared : (t : Bool) (n : ℕ) → n ≡ cond t 12 13 → (work : List ℕ) → replicate (length work) 0 ≡ cleared n work
-last_cleared true n e work = rw e
-last_cleared false n e work = rw e

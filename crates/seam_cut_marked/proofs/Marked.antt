@@ -9,7 +9,8 @@ use Prim.Native.Nat.{ℕ, ◌+◌, ◌≤◌, ◌<◌}
 use native.Mathlib.Omega.{arith}
 use lib.Dec.{ltb}
 use borrow.Author.Tests.{le-ltb}
-use lib.ListN.{length, drop}
+use lib.ListN.{length, take, drop, replicate}
+use lib.Seq.{take_at, length-take-le}
 use Rattle.grids.specs.Each.{Each}
 use Rattle.grids.proofs.Shapes.{each-reverse}
 use Rattle.pictures.specs.declared.sizes.Size.{Size}
@@ -23,6 +24,7 @@ use Rattle.seam_rules.specs.Answers.{found_number, found_cost}
 use Rattle.seam_rules.specs.Axes.{turned_size}
 use Rattle.seam_theory.specs.PictureSeams.{marked_up, marked_seam_of, marked_cost_of, is_none}
 use Rattle.seam_theory.proofs.Characterised.{marked_is}
+use Rattle.seam_find.proofs.Worked.{worked-or}
 use Rattle.seam_find_marked.specs.Finding.{FindMarkedInGiven}
 use Rattle.seam_turn.specs.Axes.{turned}
 use Rattle.seam_cut.proofs.Inside.{path_inside}
@@ -33,14 +35,21 @@ pub record MarkedThere (space : List ℕ) (z : Size) (how : Method) (seam : List
   pub number : found_number answer ≡ cond (is_none (marked_up how z.width z.height (picture_in z space) (marks_in z space))) 12 0
   pub cost : found_cost answer ≡ served (found_number answer) (marked_cost_of how z.width z.height (picture_in z space) (marks_in z space)) 0
   pub seam_given : seam' ≡ served (found_number answer) (marked_seam_of how z.width z.height (picture_in z space) (marks_in z space) ++ drop z.height seam) seam
+  pub front_left : take (picture_bytes z + pixels z) space' ≡ take (picture_bytes z + pixels z) space
 
 pub marked_served : (space : List ℕ) (z : Size) (how : Method) (seam : List ℕ) (answer : Result ℕ Refusal) (space' seam' : List ℕ) → FindMarkedInGiven space z how seam answer space' seam'
     → refusal (side_rules z) ≡ 0 → z.height ≤ length seam → picture_bytes z + (pixels z + pixels z) ≤ length space → MarkedThere space z how seam answer space' seam'
 marked_served space z how seam answer space' seam' g sides room long =
     record {
-      number = g.number ∙ served-first (side_rules z) rest refl sides ∙ none;
+      number = number_is;
       cost = g.cost;
       seam_given = g.seam_given;
+      -- picture and marks are read, and only what comes after them is written
+      front_left =
+          let front = picture_bytes z + pixels z in
+          let after = replicate (pixels z) 0 ++ drop (picture_bytes z + (pixels z + pixels z)) space in
+          ap (take front) (g.space_left ∙ worked-or (found_number answer) (take front space ++ after) space blocked number_is)
+          ∙ take_at (take front space) after front (length-take-le front space (omega (arith, long)));
     }
   where
     blocked : Bool
@@ -51,6 +60,9 @@ marked_served space z how seam answer space' seam' g sides room long =
 
     none : refusal (8 when ltb (length seam) z.height ∷ 8 when ltb (length space) (picture_bytes z + (pixels z + pixels z)) ∷ 12 when blocked ∷ []) ≡ cond blocked 12 0
     none = simp (le-ltb _ _ room, le-ltb _ _ long)
+
+    number_is : found_number answer ≡ cond blocked 12 0
+    number_is = g.number ∙ served-first (side_rules z) rest refl sides ∙ none
 
 -- The seam lies inside the picture, where one is allowed.
 marked_up_inside : (how : Method) (w h : ℕ) (p : Picture) (m : List (List ℕ)) (o : Option (List ℕ)) → marked_up how w h p m ≡ o → is_none o ≡ false → Each (λ c. c < w) h (reverse (get_or o []))

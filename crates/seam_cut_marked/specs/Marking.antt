@@ -3,7 +3,7 @@ use Rattle.pictures.specs.declared.refusals.Refusal.{Refusal}
 use Rattle.std.specs.Prelude.{◌≡◌, List, [], ◌∷◌, ◌++◌, ℕ, length, drop, replicate, Result}
 use Rattle.grids.specs.Rows.{flat}
 use Rattle.pictures.specs.declared.sizes.Size.{Size}
-use Rattle.pictures.specs.Refusals.{Rule, ◌when◌, refusal, served}
+use Rattle.pictures.specs.Refusals.{Rule, ◌when◌, refusal, served, worked}
 use Rattle.pictures.specs.Pictures.{size_rules, picture, marks_of}
 use Rattle.seam_bounds.specs.Moves.{outside}
 use Rattle.energy.specs.declared.methods.Method.{Method}
@@ -54,3 +54,9 @@ pub record CutMarkedGiven (b m : List ℕ) (z : Size) (how : Method) (x : Axis) 
       (marked_seam_along how x z (picture z b) (marks_of z m) ++ drop (turned_size x z).height seam)
       seam
   pub work_left : work' ≡ cleared (found_number answer) work
+
+-- The same cut for one who clears the work space later, after many of them: what then stands in it isn't said. After 1 to 8 it is as
+-- it was.
+pub record CutUnclearedGiven (b m : List ℕ) (z : Size) (how : Method) (x : Axis) (seam work : List ℕ) (answer : Result ℕ Refusal) (b' m' seam' work' : List ℕ) : Type 0 where
+  pub cut : CutMarkedGiven b m z how x seam work answer b' m' seam' (cleared (found_number answer) work)
+  pub work_left : work' ≡ worked (found_number answer) work' work

@@ -69,7 +69,8 @@ fn cut_seams(
 }
 
 // Cuts the seam out of the picture and the marks of this size that stand at the front of their buffers and gives its cost.
-// Refused, and nothing is cut, where every seam meets a protected pixel.
+// Refused, and nothing is cut, where every seam meets a protected pixel. The work space is cleared by `remove`, after the last of
+// them.
 fn cut_front(
     picture: &mut [u8],
     marks: &mut [u8],
@@ -84,7 +85,7 @@ fn cut_front(
     let pixels = pictures::pixels(size);
     let room = pictures::work_bytes(size);
     let mut seam = [0u16; LARGEST_SIDE];
-    seam_cut_marked::cut_marked(
+    seam_cut_marked::cut_uncleared(
         &mut picture[..bytes],
         &mut marks[..pixels],
         size,

@@ -1,4 +1,4 @@
--- A horizontal cut, through the exchanged picture and back.
+-- A horizontal cut: of the exchanged picture, and back.
 use mathlib.Core.Path.{◌≡◌, refl, sym, ap, ◌∙◌}
 use mathlib.Core.Bool.{not, cond}
 use Rattle.std.specs.Prelude.{Result}
@@ -9,7 +9,7 @@ use native.Mathlib.Omega.{arith}
 use lib.Dec.{eqb}
 use borrow.Author.Tests.{eqb-true, eqb-false, not-false}
 use lib.ListN.{length, take, drop, replicate}
-use lib.Seq.{take_at}
+use lib.Seq.{take_at, length-take-le}
 use Rattle.grids.specs.Each.{Each}
 use Rattle.grids.specs.Exchange.{exchange}
 use Rattle.grids.specs.Cut.{cut}
@@ -19,7 +19,7 @@ use Rattle.grids.proofs.Cut.{cut_narrower}
 use Rattle.pictures.specs.declared.sizes.Size.{Size}
 use Rattle.pictures.specs.declared.refusals.Refusal.{Refusal}
 use Rattle.pictures.specs.Refusals.{◌when◌, given, refusal}
-use Rattle.pictures.specs.Pictures.{Picture, pixel_bytes, picture_bytes, side_rules, size_rules, picture, bytes, OfSize}
+use Rattle.pictures.specs.Pictures.{Picture, pixel_bytes, picture_bytes, side_rules, size_rules, picture, bytes, picture_in, OfSize}
 use Rattle.pictures.proofs.Rules.{served-both, passed}
 use Rattle.pictures.proofs.Limits.{Sized, sized_is, sized-served, sides_of}
 use Rattle.pictures.proofs.Buffers.{picture-of_size, picture_bytes_lem, length-bytes}
@@ -32,8 +32,8 @@ use Rattle.seam_close.proofs.Served.{close_served}
 use Rattle.seam_rules.specs.declared.answers.Axis.TheVariants.{Horizontal}
 use Rattle.seam_rules.specs.Axes.{turned_size, narrowed}
 use Rattle.seam_rules.proofs.Turns.{turned-bytes, turned-sides}
-use Rattle.seam_turn.specs.Axes.{turned, cut_along}
-use Rattle.seam_turn.proofs.Turned.{turned-of_size}
+use Rattle.seam_turn.specs.Axes.{turned}
+use Rattle.seam_turn.specs.Turning.{turned_in}
 
 -- A seam that closing up doesn't refuse lies inside the picture, which has more than one column.
 pub record Inside (z : Size) (s : List ℕ) : Type 0 where
@@ -53,39 +53,37 @@ close_inside b z s b' v g e =
       inside = rw long at (inside_each z.width s ten.0);
     }
 
--- The exchanged picture, and what the cut leaves of it.
+-- The exchanged picture at the front of a work space, and what the cut leaves of it.
 abbrev pub over_of : Size → List ℕ → Picture
-over_of z b = exchange z.width (picture z b)
+over_of z work = picture_in (turned_size Horizontal z) work
 
 abbrev pub rest_of : Size → List ℕ → List ℕ → Picture
-rest_of z b s = cut s (over_of z b)
+rest_of z work s = cut s (over_of z work)
 
-module _ (z : Size) (b s : List ℕ) (sized : Sized z (length b)) where
+module _ (z : Size) (b s work : List ℕ) (sized : Sized z (length b)) (room : picture_bytes z ≤ length work) where
   abbrev t : Size
   t = turned_size Horizontal z
 
   abbrev left : Size
   left = narrowed (turned_size Horizontal z)
 
-  over_of_lem : OfSize t (over_of z b)
-  unfolding turned
-  over_of_lem = turned-of_size Horizontal z (picture z b) (picture-of_size z b sized.length_is)
+  front-long : length (take (picture_bytes t) work) ≡ picture_bytes t
+  front-long = length-take-le (picture_bytes t) work (omega (arith, turned-bytes Horizontal z, room))
 
-  over-long : length (bytes z.kind (over_of z b)) ≡ length b
-  over-long = length-bytes t (over_of z b) over_of_lem ∙ turned-bytes Horizontal z ∙ sym sized.length_is
+  over_of_lem : OfSize t (over_of z work)
+  over_of_lem = picture-of_size t (take (picture_bytes t) work) front-long
 
-  -- After the first exchange.
-  module _ (work work₁ : List ℕ) (v : Result (Unit {0}) Refusal) (g : ExchangeGiven b z work v work₁) (served : refusal (size_rules z (length b)) ≡ 0) (room : picture_bytes z ≤ length work) where
-    pub front_is : take (length b) work₁ ≡ bytes z.kind (over_of z b)
-    front_is = ap (take (length b)) (exchange-served b z work work₁ v g served room) ∙ take_at (bytes z.kind (over_of z b)) (drop (picture_bytes z) work) (length b) over-long
+  -- What is lent for closing up is the exchanged picture.
+  pub front_is : take (length b) work ≡ take (picture_bytes t) work
+  front_is = ap (λ n. take n work) (sized.length_is ∙ sym (turned-bytes Horizontal z))
 
-    pub front-sized : refusal (size_rules t (length (take (length b) work₁))) ≡ 0
-    front-sized = rw (ap length front_is ∙ length-bytes t (over_of z b) over_of_lem) (sized-served t (turned-sides Horizontal z (length b) sized))
+  pub front-sized : refusal (size_rules t (length (take (length b) work))) ≡ 0
+  front-sized = rw (ap length front_is ∙ front-long) (sized-served t (turned-sides Horizontal z (length b) sized))
 
   -- With more than one row, and a seam inside the picture.
   module _ (is : Inside (turned_size Horizontal z) s) where
-    rest-of : OfSize left (rest_of z b s)
-    rest-of = cut_narrower z.height is.wide is.inside over_of_lem
+    rest_of_lem : OfSize left (rest_of z work s)
+    rest_of_lem = cut_narrower z.height is.wide is.inside over_of_lem
 
     pub left-bytes : picture_bytes left + z.width * pixel_bytes z.kind ≡ length b
     left-bytes =
@@ -104,33 +102,33 @@ module _ (z : Size) (b s : List ℕ) (sized : Sized z (length b)) where
     left-sides = sides_of left (omega (arith, is.wide)) (omega (arith, sized.height_most)) sized.width_some sized.width_most
 
     -- After the exchanged picture was closed up.
-    module _ (work₁ front : List ℕ) (u : Result (Unit {0}) Refusal) (c : CloseGiven (take (length b) work₁) t s u front) (there : take (length b) work₁ ≡ bytes z.kind (over_of z b)) (fits : refusal (size_rules t (length (take (length b) work₁))) ≡ 0) where
-      pub closed_is : front ≡ bytes z.kind (rest_of z b s) ++ replicate (z.width * pixel_bytes z.kind) 0
+    module _ (front : List ℕ) (u : Result (Unit {0}) Refusal) (c : CloseGiven (take (length b) work) t s u front) where
+      pub closed_is : front ≡ bytes z.kind (rest_of z work s) ++ replicate (z.width * pixel_bytes z.kind) 0
       closed_is =
-          close_served (take (length b) work₁) t s front u c fits is.inside is.wide
-          ∙ ap (λ p. bytes z.kind (cut s p) ++ replicate (z.width * pixel_bytes z.kind) 0) (ap (picture t) there ∙ picture_bytes_lem t (over_of z b) over_of_lem)
+          close_served (take (length b) work) t s front u c front-sized is.inside is.wide
+          ∙ ap (λ k. bytes z.kind (cut s (picture t k)) ++ replicate (z.width * pixel_bytes z.kind) 0) front_is
 
-      pub kept-is : (after : List ℕ) → take (picture_bytes left) (front ++ after) ≡ bytes z.kind (rest_of z b s)
+      pub kept-is : (after : List ℕ) → take (picture_bytes left) (front ++ after) ≡ bytes z.kind (rest_of z work s)
       kept-is after =
           let ends = replicate (z.width * pixel_bytes z.kind) 0 ++ after in
           ap (λ x. take (picture_bytes left) (x ++ after)) closed_is
-          ∙ ap (take (picture_bytes left)) (append_assoc (bytes z.kind (rest_of z b s)) (replicate (z.width * pixel_bytes z.kind) 0) after)
-          ∙ take_at (bytes z.kind (rest_of z b s)) ends (picture_bytes left) (length-bytes left (rest_of z b s) rest-of)
+          ∙ ap (take (picture_bytes left)) (append_assoc (bytes z.kind (rest_of z work s)) (replicate (z.width * pixel_bytes z.kind) 0) after)
+          ∙ take_at (bytes z.kind (rest_of z work s)) ends (picture_bytes left) (length-bytes left (rest_of z work s) rest_of_lem)
 
     -- After it was exchanged back.
-    module _ (from to to' : List ℕ) (v : Result (Unit {0}) Refusal) (g : ExchangeGiven from left to v to') (e : from ≡ bytes z.kind (rest_of z b s)) (room : picture_bytes left ≤ length to) where
+    module _ (from to to' : List ℕ) (v : Result (Unit {0}) Refusal) (g : ExchangeGiven from left to v to') (e : from ≡ bytes z.kind (rest_of z work s)) (fits : picture_bytes left ≤ length to) where
       from-sized : refusal (size_rules left (length from)) ≡ 0
-      from-sized = rw (ap length e ∙ length-bytes left (rest_of z b s) rest-of) (sized-served left left-sides)
+      from-sized = rw (ap length e ∙ length-bytes left (rest_of z work s) rest_of_lem) (sized-served left left-sides)
 
       pub back_none : given v ≡ 0
-      back_none = exchange_none from left to to' v g from-sized room
+      back_none = exchange_none from left to to' v g from-sized fits
 
-      pub back_is : take (picture_bytes left) to' ≡ bytes z.kind (cut_along Horizontal z s (picture z b))
-      unfolding cut_along turned
+      pub back_is : take (picture_bytes left) to' ≡ bytes z.kind (turned Horizontal left.width (cut s (turned_in Horizontal z b work)))
+      unfolding turned turned_in
       back_is =
-          let c = exchange left.width (rest_of z b s) in
-          let long : length (bytes z.kind (exchange left.width (rest_of z b s))) ≡ picture_bytes left = length-bytes (turned_size Horizontal left) (exchange left.width (rest_of z b s)) (exchange-each rest-of) ∙ turned-bytes Horizontal left in
+          let c = exchange left.width (rest_of z work s) in
+          let long : length (bytes z.kind (exchange left.width (rest_of z work s))) ≡ picture_bytes left = length-bytes (turned_size Horizontal left) (exchange left.width (rest_of z work s)) (exchange-each rest_of_lem) ∙ turned-bytes Horizontal left in
           ap (take (picture_bytes left))
-          (exchange-served from left to to' v g from-sized room
-          ∙ ap (λ p. bytes z.kind (exchange left.width p) ++ drop (picture_bytes left) to) (ap (picture left) e ∙ picture_bytes_lem left (rest_of z b s) rest-of))
-          ∙ take_at (bytes z.kind (exchange left.width (rest_of z b s))) (drop (picture_bytes left) to) (picture_bytes left) long
+          (exchange-served from left to to' v g from-sized fits
+          ∙ ap (λ p. bytes z.kind (exchange left.width p) ++ drop (picture_bytes left) to) (ap (picture left) e ∙ picture_bytes_lem left (rest_of z work s) rest_of_lem))
+          ∙ take_at (bytes z.kind (exchange left.width (rest_of z work s))) (drop (picture_bytes left) to) (picture_bytes left) long

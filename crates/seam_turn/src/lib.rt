@@ -2,7 +2,8 @@
 #![tactic(auto)]
 
 ghost use Rattle.seam_turn.specs.Turning.{TurnGiven, CloseAlongGiven};
-ghost use Rattle.seam_turn.specs.Inner.{ColumnsNeeded, ColumnsGiven};
+ghost use Rattle.seam_turn.specs.Inner.{ColumnsNeeded};
+ghost use Rattle.seam_rules.specs.declared.answers.Axis.TheVariants.{Horizontal};
 
 use pictures::{Refusal, Size, clear};
 use seam_bounds::judge_exchange;
@@ -27,9 +28,10 @@ pub fn turn(picture: &[u8], size: Size, axis: Axis, to: &mut [u8]) -> Result<(),
 }
 
 // Takes the seam's pixels out of the picture: each row is closed up to the left, or each column upward. The rows then lie packed
-// at the front and the freed bytes are 0. A horizontal seam leaves the work space zero, a vertical one as it was. Refused by 2,
-// 3 and 4 as every picture is, by 4 where the seam is too short or too long, by 8 where the work space is shorter than the
-// picture, by 10 where the seam leaves the picture, and by 13 at the last column or row.
+// at the front and the freed bytes are 0. For a horizontal seam the picture stands turned at the front of the work space, as `turn`
+// puts it there: it is closed up there, and what is left is exchanged back. The work space isn't cleared. Refused by 2, 3 and 4 as
+// every picture is, by 4 where the seam is too short or too long, by 8 where the work space is shorter than the picture, by 10
+// where the seam leaves the picture, and by 13 at the last column or row.
 pub fn close(
     picture: &mut [u8],
     size: Size,
@@ -42,15 +44,11 @@ pub fn close(
     judge_close_along(size, axis, picture.len(), seam.len(), work.len())?;
     match axis {
         Axis::Vertical => close_up(picture, size, seam),
-        Axis::Horizontal => {
-            let closed = close_columns(picture, size, seam, work);
-            clear(work);
-            closed
-        }
+        Axis::Horizontal => close_columns(picture, size, seam, work),
     }
 }
 
-// Closes each column upward: the exchanged picture is closed up to the left in the work space and exchanged back.
+// Closes each column upward: the exchanged picture in the work space is closed up to the left and exchanged back.
 fn close_columns(
     picture: &mut [u8],
     size: Size,
@@ -58,11 +56,10 @@ fn close_columns(
     work: &mut [u8],
 ) -> Result<(), Refusal>
     requires { ColumnsNeeded picture.old size seam.now work.old }
-    ensures { ColumnsGiven picture.old size seam.now work.old result picture.new }
+    ensures { CloseAlongGiven picture.old size Horizontal seam.now work.old result picture.new work.new }
 {
     let bytes = picture.len();
     let turned = turned_size(Axis::Horizontal, size);
-    exchange(picture, size, work)?;
     close_up(&mut work[..bytes], turned, seam)?;
     let left = narrower(turned);
     let kept = pictures::picture_bytes(left);

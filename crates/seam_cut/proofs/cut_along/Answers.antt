@@ -1,5 +1,5 @@
 -- `seam_cut::cut_along` meets its contract: the seam found lies inside the picture, so closing it up is served.
-use Rattle.std.proofs.Common.{◌≡◌, List, ◌++◌, ℕ, ◌<◌, ◌≤◌, cond, length, take, drop, replicate, refl, ap, sym, ◌∙◌, take_at, arith}
+use Rattle.std.proofs.Common.{◌≡◌, List, ◌++◌, ℕ, ◌<◌, ◌≤◌, cond, length, take, drop, refl, ap, sym, ◌∙◌, take_at, arith}
 use Rattle.grids.specs.Each.{Each}
 use Rattle.grids.proofs.Shapes.{each-length}
 use Rattle.pictures.specs.declared.sizes.Size.{Size}
@@ -47,7 +47,7 @@ unwrap-requires c =
     let a = c.args in
     let q = c.seam_along-cost in
     let r = rooms a.method a.axis a.size a.picture.now a.seam.now a.work.now c.requires in
-    let s = lent a.method a.axis a.size a.picture.now a.seam.now a.work.now c.requires c.turned_size-turned.result c.turned_size-turned.ensures q.new.seam q.ensures.seam_given in
+    let s = lent a.method a.axis a.size a.picture.now a.seam.now a.work.now c.requires c.turned_size-turned.result c.turned_size-turned.ensures q.new.seam q.ensures.found.seam_given in
     close_ok a.picture.now a.size a.axis (take c.turned_size-turned.result.height q.new.seam) q.new.work c.close.result c.close.new.picture c.close.new.work c.close.ensures
     r.sized (rw s (inside a.method a.axis a.size a.picture.now a.seam.now a.work.now c.requires)) c.requires.more
     (fits a.method a.axis a.size a.picture.now a.seam.now a.work.now c.requires q.new.work q.auto.work)
@@ -60,21 +60,20 @@ returns c =
     let z = a.size in
     let b = a.picture.now in
     let q = c.seam_along-cost in
-    let f = q.ensures in
+    let f = q.ensures.found in
     let r = rooms a.method x z b a.seam.now a.work.now c.requires in
     let s = lent a.method x z b a.seam.now a.work.now c.requires c.turned_size-turned.result c.turned_size-turned.ensures q.new.seam f.seam_given in
-    let zero = f.work_left ∙ ap (λ n. replicate n 0) (sym q.auto.work) in
     let k =
     close_served b z x (take c.turned_size-turned.result.height q.new.seam) q.new.work c.close.result c.close.new.picture c.close.new.work c.close.ensures
     r.sized (rw s (inside a.method x z b a.seam.now a.work.now c.requires)) c.requires.more
-    (fits a.method x z b a.seam.now a.work.now c.requires q.new.work q.auto.work)
+    (fits a.method x z b a.seam.now a.work.now c.requires q.new.work q.auto.work) q.ensures.stands
     in
     let rules = find_rules x z (length b) (length a.seam.now) (length a.work.now) in
     let allowed = served-first rules (last_rules x z) refl c.requires.found ∙ ap (λ t. cond t 13 0) c.requires.more in
     record {
       number = sym allowed;
       cost = f.cost;
-      picture_left = k.picture_is ∙ ap (λ s. closed_along x z s b) s;
+      picture_left = k ∙ ap (λ s. closed_along x z s b) s;
       seam_given = f.seam_given;
-      work_left = k.work_is zero ∙ ap (λ n. replicate n 0) q.auto.work;
+      work_left = refl;
     }

@@ -1,9 +1,9 @@
 -- `seam_cut::seam_along` meets its contract: turning is served, and the seam is found in the picture that then stands at the
 -- front of the work space.
-use Rattle.std.proofs.Common.{◌≡◌, List, ℕ, Result, ◌++◌, ◌≤◌, length, take, drop, replicate, ap, sym, ◌∙◌, arith}
+use Rattle.std.proofs.Common.{◌≡◌, List, ℕ, Result, ◌++◌, ◌+◌, ◌≤◌, length, take, drop, replicate, take_at, length-take-le, refl, ap, sym, ◌∙◌, arith}
 use Rattle.pictures.specs.declared.refusals.Refusal.{Refusal}
 use Rattle.pictures.specs.declared.sizes.Size.{Size}
-use Rattle.pictures.specs.Pictures.{picture_bytes, picture, bytes}
+use Rattle.pictures.specs.Pictures.{picture_bytes, picture, bytes, pixels, picture_in}
 use Rattle.pictures.proofs.Limits.{sized_is, bytes-few}
 use Rattle.energy.specs.declared.methods.Method.{Method}
 use Rattle.seam_theory.specs.PictureSeams.{seam_of, cost_of}
@@ -32,10 +32,10 @@ module _ (x : Axis) (z : Size) (b seam work : List ℕ) (needed : FindNeeded b z
   fits = omega (arith, bytes-few z, rooms.work_room)
 
   -- in the picture turned, which stands at the front of the work space, the seam is found
-  there : (front : List ℕ) → length front ≡ length work → (how : Method) (answer : Result ℕ Refusal) (front' seam' : List ℕ)
-      → FindInGiven front (turned_size x z) how seam answer front' seam' → FoundThere front (turned_size x z) how seam answer front' seam'
-  there front kept how answer front' seam' found =
-      find_served front (turned_size x z) how seam answer front' seam' found
+  there : (front : List ℕ) → length front ≡ length work → (how : Method) (t : Size) → t ≡ turned_size x z → (answer : Result ℕ Refusal) (front' seam' : List ℕ)
+      → FindInGiven front t how seam answer front' seam' → FoundThere front (turned_size x z) how seam answer front' seam'
+  there front kept how t turns answer front' seam' found =
+      find_served front (turned_size x z) how seam answer front' seam' (rw turns at found)
       (turned-sides x z (length b) (sized_is _ _ rooms.sized)) rooms.seam_room
       (omega (arith, turned-bytes x z, turned-pixels x z, bytes-few z, rooms.work_room, kept))
 
@@ -46,15 +46,13 @@ unwrap-requires c =
     turn_ok a.picture.now a.size a.axis a.work.now c.turn.new.to c.turn.result c.turn.ensures r.sized
     (fits a.axis a.size a.picture.now a.seam.now a.work.now c.requires)
 
-pub unwrap-cost-requires : goal.unwrap-cost-requires
-unwrap-cost-requires c =
+pub unwrap-requires-2 : goal.unwrap-requires-2
+unwrap-requires-2 c =
     let a = c.args in
     let f = c.find_in in
-    let found : FindInGiven c.turn.new.to (turned_size a.axis a.size) a.method a.seam.now f.result f.new.space f.new.seam =
-    rw c.turned_size-turned.ensures at f.ensures
-    in
     is_served f.result
-    (there a.axis a.size a.picture.now a.seam.now a.work.now c.requires c.turn.new.to c.turn.auto.to a.method f.result f.new.space f.new.seam found).number
+    (there a.axis a.size a.picture.now a.seam.now a.work.now c.requires c.turn.new.to c.turn.auto.to a.method
+    c.turned_size-turned.result c.turned_size-turned.ensures f.result f.new.space f.new.seam f.ensures).number
 
 pub returns : goal.returns
 unfolding seam_along cost_along
@@ -65,23 +63,33 @@ returns c =
     let t = turned_size a.axis z in
     let front = c.turn.new.to in
     let f = c.find_in in
-    let sure = sized_is _ _ (rooms a.axis z b a.seam.now a.work.now c.requires).sized in
+    let r = rooms a.axis z b a.seam.now a.work.now c.requires in
+    let sure = sized_is _ _ r.sized in
     -- what turning leaves in the work space
     let turned_is : front ≡ bytes z.kind (turned a.axis z.width (picture z b)) ++ drop (picture_bytes z) a.work.now =
-    turn_served b z a.axis a.work.now front c.turn.result c.turn.ensures
-    (rooms a.axis z b a.seam.now a.work.now c.requires).sized
+    turn_served b z a.axis a.work.now front c.turn.result c.turn.ensures r.sized
     (fits a.axis z b a.seam.now a.work.now c.requires)
     in
-    let found : FindInGiven front t a.method a.seam.now f.result f.new.space f.new.seam =
-    rw c.turned_size-turned.ensures at f.ensures
+    let known =
+    there a.axis z b a.seam.now a.work.now c.requires front c.turn.auto.to a.method
+    c.turned_size-turned.result c.turned_size-turned.ensures f.result f.new.space f.new.seam f.ensures
     in
-    let known = there a.axis z b a.seam.now a.work.now c.requires front c.turn.auto.to a.method f.result f.new.space f.new.seam found in
-    let seen : picture t (take (picture_bytes t) front) ≡ turned a.axis z.width (picture z b) =
+    let seen : picture_in t front ≡ turned a.axis z.width (picture z b) =
     turned-picture a.axis z b front (drop (picture_bytes z) a.work.now) sure.length_is turned_is
     in
+    let long : length (take (picture_bytes t) front) ≡ picture_bytes t =
+    length-take-le (picture_bytes t) front (omega (arith, turned-bytes a.axis z, bytes-few z, r.work_room, c.turn.auto.to))
+    in
     record {
-      number = sym c.requires.found;
-      cost = sym (ap found_cost c.unwrap-cost.ensures) ∙ known.cost ∙ ap (cost_of a.method t.width t.height) seen;
-      seam_given = known.seam_given ∙ ap (λ p. seam_of a.method t.width t.height p ++ drop t.height a.seam.now) seen;
-      work_left = c.clear.ensures ∙ ap (λ n. replicate n 0) (f.auto.space ∙ c.turn.auto.to);
+      found = record {
+        number = sym c.requires.found;
+        cost = sym (ap found_cost c.unwrap-2.ensures) ∙ known.cost ∙ ap (cost_of a.method t.width t.height) seen;
+        seam_given = known.seam_given ∙ ap (λ p. seam_of a.method t.width t.height p ++ drop t.height a.seam.now) seen;
+        work_left = refl;
+      };
+      -- the seam was found without it being changed
+      stands =
+          ap (picture_in t) known.space_left
+          ∙ ap (picture t) (take_at (take (picture_bytes t) front) (replicate (pixels t) 0 ++ drop (picture_bytes t + pixels t) front) (picture_bytes t) long)
+          ∙ seen;
     }

@@ -1,34 +1,39 @@
 -- `seam_cut_marked::cut_marked_along` meets its contract: where a seam is allowed it lies inside the picture, so closing up the
 -- picture and the marks is served.
-use Rattle.std.proofs.Common.{◌≡◌, Result, Ok, IsOk, false, eqb, List, ◌++◌, ℕ, ◌<◌, ◌≤◌, length, take, drop, replicate, sym, ap, ap₂, ◌∙◌, mul-one, take_at, arith}
+use Rattle.std.proofs.Common.{◌≡◌, Result, Ok, IsOk, false, eqb, List, ◌++◌, ℕ, ◌+◌, ◌-◌, ◌<◌, ◌≤◌, length, take, drop, replicate, sym, ap, ap₂, ◌∙◌, mul-one, take_at, arith}
 use borrow.Author.Tests.{not-true}
+use borrow.Rule.Slice.PartMut.{put_mid, mid_of, same_len_mid}
+use Rattle.grids.specs.Rows.{flat}
+use Rattle.grids.proofs.Parts.{put_part, part_length, last_part}
 use Rattle.grids.specs.Each.{Each}
 use Rattle.grids.proofs.Shapes.{each-length}
 use Rattle.pictures.specs.declared.sizes.Kind.TheVariants.{Grey}
 use Rattle.pictures.specs.declared.sizes.Size.{Size}
 use Rattle.pictures.specs.declared.refusals.Refusal.{Refusal}
 use Rattle.pictures.specs.Refusals.{refusal}
-use Rattle.pictures.specs.Pictures.{pixel_bytes, size_rules, picture_bytes, picture, bytes, marks_of}
-use Rattle.pictures.proofs.Limits.{sized_is}
+use Rattle.pictures.specs.Pictures.{pixel_bytes, size_rules, picture_bytes, picture, bytes, pixels, marks_of, picture_in}
+use Rattle.pictures.proofs.Limits.{Sized, sized_is}
 use Rattle.energy.specs.declared.methods.Method.{Method}
 use Rattle.seam_rules.specs.declared.answers.Axis.{Axis}
 use Rattle.seam_rules.specs.Cuts.{last_along}
 use Rattle.seam_rules.specs.Axes.{turned_size, grey_of}
-use Rattle.seam_turn.specs.Axes.{cut_along}
+use Rattle.seam_turn.specs.Axes.{turned, cut_along}
 use Rattle.seam_turn.specs.Turning.{CloseAlongGiven}
-use Rattle.seam_turn.proofs.Served.{Closed, close_served}
+use Rattle.seam_turn.proofs.Served.{close_served}
 use Rattle.seam_turn.proofs.Answered.{close_ok}
 use Rattle.seam_cut.specs.Cutting.{closed_along}
 use Rattle.seam_cut_marked.specs.Axes.{marked_seam_along, blocked_along}
-use Rattle.seam_cut_marked.specs.Inner.{MarkedAlongGiven, CutMarkedNeeded, CutAlongGiven}
+use Rattle.seam_cut_marked.specs.Marking.{closed_marks}
+use Rattle.seam_cut_marked.specs.Inner.{MarkedSeamGiven, CutMarkedNeeded, CutAlongGiven}
 use Rattle.seam_cut_marked.proofs.Buffers.{ok_free}
 use Rattle.seam_cut_marked.proofs.Marked.{marked_inside}
 use Rattle.seam_cut_marked.proofs.Marks.{grey-bytes, grey-sized, wide-grey, tall_grey, marks-cut}
+use Rattle.seam_cut_marked.proofs.Standing.{picture_stands, marks_stand}
 use Rattle.seam_cut_marked.proofs.cut_marked_along.Goals as goal
 
 -- A seam is allowed.
 module _ {how : Method} {x : Axis} {z : Size} {b m room work : List ℕ} (p : CutMarkedNeeded b m z x room work)
-    {k : ℕ} {seam' work' : List ℕ} (found : MarkedAlongGiven b m z how x room work (Ok k) seam' work') (work-long : length work' ≡ length work) where
+    {k : ℕ} {seam' : List ℕ} (found : MarkedSeamGiven b m z how x room (Ok k) seam') where
   seam : List ℕ
   seam = marked_seam_along how x z (picture z b) (marks_of z m)
 
@@ -37,9 +42,8 @@ module _ {how : Method} {x : Axis} {z : Size} {b m room work : List ℕ} (p : Cu
   unfolding seam
   inside = marked_inside how x z (picture z b) (marks_of z m) (not-true (blocked_along how x z (picture z b) (marks_of z m)) (sym (ok_free (blocked_along how x z (picture z b) (marks_of z m)) (Ok k) found.number)))
 
-  -- and is what is lent on of the seam's space, so the picture is closed up along it,
-  module _ {t : Size} (turns : t ≡ turned_size x z) {v : Result Unit Refusal} {b' work'' : List ℕ} (closes : CloseAlongGiven b z x (take t.height seam') work' v b' work'')
-      (kept : length work'' ≡ length work') where
+  -- and is what is lent on of the seam's space,
+  module _ {t : Size} (turns : t ≡ turned_size x z) where
     abbrev s : List ℕ
     s = take t.height seam'
 
@@ -50,64 +54,92 @@ module _ {how : Method} {x : Axis} {z : Size} {b m room work : List ℕ} (p : Cu
         ∙ ap (take (turned_size x z).height) found.seam_given
         ∙ take_at (marked_seam_along how x z (picture z b) (marks_of z m)) (drop (turned_size x z).height room) (turned_size x z).height (each-length inside)
 
-    fits : picture_bytes z ≤ length work'
-    fits = omega (arith, p.found.work_room, work-long)
+    sure : Sized z (length b)
+    sure = sized_is _ _ p.found.sized
 
-    picture_ok : IsOk v
-    picture_ok = close_ok b z x s work' v b' work'' closes p.found.sized (rw s-is inside) p.more fits
+    -- so the marks, which stand turned after the picture, are closed up along it, as a grey picture of its sides,
+    module _ (work' : List ℕ) (work-long : length work' ≡ length work)
+        (stand : take (picture_bytes z + pixels z) work' ≡ bytes z.kind (turned x z.width (picture z b)) ++ flat (turned x z.width (marks_of z m)))
+        {g : Size} (grey-is : g ≡ grey_of z) {u : Result Unit Refusal} {m' after : List ℕ}
+        (marks : CloseAlongGiven m g x s (mid_of (length b) (length work' - length b) work') u m' after) where
+      abbrev lent : List ℕ
+      lent = mid_of (length b) (length work' - length b) work'
 
-    closed : Closed b z x s work' b' work''
-    closed = close_served b z x s work' v b' work'' closes p.found.sized (rw s-is inside) p.more fits
-
-    closed-long : length work'' ≡ length work
-    closed-long = kept ∙ work-long
-
-    closed-zero : work'' ≡ replicate (length work'') 0
-    closed-zero =
-        closed.work_is (found.work_left ∙ ap (λ n. replicate n 0) (sym work-long)) ∙ ap (λ n. replicate n 0) (sym kept)
-
-    -- and the marks, as a grey picture of its sides.
-    module _ {g : Size} (grey-is : g ≡ grey_of z) {u : Result Unit Refusal} {m' left : List ℕ} (marks : CloseAlongGiven m g x s work'' u m' left) where
-      grey : CloseAlongGiven m (grey_of z) x s work'' u m' left
+      grey : CloseAlongGiven m (grey_of z) x s lent u m' after
       grey = rw grey-is at marks
 
       within : Each (λ k. k < (turned_size x (grey_of z)).width) (turned_size x (grey_of z)).height s
       within = rw (s-is, wide-grey x z, tall_grey x z) inside
 
       sized : refusal (size_rules (grey_of z) (length m)) ≡ 0
-      sized = grey-sized z (length b) m (sized_is _ _ p.found.sized) p.found.marked
+      sized = grey-sized z (length b) m sure p.found.marked
 
       more : last_along x (grey_of z) ≡ false
       more = ap (λ w. eqb w 1) (wide-grey x z) ∙ p.more
 
-      grey-fits : picture_bytes (grey_of z) ≤ length work''
-      grey-fits = omega (arith, p.found.work_room, closed-long, grey-bytes z)
+      grey-fits : picture_bytes (grey_of z) ≤ length lent
+      grey-fits = omega (arith, p.found.work_room, work-long, grey-bytes z, sure.length_is, part_length (length b) (length work') work' (omega arith))
+
+      lent_is : lent ≡ drop (picture_bytes z) work'
+      lent_is = last_part (length b) work' ∙ ap (λ n. drop n work') sure.length_is
+
+      grey_stands : picture_in (turned_size x (grey_of z)) lent ≡ turned x z.width (picture (grey_of z) m)
+      grey_stands = ap (picture_in (turned_size x (grey_of z))) lent_is ∙ marks_stand x z b m work' sure.length_is p.found.marked stand
 
       marks_ok : IsOk u
-      marks_ok = close_ok m (grey_of z) x s work'' u m' left grey sized within more grey-fits
+      marks_ok = close_ok m (grey_of z) x s lent u m' after grey sized within more grey-fits
 
-      given : CutAlongGiven b m z how x room work (Ok k) b' m' seam' left
-      unfolding seam pixel_bytes
-      given =
-          let lost = close_served m (grey_of z) x s work'' u m' left grey sized within more grey-fits in
-          record {
-            found = record {
-              number = found.number;
-              cost = found.cost;
-              seam_given = found.seam_given;
-              work_left = lost.work_is closed-zero ∙ ap (λ n. replicate n 0) closed-long;
-            };
-            picture_left = closed.picture_is ∙ ap (λ s. closed_along x z s b) s-is;
-            marks_left =
-                lost.picture_is
-                ∙ ap₂ ◌++◌
-                (ap (λ s. bytes Grey (cut_along x (grey_of z) s (picture (grey_of z) m))) s-is ∙ marks-cut x z m p.found.marked seam)
-                (ap (λ n. replicate n 0) (mul-one (turned_size x (grey_of z)).height ∙ tall_grey x z));
-          }
+      closed : m' ≡ closed_marks x z seam m
+      unfolding pixel_bytes
+      closed =
+          close_served m (grey_of z) x s lent u m' after grey sized within more grey-fits grey_stands
+          ∙ ap₂ ◌++◌
+          (ap (λ s. bytes Grey (cut_along x (grey_of z) s (picture (grey_of z) m))) s-is ∙ marks-cut x z m p.found.marked seam)
+          (ap (λ n. replicate n 0) (mul-one (turned_size x (grey_of z)).height ∙ tall_grey x z))
+
+      -- and the picture, which still stands turned before them.
+      module _ (kept : length after ≡ length lent) {v : Result Unit Refusal} {b' left : List ℕ}
+          (closes : CloseAlongGiven b z x s (put_mid (length b) (length work' - length b) work' after) v b' left) where
+        abbrev space : List ℕ
+        space = put_mid (length b) (length work' - length b) work' after
+
+        fits : picture_bytes z ≤ length space
+        fits = omega (arith, p.found.work_room, work-long, same_len_mid (length b) (length work' - length b) work' after kept)
+
+        stands : picture_in (turned_size x z) space ≡ turned x z.width (picture z b)
+        stands =
+            ap (picture_in (turned_size x z))
+            (put_part (length b) (length work') work' after (omega (arith, p.found.work_room, work-long, sure.length_is))
+            ∙ ap (λ n. take n work' ++ (after ++ drop (length work') work')) sure.length_is)
+            ∙ picture_stands x z b m work' sure.length_is p.found.marked stand (after ++ drop (length work') work')
+
+        picture_ok : IsOk v
+        picture_ok = close_ok b z x s space v b' left closes p.found.sized (rw s-is inside) p.more fits
+
+        given : CutAlongGiven b m z how x room (Ok k) b' m' seam'
+        unfolding seam
+        given =
+            record {
+              found = found;
+              picture_left =
+                  close_served b z x s space v b' left closes p.found.sized (rw s-is inside) p.more fits stands
+                  ∙ ap (λ s. closed_along x z s b) s-is;
+              marks_left = closed;
+            }
 
 pub unwrap-requires : goal.unwrap-requires
-unwrap-requires c = picture_ok c.requires c.in_ok-cost.ensures c.marked_along.auto.work c.turned_size-turned.ensures c.close.ensures c.close.auto.work
+unwrap-requires c =
+    marks_ok c.requires c.in_ok-cost.ensures.found c.turned_size-turned.ensures c.marked_along.new.work c.marked_along.auto.work
+    c.in_ok-cost.ensures.stand c.grey-marked.ensures c.close.ensures
+
+pub unwrap-requires-2 : goal.unwrap-requires-2
+unwrap-requires-2 c =
+    picture_ok c.requires c.in_ok-cost.ensures.found c.turned_size-turned.ensures c.marked_along.new.work c.marked_along.auto.work
+    c.in_ok-cost.ensures.stand c.grey-marked.ensures c.close.ensures
+    c.close.auto.work c.close-2.ensures
 
 pub returns : goal.returns
 returns c =
-    given c.requires c.in_ok-cost.ensures c.marked_along.auto.work c.turned_size-turned.ensures c.close.ensures c.close.auto.work c.grey-marked.ensures c.close-2.ensures
+    given c.requires c.in_ok-cost.ensures.found c.turned_size-turned.ensures c.marked_along.new.work c.marked_along.auto.work
+    c.in_ok-cost.ensures.stand c.grey-marked.ensures c.close.ensures
+    c.close.auto.work c.close-2.ensures

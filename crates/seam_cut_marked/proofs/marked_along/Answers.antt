@@ -2,7 +2,7 @@
 -- that then stand at the front of the work space.
 use Rattle.pictures.specs.declared.refusals.Refusal.{Refusal}
 use Rattle.std.specs.Prelude.{Result, IsOk}
-use Rattle.std.proofs.Common.{◌≡◌, List, ◌++◌, ℕ, ◌+◌, ◌-◌, ◌≤◌, cond, length, drop, replicate, ap, ap₂, ◌∙◌, arith}
+use Rattle.std.proofs.Common.{◌≡◌, List, ◌++◌, ℕ, ◌+◌, ◌-◌, ◌≤◌, cond, length, take, drop, sym, ap, ap₂, ◌∙◌, append_assoc, length-append, take_at, arith}
 use borrow.Rule.Slice.PartMut.{put_mid, mid_of, same_len_mid}
 use Rattle.grids.specs.Rows.{flat}
 use Rattle.grids.proofs.Parts.{part_length}
@@ -10,6 +10,7 @@ use Rattle.pictures.specs.declared.sizes.Size.{Size}
 use Rattle.pictures.specs.Refusals.{served}
 use Rattle.pictures.specs.Pictures.{picture_bytes, picture, bytes, pixels, marks_of, picture_in, marks_in}
 use Rattle.pictures.proofs.Limits.{Sized, sized_is}
+use Rattle.pictures.proofs.Buffers.{picture-of_size}
 use Rattle.energy.specs.declared.methods.Method.{Method}
 use Rattle.seam_theory.specs.PictureSeams.{marked_up, marked_seam_of, marked_cost_of, is_none}
 use Rattle.seam_rules.specs.declared.answers.Axis.{Axis}
@@ -18,13 +19,14 @@ use Rattle.seam_rules.specs.Axes.{turned_size, grey_of}
 use Rattle.seam_rules.proofs.Turns.{turned-bytes, turned-pixels, turned-sides}
 use Rattle.seam_turn.specs.Axes.{turned}
 use Rattle.seam_turn.specs.Turning.{TurnGiven}
+use Rattle.seam_turn.proofs.Turned.{length-turned}
 use Rattle.seam_turn.proofs.Served.{turn_served}
 use Rattle.seam_turn.proofs.Answered.{turn_ok}
 use Rattle.seam_find_marked.specs.Finding.{FindMarkedInGiven}
 use Rattle.seam_cut_marked.specs.Axes.{marked_seam_along, marked_cost_along, blocked_along}
 use Rattle.seam_cut_marked.specs.Inner.{MarkedNeeded}
 use Rattle.seam_cut_marked.proofs.Marked.{MarkedThere, marked_served}
-use Rattle.seam_cut_marked.proofs.Marks.{grey-bytes, grey-sized, put_after, picture_there, marks_there}
+use Rattle.seam_cut_marked.proofs.Marks.{grey-bytes, grey-sized, put_after, picture_there, marks_there, marks-long}
 use Rattle.seam_cut_marked.proofs.marked_along.Goals as goal
 
 -- What is lent; what turning the picture leaves in the work space.
@@ -78,6 +80,21 @@ module _ (b m : List ℕ) (z : Size) (x : Axis) (seam work : List ℕ) (p : Mark
         (turned-sides x z (length b) sure) p.seam_room
         (omega (arith, turned-bytes x z, turned-pixels x z, p.work_room, space-long))
 
+    -- finding leaves them
+    both_stand : (space' : List ℕ) → take (picture_bytes (turned_size x z) + pixels (turned_size x z)) space' ≡ take (picture_bytes (turned_size x z) + pixels (turned_size x z)) space
+        → take (picture_bytes z + pixels z) space' ≡ bytes z.kind (turned x z.width (picture z b)) ++ flat (turned x z.width (marks_of z m))
+    both_stand space' e =
+        let t = turned_size x z in
+        let front = bytes z.kind (turned x z.width (picture z b)) in
+        let back = flat (turned x z.width (marks_of z m)) in
+        let long : length (front ++ back) ≡ picture_bytes t + pixels t =
+        length-append front back ∙ ap₂ ◌+◌ (length-turned x z (picture z b) (picture-of_size z b sure.length_is)) (marks-long x z m p.marked ∙ sym (turned-pixels x z))
+        in
+        ap₂ (λ i j. take (i + j) space') (sym (turned-bytes x z)) (sym (turned-pixels x z))
+        ∙ e
+        ∙ ap (take (picture_bytes t + pixels t)) (stands ∙ sym (append_assoc front back after))
+        ∙ take_at (front ++ back) after (picture_bytes t + pixels t) long
+
     seen : picture_in (turned_size x z) space ≡ turned x z.width (picture z b)
     seen = picture_there x z b m space after sure.length_is p.marked stands
 
@@ -85,7 +102,7 @@ module _ (b m : List ℕ) (z : Size) (x : Axis) (seam work : List ℕ) (p : Mark
     marks-seen = marks_there x z b m space after sure.length_is p.marked stands
 
 pub returns : goal.returns
-unfolding marked_seam_along marked_cost_along blocked_along space
+unfolding marked_seam_along marked_cost_along blocked_along space after
 returns c =
     let a = c.args in
     let b = a.picture.now in
@@ -101,7 +118,7 @@ returns c =
     let front = c.turn.new.to in
     let u = c.turn-2.result in
     let marks = c.turn-2.new.to in
-    let f = c.find_marked_in-found in
+    let f = c.find_marked_in in
     let kept = c.turn.auto.to in
     let marks_kept = c.turn-2.auto.to in
     let turns = c.turn.ensures in
@@ -117,11 +134,10 @@ returns c =
     let r = marks-seen b m z x room work p v front turns kept u marks turns-marks marks_kept in
     let k = found_number f.result in
     record {
-      number = g.number ∙ ap₂ (λ q r. cond (is_none (marked_up how t.width t.height q r)) 12 0) q r;
-      cost = g.cost ∙ ap₂ (λ q r. served k (marked_cost_of how t.width t.height q r) 0) q r;
-      seam_given = g.seam_given ∙ ap₂ (λ q r. served k (marked_seam_of how t.width t.height q r ++ drop t.height room) room) q r;
-      work_left =
-          c.clear.ensures
-          ∙ ap (λ n. replicate n 0)
-          (f.auto.space ∙ space-long b m z x room work p v front turns kept u marks turns-marks marks_kept);
+      found = record {
+        number = g.number ∙ ap₂ (λ q r. cond (is_none (marked_up how t.width t.height q r)) 12 0) q r;
+        cost = g.cost ∙ ap₂ (λ q r. served k (marked_cost_of how t.width t.height q r) 0) q r;
+        seam_given = g.seam_given ∙ ap₂ (λ q r. served k (marked_seam_of how t.width t.height q r ++ drop t.height room) room) q r;
+      };
+      stand = both_stand b m z x room work p v front turns kept u marks turns-marks marks_kept f.new.space g.front_left;
     }

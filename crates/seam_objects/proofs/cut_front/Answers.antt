@@ -15,8 +15,8 @@ returns c =
     let pixels-are = given_out z c.pixels-pixels.result (pixels z) need.sides c.pixels-pixels.ensures in
     let room_is = given_out z c.work_bytes-room.result (work_bytes z) need.sides c.work_bytes-room.ensures in
     let tall : z.height ≤ largest_side = (sides_are z need.sides).height_most in
-    let q = c.cut_marked in
-    let told = q.ensures in
+    let q = c.cut_uncleared in
+    let told = q.ensures.cut in
     -- it is told by the answer whether a seam was cut
     front_cut how need bytes_are pixels-are room_is tall q.result told.number q.new.picture q.new.marks
     told.picture_left told.marks_left

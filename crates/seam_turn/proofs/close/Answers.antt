@@ -3,22 +3,21 @@
 use mathlib.Core.Path.{◌≡◌, refl, sym, ap, ◌∙◌}
 use mathlib.Core.List.{List, ◌∷◌, ◌++◌}
 use Prim.Native.Nat.{◌*◌}
-use native.Mathlib.Omega.{arith}
 use borrow.Author.Rules.{rules}
 use Rattle.std.specs.Prelude.{Err}
-use lib.Dec.{eqb}
 use lib.ListN.{length, replicate}
+use Rattle.grids.specs.Cut.{cut}
 use Rattle.pictures.specs.Refusals.{Rule, ◌when◌, given, refusal}
-use Rattle.pictures.specs.Pictures.{pixel_bytes, picture, bytes}
-use Rattle.pictures.proofs.Rules.{served-first, refused_answer, refused-kept, refusal-most}
+use Rattle.pictures.specs.Pictures.{pixel_bytes, bytes}
+use Rattle.pictures.proofs.Rules.{refused_answer, refused-kept}
 use Rattle.seam_bounds.specs.Moves.{outside}
-use Rattle.seam_rules.specs.declared.answers.Axis.TheVariants.{Vertical, Horizontal}
-use Rattle.seam_rules.specs.Axes.{turned_size}
-use Rattle.seam_rules.specs.Cuts.{cleared, last_rules, close_along_lengths}
+use Rattle.seam_rules.specs.declared.answers.Axis.TheVariants.{Vertical}
+use Rattle.seam_rules.specs.Axes.{turned_size, narrowed}
+use Rattle.seam_rules.specs.Cuts.{last_rules, close_along_lengths}
 use Rattle.seam_rules.proofs.Rooms.{close_room}
-use Rattle.seam_turn.specs.Axes.{turned, cut_along}
-use Rattle.seam_turn.specs.Turning.{left_work}
-use Rattle.seam_turn.proofs.Served.{close_number, work_kept, ends-cleared}
+use Rattle.seam_turn.specs.Axes.{turned}
+use Rattle.seam_turn.specs.Turning.{turned_in, left_work}
+use Rattle.seam_turn.proofs.Served.{close_number, work_kept}
 use Rattle.seam_turn.proofs.close.Goals as goal
 
 pub returns-in_err-judge_close_along : goal.returns-in_err-judge_close_along
@@ -35,12 +34,12 @@ returns-in_err-judge_close_along c =
     let number : given v ≡ refusal first = ap given is ∙ c.in_err-judge_close_along.ensures in
     record {
       number = refused_answer v why is first last number;
-      picture_left = refused-kept v why is (bytes a.size.kind (cut_along a.axis a.size s (picture a.size b)) ++ replicate ((turned_size a.axis a.size).height * pixel_bytes a.size.kind) 0) b;
-      work_left = work_kept a.axis why (given v) (sym (ap given is)) (omega (arith, number, refusal-most 8 first refl)) a.work.now;
+      picture_left = refused-kept v why is (bytes a.size.kind (turned a.axis (narrowed (turned_size a.axis a.size)).width (cut s (turned_in a.axis a.size b a.work.now))) ++ replicate ((turned_size a.axis a.size).height * pixel_bytes a.size.kind) 0) b;
+      work_left = work_kept a.axis a.size s v why is a.work.now;
     }
 
 pub returns-in-Vertical : goal.returns-in-Vertical
-unfolding turned cut_along left_work
+unfolding turned turned_in left_work
 returns-in-Vertical c =
     let a = c.args in
     let n = length a.picture.now in
@@ -55,18 +54,4 @@ returns-in-Vertical c =
     })
 
 pub returns-in-Horizontal : goal.returns-in-Horizontal
-unfolding turned cut_along left_work
-returns-in-Horizontal c =
-    let a = c.args in
-    let lengths : refusal (close_along_lengths Horizontal a.size (length a.picture.now) (length a.seam.now) (length a.work.now)) ≡ 0 = rw c.in-Horizontal.is at (sym c.in_ok-judge_close_along.ensures) in
-    let ends : List Rule = 10 when outside a.size.height a.seam.now ∷ last_rules Horizontal a.size in
-    rw c.in-Horizontal.is
-    (record {
-      number = c.close_columns-closed.ensures.number;
-      picture_left = c.close_columns-closed.ensures.picture_left;
-      work_left =
-          c.clear.ensures
-          ∙ ap (λ m. replicate m 0) c.close_columns-closed.auto.work
-          ∙ sym (ap (λ m. cleared m a.work.now) (c.close_columns-closed.ensures.number ∙ served-first (close_along_lengths Horizontal a.size (length a.picture.now) (length a.seam.now) (length a.work.now)) ends refl lengths)
-          ∙ ends-cleared (outside a.size.height a.seam.now) (eqb a.size.height 1) a.work.now);
-    })
+returns-in-Horizontal c = rw c.in-Horizontal.is c.close_columns.ensures
