@@ -33,11 +33,11 @@ returns-clause-found c f =
     let small = ltb (least_sum fence32 a.width h k) largest_number in
     elim c.else-is_narrow.branch [
       | else-is_narrow-via-then-is_narrow+else-find_by w ↦ record {
-          enough = sym w.if-find_by.false ∙ w.find_by.ensures.found.told ∙ ap (λ b. b && small) (sym w.if-is_narrow.true);
-          seam_given = found ∙ ap (λ s. path_columns fence32 a.width h k ++ drop h s) (w.seam-is ∙ w.find_by.ensures.found.seam_left w.if-find_by.false);
-        }
+        enough = sym w.if-find_by.false ∙ w.find_by.ensures.found.told ∙ ap (λ b. b && small) (sym w.if-is_narrow.true);
+        seam_given = found ∙ ap (λ s. path_columns fence32 a.width h k ++ drop h s) (w.seam-is ∙ w.find_by.ensures.found.seam_left w.if-find_by.false);
+      }
       | else-is_narrow-via-else-is_narrow w ↦ record {
-          enough = ap (λ b. b && small) (sym w.if-is_narrow.false);
-          seam_given = found ∙ ap (λ s. path_columns fence32 a.width h k ++ drop h s) w.seam-is;
-        }
+        enough = ap (λ b. b && small) (sym w.if-is_narrow.false);
+        seam_given = found ∙ ap (λ s. path_columns fence32 a.width h k ++ drop h s) w.seam-is;
+      }
     ]
