@@ -2,23 +2,24 @@
 use mathlib.Core.Path.{◌≡◌, refl, sym, ap, ap₂, ◌∙◌}
 use mathlib.Core.Bool.{false}
 use mathlib.Core.List.{List, [], ◌∷◌, ◌++◌, append_assoc}
-use Prim.Native.Nat.{ℕ, suc, ◌+◌, ◌-◌, ◌*◌, ◌≤◌, ◌<◌}
+use Prim.Native.Nat.{ℕ, suc, ◌+◌, ◌-◌, ◌*◌, ◌≤◌, ◌<◌, min}
 use native.Mathlib.Nat.{zero-mul, add-zero, suc-mul, mul-le-mul_right}
 use native.Mathlib.Numerals.{add-one}
 use native.Mathlib.Omega.{arith}
-use lib.ListN.{length, get_or, take, drop, length-append, length-drop, take-append-drop}
+use lib.ListN.{length, length-map, get_or, take, drop, length-append, length-drop, take-append-drop}
 use lib.Seq.{take_at, drop_at, drop-drop, length-take-le}
 use Rattle.grids.specs.Table.{table}
 use Rattle.grids.specs.Rows.{flat}
 use Rattle.grids.proofs.Tables.{length-table}
 use Rattle.grids.proofs.Rows.{flat_snoc}
 use Rattle.pictures.specs.declared.sizes.Size.{Size}
-use Rattle.seam_theory.specs.Sums.{CostRows, fenced, way_of3, sums_down, ways_up}
-use Rattle.seam_theory.proofs.Sums.{ways-long}
-use Rattle.seam_theory.proofs.Bounded.{fenced_at, length-sums, sums-most}
+use Rattle.seam_theory.specs.Sums.{CostRows, fenced, way_of3, sums_down}
+use Rattle.seam_theory.proofs.Bounded.{fenced_at, length-sums}
+use Rattle.seam_theory.proofs.Capped.{capped_at}
+use Rattle.seam_theory.proofs.Kept.{kept_sums, kept_ways, kept_ways-long, kept_next}
 use Rattle.seam_find.specs.Inner.Down.{ways_at, RowGiven}
 
-module _ (fence from : ℕ) (z : Size) (costsIn : List ℕ → ℕ → CostRows) (start : List ℕ) where
+module _ (most fence from : ℕ) (z : Size) (costsIn : List ℕ → ℕ → CostRows) (start : List ℕ) where
   abbrev costs : ℕ → CostRows
   costs = costsIn (take from start)
 
@@ -26,32 +27,31 @@ module _ (fence from : ℕ) (z : Size) (costsIn : List ℕ → ℕ → CostRows)
   sums = sums_down false fence z.width (costsIn (take from start))
 
   abbrev ways : ℕ → List ℕ
-  ways = ways_up false fence z.width (costsIn (take from start))
+  ways = kept_ways most fence z.width (costsIn (take from start))
 
-  -- Before row i: the fenced sums of the row above it, and the ways between the rows above it.
+  -- Before row i: the sums of the row above it as they are kept, and the ways between the rows above it.
   pub record Downs (i : ℕ) (space above : List ℕ) : Type 0 where
-    pub above-is : above ≡ fenced false fence z.width (sums_down false fence z.width (costsIn (take from start)) (i - 1))
-    pub space_is : space ≡ take from start ++ (flat (table (ways_up false fence z.width (costsIn (take from start))) (i - 1)) ++ drop (ways_at from z i) start)
+    pub above-is : above ≡ kept_sums most fence z.width (costsIn (take from start)) (i - 1)
+    pub space_is : space ≡ take from start ++ (flat (table (kept_ways most fence z.width (costsIn (take from start))) (i - 1)) ++ drop (ways_at from z i) start)
     pub long : length space ≡ length start
 
   module _ (length-costs : (i : ℕ) → length (costsIn (take from start) i).up ≡ z.width) where
     pub above-long : (i : ℕ) (space above : List ℕ) → Downs i space above → length above ≡ z.width + 2
     above-long i space above d =
-        omega (arith, ap length d.above-is, length-append (sums (i - 1)) (fence ∷ []), length-sums false fence z.width costs (length-costs 0) (i - 1))
+        ap length d.above-is
+        ∙ length-map (fenced false fence z.width (sums (i - 1))) (min most)
+        ∙ omega (arith, length-append (sums (i - 1)) (fence ∷ []), length-sums false fence z.width costs (length-costs 0) (i - 1))
 
-    -- The sums above row i are at most i times the largest cost.
-    pub above_most : (m i : ℕ) (space above : List ℕ) → ((i k : ℕ) → get_or (costsIn (take from start) i).up k 0 ≤ m) → Downs i space above
-        → (k : ℕ) → k < z.width → get_or above (k + 1) 0 ≤ suc (i - 1) * m
-    above_most m i space above most d k h =
-        rw (
-          d.above-is,
-          fenced_at false fence z.width (sums (i - 1)) k (omega (arith, length-sums false fence z.width costs (length-costs 0) (i - 1))),
-        )
-        (sums-most false fence z.width costs (length-costs 0) m most (i - 1) k h)
+    -- The sums above row i.
+    pub above_at : (i : ℕ) (space above : List ℕ) → Downs i space above
+        → (k : ℕ) → k < z.width → get_or above (k + 1) 0 ≡ min most (get_or (sums_down false fence z.width (costsIn (take from start)) (i - 1)) k 0)
+    above_at i space above d k h =
+        ap (λ x. get_or x (k + 1) 0) d.above-is
+        ∙ capped_at most (fenced false fence z.width (sums (i - 1))) (k + 1)
+        ∙ ap (min most) (fenced_at false fence z.width (sums (i - 1)) k (omega (arith, length-sums false fence z.width costs (length-costs 0) (i - 1))))
 
     module _ (room : from + (z.height - 1) * z.width ≤ length start) where
-      pub down-start : (above : List ℕ) → above ≡ fenced false fence z.width (costs 0).up → Downs 1 start above
-      unfolding sums_down
+      pub down-start : (above : List ℕ) → above ≡ kept_sums most fence z.width costs 0 → Downs 1 start above
       down-start above e = record {
         above-is = e;
         space_is = rw (zero-mul z.width, add-zero from) (sym (take-append-drop from start));
@@ -62,21 +62,21 @@ module _ (fence from : ℕ) (z : Size) (costsIn : List ℕ → ℕ → CostRows)
       length_front = length-take-le from start (omega arith)
 
       length-ways : (n : ℕ) → length (flat (table ways n)) ≡ n * z.width
-      length-ways n = ways-long false fence z.width n costs
+      length-ways n = kept_ways-long most fence z.width costs n
 
       -- The front of the space is the picture.
       pub down-front : (i : ℕ) (space above : List ℕ) → Downs i space above → take from space ≡ take from start
       down-front i space above d = ap (take from) d.space_is ∙ take_at (take from start) (flat (table ways (i - 1)) ++ drop (ways_at from z i) start) from length_front
 
       -- One row more, row j + 1.
-      module _ (j : ℕ) (space above space' above' : List ℕ) (h : suc j < z.height) (d : Downs (suc j) space above) (g : RowGiven fence from z costsIn (suc j) space above space' above') where
+      module _ (j : ℕ) (space above space' above' : List ℕ) (h : suc j < z.height) (d : Downs (suc j) space above) (g : RowGiven most (min most fence) from z costsIn (suc j) space above space' above') where
         one : suc j - 1 ≡ j
         one = omega arith
 
         two : suc (suc j) - 1 ≡ suc j
         two = omega arith
 
-        above-was : above ≡ fenced false fence z.width (sums j)
+        above-was : above ≡ kept_sums most fence z.width costs j
         above-was = rw one at d.above-is
 
         done : List ℕ
@@ -98,10 +98,10 @@ module _ (fence from : ℕ) (z : Size) (costsIn : List ℕ → ℕ → CostRows)
         next_at = rw two (omega (arith, suc-mul j z.width))
 
         space-now : space' ≡ done ++ (ways j ++ drop (ways_at from z (suc (suc j))) start)
-        unfolding ways_up here
+        unfolding here
         space-now =
             (rw (one, above-was, down-front (suc j) space above d) at g.ways)
-            ∙ ap₂ (λ x y. x ++ (table (way_of3 false z.width (fenced false fence z.width (sums j)) (costs (suc j))) z.width ++ y))
+            ∙ ap₂ (λ x y. x ++ (table (way_of3 false z.width (kept_sums most fence z.width costs j) (costs (suc j))) z.width ++ y))
             (ap (take (from + j * z.width)) space-was ∙ take_at done (drop here start) (from + j * z.width) done_long)
             (sym (drop-drop z.width (from + j * z.width) space)
             ∙ ap (drop z.width) (ap (drop (from + j * z.width)) space-was ∙ drop_at done (drop here start) (from + j * z.width) done_long)
@@ -111,7 +111,7 @@ module _ (fence from : ℕ) (z : Size) (costsIn : List ℕ → ℕ → CostRows)
         rest = drop (ways_at from z (suc (suc j))) start
 
         now-long : length space' ≡ length start
-        unfolding ways_up here
+        unfolding here
         now-long =
             let below : suc j * z.width ≤ (z.height - 1) * z.width = mul-le-mul_right z.width (omega arith) in
             omega (
@@ -120,17 +120,19 @@ module _ (fence from : ℕ) (z : Size) (costsIn : List ℕ → ℕ → CostRows)
               length-append done (ways j ++ drop (ways_at from z (suc (suc j))) start),
               length-append (ways j) (drop (ways_at from z (suc (suc j))) start),
               length-drop (ways_at from z (suc (suc j))) start,
-              length-table (way_of3 false z.width (fenced false fence z.width (sums j)) (costs (suc j))) z.width,
+              length-table (way_of3 false z.width (kept_sums most fence z.width costs j) (costs (suc j))) z.width,
               next_at,
               done_long,
               suc-mul j z.width,
             )
 
         pub turn : Downs (suc (suc j)) space' above'
-        unfolding sums_down done rest
+        unfolding done rest
         turn = record {
           above-is =
-              rw (above-was, down-front (suc j) space above d) at g.sums ∙ rw two;
+              (rw (above-was, down-front (suc j) space above d) at g.sums)
+              ∙ kept_next most fence z.width costs j
+              ∙ ap (kept_sums most fence z.width costs) (sym two);
           space_is =
               space-now
               ∙ append_assoc (take from start) (flat (table ways j)) (ways j ++ rest)
@@ -138,8 +140,8 @@ module _ (fence from : ℕ) (z : Size) (costsIn : List ℕ → ℕ → CostRows)
           long = now-long;
         }
 
-      pub down_turn : (i : ℕ) (space above space' above' : List ℕ) → 0 < i → i < z.height → Downs i space above → RowGiven fence from z costsIn i space above space' above' → Downs (i + 1) space' above'
+      pub down_turn : (i : ℕ) (space above space' above' : List ℕ) → 0 < i → i < z.height → Downs i space above → RowGiven most (min most fence) from z costsIn i space above space' above' → Downs (i + 1) space' above'
       down_turn i space above space' above' p h d g = go (i - 1) (omega arith) h d g
         where
-          go : (j : ℕ) → i ≡ suc j → i < z.height → Downs i space above → RowGiven fence from z costsIn i space above space' above' → Downs (i + 1) space' above'
+          go : (j : ℕ) → i ≡ suc j → i < z.height → Downs i space above → RowGiven most (min most fence) from z costsIn i space above space' above' → Downs (i + 1) space' above'
           go j e h d g = rw (add-one i, e) (turn j space above space' above' (rw e at h) (rw e at d) (rw e at g))

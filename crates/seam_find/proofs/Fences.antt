@@ -2,7 +2,7 @@
 use mathlib.Core.Path.{◌≡◌, refl, sym, ap, ap₂, ◌∙◌}
 use mathlib.Core.Bool.{false}
 use mathlib.Core.List.{List, [], ◌∷◌, ◌++◌, map}
-use Prim.Native.Nat.{ℕ, zero, suc, ◌+◌, ◌-◌, ◌≤◌, ◌<◌}
+use Prim.Native.Nat.{ℕ, zero, suc, ◌+◌, ◌-◌, ◌≤◌, ◌<◌, min}
 use native.Mathlib.Nat.{add-sub_cancel, le_of_suc-le-suc}
 use native.Mathlib.Numerals.{add-one}
 use native.Mathlib.Omega.{arith}
@@ -13,6 +13,7 @@ use Rattle.grids.proofs.Parts.{put_part}
 use Rattle.pictures.specs.declared.sizes.Size.{Size}
 use Rattle.seam_theory.specs.Sums.{CostRows, fenced, sums_down, least_to}
 use Rattle.seam_theory.proofs.Bounded.{length-sums}
+use Rattle.seam_theory.proofs.Capped.{capped, capped_fenced}
 use Rattle.seam_find.specs.Inner.Down.{DownGiven}
 use Rattle.seam_find.specs.Inner.Bottom.{BottomGiven}
 use Rattle.seam_sums.proofs.Values.{values_alike, values_part, value_at}
@@ -52,22 +53,25 @@ between_fences : (fence w : ℕ) (s : List ℕ) → length s ≡ w → take (w +
 between_fences fence w s e = rw (add-sub_cancel w 1) (take_at s (fence ∷ []) w e)
 
 -- The last row of sums, at any width of number, and the first of the least between its fences.
-module _ {A : Type 0} (value : A → ℕ) {fence from : ℕ} {z : Size} {costs : List ℕ → ℕ → CostRows} {space space' : List ℕ} (above : List A)
-    (given : DownGiven fence from z costs space space' (map value above)) (wide : length (costs (take from space) 0).up ≡ z.width) where
+module _ {A : Type 0} (value : A → ℕ) {most fence from : ℕ} {z : Size} {costs : List ℕ → ℕ → CostRows} {space space' : List ℕ} (above : List A)
+    (given : DownGiven most fence from z costs space space' (map value above)) (wide : length (costs (take from space) 0).up ≡ z.width) where
+  abbrev real : List ℕ
+  real = sums_down false fence z.width (costs (take from space)) (z.height - 1)
+
   abbrev sums : List ℕ
-  sums = sums_down false fence z.width (costs (take from space)) (z.height - 1)
+  sums = capped most (sums_down false fence z.width (costs (take from space)) (z.height - 1))
 
   abbrev row : List A
   row = take (z.width + 1 - 1) (drop 1 above)
 
   sums-long : length sums ≡ z.width
-  sums-long = length-sums false fence z.width (costs (take from space)) wide (z.height - 1)
+  sums-long = length-map real (min most) ∙ length-sums false fence z.width (costs (take from space)) wide (z.height - 1)
 
   last_row : map value row ≡ sums
   last_row =
       values_part value (z.width + 1 - 1) 1 above
-      ∙ ap (λ x. take (z.width + 1 - 1) (drop 1 x)) given.sums
-      ∙ between_fences fence z.width sums sums-long
+      ∙ ap (λ x. take (z.width + 1 - 1) (drop 1 x)) (given.sums ∙ capped_fenced most fence z.width real)
+      ∙ between_fences (min most fence) z.width sums sums-long
 
   row-long : length row ≡ z.width
   row-long = sym (length-map row value) ∙ ap length last_row ∙ sums-long
@@ -77,7 +81,7 @@ module _ {A : Type 0} (value : A → ℕ) {fence from : ℕ} {z : Size} {costs :
   column-inside some is = omega (arith, row-long, is, least_inside (map value row) (length row - 1))
 
   pub bottom-given : {column : ℕ} {sum : A} → 0 < z.width → column ≡ least_to (map value row) (length row - 1) → sum ≡ get_or row column sum
-      → BottomGiven fence from z costs space space' column (value sum)
+      → BottomGiven most fence from z costs space space' column (value sum)
   bottom-given {column} {sum} some is read =
       let inside : column < length row = column-inside some is in
       record {

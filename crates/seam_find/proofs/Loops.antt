@@ -56,19 +56,6 @@ module _ (ways w height column seam : ℕ) where
         long = eqb-true ways ((height - 1) * w) t.1;
       }
 
--- By ways that were worked out a path can be traced, in a space that is long enough.
-pub ways-traceable : (wrap : Bool) (fence w h : ℕ) (costs : ℕ → CostRows) → 0 < h → h ≤ largest_side → w ≤ largest_side
-    → (column seam : ℕ) → column < w → h ≤ seam
-    → Traceable (length (flat (table (ways_up wrap fence w costs) (h - 1)))) w h column seam
-ways-traceable wrap fence w h costs some-row short narrow column seam inside room = record {
-  some = some-row;
-  short = short;
-  narrow = narrow;
-  inside = inside;
-  room = room;
-  long = ways-long wrap fence w (h - 1) costs;
-}
-
 -- The path at the front of the seam's space, where there is one.
 pub traced_is : (ways : List ℕ) (w height column : ℕ) (seam : List ℕ) → Traceable (length ways) w height column (length seam)
     → traced ways w height column seam ≡ columns_to ways w (height - 1) column ++ drop height seam

@@ -17,7 +17,8 @@ use Rattle.grids.proofs.Parts.{put_part, part_length}
 use Rattle.pictures.specs.Limits.{most_side, most_pixels}
 use Rattle.pictures.specs.declared.sizes.Size.{Size}
 use Rattle.pictures.proofs.Limits.{Sides}
-use Rattle.seam_theory.specs.Sums.{CostRows, fenced, sum_of3, way_of3}
+use Rattle.seam_theory.specs.Sums.{CostRows, fenced, way_of3}
+use Rattle.seam_theory.proofs.Kept.{kept_sum}
 use Rattle.seam_find.specs.Inner.Down.{RowNeeded, RowWorked, RowGiven}
 
 -- A row put between the fences of another.
@@ -30,13 +31,13 @@ refenced fence w above t e f =
     ∙ rw (add-one w) (ap (λ r. fence ∷ (t ++ r)) (drop_at s (fence ∷ []) w long))
 
 -- Its ways put in their place, where q is from and n the width; its sums,
-pub row-worked : (from : ℕ) (z : Size) (costsIn : List ℕ → ℕ → CostRows) (i q n : ℕ) (space above ways : List ℕ) (cost : CostRows) (next : List ℕ)
+pub row-worked : (most from : ℕ) (z : Size) (costsIn : List ℕ → ℕ → CostRows) (i q n : ℕ) (space above ways : List ℕ) (cost : CostRows) (next : List ℕ)
     → q ≡ from → q + (i - 1) * z.width + z.width ≤ length space → cost ≡ costsIn (take from space) i → n ≡ z.width
-    → ways ≡ table (way_of3 false n above cost) n → next ≡ table (sum_of3 above cost) n
-    → RowWorked from z costsIn i space above
+    → ways ≡ table (way_of3 false n above cost) n → next ≡ table (kept_sum most above cost) n
+    → RowWorked most from z costsIn i space above
     (put_mid (q + (i - 1) * z.width) (q + (i - 1) * z.width + z.width - (q + (i - 1) * z.width)) space ways)
     next
-row-worked from z costsIn i q n space above ways cost next e end k l told m =
+row-worked most from z costsIn i q n space above ways cost next e end k l told m =
     let w = z.width in
     let a = q + (i - 1) * w in
     let row = costsIn (take from space) i in
@@ -45,19 +46,19 @@ row-worked from z costsIn i q n space above ways cost next e end k l told m =
           put_part a (a + w) space ways (omega arith)
           ∙ ap (λ r. take a space ++ (r ++ drop (a + w) space)) (told ∙ ap₂ (λ x y. table (way_of3 false y above x) y) k l)
           ∙ ap (λ b. take (b + (i - 1) * w) space ++ (table (way_of3 false w above row) w ++ drop (b + (i - 1) * w + w) space)) e;
-      sums = m ∙ ap₂ (λ x y. table (sum_of3 above x) y) k l;
+      sums = m ∙ ap₂ (λ x y. table (kept_sum most above x) y) k l;
     }
 
 -- and these put between the fences.
-pub row-given : {fence from : ℕ} {z : Size} {costsIn : List ℕ → ℕ → CostRows} {i : ℕ} {space above space' next copied : List ℕ} {energies steps n : ℕ}
-    → RowNeeded fence from z i space above energies steps n → RowWorked from z costsIn i space above space' next → copied ≡ next
-    → RowGiven fence from z costsIn i space above space' (put_mid 1 (z.width + 1 - 1) above copied)
-row-given {fence} {from} {z} {costsIn} {i} {space} {above} {space'} {next} {copied} needed worked is = record {
+pub row-given : {most end from : ℕ} {z : Size} {costsIn : List ℕ → ℕ → CostRows} {i : ℕ} {space above space' next copied : List ℕ} {energies steps n : ℕ}
+    → RowNeeded end from z i space above energies steps n → RowWorked most from z costsIn i space above space' next → copied ≡ next
+    → RowGiven most end from z costsIn i space above space' (put_mid 1 (z.width + 1 - 1) above copied)
+row-given {most} {end} {from} {z} {costsIn} {i} {space} {above} {space'} {next} {copied} needed worked is = record {
   ways = worked.ways;
   sums =
       put_part 1 (z.width + 1) above copied (omega arith)
-      ∙ refenced fence z.width above copied needed.long needed.fences
-      ∙ ap (fenced false fence z.width) (is ∙ worked.sums);
+      ∙ refenced end z.width above copied needed.long needed.fences
+      ∙ ap (fenced false end z.width) (is ∙ worked.sums);
 }
 
 -- A row whose sums aren't over the fence, between its fences.
@@ -68,7 +69,7 @@ within fence (x ∷ s) h zero = h 0
 within fence (x ∷ s) h (suc k) = within fence s (λ i. h (suc i)) k
 
 pub sums-within : {fence w : ℕ} {above : List ℕ} → above ≡ fenced false fence w (take w (drop 1 above))
-    → ((k : ℕ) → k < w → get_or above (k + 1) 0 < fence) → (c : ℕ) → get_or above c 0 ≤ fence
+    → ((k : ℕ) → k < w → get_or above (k + 1) 0 ≤ fence) → (c : ℕ) → get_or above c 0 ≤ fence
 sums-within {fence} {w} {above} fences small c = rw fences (go c)
   where
     inner : (k : ℕ) → get_or (take w (drop 1 above)) k 0 ≤ fence
@@ -91,8 +92,8 @@ pub record WaysEnd (z : Size) (q i : ℕ) (space : List ℕ) (next : ℕ) : Type
   pub wide :
       length (mid_of (q + (i - 1) * z.width) (q + (i - 1) * z.width + z.width - (q + (i - 1) * z.width)) space) ≡ next
 
-pub ways-end : {fence from : ℕ} {z : Size} {i : ℕ} {space above : List ℕ} {energies steps next : ℕ}
-    → RowNeeded fence from z i space above energies steps next → Sides z → (q : ℕ) → q ≡ from → WaysEnd z q i space next
+pub ways-end : {end from : ℕ} {z : Size} {i : ℕ} {space above : List ℕ} {energies steps next : ℕ}
+    → RowNeeded end from z i space above energies steps next → Sides z → (q : ℕ) → q ≡ from → WaysEnd z q i space next
 ways-end {z = z} {i = i} {space = space} n s q e =
     let a = q + (i - 1) * z.width in
     let row : i - 1 ≤ most_side = omega (arith, n.inside, s.height_small) in

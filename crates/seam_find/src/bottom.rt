@@ -23,7 +23,7 @@ pub(crate) fn find_bottom<C: Costing>(
     method: Method,
 ) -> Bottom<C::Sum>
     requires { BottomNeeded (C.front allowed.size) allowed.size space.old }
-    ensures { BottomGiven C.Sum.fence (C.front allowed.size) allowed.size (C.costs allowed.size method) space.old space.new result.column (C.Sum.value result.sum) }
+    ensures { BottomGiven C.Sum.most C.fence (C.front allowed.size) allowed.size (C.costs allowed.size method) space.old space.new result.column (C.Sum.value result.sum) }
 {
     let width = allowed.size.width;
     let both = width + 2;
@@ -56,7 +56,7 @@ fn bottom_with<C: Costing>(
     next: &mut [C::Sum],
 ) -> Bottom<C::Sum>
     requires { BottomWithNeeded C.Sum.fence (C.front allowed.size) allowed.size space.old (map C.Sum.value above.old) (length energies.old) (length steps.old) (length next.old) }
-    ensures { BottomGiven C.Sum.fence (C.front allowed.size) allowed.size (C.costs allowed.size method) space.old space.new result.column (C.Sum.value result.sum) }
+    ensures { BottomGiven C.Sum.most C.fence (C.front allowed.size) allowed.size (C.costs allowed.size method) space.old space.new result.column (C.Sum.value result.sum) }
 {
     let width = allowed.size.width;
     let side = width + 1;

@@ -8,7 +8,8 @@ ghost use Rattle.energy.specs.declared.methods.Method.{Method};
 ghost use Rattle.energy.specs.Bounds.{most_energy};
 ghost use Rattle.seam_theory.specs.Sums.{CostRows};
 ghost use Rattle.seam_bounds.specs.Spaces.{find_space_rules};
-ghost use Rattle.seam_find.specs.Costing.{CostingLaws, RowAsked, thirds, plain_costs};
+ghost use Rattle.seam_sums.specs.Fences.{fence32};
+ghost use Rattle.seam_find.specs.Costing.{CostingLaws, LeastTold, RowAsked, thirds, plain_costs};
 
 use energy::Method;
 use pictures::{AllowedSize, Refusal, Size};
@@ -29,7 +30,10 @@ pub trait Costing {
     ghost costs: { Size → Method → List ℕ → ℕ → CostRows };
 
     // No pixel costs more.
-    ghost most: { ℕ };
+    ghost dearest: { ℕ };
+
+    // A number larger than every sum.
+    ghost fence: { ℕ };
 
     // What the least sum of the last row means.
     ghost means: { ℕ → Result ℕ Refusal → Type 0 };
@@ -42,7 +46,7 @@ pub trait Costing {
     // How many these bytes are; and what holds of the costs.
     fn front_bytes(allowed: AllowedSize) -> usize
         ensures bytes { result ≡ front allowed.size }
-        ensures laws { CostingLaws marked front costs most Self.Sum.fence };
+        ensures laws { CostingLaws marked front costs dearest fence Self.Sum.most Self.Sum.fence };
 
     // The costs of row i, from these bytes, where a path comes from straight above. The row of energies is room to work in. Where there
     // is no such row, or where a space isn't as long as it, nothing is promised.
@@ -68,8 +72,9 @@ pub trait Costing {
     )
         ensures { RowAsked (front allowed.size) allowed.size i (3 * allowed.size.width) (length bytes.now) (length energies.old) (length steps.old) → thirds allowed.size.width (map Self.Sum.value steps.new) ≡ costs allowed.size method bytes.now i };
 
+    // From the least sum, as it is kept.
     fn found(least: Self::Sum) -> Result<u64, Refusal>
-        ensures { means (Self.Sum.value least) result };
+        ensures { LeastTold fence Self.Sum.most means (Self.Sum.value least) result };
 }
 
 // What the pixels of a picture without marks cost, by a method.
@@ -84,7 +89,9 @@ impl Costing for Energies {
 
     ghost costs = { plain_costs };
 
-    ghost most = { most_energy };
+    ghost dearest = { most_energy };
+
+    ghost fence = { fence32 };
 
     ghost means = { λ least answer. answer ≡ Ok least };
 

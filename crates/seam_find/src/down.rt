@@ -20,9 +20,9 @@ pub(crate) fn down<C: Costing>(
     steps: &mut [C::Sum],
     next: &mut [C::Sum],
 )
-    requires laws { CostingLaws C.marked C.front C.costs C.most C.Sum.fence }
-    requires rows { DownNeeded C.Sum.fence (C.front allowed.size) allowed.size (C.costs allowed.size method) space.old (map C.Sum.value above.old) (length energies.old) (length steps.old) (length next.old) }
-    ensures { DownGiven C.Sum.fence (C.front allowed.size) allowed.size (C.costs allowed.size method) space.old space.new (map C.Sum.value above.new) }
+    requires laws { CostingLaws C.marked C.front C.costs C.dearest C.fence C.Sum.most C.Sum.fence }
+    requires rows { DownNeeded C.Sum.most C.fence (C.front allowed.size) allowed.size (C.costs allowed.size method) space.old (map C.Sum.value above.old) (length energies.old) (length steps.old) (length next.old) }
+    ensures { DownGiven C.Sum.most C.fence (C.front allowed.size) allowed.size (C.costs allowed.size method) space.old space.new (map C.Sum.value above.new) }
 {
     // i is a row of the picture, and no place of a slice.
     for i in 1..allowed.size.height {
@@ -42,7 +42,7 @@ fn row_down<C: Costing>(
     next: &mut [C::Sum],
 )
     requires { RowNeeded C.Sum.fence (C.front allowed.size) allowed.size i space.old (map C.Sum.value above.old) (length energies.old) (length steps.old) (length next.old) }
-    ensures { RowGiven C.Sum.fence (C.front allowed.size) allowed.size (C.costs allowed.size method) i space.old (map C.Sum.value above.old) space.new (map C.Sum.value above.new) }
+    ensures { RowGiven C.Sum.most C.Sum.fence (C.front allowed.size) allowed.size (C.costs allowed.size method) i space.old (map C.Sum.value above.old) space.new (map C.Sum.value above.new) }
 {
     if method.energy.has_one_cost() {
         row_by_one::<C>(space, allowed, method, i, above, energies, steps, next);
@@ -66,7 +66,7 @@ fn row_by_one<C: Costing>(
 )
     requires one { one_cost method.energy ≡ true }
     requires rows { RowNeeded C.Sum.fence (C.front allowed.size) allowed.size i space.old (map C.Sum.value above.now) (length energies.old) (length steps.old) (length next.old) }
-    ensures { RowWorked (C.front allowed.size) allowed.size (C.costs allowed.size method) i space.old (map C.Sum.value above.now) space.new (map C.Sum.value next.new) }
+    ensures { RowWorked C.Sum.most (C.front allowed.size) allowed.size (C.costs allowed.size method) i space.old (map C.Sum.value above.now) space.new (map C.Sum.value next.new) }
 {
     let width = allowed.size.width;
     let front = C::front_bytes(allowed);
@@ -96,7 +96,7 @@ fn row_by_steps<C: Costing>(
     next: &mut [C::Sum],
 )
     requires { RowNeeded C.Sum.fence (C.front allowed.size) allowed.size i space.old (map C.Sum.value above.now) (length energies.old) (length steps.old) (length next.old) }
-    ensures { RowWorked (C.front allowed.size) allowed.size (C.costs allowed.size method) i space.old (map C.Sum.value above.now) space.new (map C.Sum.value next.new) }
+    ensures { RowWorked C.Sum.most (C.front allowed.size) allowed.size (C.costs allowed.size method) i space.old (map C.Sum.value above.now) space.new (map C.Sum.value next.new) }
 {
     let width = allowed.size.width;
     let front = C::front_bytes(allowed);

@@ -37,7 +37,7 @@ pub fn find_by<C: Costing>(
     method: Method,
     seam: &mut [u16],
 ) -> Result<u64, Refusal>
-    ensures { FindByGiven C.marked (C.front size) C.Sum.fence (C.costs size method) C.means space.old size seam.old result space.new seam.new }
+    ensures { FindByGiven C.marked (C.front size) C.fence (C.costs size method) C.means space.old size seam.old result space.new seam.new }
 {
     let allowed = C::judge(size, space.len(), seam.len())?;
     let width = size.width;

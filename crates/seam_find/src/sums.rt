@@ -9,7 +9,7 @@ use seam_sums::{Number, way};
 // wherever a path comes from, so the sums above decide.
 pub(crate) fn next_row<N: Number>(above: &[N], cost: &[N], next: &mut [N], ways: &mut [u8])
     requires { NextRowNeeded N.fence (map N.value above.now) (map N.value cost.now) (length next.old) (length ways.old) }
-    ensures { NextRowGiven (map N.value above.now) (map N.value cost.now) (length next.old) (map N.value next.new) ways.new }
+    ensures { NextRowGiven N.most (map N.value above.now) (map N.value cost.now) (length next.old) (map N.value next.new) ways.new }
 {
     // By index, since nothing is promised of what is written through a zip. No edge, no branch and three places of one row, so that
     // many columns are worked out at once.
@@ -17,7 +17,7 @@ pub(crate) fn next_row<N: Number>(above: &[N], cost: &[N], next: &mut [N], ways:
         let left = above[c];
         let middle = above[c + 1];
         let right = above[c + 2];
-        next[c] = left.lesser(middle.lesser(right)).plus(cost[c]);
+        next[c] = left.lesser(middle.lesser(right)).plus(cost[c]).capped();
         ways[c] = way(left, middle, right);
     }
 }
@@ -31,7 +31,7 @@ pub(crate) fn next_row_by_steps<N: Number>(
     ways: &mut [u8],
 )
     requires { NextStepsNeeded N.fence (map N.value above.now) (thirds (length next.old) (map N.value steps.now)) (length steps.now) (length next.old) (length ways.old) }
-    ensures { NextStepsGiven (map N.value above.now) (thirds (length next.old) (map N.value steps.now)) (length next.old) (map N.value next.new) ways.new }
+    ensures { NextStepsGiven N.most (map N.value above.now) (thirds (length next.old) (map N.value steps.now)) (length next.old) (map N.value next.new) ways.new }
 {
     let width = next.len();
     let (from_left, rest) = steps.split_at(width);
@@ -40,7 +40,7 @@ pub(crate) fn next_row_by_steps<N: Number>(
         let left = above[c].plus(from_left[c]);
         let middle = above[c + 1].plus(from_above[c]);
         let right = above[c + 2].plus(from_right[c]);
-        next[c] = left.lesser(middle.lesser(right));
+        next[c] = left.lesser(middle.lesser(right)).capped();
         ways[c] = way(left, middle, right);
     }
 }

@@ -21,7 +21,7 @@ use Rattle.seam_theory.specs.PictureSeams.{marked_up, marked_seam_of, marked_cos
 use Rattle.seam_rules.specs.Answers.{found_number}
 use Rattle.seam_bounds.specs.Spaces.{find_space_rules}
 use Rattle.seam_bounds.proofs.Spaces.{Rooms, rooms_are}
-use Rattle.seam_sums.specs.Fences.{fence64}
+use Rattle.seam_sums.specs.Fences.{weights_fence}
 use Rattle.seam_sums.specs.Weights.{kept, protected, FoundByGiven}
 use Rattle.seam_sums.proofs.Meant.{heavy, heavy-number, light, light-cost}
 use Rattle.seam_find.specs.ByCosts.{FindByGiven, least_sum, path_columns}
@@ -33,7 +33,7 @@ use Rattle.seam_find_marked.proofs.Marked.{front-picture, front-marks, front-siz
 
 -- What is lent.
 module _ (z : Size) (how : Method) (space seam : List ℕ) (byte : (i : ℕ) → get_or space i 0 ≤ 255) (answer : Result ℕ Refusal) (space' seam' : List ℕ)
-    (found : FindByGiven true (marked_bytes z) fence64 (weights_of z how) FoundByGiven space z seam answer space' seam') where
+    (found : FindByGiven true (marked_bytes z) weights_fence (weights_of z how) FoundByGiven space z seam answer space' seam') where
   -- what is to be given: whether no seam is allowed, the cost,
   abbrev of-marked : {A : Type 0} → (Method → ℕ → ℕ → Picture → List (List ℕ) → A) → A
   of-marked f = f how z.width z.height (picture_in z space) (marks_in z space)
@@ -86,7 +86,7 @@ module _ (z : Size) (how : Method) (space seam : List ℕ) (byte : (i : ℕ) →
 
     -- the least weight, from which on no seam is allowed,
     abbrev weight : ℕ
-    weight = least_sum fence64 z.width z.height (weights_of z how front)
+    weight = least_sum weights_fence z.width z.height (weights_of z how front)
 
     stuck : protected ≤ weight → blocked ≡ true
     stuck over = sym (ap is_none (same marked_up)) ∙ marked_blocked z how front front_is front-byte over
@@ -98,7 +98,7 @@ module _ (z : Size) (how : Method) (space seam : List ℕ) (byte : (i : ℕ) →
     cost_is : weight < protected → weight % kept ≡ price
     cost_is under = marked-cost z how front front_is front-byte under ∙ same marked_cost_of
 
-    columns-are : weight < protected → path_columns fence64 z.width z.height (weights_of z how front) ≡ of-marked marked_seam_of
+    columns-are : weight < protected → path_columns weights_fence z.width z.height (weights_of z how front) ≡ of-marked marked_seam_of
     columns-are under = marked-seam z how front front_is front-byte under ∙ same marked_seam_of
 
     by : FoundByGiven weight answer

@@ -5,7 +5,7 @@ use mathlib.Core.Option
 use mathlib.Core.Option.{some}
 use mathlib.Core.List.{List, [], reverse}
 use Prim.Native.Nat.{ℕ, suc, ◌+◌, ◌-◌, ◌*◌, ◌%◌, ◌≤◌, ◌<◌}
-use native.Mathlib.Nat.{mul-le-mul_right}
+use native.Mathlib.Nat.{mul-le-mul, mul-le-mul_right}
 use native.Mathlib.Omega.{arith}
 use lib.ListN.{length, get_or, take, drop, length-drop}
 use lib.Seq.{take-take, take-add, take_all, drop_at, drop-drop, length-take-le}
@@ -15,14 +15,15 @@ use Rattle.grids.proofs.Tables.{length-table, table_at, table_same}
 use Rattle.grids.proofs.Rows.{part_end, rows_of_at}
 use Rattle.pictures.specs.Limits.{most_side}
 use Rattle.pictures.specs.declared.sizes.Size.{Size}
-use Rattle.pictures.specs.Pictures.{Picture, picture_bytes, picture, pixels, picture_in, marks_in}
+use Rattle.pictures.specs.declared.sizes.Kind.{Kind}
+use Rattle.pictures.specs.declared.sizes.Kind.TheVariants.{Grey, Rgb}
+use Rattle.pictures.specs.Pictures.{Picture, channels_of, largest_sample, picture_bytes, picture, pixels, picture_in, marks_in}
 use Rattle.pictures.proofs.Limits.{Sized}
-use Rattle.energy.specs.Bounds.{most_energy}
 use Rattle.energy.specs.declared.methods.Method.{Method}
 use Rattle.energy.specs.Methods.{wrap_of}
 use Rattle.energy.specs.Energy.{StepCosts, one_cost, costs_at}
 use Rattle.energy.proofs.Steps.{costs-alike}
-use Rattle.energy.proofs.Most.{CostsMost}
+use Rattle.energy.proofs.Most.{CostsMost, costs-within, buffer_costs-most}
 use Rattle.energy.proofs.Served.{StepsServed}
 use Rattle.seam_theory.specs.Paths.{cost}
 use Rattle.seam_theory.specs.PictureSeams.{path_cost, mark_at, marked_up, marked_seam_of, marked_cost_of, is_none}
@@ -31,11 +32,11 @@ use Rattle.seam_theory.proofs.Bounded.{sums-most}
 use Rattle.seam_theory.proofs.Toward.{rows-through}
 use Rattle.seam_theory.proofs.Sums.{Costed, FoundPath, found}
 use Rattle.seam_sums.specs.Weights.{weight_of, kept, protected}
-use Rattle.seam_sums.specs.Fences.{fence64}
+use Rattle.seam_sums.specs.Fences.{weights_fence}
 use Rattle.seam_find.specs.Costing.{RowsMost}
 use Rattle.pictures.proofs.Samples.{take_bytes}
-use Rattle.seam_find.proofs.Costs.{pixel-most, rows-most}
-use Rattle.seam_find_marked.specs.Inner.{most_weight, marks_at, weight_in, weighed, weighed_rows, weights_at, weights_of, marked_bytes}
+use Rattle.seam_find.proofs.Costs.{table-most, rows-most}
+use Rattle.seam_find_marked.specs.Inner.{byte_energy, most_weight, marks_at, weight_in, weighed, weighed_rows, weights_at, weights_of, marked_bytes}
 use Rattle.seam_find_marked.proofs.Weighed.{first_weight, step_weight, weight-most, light-found, light-cost, heavy-blocked}
 
 -- A row has a weight for each column.
@@ -87,6 +88,11 @@ module _ (z : Size) (how : Method) (b : List ℕ) (i : ℕ) (inside : i < z.heig
           ap (table (weight_in costs marks)) marks-long
           ∙ row-weighed part costs (λ c l. ap (λ x. get_or x c 0) are ∙ table_at (λ c. part (costs_at how z.width z.height (picture_in z b) i c)) z.width c 0 l)
 
+-- The largest sample is one of a byte.
+byte-sample : (k : Kind) → largest_sample k ≤ 255
+byte-sample Grey = omega arith
+byte-sample Rgb = omega arith
+
 -- A picture within the limits, of bytes.
 module _ (z : Size) (how : Method) (b : List ℕ) (sized : Sized z (length (take (picture_bytes z) b)))
     (byte : (i : ℕ) → get_or (take (picture_bytes z) b) i 0 ≤ 255) where
@@ -102,8 +108,17 @@ module _ (z : Size) (how : Method) (b : List ℕ) (sized : Sized z (length (take
   abbrev m : List (List ℕ)
   m = marks_in z b
 
-  costs-most : (r c : ℕ) → CostsMost most_energy (costs_at how w h p r c)
-  costs-most = pixel-most z how (take (picture_bytes z) b) sized byte
+  pub costs-most : (r c : ℕ) → CostsMost byte_energy (costs_at how z.width z.height (picture_in z b) r c)
+  costs-most r c =
+      costs-within (2 * (channels_of z.kind * largest_sample z.kind)) byte_energy _ (omega (arith, mul-le-mul sized.channels_most (byte-sample z.kind)))
+      (buffer_costs-most z how (take (picture_bytes z) b) sized.length_is byte w h r c)
+
+  -- Some of a row's costs are less than what a kept pixel adds.
+  pub costs-cheap : (part : StepCosts → ℕ) → ((k : StepCosts) → CostsMost byte_energy k → part k ≤ byte_energy) → (i : ℕ) (costs : List ℕ)
+      → costs ≡ table (λ c. part (costs_at how z.width z.height (picture_in z b) i c)) z.width → (c : ℕ) → get_or costs c 0 < kept
+  costs-cheap part few i costs are c =
+      let most = table-most (λ c. part (costs_at how w h p i c)) w byte_energy (λ c. few (costs_at how w h p i c) (costs-most i c)) c in
+      omega (arith, ap (λ x. get_or x c 0) are, most)
 
   pub weights-most : (i : ℕ) → RowsMost most_weight (weights_of z how b i)
   weights-most i =
@@ -118,7 +133,7 @@ module _ (z : Size) (how : Method) (b : List ℕ) (sized : Sized z (length (take
       })
 
   abbrev sums : ℕ → List ℕ
-  sums = sums_down false fence64 w (weights_of z how b)
+  sums = sums_down false weights_fence w (weights_of z how b)
 
   abbrev first : ℕ → ℕ
   first = first_weight how w h p m
@@ -127,15 +142,15 @@ module _ (z : Size) (how : Method) (b : List ℕ) (sized : Sized z (length (take
   step = step_weight how w h p m
 
   -- Every sum is below the fence.
-  low : (i c : ℕ) → i < h - 1 → c < w → get_or (sums i) c 0 + get_or (weights_of z how b (suc i)).up c 0 < fence64
+  low : (i c : ℕ) → i < h - 1 → c < w → get_or (sums i) c 0 + get_or (weights_of z how b (suc i)).up c 0 < weights_fence
   low i c k l =
       let rows : suc i ≤ most_side = omega (arith, sized.height_small) in
       let each : (i k : ℕ) → get_or (weights_of z how b i).up k 0 ≤ most_weight = λ i. (weights-most i).up in
-      let most = sums-most false fence64 w (weights_of z how b) (weights-wide z how b 0) most_weight each i c l in
+      let most = sums-most false weights_fence w (weights_of z how b) (weights-wide z how b 0) most_weight each i c l in
       omega (arith, each (suc i) c, mul-le-mul_right most_weight rows)
 
   -- The cost rows are the weights of steps.
-  costed : Costed false fence64 w h (weights_of z how b) first step
+  costed : Costed false weights_fence w h (weights_of z how b) first step
   unfolding wrap_of
   costed = record {
     first_row_is = refl;
@@ -145,11 +160,11 @@ module _ (z : Size) (how : Method) (b : List ℕ) (sized : Sized z (length (take
 
   -- The ways between the rows.
   abbrev ways : List ℕ
-  ways = flat (table (ways_up false fence64 w (weights_of z how b)) (h - 1))
+  ways = flat (table (ways_up false weights_fence w (weights_of z how b)) (h - 1))
 
   -- The first path of least weight, and where it ends.
-  seam : FoundPath false fence64 w h (weights_of z how b) first step
-  seam = found false fence64 w h (weights_of z how b) first step costed sized.width_some sized.height_some
+  seam : FoundPath false weights_fence w h (weights_of z how b) first step
+  seam = found false weights_fence w h (weights_of z how b) first step costed sized.width_some sized.height_some
 
   abbrev bottom : ℕ
   bottom = least_to (sums (h - 1)) (w - 1)

@@ -9,7 +9,6 @@ use native.Mathlib.Omega.{arith}
 use lib.Dec.{eqb}
 use Rattle.pictures.specs.Limits.{most_side}
 use Rattle.pictures.specs.Pictures.{Picture}
-use Rattle.energy.specs.Bounds.{most_energy}
 use Rattle.energy.specs.Around.{left_of}
 use Rattle.energy.specs.declared.methods.Method.{Method}
 use Rattle.energy.specs.Methods.{wrap_of}
@@ -25,10 +24,10 @@ use Rattle.seam_theory.proofs.Nearby.{nearby-paths}
 use Rattle.seam_theory.proofs.Priced.{cost-weight, cost_most}
 use Rattle.seam_theory.proofs.Weights.{weight, Weighed, weight-price, weights-found, weights_blocked}
 use Rattle.seam_sums.specs.Weights.{weight_of, kept, protected}
-use Rattle.seam_find_marked.specs.Inner.{most_weight, weighed, weights_at}
+use Rattle.seam_find_marked.specs.Inner.{byte_energy, most_weight, weighed, weights_at}
 
 -- A weight is at most an energy, `kept` and `protected`.
-pub weight-most : (e mark : ℕ) → e ≤ most_energy → weight_of e mark ≤ most_weight
+pub weight-most : (e mark : ℕ) → e ≤ byte_energy → weight_of e mark ≤ most_weight
 weight-most e mark l = go (eqb mark 2) (eqb mark 1)
   where
     go : (s t : Bool) → e + (cond s 0 1 * kept + cond t 1 0 * protected) ≤ most_weight
@@ -74,7 +73,7 @@ kept-most m r c = omega (arith, one_of_two m r c)
 
 -- In a picture with rows and costs within the bounds of the arithmetic.
 module _ (how : Method) (w h : ℕ) (p : Picture) (m : List (List ℕ)) (few : h ≤ most_side)
-    (most : (r c : ℕ) → CostsMost most_energy (costs_at how w h p r c)) where
+    (most : (r c : ℕ) → CostsMost byte_energy (costs_at how w h p r c)) where
   abbrev all : List (List ℕ)
   all = paths (nearby (wrap_of how) w) w h
 
@@ -95,14 +94,14 @@ module _ (how : Method) (w h : ℕ) (p : Picture) (m : List (List ℕ)) (few : h
   abbrev heavy : List ℕ → ℕ
   heavy = cost (first_weight how w h p m) (step_weight how w h p m)
 
-  step-most : (i a c : ℕ) → step_of how w h p i a c ≤ most_energy
-  step-most i a c = toward-most most_energy (wrap_of how) w a c (costs_at how w h p i c) (most i c)
+  step-most : (i a c : ℕ) → step_of how w h p i a c ≤ byte_energy
+  step-most i a c = toward-most byte_energy (wrap_of how) w a c (costs_at how w h p i c) (most i c)
 
   -- `kept` and `protected` are large enough.
   large : (q : List ℕ) → Memᴰ q all → Weighed keeps removed price kept protected h q
   large q i =
       let long = ((nearby-paths (wrap_of how) w h q).0 i).size in
-      let cheap = cost_most (energy how w h p 0) (step_of how w h p) most_energy (λ c. (most 0 c).up) step-most q in
+      let cheap = cost_most (energy how w h p 0) (step_of how w h p) byte_energy (λ c. (most 0 c).up) step-most q in
       let few-kept = along-most (is_kept m) 1 q (kept-most m) in
       record {
         pixels = along_split (is_kept m) (is_mark 2 m) q (one_of_two m) ∙ long;

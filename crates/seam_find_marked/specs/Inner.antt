@@ -1,6 +1,6 @@
 -- What the private functions of this crate ask and promise besides those of finding without marks. No public promise cites
 -- it.
-use Rattle.std.specs.Prelude.{◌≡◌, List, ℕ, ◌+◌, ◌*◌, length, get_or, take, drop}
+use Rattle.std.specs.Prelude.{◌≡◌, List, ℕ, ◌+◌, ◌*◌, ◌<◌, length, get_or, take, drop}
 use Rattle.grids.specs.Table.{table}
 use Rattle.pictures.specs.declared.sizes.Size.{Size}
 use Rattle.pictures.specs.Pictures.{Picture, picture_bytes, pixels, picture_in, marks_in}
@@ -8,12 +8,14 @@ use Rattle.energy.specs.declared.methods.Method.{Method}
 use Rattle.energy.specs.Energy.{StepCosts, costs_at}
 use Rattle.seam_theory.specs.PictureSeams.{mark_at}
 use Rattle.seam_theory.specs.Sums.{CostRows, cost_rows}
-use Rattle.energy.specs.Bounds.{most_energy}
 use Rattle.seam_sums.specs.Weights.{kept, protected, weight_of}
 
--- A bound for the arithmetic: no pixel weighs more.
+-- Bounds for the arithmetic: with samples of a byte no pixel costs more, nor weighs more.
+abbrev pub byte_energy : ℕ
+byte_energy = 2 * (3 * 255)
+
 abbrev pub most_weight : ℕ
-most_weight = most_energy + (kept + protected)
+most_weight = byte_energy + (kept + protected)
 
 -- The weight at column c of a row, from a row of its costs and its marks.
 abbrev pub weight_in : List ℕ → List ℕ → ℕ → ℕ
@@ -39,10 +41,11 @@ marked_bytes z = picture_bytes z + pixels z
 abbrev pub marks_at : Size → List ℕ → ℕ → List ℕ
 marks_at z b i = take z.width (drop (picture_bytes z + i * z.width) b)
 
--- A row of costs and its marks, and room for the weights.
+-- A row of costs, none of which reaches what a kept pixel adds, and its marks, and room for the weights.
 pub record WeighNeeded (costs marks : List ℕ) (cost : ℕ) : Type 0 where
   pub all : length costs ≡ cost
   pub marked : length marks ≡ cost
+  pub cheap : (c : ℕ) → get_or costs c 0 < kept
 
 -- The three costs of a row's steps and its marks, and room for three rows of weights,
 pub record WeighAllNeeded (left up right marks : List ℕ) (steps : ℕ) : Type 0 where
@@ -50,6 +53,9 @@ pub record WeighAllNeeded (left up right marks : List ℕ) (steps : ℕ) : Type 
   pub up_long : length up ≡ length marks
   pub right_long : length right ≡ length marks
   pub room : steps ≡ 3 * length marks
+  pub cheap_left : (c : ℕ) → get_or left c 0 < kept
+  pub cheap_up : (c : ℕ) → get_or up c 0 < kept
+  pub cheap_right : (c : ℕ) → get_or right c 0 < kept
 
 -- which are these.
 abbrev pub weighed_rows : List ℕ → List ℕ → List ℕ → List ℕ → CostRows

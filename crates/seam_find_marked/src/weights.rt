@@ -1,5 +1,6 @@
 // The weights of a picture with marks: what coming to each pixel costs and its mark in one number.
-ghost use Rattle.std.specs.Prelude.{◌≡◌, ◌<◌, true, length};
+ghost use Rattle.std.specs.Prelude.{◌≡◌, ◌<◌, true, map, length};
+ghost use Rattle.seam_sums.specs.Fences.{weights_fence};
 ghost use Rattle.grids.specs.Table.{table};
 ghost use Rattle.seam_sums.specs.Weights.{FoundByGiven};
 ghost use Rattle.seam_find.specs.Costing.{thirds};
@@ -8,13 +9,13 @@ ghost use Rattle.seam_find_marked.specs.Inner.{most_weight, marked_bytes, marks_
 use energy::Method;
 use pictures::{AllowedSize, Refusal, Size};
 use seam_find::Costing;
-use seam_sums::{found_by, weight};
+use seam_sums::{Weight, found_by, pixel_weight};
 
 // The weights of the pixels of a picture with its marks after it.
 pub struct Weights;
 
 impl Costing for Weights {
-    type Sum = u64;
+    type Sum = Weight;
 
     ghost marked = { true };
 
@@ -22,7 +23,9 @@ impl Costing for Weights {
 
     ghost costs = { weights_of };
 
-    ghost most = { most_weight };
+    ghost dearest = { most_weight };
+
+    ghost fence = { weights_fence };
 
     ghost means = { FoundByGiven };
 
@@ -40,7 +43,7 @@ impl Costing for Weights {
         method: Method,
         i: usize,
         energies: &mut [u32],
-        cost: &mut [u64],
+        cost: &mut [Weight],
     ) {
         let width = allowed.size.width;
         let picture = allowed.picture_bytes();
@@ -63,7 +66,7 @@ impl Costing for Weights {
         method: Method,
         i: usize,
         energies: &mut [u32],
-        steps: &mut [u64],
+        steps: &mut [Weight],
     ) {
         let width = allowed.size.width;
         let picture = allowed.picture_bytes();
@@ -80,7 +83,7 @@ impl Costing for Weights {
         weigh_all(left, up, right, row_marks(bytes, allowed, i), steps);
     }
 
-    fn found(least: u64) -> Result<u64, Refusal> {
+    fn found(least: Weight) -> Result<u64, Refusal> {
         found_by(least)
     }
 }
@@ -98,19 +101,19 @@ fn row_marks(bytes: &[u8], allowed: AllowedSize, i: usize) -> &[u8]
 }
 
 // The weights of a row, from a row of its costs and its marks. By index, since nothing is promised of what is written through a zip.
-fn weigh(costs: &[u32], marks: &[u8], cost: &mut [u64])
+fn weigh(costs: &[u32], marks: &[u8], cost: &mut [Weight])
     requires { WeighNeeded costs.now marks.now (length cost.old) }
-    ensures { cost.new ≡ table (weight_in costs.now marks.now) (length cost.old) }
+    ensures { map (λ w. w.0) cost.new ≡ table (weight_in costs.now marks.now) (length cost.old) }
 {
     for (c, cost) in cost.iter_mut().enumerate() {
-        *cost = weight(costs[c], marks[c]);
+        *cost = pixel_weight(costs[c], marks[c]);
     }
 }
 
 // The weights of a row's steps, from their costs, one row after the other.
-fn weigh_all(left: &[u32], up: &[u32], right: &[u32], marks: &[u8], steps: &mut [u64])
+fn weigh_all(left: &[u32], up: &[u32], right: &[u32], marks: &[u8], steps: &mut [Weight])
     requires { WeighAllNeeded left.now up.now right.now marks.now (length steps.old) }
-    ensures { thirds (length marks.now) steps.new ≡ weighed_rows left.now up.now right.now marks.now }
+    ensures { thirds (length marks.now) (map (λ w. w.0) steps.new) ≡ weighed_rows left.now up.now right.now marks.now }
 {
     let width = marks.len();
     let (from_left, rest) = steps.split_at_mut(width);

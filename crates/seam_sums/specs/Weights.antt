@@ -3,13 +3,13 @@ use Rattle.pictures.specs.declared.refusals.Refusal.{Refusal}
 use Rattle.std.specs.Prelude.{◌≡◌, cond, ℕ, ◌+◌, ◌*◌, ◌%◌, leb, eqb, Result}
 use Rattle.seam_rules.specs.Answers.{found_number, found_cost}
 
--- What a pixel adds that is kept, that is not marked 2: more than any path costs. 2 ^ 32.
+-- What a pixel adds that is kept, that is not marked 2: more than any path costs. 2 ^ 20.
 abbrev pub kept : ℕ
-kept = 4294967296
+kept = 1048576
 
--- What a protected pixel adds: more than any path weighs that has none. 2 ^ 48.
+-- What a protected pixel adds: more than any path weighs that has none. 2 ^ 30.
 abbrev pub protected : ℕ
-protected = 281474976710656
+protected = 1073741824
 
 -- The weight of a pixel: what coming to it costs, kept if it is not marked 2, and protected if it is marked 1. The least sum of weights is
 -- then that of an allowed path, if there is one, with the most pixels marked 2, and of those the cheapest.

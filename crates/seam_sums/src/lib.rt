@@ -8,4 +8,4 @@ pub mod weights;
 
 pub use least::{first_least, way};
 pub use numbers::Number;
-pub use weights::{found_by, weight};
+pub use weights::{Weight, found_by, pixel_weight};

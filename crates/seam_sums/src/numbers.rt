@@ -3,15 +3,20 @@ ghost use prog.Memory.{size};
 ghost use denote.Param.{layout};
 ghost use Rattle.std.proofs.Common.{rules};
 ghost use Rattle.std.specs.Prelude.{◌≡◌, ℕ, ◌+◌, ◌≤◌, ◌<◌, min, leb};
-ghost use Rattle.seam_sums.specs.Fences.{fence32, fence64};
+ghost use Rattle.seam_sums.specs.Fences.{fence32, largest_word};
 
-// A number of some width: 32 bits without marks, 64 with marks.
+use crate::weights::Weight;
+
+// A number of some kind: that of costs without marks, of weights with marks.
 pub trait Number: Copy {
     // The number that it is.
     ghost value: { Self → ℕ };
 
-    // A number larger than every sum.
+    // A number that no sum is kept above.
     ghost fence: { ℕ };
+
+    // What a sum that is more is kept as.
+    ghost most: { ℕ };
 
     fn make_fence() -> Self
         ensures { value result ≡ fence };
@@ -26,14 +31,21 @@ pub trait Number: Copy {
     fn plus(self, cost: Self) -> Self
         ensures { (value self ≤ fence) × (value cost < fence) → value result ≡ value self + value cost };
 
+    // A sum as it is kept.
+    fn capped(self) -> Self
+        ensures { value result ≡ min most (value self) };
+
     // It takes at most eight bytes, so that a row of them fits into memory.
     ghost narrow: { size (layout Self.row) ≤ 8 };
 }
 
+// A cost or a sum of costs, which never reaches the fence.
 impl Number for u32 {
     ghost value = { λ n. n };
 
     ghost fence = { fence32 };
+
+    ghost most = { largest_word };
 
     fn make_fence() -> u32 {
         1 << 31
@@ -51,28 +63,39 @@ impl Number for u32 {
         self.wrapping_add(cost)
     }
 
+    fn capped(self) -> u32 {
+        self
+    }
+
     ghost narrow = { Prim.search rules };
 }
 
-impl Number for u64 {
-    ghost value = { λ n. n };
+// A weight or a sum of weights, which stays at the fence.
+impl Number for Weight {
+    ghost value = { λ n. n.0 };
 
-    ghost fence = { fence64 };
+    ghost fence = { fence32 };
 
-    fn make_fence() -> u64 {
-        1 << 62
+    ghost most = { fence32 };
+
+    fn make_fence() -> Weight {
+        Weight(1 << 31)
     }
 
-    fn lesser(self, other: u64) -> u64 {
-        self.min(other)
+    fn lesser(self, other: Weight) -> Weight {
+        Weight(self.0.min(other.0))
     }
 
-    fn is_at_most(self, other: u64) -> bool {
-        self <= other
+    fn is_at_most(self, other: Weight) -> bool {
+        self.0 <= other.0
     }
 
-    fn plus(self, cost: u64) -> u64 {
-        self.wrapping_add(cost)
+    fn plus(self, cost: Weight) -> Weight {
+        Weight(self.0.wrapping_add(cost.0))
+    }
+
+    fn capped(self) -> Weight {
+        Weight(self.0.min(1 << 31))
     }
 
     ghost narrow = { Prim.search rules };

@@ -21,6 +21,8 @@ pub mod Fenced
 pub mod Kernel
 pub mod Bounded
 pub mod Capped
+pub mod Falling
+pub mod Kept
 pub mod Toward
 pub mod Sums
 pub mod Alike

@@ -1,19 +1,20 @@
 -- A row of sums from the row above it. What private functions ask and promise; no public promise cites it.
 use Rattle.std.specs.Prelude.{◌≡◌, false, List, ℕ, ◌+◌, ◌*◌, ◌≤◌, ◌<◌, length, get_or}
 use Rattle.grids.specs.Table.{table}
-use Rattle.seam_theory.specs.Sums.{CostRows, alike_rows, sum_of3, way_of3}
+use Rattle.seam_theory.specs.Sums.{CostRows, alike_rows, way_of3}
+use Rattle.seam_theory.proofs.Kept.{kept_sum}
 
 -- The row above with its two sides, the costs of a row of n, and room for the row's sums, which fit, and for the ways.
 pub record NextRowNeeded (fence : ℕ) (x cost : List ℕ) (n ways : ℕ) : Type 0 where
   pub above : length x ≡ n + 2
   pub costs : length cost ≡ n
-  pub small : (k : ℕ) → k < n → get_or x (k + 1) 0 < fence
+  pub small : (k : ℕ) → k < n → get_or x (k + 1) 0 ≤ fence
   pub cheap : (k : ℕ) → get_or cost k 0 < fence
   pub ways_room : ways ≡ n
 
--- The row's sums, and where each comes from.
-pub record NextRowGiven (x cost : List ℕ) (n : ℕ) (next' ways' : List ℕ) : Type 0 where
-  pub next_given : next' ≡ table (sum_of3 x (alike_rows cost)) n
+-- The row's sums as they are kept, and where each comes from.
+pub record NextRowGiven (most : ℕ) (x cost : List ℕ) (n : ℕ) (next' ways' : List ℕ) : Type 0 where
+  pub next_given : next' ≡ table (kept_sum most x (alike_rows cost)) n
   pub ways_given : ways' ≡ table (way_of3 false n x (alike_rows cost)) n
 
 -- The same for costs by steps, of which there are three rows.
@@ -26,6 +27,6 @@ pub record NextStepsNeeded (fence : ℕ) (x : List ℕ) (k : CostRows) (steps n 
   pub cheap_right : (c : ℕ) → get_or k.right c 0 < fence
   pub ways_room : ways ≡ n
 
-pub record NextStepsGiven (x : List ℕ) (k : CostRows) (n : ℕ) (next' ways' : List ℕ) : Type 0 where
-  pub next_given : next' ≡ table (sum_of3 x k) n
+pub record NextStepsGiven (most : ℕ) (x : List ℕ) (k : CostRows) (n : ℕ) (next' ways' : List ℕ) : Type 0 where
+  pub next_given : next' ≡ table (kept_sum most x k) n
   pub ways_given : ways' ≡ table (way_of3 false n x k) n

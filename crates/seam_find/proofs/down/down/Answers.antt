@@ -18,10 +18,11 @@ row_down-requires g c =
     let l = c.loop-i in
     let fits : (i : ℕ) → Fits w8 (get_or a.space.now i 0) = search rules in
     let byte : (i : ℕ) → get_or a.space.now i 0 ≤ 255 = λ i. omega (arith, fits i) in
-    before-needed c.requires.rows (sides_are z a.allowed.allowed).height_some
+    rw c.requires.laws.ends
+    (before-needed c.requires.rows (sides_are z a.allowed.allowed).height_some
     (c.requires.laws.wide z a.method (take (g.C.Costing.front z) a.space.now)) l.invariant c.loop-i-test.true
     (small c.requires.laws z a.method a.space.now a.allowed.allowed (omega (arith, c.requires.rows.room)) byte l.i l.space _ l.invariant.downs
-    l.invariant.some c.loop-i-test.true)
+    l.invariant.some c.loop-i-test.true))
 
 pub loop-i-preserved : goal.loop-i-preserved
 loop-i-preserved g c =
@@ -29,5 +30,5 @@ loop-i-preserved g c =
     let z = a.allowed.size in
     let kept = c.row_down.auto in
     before-next c.requires.rows (sides_are z a.allowed.allowed).height_some
-    (c.requires.laws.wide z a.method (take (g.C.Costing.front z) a.space.now)) c.loop-i.invariant c.loop-i-test.true c.row_down.ensures
+    (c.requires.laws.wide z a.method (take (g.C.Costing.front z) a.space.now)) c.loop-i.invariant c.loop-i-test.true (rw c.requires.laws.ends at c.row_down.ensures)
     kept.energies kept.steps kept.next

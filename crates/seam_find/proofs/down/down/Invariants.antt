@@ -7,6 +7,6 @@ use Rattle.seam_find.proofs.down.down.Given as goal
 
 abbrev pub invariant-loop-i : goal.invariant-loop-i
 invariant-loop-i g l =
-    BeforeRow g.C.Sum.Number.fence (g.C.Costing.front l.allowed.size) l.allowed.size (g.C.Costing.costs l.allowed.size l.method)
+    BeforeRow g.C.Sum.Number.most g.C.Costing.fence (g.C.Costing.front l.allowed.size) l.allowed.size (g.C.Costing.costs l.allowed.size l.method)
     l.initial.space (length l.initial.energies) (length l.initial.steps) (length l.initial.next)
     l.i l.space (map g.C.Sum.Number.value l.above) (length l.energies) (length l.steps) (length l.next)

@@ -24,5 +24,5 @@ returns g c =
     ∙ sym (c.front_bytes-front.ensures.laws.alike z a.method c.requires.one (take q space) a.i)
     ∙ ap (λ k. costs (take k space) a.i) bytes
     in
-    row-worked _ z costs a.i q (length a.next.now) space _ c.next_row.new.ways (alike_rows cost) _ bytes (ways-end n (sides_are z a.allowed.allowed) q bytes).end
+    row-worked _ _ z costs a.i q (length a.next.now) space _ c.next_row.new.ways (alike_rows cost) _ bytes (ways-end n (sides_are z a.allowed.allowed) q bytes).end
     priced n.next_room c.next_row.ensures.ways_given c.next_row.ensures.next_given

@@ -25,7 +25,7 @@ module _ (g : Over) (c : After-step_rows g) where
       ∙ ap (λ k. g.C.Costing.costs z a.method (take k a.space.now) a.i) c.front_bytes-front.ensures.bytes
 
   -- and none of them is more than the most
-  few : RowsMost g.C.Costing.most (thirds (length c.args.next.now) (map g.C.Sum.Number.value c.step_rows.new.steps))
+  few : RowsMost g.C.Costing.dearest (thirds (length c.args.next.now) (map g.C.Sum.Number.value c.step_rows.new.steps))
   few =
       let a = c.args in
       let fits : (i : ℕ) → Fits w8 (get_or a.space.now i 0) = search rules in
@@ -36,7 +36,7 @@ next_row_by_steps-requires g c =
     let a = c.args in
     let n = c.requires in
     let k = few g (goal.at.next_row_by_steps-requires g c).After-step_rows in
-    let low = c.front_bytes-front.ensures.laws.low in
+    let low = c.front_bytes-front.ensures.laws.single in
     record {
       above = n.long ∙ ap (◌+ 2) (sym n.next_room);
       steps_room = omega (arith, c.step_rows.auto.steps, n.steps_room, n.next_room);
@@ -53,6 +53,6 @@ returns g c =
     let z = a.allowed.size in
     let q = c.front_bytes-front.result in
     let bytes = c.front_bytes-front.ensures.bytes in
-    row-worked _ z (g.C.Costing.costs z a.method) a.i q (length a.next.now) a.space.now _ c.next_row_by_steps.new.ways _ _ bytes
+    row-worked _ _ z (g.C.Costing.costs z a.method) a.i q (length a.next.now) a.space.now _ c.next_row_by_steps.new.ways _ _ bytes
     (ways-end c.requires (sides_are z a.allowed.allowed) q bytes).end (priced g (goal.at.returns g c).After-step_rows) c.requires.next_room
     c.next_row_by_steps.ensures.ways_given c.next_row_by_steps.ensures.next_given

@@ -12,7 +12,7 @@ returns g c =
     let a = c.args in
     let z = a.allowed.size in
     let value = g.C.Sum.Number.value in
-    let worked : RowWorked (g.C.Costing.front z) z (g.C.Costing.costs z a.method) a.i a.space.now (map value a.above.now) c.if-has_one_cost.space (map value c.if-has_one_cost.next) =
+    let worked : RowWorked g.C.Sum.Number.most (g.C.Costing.front z) z (g.C.Costing.costs z a.method) a.i a.space.now (map value a.above.now) c.if-has_one_cost.space (map value c.if-has_one_cost.next) =
     elim c.if-has_one_cost.branch [
       | then-has_one_cost w ↦ rw (w.space-is, w.next-is) w.row_by_one.ensures
       | else-has_one_cost w ↦ rw (w.space-is, w.next-is) w.row_by_steps.ensures

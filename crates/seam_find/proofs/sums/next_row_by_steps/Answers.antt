@@ -1,5 +1,5 @@
 -- `seam_find::sums::next_row_by_steps` meets its contract: a sum and a way more are stored.
-use Rattle.std.proofs.Common.{◌≡◌, ◌+◌, min, length, refl, sym, ap₂, ◌∙◌, inr, arith}
+use Rattle.std.proofs.Common.{◌≡◌, ◌+◌, min, length, refl, sym, ap, ap₂, ◌∙◌, inr, arith}
 use mathlib.Core.List.{map}
 use lib.ListN.{length-map}
 use Rattle.std.proofs.lemmas.List.{map-set}
@@ -35,8 +35,9 @@ loop-c-preserved g c =
     c.plus-middle.ensures (omega (arith, middle, c.requires.small (l.c + 1)), omega (arith, from_above, c.requires.cheap_up l.c)) ∙ ap₂ ◌+◌ (sym middle) (sym from_above) in
     let by_right : value c.plus-right.result ≡ right_sum x k l.c =
     c.plus-right.ensures (omega (arith, right, c.requires.small (l.c + 2)), omega (arith, from_right, c.requires.cheap_right l.c)) ∙ ap₂ ◌+◌ (sym right) (sym from_right) in
-    let sum = c.lesser-in-loop-c.ensures ∙ ap₂ min by_left (c.lesser.ensures ∙ ap₂ min by_middle by_right) ∙ sym (three x k l.c) in
+    let least = c.lesser-in-loop-c.ensures ∙ ap₂ min by_left (c.lesser.ensures ∙ ap₂ min by_middle by_right) ∙ sym (three x k l.c) in
+    let sum = c.capped.ensures ∙ ap (min g.N.Number.most) least in
     let way = c.way.ensures ∙ rw (by_left, by_middle, by_right) (sym (way_plain _ n x k l.c (inr refl) (inr refl))) in (
-      rw (map-set value l.next l.c c.lesser-in-loop-c.result) (stored_turn _ _ _ l.c (map value l.next) _ 0 inside sum l.invariant.0),
+      rw (map-set value l.next l.c c.capped.result) (stored_turn _ _ _ l.c (map value l.next) _ 0 inside sum l.invariant.0),
       stored_turn _ _ _ l.c l.ways _ 0 inside way l.invariant.1,
     )

@@ -3,7 +3,8 @@
 use Rattle.std.proofs.Common.{false, length}
 use mathlib.Core.List.{map}
 use Rattle.grids.proofs.Tables.{Stored}
-use Rattle.seam_theory.specs.Sums.{sum_of3, way_of3}
+use Rattle.seam_theory.specs.Sums.{way_of3}
+use Rattle.seam_theory.proofs.Kept.{kept_sum}
 use Rattle.seam_find.specs.Costing.{thirds}
 use Rattle.seam_find.proofs.sums.next_row_by_steps.Given as goal
 
@@ -11,5 +12,5 @@ abbrev pub invariant-loop-c : goal.invariant-loop-c
 invariant-loop-c g l =
     let numbers = map g.N.Number.value in
     let costs = thirds (length l.initial.next) (numbers l.steps) in
-    Stored (sum_of3 (numbers l.above) costs) (numbers l.initial.next) l.c-end l.c (numbers l.next)
+    Stored (kept_sum g.N.Number.most (numbers l.above) costs) (numbers l.initial.next) l.c-end l.c (numbers l.next)
     × Stored (way_of3 false (length l.initial.next) (numbers l.above) costs) l.initial.ways l.c-end l.c l.ways
